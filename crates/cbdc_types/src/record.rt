@@ -1,0 +1,63 @@
+// The records of the journals.
+use crate::{Answered, BatchId, CompactTx, Decisions, Hash, List, NodeId, Outcomes, Shape, Stamp};
+
+/// What each journal begins with: whose it is, how large the ledger is, and the id of its mint.
+#[derive(Clone, Copy, Debug, PartialEq, Eq)]
+pub struct Header {
+    pub node: NodeId,
+    pub shape: Shape,
+    pub genesis: Hash,
+}
+
+/// A record of a journal. Genesis to Forget stand at shards, Start to Done at coordinators.
+#[derive(Clone, Debug, PartialEq, Eq, Drop)]
+pub enum Record {
+    /// The minted hashes that lie on this shard, in the order of the mint.
+    Genesis {
+        header: Header,
+        hashes: List<Hash>,
+    },
+    /// A batch's part with the replies to it: the inputs of its Held entries are locked from here on.
+    Lock {
+        stamp: Stamp,
+        batch: BatchId,
+        entries: List<Answered>,
+    },
+    /// Which entries of the batch's Lock are committed.
+    Finish {
+        stamp: Stamp,
+        batch: BatchId,
+        decisions: Decisions,
+    },
+    /// The shard has forgotten the batch.
+    Forget {
+        stamp: Stamp,
+        batch: BatchId,
+    },
+    /// A coordinator's first record.
+    Start {
+        header: Header,
+    },
+    /// A batch is about to be locked.
+    Prepare {
+        stamp: Stamp,
+        batch: BatchId,
+        txs: List<CompactTx>,
+    },
+    /// Each transaction of the batch is decided.
+    Commit {
+        stamp: Stamp,
+        batch: BatchId,
+        outcomes: Outcomes,
+    },
+    /// The batch is applied at each concerned shard.
+    Discard {
+        stamp: Stamp,
+        batch: BatchId,
+    },
+    /// The batch is forgotten at each concerned shard.
+    Done {
+        stamp: Stamp,
+        batch: BatchId,
+    },
+}
