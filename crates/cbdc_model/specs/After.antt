@@ -1,0 +1,49 @@
+-- Which record may come next at a node, by its journal alone.
+use Rattle.std.specs.Prelude.{◌≡◌, ℕ, ◌+◌, ◌<◌, Bool, true, List, [], ◌∷◌, length}
+use Rattle.cbdc_model.specs.Records.{Header, Answered, Record, is_held, txs_of, lock_of, last_stamp, Genesis, Lock, Finish, Forget, Start, Prepare, Commit, Discard, Done}
+use Rattle.cbdc_model.specs.Slots.{slot, Idle, InLock, InFinish, InPrepare, InCommit, InDiscard}
+use Rattle.cbdc_model.specs.Replies.{answered, entries}
+use Rattle.cbdc_model.specs.Ranges.{home_of}
+use Rattle.cbdc_model.specs.Grammar.{IsInGrammar}
+
+-- as many decisions as entries, and commit only for Held
+abbrev pub FitsReplies : List Answered → List Bool → Type 0
+FitsReplies [] [] = Unit {0}
+FitsReplies [] (d ∷ ds) = ⊥
+FitsReplies (a ∷ es) [] = ⊥
+FitsReplies (a ∷ es) (d ∷ ds) = (d ≡ true → is_held a.reply ≡ true) × FitsReplies es ds
+
+-- the record follows the node's journal `past`, by the phases of its lane
+abbrev pub Follows : Header → List Record → Record → Type 0
+Follows h past (Genesis header hs) = past ≡ []
+Follows h past (Start header) = past ≡ []
+Follows h past (Lock stamp b es) =
+    (last_stamp past < stamp) × ((slot past b.lane).phase ≡ Idle) × ((slot past b.lane).number < b.number)
+    × (es ≡ answered past b [] (entries es))
+Follows h past (Finish stamp b ds) =
+    (last_stamp past < stamp) × ((slot past b.lane).phase ≡ InLock) × ((slot past b.lane).number ≡ b.number)
+    × FitsReplies (lock_of past b) ds
+Follows h past (Forget stamp b) =
+    (last_stamp past < stamp) × ((slot past b.lane).phase ≡ InFinish) × ((slot past b.lane).number ≡ b.number)
+Follows h past (Prepare stamp b txs) =
+    (last_stamp past < stamp) × (h.node ≡ home_of h.shape b.lane)
+    × ((slot past b.lane).phase ≡ Idle) × (b.number ≡ (slot past b.lane).number + 1)
+Follows h past (Commit stamp b os) =
+    (last_stamp past < stamp) × (h.node ≡ home_of h.shape b.lane)
+    × ((slot past b.lane).phase ≡ InPrepare) × ((slot past b.lane).number ≡ b.number)
+    × (length os ≡ length (txs_of past b))
+Follows h past (Discard stamp b) =
+    (last_stamp past < stamp) × (h.node ≡ home_of h.shape b.lane)
+    × ((slot past b.lane).phase ≡ InCommit) × ((slot past b.lane).number ≡ b.number)
+Follows h past (Done stamp b) =
+    (last_stamp past < stamp) × (h.node ≡ home_of h.shape b.lane)
+    × ((slot past b.lane).phase ≡ InDiscard) × ((slot past b.lane).number ≡ b.number)
+
+-- the record is in the grammar and follows the journal
+abbrev pub After : Header → List Record → Record → Type 0
+After h past r = IsInGrammar h r × Follows h past r
+
+-- a journal of a node: each record is after those before it, and the first is a first record
+abbrev pub IsJournal : Header → List Record → Type 0
+IsJournal h [] = Unit {0}
+IsJournal h (r ∷ past) = After h past r × IsJournal h past

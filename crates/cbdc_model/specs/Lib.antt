@@ -1,0 +1,11 @@
+pub mod Records
+pub mod Status
+pub mod Slots
+pub mod Replies
+pub mod Ranges
+pub mod Outcomes
+pub mod Room
+pub mod Grammar
+pub mod Next
+pub mod After
+pub mod Causes

@@ -1,0 +1,105 @@
+-- What a shard with a journal answers to a call: the record that it appends, what it answered before, or why it refuses.
+use Rattle.std.specs.Prelude.{◌≡◌, ℕ, suc, ◌+◌, max, Bool, true, false, ◌&&◌, ◌||◌, not, ◌==◌, nat_lt, List, [], ◌∷◌, length, if◌then◌else◌, Option, Some, None, option_map, MatchOption}
+use Rattle.cbdc_types.specs.declared.calls.Refused.{Refused}
+use Rattle.cbdc_types.specs.declared.calls.Refused.TheVariants.{Stale, LaneOpen, NotLocked, NotFinished, OtherPart, OtherOutcome, EarlyStamp}
+use Rattle.cbdc_model.specs.Records.{Digest, same_digest, Batch, Entry, Reply, Answered, Record, record_of, lock_of, decisions_in, stamp_in, is_held, last_stamp}
+use Rattle.cbdc_model.specs.Slots.{Phase, Slot, slot, slot_stamp, Idle, InLock, InFinish, InPrepare, InCommit, InDiscard}
+use Rattle.cbdc_model.specs.Replies.{answered, entries, replies}
+
+-- what is answered: kept from before, with a new record, or a refusal
+pub data Plan (A : Type 0) : Type 0 where
+  Kept : (answer : A) → Plan A
+  Append : (answer : A) → Plan A
+  Refuse : (why : Refused) → Plan A
+
+-- the first place at which two lists disagree, or the shorter length; none where they are the same
+abbrev pub difference : {A : Type 0} → (A → A → Bool) → List A → List A → Option ℕ
+difference same [] [] = None
+difference same [] (y ∷ ys) = Some 0
+difference same (x ∷ xs) [] = Some 0
+difference same (x ∷ xs) (y ∷ ys) = if same x y then option_map (λ n. suc n) (difference same xs ys) else Some 0
+
+abbrev pub same_digests : List Digest → List Digest → Bool
+same_digests [] [] = true
+same_digests [] (y ∷ ys) = false
+same_digests (x ∷ xs) [] = false
+same_digests (x ∷ xs) (y ∷ ys) = same_digest x y && same_digests xs ys
+
+abbrev pub same_entry : Entry → Entry → Bool
+same_entry e f = (e.place == f.place) && (same_digest e.id f.id && (same_digests e.inputs f.inputs && same_digests e.outputs f.outputs))
+
+abbrev pub same_decision : Bool → Bool → Bool
+same_decision true d = d
+same_decision false d = not d
+
+abbrev pub is_idle : Phase → Bool
+is_idle Idle = true
+is_idle InLock = false
+is_idle InFinish = false
+is_idle InPrepare = false
+is_idle InCommit = false
+is_idle InDiscard = false
+
+-- one more than the greatest of the node's last stamp and the cause's
+abbrev pub next_stamp : List Record → ℕ → ℕ
+next_stamp J cause = suc (max (last_stamp J) cause)
+
+-- the replies to a part, and the stamp of the Lock that keeps them
+pub record RepliesAt : Type 0 where
+  pub given : List Reply
+  pub at : ℕ
+
+abbrev pub lock_again : Option ℕ → List Record → Batch → Plan RepliesAt
+lock_again (Some at) J b = Refuse (OtherPart at)
+lock_again None J b = Kept (record { given = replies (lock_of J b); at = stamp_in (record_of 2 J b) })
+
+-- Lock: behind the lane's number is stale, the same number is answered as before, an open lane and a late cause refuse
+abbrev pub next_lock : List Record → Batch → List Entry → ℕ → Plan RepliesAt
+next_lock J b part cause =
+    let s = slot J b.lane in
+    if nat_lt b.number s.number || ((b.number == s.number) && is_idle s.phase) then Refuse (Stale s.number) else
+    if b.number == s.number then lock_again (difference same_entry (entries (lock_of J b)) part) J b else
+    if not (is_idle s.phase) then Refuse (LaneOpen s.number) else
+    if not (nat_lt (slot_stamp J b.lane) cause) then Refuse (EarlyStamp (slot_stamp J b.lane)) else
+    Append (record { given = replies (answered J b [] part); at = next_stamp J cause })
+
+-- the first place at which decisions don't fit replies: a commit at an entry that isn't Held, or the shorter length
+abbrev pub misfit : List Answered → List Bool → Option ℕ
+misfit [] [] = None
+misfit [] (d ∷ ds) = Some 0
+misfit (a ∷ es) [] = Some 0
+misfit (a ∷ es) (d ∷ ds) = if d && not (is_held a.reply) then Some 0 else option_map (λ n. suc n) (misfit es ds)
+
+abbrev pub finish_again : Option ℕ → List Record → Batch → Plan ℕ
+finish_again (Some at) J b = Refuse (OtherOutcome at)
+finish_again None J b = Kept (stamp_in (record_of 3 J b))
+
+abbrev pub finish_now : Option ℕ → List Record → ℕ → ℕ → Plan ℕ
+finish_now (Some at) J lane cause = Refuse (OtherOutcome at)
+finish_now None J lane cause = if not (nat_lt (slot_stamp J lane) cause) then Refuse (EarlyStamp (slot_stamp J lane)) else Append (next_stamp J cause)
+
+-- Finish: of a locked batch, with as many decisions as entries and commit only for Held
+abbrev pub next_finish : List Record → Batch → List Bool → ℕ → Plan ℕ
+next_finish J b ds cause =
+    let s = slot J b.lane in
+    if nat_lt b.number s.number || ((b.number == s.number) && is_idle s.phase) then Refuse (Stale s.number) else
+    if nat_lt s.number b.number then Refuse (NotLocked s.number) else
+    finish_by s.phase J b ds cause
+  where
+    finish_by : Phase → List Record → Batch → List Bool → ℕ → Plan ℕ
+    finish_by InFinish J b ds cause = finish_again (difference same_decision (decisions_in (record_of 3 J b)) ds) J b
+    finish_by InLock J b ds cause = finish_now (misfit (lock_of J b) ds) J b.lane cause
+    finish_by other J b ds cause = Refuse (NotLocked (slot J b.lane).number)
+
+-- Forget: of a finished batch
+abbrev pub next_forget : List Record → Batch → ℕ → Plan ℕ
+next_forget J b cause =
+    let s = slot J b.lane in
+    if nat_lt b.number s.number then Refuse (Stale s.number) else
+    if nat_lt s.number b.number then Refuse (NotLocked s.number) else
+    forget_by s.phase J b cause
+  where
+    forget_by : Phase → List Record → Batch → ℕ → Plan ℕ
+    forget_by Idle J b cause = Kept (slot_stamp J b.lane)
+    forget_by InFinish J b cause = if not (nat_lt (slot_stamp J b.lane) cause) then Refuse (EarlyStamp (slot_stamp J b.lane)) else Append (next_stamp J cause)
+    forget_by other J b cause = Refuse (NotFinished b.number)

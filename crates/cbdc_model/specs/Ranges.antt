@@ -1,0 +1,54 @@
+-- Which shard holds a hash, and what of a batch lies on a shard.
+use Rattle.std.specs.Prelude.{◌≡◌, ℕ, suc, ◌+◌, ◌*◌, ◌/◌, ◌%◌, ◌<◌, Bool, true, false, ◌&&◌, ◌==◌, List, [], ◌∷◌, if◌then◌else◌, slice_index}
+use Rattle.cbdc_model.specs.Records.{Digest, Shape, Compact, Entry, Record, Row, Batch, journal}
+
+-- the first byte of a hash
+unfoldable pub first_byte : Digest → ℕ
+first_byte x = slice_index x 0 % 256
+
+-- the shard that holds the hash: each has an equal range of first bytes
+unfoldable pub shard_of : ℕ → Digest → ℕ
+shard_of shards x = first_byte x * shards / 256
+
+-- the node of a shard, and the node of a lane's coordinator
+abbrev pub shard_node : Shape → ℕ → ℕ
+shard_node K s = K.coordinators + s
+
+abbrev pub home_of : Shape → ℕ → ℕ
+home_of K lane = lane / K.lanes
+
+-- the journal of the shard that holds the hash, and of the coordinator of the lane
+abbrev pub journal_at : Shape → List Row → Digest → List Record
+journal_at K past x = journal (shard_node K (shard_of K.shards x)) past
+
+abbrev pub lane_journal : Shape → List Row → Batch → List Record
+lane_journal K past b = journal (home_of K b.lane) past
+
+-- those of the hashes that lie on shard s, in order
+abbrev pub on_shard : ℕ → ℕ → List Digest → List Digest
+on_shard shards s [] = []
+on_shard shards s (x ∷ xs) = if shard_of shards x == s then x ∷ on_shard shards s xs else on_shard shards s xs
+
+abbrev pub is_empty : List Digest → Bool
+is_empty [] = true
+is_empty (x ∷ xs) = false
+
+-- a transaction's entry at shard s, k being its place
+abbrev pub entry_of : ℕ → ℕ → ℕ → Compact → Entry
+entry_of shards s k t = record { place = k; id = t.id; inputs = on_shard shards s t.inputs; outputs = on_shard shards s t.outputs }
+
+-- the part for shard s of transactions, the first of which has place k: an entry for each that has a hash there
+abbrev pub part : ℕ → ℕ → ℕ → List Compact → List Entry
+part shards s k [] = []
+part shards s k (t ∷ ts) =
+    if is_empty (on_shard shards s t.inputs) && is_empty (on_shard shards s t.outputs)
+    then part shards s (suc k) ts
+    else entry_of shards s k t ∷ part shards s (suc k) ts
+
+abbrev pub is_no_part : List Entry → Bool
+is_no_part [] = true
+is_no_part (e ∷ es) = false
+
+-- shard s has a part in these transactions
+abbrev pub Concerned : Shape → List Compact → ℕ → Type 0
+Concerned K txs s = (s < K.shards) × (is_no_part (part K.shards s 0 txs) ≡ false)

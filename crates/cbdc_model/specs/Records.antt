@@ -1,0 +1,140 @@
+-- The records of the journals, and how one is found. A journal is a list of records, the newest first.
+use Rattle.std.specs.Prelude.{ℕ, Bool, true, false, ◌&&◌, ◌==◌, List, [], ◌∷◌, if◌then◌else◌, Option, Some, None, find, bytes_eq}
+use Rattle.cbdc_types.specs.declared.ids.BatchId.{BatchId}
+use Rattle.cbdc_types.specs.declared.tx.CompactTx.{CompactTx}
+pub use Rattle.cbdc_types.specs.Limits.{ShapeOf as Shape}
+pub use Rattle.cbdc_types.specs.declared.record.Header.{Header}
+pub use Rattle.cbdc_types.specs.declared.batch.Entry.{Entry}
+pub use Rattle.cbdc_types.specs.declared.batch.Reply.{Reply}
+pub use Rattle.cbdc_types.specs.declared.batch.Reply.TheVariants.{Held, Missing, Locked as Taken}
+pub use Rattle.cbdc_types.specs.declared.batch.Outcome.{Outcome}
+pub use Rattle.cbdc_types.specs.declared.batch.Outcome.TheVariants.{Held as Won, Missing as Lacks, Locked as Blocked}
+pub use Rattle.cbdc_types.specs.declared.batch.Answered.{Answered}
+pub use Rattle.cbdc_types.specs.declared.record.Record.{Record}
+pub use Rattle.cbdc_types.specs.declared.record.Record.TheVariants.{Genesis, Lock, Finish, Forget, Start, Prepare, Commit, Discard, Done}
+
+-- a hash: its 32 bytes
+abbrev pub Digest : Type 0
+Digest = List ℕ
+
+-- whether two hashes are the same
+unfoldable pub same_digest : Digest → Digest → Bool
+same_digest x y = bytes_eq x y
+
+abbrev pub Batch : Type 0
+Batch = BatchId
+
+abbrev pub Compact : Type 0
+Compact = CompactTx
+
+abbrev pub same_batch : Batch → Batch → Bool
+same_batch a b = (a.lane == b.lane) && (a.number == b.number)
+
+abbrev pub is_held : Reply → Bool
+is_held Held = true
+is_held (Missing x) = false
+is_held (Taken x by) = false
+
+-- whether the transaction is committed
+abbrev pub is_won : Outcome → Bool
+is_won Won = true
+is_won (Lacks shard x) = false
+is_won (Blocked shard x by) = false
+
+-- a record's stamp: 0 for a first record
+abbrev pub stamp_of : Record → ℕ
+stamp_of (Genesis header hashes) = 0
+stamp_of (Lock stamp b es) = stamp
+stamp_of (Finish stamp b ds) = stamp
+stamp_of (Forget stamp b) = stamp
+stamp_of (Start header) = 0
+stamp_of (Prepare stamp b txs) = stamp
+stamp_of (Commit stamp b os) = stamp
+stamp_of (Discard stamp b) = stamp
+stamp_of (Done stamp b) = stamp
+
+-- the kinds, as the first byte of a record's body names them
+abbrev pub kind_of : Record → ℕ
+kind_of (Genesis header hashes) = 1
+kind_of (Lock stamp b es) = 2
+kind_of (Finish stamp b ds) = 3
+kind_of (Forget stamp b) = 4
+kind_of (Start header) = 5
+kind_of (Prepare stamp b txs) = 6
+kind_of (Commit stamp b os) = 7
+kind_of (Discard stamp b) = 8
+kind_of (Done stamp b) = 9
+
+-- whether a record is of this batch
+abbrev pub is_of : Batch → Record → Bool
+is_of b (Genesis header hashes) = false
+is_of b (Lock stamp c es) = same_batch c b
+is_of b (Finish stamp c ds) = same_batch c b
+is_of b (Forget stamp c) = same_batch c b
+is_of b (Start header) = false
+is_of b (Prepare stamp c txs) = same_batch c b
+is_of b (Commit stamp c os) = same_batch c b
+is_of b (Discard stamp c) = same_batch c b
+is_of b (Done stamp c) = same_batch c b
+
+-- whether a record is of this lane
+abbrev pub is_in_lane : ℕ → Record → Bool
+is_in_lane lane (Genesis header hashes) = false
+is_in_lane lane (Lock stamp c es) = c.lane == lane
+is_in_lane lane (Finish stamp c ds) = c.lane == lane
+is_in_lane lane (Forget stamp c) = c.lane == lane
+is_in_lane lane (Start header) = false
+is_in_lane lane (Prepare stamp c txs) = c.lane == lane
+is_in_lane lane (Commit stamp c os) = c.lane == lane
+is_in_lane lane (Discard stamp c) = c.lane == lane
+is_in_lane lane (Done stamp c) = c.lane == lane
+
+-- the newest record of a kind of a batch
+abbrev pub record_of : ℕ → List Record → Batch → Option Record
+record_of kind past b = find (λ r. (kind_of r == kind) && is_of b r) past
+
+-- what stands in a record that was found
+abbrev pub entries_in : Option Record → List Answered
+entries_in (Some (Lock stamp b es)) = es
+entries_in other = []
+
+abbrev pub txs_in : Option Record → List Compact
+txs_in (Some (Prepare stamp b txs)) = txs
+txs_in other = []
+
+abbrev pub outcomes_in : Option Record → List Outcome
+outcomes_in (Some (Commit stamp b os)) = os
+outcomes_in other = []
+
+abbrev pub decisions_in : Option Record → List Bool
+decisions_in (Some (Finish stamp b ds)) = ds
+decisions_in other = []
+
+abbrev pub stamp_in : Option Record → ℕ
+stamp_in (Some r) = stamp_of r
+stamp_in None = 0
+
+-- the transactions of a batch's Prepare, the outcomes of its Commit, the answered entries of its Lock
+abbrev pub txs_of : List Record → Batch → List Compact
+txs_of past b = txs_in (record_of 6 past b)
+
+abbrev pub outcomes_of : List Record → Batch → List Outcome
+outcomes_of past b = outcomes_in (record_of 7 past b)
+
+abbrev pub lock_of : List Record → Batch → List Answered
+lock_of past b = entries_in (record_of 2 past b)
+
+-- the stamp of the newest record
+abbrev pub last_stamp : List Record → ℕ
+last_stamp [] = 0
+last_stamp (r ∷ past) = stamp_of r
+
+-- a row of a history: a record with its node
+pub record Row : Type 0 where
+  pub node : ℕ
+  pub what : Record
+
+-- a node's journal, newest first, of a history, newest first
+abbrev pub journal : ℕ → List Row → List Record
+journal n [] = []
+journal n (row ∷ past) = if row.node == n then row.what ∷ journal n past else journal n past

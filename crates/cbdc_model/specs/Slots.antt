@@ -1,0 +1,32 @@
+-- A lane's slot at a node: the number and the kind of its last record there, by looking back.
+use Rattle.std.specs.Prelude.{ℕ, ◌==◌, List, [], ◌∷◌, if◌then◌else◌, find}
+use Rattle.cbdc_model.specs.Records.{is_in_lane, stamp_in, Record, Genesis, Lock, Finish, Forget, Start, Prepare, Commit, Discard, Done}
+
+-- what the last record of a lane was: Idle after none, a Forget or a Done
+pub data Phase : Type 0 where
+  Idle : Phase
+  InLock : Phase
+  InFinish : Phase
+  InPrepare : Phase
+  InCommit : Phase
+  InDiscard : Phase
+
+pub record Slot : Type 0 where
+  pub number : ℕ
+  pub phase : Phase
+
+abbrev pub slot : List Record → ℕ → Slot
+slot [] lane = record { number = 0; phase = Idle }
+slot (Genesis header hs ∷ past) lane = slot past lane
+slot (Lock stamp b es ∷ past) lane = if b.lane == lane then record { number = b.number; phase = InLock } else slot past lane
+slot (Finish stamp b ds ∷ past) lane = if b.lane == lane then record { number = b.number; phase = InFinish } else slot past lane
+slot (Forget stamp b ∷ past) lane = if b.lane == lane then record { number = b.number; phase = Idle } else slot past lane
+slot (Start header ∷ past) lane = slot past lane
+slot (Prepare stamp b txs ∷ past) lane = if b.lane == lane then record { number = b.number; phase = InPrepare } else slot past lane
+slot (Commit stamp b os ∷ past) lane = if b.lane == lane then record { number = b.number; phase = InCommit } else slot past lane
+slot (Discard stamp b ∷ past) lane = if b.lane == lane then record { number = b.number; phase = InDiscard } else slot past lane
+slot (Done stamp b ∷ past) lane = if b.lane == lane then record { number = b.number; phase = Idle } else slot past lane
+
+-- the stamp of the lane's last record, 0 where there is none
+abbrev pub slot_stamp : List Record → ℕ → ℕ
+slot_stamp past lane = stamp_in (find (λ r. is_in_lane lane r) past)
