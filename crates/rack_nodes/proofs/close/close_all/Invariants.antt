@@ -1,0 +1,17 @@
+use Rattle.std.proofs.Common.{◌≡◌, ◌^◌, ◌+◌, ◌≤◌, ◌<◌, ℕ, length, vec_len}
+use Rattle.rack_nodes.specs.Places.{EachFrom, MayReturn, IsOutside}
+use Rattle.rack_nodes.proofs.close.close_all.Given as goal
+
+abbrev pub invariant-nodes : goal.invariant-nodes
+invariant-nodes g l = record {
+  few : l.first + length l.nodes.items < 2 ^ 32;
+  fewer : length l.nodes.items ≤ length l.initial.nodes.items;
+  out : EachFrom (MayReturn g.N.OnDisk.faults (g.R.Rack.can_put l.rack)) l.first l.nodes.items;
+  back : (n : ℕ) → l.first + length l.nodes.items ≤ n → n < l.first + length l.initial.nodes.items → g.R.Rack.can_take l.rack n;
+  others_in : (n : ℕ) → IsOutside l.first (l.first + length l.initial.nodes.items) n → g.R.Rack.can_take l.initial.rack n → g.R.Rack.can_take l.rack n;
+  others_out : (n k : ℕ) → IsOutside l.first (l.first + length l.initial.nodes.items) n → g.R.Rack.can_put l.initial.rack n k → g.R.Rack.can_put l.rack n k;
+  later : (n : ℕ) → g.R.Rack.count l.initial.rack n ≤ g.R.Rack.count l.rack n;
+}
+
+abbrev pub decreases-nodes : goal.decreases-nodes
+decreases-nodes g l = vec_len l.nodes

@@ -1,0 +1,23 @@
+// Putting disks back.
+ghost use Rattle.std.specs.Prelude.{◌≡◌, ◌^◌, ◌+◌, ◌≤◌, ◌<◌, ℕ, length};
+ghost use Rattle.rack_nodes.specs.Places.{EachFrom, MayReturn, IsOutside};
+
+use crate::OnDisk;
+use cbdc_types::NodeId;
+use outside::Rack;
+
+/// Puts the disks of nodes back, the first of which has this place.
+pub fn close_all<R: Rack, N: OnDisk<R::Disk>>(rack: &mut R, first: u32, nodes: Vec<N>)
+    requires few { first + length nodes.items < 2 ^ 32 }
+    requires out { EachFrom (MayReturn N.faults (R.can_put rack.old)) first nodes.items }
+    ensures back { (n : ℕ) → first ≤ n → n < first + length nodes.items → R.can_take rack.new n }
+    ensures others_in { (n : ℕ) → IsOutside first (first + length nodes.items) n → R.can_take rack.old n → R.can_take rack.new n }
+    ensures others_out { (n k : ℕ) → IsOutside first (first + length nodes.items) n → R.can_put rack.old n k → R.can_put rack.new n k }
+    ensures later { (n : ℕ) → R.count rack.old n ≤ R.count rack.new n }
+{
+    let mut nodes = nodes;
+    'nodes: while let Some(node) = nodes.pop() {
+        rack.put(NodeId(first + nodes.len() as u32), node.give_disk());
+    }
+    nodes.destroy_empty();
+}
