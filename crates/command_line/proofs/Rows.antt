@@ -1,0 +1,50 @@
+-- How the getters read the rows of matches, and what an error says of the faults.
+use Rattle.std.proofs.Common.{rules, ◌≡◌, List, [], ◌∷◌, inl, inr, false, true, refl, sym, subst}
+use Rattle.std.specs.Prelude.{IsTrue, Bool, Result, Ok, Err, IsOk, IfOk, IfErr}
+use Rattle.clap.proofs.WalkLemmas.{first_value-rows}
+use Rattle.clap.specs.Words.{Text, Kinds, HasKind, IsAmong, kind_of}
+use Rattle.clap.specs.Kinds.{or_else}
+use Rattle.clap.specs.declared.error.Error.{Error}
+use Rattle.clap.specs.declared.error.kind.ErrorKind.{ErrorKind}
+use Rattle.clap.specs.declared.error.kind.ErrorKind.TheVariants.{OutOfMemory}
+use Rattle.command_line.specs.Asked.{is_mistake, is_wish, HasMistake, HasWish, IsAsked, IsRefused, IsShow, faults_of}
+use Rattle.command_line.specs.declared.request.Request.{Request}
+use Rattle.command_line.specs.declared.request.Request.TheVariants.{Init, Run, Show}
+use Rattle.command_line.specs.declared.request.WordsFault.{WordsFault}
+use Rattle.command_line.specs.declared.request.WordsFault.TheVariants.{Bad, Memory}
+
+pub ruleset rows = (first_value-rows)
+
+-- an error that asks for a text comes only where the faults have such a wish
+pub wish_of : (kinds : Kinds) (e : Error) → HasKind kinds e → IsTrue (is_wish (kind_of e)) → HasWish kinds
+wish_of kinds e (inl memory) is = let none : IsTrue (is_wish OutOfMemory) = subst (λ k. IsTrue (is_wish k)) memory is in absurd (search (rules, none))
+wish_of kinds e (inr among) is = (kind_of e, among, is)
+
+-- an error that is a mistake comes only where the faults have one
+pub mistake_of : (kinds : Kinds) (e : Error) → HasKind kinds e → IsTrue (is_mistake (kind_of e)) → HasMistake kinds
+mistake_of kinds e (inl memory) is = let none : IsTrue (is_mistake OutOfMemory) = subst (λ k. IsTrue (is_mistake k)) memory is in absurd (search (rules, none))
+mistake_of kinds e (inr among) is = (kind_of e, among, is)
+
+pub ruleset kinds = (wish_of, mistake_of)
+
+-- what the first of two steps has
+pub first_wish : (a b : Kinds) → HasWish a → HasWish (or_else a b)
+first_wish [] b (k, among, is) = absurd among
+first_wish (x ∷ xs) b has = has
+
+pub first_mistake : (a b : Kinds) → HasMistake a → HasMistake (or_else a b)
+first_mistake [] b (k, among, is) = absurd among
+first_mistake (x ∷ xs) b has = has
+
+-- an answer that is a text was asked for by a wish
+pub asked_by_wish : (words : List Text) (r : Result Request WordsFault) → IfOk r IsShow → (IsOk r → HasWish (faults_of words)) → IfOk r (λ q. IsAsked words q)
+asked_by_wish words (Ok (Show text)) shows wish = wish (search rules)
+asked_by_wish words (Ok (Init mint)) shows wish = absurd shows
+asked_by_wish words (Ok (Run client)) shows wish = absurd shows
+asked_by_wish words (Err e) shows wish = tt
+
+-- bad words are refused by a mistake
+pub refused_by_mistake : (words : List Text) (r : Result Request WordsFault) → (r ≡ Err Bad → HasMistake (faults_of words)) → IfErr r (λ e. IsRefused words e)
+refused_by_mistake words (Ok q) mistake = tt
+refused_by_mistake words (Err Bad) mistake = mistake refl
+refused_by_mistake words (Err Memory) mistake = tt

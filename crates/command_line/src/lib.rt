@@ -1,0 +1,10 @@
+//! The words of the command line.
+#![tactic(auto)]
+
+mod command;
+mod places;
+mod request;
+#[cfg(test)]
+mod tests;
+
+pub use request::{FileWord, Request, WordsFault, parse};
