@@ -99,6 +99,8 @@ pub enum Answer {
     },
     /// A batch of the lane stands unfinished from an earlier run.
     Unfinished(LaneId),
+    /// The shard refused a call that its own batch's records call for.
+    Refused(NodeId),
     Damaged {
         node: NodeId,
         at: u64,
