@@ -1,0 +1,14 @@
+//! The top call: what the program does with its words, its files, its disks and its output.
+#![tactic(auto)]
+
+mod checked;
+mod files;
+mod initial;
+mod ledger;
+mod minting;
+mod report;
+mod running;
+mod top;
+mod turns;
+
+pub use top::{Done, process};

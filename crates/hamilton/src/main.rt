@@ -1,0 +1,31 @@
+//! The program: the real devices, the top call, and the exit status.
+#![tactic(auto)]
+
+use cbdc_types::Answer;
+use commands::{Done, process};
+use host_devices::{FileInbox, FileRack, StdoutSink};
+use line_text::{status_code, write_fault};
+use outside::OpenGate;
+use std::env;
+use std::process::ExitCode;
+
+// The status of an answer that comes before the top call can be made.
+fn early(out: &mut StdoutSink<&HostRuntime>, answer: Answer) -> ExitCode {
+    let _ = write_fault(out, &answer, "");
+    ExitCode::from(status_code(&answer))
+}
+
+fn main(rt: HostRuntime) -> ExitCode {
+    let alloc = rt.alloc();
+    let mut out = StdoutSink::new(&rt);
+    let Ok(args) = env::args(&rt) else {
+        return early(&mut out, Answer::BadWords);
+    };
+    let Ok(words) = args.collect::<Vec<String>>(alloc) else {
+        return early(&mut out, Answer::Memory);
+    };
+    let mut inbox = FileInbox::new(&rt);
+    let rack = FileRack::new(&rt, alloc);
+    let Done { status, rack: _ } = process(&rt, alloc, words.as_slice(), &mut inbox, rack, &mut out, &OpenGate);
+    ExitCode::from(status_code(&status))
+}
