@@ -1,0 +1,78 @@
+// The disks of the nodes as files of one folder.
+ghost use Rattle.std.specs.Prelude.{◌≡◌, ◌≤◌, ℕ, None, IfOk, IfSome, Some};
+
+use crate::FileDisk;
+use cbdc_types::NodeId;
+use outside::{Disk, Failed, Rack};
+use std::alloc::Global;
+use std::fs;
+use std::fs::{File, OpenOptions};
+use std::rt::Files;
+
+/// Node n is the file `rack/node-NNN`. There is one count of faults for all.
+#[derive(Drop)]
+pub struct FileRack<R: Files<File = File> + Drop> {
+    rt: R,
+    alloc: Global,
+    faults: u64,
+}
+
+impl<R: Files<File = File> + Drop> FileRack<R> {
+    pub fn new(rt: R, alloc: Global) -> FileRack<R> {
+        FileRack {
+            rt,
+            alloc,
+            faults: 0,
+        }
+    }
+}
+
+fn open_node<R: Files<File = File>>(
+    rt: &R,
+    alloc: Global,
+    node: u32,
+    faults: u64,
+) -> Option<FileDisk>
+    ensures { (d : FileDisk) → result ≡ Some d → d.faults ≡ faults }
+{
+    let Ok(()) = fs::create_dir_all(rt, "rack") else {
+        return None;
+    };
+    let Ok(path) = format!(in alloc; "rack/node-{node:03}") else {
+        return None;
+    };
+    let mut options = OpenOptions::new();
+    options.read(true);
+    options.write(true);
+    options.create(true);
+    match options.open(rt, path.as_str()) {
+        Ok(file) => FileDisk::new(file, faults),
+        Err(_) => None,
+    }
+}
+
+impl<R: Files<File = File> + Drop> Rack for FileRack<R> {
+    type Disk = FileDisk;
+
+    ghost held = { λ r n. None };
+
+    ghost count = { λ r n. r.faults };
+
+    ghost can_take = { λ r n. Unit {0} };
+
+    ghost can_put = { λ r n k. Unit {0} };
+
+    fn take(&mut self, node: NodeId) -> Result<FileDisk, Failed> {
+        match open_node(&self.rt, self.alloc, node.0, self.faults) {
+            Some(disk) => Ok(disk),
+            None => {
+                self.faults = self.faults.saturating_add(1);
+                Err(Failed)
+            }
+        }
+    }
+
+    fn put(&mut self, _node: NodeId, disk: FileDisk) {
+        self.faults = self.faults.max(disk.faults());
+    }
+}

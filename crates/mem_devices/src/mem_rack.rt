@@ -1,0 +1,83 @@
+// A rack in memory.
+ghost use Rattle.std.specs.Prelude.{◌≡◌, ◌≤◌, ℕ, slice_get, Some, map, IfOk};
+ghost use Rattle.mem_devices.specs.Slots.{held_in, count_in, IsNotOut, IsOutBelow};
+
+use cbdc_types::NodeId;
+use outside::{Disk, Failed, Rack};
+use std::alloc::{AllocError, Global};
+use std::mem;
+
+/// The place of a node: its disk, or the count of faults that it was taken with.
+#[derive(Drop)]
+pub enum Slot<D> {
+    In(D),
+    Out(u64),
+}
+
+/// The disks by node. A node past the list is a fault.
+#[derive(Drop)]
+pub struct MemRack<D: Disk + Drop> {
+    slots: Vec<Slot<D>>,
+    misses: u64,
+}
+
+impl<D: Disk + Drop> MemRack<D> {
+    /// The disks in the order of their nodes, all in their places.
+    #[tactic(auto, using(crate::proofs::Places::all_in))]
+    pub fn new(alloc: Global, disks: Vec<D>) -> Result<MemRack<D>, AllocError>
+        ensures slots { IfOk result (λ r. r.slots.items ≡ map (λ d. Slot.In d) disks.items) }
+        ensures whole { IfOk result (λ r. (n : ℕ) → IsNotOut (slice_get r.slots.items n)) }
+    {
+        let slots = disks.into_iter().map(|d| Slot::In(d)).collect(alloc)?;
+        Ok(MemRack { slots, misses: 0 })
+    }
+}
+
+// Takes the disk out of its place.
+fn take_out<D: Disk + Drop>(slot: &mut Slot<D>) -> D
+    requires { IsNotOut (Some slot.old) }
+    ensures was { slot.old ≡ Slot.In result }
+    ensures now { slot.new ≡ Slot.Out (D.count result) }
+{
+    match mem::replace(slot, Slot::Out(0)) {
+        Slot::In(disk) => {
+            *slot = Slot::Out(disk.faults());
+            disk
+        }
+        Slot::Out(_) => unreachable!(),
+    }
+}
+
+// Puts a disk into its place.
+fn put_in<D: Disk + Drop>(slot: &mut Slot<D>, disk: D)
+    ensures now { slot.new ≡ Slot.In disk }
+{
+    *slot = Slot::In(disk);
+}
+
+impl<D: Disk + Drop> Rack for MemRack<D> {
+    type Disk = D;
+
+    ghost held = { λ r n. held_in (slice_get r.slots.items n) };
+
+    ghost count = { λ r n. count_in D.count r.misses (slice_get r.slots.items n) };
+
+    ghost can_take = { λ r n. IsNotOut (slice_get r.slots.items n) };
+
+    ghost can_put = { λ r n k. IsOutBelow (slice_get r.slots.items n) k };
+
+    fn take(&mut self, node: NodeId) -> Result<D, Failed> {
+        let at = node.0 as usize;
+        if self.slots.len() <= at {
+            self.misses = self.misses.saturating_add(1);
+            return Err(Failed);
+        }
+        let slot = &mut self.slots[at];
+        Ok(take_out(slot))
+    }
+
+    fn put(&mut self, node: NodeId, disk: D) {
+        let slot = &mut self.slots[node.0 as usize];
+        put_in(slot, disk);
+    }
+}
