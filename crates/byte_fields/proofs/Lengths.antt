@@ -1,0 +1,7 @@
+-- How long spellings are.
+use Rattle.std.proofs.Common.{◌≡◌, ℕ, length, refl}
+use Rattle.byte_fields.specs.Spelling.{number}
+
+pub length-number : (n : ℕ) → length (number n) ≡ 8
+unfolding number
+length-number n = refl

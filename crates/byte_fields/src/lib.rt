@@ -1,0 +1,10 @@
+//! The fields that files and journals are made of: numbers, hashes and counted lists, read and written.
+#![tactic(auto)]
+
+mod fault;
+mod reading;
+mod writing;
+
+pub use fault::{Fault, ReadError};
+pub use reading::{Item, hash_in, items, list, number, number_in, split};
+pub use writing::{Spell, put_hash, put_items, put_list, put_number};

@@ -1,0 +1,73 @@
+// Writing fields at the end of a vector. Memory runs out only where the vector's free capacity is less than what is written.
+ghost use Rattle.std.specs.Prelude.{◌≡◌, ◌++◌, ◌+◌, ◌<◌, ◌≤◌, List, ℕ, length, OnOk, OnErr};
+ghost use Rattle.std.specs.List.{flat_map};
+ghost use Rattle.std.specs.Vec.{vec_len, vec_capacity};
+ghost use Rattle.byte_fields.specs.Spelling.{number, counted};
+
+use cbdc_types::{Hash, List};
+use std::alloc::AllocError;
+
+/// Puts a number's eight bytes at the end.
+#[tactic(auto, unfolding(crate::specs::Spelling::number))]
+pub fn put_number(out: &mut Vec<u8>, n: u64) -> Result<(), AllocError>
+    ensures ok { OnOk result (out.new.items ≡ out.old.items ++ number n) }
+    ensures len { OnOk result (vec_len out.new ≡ vec_len out.old + 8) }
+    ensures full { OnErr result (vec_capacity out.old < vec_len out.old + 8) }
+    ensures capacity { vec_capacity out.old ≤ vec_capacity out.new }
+{
+    out.extend_from_slice(&n.to_le_bytes())
+}
+
+/// Puts a hash's bytes at the end.
+pub fn put_hash(out: &mut Vec<u8>, hash: &Hash) -> Result<(), AllocError>
+    ensures ok { OnOk result (out.new.items ≡ out.old.items ++ hash.now) }
+    ensures len { OnOk result (vec_len out.new ≡ vec_len out.old + 32) }
+    ensures full { OnErr result (vec_capacity out.old < vec_len out.old + 32) }
+    ensures capacity { vec_capacity out.old ≤ vec_capacity out.new }
+{
+    out.extend_from_slice(&hash.0)
+}
+
+/// What can be written one after another.
+pub trait Spell {
+    ghost spelled: { Self → List ℕ };
+
+    /// Puts the item's bytes at the end.
+    fn put(&self, out: &mut Vec<u8>) -> Result<(), AllocError>
+        ensures ok { OnOk result (out.new.items ≡ out.old.items ++ spelled self.now) }
+        ensures len { OnOk result (vec_len out.new ≡ vec_len out.old + length (spelled self.now)) }
+        ensures full { OnErr result (vec_capacity out.old < vec_len out.old + length (spelled self.now)) }
+        ensures capacity { vec_capacity out.old ≤ vec_capacity out.new };
+}
+
+impl Spell for Hash {
+    ghost spelled = { λ h. h };
+
+    fn put(&self, out: &mut Vec<u8>) -> Result<(), AllocError> {
+        out.extend_from_slice(&self.0)
+    }
+}
+
+/// Puts a list's length and its items at the end.
+pub fn put_list<T: Spell>(out: &mut Vec<u8>, list: &List<T>) -> Result<(), AllocError>
+    ensures ok { OnOk result (out.new.items ≡ out.old.items ++ counted T.spelled list.now) }
+    ensures len { OnOk result (vec_len out.new ≡ vec_len out.old + length (counted T.spelled list.now)) }
+    ensures full { OnErr result (vec_capacity out.old < vec_len out.old + length (counted T.spelled list.now)) }
+    ensures capacity { vec_capacity out.old ≤ vec_capacity out.new }
+{
+    put_number(out, list.len() as u64)?;
+    put_items(out, list.as_slice())
+}
+
+/// Puts the items at the end.
+pub fn put_items<T: Spell>(out: &mut Vec<u8>, items: &[T]) -> Result<(), AllocError>
+    ensures ok { OnOk result (out.new.items ≡ out.old.items ++ flat_map T.spelled items.now) }
+    ensures len { OnOk result (vec_len out.new ≡ vec_len out.old + length (flat_map T.spelled items.now)) }
+    ensures full { OnErr result (vec_capacity out.old < vec_len out.old + length (flat_map T.spelled items.now)) }
+    ensures capacity { vec_capacity out.old ≤ vec_capacity out.new }
+{
+    'items: for item in items {
+        item.put(out)?;
+    }
+    Ok(())
+}
