@@ -1,0 +1,10 @@
+//! A node's journal as records: read once when it is opened, kept in memory, and longer by one at each append.
+#![tactic(auto)]
+
+mod log;
+mod opening;
+mod replaying;
+
+pub use log::{LogFault, RecordLog};
+pub use opening::{NoLog, open_records};
+pub use replaying::{Replay, take_in_all};

@@ -1,0 +1,98 @@
+// The records of a node, in memory and on its disk.
+ghost use Rattle.std.specs.Prelude.{◌≡◌, ◌+◌, ◌≤◌, ◌<◌, ◌^◌, ◌++◌, ◌∷◌, [], ℕ, List, None, Some, length, vec_capacity, IsOk, OnOk, OnErr, IfErr, IsErrOf, IsSome};
+ghost use Rattle.outside.specs.Counts.{Rose};
+
+use cbdc_types::{Header, Record};
+use gate_journal::{AppendFault, Journal};
+use outside::Disk;
+use record_codec::{size_of_record, write_record};
+use std::alloc::AllocError;
+
+/// Why a record was not appended.
+#[derive(Clone, Copy, Debug, PartialEq, Eq)]
+pub enum LogFault {
+    /// An append failed since the journal was opened.
+    Broken { since: u64 },
+    Full { used: u64, need: u64, capacity: u64 },
+    DiskFault,
+    /// The memory for the record was not taken before.
+    NoRoom,
+}
+
+/// A journal with its header and its records, the newest last.
+#[derive(Drop)]
+pub struct RecordLog<D: Disk> {
+    pub journal: Journal<D>,
+    pub header: Header,
+    pub records: Vec<Record>,
+    pub body: Vec<u8>,
+}
+
+impl<D: Disk> RecordLog<D> {
+    /// Takes the memory for so many further records, whose bodies have at most so many bytes.
+    pub fn reserve(&mut self, count: usize, bytes: usize) -> Result<(), AllocError>
+        requires { bytes < 2 ^ 62 }
+        ensures faults { D.count self.new.journal.disk ≡ D.count self.old.journal.disk }
+        ensures records { self.new.records.items ≡ self.old.records.items }
+        ensures header { self.new.header ≡ self.old.header }
+    {
+        self.records.reserve(count)?;
+        self.body.clear();
+        self.body.reserve(bytes)?;
+        self.journal.reserve(bytes)
+    }
+
+    /// Writes a record and keeps it, in memory that was taken before.
+    pub fn append(&mut self, added: Record) -> Result<(), LogFault>
+        ensures kept { OnOk result (self.new.records.items ≡ self.old.records.items ++ added ∷ []) }
+        ensures as_before { OnErr result (self.new.records.items ≡ self.old.records.items) }
+        ensures header { self.new.header ≡ self.old.header }
+        ensures fault { IsErrOf result LogFault.DiskFault → Rose (D.count self.old.journal.disk) (D.count self.new.journal.disk) }
+        ensures broken { IsErrOf result LogFault.DiskFault → self.new.journal.broken ≡ Some (D.count self.new.journal.disk) }
+        ensures later { D.count self.old.journal.disk ≤ D.count self.new.journal.disk }
+    {
+        if self.records.len() == self.records.capacity() {
+            return Err(LogFault::NoRoom);
+        }
+        self.body.clear();
+        match write_record(&added, &self.header, &mut self.body) {
+            Ok(()) => {}
+            Err(_) => return Err(LogFault::NoRoom),
+        }
+        if self.body.len() > self.journal.reserved {
+            return Err(LogFault::NoRoom);
+        }
+        match self.journal.append(&self.body) {
+            Ok(()) => {
+                self.records.push(added).unwrap();
+                Ok(())
+            }
+            Err(AppendFault::DiskFault) => Err(LogFault::DiskFault),
+            Err(AppendFault::Broken { since }) => Err(LogFault::Broken { since }),
+            Err(
+                AppendFault::Full {
+                    used,
+                    need,
+                    capacity,
+                },
+            ) => Err(LogFault::Full {
+                used,
+                need,
+                capacity,
+            }),
+        }
+    }
+
+    /// Gives the disk back.
+    pub fn into_disk(self) -> D
+        ensures { result ≡ self.journal.disk }
+    {
+        let RecordLog {
+            journal,
+            header: _,
+            records: _,
+            body: _,
+        } = self;
+        journal.into_disk()
+    }
+}
