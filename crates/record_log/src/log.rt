@@ -42,6 +42,13 @@ impl<D: Disk> RecordLog<D> {
         self.journal.reserve(bytes)
     }
 
+    /// How many bytes of the disk the journal takes.
+    pub fn used(&self) -> u64
+        ensures { result ≡ self.now.journal.gate + 1 }
+    {
+        self.journal.gate + 1
+    }
+
     /// Writes a record and keeps it, in memory that was taken before.
     pub fn append(&mut self, added: Record) -> Result<(), LogFault>
         ensures kept { OnOk result (self.new.records.items ≡ self.old.records.items ++ added ∷ []) }

@@ -45,7 +45,12 @@ fn row_size(body: &Vec<u8>) -> u64 {
 }
 
 // The records behind the first one.
-fn later_records(alloc: Global, header: Header, first: Record, bodies: &[Vec<u8>]) -> Result<Read, NodeOpenFault>
+fn later_records(
+    alloc: Global,
+    header: Header,
+    first: Record,
+    bodies: &[Vec<u8>],
+) -> Result<Read, NodeOpenFault>
     requires { 0 < length bodies.now }
     ensures fault { IfErr result (λ e. e ≢ NodeOpenFault.DiskFault) }
 {
@@ -97,7 +102,11 @@ fn records_of(alloc: Global, bodies: &[Vec<u8>]) -> Result<Read, NodeOpenFault>
 }
 
 // What is told of a disk whose journal opened, where its bodies are these records.
-fn log_of<D: Disk>(alloc: Global, journal: Journal<D>, read: Read) -> Result<RecordLog<D>, (D, NoLog)>
+fn log_of<D: Disk>(
+    alloc: Global,
+    journal: Journal<D>,
+    read: Read,
+) -> Result<RecordLog<D>, (D, NoLog)>
     ensures { MatchResult result (λ l. l.journal ≡ journal) (λ e. (e.0 ≡ journal.disk) × (e.1 ≢ NoLog.Fault NodeOpenFault.DiskFault)) }
 {
     let Read {
@@ -128,11 +137,13 @@ fn cut_of(alloc: Global, before: &[Vec<u8>], damaged: u64) -> NoLog
     ensures { result ≢ NoLog.Fault NodeOpenFault.DiskFault }
 {
     match records_of(alloc, before) {
-        Ok(Read {
-            header,
-            records,
-            cut,
-        }) => NoLog::Cut {
+        Ok(
+            Read {
+                header,
+                records,
+                cut,
+            },
+        ) => NoLog::Cut {
             header,
             records,
             at: cut.unwrap_or(damaged),
