@@ -1,0 +1,15 @@
+// The shard of a hash.
+ghost use Rattle.std.specs.Prelude.{◌≡◌, ◌≤◌, ◌<◌, ◌^◌};
+ghost use Rattle.cbdc_model.specs.Ranges.{shard_of as the_shard};
+
+use cbdc_types::Hash;
+
+/// The shard that holds a hash, where each of so many shards has an equal range of first bytes. Takes no memory.
+#[tactic(auto, unfolding(cbdc_model::specs::Ranges::shard_of, cbdc_model::specs::Ranges::first_byte))]
+pub fn shard_of(x: &Hash, shards: u32) -> u32
+    requires { shards < 2 ^ 24 }
+    ensures value { result ≡ the_shard shards x.now }
+    ensures below { 0 < shards → result < shards }
+{
+    x.0[0] as u32 * shards / 256
+}
