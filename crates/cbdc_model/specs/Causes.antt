@@ -1,5 +1,5 @@
 -- What a record rests on: its causes stand, it agrees with them, and its stamp is one more than the greatest before it.
-use Rattle.std.specs.Prelude.{◌≡◌, ℕ, zero, suc, ◌<◌, max, Bool, true, List, [], ◌∷◌, Option, is_some}
+use Rattle.std.specs.Prelude.{◌≡◌, ℕ, zero, suc, max, true, List, Option, is_some}
 use Rattle.cbdc_model.specs.Records.{Shape, Batch, Record, record_of, entries_in, txs_in, outcomes_in, stamp_in, txs_of, lock_of, last_stamp, Genesis, Lock, Finish, Forget, Start, Prepare, Commit, Discard, Done}
 use Rattle.cbdc_model.specs.Replies.{entries}
 use Rattle.cbdc_model.specs.Ranges.{shard_node, home_of, part, Concerned}

@@ -9,3 +9,9 @@ pub mod Grammar
 pub mod Next
 pub mod After
 pub mod Causes
+pub mod Coins
+pub mod Book
+pub mod Clean
+pub mod History
+pub mod World
+pub mod Headline

@@ -1,7 +1,7 @@
 -- How many bytes a record takes in its journal, and how many are kept free for records still to come.
-use Rattle.std.specs.Prelude.{ℕ, zero, suc, ◌+◌, ◌*◌, List, [], ◌∷◌, length, sum_by}
-use Rattle.cbdc_model.specs.Records.{Shape, Batch, Compact, Entry, Reply, Outcome, Answered, Record, txs_of, lock_of, Held, Missing, Taken, Won, Lacks, Blocked, Genesis, Lock, Finish, Forget, Start, Prepare, Commit, Discard, Done}
-use Rattle.cbdc_model.specs.Slots.{Phase, Slot, slot, Idle, InLock, InFinish, InPrepare, InCommit, InDiscard}
+use Rattle.std.specs.Prelude.{ℕ, zero, suc, ◌+◌, ◌*◌, List, length, sum_by}
+use Rattle.cbdc_model.specs.Records.{Shape, Batch, Compact, Reply, Outcome, Answered, Record, txs_of, lock_of, Held, Missing, Taken, Won, Lacks, Blocked, Genesis, Lock, Finish, Forget, Start, Prepare, Commit, Discard, Done}
+use Rattle.cbdc_model.specs.Slots.{Phase, slot, Idle, InLock, InFinish, InPrepare, InCommit, InDiscard}
 
 abbrev pub reply_size : Reply → ℕ
 reply_size Held = 1
