@@ -1,4 +1,4 @@
-// What sentinels make of submissions: an id for each, and a refusal or a compact transaction.
+// What sentinels make of submissions: an id for each, and a refusal or a place on a lane.
 use cbdc_types::{CompactTx, FullTx, Hash, Refusal, Shape};
 use compact_tx::compact;
 use identifiers::tx_id;
@@ -6,14 +6,22 @@ use sentinel::check;
 use std::alloc::{AllocError, Global};
 use verifier_port::Verifier;
 
-/// A submission's id, and why it is refused if it is.
+/// What a sentinel says of a submission.
+#[derive(Clone, Copy, Debug)]
+pub(crate) enum Verdict {
+    Refused(Refusal),
+    /// It is sound: the lane that it goes to, and its place among the sound ones there.
+    Sound { lane: usize, place: usize },
+}
+
+/// A submission's id, and what a sentinel says of it.
 #[derive(Clone, Copy, Debug)]
 pub(crate) struct Checked {
     pub id: Hash,
-    pub refusal: Option<Refusal>,
+    pub verdict: Verdict,
 }
 
-/// The submissions of a file: what became of each, and the sound ones by lane, in order.
+/// The submissions of a file: what a sentinel says of each, and the sound ones by lane, in order.
 #[derive(Drop)]
 pub(crate) struct Submitted {
     pub checked: Vec<Checked>,
@@ -21,7 +29,9 @@ pub(crate) struct Submitted {
 }
 
 // So many empty lists.
-fn empty_lanes(alloc: Global, count: u32) -> Result<Vec<Vec<CompactTx>>, AllocError> {
+fn empty_lanes(alloc: Global, count: u32) -> Result<Vec<Vec<CompactTx>>, AllocError>
+    ensures { IfOk result (λ v. length v.items ≡ count) }
+{
     let mut lanes = Vec::with_capacity(alloc, count as usize)?;
     'lanes: for _ in 0..count {
         lanes.push(Vec::new(alloc))?;
@@ -29,23 +39,47 @@ fn empty_lanes(alloc: Global, count: u32) -> Result<Vec<Vec<CompactTx>>, AllocEr
     Ok(lanes)
 }
 
-/// Checks the submissions of a file. The one at place j is for lane j modulo the number of lanes.
-pub(crate) fn check_all<V: Verifier>(alloc: Global, txs: &[FullTx], shape: &Shape, verifier: &V) -> Result<Submitted, AllocError> {
+// Checks one submission; where it is sound, its compact form goes to the end of the lane's list.
+fn check_one<V: Verifier>(
+    alloc: Global,
+    tx: &FullTx,
+    lane: usize,
+    list: &mut Vec<CompactTx>,
+    verifier: &V,
+) -> Result<Checked, AllocError> {
+    let id = tx_id(tx);
+    match check(tx, &id, verifier) {
+        Ok(()) => {
+            let place = list.len();
+            list.push(compact(alloc, tx)?)?;
+            Ok(Checked {
+                id,
+                verdict: Verdict::Sound { lane, place },
+            })
+        }
+        Err(refusal) => Ok(Checked {
+            id,
+            verdict: Verdict::Refused(refusal),
+        }),
+    }
+}
+
+/// Checks the submissions of a file. The one at place j goes to lane j modulo the number of lanes.
+pub(crate) fn check_all<V: Verifier>(
+    alloc: Global,
+    txs: &[FullTx],
+    shape: &Shape,
+    verifier: &V,
+) -> Result<Submitted, AllocError>
+    ensures { IfOk result (λ s. length s.lanes.items ≡ shape.now.coordinators * shape.now.lanes) }
+{
     let mut lanes = empty_lanes(alloc, shape.lane_count())?;
     let mut checked = Vec::with_capacity(alloc, txs.len())?;
+    let count = lanes.len();
     let mut lane = 0;
     'submissions: for tx in txs {
-        let id = tx_id(tx);
-        match check(tx, &id, verifier) {
-            Ok(()) => {
-                checked.push(Checked { id, refusal: None })?;
-                let compact = compact(alloc, tx)?;
-                let list = &mut lanes[lane];
-                list.push(compact)?;
-            }
-            Err(refusal) => checked.push(Checked { id, refusal: Some(refusal) })?,
-        }
-        lane = if lane + 1 < lanes.len() { lane + 1 } else { 0 };
+        checked.push(check_one(alloc, tx, lane, &mut lanes[lane], verifier)?)?;
+        lane = if lane + 1 < count { lane + 1 } else { 0 };
     }
     Ok(Submitted { checked, lanes })
 }

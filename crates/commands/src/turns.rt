@@ -1,8 +1,12 @@
 // The lanes of a wave, which take turns: one batch a turn, in rising order.
 use cbdc_types::{BatchId, CompactTx, LaneId, Outcome, Shape};
-use lane_driver::{LaneFault, LogPort, PortSet, Ports, run_batch};
-use outside::Gate;
+use coord_log::CoordLog;
+use lane_driver::{LaneFault, LaneReport, Ports, run_batch};
+use lent_ports::{LentLog, LentShards};
+use outside::{Disk, Gate};
+use shard_node::ShardNode;
 use std::alloc::{AllocError, Global};
+use std::sync::Wait;
 
 /// What was decided of a transaction, and in which batch.
 #[derive(Clone, Copy, Debug)]
@@ -11,22 +15,40 @@ pub(crate) struct Decided {
     pub outcome: Outcome,
 }
 
-/// A lane with its transactions, how many of them have had their turn, and what was decided of these.
+/// A lane with its transactions: how many of them had their turn, what was decided of these, and why it stopped.
 #[derive(Drop)]
 pub(crate) struct Lane {
-    txs: Vec<CompactTx>,
-    at: usize,
-    decided: Vec<Decided>,
-    batches: u64,
-    fault: Option<LaneFault>,
-    ghost within: { at ≤ vec_len txs },
+    pub txs: Vec<CompactTx>,
+    pub at: usize,
+    pub decided: Vec<Decided>,
+    pub batches: u64,
+    pub fault: Option<LaneFault>,
 }
 
-/// What a wave came to.
-#[derive(Drop)]
-pub(crate) struct Wave {
-    /// For each lane what was decided of its transactions, in order.
-    pub decided: Vec<Vec<Decided>>,
-    /// How many batches were prepared and done.
-    pub batches: u64,
+impl Lane {
+    /// A lane before its first turn.
+    pub fn new(alloc: Global, txs: Vec<CompactTx>) -> Result<Lane, AllocError> {
+        let decided = Vec::with_capacity(alloc, txs.len())?;
+        Ok(Lane {
+            txs,
+            at: 0,
+            decided,
+            batches: 0,
+            fault: None,
+        })
+    }
+
+    /// Keeps what a batch came to.
+    fn keep(&mut self, report: &LaneReport) -> Result<(), AllocError> {
+        for batch in report.batches.as_slice() {
+            self.batches = self.batches.saturating_add(1);
+            for outcome in batch.outcomes.as_slice() {
+                self.decided.push(Decided {
+                    batch: batch.batch,
+                    outcome: *outcome,
+                })?;
+            }
+        }
+        Ok(())
+    }
 }
