@@ -1,0 +1,671 @@
+// The shard: its unspent hashes, its locks and its lanes' slots.
+ghost use Rattle.std.specs.Prelude.{◌≡◌, ◌+◌, ◌*◌, ◌≤◌, ◌<◌, ◌^◌, ◌↔◌, ℕ, length, IsTrue, IfOk, OnOk};
+ghost use Rattle.cbdc_types.specs.declared.record.Header.{Header};
+
+use crate::applying::{free_held, hash_count, lock_held, make_committed};
+use crate::comparing::{misfit, other_decisions, other_part};
+use crate::plans::{LockPlan, Remembered, StampPlan};
+use crate::replying::{replies_to, status_of};
+use cbdc_types::{
+    Answered, BatchId, Decisions, Entry, FinishCall, ForgetCall, Hash, Header, LaneId, List,
+    LockCall, Part, Record, Refused, Replied, Reply, Stamp, Status,
+};
+use dtx_replies::{Slot, Slots};
+use shard_locks::Locks;
+use shard_ranges::shard_of;
+use shard_table::Table;
+use std::alloc::{AllocError, Global};
+use std::mem;
+
+// A part and its replies, copied ahead for the slot that they are to fill.
+#[derive(Drop)]
+struct Ready {
+    part: Part,
+    replies: List<Reply>,
+}
+
+/// The state of a shard behind its journal, in memory.
+#[derive(Drop)]
+pub struct ShardCore {
+    alloc: Global,
+    header: Header,
+    unspent: Table,
+    locks: Locks,
+    slots: Slots,
+    last: Stamp,
+    // For the next Lock.
+    ready: Option<Ready>,
+    // For each lane, memory for the decisions of its next Finish.
+    decisions: Vec<Vec<bool>>,
+    ghost lanes: { length slots ≡ header.shape.coordinators * header.shape.lanes },
+    ghost clock: { last < 2 ^ 63 },
+}
+
+// What a Lock is answered, before any memory is taken.
+enum LockAnswer {
+    Refused(Refused),
+    Again,
+    Next,
+}
+
+// A slot's number.
+fn number_of(slot: &Slot) -> u64 {
+    match slot {
+        Slot::Idle(number, _) => *number,
+        Slot::Locked(number, _, _, _) => *number,
+        Slot::Finished(number, _, _, _, _, _) => *number,
+    }
+}
+
+// What a Lock of the lane of this slot is answered.
+fn judge_lock(slot: &Slot, call: &LockCall) -> LockAnswer {
+    let given = call.batch.number;
+    match slot {
+        Slot::Idle(number, stamp) => judge_idle(*number, *stamp, given, call.cause),
+        Slot::Locked(number, part, _, _) => judge_open(*number, part, given, &call.part),
+        Slot::Finished(number, part, _, _, _, _) => judge_open(*number, part, given, &call.part),
+    }
+}
+
+fn judge_idle(number: u64, stamp: Stamp, given: u64, cause: Stamp) -> LockAnswer {
+    if given <= number {
+        return LockAnswer::Refused(Refused::Stale { kept: number });
+    }
+    if cause.0 <= stamp.0 {
+        return LockAnswer::Refused(Refused::EarlyStamp { kept: stamp });
+    }
+    LockAnswer::Next
+}
+
+fn judge_open(number: u64, part: &Part, given: u64, asked: &Part) -> LockAnswer {
+    if given < number {
+        return LockAnswer::Refused(Refused::Stale { kept: number });
+    }
+    if number < given {
+        return LockAnswer::Refused(Refused::LaneOpen { kept: number });
+    }
+    match other_part(part.as_slice(), asked.as_slice()) {
+        Some(at) => LockAnswer::Refused(Refused::OtherPart { at }),
+        None => LockAnswer::Again,
+    }
+}
+
+// The replies that a slot keeps, and the stamp of its Lock.
+fn kept_replies(alloc: Global, slot: &Slot) -> Result<Replied, AllocError> {
+    match slot {
+        Slot::Idle(_, stamp) => Ok(Replied {
+            replies: List::new(alloc),
+            stamp: *stamp,
+        }),
+        Slot::Locked(_, _, replies, stamp) => replied(alloc, replies, *stamp),
+        Slot::Finished(_, _, replies, _, stamp, _) => replied(alloc, replies, *stamp),
+    }
+}
+
+fn replied(alloc: Global, replies: &List<Reply>, stamp: Stamp) -> Result<Replied, AllocError> {
+    Ok(Replied {
+        replies: List::from_vec(Vec::from_slice(alloc, replies.as_slice())?),
+        stamp,
+    })
+}
+
+// What a Finish of the lane of this slot is answered, where `next` is the stamp of a new record.
+fn judge_finish(slot: &Slot, call: &FinishCall, next: Stamp) -> StampPlan {
+    let given = call.batch.number;
+    let number = number_of(slot);
+    if given < number {
+        return StampPlan::Refused(Refused::Stale { kept: number });
+    }
+    match slot {
+        Slot::Idle(_, _) => {
+            if given == number {
+                StampPlan::Refused(Refused::Stale { kept: number })
+            } else {
+                StampPlan::Refused(Refused::NotLocked { kept: number })
+            }
+        }
+        Slot::Locked(_, _, replies, stamp) => {
+            if number < given {
+                StampPlan::Refused(Refused::NotLocked { kept: number })
+            } else {
+                judge_fitting(replies, *stamp, call, next)
+            }
+        }
+        Slot::Finished(_, _, _, decisions, _, stamp) => {
+            if number < given {
+                StampPlan::Refused(Refused::NotLocked { kept: number })
+            } else {
+                judge_again(decisions, *stamp, call)
+            }
+        }
+    }
+}
+
+fn judge_fitting(
+    replies: &List<Reply>,
+    stamp: Stamp,
+    call: &FinishCall,
+    next: Stamp,
+) -> StampPlan {
+    match misfit(replies.as_slice(), call.decisions.as_slice()) {
+        Some(at) => StampPlan::Refused(Refused::OtherOutcome { at }),
+        None => late_enough(stamp, call.cause, next),
+    }
+}
+
+fn judge_again(decisions: &Decisions, stamp: Stamp, call: &FinishCall) -> StampPlan {
+    match other_decisions(decisions.as_slice(), call.decisions.as_slice()) {
+        Some(at) => StampPlan::Refused(Refused::OtherOutcome { at }),
+        None => StampPlan::Kept(stamp),
+    }
+}
+
+fn late_enough(stamp: Stamp, cause: Stamp, next: Stamp) -> StampPlan {
+    if cause.0 <= stamp.0 {
+        StampPlan::Refused(Refused::EarlyStamp { kept: stamp })
+    } else {
+        StampPlan::Append(next)
+    }
+}
+
+// What a Forget of the lane of this slot is answered.
+fn judge_forget(slot: &Slot, call: &ForgetCall, next: Stamp) -> StampPlan {
+    let given = call.batch.number;
+    let number = number_of(slot);
+    if given < number {
+        return StampPlan::Refused(Refused::Stale { kept: number });
+    }
+    if number < given {
+        return StampPlan::Refused(Refused::NotLocked { kept: number });
+    }
+    match slot {
+        Slot::Idle(_, stamp) => StampPlan::Kept(*stamp),
+        Slot::Locked(_, _, _, _) => StampPlan::Refused(Refused::NotFinished { kept: number }),
+        Slot::Finished(_, _, _, _, _, stamp) => late_enough(*stamp, call.cause, next),
+    }
+}
+
+// What a slot remembers of a transaction.
+fn remembered_in(slot: &Slot, id: &Hash) -> Option<Remembered> {
+    match slot {
+        Slot::Idle(_, _) => None,
+        Slot::Locked(_, part, _, _) => {
+            if part.as_slice().iter().any(|entry| entry.id == *id) {
+                Some(Remembered::Waiting)
+            } else {
+                None
+            }
+        }
+        Slot::Finished(_, part, _, decisions, _, _) => {
+            decided_in(part.as_slice(), decisions.as_slice(), id)
+        }
+    }
+}
+
+fn decided_in(entries: &[Entry], decisions: &[bool], id: &Hash) -> Option<Remembered> {
+    for (entry, commit) in entries.iter().zip(decisions) {
+        if entry.id == *id {
+            return Some(if *commit {
+                Remembered::Committed
+            } else {
+                Remembered::Rejected
+            });
+        }
+    }
+    None
+}
+
+// The bytes that are kept free for the later records of a slot's batch.
+fn room_of(slot: &Slot) -> u64 {
+    match slot {
+        Slot::Idle(_, _) => 0,
+        Slot::Locked(_, part, _, _) => (part.len() as u64).saturating_add(76),
+        Slot::Finished(_, _, _, _, _, _) => 34,
+    }
+}
+
+// Whether the replies of a Lock are these.
+fn same_replies(entries: &[Answered], replies: &[Reply]) -> bool {
+    if entries.len() != replies.len() {
+        return false;
+    }
+    for (answered, reply) in entries.iter().zip(replies) {
+        if answered.reply != *reply {
+            return false;
+        }
+    }
+    true
+}
+
+// The entries of a Lock without their replies.
+fn entries_of(alloc: Global, answered: &[Answered]) -> Result<Vec<Entry>, AllocError> {
+    let mut entries = Vec::with_capacity(alloc, answered.len())?;
+    for one in answered {
+        entries.push(one.entry.clone()?)?;
+    }
+    Ok(entries)
+}
+
+// Whether each hash lies on this shard.
+fn are_here(hashes: &[Hash], shards: u32, shard: u32) -> bool
+    requires { shards < 2 ^ 24 }
+{
+    for x in hashes {
+        if shard_of(x, shards) != shard {
+            return false;
+        }
+    }
+    true
+}
+
+// The decisions in memory that was taken ahead.
+fn decided(memory: Vec<bool>, decisions: &[bool]) -> Decisions {
+    let mut kept = memory;
+    for commit in decisions {
+        if kept.push(*commit).is_err() {
+            return List::from_vec(kept);
+        }
+    }
+    List::from_vec(kept)
+}
+
+// A vector for the decisions of each lane, with no memory yet.
+fn empty_decisions(alloc: Global, lanes: u32) -> Result<Vec<Vec<bool>>, AllocError> {
+    let mut decisions = Vec::with_capacity(alloc, lanes as usize)?;
+    for _lane in 0..lanes {
+        decisions.push(Vec::new(alloc))?;
+    }
+    Ok(decisions)
+}
+
+// The set of these hashes.
+fn table_of(alloc: Global, hashes: &[Hash]) -> Result<Table, AllocError> {
+    let mut table = Table::new(alloc);
+    table.reserve(hashes.len() as u64)?;
+    for x in hashes {
+        if 0 < table.spare() {
+            table.insert(*x);
+        }
+    }
+    Ok(table)
+}
+
+impl ShardCore {
+    ghost use Rattle.std.specs.Bool.{OnTrue};
+    ghost use Rattle.shard_core.specs.Admitted.{IsAdmitted, IsOfLane, IsLaterAt};
+
+    /// The shard with this header whose journal holds the Genesis of these hashes alone.
+    pub fn new(alloc: Global, header: &Header, hashes: &[Hash]) -> Result<ShardCore, AllocError>
+        ensures header { IfOk result (λ core. core.header ≡ header.now) }
+    {
+        let lanes = header.shape.lane_count();
+        let slots = Slots::new(alloc, lanes)?;
+        let decisions = empty_decisions(alloc, lanes)?;
+        let unspent = table_of(alloc, hashes)?;
+        Ok(ShardCore {
+            alloc,
+            header: *header,
+            unspent,
+            locks: Locks::new(alloc),
+            slots,
+            last: Stamp(0),
+            ready: None,
+            decisions,
+        })
+    }
+
+    /// The header. Takes no memory.
+    pub fn header(&self) -> &Header
+        ensures { result.now ≡ self.now.header }
+    {
+        &self.header
+    }
+
+    /// The stamp of the last record, 0 behind the Genesis alone. Takes no memory.
+    pub fn last_stamp(&self) -> Stamp
+        ensures { result ≡ self.now.last }
+    {
+        self.last
+    }
+
+    // One more than the greatest of the last stamp and the cause's.
+    fn next_stamp(&self, cause: Stamp) -> Stamp
+        requires { cause < 2 ^ 63 }
+    {
+        Stamp(self.last.0.max(cause.0) + 1)
+    }
+
+    /// What a Lock is answered. Where it is to be appended, the memory of its apply is there. Where memory runs out
+    /// the shard is as before.
+    pub fn plan_lock(&mut self, call: &LockCall) -> Result<LockPlan, AllocError>
+        requires lane { call.now.batch.lane < self.old.header.shape.coordinators * self.old.header.shape.lanes }
+        requires cause { call.now.cause < 2 ^ 63 }
+        ensures header { self.new.header ≡ self.old.header }
+    {
+        let slot = self.slots.slot(call.batch.lane);
+        match judge_lock(slot, call) {
+            LockAnswer::Refused(why) => Ok(LockPlan::Refused(why)),
+            LockAnswer::Again => Ok(LockPlan::Kept(kept_replies(self.alloc, slot)?)),
+            LockAnswer::Next => {
+                let stamp = self.next_stamp(call.cause);
+                let entries = call.part.as_slice();
+                let replies =
+                    replies_to(self.alloc, &self.unspent, &self.locks, entries, &call.batch)?;
+                let part = call.part.clone()?;
+                self.make_room(call.batch.lane, part, replies.as_slice())?;
+                Ok(LockPlan::Append(Replied {
+                    replies: List::from_vec(replies),
+                    stamp,
+                }))
+            }
+        }
+    }
+
+    // Takes the memory for a Lock of this part with these replies, and for its Finish.
+    fn make_room(
+        &mut self,
+        lane: LaneId,
+        part: Part,
+        replies: &[Reply],
+    ) -> Result<(), AllocError>
+        ensures header { self.new.header ≡ self.old.header }
+    {
+        let count = hash_count(part.as_slice());
+        let kept = Vec::from_slice(self.alloc, replies)?;
+        self.locks.reserve(count)?;
+        let owed = self.owed();
+        self.unspent.reserve(owed.saturating_add(count))?;
+        let at = lane.0 as usize;
+        if at < self.decisions.len() {
+            let memory = &mut self.decisions[at];
+            memory.clear();
+            memory.reserve(replies.len())?;
+        }
+        self.ready = Some(Ready {
+            part,
+            replies: List::from_vec(kept),
+        });
+        Ok(())
+    }
+
+    // How many hashes the locked batches may still bring to the table.
+    fn owed(&self) -> u64 {
+        let mut count = 0u64;
+        for lane in 0..self.header.shape.lane_count() {
+            if let Slot::Locked(_, part, _, _) = self.slots.slot(LaneId(lane)) {
+                count = count.saturating_add(hash_count(part.as_slice()));
+            }
+        }
+        count
+    }
+
+    /// What a Finish is answered. Takes no memory.
+    pub fn plan_finish(&self, call: &FinishCall) -> StampPlan
+        requires lane { call.now.batch.lane < self.now.header.shape.coordinators * self.now.header.shape.lanes }
+        requires cause { call.now.cause < 2 ^ 63 }
+    {
+        let next = self.next_stamp(call.cause);
+        judge_finish(self.slots.slot(call.batch.lane), call, next)
+    }
+
+    /// What a Forget is answered. Takes no memory.
+    pub fn plan_forget(&self, call: &ForgetCall) -> StampPlan
+        requires lane { call.now.batch.lane < self.now.header.shape.coordinators * self.now.header.shape.lanes }
+        requires cause { call.now.cause < 2 ^ 63 }
+    {
+        let next = self.next_stamp(call.cause);
+        judge_forget(self.slots.slot(call.batch.lane), call, next)
+    }
+
+    /// Whether a record is the next one. Where it is, the memory of its apply is there. Where memory runs out the
+    /// shard is as before.
+    pub fn admit(&mut self, r: &Record) -> Result<bool, AllocError>
+        ensures header { self.new.header ≡ self.old.header }
+        ensures admitted { IfOk result (λ yes. OnTrue yes (IsAdmitted self.new r.now)) }
+    {
+        match r {
+            Record::Lock {
+                stamp,
+                batch,
+                entries,
+            } => self.admit_lock(*stamp, batch, entries.as_slice()),
+            Record::Finish {
+                stamp,
+                batch,
+                decisions,
+            } => Ok(self.is_next_finish(*stamp, batch, decisions.as_slice())),
+            Record::Forget { stamp, batch } => Ok(self.is_next_forget(*stamp, batch)),
+            _ => Ok(false),
+        }
+    }
+
+    fn admit_lock(
+        &mut self,
+        stamp: Stamp,
+        batch: &BatchId,
+        answered: &[Answered],
+    ) -> Result<bool, AllocError>
+        ensures header { self.new.header ≡ self.old.header }
+        ensures admitted { IfOk result (λ yes. OnTrue yes (IsOfLane self.new batch.now stamp)) }
+    {
+        if !self.is_next_lock(stamp, batch, answered) {
+            return Ok(false);
+        }
+        let entries = entries_of(self.alloc, answered)?;
+        let replies = replies_to(
+            self.alloc,
+            &self.unspent,
+            &self.locks,
+            entries.as_slice(),
+            batch,
+        )?;
+        if !same_replies(answered, replies.as_slice()) {
+            return Ok(false);
+        }
+        self.make_room(batch.lane, List::from_vec(entries), replies.as_slice())?;
+        Ok(true)
+    }
+
+    // Whether the batch is one of a lane here, and the stamp is later than the last one and within its bound.
+    fn is_later(&self, stamp: Stamp, batch: &BatchId, bound: u64) -> bool
+        ensures { IsTrue result ↔ IsLaterAt self.now batch.now stamp bound }
+    {
+        batch.lane.0 < self.header.shape.lane_count()
+            && 1 <= batch.number
+            && batch.number <= 1 << 62
+            && self.last.0 < stamp.0
+            && stamp.0 <= bound
+    }
+
+    fn is_next_lock(&self, stamp: Stamp, batch: &BatchId, answered: &[Answered]) -> bool
+        ensures later { OnTrue result (IsLaterAt self.now batch.now stamp (2 ^ 62)) }
+    {
+        if !self.is_later(stamp, batch, 1 << 62) || answered.is_empty() {
+            return false;
+        }
+        if !self.are_mine(answered) {
+            return false;
+        }
+        match self.slots.slot(batch.lane) {
+            Slot::Idle(number, _) => *number < batch.number,
+            _ => false,
+        }
+    }
+
+    // Whether each hash of a part lies here.
+    fn are_mine(&self, answered: &[Answered]) -> bool {
+        let shards = self.header.shape.shards();
+        let first = self.header.shape.coordinators();
+        let node = self.header.node.0;
+        if node < first {
+            return false;
+        }
+        for one in answered {
+            if !are_here(one.entry.inputs.as_slice(), shards, node - first)
+                || !are_here(one.entry.outputs.as_slice(), shards, node - first)
+            {
+                return false;
+            }
+        }
+        true
+    }
+
+    fn is_next_finish(&self, stamp: Stamp, batch: &BatchId, decisions: &[bool]) -> bool
+        ensures later { OnTrue result (IsLaterAt self.now batch.now stamp (2 ^ 62 + 2 ^ 20)) }
+    {
+        if !self.is_later(stamp, batch, (1 << 62) + (1 << 20)) {
+            return false;
+        }
+        match self.slots.slot(batch.lane) {
+            Slot::Locked(number, _, replies, _) => {
+                *number == batch.number && misfit(replies.as_slice(), decisions).is_none()
+            }
+            _ => false,
+        }
+    }
+
+    fn is_next_forget(&self, stamp: Stamp, batch: &BatchId) -> bool
+        ensures later { OnTrue result (IsLaterAt self.now batch.now stamp (2 ^ 62 + 2 ^ 20)) }
+    {
+        if !self.is_later(stamp, batch, (1 << 62) + (1 << 20)) {
+            return false;
+        }
+        match self.slots.slot(batch.lane) {
+            Slot::Finished(number, _, _, _, _, _) => *number == batch.number,
+            _ => false,
+        }
+    }
+
+    /// Takes in a Lock that was appended. Takes no memory.
+    pub fn apply_lock(&mut self, r: &Record)
+        requires { IsAdmitted self.old r.now }
+        ensures header { self.new.header ≡ self.old.header }
+    {
+        let Record::Lock {
+            stamp,
+            batch,
+            entries,
+        } = r
+        else {
+            return;
+        };
+        let Some(ready) = self.ready.take() else {
+            return;
+        };
+        let Ready { part, replies } = ready;
+        lock_held(&mut self.unspent, &mut self.locks, entries.as_slice(), batch);
+        let slot = Slot::Locked(batch.number, part, replies, *stamp);
+        self.slots.put(batch.lane, slot);
+        self.last = *stamp;
+    }
+
+    /// Takes in a Finish that was appended. Takes no memory.
+    pub fn apply_finish(&mut self, r: &Record)
+        requires { IsAdmitted self.old r.now }
+        ensures header { self.new.header ≡ self.old.header }
+    {
+        let Record::Finish {
+            stamp,
+            batch,
+            decisions,
+        } = r
+        else {
+            return;
+        };
+        let memory = self.take_memory(batch.lane);
+        let slot = self.slots.take(batch.lane);
+        let next = finished(
+            &mut self.unspent,
+            &mut self.locks,
+            slot,
+            memory,
+            decisions.as_slice(),
+            *stamp,
+        );
+        self.slots.put(batch.lane, next);
+        self.last = *stamp;
+    }
+
+    // Takes out the memory for a lane's decisions.
+    fn take_memory(&mut self, lane: LaneId) -> Vec<bool>
+        ensures header { self.new.header ≡ self.old.header }
+        ensures slots { self.new.slots ≡ self.old.slots }
+        ensures last { self.new.last ≡ self.old.last }
+    {
+        let at = lane.0 as usize;
+        let empty = Vec::new(self.alloc);
+        if at < self.decisions.len() {
+            mem::replace(&mut self.decisions[at], empty)
+        } else {
+            empty
+        }
+    }
+
+    /// Takes in a Forget that was appended. Takes no memory.
+    pub fn apply_forget(&mut self, r: &Record)
+        requires { IsAdmitted self.old r.now }
+        ensures header { self.new.header ≡ self.old.header }
+    {
+        let Record::Forget { stamp, batch } = r else {
+            return;
+        };
+        self.slots.put(batch.lane, Slot::Idle(batch.number, *stamp));
+        self.last = *stamp;
+    }
+
+    /// What the shard knows of a hash. Takes no memory.
+    pub fn check_unspent(&self, x: &Hash) -> Status {
+        status_of(&self.unspent, &self.locks, x)
+    }
+
+    /// How many hashes are unspent. Takes no memory.
+    pub fn unspent_len(&self) -> u64 {
+        self.unspent.len()
+    }
+
+    /// What is remembered of a transaction: of the batches that are locked or finished here and have this id, that of
+    /// the least lane decides. Takes no memory.
+    pub fn check_tx(&self, id: &Hash) -> Option<Remembered> {
+        for lane in 0..self.header.shape.lane_count() {
+            let found = remembered_in(self.slots.slot(LaneId(lane)), id);
+            if found.is_some() {
+                return found;
+            }
+        }
+        None
+    }
+
+    /// The bytes that are kept free in the journal for the later records of unfinished batches. Takes no memory.
+    pub fn kept_room(&self) -> u64 {
+        let mut room = 0u64;
+        for lane in 0..self.header.shape.lane_count() {
+            room = room.saturating_add(room_of(self.slots.slot(LaneId(lane))));
+        }
+        room
+    }
+}
+
+// What a Finish makes of a slot, of the hashes and of the locks.
+fn finished(
+    unspent: &mut Table,
+    locks: &mut Locks,
+    slot: Slot,
+    memory: Vec<bool>,
+    decisions: &[bool],
+    stamp: Stamp,
+) -> Slot {
+    match slot {
+        Slot::Locked(number, part, replies, at) => {
+            free_held(
+                unspent,
+                locks,
+                part.as_slice(),
+                replies.as_slice(),
+                decisions,
+            );
+            make_committed(unspent, part.as_slice(), decisions);
+            Slot::Finished(number, part, replies, decided(memory, decisions), at, stamp)
+        }
+        other => other,
+    }
+}

@@ -1,0 +1,11 @@
+//! A shard without its disk: what each call answers, and what each record changes.
+#![tactic(auto)]
+
+mod applying;
+mod comparing;
+mod core_state;
+mod plans;
+mod replying;
+
+pub use core_state::ShardCore;
+pub use plans::{LockPlan, Remembered, StampPlan};
