@@ -1,0 +1,4 @@
+pub mod Phases
+pub mod Masks
+pub mod Decided
+pub mod Lanes
