@@ -64,21 +64,29 @@ Takes c d (Discard stamp b) = d ≡ turned c stamp b.lane (record { number = b.n
 Takes c d (Done stamp b) = d ≡ turned c stamp b.lane (record { number = b.number; phase = Idle })
 Takes c d other = d ≡ c
 
--- the record is next, and a Prepare's memory is there
+-- a record of this stamp and batch may come: on a lane of this coordinator, behind the last stamp
+abbrev pub IsLaterAt : CoordOf → ℕ → Batch → Type 0
+IsLaterAt c stamp b = IsOwn c.header b.lane × (c.last < stamp) × (stamp ≤ 2 ^ 62 + 2 ^ 20)
+
+abbrev pub IsPrepareAt : CoordOf → ℕ → Batch → Type 0
+IsPrepareAt c stamp b = IsLaterAt c stamp b × ((lane_at c b.lane).slot.phase ≡ Idle) × (b.number ≡ (lane_at c b.lane).slot.number + 1)
+
+abbrev pub IsCommitAt : CoordOf → ℕ → Batch → ℕ → Type 0
+IsCommitAt c stamp b n =
+    IsLaterAt c stamp b × ((lane_at c b.lane).slot ≡ record { number = b.number; phase = InPrepare }) × (length (lane_at c b.lane).masks ≡ n)
+
+-- the record is next
+abbrev pub IsAdmitted : CoordOf → Record → Type 0
+IsAdmitted c (Prepare stamp b txs) = IsPrepareAt c stamp b
+IsAdmitted c (Commit stamp b os) = IsCommitAt c stamp b (length os)
+IsAdmitted c (Discard stamp b) = IsLaterAt c stamp b × ((lane_at c b.lane).slot ≡ record { number = b.number; phase = InCommit })
+IsAdmitted c (Done stamp b) = IsLaterAt c stamp b × ((lane_at c b.lane).slot ≡ record { number = b.number; phase = InDiscard })
+IsAdmitted c other = ⊥
+
+-- it is next, and the memory to take it in is there
 abbrev pub IsNext : CoordOf → Record → Type 0
-IsNext c (Prepare stamp b txs) =
-    (c.last < stamp) × (stamp ≤ 2 ^ 62 + 2 ^ 20) × IsOwn c.header b.lane × (b.number ≡ (lane_at c b.lane).slot.number + 1)
-    × ((lane_at c b.lane).slot.phase ≡ Idle) × (length txs ≤ (lane_at c b.lane).room)
-IsNext c (Commit stamp b os) =
-    (c.last < stamp) × (stamp ≤ 2 ^ 62 + 2 ^ 20) × IsOwn c.header b.lane × (b.number ≡ (lane_at c b.lane).slot.number)
-    × ((lane_at c b.lane).slot.phase ≡ InPrepare) × (length os ≡ length (lane_at c b.lane).masks)
-IsNext c (Discard stamp b) =
-    (c.last < stamp) × (stamp ≤ 2 ^ 62 + 2 ^ 20) × IsOwn c.header b.lane × (b.number ≡ (lane_at c b.lane).slot.number)
-    × ((lane_at c b.lane).slot.phase ≡ InCommit)
-IsNext c (Done stamp b) =
-    (c.last < stamp) × (stamp ≤ 2 ^ 62 + 2 ^ 20) × IsOwn c.header b.lane × (b.number ≡ (lane_at c b.lane).slot.number)
-    × ((lane_at c b.lane).slot.phase ≡ InDiscard)
-IsNext c other = ⊥
+IsNext c (Prepare stamp b txs) = IsPrepareAt c stamp b × (length txs ≤ (lane_at c b.lane).room)
+IsNext c other = IsAdmitted c other
 
 -- the lane has room for this many transactions
 abbrev pub HasRoom : CoordOf → ℕ → ℕ → Type 0

@@ -2,3 +2,4 @@ pub mod Phases
 pub mod Masks
 pub mod Decided
 pub mod Lanes
+pub mod Stands

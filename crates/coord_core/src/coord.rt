@@ -1,10 +1,10 @@
 // The lanes of a coordinator.
-ghost use Rattle.std.specs.Prelude.{◌≡◌, ◌≤◌, ◌<◌, ◌+◌, ◌%◌, ◌^◌, ℕ, suc, max, length, IfOk, OnOk, OnErr, [], List, All};
+ghost use Rattle.std.specs.Prelude.{◌≡◌, ◌↔◌, IsTrue, ◌≤◌, ◌<◌, ◌+◌, ◌%◌, ◌^◌, ℕ, suc, max, length, IfOk, OnOk, OnErr, [], List, All};
 ghost use Rattle.cbdc_model.specs.Records.{Record as AnyRecord, Prepare, Commit, Discard, Done};
 ghost use Rattle.cbdc_model.specs.Slots.{Idle, InPrepare, InCommit, InDiscard};
 ghost use Rattle.coord_core.specs.Phases.{slot_of};
 ghost use Rattle.coord_core.specs.Decided.{combined, latest, RisesBelow, AllEarlier};
-ghost use Rattle.coord_core.specs.Lanes.{IsOwn, lane_at, with_lane, open_batch, next_batch, IsNext, HasRoom, IsSameButRoom, turned, begun, Takes, IsFresh, IsIdle};
+ghost use Rattle.coord_core.specs.Lanes.{IsOwn, lane_at, with_lane, open_batch, next_batch, IsNext, HasRoom, IsSameButRoom, turned, begun, Takes, IsFresh, IsIdle, IsLaterAt, IsAdmitted, IsPrepareAt, IsCommitAt};
 
 use crate::combine::latest_stamp;
 use crate::lane::Lane;
@@ -14,6 +14,9 @@ use cbdc_types::{
 };
 use std::alloc::{AllocError, Global};
 use std::marker::Model;
+
+/// The last stamp of a Commit, a Discard or a Done.
+const LAST_STAMP: u64 = (1 << 62) + (1 << 20);
 
 /// The lanes of a coordinator, as its journal leaves them: which record comes next on each. Contracts see the
 /// header, the last record's stamp and the lanes.
@@ -198,6 +201,90 @@ impl CoordCore {
         ensures { result ≡ suc (max self.now.last cause) }
     {
         Stamp(self.last.max(cause.0) + 1)
+    }
+
+    /// Whether the lane is this coordinator's.
+    pub fn owns(&self, lane: LaneId) -> bool
+        ensures { IsTrue result ↔ IsOwn self.now.header lane }
+    {
+        let lanes = self.header.shape.lanes();
+        lane.0 / lanes == self.header.node.0
+    }
+
+    // Whether a record of this stamp and batch may come at all: on a lane of this coordinator, behind the last
+    // stamp, and not past the last one that a record has.
+    fn is_later(&self, stamp: Stamp, batch: &BatchId) -> bool
+        ensures { IsTrue result ↔ IsLaterAt self.now stamp batch.now }
+    {
+        self.owns(batch.lane) && self.last < stamp.0 && stamp.0 <= LAST_STAMP
+    }
+
+    // Whether the lane is in this phase.
+    fn is_at(&self, lane: LaneId, phase: LanePhase) -> bool
+        ensures { IsTrue result ↔ ((lane_at self.now lane).slot ≡ slot_of phase) }
+    {
+        let place = self.place(lane);
+        let at = self.lanes[place].phase();
+        at == phase
+    }
+
+    // How many transactions the last batch of the lane has.
+    fn count(&self, lane: LaneId) -> usize
+        ensures { result ≡ length (lane_at self.now lane).masks }
+    {
+        let place = self.place(lane);
+        self.lanes[place].count()
+    }
+
+    /// Whether a record is next: a Prepare on an idle lane with the number one more than the last, a Commit behind
+    /// it with as many outcomes, a Discard behind the Commit, a Done behind the Discard; on lanes of this
+    /// coordinator, with stamps that rise. The memory to take it in is taken then.
+    pub fn admit(&mut self, next: &Record) -> Result<bool, AllocError>
+        ensures next { IfOk result (λ b. IsTrue b ↔ IsAdmitted self.old next.now) }
+        ensures same { IsSameButRoom self.old self.new }
+        ensures room { IfOk result (λ b. IsTrue b → IsNext self.new next.now) }
+    {
+        match next {
+            Record::Prepare { stamp, batch, txs } => {
+                let is_next = self.is_prepare(*stamp, batch);
+                if is_next {
+                    self.reserve(batch.lane, txs.len())?;
+                }
+                Ok(is_next)
+            }
+            Record::Commit {
+                stamp,
+                batch,
+                outcomes,
+            } => Ok(self.is_commit(*stamp, batch, outcomes.len())),
+            Record::Discard { stamp, batch } => Ok(
+                self.is_later(*stamp, batch)
+                    && self.is_at(batch.lane, LanePhase::Committed(batch.number)),
+            ),
+            Record::Done { stamp, batch } => Ok(
+                self.is_later(*stamp, batch)
+                    && self.is_at(batch.lane, LanePhase::Discarded(batch.number)),
+            ),
+            _ => Ok(false),
+        }
+    }
+
+    // Whether a Prepare of this stamp and batch is next.
+    fn is_prepare(&self, stamp: Stamp, batch: &BatchId) -> bool
+        ensures { IsTrue result ↔ IsPrepareAt self.now stamp batch.now }
+    {
+        self.is_later(stamp, batch)
+            && 0 < batch.number
+            && self.is_at(batch.lane, LanePhase::Idle(batch.number - 1))
+    }
+
+    // Whether a Commit of this stamp, batch and many outcomes is next.
+    fn is_commit(&self, stamp: Stamp, batch: &BatchId, outcomes: usize) -> bool
+        ensures { IsTrue result ↔ IsCommitAt self.now stamp batch.now outcomes }
+    {
+        self.is_later(stamp, batch)
+            && self.is_at(batch.lane, LanePhase::Prepared(batch.number))
+            && self.count(batch.lane) == outcomes
     }
 
     /// Takes an appended record in.

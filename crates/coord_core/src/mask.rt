@@ -1,19 +1,9 @@
 // Which shards a transaction concerns, as the bits of a number.
 ghost use Rattle.std.specs.Prelude.{◌≡◌, ◌≤◌, ◌<◌};
-ghost use Rattle.cbdc_model.specs.Ranges.{shard_of};
 ghost use Rattle.coord_core.specs.Masks.{marked, mask_of};
 
 use cbdc_types::{CompactTx, Hash};
-
-// The shard that holds the hash.
-fn home(x: &Hash, shards: u32) -> u32
-    requires some { 1 ≤ shards }
-    requires limit { shards ≤ 64 }
-    ensures value { result ≡ shard_of shards x.now }
-    ensures below { result < shards }
-{
-    x.0[0] as u32 * shards / 256
-}
+use shard_ranges::shard_of;
 
 // The mask with the bits of these hashes' shards set too.
 fn mark(shards: u32, mask: u64, hashes: &[Hash]) -> u64
@@ -23,7 +13,7 @@ fn mark(shards: u32, mask: u64, hashes: &[Hash]) -> u64
 {
     let mut marks = mask;
     for x in hashes {
-        marks |= 1 << home(x, shards);
+        marks |= 1 << shard_of(x, shards);
     }
     marks
 }
