@@ -1,0 +1,18 @@
+use Rattle.std.proofs.Common.{◌≡◌, ◌≤◌, drop, take, length, vec_len, vec_capacity, map}
+use Rattle.cbdc_model.specs.Records.{Won}
+use Rattle.coord_core.specs.Decided.{combined}
+use Rattle.coord_core.proofs.combine.combine.Given as goal
+
+abbrev pub invariant-loop : goal.invariant-loop
+invariant-loop l = record {
+  held : l.outcomes.items ≡ map (λ m. Won) (take l.index l.masks);
+  count : vec_len l.outcomes ≡ l.index;
+  room : length l.masks ≤ vec_capacity l.outcomes;
+}
+
+abbrev pub invariant-loop-i : goal.invariant-loop-i
+invariant-loop-i l = record {
+  combined : l.outcomes.items ≡ combined l.masks (drop l.i l.replies);
+  count : vec_len l.outcomes ≡ length l.masks;
+  within : l.i ≤ length l.replies;
+}

@@ -1,0 +1,9 @@
+use Rattle.std.proofs.Common.{◌≡◌, take, length, vec_len, vec_capacity}
+use Rattle.coord_core.proofs.coord.copied_txs.Given as goal
+
+abbrev pub invariant-loop-tx : goal.invariant-loop-tx
+invariant-loop-tx l = record {
+  copied : l.copied.items ≡ take l.tx-index l.txs;
+  count : vec_len l.copied ≡ l.tx-index;
+  room : vec_capacity l.copied ≡ length l.txs;
+}

@@ -1,0 +1,111 @@
+-- What a coordinator keeps of its lanes.
+use Rattle.std.specs.Prelude.{◌≡◌, ℕ, ◌+◌, ◌^◌, ◌%◌, ◌<◌, ◌≤◌, List, [], length, slice_index_or, slice_set, All}
+use Rattle.cbdc_types.specs.Limits.{IsWithinLimits}
+use Rattle.cbdc_model.specs.Records.{Header, Batch, Compact, Record, Prepare, Commit, Discard, Done}
+use Rattle.cbdc_model.specs.Slots.{Slot, Idle, InPrepare, InCommit, InDiscard}
+use Rattle.cbdc_model.specs.Ranges.{home_of}
+use Rattle.coord_core.specs.Masks.{masks_of}
+
+-- a lane: its slot, the masks of the transactions of its last batch, and for how many transactions there is room
+pub record LaneOf : Type 0 where
+  pub slot : Slot
+  pub masks : List ℕ
+  pub room : ℕ
+
+-- a coordinator: its header, its last stamp, and its lanes
+pub record CoordOf : Type 0 where
+  pub header : Header
+  pub last : ℕ
+  pub lanes : List LaneOf
+
+abbrev pub no_lane : LaneOf
+no_lane = record { slot = record { number = 0; phase = Idle }; masks = []; room = 0 }
+
+-- the lane is this node's
+abbrev pub IsOwn : Header → ℕ → Type 0
+IsOwn h lane = home_of h.shape lane ≡ h.node
+
+abbrev pub lane_at : CoordOf → ℕ → LaneOf
+lane_at c lane = slice_index_or c.lanes (lane % c.header.shape.lanes) no_lane
+
+abbrev pub with_lane : CoordOf → ℕ → LaneOf → CoordOf
+with_lane c lane l = record c { lanes = slice_set c.lanes (lane % c.header.shape.lanes) l }
+
+abbrev pub IsLaneUpTo : ℕ → LaneOf → Type 0
+IsLaneUpTo last l = l.slot.number ≤ last
+
+pub record IsWhole (c : CoordOf) : Type 0 where
+  pub limits : IsWithinLimits c.header.shape
+  pub node : c.header.node < c.header.shape.coordinators
+  pub lanes : length c.lanes ≡ c.header.shape.lanes
+  pub last : c.last ≤ 2 ^ 62 + 2 ^ 20
+  pub numbers : All (IsLaneUpTo c.last) c.lanes
+
+abbrev pub open_batch : CoordOf → ℕ → Batch
+open_batch c lane = record { lane = lane; number = (lane_at c lane).slot.number }
+
+abbrev pub next_batch : CoordOf → ℕ → Batch
+next_batch c lane = record { lane = lane; number = (lane_at c lane).slot.number + 1 }
+
+-- the coordinator with a lane's slot set at a stamp
+abbrev pub turned : CoordOf → ℕ → ℕ → Slot → CoordOf
+turned c stamp lane s = record (with_lane c lane (record (lane_at c lane) { slot = s })) { last = stamp }
+
+-- the coordinator with a batch begun
+abbrev pub begun : CoordOf → ℕ → Batch → List Compact → CoordOf
+begun c stamp b txs =
+    record (with_lane c b.lane (record (lane_at c b.lane) { slot = record { number = b.number; phase = InPrepare }; masks = masks_of c.header.shape.shards txs })) { last = stamp }
+
+-- the coordinator has taken the record in
+abbrev pub Takes : CoordOf → CoordOf → Record → Type 0
+Takes c d (Prepare stamp b txs) = d ≡ begun c stamp b txs
+Takes c d (Commit stamp b os) = d ≡ turned c stamp b.lane (record { number = b.number; phase = InCommit })
+Takes c d (Discard stamp b) = d ≡ turned c stamp b.lane (record { number = b.number; phase = InDiscard })
+Takes c d (Done stamp b) = d ≡ turned c stamp b.lane (record { number = b.number; phase = Idle })
+Takes c d other = d ≡ c
+
+-- a record of this stamp and batch may come: on a lane of this coordinator, behind the last stamp
+abbrev pub IsLaterAt : CoordOf → ℕ → Batch → Type 0
+IsLaterAt c stamp b = IsOwn c.header b.lane × (c.last < stamp) × (stamp ≤ 2 ^ 62 + 2 ^ 20)
+
+abbrev pub IsPrepareAt : CoordOf → ℕ → Batch → Type 0
+IsPrepareAt c stamp b = IsLaterAt c stamp b × ((lane_at c b.lane).slot.phase ≡ Idle) × (b.number ≡ (lane_at c b.lane).slot.number + 1)
+
+abbrev pub IsCommitAt : CoordOf → ℕ → Batch → ℕ → Type 0
+IsCommitAt c stamp b n =
+    IsLaterAt c stamp b × ((lane_at c b.lane).slot ≡ record { number = b.number; phase = InPrepare }) × (length (lane_at c b.lane).masks ≡ n)
+
+-- the record is next
+abbrev pub IsAdmitted : CoordOf → Record → Type 0
+IsAdmitted c (Prepare stamp b txs) = IsPrepareAt c stamp b
+IsAdmitted c (Commit stamp b os) = IsCommitAt c stamp b (length os)
+IsAdmitted c (Discard stamp b) = IsLaterAt c stamp b × ((lane_at c b.lane).slot ≡ record { number = b.number; phase = InCommit })
+IsAdmitted c (Done stamp b) = IsLaterAt c stamp b × ((lane_at c b.lane).slot ≡ record { number = b.number; phase = InDiscard })
+IsAdmitted c other = ⊥
+
+-- it is next, and the memory to take it in is there
+abbrev pub IsNext : CoordOf → Record → Type 0
+IsNext c (Prepare stamp b txs) = IsPrepareAt c stamp b × (length txs ≤ (lane_at c b.lane).room)
+IsNext c other = IsAdmitted c other
+
+-- the lane has room for this many transactions
+abbrev pub HasRoom : CoordOf → ℕ → ℕ → Type 0
+HasRoom c lane n = n ≤ (lane_at c lane).room
+
+-- nothing but the room has changed, and it has not shrunk
+pub record IsSameButRoom (old new : CoordOf) : Type 0 where
+  pub header : new.header ≡ old.header
+  pub last : new.last ≡ old.last
+  pub slots : (lane : ℕ) → (lane_at new lane).slot ≡ (lane_at old lane).slot
+  pub masks : (lane : ℕ) → (lane_at new lane).masks ≡ (lane_at old lane).masks
+
+-- a lane without a batch
+pub record IsIdle (l : LaneOf) : Type 0 where
+  pub slot : l.slot ≡ record { number = 0; phase = Idle }
+  pub masks : l.masks ≡ []
+
+-- a coordinator behind its first record
+pub record IsFresh (h : Header) (c : CoordOf) : Type 0 where
+  pub header : c.header ≡ h
+  pub last : c.last ≡ 0
+  pub lanes : All IsIdle c.lanes

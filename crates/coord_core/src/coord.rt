@@ -1,0 +1,382 @@
+// The lanes of a coordinator.
+ghost use Rattle.std.specs.Prelude.{◌≡◌, ◌↔◌, IsTrue, ◌≤◌, ◌<◌, ◌+◌, ◌%◌, ◌^◌, ℕ, suc, max, length, IfOk, OnOk, OnErr, [], List, All};
+ghost use Rattle.cbdc_model.specs.Records.{Record as AnyRecord, Prepare, Commit, Discard, Done};
+ghost use Rattle.cbdc_model.specs.Slots.{Idle, InPrepare, InCommit, InDiscard};
+ghost use Rattle.coord_core.specs.Phases.{slot_of};
+ghost use Rattle.coord_core.specs.Decided.{combined, latest, RisesBelow, AllEarlier};
+ghost use Rattle.coord_core.specs.Lanes.{IsOwn, lane_at, with_lane, open_batch, next_batch, IsNext, HasRoom, IsSameButRoom, turned, begun, Takes, IsFresh, IsIdle, IsLaterAt, IsAdmitted, IsPrepareAt, IsCommitAt};
+
+use crate::combine::latest_stamp;
+use crate::lane::Lane;
+use crate::phase::LanePhase;
+use cbdc_types::{
+    BatchId, CompactTx, Hash, Header, LaneId, List, Outcomes, Record, Replies, Stamp,
+};
+use std::alloc::{AllocError, Global};
+use std::marker::Model;
+
+/// The last stamp of a Commit, a Discard or a Done.
+const LAST_STAMP: u64 = (1 << 62) + (1 << 20);
+
+/// The lanes of a coordinator, as its journal leaves them: which record comes next on each. Contracts see the
+/// header, the last record's stamp and the lanes.
+#[derive(Drop)]
+pub struct CoordCore {
+    alloc: Global,
+    header: Header,
+    last: u64,
+    lanes: Vec<Lane>,
+}
+
+impl Model for CoordCore {
+    ghost use Rattle.coord_core.specs.Lanes.{CoordOf, IsWhole};
+
+    ghost Value = { CoordOf };
+
+    ghost view = { λ c. record { header = c.header; last = c.last; lanes = c.lanes.items } };
+
+    ghost invariant = { λ c. IsWhole (record { header = c.header; last = c.last; lanes = c.lanes.items }) };
+}
+
+impl CoordCore {
+    /// The lanes of a coordinator without a batch. Its header names a coordinator.
+    pub fn new(alloc: Global, header: &Header) -> Result<CoordCore, AllocError>
+        requires { header.now.node < header.now.shape.coordinators }
+        ensures { IfOk result (IsFresh header.now) }
+    {
+        let lanes = idle_lanes(alloc, header.shape.lanes())?;
+        let _coordinators = header.shape.coordinators();
+        Ok(CoordCore {
+            alloc,
+            header: *header,
+            last: 0,
+            lanes,
+        })
+    }
+
+    // The place of a lane among this coordinator's.
+    fn place(&self, lane: LaneId) -> usize
+        ensures value { result ≡ lane % self.now.header.shape.lanes }
+        ensures below { result < length self.now.lanes }
+    {
+        let _ = &self.lanes;
+        (lane.0 % self.header.shape.lanes()) as usize
+    }
+
+    /// The header of the coordinator.
+    pub fn header(&self) -> &Header
+        ensures { result.now ≡ self.now.header }
+    {
+        &self.header
+    }
+
+    /// Where a lane of this coordinator stands.
+    pub fn phase(&self, lane: LaneId) -> LanePhase
+        requires { IsOwn self.now.header lane }
+        ensures { slot_of result ≡ (lane_at self.now lane).slot }
+    {
+        self.lanes[self.place(lane)].phase()
+    }
+
+    /// Takes the memory of a batch of n transactions on a lane.
+    fn reserve(&mut self, lane: LaneId, n: usize) -> Result<(), AllocError>
+        ensures same { IsSameButRoom self.old self.new }
+        ensures room { OnOk result (HasRoom self.new lane n) }
+    {
+        let place = self.place(lane);
+        let lane = &mut self.lanes[place];
+        lane.reserve(n)
+    }
+
+    /// The Prepare of a batch of 1 to `batch` transactions on an idle lane of this coordinator. The memory of its
+    /// Commit is taken too.
+    pub fn prepare(&mut self, lane: LaneId, txs: &[CompactTx]) -> Result<Record, AllocError>
+        requires own { IsOwn self.old.header lane }
+        requires idle { (lane_at self.old lane).slot.phase ≡ Idle }
+        requires some { 1 ≤ length txs.now }
+        requires limit { length txs.now ≤ self.old.header.shape.batch }
+        ensures record { IfOk result (λ r. r ≡ Prepare (self.old.last + 1) (next_batch self.old lane) txs.now) }
+        ensures same { IsSameButRoom self.old self.new }
+        ensures room { OnOk result (HasRoom self.new lane (length txs.now)) }
+    {
+        let copied = copied_txs(self.alloc, txs)?;
+        self.reserve(lane, txs.len())?;
+        let number = self.number(lane) + 1;
+        let stamp = Stamp(self.last + 1);
+        let batch = BatchId { lane, number };
+        Ok(Record::Prepare {
+            stamp,
+            batch,
+            txs: copied,
+        })
+    }
+
+    /// The number of a lane's last batch.
+    fn number(&self, lane: LaneId) -> u64
+        ensures value { result ≡ (lane_at self.now lane).slot.number }
+        ensures bound { result ≤ self.now.last }
+        ensures last { self.now.last ≤ 2 ^ 62 + 2 ^ 20 }
+    {
+        let _ = &self.lanes;
+        match self.lanes[self.place(lane)].phase() {
+            LanePhase::Idle(n) => n,
+            LanePhase::Prepared(n) => n,
+            LanePhase::Committed(n) => n,
+            LanePhase::Discarded(n) => n,
+        }
+    }
+
+    /// The Commit of a lane's prepared batch, by the replies of each shard that it concerns. The replies are as
+    /// many as the entries of the shard's part.
+    pub fn decide(&mut self, lane: LaneId, replies: &Replies) -> Record
+        requires own { IsOwn self.old.header lane }
+        requires prepared { (lane_at self.old lane).slot.phase ≡ InPrepare }
+        requires room { HasRoom self.old lane (length (lane_at self.old lane).masks) }
+        requires rising { RisesBelow 0 64 replies.now }
+        requires earlier { AllEarlier (2 ^ 63) replies.now }
+        ensures record { result ≡ Commit (suc (latest self.old.last replies.now)) (open_batch self.old lane) (combined (lane_at self.old lane).masks replies.now) }
+        ensures same { IsSameButRoom self.old self.new }
+    {
+        let stamp = Stamp(latest_stamp(self.last, replies.as_slice()) + 1);
+        let batch = BatchId {
+            lane,
+            number: self.number(lane),
+        };
+        Record::Commit {
+            stamp,
+            batch,
+            outcomes: self.outcomes(lane, replies),
+        }
+    }
+
+    // The outcomes of a lane's last batch, in the memory that was taken for them.
+    fn outcomes(&mut self, lane: LaneId, replies: &Replies) -> Outcomes
+        requires room { HasRoom self.old lane (length (lane_at self.old lane).masks) }
+        requires rising { RisesBelow 0 64 replies.now }
+        ensures value { result ≡ combined (lane_at self.old lane).masks replies.now }
+        ensures same { IsSameButRoom self.old self.new }
+    {
+        let place = self.place(lane);
+        let lane = &mut self.lanes[place];
+        List::from_vec(lane.decide(replies.as_slice()))
+    }
+
+    /// The Discard of a lane's committed batch; the cause is the greatest stamp of its Finishes.
+    pub fn discard(&mut self, lane: LaneId, cause: Stamp) -> Record
+        requires own { IsOwn self.old.header lane }
+        requires committed { (lane_at self.old lane).slot.phase ≡ InCommit }
+        requires cause { cause < 2 ^ 63 }
+        ensures record { result ≡ Discard (suc (max self.old.last cause)) (open_batch self.old lane) }
+        ensures same { self.new ≡ self.old }
+    {
+        Record::Discard {
+            stamp: self.after(cause),
+            batch: BatchId {
+                lane,
+                number: self.number(lane),
+            },
+        }
+    }
+
+    /// The Done of a lane's discarded batch; the cause is the greatest stamp of its Forgets.
+    pub fn done(&mut self, lane: LaneId, cause: Stamp) -> Record
+        requires own { IsOwn self.old.header lane }
+        requires discarded { (lane_at self.old lane).slot.phase ≡ InDiscard }
+        requires cause { cause < 2 ^ 63 }
+        ensures record { result ≡ Done (suc (max self.old.last cause)) (open_batch self.old lane) }
+        ensures same { self.new ≡ self.old }
+    {
+        Record::Done {
+            stamp: self.after(cause),
+            batch: BatchId {
+                lane,
+                number: self.number(lane),
+            },
+        }
+    }
+
+    // One more than the greatest of the last stamp and the cause.
+    fn after(&self, cause: Stamp) -> Stamp
+        requires { cause < 2 ^ 63 }
+        ensures { result ≡ suc (max self.now.last cause) }
+    {
+        Stamp(self.last.max(cause.0) + 1)
+    }
+
+    /// Whether the lane is this coordinator's.
+    pub fn owns(&self, lane: LaneId) -> bool
+        ensures { IsTrue result ↔ IsOwn self.now.header lane }
+    {
+        let lanes = self.header.shape.lanes();
+        lane.0 / lanes == self.header.node.0
+    }
+
+    // Whether a record of this stamp and batch may come at all: on a lane of this coordinator, behind the last
+    // stamp, and not past the last one that a record has.
+    fn is_later(&self, stamp: Stamp, batch: &BatchId) -> bool
+        ensures { IsTrue result ↔ IsLaterAt self.now stamp batch.now }
+    {
+        self.owns(batch.lane) && self.last < stamp.0 && stamp.0 <= LAST_STAMP
+    }
+
+    // Whether the lane is in this phase.
+    fn is_at(&self, lane: LaneId, phase: LanePhase) -> bool
+        ensures { IsTrue result ↔ ((lane_at self.now lane).slot ≡ slot_of phase) }
+    {
+        let place = self.place(lane);
+        let at = self.lanes[place].phase();
+        at == phase
+    }
+
+    // How many transactions the last batch of the lane has.
+    fn count(&self, lane: LaneId) -> usize
+        ensures { result ≡ length (lane_at self.now lane).masks }
+    {
+        let place = self.place(lane);
+        self.lanes[place].count()
+    }
+
+    /// Whether a record is next: a Prepare on an idle lane with the number one more than the last, a Commit behind
+    /// it with as many outcomes, a Discard behind the Commit, a Done behind the Discard; on lanes of this
+    /// coordinator, with stamps that rise. The memory to take it in is taken then.
+    pub fn admit(&mut self, next: &Record) -> Result<bool, AllocError>
+        ensures next { IfOk result (λ b. IsTrue b ↔ IsAdmitted self.old next.now) }
+        ensures same { IsSameButRoom self.old self.new }
+        ensures room { IfOk result (λ b. IsTrue b → IsNext self.new next.now) }
+    {
+        match next {
+            Record::Prepare { stamp, batch, txs } => {
+                let is_next = self.is_prepare(*stamp, batch);
+                if is_next {
+                    self.reserve(batch.lane, txs.len())?;
+                }
+                Ok(is_next)
+            }
+            Record::Commit {
+                stamp,
+                batch,
+                outcomes,
+            } => Ok(self.is_commit(*stamp, batch, outcomes.len())),
+            Record::Discard { stamp, batch } => Ok(
+                self.is_later(*stamp, batch)
+                    && self.is_at(batch.lane, LanePhase::Committed(batch.number)),
+            ),
+            Record::Done { stamp, batch } => Ok(
+                self.is_later(*stamp, batch)
+                    && self.is_at(batch.lane, LanePhase::Discarded(batch.number)),
+            ),
+            _ => Ok(false),
+        }
+    }
+
+    // Whether a Prepare of this stamp and batch is next.
+    fn is_prepare(&self, stamp: Stamp, batch: &BatchId) -> bool
+        ensures { IsTrue result ↔ IsPrepareAt self.now stamp batch.now }
+    {
+        self.is_later(stamp, batch)
+            && 0 < batch.number
+            && self.is_at(batch.lane, LanePhase::Idle(batch.number - 1))
+    }
+
+    // Whether a Commit of this stamp, batch and many outcomes is next.
+    fn is_commit(&self, stamp: Stamp, batch: &BatchId, outcomes: usize) -> bool
+        ensures { IsTrue result ↔ IsCommitAt self.now stamp batch.now outcomes }
+    {
+        self.is_later(stamp, batch)
+            && self.is_at(batch.lane, LanePhase::Prepared(batch.number))
+            && self.count(batch.lane) == outcomes
+    }
+
+    /// Takes an appended record in.
+    pub fn apply(&mut self, r: &Record)
+        requires { IsNext self.old r.now }
+        ensures { Takes self.old self.new r.now }
+    {
+        match r {
+            Record::Prepare { stamp, batch, txs } => self.begin(*stamp, batch, txs.as_slice()),
+            Record::Commit { stamp, batch, .. } => {
+                self.turn(*stamp, batch, LanePhase::Committed(batch.number))
+            }
+            Record::Discard { stamp, batch } => {
+                self.turn(*stamp, batch, LanePhase::Discarded(batch.number))
+            }
+            Record::Done { stamp, batch } => self.turn(
+                *stamp,
+                batch,
+                LanePhase::Idle(batch.number),
+            ),
+            _ => unreachable!(),
+        }
+    }
+
+    // Sets a lane's phase and the last stamp.
+    fn turn(&mut self, stamp: Stamp, batch: &BatchId, phase: LanePhase)
+        requires number { (slot_of phase).number ≡ (lane_at self.old batch.now.lane).slot.number }
+        requires later { self.old.last < stamp }
+        requires limit { stamp ≤ 2 ^ 62 + 2 ^ 20 }
+        ensures { self.new ≡ turned self.old stamp batch.now.lane (slot_of phase) }
+    {
+        let place = self.place(batch.lane);
+        let lane = &mut self.lanes[place];
+        lane.turn(phase);
+        self.last = stamp.0;
+    }
+
+    // Begins a batch on a lane.
+    fn begin(&mut self, stamp: Stamp, batch: &BatchId, txs: &[CompactTx])
+        requires number { batch.now.number ≡ (lane_at self.old batch.now.lane).slot.number + 1 }
+        requires later { self.old.last < stamp }
+        requires limit { stamp ≤ 2 ^ 62 + 2 ^ 20 }
+        requires room { HasRoom self.old batch.now.lane (length txs.now) }
+        ensures { self.new ≡ begun self.old stamp batch.now txs.now }
+    {
+        let place = self.place(batch.lane);
+        let shards = self.header.shape.shards();
+        let lane = &mut self.lanes[place];
+        lane.begin(batch.number, shards, txs);
+        self.last = stamp.0;
+    }
+}
+
+// A copy of the hashes.
+fn copied_hashes(alloc: Global, hashes: &List<Hash>) -> Result<List<Hash>, AllocError>
+    ensures { IfOk result (λ xs. xs ≡ hashes.now) }
+{
+    Ok(List::from_vec(Vec::from_slice(alloc, hashes.as_slice())?))
+}
+
+// A copy of a transaction.
+fn copied_tx(alloc: Global, tx: &CompactTx) -> Result<CompactTx, AllocError>
+    ensures { IfOk result (λ t. t ≡ tx.now) }
+{
+    let inputs = copied_hashes(alloc, &tx.inputs)?;
+    let outputs = copied_hashes(alloc, &tx.outputs)?;
+    Ok(CompactTx {
+        id: tx.id,
+        inputs,
+        outputs,
+    })
+}
+
+// A copy of the transactions.
+fn copied_txs(alloc: Global, txs: &[CompactTx]) -> Result<List<CompactTx>, AllocError>
+    ensures { IfOk result (λ ts. ts ≡ txs.now) }
+{
+    let mut copied = Vec::with_capacity(alloc, txs.len())?;
+    for tx in txs {
+        copied.push_reserved(copied_tx(alloc, tx)?);
+    }
+    Ok(List::from_vec(copied))
+}
+
+// As many lanes without a batch.
+fn idle_lanes(alloc: Global, lanes: u32) -> Result<Vec<Lane>, AllocError>
+    ensures count { IfOk result (λ v. length v.items ≡ lanes) }
+    ensures idle { IfOk result (λ v. All IsIdle v.items) }
+{
+    let mut made = Vec::with_capacity(alloc, lanes as usize)?;
+    for _ in 0..lanes {
+        made.push_reserved(Lane::new(alloc));
+    }
+    Ok(made)
+}

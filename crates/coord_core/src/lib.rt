@@ -1,0 +1,11 @@
+//! A coordinator's lanes: which record comes next on each, and what becomes of a batch by its shards' replies.
+#![tactic(auto)]
+
+mod combine;
+mod coord;
+mod lane;
+mod mask;
+mod phase;
+
+pub use coord::CoordCore;
+pub use phase::LanePhase;
