@@ -1,5 +1,5 @@
 // The records of a node, in memory and on its disk.
-ghost use Rattle.std.specs.Prelude.{◌≡◌, ◌+◌, ◌≤◌, ◌<◌, ◌^◌, ◌++◌, ◌∷◌, [], ℕ, List, None, Some, length, vec_capacity, IsOk, OnOk, OnErr, IfErr, IsErrOf, IsSome};
+ghost use Rattle.std.specs.Prelude.{◌≡◌, ◌+◌, ◌≤◌, ◌<◌, ◌^◌, ◌++◌, ◌∷◌, [], ℕ, List, None, Some, length, vec_capacity, vec_len, OnOk, OnErr, IfErr, IsErrOf, IsSome};
 ghost use Rattle.outside.specs.Counts.{Rose};
 
 use cbdc_types::{Header, Record};
@@ -49,20 +49,20 @@ impl<D: Disk> RecordLog<D> {
         self.journal.gate + 1
     }
 
-    /// Writes a record and keeps it, in memory that was taken before.
-    pub fn append(&mut self, added: Record) -> Result<(), LogFault>
-        ensures kept { OnOk result (self.new.records.items ≡ self.old.records.items ++ added ∷ []) }
-        ensures as_before { OnErr result (self.new.records.items ≡ self.old.records.items) }
+    /// Writes a record to the disk, in memory that was taken before. It is kept by `keep`.
+    pub fn write(&mut self, next: &Record) -> Result<(), LogFault>
+        ensures records { self.new.records.items ≡ self.old.records.items }
+        ensures room { OnOk result (vec_len self.new.records < vec_capacity self.new.records) }
         ensures header { self.new.header ≡ self.old.header }
         ensures fault { IsErrOf result LogFault.DiskFault → Rose (D.count self.old.journal.disk) (D.count self.new.journal.disk) }
         ensures broken { IsErrOf result LogFault.DiskFault → self.new.journal.broken ≡ Some (D.count self.new.journal.disk) }
         ensures later { D.count self.old.journal.disk ≤ D.count self.new.journal.disk }
     {
-        if self.records.len() == self.records.capacity() {
+        if self.records.len() >= self.records.capacity() {
             return Err(LogFault::NoRoom);
         }
         self.body.clear();
-        match write_record(&added, &self.header, &mut self.body) {
+        match write_record(next, &self.header, &mut self.body) {
             Ok(()) => {}
             Err(_) => return Err(LogFault::NoRoom),
         }
@@ -70,10 +70,7 @@ impl<D: Disk> RecordLog<D> {
             return Err(LogFault::NoRoom);
         }
         match self.journal.append(&self.body) {
-            Ok(()) => {
-                self.records.push(added).unwrap();
-                Ok(())
-            }
+            Ok(()) => Ok(()),
             Err(AppendFault::DiskFault) => Err(LogFault::DiskFault),
             Err(AppendFault::Broken { since }) => Err(LogFault::Broken { since }),
             Err(
@@ -87,6 +84,34 @@ impl<D: Disk> RecordLog<D> {
                 need,
                 capacity,
             }),
+        }
+    }
+
+    /// Keeps a record that was written, in memory that was taken before.
+    pub fn keep(&mut self, next: Record)
+        requires { vec_len self.old.records < vec_capacity self.old.records }
+        ensures kept { self.new.records.items ≡ self.old.records.items ++ next ∷ [] }
+        ensures header { self.new.header ≡ self.old.header }
+        ensures journal { self.new.journal ≡ self.old.journal }
+    {
+        self.records.push(next).unwrap();
+    }
+
+    /// Writes a record and keeps it, in memory that was taken before.
+    pub fn append(&mut self, added: Record) -> Result<(), LogFault>
+        ensures kept { OnOk result (self.new.records.items ≡ self.old.records.items ++ added ∷ []) }
+        ensures as_before { OnErr result (self.new.records.items ≡ self.old.records.items) }
+        ensures header { self.new.header ≡ self.old.header }
+        ensures fault { IsErrOf result LogFault.DiskFault → Rose (D.count self.old.journal.disk) (D.count self.new.journal.disk) }
+        ensures broken { IsErrOf result LogFault.DiskFault → self.new.journal.broken ≡ Some (D.count self.new.journal.disk) }
+        ensures later { D.count self.old.journal.disk ≤ D.count self.new.journal.disk }
+    {
+        match self.write(&added) {
+            Ok(()) => {
+                self.keep(added);
+                Ok(())
+            }
+            Err(fault) => Err(fault),
         }
     }
 

@@ -1,6 +1,8 @@
 // The calls at a shard.
 ghost use Rattle.std.specs.Prelude.{◌≡◌, ◌≢◌, ◌+◌, ◌≤◌, ◌<◌, ◌^◌, ◌++◌, ◌∷◌, [], ℕ, length, Some, None, IsOk, OnOk, OnErr, IfOk, IfErr, IsErrOf};
 ghost use Rattle.outside.specs.Counts.{Rose};
+ghost use Rattle.shard_core.specs.Admitted.{IsAdmitted};
+ghost use Rattle.shard_node.specs.Conditions.{IsCallOf};
 
 use crate::faults::fault_of;
 use crate::pure::Core;
@@ -28,6 +30,7 @@ pub struct ShardNode<D: Disk> {
     core: Core,
     room: Room,
     alloc: Global,
+    ghost same: { core.shard.header ≡ log.header },
 }
 
 // A part with its replies.
@@ -49,6 +52,7 @@ fn answered(
 
 impl<D: Disk> ShardNode<D> {
     pub(crate) fn of_parts(alloc: Global, log: RecordLog<D>, core: Core, room: Room) -> ShardNode<D>
+        requires { core.shard.header ≡ log.header }
         ensures { result.log ≡ log }
     {
         ShardNode {
@@ -71,18 +75,18 @@ impl<D: Disk> ShardNode<D> {
 
     // Writes a record, and then applies it.
     fn write(&mut self, next: Record) -> Result<(), NodeFault>
+        requires { IsAdmitted self.old.core.shard next }
         ensures header { self.new.log.header ≡ self.old.log.header }
         ensures kept { OnOk result (self.new.log.records.items ≡ self.old.log.records.items ++ next ∷ []) }
         ensures as_before { OnErr result (self.new.log.records.items ≡ self.old.log.records.items) }
         ensures fault { IsErrOf result NodeFault.DiskFault → Rose (D.count self.old.log.journal.disk) (D.count self.new.log.journal.disk) }
         ensures later { D.count self.old.log.journal.disk ≤ D.count self.new.log.journal.disk }
     {
-        match self.log.append(next) {
+        match self.log.write(&next) {
             Ok(()) => {
-                if let Some(written) = self.log.records.as_slice().last() {
-                    self.core.apply(written);
-                    self.room.keep_behind(written);
-                }
+                self.core.apply(&next);
+                self.room.keep_behind(&next);
+                self.log.keep(next);
                 Ok(())
             }
             Err(fault) => Err(fault_of(fault)),
@@ -91,6 +95,7 @@ impl<D: Disk> ShardNode<D> {
 
     // Writes a Lock, where its stamp and its room allow it.
     fn write_lock(&mut self, call: &LockCall, replied: &Replied) -> Result<(), NodeFault>
+        requires { IsCallOf self.old.log.header.shape call.now.batch call.now.cause }
         ensures header { self.new.log.header ≡ self.old.log.header }
         ensures as_before { OnErr result (self.new.log.records.items ≡ self.old.log.records.items) }
         ensures fault { IsErrOf result NodeFault.DiskFault → Rose (D.count self.old.log.journal.disk) (D.count self.new.log.journal.disk) }
@@ -143,6 +148,7 @@ impl<D: Disk> ShardNode<D> {
 
     /// Locks a part for a batch, or answers as before. What is needed for the batch's later records is taken here.
     pub fn lock(&mut self, call: &LockCall) -> Result<Replied, NodeFault>
+        requires { IsCallOf self.old.log.header.shape call.now.batch call.now.cause }
         ensures header { self.new.log.header ≡ self.old.log.header }
         ensures as_before { OnErr result (self.new.log.records.items ≡ self.old.log.records.items) }
         ensures fault { IsErrOf result NodeFault.DiskFault → Rose (D.count self.old.log.journal.disk) (D.count self.new.log.journal.disk) }
@@ -164,6 +170,7 @@ impl<D: Disk> ShardNode<D> {
 
     /// Applies a locked batch, or answers as before. Takes no memory.
     pub fn finish(&mut self, call: &FinishCall) -> Result<Stamp, NodeFault>
+        requires { IsCallOf self.old.log.header.shape call.now.batch call.now.cause }
         ensures header { self.new.log.header ≡ self.old.log.header }
         ensures as_before { OnErr result (self.new.log.records.items ≡ self.old.log.records.items) }
         ensures fault { IsErrOf result NodeFault.DiskFault → Rose (D.count self.old.log.journal.disk) (D.count self.new.log.journal.disk) }
@@ -195,6 +202,7 @@ impl<D: Disk> ShardNode<D> {
 
     /// Forgets a finished batch, or answers as before. Takes no memory.
     pub fn forget(&mut self, call: &ForgetCall) -> Result<Stamp, NodeFault>
+        requires { IsCallOf self.old.log.header.shape call.now.batch call.now.cause }
         ensures header { self.new.log.header ≡ self.old.log.header }
         ensures as_before { OnErr result (self.new.log.records.items ≡ self.old.log.records.items) }
         ensures fault { IsErrOf result NodeFault.DiskFault → Rose (D.count self.old.log.journal.disk) (D.count self.new.log.journal.disk) }

@@ -1,4 +1,7 @@
 // The pure shard, as the records of its journal are gone over again.
+ghost use Rattle.std.specs.Prelude.{◌≡◌};
+ghost use Rattle.shard_core.specs.Admitted.{IsAdmitted};
+
 use cbdc_types::Record;
 use record_log::Replay;
 use shard_core::ShardCore;
@@ -12,7 +15,10 @@ pub(crate) struct Core {
 
 impl Core {
     /// Takes an appended record in.
-    pub fn apply(&mut self, next: &Record) {
+    pub fn apply(&mut self, next: &Record)
+        requires { IsAdmitted self.old.shard next.now }
+        ensures header { self.new.shard.header ≡ self.old.shard.header }
+    {
         match next {
             Record::Lock { .. } => self.shard.apply_lock(next),
             Record::Finish { .. } => self.shard.apply_finish(next),
@@ -23,7 +29,7 @@ impl Core {
 }
 
 impl Replay for Core {
-    ghost admitted = { λ c r. Unit {0} };
+    ghost admitted = { λ c r. IsAdmitted c.shard r };
 
     fn admit_next(&mut self, next: &Record) -> Result<bool, AllocError> {
         self.shard.admit(next)
