@@ -1,5 +1,6 @@
 // Going over the records of a journal again.
-ghost use Rattle.std.specs.Prelude.{IsTrue, IfOk};
+ghost use Rattle.std.specs.Prelude.{◌≡◌, IsTrue, IfOk};
+ghost use Rattle.cbdc_types.specs.declared.record.Header.{Header};
 ghost use Rattle.cbdc_types.specs.declared.record.Record.{Record as TheRecord};
 
 use cbdc_types::Record;
@@ -11,17 +12,24 @@ pub trait Replay {
     /// The record was found to be next, and the memory for it is taken.
     ghost admitted: { Self → TheRecord → Type 0 };
 
+    /// The header that it began with.
+    ghost begun: { Self → Header };
+
     /// Whether the record is next. Where it is, the memory to take it in is taken.
     fn admit_next(&mut self, next: &Record) -> Result<bool, AllocError>
-        ensures { IfOk result (λ b. IsTrue b → admitted self.new next.now) };
+        ensures admitted { IfOk result (λ b. IsTrue b → admitted self.new next.now) }
+        ensures begun { begun self.new ≡ begun self.old };
 
     /// Takes the record in.
     fn take_in(&mut self, next: &Record)
-        requires { admitted self.old next.now };
+        requires { admitted self.old next.now }
+        ensures { begun self.new ≡ begun self.old };
 }
 
 /// Takes in the records behind the first one. The place of the first that is not next, if there is one.
-pub fn take_in_all<C: Replay>(core: &mut C, records: &[Record]) -> Result<Option<u64>, AllocError> {
+pub fn take_in_all<C: Replay>(core: &mut C, records: &[Record]) -> Result<Option<u64>, AllocError>
+    ensures { C.begun core.new ≡ C.begun core.old }
+{
     let mut at = 0u64;
     let mut is_first = true;
     'records: for record in records {

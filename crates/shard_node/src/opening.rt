@@ -1,5 +1,5 @@
 // Opening a shard.
-ghost use Rattle.std.specs.Prelude.{◌≡◌, ◌≢◌, ◌≤◌, IfErr, MatchResult};
+ghost use Rattle.std.specs.Prelude.{◌≡◌, ◌≢◌, ◌≤◌, IfOk, IfErr, IfSome, MatchResult};
 ghost use Rattle.outside.specs.Counts.{Rose};
 
 use crate::ShardNode;
@@ -12,7 +12,9 @@ use shard_core::ShardCore;
 use std::alloc::{AllocError, Global};
 
 // The pure shard that begins with this record. None where it is a coordinator's.
-fn core_of(alloc: Global, header: &Header, records: &[Record]) -> Result<Option<Core>, AllocError> {
+fn core_of(alloc: Global, header: &Header, records: &[Record]) -> Result<Option<Core>, AllocError>
+    ensures { IfOk result (λ o. IfSome o (λ c. c.shard.header ≡ header.now)) }
+{
     match records.first() {
         Some(Record::Genesis { hashes, .. }) => Ok(Some(Core {
             shard: ShardCore::new(alloc, header, hashes.as_slice())?,
@@ -35,7 +37,8 @@ fn room_of(alloc: Global, header: &Header, records: &[Record]) -> Result<Room, A
 
 // The shard that these records make, or why they make none.
 fn replayed(alloc: Global, header: &Header, records: &[Record]) -> Result<Core, NodeOpenFault>
-    ensures { IfErr result (λ e. e ≢ NodeOpenFault.DiskFault) }
+    ensures header { IfOk result (λ c. c.shard.header ≡ header.now) }
+    ensures fault { IfErr result (λ e. e ≢ NodeOpenFault.DiskFault) }
 {
     match core_of(alloc, header, records) {
         Ok(Some(mut core)) => match take_in_all(&mut core, records) {
@@ -86,6 +89,7 @@ fn largest(records: &[Record]) -> usize {
 // What a shard has beside its journal: the pure shard and its room, with the memory for unfinished batches.
 fn parts_of<D: Disk>(alloc: Global, log: &mut RecordLog<D>) -> Result<(Core, Room), NodeOpenFault>
     ensures fault { IfErr result (λ e. e ≢ NodeOpenFault.DiskFault) }
+    ensures core { IfOk result (λ r. r.0.shard.header ≡ log.new.header) }
     ensures same { D.count log.new.journal.disk ≡ D.count log.old.journal.disk }
 {
     let core = match replayed(alloc, &log.header, &log.records) {

@@ -31,6 +31,8 @@ impl Core {
 impl Replay for Core {
     ghost admitted = { λ c r. IsAdmitted c.shard r };
 
+    ghost begun = { λ c. c.shard.header };
+
     fn admit_next(&mut self, next: &Record) -> Result<bool, AllocError> {
         self.shard.admit(next)
     }
