@@ -1,2 +1,4 @@
+pub mod Fields
 pub mod Lengths
+pub mod Lists
 pub mod Loop

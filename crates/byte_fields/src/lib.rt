@@ -3,6 +3,7 @@
 
 mod fault;
 mod reading;
+mod transactions;
 mod writing;
 
 pub use fault::{Fault, ReadError};

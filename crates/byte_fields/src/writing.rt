@@ -2,17 +2,17 @@
 ghost use Rattle.std.specs.Prelude.{◌≡◌, ◌++◌, ◌+◌, ◌<◌, ◌≤◌, List, ℕ, length, OnOk, OnErr};
 ghost use Rattle.std.specs.List.{flat_map};
 ghost use Rattle.std.specs.Vec.{vec_len, vec_capacity};
-ghost use Rattle.byte_fields.specs.Spelling.{number, counted};
+ghost use Rattle.byte_fields.specs.Spelling.{number, counted, output, input, witness};
 
-use cbdc_types::{Hash, List};
+use cbdc_types::{Hash, Input, List, Output};
 use std::alloc::AllocError;
 
 /// Puts a number's eight bytes at the end.
 #[tactic(auto, unfolding(crate::specs::Spelling::number))]
 pub fn put_number(out: &mut Vec<u8>, n: u64) -> Result<(), AllocError>
     ensures ok { OnOk result (out.new.items ≡ out.old.items ++ number n) }
-    ensures len { OnOk result (vec_len out.new ≡ vec_len out.old + 8) }
-    ensures full { OnErr result (vec_capacity out.old < vec_len out.old + 8) }
+    ensures len { OnOk result (vec_len out.new ≡ vec_len out.old + length (number n)) }
+    ensures full { OnErr result (vec_capacity out.old < vec_len out.old + length (number n)) }
     ensures capacity { vec_capacity out.old ≤ vec_capacity out.new }
 {
     out.extend_from_slice(&n.to_le_bytes())
@@ -21,8 +21,8 @@ pub fn put_number(out: &mut Vec<u8>, n: u64) -> Result<(), AllocError>
 /// Puts a hash's bytes at the end.
 pub fn put_hash(out: &mut Vec<u8>, hash: &Hash) -> Result<(), AllocError>
     ensures ok { OnOk result (out.new.items ≡ out.old.items ++ hash.now) }
-    ensures len { OnOk result (vec_len out.new ≡ vec_len out.old + 32) }
-    ensures full { OnErr result (vec_capacity out.old < vec_len out.old + 32) }
+    ensures len { OnOk result (vec_len out.new ≡ vec_len out.old + length hash.now) }
+    ensures full { OnErr result (vec_capacity out.old < vec_len out.old + length hash.now) }
     ensures capacity { vec_capacity out.old ≤ vec_capacity out.new }
 {
     out.extend_from_slice(&hash.0)
@@ -45,6 +45,34 @@ impl Spell for Hash {
 
     fn put(&self, out: &mut Vec<u8>) -> Result<(), AllocError> {
         out.extend_from_slice(&self.0)
+    }
+}
+
+impl Spell for Output {
+    ghost spelled = { output };
+
+    fn put(&self, out: &mut Vec<u8>) -> Result<(), AllocError> {
+        put_hash(out, &self.program)?;
+        put_number(out, self.value)
+    }
+}
+
+impl Spell for Input {
+    ghost spelled = { input };
+
+    fn put(&self, out: &mut Vec<u8>) -> Result<(), AllocError> {
+        put_hash(out, &self.point.tx)?;
+        put_number(out, self.point.index)?;
+        self.output.put(out)
+    }
+}
+
+impl Spell for List<u8> {
+    ghost spelled = { witness };
+
+    fn put(&self, out: &mut Vec<u8>) -> Result<(), AllocError> {
+        put_number(out, self.len() as u64)?;
+        out.extend_from_slice(self.as_slice())
     }
 }
 
