@@ -1,9 +1,10 @@
 // The lanes of a coordinator.
-ghost use Rattle.std.specs.Prelude.{◌≡◌, ◌↔◌, IsTrue, ◌≤◌, ◌<◌, ◌+◌, ◌%◌, ◌^◌, ℕ, suc, max, length, IfOk, OnOk, OnErr, [], List, All};
-ghost use Rattle.cbdc_model.specs.Records.{Record as AnyRecord, Prepare, Commit, Discard, Done};
+ghost use Rattle.std.specs.Prelude.{◌≡◌, ◌↔◌, IsTrue, ◌≤◌, ◌<◌, ◌+◌, ◌%◌, ◌^◌, ℕ, suc, max, length, IfOk, OnOk, OnErr, [], ◌∷◌, List, All};
+ghost use Rattle.cbdc_model.specs.Records.{Record as AnyRecord, Start, Prepare, Commit, Discard, Done};
 ghost use Rattle.cbdc_model.specs.Slots.{Idle, InPrepare, InCommit, InDiscard};
 ghost use Rattle.coord_core.specs.Phases.{slot_of};
 ghost use Rattle.coord_core.specs.Decided.{combined, latest, RisesBelow, AllEarlier};
+ghost use Rattle.coord_core.specs.Stands.{StandsFor};
 ghost use Rattle.coord_core.specs.Lanes.{IsOwn, lane_at, with_lane, open_batch, next_batch, IsNext, HasRoom, IsSameButRoom, turned, begun, Takes, IsFresh, IsIdle, IsLaterAt, IsAdmitted, IsPrepareAt, IsCommitAt};
 
 use crate::combine::latest_stamp;
@@ -39,10 +40,13 @@ impl Model for CoordCore {
 }
 
 impl CoordCore {
+    ghost use Rattle.coord_core.specs.Lanes.{IsWhole};
+
     /// The lanes of a coordinator without a batch. Its header names a coordinator.
     pub fn new(alloc: Global, header: &Header) -> Result<CoordCore, AllocError>
         requires { header.now.node < header.now.shape.coordinators }
-        ensures { IfOk result (IsFresh header.now) }
+        ensures fresh { IfOk result (IsFresh header.now) }
+        ensures stands { IfOk result (λ c. StandsFor c (Start header.now ∷ [])) }
     {
         let lanes = idle_lanes(alloc, header.shape.lanes())?;
         let _coordinators = header.shape.coordinators();
@@ -288,10 +292,24 @@ impl CoordCore {
     }
 
     /// Takes an appended record in.
+    #[tactic(auto, using(crate::proofs::Standing::stands_next))]
     pub fn apply(&mut self, r: &Record)
         requires { IsNext self.old r.now }
-        ensures { Takes self.old self.new r.now }
+        ensures taken { Takes self.old self.new r.now }
+
+        // The lanes are then as the journal with the record leaves them.
+        ensures stands { (past : List AnyRecord) → StandsFor self.old past → StandsFor self.new (r.now ∷ past) }
     {
+        self.take(r);
+    }
+
+    // Takes a record in.
+    fn take(&mut self, r: &Record)
+        requires { IsNext self.old r.now }
+        ensures taken { Takes self.old self.new r.now }
+        ensures whole { IsWhole self.old }
+    {
+        let _ = &self.lanes;
         match r {
             Record::Prepare { stamp, batch, txs } => self.begin(*stamp, batch, txs.as_slice()),
             Record::Commit { stamp, batch, .. } => {
