@@ -1,0 +1,17 @@
+pub mod Next
+pub mod Counts
+pub mod Parts
+pub mod Replies
+pub mod Slots
+pub mod View
+pub mod LockStep
+pub mod CommitStep
+pub mod FinishStep
+pub mod Rows
+pub mod Keeps
+pub mod Lookups
+pub mod Steps
+pub mod First
+pub mod Theory
+pub mod FirstJournals
+pub mod Ledger
