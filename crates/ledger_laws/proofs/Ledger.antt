@@ -1,11 +1,13 @@
 -- Between the definitions of what is kept and the products that the proofs read.
-use Rattle.std.proofs.Common.{◌≡◌, ◌⊎◌, inl, inr, ℕ, zero, suc, ◌+◌, ◌<◌, ◌≤◌, true, false, if◌then◌else◌, List, [], ◌∷◌, ◌++◌, length, refl, sym, ap, ◌∙◌, subst, arith}
+use Rattle.std.proofs.Common.{◌≡◌, ◌⊎◌, inl, inr, ℕ, zero, suc, ◌+◌, ◌<◌, ◌≤◌, true, false, if◌then◌else◌, List, [], ◌∷◌, ◌++◌, length, Some, refl, sym, ap, ◌∙◌, subst, arith}
 use Rattle.std.specs.List.{All, AllByRecursion}
 use Rattle.std.proofs.lemmas.List.Elements.{All-from_recursion, recursion_from_All}
 use Rattle.cbdc_model.specs.Records.{Shape, Digest, Header, Compact, Record, Row, journal, Genesis, Lock, Finish, Forget, Start, Prepare, Commit, Discard, Done}
 use Rattle.cbdc_model.specs.Grammar.{IsInGrammar}
 use Rattle.cbdc_model.specs.After.{After, Follows}
-use Rattle.cbdc_model.specs.History.{Minted, header_of, first_rows, TxsPass, IsSteady}
+use Rattle.cbdc_model.specs.History.{Minted, header_of, first_rows, TxsPass, IsSteady, IsOrdered}
+use Rattle.cbdc_model.specs.Causes.{IsCaused}
+use Rattle.cbdc_model.specs.World.{World, node_at, journals}
 use Rattle.ledger_laws.proofs.Next.{Next, Each, AllProper, Steady}
 use Rattle.ledger_laws.proofs.FirstJournals.{never_empty}
 
@@ -91,3 +93,12 @@ module _ (K : Shape) (minting : Minted) (P : Compact → Type 0) where
     passes_of P row.what h.2,
     is_steady later h.3,
   )
+
+-- one history of the whole world, with what is in flight
+pub record SteadyWorld (K : Shape) (minting : Minted) (P : Compact → Type 0) (w : World) : Type 0 where
+  pub later : List Row
+  pub kept : Steady K minting P later
+  pub ordered : IsOrdered later
+  pub history : (n : ℕ) → journal n (later ++ first_rows K minting) ≡ journals w n
+  pub flights : (n : ℕ) (r : Record) → (node_at w n).flight ≡ Some r
+      → Next K n (journals w n) r × IsCaused K (journals w) n r × AllProper P r × IsInGrammar (header_of K minting.id n) r

@@ -15,3 +15,15 @@ pub mod First
 pub mod Theory
 pub mod FirstJournals
 pub mod Ledger
+pub mod Books
+pub mod Folds
+pub mod Funded
+pub mod Members
+pub mod More
+pub mod Moves
+pub mod Dones
+pub mod Standing
+pub mod Recovered
+pub mod Alikes
+pub mod Waiting
+pub mod Folding
