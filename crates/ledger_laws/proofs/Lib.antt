@@ -27,3 +27,5 @@ pub mod Recovered
 pub mod Alikes
 pub mod Waiting
 pub mod Folding
+pub mod Planned
+pub mod Worlds
