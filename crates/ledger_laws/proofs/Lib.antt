@@ -29,3 +29,5 @@ pub mod Waiting
 pub mod Folding
 pub mod Planned
 pub mod Worlds
+pub mod FirstWorld
+pub mod KeptLaws
