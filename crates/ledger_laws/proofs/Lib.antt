@@ -31,3 +31,4 @@ pub mod Planned
 pub mod Worlds
 pub mod FirstWorld
 pub mod KeptLaws
+pub mod Recovery

@@ -4,7 +4,8 @@ use Rattle.cbdc_model.specs.Records.{Shape, Row}
 use Rattle.cbdc_model.specs.Coins.{Output, FullTx}
 use Rattle.cbdc_model.specs.Clean.{Clean, IsProperCompact}
 use Rattle.cbdc_model.specs.History.{minted, history_of, IsKept}
-use Rattle.cbdc_model.specs.World.{World, Event, EventPasses, EventsPass, Step, Run, init, KeptWorld}
+use Rattle.cbdc_model.specs.World.{World, Event, EventPasses, EventsPass, Step, Run, init, journals, KeptWorld, IsRecovered}
+use Rattle.cbdc_model.specs.Headline.{Headline}
 use Rattle.ledger_laws.specs.Sets.{Folds}
 
 -- the committed transactions of every kept history fold, where hashes don't clash
@@ -21,3 +22,13 @@ KeptLaw = (K : Shape) (mint : List Output) (submissions : List FullTx) (events :
 abbrev pub StepLaw : Type 0
 StepLaw = (K : Shape) (mint : List Output) (submissions : List FullTx) (old new : World) (event : Event) → 0 < K.shards
     → KeptWorld K mint submissions old → EventPasses (IsProperCompact submissions) event → Step K (minted mint) old event new → KeptWorld K mint submissions new
+
+-- in a kept world, once it is recovered, the sentence holds
+abbrev pub RecoveredLaw : Type 0
+RecoveredLaw = (K : Shape) (mint : List Output) (submissions : List FullTx) (w : World) → 0 < K.shards → 0 < K.lanes → Clean mint submissions
+    → KeptWorld K mint submissions w → IsRecovered K w → Headline K mint submissions (journals w)
+
+-- for every list of steps, repeats and crashes, once the open batches are recovered, the sentence holds
+abbrev pub HeadlineLaw : Type 0
+HeadlineLaw = (K : Shape) (mint : List Output) (submissions : List FullTx) (events : List Event) (w : World) → 0 < K.shards → 0 < K.lanes → Clean mint submissions
+    → EventsPass (IsProperCompact submissions) events → Run K (minted mint) (init K (minted mint)) events w → IsRecovered K w → Headline K mint submissions (journals w)

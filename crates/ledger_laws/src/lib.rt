@@ -1,7 +1,7 @@
 //! The laws of the ledger: functions with an empty body, whose contracts are the theorems. Nothing of them runs.
 #![tactic(auto)]
 
-ghost use Rattle.ledger_laws.specs.Laws.{FoldLaw, KeptLaw, StepLaw};
+ghost use Rattle.ledger_laws.specs.Laws.{FoldLaw, HeadlineLaw, KeptLaw, RecoveredLaw, StepLaw};
 
 /// Where no two coins or transactions share a hash, the committed transactions of every kept
 /// history can be spent one after another from the mint, each finding all its inputs. The book
@@ -25,5 +25,21 @@ pub fn kept_law()
 /// The same for one step from any world that is kept so far.
 pub fn step_law()
     ensures { StepLaw }
+{
+}
+
+/// The headline. For every list of steps, repeats and crashes in which no two outputs share a
+/// hash: once the open batches are recovered, the shards together hold exactly the hashes of the
+/// coins left by folding the committed transactions in the order of their commits. Each found all
+/// its inputs unspent, none was spent twice, no transaction is committed twice, the coins' value
+/// is the value minted, and every batch is finished alike on all its shards.
+pub fn headline_law()
+    ensures { HeadlineLaw }
+{
+}
+
+/// The same sentence of any world that is kept and recovered, however it came about.
+pub fn recovered_law()
+    ensures { RecoveredLaw }
 {
 }
