@@ -39,9 +39,9 @@ abbrev pub history_of : Shape → List Output → List Row → List Row
 history_of K mint later = later ++ first_rows K (minted mint)
 
 -- a Prepare has transactions that pass
-abbrev pub AllPass : (Compact → Type 0) → Record → Type 0
-AllPass P (Prepare stamp b txs) = All P txs
-AllPass P other = Unit {0}
+abbrev pub TxsPass : (Compact → Type 0) → Record → Type 0
+TxsPass P (Prepare stamp b txs) = All P txs
+TxsPass P other = Unit {0}
 
 -- each row behind the first ones is after those of its journal, and caused by rows before it; Prepares have transactions that pass
 abbrev pub IsSteady : Shape → Minted → (Compact → Type 0) → List Row → Type 0
@@ -50,7 +50,7 @@ IsSteady K m P (row ∷ later) =
     let past = later ++ first_rows K m in
     After (header_of K m.id row.node) (journal row.node past) row.what
     × IsCaused K (λ n. journal n past) row.node row.what
-    × AllPass P row.what
+    × TxsPass P row.what
     × IsSteady K m P later
 
 -- the rows are those of a ledger with this mint, whose Prepares have compact forms of proper submissions

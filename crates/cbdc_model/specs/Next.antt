@@ -78,18 +78,23 @@ abbrev pub finish_now : Option ℕ → List Record → ℕ → ℕ → Plan ℕ
 finish_now (Some at) J lane cause = Refuse (OtherOutcome at)
 finish_now None J lane cause = if not (nat_lt (slot_stamp J lane) cause) then Refuse (EarlyStamp (slot_stamp J lane)) else Append (next_stamp J cause)
 
+abbrev pub finish_in : Phase → List Record → Batch → List Bool → ℕ → Plan ℕ
+finish_in InFinish J b ds cause = finish_again (difference same_decision (decisions_in (record_of 3 J b)) ds) J b
+finish_in InLock J b ds cause = finish_now (misfit (lock_of J b) ds) J b.lane cause
+finish_in other J b ds cause = Refuse (NotLocked (slot J b.lane).number)
+
 -- Finish: of a locked batch, with as many decisions as entries and commit only for Held
 abbrev pub next_finish : List Record → Batch → List Bool → ℕ → Plan ℕ
 next_finish J b ds cause =
     let s = slot J b.lane in
     if nat_lt b.number s.number || ((b.number == s.number) && is_idle s.phase) then Refuse (Stale s.number) else
     if nat_lt s.number b.number then Refuse (NotLocked s.number) else
-    finish_by s.phase J b ds cause
-  where
-    finish_by : Phase → List Record → Batch → List Bool → ℕ → Plan ℕ
-    finish_by InFinish J b ds cause = finish_again (difference same_decision (decisions_in (record_of 3 J b)) ds) J b
-    finish_by InLock J b ds cause = finish_now (misfit (lock_of J b) ds) J b.lane cause
-    finish_by other J b ds cause = Refuse (NotLocked (slot J b.lane).number)
+    finish_in s.phase J b ds cause
+
+abbrev pub forget_in : Phase → List Record → Batch → ℕ → Plan ℕ
+forget_in Idle J b cause = Kept (slot_stamp J b.lane)
+forget_in InFinish J b cause = if not (nat_lt (slot_stamp J b.lane) cause) then Refuse (EarlyStamp (slot_stamp J b.lane)) else Append (next_stamp J cause)
+forget_in other J b cause = Refuse (NotFinished b.number)
 
 -- Forget: of a finished batch
 abbrev pub next_forget : List Record → Batch → ℕ → Plan ℕ
@@ -97,9 +102,4 @@ next_forget J b cause =
     let s = slot J b.lane in
     if nat_lt b.number s.number then Refuse (Stale s.number) else
     if nat_lt s.number b.number then Refuse (NotLocked s.number) else
-    forget_by s.phase J b cause
-  where
-    forget_by : Phase → List Record → Batch → ℕ → Plan ℕ
-    forget_by Idle J b cause = Kept (slot_stamp J b.lane)
-    forget_by InFinish J b cause = if not (nat_lt (slot_stamp J b.lane) cause) then Refuse (EarlyStamp (slot_stamp J b.lane)) else Append (next_stamp J cause)
-    forget_by other J b cause = Refuse (NotFinished b.number)
+    forget_in s.phase J b cause

@@ -16,7 +16,7 @@ use Rattle.cbdc_model.specs.After.{After}
 use Rattle.cbdc_model.specs.Causes.{IsCaused}
 use Rattle.cbdc_model.specs.Coins.{Output, FullTx}
 use Rattle.cbdc_model.specs.Clean.{IsProperCompact}
-use Rattle.cbdc_model.specs.History.{Minted, minted, header_of, first_rows, AllPass, IsSteady, IsOrdered}
+use Rattle.cbdc_model.specs.History.{Minted, minted, header_of, first_rows, TxsPass, IsSteady, IsOrdered}
 
 -- a node: its journal, whether it is up, and a record that a fault or a crash may have left or not
 pub record Node : Type 0 where
@@ -133,7 +133,7 @@ Run K m old (e ∷ es) new = (mid : World) × Step K m old e mid × Run K m mid 
 
 -- each Prepare that is begun has transactions that pass
 abbrev pub EventPasses : (Compact → Type 0) → Event → Type 0
-EventPasses P (Begin n r) = AllPass P r
+EventPasses P (Begin n r) = TxsPass P r
 EventPasses P other = Unit {0}
 
 abbrev pub EventsPass : (Compact → Type 0) → List Event → Type 0
@@ -152,7 +152,7 @@ pub record KeptWorld (K : Shape) (mint : List Output) (submissions : List FullTx
   pub history : IsHistory K (minted mint) (journals w) later
   pub steady : IsSteady K (minted mint) (IsProperCompact submissions) later
   pub flights : (n : ℕ) (r : Record) → (node_at w n).flight ≡ Some r
-      → After (header_of K (minted mint).id n) (journals w n) r × IsCaused K (journals w) n r × AllPass (IsProperCompact submissions) r
+      → After (header_of K (minted mint).id n) (journals w n) r × IsCaused K (journals w) n r × TxsPass (IsProperCompact submissions) r
 
 -- every node is up, nothing is in flight, and every lane is idle at its coordinator
 pub record IsRecovered (K : Shape) (w : World) : Type 0 where
@@ -194,4 +194,4 @@ pub record AreKept (K : Shape) (mint : List Output) (submissions : List FullTx) 
   pub first : (n : ℕ) → n < K.coordinators + K.shards → (later : List Record) × (J n ≡ later ++ first_record K (minted mint) n ∷ [])
   pub none : (n : ℕ) → K.coordinators + K.shards ≤ n → J n ≡ []
   pub each : (n : ℕ) (newer past : List Record) (r : Record) → J n ≡ newer ++ r ∷ past → 0 < length past
-      → After (header_of K (minted mint).id n) past r × IsCaused K (replaced J n past) n r × AllPass (IsProperCompact submissions) r
+      → After (header_of K (minted mint).id n) past r × IsCaused K (replaced J n past) n r × TxsPass (IsProperCompact submissions) r

@@ -1,0 +1,236 @@
+-- In one journal a lane's earlier batches are done, and a batch that is forgotten was finished.
+use Rattle.std.proofs.Common.{◌≡◌, ℕ, ◌<◌, ◌≤◌, Bool, true, false, ◌==◌, List, ◌∷◌, refl, sym, subst, arith}
+use Rattle.cbdc_model.specs.Records.{Shape, Batch, same_batch, Compact, Outcome, Answered, Record, Genesis, Lock, Finish, Forget, Start, Prepare, Commit, Discard, Done}
+use Rattle.cbdc_model.specs.Slots.{slot, Idle, InFinish, InCommit, InDiscard}
+use Rattle.ledger_laws.proofs.Next.{Next, has_finish, has_prepare, has_commit, has_forget}
+use Rattle.ledger_laws.proofs.Slots.{JournalOk}
+use Rattle.ledger_laws.proofs.More.{MoreOk, has_done, other_lane}
+use Rattle.ledger_laws.proofs.View.{same, other, same_or_not}
+use Rattle.ledger_laws.proofs.Lookups.{true_false}
+
+pub record DoneOk (K : Shape) (node : ℕ) (past : List Record) : Type 0 where
+  pub pure : (b : Batch) → K.coordinators ≤ node → has_prepare past b ≡ false
+  pub past_done : (b : Batch) → has_prepare past b ≡ true → b.number < (slot past b.lane).number → has_done past b ≡ true
+  pub idle_done : (b : Batch) → has_prepare past b ≡ true → (slot past b.lane).phase ≡ Idle → has_done past b ≡ true
+  pub finish_here : (b : Batch) → (slot past b.lane).phase ≡ InFinish → (slot past b.lane).number ≡ b.number → has_finish past b ≡ true
+  pub forgot : (b : Batch) → has_forget past b ≡ true → has_finish past b ≡ true
+
+at_lane : {A : Type 0} (f : ℕ → A) (a b : ℕ) (c : A) → (a == b) ≡ true → f a ≡ c → f b ≡ c
+at_lane f a b c e h = let same_lane : a ≡ b = grind (arith, e) in subst (λ n. f n ≡ c) same_lane h
+
+module _ (K : Shape) (node : ℕ) (past : List Record) (ok : JournalOk past) (more : MoreOk past) (dones : DoneOk K node past) where
+  lock_done : (stamp : ℕ) (c : Batch) (es : List Answered) → Next K node past (Lock stamp c es) → DoneOk K node (Lock stamp c es ∷ past)
+  lock_done stamp c es next = record {
+    pure = λ b h. grind (arith, dones.pure b);
+    past_done = λ b h l. absurd (true_false _ h (dones.pure b next.1.0));
+    idle_done = λ b h p. absurd (true_false _ h (dones.pure b next.1.0));
+    finish_here = λ b p e. grind (arith, dones.finish_here b);
+    forgot = λ b h. grind (arith, dones.forgot b, dones.finish_here b);
+  }
+
+  finish_done : (stamp : ℕ) (c : Batch) (ds : List Bool) → Next K node past (Finish stamp c ds) → DoneOk K node (Finish stamp c ds ∷ past)
+  finish_done stamp c ds next = record {
+    pure = λ b h. grind (arith, dones.pure b);
+    past_done = λ b h l. absurd (true_false _ h (dones.pure b next.1.0));
+    idle_done = λ b h p. absurd (true_false _ h (dones.pure b next.1.0));
+    finish_here = λ b p e. grind (arith, dones.finish_here b);
+    forgot = λ b h. grind (arith, dones.forgot b, dones.finish_here b);
+  }
+
+  forget_done : (stamp : ℕ) (c : Batch) → Next K node past (Forget stamp c) → DoneOk K node (Forget stamp c ∷ past)
+  forget_done stamp c next = record {
+    pure = λ b h. grind (arith, dones.pure b);
+    past_done = λ b h l. absurd (true_false _ h (dones.pure b next.1.0));
+    idle_done = λ b h p. absurd (true_false _ h (dones.pure b next.1.0));
+    finish_here = λ b p e. grind (arith, dones.finish_here b);
+    forgot = λ b h. grind (arith, dones.forgot b, dones.finish_here b);
+  }
+
+  prepare_past : (stamp : ℕ) (c : Batch) (txs : List Compact) → Next K node past (Prepare stamp c txs) → (b : Batch)
+      → has_prepare (Prepare stamp c txs ∷ past) b ≡ true → b.number < (slot (Prepare stamp c txs ∷ past) b.lane).number → has_done past b ≡ true
+  prepare_past stamp c txs next b h l = elim (same_or_not c b) [
+    | same e ↦ absurd (itself c b e l)
+    | other o ↦
+        let old : has_prepare past b ≡ true = rw o at h in
+        elim (c.lane == b.lane) as (λ v. (c.lane == b.lane) ≡ v → has_done past b ≡ true) [
+          | true ↦ λ e. dones.idle_done b old (at_lane (λ n. (slot past n).phase) c.lane b.lane Idle e next.3)
+          | false ↦ λ e. dones.past_done b old (rw e at l)
+        ] refl
+  ]
+    where
+      itself : (c b : Batch) → c ≡ b → b.number < (slot (Prepare stamp c txs ∷ past) b.lane).number → ⊥
+      itself c b e l = let l' : c.number < (slot (Prepare stamp c txs ∷ past) c.lane).number = subst (λ d. d.number < (slot (Prepare stamp c txs ∷ past) d.lane).number) (sym e) l in grind arith
+
+  prepare_done : (stamp : ℕ) (c : Batch) (txs : List Compact) → Next K node past (Prepare stamp c txs) → DoneOk K node (Prepare stamp c txs ∷ past)
+  prepare_done stamp c txs next = record {
+    pure = λ b h. grind (arith, dones.pure b);
+    past_done = prepare_past stamp c txs next;
+    idle_done = λ b h p. grind (arith, dones.idle_done b, dones.past_done b, ok.prepare_below b);
+    finish_here = λ b p e. grind (arith, dones.finish_here b);
+    forgot = λ b h. grind (arith, dones.forgot b, dones.finish_here b);
+  }
+
+  commit_past : (stamp : ℕ) (c : Batch) (os : List Outcome) → Next K node past (Commit stamp c os) → (b : Batch) → has_prepare past b ≡ true → b.number < (slot (Commit stamp c os ∷ past) b.lane).number → has_done past b ≡ true
+  commit_past stamp c os next b h l = elim (c.lane == b.lane) as (λ v. (c.lane == b.lane) ≡ v → has_done past b ≡ true) [
+    | true ↦ λ e. dones.past_done b h (
+        let k : (slot past b.lane).number ≡ c.number = at_lane (λ n. (slot past n).number) c.lane b.lane c.number e next.4 in
+        let l' : b.number < c.number = rw e at l in omega arith)
+    | false ↦ λ e. dones.past_done b h (rw e at l)
+  ] refl
+
+  commit_done : (stamp : ℕ) (c : Batch) (os : List Outcome) → Next K node past (Commit stamp c os) → DoneOk K node (Commit stamp c os ∷ past)
+  commit_done stamp c os next = record {
+    pure = λ b h. grind (arith, dones.pure b);
+    past_done = commit_past stamp c os next;
+    idle_done = λ b h p. grind (arith, dones.idle_done b, dones.past_done b, ok.prepare_below b);
+    finish_here = λ b p e. grind (arith, dones.finish_here b);
+    forgot = λ b h. grind (arith, dones.forgot b, dones.finish_here b);
+  }
+
+  discard_past : (stamp : ℕ) (c : Batch) → Next K node past (Discard stamp c) → (b : Batch) → has_prepare past b ≡ true → b.number < (slot (Discard stamp c ∷ past) b.lane).number → has_done past b ≡ true
+  discard_past stamp c next b h l = elim (c.lane == b.lane) as (λ v. (c.lane == b.lane) ≡ v → has_done past b ≡ true) [
+    | true ↦ λ e. dones.past_done b h (
+        let k : (slot past b.lane).number ≡ c.number = at_lane (λ n. (slot past n).number) c.lane b.lane c.number e next.4 in
+        let l' : b.number < c.number = rw e at l in omega arith)
+    | false ↦ λ e. dones.past_done b h (rw e at l)
+  ] refl
+
+  discard_done : (stamp : ℕ) (c : Batch) → Next K node past (Discard stamp c) → DoneOk K node (Discard stamp c ∷ past)
+  discard_done stamp c next = record {
+    pure = λ b h. grind (arith, dones.pure b);
+    past_done = discard_past stamp c next;
+    idle_done = λ b h p. grind (arith, dones.idle_done b, dones.past_done b, ok.prepare_below b);
+    finish_here = λ b p e. grind (arith, dones.finish_here b);
+    forgot = λ b h. grind (arith, dones.forgot b, dones.finish_here b);
+  }
+
+  done_done : (stamp : ℕ) (c : Batch) → Next K node past (Done stamp c) → DoneOk K node (Done stamp c ∷ past)
+  done_done stamp c next = record {
+    pure = λ b h. grind (arith, dones.pure b);
+    past_done = λ b h l. grind (arith, dones.past_done b, dones.idle_done b);
+    idle_done = λ b h p. grind (arith, dones.idle_done b, dones.past_done b, ok.prepare_below b);
+    finish_here = λ b p e. grind (arith, dones.finish_here b);
+    forgot = λ b h. grind (arith, dones.forgot b, dones.finish_here b);
+  }
+
+  pub next_done : (r : Record) → Next K node past r → DoneOk K node (r ∷ past)
+  next_done (Genesis header hs) next = absurd next
+  next_done (Start header) next = absurd next
+  next_done (Lock stamp c es) next = lock_done stamp c es next
+  next_done (Finish stamp c ds) next = finish_done stamp c ds next
+  next_done (Forget stamp c) next = forget_done stamp c next
+  next_done (Prepare stamp c txs) next = prepare_done stamp c txs next
+  next_done (Commit stamp c os) next = commit_done stamp c os next
+  next_done (Discard stamp c) next = discard_done stamp c next
+  next_done (Done stamp c) next = done_done stamp c next
+
+-- a batch that is committed, discarded or done has its Prepare and its Commit
+pub record PhaseOk (past : List Record) : Type 0 where
+  pub commit_here : (b : Batch) → (slot past b.lane).phase ≡ InCommit → (slot past b.lane).number ≡ b.number → (has_prepare past b ≡ true) × (has_commit past b ≡ true)
+  pub discard_here : (b : Batch) → (slot past b.lane).phase ≡ InDiscard → (slot past b.lane).number ≡ b.number → (has_prepare past b ≡ true) × (has_commit past b ≡ true)
+  pub done_prepared : (b : Batch) → has_done past b ≡ true → (has_prepare past b ≡ true) × (has_commit past b ≡ true)
+
+pub data Which (c b : Batch) : Type 0 where
+  itself : c ≡ b → Which c b
+  sibling : same_batch c b ≡ false → (c.lane == b.lane) ≡ true → (c.number ≡ b.number → ⊥) → Which c b
+  stranger : same_batch c b ≡ false → (c.lane == b.lane) ≡ false → Which c b
+
+pub which : (c b : Batch) → Which c b
+which c b = elim (same_or_not c b) [
+  | same e ↦ itself e
+  | other o ↦ elim (c.lane == b.lane) as (λ v. (c.lane == b.lane) ≡ v → Which c b) [
+    | true ↦ λ e. sibling o e (other_lane c b o e)
+    | false ↦ λ e. stranger o e
+  ] refl
+]
+
+module _ (K : Shape) (node : ℕ) (past : List Record) (ok : JournalOk past) (phases : PhaseOk past) where
+  abbrev Both : Batch → Type 0
+  Both b = (has_prepare past b ≡ true) × (has_commit past b ≡ true)
+
+  commit_commit_here : (stamp : ℕ) (c : Batch) (os : List Outcome) → Next K node past (Commit stamp c os) → (b : Batch)
+      → (slot (Commit stamp c os ∷ past) b.lane).phase ≡ InCommit → (slot (Commit stamp c os ∷ past) b.lane).number ≡ b.number
+      → (has_prepare (Commit stamp c os ∷ past) b ≡ true) × (has_commit (Commit stamp c os ∷ past) b ≡ true)
+  commit_commit_here stamp c os next b p n = elim (which c b) [
+    | itself e ↦ subst (λ d. (has_prepare (Commit stamp c os ∷ past) d ≡ true) × (has_commit (Commit stamp c os ∷ past) d ≡ true)) e
+        ((ok.prepared c next.3 next.4).0, own_commit stamp c os)
+    | sibling o l u ↦ absurd (u (rw l at n))
+    | stranger o l ↦ let h : Both b = phases.commit_here b (rw l at p) (rw l at n) in (h.0, rw o h.1)
+  ]
+    where
+      own_commit : (stamp : ℕ) (c : Batch) (os : List Outcome) → has_commit (Commit stamp c os ∷ past) c ≡ true
+      own_commit stamp c os = grind arith
+
+  discard_discard_here : (stamp : ℕ) (c : Batch) → Next K node past (Discard stamp c) → (b : Batch)
+      → (slot (Discard stamp c ∷ past) b.lane).phase ≡ InDiscard → (slot (Discard stamp c ∷ past) b.lane).number ≡ b.number → Both b
+  discard_discard_here stamp c next b p n = elim (which c b) [
+    | itself e ↦ subst Both e (phases.commit_here c next.3 next.4)
+    | sibling o l u ↦ absurd (u (rw l at n))
+    | stranger o l ↦ phases.discard_here b (rw l at p) (rw l at n)
+  ]
+
+  done_done_prepared : (stamp : ℕ) (c : Batch) → Next K node past (Done stamp c) → (b : Batch) → has_done (Done stamp c ∷ past) b ≡ true → Both b
+  done_done_prepared stamp c next b h = elim (same_or_not c b) [
+    | same e ↦ subst Both e (phases.discard_here c next.3 next.4)
+    | other o ↦ phases.done_prepared b (rw o at h)
+  ]
+
+  lock_phase : (stamp : ℕ) (c : Batch) (es : List Answered) → Next K node past (Lock stamp c es) → PhaseOk (Lock stamp c es ∷ past)
+  lock_phase stamp c es next = record {
+    commit_here = λ b p e. grind (arith, phases.commit_here b);
+    discard_here = λ b p e. grind (arith, phases.discard_here b);
+    done_prepared = λ b h. grind (arith, phases.done_prepared b);
+  }
+
+  finish_phase : (stamp : ℕ) (c : Batch) (ds : List Bool) → Next K node past (Finish stamp c ds) → PhaseOk (Finish stamp c ds ∷ past)
+  finish_phase stamp c ds next = record {
+    commit_here = λ b p e. grind (arith, phases.commit_here b);
+    discard_here = λ b p e. grind (arith, phases.discard_here b);
+    done_prepared = λ b h. grind (arith, phases.done_prepared b);
+  }
+
+  forget_phase : (stamp : ℕ) (c : Batch) → Next K node past (Forget stamp c) → PhaseOk (Forget stamp c ∷ past)
+  forget_phase stamp c next = record {
+    commit_here = λ b p e. grind (arith, phases.commit_here b);
+    discard_here = λ b p e. grind (arith, phases.discard_here b);
+    done_prepared = λ b h. grind (arith, phases.done_prepared b);
+  }
+
+  prepare_phase : (stamp : ℕ) (c : Batch) (txs : List Compact) → Next K node past (Prepare stamp c txs) → PhaseOk (Prepare stamp c txs ∷ past)
+  prepare_phase stamp c txs next = record {
+    commit_here = λ b p e. grind (arith, phases.commit_here b);
+    discard_here = λ b p e. grind (arith, phases.discard_here b);
+    done_prepared = λ b h. grind (arith, phases.done_prepared b);
+  }
+
+  commit_phase : (stamp : ℕ) (c : Batch) (os : List Outcome) → Next K node past (Commit stamp c os) → PhaseOk (Commit stamp c os ∷ past)
+  commit_phase stamp c os next = record {
+    commit_here = commit_commit_here stamp c os next;
+    discard_here = λ b p e. grind (arith, phases.discard_here b);
+    done_prepared = λ b h. grind (arith, phases.done_prepared b);
+  }
+
+  discard_phase : (stamp : ℕ) (c : Batch) → Next K node past (Discard stamp c) → PhaseOk (Discard stamp c ∷ past)
+  discard_phase stamp c next = record {
+    commit_here = λ b p e. grind (arith, phases.commit_here b);
+    discard_here = discard_discard_here stamp c next;
+    done_prepared = λ b h. grind (arith, phases.done_prepared b);
+  }
+
+  done_phase : (stamp : ℕ) (c : Batch) → Next K node past (Done stamp c) → PhaseOk (Done stamp c ∷ past)
+  done_phase stamp c next = record {
+    commit_here = λ b p e. grind (arith, phases.commit_here b);
+    discard_here = λ b p e. grind (arith, phases.discard_here b);
+    done_prepared = done_done_prepared stamp c next;
+  }
+
+  pub next_phase : (r : Record) → Next K node past r → PhaseOk (r ∷ past)
+  next_phase (Genesis header hs) next = absurd next
+  next_phase (Start header) next = absurd next
+  next_phase (Lock stamp c es) next = lock_phase stamp c es next
+  next_phase (Finish stamp c ds) next = finish_phase stamp c ds next
+  next_phase (Forget stamp c) next = forget_phase stamp c next
+  next_phase (Prepare stamp c txs) next = prepare_phase stamp c txs next
+  next_phase (Commit stamp c os) next = commit_phase stamp c os next
+  next_phase (Discard stamp c) next = discard_phase stamp c next
+  next_phase (Done stamp c) next = done_phase stamp c next

@@ -1,0 +1,104 @@
+-- Between the definitions of what is kept and the products that the proofs read.
+use Rattle.std.proofs.Common.{◌≡◌, ◌⊎◌, inl, inr, ℕ, zero, suc, ◌+◌, ◌<◌, ◌≤◌, true, false, if◌then◌else◌, List, [], ◌∷◌, ◌++◌, length, Some, refl, sym, ap, ◌∙◌, subst, arith}
+use Rattle.std.specs.List.{All, AllByRecursion}
+use Rattle.std.proofs.lemmas.List.Elements.{All-from_recursion, recursion_from_All}
+use Rattle.cbdc_model.specs.Records.{Shape, Digest, Header, Compact, Record, Row, journal, Genesis, Lock, Finish, Forget, Start, Prepare, Commit, Discard, Done}
+use Rattle.cbdc_model.specs.Grammar.{IsInGrammar}
+use Rattle.cbdc_model.specs.After.{After, Follows}
+use Rattle.cbdc_model.specs.History.{Minted, header_of, first_rows, TxsPass, IsSteady, IsOrdered}
+use Rattle.cbdc_model.specs.Causes.{IsCaused}
+use Rattle.cbdc_model.specs.World.{World, node_at, journals}
+use Rattle.ledger_laws.proofs.Next.{Next, Each, AllProper, Steady}
+use Rattle.ledger_laws.proofs.FirstJournals.{never_empty}
+
+-- transactions that pass
+pub each_is : (P : Compact → Type 0) (ts : List Compact) → All P ts → Each P ts
+each_is P ts all = by_recursion ts (recursion_from_All P ts all)
+  where
+    by_recursion : (ts : List Compact) → AllByRecursion P ts → Each P ts
+    by_recursion [] h = tt
+    by_recursion (t ∷ ts) h = (h.0, by_recursion ts h.1)
+
+pub next_of : (K : Shape) (id : Digest) (node : ℕ) (past : List Record) (r : Record) → (node < K.coordinators + K.shards → past ≡ [] → ⊥)
+    → After (header_of K id node) past r → Next K node past r
+next_of K id node past (Genesis header hs) some h = absurd (some h.0.2.1 h.1)
+next_of K id node past (Start header) some h = absurd (some (omega (arith, h.0.2)) h.1)
+next_of K id node past (Lock stamp b es) some h = (h.1.0, h.0.2, h.1.1, h.1.2, h.1.3, h.0.3.0)
+next_of K id node past (Finish stamp b ds) some h = (h.1.0, h.0.2, h.1.1, h.1.2, h.1.3)
+next_of K id node past (Forget stamp b) some h = (h.1.0, h.0.2, h.1.1, h.1.2)
+next_of K id node past (Prepare stamp b txs) some h = (h.1.0, h.0.2, h.1.1, h.1.2, h.1.3)
+next_of K id node past (Commit stamp b os) some h = (h.1.0, h.0.2, h.1.1, h.1.2, h.1.3, h.1.4)
+next_of K id node past (Discard stamp b) some h = (h.1.0, h.0.2, h.1.1, h.1.2, h.1.3)
+next_of K id node past (Done stamp b) some h = (h.1.0, h.0.2, h.1.1, h.1.2, h.1.3)
+
+follows_of : (K : Shape) (id : Digest) (node : ℕ) (past : List Record) (r : Record) → Next K node past r → Follows (header_of K id node) past r
+follows_of K id node past (Genesis header hs) n = absurd n
+follows_of K id node past (Start header) n = absurd n
+follows_of K id node past (Lock stamp b es) n = (n.0, n.2, n.3, n.4)
+follows_of K id node past (Finish stamp b ds) n = (n.0, n.2, n.3, n.4)
+follows_of K id node past (Forget stamp b) n = (n.0, n.2, n.3)
+follows_of K id node past (Prepare stamp b txs) n = (n.0, n.2, n.3, n.4)
+follows_of K id node past (Commit stamp b os) n = (n.0, n.2, n.3, n.4, n.5)
+follows_of K id node past (Discard stamp b) n = (n.0, n.2, n.3, n.4)
+follows_of K id node past (Done stamp b) n = (n.0, n.2, n.3, n.4)
+
+pub after_of : (K : Shape) (id : Digest) (node : ℕ) (past : List Record) (r : Record) → Next K node past r → IsInGrammar (header_of K id node) r
+    → After (header_of K id node) past r
+after_of K id node past r next grammar = (grammar, follows_of K id node past r next)
+
+pub proper_of : (P : Compact → Type 0) (r : Record) → TxsPass P r → AllProper P r
+proper_of P (Prepare stamp b txs) h = each_is P txs h
+proper_of P (Genesis header hs) h = tt
+proper_of P (Lock stamp b es) h = tt
+proper_of P (Finish stamp b ds) h = tt
+proper_of P (Forget stamp b) h = tt
+proper_of P (Start header) h = tt
+proper_of P (Commit stamp b os) h = tt
+proper_of P (Discard stamp b) h = tt
+proper_of P (Done stamp b) h = tt
+
+all_is : (P : Compact → Type 0) (ts : List Compact) → Each P ts → All P ts
+all_is P ts each = All-from_recursion P ts (by_recursion ts each)
+  where
+    by_recursion : (ts : List Compact) → Each P ts → AllByRecursion P ts
+    by_recursion [] h = tt
+    by_recursion (t ∷ ts) h = (h.0, by_recursion ts h.1)
+
+pub passes_of : (P : Compact → Type 0) (r : Record) → AllProper P r → TxsPass P r
+passes_of P (Prepare stamp b txs) h = all_is P txs h
+passes_of P (Genesis header hs) h = tt
+passes_of P (Lock stamp b es) h = tt
+passes_of P (Finish stamp b ds) h = tt
+passes_of P (Forget stamp b) h = tt
+passes_of P (Start header) h = tt
+passes_of P (Commit stamp b os) h = tt
+passes_of P (Discard stamp b) h = tt
+passes_of P (Done stamp b) h = tt
+
+module _ (K : Shape) (minting : Minted) (P : Compact → Type 0) where
+  -- at a node of a history that is kept so far
+  pub next_at : (later : List Row) (node : ℕ) (r : Record) → After (header_of K minting.id node) (journal node (later ++ first_rows K minting)) r
+      → Next K node (journal node (later ++ first_rows K minting)) r
+  next_at later node r after = next_of K minting.id node (journal node (later ++ first_rows K minting)) r (never_empty K minting later node) after
+
+  pub steady : (later : List Row) → IsSteady K minting P later → Steady K minting P later
+  steady [] h = tt
+  steady (row ∷ later) h = (next_at later row.node row.what h.0, h.1, proper_of P row.what h.2, steady later h.3, h.0.0)
+
+  pub is_steady : (later : List Row) → Steady K minting P later → IsSteady K minting P later
+  is_steady [] h = tt
+  is_steady (row ∷ later) h = (
+    after_of K minting.id row.node (journal row.node (later ++ first_rows K minting)) row.what h.0 h.4,
+    h.1,
+    passes_of P row.what h.2,
+    is_steady later h.3,
+  )
+
+-- one history of the whole world, with what is in flight
+pub record SteadyWorld (K : Shape) (minting : Minted) (P : Compact → Type 0) (w : World) : Type 0 where
+  pub later : List Row
+  pub kept : Steady K minting P later
+  pub ordered : IsOrdered later
+  pub history : (n : ℕ) → journal n (later ++ first_rows K minting) ≡ journals w n
+  pub flights : (n : ℕ) (r : Record) → (node_at w n).flight ≡ Some r
+      → Next K n (journals w n) r × IsCaused K (journals w) n r × AllProper P r × IsInGrammar (header_of K minting.id n) r

@@ -1,0 +1,45 @@
+//! The laws of the ledger: functions with an empty body, whose contracts are the theorems. Nothing of them runs.
+#![tactic(auto)]
+
+ghost use Rattle.ledger_laws.specs.Laws.{FoldLaw, HeadlineLaw, KeptLaw, RecoveredLaw, StepLaw};
+
+/// Where no two coins or transactions share a hash, the committed transactions of every kept
+/// history can be spent one after another from the mint, each finding all its inputs. The book
+/// that is left has the value minted. Its hashes are those that are Unspent at their shards, those
+/// that are Locked for an entry which is not committed, and the outputs of committed transactions
+/// that are not yet there; no hash is in two of these sets.
+pub fn fold_law()
+    ensures { FoldLaw }
+{
+}
+
+/// From the first world, whatever records are begun and ended, whichever nodes crash, with or
+/// without what was in flight, and are opened again, and whichever calls are made again however
+/// old: the journals always have one history by stamp and node in which each record follows its
+/// journal and is caused by records before it, and what is in flight follows and is caused too.
+pub fn kept_law()
+    ensures { KeptLaw }
+{
+}
+
+/// The same for one step from any world that is kept so far.
+pub fn step_law()
+    ensures { StepLaw }
+{
+}
+
+/// The headline. For every list of steps, repeats and crashes in which no two outputs share a
+/// hash: once the open batches are recovered, the shards together hold exactly the hashes of the
+/// coins left by folding the committed transactions in the order of their commits. Each found all
+/// its inputs unspent, none was spent twice, no transaction is committed twice, the coins' value
+/// is the value minted, and every batch is finished alike on all its shards.
+pub fn headline_law()
+    ensures { HeadlineLaw }
+{
+}
+
+/// The same sentence of any world that is kept and recovered, however it came about.
+pub fn recovered_law()
+    ensures { RecoveredLaw }
+{
+}
