@@ -1,6 +1,7 @@
 // A node's first record.
 ghost use Rattle.std.specs.Prelude.{◌≡◌, ◌+◌, ◌≤◌, ◌<◌, ◌^◌, IfErr, None};
 ghost use Rattle.outside.specs.Counts.{Rose};
+ghost use Rattle.gate_journal.specs.Shown.{disk_of, broken_of};
 ghost use Rattle.rack_nodes.specs.Places.{IsOpening};
 
 use cbdc_types::{Answer, Header, NodeId, Record};
@@ -24,9 +25,9 @@ fn body_of(alloc: Global, first: &Record, header: &Header, size: u64) -> Result<
 
 // Appends a body to a journal that has none.
 fn append_first<D: Disk>(node: NodeId, journal: Journal<D>, body: &[u8]) -> Wrote<D>
-    requires { journal.broken ≡ None }
-    ensures fault { IfErr result.result (IsOpening node (D.count journal.disk) (D.count result.disk)) }
-    ensures later { D.count journal.disk ≤ D.count result.disk }
+    requires { broken_of journal ≡ None }
+    ensures fault { IfErr result.result (IsOpening node (D.count (disk_of journal)) (D.count result.disk)) }
+    ensures later { D.count (disk_of journal) ≤ D.count result.disk }
 {
     let mut journal = journal;
     let result = append_body(node, &mut journal, body);
@@ -37,14 +38,14 @@ fn append_first<D: Disk>(node: NodeId, journal: Journal<D>, body: &[u8]) -> Wrot
 }
 
 fn append_body<D: Disk>(node: NodeId, journal: &mut Journal<D>, body: &[u8]) -> Result<(), Answer>
-    requires { journal.old.broken ≡ None }
-    ensures fault { IfErr result (IsOpening node (D.count journal.old.disk) (D.count journal.new.disk)) }
-    ensures later { D.count journal.old.disk ≤ D.count journal.new.disk }
+    requires { broken_of journal.old ≡ None }
+    ensures fault { IfErr result (IsOpening node (D.count (disk_of journal.old)) (D.count (disk_of journal.new))) }
+    ensures later { D.count (disk_of journal.old) ≤ D.count (disk_of journal.new) }
 {
     if body.len() > 1 << 40 {
         return Err(Answer::Memory);
     }
-    match journal.reserve(body.len()) {
+    match journal.reserve(body.len() as u64) {
         Ok(()) => {}
         Err(_) => return Err(Answer::Memory),
     }

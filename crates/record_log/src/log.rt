@@ -1,6 +1,7 @@
 // The records of a node, in memory and on its disk.
 ghost use Rattle.std.specs.Prelude.{◌≡◌, ◌+◌, ◌≤◌, ◌<◌, ◌^◌, ◌++◌, ◌∷◌, [], ℕ, List, None, Some, length, vec_capacity, vec_len, OnOk, OnErr, IfErr, IsErrOf, IsSome};
 ghost use Rattle.outside.specs.Counts.{Rose};
+ghost use Rattle.gate_journal.specs.Shown.{disk_of, gate_of, broken_of};
 
 use cbdc_types::{Header, Record};
 use gate_journal::{AppendFault, Journal};
@@ -30,23 +31,37 @@ pub struct RecordLog<D: Disk> {
 
 impl<D: Disk> RecordLog<D> {
     /// Takes the memory for so many further records, whose bodies have at most so many bytes.
-    pub fn reserve(&mut self, count: usize, bytes: usize) -> Result<(), AllocError>
+    pub fn reserve(&mut self, count: usize, bytes: u64) -> Result<(), AllocError>
         requires { bytes < 2 ^ 62 }
-        ensures faults { D.count self.new.journal.disk ≡ D.count self.old.journal.disk }
+        ensures faults { D.count (disk_of self.new.journal) ≡ D.count (disk_of self.old.journal) }
         ensures records { self.new.records.items ≡ self.old.records.items }
         ensures header { self.new.header ≡ self.old.header }
     {
         self.records.reserve(count)?;
         self.body.clear();
-        self.body.reserve(bytes)?;
+        self.body.reserve(bytes as usize)?;
         self.journal.reserve(bytes)
     }
 
     /// How many bytes of the disk the journal takes.
     pub fn used(&self) -> u64
-        ensures { result ≡ self.now.journal.gate + 1 }
+        ensures { result ≡ gate_of self.now.journal + 1 }
     {
-        self.journal.gate + 1
+        self.journal.used()
+    }
+
+    /// How many bytes the disk may hold.
+    pub fn capacity(&self) -> u64
+        ensures { result ≡ D.limit (disk_of self.now.journal) }
+    {
+        self.journal.capacity()
+    }
+
+    /// The disk's count of faults behind the append that failed, if one did.
+    pub fn is_broken(&self) -> Option<u64>
+        ensures { result ≡ broken_of self.now.journal }
+    {
+        self.journal.is_broken()
     }
 
     /// Writes a record to the disk, in memory that was taken before. It is kept by `keep`.
@@ -54,9 +69,9 @@ impl<D: Disk> RecordLog<D> {
         ensures records { self.new.records.items ≡ self.old.records.items }
         ensures room { OnOk result (vec_len self.new.records < vec_capacity self.new.records) }
         ensures header { self.new.header ≡ self.old.header }
-        ensures fault { IsErrOf result LogFault.DiskFault → Rose (D.count self.old.journal.disk) (D.count self.new.journal.disk) }
-        ensures broken { IsErrOf result LogFault.DiskFault → self.new.journal.broken ≡ Some (D.count self.new.journal.disk) }
-        ensures later { D.count self.old.journal.disk ≤ D.count self.new.journal.disk }
+        ensures fault { IsErrOf result LogFault.DiskFault → Rose (D.count (disk_of self.old.journal)) (D.count (disk_of self.new.journal)) }
+        ensures broken { IsErrOf result LogFault.DiskFault → broken_of self.new.journal ≡ Some (D.count (disk_of self.new.journal)) }
+        ensures later { D.count (disk_of self.old.journal) ≤ D.count (disk_of self.new.journal) }
     {
         if self.records.len() >= self.records.capacity() {
             return Err(LogFault::NoRoom);
@@ -66,7 +81,7 @@ impl<D: Disk> RecordLog<D> {
             Ok(()) => {}
             Err(_) => return Err(LogFault::NoRoom),
         }
-        if self.body.len() > self.journal.reserved {
+        if self.body.len() as u64 > self.journal.reserved() {
             return Err(LogFault::NoRoom);
         }
         match self.journal.append(&self.body) {
@@ -102,9 +117,9 @@ impl<D: Disk> RecordLog<D> {
         ensures kept { OnOk result (self.new.records.items ≡ self.old.records.items ++ added ∷ []) }
         ensures as_before { OnErr result (self.new.records.items ≡ self.old.records.items) }
         ensures header { self.new.header ≡ self.old.header }
-        ensures fault { IsErrOf result LogFault.DiskFault → Rose (D.count self.old.journal.disk) (D.count self.new.journal.disk) }
-        ensures broken { IsErrOf result LogFault.DiskFault → self.new.journal.broken ≡ Some (D.count self.new.journal.disk) }
-        ensures later { D.count self.old.journal.disk ≤ D.count self.new.journal.disk }
+        ensures fault { IsErrOf result LogFault.DiskFault → Rose (D.count (disk_of self.old.journal)) (D.count (disk_of self.new.journal)) }
+        ensures broken { IsErrOf result LogFault.DiskFault → broken_of self.new.journal ≡ Some (D.count (disk_of self.new.journal)) }
+        ensures later { D.count (disk_of self.old.journal) ≤ D.count (disk_of self.new.journal) }
     {
         match self.write(&added) {
             Ok(()) => {
@@ -117,7 +132,7 @@ impl<D: Disk> RecordLog<D> {
 
     /// Gives the disk back.
     pub fn into_disk(self) -> D
-        ensures { result ≡ self.journal.disk }
+        ensures { result ≡ disk_of self.journal }
     {
         let RecordLog {
             journal,

@@ -1,6 +1,7 @@
 // Opening a journal into records.
 ghost use Rattle.std.specs.Prelude.{◌≡◌, ◌≢◌, ◌≤◌, ◌<◌, length, IfErr, MatchResult};
 ghost use Rattle.outside.specs.Counts.{Rose};
+ghost use Rattle.gate_journal.specs.Shown.{disk_of};
 
 use crate::RecordLog;
 use cbdc_types::{Header, NodeOpenFault, Record};
@@ -107,7 +108,7 @@ fn log_of<D: Disk>(
     journal: Journal<D>,
     read: Read,
 ) -> Result<RecordLog<D>, (D, NoLog)>
-    ensures { MatchResult result (λ l. l.journal ≡ journal) (λ e. (e.0 ≡ journal.disk) × (e.1 ≢ NoLog.Fault NodeOpenFault.DiskFault)) }
+    ensures { MatchResult result (λ l. l.journal ≡ journal) (λ e. (e.0 ≡ disk_of journal) × (e.1 ≢ NoLog.Fault NodeOpenFault.DiskFault)) }
 {
     let Read {
         header,
@@ -166,7 +167,7 @@ fn refusal_of(alloc: Global, fault: OpenFault) -> NoLog
 
 /// Opens a disk's journal into records. A refusal hands the disk back.
 pub fn open_records<D: Disk>(alloc: Global, disk: D) -> Result<RecordLog<D>, (D, NoLog)>
-    ensures later { MatchResult result (λ l. D.count disk ≤ D.count l.journal.disk) (λ e. D.count disk ≤ D.count e.0) }
+    ensures later { MatchResult result (λ l. D.count disk ≤ D.count (disk_of l.journal)) (λ e. D.count disk ≤ D.count e.0) }
     ensures fault { IfErr result (λ e. e.1 ≡ NoLog.Fault NodeOpenFault.DiskFault → Rose (D.count disk) (D.count e.0)) }
 {
     match Journal::open(alloc, disk) {

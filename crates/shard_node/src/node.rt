@@ -1,6 +1,7 @@
 // The calls at a shard.
 ghost use Rattle.std.specs.Prelude.{◌≡◌, ◌≢◌, ◌+◌, ◌≤◌, ◌<◌, ◌^◌, ◌++◌, ◌∷◌, [], ℕ, length, Some, None, IsOk, OnOk, OnErr, IfOk, IfErr, IsErrOf};
 ghost use Rattle.outside.specs.Counts.{Rose};
+ghost use Rattle.gate_journal.specs.Shown.{disk_of};
 ghost use Rattle.shard_core.specs.Admitted.{IsAdmitted};
 ghost use Rattle.shard_node.specs.Conditions.{IsCallOf};
 
@@ -67,7 +68,7 @@ impl<D: Disk> ShardNode<D> {
     fn broken(&self) -> Option<NodeFault>
         ensures { result ≢ Some NodeFault.DiskFault }
     {
-        match self.log.journal.broken {
+        match self.log.is_broken() {
             Some(since) => Some(NodeFault::Broken { since }),
             None => None,
         }
@@ -79,8 +80,8 @@ impl<D: Disk> ShardNode<D> {
         ensures header { self.new.log.header ≡ self.old.log.header }
         ensures kept { OnOk result (self.new.log.records.items ≡ self.old.log.records.items ++ next ∷ []) }
         ensures as_before { OnErr result (self.new.log.records.items ≡ self.old.log.records.items) }
-        ensures fault { IsErrOf result NodeFault.DiskFault → Rose (D.count self.old.log.journal.disk) (D.count self.new.log.journal.disk) }
-        ensures later { D.count self.old.log.journal.disk ≤ D.count self.new.log.journal.disk }
+        ensures fault { IsErrOf result NodeFault.DiskFault → Rose (D.count (disk_of self.old.log.journal)) (D.count (disk_of self.new.log.journal)) }
+        ensures later { D.count (disk_of self.old.log.journal) ≤ D.count (disk_of self.new.log.journal) }
     {
         match self.log.write(&next) {
             Ok(()) => {
@@ -98,8 +99,8 @@ impl<D: Disk> ShardNode<D> {
         requires { IsCallOf self.old.log.header.shape call.now.batch call.now.cause }
         ensures header { self.new.log.header ≡ self.old.log.header }
         ensures as_before { OnErr result (self.new.log.records.items ≡ self.old.log.records.items) }
-        ensures fault { IsErrOf result NodeFault.DiskFault → Rose (D.count self.old.log.journal.disk) (D.count self.new.log.journal.disk) }
-        ensures later { D.count self.old.log.journal.disk ≤ D.count self.new.log.journal.disk }
+        ensures fault { IsErrOf result NodeFault.DiskFault → Rose (D.count (disk_of self.old.log.journal)) (D.count (disk_of self.new.log.journal)) }
+        ensures later { D.count (disk_of self.old.log.journal) ≤ D.count (disk_of self.new.log.journal) }
     {
         if replied.stamp.0 > LAST_LOCK {
             return Err(NodeFault::ClockEnd {
@@ -120,7 +121,7 @@ impl<D: Disk> ShardNode<D> {
         let need = size
             .saturating_add(behind_lock(count))
             .saturating_add(self.room.kept());
-        let capacity = self.log.journal.disk.capacity();
+        let capacity = self.log.capacity();
         if used.saturating_add(need) > capacity {
             return Err(NodeFault::Full {
                 used,
@@ -137,13 +138,13 @@ impl<D: Disk> ShardNode<D> {
     // Takes the memory for a Lock of so many bytes and entries, and for the two records behind it.
     fn take_memory(&mut self, batch: BatchId, size: u64, entries: usize) -> Result<(), AllocError>
         requires { size < 2 ^ 62 }
-        ensures faults { D.count self.new.log.journal.disk ≡ D.count self.old.log.journal.disk }
+        ensures faults { D.count (disk_of self.new.log.journal) ≡ D.count (disk_of self.old.log.journal) }
         ensures header { self.new.log.header ≡ self.old.log.header }
         ensures records { self.new.log.records.items ≡ self.old.log.records.items }
     {
         self.room.reserve(batch, entries)?;
         let ahead = self.room.open_lanes().saturating_mul(2).saturating_add(3);
-        self.log.reserve(ahead, size as usize)
+        self.log.reserve(ahead, size)
     }
 
     /// Locks a part for a batch, or answers as before. What is needed for the batch's later records is taken here.
@@ -151,8 +152,8 @@ impl<D: Disk> ShardNode<D> {
         requires { IsCallOf self.old.log.header.shape call.now.batch call.now.cause }
         ensures header { self.new.log.header ≡ self.old.log.header }
         ensures as_before { OnErr result (self.new.log.records.items ≡ self.old.log.records.items) }
-        ensures fault { IsErrOf result NodeFault.DiskFault → Rose (D.count self.old.log.journal.disk) (D.count self.new.log.journal.disk) }
-        ensures later { D.count self.old.log.journal.disk ≤ D.count self.new.log.journal.disk }
+        ensures fault { IsErrOf result NodeFault.DiskFault → Rose (D.count (disk_of self.old.log.journal)) (D.count (disk_of self.new.log.journal)) }
+        ensures later { D.count (disk_of self.old.log.journal) ≤ D.count (disk_of self.new.log.journal) }
     {
         if let Some(fault) = self.broken() {
             return Err(fault);
@@ -173,8 +174,8 @@ impl<D: Disk> ShardNode<D> {
         requires { IsCallOf self.old.log.header.shape call.now.batch call.now.cause }
         ensures header { self.new.log.header ≡ self.old.log.header }
         ensures as_before { OnErr result (self.new.log.records.items ≡ self.old.log.records.items) }
-        ensures fault { IsErrOf result NodeFault.DiskFault → Rose (D.count self.old.log.journal.disk) (D.count self.new.log.journal.disk) }
-        ensures later { D.count self.old.log.journal.disk ≤ D.count self.new.log.journal.disk }
+        ensures fault { IsErrOf result NodeFault.DiskFault → Rose (D.count (disk_of self.old.log.journal)) (D.count (disk_of self.new.log.journal)) }
+        ensures later { D.count (disk_of self.old.log.journal) ≤ D.count (disk_of self.new.log.journal) }
     {
         if let Some(fault) = self.broken() {
             return Err(fault);
@@ -205,8 +206,8 @@ impl<D: Disk> ShardNode<D> {
         requires { IsCallOf self.old.log.header.shape call.now.batch call.now.cause }
         ensures header { self.new.log.header ≡ self.old.log.header }
         ensures as_before { OnErr result (self.new.log.records.items ≡ self.old.log.records.items) }
-        ensures fault { IsErrOf result NodeFault.DiskFault → Rose (D.count self.old.log.journal.disk) (D.count self.new.log.journal.disk) }
-        ensures later { D.count self.old.log.journal.disk ≤ D.count self.new.log.journal.disk }
+        ensures fault { IsErrOf result NodeFault.DiskFault → Rose (D.count (disk_of self.old.log.journal)) (D.count (disk_of self.new.log.journal)) }
+        ensures later { D.count (disk_of self.old.log.journal) ≤ D.count (disk_of self.new.log.journal) }
     {
         if let Some(fault) = self.broken() {
             return Err(fault);
@@ -258,7 +259,7 @@ impl<D: Disk> ShardNode<D> {
 
     /// Gives the disk back. Takes no memory.
     pub fn into_disk(self) -> D
-        ensures { result ≡ self.log.journal.disk }
+        ensures { result ≡ disk_of self.log.journal }
     {
         let ShardNode {
             log,

@@ -1,6 +1,7 @@
 // Opening a shard.
 ghost use Rattle.std.specs.Prelude.{◌≡◌, ◌≢◌, ◌≤◌, IfOk, IfErr, IfSome, MatchResult};
 ghost use Rattle.outside.specs.Counts.{Rose};
+ghost use Rattle.gate_journal.specs.Shown.{disk_of};
 
 use crate::ShardNode;
 use crate::pure::Core;
@@ -76,11 +77,11 @@ fn no_log_fault(alloc: Global, refused: NoLog) -> NodeOpenFault
 }
 
 // The most bytes that a later record of these batches takes.
-fn largest(records: &[Record]) -> usize {
-    let mut largest = 42usize;
+fn largest(records: &[Record]) -> u64 {
+    let mut largest = 42u64;
     'records: for record in records {
         if let Record::Lock { entries, .. } = record {
-            largest = largest.max(entries.len().saturating_add(42));
+            largest = largest.max((entries.len() as u64).saturating_add(42));
         }
     }
     largest
@@ -90,7 +91,7 @@ fn largest(records: &[Record]) -> usize {
 fn parts_of<D: Disk>(alloc: Global, log: &mut RecordLog<D>) -> Result<(Core, Room), NodeOpenFault>
     ensures fault { IfErr result (λ e. e ≢ NodeOpenFault.DiskFault) }
     ensures core { IfOk result (λ r. r.0.shard.header ≡ log.new.header) }
-    ensures same { D.count log.new.journal.disk ≡ D.count log.old.journal.disk }
+    ensures same { D.count (disk_of log.new.journal) ≡ D.count (disk_of log.old.journal) }
 {
     let core = match replayed(alloc, &log.header, &log.records) {
         Ok(core) => core,
@@ -101,7 +102,7 @@ fn parts_of<D: Disk>(alloc: Global, log: &mut RecordLog<D>) -> Result<(Core, Roo
     };
     let used = log.used();
     let need = room.kept();
-    let capacity = log.journal.disk.capacity();
+    let capacity = log.capacity();
     if used.saturating_add(need) > capacity {
         return Err(NodeOpenFault::Full {
             used,
@@ -120,7 +121,7 @@ fn parts_of<D: Disk>(alloc: Global, log: &mut RecordLog<D>) -> Result<(Core, Roo
 impl<D: Disk> ShardNode<D> {
     /// Opens a shard's disk. A refusal hands the disk back.
     pub fn open(alloc: Global, disk: D) -> Result<ShardNode<D>, (D, NodeOpenFault)>
-        ensures later { MatchResult result (λ n. D.count disk ≤ D.count n.log.journal.disk) (λ e. D.count disk ≤ D.count e.0) }
+        ensures later { MatchResult result (λ n. D.count disk ≤ D.count (disk_of n.log.journal)) (λ e. D.count disk ≤ D.count e.0) }
         ensures fault { IfErr result (λ e. e.1 ≡ NodeOpenFault.DiskFault → Rose (D.count disk) (D.count e.0)) }
     {
         match open_records(alloc, disk) {
