@@ -4,7 +4,7 @@ ghost use Rattle.outside.specs.Counts.{Rose};
 ghost use Rattle.gate_journal.specs.Shown.{disk_of};
 
 use crate::RecordLog;
-use cbdc_types::{Header, NodeOpenFault, Record};
+use cbdc_types::{Header, List, NodeOpenFault, Record};
 use gate_journal::{Journal, OpenFault};
 use outside::Disk;
 use record_codec::{RecordFault, read_first, read_record};
@@ -41,7 +41,7 @@ fn header_of(first: &Record) -> Option<Header> {
 }
 
 // How many bytes a body's row has.
-fn row_size(body: &Vec<u8>) -> u64 {
+fn row_size(body: &List<u8>) -> u64 {
     (body.len() as u64).saturating_add(9)
 }
 
@@ -50,7 +50,7 @@ fn later_records(
     alloc: Global,
     header: Header,
     first: Record,
-    bodies: &[Vec<u8>],
+    bodies: &[List<u8>],
 ) -> Result<Read, NodeOpenFault>
     requires { 0 < length bodies.now }
     ensures fault { IfErr result (λ e. e ≢ NodeOpenFault.DiskFault) }
@@ -86,7 +86,7 @@ fn later_records(
 }
 
 // The records that bodies spell, where the first body is a first record.
-fn records_of(alloc: Global, bodies: &[Vec<u8>]) -> Result<Read, NodeOpenFault>
+fn records_of(alloc: Global, bodies: &[List<u8>]) -> Result<Read, NodeOpenFault>
     ensures fault { IfErr result (λ e. e ≢ NodeOpenFault.DiskFault) }
 {
     if bodies.is_empty() {
@@ -134,7 +134,7 @@ fn log_of<D: Disk>(
 }
 
 // What is told of a disk that is damaged at a place behind these bodies.
-fn cut_of(alloc: Global, before: &[Vec<u8>], damaged: u64) -> NoLog
+fn cut_of(alloc: Global, before: &[List<u8>], damaged: u64) -> NoLog
     ensures { result ≢ NoLog.Fault NodeOpenFault.DiskFault }
 {
     match records_of(alloc, before) {
