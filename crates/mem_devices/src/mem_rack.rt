@@ -1,5 +1,5 @@
 // A rack in memory.
-ghost use Rattle.std.specs.Prelude.{◌≡◌, ◌≤◌, ℕ, slice_get, Some, map, IfOk};
+ghost use Rattle.std.specs.Prelude.{◌≡◌, ◌≤◌, ℕ, slice_get, Some, map, option_map, IfOk};
 ghost use Rattle.mem_devices.specs.Slots.{held_in, count_in, IsNotOut, IsOutBelow};
 
 use cbdc_types::NodeId;
@@ -30,6 +30,16 @@ impl<D: Disk + Drop> MemRack<D> {
     {
         let slots = disks.into_iter().map(|d| Slot::In(d)).collect(alloc)?;
         Ok(MemRack { slots, misses: 0 })
+    }
+
+    /// The disk of a node, if it is in its place.
+    pub fn disk(&self, node: NodeId) -> Option<&D>
+        ensures { option_map (λ d. d.now) result ≡ held_in (slice_get self.now.slots.items node) }
+    {
+        match self.slots.get(node.0 as usize) {
+            Some(Slot::In(disk)) => Some(disk),
+            _ => None,
+        }
     }
 }
 
