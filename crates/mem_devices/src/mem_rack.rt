@@ -22,11 +22,13 @@ pub struct MemRack<D: Disk + Drop> {
 }
 
 impl<D: Disk + Drop> MemRack<D> {
+    ghost use Rattle.mem_devices.specs.Racks.{AllIn};
+
     /// The disks in the order of their nodes, all in their places.
     #[tactic(auto, using(crate::proofs::Places::all_in))]
     pub fn new(alloc: Global, disks: Vec<D>) -> Result<MemRack<D>, AllocError>
         ensures slots { IfOk result (λ r. r.slots.items ≡ map (λ d. Slot.In d) disks.items) }
-        ensures whole { IfOk result (λ r. (n : ℕ) → IsNotOut (slice_get r.slots.items n)) }
+        ensures whole { IfOk result (λ r. AllIn r) }
     {
         let slots = disks.into_iter().map(|d| Slot::In(d)).collect(alloc)?;
         Ok(MemRack { slots, misses: 0 })
