@@ -5,9 +5,9 @@ use crate::FileDisk;
 use cbdc_types::NodeId;
 use outside::{Disk, Failed, Rack};
 use std::alloc::Global;
-use std::fs;
 use std::fs::{File, OpenOptions};
 use std::rt::Files;
+use std::{fs, io};
 
 /// Node n is the file `rack/node-NNN`. There is one count of faults for all.
 #[derive(Drop)]
@@ -18,6 +18,7 @@ pub struct FileRack<R: Files<File = File> + Drop> {
 }
 
 impl<R: Files<File = File> + Drop> FileRack<R> {
+    /// The rack in the current folder.
     pub fn new(rt: R, alloc: Global) -> FileRack<R> {
         FileRack {
             rt,
@@ -27,6 +28,25 @@ impl<R: Files<File = File> + Drop> FileRack<R> {
     }
 }
 
+// Opens the file for reading and writing, if it is there.
+fn open_file<R: Files<File = File>>(rt: &R, path: &str, made: bool) -> io::Result<File> {
+    let mut options = OpenOptions::new();
+    options.read(true);
+    options.write(true);
+    options.create(made);
+    options.open(rt, path)
+}
+
+// Makes the file and its folder, so that a crash keeps their names.
+fn make_file<R: Files<File = File>>(rt: &R, path: &str) -> io::Result<File> {
+    fs::create_dir_all(rt, "rack")?;
+    let file = open_file(rt, path, true)?;
+    fs::open(rt, "rack")?.sync_all()?;
+    fs::open(rt, ".")?.sync_all()?;
+    Ok(file)
+}
+
+// The disk of a node, with a count of faults to begin with.
 fn open_node<R: Files<File = File>>(
     rt: &R,
     alloc: Global,
@@ -35,17 +55,13 @@ fn open_node<R: Files<File = File>>(
 ) -> Option<FileDisk>
     ensures { (d : FileDisk) → result ≡ Some d → d.faults ≡ faults }
 {
-    let Ok(()) = fs::create_dir_all(rt, "rack") else {
-        return None;
-    };
     let Ok(path) = format!(in alloc; "rack/node-{node:03}") else {
         return None;
     };
-    let mut options = OpenOptions::new();
-    options.read(true);
-    options.write(true);
-    options.create(true);
-    match options.open(rt, path.as_str()) {
+    if let Ok(file) = open_file(rt, path.as_str(), false) {
+        return FileDisk::new(file, faults);
+    }
+    match make_file(rt, path.as_str()) {
         Ok(file) => FileDisk::new(file, faults),
         Err(_) => None,
     }

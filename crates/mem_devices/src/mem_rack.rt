@@ -1,5 +1,5 @@
 // A rack in memory.
-ghost use Rattle.std.specs.Prelude.{◌≡◌, ◌≤◌, ℕ, slice_get, Some, map, IfOk};
+ghost use Rattle.std.specs.Prelude.{◌≡◌, ◌≤◌, ℕ, slice_get, Some, map, option_map, IfOk};
 ghost use Rattle.mem_devices.specs.Slots.{held_in, count_in, IsNotOut, IsOutBelow};
 
 use cbdc_types::NodeId;
@@ -22,14 +22,26 @@ pub struct MemRack<D: Disk + Drop> {
 }
 
 impl<D: Disk + Drop> MemRack<D> {
+    ghost use Rattle.mem_devices.specs.Racks.{AllIn};
+
     /// The disks in the order of their nodes, all in their places.
     #[tactic(auto, using(crate::proofs::Places::all_in))]
     pub fn new(alloc: Global, disks: Vec<D>) -> Result<MemRack<D>, AllocError>
         ensures slots { IfOk result (λ r. r.slots.items ≡ map (λ d. Slot.In d) disks.items) }
-        ensures whole { IfOk result (λ r. (n : ℕ) → IsNotOut (slice_get r.slots.items n)) }
+        ensures whole { IfOk result (λ r. AllIn r) }
     {
         let slots = disks.into_iter().map(|d| Slot::In(d)).collect(alloc)?;
         Ok(MemRack { slots, misses: 0 })
+    }
+
+    /// The disk of a node, if it is in its place.
+    pub fn disk(&self, node: NodeId) -> Option<&D>
+        ensures { option_map (λ d. d.now) result ≡ held_in (slice_get self.now.slots.items node) }
+    {
+        match self.slots.get(node.0 as usize) {
+            Some(Slot::In(disk)) => Some(disk),
+            _ => None,
+        }
     }
 }
 
