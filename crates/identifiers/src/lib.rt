@@ -4,7 +4,7 @@
 ghost use Rattle.std.specs.Prelude.{◌≡◌, ◌++◌, List, ℕ, length};
 ghost use Rattle.std.specs.List.{flat_map};
 ghost use Rattle.byte_fields.specs.Spelling.{number, output, input, counted};
-ghost use Rattle.identifiers.specs.Ids.{id_of, coin_hash, spending};
+ghost use Rattle.cbdc_model.specs.Coins.{tx_id as id_of_tx, coin_hash};
 ghost use Rattle.sha2.specs.Hashers.{Holds256};
 
 use cbdc_types::{FullTx, Hash, Input, OutPoint, Output};
@@ -63,8 +63,9 @@ fn feed_each_output(hasher: &mut Sha256, items: &[Output])
 }
 
 /// The id of a transaction: SHA-256 of its list of inputs and its list of outputs, lengths included.
+#[tactic(auto, unfolding(cbdc_model::specs::Coins::id_of))]
 pub fn tx_id(tx: &FullTx) -> Hash
-    ensures { result ≡ id_of tx.now.inputs tx.now.outputs }
+    ensures { result ≡ id_of_tx tx.now }
 {
     let mut hasher = Sha256::new();
     feed_inputs(&mut hasher, tx.inputs.as_slice());
@@ -73,6 +74,7 @@ pub fn tx_id(tx: &FullTx) -> Hash
 }
 
 /// The hash of the coin that an input claims: SHA-256 of the input's 80 bytes.
+#[tactic(auto, unfolding(cbdc_model::specs::Coins::coin_hash))]
 pub fn input_hash(i: &Input) -> Hash
     ensures { result ≡ coin_hash i.now }
 {
@@ -83,7 +85,7 @@ pub fn input_hash(i: &Input) -> Hash
 
 /// The hash of a coin: SHA-256 of the transaction's id, the output's index there, its program and its value, 80 bytes.
 pub fn uhs_id(tx: &Hash, index: u64, o: &Output) -> Hash
-    ensures { result ≡ coin_hash (spending tx.now index o.now) }
+    ensures { result ≡ coin_hash (record { point = record { tx = tx.now; index = index }; output = o.now }) }
 {
     input_hash(&Input {
         point: OutPoint { tx: *tx, index },

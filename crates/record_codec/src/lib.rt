@@ -1,0 +1,2 @@
+//! The records of the journals as bytes, both ways.
+#![tactic(auto)]

@@ -1,0 +1,8 @@
+//! Transactions as bytes, both ways.
+#![tactic(auto)]
+
+mod reading;
+mod writing;
+
+pub use reading::{BadTx, ReadFault, read_tx};
+pub use writing::write_tx;
