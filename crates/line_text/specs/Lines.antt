@@ -1,0 +1,80 @@
+-- Lines: words with a space between them, and a line feed at the end.
+use Rattle.std.specs.Prelude.{◌≡◌, ℕ, List, [], ◌∷◌, ◌++◌, take, Option, Some, Result, Ok, Err, codes, decimal}
+use Rattle.hex.specs.Hex.{encode_lower}
+use Rattle.outside.specs.Images.{Tells}
+use Rattle.cbdc_types.specs.declared.answer.Refusal.{Refusal}
+use Rattle.cbdc_types.specs.declared.answer.Refusal.TheVariants as refusal
+use Rattle.cbdc_types.specs.declared.batch.Outcome.{Outcome}
+use Rattle.cbdc_types.specs.declared.batch.Outcome.TheVariants as outcome
+use Rattle.cbdc_types.specs.declared.ids.BatchId.{BatchId}
+
+abbrev pub Text : Type 0
+Text = List ℕ
+
+-- the words behind what is there, each with a space before it, and a line feed
+abbrev pub continued : Text → List Text → Text
+continued text [] = text ++ 10 ∷ []
+continued text (word ∷ rest) = continued (text ++ 32 ∷ word) rest
+
+abbrev pub line : List Text → Text
+line [] = 10 ∷ []
+line (word ∷ rest) = continued word rest
+
+-- the sink has taken the text, or at a fault a front of it
+abbrev pub Prints : {E : Type 0} → Option Text → Option Text → Text → Result (Unit {0}) E → Type 0
+Prints old new text (Ok done) = Tells old (λ t. new ≡ Some (t ++ text))
+Prints old new text (Err e) = Tells old (λ t. (n : ℕ) × (new ≡ Some (t ++ take n text)))
+
+-- ---- init
+
+abbrev pub init_text : ℕ → ℕ → Text → Text
+init_text coins minted genesis =
+    (line (codes "coins" ∷ decimal coins ∷ []) ++ line (codes "minted" ∷ decimal minted ∷ []))
+    ++ line (codes "genesis" ∷ encode_lower genesis ∷ [])
+
+-- ---- submissions
+
+abbrev pub confirmed_line : ℕ → ℕ → Text → BatchId → Text
+confirmed_line file place id batch = line (
+  decimal file ∷ decimal place ∷ encode_lower id ∷ codes "confirmed" ∷ decimal batch.lane ∷ decimal batch.number ∷ []
+)
+
+-- what is told of an input that was missing or locked
+abbrev pub rejected_line : ℕ → ℕ → Text → Outcome → BatchId → Text
+rejected_line file place id outcome.Held batch = []
+rejected_line file place id (outcome.Missing shard hash) batch = line (
+  decimal file ∷ decimal place ∷ encode_lower id ∷ codes "rejected" ∷ codes "missing" ∷ encode_lower hash ∷ decimal shard
+  ∷ decimal batch.lane ∷ decimal batch.number ∷ []
+)
+rejected_line file place id (outcome.Locked shard hash by) batch = line (
+  decimal file ∷ decimal place ∷ encode_lower id ∷ codes "rejected" ∷ codes "locked" ∷ encode_lower hash ∷ decimal shard
+  ∷ decimal batch.lane ∷ decimal batch.number ∷ codes "by" ∷ decimal by.lane ∷ decimal by.number ∷ []
+)
+
+abbrev pub refusal_words : Refusal → List Text
+refusal_words refusal.NoInputs = codes "no-inputs" ∷ []
+refusal_words refusal.NoOutputs = codes "no-outputs" ∷ []
+refusal_words refusal.WitnessCount = codes "witness-count" ∷ []
+refusal_words (refusal.RepeatedInput i) = codes "repeated-input" ∷ decimal i ∷ []
+refusal_words (refusal.ZeroInput i) = codes "zero-input" ∷ decimal i ∷ []
+refusal_words (refusal.ZeroOutput i) = codes "zero-output" ∷ decimal i ∷ []
+refusal_words refusal.InputOverflow = codes "input-overflow" ∷ []
+refusal_words refusal.OutputOverflow = codes "output-overflow" ∷ []
+refusal_words (refusal.Unbalanced ins outs) = codes "unbalanced" ∷ decimal ins ∷ decimal outs ∷ []
+refusal_words (refusal.BadWitness i) = codes "bad-witness" ∷ decimal i ∷ []
+refusal_words (refusal.Unverified i) = codes "unverified" ∷ decimal i ∷ []
+
+abbrev pub refused_line : ℕ → ℕ → Text → Refusal → Text
+refused_line file place id why = line (
+  decimal file ∷ decimal place ∷ encode_lower id ∷ codes "refused" ∷ refusal_words why
+)
+
+-- ---- the summary
+
+abbrev pub counted : Text → ℕ → Text
+counted name n = line (name ∷ decimal n ∷ [])
+
+abbrev pub summary_text : ℕ → ℕ → ℕ → ℕ → ℕ → ℕ → Text
+summary_text resumed batches confirmed rejected refused unspent =
+    ((((counted (codes "resumed") resumed ++ counted (codes "batches") batches) ++ counted (codes "confirmed") confirmed)
+    ++ counted (codes "rejected") rejected) ++ counted (codes "refused") refused) ++ counted (codes "unspent") unspent

@@ -1,0 +1,17 @@
+//! The lines that the program prints, and the status that it ends with.
+//!
+//! A line is made in a fixed array and then handed to the sink, so no call takes memory.
+#![tactic(auto)]
+
+mod faults;
+mod line;
+mod output;
+mod status;
+mod submissions;
+mod summary;
+
+pub use faults::write_fault;
+pub use output::WriteFault;
+pub use status::status_code;
+pub use submissions::{write_confirmed, write_refused, write_rejected};
+pub use summary::{Summary, write_init, write_summary};
