@@ -151,9 +151,9 @@ impl ShardCore {
     ghost use Rattle.std.specs.Bool.{OnTrue};
     ghost use Rattle.std.specs.Prelude.{List as Items};
     ghost use Rattle.cbdc_model.specs.Records.{Record, last_stamp};
-    ghost use Rattle.cbdc_model.specs.Next.{next_finish, next_forget, next_lock, next_stamp};
-    ghost use Rattle.shard_core.specs.Stands.{Stands};
-    ghost use Rattle.shard_core.specs.Plans.{stamp_plan, lock_plan};
+    ghost use Rattle.cbdc_model.specs.Next.{next_finish, next_forget, next_stamp};
+    ghost use Rattle.shard_core.specs.Stands.{Stands, IsSameState};
+    ghost use Rattle.shard_core.specs.Plans.{stamp_plan, IsLockPlan};
     ghost use Rattle.shard_core.specs.Admitted.{IsAdmitted, IsOfLane, IsLaterAt};
 
     /// The shard with this header whose journal holds the Genesis of these hashes alone.
@@ -203,7 +203,8 @@ impl ShardCore {
     pub fn plan_lock(&mut self, call: &LockCall) -> Result<LockPlan, AllocError>
         requires lane { call.now.batch.lane < self.old.header.shape.coordinators * self.old.header.shape.lanes }
         requires cause { call.now.cause < 2 ^ 63 }
-        ensures header { self.new.header ≡ self.old.header }
+        ensures same { IsSameState self.old self.new }
+        ensures plan { IfOk result (λ p. (J : Items Record) → Stands self.old J → IsLockPlan p J call.now.batch call.now.part call.now.cause) }
     {
         let slot = self.slots.slot(call.batch.lane);
         match judge_lock(slot, call) {
@@ -231,7 +232,7 @@ impl ShardCore {
         part: Part,
         replies: &[Reply],
     ) -> Result<(), AllocError>
-        ensures header { self.new.header ≡ self.old.header }
+        ensures { IsSameState self.old self.new }
     {
         let count = hash_count(part.as_slice());
         let kept = Vec::from_slice(self.alloc, replies)?;
@@ -285,7 +286,7 @@ impl ShardCore {
     /// Whether a record is the next one. Where it is, the memory of its apply is there. Where memory runs out the
     /// shard is as before.
     pub fn admit(&mut self, r: &Record) -> Result<bool, AllocError>
-        ensures header { self.new.header ≡ self.old.header }
+        ensures same { IsSameState self.old self.new }
         ensures admitted { IfOk result (λ yes. OnTrue yes (IsAdmitted self.new r.now)) }
     {
         match r {
@@ -310,7 +311,7 @@ impl ShardCore {
         batch: &BatchId,
         answered: &[Answered],
     ) -> Result<bool, AllocError>
-        ensures header { self.new.header ≡ self.old.header }
+        ensures same { IsSameState self.old self.new }
         ensures admitted { IfOk result (λ yes. OnTrue yes (IsOfLane self.new batch.now stamp)) }
     {
         if !self.is_next_lock(stamp, batch, answered) {

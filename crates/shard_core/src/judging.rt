@@ -1,14 +1,19 @@
 // What a call is answered, by the slot of its lane.
-ghost use Rattle.std.specs.Prelude.{◌≡◌, ◌≤◌, ◌<◌, MatchBool, ℕ, List as Items};
-ghost use Rattle.cbdc_model.specs.Records.{Record, Entry, Reply};
+ghost use Rattle.std.specs.Prelude.{◌≡◌, false, ◌≤◌, ◌<◌, MatchBool, IfOk, ℕ, List as Items};
+ghost use Rattle.cbdc_model.specs.Records.{Record, Entry, Reply, Batch};
 ghost use Rattle.cbdc_model.specs.Next.{next_forget, next_finish, next_stamp};
-ghost use Rattle.shard_core.specs.Slots.{SlotStands, number_in};
-ghost use Rattle.shard_core.specs.Plans.{stamp_plan};
+ghost use Rattle.cbdc_model.specs.Records.{lock_of};
+ghost use Rattle.cbdc_model.specs.Next.{is_idle};
+ghost use Rattle.cbdc_model.specs.Slots.{Phase, slot as slot_of};
+ghost use Rattle.cbdc_model.specs.Replies.{entries};
+ghost use Rattle.shard_core.specs.Slots.{SlotStands, number_in, batch_in};
+ghost use Rattle.shard_core.specs.Judged.{IsJudged, Remembers, RemembersAgain, kept_at};
+ghost use Rattle.shard_core.specs.Plans.{stamp_plan, replies_at};
 
 use crate::comparing::{misfit, other_decisions, other_part};
 use crate::plans::StampPlan;
 use cbdc_types::{
-    FinishCall, ForgetCall, List, LockCall, Part, Refused, Replied, Reply, Stamp,
+    Entry, FinishCall, ForgetCall, List, LockCall, Part, Refused, Replied, Reply, Stamp,
 };
 use dtx_replies::Slot;
 use std::alloc::{AllocError, Global};
@@ -31,41 +36,56 @@ pub fn number_of(slot: &Slot) -> u64
     }
 }
 
-// What a Lock of the lane of this slot is answered.
-pub fn judge_lock(slot: &Slot, call: &LockCall) -> LockAnswer {
+// What a Lock is answered where no batch of the lane is remembered.
+fn lock_idle(number: u64, stamp: Stamp, call: &LockCall) -> LockAnswer
+    ensures again { RemembersAgain result (Slot.Idle number stamp) call.now.batch.number }
+    ensures judged { (J : Items Record) → SlotStands (Slot.Idle number stamp) J call.now.batch.lane → IsJudged result J call.now.batch call.now.part call.now.cause }
+{
     let given = call.batch.number;
-    match slot {
-        Slot::Idle(number, stamp) => judge_idle(*number, *stamp, given, call.cause),
-        Slot::Locked(number, part, _, _) => judge_open(*number, part, given, &call.part),
-        Slot::Finished(number, part, _, _, _, _) => judge_open(*number, part, given, &call.part),
-    }
-}
-
-fn judge_idle(number: u64, stamp: Stamp, given: u64, cause: Stamp) -> LockAnswer {
     if given <= number {
         return LockAnswer::Refused(Refused::Stale { kept: number });
     }
-    if cause.0 <= stamp.0 {
+    if is_early(call.cause, stamp) {
         return LockAnswer::Refused(Refused::EarlyStamp { kept: stamp });
     }
     LockAnswer::Next
 }
 
-fn judge_open(number: u64, part: &Part, given: u64, asked: &Part) -> LockAnswer {
+// What a Lock is answered where the lane's last batch is remembered with this part.
+fn lock_open(number: u64, part: &[Entry], call: &LockCall) -> LockAnswer
+    ensures judged { (J : Items Record) (p : Phase) → slot_of J call.now.batch.lane ≡ record { number = number; phase = p } → is_idle p ≡ false
+        → entries (lock_of J (batch_in call.now.batch.lane number)) ≡ part.now → IsJudged result J call.now.batch call.now.part call.now.cause }
+    ensures again { result ≡ LockAnswer.Again → call.now.batch.number ≡ number }
+{
+    let given = call.batch.number;
     if given < number {
         return LockAnswer::Refused(Refused::Stale { kept: number });
     }
     if number < given {
         return LockAnswer::Refused(Refused::LaneOpen { kept: number });
     }
-    match other_part(part.as_slice(), asked.as_slice()) {
+    match other_part(part, call.part.as_slice()) {
         Some(at) => LockAnswer::Refused(Refused::OtherPart { at }),
         None => LockAnswer::Again,
     }
 }
 
+// What a Lock of the lane of this slot is answered.
+pub fn judge_lock(slot: &Slot, call: &LockCall) -> LockAnswer
+    ensures again { RemembersAgain result slot.now call.now.batch.number }
+    ensures judged { (J : Items Record) → SlotStands slot.now J call.now.batch.lane → IsJudged result J call.now.batch call.now.part call.now.cause }
+{
+    match slot {
+        Slot::Idle(number, stamp) => lock_idle(*number, *stamp, call),
+        Slot::Locked(number, part, _, _) => lock_open(*number, part.as_slice(), call),
+        Slot::Finished(number, part, _, _, _, _) => lock_open(*number, part.as_slice(), call),
+    }
+}
+
 // The replies that a slot keeps, and the stamp of its Lock.
-pub fn kept_replies(alloc: Global, slot: &Slot) -> Result<Replied, AllocError> {
+pub fn kept_replies(alloc: Global, slot: &Slot) -> Result<Replied, AllocError>
+    ensures { IfOk result (λ r. (J : Items Record) (b : Batch) → SlotStands slot.now J b.lane → Remembers slot.now b.number → replies_at r ≡ kept_at J b) }
+{
     match slot {
         Slot::Idle(_, stamp) => Ok(Replied {
             replies: List::new(alloc),
@@ -76,7 +96,9 @@ pub fn kept_replies(alloc: Global, slot: &Slot) -> Result<Replied, AllocError> {
     }
 }
 
-fn replied(alloc: Global, replies: &List<Reply>, stamp: Stamp) -> Result<Replied, AllocError> {
+fn replied(alloc: Global, replies: &List<Reply>, stamp: Stamp) -> Result<Replied, AllocError>
+    ensures { IfOk result (λ r. replies_at r ≡ record { given = replies.now; at = stamp }) }
+{
     Ok(Replied {
         replies: List::from_vec(Vec::from_slice(alloc, replies.as_slice())?),
         stamp,
