@@ -1,0 +1,5 @@
+pub mod Forgets
+pub mod Finishes
+pub mod Locks
+pub mod Places
+pub mod Digests

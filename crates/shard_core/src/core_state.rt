@@ -3,7 +3,8 @@ ghost use Rattle.std.specs.Prelude.{◌≡◌, ◌+◌, ◌*◌, ◌≤◌, ◌<
 ghost use Rattle.cbdc_types.specs.declared.record.Header.{Header};
 
 use crate::applying::{free_held, hash_count, lock_held, make_committed};
-use crate::comparing::{misfit, other_decisions, other_part};
+use crate::comparing::misfit;
+use crate::judging::{LockAnswer, judge_finish, judge_forget, judge_lock, kept_replies};
 use crate::plans::{LockPlan, Remembered, StampPlan};
 use crate::replying::{replies_to, status_of};
 use cbdc_types::{
@@ -39,180 +40,6 @@ pub struct ShardCore {
     decisions: Vec<Vec<bool>>,
     ghost lanes: { length slots ≡ header.shape.coordinators * header.shape.lanes },
     ghost clock: { last < 2 ^ 63 },
-}
-
-// What a Lock is answered, before any memory is taken.
-enum LockAnswer {
-    Refused(Refused),
-    Again,
-    Next,
-}
-
-// A slot's number.
-fn number_of(slot: &Slot) -> u64 {
-    match slot {
-        Slot::Idle(number, _) => *number,
-        Slot::Locked(number, _, _, _) => *number,
-        Slot::Finished(number, _, _, _, _, _) => *number,
-    }
-}
-
-// What a Lock of the lane of this slot is answered.
-fn judge_lock(slot: &Slot, call: &LockCall) -> LockAnswer {
-    let given = call.batch.number;
-    match slot {
-        Slot::Idle(number, stamp) => judge_idle(*number, *stamp, given, call.cause),
-        Slot::Locked(number, part, _, _) => judge_open(*number, part, given, &call.part),
-        Slot::Finished(number, part, _, _, _, _) => judge_open(*number, part, given, &call.part),
-    }
-}
-
-fn judge_idle(number: u64, stamp: Stamp, given: u64, cause: Stamp) -> LockAnswer {
-    if given <= number {
-        return LockAnswer::Refused(Refused::Stale { kept: number });
-    }
-    if cause.0 <= stamp.0 {
-        return LockAnswer::Refused(Refused::EarlyStamp { kept: stamp });
-    }
-    LockAnswer::Next
-}
-
-fn judge_open(number: u64, part: &Part, given: u64, asked: &Part) -> LockAnswer {
-    if given < number {
-        return LockAnswer::Refused(Refused::Stale { kept: number });
-    }
-    if number < given {
-        return LockAnswer::Refused(Refused::LaneOpen { kept: number });
-    }
-    match other_part(part.as_slice(), asked.as_slice()) {
-        Some(at) => LockAnswer::Refused(Refused::OtherPart { at }),
-        None => LockAnswer::Again,
-    }
-}
-
-// The replies that a slot keeps, and the stamp of its Lock.
-fn kept_replies(alloc: Global, slot: &Slot) -> Result<Replied, AllocError> {
-    match slot {
-        Slot::Idle(_, stamp) => Ok(Replied {
-            replies: List::new(alloc),
-            stamp: *stamp,
-        }),
-        Slot::Locked(_, _, replies, stamp) => replied(alloc, replies, *stamp),
-        Slot::Finished(_, _, replies, _, stamp, _) => replied(alloc, replies, *stamp),
-    }
-}
-
-fn replied(alloc: Global, replies: &List<Reply>, stamp: Stamp) -> Result<Replied, AllocError> {
-    Ok(Replied {
-        replies: List::from_vec(Vec::from_slice(alloc, replies.as_slice())?),
-        stamp,
-    })
-}
-
-// What a Finish of the lane of this slot is answered, where `next` is the stamp of a new record.
-fn judge_finish(slot: &Slot, call: &FinishCall, next: Stamp) -> StampPlan {
-    let given = call.batch.number;
-    let number = number_of(slot);
-    if given < number {
-        return StampPlan::Refused(Refused::Stale { kept: number });
-    }
-    match slot {
-        Slot::Idle(_, _) => {
-            if given == number {
-                StampPlan::Refused(Refused::Stale { kept: number })
-            } else {
-                StampPlan::Refused(Refused::NotLocked { kept: number })
-            }
-        }
-        Slot::Locked(_, _, replies, stamp) => {
-            if number < given {
-                StampPlan::Refused(Refused::NotLocked { kept: number })
-            } else {
-                judge_fitting(replies, *stamp, call, next)
-            }
-        }
-        Slot::Finished(_, _, _, decisions, _, stamp) => {
-            if number < given {
-                StampPlan::Refused(Refused::NotLocked { kept: number })
-            } else {
-                judge_again(decisions, *stamp, call)
-            }
-        }
-    }
-}
-
-fn judge_fitting(
-    replies: &List<Reply>,
-    stamp: Stamp,
-    call: &FinishCall,
-    next: Stamp,
-) -> StampPlan {
-    match misfit(replies.as_slice(), call.decisions.as_slice()) {
-        Some(at) => StampPlan::Refused(Refused::OtherOutcome { at }),
-        None => late_enough(stamp, call.cause, next),
-    }
-}
-
-fn judge_again(decisions: &Decisions, stamp: Stamp, call: &FinishCall) -> StampPlan {
-    match other_decisions(decisions.as_slice(), call.decisions.as_slice()) {
-        Some(at) => StampPlan::Refused(Refused::OtherOutcome { at }),
-        None => StampPlan::Kept(stamp),
-    }
-}
-
-fn late_enough(stamp: Stamp, cause: Stamp, next: Stamp) -> StampPlan {
-    if cause.0 <= stamp.0 {
-        StampPlan::Refused(Refused::EarlyStamp { kept: stamp })
-    } else {
-        StampPlan::Append(next)
-    }
-}
-
-// What a Forget of the lane of this slot is answered.
-fn judge_forget(slot: &Slot, call: &ForgetCall, next: Stamp) -> StampPlan {
-    let given = call.batch.number;
-    let number = number_of(slot);
-    if given < number {
-        return StampPlan::Refused(Refused::Stale { kept: number });
-    }
-    if number < given {
-        return StampPlan::Refused(Refused::NotLocked { kept: number });
-    }
-    match slot {
-        Slot::Idle(_, stamp) => StampPlan::Kept(*stamp),
-        Slot::Locked(_, _, _, _) => StampPlan::Refused(Refused::NotFinished { kept: number }),
-        Slot::Finished(_, _, _, _, _, stamp) => late_enough(*stamp, call.cause, next),
-    }
-}
-
-// What a slot remembers of a transaction.
-fn remembered_in(slot: &Slot, id: &Hash) -> Option<Remembered> {
-    match slot {
-        Slot::Idle(_, _) => None,
-        Slot::Locked(_, part, _, _) => {
-            if part.as_slice().iter().any(|entry| entry.id == *id) {
-                Some(Remembered::Waiting)
-            } else {
-                None
-            }
-        }
-        Slot::Finished(_, part, _, decisions, _, _) => {
-            decided_in(part.as_slice(), decisions.as_slice(), id)
-        }
-    }
-}
-
-fn decided_in(entries: &[Entry], decisions: &[bool], id: &Hash) -> Option<Remembered> {
-    for (entry, commit) in entries.iter().zip(decisions) {
-        if entry.id == *id {
-            return Some(if *commit {
-                Remembered::Committed
-            } else {
-                Remembered::Rejected
-            });
-        }
-    }
-    None
 }
 
 // The bytes that are kept free for the later records of a slot's batch.
@@ -290,8 +117,43 @@ fn table_of(alloc: Global, hashes: &[Hash]) -> Result<Table, AllocError> {
     Ok(table)
 }
 
+// What a slot remembers of a transaction.
+fn remembered_in(slot: &Slot, id: &Hash) -> Option<Remembered> {
+    match slot {
+        Slot::Idle(_, _) => None,
+        Slot::Locked(_, part, _, _) => {
+            if part.as_slice().iter().any(|entry| entry.id == *id) {
+                Some(Remembered::Waiting)
+            } else {
+                None
+            }
+        }
+        Slot::Finished(_, part, _, decisions, _, _) => {
+            decided_in(part.as_slice(), decisions.as_slice(), id)
+        }
+    }
+}
+
+fn decided_in(entries: &[Entry], decisions: &[bool], id: &Hash) -> Option<Remembered> {
+    for (entry, commit) in entries.iter().zip(decisions) {
+        if entry.id == *id {
+            return Some(if *commit {
+                Remembered::Committed
+            } else {
+                Remembered::Rejected
+            });
+        }
+    }
+    None
+}
+
 impl ShardCore {
     ghost use Rattle.std.specs.Bool.{OnTrue};
+    ghost use Rattle.std.specs.Prelude.{List as Items};
+    ghost use Rattle.cbdc_model.specs.Records.{Record, last_stamp};
+    ghost use Rattle.cbdc_model.specs.Next.{next_finish, next_forget, next_stamp};
+    ghost use Rattle.shard_core.specs.Stands.{Stands, IsSameState};
+    ghost use Rattle.shard_core.specs.Plans.{stamp_plan, IsLockPlan};
     ghost use Rattle.shard_core.specs.Admitted.{IsAdmitted, IsOfLane, IsLaterAt};
 
     /// The shard with this header whose journal holds the Genesis of these hashes alone.
@@ -331,6 +193,7 @@ impl ShardCore {
     // One more than the greatest of the last stamp and the cause's.
     fn next_stamp(&self, cause: Stamp) -> Stamp
         requires { cause < 2 ^ 63 }
+        ensures { (J : Items Record) → self.now.last ≡ last_stamp J → result ≡ next_stamp J cause }
     {
         Stamp(self.last.0.max(cause.0) + 1)
     }
@@ -340,7 +203,8 @@ impl ShardCore {
     pub fn plan_lock(&mut self, call: &LockCall) -> Result<LockPlan, AllocError>
         requires lane { call.now.batch.lane < self.old.header.shape.coordinators * self.old.header.shape.lanes }
         requires cause { call.now.cause < 2 ^ 63 }
-        ensures header { self.new.header ≡ self.old.header }
+        ensures same { IsSameState self.old self.new }
+        ensures plan { IfOk result (λ p. (J : Items Record) → Stands self.old J → IsLockPlan p J call.now.batch call.now.part call.now.cause) }
     {
         let slot = self.slots.slot(call.batch.lane);
         match judge_lock(slot, call) {
@@ -368,7 +232,7 @@ impl ShardCore {
         part: Part,
         replies: &[Reply],
     ) -> Result<(), AllocError>
-        ensures header { self.new.header ≡ self.old.header }
+        ensures { IsSameState self.old self.new }
     {
         let count = hash_count(part.as_slice());
         let kept = Vec::from_slice(self.alloc, replies)?;
@@ -403,6 +267,7 @@ impl ShardCore {
     pub fn plan_finish(&self, call: &FinishCall) -> StampPlan
         requires lane { call.now.batch.lane < self.now.header.shape.coordinators * self.now.header.shape.lanes }
         requires cause { call.now.cause < 2 ^ 63 }
+        ensures { (J : Items Record) → Stands self.now J → stamp_plan result ≡ next_finish J call.now.batch call.now.decisions call.now.cause }
     {
         let next = self.next_stamp(call.cause);
         judge_finish(self.slots.slot(call.batch.lane), call, next)
@@ -412,6 +277,7 @@ impl ShardCore {
     pub fn plan_forget(&self, call: &ForgetCall) -> StampPlan
         requires lane { call.now.batch.lane < self.now.header.shape.coordinators * self.now.header.shape.lanes }
         requires cause { call.now.cause < 2 ^ 63 }
+        ensures { (J : Items Record) → Stands self.now J → stamp_plan result ≡ next_forget J call.now.batch call.now.cause }
     {
         let next = self.next_stamp(call.cause);
         judge_forget(self.slots.slot(call.batch.lane), call, next)
@@ -420,7 +286,7 @@ impl ShardCore {
     /// Whether a record is the next one. Where it is, the memory of its apply is there. Where memory runs out the
     /// shard is as before.
     pub fn admit(&mut self, r: &Record) -> Result<bool, AllocError>
-        ensures header { self.new.header ≡ self.old.header }
+        ensures same { IsSameState self.old self.new }
         ensures admitted { IfOk result (λ yes. OnTrue yes (IsAdmitted self.new r.now)) }
     {
         match r {
@@ -445,7 +311,7 @@ impl ShardCore {
         batch: &BatchId,
         answered: &[Answered],
     ) -> Result<bool, AllocError>
-        ensures header { self.new.header ≡ self.old.header }
+        ensures same { IsSameState self.old self.new }
         ensures admitted { IfOk result (λ yes. OnTrue yes (IsOfLane self.new batch.now stamp)) }
     {
         if !self.is_next_lock(stamp, batch, answered) {

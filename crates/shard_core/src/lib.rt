@@ -4,6 +4,7 @@
 mod applying;
 mod comparing;
 mod core_state;
+mod judging;
 mod plans;
 mod replying;
 

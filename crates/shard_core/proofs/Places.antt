@@ -1,0 +1,57 @@
+-- What a search for the first place finds.
+use Rattle.std.proofs.Common.{◌≡◌, ◌≢◌, ℕ, zero, suc, ◌<◌, ◌≤◌, ◌+◌, Bool, true, false, List, [], ◌∷◌, length, get_or, Option, Some, None, min, arith, refl, ap}
+use Rattle.std.proofs.lemmas.Grind.{common_steps}
+use Rattle.cbdc_model.specs.Records.{Answered, Reply, Entry}
+use Rattle.cbdc_model.specs.Replies.{replies}
+use mathlib.Core.Bool.{not, beq}
+use Rattle.cbdc_model.specs.Next.{difference, misfit, same_decision}
+use Rattle.shard_core.specs.Places.{first_place, fits_reply}
+
+pub difference_is : {A : Type 0} (same : A → A → Bool) (xs ys : List A) → difference same xs ys ≡ first_place same xs ys
+difference_is same [] [] = refl
+difference_is same [] (y ∷ ys) = refl
+difference_is same (x ∷ xs) [] = refl
+difference_is same (x ∷ xs) (y ∷ ys) = let rest = difference_is same xs ys in rw rest
+
+
+pub misfit_is : (es : List Answered) (ds : List Bool) → misfit es ds ≡ first_place fits_reply (replies es) ds
+misfit_is [] [] = refl
+misfit_is [] (d ∷ ds) = refl
+misfit_is (a ∷ es) [] = refl
+misfit_is (a ∷ es) (d ∷ ds) = let rest = misfit_is es ds in grind (arith, common_steps, misfit_is es ds)
+
+pub found_at : {A B : Type 0} (fits : A → B → Bool) (xs : List A) (ys : List B) (k : ℕ) (x : A) (y : B) → ((i : ℕ) (d : A) (e : B) → i < k → fits (get_or xs i d) (get_or ys i e) ≡ true)
+    → k < length xs → k < length ys → fits (get_or xs k x) (get_or ys k y) ≡ false → Some k ≡ first_place fits xs ys
+found_at fits [] ys k x y all lx ly bad = absurd (omega arith)
+found_at fits (u ∷ xs) [] k x y all lx ly bad = absurd (omega arith)
+found_at fits (u ∷ xs) (v ∷ ys) zero x y all lx ly bad = let e : fits u v ≡ false = bad in rw e
+found_at fits (u ∷ xs) (v ∷ ys) (suc k) x y all lx ly bad =
+    let e : fits u v ≡ true = all 0 x y (omega arith) in
+    let rest = found_at fits xs ys k x y (λ i d f h. all (suc i) d f (omega arith)) (omega arith) (omega arith) bad in
+    rw (e, ← rest)
+
+pub found_none : {A B : Type 0} (fits : A → B → Bool) (xs : List A) (ys : List B) → ((i : ℕ) (d : A) (e : B) → i < length xs → fits (get_or xs i d) (get_or ys i e) ≡ true)
+    → length xs ≡ length ys → None ≡ first_place fits xs ys
+found_none fits [] [] all same = refl
+found_none fits [] (y ∷ ys) all same = absurd (omega arith)
+found_none fits (x ∷ xs) [] all same = absurd (omega arith)
+found_none fits (x ∷ xs) (y ∷ ys) all same =
+    let e : fits x y ≡ true = all 0 x y (omega arith) in
+    let rest = found_none fits xs ys (λ i d f h. all (suc i) d f (omega arith)) (omega arith) in
+    rw (e, ← rest)
+
+pub found_short : {A B : Type 0} (fits : A → B → Bool) (xs : List A) (ys : List B) → ((i : ℕ) (d : A) (e : B) → i < length xs → i < length ys → fits (get_or xs i d) (get_or ys i e) ≡ true)
+    → length xs ≢ length ys → Some (min (length xs) (length ys)) ≡ first_place fits xs ys
+found_short fits [] [] all differ = absurd (differ refl)
+found_short fits [] (y ∷ ys) all differ = ap Some (omega arith)
+found_short fits (x ∷ xs) [] all differ = ap Some (omega arith)
+found_short fits (x ∷ xs) (y ∷ ys) all differ =
+    let e : fits x y ≡ true = all 0 x y (omega arith) (omega arith) in
+    let rest = found_short fits xs ys (λ i d f h g. all (suc i) d f (omega arith) (omega arith)) (λ q. differ (omega arith)) in
+    rw (e, ← rest) (ap Some (omega arith))
+
+pub other_bool : (a b : Bool) → not (beq a b) ≡ true → same_decision a b ≡ false
+other_bool true true h = cc
+other_bool true false h = refl
+other_bool false true h = refl
+other_bool false false h = cc

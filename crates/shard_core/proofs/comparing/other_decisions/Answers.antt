@@ -1,0 +1,17 @@
+use Rattle.std.proofs.Common.{◌≡◌, ℕ, ◌<◌, Bool, true, false, get_or, arith}
+use Rattle.std.proofs.lemmas.Grind.{common_steps}
+use Rattle.cbdc_model.specs.Next.{same_decision}
+use Rattle.shard_core.proofs.Places.{found_at, found_none, found_short, other_bool}
+use Rattle.shard_core.proofs.comparing.other_decisions.Goals as goal
+
+pub returns-then-kept-at : goal.returns-then-kept-at
+returns-then-kept-at c =
+    found_at same_decision _ _ _ false false c.loop-at.invariant (omega arith) (omega arith) (other_bool _ _ c.if-kept-at.true)
+
+pub returns-then-kept-given : goal.returns-then-kept-given
+returns-then-kept-given c =
+    found_none same_decision _ _ (λ i d e h. c.loop-at.invariant i d e (omega arith)) (omega arith)
+
+pub returns-else-kept-given : goal.returns-else-kept-given
+returns-else-kept-given c =
+    rw c.min.ensures (found_short same_decision _ _ (λ i d e h g. c.loop-at.invariant i d e (omega arith)) (λ q. omega arith))

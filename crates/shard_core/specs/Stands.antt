@@ -1,0 +1,19 @@
+-- The journal that a shard stands for.
+use Rattle.std.specs.Prelude.{◌≡◌, ℕ, List, Option, Some, slice_get}
+use Rattle.cbdc_model.specs.Records.{Record, last_stamp}
+use Rattle.dtx_replies.specs.declared.slots.Slot.{Slot as LaneSlot}
+use Rattle.shard_core.specs.declared.core_state.ShardCore.{ShardCore}
+use Rattle.shard_core.specs.Slots.{SlotStands}
+
+-- the slots and the last stamp are what the journal, the newest record first, says of them
+pub record Stands (core : ShardCore) (J : List Record) : Type 0 where
+  pub lanes : (lane : ℕ) (s : LaneSlot) → slice_get core.slots lane ≡ Some s → SlotStands s J lane
+  pub last : core.last ≡ last_stamp J
+
+-- the shard stands for the same journals as before: only room was made
+pub record IsSameState (old new : ShardCore) : Type 0 where
+  pub header : new.header ≡ old.header
+  pub unspent : new.unspent.hashes ≡ old.unspent.hashes
+  pub locks : new.locks.held ≡ old.locks.held
+  pub slots : new.slots ≡ old.slots
+  pub last : new.last ≡ old.last

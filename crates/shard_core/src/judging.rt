@@ -1,0 +1,223 @@
+// What a call is answered, by the slot of its lane.
+ghost use Rattle.std.specs.Prelude.{◌≡◌, false, ◌≤◌, ◌<◌, MatchBool, IfOk, ℕ, List as Items};
+ghost use Rattle.cbdc_model.specs.Records.{Record, Entry, Reply, Batch};
+ghost use Rattle.cbdc_model.specs.Next.{next_forget, next_finish, next_stamp};
+ghost use Rattle.cbdc_model.specs.Records.{lock_of};
+ghost use Rattle.cbdc_model.specs.Next.{is_idle};
+ghost use Rattle.cbdc_model.specs.Slots.{Phase, slot as slot_of};
+ghost use Rattle.cbdc_model.specs.Replies.{entries};
+ghost use Rattle.shard_core.specs.Slots.{SlotStands, number_in, batch_in};
+ghost use Rattle.shard_core.specs.Judged.{IsJudged, Remembers, RemembersAgain, kept_at};
+ghost use Rattle.shard_core.specs.Plans.{stamp_plan, replies_at};
+
+use crate::comparing::{misfit, other_decisions, other_part};
+use crate::plans::StampPlan;
+use cbdc_types::{
+    Entry, FinishCall, ForgetCall, List, LockCall, Part, Refused, Replied, Reply, Stamp,
+};
+use dtx_replies::Slot;
+use std::alloc::{AllocError, Global};
+
+// What a Lock is answered, before any memory is taken.
+pub enum LockAnswer {
+    Refused(Refused),
+    Again,
+    Next,
+}
+
+// A slot's number.
+pub fn number_of(slot: &Slot) -> u64
+    ensures { result ≡ number_in slot.now }
+{
+    match slot {
+        Slot::Idle(number, _) => *number,
+        Slot::Locked(number, _, _, _) => *number,
+        Slot::Finished(number, _, _, _, _, _) => *number,
+    }
+}
+
+// What a Lock is answered where no batch of the lane is remembered.
+fn lock_idle(number: u64, stamp: Stamp, call: &LockCall) -> LockAnswer
+    ensures again { RemembersAgain result (Slot.Idle number stamp) call.now.batch.number }
+    ensures judged { (J : Items Record) → SlotStands (Slot.Idle number stamp) J call.now.batch.lane → IsJudged result J call.now.batch call.now.part call.now.cause }
+{
+    let given = call.batch.number;
+    if given <= number {
+        return LockAnswer::Refused(Refused::Stale { kept: number });
+    }
+    if is_early(call.cause, stamp) {
+        return LockAnswer::Refused(Refused::EarlyStamp { kept: stamp });
+    }
+    LockAnswer::Next
+}
+
+// What a Lock is answered where the lane's last batch is remembered with this part.
+fn lock_open(number: u64, part: &[Entry], call: &LockCall) -> LockAnswer
+    ensures judged { (J : Items Record) (p : Phase) → slot_of J call.now.batch.lane ≡ record { number = number; phase = p } → is_idle p ≡ false
+        → entries (lock_of J (batch_in call.now.batch.lane number)) ≡ part.now → IsJudged result J call.now.batch call.now.part call.now.cause }
+    ensures again { result ≡ LockAnswer.Again → call.now.batch.number ≡ number }
+{
+    let given = call.batch.number;
+    if given < number {
+        return LockAnswer::Refused(Refused::Stale { kept: number });
+    }
+    if number < given {
+        return LockAnswer::Refused(Refused::LaneOpen { kept: number });
+    }
+    match other_part(part, call.part.as_slice()) {
+        Some(at) => LockAnswer::Refused(Refused::OtherPart { at }),
+        None => LockAnswer::Again,
+    }
+}
+
+// What a Lock of the lane of this slot is answered.
+pub fn judge_lock(slot: &Slot, call: &LockCall) -> LockAnswer
+    ensures again { RemembersAgain result slot.now call.now.batch.number }
+    ensures judged { (J : Items Record) → SlotStands slot.now J call.now.batch.lane → IsJudged result J call.now.batch call.now.part call.now.cause }
+{
+    match slot {
+        Slot::Idle(number, stamp) => lock_idle(*number, *stamp, call),
+        Slot::Locked(number, part, _, _) => lock_open(*number, part.as_slice(), call),
+        Slot::Finished(number, part, _, _, _, _) => lock_open(*number, part.as_slice(), call),
+    }
+}
+
+// The replies that a slot keeps, and the stamp of its Lock.
+pub fn kept_replies(alloc: Global, slot: &Slot) -> Result<Replied, AllocError>
+    ensures { IfOk result (λ r. (J : Items Record) (b : Batch) → SlotStands slot.now J b.lane → Remembers slot.now b.number → replies_at r ≡ kept_at J b) }
+{
+    match slot {
+        Slot::Idle(_, stamp) => Ok(Replied {
+            replies: List::new(alloc),
+            stamp: *stamp,
+        }),
+        Slot::Locked(_, _, replies, stamp) => replied(alloc, replies, *stamp),
+        Slot::Finished(_, _, replies, _, stamp, _) => replied(alloc, replies, *stamp),
+    }
+}
+
+fn replied(alloc: Global, replies: &List<Reply>, stamp: Stamp) -> Result<Replied, AllocError>
+    ensures { IfOk result (λ r. replies_at r ≡ record { given = replies.now; at = stamp }) }
+{
+    Ok(Replied {
+        replies: List::from_vec(Vec::from_slice(alloc, replies.as_slice())?),
+        stamp,
+    })
+}
+
+// What a Finish is answered where no batch of the lane is remembered.
+#[tactic(auto, using(crate::proofs::Finishes::finishes))]
+fn finish_idle(number: u64, call: &FinishCall) -> StampPlan
+    ensures { (J : Items Record) (t : ℕ) → SlotStands (Slot.Idle number t) J call.now.batch.lane
+        → stamp_plan result ≡ next_finish J call.now.batch call.now.decisions call.now.cause }
+{
+    if call.batch.number <= number {
+        StampPlan::Refused(Refused::Stale { kept: number })
+    } else {
+        StampPlan::Refused(Refused::NotLocked { kept: number })
+    }
+}
+
+// What a Finish is answered where the lane's last batch is locked with these replies, under this stamp.
+#[tactic(auto, using(crate::proofs::Finishes::finishes))]
+fn finish_locked(
+    number: u64,
+    replies: &[Reply],
+    stamp: Stamp,
+    call: &FinishCall,
+    next: Stamp,
+) -> StampPlan
+    ensures { (J : Items Record) (part : Items Entry) → SlotStands (Slot.Locked number part replies.now stamp) J call.now.batch.lane
+        → next ≡ next_stamp J call.now.cause
+        → stamp_plan result ≡ next_finish J call.now.batch call.now.decisions call.now.cause }
+{
+    let given = call.batch.number;
+    if given < number {
+        return StampPlan::Refused(Refused::Stale { kept: number });
+    }
+    if number < given {
+        return StampPlan::Refused(Refused::NotLocked { kept: number });
+    }
+    match misfit(replies, call.decisions.as_slice()) {
+        Some(at) => StampPlan::Refused(Refused::OtherOutcome { at }),
+        None if is_early(call.cause, stamp) => {
+            StampPlan::Refused(Refused::EarlyStamp { kept: stamp })
+        }
+        None => StampPlan::Append(next),
+    }
+}
+
+// What a Finish is answered where the lane's last batch is finished with these decisions, under this stamp.
+#[tactic(auto, using(crate::proofs::Finishes::finishes))]
+fn finish_again(number: u64, decisions: &[bool], stamp: Stamp, call: &FinishCall) -> StampPlan
+    ensures { (J : Items Record) (part : Items Entry) (rs : Items Reply) (t : ℕ) → SlotStands (Slot.Finished number part rs decisions.now t stamp) J call.now.batch.lane
+        → stamp_plan result ≡ next_finish J call.now.batch call.now.decisions call.now.cause }
+{
+    let given = call.batch.number;
+    if given < number {
+        return StampPlan::Refused(Refused::Stale { kept: number });
+    }
+    if number < given {
+        return StampPlan::Refused(Refused::NotLocked { kept: number });
+    }
+    match other_decisions(decisions, call.decisions.as_slice()) {
+        Some(at) => StampPlan::Refused(Refused::OtherOutcome { at }),
+        None => StampPlan::Kept(stamp),
+    }
+}
+
+// What a Finish of the lane of this slot is answered, where `next` is the stamp of a new record.
+pub fn judge_finish(slot: &Slot, call: &FinishCall, next: Stamp) -> StampPlan
+    ensures { (J : Items Record) → SlotStands slot.now J call.now.batch.lane → next ≡ next_stamp J call.now.cause
+        → stamp_plan result ≡ next_finish J call.now.batch call.now.decisions call.now.cause }
+{
+    match slot {
+        Slot::Idle(number, _) => finish_idle(*number, call),
+        Slot::Locked(number, _, replies, stamp) => {
+            finish_locked(*number, replies.as_slice(), *stamp, call, next)
+        }
+        Slot::Finished(number, _, _, decisions, _, stamp) => {
+            finish_again(*number, decisions.as_slice(), *stamp, call)
+        }
+    }
+}
+
+// Whether the cause is no later than the stamp.
+fn is_early(cause: Stamp, stamp: Stamp) -> bool
+    ensures { MatchBool result (cause ≤ stamp) (stamp < cause) }
+{
+    cause.0 <= stamp.0
+}
+
+fn late_enough(stamp: Stamp, cause: Stamp, next: Stamp) -> StampPlan
+    ensures early { cause ≤ stamp → result ≡ StampPlan.Refused (Refused.EarlyStamp stamp) }
+    ensures next { stamp < cause → result ≡ StampPlan.Append next }
+{
+    if cause.0 <= stamp.0 {
+        StampPlan::Refused(Refused::EarlyStamp { kept: stamp })
+    } else {
+        StampPlan::Append(next)
+    }
+}
+
+// What a Forget of the lane of this slot is answered.
+#[tactic(auto, using(crate::proofs::Forgets::forgets))]
+pub fn judge_forget(slot: &Slot, call: &ForgetCall, next: Stamp) -> StampPlan
+    ensures { (J : Items Record) → SlotStands slot.now J call.now.batch.lane → next ≡ next_stamp J call.now.cause
+        → stamp_plan result ≡ next_forget J call.now.batch call.now.cause }
+{
+    let given = call.batch.number;
+    let number = number_of(slot);
+    if given < number {
+        return StampPlan::Refused(Refused::Stale { kept: number });
+    }
+    if number < given {
+        return StampPlan::Refused(Refused::NotLocked { kept: number });
+    }
+    match slot {
+        Slot::Idle(_, stamp) => StampPlan::Kept(*stamp),
+        Slot::Locked(_, _, _, _) => StampPlan::Refused(Refused::NotFinished { kept: number }),
+        Slot::Finished(_, _, _, _, _, stamp) => late_enough(*stamp, call.cause, next),
+    }
+}
+
