@@ -1,1 +1,3 @@
 pub mod Winners
+pub mod Greatest
+pub mod Faulted
