@@ -1,3 +1,4 @@
 pub mod Winners
 pub mod Greatest
 pub mod Faulted
+pub mod Phasing

@@ -5,6 +5,7 @@ mod answer;
 mod fault;
 
 mod order;
+mod phase;
 mod port;
 
 pub use fault::{BatchReport, LaneFault, LaneFaultKind, LaneReport};

@@ -1,12 +1,11 @@
 // The ports through which a lane speaks to nodes.
-ghost use Rattle.std.specs.Prelude.{◌≡◌, ◌*◌, ◌^◌, ◌≤◌, ◌<◌, ℕ, List, [], length, All, IfOk, OnOk};
+ghost use Rattle.std.specs.Prelude.{◌≡◌, ◌≤◌, ℕ, List, [], length, All, IfOk, OnOk};
 ghost use Rattle.std.specs.Vec.{vec_capacity};
-ghost use Rattle.cbdc_model.specs.Records.{Shape, Header, Compact};
+ghost use Rattle.cbdc_model.specs.Records.{Header, Compact};
 ghost use Rattle.cbdc_model.specs.Slots.{Phase, Idle, InPrepare, InCommit, InDiscard};
-ghost use Rattle.cbdc_model.specs.Ranges.{home_of};
 ghost use Rattle.cbdc_model.specs.Grammar.{HasSize, IsCompact};
-ghost use Rattle.lane_driver.specs.Told.{IsLane, IsLockCall, IsFinishCall, IsForgetCall, EachAnswer, LockTold, StampTold, AreReplies, IsPrepared, IsStamp};
-ghost use Rattle.lane_driver.specs.Calls.{IsRising, shard};
+ghost use Rattle.lane_driver.specs.Told.{IsLane, IsLockCall, IsFinishCall, IsForgetCall, AreShards, EachAnswer, LockTold, StampTold, AreReplies, IsPrepared, IsStamp};
+ghost use Rattle.lane_driver.specs.Calls.{shard};
 
 use cbdc_types::{
     BatchId, CompactTx, FinishCall, ForgetCall, LaneId, LockCall, NodeFault, Outcome, Replied,
@@ -31,7 +30,7 @@ pub trait LogPort {
         requires idle { phase self.old lane ≡ Idle }
         requires size { HasSize (header self.old).shape txs.now }
         requires limits { All IsCompact txs.now }
-        ensures prepared { IfOk result (IsPrepared (header self.old).shape lane) }
+        ensures prepared { IfOk result (IsPrepared lane) }
         ensures phase { OnOk result (phase self.new lane ≡ InPrepare) }
         ensures txs { OnOk result (open_txs self.new lane ≡ txs.now) }
         ensures header { header self.new ≡ header self.old };
@@ -40,7 +39,7 @@ pub trait LogPort {
     fn decide<G: Gate>(&mut self, lane: LaneId, replies: &Replies, out: &mut Vec<Outcome>, gate: &G) -> Result<Stamp, NodeFault>
         requires home { IsLane (header self.old) lane }
         requires phase { phase self.old lane ≡ InPrepare }
-        requires replies { AreReplies (header self.old).shape (open_txs self.old lane) replies.now }
+        requires replies { AreReplies (header self.old).shape replies.now }
         requires empty { out.old.items ≡ [] }
         requires room { length (open_txs self.old lane) ≤ vec_capacity out.old }
         ensures stamp { IfOk result IsStamp }
@@ -69,69 +68,51 @@ pub trait LogPort {
 
 /// One shard.
 pub trait ShardPort {
-    /// The shape in force there.
-    ghost shape: { Self → Shape };
-
-    /// The shard's number.
-    ghost number: { Self → ℕ };
-
     fn lock<G: Gate>(&mut self, call: &LockCall, gate: &G) -> Result<Replied, NodeFault>
-        requires call { IsLockCall (shape self.old) (number self.old) call.now }
-        ensures told { LockTold (shape self.old) call.now result }
-        ensures shape { shape self.new ≡ shape self.old }
-        ensures number { number self.new ≡ number self.old };
+        requires { IsStamp call.now.cause }
+        ensures { IfOk result (λ a. IsStamp a.stamp) };
 
     fn finish<G: Gate>(&mut self, call: &FinishCall, gate: &G) -> Result<Stamp, NodeFault>
-        requires call { IsFinishCall (shape self.old) call.now }
-        ensures told { StampTold result }
-        ensures shape { shape self.new ≡ shape self.old }
-        ensures number { number self.new ≡ number self.old };
+        requires { IsStamp call.now.cause }
+        ensures { IfOk result IsStamp };
 
     fn forget<G: Gate>(&mut self, call: &ForgetCall, gate: &G) -> Result<Stamp, NodeFault>
-        requires call { IsForgetCall (shape self.old) call.now }
-        ensures told { StampTold result }
-        ensures shape { shape self.new ≡ shape self.old }
-        ensures number { number self.new ≡ number self.old };
+        requires { IsStamp call.now.cause }
+        ensures { IfOk result IsStamp };
 }
 
 /// The shards of a ledger. All calls of a phase are made, whatever one answers; the answers stand in the
 /// calls' order, and `out` has room for them.
 pub trait PortSet {
-    ghost use Rattle.cbdc_types.specs.declared.calls.LockCall.{LockCall};
-    ghost use Rattle.cbdc_types.specs.declared.calls.FinishCall.{FinishCall};
-    ghost use Rattle.cbdc_types.specs.declared.calls.ForgetCall.{ForgetCall};
-
-    /// The shape in force there.
-    ghost shape: { Self → Shape };
+    /// How many shards there are.
+    ghost count: { Self → ℕ };
 
     fn lock<G: Gate>(&mut self, calls: &[(u32, LockCall)], out: &mut Vec<Result<Replied, NodeFault>>, gate: &G)
-        requires rising { IsRising shard calls.now }
-        requires calls { All (λ c. IsLockCall (shape self.old) c.0 c.1) calls.now }
+        requires shards { AreShards shard (count self.old) calls.now }
+        requires calls { All IsLockCall calls.now }
         requires empty { out.old.items ≡ [] }
         requires room { length calls.now ≤ vec_capacity out.old }
-        ensures each { EachAnswer (λ c. LockTold (shape self.old) c.1) calls.now out.new.items }
+        ensures each { EachAnswer LockTold calls.now out.new.items }
         ensures capacity { vec_capacity out.new ≡ vec_capacity out.old }
-        ensures shape { shape self.new ≡ shape self.old };
+        ensures count { count self.new ≡ count self.old };
 
     fn finish<G: Gate>(&mut self, calls: &[(u32, FinishCall)], out: &mut Vec<Result<Stamp, NodeFault>>, gate: &G)
-        requires rising { IsRising shard calls.now }
-        requires below { All (λ c. c.0 < (shape self.old).shards) calls.now }
-        requires calls { All (λ c. IsFinishCall (shape self.old) c.1) calls.now }
+        requires shards { AreShards shard (count self.old) calls.now }
+        requires calls { All IsFinishCall calls.now }
         requires empty { out.old.items ≡ [] }
         requires room { length calls.now ≤ vec_capacity out.old }
-        ensures each { EachAnswer (λ c. StampTold) calls.now out.new.items }
+        ensures each { EachAnswer StampTold calls.now out.new.items }
         ensures capacity { vec_capacity out.new ≡ vec_capacity out.old }
-        ensures shape { shape self.new ≡ shape self.old };
+        ensures count { count self.new ≡ count self.old };
 
     fn forget<G: Gate>(&mut self, calls: &[(u32, ForgetCall)], out: &mut Vec<Result<Stamp, NodeFault>>, gate: &G)
-        requires rising { IsRising shard calls.now }
-        requires below { All (λ c. c.0 < (shape self.old).shards) calls.now }
-        requires calls { All (λ c. IsForgetCall (shape self.old) c.1) calls.now }
+        requires shards { AreShards shard (count self.old) calls.now }
+        requires calls { All IsForgetCall calls.now }
         requires empty { out.old.items ≡ [] }
         requires room { length calls.now ≤ vec_capacity out.old }
-        ensures each { EachAnswer (λ c. StampTold) calls.now out.new.items }
+        ensures each { EachAnswer StampTold calls.now out.new.items }
         ensures capacity { vec_capacity out.new ≡ vec_capacity out.old }
-        ensures shape { shape self.new ≡ shape self.old };
+        ensures count { count self.new ≡ count self.old };
 }
 
 /// What a lane speaks to: the shards, and the log of its coordinator.
