@@ -2,3 +2,5 @@ pub mod Calls
 pub mod Told
 pub mod Faults
 pub mod Gathering
+pub mod Rooms
+pub mod Reports
