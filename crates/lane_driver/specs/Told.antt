@@ -1,5 +1,5 @@
 -- What the ports are asked, and what they tell.
-use Rattle.std.specs.Prelude.{◌≡◌, ℕ, ◌*◌, ◌^◌, ◌<◌, List, length, Result, IfOk}
+use Rattle.std.specs.Prelude.{◌≡◌, ◌≢◌, ℕ, ◌*◌, ◌^◌, ◌<◌, List, length, Result, IfOk}
 use Rattle.std.specs.List.{All, AllZip}
 use Rattle.cbdc_types.specs.declared.calls.LockCall.{LockCall}
 use Rattle.cbdc_types.specs.declared.calls.FinishCall.{FinishCall}
@@ -7,13 +7,18 @@ use Rattle.cbdc_types.specs.declared.calls.ForgetCall.{ForgetCall}
 use Rattle.cbdc_types.specs.declared.calls.Replied.{Replied}
 use Rattle.cbdc_types.specs.declared.calls.NodeFault.{NodeFault}
 use Rattle.cbdc_types.specs.declared.batch.ShardReplies.{ShardReplies}
-use Rattle.cbdc_model.specs.Records.{Shape, Header, Batch}
+use Rattle.cbdc_model.specs.Records.{Shape, Header, Batch, Compact}
+use Rattle.cbdc_model.specs.Slots.{Phase}
 use Rattle.cbdc_model.specs.Ranges.{home_of}
 use Rattle.lane_driver.specs.Calls.{IsRising}
 
 -- the lane is one of this coordinator
 abbrev pub IsLane : Header → ℕ → Type 0
 IsLane h lane = (lane < h.shape.coordinators * h.shape.lanes) × (h.node ≡ home_of h.shape lane)
+
+-- the other lanes of this coordinator are as before
+abbrev pub KeepsOthers : Header → ℕ → (ℕ → Phase) → (ℕ → Phase) → (ℕ → List Compact) → (ℕ → List Compact) → Type 0
+KeepsOthers h lane p q t u = (l : ℕ) → IsLane h l → l ≢ lane → (q l ≡ p l) × (u l ≡ t l)
 
 abbrev pub IsStamp : ℕ → Type 0
 IsStamp t = t < 2 ^ 63

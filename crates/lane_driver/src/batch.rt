@@ -5,7 +5,7 @@ ghost use Rattle.cbdc_model.specs.Slots.{Idle, InPrepare, InCommit, InDiscard};
 ghost use Rattle.cbdc_model.specs.Ranges.{home_of};
 ghost use Rattle.cbdc_model.specs.Grammar.{HasSize, IsCompact};
 ghost use Rattle.lane_driver.specs.Calls.{shard, forget_of};
-ghost use Rattle.lane_driver.specs.Told.{IsLane, IsLockCall, IsStamp, AreShards};
+ghost use Rattle.lane_driver.specs.Told.{IsLane, KeepsOthers, IsLockCall, IsStamp, AreShards};
 ghost use Rattle.lane_driver.specs.Rooms.{IsBatchRoom, IsLaterRoom};
 ghost use Rattle.lane_driver.specs.Reports.{AreReports};
 
@@ -50,6 +50,7 @@ pub fn from_discarded<S: PortSet, L: LogPort, G: Gate>(
     requires room { length locks.now ≤ vec_capacity forgets.old }
     requires answers { length locks.now ≤ vec_capacity stamped.old }
     ensures phase { OnOk result (L.phase ports.new.log batch.now.lane ≡ Idle) }
+    ensures others { OnOk result (KeepsOthers (L.header ports.old.log) batch.now.lane (L.phase ports.old.log) (L.phase ports.new.log) (L.open_txs ports.old.log) (L.open_txs ports.new.log)) }
     ensures header { L.header ports.new.log ≡ L.header ports.old.log }
     ensures count { S.count ports.new.shards ≡ S.count ports.old.shards }
     ensures calls { forgets.new.items ≡ map (forget_of batch.now cause) locks.now }
@@ -90,6 +91,7 @@ pub fn from_committed<S: PortSet, L: LogPort, G: Gate>(
     requires again { length locks.now ≤ vec_capacity again.old }
     requires room { IsLaterRoom (length locks.now) (length outcomes.now) room }
     ensures phase { OnOk result (L.phase ports.new.log batch.now.lane ≡ Idle) }
+    ensures others { OnOk result (KeepsOthers (L.header ports.old.log) batch.now.lane (L.phase ports.old.log) (L.phase ports.new.log) (L.open_txs ports.old.log) (L.open_txs ports.new.log)) }
     ensures header { L.header ports.new.log ≡ L.header ports.old.log }
     ensures count { S.count ports.new.shards ≡ S.count ports.old.shards }
 {
@@ -137,6 +139,7 @@ pub fn from_prepared<S: PortSet, L: LogPort, G: Gate>(
     requires cause { IsStamp cause }
     requires room { IsBatchRoom shape.now.shards (length (L.open_txs ports.old.log batch.now.lane)) room }
     ensures phase { OnOk result (L.phase ports.new.log batch.now.lane ≡ Idle) }
+    ensures others { OnOk result (KeepsOthers (L.header ports.old.log) batch.now.lane (L.phase ports.old.log) (L.phase ports.new.log) (L.open_txs ports.old.log) (L.open_txs ports.new.log)) }
     ensures header { L.header ports.new.log ≡ L.header ports.old.log }
     ensures count { S.count ports.new.shards ≡ S.count ports.old.shards }
     ensures outcomes { IfOk result (λ os. length os ≡ length (L.open_txs ports.old.log batch.now.lane)) }

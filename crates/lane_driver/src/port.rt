@@ -4,7 +4,7 @@ ghost use Rattle.std.specs.Vec.{vec_capacity};
 ghost use Rattle.cbdc_model.specs.Records.{Header, Compact};
 ghost use Rattle.cbdc_model.specs.Slots.{Phase, Idle, InPrepare, InCommit, InDiscard};
 ghost use Rattle.cbdc_model.specs.Grammar.{HasSize, IsCompact};
-ghost use Rattle.lane_driver.specs.Told.{IsLane, IsLockCall, IsFinishCall, IsForgetCall, AreShards, EachAnswer, LockTold, StampTold, AreReplies, IsPrepared, IsStamp};
+ghost use Rattle.lane_driver.specs.Told.{IsLane, KeepsOthers, IsLockCall, IsFinishCall, IsForgetCall, AreShards, EachAnswer, LockTold, StampTold, AreReplies, IsPrepared, IsStamp};
 ghost use Rattle.lane_driver.specs.Calls.{shard};
 
 use cbdc_types::{
@@ -33,6 +33,7 @@ pub trait LogPort {
         ensures prepared { IfOk result (IsPrepared lane) }
         ensures phase { OnOk result (phase self.new lane ≡ InPrepare) }
         ensures txs { OnOk result (open_txs self.new lane ≡ txs.now) }
+        ensures others { OnOk result (KeepsOthers (header self.old) lane (phase self.old) (phase self.new) (open_txs self.old) (open_txs self.new)) }
         ensures header { header self.new ≡ header self.old };
 
     /// Decides the prepared batch by what its shards replied, and tells the outcomes.
@@ -45,6 +46,7 @@ pub trait LogPort {
         ensures stamp { IfOk result IsStamp }
         ensures phase { OnOk result (phase self.new lane ≡ InCommit) }
         ensures outcomes { OnOk result (length out.new.items ≡ length (open_txs self.old lane)) }
+        ensures others { OnOk result (KeepsOthers (header self.old) lane (phase self.old) (phase self.new) (open_txs self.old) (open_txs self.new)) }
         ensures header { header self.new ≡ header self.old };
 
     /// Writes down that the decided batch is applied everywhere.
@@ -54,6 +56,7 @@ pub trait LogPort {
         requires cause { IsStamp cause }
         ensures stamp { IfOk result IsStamp }
         ensures phase { OnOk result (phase self.new lane ≡ InDiscard) }
+        ensures others { OnOk result (KeepsOthers (header self.old) lane (phase self.old) (phase self.new) (open_txs self.old) (open_txs self.new)) }
         ensures header { header self.new ≡ header self.old };
 
     /// Writes down that the batch is forgotten everywhere.
@@ -63,6 +66,7 @@ pub trait LogPort {
         requires cause { IsStamp cause }
         ensures stamp { IfOk result IsStamp }
         ensures phase { OnOk result (phase self.new lane ≡ Idle) }
+        ensures others { OnOk result (KeepsOthers (header self.old) lane (phase self.old) (phase self.new) (open_txs self.old) (open_txs self.new)) }
         ensures header { header self.new ≡ header self.old };
 }
 
