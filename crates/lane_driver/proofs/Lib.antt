@@ -1,0 +1,7 @@
+pub mod Winners
+pub mod Greatest
+pub mod Faulted
+pub mod Phasing
+pub mod Rising
+pub mod Ready
+pub mod Cutting

@@ -1,0 +1,6 @@
+pub mod Calls
+pub mod Told
+pub mod Faults
+pub mod Gathering
+pub mod Rooms
+pub mod Reports

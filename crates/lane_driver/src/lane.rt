@@ -1,0 +1,56 @@
+// A lane's transactions, batch by batch.
+ghost use Rattle.std.specs.Prelude.{◌≡◌, ◌≤◌, ◌<◌, [], List, length, IfOk, OnOk, All};
+ghost use Rattle.std.specs.Vec.{vec_capacity};
+ghost use Rattle.cbdc_model.specs.Records.{Compact};
+ghost use Rattle.cbdc_model.specs.Slots.{Idle};
+ghost use Rattle.cbdc_model.specs.Grammar.{IsCompact};
+ghost use Rattle.lane_driver.specs.Told.{IsLane};
+ghost use Rattle.lane_driver.specs.Reports.{IsReported};
+
+use crate::batch::one_batch;
+use crate::fault::{LaneFault, LaneReport, no_memory};
+use crate::port::{LogPort, PortSet, Ports};
+use cbdc_types::{CompactTx, LaneId, List, Shape};
+use outside::Gate;
+use std::alloc::Global;
+
+/// Runs the transactions of an idle lane in order, in batches of `batch`, the last maybe shorter; with none it makes no
+/// call. With repeats, each shard call of a batch is made so many times more after its phase, and all its shard calls
+/// after it is done.
+pub fn run_lane<S: PortSet, L: LogPort, G: Gate>(
+    alloc: Global,
+    shape: &Shape,
+    lane: LaneId,
+    txs: &[CompactTx],
+    ports: &mut Ports<S, L>,
+    repeats: u32,
+    gate: &G,
+) -> Result<LaneReport, LaneFault>
+    requires home { IsLane (L.header ports.old.log) lane }
+    requires shape { (L.header ports.old.log).shape ≡ shape.now }
+    requires idle { L.phase ports.old.log lane ≡ Idle }
+    requires count { S.count ports.old.shards ≡ shape.now.shards }
+    requires limits { All IsCompact txs.now }
+    ensures idle { OnOk result (L.phase ports.new.log lane ≡ Idle) }
+    ensures header { L.header ports.new.log ≡ L.header ports.old.log }
+    ensures count { S.count ports.new.shards ≡ S.count ports.old.shards }
+    ensures report { IfOk result (λ r. IsReported lane shape.now.batch txs.now [] r.batches) }
+{
+    let size = shape.batch() as usize;
+    let mut batches = match Vec::with_capacity(alloc, txs.len().div_ceil(size)) {
+        Ok(batches) => batches,
+        Err(_) => return Err(no_memory()),
+    };
+    let mut rest = txs;
+    'pieces: while !rest.is_empty() {
+        let (piece, more) = rest.split_at(size.min(rest.len()));
+        match one_batch(alloc, shape, lane, piece, ports, repeats, gate) {
+            Ok(report) => batches.push_reserved(report),
+            Err(fault) => return Err(fault),
+        }
+        rest = more;
+    }
+    Ok(LaneReport {
+        batches: List::from_vec(batches),
+    })
+}

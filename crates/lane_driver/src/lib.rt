@@ -1,0 +1,20 @@
+//! The lanes: batches brought through their phases, over ports to the nodes.
+#![tactic(auto)]
+
+mod answer;
+mod batch;
+mod fault;
+
+mod lane;
+mod order;
+mod phase;
+mod port;
+mod room;
+
+pub use batch::{from_committed, from_discarded, from_prepared, run_batch};
+pub use fault::{BatchReport, LaneFault, LaneFaultKind, LaneReport};
+pub use answer::{gather, latest, ShardFault};
+pub use lane::run_lane;
+pub use order::{finish_calls, forget_calls, lock_calls};
+pub use port::{LogPort, PortSet, Ports, ShardPort};
+pub use room::{BatchRoom, LaterRoom};

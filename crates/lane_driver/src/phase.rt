@@ -1,0 +1,155 @@
+// The phases of a batch at its shards, and its calls again.
+ghost use Rattle.std.specs.Prelude.{◌≡◌, ◌<◌, ◌≤◌, [], length, IfOk, IfErr, MatchResult, All};
+ghost use Rattle.std.specs.Vec.{vec_capacity};
+ghost use Rattle.lane_driver.specs.Calls.{shard};
+ghost use Rattle.lane_driver.specs.Told.{IsLockCall, IsFinishCall, IsForgetCall, AreShards, AreReplies, IsStamp};
+
+use crate::answer::{ShardFault, gather, latest};
+use crate::fault::{LaneFault, fault_at};
+use crate::port::PortSet;
+use cbdc_types::{
+    FinishCall, ForgetCall, LockCall, NodeFault, NodeId, Replied, Replies, Shape, ShardReplies,
+    Stamp,
+};
+use outside::Gate;
+
+// The fault of the lane, where a shard's was the first.
+fn of_shard(shape: &Shape, fault: ShardFault) -> LaneFault
+    requires { fault.shard < shape.now.shards }
+{
+    fault_at(NodeId(shape.coordinators() + fault.shard), fault.fault)
+}
+
+/// Makes the lock calls again, so many times, and drops the answers.
+pub fn lock_again<S: PortSet, G: Gate>(
+    shards: &mut S,
+    calls: &[(u32, LockCall)],
+    answers: &mut Vec<Result<Replied, NodeFault>>,
+    repeats: u32,
+    gate: &G,
+)
+    requires shards { AreShards shard (S.count shards.old) calls.now }
+    requires calls { All IsLockCall calls.now }
+    requires room { length calls.now ≤ vec_capacity answers.old }
+    ensures capacity { vec_capacity answers.new ≡ vec_capacity answers.old }
+    ensures count { S.count shards.new ≡ S.count shards.old }
+{
+    for _time in 0..repeats {
+        answers.clear();
+        shards.lock(calls, answers, gate);
+    }
+}
+
+/// Makes the finish calls again, so many times, and drops the answers.
+pub fn finish_again<S: PortSet, G: Gate>(
+    shards: &mut S,
+    calls: &[(u32, FinishCall)],
+    answers: &mut Vec<Result<Stamp, NodeFault>>,
+    repeats: u32,
+    gate: &G,
+)
+    requires shards { AreShards shard (S.count shards.old) calls.now }
+    requires calls { All IsFinishCall calls.now }
+    requires room { length calls.now ≤ vec_capacity answers.old }
+    ensures capacity { vec_capacity answers.new ≡ vec_capacity answers.old }
+    ensures count { S.count shards.new ≡ S.count shards.old }
+{
+    for _time in 0..repeats {
+        answers.clear();
+        shards.finish(calls, answers, gate);
+    }
+}
+
+/// Makes the forget calls again, so many times, and drops the answers.
+pub fn forget_again<S: PortSet, G: Gate>(
+    shards: &mut S,
+    calls: &[(u32, ForgetCall)],
+    answers: &mut Vec<Result<Stamp, NodeFault>>,
+    repeats: u32,
+    gate: &G,
+)
+    requires shards { AreShards shard (S.count shards.old) calls.now }
+    requires calls { All IsForgetCall calls.now }
+    requires room { length calls.now ≤ vec_capacity answers.old }
+    ensures capacity { vec_capacity answers.new ≡ vec_capacity answers.old }
+    ensures count { S.count shards.new ≡ S.count shards.old }
+{
+    for _time in 0..repeats {
+        answers.clear();
+        shards.forget(calls, answers, gate);
+    }
+}
+
+/// Locks the parts at their shards, and gathers the replies.
+pub fn lock_phase<S: PortSet, G: Gate>(
+    shape: &Shape,
+    shards: &mut S,
+    calls: &[(u32, LockCall)],
+    mut answers: Vec<Result<Replied, NodeFault>>,
+    replies: Vec<ShardReplies>,
+    gate: &G,
+) -> Result<Replies, LaneFault>
+    requires count { S.count shards.old ≡ shape.now.shards }
+    requires shards { AreShards shard shape.now.shards calls.now }
+    requires calls { All IsLockCall calls.now }
+    requires empty { answers.items ≡ [] }
+    requires room { length calls.now ≤ vec_capacity answers }
+    requires no_replies { replies.items ≡ [] }
+    requires replies_room { length calls.now ≤ vec_capacity replies }
+    ensures count { S.count shards.new ≡ S.count shards.old }
+    ensures replies { IfOk result (AreReplies shape.now) }
+{
+    shards.lock(calls, &mut answers, gate);
+    match gather(calls, answers, replies) {
+        Ok(replies) => Ok(replies),
+        Err(fault) => Err(of_shard(shape, fault)),
+    }
+}
+
+/// Applies the batch at its shards: the greatest stamp of its Finishes.
+pub fn finish_phase<S: PortSet, G: Gate>(
+    shape: &Shape,
+    shards: &mut S,
+    calls: &[(u32, FinishCall)],
+    answers: &mut Vec<Result<Stamp, NodeFault>>,
+    gate: &G,
+) -> Result<Stamp, LaneFault>
+    requires count { S.count shards.old ≡ shape.now.shards }
+    requires shards { AreShards shard shape.now.shards calls.now }
+    requires calls { All IsFinishCall calls.now }
+    requires room { length calls.now ≤ vec_capacity answers.old }
+    ensures capacity { vec_capacity answers.new ≡ vec_capacity answers.old }
+    ensures count { S.count shards.new ≡ S.count shards.old }
+    ensures stamp { IfOk result IsStamp }
+{
+    answers.clear();
+    shards.finish(calls, answers, gate);
+    match latest(calls, answers.as_slice()) {
+        Ok(stamp) => Ok(stamp),
+        Err(fault) => Err(of_shard(shape, fault)),
+    }
+}
+
+/// Lets the shards forget the batch: the greatest stamp of its Forgets.
+pub fn forget_phase<S: PortSet, G: Gate>(
+    shape: &Shape,
+    shards: &mut S,
+    calls: &[(u32, ForgetCall)],
+    answers: &mut Vec<Result<Stamp, NodeFault>>,
+    gate: &G,
+) -> Result<Stamp, LaneFault>
+    requires count { S.count shards.old ≡ shape.now.shards }
+    requires shards { AreShards shard shape.now.shards calls.now }
+    requires calls { All IsForgetCall calls.now }
+    requires room { length calls.now ≤ vec_capacity answers.old }
+    ensures capacity { vec_capacity answers.new ≡ vec_capacity answers.old }
+    ensures count { S.count shards.new ≡ S.count shards.old }
+    ensures stamp { IfOk result IsStamp }
+{
+    answers.clear();
+    shards.forget(calls, answers, gate);
+    match latest(calls, answers.as_slice()) {
+        Ok(stamp) => Ok(stamp),
+        Err(fault) => Err(of_shard(shape, fault)),
+    }
+}

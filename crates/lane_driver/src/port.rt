@@ -1,0 +1,126 @@
+// The ports through which a lane speaks to nodes.
+ghost use Rattle.std.specs.Prelude.{◌≡◌, ◌≤◌, ℕ, List, [], length, All, IfOk, OnOk};
+ghost use Rattle.std.specs.Vec.{vec_capacity};
+ghost use Rattle.cbdc_model.specs.Records.{Header, Compact};
+ghost use Rattle.cbdc_model.specs.Slots.{Phase, Idle, InPrepare, InCommit, InDiscard};
+ghost use Rattle.cbdc_model.specs.Grammar.{HasSize, IsCompact};
+ghost use Rattle.lane_driver.specs.Told.{IsLane, KeepsOthers, IsLockCall, IsFinishCall, IsForgetCall, AreShards, EachAnswer, LockTold, StampTold, AreReplies, IsPrepared, IsStamp};
+ghost use Rattle.lane_driver.specs.Calls.{shard};
+
+use cbdc_types::{
+    BatchId, CompactTx, FinishCall, ForgetCall, LaneId, LockCall, NodeFault, Outcome, Replied,
+    Replies, Stamp,
+};
+use outside::Gate;
+
+/// The log of a lane's coordinator.
+pub trait LogPort {
+    /// The header of the coordinator's journal.
+    ghost header: { Self → Header };
+
+    /// What the last record of a lane is there.
+    ghost phase: { Self → ℕ → Phase };
+
+    /// The transactions of a lane's batch that is not done.
+    ghost open_txs: { Self → ℕ → List Compact };
+
+    /// Begins a batch of an idle lane: its name, and the stamp of its Prepare.
+    fn prepare<G: Gate>(&mut self, lane: LaneId, txs: &[CompactTx], gate: &G) -> Result<(BatchId, Stamp), NodeFault>
+        requires home { IsLane (header self.old) lane }
+        requires idle { phase self.old lane ≡ Idle }
+        requires size { HasSize (header self.old).shape txs.now }
+        requires limits { All IsCompact txs.now }
+        ensures prepared { IfOk result (IsPrepared lane) }
+        ensures phase { OnOk result (phase self.new lane ≡ InPrepare) }
+        ensures txs { OnOk result (open_txs self.new lane ≡ txs.now) }
+        ensures others { OnOk result (KeepsOthers (header self.old) lane (phase self.old) (phase self.new) (open_txs self.old) (open_txs self.new)) }
+        ensures header { header self.new ≡ header self.old };
+
+    /// Decides the prepared batch by what its shards replied, and tells the outcomes.
+    fn decide<G: Gate>(&mut self, lane: LaneId, replies: &Replies, out: &mut Vec<Outcome>, gate: &G) -> Result<Stamp, NodeFault>
+        requires home { IsLane (header self.old) lane }
+        requires phase { phase self.old lane ≡ InPrepare }
+        requires replies { AreReplies (header self.old).shape replies.now }
+        requires empty { out.old.items ≡ [] }
+        requires room { length (open_txs self.old lane) ≤ vec_capacity out.old }
+        ensures stamp { IfOk result IsStamp }
+        ensures phase { OnOk result (phase self.new lane ≡ InCommit) }
+        ensures outcomes { OnOk result (length out.new.items ≡ length (open_txs self.old lane)) }
+        ensures others { OnOk result (KeepsOthers (header self.old) lane (phase self.old) (phase self.new) (open_txs self.old) (open_txs self.new)) }
+        ensures header { header self.new ≡ header self.old };
+
+    /// Writes down that the decided batch is applied everywhere.
+    fn discard<G: Gate>(&mut self, lane: LaneId, cause: Stamp, gate: &G) -> Result<Stamp, NodeFault>
+        requires home { IsLane (header self.old) lane }
+        requires phase { phase self.old lane ≡ InCommit }
+        requires cause { IsStamp cause }
+        ensures stamp { IfOk result IsStamp }
+        ensures phase { OnOk result (phase self.new lane ≡ InDiscard) }
+        ensures others { OnOk result (KeepsOthers (header self.old) lane (phase self.old) (phase self.new) (open_txs self.old) (open_txs self.new)) }
+        ensures header { header self.new ≡ header self.old };
+
+    /// Writes down that the batch is forgotten everywhere.
+    fn done<G: Gate>(&mut self, lane: LaneId, cause: Stamp, gate: &G) -> Result<Stamp, NodeFault>
+        requires home { IsLane (header self.old) lane }
+        requires phase { phase self.old lane ≡ InDiscard }
+        requires cause { IsStamp cause }
+        ensures stamp { IfOk result IsStamp }
+        ensures phase { OnOk result (phase self.new lane ≡ Idle) }
+        ensures others { OnOk result (KeepsOthers (header self.old) lane (phase self.old) (phase self.new) (open_txs self.old) (open_txs self.new)) }
+        ensures header { header self.new ≡ header self.old };
+}
+
+/// One shard.
+pub trait ShardPort {
+    fn lock<G: Gate>(&mut self, call: &LockCall, gate: &G) -> Result<Replied, NodeFault>
+        requires { IsStamp call.now.cause }
+        ensures { IfOk result (λ a. IsStamp a.stamp) };
+
+    fn finish<G: Gate>(&mut self, call: &FinishCall, gate: &G) -> Result<Stamp, NodeFault>
+        requires { IsStamp call.now.cause }
+        ensures { IfOk result IsStamp };
+
+    fn forget<G: Gate>(&mut self, call: &ForgetCall, gate: &G) -> Result<Stamp, NodeFault>
+        requires { IsStamp call.now.cause }
+        ensures { IfOk result IsStamp };
+}
+
+/// The shards of a ledger. All calls of a phase are made, whatever one answers; the answers stand in the
+/// calls' order, and `out` has room for them.
+pub trait PortSet {
+    /// How many shards there are.
+    ghost count: { Self → ℕ };
+
+    fn lock<G: Gate>(&mut self, calls: &[(u32, LockCall)], out: &mut Vec<Result<Replied, NodeFault>>, gate: &G)
+        requires shards { AreShards shard (count self.old) calls.now }
+        requires calls { All IsLockCall calls.now }
+        requires empty { out.old.items ≡ [] }
+        requires room { length calls.now ≤ vec_capacity out.old }
+        ensures each { EachAnswer LockTold calls.now out.new.items }
+        ensures capacity { vec_capacity out.new ≡ vec_capacity out.old }
+        ensures count { count self.new ≡ count self.old };
+
+    fn finish<G: Gate>(&mut self, calls: &[(u32, FinishCall)], out: &mut Vec<Result<Stamp, NodeFault>>, gate: &G)
+        requires shards { AreShards shard (count self.old) calls.now }
+        requires calls { All IsFinishCall calls.now }
+        requires empty { out.old.items ≡ [] }
+        requires room { length calls.now ≤ vec_capacity out.old }
+        ensures each { EachAnswer StampTold calls.now out.new.items }
+        ensures capacity { vec_capacity out.new ≡ vec_capacity out.old }
+        ensures count { count self.new ≡ count self.old };
+
+    fn forget<G: Gate>(&mut self, calls: &[(u32, ForgetCall)], out: &mut Vec<Result<Stamp, NodeFault>>, gate: &G)
+        requires shards { AreShards shard (count self.old) calls.now }
+        requires calls { All IsForgetCall calls.now }
+        requires empty { out.old.items ≡ [] }
+        requires room { length calls.now ≤ vec_capacity out.old }
+        ensures each { EachAnswer StampTold calls.now out.new.items }
+        ensures capacity { vec_capacity out.new ≡ vec_capacity out.old }
+        ensures count { count self.new ≡ count self.old };
+}
+
+/// What a lane speaks to: the shards, and the log of its coordinator.
+pub struct Ports<S, L> {
+    pub shards: S,
+    pub log: L,
+}
