@@ -32,3 +32,10 @@ pub mod Worlds
 pub mod FirstWorld
 pub mod KeptLaws
 pub mod Recovery
+pub mod Makers
+pub mod Order
+pub mod Last
+pub mod Reaching
+pub mod OneHistory
+pub mod Answered
+pub mod Repeats
