@@ -39,3 +39,5 @@ pub mod Reaching
 pub mod OneHistory
 pub mod Answered
 pub mod Repeats
+pub mod Granted
+pub mod HistoryLaws
