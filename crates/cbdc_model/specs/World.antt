@@ -158,11 +158,15 @@ pub record KeptWorld (K : Shape) (mint : List Output) (submissions : List FullTx
   pub flights : (n : ℕ) (r : Record) → (node_at w n).flight ≡ Some r
       → After (header_of K (minted mint).id n) (journals w n) r × IsCaused K (journals w) n r × TxsPass (IsProperCompact submissions) r
 
--- every node is up, nothing is in flight, and every lane is idle at its coordinator
+-- every lane is idle at its coordinator
+abbrev pub AreIdle : Shape → (ℕ → List Record) → Type 0
+AreIdle K J = (lane : ℕ) → lane < K.coordinators * K.lanes → (slot (J (home_of K lane)) lane).phase ≡ Idle
+
+-- every node is up, nothing is in flight, and every lane is idle
 pub record IsRecovered (K : Shape) (w : World) : Type 0 where
   pub up : (n : ℕ) → n < length w → (node_at w n).up ≡ true
   pub quiet : (n : ℕ) → n < length w → (node_at w n).flight ≡ None
-  pub idle : (lane : ℕ) → lane < K.coordinators * K.lanes → (slot (journals w (home_of K lane)) lane).phase ≡ Idle
+  pub idle : AreIdle K (journals w)
 
 -- how many records of a kind of a batch a journal has
 abbrev pub count_of : ℕ → List Record → Batch → ℕ

@@ -41,3 +41,10 @@ pub mod Answered
 pub mod Repeats
 pub mod Granted
 pub mod HistoryLaws
+pub mod Locals
+pub mod Cuts
+pub mod Finds
+pub mod Merge
+pub mod Together
+pub mod Turns
+pub mod LaneLaws

@@ -1,6 +1,6 @@
 -- The laws, each as one statement.
-use Rattle.std.specs.Prelude.{◌≡◌, ◌⊎◌, ℕ, ◌<◌, true, List, ◌++◌, Contains, is_some}
-use Rattle.cbdc_model.specs.Records.{Shape, Digest, Batch, Entry, Record, Row, journal, record_of}
+use Rattle.std.specs.Prelude.{◌≡◌, ◌⊎◌, ◌↔◌, ℕ, ◌<◌, true, List, ◌++◌, Contains, is_some}
+use Rattle.cbdc_model.specs.Records.{Shape, Digest, Compact, Batch, Entry, Record, Row, journal, record_of}
 use Rattle.cbdc_model.specs.Status.{status, Absent}
 use Rattle.cbdc_model.specs.Ranges.{journal_at}
 use Rattle.cbdc_types.specs.declared.calls.Refused.{Refused}
@@ -9,8 +9,9 @@ use Rattle.cbdc_model.specs.Next.{Plan, Kept, Append, Refuse, next_lock, next_fi
 use Rattle.cbdc_model.specs.Coins.{Output, FullTx, genesis_hashes}
 use Rattle.cbdc_model.specs.Clean.{Clean, IsProperCompact}
 use Rattle.cbdc_model.specs.History.{Minted, minted, history_of, IsKept, won_of, all_outputs}
-use Rattle.cbdc_model.specs.World.{World, Event, EventPasses, EventsPass, Step, Run, init, journals, KeptWorld, IsRecovered, IsHistory, ShardCall, Lock_call, Finish_call, Forget_call, batch_of, IsConcerned, CauseStands}
+use Rattle.cbdc_model.specs.World.{World, Event, EventPasses, EventsPass, Step, Run, init, journals, KeptJournals, KeptWorld, AreIdle, IsRecovered, IsHistory, ShardCall, Lock_call, Finish_call, Forget_call, batch_of, IsConcerned, CauseStands}
 use Rattle.cbdc_model.specs.Headline.{Headline}
+use Rattle.cbdc_model.specs.Lanes.{KeptLists, AllPass, Wave}
 use Rattle.ledger_laws.specs.Sets.{Folds}
 use Rattle.ledger_laws.specs.Reach.{Reached}
 
@@ -28,6 +29,11 @@ KeptLaw = (K : Shape) (mint : List Output) (submissions : List FullTx) (events :
 abbrev pub StepLaw : Type 0
 StepLaw = (K : Shape) (mint : List Output) (submissions : List FullTx) (old new : World) (event : Event) → 0 < K.shards
     → KeptWorld K mint submissions old → EventPasses (IsProperCompact submissions) event → Step K (minted mint) old event new → KeptWorld K mint submissions new
+
+-- where journals are kept and every lane is idle, the sentence holds
+abbrev pub IdleLaw : Type 0
+IdleLaw = (K : Shape) (mint : List Output) (submissions : List FullTx) (J : ℕ → List Record) → 0 < K.shards → 0 < K.lanes → Clean mint submissions
+    → KeptJournals K mint submissions J → AreIdle K J → Headline K mint submissions J
 
 -- in a kept world, once it is recovered, the sentence holds
 abbrev pub RecoveredLaw : Type 0
@@ -75,3 +81,14 @@ abbrev pub AnswerLaw : Type 0
 AnswerLaw = (K : Shape) (mint : List Output) (submissions : List FullTx) (later : List Row) (node : ℕ) (call : ShardCall) → 0 < K.shards
     → IsKept K mint submissions later → IsConcerned K (λ n. journal n (history_of K mint later)) node (batch_of call)
     → CauseStands K (λ n. journal n (history_of K mint later)) node call → IsCallGranted (journal node (history_of K mint later)) call
+
+-- journals are kept exactly where each of their records is after those of its journal and was caused by beginnings of the journals
+abbrev pub LocalLaw : Type 0
+LocalLaw = (K : Shape) (mint : List Output) (submissions : List FullTx) (J : ℕ → List Record) → 0 < K.shards
+    → KeptJournals K mint submissions J ↔ KeptLists K (minted mint) (IsProperCompact submissions) J
+
+-- what the lanes of a wave made, each as it saw it, keeps the journals
+abbrev pub WaveLaw : Type 0
+WaveLaw = (K : Shape) (mint : List Output) (submissions : List FullTx) (pieces : ℕ → List (List Compact)) (E X : ℕ → List Record) → 0 < K.shards
+    → ((lane : ℕ) → AllPass (IsProperCompact submissions) (pieces lane)) → KeptJournals K mint submissions E → Wave K (minted mint) pieces E X
+    → KeptJournals K mint submissions X
