@@ -15,3 +15,4 @@ pub mod Clean
 pub mod History
 pub mod World
 pub mod Headline
+pub mod Lanes

@@ -16,7 +16,7 @@ use Rattle.cbdc_model.specs.After.{After}
 use Rattle.cbdc_model.specs.Causes.{IsCaused}
 use Rattle.cbdc_model.specs.Coins.{Output, FullTx}
 use Rattle.cbdc_model.specs.Clean.{IsProperCompact}
-use Rattle.cbdc_model.specs.History.{Minted, minted, header_of, first_rows, TxsPass, IsSteady, IsOrdered}
+use Rattle.cbdc_model.specs.History.{Minted, minted, header_of, first_rows, TxsPass, IsSteady, IsKept, IsOrdered}
 
 -- a node: its journal, whether it is up, and a record that a fault or a crash may have left or not
 pub record Node : Type 0 where
@@ -145,20 +145,28 @@ pub record IsHistory (K : Shape) (m : Minted) (J : ℕ → List Record) (later :
   pub ordered : IsOrdered later
   pub journals_are : (n : ℕ) → journal n (later ++ first_rows K m) ≡ J n
 
--- the journals have a kept history, and each record in flight is after its node's journal and caused
+-- the journals have a kept history
+pub record KeptJournals (K : Shape) (mint : List Output) (submissions : List FullTx) (J : ℕ → List Record) : Type 0 where
+  pub later : List Row
+  pub history : IsHistory K (minted mint) J later
+  pub kept : IsKept K mint submissions later
+
+-- the world's journals have one, and each record in flight is after its node's journal and caused
 pub record KeptWorld (K : Shape) (mint : List Output) (submissions : List FullTx) (w : World) : Type 0 where
   pub size : length w ≡ K.coordinators + K.shards
-  pub later : List Row
-  pub history : IsHistory K (minted mint) (journals w) later
-  pub steady : IsSteady K (minted mint) (IsProperCompact submissions) later
+  pub journals_kept : KeptJournals K mint submissions (journals w)
   pub flights : (n : ℕ) (r : Record) → (node_at w n).flight ≡ Some r
       → After (header_of K (minted mint).id n) (journals w n) r × IsCaused K (journals w) n r × TxsPass (IsProperCompact submissions) r
 
--- every node is up, nothing is in flight, and every lane is idle at its coordinator
+-- every lane is idle at its coordinator
+abbrev pub AreIdle : Shape → (ℕ → List Record) → Type 0
+AreIdle K J = (lane : ℕ) → lane < K.coordinators * K.lanes → (slot (J (home_of K lane)) lane).phase ≡ Idle
+
+-- every node is up, nothing is in flight, and every lane is idle
 pub record IsRecovered (K : Shape) (w : World) : Type 0 where
   pub up : (n : ℕ) → n < length w → (node_at w n).up ≡ true
   pub quiet : (n : ℕ) → n < length w → (node_at w n).flight ≡ None
-  pub idle : (lane : ℕ) → lane < K.coordinators * K.lanes → (slot (journals w (home_of K lane)) lane).phase ≡ Idle
+  pub idle : AreIdle K (journals w)
 
 -- how many records of a kind of a batch a journal has
 abbrev pub count_of : ℕ → List Record → Batch → ℕ
@@ -187,11 +195,3 @@ IsUnspent K J x = status (J (shard_node K (shard_of K.shards x))) x ≡ Unspent
 -- the journals with one node's replaced
 abbrev pub replaced : (ℕ → List Record) → ℕ → List Record → ℕ → List Record
 replaced J n own k = if n == k then own else J k
-
--- one fact for each node, and one for each record: each journal has its first record at the bottom, and each record above it is after
--- those below it, and caused in the journals as they stand
-pub record AreKept (K : Shape) (mint : List Output) (submissions : List FullTx) (J : ℕ → List Record) : Type 0 where
-  pub first : (n : ℕ) → n < K.coordinators + K.shards → (later : List Record) × (J n ≡ later ++ first_record K (minted mint) n ∷ [])
-  pub none : (n : ℕ) → K.coordinators + K.shards ≤ n → J n ≡ []
-  pub each : (n : ℕ) (newer past : List Record) (r : Record) → J n ≡ newer ++ r ∷ past → 0 < length past
-      → After (header_of K (minted mint).id n) past r × IsCaused K (replaced J n past) n r × TxsPass (IsProperCompact submissions) r

@@ -6,7 +6,7 @@ use Rattle.cbdc_model.specs.Ranges.{shard_node, part, Concerned, is_no_part}
 use Rattle.cbdc_model.specs.Records.{Digest, Shape, Batch, Compact, Record, Row, journal, record_of, kind_of, is_of, decisions_in, Genesis, Lock, Finish, Forget, Start, Prepare, Commit, Discard, Done, lock_of, txs_of, outcomes_of}
 use Rattle.cbdc_model.specs.Replies.{entries}
 use Rattle.cbdc_model.specs.World.{journals, World, count_of, IsAlike, Alike}
-use Rattle.ledger_laws.proofs.Ledger.{SteadyWorld}
+use Rattle.ledger_laws.proofs.Ledger.{SteadyJournals}
 use Rattle.ledger_laws.proofs.Next.{Next, has_lock, has_finish, has_prepare, has_forget, Steady}
 use Rattle.ledger_laws.proofs.Slots.{JournalOk}
 use Rattle.ledger_laws.proofs.More.{MoreOk}
@@ -132,8 +132,8 @@ module _ (K : Shape) (minting : Minted) (P : Compact → Type 0) (shards : 0 < K
     committed_once = exactly_one later kept (b.lane / K.lanes) 7 b
         ((all_phases K minting P shards later kept (b.lane / K.lanes)).done_prepared b (done_if_prepared K minting P shards later kept idle b prepared)).1
 
-  pub alike : (w : World) → (k : SteadyWorld K minting P w) → AllIdle K minting P shards (k.later ++ first_rows K minting) → Alike K (journals w)
-  alike w k idle b prepared =
+  pub alike : (J : ℕ → List Record) → (k : SteadyJournals K minting P J) → AllIdle K minting P shards (k.later ++ first_rows K minting) → Alike K J
+  alike J k idle b prepared =
       subst (λ J. IsAlike K J b) (λ i n. k.history n i)
       (batch_alike k.later k.kept idle b (subst (λ J. is_some (record_of 6 J b) ≡ true) (sym (k.history (b.lane / K.lanes))) prepared))
     where

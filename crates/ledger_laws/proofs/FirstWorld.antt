@@ -60,28 +60,32 @@ run_length K minting old new (e ∷ es) run = run_length K minting run.0 new es 
 
 -- between the world as it is defined and as the proofs read it
 pub to_steady : (K : Shape) (mint : List Output) (txs : List FullTx) (w : World) → KeptWorld K mint txs w → SteadyWorld K (minted mint) (IsProperCompact txs) w
-to_steady K mint txs w kept = record {
-  later = kept.later;
-  kept = steady K (minted mint) (IsProperCompact txs) kept.later kept.steady;
-  ordered = kept.history.ordered;
-  history = kept.history.journals_are;
-  flights = λ n r f.
-      let h = kept.flights n r f in (
-        subst (λ J. Next K n J r) (kept.history.journals_are n)
-            (next_at K (minted mint) (IsProperCompact txs) kept.later n r (subst (λ J. After (header_of K (minted mint).id n) J r) (sym (kept.history.journals_are n)) h.0)),
-        h.1,
-        proper_of (IsProperCompact txs) r h.2,
-        h.0.0,
-      );
-}
+to_steady K mint txs w kept =
+    let k = kept.journals_kept in
+    record {
+      later = k.later;
+      kept = steady K (minted mint) (IsProperCompact txs) k.later k.kept;
+      ordered = k.history.ordered;
+      history = k.history.journals_are;
+      flights = λ n r f.
+          let h = kept.flights n r f in (
+            subst (λ J. Next K n J r) (k.history.journals_are n)
+                (next_at K (minted mint) (IsProperCompact txs) k.later n r (subst (λ J. After (header_of K (minted mint).id n) J r) (sym (k.history.journals_are n)) h.0)),
+            h.1,
+            proper_of (IsProperCompact txs) r h.2,
+            h.0.0,
+          );
+    }
 
 pub to_kept : (K : Shape) (mint : List Output) (txs : List FullTx) (w : World) → length w ≡ K.coordinators + K.shards
     → SteadyWorld K (minted mint) (IsProperCompact txs) w → KeptWorld K mint txs w
 to_kept K mint txs w size s = record {
   size = size;
-  later = s.later;
-  history = record { ordered = s.ordered; journals_are = s.history };
-  steady = is_steady K (minted mint) (IsProperCompact txs) s.later s.kept;
+  journals_kept = record {
+    later = s.later;
+    history = record { ordered = s.ordered; journals_are = s.history };
+    kept = is_steady K (minted mint) (IsProperCompact txs) s.later s.kept;
+  };
   flights = λ n r f.
       let h = s.flights n r f in
       (after_of K (minted mint).id n (journals w n) r h.0 h.3, h.1, passes_of (IsProperCompact txs) r h.2);

@@ -7,7 +7,8 @@ use Rattle.cbdc_model.specs.Grammar.{IsInGrammar}
 use Rattle.cbdc_model.specs.After.{After, Follows}
 use Rattle.cbdc_model.specs.History.{Minted, header_of, first_rows, TxsPass, IsSteady, IsOrdered}
 use Rattle.cbdc_model.specs.Causes.{IsCaused}
-use Rattle.cbdc_model.specs.World.{World, node_at, journals}
+use Rattle.cbdc_model.specs.World.{World, node_at, journals, replaced}
+use Rattle.cbdc_model.specs.Lanes.{IsEnd, Seen, first_of, KeptLists}
 use Rattle.ledger_laws.proofs.Next.{Next, Each, AllProper, Steady}
 use Rattle.ledger_laws.proofs.FirstJournals.{never_empty}
 
@@ -94,6 +95,13 @@ module _ (K : Shape) (minting : Minted) (P : Compact → Type 0) where
     is_steady later h.3,
   )
 
+-- one history of the journals
+pub record SteadyJournals (K : Shape) (minting : Minted) (P : Compact → Type 0) (J : ℕ → List Record) : Type 0 where
+  pub later : List Row
+  pub kept : Steady K minting P later
+  pub ordered : IsOrdered later
+  pub history : (n : ℕ) → journal n (later ++ first_rows K minting) ≡ J n
+
 -- one history of the whole world, with what is in flight
 pub record SteadyWorld (K : Shape) (minting : Minted) (P : Compact → Type 0) (w : World) : Type 0 where
   pub later : List Row
@@ -102,3 +110,39 @@ pub record SteadyWorld (K : Shape) (minting : Minted) (P : Compact → Type 0) (
   pub history : (n : ℕ) → journal n (later ++ first_rows K minting) ≡ journals w n
   pub flights : (n : ℕ) (r : Record) → (node_at w n).flight ≡ Some r
       → Next K n (journals w n) r × IsCaused K (journals w) n r × AllProper P r × IsInGrammar (header_of K minting.id n) r
+
+-- each record of a list of rows is next, caused, passes and is in the grammar: one fact for each, in no order
+abbrev pub EachSteady : Shape → Minted → (Compact → Type 0) → List Row → Type 0
+EachSteady K minting P later = (n : ℕ) (newer rest : List Record) (r : Record) → journal n later ≡ newer ++ r ∷ rest
+    → Next K n (rest ++ journal n (first_rows K minting)) r
+    × IsCaused K (replaced (λ k. journal k (later ++ first_rows K minting)) n (rest ++ journal n (first_rows K minting))) n r
+    × AllProper P r × IsInGrammar (header_of K minting.id n) r
+
+-- the same of journals, by what each record has seen
+pub record SteadyLists (K : Shape) (minting : Minted) (P : Compact → Type 0) (X : ℕ → List Record) : Type 0 where
+  pub begins : (n : ℕ) → IsEnd (first_of K minting n) (X n)
+  pub each : (n : ℕ) (newer rest : List Record) (r : Record) → X n ≡ newer ++ r ∷ rest → IsEnd (first_of K minting n) rest
+      → Next K n rest r × Seen K X n rest r × AllProper P r × IsInGrammar (header_of K minting.id n) r
+
+module _ (K : Shape) (minting : Minted) where
+  pub some_behind : (n : ℕ) (rest : List Record) → IsEnd (first_of K minting n) rest → n < K.coordinators + K.shards → rest ≡ [] → ⊥
+  some_behind n rest h lt e = never_ends h.0 (journal n (first_rows K minting)) (λ z. never_empty K minting [] n lt z) (sym h.1 ∙ e)
+    where
+      never_ends : (more J : List Record) → (J ≡ [] → ⊥) → more ++ J ≡ [] → ⊥
+      never_ends [] J f e = f e
+      never_ends (r ∷ more) J f e = let z : r ∷ (more ++ J) ≡ [] = e in cc
+
+  pub next_behind : (n : ℕ) (rest : List Record) (r : Record) → IsEnd (first_of K minting n) rest → After (header_of K minting.id n) rest r → Next K n rest r
+  next_behind n rest r h after = next_of K minting.id n rest r (λ lt e. some_behind n rest h lt e) after
+
+  pub steady_lists : (P : Compact → Type 0) (X : ℕ → List Record) → KeptLists K minting P X → SteadyLists K minting P X
+  steady_lists P X kept = record {
+    begins = kept.begins;
+    each = λ n newer rest r e h. let f = kept.each n newer rest r e h in (next_behind n rest r h f.0, f.1, proper_of P r f.2, f.0.0);
+  }
+
+  pub kept_lists : (P : Compact → Type 0) (X : ℕ → List Record) → SteadyLists K minting P X → KeptLists K minting P X
+  kept_lists P X kept = record {
+    begins = kept.begins;
+    each = λ n newer rest r e h. let f = kept.each n newer rest r e h in (after_of K minting.id n rest r f.0 f.3, f.1, passes_of P r f.2);
+  }

@@ -7,18 +7,18 @@ use Rattle.std.proofs.lemmas.Slice.Eq.{bytes_eq-Decides}
 use Rattle.cbdc_model.specs.Clean.{Clean, IsMember, IsProperCompact}
 use Rattle.cbdc_model.specs.Coins.{Output, Coin, FullTx, coin_hash, tx_coins, genesis_tx, compact, genesis_hashes}
 use Rattle.cbdc_model.specs.Headline.{all_spent, NoneTwice, NoIdTwice, Headline}
-use Rattle.cbdc_model.specs.History.{first_rows, geneses, starts, committed, won_of, all_inputs, all_outputs, history_of, minted, AreHandedIn}
+use Rattle.cbdc_model.specs.History.{first_rows, geneses, starts, committed, won_of, all_inputs, all_outputs, history_of, Minted, minted, AreHandedIn}
 use Rattle.cbdc_model.specs.Ranges.{shard_of, shard_node, journal_at, on_shard}
-use Rattle.cbdc_model.specs.Records.{Digest, same_digest, Shape, Compact, Row, journal, Genesis, Start}
+use Rattle.cbdc_model.specs.Records.{Digest, same_digest, Shape, Compact, Record, Row, journal, Genesis, Start}
 use Rattle.cbdc_model.specs.Slots.{slot, Idle}
 use Rattle.cbdc_model.specs.Status.{status, Unspent}
-use Rattle.cbdc_model.specs.World.{World, Event, Run, no_node, node_at, journals, init, first_node, first_record, IsRecovered}
+use Rattle.cbdc_model.specs.World.{AreIdle, World, Event, Run, no_node, node_at, journals, init, first_node, first_record, IsRecovered}
 use Rattle.std.proofs.Math.Nat.{div-lt_iff_lt-mul}
-use Rattle.ledger_laws.proofs.Ledger.{SteadyWorld}
+use Rattle.ledger_laws.proofs.Ledger.{SteadyWorld, SteadyJournals, steady}
 use Rattle.ledger_laws.proofs.FirstWorld.{init_kept, to_steady}
 use Rattle.ledger_laws.proofs.Next.{Each, Steady}
 use Rattle.ledger_laws.specs.Sets.{IsPlaced, Folds}
-use Rattle.ledger_laws.specs.Laws.{HeadlineLaw, RecoveredLaw}
+use Rattle.ledger_laws.specs.Laws.{HeadlineLaw, RecoveredLaw, IdleLaw}
 use Rattle.ledger_laws.proofs.Counts.{count, count-append, same_digest_is, count_first, count-cons_same}
 use Rattle.ledger_laws.proofs.View.{Inv}
 use Rattle.ledger_laws.proofs.Rows.{view}
@@ -192,15 +192,15 @@ module _ (mint : List Output) (txs : List FullTx) (clean : Clean mint txs) where
       → Each (IsProperCompact txs) (committed past) → NoIdTwice past
   no_id_twice K past inv each = distinct_ids (committed past) each (λ x. omega (arith, inv.spent_le x, inv.arrived_le x, inv.made_once x))
 
-pub kept_headline : (K : Shape) (mint : List Output) (txs : List FullTx) (w : World) → 0 < K.shards → 0 < K.lanes → Clean mint txs
-    → SteadyWorld K (minted mint) (IsProperCompact txs) w → IsRecovered K w → Headline K mint txs (journals w)
-kept_headline K mint txs w shards lanes clean k recovered =
+pub kept_headline : (K : Shape) (mint : List Output) (txs : List FullTx) (J : ℕ → List Record) → 0 < K.shards → 0 < K.lanes → Clean mint txs
+    → SteadyJournals K (minted mint) (IsProperCompact txs) J → AreIdle K J → Headline K mint txs J
+kept_headline K mint txs J shards lanes clean k all_idle =
     let a : Apart (λ x. count x (genesis_hashes mint)) (IsProperCompact txs) = apart mint txs clean in
     let inv : Inv (λ x. count x (genesis_hashes mint)) (IsProperCompact txs) (view K (history_of K mint k.later))
     = kept_inv K (minted mint) (IsProperCompact txs) shards a k.later k.kept in
     let f : Folds K mint txs (history_of K mint k.later) = folds_steady K mint txs clean shards k.later k.kept inv in
     let idle : (lane : ℕ) → lane / K.lanes < K.coordinators → (slot (journal (lane / K.lanes) (history_of K mint k.later)) lane).phase ≡ Idle
-    = λ lane lt. ap (λ J. (slot J lane).phase) (k.history (lane / K.lanes)) ∙ recovered.idle lane (below lane K.lanes K.coordinators lanes lt) in
+    = λ lane lt. ap (λ J. (slot J lane).phase) (k.history (lane / K.lanes)) ∙ all_idle lane (below lane K.lanes K.coordinators lanes lt) in
     let each : Each (IsProperCompact txs) (committed (history_of K mint k.later)) = kept_each K (IsProperCompact txs) (minted mint) shards a k.later k.kept in
     let forms : FullForms mint txs clean (committed (history_of K mint k.later)) = full_forms mint txs clean (committed (history_of K mint k.later)) each in
     let same : forms.full ≡ f.txs = one_list txs (committed (history_of K mint k.later)) forms.full f.txs forms.is f.committed in
@@ -218,7 +218,7 @@ kept_headline K mint txs w shards lanes clean k recovered =
       );
       none_twice = subst (λ ts. NoneTwice ts) same (none_twice mint txs clean K (history_of K mint k.later) inv each forms);
       no_id_twice = no_id_twice mint txs clean K (history_of K mint k.later) inv each;
-      alike = alike K (minted mint) (IsProperCompact txs) shards w k idle;
+      alike = alike K (minted mint) (IsProperCompact txs) shards J k idle;
     }
   where
     below : (lane lanes coordinators : ℕ) → 0 < lanes → lane / lanes < coordinators → lane < coordinators * lanes
@@ -235,11 +235,19 @@ kept_headline K mint txs w shards lanes clean k recovered =
         absurd (none_coming K (minted mint) (IsProperCompact txs) shards later kept idle x c.0
         (in_count x (all_outputs (won_of K (history_of K mint later) c.0)) (in_contains (all_outputs (won_of K (history_of K mint later) c.0)) x c.1)) c.2)
 
+of_world : (K : Shape) (minting : Minted) (P : Compact → Type 0) (w : World) → SteadyWorld K minting P w → SteadyJournals K minting P (journals w)
+of_world K minting P w k = record { later = k.later; kept = k.kept; ordered = k.ordered; history = k.history }
+
+pub idle_law : IdleLaw
+idle_law K mint txs J shards lanes clean kept idle =
+    kept_headline K mint txs J shards lanes clean
+    (record { later = kept.later; kept = steady K (minted mint) (IsProperCompact txs) kept.later kept.kept; ordered = kept.history.ordered; history = kept.history.journals_are }) idle
+
 pub recovered_law : RecoveredLaw
 recovered_law K mint txs w shards lanes clean kept recovered =
-    kept_headline K mint txs w shards lanes clean (to_steady K mint txs w kept) recovered
+    kept_headline K mint txs (journals w) shards lanes clean (of_world K (minted mint) (IsProperCompact txs) w (to_steady K mint txs w kept)) recovered.idle
 
 pub headline_law : HeadlineLaw
 headline_law K mint txs events w shards lanes clean proper run recovered =
-    kept_headline K mint txs w shards lanes clean
-    (run_keeps K (minted mint) (IsProperCompact txs) shards (init K (minted mint)) w events (init_kept K (minted mint) (IsProperCompact txs)) proper run) recovered
+    kept_headline K mint txs (journals w) shards lanes clean (of_world K (minted mint) (IsProperCompact txs) w
+    (run_keeps K (minted mint) (IsProperCompact txs) shards (init K (minted mint)) w events (init_kept K (minted mint) (IsProperCompact txs)) proper run)) recovered.idle

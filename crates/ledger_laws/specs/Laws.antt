@@ -1,12 +1,19 @@
 -- The laws, each as one statement.
-use Rattle.std.specs.Prelude.{◌≡◌, ℕ, ◌+◌, ◌<◌, List, length}
-use Rattle.cbdc_model.specs.Records.{Shape, Row}
-use Rattle.cbdc_model.specs.Coins.{Output, FullTx}
+use Rattle.std.specs.Prelude.{◌≡◌, ◌⊎◌, ◌↔◌, ℕ, ◌<◌, true, List, ◌++◌, Contains, is_some}
+use Rattle.cbdc_model.specs.Records.{Shape, Digest, Compact, Batch, Entry, Record, Row, journal, record_of}
+use Rattle.cbdc_model.specs.Status.{status, Absent}
+use Rattle.cbdc_model.specs.Ranges.{journal_at}
+use Rattle.cbdc_types.specs.declared.calls.Refused.{Refused}
+use Rattle.cbdc_types.specs.declared.calls.Refused.TheVariants.{Stale}
+use Rattle.cbdc_model.specs.Next.{Plan, Kept, Append, Refuse, next_lock, next_finish, next_forget}
+use Rattle.cbdc_model.specs.Coins.{Output, FullTx, genesis_hashes}
 use Rattle.cbdc_model.specs.Clean.{Clean, IsProperCompact}
-use Rattle.cbdc_model.specs.History.{minted, history_of, IsKept}
-use Rattle.cbdc_model.specs.World.{World, Event, EventPasses, EventsPass, Step, Run, init, journals, KeptWorld, IsRecovered}
+use Rattle.cbdc_model.specs.History.{Minted, minted, history_of, IsKept, won_of, all_outputs}
+use Rattle.cbdc_model.specs.World.{World, Event, EventPasses, EventsPass, Step, Run, init, journals, KeptJournals, KeptWorld, AreIdle, IsRecovered, IsHistory, ShardCall, Lock_call, Finish_call, Forget_call, batch_of, IsConcerned, CauseStands}
 use Rattle.cbdc_model.specs.Headline.{Headline}
+use Rattle.cbdc_model.specs.Lanes.{KeptLists, AllPass, Wave}
 use Rattle.ledger_laws.specs.Sets.{Folds}
+use Rattle.ledger_laws.specs.Reach.{Reached}
 
 -- the committed transactions of every kept history fold, where hashes don't clash
 abbrev pub FoldLaw : Type 0
@@ -23,6 +30,11 @@ abbrev pub StepLaw : Type 0
 StepLaw = (K : Shape) (mint : List Output) (submissions : List FullTx) (old new : World) (event : Event) → 0 < K.shards
     → KeptWorld K mint submissions old → EventPasses (IsProperCompact submissions) event → Step K (minted mint) old event new → KeptWorld K mint submissions new
 
+-- where journals are kept and every lane is idle, the sentence holds
+abbrev pub IdleLaw : Type 0
+IdleLaw = (K : Shape) (mint : List Output) (submissions : List FullTx) (J : ℕ → List Record) → 0 < K.shards → 0 < K.lanes → Clean mint submissions
+    → KeptJournals K mint submissions J → AreIdle K J → Headline K mint submissions J
+
 -- in a kept world, once it is recovered, the sentence holds
 abbrev pub RecoveredLaw : Type 0
 RecoveredLaw = (K : Shape) (mint : List Output) (submissions : List FullTx) (w : World) → 0 < K.shards → 0 < K.lanes → Clean mint submissions
@@ -32,3 +44,51 @@ RecoveredLaw = (K : Shape) (mint : List Output) (submissions : List FullTx) (w :
 abbrev pub HeadlineLaw : Type 0
 HeadlineLaw = (K : Shape) (mint : List Output) (submissions : List FullTx) (events : List Event) (w : World) → 0 < K.shards → 0 < K.lanes → Clean mint submissions
     → EventsPass (IsProperCompact submissions) events → Run K (minted mint) (init K (minted mint)) events w → IsRecovered K w → Headline K mint submissions (journals w)
+
+-- every kept history is that of a run, its records begun and ended in its order
+abbrev pub ReachLaw : Type 0
+ReachLaw = (K : Shape) (mint : List Output) (submissions : List FullTx) (later : List Row) → 0 < K.shards → IsKept K mint submissions later → Reached K (minted mint) later
+
+-- journals have one history
+abbrev pub OneHistoryLaw : Type 0
+OneHistoryLaw = (K : Shape) (m : Minted) (J : ℕ → List Record) (one other : List Row) → IsHistory K m J one → IsHistory K m J other → one ≡ other
+
+-- an older part of a kept history is kept
+abbrev pub CutLaw : Type 0
+CutLaw = (K : Shape) (mint : List Output) (submissions : List FullTx) (newer older : List Row) → IsKept K mint submissions (newer ++ older) → IsKept K mint submissions older
+
+-- a hash that is Unspent or Locked was minted, or its maker's Commit and Finish at its shard stand
+abbrev pub MakerLaw : Type 0
+MakerLaw = (K : Shape) (mint : List Output) (submissions : List FullTx) (later : List Row) (x : Digest) → 0 < K.shards → Clean mint submissions
+    → IsKept K mint submissions later → (status (journal_at K (history_of K mint later) x) x ≡ Absent → ⊥)
+    → Contains (genesis_hashes mint) x
+    ⊎ ((b : Batch) × Contains (all_outputs (won_of K (history_of K mint later) b)) x × (is_some (record_of 3 (journal_at K (history_of K mint later) x) b) ≡ true))
+
+-- a new record, what was answered before, or that the batch is stale
+abbrev pub IsGranted : {A : Type 0} → Plan A → Type 0
+IsGranted (Kept answer) = Unit {0}
+IsGranted (Append answer) = Unit {0}
+IsGranted (Refuse (Stale kept)) = Unit {0}
+IsGranted (Refuse other) = ⊥
+
+abbrev pub IsCallGranted : List Record → ShardCall → Type 0
+IsCallGranted J (Lock_call c) = IsGranted (next_lock J c.batch c.part c.cause)
+IsCallGranted J (Finish_call c) = IsGranted (next_finish J c.batch c.decisions c.cause)
+IsCallGranted J (Forget_call c) = IsGranted (next_forget J c.batch c.cause)
+
+-- a call at a shard of its batch, whose cause stands, however old, is granted
+abbrev pub AnswerLaw : Type 0
+AnswerLaw = (K : Shape) (mint : List Output) (submissions : List FullTx) (later : List Row) (node : ℕ) (call : ShardCall) → 0 < K.shards
+    → IsKept K mint submissions later → IsConcerned K (λ n. journal n (history_of K mint later)) node (batch_of call)
+    → CauseStands K (λ n. journal n (history_of K mint later)) node call → IsCallGranted (journal node (history_of K mint later)) call
+
+-- journals are kept exactly where each of their records is after those of its journal and was caused by beginnings of the journals
+abbrev pub LocalLaw : Type 0
+LocalLaw = (K : Shape) (mint : List Output) (submissions : List FullTx) (J : ℕ → List Record) → 0 < K.shards
+    → KeptJournals K mint submissions J ↔ KeptLists K (minted mint) (IsProperCompact submissions) J
+
+-- what the lanes of a wave made, each as it saw it, keeps the journals
+abbrev pub WaveLaw : Type 0
+WaveLaw = (K : Shape) (mint : List Output) (submissions : List FullTx) (pieces : ℕ → List (List Compact)) (E X : ℕ → List Record) → 0 < K.shards
+    → ((lane : ℕ) → AllPass (IsProperCompact submissions) (pieces lane)) → KeptJournals K mint submissions E → Wave K (minted mint) pieces E X
+    → KeptJournals K mint submissions X

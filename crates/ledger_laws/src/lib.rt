@@ -1,7 +1,7 @@
 //! The laws of the ledger: functions with an empty body, whose contracts are the theorems. Nothing of them runs.
 #![tactic(auto)]
 
-ghost use Rattle.ledger_laws.specs.Laws.{FoldLaw, HeadlineLaw, KeptLaw, RecoveredLaw, StepLaw};
+ghost use Rattle.ledger_laws.specs.Laws.{AnswerLaw, CutLaw, FoldLaw, HeadlineLaw, IdleLaw, KeptLaw, LocalLaw, MakerLaw, OneHistoryLaw, ReachLaw, RecoveredLaw, StepLaw, WaveLaw};
 
 /// Where no two coins or transactions share a hash, the committed transactions of every kept
 /// history can be spent one after another from the mint, each finding all its inputs. The book
@@ -41,5 +41,61 @@ pub fn headline_law()
 /// The same sentence of any world that is kept and recovered, however it came about.
 pub fn recovered_law()
     ensures { RecoveredLaw }
+{
+}
+
+/// A hash that is Unspent or Locked at its shard was minted, or the transaction that makes it is
+/// committed, and the Finish that made it at this shard stands.
+pub fn maker_law()
+    ensures { MakerLaw }
+{
+}
+
+/// A call at a shard that its batch concerns, whose cause stands, is answered with a new record,
+/// with what was answered before, or as stale, however old the call is; never with another refusal.
+/// It asks nothing of hashes.
+pub fn answer_law()
+    ensures { AnswerLaw }
+{
+}
+
+/// Every kept history is that of a run from the first world: its records begun and ended in its
+/// order. So what is kept is no more than what can be reached.
+pub fn reach_law()
+    ensures { ReachLaw }
+{
+}
+
+/// Journals have one history: two lists of rows by stamp and node with the same journals are the same.
+pub fn one_history_law()
+    ensures { OneHistoryLaw }
+{
+}
+
+/// An older part of a kept history is kept.
+pub fn cut_law()
+    ensures { CutLaw }
+{
+}
+
+/// The same sentence of journals that are kept, where every lane is idle at its coordinator.
+pub fn idle_law()
+    ensures { IdleLaw }
+{
+}
+
+/// Journals are kept exactly where each record behind the first ones follows its journal and is
+/// caused by records that stood in beginnings of the journals: one fact for each record, which
+/// stays when journals grow. In particular such journals have a history by stamp and node.
+pub fn local_law()
+    ensures { LocalLaw }
+{
+}
+
+/// What the lanes of a wave made keeps the journals, where each lane shows only that its own records
+/// are caused by what it had seen, and each node that its records follow its journal. Nothing is
+/// asked of how the lanes came between each other.
+pub fn wave_law()
+    ensures { WaveLaw }
 {
 }

@@ -1,0 +1,67 @@
+-- Laws of one history, as the functions state them.
+use Rattle.std.proofs.Common.{◌≡◌, inl, inr, ℕ, true, false, ◌==◌, if◌then◌else◌, List, [], ◌∷◌, ◌++◌, refl, sym, ap, ◌∙◌, subst}
+use Rattle.std.proofs.lemmas.List.{append_cancel_right}
+use Rattle.cbdc_model.specs.Records.{Shape, Record, Row, journal, lock_of}
+use Rattle.cbdc_model.specs.Replies.{entries}
+use Rattle.cbdc_model.specs.Ranges.{shard_node}
+use Rattle.cbdc_model.specs.Outcomes.{decisions}
+use Rattle.ledger_laws.proofs.Answered.{LockAnswered, FinishAnswered, ForgetAnswered}
+use Rattle.cbdc_model.specs.Coins.{genesis_hashes}
+use Rattle.cbdc_model.specs.Clean.{IsProperCompact}
+use Rattle.cbdc_model.specs.World.{Lock_call, Finish_call, Forget_call}
+use Rattle.cbdc_model.specs.History.{minted, first_rows, history_of, won_of, all_outputs}
+use Rattle.ledger_laws.specs.Laws.{ReachLaw, OneHistoryLaw, CutLaw, MakerLaw, AnswerLaw}
+use Rattle.ledger_laws.proofs.Ledger.{steady}
+use Rattle.ledger_laws.proofs.Reaching.{reach}
+use Rattle.ledger_laws.proofs.OneHistory.{one_history}
+use Rattle.ledger_laws.proofs.Members.{apart, contains_in, count_in}
+use Rattle.ledger_laws.proofs.Makers.{was_made}
+use Rattle.ledger_laws.proofs.Repeats.{lock_answered, finish_answered, forget_answered}
+use Rattle.ledger_laws.proofs.Granted.{lock_granted, finish_granted, forget_granted}
+
+pub reach_law : ReachLaw
+reach_law K mint txs later shards kept = reach K (minted mint) (IsProperCompact txs) shards later (steady K (minted mint) (IsProperCompact txs) later kept)
+
+pub journal-append : (n : ℕ) (xs ys : List Row) → journal n (xs ++ ys) ≡ journal n xs ++ journal n ys
+journal-append n [] ys = refl
+journal-append n (row ∷ xs) ys =
+    let ih : journal n (xs ++ ys) ≡ journal n xs ++ journal n ys = journal-append n xs ys in
+    elim (row.node == n) as (λ c. (if c then row.what ∷ journal n (xs ++ ys) else journal n (xs ++ ys)) ≡ (if c then row.what ∷ journal n xs else journal n xs) ++ journal n ys) [
+      | true ↦ ap (λ J. row.what ∷ J) ih
+      | false ↦ ih
+    ]
+
+pub one_history_law : OneHistoryLaw
+one_history_law K m J one other a b =
+    one_history one other a.ordered b.ordered (λ n. append_cancel_right (journal n one) (journal n other) (journal n (first_rows K m))
+    (sym (journal-append n one (first_rows K m)) ∙ a.journals_are n ∙ sym (b.journals_are n) ∙ journal-append n other (first_rows K m)))
+
+pub cut_law : CutLaw
+cut_law K mint txs [] older kept = kept
+cut_law K mint txs (row ∷ newer) older kept = cut_law K mint txs newer older kept.3
+
+pub maker_law : MakerLaw
+maker_law K mint txs later x shards clean kept there =
+    elim (was_made K (minted mint) (IsProperCompact txs) shards (apart mint txs clean) later (steady K (minted mint) (IsProperCompact txs) later kept) x there) [
+      | inl n ↦ inl (contains_in (genesis_hashes mint) x (count_in x (genesis_hashes mint) n))
+      | inr m ↦ inr (m.0, contains_in (all_outputs (won_of K (history_of K mint later) m.0)) x (count_in x (all_outputs (won_of K (history_of K mint later) m.0)) m.1), m.2)
+    ]
+
+pub answer_law : AnswerLaw
+answer_law K mint txs later node (Lock_call c) shards kept at stands =
+    let k = steady K (minted mint) (IsProperCompact txs) later kept in
+    lock_granted (journal node (history_of K mint later)) c.batch c.part c.cause (
+      subst (λ n. LockAnswered (journal n (history_of K mint later)) c.batch c.part c.cause) (sym at.1)
+      (subst (λ p. LockAnswered (journal (shard_node K at.0) (history_of K mint later)) c.batch p c.cause) (sym (stands.2 at.0 at.1))
+      (lock_answered K (minted mint) (IsProperCompact txs) shards later k c.batch c.cause stands.0 stands.1 at.0 at.2.0)))
+answer_law K mint txs later node (Finish_call c) shards kept at stands =
+    let k = steady K (minted mint) (IsProperCompact txs) later kept in
+    finish_granted (journal node (history_of K mint later)) c.batch c.decisions c.cause (
+      subst (λ ds. FinishAnswered (journal node (history_of K mint later)) c.batch ds c.cause) (sym stands.2)
+      (subst (λ n. FinishAnswered (journal n (history_of K mint later)) c.batch (decisions stands.0 (entries (lock_of (journal n (history_of K mint later)) c.batch))) c.cause) (sym at.1)
+      (finish_answered K (minted mint) (IsProperCompact txs) shards later k c.batch c.cause stands.0 stands.1 at.0 at.2)))
+answer_law K mint txs later node (Forget_call c) shards kept at stands =
+    let k = steady K (minted mint) (IsProperCompact txs) later kept in
+    forget_granted (journal node (history_of K mint later)) c.batch c.cause (
+      subst (λ n. ForgetAnswered (journal n (history_of K mint later)) c.batch c.cause) (sym at.1)
+      (forget_answered K (minted mint) (IsProperCompact txs) shards later k c.batch c.cause stands at.0 at.2))

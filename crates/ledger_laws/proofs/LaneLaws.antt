@@ -1,0 +1,37 @@
+-- Journals as one fact for each record, and waves, as the functions state them.
+use Rattle.std.proofs.Common.{◌≡◌, ℕ, ◌<◌, List, sym, subst}
+use Rattle.cbdc_model.specs.Records.{Shape, Record}
+use Rattle.cbdc_model.specs.Coins.{Output, FullTx}
+use Rattle.cbdc_model.specs.Clean.{IsProperCompact}
+use Rattle.cbdc_model.specs.History.{minted}
+use Rattle.cbdc_model.specs.World.{KeptJournals}
+use Rattle.cbdc_model.specs.Lanes.{KeptLists}
+use Rattle.ledger_laws.specs.Laws.{LocalLaw, WaveLaw}
+use Rattle.ledger_laws.proofs.Ledger.{SteadyJournals, SteadyLists, steady, is_steady, steady_lists, kept_lists}
+use Rattle.ledger_laws.proofs.Together.{lists_of, steady_journals, wave_keeps}
+
+to_lists : (K : Shape) (mint : List Output) (txs : List FullTx) (J : ℕ → List Record) → 0 < K.shards → KeptJournals K mint txs J
+    → SteadyLists K (minted mint) (IsProperCompact txs) J
+to_lists K mint txs J shards kept =
+    subst (λ X. SteadyLists K (minted mint) (IsProperCompact txs) X) (λ i n. kept.history.journals_are n i)
+    (lists_of K (minted mint) (IsProperCompact txs) shards kept.later (steady K (minted mint) (IsProperCompact txs) kept.later kept.kept))
+
+to_journals : (K : Shape) (mint : List Output) (txs : List FullTx) (J : ℕ → List Record) → 0 < K.shards
+    → SteadyLists K (minted mint) (IsProperCompact txs) J → KeptJournals K mint txs J
+to_journals K mint txs J shards lists =
+    let s : SteadyJournals K (minted mint) (IsProperCompact txs) J = steady_journals K (minted mint) (IsProperCompact txs) shards J lists in
+    record {
+      later = s.later;
+      history = record { ordered = s.ordered; journals_are = s.history };
+      kept = is_steady K (minted mint) (IsProperCompact txs) s.later s.kept;
+    }
+
+pub local_law : LocalLaw
+local_law K mint txs J shards = (
+  λ kept. kept_lists K (minted mint) (IsProperCompact txs) J (to_lists K mint txs J shards kept),
+  λ lists. to_journals K mint txs J shards (steady_lists K (minted mint) (IsProperCompact txs) J lists),
+)
+
+pub wave_law : WaveLaw
+wave_law K mint txs pieces E X shards pass kept wave =
+    to_journals K mint txs X shards (wave_keeps K (minted mint) (IsProperCompact txs) shards pieces pass E X (to_lists K mint txs E shards kept) wave)

@@ -1,0 +1,4 @@
+use Rattle.ledger_laws.proofs.idle_law.Goals as goal
+use Rattle.ledger_laws.proofs.Recovery as laws
+pub returns : goal.returns
+returns c = laws.idle_law
