@@ -1,5 +1,0 @@
-//! Trials of devices in memory and of journals over them.
-#![tactic(auto)]
-
-#[cfg(test)]
-mod tests;
