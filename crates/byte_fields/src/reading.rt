@@ -50,6 +50,14 @@ pub fn number(bytes: &[u8]) -> Result<(u64, &[u8]), ReadError>
     Ok((number_in(field), rest))
 }
 
+/// A hash.
+pub fn hash(bytes: &[u8]) -> Result<(Hash, &[u8]), ReadError>
+    ensures { Gives (λ x. (x.0, x.1.now)) result (hash_at bytes.now) }
+{
+    let (field, rest) = split(bytes, 32)?;
+    Ok((hash_in(field), rest))
+}
+
 /// What can be read one after another.
 pub trait Item: Sized + Drop {
     ghost item_at: { List ℕ → Result (Self × List ℕ) TheFault };
@@ -63,8 +71,7 @@ impl Item for Hash {
     ghost item_at = { hash_at };
 
     fn read(_alloc: Global, bytes: &[u8]) -> Result<(Hash, &[u8]), ReadError> {
-        let (field, rest) = split(bytes, 32)?;
-        Ok((hash_in(field), rest))
+        hash(bytes)
     }
 }
 

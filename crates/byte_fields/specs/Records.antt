@@ -1,0 +1,132 @@
+-- The parts of records: how they are spelled and how they are read.
+use Rattle.std.specs.Prelude.{ℕ, ◌^◌, Bool, true, false, List, [], ◌∷◌, ◌++◌, slice_index, Result, Ok, Err, nat_lt, nat_eq, if◌then◌else◌}
+use Rattle.cbdc_types.specs.declared.ids.BatchId.{BatchId}
+use Rattle.cbdc_types.specs.declared.tx.CompactTx.{CompactTx}
+use Rattle.cbdc_types.specs.declared.batch.Entry.{Entry}
+use Rattle.cbdc_types.specs.declared.batch.Answered.{Answered}
+use Rattle.cbdc_types.specs.declared.batch.Reply.{Reply}
+use Rattle.cbdc_types.specs.declared.batch.Reply.TheVariants as replies
+use Rattle.cbdc_types.specs.declared.batch.Outcome.{Outcome}
+use Rattle.cbdc_types.specs.declared.batch.Outcome.TheVariants as outcomes
+use Rattle.cbdc_types.specs.declared.answer.InputKind.TheVariants.{Form, Large}
+use Rattle.byte_fields.specs.declared.fault.Fault.{Fault}
+use Rattle.byte_fields.specs.Faults.{◌>>=◌, fault}
+use Rattle.byte_fields.specs.Reading.{field_at, number_at, hash_at, list_at}
+use Rattle.byte_fields.specs.Spelling.{number, counted}
+
+abbrev pub hashes : List (List ℕ) → List ℕ
+hashes hs = counted (λ h. h) hs
+
+abbrev pub batch : BatchId → List ℕ
+batch b = number b.lane ++ number b.number
+
+abbrev pub compact : CompactTx → List ℕ
+compact t = t.id ++ hashes t.inputs ++ hashes t.outputs
+
+abbrev pub entry : Entry → List ℕ
+entry e = number e.place ++ e.id ++ hashes e.inputs ++ hashes e.outputs
+
+abbrev pub reply : Reply → List ℕ
+reply replies.Held = 0 ∷ []
+reply (replies.Missing x) = 1 ∷ [] ++ x
+reply (replies.Locked x by) = 2 ∷ [] ++ x ++ batch by
+
+abbrev pub answered : Answered → List ℕ
+answered a = entry a.entry ++ reply a.reply
+
+abbrev pub outcome : Outcome → List ℕ
+outcome outcomes.Held = 0 ∷ []
+outcome (outcomes.Missing shard x) = 1 ∷ [] ++ number shard ++ x
+outcome (outcomes.Locked shard x by) = 2 ∷ [] ++ number shard ++ x ++ batch by
+
+abbrev pub decision : Bool → List ℕ
+decision true = 1 ∷ []
+decision false = 0 ∷ []
+
+-- one byte
+abbrev pub byte_of : List ℕ → ℕ
+byte_of bytes = slice_index bytes 0
+
+abbrev pub byte_at : List ℕ → Result (ℕ × List ℕ) Fault
+byte_at bytes = field_at 1 byte_of bytes
+
+-- a number below 2^32
+unfoldable pub small_at : List ℕ → Result (ℕ × List ℕ) Fault
+small_at bytes = do
+  n ← number_at bytes
+  if nat_lt n.0 (2 ^ 32) then Ok (n.0, n.1) else Err (fault Large bytes)
+
+unfoldable pub batch_at : List ℕ → Result (BatchId × List ℕ) Fault
+batch_at bytes = do
+  lane ← small_at bytes
+  n ← number_at lane.1
+  Ok (record { lane = lane.0; number = n.0 }, n.1)
+
+unfoldable pub compact_at : List ℕ → Result (CompactTx × List ℕ) Fault
+compact_at bytes = do
+  id ← hash_at bytes
+  ins ← list_at 255 hash_at id.1
+  outs ← list_at 255 hash_at ins.1
+  Ok (record { id = id.0; inputs = ins.0; outputs = outs.0 }, outs.1)
+
+unfoldable pub entry_at : List ℕ → Result (Entry × List ℕ) Fault
+entry_at bytes = do
+  place ← small_at bytes
+  id ← hash_at place.1
+  ins ← list_at 255 hash_at id.1
+  outs ← list_at 255 hash_at ins.1
+  Ok (record { place = place.0; id = id.0; inputs = ins.0; outputs = outs.0 }, outs.1)
+
+unfoldable pub missing_reply_at : List ℕ → Result (Reply × List ℕ) Fault
+missing_reply_at bytes = do
+  x ← hash_at bytes
+  Ok (replies.Missing x.0, x.1)
+
+unfoldable pub locked_reply_at : List ℕ → Result (Reply × List ℕ) Fault
+locked_reply_at bytes = do
+  x ← hash_at bytes
+  by ← batch_at x.1
+  Ok (replies.Locked x.0 by.0, by.1)
+
+-- the first byte tells which reply it is
+unfoldable pub reply_at : List ℕ → Result (Reply × List ℕ) Fault
+reply_at bytes = do
+  tag ← byte_at bytes
+  if nat_eq tag.0 0 then Ok (replies.Held, tag.1)
+      else if nat_eq tag.0 1 then missing_reply_at tag.1
+      else if nat_eq tag.0 2 then locked_reply_at tag.1
+      else Err (fault Form bytes)
+
+unfoldable pub answered_at : List ℕ → Result (Answered × List ℕ) Fault
+answered_at bytes = do
+  e ← entry_at bytes
+  r ← reply_at e.1
+  Ok (record { entry = e.0; reply = r.0 }, r.1)
+
+unfoldable pub missing_outcome_at : List ℕ → Result (Outcome × List ℕ) Fault
+missing_outcome_at bytes = do
+  shard ← small_at bytes
+  x ← hash_at shard.1
+  Ok (outcomes.Missing shard.0 x.0, x.1)
+
+unfoldable pub locked_outcome_at : List ℕ → Result (Outcome × List ℕ) Fault
+locked_outcome_at bytes = do
+  shard ← small_at bytes
+  x ← hash_at shard.1
+  by ← batch_at x.1
+  Ok (outcomes.Locked shard.0 x.0 by.0, by.1)
+
+unfoldable pub outcome_at : List ℕ → Result (Outcome × List ℕ) Fault
+outcome_at bytes = do
+  tag ← byte_at bytes
+  if nat_eq tag.0 0 then Ok (outcomes.Held, tag.1)
+      else if nat_eq tag.0 1 then missing_outcome_at tag.1
+      else if nat_eq tag.0 2 then locked_outcome_at tag.1
+      else Err (fault Form bytes)
+
+unfoldable pub decision_at : List ℕ → Result (Bool × List ℕ) Fault
+decision_at bytes = do
+  tag ← byte_at bytes
+  if nat_eq tag.0 0 then Ok (false, tag.1)
+      else if nat_eq tag.0 1 then Ok (true, tag.1)
+      else Err (fault Form bytes)
