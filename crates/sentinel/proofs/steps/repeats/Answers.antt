@@ -1,0 +1,8 @@
+use Rattle.std.proofs.Common.{◌≡◌, ℕ, List, subst}
+use Rattle.cbdc_types.specs.declared.tx.Input.{Input}
+use Rattle.sentinel.specs.FirstRefusal.{Repeats, HasAt}
+use Rattle.sentinel.proofs.Ranks.{no_repeat}
+use Rattle.sentinel.proofs.steps.repeats.Goals as goal
+
+pub returns-in-None : goal.returns-in-None
+returns-in-None c = λ v. no_repeat c.args.tx.now v (subst (λ (xs : List Input). (i : ℕ) → ¬ (Repeats xs i)) c.as_slice.ensures c.in-None.ensures)

@@ -1,0 +1,40 @@
+//! What can be said of a transaction without the ledger: its form, its sums and the verdicts on its witnesses.
+//!
+//! Nothing here takes memory. A repeated outpoint is sought by comparing each input with those before it,
+//! at most 255 * 254 / 2 comparisons.
+#![tactic(auto)]
+
+mod places;
+mod steps;
+
+ghost use Rattle.std.specs.Prelude.{MatchResult};
+ghost use Rattle.sentinel.specs.FirstRefusal.{IsFirstRefusal, IsSound};
+
+use cbdc_types::{FullTx, Hash, Refusal};
+use steps::{
+    balances, fits_inputs, fits_outputs, has_bad, has_inputs, has_outputs, has_unverified,
+    has_witnesses, has_zero_input, has_zero_output, repeats,
+};
+use verifier_port::Verifier;
+
+/// Checks a transaction with this id. The refusal is the first reason that applies: no inputs, no outputs,
+/// another number of witnesses than of inputs, a repeated outpoint, an input of value 0, an output of value
+/// 0, a sum of the inputs or of the outputs past 2^64 - 1, unlike sums, a bad witness, a witness of which
+/// nothing is known. A place is always the least.
+pub fn check<V: Verifier>(tx: &FullTx, id: &Hash, verifier: &V) -> Result<(), Refusal>
+    ensures { MatchResult result
+        (λ _. IsSound tx.now (V.verdict_of verifier.now id.now))
+        (λ r. IsFirstRefusal tx.now (V.verdict_of verifier.now id.now) r) }
+{
+    has_inputs(tx)?;
+    has_outputs(tx)?;
+    has_witnesses(tx)?;
+    repeats(tx)?;
+    has_zero_input(tx)?;
+    has_zero_output(tx)?;
+    fits_inputs(tx)?;
+    fits_outputs(tx)?;
+    balances(tx)?;
+    has_bad(tx, id, verifier)?;
+    has_unverified(tx, id, verifier)
+}
