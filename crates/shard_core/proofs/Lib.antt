@@ -1,5 +1,6 @@
 pub mod Forgets
 pub mod Finishes
 pub mod Locks
+pub mod Lanes
 pub mod Places
 pub mod Digests

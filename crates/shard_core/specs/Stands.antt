@@ -1,6 +1,6 @@
 -- The journal that a shard stands for.
 use Rattle.std.specs.Prelude.{◌≡◌, ℕ, List, Option, Some, slice_get}
-use Rattle.cbdc_model.specs.Records.{Record, last_stamp}
+use Rattle.cbdc_model.specs.Records.{Record, Entry, Reply, last_stamp}
 use Rattle.dtx_replies.specs.declared.slots.Slot.{Slot as LaneSlot}
 use Rattle.shard_core.specs.declared.core_state.ShardCore.{ShardCore}
 use Rattle.shard_core.specs.Slots.{SlotStands}
@@ -17,3 +17,7 @@ pub record IsSameState (old new : ShardCore) : Type 0 where
   pub locks : new.locks.held ≡ old.locks.held
   pub slots : new.slots ≡ old.slots
   pub last : new.last ≡ old.last
+
+-- the memory for the next Lock holds this part with these replies
+abbrev pub IsReady : ShardCore → List Entry → List Reply → Type 0
+IsReady core part rs = core.ready ≡ Some (record { part = part; replies = rs })

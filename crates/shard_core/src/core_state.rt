@@ -149,10 +149,11 @@ fn decided_in(entries: &[Entry], decisions: &[bool], id: &Hash) -> Option<Rememb
 
 impl ShardCore {
     ghost use Rattle.std.specs.Bool.{OnTrue};
-    ghost use Rattle.std.specs.Prelude.{List as Items};
-    ghost use Rattle.cbdc_model.specs.Records.{Record, last_stamp};
+    ghost use Rattle.std.specs.Prelude.{List as Items, ◌∷◌, Some};
+    ghost use Rattle.cbdc_model.specs.Records.{Record, Batch, Answered, last_stamp};
     ghost use Rattle.cbdc_model.specs.Next.{next_finish, next_forget, next_stamp};
-    ghost use Rattle.shard_core.specs.Stands.{Stands, IsSameState};
+    ghost use Rattle.shard_core.specs.Stands.{Stands, IsSameState, IsReady};
+    ghost use Rattle.cbdc_model.specs.Replies.{entries as entries_in, replies as replies_in};
     ghost use Rattle.shard_core.specs.Plans.{stamp_plan, IsLockPlan};
     ghost use Rattle.shard_core.specs.Admitted.{IsAdmitted, IsOfLane, IsLaterAt};
 
@@ -232,7 +233,8 @@ impl ShardCore {
         part: Part,
         replies: &[Reply],
     ) -> Result<(), AllocError>
-        ensures { IsSameState self.old self.new }
+        ensures same { IsSameState self.old self.new }
+        ensures ready { OnOk result (IsReady self.new part replies.now) }
     {
         let count = hash_count(part.as_slice());
         let kept = Vec::from_slice(self.alloc, replies)?;
@@ -405,6 +407,8 @@ impl ShardCore {
     /// Takes in a Lock that was appended. Takes no memory.
     pub fn apply_lock(&mut self, r: &Record)
         requires { IsAdmitted self.old r.now }
+        ensures stands { (J : Items Record) (stamp : ℕ) (b : Batch) (es : Items Answered) → r.now ≡ Record.Lock stamp b es → IsReady self.old (entries_in es) (replies_in es)
+            → Stands self.old J → Stands self.new (r.now ∷ J) }
         ensures header { self.new.header ≡ self.old.header }
     {
         let Record::Lock {
@@ -470,6 +474,7 @@ impl ShardCore {
     /// Takes in a Forget that was appended. Takes no memory.
     pub fn apply_forget(&mut self, r: &Record)
         requires { IsAdmitted self.old r.now }
+        ensures stands { (J : Items Record) (stamp : ℕ) (b : Batch) → r.now ≡ Record.Forget stamp b → Stands self.old J → Stands self.new (r.now ∷ J) }
         ensures header { self.new.header ≡ self.old.header }
     {
         let Record::Forget { stamp, batch } = r else {
