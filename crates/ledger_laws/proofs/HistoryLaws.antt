@@ -1,7 +1,7 @@
 -- Laws of one history, as the functions state them.
 use Rattle.std.proofs.Common.{◌≡◌, inl, inr, ℕ, true, false, ◌==◌, if◌then◌else◌, List, [], ◌∷◌, ◌++◌, refl, sym, ap, ◌∙◌, subst}
 use Rattle.std.proofs.lemmas.List.{append_cancel_right}
-use Rattle.cbdc_model.specs.Records.{Shape, Record, Row, journal, lock_of}
+use Rattle.cbdc_model.specs.Records.{Shape, Compact, Record, Row, journal, lock_of, Genesis, Lock, Finish, Forget, Start, Prepare, Commit, Discard, Done}
 use Rattle.cbdc_model.specs.Replies.{entries}
 use Rattle.cbdc_model.specs.Ranges.{shard_node}
 use Rattle.cbdc_model.specs.Outcomes.{decisions}
@@ -10,8 +10,10 @@ use Rattle.cbdc_model.specs.Coins.{genesis_hashes}
 use Rattle.cbdc_model.specs.Clean.{IsProperCompact}
 use Rattle.cbdc_model.specs.World.{Lock_call, Finish_call, Forget_call}
 use Rattle.cbdc_model.specs.History.{minted, first_rows, history_of, won_of, all_outputs}
-use Rattle.ledger_laws.specs.Laws.{ReachLaw, OneHistoryLaw, CutLaw, MakerLaw, AnswerLaw}
-use Rattle.ledger_laws.proofs.Ledger.{steady}
+use Rattle.ledger_laws.specs.Laws.{ReachLaw, MoreLaw, OneHistoryLaw, CutLaw, MakerLaw, AnswerLaw}
+use Rattle.ledger_laws.proofs.Ledger.{steady, proper_of, passes_of}
+use Rattle.ledger_laws.proofs.Next.{Each, AllProper}
+use Rattle.ledger_laws.proofs.Older.{made_earlier}
 use Rattle.ledger_laws.proofs.Reaching.{reach}
 use Rattle.ledger_laws.proofs.OneHistory.{one_history}
 use Rattle.ledger_laws.proofs.Members.{apart, contains_in, count_in}
@@ -42,10 +44,42 @@ cut_law K mint txs (row ∷ newer) older kept = cut_law K mint txs newer older k
 
 pub maker_law : MakerLaw
 maker_law K mint txs later x shards clean kept there =
-    elim (was_made K (minted mint) (IsProperCompact txs) shards (apart mint txs clean) later (steady K (minted mint) (IsProperCompact txs) later kept) x there) [
+    let k = steady K (minted mint) (IsProperCompact txs) later kept in
+    elim (was_made K (minted mint) (IsProperCompact txs) shards (apart mint txs clean) later k x there) [
       | inl n ↦ inl (contains_in (genesis_hashes mint) x (count_in x (genesis_hashes mint) n))
-      | inr m ↦ inr (m.0, contains_in (all_outputs (won_of K (history_of K mint later) m.0)) x (count_in x (all_outputs (won_of K (history_of K mint later) m.0)) m.1), m.2)
+      | inr m ↦ inr (m.0, record {
+        makes = contains_in (all_outputs (won_of K (history_of K mint later) m.0)) x (count_in x (all_outputs (won_of K (history_of K mint later) m.0)) m.1);
+        finished = m.2;
+        commit_older = λ c e. (made_earlier K (minted mint) (IsProperCompact txs) shards later k x m.0 c m.1 m.2 e).0;
+        finish_older = λ c e. (made_earlier K (minted mint) (IsProperCompact txs) shards later k x m.0 c m.1 m.2 e).1;
+      })
     ]
+
+-- more submissions
+each_more : (P Q : Compact → Type 0) → ((t : Compact) → P t → Q t) → (r : Record) → AllProper P r → AllProper Q r
+each_more P Q f (Prepare stamp b txs) h = all_more txs h
+  where
+    all_more : (ts : List Compact) → Each P ts → Each Q ts
+    all_more [] h = tt
+    all_more (t ∷ ts) h = (f t h.0, all_more ts h.1)
+each_more P Q f (Genesis header hs) h = tt
+each_more P Q f (Lock stamp b es) h = tt
+each_more P Q f (Finish stamp b ds) h = tt
+each_more P Q f (Forget stamp b) h = tt
+each_more P Q f (Start header) h = tt
+each_more P Q f (Commit stamp b os) h = tt
+each_more P Q f (Discard stamp b) h = tt
+each_more P Q f (Done stamp b) h = tt
+
+pub more_law : MoreLaw
+more_law K mint txs more [] sub kept = tt
+more_law K mint txs more (row ∷ later) sub kept = (
+  kept.0,
+  kept.1,
+  passes_of (IsProperCompact more) row.what
+      (each_more (IsProperCompact txs) (IsProperCompact more) (λ k p. (p.0, sub p.0 p.1, p.2, p.3)) row.what (proper_of (IsProperCompact txs) row.what kept.2)),
+  more_law K mint txs more later sub kept.3,
+)
 
 pub answer_law : AnswerLaw
 answer_law K mint txs later node (Lock_call c) shards kept at stands =

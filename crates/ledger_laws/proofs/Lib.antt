@@ -48,3 +48,4 @@ pub mod Merge
 pub mod Together
 pub mod Turns
 pub mod LaneLaws
+pub mod Older

@@ -80,7 +80,7 @@ module _ (K : Shape) (minting : Minted) (P : Compact → Type 0) (shards : 0 < K
   abbrev whole : List Row → List Row
   whole later = later ++ first_rows K minting
 
-  all_order : (later : List Row) → Steady K minting P later → (n : ℕ) → OrderOk (journal n (whole later))
+  pub all_order : (later : List Row) → Steady K minting P later → (n : ℕ) → OrderOk (journal n (whole later))
   all_order [] kept n = first_order (journal n (first_rows K minting)) (journal_first n (first_rows K minting) (all_first K minting P shards))
   all_order (row ∷ later) kept n = elim (at_node row.node n) [
     | away e ↦ subst (λ J. OrderOk J) (sym (head_away row (whole later) n e)) (all_order later kept.3 n)

@@ -1,17 +1,18 @@
 -- The laws, each as one statement.
-use Rattle.std.specs.Prelude.{◌≡◌, ◌⊎◌, ◌↔◌, ℕ, ◌<◌, true, List, ◌++◌, Contains, is_some}
-use Rattle.cbdc_model.specs.Records.{Shape, Digest, Compact, Batch, Entry, Record, Row, journal, record_of}
-use Rattle.cbdc_model.specs.Status.{status, Absent}
-use Rattle.cbdc_model.specs.Ranges.{journal_at}
+use Rattle.std.specs.Prelude.{◌≡◌, ◌⊎◌, ◌↔◌, ℕ, ◌<◌, ◌+◌, true, List, ◌++◌, length, Contains, Some, is_some}
+use Rattle.cbdc_model.specs.Records.{Shape, Digest, Compact, Batch, Entry, Record, Row, journal, record_of, stamp_in}
+use Rattle.cbdc_model.specs.Status.{status, Locked, Absent}
+use Rattle.cbdc_model.specs.Ranges.{journal_at, lane_journal}
 use Rattle.cbdc_types.specs.declared.calls.Refused.{Refused}
 use Rattle.cbdc_types.specs.declared.calls.Refused.TheVariants.{Stale}
 use Rattle.cbdc_model.specs.Next.{Plan, Kept, Append, Refuse, next_lock, next_finish, next_forget}
 use Rattle.cbdc_model.specs.Coins.{Output, FullTx, genesis_hashes}
 use Rattle.cbdc_model.specs.Clean.{Clean, IsProperCompact}
-use Rattle.cbdc_model.specs.History.{Minted, minted, history_of, IsKept, won_of, all_outputs}
-use Rattle.cbdc_model.specs.World.{World, Event, EventPasses, EventsPass, Step, Run, init, journals, KeptJournals, KeptWorld, AreIdle, IsRecovered, IsHistory, ShardCall, Lock_call, Finish_call, Forget_call, batch_of, IsConcerned, CauseStands}
+use Rattle.cbdc_model.specs.History.{Minted, minted, header_of, TxsPass, history_of, IsKept, won_of, all_outputs}
+use Rattle.cbdc_model.specs.World.{World, node_at, Event, EventPasses, EventsPass, Step, Run, init, journals, KeptJournals, KeptWorld, AreIdle, IsRecovered, IsHistory, ShardCall, Lock_call, Finish_call, Forget_call, batch_of, IsConcerned, CauseStands}
 use Rattle.cbdc_model.specs.Headline.{Headline}
-use Rattle.cbdc_model.specs.Lanes.{KeptLists, AllPass, Wave}
+use Rattle.cbdc_model.specs.After.{After}
+use Rattle.cbdc_model.specs.Lanes.{Seen, KeptLists, AllPass, Wave}
 use Rattle.ledger_laws.specs.Sets.{Folds}
 use Rattle.ledger_laws.specs.Reach.{Reached}
 
@@ -57,12 +58,18 @@ OneHistoryLaw = (K : Shape) (m : Minted) (J : ℕ → List Record) (one other : 
 abbrev pub CutLaw : Type 0
 CutLaw = (K : Shape) (mint : List Output) (submissions : List FullTx) (newer older : List Row) → IsKept K mint submissions (newer ++ older) → IsKept K mint submissions older
 
--- a hash that is Unspent or Locked was minted, or its maker's Commit and Finish at its shard stand
+-- the batch's transactions make the hash, and its Commit and its Finish at the hash's shard stand, older than any Lock that holds the hash
+pub record IsMaker (K : Shape) (past : List Row) (x : Digest) (b : Batch) : Type 0 where
+  pub makes : Contains (all_outputs (won_of K past b)) x
+  pub finished : is_some (record_of 3 (journal_at K past x) b) ≡ true
+  pub commit_older : (c : Batch) → status (journal_at K past x) x ≡ Locked c → stamp_in (record_of 7 (lane_journal K past b) b) < stamp_in (record_of 2 (journal_at K past x) c)
+  pub finish_older : (c : Batch) → status (journal_at K past x) x ≡ Locked c → stamp_in (record_of 3 (journal_at K past x) b) < stamp_in (record_of 2 (journal_at K past x) c)
+
+-- a hash that is Unspent or Locked was minted or has a maker
 abbrev pub MakerLaw : Type 0
 MakerLaw = (K : Shape) (mint : List Output) (submissions : List FullTx) (later : List Row) (x : Digest) → 0 < K.shards → Clean mint submissions
     → IsKept K mint submissions later → (status (journal_at K (history_of K mint later) x) x ≡ Absent → ⊥)
-    → Contains (genesis_hashes mint) x
-    ⊎ ((b : Batch) × Contains (all_outputs (won_of K (history_of K mint later) b)) x × (is_some (record_of 3 (journal_at K (history_of K mint later) x) b) ≡ true))
+    → Contains (genesis_hashes mint) x ⊎ ((b : Batch) × IsMaker K (history_of K mint later) x b)
 
 -- a new record, what was answered before, or that the batch is stale
 abbrev pub IsGranted : {A : Type 0} → Plan A → Type 0
@@ -92,3 +99,16 @@ abbrev pub WaveLaw : Type 0
 WaveLaw = (K : Shape) (mint : List Output) (submissions : List FullTx) (pieces : ℕ → List (List Compact)) (E X : ℕ → List Record) → 0 < K.shards
     → ((lane : ℕ) → AllPass (IsProperCompact submissions) (pieces lane)) → KeptJournals K mint submissions E → Wave K (minted mint) pieces E X
     → KeptJournals K mint submissions X
+
+-- what is kept stays kept when more is submitted
+abbrev pub MoreLaw : Type 0
+MoreLaw = (K : Shape) (mint : List Output) (submissions more : List FullTx) (later : List Row) → ((t : FullTx) → Contains submissions t → Contains more t)
+    → IsKept K mint submissions later → IsKept K mint more later
+
+-- a world is kept where its journals are, and what is in flight is after its node's journal and was caused by beginnings of the journals
+abbrev pub FlightLaw : Type 0
+FlightLaw = (K : Shape) (mint : List Output) (submissions : List FullTx) (w : World) → 0 < K.shards → length w ≡ K.coordinators + K.shards
+    → KeptJournals K mint submissions (journals w)
+    → ((n : ℕ) (r : Record) → (node_at w n).flight ≡ Some r
+        → After (header_of K (minted mint).id n) (journals w n) r × Seen K (journals w) n (journals w n) r × TxsPass (IsProperCompact submissions) r)
+    → KeptWorld K mint submissions w

@@ -1,7 +1,7 @@
 //! The laws of the ledger: functions with an empty body, whose contracts are the theorems. Nothing of them runs.
 #![tactic(auto)]
 
-ghost use Rattle.ledger_laws.specs.Laws.{AnswerLaw, CutLaw, FoldLaw, HeadlineLaw, IdleLaw, KeptLaw, LocalLaw, MakerLaw, OneHistoryLaw, ReachLaw, RecoveredLaw, StepLaw, WaveLaw};
+ghost use Rattle.ledger_laws.specs.Laws.{AnswerLaw, CutLaw, FlightLaw, FoldLaw, HeadlineLaw, IdleLaw, KeptLaw, LocalLaw, MakerLaw, MoreLaw, OneHistoryLaw, ReachLaw, RecoveredLaw, StepLaw, WaveLaw};
 
 /// Where no two coins or transactions share a hash, the committed transactions of every kept
 /// history can be spent one after another from the mint, each finding all its inputs. The book
@@ -45,7 +45,8 @@ pub fn recovered_law()
 }
 
 /// A hash that is Unspent or Locked at its shard was minted, or the transaction that makes it is
-/// committed, and the Finish that made it at this shard stands.
+/// committed, and the Finish that made it at this shard stands. This Commit and this Finish have
+/// smaller stamps than any Lock that holds the hash.
 pub fn maker_law()
     ensures { MakerLaw }
 {
@@ -97,5 +98,18 @@ pub fn local_law()
 /// asked of how the lanes came between each other.
 pub fn wave_law()
     ensures { WaveLaw }
+{
+}
+
+/// What is kept stays kept when more transactions are submitted.
+pub fn more_law()
+    ensures { MoreLaw }
+{
+}
+
+/// A world is kept where its journals are kept, and each record in flight follows its node's
+/// journal and was caused by records in beginnings of the journals.
+pub fn flight_law()
+    ensures { FlightLaw }
 {
 }
