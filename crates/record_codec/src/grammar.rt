@@ -1,24 +1,37 @@
 // Which records may stand in a journal with a header.
+ghost use Rattle.std.specs.Prelude.{◌≡◌, ◌↔◌, ◌+◌, ◌*◌, ◌<◌, ◌≤◌, ◌^◌, length, All, IsTrue};
+ghost use Rattle.cbdc_model.specs.Grammar.{IsEarly, IsLater, IsBatchOf, IsShard, AreHere, HasSize, RisesFrom, IsReply, IsOutcome, IsEntry, IsCompact, IsInGrammar};
+
 use cbdc_types::{Answered, BatchId, CompactTx, Hash, Header, Outcome, Record, Reply, Shape};
 use shard_ranges::shard_of;
 
-fn is_batch_of(shape: &Shape, batch: &BatchId) -> bool {
+fn is_batch_of(shape: &Shape, batch: &BatchId) -> bool
+    ensures { IsTrue result ↔ IsBatchOf shape.now batch.now }
+{
     batch.lane.0 < shape.lane_count() && 1 <= batch.number && batch.number <= 4611686018427387904
 }
 
-fn is_early(stamp: u64) -> bool {
+fn is_early(stamp: u64) -> bool
+    ensures { IsTrue result ↔ IsEarly stamp }
+{
     1 <= stamp && stamp <= 4611686018427387904
 }
 
-fn is_later(stamp: u64) -> bool {
+fn is_later(stamp: u64) -> bool
+    ensures { IsTrue result ↔ IsLater stamp }
+{
     1 <= stamp && stamp <= 4611686018428436480
 }
 
-fn is_coordinator(h: &Header) -> bool {
+fn is_coordinator(h: &Header) -> bool
+    ensures { IsTrue result ↔ (h.now.node < h.now.shape.coordinators) }
+{
     h.node.0 < h.shape.coordinators()
 }
 
-fn is_shard(h: &Header) -> bool {
+fn is_shard(h: &Header) -> bool
+    ensures { IsTrue result ↔ IsShard h.now.shape h.now.node }
+{
     let first = h.shape.coordinators();
     first <= h.node.0 && h.node.0 - first < h.shape.shards()
 }
@@ -35,7 +48,9 @@ fn are_here(h: &Header, hashes: &[Hash]) -> bool {
     true
 }
 
-fn has_size(shape: &Shape, len: usize) -> bool {
+fn has_size(shape: &Shape, len: usize) -> bool
+    ensures { IsTrue result ↔ ((1 ≤ len) × (len ≤ shape.now.batch)) }
+{
     1 <= len && len <= shape.batch() as usize
 }
 
