@@ -1,2 +1,13 @@
 //! The records of the journals as bytes, both ways.
 #![tactic(auto)]
+
+mod fault;
+mod grammar;
+mod reading;
+mod sizes;
+mod writing;
+
+pub use fault::RecordFault;
+pub use reading::{read_first, read_record};
+pub use sizes::size_of_record;
+pub use writing::write_record;

@@ -1,0 +1,29 @@
+-- The one spelling of a record.
+use Rattle.std.specs.Prelude.{ℕ, List, [], ◌∷◌, ◌++◌}
+use Rattle.cbdc_types.specs.declared.record.Header.{Header}
+use Rattle.cbdc_types.specs.declared.record.Record.{Record}
+use Rattle.cbdc_types.specs.declared.record.Record.TheVariants.{Genesis, Lock, Finish, Forget, Start, Prepare, Commit, Discard, Done}
+use Rattle.byte_fields.specs.Spelling.{number, counted}
+use Rattle.byte_fields.specs.Records.{hashes, batch, compact, answered, outcome, decision}
+
+-- HAMJRNL1, which each journal begins with
+abbrev pub magic : List ℕ
+magic = 72 ∷ 65 ∷ 77 ∷ 74 ∷ 82 ∷ 78 ∷ 76 ∷ 49 ∷ []
+
+abbrev pub header : Header → List ℕ
+header h = magic ++ number h.node ++ number h.shape.shards ++ number h.shape.coordinators ++ number h.shape.lanes ++ number h.shape.batch ++ h.genesis
+
+-- a record's kind and its stamp
+abbrev pub head : ℕ → ℕ → List ℕ
+head kind stamp = kind ∷ [] ++ number stamp
+
+abbrev pub body_of : Record → List ℕ
+body_of (Genesis h hs) = head 1 0 ++ header h ++ hashes hs
+body_of (Lock stamp b es) = head 2 stamp ++ batch b ++ counted answered es
+body_of (Finish stamp b ds) = head 3 stamp ++ batch b ++ counted decision ds
+body_of (Forget stamp b) = head 4 stamp ++ batch b
+body_of (Start h) = head 5 0 ++ header h
+body_of (Prepare stamp b txs) = head 6 stamp ++ batch b ++ counted compact txs
+body_of (Commit stamp b os) = head 7 stamp ++ batch b ++ counted outcome os
+body_of (Discard stamp b) = head 8 stamp ++ batch b
+body_of (Done stamp b) = head 9 stamp ++ batch b
