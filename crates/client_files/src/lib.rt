@@ -4,7 +4,6 @@
 mod clients;
 mod fault;
 mod input;
-
 mod mint;
 mod places;
 
