@@ -35,9 +35,9 @@ fault_text (NotReady node) name = line (codes "fault" ∷ codes "not" ∷ codes 
 fault_text (Foreign node kept asked) name = line (codes "fault" ∷ codes "foreign" ∷ decimal node ∷ [])
 fault_text (NotEmpty node) name = line (codes "fault" ∷ codes "not" ∷ codes "empty" ∷ decimal node ∷ [])
 fault_text (Full node used need capacity) name = line (
-  codes "fault" ∷ codes "full" ∷ decimal node ∷ codes "used" ∷ decimal used ∷ codes "need" ∷ decimal need
-  ∷ codes "capacity" ∷ decimal capacity ∷ []
-)
+    codes "fault" ∷ codes "full" ∷ decimal node ∷ codes "used" ∷ decimal used ∷ codes "need" ∷ decimal need
+    ∷ codes "capacity" ∷ decimal capacity ∷ []
+    )
 fault_text (Unsound place kind) name = line (codes "fault" ∷ codes "unsound" ∷ decimal place ∷ unsound_words kind)
 fault_text (ClockEnd node stamp) name = line (codes "fault" ∷ codes "clock" ∷ decimal node ∷ decimal stamp ∷ [])
 fault_text (Unfinished lane) name = line (codes "fault" ∷ codes "unfinished" ∷ decimal lane ∷ [])

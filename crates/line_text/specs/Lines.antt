@@ -36,20 +36,20 @@ init_text coins minted genesis =
 
 abbrev pub confirmed_line : ℕ → ℕ → Text → BatchId → Text
 confirmed_line file place id batch = line (
-  decimal file ∷ decimal place ∷ encode_lower id ∷ codes "confirmed" ∷ decimal batch.lane ∷ decimal batch.number ∷ []
-)
+    decimal file ∷ decimal place ∷ encode_lower id ∷ codes "confirmed" ∷ decimal batch.lane ∷ decimal batch.number ∷ []
+    )
 
 -- what is told of an input that was missing or locked
 abbrev pub rejected_line : ℕ → ℕ → Text → Outcome → BatchId → Text
 rejected_line file place id outcome.Held batch = []
 rejected_line file place id (outcome.Missing shard hash) batch = line (
-  decimal file ∷ decimal place ∷ encode_lower id ∷ codes "rejected" ∷ codes "missing" ∷ encode_lower hash ∷ decimal shard
-  ∷ decimal batch.lane ∷ decimal batch.number ∷ []
-)
+    decimal file ∷ decimal place ∷ encode_lower id ∷ codes "rejected" ∷ codes "missing" ∷ encode_lower hash ∷ decimal shard
+    ∷ decimal batch.lane ∷ decimal batch.number ∷ []
+    )
 rejected_line file place id (outcome.Locked shard hash by) batch = line (
-  decimal file ∷ decimal place ∷ encode_lower id ∷ codes "rejected" ∷ codes "locked" ∷ encode_lower hash ∷ decimal shard
-  ∷ decimal batch.lane ∷ decimal batch.number ∷ codes "by" ∷ decimal by.lane ∷ decimal by.number ∷ []
-)
+    decimal file ∷ decimal place ∷ encode_lower id ∷ codes "rejected" ∷ codes "locked" ∷ encode_lower hash ∷ decimal shard
+    ∷ decimal batch.lane ∷ decimal batch.number ∷ codes "by" ∷ decimal by.lane ∷ decimal by.number ∷ []
+    )
 
 abbrev pub refusal_words : Refusal → List Text
 refusal_words refusal.NoInputs = codes "no-inputs" ∷ []
@@ -66,8 +66,8 @@ refusal_words (refusal.Unverified i) = codes "unverified" ∷ decimal i ∷ []
 
 abbrev pub refused_line : ℕ → ℕ → Text → Refusal → Text
 refused_line file place id why = line (
-  decimal file ∷ decimal place ∷ encode_lower id ∷ codes "refused" ∷ refusal_words why
-)
+    decimal file ∷ decimal place ∷ encode_lower id ∷ codes "refused" ∷ refusal_words why
+    )
 
 -- ---- the summary
 

@@ -202,7 +202,12 @@ fn text_of(answer: &Answer) -> Pieces
         Answer::NotReady(node) => Pieces::Whole(not_so(b"ready", *node)),
         Answer::Foreign { node, .. } => Pieces::Whole(numbered(b"foreign", node.0)),
         Answer::NotEmpty(node) => Pieces::Whole(not_so(b"empty", *node)),
-        Answer::Full { node, used, need, capacity } => Pieces::Whole(full(*node, *used, *need, *capacity)),
+        Answer::Full {
+            node,
+            used,
+            need,
+            capacity,
+        } => Pieces::Whole(full(*node, *used, *need, *capacity)),
         Answer::Unsound { place, kind } => Pieces::Whole(unsound(*place, kind)),
         Answer::ClockEnd { node, stamp } => Pieces::Whole(clock(*node, stamp.0)),
         Answer::Unfinished(lane) => Pieces::Whole(numbered(b"unfinished", lane.0)),
@@ -215,7 +220,12 @@ fn text_of(answer: &Answer) -> Pieces
 }
 
 // Writes two pieces with a name between them.
-fn write_around<O: Sink>(out: &mut O, front: &[u8], name: &[u8], end: &[u8]) -> Result<(), WriteFault>
+fn write_around<O: Sink>(
+    out: &mut O,
+    front: &[u8],
+    name: &[u8],
+    end: &[u8],
+) -> Result<(), WriteFault>
     ensures prints { Prints (O.taken out.old) (O.taken out.new) ((front.now ++ name.now) ++ end.now) result }
     ensures cause { HasCause (O.count out.old) (O.count out.new) result }
 {
@@ -244,6 +254,11 @@ pub fn write_fault<O: Sink>(out: &mut O, answer: &Answer, name: &str) -> Result<
 {
     match text_of(answer) {
         Pieces::Whole(text) => write_all(out, text.as_slice()),
-        Pieces::Around(front, end) => write_around(out, front.as_slice(), name.as_bytes(), end.as_slice()),
+        Pieces::Around(front, end) => write_around(
+            out,
+            front.as_slice(),
+            name.as_bytes(),
+            end.as_slice(),
+        ),
     }
 }

@@ -19,8 +19,8 @@ module _ {X : Type 0} (Q : X → Type 0) (xs : List X) where
   none_below i x inside is not before k lt (y, at, holds) = elim (cases_lt k i) [
     | inl earlier ↦ before k earlier (y, at, holds)
     | inr later ↦
-      let here : k ≡ i = omega arith in
-      not (subst Q (same_item i x y inside is (subst (λ (j : ℕ). slice_get xs j ≡ Some y) here at)) holds)
+        let here : k ≡ i = omega arith in
+        not (subst Q (same_item i x y inside is (subst (λ (j : ℕ). slice_get xs j ≡ Some y) here at)) holds)
   ]
 
   -- no place has it

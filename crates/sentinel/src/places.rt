@@ -56,7 +56,12 @@ pub(crate) fn repeated(inputs: &[Input]) -> Option<u64>
 }
 
 /// The first input whose witness has this verdict.
-pub(crate) fn with_verdict<V: Verifier>(inputs: &[Input], id: &Hash, verifier: &V, wanted: Verdict) -> Option<u64>
+pub(crate) fn with_verdict<V: Verifier>(
+    inputs: &[Input],
+    id: &Hash,
+    verifier: &V,
+    wanted: Verdict,
+) -> Option<u64>
     ensures { MatchOption result ((i : ℕ) → ¬ (HasVerdict wanted inputs.now (V.verdict_of verifier.now id.now) i)) (λ i. IsLeast (HasVerdict wanted inputs.now (V.verdict_of verifier.now id.now)) i) }
 {
     'inputs: for index in 0..inputs.len() {

@@ -115,7 +115,11 @@ pub(crate) fn has_bad<V: Verifier>(tx: &FullTx, id: &Hash, verifier: &V) -> Resu
 }
 
 /// The reason of rank 10.
-pub(crate) fn has_unverified<V: Verifier>(tx: &FullTx, id: &Hash, verifier: &V) -> Result<(), Refusal>
+pub(crate) fn has_unverified<V: Verifier>(
+    tx: &FullTx,
+    id: &Hash,
+    verifier: &V,
+) -> Result<(), Refusal>
     ensures { MatchResult result (λ _. NoneAt 10 tx.now (V.verdict_of verifier.now id.now)) (λ r. AppliesAt 10 tx.now (V.verdict_of verifier.now id.now) r) }
 {
     match with_verdict(tx.inputs.as_slice(), id, verifier, Verdict::Absent) {
@@ -123,4 +127,3 @@ pub(crate) fn has_unverified<V: Verifier>(tx: &FullTx, id: &Hash, verifier: &V) 
         None => Ok(()),
     }
 }
-

@@ -11,4 +11,3 @@ loop-at-preserved g c = record {
       (tells (λ u. g.O.Sink.taken c.write.new.self ≡ Some (u ++ take c.in-Ok.n c.split_at.result.1.now)) (g.O.Sink.taken c.loop-at.out) c.in-Ok.ensures.bytes (t ++ take c.loop-at.at c.args.bytes.now) (c.loop-at.invariant.written t is)
       ∙ ap (λ (l : List ℕ). Some ((t ++ take c.loop-at.at c.args.bytes.now) ++ take c.in-Ok.n l)) c.split_at.ensures.back);
 }
-

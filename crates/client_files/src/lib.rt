@@ -1,0 +1,13 @@
+//! Input files: their bytes, and the transactions or minted outputs in them.
+#![tactic(auto)]
+
+mod clients;
+mod fault;
+mod input;
+mod mint;
+mod places;
+
+pub use clients::read_clients;
+pub use fault::{BadFile, FetchFault, FileFault};
+pub use input::fetch;
+pub use mint::read_mint;
