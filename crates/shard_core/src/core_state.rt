@@ -4,6 +4,7 @@ ghost use Rattle.cbdc_types.specs.declared.record.Header.{Header};
 
 use crate::applying::{free_held, hash_count, lock_held, make_committed};
 use crate::comparing::misfit;
+use crate::copying::{copy_of, entries_of, same_replies};
 use crate::judging::{LockAnswer, judge_finish, judge_forget, judge_lock, kept_replies};
 use crate::plans::{LockPlan, Remembered, StampPlan};
 use crate::replying::{replies_to, status_of};
@@ -49,28 +50,6 @@ fn room_of(slot: &Slot) -> u64 {
         Slot::Locked(_, part, _, _) => (part.len() as u64).saturating_add(76),
         Slot::Finished(_, _, _, _, _, _) => 34,
     }
-}
-
-// Whether the replies of a Lock are these.
-fn same_replies(entries: &[Answered], replies: &[Reply]) -> bool {
-    if entries.len() != replies.len() {
-        return false;
-    }
-    for (answered, reply) in entries.iter().zip(replies) {
-        if answered.reply != *reply {
-            return false;
-        }
-    }
-    true
-}
-
-// The entries of a Lock without their replies.
-fn entries_of(alloc: Global, answered: &[Answered]) -> Result<Vec<Entry>, AllocError> {
-    let mut entries = Vec::with_capacity(alloc, answered.len())?;
-    for one in answered {
-        entries.push(one.entry.clone()?)?;
-    }
-    Ok(entries)
 }
 
 // Whether each hash lies on this shard.
@@ -152,7 +131,7 @@ impl ShardCore {
     ghost use Rattle.std.specs.Prelude.{List as Items, ◌∷◌, Some};
     ghost use Rattle.cbdc_model.specs.Records.{Record, Batch, Answered, last_stamp};
     ghost use Rattle.cbdc_model.specs.Next.{next_finish, next_forget, next_stamp};
-    ghost use Rattle.shard_core.specs.Stands.{Stands, IsSameState, IsReady};
+    ghost use Rattle.shard_core.specs.Stands.{Stands, IsSameState, IsReady, IsReadyFor};
     ghost use Rattle.cbdc_model.specs.Replies.{entries as entries_in, replies as replies_in};
     ghost use Rattle.shard_core.specs.Plans.{stamp_plan, IsLockPlan};
     ghost use Rattle.shard_core.specs.Admitted.{IsAdmitted, IsOfLane, IsLaterAt};
@@ -205,6 +184,7 @@ impl ShardCore {
         requires lane { call.now.batch.lane < self.old.header.shape.coordinators * self.old.header.shape.lanes }
         requires cause { call.now.cause < 2 ^ 63 }
         ensures same { IsSameState self.old self.new }
+        ensures ready { IfOk result (IsReadyFor self.new call.now.part) }
         ensures plan { IfOk result (λ p. (J : Items Record) → Stands self.old J → IsLockPlan p J call.now.batch call.now.part call.now.cause) }
     {
         let slot = self.slots.slot(call.batch.lane);
@@ -216,8 +196,8 @@ impl ShardCore {
                 let entries = call.part.as_slice();
                 let replies =
                     replies_to(self.alloc, &self.unspent, &self.locks, entries, &call.batch)?;
-                let part = call.part.clone()?;
-                self.make_room(call.batch.lane, part, replies.as_slice())?;
+                let part = copy_of(self.alloc, entries)?;
+                self.make_room(call.batch.lane, List::from_vec(part), replies.as_slice())?;
                 Ok(LockPlan::Append(Replied {
                     replies: List::from_vec(replies),
                     stamp,
@@ -315,6 +295,7 @@ impl ShardCore {
     ) -> Result<bool, AllocError>
         ensures same { IsSameState self.old self.new }
         ensures admitted { IfOk result (λ yes. OnTrue yes (IsOfLane self.new batch.now stamp)) }
+        ensures ready { IfOk result (λ yes. OnTrue yes (IsReady self.new (entries_in answered.now) (replies_in answered.now))) }
     {
         if !self.is_next_lock(stamp, batch, answered) {
             return Ok(false);

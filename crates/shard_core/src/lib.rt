@@ -3,6 +3,7 @@
 
 mod applying;
 mod comparing;
+mod copying;
 mod core_state;
 mod judging;
 mod plans;

@@ -1,0 +1,7 @@
+use Rattle.std.proofs.Common.{◌≡◌, ℕ, ◌<◌, take, get_or}
+use Rattle.cbdc_model.specs.Records.{Answered, Reply}
+use Rattle.cbdc_model.specs.Replies.{entries}
+use Rattle.shard_core.proofs.copying.entries_of.Given as goal
+
+abbrev pub invariant-loop-one : goal.invariant-loop-one
+invariant-loop-one l = l.entries.items ≡ entries (take l.one-index l.answered)

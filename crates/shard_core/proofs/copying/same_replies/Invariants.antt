@@ -1,0 +1,7 @@
+use Rattle.std.proofs.Common.{◌≡◌, ℕ, ◌<◌, take, get_or}
+use Rattle.cbdc_model.specs.Records.{Answered, Reply}
+use Rattle.cbdc_model.specs.Replies.{entries}
+use Rattle.shard_core.proofs.copying.same_replies.Given as goal
+
+abbrev pub invariant-loop-at : goal.invariant-loop-at
+invariant-loop-at l = (i : ℕ) (a : Answered) (r : Reply) → i < l.at → (get_or l.entries i a).reply ≡ get_or l.replies i r
