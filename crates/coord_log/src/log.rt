@@ -1,6 +1,7 @@
 // The calls at a coordinator.
 ghost use Rattle.std.specs.Prelude.{◌≡◌, ◌+◌, ◌≤◌, ◌<◌, ◌^◌, ◌∷◌, [], List, suc, max, length, reverse, vec_capacity, OnOk, OnErr, IfOk, IfErr, IsErrOf};
 ghost use Rattle.outside.specs.Counts.{Rose};
+ghost use Rattle.gate_journal.specs.Shown.{disk_of};
 ghost use Rattle.cbdc_model.specs.Records.{Prepare, Commit, Discard, Done, last_stamp, txs_of};
 ghost use Rattle.cbdc_model.specs.Slots.{slot, Idle, InPrepare, InCommit, InDiscard};
 ghost use Rattle.coord_core.specs.Phases.{slot_of};
@@ -37,12 +38,13 @@ pub struct CoordLog<D: Disk> {
 
 impl<D: Disk> Model for CoordLog<D> {
     ghost use Rattle.std.specs.Prelude.{◌≡◌, ◌+◌, reverse};
+    ghost use Rattle.gate_journal.specs.Shown.{disk_of, gate_of, broken_of};
     ghost use Rattle.coord_core.specs.Stands.{StandsFor};
     ghost use Rattle.coord_log.specs.Logs.{LogOf};
 
     ghost Value = { LogOf };
 
-    ghost view = { λ l. record { header = l.log.header; journal = reverse l.log.records.items; faults = D.count l.log.journal.disk; broken = l.log.journal.broken; used = l.log.journal.gate + 1; capacity = D.limit l.log.journal.disk } };
+    ghost view = { λ l. record { header = l.log.header; journal = reverse l.log.records.items; faults = D.count (disk_of l.log.journal); broken = broken_of l.log.journal; used = gate_of l.log.journal + 1; capacity = D.limit (disk_of l.log.journal) } };
 
     ghost invariant = { λ l. (l.core.header ≡ l.log.header) × StandsFor l.core (reverse l.log.records.items) };
 }
@@ -98,7 +100,7 @@ impl<D: Disk> CoordLog<D> {
         ensures fault { IsErrOf result NodeFault.DiskFault → Rose self.old.faults self.new.faults }
         ensures later { self.old.faults ≤ self.new.faults }
     {
-        if let Some(since) = self.log.journal.broken {
+        if let Some(since) = self.log.is_broken() {
             return Err(NodeFault::Broken { since });
         }
         let Ok(next) = self.core.prepare(lane, txs) else {
@@ -135,7 +137,7 @@ impl<D: Disk> CoordLog<D> {
         ensures fault { IsErrOf result NodeFault.DiskFault → Rose self.old.faults self.new.faults }
         ensures later { self.old.faults ≤ self.new.faults }
     {
-        if let Some(since) = self.log.journal.broken {
+        if let Some(since) = self.log.is_broken() {
             return Err(NodeFault::Broken { since });
         }
         let stamp = self.core.commit_stamp(replies);
@@ -162,7 +164,7 @@ impl<D: Disk> CoordLog<D> {
         ensures fault { IsErrOf result NodeFault.DiskFault → Rose self.old.faults self.new.faults }
         ensures later { self.old.faults ≤ self.new.faults }
     {
-        if let Some(since) = self.log.journal.broken {
+        if let Some(since) = self.log.is_broken() {
             return Err(NodeFault::Broken { since });
         }
         let next = self.core.discard(lane, cause);
@@ -188,7 +190,7 @@ impl<D: Disk> CoordLog<D> {
         ensures fault { IsErrOf result NodeFault.DiskFault → Rose self.old.faults self.new.faults }
         ensures later { self.old.faults ≤ self.new.faults }
     {
-        if let Some(since) = self.log.journal.broken {
+        if let Some(since) = self.log.is_broken() {
             return Err(NodeFault::Broken { since });
         }
         let next = self.core.done(lane, cause);
@@ -229,7 +231,7 @@ impl<D: Disk> CoordLog<D> {
     pub(crate) fn of_parts(alloc: Global, log: RecordLog<D>, core: CoordCore) -> CoordLog<D>
         requires header { core.header ≡ log.header }
         requires stands { StandsFor core (reverse log.records.items) }
-        ensures faults { result.faults ≡ D.count log.journal.disk }
+        ensures faults { result.faults ≡ D.count (disk_of log.journal) }
         ensures header { result.header ≡ log.header }
         ensures journal { result.journal ≡ reverse log.records.items }
     {

@@ -1,6 +1,7 @@
 // Opening a coordinator.
 ghost use Rattle.std.specs.Prelude.{◌≡◌, ◌≢◌, ◌≤◌, ◌<◌, length, reverse, ◌∷◌, [], IfOk, IfErr, MatchResult};
 ghost use Rattle.outside.specs.Counts.{Rose};
+ghost use Rattle.gate_journal.specs.Shown.{disk_of};
 ghost use Rattle.coord_core.specs.Stands.{StandsFor};
 
 use crate::CoordLog;
@@ -79,14 +80,14 @@ fn no_log_fault(alloc: Global, refused: NoLog) -> NodeOpenFault
 // The lanes behind a journal, with the room and the memory for the records that are still to come.
 fn lanes_of<D: Disk>(alloc: Global, log: &mut RecordLog<D>) -> Result<CoordCore, NodeOpenFault>
     ensures fault { IfErr result (λ e. e ≢ NodeOpenFault.DiskFault) }
-    ensures faults { D.count log.new.journal.disk ≡ D.count log.old.journal.disk }
+    ensures faults { D.count (disk_of log.new.journal) ≡ D.count (disk_of log.old.journal) }
     ensures header { IfOk result (λ c. c.header ≡ log.new.header) }
     ensures stands { IfOk result (λ c. StandsFor c (reverse log.new.records.items)) }
 {
     let core = replayed(alloc, &log.header, &log.records)?;
     let used = log.used();
     let need = core.kept_room();
-    let capacity = log.journal.disk.capacity();
+    let capacity = log.capacity();
     if used.saturating_add(need) > capacity {
         return Err(NodeOpenFault::Full {
             used,

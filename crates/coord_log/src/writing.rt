@@ -1,6 +1,7 @@
 // Writing a record, and the room for it.
 ghost use Rattle.std.specs.Prelude.{◌≡◌, ◌+◌, ◌*◌, ◌≤◌, ◌<◌, ◌^◌, ◌++◌, ◌∷◌, [], List, OnOk, OnErr, IfErr, IsErrOf};
 ghost use Rattle.outside.specs.Counts.{Rose};
+ghost use Rattle.gate_journal.specs.Shown.{disk_of};
 ghost use Rattle.cbdc_model.specs.Records.{Record as AnyRecord};
 ghost use Rattle.coord_core.specs.Lanes.{IsNext};
 ghost use Rattle.coord_core.specs.Stands.{StandsFor};
@@ -20,7 +21,7 @@ const OUTCOME: u64 = 57;
 const COMMIT: u64 = 42;
 
 /// The most bytes of a Commit: of 1,024 outcomes.
-pub(crate) const LARGEST_COMMIT: usize = 58410;
+pub(crate) const LARGEST_COMMIT: u64 = 58410;
 
 // What a record that was not appended answers.
 fn fault_of(fault: LogFault) -> NodeFault
@@ -55,8 +56,8 @@ pub(crate) fn write<D: Disk>(
     ensures core_header { core.new.header ≡ core.old.header }
     ensures as_before { OnErr result (log.new.records.items ≡ log.old.records.items) }
     ensures core_as_before { OnErr result (core.new ≡ core.old) }
-    ensures fault { IsErrOf result NodeFault.DiskFault → Rose (D.count log.old.journal.disk) (D.count log.new.journal.disk) }
-    ensures later { D.count log.old.journal.disk ≤ D.count log.new.journal.disk }
+    ensures fault { IsErrOf result NodeFault.DiskFault → Rose (D.count (disk_of log.old.journal)) (D.count (disk_of log.new.journal)) }
+    ensures later { D.count (disk_of log.old.journal) ≤ D.count (disk_of log.new.journal) }
 {
     match log.append(next) {
         Ok(()) => {
@@ -80,14 +81,14 @@ pub(crate) fn make_room<D: Disk>(
     requires count { count ≤ 1024 }
     ensures header { log.new.header ≡ log.old.header }
     ensures records { log.new.records.items ≡ log.old.records.items }
-    ensures faults { D.count log.new.journal.disk ≡ D.count log.old.journal.disk }
-    ensures fault { IsErrOf result NodeFault.DiskFault → Rose (D.count log.old.journal.disk) (D.count log.new.journal.disk) }
+    ensures faults { D.count (disk_of log.new.journal) ≡ D.count (disk_of log.old.journal) }
+    ensures fault { IsErrOf result NodeFault.DiskFault → Rose (D.count (disk_of log.old.journal)) (D.count (disk_of log.new.journal)) }
 {
     let used = log.used();
     let need = size
         .saturating_add(BEHIND_PREPARE + OUTCOME * count as u64)
         .saturating_add(core.kept_room());
-    let capacity = log.journal.disk.capacity();
+    let capacity = log.capacity();
     if used.saturating_add(need) > capacity {
         return Err(NodeFault::Full {
             used,
@@ -96,7 +97,7 @@ pub(crate) fn make_room<D: Disk>(
         });
     }
     let largest = size.max(COMMIT + OUTCOME * count as u64);
-    match log.reserve(core.records_ahead() + 4, largest as usize) {
+    match log.reserve(core.records_ahead() + 4, largest) {
         Ok(()) => Ok(()),
         Err(_) => Err(NodeFault::Memory),
     }
