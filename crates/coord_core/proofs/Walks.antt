@@ -1,18 +1,20 @@
 -- One step of a walk over a list, and of what is computed on the way.
-use Rattle.std.proofs.Common.{◌≡◌, ℕ, suc, ◌+◌, ◌^◌, ◌<◌, ◌≤◌, max, List, [], ◌∷◌, ◌++◌, length, get_or, set, take, drop, refl, ap, sym, ◌∙◌, subst, arith, add-one, drop-cons, append_assoc, Some}
-use Rattle.std.specs.Prelude.{bit_or}
+use Rattle.std.proofs.Common.{◌≡◌, ℕ, suc, ◌+◌, ◌^◌, ◌<◌, ◌≤◌, max, List, [], ◌∷◌, ◌++◌, length, get_or, set, take, drop, refl, ap, sym, ◌∙◌, subst, arith, add-one, drop-cons, append_assoc, Some, Bool, true, false}
+use Rattle.std.specs.Prelude.{bit_or, if◌then◌else◌, ◌==◌}
 use Rattle.std.proofs.lemmas.Bool.{ne_eqb}
 use Rattle.std.specs.Int.{bit_at}
 use Rattle.std.proofs.lemmas.List.{take_more, take_more_set, take-append-drop, drop-set-lt, drop_all}
 use Rattle.cbdc_types.specs.declared.batch.ShardReplies.{ShardReplies}
 use Rattle.cbdc_model.specs.Records.{Digest, Reply, Outcome}
+use Rattle.cbdc_model.specs.Slots.{Slot, Phase}
 use Rattle.cbdc_model.specs.Ranges.{shard_of}
 use Rattle.cbdc_model.specs.Outcomes.{outcome_by}
 use Rattle.cbdc_model.specs.Records.{Compact}
 use Rattle.coord_core.specs.Masks.{marked, mask_of, masks_of}
 use Rattle.std.proofs.Common.{zero, map}
 use Rattle.cbdc_model.specs.Records.{Won}
-use Rattle.coord_core.specs.Decided.{told, latest, AllEarlier, RisesBelow}
+use Rattle.coord_core.specs.Lanes.{LaneOf, lane_kept, kept_of}
+use Rattle.coord_core.specs.Decided.{told, combined, latest, AllEarlier, RisesBelow}
 
 -- what is left of a list at a place: the item there, and the rest
 pub rest_at : {A : Type 0} (xs : List A) (i : ℕ) (d : A) → i < length xs → drop i xs ≡ get_or xs i d ∷ drop (i + 1) xs
@@ -107,3 +109,36 @@ masks_step shards txs i t ms ms' lt is old more = more ∙ ap (λ x. x ++ mask_o
 
 pub took_one : {A : Type 0} (xs : List A) (i : ℕ) (x : A) (ys zs : List A) → i < length xs → x ≡ get_or xs i x → ys ≡ take i xs → zs ≡ ys ++ x ∷ [] → zs ≡ take (i + 1) xs
 took_one xs i x ys zs lt is old more = more ∙ ap (λ w. w ++ x ∷ []) old ∙ ap (λ w. take i xs ++ w ∷ []) is ∙ sym (take_more xs i x lt)
+
+pub kept_step : (ls : List LaneOf) (i kept : ℕ) (l : LaneOf) → i < length ls → l ≡ get_or ls i l
+    → (kept + lane_kept l) + kept_of (drop (i + 1) ls) ≡ kept + kept_of (drop i ls)
+kept_step ls i kept l lt is = let e : kept_of (drop i ls) ≡ lane_kept l + kept_of (drop (i + 1) ls) = ap kept_of (rest_is ls i l lt is) in omega arith
+
+pub latest-ge : (n : ℕ) (rs : List ShardReplies) → n ≤ latest n rs
+latest-ge n [] = omega arith
+latest-ge n (r ∷ rs) = omega (arith, latest-ge (max n r.stamp) rs)
+
+pub length-told : (s : ℕ) (ms : List ℕ) (rs : List Reply) (os : List Outcome) → length os ≡ length ms → length (told s ms rs os) ≡ length ms
+length-told s [] rs os same = same
+length-told s (m ∷ ms) rs [] same = same
+length-told s (m ∷ ms) [] (o ∷ os) same = same
+length-told s (m ∷ ms) (r ∷ rs) (o ∷ os) same =
+    elim (bit_at m s == 1) as (λ b. length (if b then outcome_by (Some r) s o ∷ told s ms rs os else o ∷ told s ms (r ∷ rs) os) ≡ suc (length ms)) [
+      | true ↦ ap (λ n. suc n) (length-told s ms rs os (omega arith))
+      | false ↦ ap (λ n. suc n) (length-told s ms (r ∷ rs) os (omega arith))
+    ]
+
+pub length-combined : (ms : List ℕ) (rs : List ShardReplies) → length (combined ms rs) ≡ length ms
+length-combined ms [] = all_held ms
+  where
+    all_held : (ms : List ℕ) → length (map (λ m. Won) ms) ≡ length ms
+    all_held [] = refl
+    all_held (m ∷ ms) = ap (λ n. suc n) (all_held ms)
+length-combined ms (r ∷ rs) = length-told r.shard ms r.replies (combined ms rs) (length-combined ms rs)
+
+pub slot_is : (s : Slot) (n : ℕ) (p : Phase) → n ≡ s.number → s.phase ≡ p → s ≡ record { number = n; phase = p }
+slot_is s n p e f = λ i. record { number = sym e i; phase = f i }
+
+pub rises_within : (low limit wider : ℕ) (rs : List ShardReplies) → limit ≤ wider → RisesBelow low limit rs → RisesBelow low wider rs
+rises_within low limit wider [] le h = h
+rises_within low limit wider (r ∷ rs) le h = (h.0, (omega (arith, h.1)), rises_within (suc r.shard) limit wider rs le h.2)

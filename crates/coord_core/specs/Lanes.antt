@@ -1,9 +1,10 @@
 -- What a coordinator keeps of its lanes.
-use Rattle.std.specs.Prelude.{◌≡◌, ℕ, ◌+◌, ◌^◌, ◌%◌, ◌<◌, ◌≤◌, List, [], length, slice_index_or, slice_set, All}
+use Rattle.std.specs.Prelude.{◌≡◌, ℕ, ◌+◌, ◌^◌, ◌%◌, ◌<◌, ◌≤◌, List, [], length, slice_index_or, slice_set, All, ◌∷◌}
 use Rattle.cbdc_types.specs.Limits.{IsWithinLimits}
 use Rattle.cbdc_model.specs.Records.{Header, Batch, Compact, Record, Prepare, Commit, Discard, Done}
 use Rattle.cbdc_model.specs.Slots.{Slot, Idle, InPrepare, InCommit, InDiscard}
 use Rattle.cbdc_model.specs.Ranges.{home_of}
+use Rattle.cbdc_model.specs.Room.{room_in}
 use Rattle.coord_core.specs.Masks.{masks_of}
 
 -- a lane: its slot, the masks of the transactions of its last batch, and for how many transactions there is room
@@ -34,12 +35,16 @@ with_lane c lane l = record c { lanes = slice_set c.lanes (lane % c.header.shape
 abbrev pub IsLaneUpTo : ℕ → LaneOf → Type 0
 IsLaneUpTo last l = l.slot.number ≤ last
 
+abbrev pub IsSmall : LaneOf → Type 0
+IsSmall l = length l.masks ≤ 1024
+
 pub record IsWhole (c : CoordOf) : Type 0 where
   pub limits : IsWithinLimits c.header.shape
   pub node : c.header.node < c.header.shape.coordinators
   pub lanes : length c.lanes ≡ c.header.shape.lanes
   pub last : c.last ≤ 2 ^ 62 + 2 ^ 20
   pub numbers : All (IsLaneUpTo c.last) c.lanes
+  pub small : All IsSmall c.lanes
 
 abbrev pub open_batch : CoordOf → ℕ → Batch
 open_batch c lane = record { lane = lane; number = (lane_at c lane).slot.number }
@@ -77,7 +82,7 @@ IsCommitAt c stamp b n =
 
 -- the record is next
 abbrev pub IsAdmitted : CoordOf → Record → Type 0
-IsAdmitted c (Prepare stamp b txs) = IsPrepareAt c stamp b
+IsAdmitted c (Prepare stamp b txs) = IsPrepareAt c stamp b × (length txs ≤ c.header.shape.batch)
 IsAdmitted c (Commit stamp b os) = IsCommitAt c stamp b (length os)
 IsAdmitted c (Discard stamp b) = IsLaterAt c stamp b × ((lane_at c b.lane).slot ≡ record { number = b.number; phase = InCommit })
 IsAdmitted c (Done stamp b) = IsLaterAt c stamp b × ((lane_at c b.lane).slot ≡ record { number = b.number; phase = InDiscard })
@@ -85,7 +90,7 @@ IsAdmitted c other = ⊥
 
 -- it is next, and the memory to take it in is there
 abbrev pub IsNext : CoordOf → Record → Type 0
-IsNext c (Prepare stamp b txs) = IsPrepareAt c stamp b × (length txs ≤ (lane_at c b.lane).room)
+IsNext c (Prepare stamp b txs) = IsPrepareAt c stamp b × (length txs ≤ (lane_at c b.lane).room) × (length txs ≤ 1024)
 IsNext c other = IsAdmitted c other
 
 -- the lane has room for this many transactions
@@ -109,3 +114,11 @@ pub record IsFresh (h : Header) (c : CoordOf) : Type 0 where
   pub header : c.header ≡ h
   pub last : c.last ≡ 0
   pub lanes : All IsIdle c.lanes
+
+-- the bytes that are kept for a lane's batch, and for those of some lanes
+abbrev pub lane_kept : LaneOf → ℕ
+lane_kept l = room_in l.slot.phase 0 (length l.masks)
+
+abbrev pub kept_of : List LaneOf → ℕ
+kept_of [] = 0
+kept_of (l ∷ ls) = lane_kept l + kept_of ls

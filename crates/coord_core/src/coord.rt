@@ -5,14 +5,13 @@ ghost use Rattle.cbdc_model.specs.Slots.{Idle, InPrepare, InCommit, InDiscard};
 ghost use Rattle.coord_core.specs.Phases.{slot_of};
 ghost use Rattle.coord_core.specs.Decided.{combined, latest, RisesBelow, AllEarlier};
 ghost use Rattle.coord_core.specs.Stands.{StandsFor};
-ghost use Rattle.coord_core.specs.Lanes.{IsOwn, lane_at, with_lane, open_batch, next_batch, IsNext, HasRoom, IsSameButRoom, turned, begun, Takes, IsFresh, IsIdle, IsLaterAt, IsAdmitted, IsPrepareAt, IsCommitAt};
+ghost use Rattle.coord_core.specs.Lanes.{IsOwn, lane_at, with_lane, open_batch, next_batch, IsNext, HasRoom, IsSameButRoom, turned, begun, Takes, IsFresh, IsIdle, IsLaterAt, IsAdmitted, kept_of, IsPrepareAt, IsCommitAt};
 
 use crate::combine::latest_stamp;
+use crate::copying::copied_txs;
 use crate::lane::Lane;
 use crate::phase::LanePhase;
-use cbdc_types::{
-    BatchId, CompactTx, Hash, Header, LaneId, List, Outcomes, Record, Replies, Stamp,
-};
+use cbdc_types::{BatchId, CompactTx, Header, LaneId, List, Outcomes, Record, Replies, Stamp};
 use std::alloc::{AllocError, Global};
 use std::marker::Model;
 
@@ -40,6 +39,7 @@ impl Model for CoordCore {
 }
 
 impl CoordCore {
+    ghost use Rattle.cbdc_types.specs.Limits.{IsWithinLimits};
     ghost use Rattle.coord_core.specs.Lanes.{IsWhole};
 
     /// The lanes of a coordinator without a batch. Its header names a coordinator.
@@ -102,7 +102,12 @@ impl CoordCore {
         ensures record { IfOk result (λ r. r ≡ Prepare (self.old.last + 1) (next_batch self.old lane) txs.now) }
         ensures same { IsSameButRoom self.old self.new }
         ensures room { OnOk result (HasRoom self.new lane (length txs.now)) }
+        ensures limits { IsWithinLimits self.old.header.shape }
+
+        // It may be taken in.
+        ensures next { IfOk result (λ r. self.old.last < 2 ^ 62 + 2 ^ 20 → IsNext self.new r) }
     {
+        let _ = &self.lanes;
         let copied = copied_txs(self.alloc, txs)?;
         self.reserve(lane, txs.len())?;
         let number = self.number(lane) + 1;
@@ -136,12 +141,16 @@ impl CoordCore {
         requires own { IsOwn self.old.header lane }
         requires prepared { (lane_at self.old lane).slot.phase ≡ InPrepare }
         requires room { HasRoom self.old lane (length (lane_at self.old lane).masks) }
-        requires rising { RisesBelow 0 64 replies.now }
+        requires rising { RisesBelow 0 self.old.header.shape.shards replies.now }
         requires earlier { AllEarlier (2 ^ 63) replies.now }
         ensures record { result ≡ Commit (suc (latest self.old.last replies.now)) (open_batch self.old lane) (combined (lane_at self.old lane).masks replies.now) }
         ensures same { IsSameButRoom self.old self.new }
+
+        // It may be taken in.
+        ensures next { suc (latest self.old.last replies.now) ≤ 2 ^ 62 + 2 ^ 20 → IsNext self.new result }
     {
-        let stamp = Stamp(latest_stamp(self.last, replies.as_slice()) + 1);
+        let _ = &self.lanes;
+        let stamp = self.commit_stamp(replies);
         let batch = BatchId {
             lane,
             number: self.number(lane),
@@ -151,6 +160,45 @@ impl CoordCore {
             batch,
             outcomes: self.outcomes(lane, replies),
         }
+    }
+
+    /// The stamp of a Commit by these replies.
+    pub fn commit_stamp(&self, replies: &Replies) -> Stamp
+        requires { AllEarlier (2 ^ 63) replies.now }
+        ensures { result ≡ suc (latest self.now.last replies.now) }
+    {
+        Stamp(latest_stamp(self.last, replies.as_slice()) + 1)
+    }
+
+    /// Whether the memory for the outcomes of the lane's last batch is there: taken with its Prepare, given away
+    /// with its Commit.
+    pub fn has_room(&self, lane: LaneId) -> bool
+        ensures { IsTrue result ↔ HasRoom self.now lane (length (lane_at self.now lane).masks) }
+    {
+        let place = self.place(lane);
+        self.lanes[place].has_room()
+    }
+
+    /// How many bytes are kept free for the later records of unfinished batches.
+    pub fn kept_room(&self) -> u64
+        ensures { result ≡ kept_of self.now.lanes }
+    {
+        let mut kept = 0;
+        for lane in &self.lanes {
+            kept += lane.kept_room();
+        }
+        kept
+    }
+
+    /// How many records unfinished batches still have to come, at most 3 of each lane.
+    pub fn records_ahead(&self) -> usize
+        ensures { result ≤ 48 }
+    {
+        let mut ahead = 0;
+        for lane in &self.lanes {
+            ahead += lane.records_ahead();
+        }
+        ahead
     }
 
     // The outcomes of a lane's last batch, in the memory that was taken for them.
@@ -172,6 +220,9 @@ impl CoordCore {
         requires cause { cause < 2 ^ 63 }
         ensures record { result ≡ Discard (suc (max self.old.last cause)) (open_batch self.old lane) }
         ensures same { self.new ≡ self.old }
+
+        // It may be taken in.
+        ensures next { suc (max self.old.last cause) ≤ 2 ^ 62 + 2 ^ 20 → IsNext self.new result }
     {
         Record::Discard {
             stamp: self.after(cause),
@@ -189,6 +240,9 @@ impl CoordCore {
         requires cause { cause < 2 ^ 63 }
         ensures record { result ≡ Done (suc (max self.old.last cause)) (open_batch self.old lane) }
         ensures same { self.new ≡ self.old }
+
+        // It may be taken in.
+        ensures next { suc (max self.old.last cause) ≤ 2 ^ 62 + 2 ^ 20 → IsNext self.new result }
     {
         Record::Done {
             stamp: self.after(cause),
@@ -250,7 +304,8 @@ impl CoordCore {
     {
         match next {
             Record::Prepare { stamp, batch, txs } => {
-                let is_next = self.is_prepare(*stamp, batch);
+                let is_next = txs.len() <= self.header.shape.batch() as usize
+                    && self.is_prepare(*stamp, batch);
                 if is_next {
                     self.reserve(batch.lane, txs.len())?;
                 }
@@ -346,6 +401,7 @@ impl CoordCore {
         requires later { self.old.last < stamp }
         requires limit { stamp ≤ 2 ^ 62 + 2 ^ 20 }
         requires room { HasRoom self.old batch.now.lane (length txs.now) }
+        requires small { length txs.now ≤ 1024 }
         ensures { self.new ≡ begun self.old stamp batch.now txs.now }
     {
         let place = self.place(batch.lane);
@@ -354,37 +410,6 @@ impl CoordCore {
         lane.begin(batch.number, shards, txs);
         self.last = stamp.0;
     }
-}
-
-// A copy of the hashes.
-fn copied_hashes(alloc: Global, hashes: &List<Hash>) -> Result<List<Hash>, AllocError>
-    ensures { IfOk result (λ xs. xs ≡ hashes.now) }
-{
-    Ok(List::from_vec(Vec::from_slice(alloc, hashes.as_slice())?))
-}
-
-// A copy of a transaction.
-fn copied_tx(alloc: Global, tx: &CompactTx) -> Result<CompactTx, AllocError>
-    ensures { IfOk result (λ t. t ≡ tx.now) }
-{
-    let inputs = copied_hashes(alloc, &tx.inputs)?;
-    let outputs = copied_hashes(alloc, &tx.outputs)?;
-    Ok(CompactTx {
-        id: tx.id,
-        inputs,
-        outputs,
-    })
-}
-
-// A copy of the transactions.
-fn copied_txs(alloc: Global, txs: &[CompactTx]) -> Result<List<CompactTx>, AllocError>
-    ensures { IfOk result (λ ts. ts ≡ txs.now) }
-{
-    let mut copied = Vec::with_capacity(alloc, txs.len())?;
-    for tx in txs {
-        copied.push_reserved(copied_tx(alloc, tx)?);
-    }
-    Ok(List::from_vec(copied))
 }
 
 // As many lanes without a batch.

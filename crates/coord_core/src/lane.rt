@@ -1,9 +1,10 @@
 // One lane of a coordinator.
-ghost use Rattle.std.specs.Prelude.{◌≡◌, ◌≤◌, ◌<◌, ◌+◌, length, OnOk, OnErr, []};
+ghost use Rattle.std.specs.Prelude.{◌≡◌, ◌↔◌, IsTrue, ◌≤◌, ◌<◌, ◌+◌, length, OnOk, OnErr, []};
 ghost use Rattle.cbdc_model.specs.Slots.{InPrepare};
 ghost use Rattle.coord_core.specs.Phases.{slot_of};
 ghost use Rattle.coord_core.specs.Masks.{masks_of};
 ghost use Rattle.coord_core.specs.Decided.{combined, RisesBelow};
+ghost use Rattle.coord_core.specs.Lanes.{lane_kept};
 
 use crate::combine::combine;
 use crate::mask::mask;
@@ -110,5 +111,39 @@ impl Lane {
         let mut outcomes = mem::replace(&mut self.outcomes, Vec::new(self.alloc));
         combine(self.masks.as_slice(), replies, &mut outcomes);
         outcomes
+    }
+
+    /// Whether the outcomes of the last batch have room.
+    pub(crate) fn has_room(&self) -> bool
+        ensures { IsTrue result ↔ (length self.now.masks ≤ self.now.room) }
+    {
+        let count = self.masks.len();
+        count <= self.masks.capacity() && count <= self.outcomes.capacity()
+    }
+
+    /// How many bytes are kept free for the later records of the lane's batch.
+    pub(crate) fn kept_room(&self) -> u64
+        requires { length self.now.masks ≤ 1024 }
+        ensures value { result ≡ lane_kept self.now }
+        ensures bound { result ≤ 58478 }
+    {
+        match self.phase {
+            LanePhase::Idle(_) => 0,
+            LanePhase::Prepared(_) => 110 + 57 * self.masks.len() as u64,
+            LanePhase::Committed(_) => 68,
+            LanePhase::Discarded(_) => 34,
+        }
+    }
+
+    /// How many records the lane's batch still has to come.
+    pub(crate) fn records_ahead(&self) -> usize
+        ensures { result ≤ 3 }
+    {
+        match self.phase {
+            LanePhase::Idle(_) => 0,
+            LanePhase::Prepared(_) => 3,
+            LanePhase::Committed(_) => 2,
+            LanePhase::Discarded(_) => 1,
+        }
     }
 }

@@ -3,9 +3,11 @@
 
 mod combine;
 mod coord;
+mod copying;
 mod lane;
 mod mask;
 mod phase;
 
 pub use coord::CoordCore;
+pub use copying::copied_txs;
 pub use phase::LanePhase;

@@ -1,6 +1,6 @@
 use Rattle.std.proofs.Common.{arith}
 use Rattle.coord_core.proofs.Walks.{took_one}
-use Rattle.coord_core.proofs.coord.copied_txs.Goals as goal
+use Rattle.coord_core.proofs.copying.copied_txs.Goals as goal
 
 pub loop-tx-preserved : goal.loop-tx-preserved
 loop-tx-preserved c = record {
