@@ -111,7 +111,16 @@ pub fn from_committed<S: PortSet, L: LogPort, G: Gate>(
         Ok(stamp) => stamp,
         Err(fault) => return Err(fault_at(home(shape, batch.lane), fault)),
     };
-    match from_discarded(shape, batch, discarded, locks, &mut forgets, &mut stamped, ports, gate) {
+    match from_discarded(
+        shape,
+        batch,
+        discarded,
+        locks,
+        &mut forgets,
+        &mut stamped,
+        ports,
+        gate,
+    ) {
         Ok(()) => {}
         Err(fault) => return Err(fault),
     }
@@ -163,7 +172,9 @@ pub fn from_prepared<S: PortSet, L: LogPort, G: Gate>(
         Ok(stamp) => stamp,
         Err(fault) => return Err(fault_at(home(shape, batch.lane), fault)),
     };
-    match from_committed(shape, batch, decided, &locks, &outcomes, &mut again, later, ports, repeats, gate) {
+    match from_committed(
+        shape, batch, decided, &locks, &outcomes, &mut again, later, ports, repeats, gate,
+    ) {
         Ok(()) => Ok(List::from_vec(outcomes)),
         Err(fault) => Err(fault),
     }

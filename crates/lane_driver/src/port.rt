@@ -25,7 +25,12 @@ pub trait LogPort {
     ghost open_txs: { Self → ℕ → List Compact };
 
     /// Begins a batch of an idle lane: its name, and the stamp of its Prepare.
-    fn prepare<G: Gate>(&mut self, lane: LaneId, txs: &[CompactTx], gate: &G) -> Result<(BatchId, Stamp), NodeFault>
+    fn prepare<G: Gate>(
+        &mut self,
+        lane: LaneId,
+        txs: &[CompactTx],
+        gate: &G,
+    ) -> Result<(BatchId, Stamp), NodeFault>
         requires home { IsLane (header self.old) lane }
         requires idle { phase self.old lane ≡ Idle }
         requires size { HasSize (header self.old).shape txs.now }
@@ -37,7 +42,13 @@ pub trait LogPort {
         ensures header { header self.new ≡ header self.old };
 
     /// Decides the prepared batch by what its shards replied, and tells the outcomes.
-    fn decide<G: Gate>(&mut self, lane: LaneId, replies: &Replies, out: &mut Vec<Outcome>, gate: &G) -> Result<Stamp, NodeFault>
+    fn decide<G: Gate>(
+        &mut self,
+        lane: LaneId,
+        replies: &Replies,
+        out: &mut Vec<Outcome>,
+        gate: &G,
+    ) -> Result<Stamp, NodeFault>
         requires home { IsLane (header self.old) lane }
         requires phase { phase self.old lane ≡ InPrepare }
         requires replies { AreReplies (header self.old).shape replies.now }
@@ -91,7 +102,12 @@ pub trait PortSet {
     /// How many shards there are.
     ghost count: { Self → ℕ };
 
-    fn lock<G: Gate>(&mut self, calls: &[(u32, LockCall)], out: &mut Vec<Result<Replied, NodeFault>>, gate: &G)
+    fn lock<G: Gate>(
+        &mut self,
+        calls: &[(u32, LockCall)],
+        out: &mut Vec<Result<Replied, NodeFault>>,
+        gate: &G,
+    )
         requires shards { AreShards shard (count self.old) calls.now }
         requires calls { All IsLockCall calls.now }
         requires empty { out.old.items ≡ [] }
@@ -100,7 +116,12 @@ pub trait PortSet {
         ensures capacity { vec_capacity out.new ≡ vec_capacity out.old }
         ensures count { count self.new ≡ count self.old };
 
-    fn finish<G: Gate>(&mut self, calls: &[(u32, FinishCall)], out: &mut Vec<Result<Stamp, NodeFault>>, gate: &G)
+    fn finish<G: Gate>(
+        &mut self,
+        calls: &[(u32, FinishCall)],
+        out: &mut Vec<Result<Stamp, NodeFault>>,
+        gate: &G,
+    )
         requires shards { AreShards shard (count self.old) calls.now }
         requires calls { All IsFinishCall calls.now }
         requires empty { out.old.items ≡ [] }
@@ -109,7 +130,12 @@ pub trait PortSet {
         ensures capacity { vec_capacity out.new ≡ vec_capacity out.old }
         ensures count { count self.new ≡ count self.old };
 
-    fn forget<G: Gate>(&mut self, calls: &[(u32, ForgetCall)], out: &mut Vec<Result<Stamp, NodeFault>>, gate: &G)
+    fn forget<G: Gate>(
+        &mut self,
+        calls: &[(u32, ForgetCall)],
+        out: &mut Vec<Result<Stamp, NodeFault>>,
+        gate: &G,
+    )
         requires shards { AreShards shard (count self.old) calls.now }
         requires calls { All IsForgetCall calls.now }
         requires empty { out.old.items ≡ [] }

@@ -4,6 +4,6 @@ use Rattle.lane_driver.proofs.phase.forget_again.Given as goal
 
 abbrev pub invariant-loop-time : goal.invariant-loop-time
 invariant-loop-time g l = record {
-    capacity : vec_capacity l.answers ≡ vec_capacity l.initial.answers;
-    count : g.S.PortSet.count l.shards ≡ g.S.PortSet.count l.initial.shards;
-  }
+  capacity : vec_capacity l.answers ≡ vec_capacity l.initial.answers;
+  count : g.S.PortSet.count l.shards ≡ g.S.PortSet.count l.initial.shards;
+}
