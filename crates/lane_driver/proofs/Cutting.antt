@@ -18,7 +18,9 @@ room_after r b n c m k d some room e lt ek ed =
 pub reported_more : (lane n : ℕ) (txs rest piece more : List Compact) (reports : List BatchReport) (r : BatchReport)
     → IsReported lane n txs rest reports → 0 < length rest → piece ≡ take (min n (length rest)) rest → more ≡ drop (min n (length rest)) rest
     → (r.batch.lane ≡ lane) × (length r.outcomes ≡ length piece) → IsReported lane n txs more (reports ++ r ∷ [])
-reported_more lane n txs rest piece more reports r so some p m is =
-    (piece ∷ so.0, (rest, so.1, some, p ∙ take_min n rest, m ∙ drop_min n rest),
-        subst (λ pieces. AreReports lane (reports ++ r ∷ []) pieces) (sym (reverse_onto so.0 piece []))
-            (all_zipped_more (λ (r : BatchReport) (piece : List Compact). (r.batch.lane ≡ lane) × (length r.outcomes ≡ length piece)) reports (reverse so.0) r piece so.2 is))
+reported_more lane n txs rest piece more reports r so some p m is = (
+  piece ∷ so.0,
+  (rest, so.1, some, p ∙ take_min n rest, m ∙ drop_min n rest),
+  subst (λ pieces. AreReports lane (reports ++ r ∷ []) pieces) (sym (reverse_onto so.0 piece []))
+      (all_zipped_more (λ (r : BatchReport) (piece : List Compact). (r.batch.lane ≡ lane) × (length r.outcomes ≡ length piece)) reports (reverse so.0) r piece so.2 is),
+)

@@ -11,12 +11,12 @@ pub fault_here : {X A : Type 0} (cs : List (ℕ × X)) (answers : List (Result A
     → n < length answers → length answers ≡ length cs → x ≡ get_or answers n x → x ≡ Err f → All IsOk (take n answers)
     → FirstFault shard cs answers (get_or cs n c).0 f
 fault_here cs answers n x f c h same e is ok = record {
-    place = n;
-    call = λ d. ap (λ p. p.0) (get_or_default cs n d c (omega arith));
-    inside = omega arith;
-    fault = λ a. get_or_default answers n a x h ∙ (sym e ∙ is);
-    before = ok;
-  }
+  place = n;
+  call = λ d. ap (λ p. p.0) (get_or_default cs n d c (omega arith));
+  inside = omega arith;
+  fault = λ a. get_or_default answers n a x h ∙ (sym e ∙ is);
+  before = ok;
+}
 
 pub all_ok : {A Y : Type 0} (f : Y → A) (ys : List Y) (xs answers : List (Result A NodeFault)) (n : ℕ) → n ≡ length xs
     → map (λ y. Ok (f y)) ys ≡ xs → map (λ x. x) xs ≡ take (length xs) answers → All IsOk (take n answers)

@@ -34,7 +34,7 @@ pub lock_sizes : (b : Batch) (t : ℕ) (ps : List (ℕ × List Entry)) (cs : Lis
 lock_sizes b t ps cs n m e h k =
     let P : ℕ × LockCall → Type 0 = λ c. length c.1.part ≤ m in
     All-same P cs (map (lock_of b t) ps) e
-        (All-map P (lock_of b t) ps (All-weaker (λ p. length p.1 ≤ n) (λ p. length p.1 ≤ m) (λ p lt. omega arith) ps h))
+    (All-map P (lock_of b t) ps (All-weaker (λ p. length p.1 ≤ n) (λ p. length p.1 ≤ m) (λ p lt. omega arith) ps h))
 
 pub finish_shards : (b : Batch) (t : ℕ) (os : List Outcome) (m n : ℕ) → m ≡ n → (cs : List (ℕ × LockCall)) (fs : List (ℕ × FinishCall)) → fs ≡ map (finish_of b t os) cs → AreShards shard n cs → AreShards shard m fs
 finish_shards b t os m n k cs fs e h = mapped_shards (finish_of b t os) (λ x. refl) m n k cs fs e h

@@ -50,7 +50,10 @@ fn later(one: Stamp, other: Stamp) -> Stamp
 
 /// The greatest stamp of the answers, or the first fault.
 #[tactic(auto, using(crate::proofs::Greatest::latest_steps))]
-pub fn latest<C>(calls: &[(u32, C)], answers: &[Result<Stamp, NodeFault>]) -> Result<Stamp, ShardFault>
+pub fn latest<C>(
+    calls: &[(u32, C)],
+    answers: &[Result<Stamp, NodeFault>],
+) -> Result<Stamp, ShardFault>
     requires { length answers.now ≡ length calls.now }
     ensures { MatchResult result (IsLatest answers.now) (λ e. FirstFault shard calls.now answers.now e.shard e.fault) }
 {

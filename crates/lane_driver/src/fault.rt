@@ -61,8 +61,8 @@ pub(crate) fn fault_at(node: NodeId, fault: NodeFault) -> LaneFault
     LaneFault { node, fault }
 }
 
-/// The driver got no memory.
-pub(crate) fn no_memory() -> LaneFault
+/// The fault of a driver that got no memory.
+pub fn no_memory() -> LaneFault
     ensures { result ≡ record { node = 0; fault = LaneFaultKind.Memory } }
 {
     LaneFault {

@@ -4,16 +4,15 @@
 mod answer;
 mod batch;
 mod fault;
-
 mod lane;
 mod order;
 mod phase;
 mod port;
 mod room;
 
+pub use answer::{ShardFault, gather, latest};
 pub use batch::{from_committed, from_discarded, from_prepared, run_batch};
-pub use fault::{BatchReport, LaneFault, LaneFaultKind, LaneReport};
-pub use answer::{gather, latest, ShardFault};
+pub use fault::{BatchReport, LaneFault, LaneFaultKind, LaneReport, no_memory};
 pub use lane::run_lane;
 pub use order::{finish_calls, forget_calls, lock_calls};
 pub use port::{LogPort, PortSet, Ports, ShardPort};

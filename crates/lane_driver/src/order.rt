@@ -9,13 +9,25 @@ use cbdc_types::{
 };
 
 /// The lock calls of a batch for its parts. There is room for them.
-pub fn lock_calls(parts: List<(u32, Part)>, batch: &BatchId, cause: Stamp, out: &mut Vec<(u32, LockCall)>)
+pub fn lock_calls(
+    parts: List<(u32, Part)>,
+    batch: &BatchId,
+    cause: Stamp,
+    out: &mut Vec<(u32, LockCall)>,
+)
     requires empty { out.old.items ≡ [] }
     requires room { length parts ≤ vec_capacity out.old }
     ensures { out.new.items ≡ map (lock_of batch.now cause) parts }
 {
     for (shard, part) in parts.into_vec() {
-        out.push_reserved((shard, LockCall { batch: *batch, part, cause }));
+        out.push_reserved((
+            shard,
+            LockCall {
+                batch: *batch,
+                part,
+                cause,
+            },
+        ));
     }
 }
 
@@ -77,12 +89,23 @@ pub fn finish_calls(
 }
 
 /// The forget calls of a batch. There is room for them.
-pub fn forget_calls(locks: &[(u32, LockCall)], batch: &BatchId, cause: Stamp, out: &mut Vec<(u32, ForgetCall)>)
+pub fn forget_calls(
+    locks: &[(u32, LockCall)],
+    batch: &BatchId,
+    cause: Stamp,
+    out: &mut Vec<(u32, ForgetCall)>,
+)
     requires empty { out.old.items ≡ [] }
     requires room { length locks.now ≤ vec_capacity out.old }
     ensures { out.new.items ≡ map (forget_of batch.now cause) locks.now }
 {
     for lock in locks {
-        out.push_reserved((lock.0, ForgetCall { batch: *batch, cause }));
+        out.push_reserved((
+            lock.0,
+            ForgetCall {
+                batch: *batch,
+                cause,
+            },
+        ));
     }
 }

@@ -24,14 +24,13 @@ pub trait LogPort {
     /// The transactions of a lane's batch that is not done.
     ghost open_txs: { Self → ℕ → List Compact };
 
-    /// The name of the loan that the port holds, where it holds a node that is lent.
-    ghost loan: { Self → ℕ };
-
-    /// How often the coordinator's disk has failed.
-    ghost faults: { Self → ℕ };
-
     /// Begins a batch of an idle lane: its name, and the stamp of its Prepare.
-    fn prepare<G: Gate>(&mut self, lane: LaneId, txs: &[CompactTx], gate: &G) -> Result<(BatchId, Stamp), NodeFault>
+    fn prepare<G: Gate>(
+        &mut self,
+        lane: LaneId,
+        txs: &[CompactTx],
+        gate: &G,
+    ) -> Result<(BatchId, Stamp), NodeFault>
         requires home { IsLane (header self.old) lane }
         requires idle { phase self.old lane ≡ Idle }
         requires size { HasSize (header self.old).shape txs.now }
@@ -40,12 +39,16 @@ pub trait LogPort {
         ensures phase { OnOk result (phase self.new lane ≡ InPrepare) }
         ensures txs { OnOk result (open_txs self.new lane ≡ txs.now) }
         ensures others { OnOk result (KeepsOthers (header self.old) lane (phase self.old) (phase self.new) (open_txs self.old) (open_txs self.new)) }
-        ensures header { header self.new ≡ header self.old }
-        ensures loan { loan self.new ≡ loan self.old }
-        ensures later { faults self.old ≤ faults self.new };
+        ensures header { header self.new ≡ header self.old };
 
     /// Decides the prepared batch by what its shards replied, and tells the outcomes.
-    fn decide<G: Gate>(&mut self, lane: LaneId, replies: &Replies, out: &mut Vec<Outcome>, gate: &G) -> Result<Stamp, NodeFault>
+    fn decide<G: Gate>(
+        &mut self,
+        lane: LaneId,
+        replies: &Replies,
+        out: &mut Vec<Outcome>,
+        gate: &G,
+    ) -> Result<Stamp, NodeFault>
         requires home { IsLane (header self.old) lane }
         requires phase { phase self.old lane ≡ InPrepare }
         requires replies { AreReplies (header self.old).shape replies.now }
@@ -55,9 +58,7 @@ pub trait LogPort {
         ensures phase { OnOk result (phase self.new lane ≡ InCommit) }
         ensures outcomes { OnOk result (length out.new.items ≡ length (open_txs self.old lane)) }
         ensures others { OnOk result (KeepsOthers (header self.old) lane (phase self.old) (phase self.new) (open_txs self.old) (open_txs self.new)) }
-        ensures header { header self.new ≡ header self.old }
-        ensures loan { loan self.new ≡ loan self.old }
-        ensures later { faults self.old ≤ faults self.new };
+        ensures header { header self.new ≡ header self.old };
 
     /// Writes down that the decided batch is applied everywhere.
     fn discard<G: Gate>(&mut self, lane: LaneId, cause: Stamp, gate: &G) -> Result<Stamp, NodeFault>
@@ -67,9 +68,7 @@ pub trait LogPort {
         ensures stamp { IfOk result IsStamp }
         ensures phase { OnOk result (phase self.new lane ≡ InDiscard) }
         ensures others { OnOk result (KeepsOthers (header self.old) lane (phase self.old) (phase self.new) (open_txs self.old) (open_txs self.new)) }
-        ensures header { header self.new ≡ header self.old }
-        ensures loan { loan self.new ≡ loan self.old }
-        ensures later { faults self.old ≤ faults self.new };
+        ensures header { header self.new ≡ header self.old };
 
     /// Writes down that the batch is forgotten everywhere.
     fn done<G: Gate>(&mut self, lane: LaneId, cause: Stamp, gate: &G) -> Result<Stamp, NodeFault>
@@ -79,9 +78,7 @@ pub trait LogPort {
         ensures stamp { IfOk result IsStamp }
         ensures phase { OnOk result (phase self.new lane ≡ Idle) }
         ensures others { OnOk result (KeepsOthers (header self.old) lane (phase self.old) (phase self.new) (open_txs self.old) (open_txs self.new)) }
-        ensures header { header self.new ≡ header self.old }
-        ensures loan { loan self.new ≡ loan self.old }
-        ensures later { faults self.old ≤ faults self.new };
+        ensures header { header self.new ≡ header self.old };
 }
 
 /// One shard.
@@ -105,44 +102,47 @@ pub trait PortSet {
     /// How many shards there are.
     ghost count: { Self → ℕ };
 
-    /// The name of the loan that the port holds, where it holds nodes that are lent.
-    ghost loan: { Self → ℕ };
-
-    /// How often the disk of each shard has failed.
-    ghost faults: { Self → ℕ → ℕ };
-
-    fn lock<G: Gate>(&mut self, calls: &[(u32, LockCall)], out: &mut Vec<Result<Replied, NodeFault>>, gate: &G)
+    fn lock<G: Gate>(
+        &mut self,
+        calls: &[(u32, LockCall)],
+        out: &mut Vec<Result<Replied, NodeFault>>,
+        gate: &G,
+    )
         requires shards { AreShards shard (count self.old) calls.now }
         requires calls { All IsLockCall calls.now }
         requires empty { out.old.items ≡ [] }
         requires room { length calls.now ≤ vec_capacity out.old }
         ensures each { EachAnswer LockTold calls.now out.new.items }
         ensures capacity { vec_capacity out.new ≡ vec_capacity out.old }
-        ensures count { count self.new ≡ count self.old }
-        ensures loan { loan self.new ≡ loan self.old }
-        ensures later { (n : ℕ) → faults self.old n ≤ faults self.new n };
+        ensures count { count self.new ≡ count self.old };
 
-    fn finish<G: Gate>(&mut self, calls: &[(u32, FinishCall)], out: &mut Vec<Result<Stamp, NodeFault>>, gate: &G)
+    fn finish<G: Gate>(
+        &mut self,
+        calls: &[(u32, FinishCall)],
+        out: &mut Vec<Result<Stamp, NodeFault>>,
+        gate: &G,
+    )
         requires shards { AreShards shard (count self.old) calls.now }
         requires calls { All IsFinishCall calls.now }
         requires empty { out.old.items ≡ [] }
         requires room { length calls.now ≤ vec_capacity out.old }
         ensures each { EachAnswer StampTold calls.now out.new.items }
         ensures capacity { vec_capacity out.new ≡ vec_capacity out.old }
-        ensures count { count self.new ≡ count self.old }
-        ensures loan { loan self.new ≡ loan self.old }
-        ensures later { (n : ℕ) → faults self.old n ≤ faults self.new n };
+        ensures count { count self.new ≡ count self.old };
 
-    fn forget<G: Gate>(&mut self, calls: &[(u32, ForgetCall)], out: &mut Vec<Result<Stamp, NodeFault>>, gate: &G)
+    fn forget<G: Gate>(
+        &mut self,
+        calls: &[(u32, ForgetCall)],
+        out: &mut Vec<Result<Stamp, NodeFault>>,
+        gate: &G,
+    )
         requires shards { AreShards shard (count self.old) calls.now }
         requires calls { All IsForgetCall calls.now }
         requires empty { out.old.items ≡ [] }
         requires room { length calls.now ≤ vec_capacity out.old }
         ensures each { EachAnswer StampTold calls.now out.new.items }
         ensures capacity { vec_capacity out.new ≡ vec_capacity out.old }
-        ensures count { count self.new ≡ count self.old }
-        ensures loan { loan self.new ≡ loan self.old }
-        ensures later { (n : ℕ) → faults self.old n ≤ faults self.new n };
+        ensures count { count self.new ≡ count self.old };
 }
 
 /// What a lane speaks to: the shards, and the log of its coordinator.

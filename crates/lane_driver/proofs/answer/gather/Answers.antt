@@ -12,6 +12,6 @@ returns-in-Err c =
     let so = YieldsList-so_far road c.loop-answer.yielded _ c.loop-answer.yielded_by in
     let inv = c.loop-answer.invariant in
     fault_here c.args.calls.now c.args.answers.items c.loop-answer.place c.in-Some.answer c.in-Err.fault c.index-calls-place.result
-        (omega (arith, at.0, inv.place)) c.requires.as_many
-        (subst (λ n. c.in-Some.answer ≡ get_or c.args.answers.items n c.in-Some.answer) (sym inv.place) at.1)
-        c.in-Err.is (all_ok replied_of c.loop-answer.replies.items c.loop-answer.yielded c.args.answers.items c.loop-answer.place inv.place inv.replies so)
+    (omega (arith, at.0, inv.place)) c.requires.as_many
+    (subst (λ n. c.in-Some.answer ≡ get_or c.args.answers.items n c.in-Some.answer) (sym inv.place) at.1)
+    c.in-Err.is (all_ok replied_of c.loop-answer.replies.items c.loop-answer.yielded c.args.answers.items c.loop-answer.place inv.place inv.replies so)

@@ -6,8 +6,8 @@ use Rattle.lane_driver.proofs.answer.gather.Given as goal
 
 abbrev pub invariant-loop-answer : goal.invariant-loop-answer
 invariant-loop-answer l = record {
-    place : l.place ≡ length l.yielded;
-    shards : map (λ r. r.shard) l.replies.items ≡ map shard (take l.place l.calls);
-    replies : map (λ r. Ok (replied_of r)) l.replies.items ≡ l.yielded;
-    room : vec_capacity l.replies ≡ vec_capacity l.initial.replies;
-  }
+  place : l.place ≡ length l.yielded;
+  shards : map (λ r. r.shard) l.replies.items ≡ map shard (take l.place l.calls);
+  replies : map (λ r. Ok (replied_of r)) l.replies.items ≡ l.yielded;
+  room : vec_capacity l.replies ≡ vec_capacity l.initial.replies;
+}

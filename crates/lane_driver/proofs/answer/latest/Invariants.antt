@@ -5,6 +5,6 @@ use Rattle.lane_driver.proofs.answer.latest.Given as goal
 
 abbrev pub invariant-loop-place : goal.invariant-loop-place
 invariant-loop-place g l = record {
-    ok : All IsOk (take l.place l.answers);
-    greatest : l.latest ≡ latest_of (take l.place l.answers);
-  }
+  ok : All IsOk (take l.place l.answers);
+  greatest : l.latest ≡ latest_of (take l.place l.answers);
+}

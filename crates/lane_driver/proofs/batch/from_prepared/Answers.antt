@@ -30,10 +30,10 @@ from_committed-requires-clause-locks g c =
 pub from_committed-requires-clause-parts : goal.from_committed-requires-clause-parts
 from_committed-requires-clause-parts g c =
     lock_sizes c.args.batch.now c.args.cause c.args.room.parts _ _ _ (c.deref-3.ensures.value ∙ c.lock_calls.ensures) c.requires.room.small
-        (ap length c.deref-4.ensures.value ∙ c.in-Ok-decide.ensures.outcomes)
+    (ap length c.deref-4.ensures.value ∙ c.in-Ok-decide.ensures.outcomes)
 
 pub from_committed-requires-clause-room : goal.from_committed-requires-clause-room
 from_committed-requires-clause-room g c =
     later_room _ _ _ _ c.args.room.later
-        (ap length (c.deref-3.ensures.value ∙ c.lock_calls.ensures) ∙ length-map c.args.room.parts _)
-        (ap length c.deref-4.ensures.value ∙ c.in-Ok-decide.ensures.outcomes) c.requires.room.later
+    (ap length (c.deref-3.ensures.value ∙ c.lock_calls.ensures) ∙ length-map c.args.room.parts _)
+    (ap length c.deref-4.ensures.value ∙ c.in-Ok-decide.ensures.outcomes) c.requires.room.later

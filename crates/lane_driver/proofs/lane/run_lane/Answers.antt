@@ -13,17 +13,13 @@ pieces-preserved g c =
     let at = c.split_at.ensures in
     let room : vec_len c.pieces.batches < vec_capacity c.pieces.batches = search rules in
     record {
-        idle = search rules;
-        header = search rules;
-        count = search rules;
-        shard_loan = search rules;
-        log_loan = search rules;
-        shard_later = λ n. omega (arith, c.pieces.invariant.shard_later n, c.in-Ok-one_batch.ensures.shard_later n);
-        log_later = omega (arith, c.pieces.invariant.log_later, c.in-Ok-one_batch.ensures.log_later);
-        limits = All-same IsCompact c.split_at.result.1.now (drop c.min.result c.pieces.rest.now) at.back (All-drop IsCompact c.min.result c.pieces.rest.now c.pieces.invariant.limits);
-        room = room_after (length c.pieces.rest.now) c.args.shape.now.batch _ _ (length c.split_at.result.1.now) _ _ some c.pieces.invariant.room (ap (λ n. length c.split_at.result.1.now + n) (sym size) ∙ at.back_len) room
-            c.push_reserved.ensures.len c.push_reserved.ensures.capacity;
-        report = subst (λ reports. IsReported c.args.lane c.args.shape.now.batch c.args.txs.now c.split_at.result.1.now reports) (sym c.push_reserved.ensures.items)
-            (reported_more c.args.lane c.args.shape.now.batch c.args.txs.now c.pieces.rest.now c.split_at.result.0.now c.split_at.result.1.now c.pieces.batches.items c.in-Ok-one_batch.report
-                c.pieces.invariant.report some (at.front ∙ ap (λ n. take n c.pieces.rest.now) size) (at.back ∙ ap (λ n. drop n c.pieces.rest.now) size) c.in-Ok-one_batch.ensures.report);
-      }
+      idle = search rules;
+      header = search rules;
+      count = search rules;
+      limits = All-same IsCompact c.split_at.result.1.now (drop c.min.result c.pieces.rest.now) at.back (All-drop IsCompact c.min.result c.pieces.rest.now c.pieces.invariant.limits);
+      room = room_after (length c.pieces.rest.now) c.args.shape.now.batch _ _ (length c.split_at.result.1.now) _ _ some c.pieces.invariant.room (ap (λ n. length c.split_at.result.1.now + n) (sym size) ∙ at.back_len) room
+          c.push_reserved.ensures.len c.push_reserved.ensures.capacity;
+      report = subst (λ reports. IsReported c.args.lane c.args.shape.now.batch c.args.txs.now c.split_at.result.1.now reports) (sym c.push_reserved.ensures.items)
+          (reported_more c.args.lane c.args.shape.now.batch c.args.txs.now c.pieces.rest.now c.split_at.result.0.now c.split_at.result.1.now c.pieces.batches.items c.in-Ok-one_batch.report
+          c.pieces.invariant.report some (at.front ∙ ap (λ n. take n c.pieces.rest.now) size) (at.back ∙ ap (λ n. drop n c.pieces.rest.now) size) c.in-Ok-one_batch.ensures.report);
+    }

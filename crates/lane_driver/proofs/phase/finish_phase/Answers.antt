@@ -13,4 +13,4 @@ of_shard-requires g c = fault_inside c.args.calls.now c.as_slice.result.now c.in
 pub returns-in-Ok-clause-stamp : goal.returns-in-Ok-clause-stamp
 returns-in-Ok-clause-stamp g c =
     subst (λ t. t < 2 ^ 63) (sym c.in-Ok.ensures.1)
-        (latest_small c.args.calls.now c.as_slice.result.now (subst (λ answers. EachAnswer StampTold c.args.calls.now answers) (sym c.as_slice.ensures.value) c.finish.ensures.each))
+    (latest_small c.args.calls.now c.as_slice.result.now (subst (λ answers. EachAnswer StampTold c.args.calls.now answers) (sym c.as_slice.ensures.value) c.finish.ensures.each))

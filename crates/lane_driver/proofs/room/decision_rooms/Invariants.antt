@@ -5,7 +5,7 @@ use Rattle.lane_driver.proofs.room.decision_rooms.Given as goal
 
 abbrev pub invariant-loop-place : goal.invariant-loop-place
 invariant-loop-place l = record {
-    rooms : All (λ w. (w.items ≡ []) × (l.size ≤ vec_capacity w)) l.rooms.items;
-    len : vec_len l.rooms ≡ l._place;
-    capacity : vec_capacity l.rooms ≡ l.count;
-  }
+  rooms : All (λ w. (w.items ≡ []) × (l.size ≤ vec_capacity w)) l.rooms.items;
+  len : vec_len l.rooms ≡ l._place;
+  capacity : vec_capacity l.rooms ≡ l.count;
+}

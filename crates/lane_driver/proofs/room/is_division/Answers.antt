@@ -15,8 +15,8 @@ loop-shard-preserved c =
     let at : x.0 ≡ (get_or xs i x).0 = ap (λ p. p.0) c.loop-shard-item.is in
     let size : length x.1 ≤ c.args.size = omega (arith, c.len.ensures, c.if-len-size.false) in
     record {
-        rising = rising-more shard xs i x c.loop-shard.least lt (omega (arith, at)) inv.rising inv.before;
-        before = before-more shard xs i x c.loop-shard.least c.from-least.result lt (omega (arith, at)) (omega arith) inv.before;
-        below = All-more (λ p. shard p < c.args.shards) xs i x lt inv.below (omega (arith, at));
-        small = All-more (λ p. length p.1 ≤ c.args.size) xs i x lt inv.small (subst (λ p. length p.1 ≤ c.args.size) c.loop-shard-item.is size);
-      }
+      rising = rising-more shard xs i x c.loop-shard.least lt (omega (arith, at)) inv.rising inv.before;
+      before = before-more shard xs i x c.loop-shard.least c.from-least.result lt (omega (arith, at)) (omega arith) inv.before;
+      below = All-more (λ p. shard p < c.args.shards) xs i x lt inv.below (omega (arith, at));
+      small = All-more (λ p. length p.1 ≤ c.args.size) xs i x lt inv.small (subst (λ p. length p.1 ≤ c.args.size) c.loop-shard-item.is size);
+    }

@@ -1,0 +1,58 @@
+-- The lanes that are still open once one is resumed.
+use Rattle.std.proofs.Common.{◌≡◌, ◌≢◌, ℕ, suc, ◌+◌, ◌<◌, List, [], ◌∷◌, ◌++◌, length, get_or, take, drop, refl, arith, ap, ◌∙◌, sym, subst, add-one, drop-cons}
+use Rattle.std.specs.List.{All}
+use Rattle.std.proofs.lemmas.List.Elements.{All-nil, All-cons, All-head, All-tail}
+use Rattle.cbdc_types.specs.declared.batch.OpenLane.{OpenLane}
+use Rattle.cbdc_model.specs.Records.{Header, Compact}
+use Rattle.cbdc_model.specs.Slots.{Phase}
+use Rattle.lane_driver.specs.Told.{IsLane, KeepsOthers}
+use Rattle.std.proofs.lemmas.List.{take_more}
+use Rattle.std.proofs.lemmas.Slice.Zip.{all_zipped_more}
+use Rattle.recovery.specs.declared.resumed.ResumedBatch.{ResumedBatch}
+use Rattle.recovery.specs.Open.{IsOpen, LanesAbove, LanesRise, IsResumed, AreResumed}
+
+pub still_open : (h k : Header) (n : ℕ) (p q : ℕ → Phase) (t u : ℕ → List Compact) (o : OpenLane) → k ≡ h → KeepsOthers h n p q t u → n < o.batch.lane → IsOpen h p t o → IsOpen k q u o
+still_open h k n p q t u o e keeps lt is =
+    let other : o.batch.lane ≢ n = omega arith in
+    let same = keeps o.batch.lane is.lane other in
+    subst (λ h. IsOpen h q u o) (sym e) (record {
+      lane = is.lane;
+      phase_is = same.0 ∙ is.phase_is;
+      txs = same.1 ∙ is.txs;
+      size = is.size;
+      limits = is.limits;
+      stamp = is.stamp;
+      outcomes = is.outcomes;
+    })
+
+all_still_open : (h k : Header) (n : ℕ) (p q : ℕ → Phase) (t u : ℕ → List Compact) (os : List OpenLane) → k ≡ h → KeepsOthers h n p q t u → LanesAbove n os → All (IsOpen h p t) os → All (IsOpen k q u) os
+all_still_open h k n p q t u [] e keeps above all = All-nil (IsOpen k q u)
+all_still_open h k n p q t u (o ∷ os) e keeps above all =
+    All-cons (IsOpen k q u) o os (still_open h k n p q t u o e keeps above.0 (All-head (IsOpen h p t) o os all))
+    (all_still_open h k n p q t u os e keeps above.1 (All-tail (IsOpen h p t) o os all))
+
+split_rest : (os : List OpenLane) (i : ℕ) (o : OpenLane) → i < length os → o ≡ get_or os i o → drop i os ≡ o ∷ drop (i + 1) os
+split_rest os i o lt e = rw add-one (drop-cons os i o lt ∙ ap (λ x. x ∷ drop (suc i) os) (sym e))
+
+pub open_here : (h : Header) (p : ℕ → Phase) (t : ℕ → List Compact) (os : List OpenLane) (i : ℕ) (o : OpenLane) → i < length os → o ≡ get_or os i o
+    → All (IsOpen h p t) (drop i os) → IsOpen h p t o
+open_here h p t os i o lt e all =
+    let P : List OpenLane → Type 0 = λ xs. All (IsOpen h p t) xs in
+    All-head (IsOpen h p t) o (drop (i + 1) os) (subst P (split_rest os i o lt e) all)
+
+pub rise_rest : (os : List OpenLane) (i : ℕ) (o : OpenLane) → i < length os → o ≡ get_or os i o → LanesRise (drop i os) → LanesRise (drop (i + 1) os)
+rise_rest os i o lt e rise = (subst LanesRise (split_rest os i o lt e) rise).1
+
+pub open_rest : (h k : Header) (p q : ℕ → Phase) (t u : ℕ → List Compact) (os : List OpenLane) (i : ℕ) (o : OpenLane) → i < length os → o ≡ get_or os i o
+    → LanesRise (drop i os) → All (IsOpen h p t) (drop i os) → k ≡ h → KeepsOthers h o.batch.lane p q t u → All (IsOpen k q u) (drop (i + 1) os)
+open_rest h k p q t u os i o lt e rise all same keeps =
+    let P : List OpenLane → Type 0 = λ xs. All (IsOpen h p t) xs in
+    let split = split_rest os i o lt e in
+    all_still_open h k o.batch.lane p q t u (drop (i + 1) os) same keeps (subst LanesRise split rise).0
+    (All-tail (IsOpen h p t) o (drop (i + 1) os) (subst P split all))
+
+pub resumed_more : (os : List OpenLane) (rs : List ResumedBatch) (i : ℕ) (o : OpenLane) (r : ResumedBatch) → i < length os → o ≡ get_or os i o
+    → AreResumed (take i os) rs → IsResumed o r → AreResumed (take (i + 1) os) (rs ++ r ∷ [])
+resumed_more os rs i o r lt e so is =
+    subst (λ xs. AreResumed xs (rs ++ r ∷ [])) (sym (take_more os i o lt))
+    (all_zipped_more IsResumed (take i os) rs (get_or os i o) r so (subst (λ x. IsResumed x r) e is))

@@ -1,0 +1,24 @@
+use Rattle.std.proofs.Common.{◌∙◌, ◌≡◌, ◌+◌, sym, ap, subst, take}
+use Rattle.recovery.specs.Open.{AreResumed}
+use Rattle.recovery.proofs.Rest.{open_here, rise_rest, open_rest, resumed_more}
+use Rattle.recovery.proofs.resuming.resume.Goals as goal
+
+pub resume_lane-requires-clause-is_open : goal.resume_lane-requires-clause-is_open
+resume_lane-requires-clause-is_open g c =
+    open_here _ _ _ c.args.lanes.now c.loop-unfinished.unfinished-index _ c.loop-unfinished-test.true c.unfinished-item.is c.loop-unfinished.invariant.open_rest
+
+pub loop-unfinished-preserved : goal.loop-unfinished-preserved
+loop-unfinished-preserved g c =
+    let inv = c.loop-unfinished.invariant in
+    let i = c.loop-unfinished.unfinished-index in
+    let told = c.in-Ok-resume_lane.ensures in
+    record {
+      header = told.header ∙ inv.header;
+      count = told.count ∙ inv.count;
+      open_rest = open_rest _ _ _ _ _ _ c.args.lanes.now i c.unfinished-item.result c.loop-unfinished-test.true c.unfinished-item.is inv.rise inv.open_rest told.header told.others;
+      rise = rise_rest c.args.lanes.now i c.unfinished-item.result c.loop-unfinished-test.true c.unfinished-item.is inv.rise;
+      resumed = subst (λ batches. AreResumed (take (i + 1) c.args.lanes.now) batches) (sym c.push_reserved.ensures.items)
+          (resumed_more c.args.lanes.now c.loop-unfinished.batches.items i c.unfinished-item.result c.in-Ok-resume_lane.batch c.loop-unfinished-test.true c.unfinished-item.is inv.resumed told.resumed);
+      len = c.push_reserved.ensures.len ∙ ap (λ n. n + 1) inv.len;
+      room = c.push_reserved.ensures.capacity ∙ inv.room;
+    }

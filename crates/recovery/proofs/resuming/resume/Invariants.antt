@@ -1,0 +1,16 @@
+use Rattle.std.proofs.Common.{◌≡◌, length, take, drop}
+use Rattle.std.specs.List.{All}
+use Rattle.std.specs.Vec.{vec_capacity, vec_len}
+use Rattle.recovery.specs.Open.{IsOpen, LanesRise, AreResumed}
+use Rattle.recovery.proofs.resuming.resume.Given as goal
+
+abbrev pub invariant-loop-unfinished : goal.invariant-loop-unfinished
+invariant-loop-unfinished g l = record {
+  header : g.L.LogPort.header l.ports.log ≡ g.L.LogPort.header l.initial.ports.log;
+  count : g.S.PortSet.count l.ports.shards ≡ g.S.PortSet.count l.initial.ports.shards;
+  open_rest : All (IsOpen (g.L.LogPort.header l.ports.log) (g.L.LogPort.phase l.ports.log) (g.L.LogPort.open_txs l.ports.log)) (drop l.unfinished-index l.lanes);
+  rise : LanesRise (drop l.unfinished-index l.lanes);
+  resumed : AreResumed (take l.unfinished-index l.lanes) l.batches.items;
+  len : vec_len l.batches ≡ l.unfinished-index;
+  room : vec_capacity l.batches ≡ length l.lanes;
+}

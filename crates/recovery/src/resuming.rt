@@ -1,0 +1,241 @@
+// Open batches are taken to their end.
+ghost use Rattle.std.specs.Prelude.{◌≡◌, ◌≤◌, ◌<◌, [], length, IfOk, OnOk, All};
+ghost use Rattle.std.specs.Vec.{vec_capacity};
+ghost use Rattle.cbdc_model.specs.Slots.{Idle};
+ghost use Rattle.cbdc_types.specs.declared.batch.Phase.TheVariants.{Prepared, Committed, Discarded};
+ghost use Rattle.lane_driver.specs.Told.{KeepsOthers};
+ghost use Rattle.recovery.specs.Open.{IsOpen, LanesRise, IsResumed, AreResumed};
+
+use crate::resumed::{Resumed, ResumedBatch};
+use cbdc_types::{List, OpenLane, Outcome, Outcomes, Phase, Shape};
+use lane_driver::{
+    BatchRoom, LaneFault, LaterRoom, LogPort, PortSet, Ports, from_committed, from_discarded,
+    from_prepared, lock_calls, no_memory,
+};
+use outside::Gate;
+use std::alloc::{AllocError, Global};
+
+// The outcomes once more.
+fn copied(alloc: Global, outcomes: &[Outcome]) -> Result<Outcomes, AllocError>
+    ensures { IfOk result (λ os. os ≡ outcomes.now) }
+{
+    Ok(List::from_vec(Vec::from_slice(alloc, outcomes)?))
+}
+
+// A prepared batch asks Lock again and goes on.
+fn resume_prepared<S: PortSet, L: LogPort, G: Gate>(
+    alloc: Global,
+    shape: &Shape,
+    unfinished: &OpenLane,
+    ports: &mut Ports<S, L>,
+    gate: &G,
+) -> Result<ResumedBatch, LaneFault>
+    requires phase { unfinished.now.phase ≡ Prepared }
+    requires is_open { IsOpen (L.header ports.old.log) (L.phase ports.old.log) (L.open_txs ports.old.log) unfinished.now }
+    requires shape { (L.header ports.old.log).shape ≡ shape.now }
+    requires count { S.count ports.old.shards ≡ shape.now.shards }
+    ensures idle { OnOk result (L.phase ports.new.log unfinished.now.batch.lane ≡ Idle) }
+    ensures others { OnOk result (KeepsOthers (L.header ports.old.log) unfinished.now.batch.lane (L.phase ports.old.log) (L.phase ports.new.log) (L.open_txs ports.old.log) (L.open_txs ports.new.log)) }
+    ensures header { L.header ports.new.log ≡ L.header ports.old.log }
+    ensures count { S.count ports.new.shards ≡ S.count ports.old.shards }
+    ensures resumed { IfOk result (IsResumed unfinished.now) }
+{
+    let _limit = shape.batch();
+    let room = match BatchRoom::take(alloc, shape, unfinished.txs.as_slice()) {
+        Ok(room) => room,
+        Err(_) => return Err(no_memory()),
+    };
+    match from_prepared(
+        shape,
+        &unfinished.batch,
+        unfinished.stamp,
+        room,
+        ports,
+        0,
+        gate,
+    ) {
+        Ok(outcomes) => Ok(ResumedBatch {
+            batch: unfinished.batch,
+            phase: Phase::Prepared,
+            outcomes,
+        }),
+        Err(fault) => Err(fault),
+    }
+}
+
+// A committed batch asks Finish and goes on.
+fn resume_committed<S: PortSet, L: LogPort, G: Gate>(
+    alloc: Global,
+    shape: &Shape,
+    unfinished: &OpenLane,
+    ports: &mut Ports<S, L>,
+    gate: &G,
+) -> Result<ResumedBatch, LaneFault>
+    requires phase { unfinished.now.phase ≡ Committed }
+    requires is_open { IsOpen (L.header ports.old.log) (L.phase ports.old.log) (L.open_txs ports.old.log) unfinished.now }
+    requires shape { (L.header ports.old.log).shape ≡ shape.now }
+    requires count { S.count ports.old.shards ≡ shape.now.shards }
+    ensures idle { OnOk result (L.phase ports.new.log unfinished.now.batch.lane ≡ Idle) }
+    ensures others { OnOk result (KeepsOthers (L.header ports.old.log) unfinished.now.batch.lane (L.phase ports.old.log) (L.phase ports.new.log) (L.open_txs ports.old.log) (L.open_txs ports.new.log)) }
+    ensures header { L.header ports.new.log ≡ L.header ports.old.log }
+    ensures count { S.count ports.new.shards ≡ S.count ports.old.shards }
+    ensures resumed { IfOk result (IsResumed unfinished.now) }
+{
+    let _limit = shape.batch();
+    let outcomes = match copied(alloc, unfinished.outcomes.as_slice()) {
+        Ok(outcomes) => outcomes,
+        Err(_) => return Err(no_memory()),
+    };
+    let room = match BatchRoom::take(alloc, shape, unfinished.txs.as_slice()) {
+        Ok(room) => room,
+        Err(_) => return Err(no_memory()),
+    };
+    let BatchRoom {
+        parts,
+        mut locks,
+        replied: _,
+        mut again,
+        replies: _,
+        outcomes: _,
+        later,
+    } = room;
+    lock_calls(parts, &unfinished.batch, unfinished.stamp, &mut locks);
+    match from_committed(
+        shape,
+        &unfinished.batch,
+        unfinished.stamp,
+        &locks,
+        unfinished.outcomes.as_slice(),
+        &mut again,
+        later,
+        ports,
+        0,
+        gate,
+    ) {
+        Ok(()) => Ok(ResumedBatch {
+            batch: unfinished.batch,
+            phase: Phase::Committed,
+            outcomes,
+        }),
+        Err(fault) => Err(fault),
+    }
+}
+
+// A discarded batch asks Forget and goes on.
+fn resume_discarded<S: PortSet, L: LogPort, G: Gate>(
+    alloc: Global,
+    shape: &Shape,
+    unfinished: &OpenLane,
+    ports: &mut Ports<S, L>,
+    gate: &G,
+) -> Result<ResumedBatch, LaneFault>
+    requires phase { unfinished.now.phase ≡ Discarded }
+    requires is_open { IsOpen (L.header ports.old.log) (L.phase ports.old.log) (L.open_txs ports.old.log) unfinished.now }
+    requires shape { (L.header ports.old.log).shape ≡ shape.now }
+    requires count { S.count ports.old.shards ≡ shape.now.shards }
+    ensures idle { OnOk result (L.phase ports.new.log unfinished.now.batch.lane ≡ Idle) }
+    ensures others { OnOk result (KeepsOthers (L.header ports.old.log) unfinished.now.batch.lane (L.phase ports.old.log) (L.phase ports.new.log) (L.open_txs ports.old.log) (L.open_txs ports.new.log)) }
+    ensures header { L.header ports.new.log ≡ L.header ports.old.log }
+    ensures count { S.count ports.new.shards ≡ S.count ports.old.shards }
+    ensures resumed { IfOk result (IsResumed unfinished.now) }
+{
+    let _limit = shape.batch();
+    let outcomes = match copied(alloc, unfinished.outcomes.as_slice()) {
+        Ok(outcomes) => outcomes,
+        Err(_) => return Err(no_memory()),
+    };
+    let room = match BatchRoom::take(alloc, shape, unfinished.txs.as_slice()) {
+        Ok(room) => room,
+        Err(_) => return Err(no_memory()),
+    };
+    let BatchRoom {
+        parts,
+        mut locks,
+        replied: _,
+        again: _,
+        replies: _,
+        outcomes: _,
+        later,
+    } = room;
+    let LaterRoom {
+        finishes: _,
+        mut forgets,
+        mut stamped,
+        decisions: _,
+    } = later;
+    lock_calls(parts, &unfinished.batch, unfinished.stamp, &mut locks);
+    match from_discarded(
+        shape,
+        &unfinished.batch,
+        unfinished.stamp,
+        &locks,
+        &mut forgets,
+        &mut stamped,
+        ports,
+        gate,
+    ) {
+        Ok(()) => Ok(ResumedBatch {
+            batch: unfinished.batch,
+            phase: Phase::Discarded,
+            outcomes,
+        }),
+        Err(fault) => Err(fault),
+    }
+}
+
+// One open lane.
+fn resume_lane<S: PortSet, L: LogPort, G: Gate>(
+    alloc: Global,
+    shape: &Shape,
+    unfinished: &OpenLane,
+    ports: &mut Ports<S, L>,
+    gate: &G,
+) -> Result<ResumedBatch, LaneFault>
+    requires is_open { IsOpen (L.header ports.old.log) (L.phase ports.old.log) (L.open_txs ports.old.log) unfinished.now }
+    requires shape { (L.header ports.old.log).shape ≡ shape.now }
+    requires count { S.count ports.old.shards ≡ shape.now.shards }
+    ensures idle { OnOk result (L.phase ports.new.log unfinished.now.batch.lane ≡ Idle) }
+    ensures others { OnOk result (KeepsOthers (L.header ports.old.log) unfinished.now.batch.lane (L.phase ports.old.log) (L.phase ports.new.log) (L.open_txs ports.old.log) (L.open_txs ports.new.log)) }
+    ensures header { L.header ports.new.log ≡ L.header ports.old.log }
+    ensures count { S.count ports.new.shards ≡ S.count ports.old.shards }
+    ensures resumed { IfOk result (IsResumed unfinished.now) }
+{
+    match unfinished.phase {
+        Phase::Prepared => resume_prepared(alloc, shape, unfinished, ports, gate),
+        Phase::Committed => resume_committed(alloc, shape, unfinished, ports, gate),
+        Phase::Discarded => resume_discarded(alloc, shape, unfinished, ports, gate),
+    }
+}
+
+/// Takes each open batch of a coordinator's lanes to its end, in the list's order: a prepared batch asks Lock again at
+/// each concerned shard and goes on, a committed one asks Finish, a discarded one Forget. The list has each lane that is
+/// not idle once, in rising order.
+pub fn resume<S: PortSet, L: LogPort, G: Gate>(
+    alloc: Global,
+    shape: &Shape,
+    lanes: &[OpenLane],
+    ports: &mut Ports<S, L>,
+    gate: &G,
+) -> Result<Resumed, LaneFault>
+    requires is_open { All (IsOpen (L.header ports.old.log) (L.phase ports.old.log) (L.open_txs ports.old.log)) lanes.now }
+    requires rise { LanesRise lanes.now }
+    requires shape { (L.header ports.old.log).shape ≡ shape.now }
+    requires count { S.count ports.old.shards ≡ shape.now.shards }
+    ensures header { L.header ports.new.log ≡ L.header ports.old.log }
+    ensures count { S.count ports.new.shards ≡ S.count ports.old.shards }
+    ensures resumed { IfOk result (λ r. AreResumed lanes.now r.batches) }
+{
+    let mut batches = match Vec::with_capacity(alloc, lanes.len()) {
+        Ok(batches) => batches,
+        Err(_) => return Err(no_memory()),
+    };
+    for unfinished in lanes {
+        match resume_lane(alloc, shape, unfinished, ports, gate) {
+            Ok(batch) => batches.push_reserved(batch),
+            Err(fault) => return Err(fault),
+        }
+    }
+    Ok(Resumed {
+        batches: List::from_vec(batches),
+    })
+}
