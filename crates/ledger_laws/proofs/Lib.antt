@@ -49,3 +49,4 @@ pub mod Together
 pub mod Turns
 pub mod LaneLaws
 pub mod Older
+pub mod Phases

@@ -15,6 +15,7 @@ use Rattle.cbdc_model.specs.After.{After}
 use Rattle.cbdc_model.specs.Lanes.{Seen, KeptLists, AllPass, Wave}
 use Rattle.ledger_laws.specs.Sets.{Folds}
 use Rattle.ledger_laws.specs.Reach.{Reached}
+use Rattle.ledger_laws.specs.Phases.{IsInPhaseOrder, IsAfterEarlier}
 
 -- the committed transactions of every kept history fold, where hashes don't clash
 abbrev pub FoldLaw : Type 0
@@ -112,3 +113,9 @@ FlightLaw = (K : Shape) (mint : List Output) (submissions : List FullTx) (w : Wo
     → ((n : ℕ) (r : Record) → (node_at w n).flight ≡ Some r
         → After (header_of K (minted mint).id n) (journals w n) r × Seen K (journals w) n (journals w n) r × TxsPass (IsProperCompact submissions) r)
     → KeptWorld K mint submissions w
+
+-- the records of each batch stand in phase order over the nodes, and the batches of each lane one behind another
+abbrev pub PhaseLaw : Type 0
+PhaseLaw = (K : Shape) (mint : List Output) (submissions : List FullTx) (later : List Row) → 0 < K.shards → IsKept K mint submissions later
+    → ((b : Batch) → IsInPhaseOrder K (λ n. journal n (history_of K mint later)) b)
+    × ((c b : Batch) → IsAfterEarlier K (λ n. journal n (history_of K mint later)) c b)

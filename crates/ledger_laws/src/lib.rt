@@ -1,7 +1,7 @@
 //! The laws of the ledger: functions with an empty body, whose contracts are the theorems. Nothing of them runs.
 #![tactic(auto)]
 
-ghost use Rattle.ledger_laws.specs.Laws.{AnswerLaw, CutLaw, FlightLaw, FoldLaw, HeadlineLaw, IdleLaw, KeptLaw, LocalLaw, MakerLaw, MoreLaw, OneHistoryLaw, ReachLaw, RecoveredLaw, StepLaw, WaveLaw};
+ghost use Rattle.ledger_laws.specs.Laws.{AnswerLaw, CutLaw, FlightLaw, FoldLaw, HeadlineLaw, IdleLaw, KeptLaw, LocalLaw, MakerLaw, MoreLaw, OneHistoryLaw, PhaseLaw, ReachLaw, RecoveredLaw, StepLaw, WaveLaw};
 
 /// Where no two coins or transactions share a hash, the committed transactions of every kept
 /// history can be spent one after another from the mint, each finding all its inputs. The book
@@ -111,5 +111,13 @@ pub fn more_law()
 /// journal and was caused by records in beginnings of the journals.
 pub fn flight_law()
     ensures { FlightLaw }
+{
+}
+
+/// The records of each batch stand in phase order over the nodes with rising stamps: Prepare, the
+/// Locks, Commit, the Finishes, Discard, the Forgets, Done. A batch of a lane is prepared only
+/// behind the Done of the earlier ones.
+pub fn phase_law()
+    ensures { PhaseLaw }
 {
 }
