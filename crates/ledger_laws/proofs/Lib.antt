@@ -50,3 +50,4 @@ pub mod Turns
 pub mod LaneLaws
 pub mod Older
 pub mod Phases
+pub mod Late

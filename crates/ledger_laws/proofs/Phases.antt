@@ -123,6 +123,18 @@ module _ (K : Shape) (minting : Minted) (P : Compact → Type 0) (shards : 0 < K
         (f.0, λ s c. (f.1 s c, f.2 s c.0));
   }
 
+  pub older_locks : (b : Batch) → is_some (record_of 7 (J (b.lane / K.lanes)) b) ≡ true → AllOlder K J 2 b (stamp_in (record_of 7 (J (b.lane / K.lanes)) b))
+  older_locks b h = (told (λ stamp. (is_some (record_of 6 (J (b.lane / K.lanes)) b) ≡ true) × AllHave K J 2 b × AllOlder K J 2 b stamp) (b.lane / K.lanes) 7 b h
+      (λ r t f. commit_says K J (b.lane / K.lanes) b r t f)).2
+
+  pub older_finishes : (b : Batch) → is_some (record_of 8 (J (b.lane / K.lanes)) b) ≡ true → AllOlder K J 3 b (stamp_in (record_of 8 (J (b.lane / K.lanes)) b))
+  older_finishes b h = (told (λ stamp. (is_some (record_of 6 (J (b.lane / K.lanes)) b) ≡ true) × AllHave K J 3 b × AllOlder K J 3 b stamp) (b.lane / K.lanes) 8 b h
+      (λ r t f. discard_says K J (b.lane / K.lanes) b r t f)).2
+
+  pub older_forgets : (b : Batch) → is_some (record_of 9 (J (b.lane / K.lanes)) b) ≡ true → AllOlder K J 4 b (stamp_in (record_of 9 (J (b.lane / K.lanes)) b))
+  older_forgets b h = (told (λ stamp. (is_some (record_of 6 (J (b.lane / K.lanes)) b) ≡ true) × AllHave K J 4 b × AllOlder K J 4 b stamp) (b.lane / K.lanes) 9 b h
+      (λ r t f. done_says K J (b.lane / K.lanes) b r t f)).2
+
   pub after_earlier : (c b : Batch) → IsAfterEarlier K J c b
   after_earlier c b lanes lt p q =
       let same : c.lane / K.lanes ≡ b.lane / K.lanes = ap (λ l. l / K.lanes) lanes in

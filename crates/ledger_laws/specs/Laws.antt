@@ -15,7 +15,7 @@ use Rattle.cbdc_model.specs.After.{After}
 use Rattle.cbdc_model.specs.Lanes.{Seen, KeptLists, AllPass, Wave}
 use Rattle.ledger_laws.specs.Sets.{Folds}
 use Rattle.ledger_laws.specs.Reach.{Reached}
-use Rattle.ledger_laws.specs.Phases.{IsInPhaseOrder, IsAfterEarlier}
+use Rattle.ledger_laws.specs.Phases.{IsInPhaseOrder, IsAfterEarlier, IsLate}
 
 -- the committed transactions of every kept history fold, where hashes don't clash
 abbrev pub FoldLaw : Type 0
@@ -119,3 +119,8 @@ abbrev pub PhaseLaw : Type 0
 PhaseLaw = (K : Shape) (mint : List Output) (submissions : List FullTx) (later : List Row) → 0 < K.shards → IsKept K mint submissions later
     → ((b : Batch) → IsInPhaseOrder K (λ n. journal n (history_of K mint later)) b)
     × ((c b : Batch) → IsAfterEarlier K (λ n. journal n (history_of K mint later)) c b)
+
+-- at most one batch of a lane has stamps above 2^62
+abbrev pub LateLaw : Type 0
+LateLaw = (K : Shape) (mint : List Output) (submissions : List FullTx) (later : List Row) (b c : Batch) → 0 < K.shards → IsKept K mint submissions later
+    → IsLate (λ n. journal n (history_of K mint later)) b → IsLate (λ n. journal n (history_of K mint later)) c → b.lane ≡ c.lane → b ≡ c

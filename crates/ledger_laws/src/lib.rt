@@ -1,7 +1,7 @@
 //! The laws of the ledger: functions with an empty body, whose contracts are the theorems. Nothing of them runs.
 #![tactic(auto)]
 
-ghost use Rattle.ledger_laws.specs.Laws.{AnswerLaw, CutLaw, FlightLaw, FoldLaw, HeadlineLaw, IdleLaw, KeptLaw, LocalLaw, MakerLaw, MoreLaw, OneHistoryLaw, PhaseLaw, ReachLaw, RecoveredLaw, StepLaw, WaveLaw};
+ghost use Rattle.ledger_laws.specs.Laws.{AnswerLaw, CutLaw, FlightLaw, FoldLaw, HeadlineLaw, IdleLaw, KeptLaw, LateLaw, LocalLaw, MakerLaw, MoreLaw, OneHistoryLaw, PhaseLaw, ReachLaw, RecoveredLaw, StepLaw, WaveLaw};
 
 /// Where no two coins or transactions share a hash, the committed transactions of every kept
 /// history can be spent one after another from the mint, each finding all its inputs. The book
@@ -119,5 +119,11 @@ pub fn flight_law()
 /// behind the Done of the earlier ones.
 pub fn phase_law()
     ensures { PhaseLaw }
+{
+}
+
+/// At most one batch of a lane has records with stamps above 2^62.
+pub fn late_law()
+    ensures { LateLaw }
 {
 }
