@@ -1,14 +1,14 @@
 -- At most one batch of a lane has stamps above 2^62.
-use Rattle.std.proofs.Common.{◌≡◌, ◌⊎◌, inl, inr, ℕ, ◌+◌, ◌-◌, ◌^◌, ◌<◌, ◌≤◌, ◌/◌, true, false, ◌&&◌, ◌==◌, List, [], ◌∷◌, ◌++◌, Option, Some, None, is_some, refl, sym, ap, ◌∙◌, subst, arith}
-use Rattle.cbdc_model.specs.Records.{Shape, Batch, same_batch, Compact, Record, Row, journal, record_of, kind_of, is_of, stamp_of, stamp_in, last_stamp, lock_of, txs_of, Genesis, Lock, Finish, Forget, Start, Prepare, Commit, Discard, Done}
-use Rattle.cbdc_model.specs.Ranges.{shard_node, part, is_no_part, Concerned}
+use Rattle.std.proofs.Common.{◌≡◌, ◌⊎◌, inl, inr, ℕ, ◌+◌, ◌-◌, ◌^◌, ◌<◌, ◌≤◌, ◌/◌, true, false, ◌&&◌, ◌==◌, List, [], ◌∷◌, ◌++◌, Some, None, is_some, refl, sym, ap, ◌∙◌, subst, arith}
+use Rattle.cbdc_model.specs.Records.{Shape, Batch, Compact, Record, Row, journal, record_of, kind_of, is_of, stamp_of, stamp_in, lock_of, txs_of, Genesis, Lock, Finish, Forget, Start, Prepare, Commit, Discard, Done}
+use Rattle.cbdc_model.specs.Ranges.{shard_node, Concerned}
 use Rattle.cbdc_model.specs.Grammar.{IsInGrammar}
 use Rattle.cbdc_model.specs.Slots.{slot, InPrepare, InCommit, InDiscard}
 use Rattle.cbdc_model.specs.Clean.{IsProperCompact}
 use Rattle.cbdc_model.specs.History.{Minted, minted, header_of, first_rows}
-use Rattle.ledger_laws.specs.Phases.{Stands, IsLate}
+use Rattle.ledger_laws.specs.Phases.{IsLate}
 use Rattle.ledger_laws.specs.Laws.{LateLaw}
-use Rattle.ledger_laws.proofs.Next.{Next, has_lock, has_prepare, has_commit, Steady}
+use Rattle.ledger_laws.proofs.Next.{Next, has_lock, Steady}
 use Rattle.ledger_laws.proofs.Slots.{JournalOk}
 use Rattle.ledger_laws.proofs.More.{MoreOk, has_done}
 use Rattle.ledger_laws.proofs.Dones.{DoneOk, PhaseOk}
@@ -16,7 +16,7 @@ use Rattle.ledger_laws.proofs.Order.{OrderOk}
 use Rattle.ledger_laws.proofs.Rows.{at, away, at_node, head_at, head_away}
 use Rattle.ledger_laws.proofs.View.{same_batch_is}
 use Rattle.ledger_laws.proofs.Lookups.{true_false}
-use Rattle.ledger_laws.proofs.First.{AllFirst, journal_first, all_first}
+use Rattle.ledger_laws.proofs.First.{journal_first, all_first}
 use Rattle.ledger_laws.proofs.Moves.{none_of, not_empty, split_test, test_step, all_structure, all_more}
 use Rattle.ledger_laws.proofs.Alikes.{found_passes}
 use Rattle.ledger_laws.proofs.Standing.{Facts, standing}
@@ -103,8 +103,7 @@ module _ (K : Shape) (minting : Minted) (P : Compact → Type 0) (shards : 0 < K
         let e' : record_of kind (row.what ∷ journal n (whole later)) b ≡ Some r = ap (λ J. record_of kind J b) (sym (head_at row (whole later) n a)) ∙ e in
         elim ((kind_of row.what == kind) && is_of b row.what) as (λ t. ((kind_of row.what == kind) && is_of b row.what) ≡ t → (rest : List Record) × Next K n rest r × IsInGrammar (header_of K minting.id n) r) [
           | true ↦ λ t.
-              let is : row.what ≡ r = some_is row.what r (sym (found_new kind row.what (journal n (whole later)) b t) ∙ e') in
-              (
+              let is : row.what ≡ r = some_is row.what r (sym (found_new kind row.what (journal n (whole later)) b t) ∙ e') in (
                 journal n (whole later),
                 subst (λ q. Next K n (journal n (whole later)) q) is (subst (λ m. Next K m (journal m (whole later)) row.what) a kept.0),
                 subst (λ q. IsInGrammar (header_of K minting.id n) q) is (subst (λ m. IsInGrammar (header_of K minting.id m) row.what) a kept.4),

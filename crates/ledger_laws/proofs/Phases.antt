@@ -1,5 +1,5 @@
 -- The phases of a batch stand in order, by what each record that stands says of its causes.
-use Rattle.std.proofs.Common.{◌≡◌, ◌⊎◌, inl, inr, ℕ, ◌<◌, ◌≤◌, ◌/◌, true, false, ◌&&◌, ◌==◌, List, [], ◌∷◌, ◌++◌, Option, Some, None, is_some, refl, sym, ap, ◌∙◌, subst, arith}
+use Rattle.std.proofs.Common.{◌≡◌, ℕ, ◌<◌, ◌≤◌, ◌/◌, true, false, ◌&&◌, ◌==◌, List, ◌++◌, Some, None, is_some, refl, sym, ap, subst, arith}
 use Rattle.cbdc_model.specs.Records.{Shape, Batch, Compact, Record, Row, journal, record_of, kind_of, is_of, stamp_of, stamp_in, Genesis, Lock, Finish, Forget, Start, Prepare, Commit, Discard, Done}
 use Rattle.cbdc_model.specs.Ranges.{shard_node}
 use Rattle.cbdc_model.specs.Slots.{slot}
@@ -8,7 +8,7 @@ use Rattle.cbdc_model.specs.Clean.{IsProperCompact}
 use Rattle.cbdc_model.specs.History.{Minted, minted, first_rows}
 use Rattle.ledger_laws.specs.Phases.{IsInPhaseOrder, IsAfterEarlier}
 use Rattle.ledger_laws.specs.Laws.{PhaseLaw}
-use Rattle.ledger_laws.proofs.Next.{has_prepare, Steady}
+use Rattle.ledger_laws.proofs.Next.{Steady}
 use Rattle.ledger_laws.proofs.Moves.{split_test, all_structure}
 use Rattle.ledger_laws.proofs.Alikes.{found_passes}
 use Rattle.ledger_laws.proofs.Standing.{Facts, AllOlder, standing}
