@@ -1,6 +1,6 @@
 -- What lanes add to the journals that they see, and kept journals as one fact for each record.
-use Rattle.std.specs.Prelude.{◌≡◌, ◌⊎◌, ℕ, Bool, true, false, ◌&&◌, not, List, [], ◌∷◌, ◌++◌, All, Contains}
-use Rattle.cbdc_model.specs.Records.{Digest, Shape, Compact, Record, Row, journal, is_in_lane, Prepare}
+use Rattle.std.specs.Prelude.{◌≡◌, ◌⊎◌, ℕ, Bool, true, false, ◌&&◌, not, List, ◌∷◌, ◌++◌, All, Contains}
+use Rattle.cbdc_model.specs.Records.{Shape, Compact, Record, journal, is_in_lane, Prepare}
 use Rattle.cbdc_model.specs.After.{After}
 use Rattle.cbdc_model.specs.Causes.{IsCaused}
 use Rattle.cbdc_model.specs.History.{Minted, header_of, first_rows, TxsPass}

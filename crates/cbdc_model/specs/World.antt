@@ -1,5 +1,5 @@
 -- The world: nodes with journals, what may happen to them, and what is kept whatever happens.
-use Rattle.std.specs.Prelude.{◌≡◌, ◌⊎◌, ℕ, ◌+◌, ◌-◌, ◌<◌, ◌≤◌, ◌*◌, ◌++◌, Bool, true, false, ◌&&◌, ◌==◌, nat_lt, List, [], ◌∷◌, map, length, if◌then◌else◌, Option, Some, None, is_some, slice_index_or, slice_set}
+use Rattle.std.specs.Prelude.{◌≡◌, ◌⊎◌, ℕ, ◌+◌, ◌-◌, ◌<◌, ◌*◌, ◌++◌, Bool, true, false, ◌&&◌, ◌==◌, nat_lt, List, [], ◌∷◌, map, length, if◌then◌else◌, Option, Some, None, is_some, slice_index_or, slice_set}
 use Rattle.std.specs.List.{range_with_len}
 use Rattle.cbdc_types.specs.declared.calls.LockCall.{LockCall}
 use Rattle.cbdc_types.specs.declared.calls.FinishCall.{FinishCall}
@@ -16,7 +16,7 @@ use Rattle.cbdc_model.specs.After.{After}
 use Rattle.cbdc_model.specs.Causes.{IsCaused}
 use Rattle.cbdc_model.specs.Coins.{Output, FullTx}
 use Rattle.cbdc_model.specs.Clean.{IsProperCompact}
-use Rattle.cbdc_model.specs.History.{Minted, minted, header_of, first_rows, TxsPass, IsSteady, IsKept, IsOrdered}
+use Rattle.cbdc_model.specs.History.{Minted, minted, header_of, first_rows, TxsPass, IsKept, IsOrdered}
 
 -- a node: its journal, whether it is up, and a record that a fault or a crash may have left or not
 pub record Node : Type 0 where

@@ -1,19 +1,17 @@
 -- A record found in a beginning of a journal is found in the whole of it; what was caused by beginnings is caused by the whole.
-use Rattle.std.proofs.Common.{◌≡◌, ◌⊎◌, inl, inr, ℕ, ◌+◌, ◌<◌, ◌≤◌, ◌/◌, Bool, true, false, ◌&&◌, not, ◌==◌, List, [], ◌∷◌, ◌++◌, Option, Some, None, is_some, refl, sym, ap, ◌∙◌, subst, arith, append_assoc}
+use Rattle.std.proofs.Common.{◌≡◌, ◌⊎◌, inl, inr, ℕ, ◌+◌, ◌<◌, ◌/◌, Bool, true, false, ◌&&◌, ◌==◌, List, [], ◌∷◌, ◌++◌, Some, is_some, refl, sym, ap, ◌∙◌, subst, arith, append_assoc}
 use Rattle.cbdc_model.specs.Causes.{at_shards, AllHave, IsCaused}
-use Rattle.cbdc_model.specs.Grammar.{IsShard}
 use Rattle.cbdc_model.specs.History.{first_rows, Minted}
-use Rattle.cbdc_model.specs.Lanes.{IsEnd, Seen, first_of}
-use Rattle.cbdc_model.specs.Ranges.{shard_node, part, Concerned, is_no_part}
-use Rattle.cbdc_model.specs.Records.{Digest, Shape, Batch, Compact, Answered, Entry, Record, Row, journal, record_of, kind_of, is_of, entries_in, txs_in, Genesis, Lock, Finish, Forget, Start, Prepare, Commit, Discard, Done, txs_of}
-use Rattle.cbdc_model.specs.Replies.{entries}
+use Rattle.cbdc_model.specs.Lanes.{IsEnd, first_of}
+use Rattle.cbdc_model.specs.Ranges.{shard_node, part, Concerned}
+use Rattle.cbdc_model.specs.Records.{Shape, Batch, Compact, Record, record_of, kind_of, is_of, txs_in, Genesis, Lock, Finish, Forget, Start, Prepare, Commit, Discard, Done}
 use Rattle.cbdc_model.specs.World.{replaced}
 use Rattle.ledger_laws.proofs.Ledger.{SteadyLists}
-use Rattle.ledger_laws.proofs.Next.{Next, has_lock, has_prepare, Steady, AllProper}
+use Rattle.ledger_laws.proofs.Next.{Next, has_lock, has_prepare}
 use Rattle.ledger_laws.proofs.Slots.{JournalOk, next_ok}
 use Rattle.ledger_laws.proofs.More.{MoreOk, next_more}
 use Rattle.ledger_laws.proofs.Dones.{PhaseOk, next_phase}
-use Rattle.ledger_laws.proofs.Rows.{Structure, at, away, at_node}
+use Rattle.ledger_laws.proofs.Rows.{at, away, at_node}
 use Rattle.ledger_laws.proofs.Lookups.{true_false, not_true, none_found}
 use Rattle.ledger_laws.proofs.First.{journal_first, all_first, AllFirst, IsFirst}
 use Rattle.ledger_laws.proofs.Moves.{SameCauses, caused_same, once, locked_before, test_step, not_empty, in_range, split_test, all_structure, all_more}
@@ -50,7 +48,7 @@ pub stands : (J : List Record) (kind : ℕ) (b : Batch) → is_some (record_of k
 stands [] kind b h = absurd (let z : false ≡ true = h in cc)
 stands (r ∷ J) kind b h =
     elim ((kind_of r == kind) && is_of b r) as (λ t. ((kind_of r == kind) && is_of b r) ≡ t
-      → (newer : List Record) × (q : Record) × (rest : List Record) × (r ∷ J ≡ newer ++ q ∷ rest) × (((kind_of q == kind) && is_of b q) ≡ true) × (record_of kind (r ∷ J) b ≡ Some q)) [
+    → (newer : List Record) × (q : Record) × (rest : List Record) × (r ∷ J ≡ newer ++ q ∷ rest) × (((kind_of q == kind) && is_of b q) ≡ true) × (record_of kind (r ∷ J) b ≡ Some q)) [
       | true ↦ λ t. ([], r, J, refl, t, found kind r J b t)
       | false ↦ λ t.
           let s = stands J kind b (subst (λ q. is_some q ≡ true) (test_step kind r J b t) h) in
@@ -165,7 +163,7 @@ module _ (K : Shape) (minting : Minted) (P : Compact → Type 0) (shards : 0 < K
             let apart' : (shard_node K s == c.lane / K.lanes) ≡ false = subst (λ d. (shard_node K s == d.lane / K.lanes) ≡ false) (sym same) (turned (b.lane / K.lanes) (shard_node K s) apart) in
             let cause : record_of 6 (replaced f.1.lists (shard_node K s) rest (c.lane / K.lanes)) c ≡ record_of 6 (X (c.lane / K.lanes)) c
             = found_there (shard_node K s) rest f.1.lists f.1.ends (c.lane / K.lanes) 6 c f.1.caused.0
-              ∙ ap (λ L. record_of 6 L c) (replaced_away X (shard_node K s) rest (c.lane / K.lanes) apart') in
+            ∙ ap (λ L. record_of 6 L c) (replaced_away X (shard_node K s) rest (c.lane / K.lanes) apart') in
             subst (λ d. Concerned K (txs_in (record_of 6 (X (d.lane / K.lanes)) d)) s) same (
               in_range K (shard_node K s) rest (Lock stamp c es) f.0 s refl,
               not_empty es _ (f.1.caused.1 s refl ∙ ap (λ o. part K.shards s 0 (txs_in o)) cause) f.0.5,

@@ -1,7 +1,7 @@
 -- The journals of the first rows, node by node.
-use Rattle.std.proofs.Common.{◌≡◌, ◌⊎◌, inl, inr, ℕ, zero, suc, ◌+◌, ◌-◌, ◌<◌, ◌≤◌, true, false, ◌==◌, nat_lt, if◌then◌else◌, List, [], ◌∷◌, ◌++◌, refl, sym, ap, ◌∙◌, subst, arith}
+use Rattle.std.proofs.Common.{◌≡◌, ◌⊎◌, inl, inr, ℕ, zero, suc, ◌+◌, ◌-◌, ◌<◌, ◌≤◌, true, false, ◌==◌, nat_lt, if◌then◌else◌, List, [], ◌∷◌, ◌++◌, refl, sym, ◌∙◌, subst, arith}
 use Rattle.cbdc_model.specs.Records.{Shape, Record, Row, journal, Genesis, Start}
-use Rattle.cbdc_model.specs.Ranges.{shard_node, on_shard}
+use Rattle.cbdc_model.specs.Ranges.{on_shard}
 use Rattle.cbdc_model.specs.History.{Minted, header_of, starts, geneses, first_rows}
 use Rattle.cbdc_model.specs.World.{first_record}
 use Rattle.ledger_laws.proofs.First.{journal_starts, journal_past, journal_genesis}

@@ -1,15 +1,15 @@
 -- The first world has the first rows, and a run keeps the number of nodes.
-use Rattle.std.proofs.Common.{◌≡◌, ◌⊎◌, inl, inr, ℕ, ◌+◌, ◌<◌, ◌≤◌, true, false, if◌then◌else◌, List, [], ◌∷◌, length, length-set, Option, Some, None, set, refl, sym, ap, ◌∙◌, subst, arith}
+use Rattle.std.proofs.Common.{◌≡◌, ◌⊎◌, inl, inr, ℕ, ◌+◌, ◌<◌, ◌≤◌, List, [], ◌∷◌, length, length-set, Some, None, sym, ap, ◌∙◌, subst, arith}
 use Rattle.std.proofs.lemmas.List.FromFn.{length-map-range_with_len, get_or-map-range_with_len}
 use Rattle.std.proofs.lemmas.List.{get_or_past}
-use Rattle.cbdc_model.specs.Records.{Shape, Compact, Record, journal}
+use Rattle.cbdc_model.specs.Records.{Shape, Compact, journal}
 use Rattle.cbdc_model.specs.Coins.{Output, FullTx}
 use Rattle.cbdc_model.specs.Clean.{IsProperCompact}
 use Rattle.cbdc_model.specs.History.{Minted, minted, header_of, first_rows}
 use Rattle.cbdc_model.specs.After.{After}
 use Rattle.cbdc_model.specs.World.{World, Node, Event, Begin, End, Crash, Reopen, Repeat, node_at, no_node, journals, init, first_node, Step, Run, effect, KeptWorld}
 use Rattle.ledger_laws.proofs.FirstJournals.{first_is, first_beyond}
-use Rattle.ledger_laws.proofs.Next.{Next, Steady}
+use Rattle.ledger_laws.proofs.Next.{Next}
 use Rattle.ledger_laws.proofs.Ledger.{SteadyWorld, steady, is_steady, next_at, after_of, proper_of, passes_of}
 
 module _ (K : Shape) (minting : Minted) (P : Compact → Type 0) where

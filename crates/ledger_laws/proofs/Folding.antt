@@ -1,5 +1,5 @@
 -- The committed transactions of a kept history fold to a book, whose hashes are known by their statuses.
-use Rattle.std.proofs.Common.{if◌then◌else◌, ◌≡◌, ◌⊎◌, inl, inr, ℕ, zero, suc, ◌+◌, ◌-◌, ◌<◌, ◌≤◌, Bool, true, false, ◌&&◌, List, [], ◌∷◌, ◌++◌, map, Some, None, Contains, find, filter_map, refl, sym, ap, ◌∙◌, subst, arith, sum_by}
+use Rattle.std.proofs.Common.{if◌then◌else◌, ◌≡◌, ◌⊎◌, inl, inr, ℕ, suc, ◌+◌, ◌-◌, ◌<◌, ◌≤◌, Bool, true, false, ◌&&◌, List, [], ◌∷◌, ◌++◌, map, Some, None, find, refl, sym, ap, ◌∙◌, subst, arith, sum_by}
 use Rattle.std.proofs.lemmas.List.Sums.{sum_by-cons}
 use Rattle.std.specs.FinMap as book
 use Rattle.std.specs.Ordering.{nat_cmp}
@@ -7,7 +7,7 @@ use Rattle.std.specs.Cmp.Lexicographic.{slice_cmp}
 use Rattle.cbdc_model.specs.Book.{Book, genesis_book, put_all, spend, spend_from, fold_txs, value, InBook}
 use Rattle.cbdc_model.specs.Clean.{IsMember, IsNamed, Clean, IsProperCompact}
 use Rattle.cbdc_model.specs.Coins.{Output, Coin, FullTx, coin_hash, tx_id, tx_coins, made_coins, compact, genesis_tx, genesis_hashes}
-use Rattle.cbdc_model.specs.History.{first_rows, committed, newly_won, won_of, all_inputs, all_outputs, same_compact, AreHandedIn, minted, history_of, IsKept, Minted}
+use Rattle.cbdc_model.specs.History.{first_rows, committed, newly_won, won_of, all_inputs, all_outputs, same_compact, AreHandedIn, minted, history_of, Minted}
 use Rattle.cbdc_model.specs.Next.{same_digests}
 use Rattle.cbdc_model.specs.Outcomes.{won_txs}
 use Rattle.cbdc_model.specs.Records.{Digest, same_digest, Shape, Compact, Outcome, is_won, Record, Row, journal, Genesis, Lock, Finish, Forget, Start, Prepare, Commit, Discard, Done, txs_of}
@@ -17,7 +17,7 @@ use Rattle.ledger_laws.specs.Sets.{IsPlaced, Folds}
 use Rattle.ledger_laws.specs.Laws.{FoldLaw}
 use Rattle.ledger_laws.proofs.Ledger.{steady}
 use Rattle.ledger_laws.proofs.Waiting.{waits_for, none_taken}
-use Rattle.ledger_laws.proofs.Counts.{count, same_digest_is, same_digest_self, here_or_later, count-cons_same}
+use Rattle.ledger_laws.proofs.Counts.{count, same_digest_is, same_digest_self}
 use Rattle.ledger_laws.proofs.View.{Inv}
 use Rattle.ledger_laws.proofs.CommitStep.{Apart, Makes, maker}
 use Rattle.ledger_laws.proofs.Rows.{Structure, view}

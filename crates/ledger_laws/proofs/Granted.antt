@@ -1,10 +1,9 @@
 -- What the answers to a call are, by the function that plans them.
-use Rattle.std.proofs.Common.{◌≡◌, ◌⊎◌, inl, inr, ℕ, zero, suc, ◌<◌, ◌≤◌, Bool, true, false, ◌&&◌, ◌||◌, not, ◌==◌, nat_lt, if◌then◌else◌, List, [], ◌∷◌, Option, Some, None, option_map, refl, sym, ap, ◌∙◌, subst, arith}
-use Rattle.cbdc_types.specs.declared.calls.Refused.TheVariants.{Stale, LaneOpen, NotLocked, NotFinished, EarlyStamp}
-use Rattle.cbdc_model.specs.Records.{Digest, Shape, Batch, Entry, Answered, Record, is_held, same_digest, record_of, decisions_in, lock_of}
-use Rattle.cbdc_model.specs.Slots.{Phase, Slot, slot, slot_stamp, Idle, InLock, InFinish, InPrepare, InCommit, InDiscard}
+use Rattle.std.proofs.Common.{◌≡◌, ◌⊎◌, inl, inr, ℕ, ◌<◌, Bool, true, false, ◌&&◌, ◌||◌, not, ◌==◌, nat_lt, if◌then◌else◌, List, [], ◌∷◌, Option, Some, None, refl, sym, ap, subst, arith}
+use Rattle.cbdc_model.specs.Records.{Digest, Batch, Entry, Answered, Record, is_held, record_of, decisions_in, lock_of}
+use Rattle.cbdc_model.specs.Slots.{Phase, slot, slot_stamp, Idle, InLock, InFinish}
 use Rattle.cbdc_model.specs.Replies.{entries}
-use Rattle.cbdc_model.specs.Next.{Plan, Kept, Append, Refuse, is_idle, lock_again, next_lock, finish_again, finish_now, finish_in, next_finish, forget_in, next_forget, misfit, next_stamp, difference, same_entry, same_decision, same_digests}
+use Rattle.cbdc_model.specs.Next.{Plan, is_idle, lock_again, next_lock, finish_again, finish_now, finish_in, next_finish, forget_in, next_forget, misfit, difference, same_entry, same_decision, same_digests}
 use Rattle.cbdc_model.specs.After.{FitsReplies}
 use Rattle.ledger_laws.specs.Laws.{IsGranted}
 use Rattle.ledger_laws.proofs.Answered.{IsStale, LockAnswered, FinishAnswered, ForgetAnswered, lock_stale, lock_stored, lock_appends, finish_stale, finish_stored, finish_appends, forget_stale, forget_stored, forget_appends}
@@ -110,8 +109,8 @@ fits_none (a ∷ es) (d ∷ ds) f = rw (fits d (is_held a.reply) f.0, fits_none 
 module _ (J : List Record) (b : Batch) (ds : List Bool) (cause : ℕ) where
   in_finish : (ph : Phase) → ph ≡ InFinish → decisions_in (record_of 3 J b) ≡ ds → IsGranted (finish_in ph J b ds cause)
   in_finish ph e same = subst (λ p. IsGranted (finish_in p J b ds cause)) (sym e) (
-    finish_again_granted (difference same_decision (decisions_in (record_of 3 J b)) ds) J b
-    (subst (λ d. difference same_decision (decisions_in (record_of 3 J b)) d ≡ None) same (difference_self same_decision same_decision_self (decisions_in (record_of 3 J b)))))
+      finish_again_granted (difference same_decision (decisions_in (record_of 3 J b)) ds) J b
+      (subst (λ d. difference same_decision (decisions_in (record_of 3 J b)) d ≡ None) same (difference_self same_decision same_decision_self (decisions_in (record_of 3 J b)))))
 
   in_lock : (ph : Phase) → ph ≡ InLock → FitsReplies (lock_of J b) ds → slot_stamp J b.lane < cause → IsGranted (finish_in ph J b ds cause)
   in_lock ph e fits lt = subst (λ p. IsGranted (finish_in p J b ds cause)) (sym e) (finish_now_granted (misfit (lock_of J b) ds) J b.lane cause (fits_none (lock_of J b) ds fits) lt)
@@ -140,7 +139,7 @@ module _ (J : List Record) (b : Batch) (cause : ℕ) where
 
   forget_finished : (ph : Phase) → ph ≡ InFinish → slot_stamp J b.lane < cause → IsGranted (forget_in ph J b cause)
   forget_finished ph e lt = subst (λ p. IsGranted (forget_in p J b cause)) (sym e) (
-    granted_if (not (nat_lt (slot_stamp J b.lane) cause)) _ _ (λ h. absurd (late_test (slot_stamp J b.lane) cause h lt)) (λ _. tt))
+      granted_if (not (nat_lt (slot_stamp J b.lane) cause)) _ _ (λ h. absurd (late_test (slot_stamp J b.lane) cause h lt)) (λ _. tt))
 
   pub forget_granted : ForgetAnswered J b cause → IsGranted (next_forget J b cause)
   forget_granted a =

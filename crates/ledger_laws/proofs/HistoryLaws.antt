@@ -1,7 +1,7 @@
 -- Laws of one history, as the functions state them.
 use Rattle.std.proofs.Common.{◌≡◌, inl, inr, ℕ, true, false, ◌==◌, if◌then◌else◌, List, [], ◌∷◌, ◌++◌, refl, sym, ap, ◌∙◌, subst}
 use Rattle.std.proofs.lemmas.List.{append_cancel_right}
-use Rattle.cbdc_model.specs.Records.{Shape, Compact, Record, Row, journal, lock_of, Genesis, Lock, Finish, Forget, Start, Prepare, Commit, Discard, Done}
+use Rattle.cbdc_model.specs.Records.{Compact, Record, Row, journal, lock_of, Genesis, Lock, Finish, Forget, Start, Prepare, Commit, Discard, Done}
 use Rattle.cbdc_model.specs.Replies.{entries}
 use Rattle.cbdc_model.specs.Ranges.{shard_node}
 use Rattle.cbdc_model.specs.Outcomes.{decisions}
@@ -47,12 +47,15 @@ maker_law K mint txs later x shards clean kept there =
     let k = steady K (minted mint) (IsProperCompact txs) later kept in
     elim (was_made K (minted mint) (IsProperCompact txs) shards (apart mint txs clean) later k x there) [
       | inl n ↦ inl (contains_in (genesis_hashes mint) x (count_in x (genesis_hashes mint) n))
-      | inr m ↦ inr (m.0, record {
-        makes = contains_in (all_outputs (won_of K (history_of K mint later) m.0)) x (count_in x (all_outputs (won_of K (history_of K mint later) m.0)) m.1);
-        finished = m.2;
-        commit_older = λ c e. (made_earlier K (minted mint) (IsProperCompact txs) shards later k x m.0 c m.1 m.2 e).0;
-        finish_older = λ c e. (made_earlier K (minted mint) (IsProperCompact txs) shards later k x m.0 c m.1 m.2 e).1;
-      })
+      | inr m ↦ inr (
+        m.0,
+        record {
+          makes = contains_in (all_outputs (won_of K (history_of K mint later) m.0)) x (count_in x (all_outputs (won_of K (history_of K mint later) m.0)) m.1);
+          finished = m.2;
+          commit_older = λ c e. (made_earlier K (minted mint) (IsProperCompact txs) shards later k x m.0 c m.1 m.2 e).0;
+          finish_older = λ c e. (made_earlier K (minted mint) (IsProperCompact txs) shards later k x m.0 c m.1 m.2 e).1;
+        },
+      )
     ]
 
 -- more submissions
@@ -85,17 +88,17 @@ pub answer_law : AnswerLaw
 answer_law K mint txs later node (Lock_call c) shards kept at stands =
     let k = steady K (minted mint) (IsProperCompact txs) later kept in
     lock_granted (journal node (history_of K mint later)) c.batch c.part c.cause (
-      subst (λ n. LockAnswered (journal n (history_of K mint later)) c.batch c.part c.cause) (sym at.1)
-      (subst (λ p. LockAnswered (journal (shard_node K at.0) (history_of K mint later)) c.batch p c.cause) (sym (stands.2 at.0 at.1))
-      (lock_answered K (minted mint) (IsProperCompact txs) shards later k c.batch c.cause stands.0 stands.1 at.0 at.2.0)))
+    subst (λ n. LockAnswered (journal n (history_of K mint later)) c.batch c.part c.cause) (sym at.1)
+    (subst (λ p. LockAnswered (journal (shard_node K at.0) (history_of K mint later)) c.batch p c.cause) (sym (stands.2 at.0 at.1))
+    (lock_answered K (minted mint) (IsProperCompact txs) shards later k c.batch c.cause stands.0 stands.1 at.0 at.2.0)))
 answer_law K mint txs later node (Finish_call c) shards kept at stands =
     let k = steady K (minted mint) (IsProperCompact txs) later kept in
     finish_granted (journal node (history_of K mint later)) c.batch c.decisions c.cause (
-      subst (λ ds. FinishAnswered (journal node (history_of K mint later)) c.batch ds c.cause) (sym stands.2)
-      (subst (λ n. FinishAnswered (journal n (history_of K mint later)) c.batch (decisions stands.0 (entries (lock_of (journal n (history_of K mint later)) c.batch))) c.cause) (sym at.1)
-      (finish_answered K (minted mint) (IsProperCompact txs) shards later k c.batch c.cause stands.0 stands.1 at.0 at.2)))
+    subst (λ ds. FinishAnswered (journal node (history_of K mint later)) c.batch ds c.cause) (sym stands.2)
+    (subst (λ n. FinishAnswered (journal n (history_of K mint later)) c.batch (decisions stands.0 (entries (lock_of (journal n (history_of K mint later)) c.batch))) c.cause) (sym at.1)
+    (finish_answered K (minted mint) (IsProperCompact txs) shards later k c.batch c.cause stands.0 stands.1 at.0 at.2)))
 answer_law K mint txs later node (Forget_call c) shards kept at stands =
     let k = steady K (minted mint) (IsProperCompact txs) later kept in
     forget_granted (journal node (history_of K mint later)) c.batch c.cause (
-      subst (λ n. ForgetAnswered (journal n (history_of K mint later)) c.batch c.cause) (sym at.1)
-      (forget_answered K (minted mint) (IsProperCompact txs) shards later k c.batch c.cause stands at.0 at.2))
+    subst (λ n. ForgetAnswered (journal n (history_of K mint later)) c.batch c.cause) (sym at.1)
+    (forget_answered K (minted mint) (IsProperCompact txs) shards later k c.batch c.cause stands at.0 at.2))

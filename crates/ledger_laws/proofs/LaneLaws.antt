@@ -1,11 +1,10 @@
 -- Journals as one fact for each record, and waves, as the functions state them.
-use Rattle.std.proofs.Common.{◌≡◌, ℕ, ◌<◌, List, refl, sym, subst}
+use Rattle.std.proofs.Common.{ℕ, ◌<◌, List, refl, subst}
 use Rattle.cbdc_model.specs.Records.{Shape, Record}
 use Rattle.cbdc_model.specs.Coins.{Output, FullTx}
 use Rattle.cbdc_model.specs.Clean.{IsProperCompact}
 use Rattle.cbdc_model.specs.History.{minted}
 use Rattle.cbdc_model.specs.World.{KeptJournals, journals}
-use Rattle.cbdc_model.specs.Lanes.{KeptLists}
 use Rattle.ledger_laws.specs.Laws.{LocalLaw, WaveLaw, FlightLaw}
 use Rattle.ledger_laws.proofs.Ledger.{SteadyJournals, SteadyLists, steady, is_steady, steady_lists, kept_lists}
 use Rattle.ledger_laws.proofs.Together.{lists_of, steady_journals, wave_keeps, kept_world}

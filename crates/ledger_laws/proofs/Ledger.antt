@@ -1,8 +1,8 @@
 -- Between the definitions of what is kept and the products that the proofs read.
-use Rattle.std.proofs.Common.{◌≡◌, ◌⊎◌, inl, inr, ℕ, zero, suc, ◌+◌, ◌<◌, ◌≤◌, true, false, if◌then◌else◌, List, [], ◌∷◌, ◌++◌, length, Some, refl, sym, ap, ◌∙◌, subst, arith}
+use Rattle.std.proofs.Common.{◌≡◌, ℕ, ◌+◌, ◌<◌, List, [], ◌∷◌, ◌++◌, Some, sym, ◌∙◌, arith}
 use Rattle.std.specs.List.{All, AllByRecursion}
 use Rattle.std.proofs.lemmas.List.Elements.{All-from_recursion, recursion_from_All}
-use Rattle.cbdc_model.specs.Records.{Shape, Digest, Header, Compact, Record, Row, journal, Genesis, Lock, Finish, Forget, Start, Prepare, Commit, Discard, Done}
+use Rattle.cbdc_model.specs.Records.{Shape, Digest, Compact, Record, Row, journal, Genesis, Lock, Finish, Forget, Start, Prepare, Commit, Discard, Done}
 use Rattle.cbdc_model.specs.Grammar.{IsInGrammar}
 use Rattle.cbdc_model.specs.After.{After, Follows}
 use Rattle.cbdc_model.specs.History.{Minted, header_of, first_rows, TxsPass, IsSteady, IsOrdered}

@@ -49,3 +49,5 @@ pub mod Together
 pub mod Turns
 pub mod LaneLaws
 pub mod Older
+pub mod Phases
+pub mod Late

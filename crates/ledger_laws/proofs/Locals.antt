@@ -3,7 +3,7 @@ use Rattle.std.proofs.Common.{◌≡◌, inl, inr, ℕ, ◌<◌, ◌≤◌, ◌/
 use Rattle.cbdc_model.specs.Causes.{greatest, at_shards, IsCaused}
 use Rattle.cbdc_model.specs.History.{first_rows, goes_above, IsOrdered, Minted}
 use Rattle.cbdc_model.specs.Ranges.{shard_node}
-use Rattle.cbdc_model.specs.Records.{Digest, Shape, Batch, Compact, Record, Row, journal, record_of, kind_of, is_of, stamp_of, stamp_in, Genesis, Lock, Finish, Forget, Start, Prepare, Commit, Discard, Done}
+use Rattle.cbdc_model.specs.Records.{Shape, Batch, Compact, Record, Row, journal, record_of, kind_of, is_of, stamp_of, stamp_in, Genesis, Lock, Finish, Forget, Start, Prepare, Commit, Discard, Done}
 use Rattle.cbdc_model.specs.World.{replaced}
 use Rattle.ledger_laws.proofs.Ledger.{EachSteady}
 use Rattle.ledger_laws.proofs.Next.{Next, Steady}

@@ -1,7 +1,7 @@
 -- Journals whose stamps rise have a history in order of stamp and node.
-use Rattle.std.proofs.Common.{◌≡◌, ◌⊎◌, inl, inr, ℕ, zero, suc, ◌+◌, ◌<◌, ◌≤◌, ◌/◌, Bool, true, false, ◌&&◌, ◌||◌, ◌==◌, nat_lt, if◌then◌else◌, List, [], ◌∷◌, ◌++◌, refl, sym, ap, ◌∙◌, subst, arith}
+use Rattle.std.proofs.Common.{◌≡◌, ℕ, zero, suc, ◌<◌, ◌≤◌, true, false, ◌&&◌, ◌||◌, ◌==◌, nat_lt, if◌then◌else◌, List, [], ◌∷◌, refl, sym, ap, ◌∙◌, subst, arith}
 use Rattle.cbdc_model.specs.History.{goes_above, IsAbove, IsOrdered}
-use Rattle.cbdc_model.specs.Records.{Shape, Record, Row, journal, stamp_of, last_stamp}
+use Rattle.cbdc_model.specs.Records.{Record, Row, journal, stamp_of}
 use Rattle.ledger_laws.proofs.Worlds.{insert_row}
 use Rattle.ledger_laws.proofs.Rows.{at, away, at_node, head_at, head_away}
 
@@ -82,9 +82,9 @@ insert_ordered row (head ∷ later) h o =
     elim (goes_above row head) as (λ c. goes_above row head ≡ c → IsOrdered (if c then row ∷ head ∷ later else head ∷ insert_row row later)) [
       | true ↦ λ g. (g, o)
       | false ↦ λ g. (
-          above_inserted head row later (goes_below row head g (below_head row head later h g)) o.0,
-          insert_ordered row later (below_tail row head later h) o.1,
-        )
+        above_inserted head row later (goes_below row head g (below_head row head later h g)) o.0,
+        insert_ordered row later (below_tail row head later h) o.1,
+      )
     ] refl
 
 -- a journal's rows put into a list
@@ -100,8 +100,7 @@ put_at : (n : ℕ) (J : List Record) (later : List Row) → journal n later ≡ 
 put_at n [] later e h = (e, λ o. o)
 put_at n (r ∷ J) later e h =
     let f = put_at n J later e h.1 in
-    let b : AllBelow (journal n (put n J later)) (stamp_of r) = subst (λ L. AllBelow L (stamp_of r)) (sym f.0) h.0 in
-    (
+    let b : AllBelow (journal n (put n J later)) (stamp_of r) = subst (λ L. AllBelow L (stamp_of r)) (sym f.0) h.0 in (
       insert_at (record { node = n; what = r }) (put n J later) b ∙ ap (λ L. r ∷ L) f.0,
       λ o. insert_ordered (record { node = n; what = r }) (put n J later) b (f.1 o),
     )

@@ -4,7 +4,7 @@ use Rattle.cbdc_model.specs.Causes.{greatest, at_shards, AllHave, IsStamped, IsC
 use Rattle.cbdc_model.specs.History.{first_rows, Minted}
 use Rattle.cbdc_model.specs.Outcomes.{outcomes, decisions}
 use Rattle.cbdc_model.specs.Ranges.{shard_node, part, Concerned, is_no_part}
-use Rattle.cbdc_model.specs.Records.{Digest, Shape, Batch, same_batch, Compact, Answered, Entry, Record, Row, journal, record_of, kind_of, is_of, stamp_of, stamp_in, entries_in, txs_in, outcomes_in, last_stamp, Genesis, Lock, Finish, Forget, Start, Prepare, Commit, Discard, Done, lock_of, txs_of}
+use Rattle.cbdc_model.specs.Records.{Shape, Batch, same_batch, Compact, Answered, Entry, Record, Row, journal, record_of, kind_of, is_of, stamp_of, stamp_in, entries_in, txs_in, outcomes_in, last_stamp, Genesis, Lock, Finish, Forget, Start, Prepare, Commit, Discard, Done, lock_of, txs_of}
 use Rattle.cbdc_model.specs.Replies.{entries}
 use Rattle.cbdc_model.specs.Slots.{slot, Idle, InFinish}
 use Rattle.ledger_laws.proofs.Next.{Next, has_lock, Steady}

@@ -1,6 +1,6 @@
 -- The Commit and the Finish that made a hash are older than a Lock that holds it.
-use Rattle.std.proofs.Common.{◌≡◌, ◌⊎◌, inl, inr, ℕ, ◌+◌, ◌<◌, ◌≤◌, ◌/◌, Bool, true, false, ◌&&◌, ◌==◌, if◌then◌else◌, List, [], ◌∷◌, ◌++◌, Option, Some, None, is_some, refl, sym, ap, ◌∙◌, subst, arith}
-use Rattle.cbdc_model.specs.Records.{Digest, Shape, Batch, Compact, Outcome, Answered, Entry, Record, Row, journal, same_batch, record_of, lock_of, txs_of, outcomes_of, decisions_in, outcomes_in, entries_in, kind_of, is_of, stamp_of, stamp_in, last_stamp, Genesis, Lock, Finish, Forget, Start, Prepare, Commit, Discard, Done}
+use Rattle.std.proofs.Common.{◌≡◌, ℕ, ◌<◌, ◌≤◌, Bool, true, false, ◌&&◌, ◌==◌, if◌then◌else◌, List, [], ◌∷◌, ◌++◌, Some, None, is_some, refl, sym, ap, ◌∙◌, subst, arith}
+use Rattle.cbdc_model.specs.Records.{Digest, Shape, Batch, Compact, Outcome, Answered, Record, Row, journal, same_batch, record_of, lock_of, txs_of, outcomes_of, decisions_in, entries_in, kind_of, is_of, stamp_in, last_stamp, Genesis, Lock, Finish, Forget, Start, Prepare, Commit, Discard, Done}
 use Rattle.cbdc_model.specs.Status.{Status, status, has, held_inputs, made_outputs, returned_inputs, taken_inputs, finished_status, Unspent, Locked, Absent}
 use Rattle.cbdc_model.specs.Replies.{entries}
 use Rattle.cbdc_model.specs.Ranges.{shard_of, shard_node, journal_at, lane_journal}
@@ -15,7 +15,7 @@ use Rattle.ledger_laws.proofs.View.{same, other, same_or_not}
 use Rattle.ledger_laws.proofs.Rows.{at, away, at_node, head_at, head_away}
 use Rattle.ledger_laws.proofs.Lookups.{true_false}
 use Rattle.ledger_laws.proofs.First.{AllFirst, journal_first, all_first}
-use Rattle.ledger_laws.proofs.Moves.{none_of, split_test, all_structure}
+use Rattle.ledger_laws.proofs.Moves.{split_test, all_structure}
 use Rattle.ledger_laws.proofs.Order.{OrderOk}
 use Rattle.ledger_laws.proofs.Alikes.{found_passes}
 use Rattle.ledger_laws.proofs.Standing.{Facts, standing}

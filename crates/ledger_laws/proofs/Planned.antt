@@ -1,16 +1,12 @@
 -- A record that a shard plans to append is next in its journal, and caused where the call's cause stands.
-use Rattle.std.proofs.Common.{◌≡◌, ◌⊎◌, inl, inr, ℕ, zero, suc, ◌+◌, ◌<◌, ◌≤◌, ◌/◌, max, Bool, true, false, ◌&&◌, ◌||◌, not, ◌==◌, nat_lt, if◌then◌else◌, List, [], ◌∷◌, ◌++◌, length, Option, Some, None, is_some, option_map, refl, sym, ap, ◌∙◌, subst, arith}
-use Rattle.cbdc_types.specs.declared.calls.Refused.TheVariants.{Stale, LaneOpen, EarlyStamp}
-use Rattle.cbdc_types.specs.declared.calls.LockCall.{LockCall}
-use Rattle.cbdc_types.specs.declared.calls.FinishCall.{FinishCall}
-use Rattle.cbdc_types.specs.declared.calls.ForgetCall.{ForgetCall}
-use Rattle.cbdc_model.specs.Records.{Digest, Shape, Header, Batch, Compact, Entry, Answered, Record, is_held, record_of, last_stamp, stamp_in, txs_in, outcomes_in, decisions_in, lock_of, Genesis, Lock, Finish, Forget, Start, Prepare, Commit, Discard, Done}
+use Rattle.std.proofs.Common.{◌≡◌, ℕ, suc, ◌<◌, max, Bool, true, false, ◌&&◌, ◌||◌, not, ◌==◌, nat_lt, if◌then◌else◌, List, [], ◌∷◌, ◌++◌, Option, Some, None, is_some, option_map, refl, sym, ap, ◌∙◌, subst, arith}
+use Rattle.cbdc_model.specs.Records.{Digest, Shape, Batch, Compact, Entry, Answered, Record, is_held, record_of, last_stamp, stamp_in, txs_in, outcomes_in, decisions_in, lock_of, Lock, Finish, Forget}
 use Rattle.cbdc_model.specs.Slots.{Phase, Slot, slot, slot_stamp, Idle, InLock, InFinish, InPrepare, InCommit, InDiscard}
 use Rattle.cbdc_model.specs.Replies.{answered, entries, reply_to}
-use Rattle.cbdc_model.specs.Ranges.{shard_node, part}
+use Rattle.cbdc_model.specs.Ranges.{part}
 use Rattle.cbdc_model.specs.Outcomes.{decisions}
 use Rattle.cbdc_model.specs.Grammar.{IsInGrammar}
-use Rattle.cbdc_model.specs.Next.{Plan, Kept, Append, Refuse, is_idle, lock_again, next_lock, finish_again, finish_now, finish_in, next_finish, forget_in, next_forget, misfit, next_stamp, difference, same_entry, same_decision}
+use Rattle.cbdc_model.specs.Next.{Plan, is_idle, lock_again, next_lock, finish_again, finish_now, finish_in, next_finish, forget_in, next_forget, misfit, next_stamp, difference, same_entry, same_decision}
 use Rattle.cbdc_model.specs.After.{FitsReplies}
 use Rattle.cbdc_model.specs.Causes.{IsCaused}
 use Rattle.cbdc_model.specs.History.{header_of}

@@ -3,7 +3,7 @@ use Rattle.std.proofs.Common.{◌≡◌, inl, inr, ℕ, ◌+◌, ◌<◌, true, 
 use Rattle.std.proofs.lemmas.List.FromFn.{length-map-range_with_len}
 use Rattle.cbdc_model.specs.Causes.{IsCaused}
 use Rattle.cbdc_model.specs.History.{header_of, first_rows, Minted}
-use Rattle.cbdc_model.specs.Records.{Digest, Shape, Compact, Record, Row, journal, Genesis, Lock, Finish, Forget, Start, Prepare, Commit, Discard, Done}
+use Rattle.cbdc_model.specs.Records.{Shape, Compact, Record, Row, journal, Genesis, Lock, Finish, Forget, Start, Prepare, Commit, Discard, Done}
 use Rattle.cbdc_model.specs.World.{World, Node, Event, Begin, End, node_at, journals, flushed, IsQuiet, effect, Run, init, first_node}
 use Rattle.ledger_laws.proofs.Next.{Next, Steady}
 use Rattle.ledger_laws.specs.Reach.{events_of, Reached}

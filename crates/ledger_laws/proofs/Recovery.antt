@@ -1,18 +1,16 @@
 -- The headline: of every run from the first world, once it is recovered.
-use Rattle.std.proofs.Common.{◌≡◌, ◌⊎◌, inl, inr, ℕ, zero, suc, ◌+◌, ◌-◌, ◌<◌, ◌≤◌, ◌/◌, ◌*◌, true, false, nat_lt, if◌then◌else◌, List, [], ◌∷◌, ◌++◌, map, length, Some, None, bytes_eq, refl, sym, ap, ◌∙◌, subst, arith}
-use Rattle.std.proofs.lemmas.List.FromFn.{length-map-range_with_len, get_or-map-range_with_len}
-use Rattle.std.proofs.lemmas.List.{get_or_past}
+use Rattle.std.proofs.Common.{◌≡◌, ◌⊎◌, inl, inr, ℕ, ◌+◌, ◌<◌, ◌≤◌, ◌/◌, ◌*◌, true, false, List, [], ◌∷◌, ◌++◌, map, Some, bytes_eq, refl, sym, ap, ◌∙◌, subst, arith}
 use Rattle.std.specs.List.{IsDistinct, AllByRecursion}
 use Rattle.std.proofs.lemmas.Slice.Eq.{bytes_eq-Decides}
 use Rattle.cbdc_model.specs.Clean.{Clean, IsMember, IsProperCompact}
 use Rattle.cbdc_model.specs.Coins.{Output, Coin, FullTx, coin_hash, tx_coins, genesis_tx, compact, genesis_hashes}
 use Rattle.cbdc_model.specs.Headline.{all_spent, NoneTwice, NoIdTwice, Headline}
-use Rattle.cbdc_model.specs.History.{first_rows, geneses, starts, committed, won_of, all_inputs, all_outputs, history_of, Minted, minted, AreHandedIn}
-use Rattle.cbdc_model.specs.Ranges.{shard_of, shard_node, journal_at, on_shard}
-use Rattle.cbdc_model.specs.Records.{Digest, same_digest, Shape, Compact, Record, Row, journal, Genesis, Start}
+use Rattle.cbdc_model.specs.History.{committed, won_of, all_inputs, all_outputs, history_of, Minted, minted, AreHandedIn}
+use Rattle.cbdc_model.specs.Ranges.{shard_of, shard_node, journal_at}
+use Rattle.cbdc_model.specs.Records.{Digest, same_digest, Shape, Compact, Record, Row, journal}
 use Rattle.cbdc_model.specs.Slots.{slot, Idle}
 use Rattle.cbdc_model.specs.Status.{status, Unspent}
-use Rattle.cbdc_model.specs.World.{AreIdle, World, Event, Run, no_node, node_at, journals, init, first_node, first_record, IsRecovered}
+use Rattle.cbdc_model.specs.World.{AreIdle, World, journals, init}
 use Rattle.std.proofs.Math.Nat.{div-lt_iff_lt-mul}
 use Rattle.ledger_laws.proofs.Ledger.{SteadyWorld, SteadyJournals, steady}
 use Rattle.ledger_laws.proofs.FirstWorld.{init_kept, to_steady}
@@ -24,7 +22,6 @@ use Rattle.ledger_laws.proofs.View.{Inv}
 use Rattle.ledger_laws.proofs.Rows.{view}
 use Rattle.ledger_laws.proofs.Lookups.{not_true}
 use Rattle.ledger_laws.proofs.CommitStep.{Apart, Makes, maker}
-use Rattle.ledger_laws.proofs.First.{journal_starts, journal_past, journal_genesis}
 use Rattle.ledger_laws.proofs.Theory.{kept_inv}
 use Rattle.ledger_laws.proofs.Folds.{point_of, hashes_of, EachCoin}
 use Rattle.ledger_laws.proofs.Members.{CoinAt, coin_at, In, in_contains, contains_in, Made, made_is, coins_apart, apart, in_count}

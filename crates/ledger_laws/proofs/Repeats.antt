@@ -5,7 +5,7 @@ use Rattle.cbdc_model.specs.Causes.{at_shards}
 use Rattle.cbdc_model.specs.History.{first_rows, Minted}
 use Rattle.cbdc_model.specs.Outcomes.{decisions, won_at, reply_at}
 use Rattle.cbdc_model.specs.Ranges.{shard_node, part, Concerned, on_shard, is_empty}
-use Rattle.cbdc_model.specs.Records.{Digest, Shape, Batch, Compact, Outcome, Reply, Answered, Entry, Record, Row, journal, record_of, kind_of, is_of, is_held, stamp_of, stamp_in, entries_in, txs_in, outcomes_in, decisions_in, Genesis, Lock, Finish, Forget, Start, Prepare, Commit, Discard, Done, lock_of, txs_of}
+use Rattle.cbdc_model.specs.Records.{Shape, Batch, Compact, Outcome, Reply, Answered, Entry, Record, Row, journal, record_of, kind_of, is_of, is_held, stamp_of, stamp_in, entries_in, txs_in, outcomes_in, decisions_in, Genesis, Lock, Finish, Forget, Start, Prepare, Commit, Discard, Done, lock_of, txs_of}
 use Rattle.cbdc_model.specs.Replies.{entries}
 use Rattle.cbdc_model.specs.Slots.{slot, slot_stamp, Idle, InLock, InFinish, InPrepare, InCommit, InDiscard}
 use Rattle.ledger_laws.proofs.Next.{has_lock, has_finish, has_prepare, has_forget, Steady}

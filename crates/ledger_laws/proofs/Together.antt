@@ -1,17 +1,17 @@
 -- What all lanes of a wave made keeps the world.
-use Rattle.std.proofs.Common.{◌≡◌, ◌⊎◌, inl, inr, ℕ, zero, suc, ◌+◌, ◌<◌, ◌≤◌, ◌/◌, Bool, true, false, ◌&&◌, not, ◌==◌, nat_lt, List, [], ◌∷◌, ◌++◌, Contains, Option, Some, None, is_some, length, length-append, refl, sym, ap, ◌∙◌, subst, arith, append_assoc}
+use Rattle.std.proofs.Common.{◌≡◌, ◌⊎◌, inl, inr, ℕ, suc, ◌+◌, ◌<◌, ◌≤◌, true, false, ◌==◌, nat_lt, List, [], ◌∷◌, ◌++◌, Some, length, length-append, refl, sym, ap, ◌∙◌, subst, arith, append_assoc}
 use Rattle.cbdc_model.specs.Causes.{IsCaused}
-use Rattle.cbdc_model.specs.History.{header_of, first_rows, IsOrdered, Minted}
-use Rattle.cbdc_model.specs.Lanes.{IsEnd, Seen, Holds, may_come, Made, first_of, AllPass, NextFrom, Left, Wave}
-use Rattle.cbdc_model.specs.Records.{Digest, Shape, Batch, Compact, Record, Row, journal, stamp_of, last_stamp, is_in_lane, Genesis, Lock, Finish, Forget, Start, Prepare, Commit, Discard, Done}
+use Rattle.cbdc_model.specs.History.{header_of, first_rows, Minted}
+use Rattle.cbdc_model.specs.Lanes.{IsEnd, Seen, Holds, may_come, first_of, AllPass, Wave}
+use Rattle.cbdc_model.specs.Records.{Shape, Compact, Record, Row, journal, stamp_of, last_stamp, is_in_lane, Genesis, Lock, Finish, Forget, Start, Prepare, Commit, Discard, Done}
 use Rattle.cbdc_model.specs.World.{replaced, World, node_at, journals}
 use Rattle.cbdc_model.specs.Grammar.{IsInGrammar}
 use Rattle.cbdc_model.specs.After.{After}
 use Rattle.ledger_laws.proofs.Ledger.{next_behind, each_is, SteadyJournals, SteadyLists, EachSteady, SteadyWorld}
-use Rattle.ledger_laws.proofs.Next.{Next, Steady, AllProper, Each}
+use Rattle.ledger_laws.proofs.Next.{Next, Steady, AllProper}
 use Rattle.ledger_laws.proofs.Rows.{at, away, at_node, head_at, head_away}
 use Rattle.ledger_laws.proofs.Locals.{local_kept}
-use Rattle.ledger_laws.proofs.Cuts.{cut, end_self, end_cons, end_trans, seen_grows, made_trans}
+use Rattle.ledger_laws.proofs.Cuts.{cut, end_self, end_trans, seen_grows}
 use Rattle.ledger_laws.proofs.Finds.{replaced_at, replaced_away, now_caused}
 use Rattle.ledger_laws.proofs.Merge.{AllBelow, Rising, below_more, merged, Merged, merge}
 
@@ -68,8 +68,7 @@ module _ (K : Shape) (minting : Minted) (P : Compact → Type 0) (shards : 0 < K
       here below [] e a =
           let s : (row.what ≡ r) × (whole later n ≡ rest) = cons_same row.what r (whole later n) rest e in
           let next : Next K n (whole later n) row.what = subst (λ m. Next K m (whole later m) row.what) a kept.0 in
-          let caused : IsCaused K (whole later) n row.what = subst (λ m. IsCaused K (whole later) m row.what) a kept.1 in
-          (
+          let caused : IsCaused K (whole later) n row.what = subst (λ m. IsCaused K (whole later) m row.what) a kept.1 in (
             subst (λ q. Next K n rest q) s.0 (subst (λ L. Next K n L row.what) s.1 next),
             record {
               lists = whole later;

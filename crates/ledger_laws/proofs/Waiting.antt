@@ -1,17 +1,17 @@
 -- A hash that is locked for no committed transaction is one of an entry that isn't committed.
 use Rattle.std.proofs.Common.{◌≡◌, ◌⊎◌, inl, inr, ℕ, zero, suc, ◌+◌, ◌<◌, ◌≤◌, ◌/◌, Bool, true, false, if◌then◌else◌, List, [], ◌∷◌, ◌++◌, Option, Some, None, is_some, Contains, refl, sym, ap, ◌∙◌, subst, arith}
-use Rattle.cbdc_model.specs.Records.{Digest, Shape, Batch, Compact, Record, Row, Reply, Answered, is_held, is_won, journal, record_of, lock_of, txs_of, outcomes_of, entries_in, txs_in, outcomes_in, Genesis, Lock, Finish, Forget, Start, Prepare, Commit, Discard, Done}
+use Rattle.cbdc_model.specs.Records.{Digest, Shape, Batch, Compact, Record, Row, Answered, is_held, journal, record_of, lock_of, txs_of, outcomes_of, entries_in, outcomes_in, Genesis, Lock, Finish, Forget, Start, Prepare, Commit, Discard, Done}
 use Rattle.cbdc_model.specs.Status.{status, Locked, held_inputs, taken_inputs}
 use Rattle.cbdc_model.specs.Replies.{entries}
-use Rattle.cbdc_model.specs.Ranges.{shard_of, shard_node, journal_at, lane_journal, part}
-use Rattle.cbdc_model.specs.Outcomes.{reply_at, outcome, outcomes, won_at, won_txs}
+use Rattle.cbdc_model.specs.Ranges.{shard_of, journal_at, lane_journal}
+use Rattle.cbdc_model.specs.Outcomes.{reply_at, won_at}
 use Rattle.cbdc_model.specs.Causes.{at_shards}
 use Rattle.cbdc_model.specs.History.{Minted, first_rows, won_of, all_inputs}
-use Rattle.ledger_laws.proofs.Next.{has_lock, has_commit, Each, Steady}
+use Rattle.ledger_laws.proofs.Next.{has_lock, Steady}
 use Rattle.ledger_laws.proofs.Counts.{count, count-append}
-use Rattle.ledger_laws.proofs.Parts.{IsPart, is_part, won_by, won_by-won_txs, decided, count-taken, Agrees, agrees, outcome_held, won_at-outcomes}
+use Rattle.ledger_laws.proofs.Parts.{IsPart, is_part, won_by-won_txs, decided, count-taken, Agrees, agrees, outcome_held, won_at-outcomes}
 use Rattle.ledger_laws.proofs.Members.{In, in_contains, contains_in, in_count, count_in}
-use Rattle.ledger_laws.proofs.Lookups.{true_false, no_lock, none_found, shard_of-lt}
+use Rattle.ledger_laws.proofs.Lookups.{no_lock, none_found, shard_of-lt}
 use Rattle.ledger_laws.specs.Sets.{IsWaiting}
 use Rattle.ledger_laws.proofs.Moves.{all_structure, split_test}
 use Rattle.ledger_laws.proofs.Alikes.{found_passes}

@@ -1,14 +1,11 @@
 -- Every step of the world keeps it.
-use Rattle.std.proofs.Common.{◌≡◌, inl, inr, ℕ, suc, ◌<◌, ◌≤◌, max, true, false, ◌==◌, if◌then◌else◌, List, [], ◌∷◌, ◌++◌, length, Option, Some, None, is_some, set, get_or-set_same, get_or-set_other, refl, sym, ap, ◌∙◌, subst, arith}
+use Rattle.std.proofs.Common.{◌≡◌, inl, inr, ℕ, ◌<◌, ◌≤◌, true, false, ◌==◌, if◌then◌else◌, List, [], ◌∷◌, ◌++◌, length, Option, Some, None, set, get_or-set_same, get_or-set_other, refl, sym, ap, ◌∙◌, subst, arith}
 use Rattle.cbdc_model.specs.Causes.{IsCaused}
 use Rattle.cbdc_model.specs.History.{header_of, first_rows, goes_above, IsAbove, IsOrdered, Minted}
-use Rattle.cbdc_model.specs.Outcomes.{decisions}
-use Rattle.cbdc_model.specs.Ranges.{part}
-use Rattle.cbdc_model.specs.Records.{Digest, Shape, Batch, Compact, Entry, is_held, Record, Row, journal, stamp_of, last_stamp, txs_in, outcomes_in, stamp_in, Genesis, Lock, Finish, Forget, Start, Prepare, Commit, Discard, Done, lock_of}
-use Rattle.cbdc_model.specs.Replies.{entries, answered, reply_to}
+use Rattle.cbdc_model.specs.Records.{Shape, Compact, Record, Row, journal, stamp_of, last_stamp, Genesis, Lock, Finish, Forget, Start, Prepare, Commit, Discard, Done}
 use Rattle.cbdc_model.specs.Grammar.{IsInGrammar}
 use Rattle.cbdc_model.specs.After.{After}
-use Rattle.cbdc_model.specs.World.{EventPasses, EventsPass, Node, World, no_node, node_at, journals, ShardCall, Lock_call, Finish_call, Forget_call, CauseStands, record_for, Event, Begin, End, Crash, Reopen, Repeat, flushed, Allowed, effect, Step, Run}
+use Rattle.cbdc_model.specs.World.{EventPasses, EventsPass, Node, World, no_node, node_at, journals, record_for, Event, Begin, End, Crash, Reopen, Repeat, flushed, Allowed, effect, Step, Run}
 use Rattle.ledger_laws.proofs.Ledger.{SteadyWorld, next_at, proper_of}
 use Rattle.ledger_laws.proofs.Planned.{Planned, planned}
 use Rattle.ledger_laws.proofs.Next.{Next, Steady, AllProper}

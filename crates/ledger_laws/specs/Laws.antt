@@ -1,9 +1,8 @@
 -- The laws, each as one statement.
 use Rattle.std.specs.Prelude.{◌≡◌, ◌⊎◌, ◌↔◌, ℕ, ◌<◌, ◌+◌, true, List, ◌++◌, length, Contains, Some, is_some}
-use Rattle.cbdc_model.specs.Records.{Shape, Digest, Compact, Batch, Entry, Record, Row, journal, record_of, stamp_in}
+use Rattle.cbdc_model.specs.Records.{Shape, Digest, Compact, Batch, Record, Row, journal, record_of, stamp_in}
 use Rattle.cbdc_model.specs.Status.{status, Locked, Absent}
 use Rattle.cbdc_model.specs.Ranges.{journal_at, lane_journal}
-use Rattle.cbdc_types.specs.declared.calls.Refused.{Refused}
 use Rattle.cbdc_types.specs.declared.calls.Refused.TheVariants.{Stale}
 use Rattle.cbdc_model.specs.Next.{Plan, Kept, Append, Refuse, next_lock, next_finish, next_forget}
 use Rattle.cbdc_model.specs.Coins.{Output, FullTx, genesis_hashes}
@@ -15,6 +14,7 @@ use Rattle.cbdc_model.specs.After.{After}
 use Rattle.cbdc_model.specs.Lanes.{Seen, KeptLists, AllPass, Wave}
 use Rattle.ledger_laws.specs.Sets.{Folds}
 use Rattle.ledger_laws.specs.Reach.{Reached}
+use Rattle.ledger_laws.specs.Phases.{IsInPhaseOrder, IsAfterEarlier, IsLate}
 
 -- the committed transactions of every kept history fold, where hashes don't clash
 abbrev pub FoldLaw : Type 0
@@ -110,5 +110,16 @@ abbrev pub FlightLaw : Type 0
 FlightLaw = (K : Shape) (mint : List Output) (submissions : List FullTx) (w : World) → 0 < K.shards → length w ≡ K.coordinators + K.shards
     → KeptJournals K mint submissions (journals w)
     → ((n : ℕ) (r : Record) → (node_at w n).flight ≡ Some r
-        → After (header_of K (minted mint).id n) (journals w n) r × Seen K (journals w) n (journals w n) r × TxsPass (IsProperCompact submissions) r)
+    → After (header_of K (minted mint).id n) (journals w n) r × Seen K (journals w) n (journals w n) r × TxsPass (IsProperCompact submissions) r)
     → KeptWorld K mint submissions w
+
+-- the records of each batch stand in phase order over the nodes, and the batches of each lane one behind another
+abbrev pub PhaseLaw : Type 0
+PhaseLaw = (K : Shape) (mint : List Output) (submissions : List FullTx) (later : List Row) → 0 < K.shards → IsKept K mint submissions later
+    → ((b : Batch) → IsInPhaseOrder K (λ n. journal n (history_of K mint later)) b)
+    × ((c b : Batch) → IsAfterEarlier K (λ n. journal n (history_of K mint later)) c b)
+
+-- at most one batch of a lane has stamps above 2^62
+abbrev pub LateLaw : Type 0
+LateLaw = (K : Shape) (mint : List Output) (submissions : List FullTx) (later : List Row) (b c : Batch) → 0 < K.shards → IsKept K mint submissions later
+    → IsLate (λ n. journal n (history_of K mint later)) b → IsLate (λ n. journal n (history_of K mint later)) c → b.lane ≡ c.lane → b ≡ c

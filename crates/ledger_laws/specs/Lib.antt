@@ -1,3 +1,4 @@
 pub mod Sets
+pub mod Phases
 pub mod Laws
 pub mod Reach

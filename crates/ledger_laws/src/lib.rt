@@ -1,7 +1,7 @@
 //! The laws of the ledger: functions with an empty body, whose contracts are the theorems. Nothing of them runs.
 #![tactic(auto)]
 
-ghost use Rattle.ledger_laws.specs.Laws.{AnswerLaw, CutLaw, FlightLaw, FoldLaw, HeadlineLaw, IdleLaw, KeptLaw, LocalLaw, MakerLaw, MoreLaw, OneHistoryLaw, ReachLaw, RecoveredLaw, StepLaw, WaveLaw};
+ghost use Rattle.ledger_laws.specs.Laws.{AnswerLaw, CutLaw, FlightLaw, FoldLaw, HeadlineLaw, IdleLaw, KeptLaw, LateLaw, LocalLaw, MakerLaw, MoreLaw, OneHistoryLaw, PhaseLaw, ReachLaw, RecoveredLaw, StepLaw, WaveLaw};
 
 /// Where no two coins or transactions share a hash, the committed transactions of every kept
 /// history can be spent one after another from the mint, each finding all its inputs. The book
@@ -10,8 +10,7 @@ ghost use Rattle.ledger_laws.specs.Laws.{AnswerLaw, CutLaw, FlightLaw, FoldLaw, 
 /// that are not yet there; no hash is in two of these sets.
 pub fn fold_law()
     ensures { FoldLaw }
-{
-}
+{}
 
 /// From the first world, whatever records are begun and ended, whichever nodes crash, with or
 /// without what was in flight, and are opened again, and whichever calls are made again however
@@ -19,14 +18,12 @@ pub fn fold_law()
 /// journal and is caused by records before it, and what is in flight follows and is caused too.
 pub fn kept_law()
     ensures { KeptLaw }
-{
-}
+{}
 
 /// The same for one step from any world that is kept so far.
 pub fn step_law()
     ensures { StepLaw }
-{
-}
+{}
 
 /// The headline. For every list of steps, repeats and crashes in which no two outputs share a
 /// hash: once the open batches are recovered, the shards together hold exactly the hashes of the
@@ -35,81 +32,81 @@ pub fn step_law()
 /// is the value minted, and every batch is finished alike on all its shards.
 pub fn headline_law()
     ensures { HeadlineLaw }
-{
-}
+{}
 
 /// The same sentence of any world that is kept and recovered, however it came about.
 pub fn recovered_law()
     ensures { RecoveredLaw }
-{
-}
+{}
 
 /// A hash that is Unspent or Locked at its shard was minted, or the transaction that makes it is
 /// committed, and the Finish that made it at this shard stands. This Commit and this Finish have
 /// smaller stamps than any Lock that holds the hash.
 pub fn maker_law()
     ensures { MakerLaw }
-{
-}
+{}
 
 /// A call at a shard that its batch concerns, whose cause stands, is answered with a new record,
 /// with what was answered before, or as stale, however old the call is; never with another refusal.
 /// It asks nothing of hashes.
 pub fn answer_law()
     ensures { AnswerLaw }
-{
-}
+{}
 
 /// Every kept history is that of a run from the first world: its records begun and ended in its
 /// order. So what is kept is no more than what can be reached.
 pub fn reach_law()
     ensures { ReachLaw }
-{
-}
+{}
 
 /// Journals have one history: two lists of rows by stamp and node with the same journals are the same.
 pub fn one_history_law()
     ensures { OneHistoryLaw }
-{
-}
+{}
 
 /// An older part of a kept history is kept.
 pub fn cut_law()
     ensures { CutLaw }
-{
-}
+{}
 
 /// The same sentence of journals that are kept, where every lane is idle at its coordinator.
 pub fn idle_law()
     ensures { IdleLaw }
-{
-}
+{}
 
 /// Journals are kept exactly where each record behind the first ones follows its journal and is
 /// caused by records that stood in beginnings of the journals: one fact for each record, which
 /// stays when journals grow. In particular such journals have a history by stamp and node.
 pub fn local_law()
     ensures { LocalLaw }
-{
-}
+{}
 
 /// What the lanes of a wave made keeps the journals, where each lane shows only that its own records
 /// are caused by what it had seen, and each node that its records follow its journal. Nothing is
 /// asked of how the lanes came between each other.
 pub fn wave_law()
     ensures { WaveLaw }
-{
-}
+{}
 
 /// What is kept stays kept when more transactions are submitted.
 pub fn more_law()
     ensures { MoreLaw }
-{
-}
+{}
 
 /// A world is kept where its journals are kept, and each record in flight follows its node's
 /// journal and was caused by records in beginnings of the journals.
 pub fn flight_law()
     ensures { FlightLaw }
-{
-}
+{}
+
+/// The records of each batch stand in phase order over the nodes with rising stamps: Prepare, the
+/// Locks, Commit, the Finishes, Discard, the Forgets, Done. A batch of a lane is prepared only
+/// behind the Done of the earlier ones.
+pub fn phase_law()
+    ensures { PhaseLaw }
+{}
+
+/// At most one batch of a lane has records with stamps above 2^62.
+pub fn late_law()
+    ensures { LateLaw }
+{}

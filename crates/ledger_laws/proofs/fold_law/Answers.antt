@@ -1,4 +1,5 @@
 use Rattle.ledger_laws.proofs.fold_law.Goals as goal
 use Rattle.ledger_laws.proofs.Folding as folding
+
 pub returns : goal.returns
 returns c = folding.fold_law

@@ -1,4 +1,5 @@
 use Rattle.ledger_laws.proofs.kept_law.Goals as goal
 use Rattle.ledger_laws.proofs.KeptLaws as laws
+
 pub returns : goal.returns
 returns c = laws.kept_law

@@ -1,4 +1,5 @@
 use Rattle.ledger_laws.proofs.wave_law.Goals as goal
 use Rattle.ledger_laws.proofs.LaneLaws as laws
+
 pub returns : goal.returns
 returns c = laws.wave_law
