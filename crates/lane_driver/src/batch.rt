@@ -1,5 +1,5 @@
 // A batch of a lane, phase by phase.
-ghost use Rattle.std.specs.Prelude.{◌≡◌, ◌≤◌, ◌<◌, [], ◌∷◌, length, map, IfOk, OnOk, All};
+ghost use Rattle.std.specs.Prelude.{◌≡◌, ◌≤◌, ◌<◌, [], ◌∷◌, length, map, IfOk, OnOk, All, ℕ};
 ghost use Rattle.std.specs.Vec.{vec_capacity};
 ghost use Rattle.cbdc_model.specs.Slots.{Idle, InPrepare, InCommit, InDiscard};
 ghost use Rattle.cbdc_model.specs.Ranges.{home_of};
@@ -53,6 +53,10 @@ pub fn from_discarded<S: PortSet, L: LogPort, G: Gate>(
     ensures others { OnOk result (KeepsOthers (L.header ports.old.log) batch.now.lane (L.phase ports.old.log) (L.phase ports.new.log) (L.open_txs ports.old.log) (L.open_txs ports.new.log)) }
     ensures header { L.header ports.new.log ≡ L.header ports.old.log }
     ensures count { S.count ports.new.shards ≡ S.count ports.old.shards }
+    ensures shard_loan { S.loan ports.new.shards ≡ S.loan ports.old.shards }
+    ensures log_loan { L.loan ports.new.log ≡ L.loan ports.old.log }
+    ensures shard_later { (n : ℕ) → S.faults ports.old.shards n ≤ S.faults ports.new.shards n }
+    ensures log_later { L.faults ports.old.log ≤ L.faults ports.new.log }
     ensures calls { forgets.new.items ≡ map (forget_of batch.now cause) locks.now }
     ensures capacity { vec_capacity stamped.new ≡ vec_capacity stamped.old }
 {
@@ -94,6 +98,10 @@ pub fn from_committed<S: PortSet, L: LogPort, G: Gate>(
     ensures others { OnOk result (KeepsOthers (L.header ports.old.log) batch.now.lane (L.phase ports.old.log) (L.phase ports.new.log) (L.open_txs ports.old.log) (L.open_txs ports.new.log)) }
     ensures header { L.header ports.new.log ≡ L.header ports.old.log }
     ensures count { S.count ports.new.shards ≡ S.count ports.old.shards }
+    ensures shard_loan { S.loan ports.new.shards ≡ S.loan ports.old.shards }
+    ensures log_loan { L.loan ports.new.log ≡ L.loan ports.old.log }
+    ensures shard_later { (n : ℕ) → S.faults ports.old.shards n ≤ S.faults ports.new.shards n }
+    ensures log_later { L.faults ports.old.log ≤ L.faults ports.new.log }
 {
     let LaterRoom {
         mut finishes,
@@ -151,6 +159,10 @@ pub fn from_prepared<S: PortSet, L: LogPort, G: Gate>(
     ensures others { OnOk result (KeepsOthers (L.header ports.old.log) batch.now.lane (L.phase ports.old.log) (L.phase ports.new.log) (L.open_txs ports.old.log) (L.open_txs ports.new.log)) }
     ensures header { L.header ports.new.log ≡ L.header ports.old.log }
     ensures count { S.count ports.new.shards ≡ S.count ports.old.shards }
+    ensures shard_loan { S.loan ports.new.shards ≡ S.loan ports.old.shards }
+    ensures log_loan { L.loan ports.new.log ≡ L.loan ports.old.log }
+    ensures shard_later { (n : ℕ) → S.faults ports.old.shards n ≤ S.faults ports.new.shards n }
+    ensures log_later { L.faults ports.old.log ≤ L.faults ports.new.log }
     ensures outcomes { IfOk result (λ os. length os ≡ length (L.open_txs ports.old.log batch.now.lane)) }
 {
     let BatchRoom {
@@ -199,6 +211,10 @@ pub(crate) fn one_batch<S: PortSet, L: LogPort, G: Gate>(
     ensures idle { OnOk result (L.phase ports.new.log lane ≡ Idle) }
     ensures header { L.header ports.new.log ≡ L.header ports.old.log }
     ensures count { S.count ports.new.shards ≡ S.count ports.old.shards }
+    ensures shard_loan { S.loan ports.new.shards ≡ S.loan ports.old.shards }
+    ensures log_loan { L.loan ports.new.log ≡ L.loan ports.old.log }
+    ensures shard_later { (n : ℕ) → S.faults ports.old.shards n ≤ S.faults ports.new.shards n }
+    ensures log_later { L.faults ports.old.log ≤ L.faults ports.new.log }
     ensures report { IfOk result (λ r. (r.batch.lane ≡ lane) × (length r.outcomes ≡ length txs.now)) }
 {
     let _limit = shape.batch();
@@ -236,6 +252,10 @@ pub fn run_batch<S: PortSet, L: LogPort, G: Gate>(
     ensures idle { OnOk result (L.phase ports.new.log lane ≡ Idle) }
     ensures header { L.header ports.new.log ≡ L.header ports.old.log }
     ensures count { S.count ports.new.shards ≡ S.count ports.old.shards }
+    ensures shard_loan { S.loan ports.new.shards ≡ S.loan ports.old.shards }
+    ensures log_loan { L.loan ports.new.log ≡ L.loan ports.old.log }
+    ensures shard_later { (n : ℕ) → S.faults ports.old.shards n ≤ S.faults ports.new.shards n }
+    ensures log_later { L.faults ports.old.log ≤ L.faults ports.new.log }
     ensures report { IfOk result (λ r. AreReports lane r.batches (txs.now ∷ [])) }
 {
     let mut batches = match Vec::with_capacity(alloc, 1) {

@@ -1,5 +1,5 @@
 // A lane's transactions, batch by batch.
-ghost use Rattle.std.specs.Prelude.{◌≡◌, ◌≤◌, ◌<◌, [], List, length, IfOk, OnOk, All};
+ghost use Rattle.std.specs.Prelude.{◌≡◌, ◌≤◌, ◌<◌, [], List, length, IfOk, OnOk, All, ℕ};
 ghost use Rattle.std.specs.Vec.{vec_capacity};
 ghost use Rattle.cbdc_model.specs.Records.{Compact};
 ghost use Rattle.cbdc_model.specs.Slots.{Idle};
@@ -34,6 +34,10 @@ pub fn run_lane<S: PortSet, L: LogPort, G: Gate>(
     ensures idle { OnOk result (L.phase ports.new.log lane ≡ Idle) }
     ensures header { L.header ports.new.log ≡ L.header ports.old.log }
     ensures count { S.count ports.new.shards ≡ S.count ports.old.shards }
+    ensures shard_loan { S.loan ports.new.shards ≡ S.loan ports.old.shards }
+    ensures log_loan { L.loan ports.new.log ≡ L.loan ports.old.log }
+    ensures shard_later { (n : ℕ) → S.faults ports.old.shards n ≤ S.faults ports.new.shards n }
+    ensures log_later { L.faults ports.old.log ≤ L.faults ports.new.log }
     ensures report { IfOk result (λ r. IsReported lane shape.now.batch txs.now [] r.batches) }
 {
     let size = shape.batch() as usize;

@@ -1,5 +1,5 @@
 // The phases of a batch at its shards, and its calls again.
-ghost use Rattle.std.specs.Prelude.{◌≡◌, ◌<◌, ◌≤◌, [], length, IfOk, IfErr, MatchResult, All};
+ghost use Rattle.std.specs.Prelude.{◌≡◌, ◌<◌, ◌≤◌, [], length, IfOk, IfErr, MatchResult, All, ℕ};
 ghost use Rattle.std.specs.Vec.{vec_capacity};
 ghost use Rattle.lane_driver.specs.Calls.{shard};
 ghost use Rattle.lane_driver.specs.Told.{IsLockCall, IsFinishCall, IsForgetCall, AreShards, AreReplies, IsStamp};
@@ -33,6 +33,8 @@ pub fn lock_again<S: PortSet, G: Gate>(
     requires room { length calls.now ≤ vec_capacity answers.old }
     ensures capacity { vec_capacity answers.new ≡ vec_capacity answers.old }
     ensures count { S.count shards.new ≡ S.count shards.old }
+    ensures loan { S.loan shards.new ≡ S.loan shards.old }
+    ensures later { (n : ℕ) → S.faults shards.old n ≤ S.faults shards.new n }
 {
     for _time in 0..repeats {
         answers.clear();
@@ -53,6 +55,8 @@ pub fn finish_again<S: PortSet, G: Gate>(
     requires room { length calls.now ≤ vec_capacity answers.old }
     ensures capacity { vec_capacity answers.new ≡ vec_capacity answers.old }
     ensures count { S.count shards.new ≡ S.count shards.old }
+    ensures loan { S.loan shards.new ≡ S.loan shards.old }
+    ensures later { (n : ℕ) → S.faults shards.old n ≤ S.faults shards.new n }
 {
     for _time in 0..repeats {
         answers.clear();
@@ -73,6 +77,8 @@ pub fn forget_again<S: PortSet, G: Gate>(
     requires room { length calls.now ≤ vec_capacity answers.old }
     ensures capacity { vec_capacity answers.new ≡ vec_capacity answers.old }
     ensures count { S.count shards.new ≡ S.count shards.old }
+    ensures loan { S.loan shards.new ≡ S.loan shards.old }
+    ensures later { (n : ℕ) → S.faults shards.old n ≤ S.faults shards.new n }
 {
     for _time in 0..repeats {
         answers.clear();
@@ -97,6 +103,8 @@ pub fn lock_phase<S: PortSet, G: Gate>(
     requires no_replies { replies.items ≡ [] }
     requires replies_room { length calls.now ≤ vec_capacity replies }
     ensures count { S.count shards.new ≡ S.count shards.old }
+    ensures loan { S.loan shards.new ≡ S.loan shards.old }
+    ensures later { (n : ℕ) → S.faults shards.old n ≤ S.faults shards.new n }
     ensures replies { IfOk result (AreReplies shape.now) }
 {
     shards.lock(calls, &mut answers, gate);
@@ -120,6 +128,8 @@ pub fn finish_phase<S: PortSet, G: Gate>(
     requires room { length calls.now ≤ vec_capacity answers.old }
     ensures capacity { vec_capacity answers.new ≡ vec_capacity answers.old }
     ensures count { S.count shards.new ≡ S.count shards.old }
+    ensures loan { S.loan shards.new ≡ S.loan shards.old }
+    ensures later { (n : ℕ) → S.faults shards.old n ≤ S.faults shards.new n }
     ensures stamp { IfOk result IsStamp }
 {
     answers.clear();
@@ -144,6 +154,8 @@ pub fn forget_phase<S: PortSet, G: Gate>(
     requires room { length calls.now ≤ vec_capacity answers.old }
     ensures capacity { vec_capacity answers.new ≡ vec_capacity answers.old }
     ensures count { S.count shards.new ≡ S.count shards.old }
+    ensures loan { S.loan shards.new ≡ S.loan shards.old }
+    ensures later { (n : ℕ) → S.faults shards.old n ≤ S.faults shards.new n }
     ensures stamp { IfOk result IsStamp }
 {
     answers.clear();

@@ -24,6 +24,12 @@ pub trait LogPort {
     /// The transactions of a lane's batch that is not done.
     ghost open_txs: { Self → ℕ → List Compact };
 
+    /// The name of the loan that the port holds, where it holds a node that is lent.
+    ghost loan: { Self → ℕ };
+
+    /// How often the coordinator's disk has failed.
+    ghost faults: { Self → ℕ };
+
     /// Begins a batch of an idle lane: its name, and the stamp of its Prepare.
     fn prepare<G: Gate>(
         &mut self,
@@ -39,7 +45,9 @@ pub trait LogPort {
         ensures phase { OnOk result (phase self.new lane ≡ InPrepare) }
         ensures txs { OnOk result (open_txs self.new lane ≡ txs.now) }
         ensures others { OnOk result (KeepsOthers (header self.old) lane (phase self.old) (phase self.new) (open_txs self.old) (open_txs self.new)) }
-        ensures header { header self.new ≡ header self.old };
+        ensures header { header self.new ≡ header self.old }
+        ensures loan { loan self.new ≡ loan self.old }
+        ensures later { faults self.old ≤ faults self.new };
 
     /// Decides the prepared batch by what its shards replied, and tells the outcomes.
     fn decide<G: Gate>(
@@ -58,7 +66,9 @@ pub trait LogPort {
         ensures phase { OnOk result (phase self.new lane ≡ InCommit) }
         ensures outcomes { OnOk result (length out.new.items ≡ length (open_txs self.old lane)) }
         ensures others { OnOk result (KeepsOthers (header self.old) lane (phase self.old) (phase self.new) (open_txs self.old) (open_txs self.new)) }
-        ensures header { header self.new ≡ header self.old };
+        ensures header { header self.new ≡ header self.old }
+        ensures loan { loan self.new ≡ loan self.old }
+        ensures later { faults self.old ≤ faults self.new };
 
     /// Writes down that the decided batch is applied everywhere.
     fn discard<G: Gate>(&mut self, lane: LaneId, cause: Stamp, gate: &G) -> Result<Stamp, NodeFault>
@@ -68,7 +78,9 @@ pub trait LogPort {
         ensures stamp { IfOk result IsStamp }
         ensures phase { OnOk result (phase self.new lane ≡ InDiscard) }
         ensures others { OnOk result (KeepsOthers (header self.old) lane (phase self.old) (phase self.new) (open_txs self.old) (open_txs self.new)) }
-        ensures header { header self.new ≡ header self.old };
+        ensures header { header self.new ≡ header self.old }
+        ensures loan { loan self.new ≡ loan self.old }
+        ensures later { faults self.old ≤ faults self.new };
 
     /// Writes down that the batch is forgotten everywhere.
     fn done<G: Gate>(&mut self, lane: LaneId, cause: Stamp, gate: &G) -> Result<Stamp, NodeFault>
@@ -78,7 +90,9 @@ pub trait LogPort {
         ensures stamp { IfOk result IsStamp }
         ensures phase { OnOk result (phase self.new lane ≡ Idle) }
         ensures others { OnOk result (KeepsOthers (header self.old) lane (phase self.old) (phase self.new) (open_txs self.old) (open_txs self.new)) }
-        ensures header { header self.new ≡ header self.old };
+        ensures header { header self.new ≡ header self.old }
+        ensures loan { loan self.new ≡ loan self.old }
+        ensures later { faults self.old ≤ faults self.new };
 }
 
 /// One shard.
@@ -102,6 +116,12 @@ pub trait PortSet {
     /// How many shards there are.
     ghost count: { Self → ℕ };
 
+    /// The name of the loan that the port holds, where it holds nodes that are lent.
+    ghost loan: { Self → ℕ };
+
+    /// How often the disk of each shard has failed.
+    ghost faults: { Self → ℕ → ℕ };
+
     fn lock<G: Gate>(
         &mut self,
         calls: &[(u32, LockCall)],
@@ -114,7 +134,9 @@ pub trait PortSet {
         requires room { length calls.now ≤ vec_capacity out.old }
         ensures each { EachAnswer LockTold calls.now out.new.items }
         ensures capacity { vec_capacity out.new ≡ vec_capacity out.old }
-        ensures count { count self.new ≡ count self.old };
+        ensures count { count self.new ≡ count self.old }
+        ensures loan { loan self.new ≡ loan self.old }
+        ensures later { (n : ℕ) → faults self.old n ≤ faults self.new n };
 
     fn finish<G: Gate>(
         &mut self,
@@ -128,7 +150,9 @@ pub trait PortSet {
         requires room { length calls.now ≤ vec_capacity out.old }
         ensures each { EachAnswer StampTold calls.now out.new.items }
         ensures capacity { vec_capacity out.new ≡ vec_capacity out.old }
-        ensures count { count self.new ≡ count self.old };
+        ensures count { count self.new ≡ count self.old }
+        ensures loan { loan self.new ≡ loan self.old }
+        ensures later { (n : ℕ) → faults self.old n ≤ faults self.new n };
 
     fn forget<G: Gate>(
         &mut self,
@@ -142,7 +166,9 @@ pub trait PortSet {
         requires room { length calls.now ≤ vec_capacity out.old }
         ensures each { EachAnswer StampTold calls.now out.new.items }
         ensures capacity { vec_capacity out.new ≡ vec_capacity out.old }
-        ensures count { count self.new ≡ count self.old };
+        ensures count { count self.new ≡ count self.old }
+        ensures loan { loan self.new ≡ loan self.old }
+        ensures later { (n : ℕ) → faults self.old n ≤ faults self.new n };
 }
 
 /// What a lane speaks to: the shards, and the log of its coordinator.

@@ -16,6 +16,10 @@ pieces-preserved g c =
       idle = search rules;
       header = search rules;
       count = search rules;
+      shard_loan = search rules;
+      log_loan = search rules;
+      shard_later = λ n. omega (arith, c.pieces.invariant.shard_later n, c.in-Ok-one_batch.ensures.shard_later n);
+      log_later = omega (arith, c.pieces.invariant.log_later, c.in-Ok-one_batch.ensures.log_later);
       limits = All-same IsCompact c.split_at.result.1.now (drop c.min.result c.pieces.rest.now) at.back (All-drop IsCompact c.min.result c.pieces.rest.now c.pieces.invariant.limits);
       room = room_after (length c.pieces.rest.now) c.args.shape.now.batch _ _ (length c.split_at.result.1.now) _ _ some c.pieces.invariant.room (ap (λ n. length c.split_at.result.1.now + n) (sym size) ∙ at.back_len) room
           c.push_reserved.ensures.len c.push_reserved.ensures.capacity;

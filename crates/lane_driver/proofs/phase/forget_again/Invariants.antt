@@ -1,4 +1,4 @@
-use Rattle.std.proofs.Common.{◌≡◌}
+use Rattle.std.proofs.Common.{◌≡◌, ◌≤◌, ℕ}
 use Rattle.std.specs.Vec.{vec_capacity}
 use Rattle.lane_driver.proofs.phase.forget_again.Given as goal
 
@@ -6,4 +6,6 @@ abbrev pub invariant-loop-time : goal.invariant-loop-time
 invariant-loop-time g l = record {
   capacity : vec_capacity l.answers ≡ vec_capacity l.initial.answers;
   count : g.S.PortSet.count l.shards ≡ g.S.PortSet.count l.initial.shards;
+  loan : g.S.PortSet.loan l.shards ≡ g.S.PortSet.loan l.initial.shards;
+  later : (n : ℕ) → g.S.PortSet.faults l.initial.shards n ≤ g.S.PortSet.faults l.shards n;
 }
