@@ -44,13 +44,13 @@ put_stands : (slots : List LaneSlot) (J K : List Record) (at : ℕ) (new : LaneS
     → ((s : LaneSlot) (lane : ℕ) → (at == lane) ≡ false → SlotStands s J lane → SlotStands s K lane) → LanesStand (set slots at new) K
 put_stands slots J K at new old here others lane s g =
     elim (at == lane) as (λ c. (at == lane) ≡ c → SlotStands s K lane) [
-    | true ↦ λ e.
-        let same : at ≡ lane = grind (arith, nat_tests) in
-        let is : s ≡ new = get_set_same slots at new s (subst (λ (k : ℕ). slice_get (set slots at new) k ≡ Some s) (sym same) g) in
-        subst (λ (k : ℕ). SlotStands s K k) same (subst (λ (v : LaneSlot). SlotStands v K at) (sym is) here)
-    | false ↦ λ e.
-        let apart : at ≢ lane = grind (arith, nat_tests) in
-        others s lane e (old lane s (sym (get_set_other slots at lane new apart) ∙ g))
+      | true ↦ λ e.
+          let same : at ≡ lane = grind (arith, nat_tests) in
+          let is : s ≡ new = get_set_same slots at new s (subst (λ (k : ℕ). slice_get (set slots at new) k ≡ Some s) (sym same) g) in
+          subst (λ (k : ℕ). SlotStands s K k) same (subst (λ (v : LaneSlot). SlotStands v K at) (sym is) here)
+      | false ↦ λ e.
+          let apart : at ≢ lane = grind (arith, nat_tests) in
+          others s lane e (old lane s (sym (get_set_other slots at lane new apart) ∙ g))
     ] refl
 
 same_lane : (n : ℕ) → (n == n) ≡ true

@@ -13,7 +13,6 @@ difference_is same [] (y ∷ ys) = refl
 difference_is same (x ∷ xs) [] = refl
 difference_is same (x ∷ xs) (y ∷ ys) = let rest = difference_is same xs ys in rw rest
 
-
 pub misfit_is : (es : List Answered) (ds : List Bool) → misfit es ds ≡ first_place fits_reply (replies es) ds
 misfit_is [] [] = refl
 misfit_is [] (d ∷ ds) = refl

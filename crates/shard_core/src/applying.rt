@@ -14,7 +14,13 @@ pub fn hash_count(entries: &[Entry]) -> u64 {
 }
 
 // Locks the inputs of a Held entry.
-fn lock_inputs(unspent: &mut Table, locks: &mut Locks, inputs: &[Hash], batch: &BatchId, place: u32) {
+fn lock_inputs(
+    unspent: &mut Table,
+    locks: &mut Locks,
+    inputs: &[Hash],
+    batch: &BatchId,
+    place: u32,
+) {
     for x in inputs {
         unspent.remove(x);
         if 0 < locks.spare() {

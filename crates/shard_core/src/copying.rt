@@ -55,4 +55,3 @@ pub fn entries_of(alloc: Global, answered: &[Answered]) -> Result<Vec<Entry>, Al
     }
     Ok(entries)
 }
-

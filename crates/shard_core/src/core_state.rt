@@ -194,8 +194,13 @@ impl ShardCore {
             LockAnswer::Next => {
                 let stamp = self.next_stamp(call.cause);
                 let entries = call.part.as_slice();
-                let replies =
-                    replies_to(self.alloc, &self.unspent, &self.locks, entries, &call.batch)?;
+                let replies = replies_to(
+                    self.alloc,
+                    &self.unspent,
+                    &self.locks,
+                    entries,
+                    &call.batch,
+                )?;
                 let part = copy_of(self.alloc, entries)?;
                 self.make_room(call.batch.lane, List::from_vec(part), replies.as_slice())?;
                 Ok(LockPlan::Append(Replied {
@@ -207,12 +212,7 @@ impl ShardCore {
     }
 
     // Takes the memory for a Lock of this part with these replies, and for its Finish.
-    fn make_room(
-        &mut self,
-        lane: LaneId,
-        part: Part,
-        replies: &[Reply],
-    ) -> Result<(), AllocError>
+    fn make_room(&mut self, lane: LaneId, part: Part, replies: &[Reply]) -> Result<(), AllocError>
         ensures same { IsSameState self.old self.new }
         ensures ready { OnOk result (IsReady self.new part replies.now) }
     {
@@ -404,7 +404,12 @@ impl ShardCore {
             return;
         };
         let Ready { part, replies } = ready;
-        lock_held(&mut self.unspent, &mut self.locks, entries.as_slice(), batch);
+        lock_held(
+            &mut self.unspent,
+            &mut self.locks,
+            entries.as_slice(),
+            batch,
+        );
         let slot = Slot::Locked(batch.number, part, replies, *stamp);
         self.slots.put(batch.lane, slot);
         self.last = *stamp;

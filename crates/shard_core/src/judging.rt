@@ -220,4 +220,3 @@ pub fn judge_forget(slot: &Slot, call: &ForgetCall, next: Stamp) -> StampPlan
         Slot::Finished(_, _, _, _, _, stamp) => late_enough(*stamp, call.cause, next),
     }
 }
-

@@ -1,8 +1,11 @@
 //! Which shard holds a hash, and how a batch is divided among the shards.
 #![tactic(auto)]
 
-mod ranges;
 mod parts;
+mod ranges;
 
-pub use ranges::shard_of;
 pub use parts::split;
+pub use ranges::shard_of;
+
+#[cfg(test)]
+mod tests;

@@ -92,10 +92,7 @@ fn empty_parts(alloc: Global, shards: u32) -> Result<Vec<Vec<Entry>>, AllocError
 }
 
 // The parts that have an entry, each with its shard.
-fn concerned(
-    alloc: Global,
-    parts: Vec<Vec<Entry>>,
-) -> Result<List<(u32, Part)>, AllocError>
+fn concerned(alloc: Global, parts: Vec<Vec<Entry>>) -> Result<List<(u32, Part)>, AllocError>
     requires { vec_len parts < 2 ^ 32 }
 {
     let mut found = Vec::new(alloc);

@@ -8,5 +8,5 @@ returns-clause-stands c =
     rw c.in-Forget.is
     (record {
       lanes = rw c.put.ensures (forget_stands c.args.self.now.slots J c.in-Forget.stamp c.in-Forget.batch old.lanes);
-      last = refl
+      last = refl;
     })

@@ -11,12 +11,12 @@ returns-clause-stands c =
     let same : c.in-Lock.entries ≡ es = cc in
     let memory : c.in-Some.ready ≡ record { part = entries es; replies = replies es } = cc in
     let part : entries c.in-Lock.entries ≡ c.in-Some.ready.part =
-      ap (λ (e : List Answered). entries e) same ∙ sym (ap (λ (m : Ready). m.part) memory) in
+    ap (λ (e : List Answered). entries e) same ∙ sym (ap (λ (m : Ready). m.part) memory) in
     let given : replies c.in-Lock.entries ≡ c.in-Some.ready.replies =
-      ap (λ (e : List Answered). replies e) same ∙ sym (ap (λ (m : Ready). m.replies) memory) in
+    ap (λ (e : List Answered). replies e) same ∙ sym (ap (λ (m : Ready). m.replies) memory) in
     rw c.in-Lock.is
     (record {
       lanes = rw c.put.ensures
-        (lock_stands c.args.self.now.slots J c.in-Lock.stamp c.in-Lock.batch c.in-Lock.entries c.in-Some.ready.part c.in-Some.ready.replies old.lanes part given);
-      last = refl
+          (lock_stands c.args.self.now.slots J c.in-Lock.stamp c.in-Lock.batch c.in-Lock.entries c.in-Some.ready.part c.in-Some.ready.replies old.lanes part given);
+      last = refl;
     })
