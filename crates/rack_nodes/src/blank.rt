@@ -16,7 +16,11 @@ pub struct Blank<D> {
 
 // Whether a node with so many records may be made anew.
 fn is_blank(node: NodeId, records: usize) -> bool {
-    if node.0 == 0 { records == 0 } else { records <= 1 }
+    if node.0 == 0 {
+        records == 0
+    } else {
+        records <= 1
+    }
 }
 
 // How many records a disk has that did not open into a journal, or why that can't be told.

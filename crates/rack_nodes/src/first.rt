@@ -17,7 +17,12 @@ pub struct Wrote<D> {
 }
 
 // The bytes of a first record.
-fn body_of(alloc: Global, first: &Record, header: &Header, size: u64) -> Result<Vec<u8>, AllocError> {
+fn body_of(
+    alloc: Global,
+    first: &Record,
+    header: &Header,
+    size: u64,
+) -> Result<Vec<u8>, AllocError> {
     let mut body = Vec::with_capacity(alloc, size as usize)?;
     write_record(first, header, &mut body)?;
     Ok(body)
@@ -51,11 +56,13 @@ fn append_body<D: Disk>(node: NodeId, journal: &mut Journal<D>, body: &[u8]) -> 
     }
     match journal.append(body) {
         Ok(()) => Ok(()),
-        Err(AppendFault::Full {
-            used,
-            need,
-            capacity,
-        }) => Err(Answer::Full {
+        Err(
+            AppendFault::Full {
+                used,
+                need,
+                capacity,
+            },
+        ) => Err(Answer::Full {
             node,
             used,
             need,

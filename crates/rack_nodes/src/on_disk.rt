@@ -13,7 +13,12 @@ pub trait OnDisk<D: Disk>: Sized {
 
     /// Opens what should stand on the disk of this node, of the ledger with this header (its number aside) or
     /// of any ledger. A refusal hands the disk back.
-    fn open_disk(alloc: Global, node: NodeId, ledger: Option<&Header>, disk: D) -> Result<Self, (D, Answer)>
+    fn open_disk(
+        alloc: Global,
+        node: NodeId,
+        ledger: Option<&Header>,
+        disk: D,
+    ) -> Result<Self, (D, Answer)>
         ensures later { MatchResult result (λ n. D.count disk ≤ faults n) (λ e. D.count disk ≤ D.count e.0) }
         ensures fault { IfErr result (λ e. IsOpening node (D.count disk) (D.count e.0) e.1) };
 

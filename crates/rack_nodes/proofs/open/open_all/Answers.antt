@@ -30,9 +30,12 @@ returns-in-Err-push-clause-fault g c = (c.args.first + c.places.place, omega ari
 
 pub returns-in-Err-clause-fault : goal.returns-in-Err-clause-fault
 returns-in-Err-clause-fault g c =
-    let node = c.args.first + c.places.place in
-    (node, omega arith, omega (arith, c.places-test.true),
-    opening_later node (g.R.Rack.count c.args.rack.now node) (g.R.Rack.count c.places.rack node) (g.R.Rack.count c.open_one.new.rack node) (g.R.Rack.count c.close_all-in-Err.new.rack node) c.in-Err.fault (c.places.invariant.later node) (c.close_all-in-Err.ensures.later node) c.in-Err.ensures.fault)
+    let node = c.args.first + c.places.place in (
+      node,
+      omega arith,
+      omega (arith, c.places-test.true),
+      opening_later node (g.R.Rack.count c.args.rack.now node) (g.R.Rack.count c.places.rack node) (g.R.Rack.count c.open_one.new.rack node) (g.R.Rack.count c.close_all-in-Err.new.rack node) c.in-Err.fault (c.places.invariant.later node) (c.close_all-in-Err.ensures.later node) c.in-Err.ensures.fault,
+    )
 
 pub places-preserved : goal.places-preserved
 places-preserved g c =
