@@ -1,5 +1,7 @@
 // What the records of a lane's open batch hold.
-ghost use Rattle.std.specs.Prelude.{◌≡◌, ◌≤◌, length, []};
+ghost use Rattle.std.specs.Prelude.{◌≡◌, ◌≤◌, length, [], Some};
+ghost use Rattle.std.specs.Vec.{vec_capacity};
+ghost use Rattle.cbdc_model.specs.Records.{outcomes_in};
 
 use cbdc_types::{BatchId, CompactTx, LaneId, List, Outcome, Outcomes, Record, Stamp};
 use coord_core::copied_txs;
@@ -69,9 +71,13 @@ pub(crate) fn outcomes_of(
     Ok(List::new(alloc))
 }
 
-/// Puts the outcomes of the newest record, a Commit, into an empty vector that has room for them.
-pub(crate) fn tell(records: &[Record], out: &mut Vec<Outcome>) {
-    if let Some(Record::Commit { outcomes, .. }) = records.last() {
-        let _told = out.extend_from_slice(outcomes.as_slice());
+/// Puts the outcomes of a Commit into an empty vector that has room for them.
+pub(crate) fn tell(commit: &Record, out: &mut Vec<Outcome>)
+    requires empty { out.old.items ≡ [] }
+    requires room { length (outcomes_in (Some commit.now)) ≤ vec_capacity out.old }
+    ensures { out.new.items ≡ outcomes_in (Some commit.now) }
+{
+    if let Record::Commit { outcomes, .. } = commit {
+        out.extend_from_slice(outcomes.as_slice()).unwrap();
     }
 }

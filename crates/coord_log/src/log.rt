@@ -21,6 +21,9 @@ use record_log::RecordLog;
 use std::alloc::{AllocError, Global};
 use std::marker::Model;
 
+/// The most bytes that memory is taken for.
+const LARGEST: u64 = 1 << 40;
+
 /// The last stamp of a Prepare.
 const LAST_PREPARE: u64 = 1 << 62;
 
@@ -95,6 +98,8 @@ impl<D: Disk> CoordLog<D> {
         requires idle { (slot self.old.journal lane).phase ≡ Idle }
         requires some { 1 ≤ length txs.now }
         requires limit { length txs.now ≤ self.old.header.shape.batch }
+        ensures appended { IfOk result (λ a. self.new.journal ≡ Prepare a.1 a.0 txs.now ∷ self.old.journal) }
+        ensures named { IfOk result (λ a. (a.0.lane ≡ lane) × (a.1 ≤ 2 ^ 62)) }
         ensures header { self.new.header ≡ self.old.header }
         ensures as_before { OnErr result (self.new.journal ≡ self.old.journal) }
         ensures fault { IsErrOf result NodeFault.DiskFault → Rose self.old.faults self.new.faults }
@@ -113,7 +118,11 @@ impl<D: Disk> CoordLog<D> {
         if answer.1.0 > LAST_PREPARE {
             return Err(NodeFault::ClockEnd { stamp: answer.1 });
         }
-        make_room(&mut self.log, &self.core, size_of_record(&next), txs.len())?;
+        let size = size_of_record(&next);
+        if size > LARGEST {
+            return Err(NodeFault::Memory);
+        }
+        make_room(&mut self.log, &self.core, size, txs.len())?;
         write(&mut self.log, &mut self.core, next)?;
         Ok(answer)
     }
@@ -133,6 +142,9 @@ impl<D: Disk> CoordLog<D> {
         requires empty { out.old.items ≡ [] }
         requires room { length (txs_of self.old.journal (batch_of self.old.journal lane)) ≤ vec_capacity out.old }
         ensures header { self.new.header ≡ self.old.header }
+        ensures appended { IfOk result (λ t. self.new.journal ≡ Commit t (batch_of self.old.journal lane) out.new.items ∷ self.old.journal) }
+        ensures bound { IfOk result (λ t. t ≤ 2 ^ 62 + 2 ^ 20) }
+        ensures outcomes { OnOk result (length out.new.items ≡ length (txs_of self.old.journal (batch_of self.old.journal lane))) }
         ensures as_before { OnErr result (self.new.journal ≡ self.old.journal) }
         ensures fault { IsErrOf result NodeFault.DiskFault → Rose self.old.faults self.new.faults }
         ensures later { self.old.faults ≤ self.new.faults }
@@ -148,8 +160,8 @@ impl<D: Disk> CoordLog<D> {
             return Err(NodeFault::Memory);
         }
         let next = self.core.decide(lane, replies);
+        tell(&next, out);
         write(&mut self.log, &mut self.core, next)?;
-        tell(&self.log.records, out);
         Ok(stamp)
     }
 
@@ -160,6 +172,8 @@ impl<D: Disk> CoordLog<D> {
         requires committed { (slot self.old.journal lane).phase ≡ InCommit }
         requires cause { cause < 2 ^ 63 }
         ensures header { self.new.header ≡ self.old.header }
+        ensures appended { IfOk result (λ t. self.new.journal ≡ Discard t (batch_of self.old.journal lane) ∷ self.old.journal) }
+        ensures bound { IfOk result (λ t. t ≤ 2 ^ 62 + 2 ^ 20) }
         ensures as_before { OnErr result (self.new.journal ≡ self.old.journal) }
         ensures fault { IsErrOf result NodeFault.DiskFault → Rose self.old.faults self.new.faults }
         ensures later { self.old.faults ≤ self.new.faults }
@@ -186,6 +200,8 @@ impl<D: Disk> CoordLog<D> {
         requires discarded { (slot self.old.journal lane).phase ≡ InDiscard }
         requires cause { cause < 2 ^ 63 }
         ensures header { self.new.header ≡ self.old.header }
+        ensures appended { IfOk result (λ t. self.new.journal ≡ Done t (batch_of self.old.journal lane) ∷ self.old.journal) }
+        ensures bound { IfOk result (λ t. t ≤ 2 ^ 62 + 2 ^ 20) }
         ensures as_before { OnErr result (self.new.journal ≡ self.old.journal) }
         ensures fault { IsErrOf result NodeFault.DiskFault → Rose self.old.faults self.new.faults }
         ensures later { self.old.faults ≤ self.new.faults }

@@ -18,6 +18,9 @@ use record_log::RecordLog;
 use shard_core::{LockPlan, Remembered, StampPlan};
 use std::alloc::{AllocError, Global};
 
+/// The most bytes that memory is taken for.
+const LARGEST: u64 = 1 << 40;
+
 /// The last stamp of a Lock.
 const LAST_LOCK: u64 = 1 << 62;
 
@@ -117,6 +120,9 @@ impl<D: Disk> ShardNode<D> {
             entries,
         };
         let size = size_of_record(&next);
+        if size > LARGEST {
+            return Err(NodeFault::Memory);
+        }
         let used = self.log.used();
         let need = size
             .saturating_add(behind_lock(count))
