@@ -51,3 +51,4 @@ pub mod LaneLaws
 pub mod Older
 pub mod Phases
 pub mod Late
+pub mod Settling

@@ -1,10 +1,11 @@
 -- The laws, each as one statement.
-use Rattle.std.specs.Prelude.{◌≡◌, ◌⊎◌, ◌↔◌, ℕ, ◌<◌, ◌+◌, true, List, ◌++◌, length, Contains, Some, is_some}
-use Rattle.cbdc_model.specs.Records.{Shape, Digest, Compact, Batch, Record, Row, journal, record_of, stamp_in}
+use Rattle.std.specs.Prelude.{◌≡◌, ◌⊎◌, ◌↔◌, ℕ, ◌<◌, ◌≤◌, ◌+◌, true, List, ◌++◌, length, Contains, Some, is_some}
+use Rattle.cbdc_model.specs.Records.{last_stamp, Shape, Digest, Compact, Batch, Record, Row, journal, record_of, stamp_in}
 use Rattle.cbdc_model.specs.Status.{status, Locked, Absent}
-use Rattle.cbdc_model.specs.Ranges.{journal_at, lane_journal}
+use Rattle.cbdc_model.specs.Ranges.{home_of, shard_node, journal_at, lane_journal}
 use Rattle.cbdc_types.specs.declared.calls.Refused.TheVariants.{Stale}
 use Rattle.cbdc_model.specs.Next.{Plan, Kept, Append, Refuse, next_lock, next_finish, next_forget}
+use Rattle.cbdc_model.specs.Slots.{slot, slot_stamp, Idle}
 use Rattle.cbdc_model.specs.Coins.{Output, FullTx, genesis_hashes}
 use Rattle.cbdc_model.specs.Clean.{Clean, IsProperCompact}
 use Rattle.cbdc_model.specs.History.{Minted, minted, header_of, TxsPass, history_of, IsKept, won_of, all_outputs}
@@ -123,3 +124,11 @@ PhaseLaw = (K : Shape) (mint : List Output) (submissions : List FullTx) (later :
 abbrev pub LateLaw : Type 0
 LateLaw = (K : Shape) (mint : List Output) (submissions : List FullTx) (later : List Row) (b c : Batch) → 0 < K.shards → IsKept K mint submissions later
     → IsLate (λ n. journal n (history_of K mint later)) b → IsLate (λ n. journal n (history_of K mint later)) c → b.lane ≡ c.lane → b ≡ c
+
+-- where a lane is idle at its coordinator, it is idle at each shard, with no greater number, and its last record there is no newer than the coordinator's
+abbrev pub SettledLaw : Type 0
+SettledLaw = (K : Shape) (mint : List Output) (submissions : List FullTx) (later : List Row) (lane : ℕ) → 0 < K.shards → IsKept K mint submissions later
+    → (slot (journal (home_of K lane) (history_of K mint later)) lane).phase ≡ Idle → (s : ℕ) → s < K.shards
+    → ((slot (journal (shard_node K s) (history_of K mint later)) lane).phase ≡ Idle)
+    × ((slot (journal (shard_node K s) (history_of K mint later)) lane).number ≤ (slot (journal (home_of K lane) (history_of K mint later)) lane).number)
+    × (slot_stamp (journal (shard_node K s) (history_of K mint later)) lane ≤ last_stamp (journal (home_of K lane) (history_of K mint later)))

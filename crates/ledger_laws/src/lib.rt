@@ -1,7 +1,7 @@
 //! The laws of the ledger: functions with an empty body, whose contracts are the theorems. Nothing of them runs.
 #![tactic(auto)]
 
-ghost use Rattle.ledger_laws.specs.Laws.{AnswerLaw, CutLaw, FlightLaw, FoldLaw, HeadlineLaw, IdleLaw, KeptLaw, LateLaw, LocalLaw, MakerLaw, MoreLaw, OneHistoryLaw, PhaseLaw, ReachLaw, RecoveredLaw, StepLaw, WaveLaw};
+ghost use Rattle.ledger_laws.specs.Laws.{AnswerLaw, CutLaw, FlightLaw, FoldLaw, HeadlineLaw, IdleLaw, KeptLaw, LateLaw, LocalLaw, MakerLaw, MoreLaw, OneHistoryLaw, PhaseLaw, ReachLaw, RecoveredLaw, SettledLaw, StepLaw, WaveLaw};
 
 /// Where no two coins or transactions share a hash, the committed transactions of every kept
 /// history can be spent one after another from the mint, each finding all its inputs. The book
@@ -109,4 +109,11 @@ pub fn phase_law()
 /// At most one batch of a lane has records with stamps above 2^62.
 pub fn late_law()
     ensures { LateLaw }
+{}
+
+/// Where a lane is idle at its coordinator, it is idle at each shard too, with no greater number,
+/// and its last record there has no greater stamp than the coordinator's newest. So no shard
+/// refuses the next batch.
+pub fn settled_law()
+    ensures { SettledLaw }
 {}
