@@ -1,0 +1,2 @@
+pub mod LentLemmas
+pub mod Rises
