@@ -4,6 +4,7 @@
 mod blank;
 mod close;
 mod first;
+mod nodes;
 mod on_disk;
 mod open;
 
