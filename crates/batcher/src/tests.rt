@@ -2,12 +2,10 @@ use super::*;
 use cbdc_types::Hash;
 use std::test::Fail;
 
-// A transaction without coins, by its id's first byte.
-fn named(alloc: Global, first: u8) -> CompactTx {
-    let mut id = [0; 32];
-    id[0] = first;
+// A transaction without coins, by the bytes of its id.
+fn named(alloc: Global, byte: u8) -> CompactTx {
     CompactTx {
-        id: Hash(id),
+        id: Hash([byte; 32]),
         inputs: List::new(alloc),
         outputs: List::new(alloc),
     }
@@ -26,8 +24,11 @@ fn two_are_taken_in_order(rt: HostRuntime) -> Result<(), Fail> {
         return Err("a full batch is there".into());
     };
     assert_eq!(rt; batch.len(), 2);
-    assert_eq!(rt; batch.as_slice()[0].id.0[0], 1);
-    assert_eq!(rt; batch.as_slice()[1].id.0[0], 2);
+    let [first, second] = batch.as_slice() else {
+        return Err("two transactions are there".into());
+    };
+    assert_eq!(rt; first.id, Hash([1; 32]));
+    assert_eq!(rt; second.id, Hash([2; 32]));
     assert!(rt; batcher.take().is_none());
     Ok(())
 }

@@ -3,7 +3,7 @@ ghost use Rattle.std.specs.Prelude.{◌≡◌, ◌≤◌, ◌<◌, [], ◌∷◌
 ghost use Rattle.std.specs.Vec.{vec_capacity};
 ghost use Rattle.cbdc_model.specs.Slots.{Idle, InPrepare, InCommit, InDiscard};
 ghost use Rattle.cbdc_model.specs.Ranges.{home_of};
-ghost use Rattle.cbdc_model.specs.Grammar.{HasSize, IsCompact};
+ghost use Rattle.cbdc_model.specs.Grammar.{HasSize};
 ghost use Rattle.lane_driver.specs.Calls.{shard, forget_of};
 ghost use Rattle.lane_driver.specs.Told.{IsLane, KeepsOthers, IsLockCall, IsStamp, AreShards};
 ghost use Rattle.lane_driver.specs.Rooms.{IsBatchRoom, IsLaterRoom};
@@ -207,7 +207,6 @@ pub(crate) fn one_batch<S: PortSet, L: LogPort, G: Gate>(
     requires idle { L.phase ports.old.log lane ≡ Idle }
     requires count { S.count ports.old.shards ≡ shape.now.shards }
     requires size { HasSize shape.now txs.now }
-    requires limits { All IsCompact txs.now }
     ensures idle { OnOk result (L.phase ports.new.log lane ≡ Idle) }
     ensures header { L.header ports.new.log ≡ L.header ports.old.log }
     ensures count { S.count ports.new.shards ≡ S.count ports.old.shards }
@@ -248,7 +247,6 @@ pub fn run_batch<S: PortSet, L: LogPort, G: Gate>(
     requires idle { L.phase ports.old.log lane ≡ Idle }
     requires count { S.count ports.old.shards ≡ shape.now.shards }
     requires size { HasSize shape.now txs.now }
-    requires limits { All IsCompact txs.now }
     ensures idle { OnOk result (L.phase ports.new.log lane ≡ Idle) }
     ensures header { L.header ports.new.log ≡ L.header ports.old.log }
     ensures count { S.count ports.new.shards ≡ S.count ports.old.shards }

@@ -3,7 +3,6 @@ ghost use Rattle.std.specs.Prelude.{◌≡◌, ◌≤◌, ◌<◌, [], List, len
 ghost use Rattle.std.specs.Vec.{vec_capacity};
 ghost use Rattle.cbdc_model.specs.Records.{Compact};
 ghost use Rattle.cbdc_model.specs.Slots.{Idle};
-ghost use Rattle.cbdc_model.specs.Grammar.{IsCompact};
 ghost use Rattle.lane_driver.specs.Told.{IsLane};
 ghost use Rattle.lane_driver.specs.Reports.{IsReported};
 
@@ -30,7 +29,6 @@ pub fn run_lane<S: PortSet, L: LogPort, G: Gate>(
     requires shape { (L.header ports.old.log).shape ≡ shape.now }
     requires idle { L.phase ports.old.log lane ≡ Idle }
     requires count { S.count ports.old.shards ≡ shape.now.shards }
-    requires limits { All IsCompact txs.now }
     ensures idle { OnOk result (L.phase ports.new.log lane ≡ Idle) }
     ensures header { L.header ports.new.log ≡ L.header ports.old.log }
     ensures count { S.count ports.new.shards ≡ S.count ports.old.shards }

@@ -3,7 +3,7 @@ ghost use Rattle.std.specs.Prelude.{◌≡◌, ◌≤◌, ℕ, List, [], length,
 ghost use Rattle.std.specs.Vec.{vec_capacity};
 ghost use Rattle.cbdc_model.specs.Records.{Header, Compact};
 ghost use Rattle.cbdc_model.specs.Slots.{Phase, Idle, InPrepare, InCommit, InDiscard};
-ghost use Rattle.cbdc_model.specs.Grammar.{HasSize, IsCompact};
+ghost use Rattle.cbdc_model.specs.Grammar.{HasSize};
 ghost use Rattle.lane_driver.specs.Told.{IsLane, KeepsOthers, IsLockCall, IsFinishCall, IsForgetCall, AreShards, EachAnswer, LockTold, StampTold, AreReplies, IsPrepared, IsStamp};
 ghost use Rattle.lane_driver.specs.Calls.{shard};
 
@@ -40,7 +40,6 @@ pub trait LogPort {
         requires home { IsLane (header self.old) lane }
         requires idle { phase self.old lane ≡ Idle }
         requires size { HasSize (header self.old).shape txs.now }
-        requires limits { All IsCompact txs.now }
         ensures prepared { IfOk result (IsPrepared lane) }
         ensures phase { OnOk result (phase self.new lane ≡ InPrepare) }
         ensures txs { OnOk result (open_txs self.new lane ≡ txs.now) }
@@ -172,6 +171,7 @@ pub trait PortSet {
 }
 
 /// What a lane speaks to: the shards, and the log of its coordinator.
+#[derive(Drop)]
 pub struct Ports<S, L> {
     pub shards: S,
     pub log: L,

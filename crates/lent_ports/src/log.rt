@@ -12,18 +12,21 @@ use std::sync::Wait;
 
 // The kinds of the records that the calls append.
 const PREPARE: u8 = 6;
+
 const COMMIT: u8 = 7;
+
 const DISCARD: u8 = 8;
+
 const DONE: u8 = 9;
 
 /// The coordinator of a lane.
 #[derive(Drop)]
-pub struct LentLog<'a, W: Wait, D: Disk> {
-    pub rt: &'a W,
+pub struct LentLog<'r, 'a, W: Wait, D: Disk> {
+    pub rt: &'r W,
     pub node: &'a mut CoordLog<D>,
 }
 
-impl<'a, W: Wait, D: Disk> LentLog<'a, W, D> {
+impl<'r, 'a, W: Wait, D: Disk> LentLog<'r, 'a, W, D> {
     // Passes the gate at a call of a kind.
     fn pass<G: Gate>(&self, gate: &G, lane: LaneId, kind: u8, when: When) {
         gate.pass(
@@ -38,7 +41,7 @@ impl<'a, W: Wait, D: Disk> LentLog<'a, W, D> {
     }
 }
 
-impl<'a, W: Wait, D: Disk> LogPort for LentLog<'a, W, D> {
+impl<'r, 'a, W: Wait, D: Disk> LogPort for LentLog<'r, 'a, W, D> {
     ghost header = { λ p. p.node.now.header };
 
     ghost phase = { λ p lane. (slot p.node.now.journal lane).phase };
@@ -76,7 +79,12 @@ impl<'a, W: Wait, D: Disk> LogPort for LentLog<'a, W, D> {
         answer
     }
 
-    fn discard<G: Gate>(&mut self, lane: LaneId, cause: Stamp, gate: &G) -> Result<Stamp, NodeFault> {
+    fn discard<G: Gate>(
+        &mut self,
+        lane: LaneId,
+        cause: Stamp,
+        gate: &G,
+    ) -> Result<Stamp, NodeFault> {
         self.pass(gate, lane, DISCARD, When::Before);
         self.pass(gate, lane, DISCARD, When::Inside);
         let answer = self.node.discard(lane, cause);

@@ -14,8 +14,8 @@ use std::sync::Wait;
 
 /// The shards of a ledger for one lane: the first of them is this node.
 #[derive(Drop)]
-pub struct LentShards<'a, W: Wait, D: Disk> {
-    pub rt: &'a W,
+pub struct LentShards<'r, 'a, W: Wait, D: Disk> {
+    pub rt: &'r W,
     pub lane: LaneId,
     pub first: u32,
     pub nodes: &'a mut [ShardNode<D>],
@@ -23,7 +23,9 @@ pub struct LentShards<'a, W: Wait, D: Disk> {
 
 // The kinds of the records that the calls append.
 const LOCK: u8 = 2;
+
 const FINISH: u8 = 3;
+
 const FORGET: u8 = 4;
 
 // The answer to a call that names a lane which the ledger doesn't have.
@@ -91,7 +93,7 @@ fn forget_at<D: Disk>(node: &mut ShardNode<D>, call: &ForgetCall) -> Result<Stam
     }
 }
 
-impl<'a, W: Wait, D: Disk> LentShards<'a, W, D> {
+impl<'r, 'a, W: Wait, D: Disk> LentShards<'r, 'a, W, D> {
     // Passes the gate at a call of a kind at a shard.
     fn pass<G: Gate>(&self, gate: &G, shard: u32, kind: u8, when: When) {
         gate.pass(
@@ -105,7 +107,12 @@ impl<'a, W: Wait, D: Disk> LentShards<'a, W, D> {
         );
     }
 
-    fn lock_one<G: Gate>(&mut self, shard: u32, call: &LockCall, gate: &G) -> Result<Replied, NodeFault>
+    fn lock_one<G: Gate>(
+        &mut self,
+        shard: u32,
+        call: &LockCall,
+        gate: &G,
+    ) -> Result<Replied, NodeFault>
         requires place { shard < length self.old.nodes.now }
         requires cause { IsStamp call.now.cause }
         ensures told { IfOk result (λ a. IsStamp a.stamp) }
@@ -120,7 +127,12 @@ impl<'a, W: Wait, D: Disk> LentShards<'a, W, D> {
         answer
     }
 
-    fn finish_one<G: Gate>(&mut self, shard: u32, call: &FinishCall, gate: &G) -> Result<Stamp, NodeFault>
+    fn finish_one<G: Gate>(
+        &mut self,
+        shard: u32,
+        call: &FinishCall,
+        gate: &G,
+    ) -> Result<Stamp, NodeFault>
         requires place { shard < length self.old.nodes.now }
         requires cause { IsStamp call.now.cause }
         ensures told { IfOk result IsStamp }
@@ -135,7 +147,12 @@ impl<'a, W: Wait, D: Disk> LentShards<'a, W, D> {
         answer
     }
 
-    fn forget_one<G: Gate>(&mut self, shard: u32, call: &ForgetCall, gate: &G) -> Result<Stamp, NodeFault>
+    fn forget_one<G: Gate>(
+        &mut self,
+        shard: u32,
+        call: &ForgetCall,
+        gate: &G,
+    ) -> Result<Stamp, NodeFault>
         requires place { shard < length self.old.nodes.now }
         requires cause { IsStamp call.now.cause }
         ensures told { IfOk result IsStamp }
@@ -151,28 +168,43 @@ impl<'a, W: Wait, D: Disk> LentShards<'a, W, D> {
     }
 }
 
-impl<'a, W: Wait, D: Disk> PortSet for LentShards<'a, W, D> {
+impl<'r, 'a, W: Wait, D: Disk> PortSet for LentShards<'r, 'a, W, D> {
     ghost count = { λ p. length p.nodes.now };
 
     ghost loan = { λ p. p.nodes.ghost_name };
 
     ghost faults = { λ p n. faults_at (λ x. D.count (disk_of x.log.journal)) p.nodes.now n };
 
-    fn lock<G: Gate>(&mut self, calls: &[(u32, LockCall)], out: &mut Vec<Result<Replied, NodeFault>>, gate: &G) {
+    fn lock<G: Gate>(
+        &mut self,
+        calls: &[(u32, LockCall)],
+        out: &mut Vec<Result<Replied, NodeFault>>,
+        gate: &G,
+    ) {
         'calls: for (shard, call) in calls {
             let answer = self.lock_one(*shard, call, gate);
             out.push_reserved(answer);
         }
     }
 
-    fn finish<G: Gate>(&mut self, calls: &[(u32, FinishCall)], out: &mut Vec<Result<Stamp, NodeFault>>, gate: &G) {
+    fn finish<G: Gate>(
+        &mut self,
+        calls: &[(u32, FinishCall)],
+        out: &mut Vec<Result<Stamp, NodeFault>>,
+        gate: &G,
+    ) {
         'calls: for (shard, call) in calls {
             let answer = self.finish_one(*shard, call, gate);
             out.push_reserved(answer);
         }
     }
 
-    fn forget<G: Gate>(&mut self, calls: &[(u32, ForgetCall)], out: &mut Vec<Result<Stamp, NodeFault>>, gate: &G) {
+    fn forget<G: Gate>(
+        &mut self,
+        calls: &[(u32, ForgetCall)],
+        out: &mut Vec<Result<Stamp, NodeFault>>,
+        gate: &G,
+    ) {
         'calls: for (shard, call) in calls {
             let answer = self.forget_one(*shard, call, gate);
             out.push_reserved(answer);

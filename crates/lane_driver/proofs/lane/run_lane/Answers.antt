@@ -1,7 +1,6 @@
 use Rattle.std.proofs.Common.{rules, arith, ◌≡◌, ◌<◌, ◌+◌, ◌∙◌, ap, sym, subst, length, take, drop, min}
 use Rattle.std.proofs.lemmas.List.Elements.{All-same, All-drop}
 use Rattle.std.specs.Vec.{vec_len, vec_capacity}
-use Rattle.cbdc_model.specs.Grammar.{IsCompact}
 use Rattle.lane_driver.specs.Reports.{IsReported}
 use Rattle.lane_driver.proofs.Cutting.{room_after, reported_more}
 use Rattle.lane_driver.proofs.lane.run_lane.Goals as goal
@@ -20,7 +19,6 @@ pieces-preserved g c =
       log_loan = search rules;
       shard_later = λ n. omega (arith, c.pieces.invariant.shard_later n, c.in-Ok-one_batch.ensures.shard_later n);
       log_later = omega (arith, c.pieces.invariant.log_later, c.in-Ok-one_batch.ensures.log_later);
-      limits = All-same IsCompact c.split_at.result.1.now (drop c.min.result c.pieces.rest.now) at.back (All-drop IsCompact c.min.result c.pieces.rest.now c.pieces.invariant.limits);
       room = room_after (length c.pieces.rest.now) c.args.shape.now.batch _ _ (length c.split_at.result.1.now) _ _ some c.pieces.invariant.room (ap (λ n. length c.split_at.result.1.now + n) (sym size) ∙ at.back_len) room
           c.push_reserved.ensures.len c.push_reserved.ensures.capacity;
       report = subst (λ reports. IsReported c.args.lane c.args.shape.now.batch c.args.txs.now c.split_at.result.1.now reports) (sym c.push_reserved.ensures.items)

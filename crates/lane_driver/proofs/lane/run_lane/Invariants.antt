@@ -2,7 +2,6 @@ use Rattle.std.proofs.Common.{◌≡◌, ◌+◌, ◌*◌, ◌≤◌, ℕ, lengt
 use Rattle.std.specs.List.{All}
 use Rattle.std.specs.Vec.{vec_capacity, vec_len}
 use Rattle.cbdc_model.specs.Slots.{Idle}
-use Rattle.cbdc_model.specs.Grammar.{IsCompact}
 use Rattle.lane_driver.specs.Reports.{IsReported}
 use Rattle.lane_driver.proofs.lane.run_lane.Given as goal
 
@@ -15,7 +14,6 @@ invariant-pieces g l = record {
   log_loan : g.L.LogPort.loan l.ports.log ≡ g.L.LogPort.loan l.initial.ports.log;
   shard_later : (n : ℕ) → g.S.PortSet.faults l.initial.ports.shards n ≤ g.S.PortSet.faults l.ports.shards n;
   log_later : g.L.LogPort.faults l.initial.ports.log ≤ g.L.LogPort.faults l.ports.log;
-  limits : All IsCompact l.rest;
   room : length l.rest + l.shape.batch * vec_len l.batches ≤ l.shape.batch * vec_capacity l.batches;
   report : IsReported l.lane l.shape.batch l.txs l.rest l.batches.items;
 }

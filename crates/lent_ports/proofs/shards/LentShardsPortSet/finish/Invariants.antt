@@ -8,10 +8,10 @@ use Rattle.lent_ports.proofs.shards.LentShardsPortSet.finish.Given as goal
 
 abbrev pub invariant-calls : goal.invariant-calls
 invariant-calls g l = record {
-    told : AllZip StampTold (take l.shard-index l.calls) l.out.items;
-    filled : vec_len l.out ≡ l.shard-index;
-    capacity : vec_capacity l.out ≡ vec_capacity l.initial.out;
-    count : length l.self.nodes.now ≡ length l.initial.self.nodes.now;
-    loan : l.self.nodes.ghost_name ≡ l.initial.self.nodes.ghost_name;
-    later : (n : ℕ) → faults_at (λ x. g.D.Disk.count (disk_of x.log.journal)) l.initial.self.nodes.now n ≤ faults_at (λ x. g.D.Disk.count (disk_of x.log.journal)) l.self.nodes.now n;
-  }
+  told : AllZip StampTold (take l.shard-index l.calls) l.out.items;
+  filled : vec_len l.out ≡ l.shard-index;
+  capacity : vec_capacity l.out ≡ vec_capacity l.initial.out;
+  count : length l.self.nodes.now ≡ length l.initial.self.nodes.now;
+  loan : l.self.nodes.ghost_name ≡ l.initial.self.nodes.ghost_name;
+  later : (n : ℕ) → faults_at (λ x. g.D.Disk.count (disk_of x.log.journal)) l.initial.self.nodes.now n ≤ faults_at (λ x. g.D.Disk.count (disk_of x.log.journal)) l.self.nodes.now n;
+}
