@@ -1,0 +1,56 @@
+// Input files, by the words that name them.
+ghost use Rattle.std.specs.Prelude.{◌≡◌, ◌≤◌, ℕ, List, IfErr};
+ghost use Rattle.outside.specs.Counts.{Rose};
+ghost use Rattle.commands.specs.Causes.{IsFileFault};
+
+use cbdc_types::{Answer, List, Mint};
+use client_files::{FetchFault, FileFault, fetch, read_mint};
+use command_line::FileWord;
+use outside::Inbox;
+use std::alloc::Global;
+
+// The first bytes of a file, and whether it goes on.
+fn bytes_of<I: Inbox>(
+    alloc: Global,
+    inbox: &mut I,
+    file: &FileWord,
+) -> Result<(List<u8>, bool), Answer>
+    ensures fault { IfErr result (IsFileFault file.now.place (I.count inbox.old file.now.name.now) (I.count inbox.new file.now.name.now)) }
+{
+    match fetch(alloc, inbox, file.name) {
+        Ok(found) => Ok(found),
+        Err(FetchFault::ReadFault) => Err(Answer::ReadFault { file: file.place }),
+        Err(FetchFault::Memory) => Err(Answer::Memory),
+    }
+}
+
+// What a fault of a file answers.
+fn answer_of(file: &FileWord, fault: FileFault) -> Answer
+    ensures { (before now : ℕ) → IsFileFault file.now.place before now result }
+{
+    match fault {
+        FileFault::Bad(bad) => Answer::BadInput {
+            file: file.place,
+            at: bad.at,
+            kind: bad.kind,
+        },
+        FileFault::Memory => Answer::Memory,
+    }
+}
+
+/// The mint in a file.
+pub(crate) fn mint_in<I: Inbox>(
+    alloc: Global,
+    inbox: &mut I,
+    file: &FileWord,
+) -> Result<Mint, Answer>
+    ensures fault { IfErr result (IsFileFault file.now.place (I.count inbox.old file.now.name.now) (I.count inbox.new file.now.name.now)) }
+{
+    match bytes_of(alloc, inbox, file) {
+        Ok((bytes, more)) => match read_mint(alloc, bytes.as_slice(), more) {
+            Ok(mint) => Ok(mint),
+            Err(fault) => Err(answer_of(file, fault)),
+        },
+        Err(fault) => Err(fault),
+    }
+}
