@@ -58,7 +58,7 @@ fn make_nodes<R: Rack>(alloc: Global, rack: &mut R, shape: &Shape, records: &[Re
 }
 
 /// The first records of the ledger that a mint in a file begins, and its lines.
-pub fn init<I: Inbox, R: Rack, O: Sink>(
+pub(crate) fn init<I: Inbox, R: Rack, O: Sink>(
     alloc: Global,
     file: &FileWord,
     inbox: &mut I,

@@ -11,7 +11,7 @@ mod submissions;
 mod summary;
 
 pub use faults::write_fault;
-pub use output::WriteFault;
+pub use output::{WriteFault, write_all};
 pub use status::status_code;
 pub use submissions::{write_confirmed, write_refused, write_rejected};
 pub use summary::{Summary, write_init, write_summary};

@@ -10,7 +10,7 @@ use outside::Sink;
 pub struct WriteFault;
 
 /// Writes a whole piece.
-pub(crate) fn write_all<O: Sink>(out: &mut O, bytes: &[u8]) -> Result<(), WriteFault>
+pub fn write_all<O: Sink>(out: &mut O, bytes: &[u8]) -> Result<(), WriteFault>
     ensures prints { Prints (O.taken out.old) (O.taken out.new) bytes.now result }
     ensures cause { HasCause (O.count out.old) (O.count out.new) result }
 {
