@@ -45,12 +45,24 @@ fn first_records(
 }
 
 // Takes all disks, where they are blank, and writes their first records.
-fn make_nodes<R: Rack>(alloc: Global, rack: &mut R, shape: &Shape, records: &[Record]) -> Result<(), Answer>
+fn make_nodes<R: Rack>(
+    alloc: Global,
+    rack: &mut R,
+    shape: &Shape,
+    records: &[Record],
+) -> Result<(), Answer>
     requires { (n : ℕ) → R.can_take rack.old n }
     ensures back { (n : ℕ) → R.can_take rack.new n }
     ensures later { (n : ℕ) → R.count rack.old n ≤ R.count rack.new n }
 {
-    let blanks: Vec<Blank<R::Disk>> = match open_all(alloc, rack, None, 0, shape.node_count(), Vec::new(alloc)) {
+    let blanks: Vec<Blank<R::Disk>> = match open_all(
+        alloc,
+        rack,
+        None,
+        0,
+        shape.node_count(),
+        Vec::new(alloc),
+    ) {
         Ok(blanks) => blanks,
         Err(fault) => return Err(fault),
     };

@@ -20,8 +20,8 @@ close_all-requires-clause-out g c =
     let Q = MayReturn (λ b. g.R.Disk.Disk.count b.disk) (g.R.Rack.can_put c.put.new.self) in
     let whole = subst (λ l. EachFrom P 0 l) c.in-Some.ensures.items c.blanks.invariant.out in
     each_weaker P Q 0 c.pop.new.self.items
-        (λ k d ge lt may m le. let other : k ≢ node = omega (arith, place) in c.put.ensures.others_out k m other (may m le))
-        (each_front P 0 c.pop.new.self.items c.in-Some.blank whole)
+    (λ k d ge lt may m le. let other : k ≢ node = omega (arith, place) in c.put.ensures.others_out k m other (may m le))
+    (each_front P 0 c.pop.new.self.items c.in-Some.blank whole)
 
 pub blanks-preserved : goal.blanks-preserved
 blanks-preserved g c =
