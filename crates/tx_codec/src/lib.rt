@@ -2,6 +2,8 @@
 #![tactic(auto)]
 
 mod reading;
+#[cfg(test)]
+mod tests;
 mod writing;
 
 pub use reading::{BadTx, ReadFault, read_tx};
