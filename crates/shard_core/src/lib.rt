@@ -8,6 +8,8 @@ mod core_state;
 mod judging;
 mod plans;
 mod replying;
+#[cfg(test)]
+mod tests;
 
 pub use core_state::ShardCore;
 pub use plans::{LockPlan, Remembered, StampPlan};
