@@ -52,11 +52,10 @@ pub fn from_discarded<S: PortSet, L: LogPort, G: Gate>(
     ensures phase { OnOk result (L.phase ports.new.log batch.now.lane ≡ Idle) }
     ensures others { OnOk result (KeepsOthers (L.header ports.old.log) batch.now.lane (L.phase ports.old.log) (L.phase ports.new.log) (L.open_txs ports.old.log) (L.open_txs ports.new.log)) }
     ensures header { L.header ports.new.log ≡ L.header ports.old.log }
+    ensures log_count { L.count ports.new.log ≡ L.count ports.old.log }
     ensures count { S.count ports.new.shards ≡ S.count ports.old.shards }
-    ensures shard_loan { S.loan ports.new.shards ≡ S.loan ports.old.shards }
-    ensures log_loan { L.loan ports.new.log ≡ L.loan ports.old.log }
     ensures shard_later { (n : ℕ) → S.faults ports.old.shards n ≤ S.faults ports.new.shards n }
-    ensures log_later { L.faults ports.old.log ≤ L.faults ports.new.log }
+    ensures log_later { (n : ℕ) → L.faults ports.old.log n ≤ L.faults ports.new.log n }
     ensures calls { forgets.new.items ≡ map (forget_of batch.now cause) locks.now }
     ensures capacity { vec_capacity stamped.new ≡ vec_capacity stamped.old }
 {
@@ -97,11 +96,10 @@ pub fn from_committed<S: PortSet, L: LogPort, G: Gate>(
     ensures phase { OnOk result (L.phase ports.new.log batch.now.lane ≡ Idle) }
     ensures others { OnOk result (KeepsOthers (L.header ports.old.log) batch.now.lane (L.phase ports.old.log) (L.phase ports.new.log) (L.open_txs ports.old.log) (L.open_txs ports.new.log)) }
     ensures header { L.header ports.new.log ≡ L.header ports.old.log }
+    ensures log_count { L.count ports.new.log ≡ L.count ports.old.log }
     ensures count { S.count ports.new.shards ≡ S.count ports.old.shards }
-    ensures shard_loan { S.loan ports.new.shards ≡ S.loan ports.old.shards }
-    ensures log_loan { L.loan ports.new.log ≡ L.loan ports.old.log }
     ensures shard_later { (n : ℕ) → S.faults ports.old.shards n ≤ S.faults ports.new.shards n }
-    ensures log_later { L.faults ports.old.log ≤ L.faults ports.new.log }
+    ensures log_later { (n : ℕ) → L.faults ports.old.log n ≤ L.faults ports.new.log n }
 {
     let LaterRoom {
         mut finishes,
@@ -158,11 +156,10 @@ pub fn from_prepared<S: PortSet, L: LogPort, G: Gate>(
     ensures phase { OnOk result (L.phase ports.new.log batch.now.lane ≡ Idle) }
     ensures others { OnOk result (KeepsOthers (L.header ports.old.log) batch.now.lane (L.phase ports.old.log) (L.phase ports.new.log) (L.open_txs ports.old.log) (L.open_txs ports.new.log)) }
     ensures header { L.header ports.new.log ≡ L.header ports.old.log }
+    ensures log_count { L.count ports.new.log ≡ L.count ports.old.log }
     ensures count { S.count ports.new.shards ≡ S.count ports.old.shards }
-    ensures shard_loan { S.loan ports.new.shards ≡ S.loan ports.old.shards }
-    ensures log_loan { L.loan ports.new.log ≡ L.loan ports.old.log }
     ensures shard_later { (n : ℕ) → S.faults ports.old.shards n ≤ S.faults ports.new.shards n }
-    ensures log_later { L.faults ports.old.log ≤ L.faults ports.new.log }
+    ensures log_later { (n : ℕ) → L.faults ports.old.log n ≤ L.faults ports.new.log n }
     ensures outcomes { IfOk result (λ os. length os ≡ length (L.open_txs ports.old.log batch.now.lane)) }
 {
     let BatchRoom {
@@ -209,11 +206,10 @@ pub(crate) fn one_batch<S: PortSet, L: LogPort, G: Gate>(
     requires size { HasSize shape.now txs.now }
     ensures idle { OnOk result (L.phase ports.new.log lane ≡ Idle) }
     ensures header { L.header ports.new.log ≡ L.header ports.old.log }
+    ensures log_count { L.count ports.new.log ≡ L.count ports.old.log }
     ensures count { S.count ports.new.shards ≡ S.count ports.old.shards }
-    ensures shard_loan { S.loan ports.new.shards ≡ S.loan ports.old.shards }
-    ensures log_loan { L.loan ports.new.log ≡ L.loan ports.old.log }
     ensures shard_later { (n : ℕ) → S.faults ports.old.shards n ≤ S.faults ports.new.shards n }
-    ensures log_later { L.faults ports.old.log ≤ L.faults ports.new.log }
+    ensures log_later { (n : ℕ) → L.faults ports.old.log n ≤ L.faults ports.new.log n }
     ensures report { IfOk result (λ r. (r.batch.lane ≡ lane) × (length r.outcomes ≡ length txs.now)) }
 {
     let _limit = shape.batch();
@@ -249,11 +245,10 @@ pub fn run_batch<S: PortSet, L: LogPort, G: Gate>(
     requires size { HasSize shape.now txs.now }
     ensures idle { OnOk result (L.phase ports.new.log lane ≡ Idle) }
     ensures header { L.header ports.new.log ≡ L.header ports.old.log }
+    ensures log_count { L.count ports.new.log ≡ L.count ports.old.log }
     ensures count { S.count ports.new.shards ≡ S.count ports.old.shards }
-    ensures shard_loan { S.loan ports.new.shards ≡ S.loan ports.old.shards }
-    ensures log_loan { L.loan ports.new.log ≡ L.loan ports.old.log }
     ensures shard_later { (n : ℕ) → S.faults ports.old.shards n ≤ S.faults ports.new.shards n }
-    ensures log_later { L.faults ports.old.log ≤ L.faults ports.new.log }
+    ensures log_later { (n : ℕ) → L.faults ports.old.log n ≤ L.faults ports.new.log n }
     ensures report { IfOk result (λ r. AreReports lane r.batches (txs.now ∷ [])) }
 {
     let mut batches = match Vec::with_capacity(alloc, 1) {

@@ -31,11 +31,10 @@ pub fn run_lane<S: PortSet, L: LogPort, G: Gate>(
     requires count { S.count ports.old.shards ≡ shape.now.shards }
     ensures idle { OnOk result (L.phase ports.new.log lane ≡ Idle) }
     ensures header { L.header ports.new.log ≡ L.header ports.old.log }
+    ensures log_count { L.count ports.new.log ≡ L.count ports.old.log }
     ensures count { S.count ports.new.shards ≡ S.count ports.old.shards }
-    ensures shard_loan { S.loan ports.new.shards ≡ S.loan ports.old.shards }
-    ensures log_loan { L.loan ports.new.log ≡ L.loan ports.old.log }
     ensures shard_later { (n : ℕ) → S.faults ports.old.shards n ≤ S.faults ports.new.shards n }
-    ensures log_later { L.faults ports.old.log ≤ L.faults ports.new.log }
+    ensures log_later { (n : ℕ) → L.faults ports.old.log n ≤ L.faults ports.new.log n }
     ensures report { IfOk result (λ r. IsReported lane shape.now.batch txs.now [] r.batches) }
 {
     let size = shape.batch() as usize;

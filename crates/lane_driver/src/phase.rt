@@ -33,7 +33,6 @@ pub fn lock_again<S: PortSet, G: Gate>(
     requires room { length calls.now ≤ vec_capacity answers.old }
     ensures capacity { vec_capacity answers.new ≡ vec_capacity answers.old }
     ensures count { S.count shards.new ≡ S.count shards.old }
-    ensures loan { S.loan shards.new ≡ S.loan shards.old }
     ensures later { (n : ℕ) → S.faults shards.old n ≤ S.faults shards.new n }
 {
     for _time in 0..repeats {
@@ -55,7 +54,6 @@ pub fn finish_again<S: PortSet, G: Gate>(
     requires room { length calls.now ≤ vec_capacity answers.old }
     ensures capacity { vec_capacity answers.new ≡ vec_capacity answers.old }
     ensures count { S.count shards.new ≡ S.count shards.old }
-    ensures loan { S.loan shards.new ≡ S.loan shards.old }
     ensures later { (n : ℕ) → S.faults shards.old n ≤ S.faults shards.new n }
 {
     for _time in 0..repeats {
@@ -77,7 +75,6 @@ pub fn forget_again<S: PortSet, G: Gate>(
     requires room { length calls.now ≤ vec_capacity answers.old }
     ensures capacity { vec_capacity answers.new ≡ vec_capacity answers.old }
     ensures count { S.count shards.new ≡ S.count shards.old }
-    ensures loan { S.loan shards.new ≡ S.loan shards.old }
     ensures later { (n : ℕ) → S.faults shards.old n ≤ S.faults shards.new n }
 {
     for _time in 0..repeats {
@@ -103,7 +100,6 @@ pub fn lock_phase<S: PortSet, G: Gate>(
     requires no_replies { replies.items ≡ [] }
     requires replies_room { length calls.now ≤ vec_capacity replies }
     ensures count { S.count shards.new ≡ S.count shards.old }
-    ensures loan { S.loan shards.new ≡ S.loan shards.old }
     ensures later { (n : ℕ) → S.faults shards.old n ≤ S.faults shards.new n }
     ensures replies { IfOk result (AreReplies shape.now) }
 {
@@ -128,7 +124,6 @@ pub fn finish_phase<S: PortSet, G: Gate>(
     requires room { length calls.now ≤ vec_capacity answers.old }
     ensures capacity { vec_capacity answers.new ≡ vec_capacity answers.old }
     ensures count { S.count shards.new ≡ S.count shards.old }
-    ensures loan { S.loan shards.new ≡ S.loan shards.old }
     ensures later { (n : ℕ) → S.faults shards.old n ≤ S.faults shards.new n }
     ensures stamp { IfOk result IsStamp }
 {
@@ -154,7 +149,6 @@ pub fn forget_phase<S: PortSet, G: Gate>(
     requires room { length calls.now ≤ vec_capacity answers.old }
     ensures capacity { vec_capacity answers.new ≡ vec_capacity answers.old }
     ensures count { S.count shards.new ≡ S.count shards.old }
-    ensures loan { S.loan shards.new ≡ S.loan shards.old }
     ensures later { (n : ℕ) → S.faults shards.old n ≤ S.faults shards.new n }
     ensures stamp { IfOk result IsStamp }
 {

@@ -24,11 +24,11 @@ pub trait LogPort {
     /// The transactions of a lane's batch that is not done.
     ghost open_txs: { Self → ℕ → List Compact };
 
-    /// The name of the loan that the port holds, where it holds a node that is lent.
-    ghost loan: { Self → ℕ };
+    /// How many coordinators it keeps.
+    ghost count: { Self → ℕ };
 
-    /// How often the coordinator's disk has failed.
-    ghost faults: { Self → ℕ };
+    /// How often the disk of each of them has failed.
+    ghost faults: { Self → ℕ → ℕ };
 
     /// Begins a batch of an idle lane: its name, and the stamp of its Prepare.
     fn prepare<G: Gate>(
@@ -45,8 +45,8 @@ pub trait LogPort {
         ensures txs { OnOk result (open_txs self.new lane ≡ txs.now) }
         ensures others { OnOk result (KeepsOthers (header self.old) lane (phase self.old) (phase self.new) (open_txs self.old) (open_txs self.new)) }
         ensures header { header self.new ≡ header self.old }
-        ensures loan { loan self.new ≡ loan self.old }
-        ensures later { faults self.old ≤ faults self.new };
+        ensures count { count self.new ≡ count self.old }
+        ensures later { (n : ℕ) → faults self.old n ≤ faults self.new n };
 
     /// Decides the prepared batch by what its shards replied, and tells the outcomes.
     fn decide<G: Gate>(
@@ -66,8 +66,8 @@ pub trait LogPort {
         ensures outcomes { OnOk result (length out.new.items ≡ length (open_txs self.old lane)) }
         ensures others { OnOk result (KeepsOthers (header self.old) lane (phase self.old) (phase self.new) (open_txs self.old) (open_txs self.new)) }
         ensures header { header self.new ≡ header self.old }
-        ensures loan { loan self.new ≡ loan self.old }
-        ensures later { faults self.old ≤ faults self.new };
+        ensures count { count self.new ≡ count self.old }
+        ensures later { (n : ℕ) → faults self.old n ≤ faults self.new n };
 
     /// Writes down that the decided batch is applied everywhere.
     fn discard<G: Gate>(&mut self, lane: LaneId, cause: Stamp, gate: &G) -> Result<Stamp, NodeFault>
@@ -78,8 +78,8 @@ pub trait LogPort {
         ensures phase { OnOk result (phase self.new lane ≡ InDiscard) }
         ensures others { OnOk result (KeepsOthers (header self.old) lane (phase self.old) (phase self.new) (open_txs self.old) (open_txs self.new)) }
         ensures header { header self.new ≡ header self.old }
-        ensures loan { loan self.new ≡ loan self.old }
-        ensures later { faults self.old ≤ faults self.new };
+        ensures count { count self.new ≡ count self.old }
+        ensures later { (n : ℕ) → faults self.old n ≤ faults self.new n };
 
     /// Writes down that the batch is forgotten everywhere.
     fn done<G: Gate>(&mut self, lane: LaneId, cause: Stamp, gate: &G) -> Result<Stamp, NodeFault>
@@ -90,8 +90,8 @@ pub trait LogPort {
         ensures phase { OnOk result (phase self.new lane ≡ Idle) }
         ensures others { OnOk result (KeepsOthers (header self.old) lane (phase self.old) (phase self.new) (open_txs self.old) (open_txs self.new)) }
         ensures header { header self.new ≡ header self.old }
-        ensures loan { loan self.new ≡ loan self.old }
-        ensures later { faults self.old ≤ faults self.new };
+        ensures count { count self.new ≡ count self.old }
+        ensures later { (n : ℕ) → faults self.old n ≤ faults self.new n };
 }
 
 /// One shard.
@@ -115,9 +115,6 @@ pub trait PortSet {
     /// How many shards there are.
     ghost count: { Self → ℕ };
 
-    /// The name of the loan that the port holds, where it holds nodes that are lent.
-    ghost loan: { Self → ℕ };
-
     /// How often the disk of each shard has failed.
     ghost faults: { Self → ℕ → ℕ };
 
@@ -134,7 +131,6 @@ pub trait PortSet {
         ensures each { EachAnswer LockTold calls.now out.new.items }
         ensures capacity { vec_capacity out.new ≡ vec_capacity out.old }
         ensures count { count self.new ≡ count self.old }
-        ensures loan { loan self.new ≡ loan self.old }
         ensures later { (n : ℕ) → faults self.old n ≤ faults self.new n };
 
     fn finish<G: Gate>(
@@ -150,7 +146,6 @@ pub trait PortSet {
         ensures each { EachAnswer StampTold calls.now out.new.items }
         ensures capacity { vec_capacity out.new ≡ vec_capacity out.old }
         ensures count { count self.new ≡ count self.old }
-        ensures loan { loan self.new ≡ loan self.old }
         ensures later { (n : ℕ) → faults self.old n ≤ faults self.new n };
 
     fn forget<G: Gate>(
@@ -166,7 +161,6 @@ pub trait PortSet {
         ensures each { EachAnswer StampTold calls.now out.new.items }
         ensures capacity { vec_capacity out.new ≡ vec_capacity out.old }
         ensures count { count self.new ≡ count self.old }
-        ensures loan { loan self.new ≡ loan self.old }
         ensures later { (n : ℕ) → faults self.old n ≤ faults self.new n };
 }
 

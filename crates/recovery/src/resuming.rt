@@ -1,5 +1,5 @@
 // Open batches are taken to their end.
-ghost use Rattle.std.specs.Prelude.{◌≡◌, ◌≤◌, ◌<◌, [], length, IfOk, OnOk, All};
+ghost use Rattle.std.specs.Prelude.{◌≡◌, ◌≤◌, ◌<◌, ℕ, [], length, IfOk, OnOk, All};
 ghost use Rattle.std.specs.Vec.{vec_capacity};
 ghost use Rattle.cbdc_model.specs.Slots.{Idle};
 ghost use Rattle.cbdc_types.specs.declared.batch.Phase.TheVariants.{Prepared, Committed, Discarded};
@@ -37,7 +37,10 @@ fn resume_prepared<S: PortSet, L: LogPort, G: Gate>(
     ensures idle { OnOk result (L.phase ports.new.log unfinished.now.batch.lane ≡ Idle) }
     ensures others { OnOk result (KeepsOthers (L.header ports.old.log) unfinished.now.batch.lane (L.phase ports.old.log) (L.phase ports.new.log) (L.open_txs ports.old.log) (L.open_txs ports.new.log)) }
     ensures header { L.header ports.new.log ≡ L.header ports.old.log }
+    ensures log_count { L.count ports.new.log ≡ L.count ports.old.log }
     ensures count { S.count ports.new.shards ≡ S.count ports.old.shards }
+    ensures shard_later { (n : ℕ) → S.faults ports.old.shards n ≤ S.faults ports.new.shards n }
+    ensures log_later { (n : ℕ) → L.faults ports.old.log n ≤ L.faults ports.new.log n }
     ensures resumed { IfOk result (IsResumed unfinished.now) }
 {
     let _limit = shape.batch();
@@ -78,7 +81,10 @@ fn resume_committed<S: PortSet, L: LogPort, G: Gate>(
     ensures idle { OnOk result (L.phase ports.new.log unfinished.now.batch.lane ≡ Idle) }
     ensures others { OnOk result (KeepsOthers (L.header ports.old.log) unfinished.now.batch.lane (L.phase ports.old.log) (L.phase ports.new.log) (L.open_txs ports.old.log) (L.open_txs ports.new.log)) }
     ensures header { L.header ports.new.log ≡ L.header ports.old.log }
+    ensures log_count { L.count ports.new.log ≡ L.count ports.old.log }
     ensures count { S.count ports.new.shards ≡ S.count ports.old.shards }
+    ensures shard_later { (n : ℕ) → S.faults ports.old.shards n ≤ S.faults ports.new.shards n }
+    ensures log_later { (n : ℕ) → L.faults ports.old.log n ≤ L.faults ports.new.log n }
     ensures resumed { IfOk result (IsResumed unfinished.now) }
 {
     let _limit = shape.batch();
@@ -136,7 +142,10 @@ fn resume_discarded<S: PortSet, L: LogPort, G: Gate>(
     ensures idle { OnOk result (L.phase ports.new.log unfinished.now.batch.lane ≡ Idle) }
     ensures others { OnOk result (KeepsOthers (L.header ports.old.log) unfinished.now.batch.lane (L.phase ports.old.log) (L.phase ports.new.log) (L.open_txs ports.old.log) (L.open_txs ports.new.log)) }
     ensures header { L.header ports.new.log ≡ L.header ports.old.log }
+    ensures log_count { L.count ports.new.log ≡ L.count ports.old.log }
     ensures count { S.count ports.new.shards ≡ S.count ports.old.shards }
+    ensures shard_later { (n : ℕ) → S.faults ports.old.shards n ≤ S.faults ports.new.shards n }
+    ensures log_later { (n : ℕ) → L.faults ports.old.log n ≤ L.faults ports.new.log n }
     ensures resumed { IfOk result (IsResumed unfinished.now) }
 {
     let _limit = shape.batch();
@@ -197,7 +206,10 @@ fn resume_lane<S: PortSet, L: LogPort, G: Gate>(
     ensures idle { OnOk result (L.phase ports.new.log unfinished.now.batch.lane ≡ Idle) }
     ensures others { OnOk result (KeepsOthers (L.header ports.old.log) unfinished.now.batch.lane (L.phase ports.old.log) (L.phase ports.new.log) (L.open_txs ports.old.log) (L.open_txs ports.new.log)) }
     ensures header { L.header ports.new.log ≡ L.header ports.old.log }
+    ensures log_count { L.count ports.new.log ≡ L.count ports.old.log }
     ensures count { S.count ports.new.shards ≡ S.count ports.old.shards }
+    ensures shard_later { (n : ℕ) → S.faults ports.old.shards n ≤ S.faults ports.new.shards n }
+    ensures log_later { (n : ℕ) → L.faults ports.old.log n ≤ L.faults ports.new.log n }
     ensures resumed { IfOk result (IsResumed unfinished.now) }
 {
     match unfinished.phase {
@@ -222,7 +234,10 @@ pub fn resume<S: PortSet, L: LogPort, G: Gate>(
     requires shape { (L.header ports.old.log).shape ≡ shape.now }
     requires count { S.count ports.old.shards ≡ shape.now.shards }
     ensures header { L.header ports.new.log ≡ L.header ports.old.log }
+    ensures log_count { L.count ports.new.log ≡ L.count ports.old.log }
     ensures count { S.count ports.new.shards ≡ S.count ports.old.shards }
+    ensures shard_later { (n : ℕ) → S.faults ports.old.shards n ≤ S.faults ports.new.shards n }
+    ensures log_later { (n : ℕ) → L.faults ports.old.log n ≤ L.faults ports.new.log n }
     ensures resumed { IfOk result (λ r. AreResumed lanes.now r.batches) }
 {
     let mut batches = match Vec::with_capacity(alloc, lanes.len()) {

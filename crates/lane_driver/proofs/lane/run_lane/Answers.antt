@@ -15,10 +15,9 @@ pieces-preserved g c =
       idle = search rules;
       header = search rules;
       count = search rules;
-      shard_loan = search rules;
-      log_loan = search rules;
+      log_count = search rules;
       shard_later = λ n. omega (arith, c.pieces.invariant.shard_later n, c.in-Ok-one_batch.ensures.shard_later n);
-      log_later = omega (arith, c.pieces.invariant.log_later, c.in-Ok-one_batch.ensures.log_later);
+      log_later = λ n. omega (arith, c.pieces.invariant.log_later n, c.in-Ok-one_batch.ensures.log_later n);
       room = room_after (length c.pieces.rest.now) c.args.shape.now.batch _ _ (length c.split_at.result.1.now) _ _ some c.pieces.invariant.room (ap (λ n. length c.split_at.result.1.now + n) (sym size) ∙ at.back_len) room
           c.push_reserved.ensures.len c.push_reserved.ensures.capacity;
       report = subst (λ reports. IsReported c.args.lane c.args.shape.now.batch c.args.txs.now c.split_at.result.1.now reports) (sym c.push_reserved.ensures.items)

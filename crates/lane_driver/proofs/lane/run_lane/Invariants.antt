@@ -10,10 +10,9 @@ invariant-pieces g l = record {
   idle : g.L.LogPort.phase l.ports.log l.lane ≡ Idle;
   header : g.L.LogPort.header l.ports.log ≡ g.L.LogPort.header l.initial.ports.log;
   count : g.S.PortSet.count l.ports.shards ≡ g.S.PortSet.count l.initial.ports.shards;
-  shard_loan : g.S.PortSet.loan l.ports.shards ≡ g.S.PortSet.loan l.initial.ports.shards;
-  log_loan : g.L.LogPort.loan l.ports.log ≡ g.L.LogPort.loan l.initial.ports.log;
+  log_count : g.L.LogPort.count l.ports.log ≡ g.L.LogPort.count l.initial.ports.log;
   shard_later : (n : ℕ) → g.S.PortSet.faults l.initial.ports.shards n ≤ g.S.PortSet.faults l.ports.shards n;
-  log_later : g.L.LogPort.faults l.initial.ports.log ≤ g.L.LogPort.faults l.ports.log;
+  log_later : (n : ℕ) → g.L.LogPort.faults l.initial.ports.log n ≤ g.L.LogPort.faults l.ports.log n;
   room : length l.rest + l.shape.batch * vec_len l.batches ≤ l.shape.batch * vec_capacity l.batches;
   report : IsReported l.lane l.shape.batch l.txs l.rest l.batches.items;
 }

@@ -6,6 +6,5 @@ abbrev pub invariant-loop-time : goal.invariant-loop-time
 invariant-loop-time g l = record {
   capacity : vec_capacity l.answers ≡ vec_capacity l.initial.answers;
   count : g.S.PortSet.count l.shards ≡ g.S.PortSet.count l.initial.shards;
-  loan : g.S.PortSet.loan l.shards ≡ g.S.PortSet.loan l.initial.shards;
   later : (n : ℕ) → g.S.PortSet.faults l.initial.shards n ≤ g.S.PortSet.faults l.shards n;
 }

@@ -1,4 +1,4 @@
-use Rattle.std.proofs.Common.{◌∙◌, ◌≡◌, ◌+◌, sym, ap, subst, take}
+use Rattle.std.proofs.Common.{◌∙◌, ◌≡◌, ◌+◌, sym, ap, subst, take, ◌≤◌, arith}
 use Rattle.recovery.specs.Open.{AreResumed}
 use Rattle.recovery.proofs.Rest.{open_here, rise_rest, open_rest, resumed_more}
 use Rattle.recovery.proofs.resuming.resume.Goals as goal
@@ -14,7 +14,10 @@ loop-unfinished-preserved g c =
     let told = c.in-Ok-resume_lane.ensures in
     record {
       header = told.header ∙ inv.header;
+      log_count = told.log_count ∙ inv.log_count;
       count = told.count ∙ inv.count;
+      shard_later = λ n. omega (arith, inv.shard_later n, told.shard_later n);
+      log_later = λ n. omega (arith, inv.log_later n, told.log_later n);
       open_rest = open_rest _ _ _ _ _ _ c.args.lanes.now i c.unfinished-item.result c.loop-unfinished-test.true c.unfinished-item.is inv.rise inv.open_rest told.header told.others;
       rise = rise_rest c.args.lanes.now i c.unfinished-item.result c.loop-unfinished-test.true c.unfinished-item.is inv.rise;
       resumed = subst (λ batches. AreResumed (take (i + 1) c.args.lanes.now) batches) (sym c.push_reserved.ensures.items)

@@ -1,2 +1,0 @@
-pub mod LentLemmas
-pub mod Rises

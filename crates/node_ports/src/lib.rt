@@ -1,0 +1,8 @@
+//! Ports over the nodes of a ledger: nothing comes between two of their calls.
+#![tactic(auto)]
+
+mod logs;
+mod shards;
+
+pub use logs::NodeLogs;
+pub use shards::NodeShards;
