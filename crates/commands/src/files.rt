@@ -3,8 +3,8 @@ ghost use Rattle.std.specs.Prelude.{◌≡◌, ◌≤◌, ℕ, List, IfErr};
 ghost use Rattle.outside.specs.Counts.{Rose};
 ghost use Rattle.commands.specs.Causes.{IsFileFault};
 
-use cbdc_types::{Answer, List, Mint};
-use client_files::{FetchFault, FileFault, fetch, read_mint};
+use cbdc_types::{Answer, FullTx, List, Mint};
+use client_files::{FetchFault, FileFault, fetch, read_clients, read_mint};
 use command_line::FileWord;
 use outside::Inbox;
 use std::alloc::Global;
@@ -49,6 +49,24 @@ pub(crate) fn mint_in<I: Inbox>(
     match bytes_of(alloc, inbox, file) {
         Ok((bytes, more)) => match read_mint(alloc, bytes.as_slice(), more) {
             Ok(mint) => Ok(mint),
+            Err(fault) => Err(answer_of(file, fault)),
+        },
+        Err(fault) => Err(fault),
+    }
+}
+
+/// The transactions in a client file, where the client files before it have so many.
+pub(crate) fn clients_in<I: Inbox>(
+    alloc: Global,
+    inbox: &mut I,
+    file: &FileWord,
+    before: u64,
+) -> Result<List<FullTx>, Answer>
+    ensures fault { IfErr result (IsFileFault file.now.place (I.count inbox.old file.now.name.now) (I.count inbox.new file.now.name.now)) }
+{
+    match bytes_of(alloc, inbox, file) {
+        Ok((bytes, more)) => match read_clients(alloc, bytes.as_slice(), more, before) {
+            Ok(txs) => Ok(txs),
             Err(fault) => Err(answer_of(file, fault)),
         },
         Err(fault) => Err(fault),

@@ -1,10 +1,15 @@
 //! The top call: what the program does with its words, its files, its disks and its output.
 #![tactic(auto)]
 
+mod checked;
 mod files;
 mod initial;
+mod ledger;
 mod minting;
+mod report;
+mod running;
 mod top;
+mod turns;
 mod writing;
 
-pub use top::{Done, Status, process};
+pub use top::{Done, process};

@@ -2,28 +2,19 @@
 ghost use Rattle.std.specs.Prelude.{ℕ};
 
 use crate::initial::init;
+use crate::running::run;
 use cbdc_types::Answer;
 use command_line::{Request, WordsFault, parse};
 use line_text::{write_all, write_fault};
-use outside::{Inbox, Rack, Sink};
+use outside::{Gate, Inbox, Rack, Sink};
 use std::alloc::Global;
-
-/// What came of the words.
-#[derive(Drop)]
-pub enum Status {
-    /// They were answered.
-    Answered(Answer),
-    /// They ask for a run of client files, which this version does not do.
-    NotBuilt,
-}
+use std::sync::Wait;
 
 /// What came of the words, and the rack with every disk back in its place.
 pub struct Done<R> {
-    pub status: Status,
+    pub status: Answer,
     pub rack: R,
 }
-
-const NOT_BUILT: &str = "run is not built yet\n";
 
 // Prints a text that the words ask for.
 fn show<O: Sink>(out: &mut O, text: &str) -> Answer {
@@ -47,46 +38,42 @@ fn name_of<'a>(words: &'a [String], answer: &Answer) -> &'a str {
 }
 
 // Does what the words ask for.
-fn answer_to<I: Inbox, R: Rack, O: Sink>(
+fn answer_to<W: Wait, I: Inbox, R: Rack, O: Sink, G: Gate>(
+    rt: &W,
     alloc: Global,
     words: &[String],
     inbox: &mut I,
     rack: &mut R,
     out: &mut O,
-) -> Status
+    gate: &G,
+) -> Answer
     requires { (n : ℕ) → R.can_take rack.old n }
     ensures { (n : ℕ) → R.can_take rack.new n }
 {
     match parse(alloc, words) {
-        Ok(Request::Init { mint }) => Status::Answered(init(alloc, &mint, inbox, rack, out)),
-        Ok(Request::Show(text)) => Status::Answered(show(out, text.as_str())),
-        Ok(Request::Run { client: _ }) => Status::NotBuilt,
-        Err(WordsFault::Bad) => Status::Answered(Answer::BadWords),
-        Err(WordsFault::Memory) => Status::Answered(Answer::Memory),
+        Ok(Request::Init { mint }) => init(alloc, &mint, inbox, rack, out),
+        Ok(Request::Run { client }) => run(rt, alloc, &client, inbox, rack, out, gate),
+        Ok(Request::Show(text)) => show(out, text.as_str()),
+        Err(WordsFault::Bad) => Answer::BadWords,
+        Err(WordsFault::Memory) => Answer::Memory,
     }
 }
 
-// Prints why the words were not done, if they were not.
-fn explain<O: Sink>(out: &mut O, words: &[String], status: &Status) {
-    let _ = match status {
-        Status::Answered(answer) => write_fault(out, answer, name_of(words, answer)),
-        Status::NotBuilt => write_all(out, NOT_BUILT.as_bytes()),
-    };
-}
-
 /// Does what the words ask for, and prints the line of a fault. Every disk that was taken is put back.
-pub fn process<I: Inbox, R: Rack, O: Sink>(
+pub fn process<W: Wait, I: Inbox, R: Rack, O: Sink, G: Gate>(
+    rt: &W,
     alloc: Global,
     words: &[String],
     inbox: &mut I,
     rack: R,
     out: &mut O,
+    gate: &G,
 ) -> Done<R>
     requires { (n : ℕ) → R.can_take rack n }
     ensures back { (n : ℕ) → R.can_take result.rack n }
 {
     let mut rack = rack;
-    let status = answer_to(alloc, words, inbox, &mut rack, out);
-    explain(out, words, &status);
+    let status = answer_to(rt, alloc, words, inbox, &mut rack, out, gate);
+    let _ = write_fault(out, &status, name_of(words, &status));
     Done { status, rack }
 }

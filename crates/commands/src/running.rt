@@ -1,0 +1,282 @@
+// `run`: the transactions of client files, file by file.
+ghost use Rattle.std.specs.Prelude.{◌≡◌, ◌≤◌, ℕ, length};
+ghost use Rattle.gate_journal.specs.Shown.{disk_of};
+ghost use Rattle.node_ports.specs.Nodes.{faults_at};
+
+use crate::checked::{Submitted, check_all};
+use crate::files::clients_in;
+use crate::ledger::{Ledger, close_ledger, open_ledger};
+use crate::report::{Report, Wave, write_report};
+use crate::turns::{Lane, run_wave};
+use cbdc_types::{Answer, CompactTx, FullTx, LaneId, List, Shape};
+use command_line::FileWord;
+use coord_core::LanePhase;
+use coord_log::CoordLog;
+use lane_driver::{LaneFault, LaneFaultKind, Ports};
+use node_ports::{NodeLogs, NodeShards};
+use outside::{Disk, Gate, Inbox, Rack, Sink};
+use shard_node::ShardNode;
+use std::alloc::{AllocError, Global};
+use std::sync::Wait;
+use verifier_port::{AllGood, Verifier};
+
+// The nodes of a ledger behind a run, and what it came to.
+struct Ran<D: Disk> {
+    ledger: Ledger<D>,
+    result: Result<Report, Answer>,
+}
+
+// What a lane's fault answers.
+fn answer_of(fault: &LaneFault) -> Answer {
+    let node = fault.node;
+    match fault.fault {
+        LaneFaultKind::DiskFault => Answer::DiskFault(node),
+        LaneFaultKind::Full {
+            used,
+            need,
+            capacity,
+        } => Answer::Full {
+            node,
+            used,
+            need,
+            capacity,
+        },
+        LaneFaultKind::ClockEnd { stamp } => Answer::ClockEnd { node, stamp },
+        LaneFaultKind::Memory => Answer::Memory,
+        LaneFaultKind::Refused(_) => Answer::Refused(node),
+    }
+}
+
+// The fault of the least lane that has one.
+fn first_fault(lanes: &[Lane]) -> Option<Answer> {
+    for lane in lanes {
+        if let Some(fault) = &lane.fault {
+            return Some(answer_of(fault));
+        }
+    }
+    None
+}
+
+// Whether the lane is one of this coordinator's that has an unfinished batch.
+fn is_unfinished<D: Disk>(log: &CoordLog<D>, lane: LaneId) -> bool {
+    let header = log.header();
+    if header.node.0 != lane.0 / header.shape.lanes() {
+        return false;
+    }
+    !matches!(log.phase(lane), LanePhase::Idle(_))
+}
+
+// The least lane of a coordinator that has an unfinished batch.
+fn unfinished_at<D: Disk>(log: &CoordLog<D>) -> Option<LaneId> {
+    for lane in 0..log.header().shape.lane_count() {
+        if is_unfinished(log, LaneId(lane)) {
+            return Some(LaneId(lane));
+        }
+    }
+    None
+}
+
+// The least lane that has an unfinished batch.
+fn unfinished<D: Disk>(logs: &[CoordLog<D>]) -> Option<LaneId> {
+    for log in logs {
+        if let Some(lane) = unfinished_at(log) {
+            return Some(lane);
+        }
+    }
+    None
+}
+
+// How many hashes are unspent over all shards.
+fn unspent_of<D: Disk>(shards: &[ShardNode<D>]) -> u64 {
+    let mut unspent = 0u64;
+    for shard in shards {
+        unspent = unspent.saturating_add(shard.unspent_len());
+    }
+    unspent
+}
+
+// The lanes of a wave before their first turn.
+fn lanes_of(alloc: Global, lists: Vec<Vec<CompactTx>>) -> Result<Vec<Lane>, AllocError> {
+    let mut lanes = Vec::with_capacity(alloc, lists.len())?;
+    for txs in lists {
+        lanes.push(Lane::new(alloc, txs)?)?;
+    }
+    Ok(lanes)
+}
+
+// The submissions of a file as a wave that has not begun.
+fn wave_of<V: Verifier>(
+    alloc: Global,
+    txs: &[FullTx],
+    shape: &Shape,
+    verifier: &V,
+) -> Result<Wave, AllocError> {
+    let Submitted { checked, lanes } = check_all(alloc, txs, shape, verifier)?;
+    Ok(Wave {
+        checked,
+        lanes: lanes_of(alloc, lanes)?,
+    })
+}
+
+// The files as waves that have not begun.
+fn waves_of<V: Verifier>(
+    alloc: Global,
+    files: &[List<FullTx>],
+    shape: &Shape,
+    verifier: &V,
+) -> Result<Vec<Wave>, AllocError> {
+    let mut waves = Vec::with_capacity(alloc, files.len())?;
+    for txs in files {
+        waves.push(wave_of(alloc, txs.as_slice(), shape, verifier)?)?;
+    }
+    Ok(waves)
+}
+
+// Runs the waves one after another, as long as no lane meets a fault.
+fn run_waves<W: Wait, D: Disk, G: Gate>(
+    alloc: Global,
+    shape: &Shape,
+    waves: &mut [Wave],
+    ports: &mut Ports<NodeShards<W, D>, NodeLogs<W, D>>,
+    gate: &G,
+) -> Result<(), Answer>
+    ensures logs { length ports.new.log.logs.items ≡ length ports.old.log.logs.items }
+    ensures shards { length ports.new.shards.nodes.items ≡ length ports.old.shards.nodes.items }
+    ensures log_later { (n : ℕ) → faults_at (λ x. x.faults) ports.old.log.logs.items n ≤ faults_at (λ x. x.faults) ports.new.log.logs.items n }
+    ensures shard_later { (n : ℕ) → faults_at (λ x. D.count (disk_of x.log.journal)) ports.old.shards.nodes.items n ≤ faults_at (λ x. D.count (disk_of x.log.journal)) ports.new.shards.nodes.items n }
+{
+    'waves: for wave in waves {
+        run_wave(alloc, shape, &mut wave.lanes, ports, gate);
+        if let Some(fault) = first_fault(&wave.lanes) {
+            return Err(fault);
+        }
+    }
+    Ok(())
+}
+
+// Runs the files over open nodes.
+fn run_over<W: Wait, D: Disk, V: Verifier, G: Gate>(
+    alloc: Global,
+    shape: &Shape,
+    files: &[List<FullTx>],
+    verifier: &V,
+    ports: &mut Ports<NodeShards<W, D>, NodeLogs<W, D>>,
+    gate: &G,
+) -> Result<Report, Answer>
+    ensures logs { length ports.new.log.logs.items ≡ length ports.old.log.logs.items }
+    ensures shards { length ports.new.shards.nodes.items ≡ length ports.old.shards.nodes.items }
+    ensures log_later { (n : ℕ) → faults_at (λ x. x.faults) ports.old.log.logs.items n ≤ faults_at (λ x. x.faults) ports.new.log.logs.items n }
+    ensures shard_later { (n : ℕ) → faults_at (λ x. D.count (disk_of x.log.journal)) ports.old.shards.nodes.items n ≤ faults_at (λ x. D.count (disk_of x.log.journal)) ports.new.shards.nodes.items n }
+{
+    if let Some(lane) = unfinished(&ports.log.logs) {
+        return Err(Answer::Unfinished(lane));
+    }
+    let Ok(mut waves) = waves_of(alloc, files, shape, verifier) else {
+        return Err(Answer::Memory);
+    };
+    match run_waves(alloc, shape, &mut waves, ports, gate) {
+        Ok(()) => Ok(Report {
+            waves,
+            resumed: 0,
+            unspent: unspent_of(&ports.shards.nodes),
+        }),
+        Err(fault) => Err(fault),
+    }
+}
+
+// Runs the files over the nodes of an open ledger.
+fn run_open<W: Wait, D: Disk, V: Verifier, G: Gate>(
+    rt: &W,
+    alloc: Global,
+    ledger: Ledger<D>,
+    files: &[List<FullTx>],
+    verifier: &V,
+    gate: &G,
+) -> Ran<D>
+    ensures logs { length result.ledger.logs.items ≡ length ledger.logs.items }
+    ensures shards { length result.ledger.shards.items ≡ length ledger.shards.items }
+    ensures log_later { (n : ℕ) → faults_at (λ x. x.faults) ledger.logs.items n ≤ faults_at (λ x. x.faults) result.ledger.logs.items n }
+    ensures shard_later { (n : ℕ) → faults_at (λ x. D.count (disk_of x.log.journal)) ledger.shards.items n ≤ faults_at (λ x. D.count (disk_of x.log.journal)) result.ledger.shards.items n }
+{
+    let Ledger {
+        header,
+        logs,
+        shards,
+    } = ledger;
+    let shape = header.shape;
+    let mut ports = Ports {
+        shards: NodeShards {
+            rt,
+            lane: LaneId(0),
+            first: shape.coordinators(),
+            nodes: shards,
+        },
+        log: NodeLogs { rt, logs, at: 0 },
+    };
+    let result = run_over(alloc, &shape, files, verifier, &mut ports, gate);
+    let Ports { shards, log } = ports;
+    let NodeShards { nodes, .. } = shards;
+    let NodeLogs { logs, .. } = log;
+    Ran {
+        ledger: Ledger {
+            header,
+            logs,
+            shards: nodes,
+        },
+        result,
+    }
+}
+
+// Opens the ledger, runs the files and puts all disks back.
+fn run_on<W: Wait, R: Rack, V: Verifier, G: Gate>(
+    rt: &W,
+    alloc: Global,
+    rack: &mut R,
+    files: &[List<FullTx>],
+    verifier: &V,
+    gate: &G,
+) -> Result<Report, Answer>
+    requires { (n : ℕ) → R.can_take rack.old n }
+    ensures back { (n : ℕ) → R.can_take rack.new n }
+    ensures later { (n : ℕ) → R.count rack.old n ≤ R.count rack.new n }
+{
+    let ledger = match open_ledger(alloc, rack) {
+        Ok(ledger) => ledger,
+        Err(fault) => return Err(fault),
+    };
+    let Ran { ledger, result } = run_open(rt, alloc, ledger, files, verifier, gate);
+    close_ledger(rack, ledger);
+    result
+}
+
+/// Runs a client file: its transactions are checked and brought through their batches, and their lines printed.
+pub(crate) fn run<W: Wait, I: Inbox, R: Rack, O: Sink, G: Gate>(
+    rt: &W,
+    alloc: Global,
+    file: &FileWord,
+    inbox: &mut I,
+    rack: &mut R,
+    out: &mut O,
+    gate: &G,
+) -> Answer
+    requires { (n : ℕ) → R.can_take rack.old n }
+    ensures back { (n : ℕ) → R.can_take rack.new n }
+    ensures later { (n : ℕ) → R.count rack.old n ≤ R.count rack.new n }
+{
+    let txs = match clients_in(alloc, inbox, file, 0) {
+        Ok(txs) => txs,
+        Err(fault) => return fault,
+    };
+    let mut files = Vec::new(alloc);
+    if files.push(txs).is_err() {
+        return Answer::Memory;
+    }
+    let report = match run_on(rt, alloc, rack, &files, &AllGood, gate) {
+        Ok(report) => report,
+        Err(fault) => return fault,
+    };
+    match write_report(out, &report) {
+        Ok(()) => Answer::Ok,
+        Err(_) => Answer::WriteFault,
+    }
+}
