@@ -1,2 +1,5 @@
 pub mod Bodies
+pub mod Exact
 pub mod Faults
+pub mod Reading
+pub mod Standing

@@ -2,9 +2,9 @@
 #![tactic(auto)]
 
 mod fault;
-mod grammar;
 mod reading;
 mod sizes;
+mod standing;
 mod writing;
 
 pub use fault::RecordFault;
