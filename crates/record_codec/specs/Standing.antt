@@ -32,3 +32,15 @@ MayStand h (Commit stamp b os) =
     IsLater stamp × IsBatchOf h.shape b × (h.node < h.shape.coordinators) × HasSize h.shape os × All (MayDecide h.shape) os
 MayStand h (Discard stamp b) = IsLater stamp × IsBatchOf h.shape b × (h.node < h.shape.coordinators)
 MayStand h (Done stamp b) = IsLater stamp × IsBatchOf h.shape b × (h.node < h.shape.coordinators)
+
+-- a Genesis or a Start that may stand under its own header
+abbrev pub MayBegin : Record → Type 0
+MayBegin (Genesis header hs) = MayStand header (Genesis header hs)
+MayBegin (Start header) = MayStand header (Start header)
+MayBegin (Lock stamp b es) = ⊥
+MayBegin (Finish stamp b ds) = ⊥
+MayBegin (Forget stamp b) = ⊥
+MayBegin (Prepare stamp b txs) = ⊥
+MayBegin (Commit stamp b os) = ⊥
+MayBegin (Discard stamp b) = ⊥
+MayBegin (Done stamp b) = ⊥

@@ -1,10 +1,10 @@
 // Reading a record.
-ghost use Rattle.std.specs.Prelude.{◌≡◌, IfOk, if◌then◌else◌, Some, None, bytes_eq};
+ghost use Rattle.std.specs.Prelude.{◌≡◌, ◌↔◌, IfOk, IsTrue, if◌then◌else◌, Some, None, bytes_eq};
 ghost use Rattle.byte_fields.specs.Faults.{Gives};
 ghost use Rattle.record_codec.specs.Bodies.{magic};
 ghost use Rattle.record_codec.specs.Exact.{IsBody, IsFirstBody, Reads};
 ghost use Rattle.record_codec.specs.Reading.{is_shape, magic_at, shape_at, header_at, zero_at, head_at, genesis_at, lock_at, finish_at, forget_at, start_at, prepare_at, commit_at, discard_at, done_at, body_at};
-ghost use Rattle.record_codec.specs.declared.fault.RecordFault.TheVariants.{NotARecord, Memory};
+ghost use Rattle.record_codec.specs.Standing.{MayBegin};
 
 use crate::fault::RecordFault;
 use crate::standing::may_stand;
@@ -344,6 +344,8 @@ pub fn read_record(alloc: Global, bytes: &[u8], header: &Header) -> Result<Recor
     // What is spelled so and may stand there is read, unless memory runs out.
     ensures only { (r : _) → IsBody header.now bytes.now r → Reads r result }
 {
+    // The shape is within its limits, so that each list that may stand there can be read.
+    let _limit = header.shape.batch();
     match body(alloc, bytes) {
         Ok((record, rest)) => {
             if rest.is_empty() && may_stand(header, &record) {
@@ -358,7 +360,9 @@ pub fn read_record(alloc: Global, bytes: &[u8], header: &Header) -> Result<Recor
 }
 
 // Whether it is a Genesis or a Start that may stand under its own header.
-fn is_first(record: &Record) -> bool {
+fn is_first(record: &Record) -> bool
+    ensures { IsTrue result ↔ MayBegin record.now }
+{
     match record {
         Record::Genesis { header, hashes: _ } => may_stand(header, record),
         Record::Start { header } => may_stand(header, record),
