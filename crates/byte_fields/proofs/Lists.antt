@@ -86,7 +86,7 @@ module _ {X : Type 0} (read : List ℕ → Result (X × List ℕ) Fault) (spelle
                     | inr behind ↦ omega (arith, less, items_early more.0.0 more.0.1 f taken.0.rest_fits behind)
                   ]
             ];
-  }
+      }
 
 inputs_item : IsItem (list_at 255 input_at) (counted input) (FitsList 255 FitsInput)
 inputs_item = list_item input_at input FitsInput input_item 255 (omega arith)

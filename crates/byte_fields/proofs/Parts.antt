@@ -208,14 +208,17 @@ reply_takes whole t bytes r rest fits e =
     missing_tag replies.Held is = absurd is
     missing_tag (replies.Missing x) is = refl
     missing_tag (replies.Locked x by) is = absurd is
+
     missing_fits : (r : Reply) → IsMissing r → FitsReply r
     missing_fits replies.Held is = absurd is
     missing_fits (replies.Missing x) is = is
     missing_fits (replies.Locked x by) is = absurd is
+
     locked_tag : (r : Reply) → IsLocked r → reply_tag r ≡ 2
     locked_tag replies.Held is = absurd is
     locked_tag (replies.Missing x) is = absurd is
     locked_tag (replies.Locked x by) is = refl
+
     locked_fits : (r : Reply) → IsLocked r → FitsReply r
     locked_fits replies.Held is = absurd is
     locked_fits (replies.Missing x) is = absurd is
@@ -318,14 +321,17 @@ outcome_takes whole t bytes o rest fits e =
     lacks_tag outcomes.Held is = absurd is
     lacks_tag (outcomes.Missing shard x) is = refl
     lacks_tag (outcomes.Locked shard x by) is = absurd is
+
     lacks_fits : (o : Outcome) → Lacks o → FitsOutcome o
     lacks_fits outcomes.Held is = absurd is
     lacks_fits (outcomes.Missing shard x) is = is
     lacks_fits (outcomes.Locked shard x by) is = absurd is
+
     blocked_tag : (o : Outcome) → Blocked o → outcome_tag o ≡ 2
     blocked_tag outcomes.Held is = absurd is
     blocked_tag (outcomes.Missing shard x) is = absurd is
     blocked_tag (outcomes.Locked shard x by) is = refl
+
     blocked_fits : (o : Outcome) → Blocked o → FitsOutcome o
     blocked_fits outcomes.Held is = absurd is
     blocked_fits (outcomes.Missing shard x) is = absurd is

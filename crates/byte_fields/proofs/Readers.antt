@@ -56,7 +56,7 @@ module _ {A B X : Type 0} (ra : List ℕ → Result (A × List ℕ) Fault) (ta :
         let whole : (ta u.0 ++ tb u.1) ++ rest ≡ ta u.0 ++ (tb u.1 ++ rest) = append_assoc (ta u.0) (tb u.1) rest in
         subst (λ (y : X). two_at (spelled y ++ rest) ≡ Ok (y, rest)) u.4
         (ap two_at (ap (λ (l : List ℕ). l ++ rest) (sym (spell u.0 u.1)) ∙ whole)
-            ∙ rw (ia.again u.0 (tb u.1 ++ rest) u.2, ib.again u.1 rest u.3) refl);
+        ∙ rw (ia.again u.0 (tb u.1 ++ rest) u.2, ib.again u.1 rest u.3) refl);
   }
 
 -- a value of three parts
@@ -86,7 +86,7 @@ module _ {A B C X : Type 0} (ra : List ℕ → Result (A × List ℕ) Fault) (ta
         let whole : (ta u.0 ++ (tb u.1 ++ tc u.2)) ++ rest ≡ ta u.0 ++ (tb u.1 ++ (tc u.2 ++ rest)) = append_assoc (ta u.0) (tb u.1 ++ tc u.2) rest ∙ ap (λ (l : List ℕ). ta u.0 ++ l) (append_assoc (tb u.1) (tc u.2) rest) in
         subst (λ (y : X). three_at (spelled y ++ rest) ≡ Ok (y, rest)) u.6
         (ap three_at (ap (λ (l : List ℕ). l ++ rest) (sym (spell u.0 u.1 u.2)) ∙ whole)
-            ∙ rw (ia.again u.0 (tb u.1 ++ (tc u.2 ++ rest)) u.3, ib.again u.1 (tc u.2 ++ rest) u.4, ic.again u.2 rest u.5) refl);
+        ∙ rw (ia.again u.0 (tb u.1 ++ (tc u.2 ++ rest)) u.3, ib.again u.1 (tc u.2 ++ rest) u.4, ic.again u.2 rest u.5) refl);
   }
 
 -- a value of four parts
@@ -121,10 +121,10 @@ module _ {A B C D X : Type 0} (ra : List ℕ → Result (A × List ℕ) Fault) (
         let u = unfit x fits in
         let whole : (ta u.0 ++ (tb u.1 ++ (tc u.2 ++ td u.3))) ++ rest ≡ ta u.0 ++ (tb u.1 ++ (tc u.2 ++ (td u.3 ++ rest))) =
         append_assoc (ta u.0) (tb u.1 ++ (tc u.2 ++ td u.3)) rest
-            ∙ ap (λ (l : List ℕ). ta u.0 ++ l) (append_assoc (tb u.1) (tc u.2 ++ td u.3) rest ∙ ap (λ (l : List ℕ). tb u.1 ++ l) (append_assoc (tc u.2) (td u.3) rest)) in
+        ∙ ap (λ (l : List ℕ). ta u.0 ++ l) (append_assoc (tb u.1) (tc u.2 ++ td u.3) rest ∙ ap (λ (l : List ℕ). tb u.1 ++ l) (append_assoc (tc u.2) (td u.3) rest)) in
         subst (λ (y : X). four_at (spelled y ++ rest) ≡ Ok (y, rest)) u.8
         (ap four_at (ap (λ (l : List ℕ). l ++ rest) (sym (spell u.0 u.1 u.2 u.3)) ∙ whole)
-            ∙ rw (ia.again u.0 (tb u.1 ++ (tc u.2 ++ (td u.3 ++ rest))) u.4, ib.again u.1 (tc u.2 ++ (td u.3 ++ rest)) u.5, ic.again u.2 (td u.3 ++ rest) u.6, id.again u.3 rest u.7) refl);
+        ∙ rw (ia.again u.0 (tb u.1 ++ (tc u.2 ++ (td u.3 ++ rest))) u.4, ib.again u.1 (tc u.2 ++ (td u.3 ++ rest)) u.5, ic.again u.2 (td u.3 ++ rest) u.6, id.again u.3 rest u.7) refl);
   }
 
 -- the value of a test that was passed

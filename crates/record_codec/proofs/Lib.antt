@@ -1,2 +1,3 @@
+mod Grammar
 pub mod Records
 mod Walks

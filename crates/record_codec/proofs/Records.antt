@@ -1,5 +1,5 @@
 -- Records: what is read of a body is spelled so, and what is spelled so is read again, whatever follows.
-use Rattle.std.proofs.Common.{◌≡◌, ℕ, ◌^◌, ◌<◌, ◌≤◌, Bool, true, false, ◌&&◌, cond, eqb, leb, inl, inr, List, [], ◌∷◌, ◌++◌, length, Result, Ok, Err, refl, sym, ap, subst, ◌∙◌, append_assoc, arith, bytes_eq}
+use Rattle.std.proofs.Common.{◌≡◌, ℕ, ◌^◌, ◌<◌, ◌≤◌, Bool, true, false, ◌&&◌, cond, eqb, leb, inl, inr, List, ◌∷◌, ◌++◌, length, Result, Ok, Err, refl, sym, ap, subst, ◌∙◌, append_assoc, arith, bytes_eq}
 use Rattle.std.proofs.lemmas.Bool.{eqb-true, eq-eqb, leb-true, le-leb}
 use Rattle.std.proofs.lemmas.Slice.Eq.{bytes_eq-Decides}
 use Rattle.cbdc_types.specs.Limits.{ShapeOf, IsWithinLimits}
@@ -13,11 +13,11 @@ use Rattle.cbdc_types.specs.declared.record.Record.TheVariants.{Genesis, Lock, F
 use Rattle.cbdc_types.specs.declared.answer.InputKind.TheVariants.{Form}
 use Rattle.cbdc_model.specs.Records.{kind_of}
 use Rattle.byte_fields.specs.declared.fault.Fault.{Fault}
-use Rattle.byte_fields.specs.Faults.{◌>>=◌, fault, IsBytes}
+use Rattle.byte_fields.specs.Faults.{fault, IsBytes}
 use Rattle.byte_fields.specs.Spelling.{number, counted, FitsNumber, FitsHash, FitsList}
 use Rattle.byte_fields.specs.Reading.{field_at, number_at, hash_at, list_at}
 use Rattle.byte_fields.specs.Records.{hashes, batch, compact, answered, outcome, decision, small_at, batch_at, compact_at, answered_at, outcome_at, decision_at}
-use Rattle.byte_fields.proofs.Fields.{IsItem, IsRead, Takes, read_of, field_item}
+use Rattle.byte_fields.proofs.Fields.{IsRead, Takes, read_of, field_item}
 use Rattle.byte_fields.proofs.Lists.{list_read}
 use Rattle.byte_fields.proofs.Readers.{one_read, two_read, three_read, four_read, tested_read, refits, respells, chosen}
 use Rattle.byte_fields.proofs.Parts.{FitsByte, FitsSmall, FitsBatch, FitsCompact, FitsAnswered, FitsOutcome, FitsDecision, number_read, hash_read, small_read, batch_read, compact_read, answered_read, outcome_read, decision_read, tagged_read}
@@ -59,9 +59,9 @@ magic_read : IsRead magic_at (λ m. magic) IsMagic
 unfolding magic_at
 magic_read = respells magic_at (λ m. m) (λ m. magic) IsMagic
     (refits magic_at (λ m. m) (λ m. (length m ≡ 8) × (bytes_eq m magic ≡ true)) IsMagic
-        (tested_read (field_at 8 (λ b. b)) (λ b. b) (λ b. length b ≡ 8) eight_read (λ m. bytes_eq m magic) Form)
-        (λ m fits. (bytes_eq-Decides m magic).0 fits.1)
-        (λ m is. (ap length is, (bytes_eq-Decides m magic).1 is)))
+    (tested_read (field_at 8 (λ b. b)) (λ b. b) (λ b. length b ≡ 8) eight_read (λ m. bytes_eq m magic) Form)
+    (λ m fits. (bytes_eq-Decides m magic).0 fits.1)
+    (λ m is. (ap length is, (bytes_eq-Decides m magic).1 is)))
     (λ m is. is)
 
 both : (a b : Bool) → (a && b) ≡ true → (a ≡ true) × (b ≡ true)
@@ -133,9 +133,9 @@ zero_read : IsRead zero_at (λ n. number 0) IsZero
 unfolding zero_at
 zero_read = respells zero_at number (λ n. number 0) IsZero
     (refits zero_at number (λ n. FitsNumber n × (eqb n 0 ≡ true)) IsZero
-        (tested_read number_at number FitsNumber number_read (λ n. eqb n 0) Form)
-        (λ n fits. eqb-true n 0 fits.1)
-        (λ n is. (omega (arith, is), eq-eqb n 0 is)))
+    (tested_read number_at number FitsNumber number_read (λ n. eqb n 0) Form)
+    (λ n fits. eqb-true n 0 fits.1)
+    (λ n is. (omega (arith, is), eq-eqb n 0 is)))
     (λ n is. ap number is)
 
 head_is : ℕ → BatchId → Head

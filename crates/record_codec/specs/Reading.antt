@@ -1,5 +1,5 @@
 -- Reading a record's body from left to right, whatever the journal.
-use Rattle.std.specs.Prelude.{ℕ, Bool, ◌&&◌, List, Option, Some, None, Result, Ok, Err, nat_eq, nat_le, if◌then◌else◌, bytes_eq}
+use Rattle.std.specs.Prelude.{ℕ, Bool, ◌&&◌, List, Result, Ok, Err, nat_eq, nat_le, if◌then◌else◌, bytes_eq}
 use Rattle.cbdc_types.specs.Limits.{ShapeOf}
 use Rattle.cbdc_types.specs.declared.record.Header.{Header}
 use Rattle.cbdc_types.specs.declared.record.Record.{Record}
