@@ -1,5 +1,5 @@
 -- What was read and may stand under a header is in the grammar, and what is in the grammar may stand there and can be read.
-use Rattle.std.proofs.Common.{◌≡◌, ℕ, ◌+◌, ◌*◌, ◌<◌, ◌≤◌, Bool, List, [], ◌∷◌, length, get_or, Ok, Err, sym, ap, subst, ◌∙◌, arith, All}
+use Rattle.std.proofs.Common.{◌≡◌, ℕ, ◌+◌, ◌*◌, ◌<◌, ◌≤◌, Bool, List, [], ◌∷◌, ◌++◌, length, get_or, Ok, Err, sym, ap, subst, ◌∙◌, arith, All}
 use Rattle.std.specs.List.{AllByRecursion}
 use Rattle.std.proofs.Math.Nat.{mul-le-mul}
 use Rattle.std.proofs.lemmas.List.{append-nil}
@@ -201,3 +201,10 @@ is_read_first bytes (Prepare stamp b txs) is = absurd is.1
 is_read_first bytes (Commit stamp b os) is = absurd is.1
 is_read_first bytes (Discard stamp b) is = absurd is.1
 is_read_first bytes (Done stamp b) is = absurd is.1
+
+-- ---- laws
+
+pub one_body : (h : Header) (q r : Record) (rest : List ℕ) → IsWithinLimits h.shape → IsInGrammar h q → IsInGrammar h r → body_of q ≡ body_of r ++ rest → (q ≡ r) × (rest ≡ [])
+one_body h q r rest limits one other same =
+    let p = ok_is (q, []) (r, rest) (sym (is_read h (body_of q) q limits (refl, one)) ∙ ap body_at same ∙ body_read.again r rest (fits_record h r limits other)) in
+    (ap (λ (x : Record × List ℕ). x.0) p, sym (ap (λ (x : Record × List ℕ). x.1) p))
