@@ -20,10 +20,9 @@ fn body_of_record(alloc: Global, record: &Record, header: &Header) -> Result<Vec
     Ok(body)
 }
 
-/// Writes a record and reads it again: it comes back the same, or memory ran out.
+/// Writes a record and reads it again: where it may stand under the header it comes back the same, or memory ran out.
 pub fn read_back(alloc: Global, record: &Record, header: &Header) -> Result<Record, RecordFault>
-    requires { IsInGrammar header.now «record».now }
-    ensures { Reads «record».now result }
+    ensures { IsInGrammar header.now «record».now → Reads «record».now result }
 {
     match body_of_record(alloc, record, header) {
         Ok(body) => read_record(alloc, body.as_slice(), header),

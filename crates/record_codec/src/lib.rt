@@ -6,6 +6,8 @@ mod laws;
 mod reading;
 mod sizes;
 mod standing;
+#[cfg(test)]
+mod tests;
 mod writing;
 
 pub use fault::RecordFault;
