@@ -70,6 +70,14 @@ pub record IsItem {X : Type 0} (read : List ℕ → Result (X × List ℕ) Fault
   pub again : (x : X) (rest : List ℕ) → Fits x → read (spelled x ++ rest) ≡ Ok (x, rest)
   pub early : (bytes : List ℕ) (f : Fault) → IsBytes bytes → read bytes ≡ Err f → f.left ≤ length bytes
 
+-- the same where no fault is told
+pub record IsRead {X : Type 0} (read : List ℕ → Result (X × List ℕ) Fault) (spelled : X → List ℕ) (Fits : X → Type 0) : Type 0 where
+  pub takes : (bytes : List ℕ) (x : X) (rest : List ℕ) → IsBytes bytes → read bytes ≡ Ok (x, rest) → Takes bytes (spelled x) rest × Fits x
+  pub again : (x : X) (rest : List ℕ) → Fits x → read (spelled x ++ rest) ≡ Ok (x, rest)
+
+pub read_of : {X : Type 0} (read : List ℕ → Result (X × List ℕ) Fault) (spelled : X → List ℕ) (Fits : X → Type 0) → IsItem read spelled Fits → IsRead read spelled Fits
+read_of read spelled Fits item = record { takes = item.takes; again = item.again }
+
 -- a field of n bytes
 pub field_is : {X : Type 0} (n : ℕ) (of : List ℕ → X) (bytes : List ℕ) (x : X) (rest : List ℕ) → field_at n of bytes ≡ Ok (x, rest) → (n ≤ length bytes) × (of (take n bytes) ≡ x) × (drop n bytes ≡ rest)
 field_is {X = X} n of bytes x rest e =

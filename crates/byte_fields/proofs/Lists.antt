@@ -11,9 +11,9 @@ use Rattle.byte_fields.specs.Faults.{◌>>=◌, fault, IsBytes}
 use Rattle.byte_fields.specs.Spelling.{number, counted, output, input, witness, transaction, FitsOutput, FitsInput, FitsWitness, FitsList, FitsTransaction}
 use Rattle.byte_fields.specs.Reading.{number_at, items_at, list_at}
 use Rattle.byte_fields.specs.Transactions.{input_at, output_at, witness_at, transaction_at}
-use Rattle.byte_fields.proofs.Fields.{bind_ok, bind_err, guard_ok, guard_err, ok_is, Takes, Takes-then, length-rest, IsItem, number_item, input_item, output_item, witness_item}
+use Rattle.byte_fields.proofs.Fields.{bind_ok, bind_err, guard_ok, guard_err, ok_is, Takes, Takes-then, length-rest, IsItem, IsRead, read_of, number_item, input_item, output_item, witness_item}
 
-module _ {X : Type 0} (read : List ℕ → Result (X × List ℕ) Fault) (spelled : X → List ℕ) (Fits : X → Type 0) (item : IsItem read spelled Fits) where
+module _ {X : Type 0} (read : List ℕ → Result (X × List ℕ) Fault) (spelled : X → List ℕ) (Fits : X → Type 0) (item : IsRead read spelled Fits) where
   items_take : (n : ℕ) (bytes : List ℕ) (xs : List X) (rest : List ℕ) → IsBytes bytes → items_at read n bytes ≡ Ok (xs, rest) → Takes bytes (flat_map spelled xs) rest × (length xs ≡ n) × AllByRecursion Fits xs
   unfolding items_at
   items_take zero bytes xs rest fits e =
@@ -33,6 +33,26 @@ module _ {X : Type 0} (read : List ℕ → Result (X × List ℕ) Fault) (spelle
       let split : flat_map spelled (x ∷ xs) ++ rest ≡ spelled x ++ (flat_map spelled xs ++ rest) = append_assoc (spelled x) (flat_map spelled xs) rest in
       ap (items_at read (length (x ∷ xs))) split ∙ rw (item.again x (flat_map spelled xs ++ rest) all.0, items_again xs rest all.1) refl
 
+  pub list_read : (limit : ℕ) → limit < 2 ^ 64 → IsRead (list_at limit read) (counted spelled) (FitsList limit Fits)
+  unfolding list_at
+  list_read limit small = record {
+    takes = λ bytes xs rest fits e.
+        let step = bind_ok (number_at bytes) (λ n. cond (ltb limit n.0) (Err (fault TooMany bytes)) (items_at read n.0 n.1)) (xs, rest) e in
+        let n = step.0 in
+        let taken = number_item.takes bytes n.0 n.1 fits step.1 in
+        let few = guard_ok (ltb limit n.0) (fault TooMany bytes) (items_at read n.0 n.1) (xs, rest) step.2 in
+        let all = items_take n.0 n.1 xs rest taken.0.rest_fits few.1 in (
+          subst (λ (k : ℕ). Takes bytes (number k ++ flat_map spelled xs) rest) (sym all.1) (Takes-then bytes (number n.0) n.1 (flat_map spelled xs) rest taken.0 all.0),
+          (omega (arith, all.1, ltb-false _ _ few.0), all.2),
+        );
+    again = λ xs rest fits.
+        let whole : counted spelled xs ++ rest ≡ number (length xs) ++ (flat_map spelled xs ++ rest) = append_assoc (number (length xs)) (flat_map spelled xs) rest in
+        let first : number_at (number (length xs) ++ (flat_map spelled xs ++ rest)) ≡ Ok (length xs, flat_map spelled xs ++ rest) = number_item.again (length xs) (flat_map spelled xs ++ rest) (omega (arith, fits.0, small)) in
+        let few : ltb limit (length xs) ≡ false = le-ltb _ _ fits.0 in
+        ap (list_at limit read) whole ∙ rw (first, few) (items_again xs rest fits.1);
+  }
+
+module _ {X : Type 0} (read : List ℕ → Result (X × List ℕ) Fault) (spelled : X → List ℕ) (Fits : X → Type 0) (item : IsItem read spelled Fits) where
   pub items_early : (n : ℕ) (bytes : List ℕ) (f : Fault) → IsBytes bytes → items_at read n bytes ≡ Err f → f.left ≤ length bytes
   unfolding items_at
   items_early zero bytes f fits e = absurd (cc)
@@ -50,33 +70,23 @@ module _ {X : Type 0} (read : List ℕ → Result (X × List ℕ) Fault) (spelle
 
   pub list_item : (limit : ℕ) → limit < 2 ^ 64 → IsItem (list_at limit read) (counted spelled) (FitsList limit Fits)
   unfolding list_at
-  list_item limit small = record {
-    takes = λ bytes xs rest fits e.
-        let step = bind_ok (number_at bytes) (λ n. cond (ltb limit n.0) (Err (fault TooMany bytes)) (items_at read n.0 n.1)) (xs, rest) e in
-        let n = step.0 in
-        let taken = number_item.takes bytes n.0 n.1 fits step.1 in
-        let few = guard_ok (ltb limit n.0) (fault TooMany bytes) (items_at read n.0 n.1) (xs, rest) step.2 in
-        let all = items_take n.0 n.1 xs rest taken.0.rest_fits few.1 in (
-          subst (λ (k : ℕ). Takes bytes (number k ++ flat_map spelled xs) rest) (sym all.1) (Takes-then bytes (number n.0) n.1 (flat_map spelled xs) rest taken.0 all.0),
-          (omega (arith, all.1, ltb-false _ _ few.0), all.2),
-        );
-    again = λ xs rest fits.
-        let whole : counted spelled xs ++ rest ≡ number (length xs) ++ (flat_map spelled xs ++ rest) = append_assoc (number (length xs)) (flat_map spelled xs) rest in
-        let first : number_at (number (length xs) ++ (flat_map spelled xs ++ rest)) ≡ Ok (length xs, flat_map spelled xs ++ rest) = number_item.again (length xs) (flat_map spelled xs ++ rest) (omega (arith, fits.0, small)) in
-        let few : ltb limit (length xs) ≡ false = le-ltb _ _ fits.0 in
-        ap (list_at limit read) whole ∙ rw (first, few) (items_again xs rest fits.1);
-    early = λ bytes f fits e.
-        elim (bind_err (number_at bytes) (λ n. cond (ltb limit n.0) (Err (fault TooMany bytes)) (items_at read n.0 n.1)) f e) [
-          | inl first ↦ number_item.early bytes f fits first
-          | inr more ↦
-              let taken = number_item.takes bytes more.0.0 more.0.1 fits more.1 in
-              let less = length-rest bytes (number more.0.0) more.0.1 taken.0 in
-              elim (guard_err (ltb limit more.0.0) (fault TooMany bytes) (items_at read more.0.0 more.0.1) f more.2) [
-                | inl same ↦ omega (arith, ap (λ (k : Fault). k.left) same)
-                | inr behind ↦ omega (arith, less, items_early more.0.0 more.0.1 f taken.0.rest_fits behind)
-              ]
-        ];
-  }
+  list_item limit small =
+      let alike = list_read read spelled Fits (read_of read spelled Fits item) limit small in
+      record {
+        takes = alike.takes;
+        again = alike.again;
+        early = λ bytes f fits e.
+            elim (bind_err (number_at bytes) (λ n. cond (ltb limit n.0) (Err (fault TooMany bytes)) (items_at read n.0 n.1)) f e) [
+              | inl first ↦ number_item.early bytes f fits first
+              | inr more ↦
+                  let taken = number_item.takes bytes more.0.0 more.0.1 fits more.1 in
+                  let less = length-rest bytes (number more.0.0) more.0.1 taken.0 in
+                  elim (guard_err (ltb limit more.0.0) (fault TooMany bytes) (items_at read more.0.0 more.0.1) f more.2) [
+                    | inl same ↦ omega (arith, ap (λ (k : Fault). k.left) same)
+                    | inr behind ↦ omega (arith, less, items_early more.0.0 more.0.1 f taken.0.rest_fits behind)
+                  ]
+            ];
+      }
 
 inputs_item : IsItem (list_at 255 input_at) (counted input) (FitsList 255 FitsInput)
 inputs_item = list_item input_at input FitsInput input_item 255 (omega arith)

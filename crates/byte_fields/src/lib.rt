@@ -4,6 +4,8 @@
 mod fault;
 mod reading;
 mod records;
+#[cfg(test)]
+mod tests;
 mod transactions;
 mod writing;
 

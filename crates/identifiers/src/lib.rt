@@ -92,3 +92,6 @@ pub fn uhs_id(tx: &Hash, index: u64, o: &Output) -> Hash
         output: *o,
     })
 }
+
+#[cfg(test)]
+mod tests;

@@ -2,12 +2,16 @@
 #![tactic(auto)]
 
 mod fault;
-mod grammar;
+mod laws;
 mod reading;
 mod sizes;
+mod standing;
+#[cfg(test)]
+mod tests;
 mod writing;
 
 pub use fault::RecordFault;
+pub use laws::{one_body_law, read_back, size_law};
 pub use reading::{read_first, read_record};
 pub use sizes::size_of_record;
 pub use writing::write_record;

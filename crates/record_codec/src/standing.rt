@@ -1,8 +1,10 @@
 // Which records may stand in a journal with a header.
-ghost use Rattle.std.specs.Prelude.{◌≡◌, ◌↔◌, ◌+◌, ◌*◌, ◌<◌, ◌≤◌, ◌^◌, length, All, IsTrue};
-ghost use Rattle.cbdc_model.specs.Grammar.{IsEarly, IsLater, IsBatchOf, IsShard, AreHere, HasSize, RisesFrom, IsReply, IsOutcome, IsEntry, IsCompact, IsInGrammar};
+ghost use Rattle.std.specs.Prelude.{◌≡◌, ◌↔◌, ◌+◌, ◌<◌, ◌≤◌, length, All, IsTrue};
+ghost use Rattle.cbdc_model.specs.Grammar.{IsEarly, IsLater, IsBatchOf, IsShard, AreHere, HasSize, RisesFrom};
+ghost use Rattle.cbdc_model.specs.Ranges.{shard_of as the_shard, shard_node};
+ghost use Rattle.record_codec.specs.Standing.{MayReply, MayDecide, MayEnter, MayStand};
 
-use cbdc_types::{Answered, BatchId, CompactTx, Hash, Header, Outcome, Record, Reply, Shape};
+use cbdc_types::{Answered, BatchId, Hash, Header, Outcome, Record, Reply, Shape};
 use shard_ranges::shard_of;
 
 fn is_batch_of(shape: &Shape, batch: &BatchId) -> bool
@@ -36,12 +38,18 @@ fn is_shard(h: &Header) -> bool
     first <= h.node.0 && h.node.0 - first < h.shape.shards()
 }
 
+fn is_here(h: &Header, x: &Hash) -> bool
+    ensures { IsTrue result ↔ (shard_node h.now.shape (the_shard h.now.shape.shards x.now) ≡ h.now.node) }
+{
+    h.shape.coordinators() + shard_of(x, h.shape.shards()) == h.node.0
+}
+
 // Whether the hashes lie on the header's shard.
-fn are_here(h: &Header, hashes: &[Hash]) -> bool {
-    let shards = h.shape.shards();
-    let first = h.shape.coordinators();
+fn are_here(h: &Header, hashes: &[Hash]) -> bool
+    ensures { IsTrue result ↔ AreHere h.now.shape h.now.node hashes.now }
+{
     'hashes: for x in hashes {
-        if first + shard_of(x, shards) != h.node.0 {
+        if !is_here(h, x) {
             return false;
         }
     }
@@ -54,7 +62,9 @@ fn has_size(shape: &Shape, len: usize) -> bool
     1 <= len && len <= shape.batch() as usize
 }
 
-fn is_reply(shape: &Shape, reply: &Reply) -> bool {
+fn may_reply(shape: &Shape, reply: &Reply) -> bool
+    ensures { IsTrue result ↔ MayReply shape.now reply.now }
+{
     match reply {
         Reply::Held => true,
         Reply::Missing(_) => true,
@@ -62,7 +72,9 @@ fn is_reply(shape: &Shape, reply: &Reply) -> bool {
     }
 }
 
-fn is_outcome(shape: &Shape, outcome: &Outcome) -> bool {
+fn may_decide(shape: &Shape, outcome: &Outcome) -> bool
+    ensures { IsTrue result ↔ MayDecide shape.now outcome.now }
+{
     match outcome {
         Outcome::Held => true,
         Outcome::Missing(shard, _) => *shard < shape.shards(),
@@ -70,9 +82,11 @@ fn is_outcome(shape: &Shape, outcome: &Outcome) -> bool {
     }
 }
 
-fn are_outcomes(shape: &Shape, outcomes: &[Outcome]) -> bool {
+fn all_may_decide(shape: &Shape, outcomes: &[Outcome]) -> bool
+    ensures { IsTrue result ↔ All (MayDecide shape.now) outcomes.now }
+{
     'outcomes: for outcome in outcomes {
-        if !is_outcome(shape, outcome) {
+        if !may_decide(shape, outcome) {
             return false;
         }
     }
@@ -80,24 +94,36 @@ fn are_outcomes(shape: &Shape, outcomes: &[Outcome]) -> bool {
 }
 
 // Whether an entry names at least one hash, all of them on the header's shard.
-fn is_entry(h: &Header, a: &Answered) -> bool {
+fn may_enter(h: &Header, a: &Answered) -> bool
+    ensures { IsTrue result ↔ MayEnter h.now a.now }
+{
     let inputs = a.entry.inputs.as_slice();
     let outputs = a.entry.outputs.as_slice();
-    inputs.len() <= 255
-        && outputs.len() <= 255
-        && (!inputs.is_empty() || !outputs.is_empty())
+    (1 <= inputs.len() || 1 <= outputs.len())
         && are_here(h, inputs)
         && are_here(h, outputs)
-        && is_reply(&h.shape, &a.reply)
+        && may_reply(&h.shape, &a.reply)
 }
 
-// Whether the places rise and are below the limit, and the entries are right.
-fn are_entries(h: &Header, entries: &[Answered]) -> bool {
-    let limit = h.shape.batch();
+fn all_may_enter(h: &Header, entries: &[Answered]) -> bool
+    ensures { IsTrue result ↔ All (MayEnter h.now) entries.now }
+{
+    'entries: for a in entries {
+        if !may_enter(h, a) {
+            return false;
+        }
+    }
+    true
+}
+
+// Whether the places rise and are below the limit.
+fn places_rise(limit: u32, entries: &[Answered]) -> bool
+    ensures { IsTrue result ↔ RisesFrom 0 limit entries.now }
+{
     let mut low = 0u64;
     'entries: for a in entries {
         let place = a.entry.place;
-        if (place as u64) < low || place >= limit || !is_entry(h, a) {
+        if (place as u64) < low || place >= limit {
             return false;
         }
         low = place as u64 + 1;
@@ -105,23 +131,13 @@ fn are_entries(h: &Header, entries: &[Answered]) -> bool {
     true
 }
 
-fn are_compact(txs: &[CompactTx]) -> bool {
-    'txs: for tx in txs {
-        if tx.inputs.len() > 255 || tx.outputs.len() > 255 {
-            return false;
-        }
-    }
-    true
-}
-
-/// Whether the record may stand in a journal with this header, whatever stands before it.
-pub fn is_in_grammar(h: &Header, record: &Record) -> bool {
+/// Whether the record, which was read, may stand in a journal with this header, whatever stands before it.
+pub(crate) fn may_stand(h: &Header, record: &Record) -> bool
+    ensures { IsTrue result ↔ MayStand h.now record.now }
+{
     match record {
         Record::Genesis { header, hashes } => {
-            *header == *h
-                && is_shard(h)
-                && hashes.len() <= 1000000
-                && are_here(h, hashes.as_slice())
+            *header == *h && is_shard(h) && are_here(h, hashes.as_slice())
         }
         Record::Lock {
             stamp,
@@ -132,7 +148,8 @@ pub fn is_in_grammar(h: &Header, record: &Record) -> bool {
                 && is_batch_of(&h.shape, batch)
                 && is_shard(h)
                 && has_size(&h.shape, entries.len())
-                && are_entries(h, entries.as_slice())
+                && places_rise(h.shape.batch(), entries.as_slice())
+                && all_may_enter(h, entries.as_slice())
         }
         Record::Finish {
             stamp,
@@ -153,7 +170,6 @@ pub fn is_in_grammar(h: &Header, record: &Record) -> bool {
                 && is_batch_of(&h.shape, batch)
                 && is_coordinator(h)
                 && has_size(&h.shape, txs.len())
-                && are_compact(txs.as_slice())
         }
         Record::Commit {
             stamp,
@@ -164,7 +180,7 @@ pub fn is_in_grammar(h: &Header, record: &Record) -> bool {
                 && is_batch_of(&h.shape, batch)
                 && is_coordinator(h)
                 && has_size(&h.shape, outcomes.len())
-                && are_outcomes(&h.shape, outcomes.as_slice())
+                && all_may_decide(&h.shape, outcomes.as_slice())
         }
         Record::Discard { stamp, batch } => {
             is_later(stamp.0) && is_batch_of(&h.shape, batch) && is_coordinator(h)

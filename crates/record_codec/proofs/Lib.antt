@@ -1,0 +1,4 @@
+mod Grammar
+mod Lengths
+pub mod Records
+mod Walks
