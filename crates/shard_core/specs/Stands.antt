@@ -1,6 +1,8 @@
 -- The journal that a shard stands for.
 use Rattle.std.specs.Prelude.{◌≡◌, ℕ, List, Option, Some, slice_get}
-use Rattle.cbdc_model.specs.Records.{Record, Entry, Reply, last_stamp}
+use Rattle.cbdc_model.specs.Records.{Digest, Record, Entry, Reply, last_stamp}
+use Rattle.cbdc_model.specs.Status.{has}
+use Rattle.hash_slots.specs.Entries.{lookup}
 use Rattle.dtx_replies.specs.declared.slots.Slot.{Slot as LaneSlot}
 use Rattle.shard_core.specs.declared.core_state.ShardCore.{ShardCore}
 use Rattle.shard_core.specs.declared.plans.LockPlan.{LockPlan}
@@ -15,8 +17,8 @@ pub record Stands (core : ShardCore) (J : List Record) : Type 0 where
 -- the shard stands for the same journals as before: only room was made
 pub record IsSameState (old new : ShardCore) : Type 0 where
   pub header : new.header ≡ old.header
-  pub unspent : new.unspent.hashes ≡ old.unspent.hashes
-  pub locks : new.locks.held ≡ old.locks.held
+  pub unspent : (x : Digest) → has new.unspent.hashes x ≡ has old.unspent.hashes x
+  pub locks : (x : Digest) → lookup new.locks.held x ≡ lookup old.locks.held x
   pub slots : new.slots ≡ old.slots
   pub last : new.last ≡ old.last
 

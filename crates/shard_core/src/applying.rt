@@ -23,7 +23,7 @@ fn lock_inputs(
 ) {
     for x in inputs {
         unspent.remove(x);
-        if 0 < locks.spare() {
+        if 0 < locks.spare() && locks.holder(x).is_none() {
             locks.take(*x, *batch, place);
         }
     }
