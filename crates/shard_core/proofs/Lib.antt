@@ -4,3 +4,5 @@ pub mod Locks
 pub mod Lanes
 pub mod Places
 pub mod Digests
+pub mod Claims
+pub mod Moves
