@@ -6,3 +6,4 @@ pub mod Places
 pub mod Digests
 pub mod Claims
 pub mod Moves
+pub mod Applies

@@ -1,5 +1,5 @@
 -- The journal that a shard stands for.
-use Rattle.std.specs.Prelude.{◌≡◌, ℕ, ◌+◌, ◌≤◌, ◌^◌, List, length, vec_capacity, Option, Some, None, slice_get}
+use Rattle.std.specs.Prelude.{◌≡◌, ℕ, ◌+◌, ◌<◌, ◌≤◌, ◌^◌, List, length, vec_capacity, Option, Some, None, slice_get}
 use Rattle.cbdc_model.specs.Records.{Digest, Batch, Record, Entry, Reply, last_stamp}
 use Rattle.cbdc_model.specs.Status.{has}
 use Rattle.hash_slots.specs.Entries.{lookup}
@@ -39,6 +39,7 @@ pub record IsReady (core : ShardCore) (part : List Entry) (rs : List Reply) : Ty
   pub kept : IsReadyIn core.ready part rs
   pub locks : hashes_in part ≤ core.locks.spare
   pub unspent : core.owed + hashes_in part ≤ core.unspent.spare
+  pub fits : core.owed + hashes_in part < 2 ^ 62
 
 abbrev pub IsDone : ShardCore → ℕ → Type 0
 IsDone core lane = (s : LaneSlot) → slice_get core.slots lane ≡ Some s → IsPast s
@@ -49,5 +50,5 @@ IsFree core lane = (s : LaneSlot) → slice_get core.slots lane ≡ Some s → I
 -- where a Lock is to be appended, the memory for it is there
 abbrev pub IsReadyFor : ShardCore → Batch → List Entry → LockPlan → Type 0
 IsReadyFor core b part (LockKept r) = Unit {0}
-IsReadyFor core b part (LockNext r) = IsReady core part r.replies × IsFree core b.lane × (r.stamp ≤ 2 ^ 63)
+IsReadyFor core b part (LockNext r) = IsReady core part r.replies × IsFree core b.lane
 IsReadyFor core b part (LockRefused why) = Unit {0}

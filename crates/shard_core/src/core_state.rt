@@ -1,5 +1,5 @@
 // The shard: its unspent hashes, its locks and its lanes' slots.
-ghost use Rattle.std.specs.Prelude.{◌≡◌, ◌+◌, ◌*◌, ◌≤◌, ◌<◌, ◌^◌, ◌↔◌, ℕ, length, vec_capacity, Some, slice_get, IsTrue, IfOk, OnOk};
+ghost use Rattle.std.specs.Prelude.{◌≡◌, ◌+◌, ◌*◌, ◌≤◌, ◌<◌, ◌^◌, ◌↔◌, ℕ, length, vec_capacity, Some, slice_get, slice_set, IsTrue, IfOk, OnOk};
 ghost use Rattle.cbdc_model.specs.Records.{Digest};
 ghost use Rattle.cbdc_model.specs.Status.{has};
 ghost use Rattle.shard_core.specs.Moves.{owed_in};
@@ -99,6 +99,15 @@ fn empty_decisions(alloc: Global, lanes: u32) -> Result<Vec<Vec<bool>>, AllocErr
         decisions.push(Vec::new(alloc))?;
     }
     Ok(decisions)
+}
+
+// Puts other memory in the place of a lane's.
+fn swap_memory(memories: &mut Vec<Vec<bool>>, lane: LaneId, memory: Vec<bool>) -> Vec<bool>
+    requires { lane < length memories.old.items }
+    ensures value { slice_get memories.old.items lane ≡ Some result }
+    ensures after { memories.new.items ≡ slice_set memories.old.items lane memory }
+{
+    mem::replace(&mut memories[lane.0 as usize], memory)
 }
 
 // The set of these hashes.
@@ -426,7 +435,7 @@ impl ShardCore {
         );
         let slot = Slot::Locked(batch.number, part, replies, *stamp);
         self.slots.put(batch.lane, slot);
-        self.decisions[batch.lane.0 as usize] = decisions;
+        swap_memory(&mut self.decisions, batch.lane, decisions);
         self.owed += count;
         self.last = *stamp;
     }
@@ -455,8 +464,7 @@ impl ShardCore {
         return_others(unspent, locks, part.as_slice(), replies.as_slice(), ds);
         make_committed(unspent, locks, part.as_slice(), ds);
         self.owed -= hash_count(part.as_slice());
-        let lane = batch.lane.0 as usize;
-        let memory = mem::replace(&mut self.decisions[lane], Vec::new(self.alloc));
+        let memory = swap_memory(&mut self.decisions, batch.lane, Vec::new(self.alloc));
         let kept = decided(memory, ds);
         let slot = Slot::Finished(number, part, replies, kept, at, *stamp);
         self.slots.put(batch.lane, slot);
