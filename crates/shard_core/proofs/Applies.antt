@@ -102,9 +102,9 @@ pub agrees_lock : (J : List Record) (stamp : ℕ) (b : Batch) (es : List Answere
     → ((y : Digest) → has new y ≡ (not (has (held_inputs es) y) && has hashes y))
     → ((y : Digest) → holder_in kept y ≡ (if has (held_inputs es) y then Some b else holder_in held y)) → Agrees new kept (Lock stamp b es ∷ J)
 agrees_lock J stamp b es hashes new held kept a u l = record {
-    unspent = λ x. u x ∙ ap (λ (c : Bool). not (has (held_inputs es) x) && c) (a.unspent x) ∙ unspent_lock (has (held_inputs es) x) b (status J x);
-    locked = λ x. l x ∙ ap (λ (o : Option Batch). if has (held_inputs es) x then Some b else o) (a.locked x) ∙ locked_lock (has (held_inputs es) x) b (status J x);
-  }
+  unspent = λ x. u x ∙ ap (λ (c : Bool). not (has (held_inputs es) x) && c) (a.unspent x) ∙ unspent_lock (has (held_inputs es) x) b (status J x);
+  locked = λ x. l x ∙ ap (λ (o : Option Batch). if has (held_inputs es) x then Some b else o) (a.locked x) ∙ locked_lock (has (held_inputs es) x) b (status J x);
+}
 
 pub made_is : (es : List Answered) (ds : List Bool) → made_outputs es ds ≡ outputs_where (entries es) ds
 made_is [] ds = refl
@@ -152,22 +152,22 @@ agrees_finish J stamp b ds part rs hashes h1 h2 h3 held k1 k2 k3 p r a u1 l1 u2 
     let made : made_outputs (lock_of J b) ds ≡ outputs_where part ds = made_is (lock_of J b) ds ∙ ap (λ (es : List Entry). outputs_where es ds) p in
     let gone : taken_inputs (lock_of J b) ds ≡ inputs_where part ds = taken_is (lock_of J b) ds ∙ ap (λ (es : List Entry). inputs_where es ds) p in
     let back : returned_inputs (lock_of J b) ds ≡ returned_where part rs ds =
-        returned_is (lock_of J b) ds ∙ ap (λ (es : List Entry). returned_where es (replies (lock_of J b)) ds) p ∙ ap (λ (qs : List Reply). returned_where part qs ds) r in
+    returned_is (lock_of J b) ds ∙ ap (λ (es : List Entry). returned_where es (replies (lock_of J b)) ds) p ∙ ap (λ (qs : List Reply). returned_where part qs ds) r in
     record {
       unspent = λ x. rw (made, gone, back)
           (u3 x ∙ ap (λ (c : Bool). has (outputs_where part ds) x || c) (u2 x ∙ ap (λ (c : Bool). has (returned_where part rs ds) x || c)
-            (u1 x ∙ ap (λ (c : Bool). not (has (inputs_where part ds) x) && c) (a.unspent x)))
-            ∙ unspent_finish (has (outputs_where part ds) x) (has (returned_where part rs ds) x) (has (inputs_where part ds) x) (status J x));
+          (u1 x ∙ ap (λ (c : Bool). not (has (inputs_where part ds) x) && c) (a.unspent x)))
+          ∙ unspent_finish (has (outputs_where part ds) x) (has (returned_where part rs ds) x) (has (inputs_where part ds) x) (status J x));
       locked = λ x. rw (made, gone, back)
           (holder_step k3 k2 (has (outputs_where part ds) x) x (l3 x)
-            ∙ ap (λ (o : Option Batch). if has (outputs_where part ds) x then None else o) (holder_step k2 k1 (has (returned_where part rs ds) x) x (l2 x)
-              ∙ ap (λ (o : Option Batch). if has (returned_where part rs ds) x then None else o) (holder_step k1 held (has (inputs_where part ds) x) x (l1 x)
-                ∙ ap (λ (o : Option Batch). if has (inputs_where part ds) x then None else o) (a.locked x)))
-            ∙ locked_finish (has (outputs_where part ds) x) (has (returned_where part rs ds) x) (has (inputs_where part ds) x) (status J x));
+          ∙ ap (λ (o : Option Batch). if has (outputs_where part ds) x then None else o) (holder_step k2 k1 (has (returned_where part rs ds) x) x (l2 x)
+          ∙ ap (λ (o : Option Batch). if has (returned_where part rs ds) x then None else o) (holder_step k1 held (has (inputs_where part ds) x) x (l1 x)
+          ∙ ap (λ (o : Option Batch). if has (inputs_where part ds) x then None else o) (a.locked x)))
+          ∙ locked_finish (has (outputs_where part ds) x) (has (returned_where part rs ds) x) (has (inputs_where part ds) x) (status J x));
     }
 
 pub agrees_forget : (J : List Record) (stamp : ℕ) (b : Batch) (hashes : List Digest) (held : List (Kept (Batch × ℕ))) → Agrees hashes held J → Agrees hashes held (Forget stamp b ∷ J)
-agrees_forget J stamp b hashes held a = record { unspent = a.unspent; locked = a.locked; }
+agrees_forget J stamp b hashes held a = record { unspent = a.unspent; locked = a.locked }
 
 genesis_unspent : (t : Bool) → t ≡ is_unspent (if t then Unspent else Absent)
 genesis_unspent true = refl
@@ -178,7 +178,7 @@ genesis_locked true = refl
 genesis_locked false = refl
 
 pub agrees_genesis : (h : Header) (hs hashes : List Digest) → ((y : Digest) → has hashes y ≡ has hs y) → Agrees hashes [] (Genesis h hs ∷ [])
-agrees_genesis h hs hashes u = record { unspent = λ x. u x ∙ genesis_unspent (has hs x); locked = λ x. genesis_locked (has hs x); }
+agrees_genesis h hs hashes u = record { unspent = λ x. u x ∙ genesis_unspent (has hs x); locked = λ x. genesis_locked (has hs x) }
 
 pub replicate_get : {X : Type 0} (n i : ℕ) (a s : X) → slice_get (replicate n a) i ≡ Some s → s ≡ a
 replicate_get zero i a s h = cc
@@ -244,14 +244,14 @@ taken_number n m part qart rs qs t u h = cc
 pub finish_slot : (core : ShardCore) (b : Batch) (ds : List Bool) (s : LaneSlot) → slice_get core.slots b.lane ≡ Some s → ArePaired core.slots → IsLocked s b.number ds → IsFinishable core b ds
 finish_slot core b ds (Free n t) h pairs l = absurd l
 finish_slot core b ds (Taken n part rs t) h pairs l =
-  record {
-    part = part;
-    rs = rs;
-    at = t;
-    slot = h ∙ ap (λ (m : ℕ). Some (Taken m part rs t)) l.0;
-    replies = pairs b.lane (Taken n part rs t) h;
-    decisions = l.1 ∙ pairs b.lane (Taken n part rs t) h;
-  }
+    record {
+      part = part;
+      rs = rs;
+      at = t;
+      slot = h ∙ ap (λ (m : ℕ). Some (Taken m part rs t)) l.0;
+      replies = pairs b.lane (Taken n part rs t) h;
+      decisions = l.1 ∙ pairs b.lane (Taken n part rs t) h;
+    }
 finish_slot core b ds (Finished n part rs es t u) h pairs l = absurd l
 
 pub finish_ready : (core : ShardCore) (b : Batch) (ds : List Bool) (s : LaneSlot) (p : StampPlan) → slice_get core.slots b.lane ≡ Some s → ArePaired core.slots → IsNextFinish p s b.number ds

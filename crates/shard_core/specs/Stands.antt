@@ -37,6 +37,7 @@ IsReadyIn (Some r) part rs =
 -- the memory for a Lock of this part with these replies, and for its Finish, is there
 pub record IsReady (core : ShardCore) (part : List Entry) (rs : List Reply) : Type 0 where
   pub kept : IsReadyIn core.ready part rs
+  pub pairs : length rs ≡ length part
   pub locks : hashes_in part ≤ core.locks.spare
   pub unspent : core.owed + hashes_in part ≤ core.unspent.spare
   pub fits : core.owed + hashes_in part < 2 ^ 62

@@ -79,12 +79,7 @@ fn put_all(unspent: &mut Table, locks: &mut Locks, xs: &[Hash])
 }
 
 /// Takes the inputs of the committed entries out.
-pub fn take_committed(
-    unspent: &mut Table,
-    locks: &mut Locks,
-    entries: &[Entry],
-    decisions: &[bool],
-)
+pub fn take_committed(unspent: &mut Table, locks: &mut Locks, entries: &[Entry], decisions: &[bool])
     requires { length decisions.now ≡ length entries.now }
     ensures unspent { (y : Digest) → has unspent.new.hashes y ≡ (not (has (inputs_where entries.now decisions.now) y) && has unspent.old.hashes y) }
     ensures locks { (y : Digest) → lookup locks.new.held y ≡ (if has (inputs_where entries.now decisions.now) y then None else lookup locks.old.held y) }
@@ -130,12 +125,7 @@ pub fn return_others(
 }
 
 /// Makes the outputs of the committed entries unspent.
-pub fn make_committed(
-    unspent: &mut Table,
-    locks: &mut Locks,
-    entries: &[Entry],
-    decisions: &[bool],
-)
+pub fn make_committed(unspent: &mut Table, locks: &mut Locks, entries: &[Entry], decisions: &[bool])
     requires decisions { length decisions.now ≡ length entries.now }
     requires room { outputs_in entries.now ≤ unspent.old.spare }
     ensures unspent { (y : Digest) → has unspent.new.hashes y ≡ (has (outputs_where entries.now decisions.now) y || has unspent.old.hashes y) }

@@ -243,6 +243,7 @@ impl ShardCore {
 
     // Takes the memory for a Lock of this part with these replies, and for its Finish.
     fn make_room(&mut self, part: Part, replies: &[Reply]) -> Result<(), AllocError>
+        requires { length replies.now ≡ length part }
         ensures same { IsSameState self.old self.new }
         ensures ready { OnOk result (IsReady self.new part replies.now) }
     {

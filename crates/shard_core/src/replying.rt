@@ -1,5 +1,5 @@
 // What a shard replies to a part.
-ghost use Rattle.std.specs.Prelude.{◌≡◌, ◌||◌, List as Items, [], IfOk, OnOk};
+ghost use Rattle.std.specs.Prelude.{◌≡◌, ◌||◌, List as Items, [], length, IfOk, OnOk};
 ghost use Rattle.cbdc_model.specs.Records.{Digest, Record};
 ghost use Rattle.cbdc_model.specs.Status.{has, status};
 ghost use Rattle.cbdc_model.specs.Replies.{refusal, reply_to as the_reply, answered, replies as replies_in};
@@ -80,7 +80,8 @@ pub fn replies_to(
     entries: &[Entry],
     batch: &BatchId,
 ) -> Result<Vec<Reply>, AllocError>
-    ensures { IfOk result (λ v. (J : Items Record) → Agrees unspent.now.hashes locks.now.held J → v.items ≡ replies_in (answered J batch.now [] entries.now)) }
+    ensures len { IfOk result (λ v. length v.items ≡ length entries.now) }
+    ensures replies { IfOk result (λ v. (J : Items Record) → Agrees unspent.now.hashes locks.now.held J → v.items ≡ replies_in (answered J batch.now [] entries.now)) }
 {
     let mut claimed = Table::new(alloc);
     let mut replies = Vec::with_capacity(alloc, entries.len())?;

@@ -31,8 +31,8 @@ loop-answered-preserved c =
             locks = λ y. if_step _ _ (has c.answered-item.result.entry.inputs y) (Some c.args.batch.now) (holder_in c.loop-answered.locks.held y) _ (more y) (moved.locks y) ∙ i.locks y;
             spare = let s = i.spare in let m = moved.spare in omega (arith, s, m);
             room =
-              let n = held_count c.args.entries.now c.loop-answered.answered-index c.answered-item.result p held in
-              let s = i.room in let m = moved.room in omega (arith, n, s, m);
+                let n = held_count c.args.entries.now c.loop-answered.answered-index c.answered-item.result p held in
+                let s = i.room in let m = moved.room in omega (arith, n, s, m);
           })
       | else-is_held w ↦
           let free : is_held c.answered-item.result.reply ≡ false = sym c.is_held.ensures ∙ w.if-is_held.false in
@@ -43,7 +43,7 @@ loop-answered-preserved c =
             locks = λ y. ap (λ (b : Bool). if b then Some c.args.batch.now else holder_in c.loop-answered.locks.held y) (sym (same y)) ∙ i.locks y;
             spare = i.spare;
             room =
-              let n = held_count_same c.args.entries.now c.loop-answered.answered-index c.answered-item.result p free in
-              let s = i.room in omega (arith, n, s);
+                let n = held_count_same c.args.entries.now c.loop-answered.answered-index c.answered-item.result p free in
+                let s = i.room in omega (arith, n, s);
           })
     ]

@@ -7,4 +7,5 @@ use Rattle.shard_core.proofs.core_state.table_of.Given as goal
 abbrev pub invariant-loop-x : goal.invariant-loop-x
 invariant-loop-x l = record {
   room : length l.hashes ≤ l.x-index + l.table.spare;
-  members : (y : Digest) → (has (drop l.x-index l.hashes) y || has l.table.hashes y) ≡ has l.hashes y }
+  members : (y : Digest) → (has (drop l.x-index l.hashes) y || has l.table.hashes y) ≡ has l.hashes y;
+}

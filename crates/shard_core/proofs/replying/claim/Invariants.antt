@@ -7,4 +7,5 @@ use Rattle.shard_core.proofs.replying.claim.Given as goal
 abbrev pub invariant-loop-x : goal.invariant-loop-x
 invariant-loop-x l = record {
   room : length l.inputs ≤ l.x-index + l.claimed.spare;
-  members : (y : Digest) → has l.claimed.hashes y ≡ (has (take l.x-index l.inputs) y || has l.fn.claimed.hashes y) }
+  members : (y : Digest) → has l.claimed.hashes y ≡ (has (take l.x-index l.inputs) y || has l.fn.claimed.hashes y);
+}

@@ -63,22 +63,22 @@ invariant_of-self c =
       memory = rw (slots, c.swap_memory-memory.ensures.after) (memory_both self.slots self.decisions.items lane new _ self.memory (omega arith));
       paired = rw slots (paired_set self.slots lane new self.paired refl);
       owes =
-        let owes = self.owes in
-        let owed = owed_at self.slots lane _ is in
-        let n = rw c.as_slice-5.ensures at c.hash_count.ensures in
-        let bound = c.hash_count.type_inv in
-        let less = owed_set self.slots lane _ new is in
-        rw slots (omega (arith, owes, owed, n, less, bound));
+          let owes = self.owes in
+          let owed = owed_at self.slots lane _ is in
+          let n = rw c.as_slice-5.ensures at c.hash_count.ensures in
+          let bound = c.hash_count.type_inv in
+          let less = owed_set self.slots lane _ new is in
+          rw slots (omega (arith, owes, owed, n, less, bound));
       room =
-        let owes = self.owes in
-        let room = self.room in
-        let owed = owed_at self.slots lane _ is in
-        let n = rw c.as_slice-5.ensures at c.hash_count.ensures in
-        let few = parts_few c.in-Locked.part in
-        let more = c.take_committed.ensures.spare in
-        let used = rw c.as_slice-2.ensures at c.return_others.ensures.spare in
-        let made = rw c.as_slice-4.ensures at c.make_committed.ensures.spare in
-        omega (arith, owes, room, owed, n, few, more, used, made);
+          let owes = self.owes in
+          let room = self.room in
+          let owed = owed_at self.slots lane _ is in
+          let n = rw c.as_slice-5.ensures at c.hash_count.ensures in
+          let few = parts_few c.in-Locked.part in
+          let more = c.take_committed.ensures.spare in
+          let used = rw c.as_slice-2.ensures at c.return_others.ensures.spare in
+          let made = rw c.as_slice-4.ensures at c.make_committed.ensures.spare in
+          omega (arith, owes, room, owed, n, few, more, used, made);
     }
 
 pub returns-clause-stands : goal.returns-clause-stands
@@ -94,9 +94,9 @@ returns-clause-stands c = λ J old.
     let kept : c.decided-kept.result ≡ ds = c.decided-kept.ensures ∙ c.as_slice-ds.ensures in
     let here : SlotStands (Taken b.number part rs c.in-Locked.at) J b.lane = rw num at (old.lanes b.lane _ is) in
     let slots : c.put.new.self ≡ set self.slots b.lane (Finished b.number part rs ds c.in-Locked.at c.in-Finish.stamp) =
-        rw c.take.ensures.after at c.put.ensures ∙ set_set self.slots b.lane (Free 0 0) _
-        ∙ ap (λ (n : ℕ). set self.slots b.lane (Finished n part rs c.decided-kept.result c.in-Locked.at c.in-Finish.stamp)) num
-        ∙ ap (λ (k : List Bool). set self.slots b.lane (Finished b.number part rs k c.in-Locked.at c.in-Finish.stamp)) kept in
+    rw c.take.ensures.after at c.put.ensures ∙ set_set self.slots b.lane (Free 0 0) _
+    ∙ ap (λ (n : ℕ). set self.slots b.lane (Finished n part rs c.decided-kept.result c.in-Locked.at c.in-Finish.stamp)) num
+    ∙ ap (λ (k : List Bool). set self.slots b.lane (Finished b.number part rs k c.in-Locked.at c.in-Finish.stamp)) kept in
     let gone = rw (c.as_slice.ensures, c.as_slice-ds.ensures) at c.take_committed.ensures in
     let back = rw (c.as_slice-2.ensures, c.as_slice-3.ensures, c.as_slice-ds.ensures) at c.return_others.ensures in
     let made = rw (c.as_slice-4.ensures, c.as_slice-ds.ensures) at c.make_committed.ensures in

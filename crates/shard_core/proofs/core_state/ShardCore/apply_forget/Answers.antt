@@ -16,9 +16,9 @@ invariant_of-self c =
       memory = rw c.put.ensures (memory_slot self.slots self.decisions.items c.in-Forget.batch.lane _ self.memory refl);
       paired = rw c.put.ensures (paired_set self.slots c.in-Forget.batch.lane _ self.paired refl);
       owes =
-        let n = self.owes in
-        let more = owed_free self.slots c.in-Forget.batch.lane (Free c.in-Forget.batch.number c.in-Forget.stamp) lane (λ s h. past_owed s (q.1 s h)) in
-        rw c.put.ensures (omega (arith, n, more));
+          let n = self.owes in
+          let more = owed_free self.slots c.in-Forget.batch.lane (Free c.in-Forget.batch.number c.in-Forget.stamp) lane (λ s h. past_owed s (q.1 s h)) in
+          rw c.put.ensures (omega (arith, n, more));
       room = self.room;
     }
 

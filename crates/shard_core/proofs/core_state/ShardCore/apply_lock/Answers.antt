@@ -37,10 +37,10 @@ invariant_of-self c =
       memory = rw (c.put.ensures, c.swap_memory.ensures.after) (memory_both self.slots self.decisions.items c.in-Lock.batch.lane _ _ self.memory (rw k.0 k.3));
       paired = rw c.put.ensures (paired_set self.slots c.in-Lock.batch.lane _ self.paired (rw (k.0, k.1) (same_count c.in-Lock.entries)));
       owes =
-        let n = self.owes in let m = k.2 in
-        let e = ap hashes_in k.0 in
-        let more = owed_free self.slots c.in-Lock.batch.lane (Taken c.in-Lock.batch.number c.unwrap-ready.result.part c.unwrap-ready.result.replies c.in-Lock.stamp) lane (λ s h. idle_owed s (q.1 s h)) in
-        rw c.put.ensures (omega (arith, n, m, e, more));
+          let n = self.owes in let m = k.2 in
+          let e = ap hashes_in k.0 in
+          let more = owed_free self.slots c.in-Lock.batch.lane (Taken c.in-Lock.batch.number c.unwrap-ready.result.part c.unwrap-ready.result.replies c.in-Lock.stamp) lane (λ s h. idle_owed s (q.1 s h)) in
+          rw c.put.ensures (omega (arith, n, m, e, more));
       room = let a = q.2.unspent in let b = c.lock_held.ensures.spare in let m = k.2 in omega (arith, a, b, m);
     }
 
