@@ -1,9 +1,9 @@
 -- What records make of slots, memory and hashes.
-use Rattle.std.proofs.Common.{◌≡◌, ◌≢◌, ℕ, zero, suc, ◌+◌, ◌<◌, ◌≤◌, Bool, true, false, not, ◌&&◌, ◌||◌, List, [], ◌∷◌, ◌++◌, length, map, set, replicate, vec_capacity, Option, Some, None, option_map, is_some, slice_get, if◌then◌else◌, arith, refl, ap, sym, ◌∙◌, subst}
+use Rattle.std.proofs.Common.{◌≡◌, ◌≢◌, ℕ, zero, suc, ◌+◌, ◌<◌, ◌≤◌, Bool, true, false, not, ◌&&◌, ◌||◌, List, [], ◌∷◌, ◌++◌, length, set, replicate, vec_capacity, Option, Some, None, option_map, is_some, slice_get, if◌then◌else◌, arith, refl, ap, sym, ◌∙◌, subst}
 use Rattle.std.specs.Global.{Vec}
 use Rattle.std.specs.Bool.{OnTrue}
 use Rattle.cbdc_model.specs.Records.{Digest, Batch, Header, Record, Entry, Reply, Answered, Genesis, Lock, Finish, Forget, lock_of, is_held}
-use Rattle.cbdc_model.specs.Status.{Status, status, has, held_inputs, taken_inputs, made_outputs, returned_inputs, finished_status, Unspent, Locked, Absent}
+use Rattle.cbdc_model.specs.Status.{Status, status, has, held_inputs, taken_inputs, made_outputs, returned_inputs, Unspent, Locked, Absent}
 use Rattle.cbdc_model.specs.Replies.{entries, replies}
 use Rattle.hash_slots.specs.declared.slots.Kept.{Kept}
 use Rattle.hash_slots.specs.Entries.{lookup}
@@ -18,7 +18,6 @@ use Rattle.shard_core.specs.declared.plans.StampPlan.{StampPlan}
 use Rattle.shard_core.specs.declared.plans.StampPlan.TheVariants.{Kept as StampKept, Append as StampNext, Refused as StampRefused}
 use Rattle.shard_core.specs.Admitted.{IsFinishable}
 use Rattle.shard_core.specs.Plans.{IsFinishPlan}
-use Rattle.shard_core.specs.Slots.{SlotStands, batch_in}
 use Rattle.shard_core.proofs.Lanes.{get_set_same, get_set_other, LanesStand}
 
 append_length : {X : Type 0} (xs ys : List X) → length (xs ++ ys) ≡ length xs + length ys

@@ -1,8 +1,8 @@
 -- What one entry more moves.
-use Rattle.std.proofs.Common.{◌≡◌, ℕ, zero, suc, ◌+◌, ◌<◌, ◌≤◌, Bool, true, false, not, ◌&&◌, ◌||◌, List, [], ◌∷◌, ◌++◌, length, drop, get_or, Option, Some, None, if◌then◌else◌, arith, refl, ap, sym, ◌∙◌, drop-cons}
-use Rattle.cbdc_model.specs.Records.{Digest, same_digest, Batch, Entry, Reply, Answered, is_held}
+use Rattle.std.proofs.Common.{◌≡◌, ℕ, zero, suc, ◌+◌, ◌<◌, ◌≤◌, Bool, true, false, not, ◌&&◌, ◌||◌, List, [], ◌∷◌, ◌++◌, length, drop, get_or, if◌then◌else◌, arith, refl, ap, sym, ◌∙◌, drop-cons}
+use Rattle.cbdc_model.specs.Records.{Digest, Entry, Reply, Answered, is_held}
 use Rattle.cbdc_model.specs.Status.{has, held_inputs}
-use Rattle.shard_core.specs.Moves.{inputs_where, outputs_where, returned_where, inputs_in, outputs_in, hashes_in}
+use Rattle.shard_core.specs.Moves.{inputs_where, outputs_where, returned_where, inputs_in, outputs_in}
 use Rattle.shard_core.proofs.Claims.{has_append}
 
 pub or_step : (f g x c n : Bool) → f ≡ (x || g) → n ≡ (x || c) → (g || n) ≡ (f || c)

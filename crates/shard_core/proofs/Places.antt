@@ -1,7 +1,7 @@
 -- What a search for the first place finds.
-use Rattle.std.proofs.Common.{◌≡◌, ◌≢◌, ℕ, zero, suc, ◌<◌, ◌≤◌, ◌+◌, Bool, true, false, List, [], ◌∷◌, length, get_or, Option, Some, None, option_map, min, arith, refl, ap}
+use Rattle.std.proofs.Common.{◌≡◌, ◌≢◌, ℕ, zero, suc, ◌<◌, Bool, true, false, List, [], ◌∷◌, length, get_or, Option, Some, None, option_map, min, arith, refl, ap}
 use Rattle.std.proofs.lemmas.Grind.{common_steps}
-use Rattle.cbdc_model.specs.Records.{Answered, Reply, Entry}
+use Rattle.cbdc_model.specs.Records.{Answered, Reply}
 use Rattle.cbdc_model.specs.Replies.{replies}
 use mathlib.Core.Bool.{not, beq}
 use Rattle.cbdc_model.specs.Next.{difference, misfit, same_decision}

@@ -1,6 +1,6 @@
 -- The condition of taking a record in.
 use Rattle.std.specs.Prelude.{◌≡◌, ℕ, ◌*◌, ◌<◌, ◌≤◌, ◌^◌, Bool, List, length, Some, slice_get}
-use Rattle.cbdc_model.specs.Records.{Batch, Entry, Reply, Record, Genesis, Lock, Finish, Forget, Start, Prepare, Commit, Discard, Done}
+use Rattle.cbdc_model.specs.Records.{Batch, Entry, Reply, Record, Lock, Finish, Forget}
 use Rattle.cbdc_model.specs.Replies.{entries, replies}
 use Rattle.dtx_replies.specs.declared.slots.Slot.TheVariants.{Locked as Taken}
 use Rattle.shard_core.specs.declared.core_state.ShardCore.{ShardCore}

@@ -1,6 +1,6 @@
 -- Which hashes a record moves, by the entries of its batch.
-use Rattle.std.specs.Prelude.{ℕ, ◌+◌, Bool, List, [], ◌∷◌, ◌++◌, length, if◌then◌else◌, Option, Some, None}
-use Rattle.cbdc_model.specs.Records.{Digest, Batch, Entry, Reply, is_held}
+use Rattle.std.specs.Prelude.{ℕ, ◌+◌, Bool, List, [], ◌∷◌, ◌++◌, length, if◌then◌else◌}
+use Rattle.cbdc_model.specs.Records.{Digest, Entry, Reply, is_held}
 use Rattle.dtx_replies.specs.declared.slots.Slot.{Slot as LaneSlot}
 use Rattle.dtx_replies.specs.declared.slots.Slot.TheVariants.{Idle as Free, Locked as Taken, Finished}
 

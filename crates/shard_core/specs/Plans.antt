@@ -1,5 +1,5 @@
 -- What the plans of the calls say.
-use Rattle.std.specs.Prelude.{◌≡◌, ℕ, Bool, List}
+use Rattle.std.specs.Prelude.{ℕ, Bool, List}
 use Rattle.cbdc_model.specs.Records.{Batch}
 use Rattle.cbdc_model.specs.Next.{Plan, RepliesAt, Kept, Append, Refuse}
 use Rattle.shard_core.specs.declared.core_state.ShardCore.{ShardCore}

@@ -1,4 +1,4 @@
-use Rattle.std.proofs.Common.{◌≡◌, ℕ, ◌+◌, ◌-◌, ◌^◌, ◌≤◌, min, List, [], drop, length, arith, ap, sym, ◌∙◌}
+use Rattle.std.proofs.Common.{◌≡◌, List, drop, arith, ap}
 use Rattle.cbdc_model.specs.Records.{Entry}
 use Rattle.shard_core.specs.Moves.{hashes_in}
 use Rattle.shard_core.proofs.Moves.{drop_end}

@@ -1,4 +1,4 @@
-use Rattle.std.proofs.Common.{◌≡◌, Bool, None, if◌then◌else◌, ap, ◌∙◌}
+use Rattle.std.proofs.Common.{Bool, None, if◌then◌else◌, ap, ◌∙◌}
 use Rattle.hash_slots.specs.Entries.{lookup}
 use Rattle.hash_slots.proofs.Gathers.{same_self}
 use Rattle.shard_core.proofs.applying.lock_all.Goals as goal

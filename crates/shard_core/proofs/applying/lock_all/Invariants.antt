@@ -1,9 +1,7 @@
-use Rattle.std.proofs.Common.{◌≡◌, ℕ, ◌+◌, ◌-◌, ◌^◌, ◌≤◌, min, not, ◌&&◌, ◌||◌, Some, None, if◌then◌else◌, length, drop, take}
+use Rattle.std.proofs.Common.{◌≡◌, ◌+◌, ◌≤◌, not, ◌&&◌, Some, if◌then◌else◌, drop}
 use Rattle.cbdc_model.specs.Records.{Digest}
-use Rattle.cbdc_model.specs.Status.{has, held_inputs}
-use Rattle.hash_slots.specs.Entries.{lookup}
+use Rattle.cbdc_model.specs.Status.{has}
 use Rattle.shard_core.specs.Agrees.{holder_in}
-use Rattle.shard_core.specs.Moves.{inputs_where, outputs_where, returned_where, inputs_in, outputs_in, hashes_in}
 use Rattle.shard_core.proofs.applying.lock_all.Given as goal
 
 abbrev pub invariant-loop-x : goal.invariant-loop-x

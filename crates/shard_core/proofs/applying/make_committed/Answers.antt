@@ -1,10 +1,8 @@
-use Rattle.std.proofs.Common.{◌≡◌, ℕ, suc, Some, None, if◌then◌else◌, ◌+◌, ◌<◌, ◌≤◌, Bool, true, false, not, ◌&&◌, ◌||◌, List, ◌∷◌, length, drop, get_or, arith, sym, ap, ◌∙◌, add-one}
-use Rattle.cbdc_model.specs.Records.{Digest, Entry, Answered, is_held}
-use Rattle.cbdc_model.specs.Status.{has, held_inputs}
+use Rattle.std.proofs.Common.{◌≡◌, None, if◌then◌else◌, ◌<◌, Bool, true, false, ◌||◌, length, arith, sym, ap, ◌∙◌, add-one}
+use Rattle.cbdc_model.specs.Records.{Digest}
+use Rattle.cbdc_model.specs.Status.{has}
 use Rattle.hash_slots.specs.Entries.{lookup}
-use Rattle.shard_core.specs.Agrees.{holder_in}
-use Rattle.shard_core.specs.Moves.{inputs_where, outputs_where, returned_where, inputs_in, outputs_in}
-use Rattle.shard_core.proofs.Moves.{cut, cut_bool, or_step, not_step, if_step, outputs_more, outputs_same, inputs_more, inputs_same, returned_more, returned_same, held_more, held_same, held_count, held_count_same, inputs_in_more, outputs_in_more}
+use Rattle.shard_core.proofs.Moves.{cut, cut_bool, or_step, if_step, outputs_more, outputs_same, outputs_in_more}
 use Rattle.shard_core.proofs.applying.make_committed.Goals as goal
 use Rattle.shard_core.proofs.applying.make_committed.Goals.{then-decisions-at, else-decisions-at}
 

@@ -1,5 +1,5 @@
-use Rattle.std.proofs.Common.{◌≡◌, ℕ, ◌+◌, ◌≤◌, ◌||◌, Bool, length, take, arith, sym, ap, ◌∙◌, add-one}
-use Rattle.cbdc_model.specs.Records.{Digest, same_digest}
+use Rattle.std.proofs.Common.{◌||◌, Bool, take, arith, sym, ap, ◌∙◌, add-one}
+use Rattle.cbdc_model.specs.Records.{same_digest}
 use Rattle.cbdc_model.specs.Status.{has}
 use Rattle.shard_core.proofs.Claims.{has_take, or_swap, spare_less}
 use Rattle.shard_core.proofs.replying.claim.Goals as goal

@@ -1,7 +1,7 @@
-use Rattle.std.proofs.Common.{◌≡◌, ℕ, Bool, true, false, ◌||◌, ◌+◌, ◌++◌, ◌∷◌, [], List, drop, if◌then◌else◌, refl, sym, ap, ◌∙◌, add-one}
-use Rattle.cbdc_model.specs.Records.{Digest, Record, is_held}
+use Rattle.std.proofs.Common.{◌≡◌, ℕ, true, false, ◌||◌, ◌+◌, ◌++◌, [], List, if◌then◌else◌, sym, ap, ◌∙◌, add-one}
+use Rattle.cbdc_model.specs.Records.{Digest, is_held}
 use Rattle.cbdc_model.specs.Status.{has}
-use Rattle.cbdc_model.specs.Replies.{reply_to, answered, replies}
+use Rattle.cbdc_model.specs.Replies.{reply_to}
 use Rattle.hash_slots.proofs.Prefixes.{one_more}
 use Rattle.shard_core.proofs.Claims.{one_reply, claims_more}
 use Rattle.shard_core.proofs.replying.replies_to.Goals as goal

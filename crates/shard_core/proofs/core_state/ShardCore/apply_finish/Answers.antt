@@ -1,11 +1,8 @@
-use Rattle.std.proofs.Common.{◌≡◌, ℕ, ◌+◌, ◌<◌, ◌≤◌, Bool, List, length, Some, slice_get, vec_capacity, set, arith, refl, sym, ap, ◌∙◌}
-use Rattle.cbdc_model.specs.Records.{Entry, Reply, Batch}
-use Rattle.cbdc_model.specs.Replies.{entries, replies}
+use Rattle.std.proofs.Common.{◌≡◌, ℕ, Bool, List, length, Some, slice_get, set, arith, refl, sym, ap, ◌∙◌}
 use Rattle.dtx_replies.specs.declared.slots.Slot.TheVariants.{Idle as Free, Locked as Taken, Finished}
-use Rattle.shard_core.specs.Moves.{hashes_in, inputs_in, outputs_in, owed_in}
 use Rattle.shard_core.specs.Slots.{SlotStands}
 use Rattle.shard_core.proofs.Lanes.{finish_stands}
-use Rattle.shard_core.proofs.Applies.{set_set, set_length, known, taken_part, taken_replies, taken_number, parts_few, owed_at, owed_set, memory_both, paired_set, agrees_finish}
+use Rattle.shard_core.proofs.Applies.{set_set, set_length, known, taken_part, taken_number, parts_few, owed_at, owed_set, memory_both, paired_set, agrees_finish}
 use Rattle.shard_core.proofs.core_state.ShardCore.apply_finish.Goals as goal
 
 pub return_others-requires-clause-room : goal.return_others-requires-clause-room

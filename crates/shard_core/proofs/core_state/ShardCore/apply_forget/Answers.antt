@@ -1,4 +1,4 @@
-use Rattle.std.proofs.Common.{◌≡◌, ℕ, ◌+◌, ◌<◌, ◌≤◌, List, length, arith, refl, sym, ◌∙◌}
+use Rattle.std.proofs.Common.{◌<◌, length, arith, refl, ◌∙◌}
 use Rattle.dtx_replies.specs.declared.slots.Slot.TheVariants.{Idle as Free}
 use Rattle.shard_core.proofs.Lanes.{forget_stands}
 use Rattle.shard_core.proofs.Applies.{set_length, past_owed, owed_free, memory_slot, paired_set, agrees_forget}

@@ -1,9 +1,5 @@
-use Rattle.std.proofs.Common.{◌≡◌, ℕ, ◌+◌, ◌<◌, ◌≤◌, List, length, vec_capacity, Some, set, arith, refl, ap, sym, ◌∙◌}
-use Rattle.cbdc_model.specs.Records.{Record, Answered}
-use Rattle.cbdc_model.specs.Status.{held_inputs}
-use Rattle.cbdc_model.specs.Replies.{entries, replies}
-use Rattle.shard_core.specs.Moves.{hashes_in, owed_in}
-use Rattle.shard_core.specs.Stands.{IsReadyIn}
+use Rattle.std.proofs.Common.{◌<◌, length, arith, refl, ap, sym, ◌∙◌}
+use Rattle.shard_core.specs.Moves.{hashes_in}
 use Rattle.dtx_replies.specs.declared.slots.Slot.TheVariants.{Locked as Taken}
 use Rattle.shard_core.proofs.Lanes.{lock_stands}
 use Rattle.shard_core.proofs.Applies.{set_length, held_few, idle_owed, owed_free, memory_both, paired_set, same_count, agrees_lock}

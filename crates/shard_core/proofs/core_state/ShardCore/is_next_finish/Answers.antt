@@ -1,4 +1,4 @@
-use Rattle.std.proofs.Common.{◌≡◌, ℕ, None, length, arith, refl, sym, ap, ◌∙◌}
+use Rattle.std.proofs.Common.{◌∙◌}
 use Rattle.shard_core.proofs.Applies.{finish_slot, on_none}
 use Rattle.shard_core.proofs.Places.{fits_length}
 use Rattle.shard_core.proofs.core_state.ShardCore.is_next_finish.Goals as goal

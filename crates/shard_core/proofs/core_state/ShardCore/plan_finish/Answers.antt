@@ -1,4 +1,3 @@
-use Rattle.std.proofs.Common.{◌≡◌, ℕ, length, arith, refl, sym, ap, ◌∙◌}
 use Rattle.shard_core.proofs.Applies.{finish_ready}
 use Rattle.shard_core.proofs.core_state.ShardCore.plan_finish.Goals as goal
 

@@ -1,4 +1,3 @@
-use Rattle.std.proofs.Common.{◌≡◌, ℕ, length, arith, refl, sym, ap, ◌∙◌}
 use Rattle.shard_core.proofs.Applies.{known}
 use Rattle.shard_core.proofs.core_state.ShardCore.plan_lock.Goals as goal
 
