@@ -1,14 +1,9 @@
 -- What locks are seen as.
 use Rattle.std.specs.Prelude.{ℕ, List}
 use Rattle.cbdc_types.specs.declared.ids.BatchId.{BatchId}
+use Rattle.hash_slots.specs.declared.slots.Kept.{Kept}
 
--- a locked hash, the batch that holds it, and the place of its entry
-pub record Lock : Type 0 where
-  pub hash : List ℕ
-  pub batch : BatchId
-  pub place : ℕ
-
--- the locked hashes, and how many more there is room for
+-- the locked hashes, each with the batch that holds it and the place of its entry, and how many more there is room for
 pub record LocksOf : Type 0 where
-  pub held : List Lock
+  pub held : List (Kept (BatchId × ℕ))
   pub spare : ℕ

@@ -1,0 +1,4 @@
+pub mod Gathers
+pub mod Places
+pub mod Digests
+pub mod Prefixes
