@@ -2,14 +2,28 @@
 //! word, and which compute them on small inputs. Journals and histories are lists whose newest record comes first.
 #![tactic(auto)]
 
+mod comparing;
+mod copying;
+mod nexts;
+mod outcomes;
+mod plans;
 mod records;
+mod replying;
 mod slots;
 mod status;
 
+pub use comparing::{are_same_hashes, is_same_entry, misfit, other_decisions, other_part};
+pub use copying::{copy_of_compact, copy_of_entry, copy_of_hashes, entries_in, replies_in};
+pub use nexts::{
+    finished_decisions, is_idle, next_finish, next_forget, next_lock, next_stamp, stamp_of_kind,
+};
+pub use outcomes::{decisions_of, journal_at, outcome_of, outcomes_by_locks, reply_at, won_at};
+pub use plans::{LockPlan, StampPlan};
 pub use records::{
     has, is_held, is_in_lane, is_of, is_same_batch, is_same_hash, is_won, kind_of, last_stamp,
     lock_of, outcomes_of, record_of, stamp_of, txs_of,
 };
+pub use replying::{refusal, replies_of, reply_to};
 pub use slots::{Phase, Slot, slot_of, slot_stamp};
 pub use status::{
     finished_status, is_held_input, is_made_output, is_returned_input, is_taken_input, status_of,
