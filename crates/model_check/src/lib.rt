@@ -6,6 +6,7 @@ mod comparing;
 mod copying;
 mod nexts;
 mod outcomes;
+mod parts;
 mod plans;
 mod records;
 mod replying;
@@ -18,6 +19,7 @@ pub use nexts::{
     finished_decisions, is_idle, next_finish, next_forget, next_lock, next_stamp, stamp_of_kind,
 };
 pub use outcomes::{decisions_of, journal_at, outcome_of, outcomes_by_locks, reply_at, won_at};
+pub use parts::{are_elsewhere, entry_at, hashes_on, home_of, is_concerned, part_of};
 pub use plans::{LockPlan, StampPlan};
 pub use records::{
     has, is_held, is_in_lane, is_of, is_same_batch, is_same_hash, is_won, kind_of, last_stamp,
