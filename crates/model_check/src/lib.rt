@@ -2,6 +2,7 @@
 //! word, and which compute them on small inputs. Journals and histories are lists whose newest record comes first.
 #![tactic(auto)]
 
+mod causes;
 mod comparing;
 mod copying;
 mod nexts;
@@ -10,9 +11,11 @@ mod parts;
 mod plans;
 mod records;
 mod replying;
+mod same;
 mod slots;
 mod status;
 
+pub use causes::{all_have, home_journal, is_stamped, last_of};
 pub use comparing::{are_same_hashes, is_same_entry, misfit, other_decisions, other_part};
 pub use copying::{copy_of_compact, copy_of_entry, copy_of_hashes, entries_in, replies_in};
 pub use nexts::{
@@ -26,6 +29,10 @@ pub use records::{
     lock_of, outcomes_of, record_of, stamp_of, txs_of,
 };
 pub use replying::{refusal, replies_of, reply_to};
+pub use same::{
+    are_answered, are_decisions, are_hashes, are_outcomes, is_batch, is_entry, is_hash, is_outcome, is_part,
+    is_reply,
+};
 pub use slots::{Phase, Slot, slot_of, slot_stamp};
 pub use status::{
     finished_status, is_held_input, is_made_output, is_returned_input, is_taken_input, status_of,
