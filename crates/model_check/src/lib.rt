@@ -2,9 +2,12 @@
 //! word, and which compute them on small inputs. Journals and histories are lists whose newest record comes first.
 #![tactic(auto)]
 
+mod caused;
 mod causes;
 mod comparing;
 mod copying;
+mod following;
+mod grammar;
 mod nexts;
 mod outcomes;
 mod parts;
@@ -15,9 +18,15 @@ mod same;
 mod slots;
 mod status;
 
+pub use caused::is_caused;
 pub use causes::{all_have, home_journal, is_stamped, last_of};
 pub use comparing::{are_same_hashes, is_same_entry, misfit, other_decisions, other_part};
 pub use copying::{copy_of_compact, copy_of_entry, copy_of_hashes, entries_in, replies_in};
+pub use following::fits_replies;
+pub use grammar::{
+    are_here, is_batch_of, is_compact, is_early, is_entry_of, is_hash_list, is_in_grammar, is_later, is_outcome_of,
+    is_reply_of, is_shard, rises_from,
+};
 pub use nexts::{
     finished_decisions, is_idle, next_finish, next_forget, next_lock, next_stamp, stamp_of_kind,
 };

@@ -4,7 +4,7 @@ ghost use Rattle.cbdc_model.specs.Replies.{entries};
 
 use crate::comparing::{are_same_hashes, is_same_entry};
 use crate::records::{is_same_batch, is_same_hash};
-use cbdc_types::{Answered, BatchId, Entry, Hash, Outcome, Reply};
+use cbdc_types::{Answered, BatchId, Entry, Hash, Header, Outcome, Reply, Shape};
 
 /// Whether two hashes are the same.
 #[tactic(auto, using(crate::proofs::Alikeness::same_digest_is, crate::proofs::Alikeness::same_digest_self))]
@@ -110,4 +110,21 @@ pub fn are_answered(xs: &[Answered], ys: &[Answered]) -> bool
         }
         _ => false,
     }
+}
+
+// Whether two shapes are the same.
+fn is_shape(a: &Shape, b: &Shape) -> bool
+    ensures { IsTrue result ↔ (a.now ≡ b.now) }
+{
+    a.shards() == b.shards()
+        && a.coordinators() == b.coordinators()
+        && a.lanes() == b.lanes()
+        && a.batch() == b.batch()
+}
+
+/// Whether two headers are the same.
+pub fn is_header(g: &Header, h: &Header) -> bool
+    ensures { IsTrue result ↔ (g.now ≡ h.now) }
+{
+    g.node.0 == h.node.0 && is_shape(&g.shape, &h.shape) && is_hash(&g.genesis, &h.genesis)
 }
