@@ -2,7 +2,7 @@
 ghost use Rattle.std.specs.Prelude.{◌≡◌, IfOk};
 ghost use Rattle.cbdc_model.specs.Replies.{entries, replies};
 
-use cbdc_types::{Answered, CompactTx, Entry, FullTx, Hash, List, Reply};
+use cbdc_types::{Answered, CompactTx, Entry, Hash, List, Outcome, Record, Reply};
 use std::alloc::{AllocError, Global};
 
 /// A copy of a list of hashes.
@@ -55,4 +55,100 @@ pub fn entries_in(alloc: Global, es: &[Answered]) -> Result<List<Entry>, AllocEr
         all.push(copy_of_entry(alloc, &a.entry)?)?;
     }
     Ok(List::from_vec(all))
+}
+
+// A copy of answered entries.
+fn copy_of_answered(alloc: Global, es: &[Answered]) -> Result<List<Answered>, AllocError>
+    ensures { IfOk result (λ l. l ≡ es.now) }
+{
+    let mut all = Vec::with_capacity(alloc, es.len())?;
+    for a in es {
+        all.push(Answered {
+            entry: copy_of_entry(alloc, &a.entry)?,
+            reply: a.reply,
+        })?;
+    }
+    Ok(List::from_vec(all))
+}
+
+/// A copy of compact transactions.
+pub fn copy_of_txs(alloc: Global, txs: &[CompactTx]) -> Result<List<CompactTx>, AllocError>
+    ensures { IfOk result (λ l. l ≡ txs.now) }
+{
+    let mut all = Vec::with_capacity(alloc, txs.len())?;
+    for t in txs {
+        all.push(copy_of_compact(alloc, t)?)?;
+    }
+    Ok(List::from_vec(all))
+}
+
+// A copy of outcomes.
+fn copy_of_outcomes(alloc: Global, outcomes: &[Outcome]) -> Result<List<Outcome>, AllocError>
+    ensures { IfOk result (λ l. l ≡ outcomes.now) }
+{
+    Ok(List::from_vec(Vec::from_slice(alloc, outcomes)?))
+}
+
+// A copy of decisions.
+fn copy_of_decisions(alloc: Global, decisions: &[bool]) -> Result<List<bool>, AllocError>
+    ensures { IfOk result (λ l. l ≡ decisions.now) }
+{
+    Ok(List::from_vec(Vec::from_slice(alloc, decisions)?))
+}
+
+/// A copy of a record.
+pub fn copy_of_record(alloc: Global, r: &Record) -> Result<Record, AllocError>
+    ensures { IfOk result (λ t. t ≡ r.now) }
+{
+    match r {
+        Record::Genesis { header, hashes } => Ok(Record::Genesis {
+            header: *header,
+            hashes: copy_of_hashes(alloc, hashes.as_slice())?,
+        }),
+        Record::Lock {
+            stamp,
+            batch,
+            entries,
+        } => Ok(Record::Lock {
+            stamp: *stamp,
+            batch: *batch,
+            entries: copy_of_answered(alloc, entries.as_slice())?,
+        }),
+        Record::Finish {
+            stamp,
+            batch,
+            decisions,
+        } => Ok(Record::Finish {
+            stamp: *stamp,
+            batch: *batch,
+            decisions: copy_of_decisions(alloc, decisions.as_slice())?,
+        }),
+        Record::Forget { stamp, batch } => Ok(Record::Forget {
+            stamp: *stamp,
+            batch: *batch,
+        }),
+        Record::Start { header } => Ok(Record::Start { header: *header }),
+        Record::Prepare { stamp, batch, txs } => Ok(Record::Prepare {
+            stamp: *stamp,
+            batch: *batch,
+            txs: copy_of_txs(alloc, txs.as_slice())?,
+        }),
+        Record::Commit {
+            stamp,
+            batch,
+            outcomes,
+        } => Ok(Record::Commit {
+            stamp: *stamp,
+            batch: *batch,
+            outcomes: copy_of_outcomes(alloc, outcomes.as_slice())?,
+        }),
+        Record::Discard { stamp, batch } => Ok(Record::Discard {
+            stamp: *stamp,
+            batch: *batch,
+        }),
+        Record::Done { stamp, batch } => Ok(Record::Done {
+            stamp: *stamp,
+            batch: *batch,
+        }),
+    }
 }

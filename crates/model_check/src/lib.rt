@@ -8,6 +8,7 @@ mod comparing;
 mod copying;
 mod following;
 mod grammar;
+mod history;
 mod nexts;
 mod outcomes;
 mod parts;
@@ -21,12 +22,15 @@ mod status;
 pub use caused::is_caused;
 pub use causes::{all_have, home_journal, is_stamped, last_of};
 pub use comparing::{are_same_hashes, is_same_entry, misfit, other_decisions, other_part};
-pub use copying::{copy_of_compact, copy_of_entry, copy_of_hashes, entries_in, replies_in};
-pub use following::fits_replies;
+pub use copying::{
+    copy_of_compact, copy_of_entry, copy_of_hashes, copy_of_record, copy_of_txs, entries_in, replies_in,
+};
+pub use following::{fits_replies, follows, is_after};
 pub use grammar::{
     are_here, is_batch_of, is_compact, is_early, is_entry_of, is_hash_list, is_in_grammar, is_later, is_outcome_of,
     is_reply_of, is_shard, rises_from,
 };
+pub use history::{Row, goes_above, is_ordered, journal_of};
 pub use nexts::{
     finished_decisions, is_idle, next_finish, next_forget, next_lock, next_stamp, stamp_of_kind,
 };
