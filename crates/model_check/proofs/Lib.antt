@@ -1,3 +1,4 @@
 pub mod Digests
 pub mod Alikeness
 pub mod Alls
+pub mod Keys

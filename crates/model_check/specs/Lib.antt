@@ -1,3 +1,4 @@
 pub mod Slots
 pub mod Journals
 pub mod Plans
+pub mod Coins

@@ -2,6 +2,7 @@
 //! word, and which compute them on small inputs. Journals and histories are lists whose newest record comes first.
 #![tactic(auto)]
 
+mod books;
 mod caused;
 mod causes;
 mod comparing;
@@ -19,6 +20,7 @@ mod same;
 mod slots;
 mod status;
 
+pub use books::{is_same_output, is_same_point, output_at};
 pub use caused::is_caused;
 pub use causes::{all_have, home_journal, is_stamped, last_of};
 pub use comparing::{are_same_hashes, is_same_entry, misfit, other_decisions, other_part};
