@@ -1,6 +1,6 @@
 // Whether a record is caused by what stands in journals.
-ghost use Rattle.std.specs.Prelude.{◌≡◌, ◌<◌, ◌^◌, ◌↔◌, ℕ, length, IsTrue, IfOk};
-ghost use Rattle.cbdc_model.specs.Records.{Batch, txs_of, Lock, Finish, Commit};
+ghost use Rattle.std.specs.Prelude.{◌≡◌, ◌↔◌, ℕ, IsTrue, IfOk};
+ghost use Rattle.cbdc_model.specs.Records.{txs_of, Lock, Finish, Commit};
 ghost use Rattle.cbdc_model.specs.Replies.{entries};
 ghost use Rattle.cbdc_model.specs.Ranges.{home_of, shard_node, part};
 ghost use Rattle.cbdc_model.specs.Records.{entries_in};
@@ -11,51 +11,39 @@ ghost use Rattle.model_check.specs.Journals.{journals_in};
 use crate::causes::{all_have, home_journal, is_stamped, last_of};
 use crate::copying::entries_in;
 use crate::outcomes::{decisions_of, journal_at, outcomes_by_locks};
-use crate::parts::part_of;
+use crate::parts::is_part_from;
 use crate::records::{lock_of, outcomes_of, record_of, stamp_of, txs_of};
-use crate::same::{are_decisions, are_outcomes, is_part};
+use crate::same::{are_decisions, are_outcomes};
 use cbdc_types::{Answered, BatchId, CompactTx, List, NodeId, Outcome, Record, Shape, Stamp};
 use std::alloc::{AllocError, Global};
 
 // Whether the entries are the transactions' part at this node, where it is a shard.
-fn is_part_at(
-    alloc: Global,
-    shape: &Shape,
-    node: NodeId,
-    es: &[Answered],
-    txs: &[CompactTx],
-) -> Result<bool, AllocError>
-    requires { length txs.now < 2 ^ 32 }
-    ensures { IfOk result (λ yes. IsTrue yes ↔ ((s : ℕ) → node ≡ shard_node shape.now s → entries es.now ≡ part shape.now.shards s 0 txs.now)) }
+fn is_part_at(shape: &Shape, node: NodeId, es: &[Answered], txs: &[CompactTx]) -> bool
+    ensures { IsTrue result ↔ ((s : ℕ) → node ≡ shard_node shape.now s → entries es.now ≡ part shape.now.shards s 0 txs.now) }
 {
     if node.0 < shape.coordinators() {
-        return Ok(true);
+        return true;
     }
-    let own = part_of(alloc, shape.shards(), node.0 - shape.coordinators(), txs)?;
-    Ok(is_part(es, own.as_slice()))
+    is_part_from(shape.shards(), node.0 - shape.coordinators(), 0, txs, es)
 }
 
 // Whether a Lock is caused.
 fn is_lock_caused(
-    alloc: Global,
     journals: &[List<Record>],
     shape: &Shape,
     node: NodeId,
     stamp: Stamp,
     batch: &BatchId,
     es: &[Answered],
-) -> Result<bool, AllocError>
-    requires { length (txs_of (journals_in journals.now (home_of shape.now batch.now.lane)) batch.now) < 2 ^ 32 }
-    ensures { IfOk result (λ yes. IsTrue yes ↔ IsCaused shape.now (journals_in journals.now) node (Lock stamp batch.now es.now)) }
+) -> bool
+    ensures { IsTrue result ↔ IsCaused shape.now (journals_in journals.now) node (Lock stamp batch.now es.now) }
 {
     let home = home_journal(journals, shape, batch);
     let Some(cause) = record_of(6, home, batch) else {
-        return Ok(false);
+        return false;
     };
-    if !is_stamped(stamp, journal_at(journals, node.0), stamp_of(cause)) {
-        return Ok(false);
-    }
-    is_part_at(alloc, shape, node, es, txs_of(home, batch))
+    is_stamped(stamp, journal_at(journals, node.0), stamp_of(cause))
+        && is_part_at(shape, node, es, txs_of(home, batch))
 }
 
 // Whether outcomes are those by the Locks of the batch.
@@ -66,7 +54,6 @@ fn are_by_locks(
     batch: &BatchId,
     given: &[Outcome],
 ) -> Result<bool, AllocError>
-    requires { length (txs_of (journals_in journals.now (home_of shape.now batch.now.lane)) batch.now) < 2 ^ 32 }
     ensures { IfOk result (λ yes. IsTrue yes ↔ (given.now ≡ outcomes (λ s. entries_in (at_shards shape.now (journals_in journals.now) 2 batch.now s)) shape.now.shards 0
         (txs_of (journals_in journals.now (home_of shape.now batch.now.lane)) batch.now))) }
 {
@@ -85,7 +72,6 @@ fn is_commit_caused(
     batch: &BatchId,
     outcomes: &[Outcome],
 ) -> Result<bool, AllocError>
-    requires { length (txs_of (journals_in journals.now (home_of shape.now batch.now.lane)) batch.now) < 2 ^ 32 }
     ensures { IfOk result (λ yes. IsTrue yes ↔ IsCaused shape.now (journals_in journals.now) node (Commit stamp batch.now outcomes.now)) }
 {
     if !all_have(journals, shape, 2, batch) {
@@ -132,7 +118,6 @@ pub fn is_caused(
     node: NodeId,
     r: &Record,
 ) -> Result<bool, AllocError>
-    requires { (b : Batch) → length (txs_of (journals_in journals.now (home_of shape.now b.lane)) b) < 2 ^ 32 }
     ensures { IfOk result (λ yes. IsTrue yes ↔ IsCaused shape.now (journals_in journals.now) node r.now) }
 {
     let own = journal_at(journals, node.0);
@@ -144,7 +129,7 @@ pub fn is_caused(
             stamp,
             batch,
             entries,
-        } => is_lock_caused(alloc, journals, shape, node, *stamp, batch, entries.as_slice()),
+        } => Ok(is_lock_caused(journals, shape, node, *stamp, batch, entries.as_slice())),
         Record::Commit {
             stamp,
             batch,

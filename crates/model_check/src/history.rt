@@ -1,11 +1,12 @@
 // Histories: the records of all nodes in one order.
 ghost use Rattle.std.specs.Prelude.{◌≡◌, ◌↔◌, ◌++◌, IsTrue, IfOk, OnOk};
 ghost use Rattle.cbdc_model.specs.Records.{journal};
-ghost use Rattle.cbdc_model.specs.History.{goes_above, IsOrdered};
+ghost use Rattle.cbdc_model.specs.Outcomes.{won_txs};
+ghost use Rattle.cbdc_model.specs.History.{goes_above, IsOrdered, committed};
 
-use crate::copying::copy_of_record;
-use crate::records::stamp_of;
-use cbdc_types::{List, NodeId, Record};
+use crate::copying::{copy_of_compact, copy_of_record};
+use crate::records::{is_won, stamp_of, txs_of};
+use cbdc_types::{CompactTx, List, NodeId, Outcome, Record};
 use std::alloc::{AllocError, Global};
 use std::marker::Model;
 
@@ -70,5 +71,54 @@ pub fn journal_of(alloc: Global, node: NodeId, rows: &[Row]) -> Result<List<Reco
 {
     let mut out = Vec::new(alloc);
     add_journal(alloc, node, rows, &mut out)?;
+    Ok(List::from_vec(out))
+}
+
+// Puts those of the transactions that are committed behind those so far.
+fn add_won(
+    alloc: Global,
+    txs: &[CompactTx],
+    outcomes: &[Outcome],
+    out: &mut Vec<CompactTx>,
+) -> Result<(), AllocError>
+    ensures { OnOk result (out.new.items ≡ out.old.items ++ won_txs txs.now outcomes.now) }
+{
+    let (Some((t, others)), Some((o, rest))) = (txs.split_first(), outcomes.split_first()) else {
+        return Ok(());
+    };
+    if is_won(o) {
+        out.push(copy_of_compact(alloc, t)?)?;
+    }
+    add_won(alloc, others, rest, out)
+}
+
+// Puts the committed transactions of a history behind those so far.
+fn add_committed(
+    alloc: Global,
+    rows: &[Row],
+    out: &mut Vec<CompactTx>,
+) -> Result<(), AllocError>
+    ensures { OnOk result (out.new.items ≡ out.old.items ++ committed rows.now) }
+{
+    let Some((row, past)) = rows.split_first() else {
+        return Ok(());
+    };
+    add_committed(alloc, past, out)?;
+    let Record::Commit {
+        batch, outcomes, ..
+    } = &row.what
+    else {
+        return Ok(());
+    };
+    let own = journal_of(alloc, row.node, past)?;
+    add_won(alloc, txs_of(own.as_slice(), batch), outcomes.as_slice(), out)
+}
+
+/// The committed compact transactions of a history, in the order of their Commits, the oldest first.
+pub fn committed_compact(alloc: Global, rows: &[Row]) -> Result<List<CompactTx>, AllocError>
+    ensures { IfOk result (λ l. l ≡ committed rows.now) }
+{
+    let mut out = Vec::new(alloc);
+    add_committed(alloc, rows, &mut out)?;
     Ok(List::from_vec(out))
 }

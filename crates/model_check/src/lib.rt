@@ -20,7 +20,10 @@ mod same;
 mod slots;
 mod status;
 
-pub use books::{is_same_output, is_same_point, output_at};
+pub use books::{
+    coins_of, fold_of, genesis_book, genesis_id, genesis_tx, is_same_output, is_same_point, output_at, put_all,
+    spend, take_all, take_out, value_of,
+};
 pub use caused::is_caused;
 pub use causes::{all_have, home_journal, is_stamped, last_of};
 pub use comparing::{are_same_hashes, is_same_entry, misfit, other_decisions, other_part};
@@ -32,12 +35,14 @@ pub use grammar::{
     are_here, is_batch_of, is_compact, is_early, is_entry_of, is_hash_list, is_in_grammar, is_later, is_outcome_of,
     is_reply_of, is_shard, rises_from,
 };
-pub use history::{Row, goes_above, is_ordered, journal_of};
+pub use history::{Row, committed_compact, goes_above, is_ordered, journal_of};
 pub use nexts::{
     finished_decisions, is_idle, next_finish, next_forget, next_lock, next_stamp, stamp_of_kind,
 };
 pub use outcomes::{decisions_of, journal_at, outcome_of, outcomes_by_locks, reply_at, won_at};
-pub use parts::{are_elsewhere, entry_at, hashes_on, home_of, is_concerned, part_of};
+pub use parts::{
+    are_elsewhere, entry_at, hashes_on, home_of, is_concerned, is_part_from, part_of,
+};
 pub use plans::{LockPlan, StampPlan};
 pub use records::{
     has, is_held, is_in_lane, is_of, is_same_batch, is_same_hash, is_won, kind_of, last_stamp,

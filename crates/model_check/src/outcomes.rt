@@ -22,13 +22,13 @@ pub fn journal_at<'a>(journals: &'a [List<Record>], node: u32) -> &'a [Record]
 }
 
 /// The reply to the entry with this place, if there is one.
-pub fn reply_at(es: &[Answered], place: u32) -> Option<Reply>
+pub fn reply_at(es: &[Answered], place: u64) -> Option<Reply>
     ensures { result ≡ reply_at es.now place }
 {
     match es.split_first() {
         None => None,
         Some((a, rest)) => {
-            if a.entry.place == place {
+            if u64::from(a.entry.place) == place {
                 Some(a.reply)
             } else {
                 reply_at(rest, place)
@@ -56,7 +56,7 @@ fn outcome_from(
     journals: &[List<Record>],
     shape: &Shape,
     batch: &BatchId,
-    place: u32,
+    place: u64,
     shard: u32,
     n: u32,
 ) -> Outcome
@@ -77,7 +77,7 @@ pub fn outcome_of(
     journals: &[List<Record>],
     shape: &Shape,
     batch: &BatchId,
-    place: u32,
+    place: u64,
 ) -> Outcome
     ensures { result ≡ outcome (λ s. entries_in (at_shards shape.now (journals_in journals.now) 2 batch.now s)) place 0 shape.now.shards }
 {
@@ -105,11 +105,11 @@ fn add_outcomes(
     journals: &[List<Record>],
     shape: &Shape,
     batch: &BatchId,
-    place: u32,
+    place: u64,
     txs: &[CompactTx],
     out: &mut Vec<Outcome>,
 ) -> Result<(), AllocError>
-    requires { place + length txs.now < 2 ^ 32 }
+    requires { place + length txs.now < 2 ^ 64 }
     ensures { OnOk result (out.new.items ≡ out.old.items ++ outcomes (λ s. entries_in (at_shards shape.now (journals_in journals.now) 2 batch.now s)) shape.now.shards place txs.now) }
 {
     let Some((_, rest)) = txs.split_first() else {
@@ -127,7 +127,6 @@ pub fn outcomes_by_locks(
     batch: &BatchId,
     txs: &[CompactTx],
 ) -> Result<Outcomes, AllocError>
-    requires { length txs.now < 2 ^ 32 }
     ensures { IfOk result (λ l. l ≡ outcomes (λ s. entries_in (at_shards shape.now (journals_in journals.now) 2 batch.now s)) shape.now.shards 0 txs.now) }
 {
     let mut out = Vec::new(alloc);

@@ -1,8 +1,10 @@
 // What of a batch lies on a shard.
 ghost use Rattle.std.specs.Prelude.{◌≡◌, ◌+◌, ◌<◌, ◌^◌, ◌++◌, ◌↔◌, ℕ, length, IsTrue, IfOk, OnOk};
+ghost use Rattle.cbdc_model.specs.Replies.{entries};
 ghost use Rattle.cbdc_model.specs.Ranges.{on_shard, is_empty, entry_of, part, is_no_part, home_of, Concerned};
 
-use cbdc_types::{CompactTx, Entry, Hash, LaneId, List, NodeId, Part, Shape};
+use crate::same::is_hash;
+use cbdc_types::{Answered, CompactTx, Entry, Hash, LaneId, List, NodeId, Part, Shape};
 use shard_ranges::shard_of;
 use std::alloc::{AllocError, Global};
 
@@ -137,4 +139,61 @@ pub fn is_concerned(shape: &Shape, txs: &[CompactTx], shard: u32) -> bool
     ensures { IsTrue result ↔ Concerned shape.now txs.now shard }
 {
     shard < shape.shards() && !has_no_part(shape.shards(), shard, txs)
+}
+
+// Whether the hashes that lie on a shard are these, in order.
+fn are_those_on(shards: u32, shard: u32, xs: &[Hash], ys: &[Hash]) -> bool
+    requires { shards < 2 ^ 24 }
+    ensures { IsTrue result ↔ (ys.now ≡ on_shard shards shard xs.now) }
+{
+    let Some((x, others)) = xs.split_first() else {
+        return ys.is_empty();
+    };
+    if shard_of(x, shards) != shard {
+        return are_those_on(shards, shard, others, ys);
+    }
+    match ys.split_first() {
+        None => false,
+        Some((y, rest)) => is_hash(y, x) && are_those_on(shards, shard, others, rest),
+    }
+}
+
+// Whether an entry is a transaction's at a shard, with this place.
+fn is_entry_at(shards: u32, shard: u32, place: u64, t: &CompactTx, e: &Entry) -> bool
+    requires { shards < 2 ^ 24 }
+    ensures { IsTrue result ↔ (e.now ≡ entry_of shards shard place t.now) }
+{
+    u64::from(e.place) == place
+        && is_hash(&e.id, &t.id)
+        && are_those_on(shards, shard, t.inputs.as_slice(), e.inputs.as_slice())
+        && are_those_on(shards, shard, t.outputs.as_slice(), e.outputs.as_slice())
+}
+
+/// Whether answered entries are those of a shard's part of the transactions from this place on.
+pub fn is_part_from(
+    shards: u32,
+    shard: u32,
+    place: u64,
+    txs: &[CompactTx],
+    es: &[Answered],
+) -> bool
+    requires shards { shards < 2 ^ 24 }
+    requires places { place + length txs.now < 2 ^ 64 }
+    ensures { IsTrue result ↔ (entries es.now ≡ part shards shard place txs.now) }
+{
+    let Some((t, others)) = txs.split_first() else {
+        return es.is_empty();
+    };
+    if are_elsewhere(shards, shard, t.inputs.as_slice())
+        && are_elsewhere(shards, shard, t.outputs.as_slice())
+    {
+        return is_part_from(shards, shard, place + 1, others, es);
+    }
+    match es.split_first() {
+        None => false,
+        Some((a, rest)) => {
+            is_entry_at(shards, shard, place, t, &a.entry)
+                && is_part_from(shards, shard, place + 1, others, rest)
+        }
+    }
 }
