@@ -28,10 +28,10 @@ entries_without : (k : List ℕ) (coins : List Coin) → map entry_of (filter (�
     ≡ where_key key_cmp (λ x. not (eq_by_cmp key_cmp k x)) (map entry_of coins)
 entries_without k [] = refl
 entries_without k (c ∷ coins) = elim (eq_by_cmp key_cmp k (key c.point)) as (λ b. map entry_of (cond (not b) (c ∷ filter (λ d. not (eq_by_cmp key_cmp k (key d.point))) coins) (filter (λ d. not (eq_by_cmp key_cmp k (key d.point))) coins))
-      ≡ cond (not b) (entry_of c ∷ where_key key_cmp (λ x. not (eq_by_cmp key_cmp k x)) (map entry_of coins)) (where_key key_cmp (λ x. not (eq_by_cmp key_cmp k x)) (map entry_of coins))) [
-  | true ↦ entries_without k coins
-  | false ↦ ap (λ es. entry_of c ∷ es) (entries_without k coins)
-]
+    ≡ cond (not b) (entry_of c ∷ where_key key_cmp (λ x. not (eq_by_cmp key_cmp k x)) (map entry_of coins)) (where_key key_cmp (λ x. not (eq_by_cmp key_cmp k x)) (map entry_of coins))) [
+      | true ↦ entries_without k coins
+      | false ↦ ap (λ es. entry_of c ∷ es) (entries_without k coins)
+    ]
 
 turned : {A : Type 0} (b : Bool) (x y : A) → cond (not b) x y ≡ cond b y x
 turned true x y = refl
@@ -127,6 +127,7 @@ value_first c rest = ap value again ∙ value-insert (book.remove (book_of rest)
       | other_key t s ↦ get-insert_other (book_of rest) (key c.point) c.output q s ∙ sym (get-remove_other (book_of rest) (key c.point) q s)
           ∙ sym (get-insert_other (book.remove (book_of rest) (key c.point)) (key c.point) c.output q s)
     ]
+
     again : book_of (c ∷ rest) ≡ book.insert (book.remove (book_of rest) (key c.point)) (key c.point) c.output
     again = book.same_map nat_list_cmp_total (book.slice_cmp-IsAntisymmetric book.nat_cmp-IsAntisymmetric) _ _ at
 

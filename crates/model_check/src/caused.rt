@@ -134,21 +134,41 @@ pub fn is_caused(
             stamp,
             batch,
             outcomes,
-        } => is_commit_caused(alloc, journals, shape, node, *stamp, batch, outcomes.as_slice()),
+        } => is_commit_caused(
+            alloc,
+            journals,
+            shape,
+            node,
+            *stamp,
+            batch,
+            outcomes.as_slice(),
+        ),
         Record::Finish {
             stamp,
             batch,
             decisions,
-        } => is_finish_caused(alloc, journals, shape, node, *stamp, batch, decisions.as_slice()),
-        Record::Discard { stamp, batch } => Ok(all_have(journals, shape, 3, batch)
-            && is_stamped(*stamp, own, last_of(journals, shape, 3, batch))),
+        } => is_finish_caused(
+            alloc,
+            journals,
+            shape,
+            node,
+            *stamp,
+            batch,
+            decisions.as_slice(),
+        ),
+        Record::Discard { stamp, batch } => Ok(
+            all_have(journals, shape, 3, batch)
+                && is_stamped(*stamp, own, last_of(journals, shape, 3, batch)),
+        ),
         Record::Forget { stamp, batch } => {
             match record_of(8, home_journal(journals, shape, batch), batch) {
                 Some(cause) => Ok(is_stamped(*stamp, own, stamp_of(cause))),
                 None => Ok(false),
             }
         }
-        Record::Done { stamp, batch } => Ok(all_have(journals, shape, 4, batch)
-            && is_stamped(*stamp, own, last_of(journals, shape, 4, batch))),
+        Record::Done { stamp, batch } => Ok(
+            all_have(journals, shape, 4, batch)
+                && is_stamped(*stamp, own, last_of(journals, shape, 4, batch)),
+        ),
     }
 }

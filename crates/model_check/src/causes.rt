@@ -30,13 +30,7 @@ pub fn is_stamped(stamp: Stamp, own: &[Record], cause: Stamp) -> bool
 }
 
 // Whether each shard below n that the batch concerns has its record of the kind.
-fn have_below(
-    journals: &[List<Record>],
-    shape: &Shape,
-    kind: u64,
-    batch: &BatchId,
-    n: u32,
-) -> bool
+fn have_below(journals: &[List<Record>], shape: &Shape, kind: u64, batch: &BatchId, n: u32) -> bool
     requires { n ≤ shape.now.shards }
     ensures { IsTrue result ↔ ((s : ℕ) → s < n → Concerned shape.now (txs_of (journals_in journals.now (home_of shape.now batch.now.lane)) batch.now) s
         → is_some (at_shards shape.now (journals_in journals.now) kind batch.now s) ≡ true) }
@@ -74,7 +68,11 @@ fn greatest_below(
     }
     let shard = n - 1;
     let rest = greatest_below(journals, shape, kind, batch, shard);
-    let own = stamp_of_kind(kind, journal_at(journals, shape.coordinators() + shard), batch);
+    let own = stamp_of_kind(
+        kind,
+        journal_at(journals, shape.coordinators() + shard),
+        batch,
+    );
     Stamp(rest.0.max(own.0))
 }
 

@@ -87,12 +87,7 @@ fn is_own_lane(h: &Header, batch: &BatchId) -> bool
 }
 
 /// Whether a record follows the journal of the node with this header, by the phases of its lane.
-pub fn follows(
-    alloc: Global,
-    h: &Header,
-    past: &[Record],
-    r: &Record,
-) -> Result<bool, AllocError>
+pub fn follows(alloc: Global, h: &Header, past: &[Record], r: &Record) -> Result<bool, AllocError>
     ensures { IfOk result (λ yes. IsTrue yes ↔ Follows h.now past.now r.now) }
 {
     match r {
@@ -112,9 +107,11 @@ pub fn follows(
             stamp,
             batch,
             decisions,
-        } => Ok(is_newer(past, *stamp)
-            && is_in(past, batch, Phase::InLock)
-            && fits_replies(lock_of(past, batch), decisions.as_slice())),
+        } => Ok(
+            is_newer(past, *stamp)
+                && is_in(past, batch, Phase::InLock)
+                && fits_replies(lock_of(past, batch), decisions.as_slice()),
+        ),
         Record::Forget { stamp, batch } => {
             Ok(is_newer(past, *stamp) && is_in(past, batch, Phase::InFinish))
         }
@@ -123,26 +120,23 @@ pub fn follows(
             stamp,
             batch,
             outcomes,
-        } => Ok(is_newer(past, *stamp)
-            && is_own_lane(h, batch)
-            && is_in(past, batch, Phase::InPrepare)
-            && outcomes.len() == txs_of(past, batch).len()),
-        Record::Discard { stamp, batch } => Ok(is_newer(past, *stamp)
-            && is_own_lane(h, batch)
-            && is_in(past, batch, Phase::InCommit)),
-        Record::Done { stamp, batch } => Ok(is_newer(past, *stamp)
-            && is_own_lane(h, batch)
-            && is_in(past, batch, Phase::InDiscard)),
+        } => Ok(
+            is_newer(past, *stamp)
+                && is_own_lane(h, batch)
+                && is_in(past, batch, Phase::InPrepare)
+                && outcomes.len() == txs_of(past, batch).len(),
+        ),
+        Record::Discard { stamp, batch } => Ok(
+            is_newer(past, *stamp) && is_own_lane(h, batch) && is_in(past, batch, Phase::InCommit),
+        ),
+        Record::Done { stamp, batch } => Ok(
+            is_newer(past, *stamp) && is_own_lane(h, batch) && is_in(past, batch, Phase::InDiscard),
+        ),
     }
 }
 
 /// Whether a record is in the grammar and follows the journal of the node with this header.
-pub fn is_after(
-    alloc: Global,
-    h: &Header,
-    past: &[Record],
-    r: &Record,
-) -> Result<bool, AllocError>
+pub fn is_after(alloc: Global, h: &Header, past: &[Record], r: &Record) -> Result<bool, AllocError>
     ensures { IfOk result (λ yes. IsTrue yes ↔ After h.now past.now r.now) }
 {
     if !is_in_grammar(h, r) {

@@ -93,11 +93,7 @@ fn add_won(
 }
 
 // Puts the committed transactions of a history behind those so far.
-fn add_committed(
-    alloc: Global,
-    rows: &[Row],
-    out: &mut Vec<CompactTx>,
-) -> Result<(), AllocError>
+fn add_committed(alloc: Global, rows: &[Row], out: &mut Vec<CompactTx>) -> Result<(), AllocError>
     ensures { OnOk result (out.new.items ≡ out.old.items ++ committed rows.now) }
 {
     let Some((row, past)) = rows.split_first() else {
@@ -105,13 +101,20 @@ fn add_committed(
     };
     add_committed(alloc, past, out)?;
     let Record::Commit {
-        batch, outcomes, ..
+        batch,
+        outcomes,
+        ..
     } = &row.what
     else {
         return Ok(());
     };
     let own = journal_of(alloc, row.node, past)?;
-    add_won(alloc, txs_of(own.as_slice(), batch), outcomes.as_slice(), out)
+    add_won(
+        alloc,
+        txs_of(own.as_slice(), batch),
+        outcomes.as_slice(),
+        out,
+    )
 }
 
 /// The committed compact transactions of a history, in the order of their Commits, the oldest first.

@@ -11,9 +11,7 @@ use crate::plans::{LockPlan, StampPlan};
 use crate::records::{last_stamp, lock_of, record_of, stamp_of};
 use crate::replying::replies_of;
 use crate::slots::{Phase, slot_of, slot_stamp};
-use cbdc_types::{
-    BatchId, FinishCall, ForgetCall, LockCall, Record, Refused, Replied, Stamp,
-};
+use cbdc_types::{BatchId, FinishCall, ForgetCall, LockCall, Record, Refused, Replied, Stamp};
 use std::alloc::{AllocError, Global};
 
 /// Whether a phase is Idle.
@@ -143,7 +141,11 @@ fn finish_in(phase: Phase, past: &[Record], call: &FinishCall) -> StampPlan
     match phase {
         Phase::InFinish => {
             let kept = finished_decisions(past, &call.batch);
-            finish_again(other_decisions(kept, call.decisions.as_slice()), past, &call.batch)
+            finish_again(
+                other_decisions(kept, call.decisions.as_slice()),
+                past,
+                &call.batch,
+            )
         }
         Phase::InLock => {
             let locked = lock_of(past, &call.batch);

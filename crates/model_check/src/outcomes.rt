@@ -73,12 +73,7 @@ fn outcome_from(
 
 /// The outcome of a batch's transaction by the Locks in these journals of all nodes: Held where each shard with
 /// its place replies Held, else the least shard whose reply is another, with it.
-pub fn outcome_of(
-    journals: &[List<Record>],
-    shape: &Shape,
-    batch: &BatchId,
-    place: u64,
-) -> Outcome
+pub fn outcome_of(journals: &[List<Record>], shape: &Shape, batch: &BatchId, place: u64) -> Outcome
     ensures { result ≡ outcome (λ s. entries_in (at_shards shape.now (journals_in journals.now) 2 batch.now s)) place 0 shape.now.shards }
 {
     outcome_from(journals, shape, batch, place, 0, shape.shards())

@@ -16,12 +16,7 @@ pub fn home_of(shape: &Shape, lane: LaneId) -> NodeId
 }
 
 // Puts those of the hashes that lie on a shard behind those so far.
-fn add_hashes(
-    shards: u32,
-    shard: u32,
-    xs: &[Hash],
-    out: &mut Vec<Hash>,
-) -> Result<(), AllocError>
+fn add_hashes(shards: u32, shard: u32, xs: &[Hash], out: &mut Vec<Hash>) -> Result<(), AllocError>
     requires { shards < 2 ^ 24 }
     ensures { OnOk result (out.new.items ≡ out.old.items ++ on_shard shards shard xs.now) }
 {
@@ -170,13 +165,7 @@ fn is_entry_at(shards: u32, shard: u32, place: u64, t: &CompactTx, e: &Entry) ->
 }
 
 /// Whether answered entries are those of a shard's part of the transactions from this place on.
-pub fn is_part_from(
-    shards: u32,
-    shard: u32,
-    place: u64,
-    txs: &[CompactTx],
-    es: &[Answered],
-) -> bool
+pub fn is_part_from(shards: u32, shard: u32, place: u64, txs: &[CompactTx], es: &[Answered]) -> bool
     requires shards { shards < 2 ^ 24 }
     requires places { place + length txs.now < 2 ^ 64 }
     ensures { IsTrue result ↔ (entries es.now ≡ part shards shard place txs.now) }

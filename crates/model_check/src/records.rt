@@ -67,7 +67,6 @@ pub fn has(xs: &[Hash], x: &Hash) -> bool
     }
 }
 
-
 /// The kind of a record, as the first byte of its body names it: 1 to 9.
 pub fn kind_of(r: &Record) -> u64
     ensures { result ≡ kind_of r.now }

@@ -111,7 +111,9 @@ pub fn status_of(past: &[Record], x: &Hash) -> Status
             }
         }
         Record::Finish {
-            batch, decisions, ..
+            batch,
+            decisions,
+            ..
         } => {
             let before = status_of(rest, x);
             finished_status(lock_of(rest, batch), decisions.as_slice(), x, before)
