@@ -2,3 +2,4 @@ pub mod Slots
 pub mod Journals
 pub mod Plans
 pub mod Coins
+pub mod Named

@@ -1,8 +1,8 @@
 // Copies, for the answers that keep what they were given.
-ghost use Rattle.std.specs.Prelude.{◌≡◌, IfOk};
+ghost use Rattle.std.specs.Prelude.{◌≡◌, ◌∷◌, IfOk};
 ghost use Rattle.cbdc_model.specs.Replies.{entries, replies};
 
-use cbdc_types::{Answered, CompactTx, Entry, Hash, List, Outcome, Record, Reply};
+use cbdc_types::{Answered, CompactTx, Entry, FullTx, Hash, List, Outcome, Record, Reply};
 use std::alloc::{AllocError, Global};
 
 /// A copy of a list of hashes.
@@ -151,4 +151,35 @@ pub fn copy_of_record(alloc: Global, r: &Record) -> Result<Record, AllocError>
             batch: *batch,
         }),
     }
+}
+
+/// An item in front of a list.
+pub fn with_front<T: Drop>(first: T, rest: List<T>) -> Result<List<T>, AllocError>
+    ensures { IfOk result (λ l. l ≡ first ∷ rest) }
+{
+    let mut items = rest.into_vec();
+    items.insert(0, first)?;
+    Ok(List::from_vec(items))
+}
+
+// A copy of witnesses.
+fn copy_of_witnesses(alloc: Global, witnesses: &[List<u8>]) -> Result<List<List<u8>>, AllocError>
+    ensures { IfOk result (λ l. l ≡ witnesses.now) }
+{
+    let mut all = Vec::with_capacity(alloc, witnesses.len())?;
+    for w in witnesses {
+        all.push(List::from_vec(Vec::from_slice(alloc, w.as_slice())?))?;
+    }
+    Ok(List::from_vec(all))
+}
+
+/// A copy of a transaction.
+pub fn copy_of_full(alloc: Global, t: &FullTx) -> Result<FullTx, AllocError>
+    ensures { IfOk result (λ u. u ≡ t.now) }
+{
+    Ok(FullTx {
+        inputs: List::from_vec(Vec::from_slice(alloc, t.inputs.as_slice())?),
+        outputs: List::from_vec(Vec::from_slice(alloc, t.outputs.as_slice())?),
+        witnesses: copy_of_witnesses(alloc, t.witnesses.as_slice())?,
+    })
 }
