@@ -89,9 +89,9 @@ among_is : (K : Shape) (J : ℕ → List Record) (xs : List Digest) (x : Digest)
 among_is K J [] x h = cc
 among_is K J (y ∷ xs) x h = elim (is_unspent_at K J y && not (has xs y)) as (λ b. (is_unspent_at K J y && not (has xs y)) ≡ b → has (if b then y ∷ unspent_among K J xs else unspent_among K J xs) x ≡ true → IsUnspent K J x) [
   | true ↦ λ e g. elim (same_digest y x) as (λ b. same_digest y x ≡ b → IsUnspent K J x) [
-      | true ↦ λ s. subst (IsUnspent K J) (same_digest_is y x s) (at_is K J y (grind (arith, common_steps)))
-      | false ↦ λ s. among_is K J xs x (grind (arith, common_steps))
-    ] refl
+    | true ↦ λ s. subst (IsUnspent K J) (same_digest_is y x s) (at_is K J y (grind (arith, common_steps)))
+    | false ↦ λ s. among_is K J xs x (grind (arith, common_steps))
+  ] refl
   | false ↦ λ e g. among_is K J xs x g
 ] refl h
 
