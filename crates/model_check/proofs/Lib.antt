@@ -3,3 +3,4 @@ pub mod Alikeness
 pub mod Alls
 pub mod Keys
 pub mod Entitled
+pub mod Placing

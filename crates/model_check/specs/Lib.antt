@@ -3,3 +3,4 @@ pub mod Journals
 pub mod Plans
 pub mod Coins
 pub mod Named
+pub mod Verdicts

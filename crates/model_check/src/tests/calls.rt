@@ -95,23 +95,36 @@ fn is_plan(plan: &LockPlan, wanted: &StampPlan, reply: Reply) -> bool {
     }
 }
 
+fn early(kept: u64) -> StampPlan {
+    StampPlan::Refuse(Refused::EarlyStamp { kept: Stamp(kept) })
+}
+
+fn open(kept: u64) -> StampPlan {
+    StampPlan::Refuse(Refused::LaneOpen { kept })
+}
+
+fn stale(kept: u64) -> StampPlan {
+    StampPlan::Refuse(Refused::Stale { kept })
+}
+
 #[test]
 fn locks(rt: HostRuntime) -> Result<(), Fail> {
-    let early = StampPlan::Refuse(Refused::EarlyStamp { kept: Stamp(0) });
-    let open = StampPlan::Refuse(Refused::LaneOpen { kept: 1 });
-    let stale = StampPlan::Refuse(Refused::Stale { kept: 1 });
-    let late = StampPlan::Refuse(Refused::EarlyStamp { kept: Stamp(6) });
-    let missing = Reply::Missing(hash(1));
-    let table = [
+    let table: [(u32, u64, u64, Reply, StampPlan); 9] = [
         (1, 1, 1, Reply::Held, StampPlan::Append(Stamp(2))),
-        (1, 1, 0, Reply::Held, early),
+        (1, 1, 0, Reply::Held, early(0)),
         (2, 1, 1, Reply::Held, StampPlan::Kept(Stamp(2))),
-        (2, 2, 8, Reply::Held, open),
+        (2, 2, 8, Reply::Held, open(1)),
         (3, 1, 1, Reply::Held, StampPlan::Kept(Stamp(2))),
-        (3, 2, 8, Reply::Held, open),
-        (4, 1, 1, Reply::Held, stale),
-        (4, 2, 6, Reply::Held, late),
-        (4, 2, 8, missing, StampPlan::Append(Stamp(9))),
+        (3, 2, 8, Reply::Held, open(1)),
+        (4, 1, 1, Reply::Held, stale(1)),
+        (4, 2, 6, Reply::Held, early(6)),
+        (
+            4,
+            2,
+            8,
+            Reply::Missing(hash(1)),
+            StampPlan::Append(Stamp(9)),
+        ),
     ];
     for (many, number, cause, reply, wanted) in table {
         let plan = lock_at(&rt, many, number, &[&[1]], cause)?;
