@@ -1,13 +1,13 @@
 -- Every unspent hash is among those that journals name.
-use Rattle.std.proofs.Common.{◌≡◌, ◌↔◌, ℕ, zero, suc, ◌<◌, ◌≤◌, ◌+◌, ◌-◌, ◌*◌, ◌/◌, ◌%◌, Bool, true, false, ◌&&◌, ◌||◌, not, List, [], ◌∷◌, ◌++◌, if◌then◌else◌, refl, sym, ap, subst, ◌∙◌, arith, slice_index, mul-lt-mul_of_pos_right, div-lt_iff_lt-mul, mod-lt, lit<}
+use Rattle.std.proofs.Common.{◌≡◌, ◌↔◌, ℕ, zero, suc, ◌<◌, ◌+◌, ◌-◌, ◌*◌, ◌/◌, ◌%◌, Bool, true, false, ◌&&◌, not, List, [], ◌∷◌, ◌++◌, if◌then◌else◌, refl, sym, ap, subst, arith, slice_index, mul-lt-mul_of_pos_right, div-lt_iff_lt-mul, mod-lt, lit<}
 use Rattle.std.proofs.lemmas.Grind.{common_steps}
-use Rattle.cbdc_model.specs.Records.{Digest, same_digest, Shape, Answered, Record, is_held, lock_of, Genesis, Lock, Finish, Forget, Start, Prepare, Commit, Discard, Done}
-use Rattle.cbdc_model.specs.Status.{Status, status, has, made_outputs, returned_inputs, taken_inputs, held_inputs, finished_status, Unspent, Locked, Absent}
+use Rattle.cbdc_model.specs.Records.{Digest, same_digest, Shape, Answered, Record, lock_of, Genesis, Lock, Finish, Forget, Start, Prepare, Commit, Discard, Done}
+use Rattle.cbdc_model.specs.Status.{Status, status, has, made_outputs, returned_inputs, finished_status, Unspent, Locked, Absent}
 use Rattle.cbdc_model.specs.Ranges.{shard_of, shard_node, first_byte}
 use Rattle.cbdc_model.specs.World.{IsUnspent}
 use Rattle.model_check.specs.Named.{entry_hashes, named, named_below, is_unspent, is_unspent_at, unspent_among}
 use Rattle.model_check.proofs.Digests.{has_append}
-use Rattle.model_check.proofs.Alikeness.{same_digest_is, same_digest_self}
+use Rattle.model_check.proofs.Alikeness.{same_digest_is}
 
 made_in : (es : List Answered) (ds : List Bool) (x : Digest) → has (made_outputs es ds) x ≡ true → has (entry_hashes es) x ≡ true
 made_in [] ds x h = cc

@@ -1,6 +1,5 @@
 -- Books as lists of coins.
 use Rattle.std.proofs.Common.{◌≡◌, ℕ, ◌+◌, Bool, true, false, cond, ◌==◌, ◌&&◌, not, List, [], ◌∷◌, map, filter, Some, None, refl, sym, ap, ◌∙◌, arith, length, sum_by, Ordering, Less, Equal, Greater, nat_cmp}
-use Rattle.std.proofs.lemmas.Grind.{common_steps}
 use Rattle.std.proofs.lemmas.Map.Text.{is_eq-slice_cmp}
 use Rattle.std.proofs.lemmas.List.Sums.{sum_by-cons}
 use Rattle.std.proofs.lemmas.Cmp.{eq_by_cmp_equiv}
@@ -9,7 +8,7 @@ use Rattle.std.specs.Ordering.{eq_by_cmp, is_eq}
 use Rattle.std.specs.Cmp.{tied_itself}
 use Rattle.std.specs.Cmp.Lexicographic.{slice_cmp, nat_list_cmp_total}
 use Rattle.std.specs.FinMap.Entries.{put, find, by_order, where_key, find-where_key}
-use Rattle.cbdc_model.specs.Records.{Digest, same_digest}
+use Rattle.cbdc_model.specs.Records.{same_digest}
 use Rattle.cbdc_model.specs.Book.{Book, key, value}
 use Rattle.cbdc_model.specs.Coins.{Coin, Output, OutPoint}
 use Rattle.model_check.specs.Coins.{entry_of, book_of}

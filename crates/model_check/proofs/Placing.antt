@@ -2,7 +2,7 @@
 use Rattle.std.proofs.Common.{◌≡◌, ℕ, zero, suc, ◌+◌, ◌-◌, ◌<◌, ◌≤◌, List, [], ◌∷◌, length, get_or, refl, sym, ap, ◌∙◌, arith, inl, inr}
 use Rattle.std.proofs.lemmas.Bool.{cases_lt}
 use Rattle.std.proofs.lemmas.List.{get_or_past}
-use Rattle.cbdc_model.specs.Records.{Record, Row, journal}
+use Rattle.cbdc_model.specs.Records.{Row, journal}
 use Rattle.model_check.specs.Journals.{journals_in, journals_from}
 
 pub journals_step : (past : List Row) (k n : ℕ) → 0 < n → journals_from past k n ≡ journal k past ∷ journals_from past (k + 1) (n - 1)

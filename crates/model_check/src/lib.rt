@@ -156,6 +156,3 @@ pub use worlds::Node;
 pub use worlds::are_idle;
 pub use worlds::is_recovered;
 pub use worlds::journal_in;
-
-#[cfg(test)]
-mod tests;

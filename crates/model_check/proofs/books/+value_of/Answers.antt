@@ -1,4 +1,4 @@
-use Rattle.std.proofs.Common.{rules, arith}
+use Rattle.std.proofs.Common.{arith}
 use Rattle.std.proofs.lemmas.Grind.{common_steps}
 use Rattle.model_check.proofs.Keys.{value_none}
 use Rattle.model_check.proofs.books.+value_of.Goals as goal

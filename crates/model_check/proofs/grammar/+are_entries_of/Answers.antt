@@ -1,4 +1,4 @@
-use Rattle.std.proofs.Common.{◌≡◌, rules}
+use Rattle.std.proofs.Common.{rules}
 use Rattle.cbdc_model.specs.Grammar.{IsEntry}
 use Rattle.model_check.proofs.Alls.{all_then}
 use Rattle.model_check.proofs.grammar.+are_entries_of.Goals as goal

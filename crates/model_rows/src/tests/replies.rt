@@ -1,7 +1,7 @@
 // What a shard replies to parts: the hashes of ones and threes are unspent, that of twos is unknown.
 use super::making::{batch, genesis, hash, header, one, part};
-use crate::replies_of;
 use cbdc_types::{BatchId, Entry, LaneId, List, Record, Reply, Shape};
+use model_check::replies_of;
 use std::test::Fail;
 
 fn are_replies(

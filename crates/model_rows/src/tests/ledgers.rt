@@ -1,22 +1,22 @@
 // Ledgers as the rows of their histories, with the numbers that the rules give, and what they come to.
 use super::making::{hash, hashes, header};
-use crate::{Row, committed_compact, has, is_after, is_caused, journal_of, unspent_of};
 use cbdc_types::{
     Answered, BatchId, CompactTx, Entry, Hash, List, NodeId, Outcome, Record, Reply, Shape, Stamp,
 };
+use model_check::{Row, committed_compact, has, is_after, is_caused, journal_of, unspent_of};
 use std::test::Fail;
 
-// A transaction of a batch on one shard: what it spends and makes, and what it was answered there.
+// A transaction of a batch on one shard: what it spends and makes, and what it was answered there. No hash is named 0.
 #[derive(Clone, Copy)]
-pub(crate) struct Tx<'a> {
-    pub ins: &'a [u8],
-    pub outs: &'a [u8],
+pub(crate) struct Tx {
+    pub ins: [u8; 2],
+    pub outs: [u8; 2],
     pub reply: Reply,
     pub outcome: Outcome,
     pub decision: bool,
 }
 
-pub(crate) fn confirmed<'a>(ins: &'a [u8], outs: &'a [u8]) -> Tx<'a> {
+pub(crate) fn confirmed(ins: [u8; 2], outs: [u8; 2]) -> Tx {
     Tx {
         ins,
         outs,
@@ -27,7 +27,7 @@ pub(crate) fn confirmed<'a>(ins: &'a [u8], outs: &'a [u8]) -> Tx<'a> {
 }
 
 // Rejected by shard 0, since this input is not there.
-pub(crate) fn missing<'a>(ins: &'a [u8], outs: &'a [u8], x: u8) -> Tx<'a> {
+pub(crate) fn missing(ins: [u8; 2], outs: [u8; 2], x: u8) -> Tx {
     Tx {
         ins,
         outs,
@@ -35,6 +35,18 @@ pub(crate) fn missing<'a>(ins: &'a [u8], outs: &'a [u8], x: u8) -> Tx<'a> {
         outcome: Outcome::Missing(0, hash(x)),
         decision: false,
     }
+}
+
+// The hashes that the bytes name.
+fn named(rt: &HostRuntime, bytes: [u8; 2]) -> Result<List<Hash>, Fail> {
+    let mut all = List::new(rt.alloc());
+    if bytes[0] != 0 {
+        all.push(hash(bytes[0]))?;
+    }
+    if bytes[1] != 0 {
+        all.push(hash(bytes[1]))?;
+    }
+    Ok(all)
 }
 
 pub(crate) fn row(rows: &mut Vec<Row>, node: u32, what: Record) -> Result<(), Fail> {
@@ -45,20 +57,30 @@ pub(crate) fn row(rows: &mut Vec<Row>, node: u32, what: Record) -> Result<(), Fa
     Ok(())
 }
 
-// The first rows, the oldest first, of a ledger with one coordinator whose shards hold these hashes.
-pub(crate) fn opened(rt: &HostRuntime, shape: Shape, minted: &[&[u8]]) -> Result<Vec<Row>, Fail> {
+// The first rows, the oldest first, of a ledger with one coordinator and a shard that holds this hash.
+pub(crate) fn opened(rt: &HostRuntime, shape: Shape, minted: u8) -> Result<Vec<Row>, Fail> {
     let mut rows = Vec::new(rt.alloc());
     let start = Record::Start {
         header: header(0, shape),
     };
     row(&mut rows, 0, start)?;
-    let mut node = 1u32;
-    for bytes in minted {
-        let first = super::making::genesis(rt, header(node, shape), bytes)?;
-        row(&mut rows, node, first)?;
-        node = node.saturating_add(1);
-    }
+    shard_opened(rt, &mut rows, 1, shape, minted)?;
     Ok(rows)
+}
+
+// The first row of a shard that holds this hash, none for 0.
+pub(crate) fn shard_opened(
+    rt: &HostRuntime,
+    rows: &mut Vec<Row>,
+    node: u32,
+    shape: Shape,
+    minted: u8,
+) -> Result<(), Fail> {
+    let first = Record::Genesis {
+        header: header(node, shape),
+        hashes: named(rt, [minted, 0])?,
+    };
+    row(rows, node, first)
 }
 
 pub(crate) fn prepare(
@@ -71,8 +93,8 @@ pub(crate) fn prepare(
     for t in txs {
         all.push(CompactTx {
             id: hash(100),
-            inputs: hashes(rt, t.ins)?,
-            outputs: hashes(rt, t.outs)?,
+            inputs: named(rt, t.ins)?,
+            outputs: named(rt, t.outs)?,
         })?;
     }
     Ok(Record::Prepare {
@@ -90,8 +112,8 @@ pub(crate) fn lock(rt: &HostRuntime, stamp: u64, own: BatchId, txs: &[Tx]) -> Re
             entry: Entry {
                 place,
                 id: hash(100),
-                inputs: hashes(rt, t.ins)?,
-                outputs: hashes(rt, t.outs)?,
+                inputs: named(rt, t.ins)?,
+                outputs: named(rt, t.outs)?,
             },
             reply: t.reply,
         })?;

@@ -1,12 +1,12 @@
 // One transaction from the coin of 100 to 60 and 40, with its real ids and hashes.
 use super::ledgers::row;
 use super::making::{batch, hash, header, one};
-use crate::{
-    Row, coins_of, committed_of, copy_of_full, fold_of, genesis_book, genesis_tx, value_of,
-};
 use cbdc_types::{CompactTx, FullTx, List, Outcome, Output, Record, Shape, Stamp};
 use compact_tx::compact;
 use identifiers::input_hash;
+use model_check::{
+    Row, coins_of, committed_of, copy_of_full, fold_of, genesis_book, genesis_tx, value_of,
+};
 use std::test::Fail;
 
 fn mint() -> [Output; 1] {

@@ -1,7 +1,7 @@
 // The table of refusals that need no ledger.
 use super::making::hash;
-use crate::{Listed, first_refusal_of};
 use cbdc_types::{FullTx, Input, List, OutPoint, Output, Refusal};
+use model_check::{Listed, first_refusal_of};
 use std::test::Fail;
 use verifier_port::Verdict;
 

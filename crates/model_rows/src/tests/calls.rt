@@ -2,9 +2,11 @@
 use super::making::{
     batch, entry, finish, forget, genesis, hash, header, lock, newest_first, one, part,
 };
-use crate::{LockPlan, StampPlan, last_stamp, next_finish, next_forget, next_lock, status_of};
 use cbdc_types::{
     FinishCall, ForgetCall, List, LockCall, Record, Refused, Reply, Shape, Stamp, Status,
+};
+use model_check::{
+    LockPlan, StampPlan, last_stamp, next_finish, next_forget, next_lock, status_of,
 };
 use std::test::Fail;
 
