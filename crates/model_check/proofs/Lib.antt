@@ -1,0 +1,6 @@
+pub mod Digests
+pub mod Alikeness
+pub mod Alls
+pub mod Keys
+pub mod Entitled
+pub mod Placing

@@ -1,0 +1,11 @@
+-- The book that a list of coins is: where two stand at one outpoint, the first counts.
+use Rattle.std.specs.Prelude.{ℕ, List, map}
+use Rattle.std.specs.FinMap as book
+use Rattle.cbdc_model.specs.Coins.{Coin, Output}
+use Rattle.cbdc_model.specs.Book.{Book, key}
+
+abbrev pub entry_of : Coin → List ℕ × Output
+entry_of c = (key c.point, c.output)
+
+abbrev pub book_of : List Coin → Book
+book_of coins = book.from_entries (map entry_of coins)

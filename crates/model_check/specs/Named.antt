@@ -1,0 +1,40 @@
+-- The hashes that journals name, as candidates for the unspent ones.
+use Rattle.std.specs.Prelude.{ℕ, zero, suc, Bool, true, false, ◌&&◌, not, List, [], ◌∷◌, ◌++◌, if◌then◌else◌}
+use Rattle.cbdc_model.specs.Records.{Digest, Shape, Answered, Record, lock_of, Genesis, Lock, Finish, Forget, Start, Prepare, Commit, Discard, Done}
+use Rattle.cbdc_model.specs.Status.{Status, status, has, Unspent, Locked, Absent}
+use Rattle.cbdc_model.specs.Ranges.{shard_of, shard_node}
+
+abbrev pub entry_hashes : List Answered → List Digest
+entry_hashes [] = []
+entry_hashes (a ∷ es) = a.entry.inputs ++ (a.entry.outputs ++ entry_hashes es)
+
+-- those that a journal's Genesis and Finishes name
+abbrev pub named : List Record → List Digest
+named [] = []
+named (Genesis header hs ∷ past) = hs ++ named past
+named (Lock stamp b es ∷ past) = named past
+named (Finish stamp b ds ∷ past) = entry_hashes (lock_of past b) ++ named past
+named (Forget stamp b ∷ past) = named past
+named (Start header ∷ past) = named past
+named (Prepare stamp b txs ∷ past) = named past
+named (Commit stamp b os ∷ past) = named past
+named (Discard stamp b ∷ past) = named past
+named (Done stamp b ∷ past) = named past
+
+-- those of the shards below n
+abbrev pub named_below : Shape → (ℕ → List Record) → ℕ → List Digest
+named_below K J zero = []
+named_below K J (suc n) = named (J (shard_node K n)) ++ named_below K J n
+
+abbrev pub is_unspent : Status → Bool
+is_unspent Unspent = true
+is_unspent (Locked b) = false
+is_unspent Absent = false
+
+abbrev pub is_unspent_at : Shape → (ℕ → List Record) → Digest → Bool
+is_unspent_at K J x = is_unspent (status (J (shard_node K (shard_of K.shards x))) x)
+
+-- the unspent ones, each once
+abbrev pub unspent_among : Shape → (ℕ → List Record) → List Digest → List Digest
+unspent_among K J [] = []
+unspent_among K J (x ∷ xs) = if is_unspent_at K J x && not (has xs x) then x ∷ unspent_among K J xs else unspent_among K J xs

@@ -1,0 +1,71 @@
+// The committed transactions as they were handed in.
+ghost use Rattle.std.specs.Prelude.{◌≡◌, ◌∷◌, List as Items, None, Some, IfOk, MatchOption};
+ghost use Rattle.cbdc_model.specs.Coins.{FullTx as ModelTx};
+ghost use Rattle.cbdc_model.specs.History.{same_compact, first_with, AreHandedIn, AreCommitted};
+
+use crate::comparing::are_same_hashes;
+use crate::copying::{copy_of_full, with_front};
+use crate::history::{Row, committed_compact};
+use crate::records::is_same_hash;
+use cbdc_types::{CompactTx, FullTx, List};
+use compact_tx::compact;
+use std::alloc::{AllocError, Global};
+
+/// Whether two compact transactions are the same.
+pub fn is_same_compact(a: &CompactTx, b: &CompactTx) -> bool
+    ensures { result ≡ same_compact a.now b.now }
+{
+    is_same_hash(&a.id, &b.id)
+        && are_same_hashes(a.inputs.as_slice(), b.inputs.as_slice())
+        && are_same_hashes(a.outputs.as_slice(), b.outputs.as_slice())
+}
+
+/// The first submission with a compact form.
+pub fn first_with<'a>(
+    alloc: Global,
+    submissions: &'a [FullTx],
+    k: &CompactTx,
+) -> Result<Option<&'a FullTx>, AllocError>
+    ensures { IfOk result (λ o. MatchOption o (first_with submissions.now k.now ≡ None) (λ t. first_with submissions.now k.now ≡ Some t.now)) }
+{
+    let Some((t, rest)) = submissions.split_first() else {
+        return Ok(None);
+    };
+    if is_same_compact(&compact(alloc, t)?, k) {
+        return Ok(Some(t));
+    }
+    first_with(alloc, rest, k)
+}
+
+// For each compact form in turn the first submission with it. None where one has none.
+fn handed_in(
+    alloc: Global,
+    submissions: &[FullTx],
+    ks: &[CompactTx],
+) -> Result<Option<List<FullTx>>, AllocError>
+    ensures { IfOk result (λ o. MatchOption o ((ts : Items ModelTx) → ¬ (AreHandedIn submissions.now ks.now ts)) (λ ts. AreHandedIn submissions.now ks.now ts)) }
+{
+    let Some((k, rest)) = ks.split_first() else {
+        return Ok(Some(List::new(alloc)));
+    };
+    let Some(t) = first_with(alloc, submissions, k)? else {
+        return Ok(None);
+    };
+    let Some(more) = handed_in(alloc, submissions, rest)? else {
+        return Ok(None);
+    };
+    Ok(Some(with_front(copy_of_full(alloc, t)?, more)?))
+}
+
+/// The committed transactions of a history, in the order of their Commits, each the first submission with its compact
+/// form. None exactly where one has no such submission.
+pub fn committed_of(
+    alloc: Global,
+    rows: &[Row],
+    submissions: &[FullTx],
+) -> Result<Option<List<FullTx>>, AllocError>
+    ensures { IfOk result (λ o. MatchOption o ((ts : Items ModelTx) → ¬ (AreCommitted submissions.now rows.now ts)) (λ ts. AreCommitted submissions.now rows.now ts)) }
+{
+    let ks = committed_compact(alloc, rows)?;
+    handed_in(alloc, submissions, ks.as_slice())
+}

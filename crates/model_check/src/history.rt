@@ -1,0 +1,127 @@
+// Histories: the records of all nodes in one order.
+ghost use Rattle.std.specs.Prelude.{◌≡◌, ◌↔◌, ◌++◌, IsTrue, IfOk, OnOk};
+ghost use Rattle.cbdc_model.specs.Records.{journal};
+ghost use Rattle.cbdc_model.specs.Outcomes.{won_txs};
+ghost use Rattle.cbdc_model.specs.History.{goes_above, IsOrdered, committed};
+
+use crate::copying::{copy_of_compact, copy_of_record};
+use crate::records::{is_won, stamp_of, txs_of};
+use cbdc_types::{CompactTx, List, NodeId, Outcome, Record};
+use std::alloc::{AllocError, Global};
+use std::marker::Model;
+
+/// A record with its node. Contracts see the definitions' row.
+#[derive(Debug, Drop)]
+pub struct Row {
+    pub node: NodeId,
+    pub what: Record,
+}
+
+impl Model for Row {
+    ghost use Rattle.cbdc_model.specs.Records.{Row as ModelRow};
+
+    ghost Value = { ModelRow };
+
+    ghost view = { λ r. record { node = r.node; what = r.what } };
+}
+
+/// Whether a row goes above another: by stamp, then by node.
+pub fn goes_above(row: &Row, next: &Row) -> bool
+    ensures { result ≡ goes_above row.now next.now }
+{
+    let own = stamp_of(&row.what).0;
+    let other = stamp_of(&next.what).0;
+    other < own || (own == other && next.node.0 < row.node.0)
+}
+
+/// Whether rows stand by stamp and node, the newest first.
+pub fn is_ordered(rows: &[Row]) -> bool
+    ensures { IsTrue result ↔ IsOrdered rows.now }
+{
+    let Some((row, later)) = rows.split_first() else {
+        return true;
+    };
+    match later.split_first() {
+        None => true,
+        Some((next, _)) => goes_above(row, next) && is_ordered(later),
+    }
+}
+
+// Puts a node's records behind those so far.
+fn add_journal(
+    alloc: Global,
+    node: NodeId,
+    rows: &[Row],
+    out: &mut Vec<Record>,
+) -> Result<(), AllocError>
+    ensures { OnOk result (out.new.items ≡ out.old.items ++ journal node rows.now) }
+{
+    let Some((row, past)) = rows.split_first() else {
+        return Ok(());
+    };
+    if row.node.0 == node.0 {
+        out.push(copy_of_record(alloc, &row.what)?)?;
+    }
+    add_journal(alloc, node, past, out)
+}
+
+/// A node's journal, newest first, of a history.
+pub fn journal_of(alloc: Global, node: NodeId, rows: &[Row]) -> Result<List<Record>, AllocError>
+    ensures { IfOk result (λ l. l ≡ journal node rows.now) }
+{
+    let mut out = Vec::new(alloc);
+    add_journal(alloc, node, rows, &mut out)?;
+    Ok(List::from_vec(out))
+}
+
+// Puts those of the transactions that are committed behind those so far.
+fn add_won(
+    alloc: Global,
+    txs: &[CompactTx],
+    outcomes: &[Outcome],
+    out: &mut Vec<CompactTx>,
+) -> Result<(), AllocError>
+    ensures { OnOk result (out.new.items ≡ out.old.items ++ won_txs txs.now outcomes.now) }
+{
+    let (Some((t, others)), Some((o, rest))) = (txs.split_first(), outcomes.split_first()) else {
+        return Ok(());
+    };
+    if is_won(o) {
+        out.push(copy_of_compact(alloc, t)?)?;
+    }
+    add_won(alloc, others, rest, out)
+}
+
+// Puts the committed transactions of a history behind those so far.
+fn add_committed(alloc: Global, rows: &[Row], out: &mut Vec<CompactTx>) -> Result<(), AllocError>
+    ensures { OnOk result (out.new.items ≡ out.old.items ++ committed rows.now) }
+{
+    let Some((row, past)) = rows.split_first() else {
+        return Ok(());
+    };
+    add_committed(alloc, past, out)?;
+    let Record::Commit {
+        batch,
+        outcomes,
+        ..
+    } = &row.what
+    else {
+        return Ok(());
+    };
+    let own = journal_of(alloc, row.node, past)?;
+    add_won(
+        alloc,
+        txs_of(own.as_slice(), batch),
+        outcomes.as_slice(),
+        out,
+    )
+}
+
+/// The committed compact transactions of a history, in the order of their Commits, the oldest first.
+pub fn committed_compact(alloc: Global, rows: &[Row]) -> Result<List<CompactTx>, AllocError>
+    ensures { IfOk result (λ l. l ≡ committed rows.now) }
+{
+    let mut out = Vec::new(alloc);
+    add_committed(alloc, rows, &mut out)?;
+    Ok(List::from_vec(out))
+}

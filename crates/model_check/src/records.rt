@@ -1,0 +1,175 @@
+// What stands in records, and how one is found. A journal has its newest record first.
+ghost use Rattle.std.specs.Prelude.{◌≡◌, MatchOption};
+ghost use Rattle.cbdc_model.specs.Records.{same_digest, same_batch, is_held, is_won, stamp_of, kind_of, is_of, is_in_lane, record_of, lock_of, txs_of, outcomes_of, last_stamp};
+ghost use Rattle.cbdc_model.specs.Status.{has};
+
+use cbdc_types::{Answered, BatchId, CompactTx, Hash, LaneId, Outcome, Record, Reply, Stamp};
+
+/// Whether two hashes are the same.
+pub fn is_same_hash(x: &Hash, y: &Hash) -> bool
+    ensures { result ≡ same_digest x.now y.now }
+{
+    x == y
+}
+
+/// Whether two names of batches are the same.
+pub fn is_same_batch(a: &BatchId, b: &BatchId) -> bool
+    ensures { result ≡ same_batch a.now b.now }
+{
+    a.lane.0 == b.lane.0 && a.number == b.number
+}
+
+/// Whether a reply is Held.
+pub fn is_held(reply: &Reply) -> bool
+    ensures { result ≡ is_held reply.now }
+{
+    match reply {
+        Reply::Held => true,
+        Reply::Missing(_) => false,
+        Reply::Locked(_, _) => false,
+    }
+}
+
+/// Whether an outcome is Held: the transaction is committed.
+pub fn is_won(outcome: &Outcome) -> bool
+    ensures { result ≡ is_won outcome.now }
+{
+    match outcome {
+        Outcome::Held => true,
+        Outcome::Missing(_, _) => false,
+        Outcome::Locked(_, _, _) => false,
+    }
+}
+
+/// A record's stamp: 0 for a first record.
+pub fn stamp_of(r: &Record) -> Stamp
+    ensures { result ≡ stamp_of r.now }
+{
+    match r {
+        Record::Genesis { .. } | Record::Start { .. } => Stamp(0),
+        Record::Lock { stamp, .. } => *stamp,
+        Record::Finish { stamp, .. } => *stamp,
+        Record::Forget { stamp, .. } => *stamp,
+        Record::Prepare { stamp, .. } => *stamp,
+        Record::Commit { stamp, .. } => *stamp,
+        Record::Discard { stamp, .. } => *stamp,
+        Record::Done { stamp, .. } => *stamp,
+    }
+}
+
+/// Whether a hash stands in a list.
+pub fn has(xs: &[Hash], x: &Hash) -> bool
+    ensures { result ≡ has xs.now x.now }
+{
+    match xs.split_first() {
+        None => false,
+        Some((first, rest)) => is_same_hash(first, x) || has(rest, x),
+    }
+}
+
+/// The kind of a record, as the first byte of its body names it: 1 to 9.
+pub fn kind_of(r: &Record) -> u64
+    ensures { result ≡ kind_of r.now }
+{
+    match r {
+        Record::Genesis { .. } => 1,
+        Record::Lock { .. } => 2,
+        Record::Finish { .. } => 3,
+        Record::Forget { .. } => 4,
+        Record::Start { .. } => 5,
+        Record::Prepare { .. } => 6,
+        Record::Commit { .. } => 7,
+        Record::Discard { .. } => 8,
+        Record::Done { .. } => 9,
+    }
+}
+
+/// Whether a record is of this batch.
+pub fn is_of(batch: &BatchId, r: &Record) -> bool
+    ensures { result ≡ is_of batch.now r.now }
+{
+    match r {
+        Record::Genesis { .. } => false,
+        Record::Lock { batch: own, .. } => is_same_batch(own, batch),
+        Record::Finish { batch: own, .. } => is_same_batch(own, batch),
+        Record::Forget { batch: own, .. } => is_same_batch(own, batch),
+        Record::Start { .. } => false,
+        Record::Prepare { batch: own, .. } => is_same_batch(own, batch),
+        Record::Commit { batch: own, .. } => is_same_batch(own, batch),
+        Record::Discard { batch: own, .. } => is_same_batch(own, batch),
+        Record::Done { batch: own, .. } => is_same_batch(own, batch),
+    }
+}
+
+/// Whether a record is of this lane.
+pub fn is_in_lane(lane: LaneId, r: &Record) -> bool
+    ensures { result ≡ is_in_lane lane r.now }
+{
+    match r {
+        Record::Genesis { .. } => false,
+        Record::Lock { batch, .. } => batch.lane.0 == lane.0,
+        Record::Finish { batch, .. } => batch.lane.0 == lane.0,
+        Record::Forget { batch, .. } => batch.lane.0 == lane.0,
+        Record::Start { .. } => false,
+        Record::Prepare { batch, .. } => batch.lane.0 == lane.0,
+        Record::Commit { batch, .. } => batch.lane.0 == lane.0,
+        Record::Discard { batch, .. } => batch.lane.0 == lane.0,
+        Record::Done { batch, .. } => batch.lane.0 == lane.0,
+    }
+}
+
+/// The newest record of a kind of a batch.
+pub fn record_of<'a>(kind: u64, past: &'a [Record], batch: &BatchId) -> Option<&'a Record>
+    ensures { MatchOption result (record_of kind past.now batch.now ≡ None) (λ r. record_of kind past.now batch.now ≡ Some r.now) }
+{
+    match past.split_first() {
+        None => None,
+        Some((r, rest)) => {
+            if kind_of(r) == kind && is_of(batch, r) {
+                Some(r)
+            } else {
+                record_of(kind, rest, batch)
+            }
+        }
+    }
+}
+
+/// The answered entries of a batch's Lock, none where there is no Lock.
+pub fn lock_of<'a>(past: &'a [Record], batch: &BatchId) -> &'a [Answered]
+    ensures { result.now ≡ lock_of past.now batch.now }
+{
+    match record_of(2, past, batch) {
+        Some(Record::Lock { entries, .. }) => entries.as_slice(),
+        _ => &[],
+    }
+}
+
+/// The transactions of a batch's Prepare, none where there is no Prepare.
+pub fn txs_of<'a>(past: &'a [Record], batch: &BatchId) -> &'a [CompactTx]
+    ensures { result.now ≡ txs_of past.now batch.now }
+{
+    match record_of(6, past, batch) {
+        Some(Record::Prepare { txs, .. }) => txs.as_slice(),
+        _ => &[],
+    }
+}
+
+/// The outcomes of a batch's Commit, none where there is no Commit.
+pub fn outcomes_of<'a>(past: &'a [Record], batch: &BatchId) -> &'a [Outcome]
+    ensures { result.now ≡ outcomes_of past.now batch.now }
+{
+    match record_of(7, past, batch) {
+        Some(Record::Commit { outcomes, .. }) => outcomes.as_slice(),
+        _ => &[],
+    }
+}
+
+/// The stamp of a journal's newest record, 0 where there is none.
+pub fn last_stamp(past: &[Record]) -> Stamp
+    ensures { result ≡ last_stamp past.now }
+{
+    match past.split_first() {
+        None => Stamp(0),
+        Some((r, _)) => stamp_of(r),
+    }
+}

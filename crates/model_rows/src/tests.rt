@@ -1,0 +1,7 @@
+mod calls;
+mod full;
+mod ledgers;
+mod making;
+mod refusals;
+mod replies;
+mod rows;
