@@ -1,12 +1,12 @@
 -- What the parts of a line spell.
-use Rattle.std.proofs.Common.{rules, arith, ◌≡◌, ◌≢◌, ◌≤◌, ◌<◌, ◌+◌, ◌^◌, ℕ, Bool, true, false, List, [], ◌∷◌, ◌++◌, length, take, drop, codes, get_or, Option, Some, None, Result, Ok, Err, refl, sym, ◌∙◌, ap, subst, reverse, length-append, MatchOption}
+use Rattle.std.proofs.Common.{arith, ◌≡◌, ℕ, Bool, true, false, List, ◌∷◌, ◌++◌, length, take, drop, codes, get_or, Result, Ok, Err, refl, sym, ◌∙◌, ap, subst, reverse}
 use Rattle.std.specs.Prelude.{MatchResult, is_err}
 use Rattle.std.proofs.lemmas.List.{append_cancel_right, reverse-append}
 use Rattle.std.proofs.Math.Seq.{take-append_seam, drop-append_seam}
 use Rattle.hex.specs.Hex.{encode_lower, IsBytes, decode_sized, lower_digits}
 use Rattle.hex.specs.declared.error.FromHexError.{FromHexError}
 use Rattle.hex.proofs.HexLemmas.{decode_sized-encode_lower, decode_sized-twice, decode_sized-ok, decode_of-ok, length-encode_with}
-use Rattle.verifier_port.specs.Lines.{Line, IsLine, spelled, word}
+use Rattle.verifier_port.specs.Lines.{word}
 
 -- ---- ids
 

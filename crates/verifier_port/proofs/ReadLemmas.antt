@@ -1,6 +1,5 @@
 -- Reading a verdict file line by line.
-use Rattle.std.proofs.Common.{rules, arith, ◌≡◌, ◌≢◌, ℕ, zero, suc, ◌+◌, ◌<◌, ◌≤◌, ◌^◌, ◌%◌, ◌/◌, Bool, true, false, List, [], ◌∷◌, ◌++◌, length, decimal, codes, Option, Some, None, refl, sym, ◌∙◌, ap, subst, append_assoc, cond, get_or}
-use Rattle.std.specs.Prelude.{slice_index}
+use Rattle.std.proofs.Common.{rules, arith, ◌≡◌, ◌≢◌, ℕ, zero, suc, ◌+◌, ◌<◌, ◌^◌, ◌%◌, ◌/◌, Bool, true, false, List, [], ◌∷◌, ◌++◌, length, decimal, Option, Some, None, refl, sym, ◌∙◌, ap, append_assoc, cond, get_or}
 use Rattle.std.specs.Map.{lookup}
 use Rattle.std.proofs.lemmas.Fmt.{decimal_by_steps}
 use Rattle.hex.specs.Hex.{encode_lower, encode_with, lower_digits}
@@ -10,7 +9,7 @@ use Rattle.cbdc_types.specs.declared.answer.InputKind.TheVariants.{Form, Repeate
 use Rattle.verifier_port.specs.Files.{Reads}
 use Rattle.verifier_port.specs.declared.file.VerdictFault.TheVariants as fault
 use Rattle.verifier_port.specs.declared.line.Key.{Key}
-use Rattle.verifier_port.specs.Lines.{Line, IsLine, IsOpen, AreLines, Begins, is_key, said, spelled, text, word}
+use Rattle.verifier_port.specs.Lines.{Line, IsLine, IsOpen, Begins, is_key, said, spelled, text, word}
 
 -- ---- line feeds
 

@@ -1,4 +1,4 @@
-use Rattle.std.proofs.Common.{rules, ◌≡◌, ◌∷◌, ◌++◌, sym, ◌∙◌, ap, decimal, ℕ, List}
+use Rattle.std.proofs.Common.{◌∷◌, ◌++◌, sym, ◌∙◌, ap, decimal, ℕ, List}
 use Rattle.hex.specs.Hex.{encode_lower}
 use Rattle.verifier_port.specs.Lines.{word}
 use Rattle.verifier_port.proofs.LineLemmas.{same_front}

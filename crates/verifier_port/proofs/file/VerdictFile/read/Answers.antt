@@ -1,10 +1,7 @@
-use Rattle.std.proofs.Common.{rules, arith, ◌≡◌, ◌≢◌, ◌++◌, ◌∷◌, [], ℕ, List, Bool, true, false, Option, Some, None, sym, ◌∙◌, ap, cond, length, length-append}
-use Rattle.std.specs.Map.{lookup}
-use Rattle.verifier_port.specs.Files.{Reads}
-use Rattle.verifier_port.specs.Lines.{Line, is_key}
-use Rattle.verifier_port.specs.declared.line.Key.{Key}
+use Rattle.std.proofs.Common.{rules, arith, ◌∷◌, sym, ◌∙◌, ap, length, length-append}
+use Rattle.verifier_port.specs.Lines.{Line}
 use Rattle.verifier_port.proofs.KeyLemmas.{found_by, put_by}
-use Rattle.verifier_port.proofs.ReadLemmas.{kept_in, read_more, told_form, told_repeated, told_open}
+use Rattle.verifier_port.proofs.ReadLemmas.{read_more, told_form, told_repeated, told_open}
 use Rattle.verifier_port.proofs.file.VerdictFile.read.Goals as goal
 
 pub returns-in_default-read_line : goal.returns-in_default-read_line

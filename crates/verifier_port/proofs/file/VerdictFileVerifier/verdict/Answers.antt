@@ -1,6 +1,5 @@
-use Rattle.std.proofs.Common.{rules, ◌≡◌, ℕ, Option, Some, None, Bool, true, false, sym, ◌∙◌, ap}
-use Rattle.std.specs.Prelude.{option_copied}
-use Rattle.verifier_port.specs.Files.{told, verdict_by}
+use Rattle.std.proofs.Common.{Some, Bool, sym, ◌∙◌, ap}
+use Rattle.verifier_port.specs.Files.{verdict_by}
 use Rattle.verifier_port.proofs.KeyLemmas.{found_by}
 use Rattle.verifier_port.proofs.file.VerdictFileVerifier.verdict.Goals as goal
 
