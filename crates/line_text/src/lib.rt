@@ -6,12 +6,16 @@
 mod faults;
 mod line;
 mod output;
+mod reports;
 mod status;
 mod submissions;
 mod summary;
+#[cfg(test)]
+mod tests;
 
 pub use faults::write_fault;
 pub use output::{WriteFault, write_all};
+pub use reports::{AuditSummary, write_audit, write_recovery, write_resumed, write_status};
 pub use status::status_code;
 pub use submissions::{write_confirmed, write_refused, write_rejected};
 pub use summary::{Summary, write_init, write_summary};

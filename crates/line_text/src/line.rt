@@ -59,6 +59,17 @@ pub(crate) fn push_wide(line: &mut Line, n: u128)
     push_word(line, digits.format(n).as_bytes());
 }
 
+/// Begins a line with a hash.
+pub(crate) fn push_first_hash(line: &mut Line, hash: &Hash)
+    requires { length line.old.items + 64 ≤ 512 }
+    ensures text { line.new.items ≡ line.old.items ++ encode_lower hash.now }
+    ensures len { length line.new.items ≡ length line.old.items + 64 }
+{
+    let mut digits = [0u8; 64];
+    let _ = hex::encode_to_slice(&hash.0, &mut digits);
+    push(line, &digits);
+}
+
 /// Appends a space and a hash.
 pub(crate) fn push_hash(line: &mut Line, hash: &Hash)
     requires { length line.old.items + 65 ≤ 512 }

@@ -22,8 +22,8 @@ fn submission(file: u64, place: u64, id: &Hash) -> Line
     line
 }
 
-// Appends a lane and a number.
-fn push_batch(line: &mut Line, batch: BatchId)
+/// Appends a lane and a number.
+pub(crate) fn push_batch(line: &mut Line, batch: BatchId)
     requires { length line.old.items + 42 ≤ 512 }
     ensures text { line.new.items ≡ (line.old.items ++ 32 ∷ decimal batch.lane) ++ 32 ∷ decimal batch.number }
     ensures len { length line.new.items ≤ length line.old.items + 42 }

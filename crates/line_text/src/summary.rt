@@ -24,8 +24,8 @@ pub struct Summary {
     pub unspent: u64,
 }
 
-// Appends the line of a name and a number.
-fn push_counted(text: &mut Line, name: &[u8], n: u64)
+/// Appends the line of a name and a number.
+pub(crate) fn push_counted(text: &mut Line, name: &[u8], n: u64)
     requires { length text.old.items + length name.now + 22 ≤ 512 }
     ensures text { text.new.items ≡ text.old.items ++ counted name.now n }
     ensures len { length text.new.items ≤ length text.old.items + length name.now + 22 }

@@ -1,9 +1,15 @@
 //! Verdicts on the witnesses of transactions.
 #![tactic(auto)]
 
+mod file;
+mod line;
+#[cfg(test)]
+mod tests;
+
 ghost use Rattle.std.specs.Prelude.{◌≡◌, ℕ, List};
 
 use cbdc_types::Hash;
+pub use file::{BadLine, VerdictFault, VerdictFile};
 
 /// What is known of the witness of an input.
 #[derive(Clone, Copy, Debug, PartialEq, Eq)]

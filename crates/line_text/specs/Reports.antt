@@ -1,0 +1,36 @@
+-- The lines of `status`, `recover` and `audit`.
+use Rattle.std.specs.Prelude.{ℕ, List, [], ◌∷◌, ◌++◌, codes, decimal}
+use Rattle.hex.specs.Hex.{encode_lower}
+use Rattle.cbdc_types.specs.declared.batch.Phase.{Phase}
+use Rattle.cbdc_types.specs.declared.batch.Phase.TheVariants.{Prepared, Committed, Discarded}
+use Rattle.cbdc_types.specs.declared.batch.Status.{Status}
+use Rattle.cbdc_types.specs.declared.batch.Status.TheVariants.{Unspent, Locked, Absent}
+use Rattle.cbdc_types.specs.declared.ids.BatchId.{BatchId}
+use Rattle.line_text.specs.Lines.{Text, line, counted}
+
+abbrev pub status_words : Status → List Text
+status_words Unspent = codes "unspent" ∷ []
+status_words (Locked batch) = codes "locked" ∷ decimal batch.lane ∷ decimal batch.number ∷ []
+status_words Absent = codes "absent" ∷ []
+
+abbrev pub status_line : Text → Status → Text
+status_line hash status = line (encode_lower hash ∷ status_words status)
+
+abbrev pub phase_word : Phase → Text
+phase_word Prepared = codes "prepare"
+phase_word Committed = codes "commit"
+phase_word Discarded = codes "discard"
+
+abbrev pub resumed_line : BatchId → Phase → ℕ → ℕ → Text
+resumed_line batch phase confirmed rejected = line (
+    codes "batch" ∷ decimal batch.lane ∷ decimal batch.number ∷ phase_word phase ∷ codes "confirmed" ∷ decimal confirmed
+    ∷ codes "rejected" ∷ decimal rejected ∷ []
+    )
+
+abbrev pub recovery_text : ℕ → ℕ → Text
+recovery_text resumed unspent = counted (codes "resumed") resumed ++ counted (codes "unspent") unspent
+
+abbrev pub audit_text : ℕ → ℕ → ℕ → ℕ → Text
+audit_text coins value minted committed =
+    ((counted (codes "coins") coins ++ counted (codes "value") value) ++ counted (codes "minted") minted)
+    ++ counted (codes "committed") committed
