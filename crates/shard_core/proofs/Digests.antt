@@ -1,5 +1,5 @@
 -- The test of lists of hashes.
-use Rattle.std.proofs.Common.{◌≡◌, Bool, ◌&&◌, List, [], ◌∷◌, refl, ℕ}
+use Rattle.std.proofs.Common.{◌≡◌, List, [], ◌∷◌, refl, ℕ}
 use Rattle.std.specs.Prelude.{bytes_eq}
 use lib.Dec.{eqb}
 use lib.Pointwise.{pointwise}

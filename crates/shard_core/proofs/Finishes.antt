@@ -1,12 +1,12 @@
 -- What a Finish is answered, by the lane's slot.
-use Rattle.std.proofs.Common.{◌≡◌, ℕ, ◌<◌, ◌≤◌, List, Bool, Option, Some, None, arith, refl, ap, sym, ◌∙◌}
+use Rattle.std.proofs.Common.{◌≡◌, ℕ, ◌<◌, ◌≤◌, List, Bool, Some, None, arith, ap, sym, ◌∙◌}
 use Rattle.std.proofs.lemmas.Grind.{common_steps}
-use Rattle.cbdc_types.specs.declared.calls.Refused.TheVariants.{Stale, LaneOpen, NotLocked, NotFinished, OtherPart, OtherOutcome, EarlyStamp}
+use Rattle.cbdc_types.specs.declared.calls.Refused.TheVariants.{Stale, NotLocked, OtherOutcome, EarlyStamp}
 use Rattle.cbdc_model.specs.Records.{Batch, Record, Entry, Reply, lock_of, record_of, decisions_in, stamp_in}
-use Rattle.cbdc_model.specs.Slots.{Phase, slot, slot_stamp, Idle, InLock, InFinish}
-use Rattle.cbdc_model.specs.Replies.{replies, entries}
+use Rattle.cbdc_model.specs.Slots.{Phase, slot, Idle}
+use Rattle.cbdc_model.specs.Replies.{replies}
 use Rattle.cbdc_model.specs.Next.{next_finish, next_stamp, misfit, difference, same_decision, Kept, Append, Refuse}
-use Rattle.dtx_replies.specs.declared.slots.Slot.TheVariants.{Idle as Free, Locked as Taken, Finished}
+use Rattle.dtx_replies.specs.declared.slots.Slot.TheVariants.{Locked as Taken, Finished}
 use Rattle.shard_core.specs.Slots.{SlotStands, batch_in}
 use Rattle.shard_core.specs.Places.{first_place, fits_reply}
 use Rattle.shard_core.proofs.Places.{misfit_is, difference_is}

@@ -1,12 +1,11 @@
 -- What a record leaves of the lanes' slots.
-use Rattle.std.proofs.Common.{◌≡◌, ◌≢◌, ℕ, zero, suc, ◌<◌, List, [], ◌∷◌, Bool, true, false, ◌==◌, Option, Some, None, slice_get, set, arith, refl, ap, sym, ◌∙◌, subst}
+use Rattle.std.proofs.Common.{◌≡◌, ◌≢◌, ℕ, zero, suc, List, [], ◌∷◌, Bool, true, false, ◌==◌, Some, slice_get, set, arith, refl, ap, sym, ◌∙◌, subst}
 use Rattle.std.proofs.lemmas.Bool.Decides.{nat_tests}
-use Rattle.cbdc_model.specs.Records.{Batch, Record, Entry, Reply, Answered, Lock, Finish, Forget, lock_of, record_of, stamp_in, decisions_in}
-use Rattle.cbdc_model.specs.Slots.{Phase, slot, slot_stamp, Idle, InLock, InFinish}
+use Rattle.cbdc_model.specs.Records.{Batch, Record, Entry, Reply, Answered, Lock, Finish, Forget}
 use Rattle.cbdc_model.specs.Replies.{replies, entries}
 use Rattle.dtx_replies.specs.declared.slots.Slot.{Slot as LaneSlot}
 use Rattle.dtx_replies.specs.declared.slots.Slot.TheVariants.{Idle as Free, Locked as Taken, Finished}
-use Rattle.shard_core.specs.Slots.{SlotStands, batch_in}
+use Rattle.shard_core.specs.Slots.{SlotStands}
 
 pub get_set_same : {A : Type 0} (xs : List A) (i : ℕ) (v s : A) → slice_get (set xs i v) i ≡ Some s → s ≡ v
 get_set_same [] i v s h = cc

@@ -4,3 +4,6 @@ pub mod Locks
 pub mod Lanes
 pub mod Places
 pub mod Digests
+pub mod Claims
+pub mod Moves
+pub mod Applies

@@ -1,9 +1,9 @@
 -- What a Lock is answered, by the lane's slot.
-use Rattle.std.proofs.Common.{◌≡◌, ℕ, ◌<◌, ◌≤◌, List, [], Bool, false, Option, Some, None, arith, refl, ap, sym, ◌∙◌}
+use Rattle.std.proofs.Common.{◌≡◌, ℕ, ◌<◌, ◌≤◌, List, [], false, Some, None, arith, ap, sym, ◌∙◌}
 use Rattle.std.proofs.lemmas.Grind.{common_steps}
-use Rattle.cbdc_types.specs.declared.calls.Refused.TheVariants.{Stale, LaneOpen, NotLocked, NotFinished, OtherPart, OtherOutcome, EarlyStamp}
-use Rattle.cbdc_model.specs.Records.{Batch, Record, Entry, Reply, lock_of, record_of, stamp_in}
-use Rattle.cbdc_model.specs.Slots.{Phase, slot, slot_stamp, Idle, InLock, InFinish}
+use Rattle.cbdc_types.specs.declared.calls.Refused.TheVariants.{Stale, LaneOpen, OtherPart, EarlyStamp}
+use Rattle.cbdc_model.specs.Records.{Batch, Record, Entry, lock_of}
+use Rattle.cbdc_model.specs.Slots.{Phase, slot, slot_stamp, Idle}
 use Rattle.cbdc_model.specs.Replies.{replies, entries, answered}
 use Rattle.cbdc_model.specs.Next.{next_lock, next_stamp, is_idle, difference, same_entry, Kept, Append, Refuse}
 use Rattle.shard_core.specs.Slots.{batch_in}

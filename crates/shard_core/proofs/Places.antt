@@ -1,7 +1,7 @@
 -- What a search for the first place finds.
-use Rattle.std.proofs.Common.{◌≡◌, ◌≢◌, ℕ, zero, suc, ◌<◌, ◌≤◌, ◌+◌, Bool, true, false, List, [], ◌∷◌, length, get_or, Option, Some, None, min, arith, refl, ap}
+use Rattle.std.proofs.Common.{◌≡◌, ◌≢◌, ℕ, zero, suc, ◌<◌, Bool, true, false, List, [], ◌∷◌, length, get_or, Option, Some, None, option_map, min, arith, refl, ap}
 use Rattle.std.proofs.lemmas.Grind.{common_steps}
-use Rattle.cbdc_model.specs.Records.{Answered, Reply, Entry}
+use Rattle.cbdc_model.specs.Records.{Answered, Reply}
 use Rattle.cbdc_model.specs.Replies.{replies}
 use mathlib.Core.Bool.{not, beq}
 use Rattle.cbdc_model.specs.Next.{difference, misfit, same_decision}
@@ -54,3 +54,20 @@ other_bool true true h = cc
 other_bool true false h = refl
 other_bool false true h = refl
 other_bool false false h = cc
+
+none_some : {X : Type 0} (o : Option X) → (f : X → X) → None ≡ option_map f o → None ≡ o
+none_some None f h = refl
+none_some (Some x) f h = cc
+
+fits_by : (t : Bool) (r : Reply) (rs : List Reply) (d : Bool) (ds : List Bool) → None ≡ first_place fits_reply (r ∷ rs) (d ∷ ds) → fits_reply r d ≡ t
+    → (None ≡ first_place fits_reply rs ds → length ds ≡ length rs) → length (d ∷ ds) ≡ length (r ∷ rs)
+fits_by true r rs d ds h e rest =
+    let same : length ds ≡ length rs = rest (none_some (first_place fits_reply rs ds) (λ n. suc n) (rw e at h)) in omega (arith, same)
+fits_by false r rs d ds h e rest = let no : None ≡ Some 0 = rw e at h in cc
+
+-- where all places fit, the lists are as long
+pub fits_length : (rs : List Reply) (ds : List Bool) → None ≡ first_place fits_reply rs ds → length ds ≡ length rs
+fits_length [] [] h = refl
+fits_length [] (d ∷ ds) h = cc
+fits_length (r ∷ rs) [] h = cc
+fits_length (r ∷ rs) (d ∷ ds) h = fits_by (fits_reply r d) r rs d ds h refl (λ g. fits_length rs ds g)

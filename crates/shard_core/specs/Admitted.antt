@@ -1,22 +1,41 @@
 -- The condition of taking a record in.
-use Rattle.std.specs.Prelude.{◌≡◌, ℕ, ◌*◌, ◌<◌, ◌≤◌, ◌^◌}
-use Rattle.cbdc_model.specs.Records.{Batch, Record, Genesis, Lock, Finish, Forget, Start, Prepare, Commit, Discard, Done}
+use Rattle.std.specs.Prelude.{◌≡◌, ℕ, ◌*◌, ◌<◌, ◌≤◌, ◌^◌, Bool, List, length, Some, slice_get}
+use Rattle.cbdc_model.specs.Records.{Batch, Entry, Reply, Record, Lock, Finish, Forget}
+use Rattle.cbdc_model.specs.Replies.{entries, replies}
+use Rattle.dtx_replies.specs.declared.slots.Slot.TheVariants.{Locked as Taken}
 use Rattle.shard_core.specs.declared.core_state.ShardCore.{ShardCore}
+use Rattle.shard_core.specs.Stands.{IsReady, IsFree, IsDone}
 
 abbrev pub IsOfLane : ShardCore → Batch → ℕ → Type 0
 IsOfLane core b stamp = (b.lane < core.header.shape.coordinators * core.header.shape.lanes) × (stamp < 2 ^ 63)
 
+-- the batch is locked here, with as many entries as there are decisions
+pub record IsFinishable (core : ShardCore) (b : Batch) (ds : List Bool) : Type 0 where
+  pub part : List Entry
+  pub rs : List Reply
+  pub at : ℕ
+  pub slot : slice_get core.slots b.lane ≡ Some (Taken b.number part rs at)
+  pub replies : length rs ≡ length part
+  pub decisions : length ds ≡ length part
+
 -- the shard can take this record in: its memory is there
+abbrev pub IsLockAdmitted : ShardCore → Record → Type 0
+IsLockAdmitted core (Lock stamp b es) = IsOfLane core b stamp × IsFree core b.lane × IsReady core (entries es) (replies es)
+IsLockAdmitted core other = ⊥
+
+abbrev pub IsFinishAdmitted : ShardCore → Record → Type 0
+IsFinishAdmitted core (Finish stamp b ds) = IsOfLane core b stamp × IsFinishable core b ds
+IsFinishAdmitted core other = ⊥
+
+abbrev pub IsForgetAdmitted : ShardCore → Record → Type 0
+IsForgetAdmitted core (Forget stamp b) = IsOfLane core b stamp × IsDone core b.lane
+IsForgetAdmitted core other = ⊥
+
 abbrev pub IsAdmitted : ShardCore → Record → Type 0
-IsAdmitted core (Lock stamp b es) = IsOfLane core b stamp
-IsAdmitted core (Finish stamp b ds) = IsOfLane core b stamp
-IsAdmitted core (Forget stamp b) = IsOfLane core b stamp
-IsAdmitted core (Genesis header hs) = Unit {0}
-IsAdmitted core (Start header) = Unit {0}
-IsAdmitted core (Prepare stamp b txs) = Unit {0}
-IsAdmitted core (Commit stamp b os) = Unit {0}
-IsAdmitted core (Discard stamp b) = Unit {0}
-IsAdmitted core (Done stamp b) = Unit {0}
+IsAdmitted core (Lock stamp b es) = IsLockAdmitted core (Lock stamp b es)
+IsAdmitted core (Finish stamp b ds) = IsFinishAdmitted core (Finish stamp b ds)
+IsAdmitted core (Forget stamp b) = IsForgetAdmitted core (Forget stamp b)
+IsAdmitted core other = ⊥
 
 -- the batch is one of a lane here, and the stamp is later than the last and within the bound
 abbrev pub IsLaterAt : ShardCore → Batch → ℕ → ℕ → Type 0

@@ -1,10 +1,12 @@
 -- What is answered to a Lock, before any memory is taken.
-use Rattle.std.specs.Prelude.{◌≡◌, ℕ, List, []}
+use Rattle.std.specs.Prelude.{◌≡◌, ℕ, Bool, List, [], length}
 use Rattle.cbdc_model.specs.Records.{Batch, Record, Entry, record_of, lock_of, stamp_in}
 use Rattle.cbdc_model.specs.Replies.{answered, replies}
-use Rattle.cbdc_model.specs.Next.{Plan, RepliesAt, next_lock, next_stamp, Kept, Append, Refuse}
+use Rattle.cbdc_model.specs.Next.{RepliesAt, next_lock, next_stamp, Kept, Append, Refuse}
 use Rattle.dtx_replies.specs.declared.slots.Slot.{Slot as LaneSlot}
 use Rattle.dtx_replies.specs.declared.slots.Slot.TheVariants.{Idle as Free, Locked as Taken, Finished}
+use Rattle.shard_core.specs.declared.plans.StampPlan.{StampPlan}
+use Rattle.shard_core.specs.declared.plans.StampPlan.TheVariants.{Kept as StampKept, Append as StampNext, Refused as StampRefused}
 use Rattle.shard_core.specs.declared.judging.LockAnswer.{LockAnswer}
 use Rattle.shard_core.specs.declared.judging.LockAnswer.TheVariants.{Refused, Again, Next}
 
@@ -29,3 +31,37 @@ abbrev pub RemembersAgain : LockAnswer → LaneSlot → ℕ → Type 0
 RemembersAgain (Refused why) s m = Unit {0}
 RemembersAgain Again s m = Remembers s m
 RemembersAgain Next s m = Unit {0}
+
+-- no batch of the lane is remembered
+abbrev pub IsIdle : LaneSlot → Type 0
+IsIdle (Free n t) = Unit {0}
+IsIdle (Taken n part rs t) = ⊥
+IsIdle (Finished n part rs ds t u) = ⊥
+
+-- no hash is still to come of the lane's batch
+abbrev pub IsPast : LaneSlot → Type 0
+IsPast (Free n t) = Unit {0}
+IsPast (Taken n part rs t) = ⊥
+IsPast (Finished n part rs ds t u) = Unit {0}
+
+-- the slot has this batch locked, with so many replies
+abbrev pub IsLocked : LaneSlot → ℕ → List Bool → Type 0
+IsLocked (Free n t) m given = ⊥
+IsLocked (Taken n part rs t) m given = (n ≡ m) × (length given ≡ length rs)
+IsLocked (Finished n part rs ds t u) m given = ⊥
+
+-- where a record is to be appended, the slot allows it
+abbrev pub IsNextLock : LockAnswer → LaneSlot → Type 0
+IsNextLock (Refused why) s = Unit {0}
+IsNextLock Again s = Unit {0}
+IsNextLock Next s = IsIdle s
+
+abbrev pub IsNextFinish : StampPlan → LaneSlot → ℕ → List Bool → Type 0
+IsNextFinish (StampKept stamp) s m ds = Unit {0}
+IsNextFinish (StampNext stamp) s m ds = IsLocked s m ds
+IsNextFinish (StampRefused why) s m ds = Unit {0}
+
+abbrev pub IsNextForget : StampPlan → LaneSlot → Type 0
+IsNextForget (StampKept stamp) s = Unit {0}
+IsNextForget (StampNext stamp) s = IsPast s
+IsNextForget (StampRefused why) s = Unit {0}

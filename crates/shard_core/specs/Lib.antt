@@ -4,3 +4,7 @@ pub mod Plans
 pub mod Places
 pub mod Stands
 pub mod Judged
+pub mod Agrees
+pub mod Moves
+pub mod Memory
+pub mod Counts

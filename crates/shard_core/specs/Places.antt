@@ -1,5 +1,5 @@
 -- The first place where two lists don't fit.
-use Rattle.std.specs.Prelude.{ℕ, suc, Bool, true, false, ◌||◌, not, List, [], ◌∷◌, if◌then◌else◌, Option, Some, None, option_map}
+use Rattle.std.specs.Prelude.{ℕ, suc, Bool, ◌||◌, not, List, [], ◌∷◌, if◌then◌else◌, Option, Some, None, option_map}
 use Rattle.cbdc_model.specs.Records.{Reply, is_held}
 
 -- the first place where the test fails, or the shorter length; none where the lists are as long and pass everywhere

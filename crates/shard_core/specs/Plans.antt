@@ -1,8 +1,10 @@
 -- What the plans of the calls say.
-use Rattle.std.specs.Prelude.{◌≡◌, ℕ, List, []}
-use Rattle.cbdc_model.specs.Records.{Record, Batch, Entry}
-use Rattle.cbdc_model.specs.Replies.{answered, replies}
-use Rattle.cbdc_model.specs.Next.{Plan, RepliesAt, next_lock, Kept, Append, Refuse}
+use Rattle.std.specs.Prelude.{ℕ, Bool, List}
+use Rattle.cbdc_model.specs.Records.{Batch}
+use Rattle.cbdc_model.specs.Next.{Plan, RepliesAt, Kept, Append, Refuse}
+use Rattle.shard_core.specs.declared.core_state.ShardCore.{ShardCore}
+use Rattle.shard_core.specs.Admitted.{IsFinishable}
+use Rattle.shard_core.specs.Stands.{IsDone}
 use Rattle.shard_core.specs.declared.plans.StampPlan.{StampPlan}
 use Rattle.shard_core.specs.declared.plans.StampPlan.TheVariants.{Kept as StampKept, Append as StampNext, Refused as StampRefused}
 use Rattle.shard_core.specs.declared.plans.LockPlan.{LockPlan}
@@ -22,9 +24,14 @@ lock_plan (LockKept r) = Kept (replies_at r)
 lock_plan (LockNext r) = Append (replies_at r)
 lock_plan (LockRefused why) = Refuse why
 
--- the answer to a Lock: one that was kept, a refusal, or the stamp of the next record
-abbrev pub IsLockPlan : LockPlan → List Record → Batch → List Entry → ℕ → Type 0
-IsLockPlan (LockKept r) J b part cause = next_lock J b part cause ≡ Kept (replies_at r)
-IsLockPlan (LockNext r) J b part cause =
-    next_lock J b part cause ≡ Append (record { given = replies (answered J b [] part); at = r.stamp })
-IsLockPlan (LockRefused why) J b part cause = next_lock J b part cause ≡ Refuse why
+-- where a Finish is to be appended, its batch is locked with as many entries
+abbrev pub IsFinishPlan : StampPlan → ShardCore → Batch → List Bool → Type 0
+IsFinishPlan (StampKept stamp) core b ds = Unit {0}
+IsFinishPlan (StampNext stamp) core b ds = IsFinishable core b ds
+IsFinishPlan (StampRefused why) core b ds = Unit {0}
+
+-- where a Forget is to be appended, its batch is not locked any more
+abbrev pub IsForgetPlan : StampPlan → ShardCore → Batch → Type 0
+IsForgetPlan (StampKept stamp) core b = Unit {0}
+IsForgetPlan (StampNext stamp) core b = IsDone core b.lane
+IsForgetPlan (StampRefused why) core b = Unit {0}

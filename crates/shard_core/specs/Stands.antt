@@ -1,9 +1,13 @@
 -- The journal that a shard stands for.
-use Rattle.std.specs.Prelude.{◌≡◌, ℕ, List, Option, Some, slice_get}
-use Rattle.cbdc_model.specs.Records.{Digest, Record, Entry, Reply, last_stamp}
+use Rattle.std.specs.Prelude.{◌≡◌, ℕ, ◌+◌, ◌<◌, ◌≤◌, ◌^◌, List, length, vec_capacity, Option, Some, None, slice_get}
+use Rattle.cbdc_model.specs.Records.{Digest, Batch, Record, Entry, Reply, last_stamp}
 use Rattle.cbdc_model.specs.Status.{has}
 use Rattle.hash_slots.specs.Entries.{lookup}
 use Rattle.dtx_replies.specs.declared.slots.Slot.{Slot as LaneSlot}
+use Rattle.shard_core.specs.declared.core_state.Ready.{Ready}
+use Rattle.shard_core.specs.Judged.{IsIdle, IsPast}
+use Rattle.shard_core.specs.Agrees.{Agrees}
+use Rattle.shard_core.specs.Moves.{hashes_in}
 use Rattle.shard_core.specs.declared.core_state.ShardCore.{ShardCore}
 use Rattle.shard_core.specs.declared.plans.LockPlan.{LockPlan}
 use Rattle.shard_core.specs.declared.plans.LockPlan.TheVariants.{Kept as LockKept, Append as LockNext, Refused as LockRefused}
@@ -13,6 +17,7 @@ use Rattle.shard_core.specs.Slots.{SlotStands}
 pub record Stands (core : ShardCore) (J : List Record) : Type 0 where
   pub lanes : (lane : ℕ) (s : LaneSlot) → slice_get core.slots lane ≡ Some s → SlotStands s J lane
   pub last : core.last ≡ last_stamp J
+  pub hashes : Agrees core.unspent.hashes core.locks.held J
 
 -- the shard stands for the same journals as before: only room was made
 pub record IsSameState (old new : ShardCore) : Type 0 where
@@ -21,13 +26,30 @@ pub record IsSameState (old new : ShardCore) : Type 0 where
   pub locks : (x : Digest) → lookup new.locks.held x ≡ lookup old.locks.held x
   pub slots : new.slots ≡ old.slots
   pub last : new.last ≡ old.last
+  pub owed : new.owed ≡ old.owed
 
--- the memory for the next Lock holds this part with these replies
-abbrev pub IsReady : ShardCore → List Entry → List Reply → Type 0
-IsReady core part rs = core.ready ≡ Some (record { part = part; replies = rs })
+-- the memory for the next Lock holds this part with these replies, and has room for its decisions
+abbrev pub IsReadyIn : Option Ready → List Entry → List Reply → Type 0
+IsReadyIn None part rs = ⊥
+IsReadyIn (Some r) part rs =
+    (r.part ≡ part) × (r.replies ≡ rs) × (r.count ≡ hashes_in part) × (length part ≤ vec_capacity r.decisions)
+
+-- the memory for a Lock of this part with these replies, and for its Finish, is there
+pub record IsReady (core : ShardCore) (part : List Entry) (rs : List Reply) : Type 0 where
+  pub kept : IsReadyIn core.ready part rs
+  pub pairs : length rs ≡ length part
+  pub locks : hashes_in part ≤ core.locks.spare
+  pub unspent : core.owed + hashes_in part ≤ core.unspent.spare
+  pub fits : core.owed + hashes_in part < 2 ^ 62
+
+abbrev pub IsDone : ShardCore → ℕ → Type 0
+IsDone core lane = (s : LaneSlot) → slice_get core.slots lane ≡ Some s → IsPast s
+
+abbrev pub IsFree : ShardCore → ℕ → Type 0
+IsFree core lane = (s : LaneSlot) → slice_get core.slots lane ≡ Some s → IsIdle s
 
 -- where a Lock is to be appended, the memory for it is there
-abbrev pub IsReadyFor : ShardCore → List Entry → LockPlan → Type 0
-IsReadyFor core part (LockKept r) = Unit {0}
-IsReadyFor core part (LockNext r) = IsReady core part r.replies
-IsReadyFor core part (LockRefused why) = Unit {0}
+abbrev pub IsReadyFor : ShardCore → Batch → List Entry → LockPlan → Type 0
+IsReadyFor core b part (LockKept r) = Unit {0}
+IsReadyFor core b part (LockNext r) = IsReady core part r.replies × IsFree core b.lane
+IsReadyFor core b part (LockRefused why) = Unit {0}

@@ -1,5 +1,5 @@
 // Copies of parts, for the slots.
-ghost use Rattle.std.specs.Prelude.{◌≡◌, IfOk};
+ghost use Rattle.std.specs.Prelude.{◌≡◌, length, IfOk};
 ghost use Rattle.std.specs.Bool.{OnTrue};
 ghost use Rattle.cbdc_model.specs.Replies.{entries as parts_of, replies as replies_of};
 
@@ -52,6 +52,26 @@ pub fn entries_of(alloc: Global, answered: &[Answered]) -> Result<Vec<Entry>, Al
     let mut entries = Vec::with_capacity(alloc, answered.len())?;
     for one in answered {
         entries.push(copy_of_entry(alloc, &one.entry)?)?;
+    }
+    Ok(entries)
+}
+
+/// The entries of a part, each with its reply.
+pub fn answered(
+    alloc: Global,
+    part: &[Entry],
+    replies: &[Reply],
+) -> Result<Vec<Answered>, AllocError>
+    requires { length replies.now ≡ length part.now }
+    ensures entries { IfOk result (λ v. parts_of v.items ≡ part.now) }
+    ensures replies { IfOk result (λ v. replies_of v.items ≡ replies.now) }
+{
+    let mut entries = Vec::with_capacity(alloc, part.len())?;
+    for at in 0..part.len() {
+        entries.push(Answered {
+            entry: copy_of_entry(alloc, &part[at])?,
+            reply: replies[at],
+        })?;
     }
     Ok(entries)
 }

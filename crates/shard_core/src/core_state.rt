@@ -1,8 +1,12 @@
 // The shard: its unspent hashes, its locks and its lanes' slots.
-ghost use Rattle.std.specs.Prelude.{◌≡◌, ◌+◌, ◌*◌, ◌≤◌, ◌<◌, ◌^◌, ◌↔◌, ℕ, length, IsTrue, IfOk, OnOk};
+ghost use Rattle.std.specs.Prelude.{◌≡◌, ◌+◌, ◌*◌, ◌≤◌, ◌<◌, ◌^◌, ◌↔◌, ℕ, length, vec_capacity, Some, slice_get, slice_set, IsTrue, IfOk, OnOk};
+ghost use Rattle.cbdc_model.specs.Records.{Digest};
+ghost use Rattle.cbdc_model.specs.Status.{has};
+ghost use Rattle.shard_core.specs.Moves.{owed_in};
+ghost use Rattle.shard_core.specs.Memory.{HaveMemory, ArePaired};
 ghost use Rattle.cbdc_types.specs.declared.record.Header.{Header};
 
-use crate::applying::{free_held, hash_count, lock_held, make_committed};
+use crate::applying::{hash_count, lock_held, make_committed, return_others, take_committed};
 use crate::comparing::misfit;
 use crate::copying::{copy_of, entries_of, same_replies};
 use crate::judging::{LockAnswer, judge_finish, judge_forget, judge_lock, kept_replies};
@@ -24,6 +28,10 @@ use std::mem;
 struct Ready {
     part: Part,
     replies: List<Reply>,
+    // For the decisions of its Finish.
+    decisions: Vec<bool>,
+    // How many hashes the part has.
+    count: u64,
 }
 
 /// The state of a shard behind its journal, in memory.
@@ -39,8 +47,15 @@ pub struct ShardCore {
     ready: Option<Ready>,
     // For each lane, memory for the decisions of its next Finish.
     decisions: Vec<Vec<bool>>,
+    // How many hashes the locked batches may still bring to the table.
+    owed: u64,
     ghost lanes: { length slots ≡ header.shape.coordinators * header.shape.lanes },
+    ghost memories: { length decisions.items ≡ header.shape.coordinators * header.shape.lanes },
     ghost clock: { last < 2 ^ 63 },
+    ghost memory: { HaveMemory slots decisions.items },
+    ghost paired: { ArePaired slots },
+    ghost owes: { owed ≡ owed_in slots },
+    ghost room: { owed ≤ unspent.spare },
 }
 
 // The bytes that are kept free for the later records of a slot's batch.
@@ -65,18 +80,20 @@ fn are_here(hashes: &[Hash], shards: u32, shard: u32) -> bool
 }
 
 // The decisions in memory that was taken ahead.
-fn decided(memory: Vec<bool>, decisions: &[bool]) -> Decisions {
+fn decided(memory: Vec<bool>, decisions: &[bool]) -> Decisions
+    requires { length decisions.now ≤ vec_capacity memory }
+    ensures { result ≡ decisions.now }
+{
     let mut kept = memory;
-    for commit in decisions {
-        if kept.push(*commit).is_err() {
-            return List::from_vec(kept);
-        }
-    }
+    kept.clear();
+    kept.extend_from_slice(decisions).unwrap();
     List::from_vec(kept)
 }
 
 // A vector for the decisions of each lane, with no memory yet.
-fn empty_decisions(alloc: Global, lanes: u32) -> Result<Vec<Vec<bool>>, AllocError> {
+fn empty_decisions(alloc: Global, lanes: u32) -> Result<Vec<Vec<bool>>, AllocError>
+    ensures { IfOk result (λ v. length v.items ≡ lanes) }
+{
     let mut decisions = Vec::with_capacity(alloc, lanes as usize)?;
     for _lane in 0..lanes {
         decisions.push(Vec::new(alloc))?;
@@ -84,14 +101,23 @@ fn empty_decisions(alloc: Global, lanes: u32) -> Result<Vec<Vec<bool>>, AllocErr
     Ok(decisions)
 }
 
+// Puts other memory in the place of a lane's.
+fn swap_memory(memories: &mut Vec<Vec<bool>>, lane: LaneId, memory: Vec<bool>) -> Vec<bool>
+    requires { lane < length memories.old.items }
+    ensures value { slice_get memories.old.items lane ≡ Some result }
+    ensures after { memories.new.items ≡ slice_set memories.old.items lane memory }
+{
+    mem::replace(&mut memories[lane.0 as usize], memory)
+}
+
 // The set of these hashes.
-fn table_of(alloc: Global, hashes: &[Hash]) -> Result<Table, AllocError> {
+fn table_of(alloc: Global, hashes: &[Hash]) -> Result<Table, AllocError>
+    ensures { IfOk result (λ t. (y : Digest) → has t.hashes y ≡ has hashes.now y) }
+{
     let mut table = Table::new(alloc);
     table.reserve(hashes.len() as u64)?;
     for x in hashes {
-        if 0 < table.spare() {
-            table.insert(*x);
-        }
+        table.insert(*x);
     }
     Ok(table)
 }
@@ -128,17 +154,20 @@ fn decided_in(entries: &[Entry], decisions: &[bool], id: &Hash) -> Option<Rememb
 
 impl ShardCore {
     ghost use Rattle.std.specs.Bool.{OnTrue};
-    ghost use Rattle.std.specs.Prelude.{List as Items, ◌∷◌, Some};
+    ghost use Rattle.std.specs.Prelude.{List as Items, [], ◌∷◌};
     ghost use Rattle.cbdc_model.specs.Records.{Record, Batch, Answered, last_stamp};
-    ghost use Rattle.cbdc_model.specs.Next.{next_finish, next_forget, next_stamp};
-    ghost use Rattle.shard_core.specs.Stands.{Stands, IsSameState, IsReady, IsReadyFor};
+    ghost use Rattle.cbdc_model.specs.Next.{next_lock, next_finish, next_forget, next_stamp};
+    ghost use Rattle.cbdc_model.specs.Status.{status};
+    ghost use Rattle.shard_core.specs.Stands.{Stands, IsSameState, IsReady, IsReadyFor, IsFree, IsDone};
     ghost use Rattle.cbdc_model.specs.Replies.{entries as entries_in, replies as replies_in};
-    ghost use Rattle.shard_core.specs.Plans.{stamp_plan, IsLockPlan};
-    ghost use Rattle.shard_core.specs.Admitted.{IsAdmitted, IsOfLane, IsLaterAt};
+    ghost use Rattle.shard_core.specs.Plans.{stamp_plan, lock_plan, IsFinishPlan, IsForgetPlan};
+    ghost use Rattle.shard_core.specs.Admitted.{IsAdmitted, IsLockAdmitted, IsFinishAdmitted, IsForgetAdmitted, IsOfLane, IsLaterAt, IsFinishable};
+    ghost use Rattle.shard_core.specs.Counts.{Counts};
 
     /// The shard with this header whose journal holds the Genesis of these hashes alone.
     pub fn new(alloc: Global, header: &Header, hashes: &[Hash]) -> Result<ShardCore, AllocError>
         ensures header { IfOk result (λ core. core.header ≡ header.now) }
+        ensures stands { IfOk result (λ core. Stands core (Record.Genesis header.now hashes.now ∷ [])) }
     {
         let lanes = header.shape.lane_count();
         let slots = Slots::new(alloc, lanes)?;
@@ -153,6 +182,7 @@ impl ShardCore {
             last: Stamp(0),
             ready: None,
             decisions,
+            owed: 0,
         })
     }
 
@@ -184,8 +214,8 @@ impl ShardCore {
         requires lane { call.now.batch.lane < self.old.header.shape.coordinators * self.old.header.shape.lanes }
         requires cause { call.now.cause < 2 ^ 63 }
         ensures same { IsSameState self.old self.new }
-        ensures ready { IfOk result (IsReadyFor self.new call.now.part) }
-        ensures plan { IfOk result (λ p. (J : Items Record) → Stands self.old J → IsLockPlan p J call.now.batch call.now.part call.now.cause) }
+        ensures ready { IfOk result (IsReadyFor self.new call.now.batch call.now.part) }
+        ensures plan { IfOk result (λ p. (J : Items Record) → Stands self.old J → lock_plan p ≡ next_lock J call.now.batch call.now.part call.now.cause) }
     {
         let slot = self.slots.slot(call.batch.lane);
         match judge_lock(slot, call) {
@@ -202,7 +232,7 @@ impl ShardCore {
                     &call.batch,
                 )?;
                 let part = copy_of(self.alloc, entries)?;
-                self.make_room(call.batch.lane, List::from_vec(part), replies.as_slice())?;
+                self.make_room(List::from_vec(part), replies.as_slice())?;
                 Ok(LockPlan::Append(Replied {
                     replies: List::from_vec(replies),
                     stamp,
@@ -212,44 +242,31 @@ impl ShardCore {
     }
 
     // Takes the memory for a Lock of this part with these replies, and for its Finish.
-    fn make_room(&mut self, lane: LaneId, part: Part, replies: &[Reply]) -> Result<(), AllocError>
+    fn make_room(&mut self, part: Part, replies: &[Reply]) -> Result<(), AllocError>
+        requires { length replies.now ≡ length part }
         ensures same { IsSameState self.old self.new }
         ensures ready { OnOk result (IsReady self.new part replies.now) }
     {
         let count = hash_count(part.as_slice());
         let kept = Vec::from_slice(self.alloc, replies)?;
+        let decisions = Vec::with_capacity(self.alloc, part.len())?;
         self.locks.reserve(count)?;
-        let owed = self.owed();
-        self.unspent.reserve(owed.saturating_add(count))?;
-        let at = lane.0 as usize;
-        if at < self.decisions.len() {
-            let memory = &mut self.decisions[at];
-            memory.clear();
-            memory.reserve(replies.len())?;
-        }
+        self.unspent.reserve(self.owed.saturating_add(count))?;
         self.ready = Some(Ready {
             part,
             replies: List::from_vec(kept),
+            decisions,
+            count,
         });
         Ok(())
-    }
-
-    // How many hashes the locked batches may still bring to the table.
-    fn owed(&self) -> u64 {
-        let mut count = 0u64;
-        for lane in 0..self.header.shape.lane_count() {
-            if let Slot::Locked(_, part, _, _) = self.slots.slot(LaneId(lane)) {
-                count = count.saturating_add(hash_count(part.as_slice()));
-            }
-        }
-        count
     }
 
     /// What a Finish is answered. Takes no memory.
     pub fn plan_finish(&self, call: &FinishCall) -> StampPlan
         requires lane { call.now.batch.lane < self.now.header.shape.coordinators * self.now.header.shape.lanes }
         requires cause { call.now.cause < 2 ^ 63 }
-        ensures { (J : Items Record) → Stands self.now J → stamp_plan result ≡ next_finish J call.now.batch call.now.decisions call.now.cause }
+        ensures plan { (J : Items Record) → Stands self.now J → stamp_plan result ≡ next_finish J call.now.batch call.now.decisions call.now.cause }
+        ensures ready { IsFinishPlan result self.now call.now.batch call.now.decisions }
     {
         let next = self.next_stamp(call.cause);
         judge_finish(self.slots.slot(call.batch.lane), call, next)
@@ -259,7 +276,8 @@ impl ShardCore {
     pub fn plan_forget(&self, call: &ForgetCall) -> StampPlan
         requires lane { call.now.batch.lane < self.now.header.shape.coordinators * self.now.header.shape.lanes }
         requires cause { call.now.cause < 2 ^ 63 }
-        ensures { (J : Items Record) → Stands self.now J → stamp_plan result ≡ next_forget J call.now.batch call.now.cause }
+        ensures plan { (J : Items Record) → Stands self.now J → stamp_plan result ≡ next_forget J call.now.batch call.now.cause }
+        ensures ready { IsForgetPlan result self.now call.now.batch }
     {
         let next = self.next_stamp(call.cause);
         judge_forget(self.slots.slot(call.batch.lane), call, next)
@@ -295,6 +313,7 @@ impl ShardCore {
     ) -> Result<bool, AllocError>
         ensures same { IsSameState self.old self.new }
         ensures admitted { IfOk result (λ yes. OnTrue yes (IsOfLane self.new batch.now stamp)) }
+        ensures free { IfOk result (λ yes. OnTrue yes (IsFree self.new batch.now.lane)) }
         ensures ready { IfOk result (λ yes. OnTrue yes (IsReady self.new (entries_in answered.now) (replies_in answered.now))) }
     {
         if !self.is_next_lock(stamp, batch, answered) {
@@ -311,7 +330,7 @@ impl ShardCore {
         if !same_replies(answered, replies.as_slice()) {
             return Ok(false);
         }
-        self.make_room(batch.lane, List::from_vec(entries), replies.as_slice())?;
+        self.make_room(List::from_vec(entries), replies.as_slice())?;
         Ok(true)
     }
 
@@ -328,6 +347,7 @@ impl ShardCore {
 
     fn is_next_lock(&self, stamp: Stamp, batch: &BatchId, answered: &[Answered]) -> bool
         ensures later { OnTrue result (IsLaterAt self.now batch.now stamp (2 ^ 62)) }
+        ensures free { OnTrue result (IsFree self.now batch.now.lane) }
     {
         if !self.is_later(stamp, batch, 1 << 62) || answered.is_empty() {
             return false;
@@ -361,6 +381,7 @@ impl ShardCore {
 
     fn is_next_finish(&self, stamp: Stamp, batch: &BatchId, decisions: &[bool]) -> bool
         ensures later { OnTrue result (IsLaterAt self.now batch.now stamp (2 ^ 62 + 2 ^ 20)) }
+        ensures locked { OnTrue result (IsFinishable self.now batch.now decisions.now) }
     {
         if !self.is_later(stamp, batch, (1 << 62) + (1 << 20)) {
             return false;
@@ -375,6 +396,7 @@ impl ShardCore {
 
     fn is_next_forget(&self, stamp: Stamp, batch: &BatchId) -> bool
         ensures later { OnTrue result (IsLaterAt self.now batch.now stamp (2 ^ 62 + 2 ^ 20)) }
+        ensures done { OnTrue result (IsDone self.now batch.now.lane) }
     {
         if !self.is_later(stamp, batch, (1 << 62) + (1 << 20)) {
             return false;
@@ -387,9 +409,8 @@ impl ShardCore {
 
     /// Takes in a Lock that was appended. Takes no memory.
     pub fn apply_lock(&mut self, r: &Record)
-        requires { IsAdmitted self.old r.now }
-        ensures stands { (J : Items Record) (stamp : ℕ) (b : Batch) (es : Items Answered) → r.now ≡ Record.Lock stamp b es → IsReady self.old (entries_in es) (replies_in es)
-            → Stands self.old J → Stands self.new (r.now ∷ J) }
+        requires { IsLockAdmitted self.old r.now }
+        ensures stands { (J : Items Record) → Stands self.old J → Stands self.new (r.now ∷ J) }
         ensures header { self.new.header ≡ self.old.header }
     {
         let Record::Lock {
@@ -398,12 +419,15 @@ impl ShardCore {
             entries,
         } = r
         else {
-            return;
+            unreachable!();
         };
-        let Some(ready) = self.ready.take() else {
-            return;
-        };
-        let Ready { part, replies } = ready;
+        let ready = self.ready.take().unwrap();
+        let Ready {
+            part,
+            replies,
+            decisions,
+            count,
+        } = ready;
         lock_held(
             &mut self.unspent,
             &mut self.locks,
@@ -412,12 +436,15 @@ impl ShardCore {
         );
         let slot = Slot::Locked(batch.number, part, replies, *stamp);
         self.slots.put(batch.lane, slot);
+        swap_memory(&mut self.decisions, batch.lane, decisions);
+        self.owed += count;
         self.last = *stamp;
     }
 
     /// Takes in a Finish that was appended. Takes no memory.
     pub fn apply_finish(&mut self, r: &Record)
-        requires { IsAdmitted self.old r.now }
+        requires { IsFinishAdmitted self.old r.now }
+        ensures stands { (J : Items Record) → Stands self.old J → Stands self.new (r.now ∷ J) }
         ensures header { self.new.header ≡ self.old.header }
     {
         let Record::Finish {
@@ -426,57 +453,49 @@ impl ShardCore {
             decisions,
         } = r
         else {
-            return;
+            unreachable!();
         };
-        let memory = self.take_memory(batch.lane);
-        let slot = self.slots.take(batch.lane);
-        let next = finished(
-            &mut self.unspent,
-            &mut self.locks,
-            slot,
-            memory,
-            decisions.as_slice(),
-            *stamp,
-        );
-        self.slots.put(batch.lane, next);
+        let Slot::Locked(number, part, replies, at) = self.slots.take(batch.lane) else {
+            unreachable!();
+        };
+        let ds = decisions.as_slice();
+        let unspent = &mut self.unspent;
+        let locks = &mut self.locks;
+        take_committed(unspent, locks, part.as_slice(), ds);
+        return_others(unspent, locks, part.as_slice(), replies.as_slice(), ds);
+        make_committed(unspent, locks, part.as_slice(), ds);
+        self.owed -= hash_count(part.as_slice());
+        let memory = swap_memory(&mut self.decisions, batch.lane, Vec::new(self.alloc));
+        let kept = decided(memory, ds);
+        let slot = Slot::Finished(number, part, replies, kept, at, *stamp);
+        self.slots.put(batch.lane, slot);
         self.last = *stamp;
-    }
-
-    // Takes out the memory for a lane's decisions.
-    fn take_memory(&mut self, lane: LaneId) -> Vec<bool>
-        ensures header { self.new.header ≡ self.old.header }
-        ensures slots { self.new.slots ≡ self.old.slots }
-        ensures last { self.new.last ≡ self.old.last }
-    {
-        let at = lane.0 as usize;
-        let empty = Vec::new(self.alloc);
-        if at < self.decisions.len() {
-            mem::replace(&mut self.decisions[at], empty)
-        } else {
-            empty
-        }
     }
 
     /// Takes in a Forget that was appended. Takes no memory.
     pub fn apply_forget(&mut self, r: &Record)
-        requires { IsAdmitted self.old r.now }
-        ensures stands { (J : Items Record) (stamp : ℕ) (b : Batch) → r.now ≡ Record.Forget stamp b → Stands self.old J → Stands self.new (r.now ∷ J) }
+        requires { IsForgetAdmitted self.old r.now }
+        ensures stands { (J : Items Record) → Stands self.old J → Stands self.new (r.now ∷ J) }
         ensures header { self.new.header ≡ self.old.header }
     {
         let Record::Forget { stamp, batch } = r else {
-            return;
+            unreachable!();
         };
         self.slots.put(batch.lane, Slot::Idle(batch.number, *stamp));
         self.last = *stamp;
     }
 
     /// What the shard knows of a hash. Takes no memory.
-    pub fn check_unspent(&self, x: &Hash) -> Status {
+    pub fn check_unspent(&self, x: &Hash) -> Status
+        ensures { (J : Items Record) → Stands self.now J → result ≡ status J x.now }
+    {
         status_of(&self.unspent, &self.locks, x)
     }
 
     /// How many hashes are unspent. Takes no memory.
-    pub fn unspent_len(&self) -> u64 {
+    pub fn unspent_len(&self) -> u64
+        ensures { (J : Items Record) → Stands self.now J → Counts J result }
+    {
         self.unspent.len()
     }
 
@@ -499,30 +518,5 @@ impl ShardCore {
             room = room.saturating_add(room_of(self.slots.slot(LaneId(lane))));
         }
         room
-    }
-}
-
-// What a Finish makes of a slot, of the hashes and of the locks.
-fn finished(
-    unspent: &mut Table,
-    locks: &mut Locks,
-    slot: Slot,
-    memory: Vec<bool>,
-    decisions: &[bool],
-    stamp: Stamp,
-) -> Slot {
-    match slot {
-        Slot::Locked(number, part, replies, at) => {
-            free_held(
-                unspent,
-                locks,
-                part.as_slice(),
-                replies.as_slice(),
-                decisions,
-            );
-            make_committed(unspent, part.as_slice(), decisions);
-            Slot::Finished(number, part, replies, decided(memory, decisions), at, stamp)
-        }
-        other => other,
     }
 }

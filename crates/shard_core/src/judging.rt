@@ -1,5 +1,5 @@
 // What a call is answered, by the slot of its lane.
-ghost use Rattle.std.specs.Prelude.{◌≡◌, false, ◌≤◌, ◌<◌, MatchBool, IfOk, ℕ, List as Items};
+ghost use Rattle.std.specs.Prelude.{◌≡◌, ◌≢◌, false, ◌≤◌, ◌<◌, MatchBool, IfOk, ℕ, List as Items};
 ghost use Rattle.cbdc_model.specs.Records.{Record, Entry, Reply, Batch};
 ghost use Rattle.cbdc_model.specs.Next.{next_forget, next_finish, next_stamp};
 ghost use Rattle.cbdc_model.specs.Records.{lock_of};
@@ -7,7 +7,7 @@ ghost use Rattle.cbdc_model.specs.Next.{is_idle};
 ghost use Rattle.cbdc_model.specs.Slots.{Phase, slot as slot_of};
 ghost use Rattle.cbdc_model.specs.Replies.{entries};
 ghost use Rattle.shard_core.specs.Slots.{SlotStands, number_in, batch_in};
-ghost use Rattle.shard_core.specs.Judged.{IsJudged, Remembers, RemembersAgain, kept_at};
+ghost use Rattle.shard_core.specs.Judged.{IsJudged, IsNextLock, IsNextFinish, IsNextForget, Remembers, RemembersAgain, kept_at};
 ghost use Rattle.shard_core.specs.Plans.{stamp_plan, replies_at};
 
 use crate::comparing::{misfit, other_decisions, other_part};
@@ -53,6 +53,7 @@ fn lock_idle(number: u64, stamp: Stamp, call: &LockCall) -> LockAnswer
 
 // What a Lock is answered where the lane's last batch is remembered with this part.
 fn lock_open(number: u64, part: &[Entry], call: &LockCall) -> LockAnswer
+    ensures not_next { result ≢ LockAnswer.Next }
     ensures judged { (J : Items Record) (p : Phase) → slot_of J call.now.batch.lane ≡ record { number = number; phase = p } → is_idle p ≡ false
         → entries (lock_of J (batch_in call.now.batch.lane number)) ≡ part.now → IsJudged result J call.now.batch call.now.part call.now.cause }
     ensures again { result ≡ LockAnswer.Again → call.now.batch.number ≡ number }
@@ -72,6 +73,7 @@ fn lock_open(number: u64, part: &[Entry], call: &LockCall) -> LockAnswer
 
 // What a Lock of the lane of this slot is answered.
 pub fn judge_lock(slot: &Slot, call: &LockCall) -> LockAnswer
+    ensures next { IsNextLock result slot.now }
     ensures again { RemembersAgain result slot.now call.now.batch.number }
     ensures judged { (J : Items Record) → SlotStands slot.now J call.now.batch.lane → IsJudged result J call.now.batch call.now.part call.now.cause }
 {
@@ -108,7 +110,8 @@ fn replied(alloc: Global, replies: &List<Reply>, stamp: Stamp) -> Result<Replied
 // What a Finish is answered where no batch of the lane is remembered.
 #[tactic(auto, using(crate::proofs::Finishes::finishes))]
 fn finish_idle(number: u64, call: &FinishCall) -> StampPlan
-    ensures { (J : Items Record) (t : ℕ) → SlotStands (Slot.Idle number t) J call.now.batch.lane
+    ensures next { (t : ℕ) → IsNextFinish result (Slot.Idle number t) call.now.batch.number call.now.decisions }
+    ensures plan { (J : Items Record) (t : ℕ) → SlotStands (Slot.Idle number t) J call.now.batch.lane
         → stamp_plan result ≡ next_finish J call.now.batch call.now.decisions call.now.cause }
 {
     if call.batch.number <= number {
@@ -127,7 +130,8 @@ fn finish_locked(
     call: &FinishCall,
     next: Stamp,
 ) -> StampPlan
-    ensures { (J : Items Record) (part : Items Entry) → SlotStands (Slot.Locked number part replies.now stamp) J call.now.batch.lane
+    ensures next { (part : Items Entry) → IsNextFinish result (Slot.Locked number part replies.now stamp) call.now.batch.number call.now.decisions }
+    ensures plan { (J : Items Record) (part : Items Entry) → SlotStands (Slot.Locked number part replies.now stamp) J call.now.batch.lane
         → next ≡ next_stamp J call.now.cause
         → stamp_plan result ≡ next_finish J call.now.batch call.now.decisions call.now.cause }
 {
@@ -150,7 +154,8 @@ fn finish_locked(
 // What a Finish is answered where the lane's last batch is finished with these decisions, under this stamp.
 #[tactic(auto, using(crate::proofs::Finishes::finishes))]
 fn finish_again(number: u64, decisions: &[bool], stamp: Stamp, call: &FinishCall) -> StampPlan
-    ensures { (J : Items Record) (part : Items Entry) (rs : Items Reply) (t : ℕ) → SlotStands (Slot.Finished number part rs decisions.now t stamp) J call.now.batch.lane
+    ensures next { (part : Items Entry) (rs : Items Reply) (t : ℕ) → IsNextFinish result (Slot.Finished number part rs decisions.now t stamp) call.now.batch.number call.now.decisions }
+    ensures plan { (J : Items Record) (part : Items Entry) (rs : Items Reply) (t : ℕ) → SlotStands (Slot.Finished number part rs decisions.now t stamp) J call.now.batch.lane
         → stamp_plan result ≡ next_finish J call.now.batch call.now.decisions call.now.cause }
 {
     let given = call.batch.number;
@@ -168,7 +173,8 @@ fn finish_again(number: u64, decisions: &[bool], stamp: Stamp, call: &FinishCall
 
 // What a Finish of the lane of this slot is answered, where `next` is the stamp of a new record.
 pub fn judge_finish(slot: &Slot, call: &FinishCall, next: Stamp) -> StampPlan
-    ensures { (J : Items Record) → SlotStands slot.now J call.now.batch.lane → next ≡ next_stamp J call.now.cause
+    ensures next { IsNextFinish result slot.now call.now.batch.number call.now.decisions }
+    ensures plan { (J : Items Record) → SlotStands slot.now J call.now.batch.lane → next ≡ next_stamp J call.now.cause
         → stamp_plan result ≡ next_finish J call.now.batch call.now.decisions call.now.cause }
 {
     match slot {
@@ -203,7 +209,8 @@ fn late_enough(stamp: Stamp, cause: Stamp, next: Stamp) -> StampPlan
 // What a Forget of the lane of this slot is answered.
 #[tactic(auto, using(crate::proofs::Forgets::forgets))]
 pub fn judge_forget(slot: &Slot, call: &ForgetCall, next: Stamp) -> StampPlan
-    ensures { (J : Items Record) → SlotStands slot.now J call.now.batch.lane → next ≡ next_stamp J call.now.cause
+    ensures next { IsNextForget result slot.now }
+    ensures plan { (J : Items Record) → SlotStands slot.now J call.now.batch.lane → next ≡ next_stamp J call.now.cause
         → stamp_plan result ≡ next_forget J call.now.batch call.now.cause }
 {
     let given = call.batch.number;

@@ -11,5 +11,6 @@ mod replying;
 #[cfg(test)]
 mod tests;
 
+pub use copying::answered;
 pub use core_state::ShardCore;
 pub use plans::{LockPlan, Remembered, StampPlan};

@@ -1,12 +1,20 @@
 // What a shard replies to a part.
-use cbdc_types::{BatchId, Entry, Hash, List, Reply, Status};
+ghost use Rattle.std.specs.Prelude.{◌≡◌, ◌||◌, List as Items, [], length, IfOk, OnOk};
+ghost use Rattle.cbdc_model.specs.Records.{Digest, Record};
+ghost use Rattle.cbdc_model.specs.Status.{has, status};
+ghost use Rattle.cbdc_model.specs.Replies.{refusal, reply_to as the_reply, answered, replies as replies_in};
+ghost use Rattle.shard_core.specs.Agrees.{Agrees};
+
+use crate::comparing::is_held;
+use cbdc_types::{BatchId, Entry, Hash, Reply, Status};
 use shard_locks::Locks;
 use shard_table::Table;
 use std::alloc::{AllocError, Global};
-use std::collections::HashSet;
 
 /// What the table and the locks say of a hash.
-pub fn status_of(unspent: &Table, locks: &Locks, x: &Hash) -> Status {
+pub fn status_of(unspent: &Table, locks: &Locks, x: &Hash) -> Status
+    ensures { (J : Items Record) → Agrees unspent.now.hashes locks.now.held J → result ≡ status J x.now }
+{
     if unspent.contains(x) {
         return Status::Unspent;
     }
@@ -16,18 +24,20 @@ pub fn status_of(unspent: &Table, locks: &Locks, x: &Hash) -> Status {
     }
 }
 
-// Why an input can't be held, or Held.
-fn reply_to_input(status: Status, x: &Hash, claimed: bool, batch: &BatchId) -> Reply {
+// Why an input can't be held, if it can't.
+fn refused(status: Status, x: &Hash, claimed: bool, batch: &BatchId) -> Option<Reply>
+    ensures { result ≡ refusal status x.now claimed batch.now }
+{
     match status {
         Status::Unspent => {
             if claimed {
-                Reply::Locked(*x, *batch)
+                Some(Reply::Locked(*x, *batch))
             } else {
-                Reply::Held
+                None
             }
         }
-        Status::Locked(by) => Reply::Locked(*x, by),
-        Status::Absent => Reply::Missing(*x),
+        Status::Locked(by) => Some(Reply::Locked(*x, by)),
+        Status::Absent => Some(Reply::Missing(*x)),
     }
 }
 
@@ -35,14 +45,16 @@ fn reply_to_input(status: Status, x: &Hash, claimed: bool, batch: &BatchId) -> R
 fn reply_to(
     unspent: &Table,
     locks: &Locks,
-    claimed: &HashSet<Hash>,
+    claimed: &Table,
     inputs: &[Hash],
     batch: &BatchId,
-) -> Reply {
+) -> Reply
+    ensures { (J : Items Record) (before : Items Digest) → Agrees unspent.now.hashes locks.now.held J → ((y : Digest) → has claimed.now.hashes y ≡ has before y)
+        → result ≡ the_reply J batch.now before inputs.now }
+{
     for x in inputs {
         let status = status_of(unspent, locks, x);
-        let reply = reply_to_input(status, x, claimed.contains(x), batch);
-        if reply != Reply::Held {
+        if let Some(reply) = refused(status, x, claimed.contains(x), batch) {
             return reply;
         }
     }
@@ -50,9 +62,12 @@ fn reply_to(
 }
 
 // Adds the inputs of a Held entry to those that are claimed.
-fn claim(claimed: &mut HashSet<Hash>, inputs: &[Hash]) -> Result<(), AllocError> {
+fn claim(claimed: &mut Table, inputs: &[Hash]) -> Result<(), AllocError>
+    ensures { OnOk result ((y : Digest) → has claimed.new.hashes y ≡ (has inputs.now y || has claimed.old.hashes y)) }
+{
+    claimed.reserve(inputs.len() as u64)?;
     for x in inputs {
-        claimed.insert(*x)?;
+        claimed.insert(*x);
     }
     Ok(())
 }
@@ -64,13 +79,16 @@ pub fn replies_to(
     locks: &Locks,
     entries: &[Entry],
     batch: &BatchId,
-) -> Result<Vec<Reply>, AllocError> {
-    let mut claimed = HashSet::new(alloc);
+) -> Result<Vec<Reply>, AllocError>
+    ensures len { IfOk result (λ v. length v.items ≡ length entries.now) }
+    ensures replies { IfOk result (λ v. (J : Items Record) → Agrees unspent.now.hashes locks.now.held J → v.items ≡ replies_in (answered J batch.now [] entries.now)) }
+{
+    let mut claimed = Table::new(alloc);
     let mut replies = Vec::with_capacity(alloc, entries.len())?;
     for entry in entries {
         let inputs = entry.inputs.as_slice();
         let reply = reply_to(unspent, locks, &claimed, inputs, batch);
-        if reply == Reply::Held {
+        if is_held(&reply) {
             claim(&mut claimed, inputs)?;
         }
         replies.push(reply)?;

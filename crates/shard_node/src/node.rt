@@ -3,19 +3,20 @@ ghost use Rattle.std.specs.Prelude.{◌≡◌, ◌≢◌, ◌+◌, ◌≤◌, �
 ghost use Rattle.outside.specs.Counts.{Rose};
 ghost use Rattle.gate_journal.specs.Shown.{disk_of};
 ghost use Rattle.shard_core.specs.Admitted.{IsAdmitted};
+ghost use Rattle.shard_core.specs.Stands.{IsReady, IsFree};
 ghost use Rattle.shard_node.specs.Conditions.{IsCallOf};
 
 use crate::faults::fault_of;
 use crate::pure::Core;
 use crate::room::{Room, behind_lock};
 use cbdc_types::{
-    Answered, BatchId, FinishCall, ForgetCall, Hash, Header, List, LockCall, NodeFault, Part,
-    Record, Replied, Reply, Stamp, Status,
+    BatchId, FinishCall, ForgetCall, Hash, Header, List, LockCall, NodeFault, Record, Replied,
+    Stamp, Status,
 };
 use outside::Disk;
 use record_codec::size_of_record;
 use record_log::RecordLog;
-use shard_core::{LockPlan, Remembered, StampPlan};
+use shard_core::{LockPlan, Remembered, StampPlan, answered};
 use std::alloc::{AllocError, Global};
 
 /// The most bytes that memory is taken for.
@@ -35,23 +36,6 @@ pub struct ShardNode<D: Disk> {
     room: Room,
     alloc: Global,
     ghost same: { core.shard.header ≡ log.header },
-}
-
-// A part with its replies.
-fn answered(
-    alloc: Global,
-    part: &Part,
-    replies: &List<Reply>,
-) -> Result<List<Answered>, AllocError> {
-    let mut entries = Vec::with_capacity(alloc, part.len())?;
-    'entries: for (entry, reply) in part.as_slice().iter().zip(replies.as_slice()) {
-        let entry = entry.clone()?;
-        entries.push(Answered {
-            entry,
-            reply: *reply,
-        })?;
-    }
-    Ok(List::from_vec(entries))
 }
 
 impl<D: Disk> ShardNode<D> {
@@ -99,7 +83,9 @@ impl<D: Disk> ShardNode<D> {
 
     // Writes a Lock, where its stamp and its room allow it.
     fn write_lock(&mut self, call: &LockCall, replied: &Replied) -> Result<(), NodeFault>
-        requires { IsCallOf self.old.log.header.shape call.now.batch call.now.cause }
+        requires call { IsCallOf self.old.log.header.shape call.now.batch call.now.cause }
+        requires ready { IsReady self.old.core.shard call.now.part replied.now.replies }
+        requires free { IsFree self.old.core.shard call.now.batch.lane }
         ensures header { self.new.log.header ≡ self.old.log.header }
         ensures as_before { OnErr result (self.new.log.records.items ≡ self.old.log.records.items) }
         ensures fault { IsErrOf result NodeFault.DiskFault → Rose (D.count (disk_of self.old.log.journal)) (D.count (disk_of self.new.log.journal)) }
@@ -110,14 +96,15 @@ impl<D: Disk> ShardNode<D> {
                 stamp: replied.stamp,
             });
         }
-        let Ok(entries) = answered(self.alloc, &call.part, &replied.replies) else {
+        let part = call.part.as_slice();
+        let Ok(entries) = answered(self.alloc, part, replied.replies.as_slice()) else {
             return Err(NodeFault::Memory);
         };
         let count = entries.len();
         let next = Record::Lock {
             stamp: replied.stamp,
             batch: call.batch,
-            entries,
+            entries: List::from_vec(entries),
         };
         let size = size_of_record(&next);
         if size > LARGEST {
@@ -147,6 +134,7 @@ impl<D: Disk> ShardNode<D> {
         ensures faults { D.count (disk_of self.new.log.journal) ≡ D.count (disk_of self.old.log.journal) }
         ensures header { self.new.log.header ≡ self.old.log.header }
         ensures records { self.new.log.records.items ≡ self.old.log.records.items }
+        ensures core { self.new.core ≡ self.old.core }
     {
         self.room.reserve(batch, entries)?;
         let ahead = self.room.open_lanes().saturating_mul(2).saturating_add(3);

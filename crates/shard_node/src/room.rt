@@ -1,5 +1,5 @@
 // What is kept free for the later records of unfinished batches, lane by lane, with the memory for them.
-ghost use Rattle.std.specs.Prelude.{◌≡◌, ◌+◌, ◌*◌, ◌≤◌, ◌<◌, length, IfOk};
+ghost use Rattle.std.specs.Prelude.{◌≡◌, ◌+◌, ◌*◌, ◌≤◌, ◌<◌, length, IfOk, IfSome};
 
 use cbdc_types::{BatchId, List, Record};
 use std::alloc::{AllocError, Global};
@@ -69,7 +69,9 @@ impl Room {
     }
 
     /// The decisions as a list of their own, in memory that was taken before. None where it was not.
-    pub fn decisions(&mut self, batch: BatchId, decisions: &[bool]) -> Option<List<bool>> {
+    pub fn decisions(&mut self, batch: BatchId, decisions: &[bool]) -> Option<List<bool>>
+        ensures { IfSome result (λ l. l ≡ decisions.now) }
+    {
         let lane = self.lanes.get_mut(batch.lane.0 as usize)?;
         lane.decisions.clear();
         if lane.decisions.extend_from_slice(decisions).is_err() {

@@ -1,5 +1,4 @@
-use Rattle.std.proofs.Common.{◌≡◌, ℕ, ◌<◌, Bool, true, false, get_or, arith}
-use Rattle.std.proofs.lemmas.Grind.{common_steps}
+use Rattle.std.proofs.Common.{false, arith}
 use Rattle.cbdc_model.specs.Next.{same_decision}
 use Rattle.shard_core.proofs.Places.{found_at, found_none, found_short, other_bool}
 use Rattle.shard_core.proofs.comparing.other_decisions.Goals as goal

@@ -1,5 +1,4 @@
-use Rattle.std.proofs.Common.{◌≡◌, ℕ, ◌<◌, Bool, true, false, get_or, arith, sym, ◌∙◌}
-use Rattle.std.proofs.lemmas.Grind.{common_steps}
+use Rattle.std.proofs.Common.{arith, sym, ◌∙◌}
 use Rattle.cbdc_model.specs.Next.{same_entry}
 use Rattle.shard_core.proofs.Places.{found_at, found_none, found_short}
 use Rattle.shard_core.proofs.comparing.other_part.Goals as goal

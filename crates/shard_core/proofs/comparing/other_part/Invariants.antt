@@ -1,4 +1,4 @@
-use Rattle.std.proofs.Common.{◌≡◌, ℕ, ◌<◌, Bool, true, get_or}
+use Rattle.std.proofs.Common.{◌≡◌, ℕ, ◌<◌, true, get_or}
 use Rattle.cbdc_model.specs.Records.{Entry}
 use Rattle.cbdc_model.specs.Next.{same_entry}
 use Rattle.shard_core.proofs.comparing.other_part.Given as goal

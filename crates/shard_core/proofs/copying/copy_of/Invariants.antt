@@ -1,6 +1,4 @@
-use Rattle.std.proofs.Common.{◌≡◌, ℕ, ◌<◌, take, get_or}
-use Rattle.cbdc_model.specs.Records.{Answered, Reply}
-use Rattle.cbdc_model.specs.Replies.{entries}
+use Rattle.std.proofs.Common.{◌≡◌, take}
 use Rattle.shard_core.proofs.copying.copy_of.Given as goal
 
 abbrev pub invariant-loop-entry : goal.invariant-loop-entry

@@ -1,5 +1,4 @@
-use Rattle.std.proofs.Common.{◌≡◌, ℕ, ◌<◌, take, get_or}
-use Rattle.cbdc_model.specs.Records.{Answered, Reply}
+use Rattle.std.proofs.Common.{◌≡◌, take}
 use Rattle.cbdc_model.specs.Replies.{entries}
 use Rattle.shard_core.proofs.copying.entries_of.Given as goal
 

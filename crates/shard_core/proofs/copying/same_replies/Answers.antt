@@ -1,4 +1,4 @@
-use Rattle.std.proofs.Common.{◌≡◌, ℕ, zero, suc, ◌<◌, List, [], ◌∷◌, length, get_or, arith, refl, ap, sym, ◌∙◌}
+use Rattle.std.proofs.Common.{◌≡◌, ℕ, suc, ◌<◌, List, [], ◌∷◌, length, get_or, arith, refl}
 use Rattle.cbdc_model.specs.Records.{Answered, Reply}
 use Rattle.cbdc_model.specs.Replies.{replies}
 use Rattle.shard_core.proofs.copying.same_replies.Goals as goal

@@ -1,6 +1,5 @@
-use Rattle.std.proofs.Common.{◌≡◌, ℕ, ◌<◌, take, get_or}
+use Rattle.std.proofs.Common.{◌≡◌, ℕ, ◌<◌, get_or}
 use Rattle.cbdc_model.specs.Records.{Answered, Reply}
-use Rattle.cbdc_model.specs.Replies.{entries}
 use Rattle.shard_core.proofs.copying.same_replies.Given as goal
 
 abbrev pub invariant-loop-at : goal.invariant-loop-at

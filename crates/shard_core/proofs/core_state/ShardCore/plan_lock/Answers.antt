@@ -1,0 +1,10 @@
+use Rattle.shard_core.proofs.Applies.{known}
+use Rattle.shard_core.proofs.core_state.ShardCore.plan_lock.Goals as goal
+
+pub returns-in_ok-make_room-in-Next-clause-ready : goal.returns-in_ok-make_room-in-Next-clause-ready
+returns-in_ok-make_room-in-Next-clause-ready c =
+    let r = rw (c.from_vec.ensures, c.in_ok-part-in-Next.ensures, c.as_slice-entries.ensures, c.as_slice.ensures.value) at c.in_ok-make_room-in-Next.ensures.ready in
+    let same = c.make_room.ensures.same.slots in (
+      rw c.from_vec-in-Next.ensures r,
+      λ s h. let e = known c.args.self.now.slots c.args.call.now.batch.lane s c.slot-slot.result.now (rw same at h) c.slot-slot.ensures in rw e c.in-Next.ensures.next,
+    )
