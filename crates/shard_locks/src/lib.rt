@@ -4,3 +4,6 @@
 mod locks;
 
 pub use locks::Locks;
+
+#[cfg(test)]
+mod tests;

@@ -4,3 +4,6 @@
 mod table;
 
 pub use table::Table;
+
+#[cfg(test)]
+mod tests;
