@@ -11,7 +11,9 @@ fn a_lock_is_held_until_it_is_released(rt: HostRuntime) -> Result<(), Fail> {
         lane: LaneId(3),
         number: 9,
     };
-    locks.take(Hash([5; 32]), batch, 4);
+    if locks.spare() > 0 && locks.holder(&Hash([5; 32])).is_none() {
+        locks.take(Hash([5; 32]), batch, 4);
+    }
     assert_eq!(rt; locks.holder(&Hash([5; 32])), Some((batch, 4)));
     assert_eq!(rt; locks.holder(&Hash([6; 32])), None);
     assert_eq!(rt; locks.spare(), room - 1);
