@@ -5,9 +5,9 @@
 use cbdc_types::FullTx;
 use client_files::read_clients;
 use std::alloc::Global;
+use std::fs;
 use std::io::{self, ErrorKind};
 use std::time::Instant;
-use std::fs;
 use tx_codec::write_tx;
 
 // Puts the spelling of each transaction at the end.
@@ -29,7 +29,11 @@ fn measure(rt: &HostRuntime, name: &str) -> io::Result<()> {
     let mut out = Vec::new(rt.alloc());
     write_each(rt.alloc(), txs.as_slice(), &mut out)?;
     let writing = start.elapsed(rt)?.as_secs_f64();
-    eprintln!(rt; "{name}: {} transactions, {} bytes: read in {reading} s, written in {writing} s", txs.len(), bytes.len())?;
+    eprintln!(rt;
+        "{name}: {} transactions, {} bytes: read in {reading} s, written in {writing} s",
+        txs.len(),
+        bytes.len()
+    )?;
     if bytes.as_slice().ends_with(out.as_slice()) {
         Ok(())
     } else {
