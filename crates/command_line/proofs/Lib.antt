@@ -1,2 +1,4 @@
 pub mod WordLemmas
 pub mod Rows
+pub mod PlaceLemmas
+pub mod AskedLemmas

@@ -1,7 +1,7 @@
 -- How the getters read the rows of matches, and what an error says of the faults.
 use Rattle.std.proofs.Common.{rules, ◌≡◌, List, [], ◌∷◌, inl, inr, false, true, refl, sym, subst}
 use Rattle.std.specs.Prelude.{IsTrue, Bool, Result, Ok, Err, IsOk, IfOk, IfErr}
-use Rattle.clap.proofs.WalkLemmas.{first_value-rows}
+use Rattle.clap.proofs.WalkLemmas.{first_value-rows, raw_values-rows}
 use Rattle.clap.specs.Words.{Text, Kinds, HasKind, IsAmong, kind_of}
 use Rattle.clap.specs.Kinds.{or_else}
 use Rattle.clap.specs.declared.error.Error.{Error}
@@ -9,11 +9,11 @@ use Rattle.clap.specs.declared.error.kind.ErrorKind.{ErrorKind}
 use Rattle.clap.specs.declared.error.kind.ErrorKind.TheVariants.{OutOfMemory}
 use Rattle.command_line.specs.Asked.{is_mistake, is_wish, HasMistake, HasWish, IsAsked, IsRefused, IsShow, faults_of}
 use Rattle.command_line.specs.declared.request.Request.{Request}
-use Rattle.command_line.specs.declared.request.Request.TheVariants.{Init, Run, Show}
+use Rattle.command_line.specs.declared.request.Request.TheVariants.{Init, Run, Recover, Status, Show}
 use Rattle.command_line.specs.declared.request.WordsFault.{WordsFault}
 use Rattle.command_line.specs.declared.request.WordsFault.TheVariants.{Bad, Memory}
 
-pub ruleset rows = (first_value-rows)
+pub ruleset rows = (first_value-rows, raw_values-rows)
 
 -- an error that asks for a text comes only where the faults have such a wish
 pub wish_of : (kinds : Kinds) (e : Error) → HasKind kinds e → IsTrue (is_wish (kind_of e)) → HasWish kinds
@@ -39,12 +39,14 @@ first_mistake (x ∷ xs) b has = has
 -- an answer that is a text was asked for by a wish
 pub asked_by_wish : (words : List Text) (r : Result Request WordsFault) → IfOk r IsShow → (IsOk r → HasWish (faults_of words)) → IfOk r (λ q. IsAsked words q)
 asked_by_wish words (Ok (Show text)) shows wish = wish (search rules)
-asked_by_wish words (Ok (Init mint)) shows wish = absurd shows
-asked_by_wish words (Ok (Run client)) shows wish = absurd shows
+asked_by_wish words (Ok (Init shape mint)) shows wish = absurd shows
+asked_by_wish words (Ok (Run verdicts clients)) shows wish = absurd shows
+asked_by_wish words (Ok Recover) shows wish = absurd shows
+asked_by_wish words (Ok (Status hashes)) shows wish = absurd shows
 asked_by_wish words (Err e) shows wish = tt
 
 -- bad words are refused by a mistake
 pub refused_by_mistake : (words : List Text) (r : Result Request WordsFault) → (r ≡ Err Bad → HasMistake (faults_of words)) → IfErr r (λ e. IsRefused words e)
 refused_by_mistake words (Ok q) mistake = tt
-refused_by_mistake words (Err Bad) mistake = mistake refl
+refused_by_mistake words (Err Bad) mistake = inl (mistake refl)
 refused_by_mistake words (Err Memory) mistake = tt

@@ -1,15 +1,18 @@
 -- What the words ask for.
-use Rattle.std.specs.Prelude.{◌≡◌, ℕ, Bool, true, false, IsTrue, List, [], ◌∷◌, Option, Some, None, codes, if◌then◌else◌}
+use Rattle.std.specs.Prelude.{◌≡◌, ◌⊎◌, ℕ, Bool, true, false, IsTrue, List, [], ◌∷◌, Contains, Option, Some, None, Ok, codes, decimal, map, if◌then◌else◌}
 use Rattle.std.specs.Str.{bytes_eq}
-use Rattle.clap.specs.Words.{Text, Row, Kinds, IsAmong, fault_of, first_of, subcommand_of}
+use Rattle.hex.specs.Hex.{decode_of}
+use Rattle.cbdc_types.specs.Limits.{ShapeOf}
+use Rattle.clap.specs.Words.{Text, Row, Kinds, IsAmong, all_of, fault_of, first_of, subcommand_of}
 use Rattle.clap.specs.Kinds.{or_else}
 use Rattle.clap.specs.declared.error.kind.ErrorKind.{ErrorKind}
 use Rattle.clap.specs.declared.error.kind.ErrorKind.TheVariants.{DisplayHelp, DisplayVersion, OutOfMemory}
 use Rattle.command_line.specs.Command.{hamilton}
-use Rattle.command_line.specs.Words.{IsLastPlace}
+use Rattle.command_line.specs.Values.{IsHashText, IsNumber}
+use Rattle.command_line.specs.Words.{AreFiles, IsGivenThere, StandsThere}
 use Rattle.command_line.specs.declared.request.FileWord.{FileWord}
 use Rattle.command_line.specs.declared.request.Request.{Request}
-use Rattle.command_line.specs.declared.request.Request.TheVariants.{Init, Run, Show}
+use Rattle.command_line.specs.declared.request.Request.TheVariants.{Init, Run, Recover, Status, Show}
 use Rattle.command_line.specs.declared.request.WordsFault.{WordsFault}
 use Rattle.command_line.specs.declared.request.WordsFault.TheVariants.{Bad, Memory}
 
@@ -49,30 +52,72 @@ topic_faults (Some found) =
 abbrev pub faults_of : List Text → Kinds
 faults_of words = or_else (fault_of hamilton words) (topic_faults (subcommand_of hamilton words))
 
--- ---- requests
+-- ---- values
 
--- the file has this name, which stands last at this place
-pub record HasName (words : List Text) (text : Text) (file : FileWord) : Type 0 where
-  pub name : file.name.now ≡ text
-  pub place : IsLastPlace words text file.place
-
--- the words name this command, and this file as its argument
-pub record Names (words : List Text) (command argument : Text) (file : FileWord) : Type 0 where
+-- the words name this command without a fault, with these matches
+pub record Meets (words : List Text) (command : Text) (rows : List Row) : Type 0 where
   pub sound : fault_of hamilton words ≡ []
-  pub rows : List Row
   pub met : subcommand_of hamilton words ≡ Some (command, rows)
-  pub named : first_of argument rows ≡ Some file.name.now
-  pub place : IsLastPlace words file.name.now file.place
+
+-- the option has this number, from 1 to a limit
+abbrev pub HasNumber : List Row → Text → ℕ → ℕ → Type 0
+HasNumber rows option most n = (text : Text) × (first_of option rows ≡ Some text) × IsNumber most text n
+
+-- the option's text is no such number
+abbrev pub HasNoNumber : List Row → Text → ℕ → Type 0
+HasNoNumber rows option most = (text : Text) × (first_of option rows ≡ Some text) × ((n : ℕ) → ¬ (IsNumber most text n))
+
+-- the options give the ledger this shape
+pub record HasShape (rows : List Row) (shape : ShapeOf) : Type 0 where
+  pub shards : HasNumber rows (codes "shards") 64 shape.shards
+  pub coordinators : HasNumber rows (codes "coordinators") 16 shape.coordinators
+  pub lanes : HasNumber rows (codes "lanes") 16 shape.lanes
+  pub batch : HasNumber rows (codes "batch") 1024 shape.batch
+
+-- an option of the shape is out of form
+abbrev pub HasNoShape : List Row → Type 0
+HasNoShape rows =
+    HasNoNumber rows (codes "shards") 64
+    ⊎ (HasNoNumber rows (codes "coordinators") 16 ⊎ (HasNoNumber rows (codes "lanes") 16 ⊎ HasNoNumber rows (codes "batch") 1024))
+
+-- a text that is no hash is among these
+abbrev pub HasNoHashes : List Text → Type 0
+HasNoHashes given = (text : Text) × Contains given text × (¬ (IsHashText text))
+
+-- ---- requests
 
 abbrev pub IsShow : Request → Type 0
 IsShow (Show text) = Unit {0}
 IsShow _ = ⊥
 
+-- what the matches of a command ask for
+abbrev pub IsInit : List Text → List Row → ShapeOf → FileWord → Type 0
+IsInit words rows shape mint =
+    Meets words (codes "init") rows × HasShape rows shape × (first_of (codes "mint") rows ≡ Some mint.name.now) × StandsThere words mint
+
+abbrev pub IsRun : List Text → List Row → FileWord → List FileWord → Type 0
+IsRun words rows verdicts clients =
+    Meets words (codes "run") rows × (first_of (codes "verdicts") rows ≡ Some verdicts.name.now) × IsGivenThere (codes "--verdicts") words verdicts
+    × ((names : List Text) × (all_of (codes "client") rows ≡ Some names) × AreFiles words names clients)
+
+abbrev pub IsStatus : List Text → List Row → List (List ℕ) → Type 0
+IsStatus words rows hashes =
+    Meets words (codes "status") rows
+    × ((given : List Text) × (all_of (codes "hash") rows ≡ Some given) × (map decode_of given ≡ map (λ h. Ok h) hashes))
+
 abbrev pub IsAsked : List Text → Request → Type 0
-IsAsked words (Init mint) = Names words (codes "init") (codes "mint") mint
-IsAsked words (Run client) = Names words (codes "run") (codes "client") client
+IsAsked words (Init shape mint) = (rows : List Row) × IsInit words rows shape mint
+IsAsked words (Run verdicts clients) = (rows : List Row) × IsRun words rows verdicts clients.items
+IsAsked words Recover = (rows : List Row) × Meets words (codes "recover") rows
+IsAsked words (Status hashes) = (rows : List Row) × IsStatus words rows hashes.items
 IsAsked words (Show text) = HasWish (faults_of words)
 
+-- a value is out of form: a number of `init`, or a hash of `status`
+abbrev pub HasBadValue : List Text → Type 0
+HasBadValue words =
+    ((rows : List Row) × Meets words (codes "init") rows × HasNoShape rows)
+    ⊎ ((rows : List Row) × (given : List Text) × Meets words (codes "status") rows × (all_of (codes "hash") rows ≡ Some given) × HasNoHashes given)
+
 abbrev pub IsRefused : List Text → WordsFault → Type 0
-IsRefused words Bad = HasMistake (faults_of words)
+IsRefused words Bad = HasMistake (faults_of words) ⊎ HasBadValue words
 IsRefused words Memory = Unit {0}

@@ -1,29 +1,78 @@
 -- The command line of the program, as data.
-use Rattle.std.specs.Prelude.{◌≡◌, Bool, true, false, List, [], ◌∷◌, codes}
+use Rattle.std.specs.Prelude.{◌≡◌, Bool, true, false, List, [], ◌∷◌, ◌++◌, Some, codes}
+use Rattle.clap.specs.Lexer.{usize_max}
 use Rattle.clap.specs.Words.{App, Rule, Shape, Text, new_app, new_rule, with_rule, with_subcommand, app_of, shape_of, rule_of}
 use Rattle.clap.specs.declared.builder.arg.Arg.{Arg}
 use Rattle.clap.specs.declared.builder.command.Command.{Command}
 use Rattle.clap.specs.declared.builder.command.Command.TheViews.{out-Command}
+use Rattle.clap.specs.declared.builder.range.ValueRange.{ValueRange}
+
+-- ---- arguments
 
 -- a word that has to be there, with its name in texts
 abbrev pub required : Text → Rule
 required id = record (new_rule id) { required = true; value_names = 1 }
 
+-- one word or more
+abbrev pub some : Text → Rule
+some id = record (required id) { range = Some (record { start_inclusive = 1; end_inclusive = usize_max }) }
+
+-- an option with a value, and its value where it is left out
+abbrev pub option : Text → Text → Rule
+option id default = record (new_rule id) { long = Some id; value_names = 1; defaults = default ∷ [] }
+
+abbrev pub shards_rule : Rule
+shards_rule = option (codes "shards") (codes "1")
+
+abbrev pub coordinators_rule : Rule
+coordinators_rule = option (codes "coordinators") (codes "1")
+
+abbrev pub lanes_rule : Rule
+lanes_rule = option (codes "lanes") (codes "1")
+
+abbrev pub batch_rule : Rule
+batch_rule = option (codes "batch") (codes "16")
+
 abbrev pub mint_rule : Rule
 mint_rule = required (codes "mint")
 
+abbrev pub verdicts_rule : Rule
+verdicts_rule = record (required (codes "verdicts")) { long = Some (codes "verdicts") }
+
 abbrev pub client_rule : Rule
-client_rule = required (codes "client")
+client_rule = some (codes "client")
+
+abbrev pub hash_rule : Rule
+hash_rule = some (codes "hash")
 
 -- a word that may be left out
 abbrev pub topic_rule : Rule
 topic_rule = record (new_rule (codes "command")) { value_names = 1 }
 
+-- ---- commands
+
+-- a command with one more argument
+abbrev pub with_arg : Shape → Rule → Shape
+with_arg s r = record s { rules = s.rules ++ r ∷ [] }
+
+-- `init` with its first two options, with all four, and with its word
+abbrev pub nodes_shape : Shape
+nodes_shape = with_arg (with_arg (new_app (codes "init")).top shards_rule) coordinators_rule
+
+abbrev pub sized_shape : Shape
+sized_shape = with_arg (with_arg nodes_shape lanes_rule) batch_rule
+
 abbrev pub init_shape : Shape
-init_shape = (with_rule (new_app (codes "init")) mint_rule).top
+init_shape = with_arg sized_shape mint_rule
 
 abbrev pub run_shape : Shape
-run_shape = (with_rule (new_app (codes "run")) client_rule).top
+run_shape = (with_rule (with_rule (new_app (codes "run")) verdicts_rule) client_rule).top
+
+abbrev pub recover_shape : Shape
+recover_shape = (new_app (codes "recover")).top
+
+abbrev pub status_shape : Shape
+status_shape = (with_rule (new_app (codes "status")) hash_rule).top
 
 abbrev pub help_shape : Shape
 help_shape = (with_rule (new_app (codes "help")) topic_rule).top
@@ -39,8 +88,12 @@ with_settings a = record a {
   };
 }
 
+-- the first two commands
+abbrev pub main : App
+main = with_subcommand (with_subcommand (with_settings (new_app (codes "hamilton"))) init_shape) run_shape
+
 abbrev pub hamilton : App
-hamilton = with_subcommand (with_subcommand (with_subcommand (with_settings (new_app (codes "hamilton"))) init_shape) run_shape) help_shape
+hamilton = with_subcommand (with_subcommand (with_subcommand main recover_shape) status_shape) help_shape
 
 -- an argument with this rule, of one level
 pub record IsArg (a : Arg) (r : Rule) : Type 0 where

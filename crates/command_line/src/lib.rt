@@ -6,5 +6,6 @@ mod places;
 mod request;
 #[cfg(test)]
 mod tests;
+mod values;
 
 pub use request::{FileWord, Request, WordsFault, parse};

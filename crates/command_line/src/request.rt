@@ -1,12 +1,15 @@
 // What the words ask for.
-ghost use Rattle.std.specs.Prelude.{◌≡◌, [], codes, map, IsTrue, IfSome, IfOk, IfErr, IsErrOf, IsOk, Some, None};
+ghost use Rattle.std.specs.Prelude.{◌≡◌, ◌≤◌, ◌<◌, [], codes, length, map, IsTrue, IfSome, IfOk, IfErr, IsErrOf, IsOk, Some, None, Ok};
+ghost use Rattle.hex.specs.Hex.{decode_of};
 ghost use Rattle.clap.specs.Words.{fault_of, first_of, found_of, kind_of, rows_of, subcommand_of, subcommand_rows_of};
-ghost use Rattle.command_line.specs.Asked.{IsAsked, IsRefused, IsShow, HasName, HasMistake, HasWish, is_mistake, is_wish, help_words};
+ghost use Rattle.command_line.specs.Asked.{IsAsked, IsRefused, IsShow, HasMistake, HasWish, HasNumber, HasNoNumber, HasShape, HasNoShape, HasNoHashes, Meets, is_mistake, is_wish, help_words};
 ghost use Rattle.command_line.specs.Command.{hamilton};
-ghost use Rattle.command_line.specs.Words.{texts};
+ghost use Rattle.command_line.specs.Words.{AreFiles, IsGivenThere, StandsThere, texts};
 
 use crate::command::program;
-use crate::places::last_place;
+use crate::places::{Place, next_value, value_place};
+use crate::values::{hash_in, number_in};
+use cbdc_types::{Hash, Shape};
 use clap::error::ErrorKind;
 use clap::{ArgMatches, Error};
 use std::alloc::Global;
@@ -29,18 +32,24 @@ pub struct FileWord<'a> {
 /// What the words ask for.
 #[derive(Drop)]
 pub enum Request<'a> {
-    Init { mint: FileWord<'a> },
-    Run { client: FileWord<'a> },
+    /// Make a ledger of this shape, with the outputs of a file.
+    Init {
+        shape: Shape,
+        mint: FileWord<'a>,
+    },
+    /// Run the transactions of client files, one file after another.
+    Run {
+        verdicts: FileWord<'a>,
+        clients: Vec<FileWord<'a>>,
+    },
+    /// Finish the batches that are open.
+    Recover,
+    /// Tell what is known of hashes.
+    Status {
+        hashes: Vec<Hash>,
+    },
     /// Print this text to the standard output, and do nothing else.
     Show(String),
-}
-
-// The file that a word names.
-fn file_word<'a>(words: &'a [String], name: &'a str) -> Option<FileWord<'a>>
-    ensures { IfSome result (λ f. HasName (texts words.entry.now) name.entry.now f) }
-{
-    let place = last_place(words, name)?;
-    Some(FileWord { name, place })
 }
 
 // What a fault of the words answers: help and the version are texts to print.
@@ -106,26 +115,228 @@ fn help_request<'a, 'b>(alloc: Global, inner: &ArgMatches<'b>) -> Result<Request
     }
 }
 
+// What `help` asks for.
+fn help_asked<'a, 'b>(
+    alloc: Global,
+    words: &'b [String],
+    inner: &ArgMatches<'b>,
+) -> Result<Request<'a>, WordsFault>
+    requires { Meets (texts words.now) (codes "help") (rows_of (found_of inner.now)) }
+    ensures asked { IfOk result (λ r. IsAsked (texts words.entry.now) r) }
+    ensures refused { IfErr result (λ e. IsRefused (texts words.entry.now) e) }
+{
+    help_request(alloc, inner)
+}
+
+// The number of an option, from 1 to a limit.
+#[tactic(auto, using(crate::proofs::Rows::rows))]
+fn number<'a>(inner: &ArgMatches<'a>, option: &str, most: u32) -> Result<u32, WordsFault>
+    requires { most ≤ 1024 }
+    ensures number { IfOk result (λ n. HasNumber (rows_of (found_of inner.now)) option.now most n) }
+    ensures none { IsErrOf result WordsFault.Bad → HasNoNumber (rows_of (found_of inner.now)) option.now most }
+{
+    let Some(text) = inner.get_str(option) else {
+        return Err(WordsFault::Memory);
+    };
+    match number_in(text, most) {
+        Some(n) => Ok(n),
+        None => Err(WordsFault::Bad),
+    }
+}
+
+// The shape that the options of `init` give.
+fn shape_of<'a>(inner: &ArgMatches<'a>) -> Result<Shape, WordsFault>
+    ensures shape { IfOk result (λ s. HasShape (rows_of (found_of inner.now)) s) }
+    ensures none { IsErrOf result WordsFault.Bad → HasNoShape (rows_of (found_of inner.now)) }
+{
+    let shards = number(inner, "shards", 64)?;
+    let coordinators = number(inner, "coordinators", 16)?;
+    let lanes = number(inner, "lanes", 16)?;
+    let batch = number(inner, "batch", 1024)?;
+    match Shape::new(shards, coordinators, lanes, batch) {
+        Ok(shape) => Ok(shape),
+        Err(_) => Err(WordsFault::Memory),
+    }
+}
+
+// The file that a word at a place names.
+fn file_at<'a>(words: &'a [String], place: usize, name: &'a str) -> Option<FileWord<'a>>
+    requires { place < length words.now }
+    ensures there { IfSome result (λ f. StandsThere (texts words.entry.now) f) }
+    ensures name { IfSome result (λ f. f.name.now ≡ name.entry.now) }
+    ensures place { IfSome result (λ f. f.place ≡ place) }
+{
+    if words[place].as_str() == name {
+        return Some(FileWord {
+            name,
+            place: place as u64,
+        });
+    }
+    None
+}
+
+// The mint's file.
+fn mint_of<'a>(words: &'a [String], name: &'a str) -> Option<FileWord<'a>>
+    ensures there { IfSome result (λ f. StandsThere (texts words.entry.now) f) }
+    ensures name { IfSome result (λ f. f.name.now ≡ name.entry.now) }
+{
+    let from = Place {
+        at: 2,
+        trailing: false,
+    };
+    match next_value(words, from) {
+        Some(place) => file_at(words, place.at, name),
+        None => None,
+    }
+}
+
 // What the matches of `init` ask for.
 #[tactic(auto, using(crate::proofs::Rows::rows))]
-fn init_request<'a>(words: &'a [String], inner: &ArgMatches<'a>) -> Option<Request<'a>>
-    requires sound { fault_of hamilton (texts words.now) ≡ [] }
-    requires met { subcommand_of hamilton (texts words.now) ≡ Some (codes "init", rows_of (found_of inner.now)) }
-    ensures { IfSome result (λ r. IsAsked (texts words.entry.now) r) }
+fn init_request<'a>(words: &'a [String], inner: &ArgMatches<'a>) -> Result<Request<'a>, WordsFault>
+    requires { Meets (texts words.now) (codes "init") (rows_of (found_of inner.now)) }
+    ensures asked { IfOk result (λ r. IsAsked (texts words.entry.now) r) }
+    ensures refused { IfErr result (λ e. IsRefused (texts words.entry.now) e) }
 {
-    let mint = file_word(words, inner.get_str("mint")?)?;
-    Some(Request::Init { mint })
+    let shape = match shape_of(inner) {
+        Ok(shape) => shape,
+        Err(fault) => return Err(fault),
+    };
+    let Some(name) = inner.get_str("mint") else {
+        return Err(WordsFault::Memory);
+    };
+    match mint_of(words, name) {
+        Some(mint) => Ok(Request::Init { shape, mint }),
+        None => Err(WordsFault::Memory),
+    }
+}
+
+// The file that a word at a place gives to `--verdicts`.
+fn given_at<'a>(words: &'a [String], place: usize, name: &'a str) -> Option<FileWord<'a>>
+    requires { place < length words.now }
+    ensures there { IfSome result (λ f. IsGivenThere (codes "--verdicts") (texts words.entry.now) f) }
+    ensures name { IfSome result (λ f. f.name.now ≡ name.entry.now) }
+{
+    let word = words[place].as_str();
+    if word == name {
+        return Some(FileWord {
+            name,
+            place: place as u64,
+        });
+    }
+    let Some(rest) = word.as_bytes().strip_prefix(b"--verdicts=") else {
+        return None;
+    };
+    if rest == name.as_bytes() {
+        return Some(FileWord {
+            name,
+            place: place as u64,
+        });
+    }
+    None
+}
+
+// The file of the verdicts.
+fn verdicts_of<'a>(words: &'a [String], name: &'a str) -> Option<FileWord<'a>>
+    ensures there { IfSome result (λ f. IsGivenThere (codes "--verdicts") (texts words.entry.now) f) }
+    ensures name { IfSome result (λ f. f.name.now ≡ name.entry.now) }
+{
+    match value_place(words, "--verdicts") {
+        Some(place) => given_at(words, place, name),
+        None => None,
+    }
+}
+
+// The client files.
+fn clients_of<'a>(
+    alloc: Global,
+    words: &'a [String],
+    names: &[&'a str],
+) -> Option<Vec<FileWord<'a>>>
+    ensures { IfSome result (λ files. AreFiles (texts words.entry.now) (map (λ n. n.now) names.entry.now) files.items) }
+{
+    let mut files = Vec::new(alloc);
+    let mut from = Place {
+        at: 2,
+        trailing: false,
+    };
+    'names: for name in names {
+        let Some(place) = next_value(words, from) else {
+            return None;
+        };
+        let Some(file) = file_at(words, place.at, name) else {
+            return None;
+        };
+        let Ok(()) = files.push(file) else {
+            return None;
+        };
+        from = Place {
+            at: place.at + 1,
+            trailing: place.trailing,
+        };
+    }
+    Some(files)
 }
 
 // What the matches of `run` ask for.
 #[tactic(auto, using(crate::proofs::Rows::rows))]
-fn run_request<'a>(words: &'a [String], inner: &ArgMatches<'a>) -> Option<Request<'a>>
-    requires sound { fault_of hamilton (texts words.now) ≡ [] }
-    requires met { subcommand_of hamilton (texts words.now) ≡ Some (codes "run", rows_of (found_of inner.now)) }
+fn run_request<'a>(
+    alloc: Global,
+    words: &'a [String],
+    inner: &ArgMatches<'a>,
+) -> Option<Request<'a>>
+    requires { Meets (texts words.now) (codes "run") (rows_of (found_of inner.now)) }
     ensures { IfSome result (λ r. IsAsked (texts words.entry.now) r) }
 {
-    let client = file_word(words, inner.get_str("client")?)?;
-    Some(Request::Run { client })
+    let Some(name) = inner.get_str("verdicts") else {
+        return None;
+    };
+    let Some(verdicts) = verdicts_of(words, name) else {
+        return None;
+    };
+    let Some(names) = inner.get_strs("client") else {
+        return None;
+    };
+    match clients_of(alloc, words, names) {
+        Some(clients) => Some(Request::Run { verdicts, clients }),
+        None => None,
+    }
+}
+
+// The hashes that texts spell.
+fn hashes_of(alloc: Global, given: &[&str]) -> Result<Vec<Hash>, WordsFault>
+    ensures hashes { IfOk result (λ hs. map decode_of (map (λ t. t.now) given.now) ≡ map (λ h. Ok h) hs.items) }
+    ensures none { IsErrOf result WordsFault.Bad → HasNoHashes (map (λ t. t.now) given.now) }
+{
+    let mut hashes = Vec::new(alloc);
+    'given: for text in given {
+        let Some(hash) = hash_in(text) else {
+            return Err(WordsFault::Bad);
+        };
+        let Ok(()) = hashes.push(hash) else {
+            return Err(WordsFault::Memory);
+        };
+    }
+    Ok(hashes)
+}
+
+// What the matches of `status` ask for.
+#[tactic(auto, using(crate::proofs::Rows::rows))]
+fn status_request<'a, 'b>(
+    alloc: Global,
+    words: &'b [String],
+    inner: &ArgMatches<'b>,
+) -> Result<Request<'a>, WordsFault>
+    requires { Meets (texts words.now) (codes "status") (rows_of (found_of inner.now)) }
+    ensures asked { IfOk result (λ r. IsAsked (texts words.entry.now) r) }
+    ensures refused { IfErr result (λ e. IsRefused (texts words.entry.now) e) }
+{
+    let Some(given) = inner.get_strs("hash") else {
+        return Err(WordsFault::Memory);
+    };
+    match hashes_of(alloc, given) {
+        Ok(hashes) => Ok(Request::Status { hashes }),
+        Err(fault) => Err(fault),
+    }
 }
 
 // What the matches ask for.
@@ -143,13 +354,19 @@ fn asked_of<'a>(
         return Err(WordsFault::Memory);
     };
     if name == "init" {
-        return init_request(words, inner).ok_or(WordsFault::Memory);
+        return init_request(words, inner);
     }
     if name == "run" {
-        return run_request(words, inner).ok_or(WordsFault::Memory);
+        return run_request(alloc, words, inner).ok_or(WordsFault::Memory);
+    }
+    if name == "recover" {
+        return Ok(Request::Recover);
+    }
+    if name == "status" {
+        return status_request(alloc, words, inner);
     }
     if name == "help" {
-        return help_request(alloc, inner);
+        return help_asked(alloc, words, inner);
     }
     Err(WordsFault::Memory)
 }

@@ -1,17 +1,59 @@
-use crate::{Request, WordsFault, parse};
+use crate::{FileWord, Request, WordsFault, parse};
+use cbdc_types::{Hash, Shape};
 use std::alloc::{AllocError, Global};
 use std::test::Fail;
 
+// A shape and a mint's file, in one line.
+fn told_init(alloc: Global, shape: &Shape, mint: &FileWord) -> Result<String, AllocError> {
+    let (shards, coordinators) = (shape.shards(), shape.coordinators());
+    let (lanes, batch) = (shape.lanes(), shape.batch());
+    let (name, place) = (mint.name, mint.place);
+    format!(in alloc; "init {shards} {coordinators} {lanes} {batch} {name} {place}")
+}
+
+// The files of a run, in one line.
+fn told_run(
+    alloc: Global,
+    verdicts: &FileWord,
+    clients: &[FileWord],
+) -> Result<String, AllocError> {
+    let mut text = format!(in alloc; "run {} {}", verdicts.name, verdicts.place)?;
+    for file in clients {
+        let one = format!(in alloc; " {} {}", file.name, file.place)?;
+        text.push_str(one.as_str())?;
+    }
+    Ok(text)
+}
+
+// The hashes, in one line.
+fn told_status(alloc: Global, hashes: &[Hash]) -> Result<String, AllocError> {
+    let mut text = String::from_str(alloc, "status")?;
+    for hash in hashes {
+        text.push_str(" ")?;
+        text.push_str(hex::encode(alloc, hash.0.as_slice())?.as_str())?;
+    }
+    Ok(text)
+}
+
+// What a request is, in one line.
+fn told_request(alloc: Global, request: &Request) -> Result<String, AllocError> {
+    match request {
+        Request::Init { shape, mint } => told_init(alloc, shape, mint),
+        Request::Run { verdicts, clients } => told_run(alloc, verdicts, clients.as_slice()),
+        Request::Recover => format!(in alloc; "recover"),
+        Request::Status { hashes } => told_status(alloc, hashes.as_slice()),
+        Request::Show(text) => text.clone(),
+    }
+}
+
 // What the words ask for, in one line.
-fn told(alloc: Global, words: &[&str]) -> Result<String, AllocError> {
+fn told(alloc: Global, words: &str) -> Result<String, AllocError> {
     let mut owned = Vec::new(alloc);
-    for word in words {
+    for word in words.split(' ') {
         owned.push(String::from_str(alloc, word)?)?;
     }
     match parse(alloc, owned.as_slice()) {
-        Ok(Request::Init { mint }) => format!(in alloc; "init {} {}", mint.name, mint.place),
-        Ok(Request::Run { client }) => format!(in alloc; "run {} {}", client.name, client.place),
-        Ok(Request::Show(text)) => Ok(text),
+        Ok(request) => told_request(alloc, &request),
         Err(WordsFault::Bad) => format!(in alloc; "bad"),
         Err(WordsFault::Memory) => format!(in alloc; "memory"),
     }
@@ -20,23 +62,56 @@ fn told(alloc: Global, words: &[&str]) -> Result<String, AllocError> {
 #[test]
 fn words_ask_for_commands(rt: HostRuntime) -> Result<(), Fail> {
     let alloc = rt.alloc();
+    for (words, want) in [
+        ("hamilton init m", "init 1 1 1 16 m 2"),
+        ("hamilton init -- -m", "init 1 1 1 16 -m 3"),
+        ("hamilton init init", "init 1 1 1 16 init 2"),
+        (
+            "hamilton init --shards 64 --coordinators=16 m --lanes 16 --batch 1024",
+            "init 64 16 16 1024 m 5",
+        ),
+        ("hamilton init 1 --shards 1", "init 1 1 1 16 1 2"),
+        ("hamilton init --shards 1 1", "init 1 1 1 16 1 4"),
+        (
+            "hamilton init --batch=1 -- --batch",
+            "init 1 1 1 1 --batch 4",
+        ),
+        ("hamilton run --verdicts v c", "run v 3 c 4"),
+        ("hamilton run c --verdicts v", "run v 4 c 2"),
+        ("hamilton run c d c --verdicts=c", "run c 5 c 2 d 3 c 4"),
+        ("hamilton run c --verdicts v d", "run v 4 c 2 d 5"),
+        (
+            "hamilton run --verdicts v -- -- --verdicts",
+            "run v 3 -- 5 --verdicts 6",
+        ),
+        ("hamilton run --verdicts  c", "run  3 c 4"),
+        ("hamilton recover", "recover"),
+    ] {
+        assert_eq!(rt; told(alloc, words)?.as_str(), want, "at {words:?}");
+    }
+    Ok(())
+}
+
+#[test]
+fn hashes_in_either_case(rt: HostRuntime) -> Result<(), Fail> {
+    let alloc = rt.alloc();
     assert_eq!(rt;
-        told(alloc, &["hamilton", "init", "m"])?.as_str(),
-        "init m 2"
+        told(
+            alloc,
+            "hamilton status 00000000000000000000000000000000000000000000000000000000000000fF ABCDEFABCDEFABCDEFABCDEFABCDEFABCDEFABCDEFABCDEFABCDEFABCDEFABCD"
+        )?
+        .as_str(),
+        "status 00000000000000000000000000000000000000000000000000000000000000ff abcdefabcdefabcdefabcdefabcdefabcdefabcdefabcdefabcdefabcdefabcd"
     );
-    assert_eq!(rt;
-        told(alloc, &["hamilton", "init", "--", "-m"])?.as_str(),
-        "init -m 3"
-    );
-    assert_eq!(rt;
-        told(alloc, &["hamilton", "init", "init"])?.as_str(),
-        "init init 2"
-    );
-    assert_eq!(rt;
-        told(alloc, &["hamilton", "run", "c", "--"])?.as_str(),
-        "run c 2"
-    );
-    assert_eq!(rt; told(alloc, &["hamilton", "run", ""])?.as_str(), "run  2");
+    for words in [
+        "hamilton status",
+        "hamilton status ff",
+        "hamilton status 00000000000000000000000000000000000000000000000000000000000000fg",
+        "hamilton status 00000000000000000000000000000000000000000000000000000000000000ff 0",
+        "hamilton status 0000000000000000000000000000000000000000000000000000000000000000ff",
+    ] {
+        assert_eq!(rt; told(alloc, words)?.as_str(), "bad", "at {words:?}");
+    }
     Ok(())
 }
 
@@ -44,43 +119,71 @@ fn words_ask_for_commands(rt: HostRuntime) -> Result<(), Fail> {
 fn help_and_the_version_are_shown(rt: HostRuntime) -> Result<(), Fail> {
     let alloc = rt.alloc();
     assert_eq!(rt;
-        told(alloc, &["hamilton", "--version"])?.as_str(),
+        told(alloc, "hamilton --version")?.as_str(),
         "hamilton 0.1.0\n"
     );
-    let text = told(alloc, &["hamilton", "--help"])?;
+    let text = told(alloc, "hamilton --help")?;
     assert!(rt;
         text.as_str().contains("Usage: hamilton <COMMAND>\n"),
         "{text}"
     );
-    assert_eq!(rt; told(alloc, &["hamilton", "-h"])?.as_str(), text.as_str());
-    assert_eq!(rt; told(alloc, &["hamilton", "help"])?.as_str(), text.as_str());
-    let of_init = told(alloc, &["hamilton", "help", "init"])?;
-    assert!(rt;
-        of_init.as_str().contains("Usage: hamilton init <MINT>\n"),
-        "{of_init}"
-    );
-    assert_eq!(rt;
-        told(alloc, &["hamilton", "init", "--help"])?.as_str(),
-        of_init.as_str()
-    );
+    for words in ["hamilton -h", "hamilton help"] {
+        assert_eq!(rt; told(alloc, words)?.as_str(), text.as_str(), "at {words:?}");
+    }
+    for (command, usage) in [
+        ("init", "Usage: hamilton init [OPTIONS] <MINT>\n"),
+        ("run", "Usage: hamilton run --verdicts <FILE> <CLIENT>...\n"),
+        ("recover", "Usage: hamilton recover\n"),
+        ("status", "Usage: hamilton status <HASH>...\n"),
+    ] {
+        let behind = format!(in alloc; "hamilton help {command}")?;
+        let of_command = told(alloc, behind.as_str())?;
+        assert!(rt; of_command.as_str().contains(usage), "{of_command}");
+        let flag = format!(in alloc; "hamilton {command} --help")?;
+        assert_eq!(rt; told(alloc, flag.as_str())?.as_str(), of_command.as_str());
+    }
+    let short = told(alloc, "hamilton run -h")?;
+    assert_eq!(rt; told(alloc, "hamilton help run")?.as_str(), short.as_str());
     Ok(())
 }
 
 #[test]
 fn other_words_are_bad(rt: HostRuntime) -> Result<(), Fail> {
     let alloc = rt.alloc();
-    assert_eq!(rt; told(alloc, &[])?.as_str(), "bad");
-    assert_eq!(rt; told(alloc, &["hamilton"])?.as_str(), "bad");
-    assert_eq!(rt; told(alloc, &["hamilton", "init"])?.as_str(), "bad");
-    assert_eq!(rt;
-        told(alloc, &["hamilton", "init", "m", "n"])?.as_str(),
-        "bad"
-    );
-    assert_eq!(rt;
-        told(alloc, &["hamilton", "run", "--fast", "c"])?.as_str(),
-        "bad"
-    );
-    assert_eq!(rt; told(alloc, &["hamilton", "help", "walk"])?.as_str(), "bad");
-    assert_eq!(rt; told(alloc, &["hamilton", "walk"])?.as_str(), "bad");
-    Ok(())
+    for words in [
+        "hamilton",
+        "hamilton ",
+        "hamilton walk",
+        "hamilton audit m",
+        "hamilton gen 7 1000",
+        "hamilton help walk",
+        "hamilton init",
+        "hamilton init m n",
+        "hamilton init --fast m",
+        "hamilton init m --shards",
+        "hamilton init --shards 1 --shards 1 m",
+        "hamilton init --shards 0 m",
+        "hamilton init --shards 65 m",
+        "hamilton init --coordinators 17 m",
+        "hamilton init --lanes 17 m",
+        "hamilton init --batch 1025 m",
+        "hamilton init --batch 4294967297 m",
+        "hamilton init --batch 016 m",
+        "hamilton init --batch +16 m",
+        "hamilton init --batch=-16 m",
+        "hamilton init --batch= m",
+        "hamilton init --batch 1x m",
+        "hamilton run c",
+        "hamilton run --verdicts v",
+        "hamilton run --verdicts v --verdicts v c",
+        "hamilton run --verdicts v --repeats 1 c",
+        "hamilton run --fast c",
+        "hamilton recover c",
+    ] {
+        assert_eq!(rt; told(alloc, words)?.as_str(), "bad", "at {words:?}");
+    }
+    match parse(alloc, &[]) {
+        Err(WordsFault::Bad) => Ok(()),
+        _ => Err("no words are bad words")?,
+    }
 }

@@ -1,4 +1,4 @@
-use Rattle.std.proofs.Common.{rules, ◌≡◌, true, refl}
+use Rattle.std.proofs.Common.{rules, ◌≡◌, true, refl, []}
 use Rattle.std.proofs.Common.{subst}
 use Rattle.clap.specs.Words.{App, HasKind, fault_of, is_simple_and_free}
 use Rattle.command_line.specs.Command.{hamilton}
@@ -21,3 +21,7 @@ returns-in-Err-clause-refused c =
     in
     refused_by_mistake (texts c.args.words.now) c.answer_to.result
     (λ bad. first_mistake _ _ (mistake_of _ c.in-Err.error kinds (c.answer_to.ensures.refuses bad)))
+
+pub asked_of-requires-clause-sound : goal.asked_of-requires-clause-sound
+asked_of-requires-clause-sound c =
+    subst (λ (a : App). is_simple_and_free a ≡ true → fault_of a (texts c.args.words.now) ≡ []) c.in-Ok.ensures c.in-Ok-try_get_matches_from.ensures.kinds refl

@@ -1,0 +1,27 @@
+-- What the requests of commands come to.
+use Rattle.std.proofs.Common.{rules, ◌≡◌, ◌∙◌, List, [], ◌∷◌, Option, Some, inl, inr, refl, sym, ap, subst, codes}
+use Rattle.clap.specs.Words.{Row, Text, Kinds, all_of, fault_of, first_of, subcommand_of}
+use Rattle.clap.specs.Kinds.{or_else}
+use Rattle.command_line.specs.Asked.{HasMistake, HasNoHashes, HasNoShape, HasWish, IsRefused, Meets, faults_of, help_words, topic_faults}
+use Rattle.command_line.specs.Command.{hamilton}
+use Rattle.command_line.specs.declared.request.WordsFault.{WordsFault}
+use Rattle.command_line.specs.declared.request.WordsFault.TheVariants.{Bad, Memory}
+
+topic : (words : List Text) (rows : List Row) → Meets words (codes "help") rows → fault_of hamilton (help_words (first_of (codes "command") rows)) ≡ faults_of words
+topic words rows m =
+    sym (ap (λ (k : Kinds). or_else k (topic_faults (subcommand_of hamilton words))) m.sound ∙ ap (λ (found : Option (Text × List Row)). topic_faults found) m.met)
+
+pub topic_wish : (words : List Text) (rows : List Row) → Meets words (codes "help") rows → HasWish (fault_of hamilton (help_words (first_of (codes "command") rows))) → HasWish (faults_of words)
+topic_wish words rows m wish = subst (λ (k : Kinds). HasWish k) (topic words rows m) wish
+
+pub topic_mistake : (words : List Text) (rows : List Row) → Meets words (codes "help") rows → HasMistake (fault_of hamilton (help_words (first_of (codes "command") rows))) → HasMistake (faults_of words)
+topic_mistake words rows m mistake = subst (λ (k : Kinds). HasMistake k) (topic words rows m) mistake
+
+pub refused_shape : (words : List Text) (rows : List Row) (e : WordsFault) → Meets words (codes "init") rows → (e ≡ Bad → HasNoShape rows) → IsRefused words e
+refused_shape words rows Bad m none = inr (inl (rows, m, none refl))
+refused_shape words rows Memory m none = tt
+
+pub refused_hashes : (words given : List Text) (rows : List Row) (e : WordsFault) → Meets words (codes "status") rows → all_of (codes "hash") rows ≡ Some given
+    → (e ≡ Bad → HasNoHashes given) → IsRefused words e
+refused_hashes words given rows Bad m all none = inr (inr (rows, given, m, all, none refl))
+refused_hashes words given rows Memory m all none = tt

@@ -1,0 +1,39 @@
+// What texts among the words spell.
+ghost use Rattle.std.specs.Prelude.{◌≡◌, ◌≤◌, ℕ, map, decimal, MatchOption, IfOk, IsErrOf, Ok};
+ghost use Rattle.hex.specs.Hex.{decode_of};
+ghost use Rattle.command_line.specs.Values.{IsHashText, IsNumber};
+
+use cbdc_types::Hash;
+use hex::FromHex;
+use itoa::Buffer;
+
+/// The number from 1 to a limit that a text spells in decimal digits, without a sign or a leading zero.
+pub(crate) fn number_in(text: &str, most: u32) -> Option<u32>
+    requires { most ≤ 1024 }
+    ensures { MatchOption result ((n : ℕ) → ¬ (IsNumber most text.now n)) (λ n. IsNumber most text.now n) }
+{
+    let Ok(n) = text.parse::<u32>() else {
+        return None;
+    };
+    if n == 0 {
+        return None;
+    }
+    if n > most {
+        return None;
+    }
+    let mut digits = Buffer::new();
+    if digits.format(n) == text {
+        return Some(n);
+    }
+    None
+}
+
+/// The hash that 64 hexadecimal digits spell, in either case.
+pub(crate) fn hash_in(text: &str) -> Option<Hash>
+    ensures { MatchOption result (¬ (IsHashText text.now)) (λ h. decode_of text.now ≡ Ok h) }
+{
+    match <[u8; 32] as FromHex>::from_hex(text) {
+        Ok(bytes) => Some(Hash(bytes)),
+        Err(_) => None,
+    }
+}
