@@ -3,11 +3,12 @@ ghost use Rattle.std.specs.Prelude.{◌≡◌, ◌≤◌, ℕ, List, IfErr};
 ghost use Rattle.outside.specs.Counts.{Rose};
 ghost use Rattle.commands.specs.Causes.{IsFileFault};
 
-use cbdc_types::{Answer, FullTx, List, Mint};
+use cbdc_types::{Answer, FullTx, InputKind, List, Mint};
 use client_files::{FetchFault, FileFault, fetch, read_clients, read_mint};
 use command_line::FileWord;
 use outside::Inbox;
 use std::alloc::Global;
+use verifier_port::{BadLine, VerdictFault, VerdictFile};
 
 // The first bytes of a file, and whether it goes on.
 fn bytes_of<I: Inbox>(
@@ -71,4 +72,61 @@ pub(crate) fn clients_in<I: Inbox>(
         },
         Err(fault) => Err(fault),
     }
+}
+
+// What a fault of a verdict file answers.
+fn verdict_answer(file: &FileWord, fault: VerdictFault) -> Answer
+    ensures { (before now : ℕ) → IsFileFault file.now.place before now result }
+{
+    match fault {
+        VerdictFault::Bad(BadLine { line, kind }) => Answer::BadInput {
+            file: file.place,
+            at: line,
+            kind,
+        },
+        VerdictFault::Large => Answer::BadInput {
+            file: file.place,
+            at: 1 << 30,
+            kind: InputKind::Large,
+        },
+        VerdictFault::Memory => Answer::Memory,
+    }
+}
+
+/// The verdicts in a file.
+pub(crate) fn verdicts_in<I: Inbox>(
+    alloc: Global,
+    inbox: &mut I,
+    file: &FileWord,
+) -> Result<VerdictFile, Answer>
+    ensures fault { IfErr result (IsFileFault file.now.place (I.count inbox.old file.now.name.now) (I.count inbox.new file.now.name.now)) }
+{
+    match bytes_of(alloc, inbox, file) {
+        Ok((bytes, more)) => match VerdictFile::read(alloc, bytes.as_slice(), more) {
+            Ok(verdicts) => Ok(verdicts),
+            Err(fault) => Err(verdict_answer(file, fault)),
+        },
+        Err(fault) => Err(fault),
+    }
+}
+
+/// The transactions in client files, in their order.
+pub(crate) fn all_clients_in<I: Inbox>(
+    alloc: Global,
+    inbox: &mut I,
+    files: &[FileWord],
+) -> Result<Vec<List<FullTx>>, Answer> {
+    let mut all = Vec::new(alloc);
+    let mut before = 0u64;
+    for file in files {
+        let txs = match clients_in(alloc, inbox, file, before) {
+            Ok(txs) => txs,
+            Err(fault) => return Err(fault),
+        };
+        before = before.saturating_add(txs.len() as u64);
+        if all.push(txs).is_err() {
+            return Err(Answer::Memory);
+        }
+    }
+    Ok(all)
 }

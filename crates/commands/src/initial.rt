@@ -69,9 +69,10 @@ fn make_nodes<R: Rack>(
     write_all_firsts(alloc, rack, blanks, records)
 }
 
-/// The first records of the ledger that a mint in a file begins, and its lines.
+/// The first records of the ledger of a shape that a mint in a file begins, and its lines.
 pub(crate) fn init<I: Inbox, R: Rack, O: Sink>(
     alloc: Global,
+    shape: &Shape,
     file: &FileWord,
     inbox: &mut I,
     rack: &mut R,
@@ -90,18 +91,15 @@ pub(crate) fn init<I: Inbox, R: Rack, O: Sink>(
     if total > u128::from(u64::MAX) {
         return Answer::TooMuch { total };
     }
-    let Ok(shape) = Shape::new(1, 1, 1, 16) else {
-        return Answer::Memory;
-    };
     let genesis = genesis_of(alloc, mint);
     let id = tx_id(&genesis);
-    let Ok(hashes) = hashes_by_shard(alloc, &genesis, &shape) else {
+    let Ok(hashes) = hashes_by_shard(alloc, &genesis, shape) else {
         return Answer::Memory;
     };
-    let Ok(records) = first_records(alloc, &shape, &id, hashes) else {
+    let Ok(records) = first_records(alloc, shape, &id, hashes) else {
         return Answer::Memory;
     };
-    match make_nodes(alloc, rack, &shape, &records) {
+    match make_nodes(alloc, rack, shape, &records) {
         Ok(()) => {}
         Err(fault) => return fault,
     }

@@ -5,6 +5,7 @@ mod checked;
 mod files;
 mod initial;
 mod ledger;
+mod looking;
 mod minting;
 mod report;
 mod running;

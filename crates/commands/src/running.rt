@@ -4,7 +4,7 @@ ghost use Rattle.gate_journal.specs.Shown.{disk_of};
 ghost use Rattle.node_ports.specs.Nodes.{faults_at};
 
 use crate::checked::{Submitted, check_all};
-use crate::files::clients_in;
+use crate::files::{all_clients_in, verdicts_in};
 use crate::ledger::{Ledger, close_ledger, open_ledger};
 use crate::report::{Report, Wave, write_report};
 use crate::turns::{Lane, run_wave};
@@ -18,7 +18,7 @@ use outside::{Disk, Gate, Inbox, Rack, Sink};
 use shard_node::ShardNode;
 use std::alloc::{AllocError, Global};
 use std::sync::Wait;
-use verifier_port::{AllGood, Verifier};
+use verifier_port::Verifier;
 
 // The nodes of a ledger behind a run, and what it came to.
 struct Ran<D: Disk> {
@@ -76,8 +76,8 @@ fn unfinished_at<D: Disk>(log: &CoordLog<D>) -> Option<LaneId> {
     None
 }
 
-// The least lane that has an unfinished batch.
-fn unfinished<D: Disk>(logs: &[CoordLog<D>]) -> Option<LaneId> {
+/// The least lane that has an unfinished batch.
+pub(crate) fn unfinished<D: Disk>(logs: &[CoordLog<D>]) -> Option<LaneId> {
     for log in logs {
         if let Some(lane) = unfinished_at(log) {
             return Some(lane);
@@ -86,8 +86,8 @@ fn unfinished<D: Disk>(logs: &[CoordLog<D>]) -> Option<LaneId> {
     None
 }
 
-// How many hashes are unspent over all shards.
-fn unspent_of<D: Disk>(shards: &[ShardNode<D>]) -> u64 {
+/// How many hashes are unspent over all shards.
+pub(crate) fn unspent_of<D: Disk>(shards: &[ShardNode<D>]) -> u64 {
     let mut unspent = 0u64;
     for shard in shards {
         unspent = unspent.saturating_add(shard.unspent_len());
@@ -249,11 +249,13 @@ fn run_on<W: Wait, R: Rack, V: Verifier, G: Gate>(
     result
 }
 
-/// Runs a client file: its transactions are checked and brought through their batches, and their lines printed.
+/// Runs client files, one after another: their transactions are checked by the verdicts and brought through their
+/// batches, and their lines printed. All files are read before the rack is taken.
 pub(crate) fn run<W: Wait, I: Inbox, R: Rack, O: Sink, G: Gate>(
     rt: &W,
     alloc: Global,
-    file: &FileWord,
+    clients: &[FileWord],
+    verdicts: &FileWord,
     inbox: &mut I,
     rack: &mut R,
     out: &mut O,
@@ -263,15 +265,15 @@ pub(crate) fn run<W: Wait, I: Inbox, R: Rack, O: Sink, G: Gate>(
     ensures back { (n : ℕ) → R.can_take rack.new n }
     ensures later { (n : ℕ) → R.count rack.old n ≤ R.count rack.new n }
 {
-    let txs = match clients_in(alloc, inbox, file, 0) {
-        Ok(txs) => txs,
+    let files = match all_clients_in(alloc, inbox, clients) {
+        Ok(files) => files,
         Err(fault) => return fault,
     };
-    let mut files = Vec::new(alloc);
-    if files.push(txs).is_err() {
-        return Answer::Memory;
-    }
-    let report = match run_on(rt, alloc, rack, &files, &AllGood, gate) {
+    let verdicts = match verdicts_in(alloc, inbox, verdicts) {
+        Ok(verdicts) => verdicts,
+        Err(fault) => return fault,
+    };
+    let report = match run_on(rt, alloc, rack, &files, &verdicts, gate) {
         Ok(report) => report,
         Err(fault) => return fault,
     };

@@ -2,6 +2,7 @@
 ghost use Rattle.std.specs.Prelude.{ℕ};
 
 use crate::initial::init;
+use crate::looking::{recover, status};
 use crate::running::run;
 use cbdc_types::Answer;
 use command_line::{Request, WordsFault, parse};
@@ -37,8 +38,32 @@ fn name_of<'a>(words: &'a [String], answer: &Answer) -> &'a str {
     }
 }
 
-// Does what the words ask for.
+// Does what is asked.
 fn answer_to<W: Wait, I: Inbox, R: Rack, O: Sink, G: Gate>(
+    rt: &W,
+    alloc: Global,
+    request: &Request,
+    inbox: &mut I,
+    rack: &mut R,
+    out: &mut O,
+    gate: &G,
+) -> Answer
+    requires { (n : ℕ) → R.can_take rack.old n }
+    ensures { (n : ℕ) → R.can_take rack.new n }
+{
+    match request {
+        Request::Init { shape, mint } => init(alloc, shape, mint, inbox, rack, out),
+        Request::Run { verdicts, clients } => {
+            run(rt, alloc, clients, verdicts, inbox, rack, out, gate)
+        }
+        Request::Recover => recover(alloc, rack, out),
+        Request::Status { hashes } => status(alloc, hashes, rack, out),
+        Request::Show(text) => show(out, text.as_str()),
+    }
+}
+
+// Does what the words ask for.
+fn answer_words<W: Wait, I: Inbox, R: Rack, O: Sink, G: Gate>(
     rt: &W,
     alloc: Global,
     words: &[String],
@@ -51,9 +76,7 @@ fn answer_to<W: Wait, I: Inbox, R: Rack, O: Sink, G: Gate>(
     ensures { (n : ℕ) → R.can_take rack.new n }
 {
     match parse(alloc, words) {
-        Ok(Request::Init { mint }) => init(alloc, &mint, inbox, rack, out),
-        Ok(Request::Run { client }) => run(rt, alloc, &client, inbox, rack, out, gate),
-        Ok(Request::Show(text)) => show(out, text.as_str()),
+        Ok(request) => answer_to(rt, alloc, &request, inbox, rack, out, gate),
         Err(WordsFault::Bad) => Answer::BadWords,
         Err(WordsFault::Memory) => Answer::Memory,
     }
@@ -73,7 +96,7 @@ pub fn process<W: Wait, I: Inbox, R: Rack, O: Sink, G: Gate>(
     ensures back { (n : ℕ) → R.can_take result.rack n }
 {
     let mut rack = rack;
-    let status = answer_to(rt, alloc, words, inbox, &mut rack, out, gate);
+    let status = answer_words(rt, alloc, words, inbox, &mut rack, out, gate);
     let _ = write_fault(out, &status, name_of(words, &status));
     Done { status, rack }
 }

@@ -11,13 +11,6 @@ use outside::OpenGate;
 use std::test::Fail;
 use tx_codec::write_tx;
 
-/// What a run printed and answered, and the rack behind it.
-pub(crate) struct Ran {
-    pub status: u8,
-    pub text: Vec<u8>,
-    pub rack: MemRack<PlainDisk>,
-}
-
 /// A rack of these disks.
 pub(crate) fn rack(
     rt: &HostRuntime,
@@ -38,7 +31,7 @@ pub(crate) fn two_disks(rt: &HostRuntime, one: usize, two: usize) -> Result<MemR
     rack(rt, disks)
 }
 
-// The words and files of a run.
+// The words, behind the program's name.
 fn owned(rt: &HostRuntime, words: &[&str]) -> Result<Vec<String>, Fail> {
     let mut all = Vec::new(rt.alloc());
     all.push(String::from_str(rt.alloc(), "hamilton")?)?;
@@ -48,23 +41,42 @@ fn owned(rt: &HostRuntime, words: &[&str]) -> Result<Vec<String>, Fail> {
     Ok(all)
 }
 
-/// Runs the program with these words over the rack, where one file is there.
-pub(crate) fn run(
+/// A name and a copy of bytes.
+fn named(rt: &HostRuntime, file: &(&str, &[u8])) -> Result<(String, Vec<u8>), Fail> {
+    Ok((
+        String::from_str(rt.alloc(), file.0)?,
+        Vec::from_slice(rt.alloc(), file.1)?,
+    ))
+}
+
+// The files by name.
+fn inbox(rt: &HostRuntime, files: &[(&str, &[u8])]) -> Result<MemInbox, Fail> {
+    let mut all = Vec::new(rt.alloc());
+    for file in files {
+        all.push(named(rt, file)?)?;
+    }
+    Ok(MemInbox::new(all))
+}
+
+/// Runs the program with these words and files over the rack, and checks its text and status.
+pub(crate) fn expect(
     rt: &HostRuntime,
     rack: MemRack<PlainDisk>,
     words: &[&str],
-    name: &str,
-    bytes: Vec<u8>,
-) -> Result<Ran, Fail>
+    files: &[(&str, &[u8])],
+    status: u8,
+    text: &str,
+) -> Result<MemRack<PlainDisk>, Fail>
     requires { AllIn rack }
-    ensures { IfOk result (λ r. AllIn r.rack) }
+    ensures { IfOk result (λ r. AllIn r) }
 {
     let words = owned(rt, words)?;
-    let mut files = Vec::new(rt.alloc());
-    files.push((String::from_str(rt.alloc(), name)?, bytes))?;
-    let mut inbox = MemInbox::new(files);
+    let mut inbox = inbox(rt, files)?;
     let mut out = MemSink::new(rt.alloc(), 100_000, Vec::new(rt.alloc()))?;
-    let Done { status, rack } = process(
+    let Done {
+        status: told,
+        rack,
+    } = process(
         rt,
         rt.alloc(),
         &words,
@@ -73,33 +85,8 @@ pub(crate) fn run(
         &mut out,
         &OpenGate,
     );
-    Ok(Ran {
-        status: status_code(&status),
-        text: Vec::from_slice(rt.alloc(), out.taken())?,
-        rack,
-    })
-}
-
-/// Runs the program and checks its text and status.
-pub(crate) fn expect(
-    rt: &HostRuntime,
-    rack: MemRack<PlainDisk>,
-    words: &[&str],
-    name: &str,
-    bytes: Vec<u8>,
-    status: u8,
-    text: &str,
-) -> Result<MemRack<PlainDisk>, Fail>
-    requires { AllIn rack }
-    ensures { IfOk result (λ r. AllIn r) }
-{
-    let Ran {
-        status: told,
-        text: printed,
-        rack,
-    } = run(rt, rack, words, name, bytes)?;
-    assert_eq!(rt; printed.as_slice(), text.as_bytes());
-    assert_eq!(rt; told, status);
+    assert_eq!(rt; out.taken(), text.as_bytes());
+    assert_eq!(rt; status_code(&told), status);
     Ok(rack)
 }
 
@@ -190,4 +177,37 @@ pub(crate) fn client(rt: &HostRuntime, txs: &[&FullTx]) -> Result<Vec<u8>, Fail>
         write_tx(tx, &mut bytes)?;
     }
     Ok(bytes)
+}
+
+// Appends a hash as 64 digits.
+fn put_digits(text: &mut Vec<u8>, hash: &Hash) -> Result<(), Fail> {
+    for byte in &hash.0 {
+        let (high, low) = (byte >> 4, byte & 15);
+        text.push(if high < 10 { 48 + high } else { 87 + high })?;
+        text.push(if low < 10 { 48 + low } else { 87 + low })?;
+    }
+    Ok(())
+}
+
+// Appends a good line for the first inputs of a transaction, at most 10 of them.
+fn put_lines(text: &mut Vec<u8>, tx: &FullTx) -> Result<(), Fail> {
+    let id = tx_id(tx);
+    let mut digit = 48u8;
+    for _ in tx.inputs.as_slice() {
+        put_digits(text, &id)?;
+        text.push(32)?;
+        text.push(digit)?;
+        text.extend_from_slice(b" good\n")?;
+        digit = digit.saturating_add(1);
+    }
+    Ok(())
+}
+
+/// A verdict file with a good line for each input of transactions.
+pub(crate) fn good(rt: &HostRuntime, txs: &[&FullTx]) -> Result<Vec<u8>, Fail> {
+    let mut text = Vec::new(rt.alloc());
+    for tx in txs {
+        put_lines(&mut text, tx)?;
+    }
+    Ok(text)
 }
