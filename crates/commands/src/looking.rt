@@ -12,7 +12,7 @@ use std::alloc::{AllocError, Global};
 
 // What the shard of a hash knows of it.
 fn status_of<D: Disk>(shards: &[ShardNode<D>], hash: &Hash) -> Status {
-    let count = (shards.len() as u32).min(64);
+    let count = shards.len().min(64) as u32;
     match shards.get(shard_of(hash, count) as usize) {
         Some(shard) => shard.check_unspent(hash),
         None => Status::Absent,

@@ -12,17 +12,18 @@ use std::test::Fail;
 use tx_codec::write_tx;
 
 /// A rack of these disks.
-pub(crate) fn rack(
-    rt: &HostRuntime,
-    disks: Vec<PlainDisk>,
-) -> Result<MemRack<PlainDisk>, Fail>
+pub(crate) fn rack(rt: &HostRuntime, disks: Vec<PlainDisk>) -> Result<MemRack<PlainDisk>, Fail>
     ensures { IfOk result (λ r. AllIn r) }
 {
     Ok(MemRack::new(rt.alloc(), disks)?)
 }
 
 /// Two empty disks with these capacities: a coordinator's and a shard's.
-pub(crate) fn two_disks(rt: &HostRuntime, one: usize, two: usize) -> Result<MemRack<PlainDisk>, Fail>
+pub(crate) fn two_disks(
+    rt: &HostRuntime,
+    one: usize,
+    two: usize,
+) -> Result<MemRack<PlainDisk>, Fail>
     ensures { IfOk result (λ r. AllIn r) }
 {
     let mut disks = Vec::new(rt.alloc());
@@ -73,10 +74,7 @@ pub(crate) fn expect(
     let words = owned(rt, words)?;
     let mut inbox = inbox(rt, files)?;
     let mut out = MemSink::new(rt.alloc(), 100_000, Vec::new(rt.alloc()))?;
-    let Done {
-        status: told,
-        rack,
-    } = process(
+    let Done { status: told, rack } = process(
         rt,
         rt.alloc(),
         &words,

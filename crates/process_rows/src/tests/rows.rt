@@ -1,7 +1,5 @@
 // The worked rows: one coordinator, one shard, one lane, batches of 16. The mint is one coin of 100 unless said.
-use super::making::{
-    client, expect, genesis, good, mint, pays, spends, two_disks, used,
-};
+use super::making::{client, expect, genesis, good, mint, pays, spends, two_disks, used};
 use cbdc_types::{FullTx, NodeId};
 use identifiers::tx_id;
 use mem_devices::PlainDisk;
@@ -13,7 +11,8 @@ const COIN: (u8, u64) = (1, 100);
 // The words of a run of one client file.
 const RUN: [&str; 4] = ["run", "--verdicts", "v", "c"];
 
-const INIT: &str = "coins 1\nminted 100\ngenesis c3c3c54a31e79a3587340fde1d212ca536830a2a43a08d8b5b64770fd344b378\n";
+const INIT: &str =
+    "coins 1\nminted 100\ngenesis c3c3c54a31e79a3587340fde1d212ca536830a2a43a08d8b5b64770fd344b378\n";
 
 // The transaction of the coin to these outputs, where it claims this value.
 fn claims(rt: &HostRuntime, value: u64, coins: &[(u8, u64)]) -> Result<FullTx, Fail> {
@@ -31,11 +30,25 @@ fn sixty_forty(rt: &HostRuntime) -> Result<FullTx, Fail> {
 fn one_coin_becomes_two(rt: HostRuntime) -> Result<(), Fail> {
     let rt = &rt;
     let rack = two_disks(rt, 10_000, 10_000)?;
-    let rack = expect(rt, rack, &["init", "m"], &[("m", &mint(rt, &[COIN])?)], 0, INIT)?;
+    let rack = expect(
+        rt,
+        rack,
+        &["init", "m"],
+        &[("m", &mint(rt, &[COIN])?)],
+        0,
+        INIT,
+    )?;
     let tx = sixty_forty(rt)?;
     let bytes = client(rt, &[&tx])?;
     let lines = good(rt, &[&tx])?;
-    let rack = expect(rt, rack, &RUN, &[("c", &bytes), ("v", &lines)], 0, "1 0 95dc87bd021f95fe4232b14028e3332879a437b67d6eaaf9a6510670e422cc2f confirmed 0 1\nresumed 0\nbatches 1\nconfirmed 1\nrejected 0\nrefused 0\nunspent 2\n")?;
+    let rack = expect(
+        rt,
+        rack,
+        &RUN,
+        &[("c", &bytes), ("v", &lines)],
+        0,
+        "1 0 95dc87bd021f95fe4232b14028e3332879a437b67d6eaaf9a6510670e422cc2f confirmed 0 1\nresumed 0\nbatches 1\nconfirmed 1\nrejected 0\nrefused 0\nunspent 2\n",
+    )?;
     assert_eq!(rt; used(&rack, 0), 396);
     assert_eq!(rt; used(&rack, 1), 411);
     Ok(())
@@ -46,14 +59,35 @@ fn one_coin_becomes_two(rt: HostRuntime) -> Result<(), Fail> {
 fn the_same_transaction_twice(rt: HostRuntime) -> Result<(), Fail> {
     let rt = &rt;
     let rack = two_disks(rt, 10_000, 10_000)?;
-    let rack = expect(rt, rack, &["init", "m"], &[("m", &mint(rt, &[COIN])?)], 0, INIT)?;
+    let rack = expect(
+        rt,
+        rack,
+        &["init", "m"],
+        &[("m", &mint(rt, &[COIN])?)],
+        0,
+        INIT,
+    )?;
     let tx = sixty_forty(rt)?;
     let bytes = client(rt, &[&tx])?;
     let lines = good(rt, &[&tx])?;
-    let rack = expect(rt, rack, &RUN, &[("c", &bytes), ("v", &lines)], 0, "1 0 95dc87bd021f95fe4232b14028e3332879a437b67d6eaaf9a6510670e422cc2f confirmed 0 1\nresumed 0\nbatches 1\nconfirmed 1\nrejected 0\nrefused 0\nunspent 2\n")?;
+    let rack = expect(
+        rt,
+        rack,
+        &RUN,
+        &[("c", &bytes), ("v", &lines)],
+        0,
+        "1 0 95dc87bd021f95fe4232b14028e3332879a437b67d6eaaf9a6510670e422cc2f confirmed 0 1\nresumed 0\nbatches 1\nconfirmed 1\nrejected 0\nrefused 0\nunspent 2\n",
+    )?;
     let bytes = client(rt, &[&tx])?;
     let lines = good(rt, &[&tx])?;
-    let _ = expect(rt, rack, &RUN, &[("c", &bytes), ("v", &lines)], 0, "1 0 95dc87bd021f95fe4232b14028e3332879a437b67d6eaaf9a6510670e422cc2f rejected missing 866fbe7a1335a2e2e2ec97861a6980fc2f1314dd1bbc6d33f73d184a9e1807bc 0 0 2\nresumed 0\nbatches 1\nconfirmed 0\nrejected 1\nrefused 0\nunspent 2\n")?;
+    let _ = expect(
+        rt,
+        rack,
+        &RUN,
+        &[("c", &bytes), ("v", &lines)],
+        0,
+        "1 0 95dc87bd021f95fe4232b14028e3332879a437b67d6eaaf9a6510670e422cc2f rejected missing 866fbe7a1335a2e2e2ec97861a6980fc2f1314dd1bbc6d33f73d184a9e1807bc 0 0 2\nresumed 0\nbatches 1\nconfirmed 0\nrejected 1\nrefused 0\nunspent 2\n",
+    )?;
     Ok(())
 }
 
@@ -62,10 +96,24 @@ fn the_same_transaction_twice(rt: HostRuntime) -> Result<(), Fail> {
 fn an_empty_client_file(rt: HostRuntime) -> Result<(), Fail> {
     let rt = &rt;
     let rack = two_disks(rt, 10_000, 10_000)?;
-    let rack = expect(rt, rack, &["init", "m"], &[("m", &mint(rt, &[COIN])?)], 0, INIT)?;
+    let rack = expect(
+        rt,
+        rack,
+        &["init", "m"],
+        &[("m", &mint(rt, &[COIN])?)],
+        0,
+        INIT,
+    )?;
     let bytes = client(rt, &[])?;
     let lines = good(rt, &[])?;
-    let rack = expect(rt, rack, &RUN, &[("c", &bytes), ("v", &lines)], 0, "resumed 0\nbatches 0\nconfirmed 0\nrejected 0\nrefused 0\nunspent 1\n")?;
+    let rack = expect(
+        rt,
+        rack,
+        &RUN,
+        &[("c", &bytes), ("v", &lines)],
+        0,
+        "resumed 0\nbatches 0\nconfirmed 0\nrejected 0\nrefused 0\nunspent 1\n",
+    )?;
     assert_eq!(rt; used(&rack, 0), 99);
     Ok(())
 }
@@ -75,12 +123,26 @@ fn an_empty_client_file(rt: HostRuntime) -> Result<(), Fail> {
 fn two_spenders_in_one_file(rt: HostRuntime) -> Result<(), Fail> {
     let rt = &rt;
     let rack = two_disks(rt, 10_000, 10_000)?;
-    let rack = expect(rt, rack, &["init", "m"], &[("m", &mint(rt, &[COIN])?)], 0, INIT)?;
+    let rack = expect(
+        rt,
+        rack,
+        &["init", "m"],
+        &[("m", &mint(rt, &[COIN])?)],
+        0,
+        INIT,
+    )?;
     let tx = sixty_forty(rt)?;
     let other = claims(rt, 100, &[(4, 100)])?;
     let bytes = client(rt, &[&tx, &other])?;
     let lines = good(rt, &[&tx, &other])?;
-    let _ = expect(rt, rack, &RUN, &[("c", &bytes), ("v", &lines)], 0, "1 0 95dc87bd021f95fe4232b14028e3332879a437b67d6eaaf9a6510670e422cc2f confirmed 0 1\n1 1 18a18a0961b2e87d125720b33669f007226725e25988328f9a9f63772f3ca1c3 rejected locked 866fbe7a1335a2e2e2ec97861a6980fc2f1314dd1bbc6d33f73d184a9e1807bc 0 0 1 by 0 1\nresumed 0\nbatches 1\nconfirmed 1\nrejected 1\nrefused 0\nunspent 2\n")?;
+    let _ = expect(
+        rt,
+        rack,
+        &RUN,
+        &[("c", &bytes), ("v", &lines)],
+        0,
+        "1 0 95dc87bd021f95fe4232b14028e3332879a437b67d6eaaf9a6510670e422cc2f confirmed 0 1\n1 1 18a18a0961b2e87d125720b33669f007226725e25988328f9a9f63772f3ca1c3 rejected locked 866fbe7a1335a2e2e2ec97861a6980fc2f1314dd1bbc6d33f73d184a9e1807bc 0 0 1 by 0 1\nresumed 0\nbatches 1\nconfirmed 1\nrejected 1\nrefused 0\nunspent 2\n",
+    )?;
     Ok(())
 }
 
@@ -89,15 +151,36 @@ fn two_spenders_in_one_file(rt: HostRuntime) -> Result<(), Fail> {
 fn two_spenders_in_two_runs(rt: HostRuntime) -> Result<(), Fail> {
     let rt = &rt;
     let rack = two_disks(rt, 10_000, 10_000)?;
-    let rack = expect(rt, rack, &["init", "m"], &[("m", &mint(rt, &[COIN])?)], 0, INIT)?;
+    let rack = expect(
+        rt,
+        rack,
+        &["init", "m"],
+        &[("m", &mint(rt, &[COIN])?)],
+        0,
+        INIT,
+    )?;
     let tx = sixty_forty(rt)?;
     let other = claims(rt, 100, &[(4, 100)])?;
     let bytes = client(rt, &[&tx])?;
     let lines = good(rt, &[&tx])?;
-    let rack = expect(rt, rack, &RUN, &[("c", &bytes), ("v", &lines)], 0, "1 0 95dc87bd021f95fe4232b14028e3332879a437b67d6eaaf9a6510670e422cc2f confirmed 0 1\nresumed 0\nbatches 1\nconfirmed 1\nrejected 0\nrefused 0\nunspent 2\n")?;
+    let rack = expect(
+        rt,
+        rack,
+        &RUN,
+        &[("c", &bytes), ("v", &lines)],
+        0,
+        "1 0 95dc87bd021f95fe4232b14028e3332879a437b67d6eaaf9a6510670e422cc2f confirmed 0 1\nresumed 0\nbatches 1\nconfirmed 1\nrejected 0\nrefused 0\nunspent 2\n",
+    )?;
     let bytes = client(rt, &[&other])?;
     let lines = good(rt, &[&other])?;
-    let _ = expect(rt, rack, &RUN, &[("c", &bytes), ("v", &lines)], 0, "1 0 18a18a0961b2e87d125720b33669f007226725e25988328f9a9f63772f3ca1c3 rejected missing 866fbe7a1335a2e2e2ec97861a6980fc2f1314dd1bbc6d33f73d184a9e1807bc 0 0 2\nresumed 0\nbatches 1\nconfirmed 0\nrejected 1\nrefused 0\nunspent 2\n")?;
+    let _ = expect(
+        rt,
+        rack,
+        &RUN,
+        &[("c", &bytes), ("v", &lines)],
+        0,
+        "1 0 18a18a0961b2e87d125720b33669f007226725e25988328f9a9f63772f3ca1c3 rejected missing 866fbe7a1335a2e2e2ec97861a6980fc2f1314dd1bbc6d33f73d184a9e1807bc 0 0 2\nresumed 0\nbatches 1\nconfirmed 0\nrejected 1\nrefused 0\nunspent 2\n",
+    )?;
     Ok(())
 }
 
@@ -106,15 +189,36 @@ fn two_spenders_in_two_runs(rt: HostRuntime) -> Result<(), Fail> {
 fn an_output_spent_in_its_own_batch(rt: HostRuntime) -> Result<(), Fail> {
     let rt = &rt;
     let rack = two_disks(rt, 10_000, 10_000)?;
-    let rack = expect(rt, rack, &["init", "m"], &[("m", &mint(rt, &[COIN])?)], 0, INIT)?;
+    let rack = expect(
+        rt,
+        rack,
+        &["init", "m"],
+        &[("m", &mint(rt, &[COIN])?)],
+        0,
+        INIT,
+    )?;
     let tx = sixty_forty(rt)?;
     let next = pays(rt, &[spends(tx_id(&tx), 0, (2, 60))], &[(5, 60)])?;
     let bytes = client(rt, &[&tx, &next])?;
     let lines = good(rt, &[&tx, &next])?;
-    let rack = expect(rt, rack, &RUN, &[("c", &bytes), ("v", &lines)], 0, "1 0 95dc87bd021f95fe4232b14028e3332879a437b67d6eaaf9a6510670e422cc2f confirmed 0 1\n1 1 215b40eaed9285d724ea6a36278d5bd86e7c4695764770784946ebccdc7784c8 rejected missing c49d41e772da3d66ee9f973c0c26810b7263fab2b96c7a97fdaa8c778bc6a2b7 0 0 1\nresumed 0\nbatches 1\nconfirmed 1\nrejected 1\nrefused 0\nunspent 2\n")?;
+    let rack = expect(
+        rt,
+        rack,
+        &RUN,
+        &[("c", &bytes), ("v", &lines)],
+        0,
+        "1 0 95dc87bd021f95fe4232b14028e3332879a437b67d6eaaf9a6510670e422cc2f confirmed 0 1\n1 1 215b40eaed9285d724ea6a36278d5bd86e7c4695764770784946ebccdc7784c8 rejected missing c49d41e772da3d66ee9f973c0c26810b7263fab2b96c7a97fdaa8c778bc6a2b7 0 0 1\nresumed 0\nbatches 1\nconfirmed 1\nrejected 1\nrefused 0\nunspent 2\n",
+    )?;
     let bytes = client(rt, &[&next])?;
     let lines = good(rt, &[&next])?;
-    let _ = expect(rt, rack, &RUN, &[("c", &bytes), ("v", &lines)], 0, "1 0 215b40eaed9285d724ea6a36278d5bd86e7c4695764770784946ebccdc7784c8 confirmed 0 2\nresumed 0\nbatches 1\nconfirmed 1\nrejected 0\nrefused 0\nunspent 2\n")?;
+    let _ = expect(
+        rt,
+        rack,
+        &RUN,
+        &[("c", &bytes), ("v", &lines)],
+        0,
+        "1 0 215b40eaed9285d724ea6a36278d5bd86e7c4695764770784946ebccdc7784c8 confirmed 0 2\nresumed 0\nbatches 1\nconfirmed 1\nrejected 0\nrefused 0\nunspent 2\n",
+    )?;
     Ok(())
 }
 
@@ -123,11 +227,25 @@ fn an_output_spent_in_its_own_batch(rt: HostRuntime) -> Result<(), Fail> {
 fn more_out_than_in(rt: HostRuntime) -> Result<(), Fail> {
     let rt = &rt;
     let rack = two_disks(rt, 10_000, 10_000)?;
-    let rack = expect(rt, rack, &["init", "m"], &[("m", &mint(rt, &[COIN])?)], 0, INIT)?;
+    let rack = expect(
+        rt,
+        rack,
+        &["init", "m"],
+        &[("m", &mint(rt, &[COIN])?)],
+        0,
+        INIT,
+    )?;
     let tx = claims(rt, 100, &[(2, 60), (3, 41)])?;
     let bytes = client(rt, &[&tx])?;
     let lines = good(rt, &[&tx])?;
-    let rack = expect(rt, rack, &RUN, &[("c", &bytes), ("v", &lines)], 0, "1 0 580c96beb2cb0f336e3ba29871119fc764bd6d2519490c4181f3cdc560783206 refused unbalanced 100 101\nresumed 0\nbatches 0\nconfirmed 0\nrejected 0\nrefused 1\nunspent 1\n")?;
+    let rack = expect(
+        rt,
+        rack,
+        &RUN,
+        &[("c", &bytes), ("v", &lines)],
+        0,
+        "1 0 580c96beb2cb0f336e3ba29871119fc764bd6d2519490c4181f3cdc560783206 refused unbalanced 100 101\nresumed 0\nbatches 0\nconfirmed 0\nrejected 0\nrefused 1\nunspent 1\n",
+    )?;
     assert_eq!(rt; used(&rack, 0), 99);
     Ok(())
 }
@@ -137,11 +255,25 @@ fn more_out_than_in(rt: HostRuntime) -> Result<(), Fail> {
 fn an_output_of_nothing(rt: HostRuntime) -> Result<(), Fail> {
     let rt = &rt;
     let rack = two_disks(rt, 10_000, 10_000)?;
-    let rack = expect(rt, rack, &["init", "m"], &[("m", &mint(rt, &[COIN])?)], 0, INIT)?;
+    let rack = expect(
+        rt,
+        rack,
+        &["init", "m"],
+        &[("m", &mint(rt, &[COIN])?)],
+        0,
+        INIT,
+    )?;
     let tx = claims(rt, 100, &[(2, 0), (3, 100)])?;
     let bytes = client(rt, &[&tx])?;
     let lines = good(rt, &[&tx])?;
-    let _ = expect(rt, rack, &RUN, &[("c", &bytes), ("v", &lines)], 0, "1 0 7046d7f1c6fe1d4618d310c77f689d1b6fd2cf14fa6904ff979f6c55d3516df1 refused zero-output 0\nresumed 0\nbatches 0\nconfirmed 0\nrejected 0\nrefused 1\nunspent 1\n")?;
+    let _ = expect(
+        rt,
+        rack,
+        &RUN,
+        &[("c", &bytes), ("v", &lines)],
+        0,
+        "1 0 7046d7f1c6fe1d4618d310c77f689d1b6fd2cf14fa6904ff979f6c55d3516df1 refused zero-output 0\nresumed 0\nbatches 0\nconfirmed 0\nrejected 0\nrefused 1\nunspent 1\n",
+    )?;
     Ok(())
 }
 
@@ -150,7 +282,14 @@ fn an_output_of_nothing(rt: HostRuntime) -> Result<(), Fail> {
 fn inputs_past_the_largest_number(rt: HostRuntime) -> Result<(), Fail> {
     let rt = &rt;
     let rack = two_disks(rt, 10_000, 10_000)?;
-    let rack = expect(rt, rack, &["init", "m"], &[("m", &mint(rt, &[COIN])?)], 0, INIT)?;
+    let rack = expect(
+        rt,
+        rack,
+        &["init", "m"],
+        &[("m", &mint(rt, &[COIN])?)],
+        0,
+        INIT,
+    )?;
     let id = genesis(rt, &[COIN])?;
     let inputs = [
         spends(id, 0, (6, 18446744073709551615)),
@@ -159,7 +298,14 @@ fn inputs_past_the_largest_number(rt: HostRuntime) -> Result<(), Fail> {
     let tx = pays(rt, &inputs, &[(2, 5)])?;
     let bytes = client(rt, &[&tx])?;
     let lines = good(rt, &[&tx])?;
-    let _ = expect(rt, rack, &RUN, &[("c", &bytes), ("v", &lines)], 0, "1 0 6535ef6d6e53bcad168762f427262473524e49228a6ed6886718e61baafd6d5a refused input-overflow\nresumed 0\nbatches 0\nconfirmed 0\nrejected 0\nrefused 1\nunspent 1\n")?;
+    let _ = expect(
+        rt,
+        rack,
+        &RUN,
+        &[("c", &bytes), ("v", &lines)],
+        0,
+        "1 0 6535ef6d6e53bcad168762f427262473524e49228a6ed6886718e61baafd6d5a refused input-overflow\nresumed 0\nbatches 0\nconfirmed 0\nrejected 0\nrefused 1\nunspent 1\n",
+    )?;
     Ok(())
 }
 
@@ -168,11 +314,25 @@ fn inputs_past_the_largest_number(rt: HostRuntime) -> Result<(), Fail> {
 fn a_wrong_claim(rt: HostRuntime) -> Result<(), Fail> {
     let rt = &rt;
     let rack = two_disks(rt, 10_000, 10_000)?;
-    let rack = expect(rt, rack, &["init", "m"], &[("m", &mint(rt, &[COIN])?)], 0, INIT)?;
+    let rack = expect(
+        rt,
+        rack,
+        &["init", "m"],
+        &[("m", &mint(rt, &[COIN])?)],
+        0,
+        INIT,
+    )?;
     let tx = claims(rt, 1000, &[(2, 1000)])?;
     let bytes = client(rt, &[&tx])?;
     let lines = good(rt, &[&tx])?;
-    let _ = expect(rt, rack, &RUN, &[("c", &bytes), ("v", &lines)], 0, "1 0 de802b7527ba22d9037fdf823aba14115106981b1b165ade59c1d6b7fedf8399 rejected missing ccfe9e53cf5827c2cc972dbf59297c5084eef6bbe6735cfc8a18499a11401ecd 0 0 1\nresumed 0\nbatches 1\nconfirmed 0\nrejected 1\nrefused 0\nunspent 1\n")?;
+    let _ = expect(
+        rt,
+        rack,
+        &RUN,
+        &[("c", &bytes), ("v", &lines)],
+        0,
+        "1 0 de802b7527ba22d9037fdf823aba14115106981b1b165ade59c1d6b7fedf8399 rejected missing ccfe9e53cf5827c2cc972dbf59297c5084eef6bbe6735cfc8a18499a11401ecd 0 0 1\nresumed 0\nbatches 1\nconfirmed 0\nrejected 1\nrefused 0\nunspent 1\n",
+    )?;
     Ok(())
 }
 
@@ -181,18 +341,46 @@ fn a_wrong_claim(rt: HostRuntime) -> Result<(), Fail> {
 fn a_full_coordinator(rt: HostRuntime) -> Result<(), Fail> {
     let rt = &rt;
     let rack = two_disks(rt, 419, 10_000)?;
-    let rack = expect(rt, rack, &["init", "m"], &[("m", &mint(rt, &[COIN])?)], 0, INIT)?;
+    let rack = expect(
+        rt,
+        rack,
+        &["init", "m"],
+        &[("m", &mint(rt, &[COIN])?)],
+        0,
+        INIT,
+    )?;
     let tx = claims(rt, 100, &[(4, 100)])?;
     let bytes = client(rt, &[&tx])?;
     let lines = good(rt, &[&tx])?;
-    let rack = expect(rt, rack, &RUN, &[("c", &bytes), ("v", &lines)], 5, "fault full 0 used 99 need 321 capacity 419\n")?;
+    let rack = expect(
+        rt,
+        rack,
+        &RUN,
+        &[("c", &bytes), ("v", &lines)],
+        5,
+        "fault full 0 used 99 need 321 capacity 419\n",
+    )?;
     assert_eq!(rt; used(&rack, 0), 99);
     assert_eq!(rt; used(&rack, 1), 139);
     let rack = two_disks(rt, 420, 10_000)?;
-    let rack = expect(rt, rack, &["init", "m"], &[("m", &mint(rt, &[COIN])?)], 0, INIT)?;
+    let rack = expect(
+        rt,
+        rack,
+        &["init", "m"],
+        &[("m", &mint(rt, &[COIN])?)],
+        0,
+        INIT,
+    )?;
     let bytes = client(rt, &[&tx])?;
     let lines = good(rt, &[&tx])?;
-    let rack = expect(rt, rack, &RUN, &[("c", &bytes), ("v", &lines)], 0, "1 0 18a18a0961b2e87d125720b33669f007226725e25988328f9a9f63772f3ca1c3 confirmed 0 1\nresumed 0\nbatches 1\nconfirmed 1\nrejected 0\nrefused 0\nunspent 1\n")?;
+    let rack = expect(
+        rt,
+        rack,
+        &RUN,
+        &[("c", &bytes), ("v", &lines)],
+        0,
+        "1 0 18a18a0961b2e87d125720b33669f007226725e25988328f9a9f63772f3ca1c3 confirmed 0 1\nresumed 0\nbatches 1\nconfirmed 1\nrejected 0\nrefused 0\nunspent 1\n",
+    )?;
     assert_eq!(rt; used(&rack, 0), 364);
     Ok(())
 }
@@ -203,7 +391,14 @@ fn a_shard_without_room(rt: HostRuntime) -> Result<(), Fail> {
     let rt = &rt;
     let rack = two_disks(rt, 10_000, 138)?;
     let text = "fault full 1 used 0 need 139 capacity 138\n";
-    let rack = expect(rt, rack, &["init", "m"], &[("m", &mint(rt, &[COIN])?)], 5, text)?;
+    let rack = expect(
+        rt,
+        rack,
+        &["init", "m"],
+        &[("m", &mint(rt, &[COIN])?)],
+        5,
+        text,
+    )?;
     assert_eq!(rt; used(&rack, 0), 0);
     assert_eq!(rt; used(&rack, 1), 0);
     Ok(())
@@ -214,18 +409,27 @@ fn a_shard_without_room(rt: HostRuntime) -> Result<(), Fail> {
 fn mints(rt: HostRuntime) -> Result<(), Fail> {
     let rt = &rt;
     let rack = two_disks(rt, 10_000, 10_000)?;
-    let text = "coins 3\nminted 157\ngenesis f301763618c545bc74bb8922eae65128cbf43f4f659777acd2d2136872723138\n";
+    let text =
+        "coins 3\nminted 157\ngenesis f301763618c545bc74bb8922eae65128cbf43f4f659777acd2d2136872723138\n";
     let bytes = mint(rt, &[COIN, (2, 50), (3, 7)])?;
     let _ = expect(rt, rack, &["init", "m"], &[("m", &bytes)], 0, text)?;
     let rack = two_disks(rt, 10_000, 10_000)?;
-    let text = "coins 0\nminted 0\ngenesis 374708fff7719dd5979ec875d56cd2286f6d3cf7ec317a3b25632aab28ec37bb\n";
+    let text =
+        "coins 0\nminted 0\ngenesis 374708fff7719dd5979ec875d56cd2286f6d3cf7ec317a3b25632aab28ec37bb\n";
     let _ = expect(rt, rack, &["init", "m"], &[("m", &mint(rt, &[])?)], 0, text)?;
     let rack = two_disks(rt, 10_000, 10_000)?;
     let bytes = mint(rt, &[(1, 18446744073709551615), (2, 1)])?;
     let text = "fault minted 18446744073709551616\n";
     let rack = expect(rt, rack, &["init", "m"], &[("m", &bytes)], 3, text)?;
     let bytes = mint(rt, &[COIN, (2, 0)])?;
-    let _ = expect(rt, rack, &["init", "m"], &[("m", &bytes)], 3, "fault input m at 48 zero\n")?;
+    let _ = expect(
+        rt,
+        rack,
+        &["init", "m"],
+        &[("m", &bytes)],
+        3,
+        "fault input m at 48 zero\n",
+    )?;
     Ok(())
 }
 
@@ -236,13 +440,41 @@ fn words_that_ask_for_nothing(rt: HostRuntime) -> Result<(), Fail> {
     let rack = two_disks(rt, 10_000, 10_000)?;
     let rack = expect(rt, rack, &[], &[], 2, "fault words\n")?;
     let bytes = mint(rt, &[COIN])?;
-    let rack = expect(rt, rack, &["init", "--shards", "65", "m"], &[("m", &bytes)], 2, "fault words\n")?;
+    let rack = expect(
+        rt,
+        rack,
+        &["init", "--shards", "65", "m"],
+        &[("m", &bytes)],
+        2,
+        "fault words\n",
+    )?;
     let bytes = client(rt, &[])?;
     let lines = good(rt, &[])?;
-    let rack = expect(rt, rack, &RUN, &[("c", &bytes), ("v", &lines)], 4, "fault not ready 0\n")?;
-    let rack = expect(rt, rack, &["init", "m"], &[("m", &mint(rt, &[COIN])?)], 0, INIT)?;
+    let rack = expect(
+        rt,
+        rack,
+        &RUN,
+        &[("c", &bytes), ("v", &lines)],
+        4,
+        "fault not ready 0\n",
+    )?;
+    let rack = expect(
+        rt,
+        rack,
+        &["init", "m"],
+        &[("m", &mint(rt, &[COIN])?)],
+        0,
+        INIT,
+    )?;
     let text = "fault not empty 0\n";
-    let _ = expect(rt, rack, &["init", "m"], &[("m", &mint(rt, &[COIN])?)], 4, text)?;
+    let _ = expect(
+        rt,
+        rack,
+        &["init", "m"],
+        &[("m", &mint(rt, &[COIN])?)],
+        4,
+        text,
+    )?;
     Ok(())
 }
 
@@ -251,7 +483,14 @@ fn words_that_ask_for_nothing(rt: HostRuntime) -> Result<(), Fail> {
 fn files_outside_their_grammar(rt: HostRuntime) -> Result<(), Fail> {
     let rt = &rt;
     let rack = two_disks(rt, 10_000, 10_000)?;
-    let rack = expect(rt, rack, &["init", "m"], &[("m", &mint(rt, &[COIN])?)], 0, INIT)?;
+    let rack = expect(
+        rt,
+        rack,
+        &["init", "m"],
+        &[("m", &mint(rt, &[COIN])?)],
+        0,
+        INIT,
+    )?;
     let tx = claims(rt, 100, &[(4, 100)])?;
     let lines = good(rt, &[&tx])?;
     let mut bytes = client(rt, &[&tx])?;
@@ -274,11 +513,25 @@ fn files_outside_their_grammar(rt: HostRuntime) -> Result<(), Fail> {
 fn a_damaged_shard(rt: HostRuntime) -> Result<(), Fail> {
     let rt = &rt;
     let rack = two_disks(rt, 10_000, 10_000)?;
-    let rack = expect(rt, rack, &["init", "m"], &[("m", &mint(rt, &[COIN])?)], 0, INIT)?;
+    let rack = expect(
+        rt,
+        rack,
+        &["init", "m"],
+        &[("m", &mint(rt, &[COIN])?)],
+        0,
+        INIT,
+    )?;
     let tx = sixty_forty(rt)?;
     let bytes = client(rt, &[&tx])?;
     let lines = good(rt, &[&tx])?;
-    let rack = expect(rt, rack, &RUN, &[("c", &bytes), ("v", &lines)], 0, "1 0 95dc87bd021f95fe4232b14028e3332879a437b67d6eaaf9a6510670e422cc2f confirmed 0 1\nresumed 0\nbatches 1\nconfirmed 1\nrejected 0\nrefused 0\nunspent 2\n")?;
+    let rack = expect(
+        rt,
+        rack,
+        &RUN,
+        &[("c", &bytes), ("v", &lines)],
+        0,
+        "1 0 95dc87bd021f95fe4232b14028e3332879a437b67d6eaaf9a6510670e422cc2f confirmed 0 1\nresumed 0\nbatches 1\nconfirmed 1\nrejected 0\nrefused 0\nunspent 2\n",
+    )?;
     let (Some(one), Some(two)) = (rack.disk(NodeId(0)), rack.disk(NodeId(1))) else {
         return Err(Fail::new("a disk is out"));
     };
@@ -305,14 +558,29 @@ fn a_damaged_shard(rt: HostRuntime) -> Result<(), Fail> {
 fn two_spenders_in_two_files(rt: HostRuntime) -> Result<(), Fail> {
     let rt = &rt;
     let rack = two_disks(rt, 10_000, 10_000)?;
-    let rack = expect(rt, rack, &["init", "m"], &[("m", &mint(rt, &[COIN])?)], 0, INIT)?;
+    let rack = expect(
+        rt,
+        rack,
+        &["init", "m"],
+        &[("m", &mint(rt, &[COIN])?)],
+        0,
+        INIT,
+    )?;
     let tx = sixty_forty(rt)?;
     let other = claims(rt, 100, &[(4, 100)])?;
     let (one, two) = (client(rt, &[&tx])?, client(rt, &[&other])?);
     let lines = good(rt, &[&tx, &other])?;
     let words = ["run", "--verdicts", "v", "c", "d"];
-    let text = "1 0 95dc87bd021f95fe4232b14028e3332879a437b67d6eaaf9a6510670e422cc2f confirmed 0 1\n2 0 18a18a0961b2e87d125720b33669f007226725e25988328f9a9f63772f3ca1c3 rejected missing 866fbe7a1335a2e2e2ec97861a6980fc2f1314dd1bbc6d33f73d184a9e1807bc 0 0 2\nresumed 0\nbatches 2\nconfirmed 1\nrejected 1\nrefused 0\nunspent 2\n";
-    let _ = expect(rt, rack, &words, &[("c", &one), ("d", &two), ("v", &lines)], 0, text)?;
+    let text =
+        "1 0 95dc87bd021f95fe4232b14028e3332879a437b67d6eaaf9a6510670e422cc2f confirmed 0 1\n2 0 18a18a0961b2e87d125720b33669f007226725e25988328f9a9f63772f3ca1c3 rejected missing 866fbe7a1335a2e2e2ec97861a6980fc2f1314dd1bbc6d33f73d184a9e1807bc 0 0 2\nresumed 0\nbatches 2\nconfirmed 1\nrejected 1\nrefused 0\nunspent 2\n";
+    let _ = expect(
+        rt,
+        rack,
+        &words,
+        &[("c", &one), ("d", &two), ("v", &lines)],
+        0,
+        text,
+    )?;
     Ok(())
 }
 
@@ -321,13 +589,21 @@ fn two_spenders_in_two_files(rt: HostRuntime) -> Result<(), Fail> {
 fn verdict_files(rt: HostRuntime) -> Result<(), Fail> {
     let rt = &rt;
     let rack = two_disks(rt, 10_000, 10_000)?;
-    let rack = expect(rt, rack, &["init", "m"], &[("m", &mint(rt, &[COIN])?)], 0, INIT)?;
+    let rack = expect(
+        rt,
+        rack,
+        &["init", "m"],
+        &[("m", &mint(rt, &[COIN])?)],
+        0,
+        INIT,
+    )?;
     let tx = sixty_forty(rt)?;
     let bytes = client(rt, &[&tx])?;
     let twice = good(rt, &[&tx, &tx])?;
     let text = "fault input v at 2 repeated\n";
     let rack = expect(rt, rack, &RUN, &[("c", &bytes), ("v", &twice)], 3, text)?;
-    let text = "1 0 95dc87bd021f95fe4232b14028e3332879a437b67d6eaaf9a6510670e422cc2f refused unverified 0\nresumed 0\nbatches 0\nconfirmed 0\nrejected 0\nrefused 1\nunspent 1\n";
+    let text =
+        "1 0 95dc87bd021f95fe4232b14028e3332879a437b67d6eaaf9a6510670e422cc2f refused unverified 0\nresumed 0\nbatches 0\nconfirmed 0\nrejected 0\nrefused 1\nunspent 1\n";
     let _ = expect(rt, rack, &RUN, &[("c", &bytes), ("v", &[])], 0, text)?;
     Ok(())
 }
@@ -337,11 +613,19 @@ fn verdict_files(rt: HostRuntime) -> Result<(), Fail> {
 fn what_is_known(rt: HostRuntime) -> Result<(), Fail> {
     let rt = &rt;
     let rack = two_disks(rt, 10_000, 10_000)?;
-    let rack = expect(rt, rack, &["init", "m"], &[("m", &mint(rt, &[COIN])?)], 0, INIT)?;
+    let rack = expect(
+        rt,
+        rack,
+        &["init", "m"],
+        &[("m", &mint(rt, &[COIN])?)],
+        0,
+        INIT,
+    )?;
     let tx = sixty_forty(rt)?;
     let bytes = client(rt, &[&tx])?;
     let lines = good(rt, &[&tx])?;
-    let text = "1 0 95dc87bd021f95fe4232b14028e3332879a437b67d6eaaf9a6510670e422cc2f confirmed 0 1\nresumed 0\nbatches 1\nconfirmed 1\nrejected 0\nrefused 0\nunspent 2\n";
+    let text =
+        "1 0 95dc87bd021f95fe4232b14028e3332879a437b67d6eaaf9a6510670e422cc2f confirmed 0 1\nresumed 0\nbatches 1\nconfirmed 1\nrejected 0\nrefused 0\nunspent 2\n";
     let rack = expect(rt, rack, &RUN, &[("c", &bytes), ("v", &lines)], 0, text)?;
     let words = [
         "status",
@@ -349,7 +633,8 @@ fn what_is_known(rt: HostRuntime) -> Result<(), Fail> {
         "562102009b277f8ca03b9479b63681e8473183be499c28d77b710798ef77b6df",
         "866fbe7a1335a2e2e2ec97861a6980fc2f1314dd1bbc6d33f73d184a9e1807bc",
     ];
-    let text = "c49d41e772da3d66ee9f973c0c26810b7263fab2b96c7a97fdaa8c778bc6a2b7 unspent\n562102009b277f8ca03b9479b63681e8473183be499c28d77b710798ef77b6df unspent\n866fbe7a1335a2e2e2ec97861a6980fc2f1314dd1bbc6d33f73d184a9e1807bc absent\n";
+    let text =
+        "c49d41e772da3d66ee9f973c0c26810b7263fab2b96c7a97fdaa8c778bc6a2b7 unspent\n562102009b277f8ca03b9479b63681e8473183be499c28d77b710798ef77b6df unspent\n866fbe7a1335a2e2e2ec97861a6980fc2f1314dd1bbc6d33f73d184a9e1807bc absent\n";
     let rack = expect(rt, rack, &words, &[], 0, text)?;
     let rack = expect(rt, rack, &["status", "12"], &[], 2, "fault words\n")?;
     let rack = expect(rt, rack, &["recover"], &[], 0, "resumed 0\nunspent 2\n")?;
