@@ -8,6 +8,9 @@ use identifiers::tx_id;
 use line_text::status_code;
 use mem_devices::{MemInbox, MemRack, MemSink, PlainDisk};
 use outside::OpenGate;
+use std::alloc::Global;
+use std::process::Abort;
+use std::sync::Wait;
 use std::test::Fail;
 use tx_codec::write_tx;
 
@@ -33,35 +36,36 @@ pub(crate) fn two_disks(
 }
 
 // The words, behind the program's name.
-fn owned(rt: &HostRuntime, words: &[&str]) -> Result<Vec<String>, Fail> {
-    let mut all = Vec::new(rt.alloc());
-    all.push(String::from_str(rt.alloc(), "hamilton")?)?;
+fn owned(alloc: Global, words: &[&str]) -> Result<Vec<String>, Fail> {
+    let mut all = Vec::new(alloc);
+    all.push(String::from_str(alloc, "hamilton")?)?;
     for word in words {
-        all.push(String::from_str(rt.alloc(), word)?)?;
+        all.push(String::from_str(alloc, word)?)?;
     }
     Ok(all)
 }
 
-/// A name and a copy of bytes.
-fn named(rt: &HostRuntime, file: &(&str, &[u8])) -> Result<(String, Vec<u8>), Fail> {
+// A name and a copy of bytes.
+fn named(alloc: Global, file: &(&str, &[u8])) -> Result<(String, Vec<u8>), Fail> {
     Ok((
-        String::from_str(rt.alloc(), file.0)?,
-        Vec::from_slice(rt.alloc(), file.1)?,
+        String::from_str(alloc, file.0)?,
+        Vec::from_slice(alloc, file.1)?,
     ))
 }
 
 // The files by name.
-fn inbox(rt: &HostRuntime, files: &[(&str, &[u8])]) -> Result<MemInbox, Fail> {
-    let mut all = Vec::new(rt.alloc());
+fn inbox(alloc: Global, files: &[(&str, &[u8])]) -> Result<MemInbox, Fail> {
+    let mut all = Vec::new(alloc);
     for file in files {
-        all.push(named(rt, file)?)?;
+        all.push(named(alloc, file)?)?;
     }
     Ok(MemInbox::new(all))
 }
 
 /// Runs the program with these words and files over the rack, and checks its text and status.
-pub(crate) fn expect(
-    rt: &HostRuntime,
+pub(crate) fn expect<W: Wait + Abort>(
+    rt: &W,
+    alloc: Global,
     rack: MemRack<PlainDisk>,
     words: &[&str],
     files: &[(&str, &[u8])],
@@ -71,17 +75,11 @@ pub(crate) fn expect(
     requires { AllIn rack }
     ensures { IfOk result (λ r. AllIn r) }
 {
-    let words = owned(rt, words)?;
-    let mut inbox = inbox(rt, files)?;
-    let mut out = MemSink::new(rt.alloc(), 100_000, Vec::new(rt.alloc()))?;
+    let words = owned(alloc, words)?;
+    let mut inbox = inbox(alloc, files)?;
+    let mut out = MemSink::new(alloc, 100_000, Vec::new(alloc))?;
     let Done { status: told, rack } = process(
-        rt,
-        rt.alloc(),
-        &words,
-        &mut inbox,
-        rack,
-        &mut out,
-        &OpenGate,
+        rt, alloc, &words, &mut inbox, rack, &mut out, &OpenGate,
     );
     assert_eq!(rt; out.taken(), text.as_bytes());
     assert_eq!(rt; status_code(&told), status);
@@ -172,7 +170,7 @@ pub(crate) fn client(rt: &HostRuntime, txs: &[&FullTx]) -> Result<Vec<u8>, Fail>
     let mut bytes = Vec::new(rt.alloc());
     put_number(&mut bytes, txs.len() as u64)?;
     for tx in txs {
-        write_tx(tx, &mut bytes)?;
+        write_tx(rt.alloc(), tx, &mut bytes)?;
     }
     Ok(bytes)
 }

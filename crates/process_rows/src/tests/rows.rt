@@ -20,6 +20,15 @@ fn claims(rt: &HostRuntime, value: u64, coins: &[(u8, u64)]) -> Result<FullTx, F
     pays(rt, &[spends(id, 0, (1, value))], coins)
 }
 
+// Sets the bytes from a place to another to 255.
+fn spoil(bytes: &mut Vec<u8>, from: usize, to: usize) {
+    for at in from..to {
+        if let Some(byte) = bytes.get_mut(at) {
+            *byte = 255;
+        }
+    }
+}
+
 // The transaction of the coin to 60 and 40.
 fn sixty_forty(rt: &HostRuntime) -> Result<FullTx, Fail> {
     claims(rt, 100, &[(2, 60), (3, 40)])
@@ -32,6 +41,7 @@ fn one_coin_becomes_two(rt: HostRuntime) -> Result<(), Fail> {
     let rack = two_disks(rt, 10_000, 10_000)?;
     let rack = expect(
         rt,
+        rt.alloc(),
         rack,
         &["init", "m"],
         &[("m", &mint(rt, &[COIN])?)],
@@ -43,6 +53,7 @@ fn one_coin_becomes_two(rt: HostRuntime) -> Result<(), Fail> {
     let lines = good(rt, &[&tx])?;
     let rack = expect(
         rt,
+        rt.alloc(),
         rack,
         &RUN,
         &[("c", &bytes), ("v", &lines)],
@@ -61,6 +72,7 @@ fn the_same_transaction_twice(rt: HostRuntime) -> Result<(), Fail> {
     let rack = two_disks(rt, 10_000, 10_000)?;
     let rack = expect(
         rt,
+        rt.alloc(),
         rack,
         &["init", "m"],
         &[("m", &mint(rt, &[COIN])?)],
@@ -72,6 +84,7 @@ fn the_same_transaction_twice(rt: HostRuntime) -> Result<(), Fail> {
     let lines = good(rt, &[&tx])?;
     let rack = expect(
         rt,
+        rt.alloc(),
         rack,
         &RUN,
         &[("c", &bytes), ("v", &lines)],
@@ -82,6 +95,7 @@ fn the_same_transaction_twice(rt: HostRuntime) -> Result<(), Fail> {
     let lines = good(rt, &[&tx])?;
     let _ = expect(
         rt,
+        rt.alloc(),
         rack,
         &RUN,
         &[("c", &bytes), ("v", &lines)],
@@ -98,6 +112,7 @@ fn an_empty_client_file(rt: HostRuntime) -> Result<(), Fail> {
     let rack = two_disks(rt, 10_000, 10_000)?;
     let rack = expect(
         rt,
+        rt.alloc(),
         rack,
         &["init", "m"],
         &[("m", &mint(rt, &[COIN])?)],
@@ -108,6 +123,7 @@ fn an_empty_client_file(rt: HostRuntime) -> Result<(), Fail> {
     let lines = good(rt, &[])?;
     let rack = expect(
         rt,
+        rt.alloc(),
         rack,
         &RUN,
         &[("c", &bytes), ("v", &lines)],
@@ -125,6 +141,7 @@ fn two_spenders_in_one_file(rt: HostRuntime) -> Result<(), Fail> {
     let rack = two_disks(rt, 10_000, 10_000)?;
     let rack = expect(
         rt,
+        rt.alloc(),
         rack,
         &["init", "m"],
         &[("m", &mint(rt, &[COIN])?)],
@@ -137,6 +154,7 @@ fn two_spenders_in_one_file(rt: HostRuntime) -> Result<(), Fail> {
     let lines = good(rt, &[&tx, &other])?;
     let _ = expect(
         rt,
+        rt.alloc(),
         rack,
         &RUN,
         &[("c", &bytes), ("v", &lines)],
@@ -153,6 +171,7 @@ fn two_spenders_in_two_runs(rt: HostRuntime) -> Result<(), Fail> {
     let rack = two_disks(rt, 10_000, 10_000)?;
     let rack = expect(
         rt,
+        rt.alloc(),
         rack,
         &["init", "m"],
         &[("m", &mint(rt, &[COIN])?)],
@@ -165,6 +184,7 @@ fn two_spenders_in_two_runs(rt: HostRuntime) -> Result<(), Fail> {
     let lines = good(rt, &[&tx])?;
     let rack = expect(
         rt,
+        rt.alloc(),
         rack,
         &RUN,
         &[("c", &bytes), ("v", &lines)],
@@ -175,6 +195,7 @@ fn two_spenders_in_two_runs(rt: HostRuntime) -> Result<(), Fail> {
     let lines = good(rt, &[&other])?;
     let _ = expect(
         rt,
+        rt.alloc(),
         rack,
         &RUN,
         &[("c", &bytes), ("v", &lines)],
@@ -191,6 +212,7 @@ fn an_output_spent_in_its_own_batch(rt: HostRuntime) -> Result<(), Fail> {
     let rack = two_disks(rt, 10_000, 10_000)?;
     let rack = expect(
         rt,
+        rt.alloc(),
         rack,
         &["init", "m"],
         &[("m", &mint(rt, &[COIN])?)],
@@ -203,6 +225,7 @@ fn an_output_spent_in_its_own_batch(rt: HostRuntime) -> Result<(), Fail> {
     let lines = good(rt, &[&tx, &next])?;
     let rack = expect(
         rt,
+        rt.alloc(),
         rack,
         &RUN,
         &[("c", &bytes), ("v", &lines)],
@@ -213,6 +236,7 @@ fn an_output_spent_in_its_own_batch(rt: HostRuntime) -> Result<(), Fail> {
     let lines = good(rt, &[&next])?;
     let _ = expect(
         rt,
+        rt.alloc(),
         rack,
         &RUN,
         &[("c", &bytes), ("v", &lines)],
@@ -229,6 +253,7 @@ fn more_out_than_in(rt: HostRuntime) -> Result<(), Fail> {
     let rack = two_disks(rt, 10_000, 10_000)?;
     let rack = expect(
         rt,
+        rt.alloc(),
         rack,
         &["init", "m"],
         &[("m", &mint(rt, &[COIN])?)],
@@ -240,6 +265,7 @@ fn more_out_than_in(rt: HostRuntime) -> Result<(), Fail> {
     let lines = good(rt, &[&tx])?;
     let rack = expect(
         rt,
+        rt.alloc(),
         rack,
         &RUN,
         &[("c", &bytes), ("v", &lines)],
@@ -257,6 +283,7 @@ fn an_output_of_nothing(rt: HostRuntime) -> Result<(), Fail> {
     let rack = two_disks(rt, 10_000, 10_000)?;
     let rack = expect(
         rt,
+        rt.alloc(),
         rack,
         &["init", "m"],
         &[("m", &mint(rt, &[COIN])?)],
@@ -268,6 +295,7 @@ fn an_output_of_nothing(rt: HostRuntime) -> Result<(), Fail> {
     let lines = good(rt, &[&tx])?;
     let _ = expect(
         rt,
+        rt.alloc(),
         rack,
         &RUN,
         &[("c", &bytes), ("v", &lines)],
@@ -284,6 +312,7 @@ fn inputs_past_the_largest_number(rt: HostRuntime) -> Result<(), Fail> {
     let rack = two_disks(rt, 10_000, 10_000)?;
     let rack = expect(
         rt,
+        rt.alloc(),
         rack,
         &["init", "m"],
         &[("m", &mint(rt, &[COIN])?)],
@@ -300,6 +329,7 @@ fn inputs_past_the_largest_number(rt: HostRuntime) -> Result<(), Fail> {
     let lines = good(rt, &[&tx])?;
     let _ = expect(
         rt,
+        rt.alloc(),
         rack,
         &RUN,
         &[("c", &bytes), ("v", &lines)],
@@ -316,6 +346,7 @@ fn a_wrong_claim(rt: HostRuntime) -> Result<(), Fail> {
     let rack = two_disks(rt, 10_000, 10_000)?;
     let rack = expect(
         rt,
+        rt.alloc(),
         rack,
         &["init", "m"],
         &[("m", &mint(rt, &[COIN])?)],
@@ -327,6 +358,7 @@ fn a_wrong_claim(rt: HostRuntime) -> Result<(), Fail> {
     let lines = good(rt, &[&tx])?;
     let _ = expect(
         rt,
+        rt.alloc(),
         rack,
         &RUN,
         &[("c", &bytes), ("v", &lines)],
@@ -343,6 +375,7 @@ fn a_full_coordinator(rt: HostRuntime) -> Result<(), Fail> {
     let rack = two_disks(rt, 419, 10_000)?;
     let rack = expect(
         rt,
+        rt.alloc(),
         rack,
         &["init", "m"],
         &[("m", &mint(rt, &[COIN])?)],
@@ -354,6 +387,7 @@ fn a_full_coordinator(rt: HostRuntime) -> Result<(), Fail> {
     let lines = good(rt, &[&tx])?;
     let rack = expect(
         rt,
+        rt.alloc(),
         rack,
         &RUN,
         &[("c", &bytes), ("v", &lines)],
@@ -365,6 +399,7 @@ fn a_full_coordinator(rt: HostRuntime) -> Result<(), Fail> {
     let rack = two_disks(rt, 420, 10_000)?;
     let rack = expect(
         rt,
+        rt.alloc(),
         rack,
         &["init", "m"],
         &[("m", &mint(rt, &[COIN])?)],
@@ -375,6 +410,7 @@ fn a_full_coordinator(rt: HostRuntime) -> Result<(), Fail> {
     let lines = good(rt, &[&tx])?;
     let rack = expect(
         rt,
+        rt.alloc(),
         rack,
         &RUN,
         &[("c", &bytes), ("v", &lines)],
@@ -393,6 +429,7 @@ fn a_shard_without_room(rt: HostRuntime) -> Result<(), Fail> {
     let text = "fault full 1 used 0 need 139 capacity 138\n";
     let rack = expect(
         rt,
+        rt.alloc(),
         rack,
         &["init", "m"],
         &[("m", &mint(rt, &[COIN])?)],
@@ -412,18 +449,43 @@ fn mints(rt: HostRuntime) -> Result<(), Fail> {
     let text =
         "coins 3\nminted 157\ngenesis f301763618c545bc74bb8922eae65128cbf43f4f659777acd2d2136872723138\n";
     let bytes = mint(rt, &[COIN, (2, 50), (3, 7)])?;
-    let _ = expect(rt, rack, &["init", "m"], &[("m", &bytes)], 0, text)?;
+    let _ = expect(
+        rt,
+        rt.alloc(),
+        rack,
+        &["init", "m"],
+        &[("m", &bytes)],
+        0,
+        text,
+    )?;
     let rack = two_disks(rt, 10_000, 10_000)?;
     let text =
         "coins 0\nminted 0\ngenesis 374708fff7719dd5979ec875d56cd2286f6d3cf7ec317a3b25632aab28ec37bb\n";
-    let _ = expect(rt, rack, &["init", "m"], &[("m", &mint(rt, &[])?)], 0, text)?;
+    let _ = expect(
+        rt,
+        rt.alloc(),
+        rack,
+        &["init", "m"],
+        &[("m", &mint(rt, &[])?)],
+        0,
+        text,
+    )?;
     let rack = two_disks(rt, 10_000, 10_000)?;
     let bytes = mint(rt, &[(1, 18446744073709551615), (2, 1)])?;
     let text = "fault minted 18446744073709551616\n";
-    let rack = expect(rt, rack, &["init", "m"], &[("m", &bytes)], 3, text)?;
+    let rack = expect(
+        rt,
+        rt.alloc(),
+        rack,
+        &["init", "m"],
+        &[("m", &bytes)],
+        3,
+        text,
+    )?;
     let bytes = mint(rt, &[COIN, (2, 0)])?;
     let _ = expect(
         rt,
+        rt.alloc(),
         rack,
         &["init", "m"],
         &[("m", &bytes)],
@@ -438,10 +500,11 @@ fn mints(rt: HostRuntime) -> Result<(), Fail> {
 fn words_that_ask_for_nothing(rt: HostRuntime) -> Result<(), Fail> {
     let rt = &rt;
     let rack = two_disks(rt, 10_000, 10_000)?;
-    let rack = expect(rt, rack, &[], &[], 2, "fault words\n")?;
+    let rack = expect(rt, rt.alloc(), rack, &[], &[], 2, "fault words\n")?;
     let bytes = mint(rt, &[COIN])?;
     let rack = expect(
         rt,
+        rt.alloc(),
         rack,
         &["init", "--shards", "65", "m"],
         &[("m", &bytes)],
@@ -452,6 +515,7 @@ fn words_that_ask_for_nothing(rt: HostRuntime) -> Result<(), Fail> {
     let lines = good(rt, &[])?;
     let rack = expect(
         rt,
+        rt.alloc(),
         rack,
         &RUN,
         &[("c", &bytes), ("v", &lines)],
@@ -460,6 +524,7 @@ fn words_that_ask_for_nothing(rt: HostRuntime) -> Result<(), Fail> {
     )?;
     let rack = expect(
         rt,
+        rt.alloc(),
         rack,
         &["init", "m"],
         &[("m", &mint(rt, &[COIN])?)],
@@ -469,6 +534,7 @@ fn words_that_ask_for_nothing(rt: HostRuntime) -> Result<(), Fail> {
     let text = "fault not empty 0\n";
     let _ = expect(
         rt,
+        rt.alloc(),
         rack,
         &["init", "m"],
         &[("m", &mint(rt, &[COIN])?)],
@@ -485,6 +551,7 @@ fn files_outside_their_grammar(rt: HostRuntime) -> Result<(), Fail> {
     let rack = two_disks(rt, 10_000, 10_000)?;
     let rack = expect(
         rt,
+        rt.alloc(),
         rack,
         &["init", "m"],
         &[("m", &mint(rt, &[COIN])?)],
@@ -496,13 +563,37 @@ fn files_outside_their_grammar(rt: HostRuntime) -> Result<(), Fail> {
     let mut bytes = client(rt, &[&tx])?;
     bytes.push(0)?;
     let text = "fault input c at 224 extra\n";
-    let rack = expect(rt, rack, &RUN, &[("c", &bytes), ("v", &lines)], 3, text)?;
+    let rack = expect(
+        rt,
+        rt.alloc(),
+        rack,
+        &RUN,
+        &[("c", &bytes), ("v", &lines)],
+        3,
+        text,
+    )?;
     let mut bytes = client(rt, &[&tx])?;
     bytes.truncate(223);
     let text = "fault input c at 160 cut\n";
-    let rack = expect(rt, rack, &RUN, &[("c", &bytes), ("v", &lines)], 3, text)?;
+    let rack = expect(
+        rt,
+        rt.alloc(),
+        rack,
+        &RUN,
+        &[("c", &bytes), ("v", &lines)],
+        3,
+        text,
+    )?;
     let words = ["run", "--verdicts", "v", "d"];
-    let rack = expect(rt, rack, &words, &[("c", &bytes)], 10, "fault read d\n")?;
+    let rack = expect(
+        rt,
+        rt.alloc(),
+        rack,
+        &words,
+        &[("c", &bytes)],
+        10,
+        "fault read d\n",
+    )?;
     assert_eq!(rt; used(&rack, 0), 99);
     assert_eq!(rt; used(&rack, 1), 139);
     Ok(())
@@ -515,6 +606,7 @@ fn a_damaged_shard(rt: HostRuntime) -> Result<(), Fail> {
     let rack = two_disks(rt, 10_000, 10_000)?;
     let rack = expect(
         rt,
+        rt.alloc(),
         rack,
         &["init", "m"],
         &[("m", &mint(rt, &[COIN])?)],
@@ -526,6 +618,7 @@ fn a_damaged_shard(rt: HostRuntime) -> Result<(), Fail> {
     let lines = good(rt, &[&tx])?;
     let rack = expect(
         rt,
+        rt.alloc(),
         rack,
         &RUN,
         &[("c", &bytes), ("v", &lines)],
@@ -537,9 +630,7 @@ fn a_damaged_shard(rt: HostRuntime) -> Result<(), Fail> {
     };
     let one = Vec::from_slice(rt.alloc(), one.bytes())?;
     let mut two = Vec::from_slice(rt.alloc(), two.bytes())?;
-    if let Some(length) = two.get_mut(139..147) {
-        length.fill(255);
-    }
+    spoil(&mut two, 139, 147);
     let mut disks = Vec::new(rt.alloc());
     disks.push(PlainDisk::with_bytes(one, 10_000)?)?;
     disks.push(PlainDisk::with_bytes(two, 10_000)?)?;
@@ -547,7 +638,15 @@ fn a_damaged_shard(rt: HostRuntime) -> Result<(), Fail> {
     let bytes = client(rt, &[&tx])?;
     let lines = good(rt, &[&tx])?;
     let text = "fault damaged 1 at 138\n";
-    let rack = expect(rt, rack, &RUN, &[("c", &bytes), ("v", &lines)], 8, text)?;
+    let rack = expect(
+        rt,
+        rt.alloc(),
+        rack,
+        &RUN,
+        &[("c", &bytes), ("v", &lines)],
+        8,
+        text,
+    )?;
     assert_eq!(rt; used(&rack, 0), 396);
     assert_eq!(rt; used(&rack, 1), 411);
     Ok(())
@@ -560,6 +659,7 @@ fn two_spenders_in_two_files(rt: HostRuntime) -> Result<(), Fail> {
     let rack = two_disks(rt, 10_000, 10_000)?;
     let rack = expect(
         rt,
+        rt.alloc(),
         rack,
         &["init", "m"],
         &[("m", &mint(rt, &[COIN])?)],
@@ -575,6 +675,7 @@ fn two_spenders_in_two_files(rt: HostRuntime) -> Result<(), Fail> {
         "1 0 95dc87bd021f95fe4232b14028e3332879a437b67d6eaaf9a6510670e422cc2f confirmed 0 1\n2 0 18a18a0961b2e87d125720b33669f007226725e25988328f9a9f63772f3ca1c3 rejected missing 866fbe7a1335a2e2e2ec97861a6980fc2f1314dd1bbc6d33f73d184a9e1807bc 0 0 2\nresumed 0\nbatches 2\nconfirmed 1\nrejected 1\nrefused 0\nunspent 2\n";
     let _ = expect(
         rt,
+        rt.alloc(),
         rack,
         &words,
         &[("c", &one), ("d", &two), ("v", &lines)],
@@ -591,6 +692,7 @@ fn verdict_files(rt: HostRuntime) -> Result<(), Fail> {
     let rack = two_disks(rt, 10_000, 10_000)?;
     let rack = expect(
         rt,
+        rt.alloc(),
         rack,
         &["init", "m"],
         &[("m", &mint(rt, &[COIN])?)],
@@ -601,10 +703,26 @@ fn verdict_files(rt: HostRuntime) -> Result<(), Fail> {
     let bytes = client(rt, &[&tx])?;
     let twice = good(rt, &[&tx, &tx])?;
     let text = "fault input v at 2 repeated\n";
-    let rack = expect(rt, rack, &RUN, &[("c", &bytes), ("v", &twice)], 3, text)?;
+    let rack = expect(
+        rt,
+        rt.alloc(),
+        rack,
+        &RUN,
+        &[("c", &bytes), ("v", &twice)],
+        3,
+        text,
+    )?;
     let text =
         "1 0 95dc87bd021f95fe4232b14028e3332879a437b67d6eaaf9a6510670e422cc2f refused unverified 0\nresumed 0\nbatches 0\nconfirmed 0\nrejected 0\nrefused 1\nunspent 1\n";
-    let _ = expect(rt, rack, &RUN, &[("c", &bytes), ("v", &[])], 0, text)?;
+    let _ = expect(
+        rt,
+        rt.alloc(),
+        rack,
+        &RUN,
+        &[("c", &bytes), ("v", &[])],
+        0,
+        text,
+    )?;
     Ok(())
 }
 
@@ -615,6 +733,7 @@ fn what_is_known(rt: HostRuntime) -> Result<(), Fail> {
     let rack = two_disks(rt, 10_000, 10_000)?;
     let rack = expect(
         rt,
+        rt.alloc(),
         rack,
         &["init", "m"],
         &[("m", &mint(rt, &[COIN])?)],
@@ -626,7 +745,15 @@ fn what_is_known(rt: HostRuntime) -> Result<(), Fail> {
     let lines = good(rt, &[&tx])?;
     let text =
         "1 0 95dc87bd021f95fe4232b14028e3332879a437b67d6eaaf9a6510670e422cc2f confirmed 0 1\nresumed 0\nbatches 1\nconfirmed 1\nrejected 0\nrefused 0\nunspent 2\n";
-    let rack = expect(rt, rack, &RUN, &[("c", &bytes), ("v", &lines)], 0, text)?;
+    let rack = expect(
+        rt,
+        rt.alloc(),
+        rack,
+        &RUN,
+        &[("c", &bytes), ("v", &lines)],
+        0,
+        text,
+    )?;
     let words = [
         "status",
         "c49d41e772da3d66ee9f973c0c26810b7263fab2b96c7a97fdaa8c778bc6a2b7",
@@ -635,9 +762,25 @@ fn what_is_known(rt: HostRuntime) -> Result<(), Fail> {
     ];
     let text =
         "c49d41e772da3d66ee9f973c0c26810b7263fab2b96c7a97fdaa8c778bc6a2b7 unspent\n562102009b277f8ca03b9479b63681e8473183be499c28d77b710798ef77b6df unspent\n866fbe7a1335a2e2e2ec97861a6980fc2f1314dd1bbc6d33f73d184a9e1807bc absent\n";
-    let rack = expect(rt, rack, &words, &[], 0, text)?;
-    let rack = expect(rt, rack, &["status", "12"], &[], 2, "fault words\n")?;
-    let rack = expect(rt, rack, &["recover"], &[], 0, "resumed 0\nunspent 2\n")?;
+    let rack = expect(rt, rt.alloc(), rack, &words, &[], 0, text)?;
+    let rack = expect(
+        rt,
+        rt.alloc(),
+        rack,
+        &["status", "12"],
+        &[],
+        2,
+        "fault words\n",
+    )?;
+    let rack = expect(
+        rt,
+        rt.alloc(),
+        rack,
+        &["recover"],
+        &[],
+        0,
+        "resumed 0\nunspent 2\n",
+    )?;
     assert_eq!(rt; used(&rack, 0), 396);
     assert_eq!(rt; used(&rack, 1), 411);
     Ok(())
