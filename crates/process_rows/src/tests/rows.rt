@@ -632,8 +632,9 @@ fn a_damaged_shard(rt: HostRuntime) -> Result<(), Fail> {
     let mut two = Vec::from_slice(rt.alloc(), two.bytes())?;
     spoil(&mut two, 139, 147);
     let mut disks = Vec::new(rt.alloc());
-    disks.push(PlainDisk::with_bytes(one, 10_000)?)?;
-    disks.push(PlainDisk::with_bytes(two, 10_000)?)?;
+    let (first, second) = (one.len(), two.len());
+    disks.push(PlainDisk::with_bytes(one, first)?)?;
+    disks.push(PlainDisk::with_bytes(two, second)?)?;
     let rack = super::making::rack(rt, disks)?;
     let bytes = client(rt, &[&tx])?;
     let lines = good(rt, &[&tx])?;
