@@ -43,7 +43,20 @@ Follows h past (Done stamp b) =
 abbrev pub After : Header → List Record → Record → Type 0
 After h past r = IsInGrammar h r × Follows h past r
 
--- a journal of a node: each record is after those before it, and the first is a first record
+-- a record that a journal begins with
+abbrev pub IsFirst : Record → Type 0
+IsFirst (Genesis header hs) = Unit {0}
+IsFirst (Lock stamp b es) = ⊥
+IsFirst (Finish stamp b ds) = ⊥
+IsFirst (Forget stamp b) = ⊥
+IsFirst (Start header) = Unit {0}
+IsFirst (Prepare stamp b txs) = ⊥
+IsFirst (Commit stamp b os) = ⊥
+IsFirst (Discard stamp b) = ⊥
+IsFirst (Done stamp b) = ⊥
+
+-- a journal of a node, the newest record first: it begins with a first record, and each later one is after those before it
 abbrev pub IsJournal : Header → List Record → Type 0
-IsJournal h [] = Unit {0}
-IsJournal h (r ∷ past) = After h past r × IsJournal h past
+IsJournal h [] = ⊥
+IsJournal h (r ∷ []) = IsFirst r × After h [] r
+IsJournal h (r ∷ (q ∷ past)) = After h (q ∷ past) r × IsJournal h (q ∷ past)

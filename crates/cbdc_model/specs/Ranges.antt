@@ -6,7 +6,7 @@ use Rattle.cbdc_model.specs.Records.{Digest, Shape, Compact, Entry, Record, Row,
 unfoldable pub first_byte : Digest → ℕ
 first_byte x = slice_index x 0 % 256
 
--- the shard that holds the hash: each has an equal range of first bytes
+-- the shard that holds the hash: the first byte times the number of shards, divided by 256
 unfoldable pub shard_of : ℕ → Digest → ℕ
 shard_of shards x = first_byte x * shards / 256
 

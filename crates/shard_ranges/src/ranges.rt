@@ -4,7 +4,7 @@ ghost use Rattle.cbdc_model.specs.Ranges.{shard_of as the_shard};
 
 use cbdc_types::Hash;
 
-/// The shard that holds a hash, where each of so many shards has an equal range of first bytes. Takes no memory.
+/// The shard that holds a hash, of so many: its first byte times their number, divided by 256. Takes no memory.
 #[tactic(auto, unfolding(cbdc_model::specs::Ranges::shard_of, cbdc_model::specs::Ranges::first_byte))]
 pub fn shard_of(x: &Hash, shards: u32) -> u32
     requires { shards < 2 ^ 24 }
