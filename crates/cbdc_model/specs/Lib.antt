@@ -16,3 +16,6 @@ pub mod History
 pub mod World
 pub mod Headline
 pub mod Lanes
+pub mod Deciding
+pub mod Due
+pub mod Sights
