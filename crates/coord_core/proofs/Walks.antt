@@ -40,11 +40,11 @@ told_none s [] os = refl
 told_none s (m ∷ ms) [] = refl
 told_none s (m ∷ ms) (o ∷ os) = refl
 
-told_cons : (s m : ℕ) (ms : List ℕ) (r : Reply) (rs : List Reply) (o : Outcome) (os : List Outcome) → bit_at m s ≡ 1
+pub told_cons : (s m : ℕ) (ms : List ℕ) (r : Reply) (rs : List Reply) (o : Outcome) (os : List Outcome) → bit_at m s ≡ 1
     → told s (m ∷ ms) (r ∷ rs) (o ∷ os) ≡ outcome_by (Some r) s o ∷ told s ms rs os
 told_cons s m ms r rs o os set = rw set refl
 
-told_pass : (s m : ℕ) (ms : List ℕ) (rs : List Reply) (o : Outcome) (os : List Outcome) → (bit_at m s ≡ 1 → ⊥)
+pub told_pass : (s m : ℕ) (ms : List ℕ) (rs : List Reply) (o : Outcome) (os : List Outcome) → (bit_at m s ≡ 1 → ⊥)
     → told s (m ∷ ms) rs (o ∷ os) ≡ o ∷ told s ms rs os
 told_pass s m ms [] o os clear = sym (ap (λ x. o ∷ x) (told_none s ms os))
 told_pass s m ms (r ∷ rs) o os clear = rw (ne_eqb _ _ clear) refl

@@ -1,9 +1,11 @@
 // The lanes of a coordinator.
 ghost use Rattle.std.specs.Prelude.{◌≡◌, ◌↔◌, IsTrue, ◌≤◌, ◌<◌, ◌+◌, ◌%◌, ◌^◌, ℕ, suc, max, length, IfOk, OnOk, OnErr, [], ◌∷◌, List, All};
-ghost use Rattle.cbdc_model.specs.Records.{Record as AnyRecord, Start, Prepare, Commit, Discard, Done};
+ghost use Rattle.cbdc_model.specs.Records.{Record as AnyRecord, Compact, Start, Prepare, Commit, Discard, Done};
+ghost use Rattle.cbdc_model.specs.Deciding.{decided, reply_cause};
 ghost use Rattle.cbdc_model.specs.Slots.{Idle, InPrepare, InCommit, InDiscard};
 ghost use Rattle.coord_core.specs.Phases.{slot_of};
-ghost use Rattle.coord_core.specs.Decided.{combined, latest, RisesBelow, AllEarlier};
+ghost use Rattle.coord_core.specs.Decided.{combined, latest, RisesBelow, AllEarlier, AreRepliesTo};
+ghost use Rattle.coord_core.specs.Masks.{masks_of};
 ghost use Rattle.coord_core.specs.Stands.{StandsFor};
 ghost use Rattle.coord_core.specs.Lanes.{IsOwn, lane_at, with_lane, open_batch, next_batch, IsNext, HasRoom, IsSameButRoom, turned, begun, Takes, IsFresh, IsIdle, IsLaterAt, IsAdmitted, kept_of, IsPrepareAt, IsCommitAt};
 
@@ -145,6 +147,10 @@ impl CoordCore {
         requires earlier { AllEarlier (2 ^ 63) replies.now }
         ensures record { result ≡ Commit (suc (latest self.old.last replies.now)) (open_batch self.old lane) (combined (lane_at self.old lane).masks replies.now) }
         ensures same { IsSameButRoom self.old self.new }
+
+        // It is what becomes of these transactions, if the replies are to their parts.
+        ensures decided { (txs : List Compact) → (lane_at self.old lane).masks ≡ masks_of self.old.header.shape.shards txs → AreRepliesTo self.old.header.shape txs replies.now
+            → result ≡ Commit (suc (max self.old.last (reply_cause self.old.header.shape replies.now))) (open_batch self.old lane) (decided self.old.header.shape txs replies.now) }
 
         // It may be taken in.
         ensures next { suc (latest self.old.last replies.now) ≤ 2 ^ 62 + 2 ^ 20 → IsNext self.new result }
