@@ -13,7 +13,6 @@ use Rattle.cbdc_model.specs.Records.{Compact}
 use Rattle.coord_core.specs.Masks.{marked, mask_of, masks_of}
 use Rattle.std.proofs.Common.{zero, map}
 use Rattle.cbdc_model.specs.Records.{Won}
-use Rattle.coord_core.specs.Lanes.{LaneOf, lane_kept, kept_of}
 use Rattle.coord_core.specs.Decided.{told, combined, latest, AllEarlier, RisesBelow}
 
 -- what is left of a list at a place: the item there, and the rest
@@ -109,10 +108,6 @@ masks_step shards txs i t ms ms' lt is old more = more ∙ ap (λ x. x ++ mask_o
 
 pub took_one : {A : Type 0} (xs : List A) (i : ℕ) (x : A) (ys zs : List A) → i < length xs → x ≡ get_or xs i x → ys ≡ take i xs → zs ≡ ys ++ x ∷ [] → zs ≡ take (i + 1) xs
 took_one xs i x ys zs lt is old more = more ∙ ap (λ w. w ++ x ∷ []) old ∙ ap (λ w. take i xs ++ w ∷ []) is ∙ sym (take_more xs i x lt)
-
-pub kept_step : (ls : List LaneOf) (i kept : ℕ) (l : LaneOf) → i < length ls → l ≡ get_or ls i l
-    → (kept + lane_kept l) + kept_of (drop (i + 1) ls) ≡ kept + kept_of (drop i ls)
-kept_step ls i kept l lt is = let e : kept_of (drop i ls) ≡ lane_kept l + kept_of (drop (i + 1) ls) = ap kept_of (rest_is ls i l lt is) in omega arith
 
 pub latest-ge : (n : ℕ) (rs : List ShardReplies) → n ≤ latest n rs
 latest-ge n [] = omega arith

@@ -4,7 +4,7 @@ ghost use Rattle.cbdc_model.specs.Slots.{InPrepare};
 ghost use Rattle.coord_core.specs.Phases.{slot_of};
 ghost use Rattle.coord_core.specs.Masks.{masks_of};
 ghost use Rattle.coord_core.specs.Decided.{combined, RisesBelow};
-ghost use Rattle.coord_core.specs.Lanes.{lane_kept};
+ghost use Rattle.coord_core.specs.Lanes.{lane_kept, ahead_in};
 
 use crate::combine::combine;
 use crate::mask::mask;
@@ -137,7 +137,8 @@ impl Lane {
 
     /// How many records the lane's batch still has to come.
     pub(crate) fn records_ahead(&self) -> usize
-        ensures { result ≤ 3 }
+        ensures value { result ≡ ahead_in self.now.slot.phase }
+        ensures bound { result ≤ 3 }
     {
         match self.phase {
             LanePhase::Idle(_) => 0,
