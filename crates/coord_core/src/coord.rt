@@ -1,9 +1,11 @@
 // The lanes of a coordinator.
-ghost use Rattle.std.specs.Prelude.{◌≡◌, ◌↔◌, IsTrue, ◌≤◌, ◌<◌, ◌+◌, ◌%◌, ◌^◌, ℕ, suc, max, length, IfOk, OnOk, OnErr, [], ◌∷◌, List, All};
-ghost use Rattle.cbdc_model.specs.Records.{Record as AnyRecord, Compact, Start, Prepare, Commit, Discard, Done};
+ghost use Rattle.std.specs.Prelude.{◌≡◌, ◌↔◌, IsTrue, ◌≤◌, ◌<◌, ◌+◌, ◌%◌, ◌^◌, ℕ, suc, max, length, IfOk, OnOk, OnErr, [], ◌∷◌, List, All, Some};
+ghost use Rattle.cbdc_model.specs.Records.{Record as AnyRecord, Shape, Compact, outcomes_in, Start, Prepare, Commit, Discard, Done};
+ghost use Rattle.cbdc_model.specs.Grammar.{IsOutcome};
 ghost use Rattle.cbdc_model.specs.Deciding.{decided, reply_cause};
 ghost use Rattle.cbdc_model.specs.Slots.{Idle, InPrepare, InCommit, InDiscard};
 ghost use Rattle.coord_core.specs.Phases.{slot_of};
+ghost use Rattle.coord_core.specs.Hashes.{AreHashed, AllNameBatches};
 ghost use Rattle.coord_core.specs.Decided.{combined, latest, RisesBelow, AllEarlier, AreRepliesTo};
 ghost use Rattle.coord_core.specs.Masks.{masks_of};
 ghost use Rattle.coord_core.specs.Stands.{StandsFor};
@@ -107,6 +109,7 @@ impl CoordCore {
         ensures grown { HasGrown self.old self.new }
         ensures room { OnOk result (HasRoom self.new lane (length txs.now)) }
         ensures limits { IsWithinLimits self.old.header.shape }
+        ensures hashes { IfOk result (λ r. All AreHashed txs.now) }
 
         // It may be taken in.
         ensures next { IfOk result (λ r. self.old.last < 2 ^ 62 + 2 ^ 20 → IsNext self.new r) }
@@ -154,6 +157,9 @@ impl CoordCore {
         // It is what becomes of these transactions, if the replies are to their parts.
         ensures decided { (txs : List Compact) → (lane_at self.old lane).masks ≡ masks_of self.old.header.shape.shards txs → AreRepliesTo self.old.header.shape txs replies.now
             → result ≡ Commit (suc (max self.old.last (reply_cause self.old.header.shape replies.now))) (open_batch self.old lane) (decided self.old.header.shape txs replies.now) }
+
+        // Its outcomes are in the grammar.
+        ensures outcomes { AllNameBatches self.old.header.shape replies.now → All (IsOutcome self.old.header.shape) (outcomes_in (Some result)) }
 
         // It may be taken in.
         ensures next { suc (latest self.old.last replies.now) ≤ 2 ^ 62 + 2 ^ 20 → IsNext self.new result }
@@ -216,6 +222,7 @@ impl CoordCore {
         requires room { HasRoom self.old lane (length (lane_at self.old lane).masks) }
         requires rising { RisesBelow 0 64 replies.now }
         ensures value { result ≡ combined (lane_at self.old lane).masks replies.now }
+        ensures grammar { (K : Shape) → RisesBelow 0 K.shards replies.now → AllNameBatches K replies.now → All (IsOutcome K) result }
         ensures same { IsSameButRoom self.old self.new }
         ensures others { KeepsOthers self.old self.new lane }
     {
