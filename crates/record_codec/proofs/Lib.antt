@@ -1,4 +1,4 @@
-mod Grammar
-mod Lengths
+pub mod Grammar
+pub mod Lengths
 pub mod Records
 mod Walks

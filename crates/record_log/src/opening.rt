@@ -1,7 +1,16 @@
 // Opening a journal into records.
-ghost use Rattle.std.specs.Prelude.{◌≡◌, ◌≢◌, ◌≤◌, ◌<◌, length, IfErr, MatchResult};
+ghost use Rattle.std.specs.Prelude.{◌≡◌, ◌≢◌, ◌-◌, ◌≤◌, ◌<◌, ◌^◌, ◌∷◌, [], ℕ, List as Items, None, Some, length, min, sum_by, slice_get, IfOk, IfErr, IfSome, IsSome, MatchResult, MatchOption};
 ghost use Rattle.outside.specs.Counts.{Rose};
-ghost use Rattle.gate_journal.specs.Shown.{disk_of};
+ghost use Rattle.outside.specs.Images.{Tells, Leaves};
+ghost use Rattle.gate_journal.specs.Shown.{disk_of, gate_of, broken_of};
+ghost use Rattle.gate_journal.specs.Rows.{row, rows};
+ghost use Rattle.gate_journal.specs.Opening.{IsRefusal, Breaks};
+ghost use Rattle.cbdc_model.specs.Room.{size_of};
+ghost use Rattle.record_codec.specs.Bodies.{body_of};
+ghost use Rattle.record_codec.specs.Exact.{IsFirst};
+ghost use Rattle.record_log.specs.Held.{OpensTo, MayHold};
+ghost use Rattle.record_log.specs.Reading.{IsRead, IsUnread, IsNoLog};
+ghost use Rattle.record_log.specs.Logs.{HoldsAll};
 
 use crate::RecordLog;
 use cbdc_types::{Header, List, NodeOpenFault, Record};
@@ -32,7 +41,9 @@ struct Read {
 }
 
 // The header that a first record has.
-fn header_of(first: &Record) -> Option<Header> {
+fn header_of(first: &Record) -> Option<Header>
+    ensures { IsFirst first.now → MatchOption result ⊥ (λ h. MayHold h (first.now ∷ [])) }
+{
     match first {
         Record::Genesis { header, .. } => Some(*header),
         Record::Start { header } => Some(*header),
@@ -41,7 +52,9 @@ fn header_of(first: &Record) -> Option<Header> {
 }
 
 // How many bytes a body's row has.
-fn row_size(body: &List<u8>) -> u64 {
+fn row_size(body: &[u8]) -> u64
+    ensures { result ≡ min (length (row body.now)) (2 ^ 64 - 1) }
+{
     (body.len() as u64).saturating_add(9)
 }
 
@@ -52,17 +65,20 @@ fn later_records(
     first: Record,
     bodies: &[List<u8>],
 ) -> Result<Read, NodeOpenFault>
-    requires { 0 < length bodies.now }
-    ensures fault { IfErr result (λ e. e ≢ NodeOpenFault.DiskFault) }
+    requires some { 0 < length bodies.now }
+    requires first { MayHold header (first ∷ []) }
+    requires spelled { slice_get bodies.now 0 ≡ Some (body_of first) }
+    ensures read { IfOk result (λ r. MayHold r.header r.records.items × IsRead r.header r.records.items r.cut bodies.now) }
+    ensures unread { IfErr result (λ e. e ≡ NodeOpenFault.Memory) }
 {
     let Ok(mut records) = Vec::with_capacity(alloc, bodies.len()) else {
         return Err(NodeOpenFault::Memory);
     };
     records.push(first).unwrap();
-    let mut at = row_size(&bodies[0]);
-    let (_, later) = bodies.split_at(1);
-    'bodies: for body in later {
-        match read_record(alloc, body.as_slice(), &header) {
+    let mut at = row_size(bodies[0].as_slice());
+    'bodies: for i in 1..bodies.len() {
+        let body = bodies[i].as_slice();
+        match read_record(alloc, body, &header) {
             Ok(record) => match records.push(record) {
                 Ok(()) => {}
                 Err(_) => return Err(NodeOpenFault::Memory),
@@ -87,7 +103,8 @@ fn later_records(
 
 // The records that bodies spell, where the first body is a first record.
 fn records_of(alloc: Global, bodies: &[List<u8>]) -> Result<Read, NodeOpenFault>
-    ensures fault { IfErr result (λ e. e ≢ NodeOpenFault.DiskFault) }
+    ensures read { IfOk result (λ r. MayHold r.header r.records.items × IsRead r.header r.records.items r.cut bodies.now) }
+    ensures unread { IfErr result (λ e. IsUnread bodies.now e) }
 {
     if bodies.is_empty() {
         return Err(NodeOpenFault::NotReady);
@@ -95,7 +112,7 @@ fn records_of(alloc: Global, bodies: &[List<u8>]) -> Result<Read, NodeOpenFault>
     match read_first(alloc, bodies[0].as_slice()) {
         Ok(first) => match header_of(&first) {
             Some(header) => later_records(alloc, header, first, bodies),
-            None => Err(NodeOpenFault::NotReady),
+            None => unreachable!(),
         },
         Err(RecordFault::NotARecord) => Err(NodeOpenFault::NotReady),
         Err(RecordFault::Memory) => Err(NodeOpenFault::Memory),
@@ -108,7 +125,10 @@ fn log_of<D: Disk>(
     journal: Journal<D>,
     read: Read,
 ) -> Result<RecordLog<D>, (D, NoLog)>
-    ensures { MatchResult result (λ l. l.journal ≡ journal) (λ e. (e.0 ≡ disk_of journal) × (e.1 ≢ NoLog.Fault NodeOpenFault.DiskFault)) }
+    requires { broken_of journal ≡ None }
+    ensures log { IfOk result (λ l. (l.journal ≡ journal) × (l.header ≡ read.header) × (l.records.items ≡ read.records.items) × (read.cut ≡ None)) }
+    ensures cut { IfErr result (λ e. (e.0 ≡ disk_of journal) × IfSome read.cut (λ at. e.1 ≡ NoLog.Cut read.header read.records at)) }
+    ensures is_cut { IfErr result (λ e. IsSome read.cut) }
 {
     let Read {
         header,
@@ -133,29 +153,44 @@ fn log_of<D: Disk>(
     }
 }
 
-// What is told of a disk that is damaged at a place behind these bodies.
-fn cut_of(alloc: Global, before: &[List<u8>], damaged: u64) -> NoLog
-    ensures { result ≢ NoLog.Fault NodeOpenFault.DiskFault }
+// Records that are cut off by one that is none, or else by the damage behind them.
+fn cut_at(read: Read, damaged: u64) -> NoLog
+    ensures { MatchOption read.cut (result ≡ NoLog.Cut read.header read.records damaged) (λ at. result ≡ NoLog.Cut read.header read.records at) }
 {
-    match records_of(alloc, before) {
-        Ok(
-            Read {
-                header,
-                records,
-                cut,
-            },
-        ) => NoLog::Cut {
+    let Read {
+        header,
+        records,
+        cut,
+    } = read;
+    match cut {
+        Some(at) => NoLog::Cut {
             header,
             records,
-            at: cut.unwrap_or(damaged),
+            at,
         },
+        None => NoLog::Cut {
+            header,
+            records,
+            at: damaged,
+        },
+    }
+}
+
+// What is told of a disk that is damaged at a place behind these bodies.
+fn cut_of(alloc: Global, before: &[List<u8>], damaged: u64) -> NoLog
+    ensures told { result ≢ NoLog.Fault NodeOpenFault.DiskFault }
+    ensures cut { (c : Items ℕ) → Breaks before.now c → damaged ≡ length (rows before.now) → 1 ≤ length before.now → IsNoLog c result }
+{
+    match records_of(alloc, before) {
+        Ok(read) => cut_at(read, damaged),
         Err(fault) => NoLog::Fault(fault),
     }
 }
 
 // What is told of a disk whose journal did not open.
 fn refusal_of(alloc: Global, fault: OpenFault) -> NoLog
-    ensures { result ≡ NoLog.Fault NodeOpenFault.DiskFault → fault ≡ OpenFault.DiskFault }
+    ensures fault { result ≡ NoLog.Fault NodeOpenFault.DiskFault → fault ≡ OpenFault.DiskFault }
+    ensures refusal { (c : Items ℕ) → IsRefusal c fault → IsNoLog c result }
 {
     match fault {
         OpenFault::Damaged { at, before } => cut_of(alloc, before.as_slice(), at),
@@ -167,8 +202,22 @@ fn refusal_of(alloc: Global, fault: OpenFault) -> NoLog
 
 /// Opens a disk's journal into records. A refusal hands the disk back.
 pub fn open_records<D: Disk>(alloc: Global, disk: D) -> Result<RecordLog<D>, (D, NoLog)>
+    // The content opens to just these records, and a crash leaves nothing else.
+    ensures opens { IfOk result (λ l. Tells (D.content disk) (λ c. OpensTo l.records.items c × HoldsAll l l.records.items)) }
+    ensures grammar { IfOk result (λ l. MayHold l.header l.records.items) }
+    ensures ends { IfOk result (λ l. gate_of l.journal ≡ sum_by size_of l.records.items) }
+    ensures whole { IfOk result (λ l. broken_of l.journal ≡ None) }
+
+    // Which refusal it is.
+    ensures refusal { IfErr result (λ e. Tells (D.content disk) (λ c. IsNoLog c e.1)) }
     ensures later { MatchResult result (λ l. D.count disk ≤ D.count (disk_of l.journal)) (λ e. D.count disk ≤ D.count e.0) }
     ensures fault { IfErr result (λ e. e.1 ≡ NoLog.Fault NodeOpenFault.DiskFault → Rose (D.count disk) (D.count e.0)) }
+    ensures limit { MatchResult result (λ l. D.limit (disk_of l.journal) ≡ D.limit disk) (λ e. D.limit e.0 ≡ D.limit disk) }
+
+    // It changes nothing that a crash may leave.
+    ensures leaves { MatchResult result
+        (λ l. Leaves D.tells_past D.moment D.images_since D.images disk (disk_of l.journal) (D.images disk))
+        (λ e. Leaves D.tells_past D.moment D.images_since D.images disk e.0 (D.images disk)) }
 {
     match Journal::open(alloc, disk) {
         Ok((journal, bodies)) => match records_of(alloc, bodies.as_slice()) {
