@@ -1,2 +1,4 @@
 pub mod Walks
 pub mod Standing
+pub mod Deciding
+pub mod Outcomes

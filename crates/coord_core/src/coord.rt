@@ -1,11 +1,15 @@
 // The lanes of a coordinator.
-ghost use Rattle.std.specs.Prelude.{◌≡◌, ◌↔◌, IsTrue, ◌≤◌, ◌<◌, ◌+◌, ◌%◌, ◌^◌, ℕ, suc, max, length, IfOk, OnOk, OnErr, [], ◌∷◌, List, All};
-ghost use Rattle.cbdc_model.specs.Records.{Record as AnyRecord, Start, Prepare, Commit, Discard, Done};
+ghost use Rattle.std.specs.Prelude.{◌≡◌, ◌↔◌, IsTrue, ◌≤◌, ◌<◌, ◌+◌, ◌%◌, ◌^◌, ℕ, suc, max, length, IfOk, OnOk, OnErr, [], ◌∷◌, List, All, Some};
+ghost use Rattle.cbdc_model.specs.Records.{Record as AnyRecord, Shape, Compact, outcomes_in, Start, Prepare, Commit, Discard, Done};
+ghost use Rattle.cbdc_model.specs.Grammar.{IsOutcome};
+ghost use Rattle.cbdc_model.specs.Deciding.{decided, reply_cause};
 ghost use Rattle.cbdc_model.specs.Slots.{Idle, InPrepare, InCommit, InDiscard};
 ghost use Rattle.coord_core.specs.Phases.{slot_of};
-ghost use Rattle.coord_core.specs.Decided.{combined, latest, RisesBelow, AllEarlier};
+ghost use Rattle.coord_core.specs.Hashes.{AreHashed, AllNameBatches};
+ghost use Rattle.coord_core.specs.Decided.{combined, latest, RisesBelow, AllEarlier, AreRepliesTo};
+ghost use Rattle.coord_core.specs.Masks.{masks_of};
 ghost use Rattle.coord_core.specs.Stands.{StandsFor};
-ghost use Rattle.coord_core.specs.Lanes.{IsOwn, lane_at, with_lane, open_batch, next_batch, IsNext, HasRoom, IsSameButRoom, turned, begun, Takes, IsFresh, IsIdle, IsLaterAt, IsAdmitted, kept_of, IsPrepareAt, IsCommitAt};
+ghost use Rattle.coord_core.specs.Lanes.{IsOwn, lane_at, with_lane, open_batch, next_batch, IsNext, HasRoom, IsSameButRoom, HasGrown, KeepsOthers, ahead_of, turned, begun, Takes, IsFresh, IsIdle, IsLaterAt, IsAdmitted, kept_of, IsPrepareAt, IsCommitAt};
 
 use crate::combine::latest_stamp;
 use crate::copying::copied_txs;
@@ -85,6 +89,7 @@ impl CoordCore {
     /// Takes the memory of a batch of n transactions on a lane.
     fn reserve(&mut self, lane: LaneId, n: usize) -> Result<(), AllocError>
         ensures same { IsSameButRoom self.old self.new }
+        ensures grown { HasGrown self.old self.new }
         ensures room { OnOk result (HasRoom self.new lane n) }
     {
         let place = self.place(lane);
@@ -101,8 +106,10 @@ impl CoordCore {
         requires limit { length txs.now ≤ self.old.header.shape.batch }
         ensures record { IfOk result (λ r. r ≡ Prepare (self.old.last + 1) (next_batch self.old lane) txs.now) }
         ensures same { IsSameButRoom self.old self.new }
+        ensures grown { HasGrown self.old self.new }
         ensures room { OnOk result (HasRoom self.new lane (length txs.now)) }
         ensures limits { IsWithinLimits self.old.header.shape }
+        ensures hashes { IfOk result (λ r. All AreHashed txs.now) }
 
         // It may be taken in.
         ensures next { IfOk result (λ r. self.old.last < 2 ^ 62 + 2 ^ 20 → IsNext self.new r) }
@@ -145,6 +152,14 @@ impl CoordCore {
         requires earlier { AllEarlier (2 ^ 63) replies.now }
         ensures record { result ≡ Commit (suc (latest self.old.last replies.now)) (open_batch self.old lane) (combined (lane_at self.old lane).masks replies.now) }
         ensures same { IsSameButRoom self.old self.new }
+        ensures others { KeepsOthers self.old self.new lane }
+
+        // It is what becomes of these transactions, if the replies are to their parts.
+        ensures decided { (txs : List Compact) → (lane_at self.old lane).masks ≡ masks_of self.old.header.shape.shards txs → AreRepliesTo self.old.header.shape txs replies.now
+            → result ≡ Commit (suc (max self.old.last (reply_cause self.old.header.shape replies.now))) (open_batch self.old lane) (decided self.old.header.shape txs replies.now) }
+
+        // Its outcomes are in the grammar.
+        ensures outcomes { AllNameBatches self.old.header.shape replies.now → All (IsOutcome self.old.header.shape) (outcomes_in (Some result)) }
 
         // It may be taken in.
         ensures next { suc (latest self.old.last replies.now) ≤ 2 ^ 62 + 2 ^ 20 → IsNext self.new result }
@@ -190,9 +205,10 @@ impl CoordCore {
         kept
     }
 
-    /// How many records unfinished batches still have to come, at most 3 of each lane.
+    /// How many records of unfinished batches are still to come, at most 3 of each lane.
     pub fn records_ahead(&self) -> usize
-        ensures { result ≤ 48 }
+        ensures value { result ≡ ahead_of self.now.lanes }
+        ensures bound { result ≤ 48 }
     {
         let mut ahead = 0;
         for lane in &self.lanes {
@@ -206,7 +222,9 @@ impl CoordCore {
         requires room { HasRoom self.old lane (length (lane_at self.old lane).masks) }
         requires rising { RisesBelow 0 64 replies.now }
         ensures value { result ≡ combined (lane_at self.old lane).masks replies.now }
+        ensures grammar { (K : Shape) → RisesBelow 0 K.shards replies.now → AllNameBatches K replies.now → All (IsOutcome K) result }
         ensures same { IsSameButRoom self.old self.new }
+        ensures others { KeepsOthers self.old self.new lane }
     {
         let place = self.place(lane);
         let lane = &mut self.lanes[place];
@@ -300,6 +318,7 @@ impl CoordCore {
     pub fn admit(&mut self, next: &Record) -> Result<bool, AllocError>
         ensures next { IfOk result (λ b. IsTrue b ↔ IsAdmitted self.old next.now) }
         ensures same { IsSameButRoom self.old self.new }
+        ensures grown { HasGrown self.old self.new }
         ensures room { IfOk result (λ b. IsTrue b → IsNext self.new next.now) }
     {
         match next {
