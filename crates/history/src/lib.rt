@@ -1,0 +1,8 @@
+//! The history of a ledger: the records of all its journals in one order, by stamp and node.
+#![tactic(auto)]
+
+mod merging;
+mod place;
+
+pub use merging::{merge, record_at, stamp_of};
+pub use place::{History, Place};
