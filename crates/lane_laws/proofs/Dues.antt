@@ -1,5 +1,5 @@
 -- What a node's answer says of what it found: the record that it wrote, or what it had kept.
-use Rattle.std.proofs.Common.{◌≡◌, ◌⊎◌, inl, inr, ℕ, suc, ◌<◌, ◌≤◌, max, Bool, true, false, ◌&&◌, ◌||◌, not, ◌==◌, ◌+◌, nat_lt, if◌then◌else◌, List, [], ◌∷◌, Option, Some, None, Result, Ok, Err, refl, sym, ap, ◌∙◌, subst, arith, bytes_eq}
+use Rattle.std.proofs.Common.{◌≡◌, ◌⊎◌, inl, inr, ℕ, suc, ◌<◌, ◌≤◌, max, Bool, true, false, ◌&&◌, ◌||◌, not, ◌==◌, ◌+◌, ◌^◌, nat_lt, if◌then◌else◌, List, [], ◌∷◌, Option, Some, None, Result, Ok, Err, refl, sym, ap, ◌∙◌, subst, arith, bytes_eq}
 use Rattle.cbdc_types.specs.declared.calls.LockCall.{LockCall}
 use Rattle.cbdc_types.specs.declared.calls.FinishCall.{FinishCall}
 use Rattle.cbdc_types.specs.declared.calls.ForgetCall.{ForgetCall}
@@ -15,7 +15,7 @@ use Rattle.cbdc_model.specs.Next.{Plan, Kept, Append, Refuse, RepliesAt, differe
 use Rattle.cbdc_model.specs.Due.{Due, Answers, Writes, unless_broken, last_early, last_late, if_early, if_room, used_of, lock_record, replied_of, lock_by, stamp_by}
 use Rattle.cbdc_model.specs.Room.{need_of}
 
-abbrev ok : {A : Type 0} → A → Due A
+abbrev pub ok : {A : Type 0} → A → Due A
 ok a = Answers (Ok a)
 
 abbrev pub err : {A : Type 0} → NodeFault → Due A
@@ -29,15 +29,15 @@ pub not_broken_ok : {A : Type 0} (broken : Option ℕ) (due : Due A) (a : A) →
 not_broken_ok {A = A} (Some since) due a e = absurd (let z : err {A = A} (Broken since) ≡ Answers (Ok a) = e in cc)
 not_broken_ok None due a e = e
 
-past : {A : Type 0} (b : Bool) (x : Result A NodeFault) (d : Due A) (a : A) (r : Record) → (if b then Answers x else d) ≡ Writes a r → d ≡ Writes a r
+pub past : {A : Type 0} (b : Bool) (x : Result A NodeFault) (d : Due A) (a : A) (r : Record) → (if b then Answers x else d) ≡ Writes a r → d ≡ Writes a r
 past true x d a r e = absurd (let z : Answers x ≡ Writes a r = e in cc)
 past false x d a r e = e
 
-past_ok : {A : Type 0} (b : Bool) (f : NodeFault) (d : Due A) (a : A) → (if b then Answers (Err f) else d) ≡ Answers (Ok a) → d ≡ Answers (Ok a)
+pub past_ok : {A : Type 0} (b : Bool) (f : NodeFault) (d : Due A) (a : A) → (if b then Answers (Err f) else d) ≡ Answers (Ok a) → d ≡ Answers (Ok a)
 past_ok {A = A} true f d a e = absurd (let z : err {A = A} f ≡ Answers (Ok a) = e in cc)
 past_ok false f d a e = e
 
-writes_same : {A : Type 0} (a b : A) (r q : Record) → Writes a r ≡ Writes b q → (b ≡ a) × (q ≡ r)
+pub writes_same : {A : Type 0} (a b : A) (r q : Record) → Writes a r ≡ Writes b q → (b ≡ a) × (q ≡ r)
 writes_same a b r q e = (cc, cc)
 
 answers_same : {A : Type 0} (a b : A) → ok a ≡ ok b → b ≡ a
@@ -243,3 +243,61 @@ forget_stored J b cause t e =
     go InPrepare e = absurd (not_kept t (NotFinished b.number) e)
     go InCommit e = absurd (not_kept t (NotFinished b.number) e)
     go InDiscard e = absurd (not_kept t (NotFinished b.number) e)
+
+-- no plan of its own says that a node is broken
+pub lock_unbroken : (K : Shape) (capacity : ℕ) (J : List Record) (c : LockCall) (p : Plan RepliesAt) (s : ℕ) → lock_by p K capacity J c ≡ Answers (Err (Broken s)) → ⊥
+lock_unbroken K capacity J c (Kept q) s e = let z : ok (replied_of q) ≡ err (Broken s) = e in cc
+lock_unbroken K capacity J c (Refuse why) s e = let z : err {A = Replied} (Refuses why) ≡ err (Broken s) = e in cc
+lock_unbroken K capacity J c (Append q) s e = two (nat_lt last_early q.at) (nat_lt capacity (used_of J + need_of K J (lock_record J c))) e
+  where
+    two : (x y : Bool) → (if x then Answers (Err (ClockEnd q.at)) else (if y then Answers (Err (Full (used_of J) (need_of K J (lock_record J c)) capacity)) else Writes (replied_of q) (lock_record J c))) ≡ Answers (Err (Broken s)) → ⊥
+    two true y e = let z : err {A = Replied} (ClockEnd q.at) ≡ err (Broken s) = e in cc
+    two false true e = let z : err {A = Replied} (Full (used_of J) (need_of K J (lock_record J c)) capacity) ≡ err (Broken s) = e in cc
+    two false false e = let z : Writes (replied_of q) (lock_record J c) ≡ err (Broken s) = e in cc
+
+pub late_unbroken : {A : Type 0} (stamp : ℕ) (a : A) (r : Record) (s : ℕ) → if_early last_late stamp (Writes a r) ≡ Answers (Err (Broken s)) → ⊥
+late_unbroken {A = A} stamp a r s e = one (nat_lt last_late stamp) e
+  where
+    one : (x : Bool) → (if x then Answers (Err (ClockEnd stamp)) else Writes a r) ≡ Answers (Err (Broken s)) → ⊥
+    one true e = let z : err {A = A} (ClockEnd stamp) ≡ err (Broken s) = e in cc
+    one false e = let z : Writes a r ≡ err (Broken s) = e in cc
+
+pub stamp_unbroken : (p : Plan ℕ) (what : Record) (s : ℕ) → stamp_by p what ≡ Answers (Err (Broken s)) → ⊥
+stamp_unbroken (Kept t) what s e = let z : ok t ≡ err (Broken s) = e in cc
+stamp_unbroken (Refuse why) what s e = let z : err {A = ℕ} (Refuses why) ≡ err (Broken s) = e in cc
+stamp_unbroken (Append t) what s e = late_unbroken t t what s e
+
+-- calls whose room is kept don't answer Full, and not ClockEnd below the last stamp
+pub late_full : {A : Type 0} (stamp : ℕ) (a : A) (r : Record) (used need capacity : ℕ) → if_early last_late stamp (Writes a r) ≡ Answers (Err (Full used need capacity)) → ⊥
+late_full {A = A} stamp a r used need capacity e = one (nat_lt last_late stamp) e
+  where
+    one : (x : Bool) → (if x then Answers (Err (ClockEnd stamp)) else Writes a r) ≡ Answers (Err (Full used need capacity)) → ⊥
+    one true e = let z : err {A = A} (ClockEnd stamp) ≡ err (Full used need capacity) = e in cc
+    one false e = let z : Writes a r ≡ err (Full used need capacity) = e in cc
+
+pub stamp_full : (p : Plan ℕ) (what : Record) (used need capacity : ℕ) → stamp_by p what ≡ Answers (Err (Full used need capacity)) → ⊥
+stamp_full (Kept t) what used need capacity e = let z : ok t ≡ err (Full used need capacity) = e in cc
+stamp_full (Refuse why) what used need capacity e = let z : err {A = ℕ} (Refuses why) ≡ err (Full used need capacity) = e in cc
+stamp_full (Append t) what used need capacity e = late_full t t what used need capacity e
+
+pub late_end : {A : Type 0} (stamp : ℕ) (a : A) (r : Record) (end : ℕ) → if_early last_late stamp (Writes a r) ≡ Answers (Err (ClockEnd end)) → 2 ^ 62 + 2 ^ 20 < end
+late_end {A = A} stamp a r end e = one (nat_lt last_late stamp) refl e
+  where
+    above : (x : ℕ) → nat_lt last_late x ≡ true → last_late < x
+    above x h = grind (arith, h)
+
+    one : (x : Bool) → nat_lt last_late stamp ≡ x → (if x then Answers (Err (ClockEnd stamp)) else Writes a r) ≡ Answers (Err (ClockEnd end)) → 2 ^ 62 + 2 ^ 20 < end
+    one true h e = let z : err {A = A} (ClockEnd stamp) ≡ err (ClockEnd end) = e in let s : stamp ≡ end = cc in subst (λ n. last_late < n) s (above stamp h)
+    one false h e = absurd (let z : Writes a r ≡ err (ClockEnd end) = e in cc)
+
+pub stamp_end : (p : Plan ℕ) (what : Record) (end : ℕ) → stamp_by p what ≡ Answers (Err (ClockEnd end)) → 2 ^ 62 + 2 ^ 20 < end
+stamp_end (Kept t) what end e = absurd (let z : ok t ≡ err (ClockEnd end) = e in cc)
+stamp_end (Refuse why) what end e = absurd (let z : err {A = ℕ} (Refuses why) ≡ err (ClockEnd end) = e in cc)
+stamp_end (Append t) what end e = late_end t t what end e
+
+-- a coordinator's calls have no stored answers
+pub late_wrote : {A : Type 0} (stamp : ℕ) (a b : A) (r q : Record) → if_early last_late stamp (Writes a r) ≡ Writes b q → (b ≡ a) × (q ≡ r)
+late_wrote stamp a b r q e = writes_same a b r q (past (nat_lt last_late stamp) (Err (ClockEnd stamp)) (Writes a r) b q e)
+
+pub late_stored : {A : Type 0} (stamp : ℕ) (a b : A) (r : Record) → if_early last_late stamp (Writes a r) ≡ Answers (Ok b) → ⊥
+late_stored stamp a b r e = let z : Writes a r ≡ ok b = past_ok (nat_lt last_late stamp) (ClockEnd stamp) (Writes a r) b e in cc

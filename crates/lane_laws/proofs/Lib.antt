@@ -4,3 +4,5 @@ pub mod Views
 pub mod Dues
 pub mod Tellings
 pub mod ByShard
+pub mod Sameness
+pub mod Asked

@@ -54,3 +54,22 @@ finish_of b t os c = (c.0, record { batch = b; decisions = decisions os c.1.part
 
 abbrev pub forget_of : Batch → ℕ → ℕ × LockCall → ℕ × ForgetCall
 forget_of b t c = (c.0, record { batch = b; cause = t })
+
+-- a call of a phase is for the part of a concerned shard
+abbrev pub IsLock : Shape → List Compact → Batch → ℕ → ℕ × LockCall → Type 0
+IsLock K txs b t c = (is_concerned K txs c.0 ≡ true) × (c.1 ≡ record { batch = b; part = part K.shards c.0 0 txs; cause = t })
+
+abbrev pub IsFinish : Shape → List Compact → List Outcome → Batch → ℕ → ℕ × FinishCall → Type 0
+IsFinish K txs os b t c = (is_concerned K txs c.0 ≡ true) × (c.1 ≡ record { batch = b; decisions = decisions os (part K.shards c.0 0 txs); cause = t })
+
+abbrev pub IsForget : Shape → List Compact → Batch → ℕ → ℕ × ForgetCall → Type 0
+IsForget K txs b t c = (is_concerned K txs c.0 ≡ true) × (c.1 ≡ record { batch = b; cause = t })
+
+abbrev pub AreLocks : Shape → List Compact → Batch → ℕ → List (ℕ × LockCall) → Type 0
+AreLocks K txs b t cs = AreCalls K txs shard (IsLock K txs b t) cs
+
+abbrev pub AreFinishes : Shape → List Compact → List Outcome → Batch → ℕ → List (ℕ × FinishCall) → Type 0
+AreFinishes K txs os b t cs = AreCalls K txs shard (IsFinish K txs os b t) cs
+
+abbrev pub AreForgets : Shape → List Compact → Batch → ℕ → List (ℕ × ForgetCall) → Type 0
+AreForgets K txs b t cs = AreCalls K txs shard (IsForget K txs b t) cs
