@@ -6,3 +6,6 @@ pub mod Tellings
 pub mod ByShard
 pub mod Sameness
 pub mod Asked
+pub mod LogCalls
+pub mod Preparing
+pub mod Shards

@@ -7,7 +7,7 @@ use Rattle.cbdc_model.specs.Lanes.{may_come}
 use Rattle.cbdc_model.specs.Sights.{AllMay, Finds}
 use Rattle.lane_laws.specs.Batches.{own}
 
-own_in : (lane : ℕ) (r : Record) (J : List Record) → is_in_lane lane r ≡ true → own lane (r ∷ J) ≡ r ∷ own lane J
+pub own_in : (lane : ℕ) (r : Record) (J : List Record) → is_in_lane lane r ≡ true → own lane (r ∷ J) ≡ r ∷ own lane J
 own_in lane r J h = rw h
 
 pub own_out : (lane : ℕ) (r : Record) (J : List Record) → is_in_lane lane r ≡ false → own lane (r ∷ J) ≡ own lane J
