@@ -9,3 +9,4 @@ pub mod Asked
 pub mod LogCalls
 pub mod Preparing
 pub mod Shards
+pub mod Quiet

@@ -2,3 +2,4 @@ pub mod Calls
 pub mod Gathering
 pub mod Answers
 pub mod Batches
+pub mod Traces
