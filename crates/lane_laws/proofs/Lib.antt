@@ -1,0 +1,12 @@
+pub mod Own
+pub mod Steps
+pub mod Views
+pub mod Dues
+pub mod Tellings
+pub mod ByShard
+pub mod Sameness
+pub mod Asked
+pub mod LogCalls
+pub mod Preparing
+pub mod Shards
+pub mod Quiet

@@ -1,0 +1,5 @@
+pub mod Calls
+pub mod Gathering
+pub mod Answers
+pub mod Batches
+pub mod Traces
