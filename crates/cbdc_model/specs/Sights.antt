@@ -79,7 +79,8 @@ abbrev pub IsBrokenSince : ℕ → ℕ → Option ℕ → Type 0
 IsBrokenSince opened faults None = Unit {0}
 IsBrokenSince opened faults (Some since) = HasRisen opened since × (since ≤ faults)
 
--- what a lane is told of its call: it did what it owed on the journal that it found, in which the lane's last stamp is not above the node's
+-- what a lane is told of its call: it did what it owed on the journal that it found, whose last stamp is not below the lane's last one nor
+-- the last one seen before
 pub record Told {A : Type 0} (alone : Bool) (lane : ℕ) (memory : Bool) (due : Option ℕ → List Record → Due A) (old new : Sight) (result : Result A NodeFault) : Type 0 where
   pub found : List Record
   pub broken : Option ℕ
@@ -87,4 +88,5 @@ pub record Told {A : Type 0} (alone : Bool) (lane : ℕ) (memory : Bool) (due : 
   pub since : IsBrokenSince old.opened new.faults broken
   pub since_opened : old.opened ≤ old.faults
   pub order : slot_stamp found lane ≤ last_stamp found
+  pub later : last_stamp old.seen ≤ last_stamp found
   pub meets : Meets memory (due broken found) old new found result

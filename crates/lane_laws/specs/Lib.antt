@@ -1,0 +1,4 @@
+pub mod Calls
+pub mod Gathering
+pub mod Answers
+pub mod Batches
