@@ -1,0 +1,2 @@
+pub mod TurnStep
+pub mod Rests

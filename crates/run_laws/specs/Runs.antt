@@ -1,0 +1,34 @@
+-- What a run does to the journals of all nodes, turn by turn.
+use Rattle.std.specs.Prelude.{◌≡◌, ℕ, ◌-◌, ◌*◌, ◌<◌, ◌≢◌, true, nat_lt, if◌then◌else◌, List}
+use Rattle.cbdc_model.specs.Records.{Shape, Compact, Record}
+use Rattle.cbdc_model.specs.Ranges.{home_of}
+use Rattle.cbdc_model.specs.Slots.{slot, Idle}
+use Rattle.cbdc_model.specs.Coins.{Output, FullTx}
+use Rattle.cbdc_model.specs.Clean.{IsProperCompact}
+use Rattle.cbdc_model.specs.History.{minted}
+use Rattle.cbdc_model.specs.World.{KeptJournals}
+use Rattle.cbdc_model.specs.Lanes.{Made, AllPass, NextFrom}
+use Rattle.cbdc_model.specs.Sights.{Sight}
+use Rattle.lane_laws.specs.Batches.{view, Settled}
+
+-- the journals of all nodes, the coordinators first, as they are seen
+abbrev pub seen_by : Shape → (ℕ → Sight) → (ℕ → Sight) → ℕ → List Record
+seen_by K logs shards n = if nat_lt n K.coordinators then (logs n).seen else (shards (n - K.coordinators)).seen
+
+-- a turn of a lane: what it made of what it saw, with no other coordinator touched
+pub record IsTurn (K : Shape) (pieces : List (List Compact)) (lane : ℕ) (logs shards logs' shards' : ℕ → Sight) : Type 0 where
+  pub made : Made K pieces true lane (view K lane (logs (home_of K lane)) shards) (view K lane (logs' (home_of K lane)) shards')
+  pub others : (n : ℕ) → n ≢ home_of K lane → logs' n ≡ logs n
+
+-- a turn of a lane keeps the journals
+abbrev pub TurnLaw : Type 0
+TurnLaw = (K : Shape) (mint : List Output) (submissions : List FullTx) (pieces : List (List Compact)) (lane : ℕ) (logs shards logs' shards' : ℕ → Sight)
+    → 0 < K.shards → home_of K lane < K.coordinators → AllPass (IsProperCompact submissions) pieces
+    → KeptJournals K mint submissions (seen_by K logs shards) → IsTurn K pieces lane logs shards logs' shards'
+    → NextFrom K (minted mint) (seen_by K logs shards) (seen_by K logs' shards') → KeptJournals K mint submissions (seen_by K logs' shards')
+
+-- in kept journals a lane that is idle at its coordinator is settled at each shard
+abbrev pub RestLaw : Type 0
+RestLaw = (K : Shape) (mint : List Output) (submissions : List FullTx) (lane : ℕ) (logs shards : ℕ → Sight)
+    → 0 < K.shards → home_of K lane < K.coordinators → (logs (home_of K lane)).header.shape ≡ K → KeptJournals K mint submissions (seen_by K logs shards)
+    → (slot (logs (home_of K lane)).seen lane).phase ≡ Idle → Settled K lane (slot (logs (home_of K lane)).seen lane).number (logs (home_of K lane)) shards
