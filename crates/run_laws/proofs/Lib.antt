@@ -1,2 +1,4 @@
 pub mod TurnStep
 pub mod Rests
+pub mod OtherLanes
+pub mod Nodes

@@ -1,13 +1,15 @@
 -- What a run does to the journals of all nodes, turn by turn.
-use Rattle.std.specs.Prelude.{◌≡◌, ℕ, ◌-◌, ◌*◌, ◌<◌, ◌≢◌, true, nat_lt, if◌then◌else◌, List}
+use Rattle.std.specs.Prelude.{◌≡◌, ◌⊎◌, ℕ, ◌-◌, ◌<◌, ◌≢◌, true, nat_lt, if◌then◌else◌, List, []}
 use Rattle.cbdc_model.specs.Records.{Shape, Compact, Record}
 use Rattle.cbdc_model.specs.Ranges.{home_of}
 use Rattle.cbdc_model.specs.Slots.{slot, Idle}
 use Rattle.cbdc_model.specs.Coins.{Output, FullTx}
 use Rattle.cbdc_model.specs.Clean.{IsProperCompact}
-use Rattle.cbdc_model.specs.History.{minted}
+use Rattle.cbdc_model.specs.After.{IsJournal}
+use Rattle.cbdc_model.specs.History.{Minted, minted, header_of}
 use Rattle.cbdc_model.specs.World.{KeptJournals}
 use Rattle.cbdc_model.specs.Lanes.{Made, AllPass, NextFrom}
+use Rattle.cbdc_model.specs.Waves.{prepared}
 use Rattle.cbdc_model.specs.Sights.{Sight}
 use Rattle.lane_laws.specs.Batches.{view, Settled}
 
@@ -32,3 +34,21 @@ abbrev pub RestLaw : Type 0
 RestLaw = (K : Shape) (mint : List Output) (submissions : List FullTx) (lane : ℕ) (logs shards : ℕ → Sight)
     → 0 < K.shards → home_of K lane < K.coordinators → (logs (home_of K lane)).header.shape ≡ K → KeptJournals K mint submissions (seen_by K logs shards)
     → (slot (logs (home_of K lane)).seen lane).phase ≡ Idle → Settled K lane (slot (logs (home_of K lane)).seen lane).number (logs (home_of K lane)) shards
+
+-- what a turn of a lane leaves of the other lanes
+pub record LeavesOthers (K : Shape) (lane : ℕ) (I J : ℕ → List Record) : Type 0 where
+  pub slots : (other n : ℕ) → other ≢ lane → slot (J n) other ≡ slot (I n) other
+  pub prepares : (other n : ℕ) → other ≢ lane → prepared other (J n) ≡ prepared other (I n)
+
+-- a turn of a lane changes no other lane's slot and prepares nothing for it
+abbrev pub OthersLaw : Type 0
+OthersLaw = (K : Shape) (pieces : List (List Compact)) (lane : ℕ) (logs shards logs' shards' : ℕ → Sight)
+    → home_of K lane < K.coordinators → IsTurn K pieces lane logs shards logs' shards' → LeavesOthers K lane (seen_by K logs shards) (seen_by K logs' shards')
+
+-- each node's journal is one of its header, or there is no such node
+abbrev pub AreJournals : Shape → Minted → (ℕ → List Record) → Type 0
+AreJournals K m X = (n : ℕ) → (X n ≡ []) ⊎ IsJournal (header_of K m.id n) (X n)
+
+-- what the nodes say of themselves: each record of theirs is after those below it
+abbrev pub NodesLaw : Type 0
+NodesLaw = (K : Shape) (m : Minted) (E X : ℕ → List Record) → AreJournals K m X → NextFrom K m E X

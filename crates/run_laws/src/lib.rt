@@ -1,7 +1,7 @@
 //! Laws that take what lanes say of their turns to the journals of the whole ledger. They have no body that runs.
 #![tactic(auto)]
 
-ghost use Rattle.run_laws.specs.Runs.{TurnLaw, RestLaw};
+ghost use Rattle.run_laws.specs.Runs.{TurnLaw, RestLaw, OthersLaw, NodesLaw};
 
 /// A lane's turn keeps the journals, whatever it came to.
 pub fn turn_law()
@@ -11,4 +11,14 @@ pub fn turn_law()
 /// In kept journals a lane that is idle at its coordinator is settled: the driver's condition for its next batch.
 pub fn rest_law()
     ensures { RestLaw }
+{}
+
+/// A lane's turn leaves the slots of the other lanes, and prepares nothing for them.
+pub fn others_law()
+    ensures { OthersLaw }
+{}
+
+/// What the nodes say of themselves: each record of a node's journal is after those below it.
+pub fn nodes_law()
+    ensures { NodesLaw }
 {}
