@@ -2,3 +2,5 @@ pub mod TurnStep
 pub mod Rests
 pub mod OtherLanes
 pub mod Nodes
+pub mod Proper
+pub mod Ends

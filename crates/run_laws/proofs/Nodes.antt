@@ -1,5 +1,5 @@
 -- Each record of a journal is after those below it.
-use Rattle.std.proofs.Common.{◌≡◌, ◌⊎◌, inl, inr, List, [], ◌∷◌, ◌++◌, sym, ◌∙◌, subst}
+use Rattle.std.proofs.Common.{◌≡◌, inl, inr, List, [], ◌∷◌, ◌++◌, sym, ◌∙◌, subst}
 use Rattle.cbdc_model.specs.Records.{Header, Record}
 use Rattle.cbdc_model.specs.After.{After, IsJournal}
 use Rattle.cbdc_model.specs.History.{header_of}

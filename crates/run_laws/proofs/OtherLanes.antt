@@ -1,12 +1,10 @@
 -- What a lane made leaves of the other lanes.
-use Rattle.std.proofs.Common.{◌≡◌, ◌≢◌, ◌⊎◌, inl, inr, ℕ, ◌<◌, Bool, true, false, ◌&&◌, not, ◌==◌, List, [], ◌∷◌, ◌++◌, if◌then◌else◌, refl, sym, ap, ◌∙◌, append_assoc, arith}
+use Rattle.std.proofs.Common.{◌≡◌, ◌≢◌, inl, inr, ℕ, Bool, true, false, ◌==◌, List, [], ◌∷◌, ◌++◌, if◌then◌else◌, refl, sym, ap, ◌∙◌, append_assoc, arith}
 use Rattle.cbdc_model.specs.Records.{Shape, Compact, Record, is_in_lane, Genesis, Lock, Finish, Forget, Start, Prepare, Commit, Discard, Done}
-use Rattle.cbdc_model.specs.Ranges.{home_of}
-use Rattle.cbdc_model.specs.Slots.{slot, Slot, Idle, InLock, InFinish, InPrepare, InCommit, InDiscard}
-use Rattle.cbdc_model.specs.Lanes.{IsEnd, may_come, Made}
+use Rattle.cbdc_model.specs.Slots.{slot}
+use Rattle.cbdc_model.specs.Lanes.{may_come, Made}
 use Rattle.cbdc_model.specs.Waves.{prepared}
-use Rattle.cbdc_model.specs.Sights.{Sight}
-use Rattle.run_laws.specs.Runs.{seen_by, IsTurn, LeavesOthers, OthersLaw}
+use Rattle.run_laws.specs.Runs.{seen_by, LeavesOthers, OthersLaw}
 use Rattle.run_laws.proofs.TurnStep.{lifted}
 
 -- a batch of the lane is none of another

@@ -1,10 +1,9 @@
 -- A lane's turn on the nodes' own journals, and that it keeps them.
-use Rattle.std.proofs.Common.{◌≡◌, ◌⊎◌, ◌≢◌, ℕ, ◌-◌, ◌<◌, Bool, true, false, ◌||◌, not, ◌==◌, nat_lt, if◌then◌else◌, List, [], Contains, refl, sym, ap, ◌∙◌, arith}
-use Rattle.cbdc_model.specs.Records.{Shape, Compact, Record}
+use Rattle.std.proofs.Common.{◌≡◌, ◌≢◌, ℕ, ◌-◌, ◌<◌, Bool, true, false, ◌||◌, not, ◌==◌, nat_lt, if◌then◌else◌, List, [], refl, sym, ap, ◌∙◌, arith}
+use Rattle.cbdc_model.specs.Records.{Shape, Compact}
 use Rattle.cbdc_model.specs.Ranges.{home_of}
 use Rattle.cbdc_model.specs.History.{Minted, minted}
-use Rattle.cbdc_model.specs.Clean.{IsProperCompact}
-use Rattle.cbdc_model.specs.Lanes.{Made, AllPass, NextFrom, Wave}
+use Rattle.cbdc_model.specs.Lanes.{Made, NextFrom, Wave}
 use Rattle.cbdc_model.specs.Sights.{Sight}
 use Rattle.lane_laws.specs.Batches.{view}
 use Rattle.ledger_laws.proofs.Turns.{made_lift, turns_begin, turns_next, turns_wave}

@@ -1,13 +1,15 @@
 -- What a run does to the journals of all nodes, turn by turn.
-use Rattle.std.specs.Prelude.{◌≡◌, ◌⊎◌, ℕ, ◌-◌, ◌<◌, ◌≢◌, true, nat_lt, if◌then◌else◌, List, []}
+use Rattle.std.specs.Prelude.{◌≡◌, ◌⊎◌, ℕ, ◌-◌, ◌*◌, ◌<◌, ◌≢◌, Contains, true, nat_lt, if◌then◌else◌, List, []}
 use Rattle.cbdc_model.specs.Records.{Shape, Compact, Record}
 use Rattle.cbdc_model.specs.Ranges.{home_of}
 use Rattle.cbdc_model.specs.Slots.{slot, Idle}
 use Rattle.cbdc_model.specs.Coins.{Output, FullTx}
-use Rattle.cbdc_model.specs.Clean.{IsProperCompact}
+use Rattle.cbdc_model.specs.Clean.{Clean, IsProper, IsProperCompact}
+use Rattle.sentinel.specs.FirstRefusal.{Verdicts, IsSound}
 use Rattle.cbdc_model.specs.After.{IsJournal}
 use Rattle.cbdc_model.specs.History.{Minted, minted, header_of}
 use Rattle.cbdc_model.specs.World.{KeptJournals}
+use Rattle.cbdc_model.specs.Headline.{Headline}
 use Rattle.cbdc_model.specs.Lanes.{Made, AllPass, NextFrom}
 use Rattle.cbdc_model.specs.Waves.{prepared}
 use Rattle.cbdc_model.specs.Sights.{Sight}
@@ -52,3 +54,18 @@ AreJournals K m X = (n : ℕ) → (X n ≡ []) ⊎ IsJournal (header_of K m.id n
 -- what the nodes say of themselves: each record of theirs is after those below it
 abbrev pub NodesLaw : Type 0
 NodesLaw = (K : Shape) (m : Minted) (E X : ℕ → List Record) → AreJournals K m X → NextFrom K m E X
+
+-- a sound transaction is proper, whatever the verdicts
+abbrev pub SoundLaw : Type 0
+SoundLaw = (t : FullTx) (verdicts : Verdicts) → IsSound t verdicts → IsProper t
+
+-- what is kept stays kept when more is submitted
+abbrev pub GrowLaw : Type 0
+GrowLaw = (K : Shape) (mint : List Output) (submissions more : List FullTx) (J : ℕ → List Record) → ((t : FullTx) → Contains submissions t → Contains more t)
+    → KeptJournals K mint submissions J → KeptJournals K mint more J
+
+-- where journals are kept and every lane's slot is idle, the sentence holds of them
+abbrev pub EndLaw : Type 0
+EndLaw = (K : Shape) (mint : List Output) (submissions : List FullTx) (logs shards : ℕ → Sight)
+    → 0 < K.shards → 0 < K.lanes → Clean mint submissions → KeptJournals K mint submissions (seen_by K logs shards)
+    → ((lane : ℕ) → lane < K.coordinators * K.lanes → (slot (logs (home_of K lane)).seen lane).phase ≡ Idle) → Headline K mint submissions (seen_by K logs shards)

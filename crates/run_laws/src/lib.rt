@@ -1,7 +1,7 @@
 //! Laws that take what lanes say of their turns to the journals of the whole ledger. They have no body that runs.
 #![tactic(auto)]
 
-ghost use Rattle.run_laws.specs.Runs.{TurnLaw, RestLaw, OthersLaw, NodesLaw};
+ghost use Rattle.run_laws.specs.Runs.{TurnLaw, RestLaw, OthersLaw, NodesLaw, SoundLaw, GrowLaw, EndLaw};
 
 /// A lane's turn keeps the journals, whatever it came to.
 pub fn turn_law()
@@ -21,4 +21,19 @@ pub fn others_law()
 /// What the nodes say of themselves: each record of a node's journal is after those below it.
 pub fn nodes_law()
     ensures { NodesLaw }
+{}
+
+/// A transaction that a sentinel refuses for no reason is proper: what the laws ask of prepared transactions.
+pub fn sound_law()
+    ensures { SoundLaw }
+{}
+
+/// What is kept stays kept when more is submitted.
+pub fn grow_law()
+    ensures { GrowLaw }
+{}
+
+/// Where journals are kept and every lane is idle, the sentence holds of them.
+pub fn end_law()
+    ensures { EndLaw }
 {}
