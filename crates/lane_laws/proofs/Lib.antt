@@ -10,3 +10,5 @@ pub mod LogCalls
 pub mod Preparing
 pub mod Shards
 pub mod Quiet
+pub mod Calls
+pub mod Runs

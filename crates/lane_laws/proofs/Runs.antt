@@ -1,0 +1,200 @@
+-- A batch from what was told of its calls, new and resumed alike.
+use Rattle.std.proofs.Common.{◌≡◌, ◌⊎◌, inl, inr, ℕ, zero, suc, ◌+◌, ◌<◌, ◌≤◌, max, Bool, true, false, ◌&&◌, ◌==◌, not, nat_lt, if◌then◌else◌, List, [], ◌∷◌, ◌++◌, map, Option, Some, None, is_some, Result, Ok, Err, refl, sym, ap, ◌∙◌, subst, arith}
+use Rattle.cbdc_types.specs.declared.calls.LockCall.{LockCall}
+use Rattle.cbdc_types.specs.declared.calls.NodeFault.{NodeFault}
+use Rattle.cbdc_types.specs.declared.batch.ShardReplies.{ShardReplies}
+use Rattle.cbdc_model.specs.Records.{Batch, same_batch, Compact, Entry, Outcome, Record, Shape, record_of, lock_of as lock_in, last_stamp, stamp_in, outcomes_in, outcomes_of, Lock, Finish, Forget, Prepare, Commit, Discard, Done}
+use Rattle.cbdc_model.specs.Slots.{Phase, slot, slot_stamp, Idle, InLock, InFinish}
+use Rattle.cbdc_model.specs.Replies.{entries}
+use Rattle.cbdc_model.specs.Outcomes.{decisions}
+use Rattle.cbdc_model.specs.Causes.{greatest}
+use Rattle.cbdc_model.specs.Ranges.{home_of, part}
+use Rattle.cbdc_model.specs.Deciding.{decided, replies_at, replies_in, reply_stamp, answered_with}
+use Rattle.cbdc_model.specs.Due.{open_batch}
+use Rattle.cbdc_model.specs.Sights.{Sight}
+use Rattle.ledger_laws.proofs.Moves.{greatest_bound}
+use Rattle.lane_laws.specs.Batches.{own, view}
+use Rattle.lane_laws.specs.Calls.{shard, is_concerned, AreParts, AreLocks, IsFinish, IsForget, lock_of, finish_of, forget_of}
+use Rattle.lane_laws.specs.Gathering.{stamp_at}
+use Rattle.lane_laws.specs.Answers.{FinishAnswer, ForgetAnswer}
+use Rattle.lane_laws.specs.Traces.{ToldDiscarded, ToldCommitted, ToldPrepared}
+use Rattle.lane_laws.proofs.Own.{record_own}
+use Rattle.lane_laws.proofs.Views.{Moved, moved_on, shards_moved}
+use Rattle.lane_laws.proofs.ByShard.{every_fine, gathered_fine, Fine}
+use Rattle.lane_laws.proofs.Asked.{OkUnless, locks_step, finishes_step, forgets_step}
+use Rattle.lane_laws.proofs.LogCalls.{LogStep, Open, Looks, LooksLock, LogDone, commit_ok, discard_ok, done_ok, done_above}
+use Rattle.lane_laws.proofs.Shards.{LockedShard, locked_shard, StampedShard, finished_shard, forgotten_shard, IsForgot}
+use Rattle.lane_laws.proofs.Quiet.{Quiet, quiet_on, same_slot, locks_quiet, finishes_quiet, forgets_quiet}
+use Rattle.lane_laws.proofs.Calls.{are_locks, are_finishes, are_forgets, latest_greatest}
+use Rattle.lane_laws.specs.Calls.{Every}
+
+-- what is read of the lane's records is read alike where its own are the same
+pub same_record : (kind lane : ℕ) (b : Batch) (I J : List Record) → b.lane ≡ lane → own lane J ≡ own lane I → record_of kind J b ≡ record_of kind I b
+same_record kind lane b I J h e = record_own kind b J ∙ ap (λ n. record_of kind (own n J) b) h ∙ ap (λ L. record_of kind L b) e ∙ ap (λ n. record_of kind (own n I) b) (sym h) ∙ sym (record_own kind b I)
+
+every_unless : {A : Type 0} (answers : List (Result A NodeFault)) → Every Fine answers → Every (OkUnless false) answers
+every_unless [] h = tt
+every_unless (a ∷ answers) h = (inr h.0, every_unless answers h.1)
+
+module _ (K : Shape) (pieces : List (List Compact)) (alone : Bool) (lane number : ℕ) (home : home_of K lane < K.coordinators) (txs : List Compact) where
+  abbrev B : Batch
+  B = record { lane = lane; number = number }
+
+  on : (log log1 log2 : Sight) (I M J : ℕ → Sight) → Moved K pieces alone lane log I log1 M → Moved K pieces alone lane log1 M log2 J → Moved K pieces alone lane log I log2 J
+  on log log1 log2 I M J a b = moved_on K pieces alone lane log log1 log2 I M J a b
+
+  -- from a Discard on
+  pub record DiscardedRun (log log' : Sight) (I J : ℕ → Sight) (ended : ℕ) (ends : ℕ → ℕ) : Type 0 where
+    pub moved : Moved K pieces alone lane log I log' J
+    pub step : LogStep lane log log' (Done ended B)
+    pub shards : (s : ℕ) → StampedShard K alone lane number txs 4 Idle Idle ends (λ s. Forget (ends s) B) I J s
+    pub above : (s : ℕ) → s < K.shards → ends s < ended
+
+  pub discarded_run : (log log' : Sight) (I J : ℕ → Sight) (t u td : ℕ) (locks : List (ℕ × LockCall)) → Open K lane number txs log t → record_of 8 log.seen B ≡ Some (Discard td B)
+      → ((s : ℕ) → is_concerned K txs s ≡ false → record_of 4 (I s).seen B ≡ None) → IsForgot K alone lane number txs I → AreLocks K txs B u locks
+      → (told : ToldDiscarded alone B td locks log log' I J) → DiscardedRun log log' I J told.ended (stamp_at shard (map (forget_of B td) locks) told.forgets.asked.answers)
+  discarded_run log log' I J t u td locks o discard none forgot are told =
+          let cs = are_forgets K txs B u td locks are in
+          let f = told.forgets in
+          let shards = forgotten_shard K alone lane number txs td I J (map (forget_of B td) locks) f.asked.answers none forgot cs f.asked.each f.asked.others f.latest.0 in
+          let looks : Looks K lane number txs 4 (stamp_at shard (map (forget_of B td) locks) f.asked.answers) J = record { some = λ s c. (shards s).some c; stamp = λ s. (shards s).stamp } in
+          let m = latest_greatest K txs (IsForget K txs B td) (ForgetAnswer alone) (λ c p. p.0) (map (forget_of B td) locks) I J told.forgotten cs f.asked f.latest in
+          let d = done_ok K pieces alone lane number home txs log log' J t o told.forgotten (stamp_at shard (map (forget_of B td) locks) f.asked.answers) looks m told.ended told.done in
+          let above = done_above K pieces alone lane number home txs log log' J t o told.forgotten (stamp_at shard (map (forget_of B td) locks) f.asked.answers) looks m told.ended told.done in
+          record {
+            moved = on log log log' I J J (shards_moved K lane home pieces alone log I J
+                (forgets_step K pieces alone lane number home txs false td log I J (map (forget_of B td) locks) f.asked.answers discard cs f.asked.each f.asked.others (every_unless f.asked.answers (every_fine f.asked.answers f.latest.0)))) d.0;
+            step = d.1;
+            shards = shards;
+            above = λ s lt. (let h = greatest_bound (λ s. stamp_at shard (map (forget_of B td) locks) f.asked.answers s) K.shards s lt in omega (arith, h, m, above));
+          }
+
+  -- the shards' own records and slots, from a Commit on
+  pub record ShardRun (os : List Outcome) (fins ends : ℕ → ℕ) (I J : ℕ → Sight) (s : ℕ) : Type 0 where
+    pub others : is_concerned K txs s ≡ false → own lane (J s).seen ≡ own lane (I s).seen
+    pub number_is : is_concerned K txs s ≡ true → (slot (J s).seen lane).number ≡ number
+    pub idle : is_concerned K txs s ≡ true → (slot (J s).seen lane).phase ≡ Idle
+    pub adds : is_concerned K txs s ≡ true → (slot (I s).seen lane).phase ≡ InLock
+        → own lane (J s).seen ≡ Forget (ends s) B ∷ Finish (fins s) B (decisions os (part K.shards s 0 txs)) ∷ own lane (I s).seen
+
+  pub record CommittedRun (os : List Outcome) (log log' : Sight) (I J : ℕ → Sight) : Type 0 where
+    pub moved : Moved K pieces alone lane log I log' J
+    pub discarded : ℕ
+    pub ended : ℕ
+    pub log_own : own lane log'.seen ≡ Done ended B ∷ Discard discarded B ∷ own lane log.seen
+    pub newest : last_stamp log'.seen ≡ ended
+    pub later : last_stamp log.seen < ended
+    pub shape : log'.header.shape ≡ log.header.shape
+    pub fins : ℕ → ℕ
+    pub ends : ℕ → ℕ
+    pub above : (s : ℕ) → s < K.shards → ends s < ended
+    pub shards : (s : ℕ) → ShardRun os fins ends I J s
+
+  no_phase : {X : Type 0} (p : Phase) → p ≡ InFinish → p ≡ InLock → X
+  no_phase p a b = absurd (let z : InFinish ≡ InLock = sym a ∙ b in cc)
+
+  no_idle : {X : Type 0} (p : Phase) → p ≡ Idle → p ≡ InLock → X
+  no_idle p a b = absurd (let z : Idle ≡ InLock = sym a ∙ b in cc)
+
+  no_end : {X : Type 0} (p : Phase) → p ≡ InFinish → p ≡ Idle → X
+  no_end p a b = absurd (let z : InFinish ≡ Idle = sym a ∙ b in cc)
+
+  no_end' : {X : Type 0} (p : Phase) → p ≡ Idle → p ≡ InFinish → X
+  no_end' p a b = absurd (let z : Idle ≡ InFinish = sym a ∙ b in cc)
+
+  module _ (log log' : Sight) (I J : ℕ → Sight) (t u tc : ℕ) (os : List Outcome) (repeats : ℕ) (locks : List (ℕ × LockCall)) (o : Open K lane number txs log t) (commit : record_of 7 log.seen B ≡ Some (Commit tc B os))
+      (part_is : (s : ℕ) → is_concerned K txs s ≡ true → entries (lock_in (I s).seen B) ≡ part K.shards s 0 txs)
+      (none : (s kind : ℕ) → (kind ≡ 3) ⊎ (kind ≡ 4) → is_concerned K txs s ≡ false → record_of kind (I s).seen B ≡ None) (are : AreLocks K txs B u locks) (told : ToldCommitted alone B tc os repeats locks log log' I J) where
+    fins_shards : (s : ℕ) → StampedShard K alone lane number txs 3 InFinish InFinish (stamp_at shard (map (finish_of B tc os) locks) told.finishes.asked.answers)
+        (λ s. Finish (stamp_at shard (map (finish_of B tc os) locks) told.finishes.asked.answers s) B (decisions os (part K.shards s 0 txs))) I told.after_finish s
+    fins_shards = finished_shard K alone lane number txs os tc I told.after_finish (map (finish_of B tc os) locks) told.finishes.asked.answers (λ s c. none s 3 (inl refl) c)
+        (are_finishes K txs B os u tc locks are) told.finishes.asked.each told.finishes.asked.others told.finishes.latest.0
+
+    fins_quiet : Quiet K pieces alone lane number home txs log told.after_finish told.before_discard
+    fins_quiet = finishes_quiet K pieces alone lane number home txs log os tc repeats told.after_finish told.before_discard (map (finish_of B tc os) locks) (are_finishes K txs B os u tc locks are)
+        (λ s c p. no_phase (slot (told.after_finish s).seen lane).phase ((fins_shards s).slot_is c).1 p) told.finishes_again
+
+    fins_looks : Looks K lane number txs 3 (stamp_at shard (map (finish_of B tc os) locks) told.finishes.asked.answers) told.before_discard
+    fins_looks = record {
+      some = λ s c. ap is_some (same_record 3 lane B (told.after_finish s).seen (told.before_discard s).seen refl (fins_quiet.own_same s)) ∙ (fins_shards s).some c;
+      stamp = λ s. ap stamp_in (same_record 3 lane B (told.after_finish s).seen (told.before_discard s).seen refl (fins_quiet.own_same s)) ∙ (fins_shards s).stamp;
+    }
+
+    greatest_is : told.finished ≡ greatest (λ s. stamp_at shard (map (finish_of B tc os) locks) told.finishes.asked.answers s) K.shards
+    greatest_is = latest_greatest K txs (IsFinish K txs os B tc) (FinishAnswer alone) (λ c p. p.0) (map (finish_of B tc os) locks) I told.after_finish told.finished (are_finishes K txs B os u tc locks are) told.finishes.asked told.finishes.latest
+
+    discarding : LogDone K pieces alone lane number home txs log told.log_discarded told.before_discard t (Discard told.discarded B) × (record_of 8 told.log_discarded.seen B ≡ Some (Discard told.discarded B))
+    discarding = discard_ok K pieces alone lane number home txs log told.log_discarded told.before_discard t o told.finished (stamp_at shard (map (finish_of B tc os) locks) told.finishes.asked.answers) fins_looks greatest_is told.discarded told.discard
+
+    at_discard : (s : ℕ) → slot (told.before_discard s).seen lane ≡ slot (told.after_finish s).seen lane
+    at_discard s = same_slot K pieces alone lane number home txs log told.after_finish told.before_discard fins_quiet s
+
+    others_then : (s : ℕ) → is_concerned K txs s ≡ false → own lane (told.before_discard s).seen ≡ own lane (I s).seen
+    others_then s c = fins_quiet.own_same s ∙ ap (λ v. own lane v.seen) ((fins_shards s).others c)
+
+    forgotten : IsForgot K alone lane number txs told.before_discard
+    forgotten s c n p = no_end (slot (told.before_discard s).seen lane).phase (ap (λ q. q.phase) (at_discard s) ∙ ((fins_shards s).slot_is c).1) p
+
+    ending : DiscardedRun told.log_discarded log' told.before_discard told.after_done told.rest.ended (stamp_at shard (map (forget_of B told.discarded) locks) told.rest.forgets.asked.answers)
+    ending = discarded_run told.log_discarded log' told.before_discard told.after_done t u told.discarded locks discarding.0.stays discarding.1
+        (λ s c. same_record 4 lane B (I s).seen (told.before_discard s).seen refl (others_then s c) ∙ none s 4 (inr refl) c) forgotten are told.rest
+
+    late : Quiet K pieces alone lane number home txs log' told.after_done J
+    late =
+        let a = locks_quiet K pieces alone lane number home txs log' u repeats told.after_done told.after_locks locks are (λ s c. ((ending.shards s).slot_is c).0) told.locks_late in
+        let sa = λ (s : ℕ). same_slot K pieces alone lane number home txs log' told.after_done told.after_locks a s in
+        let b = finishes_quiet K pieces alone lane number home txs log' os tc repeats told.after_locks told.after_finishes (map (finish_of B tc os) locks) (are_finishes K txs B os u tc locks are)
+            (λ s c p. no_idle (slot (told.after_locks s).seen lane).phase (ap (λ q. q.phase) (sa s) ∙ ((ending.shards s).slot_is c).1) p) told.finishes_late in
+        let ab = quiet_on K pieces alone lane number home txs log' told.after_done told.after_locks told.after_finishes a b in
+        let sb = λ (s : ℕ). same_slot K pieces alone lane number home txs log' told.after_done told.after_finishes ab s in
+        let c = forgets_quiet K pieces alone lane number home txs log' told.discarded repeats told.after_finishes J (map (forget_of B told.discarded) locks) (are_forgets K txs B u told.discarded locks are)
+            (λ s c p. no_end' (slot (told.after_finishes s).seen lane).phase (ap (λ q. q.phase) (sb s) ∙ ((ending.shards s).slot_is c).1) p) told.forgets_late in
+        quiet_on K pieces alone lane number home txs log' told.after_done told.after_finishes J ab c
+
+    finish_moved : Moved K pieces alone lane log I log told.after_finish
+    finish_moved = shards_moved K lane home pieces alone log I told.after_finish (finishes_step K pieces alone lane number home txs false os tc log I told.after_finish (map (finish_of B tc os) locks) told.finishes.asked.answers
+        commit part_is (are_finishes K txs B os u tc locks are) told.finishes.asked.each told.finishes.asked.others (every_unless told.finishes.asked.answers (every_fine told.finishes.asked.answers told.finishes.latest.0)))
+
+    pub committed_run : CommittedRun os log log' I J
+    committed_run = record {
+      moved = on log log log' I told.after_finish J finish_moved (on log log log' told.after_finish told.before_discard J fins_quiet.moved
+          (on log told.log_discarded log' told.before_discard told.before_discard J discarding.0.moved (on told.log_discarded log' log' told.before_discard told.after_done J ending.moved late.moved)));
+      discarded = told.discarded;
+      ended = told.rest.ended;
+      log_own = ending.step.own_is ∙ ap (λ L. Done told.rest.ended B ∷ L) discarding.0.step.own_is;
+      newest = ending.step.newest;
+      later = (let a = discarding.0.step.later in let b = ending.step.later in let c = discarding.0.step.newest in omega (arith, a, b, c));
+      shape = ending.step.shape ∙ discarding.0.step.shape;
+      fins = stamp_at shard (map (finish_of B tc os) locks) told.finishes.asked.answers;
+      ends = stamp_at shard (map (forget_of B told.discarded) locks) told.rest.forgets.asked.answers;
+      above = ending.above;
+      shards = λ s. record {
+        others = λ c. late.own_same s ∙ ap (λ v. own lane v.seen) ((ending.shards s).others c) ∙ others_then s c;
+        number_is = λ c. ap (λ q. q.number) (same_slot K pieces alone lane number home txs log' told.after_done J late s) ∙ ((ending.shards s).slot_is c).0;
+        idle = λ c. ap (λ q. q.phase) (same_slot K pieces alone lane number home txs log' told.after_done J late s) ∙ ((ending.shards s).slot_is c).1;
+        adds = λ c p. late.own_same s ∙ forget_added s c ∙ ap (λ L. Forget (stamp_at shard (map (forget_of B told.discarded) locks) told.rest.forgets.asked.answers s) B ∷ L) (fins_quiet.own_same s ∙ finish_added s c p);
+      };
+    }
+      where
+        finish_added : (s : ℕ) → is_concerned K txs s ≡ true → (slot (I s).seen lane).phase ≡ InLock
+            → own lane (told.after_finish s).seen ≡ Finish (stamp_at shard (map (finish_of B tc os) locks) told.finishes.asked.answers s) B (decisions os (part K.shards s 0 txs)) ∷ own lane (I s).seen
+        finish_added s c p = elim ((fins_shards s).adds c) [ inl e ↦ e | inr q ↦ no_phase (slot (I s).seen lane).phase q p ]
+
+        forget_added : (s : ℕ) → is_concerned K txs s ≡ true
+            → own lane (told.after_done s).seen ≡ Forget (stamp_at shard (map (forget_of B told.discarded) locks) told.rest.forgets.asked.answers s) B ∷ own lane (told.before_discard s).seen
+        forget_added s c = elim ((ending.shards s).adds c) [
+          | inl e ↦ e
+          | inr q ↦ no_end (slot (told.before_discard s).seen lane).phase (ap (λ q. q.phase) (at_discard s) ∙ ((fins_shards s).slot_is c).1) q
+        ]
+
+  -- from a Prepare on
+  pub record PreparedRun (log log' : Sight) (I J : ℕ → Sight) (os : List Outcome) : Type 0 where
+    pub replies : List ShardReplies
+    pub os_is : os ≡ decided K txs replies
+    pub committed : ℕ
+    pub log_committed : Sight
+    pub before_finish : ℕ → Sight
+    pub commit : LogStep lane log log_committed (Commit committed B os)
+    pub locked : (s : ℕ) → LockedShard K alone lane number txs replies I before_finish s
+    pub rest : CommittedRun os log_committed log' before_finish J
+    pub moved : Moved K pieces alone lane log I log' J
