@@ -1,9 +1,10 @@
 -- A batch from what was told of its calls, new and resumed alike.
 use Rattle.std.proofs.Common.{◌≡◌, ◌⊎◌, inl, inr, ℕ, zero, suc, ◌+◌, ◌<◌, ◌≤◌, max, Bool, true, false, ◌&&◌, ◌==◌, not, nat_lt, if◌then◌else◌, List, [], ◌∷◌, ◌++◌, map, Option, Some, None, is_some, Result, Ok, Err, refl, sym, ap, ◌∙◌, subst, arith}
 use Rattle.cbdc_types.specs.declared.calls.LockCall.{LockCall}
+use Rattle.cbdc_types.specs.declared.calls.Replied.{Replied}
 use Rattle.cbdc_types.specs.declared.calls.NodeFault.{NodeFault}
 use Rattle.cbdc_types.specs.declared.batch.ShardReplies.{ShardReplies}
-use Rattle.cbdc_model.specs.Records.{Batch, same_batch, Compact, Entry, Outcome, Record, Shape, record_of, lock_of as lock_in, last_stamp, stamp_in, outcomes_in, outcomes_of, Lock, Finish, Forget, Prepare, Commit, Discard, Done}
+use Rattle.cbdc_model.specs.Records.{Batch, same_batch, Compact, Entry, Outcome, Record, Shape, record_of, lock_of as lock_in, last_stamp, stamp_in, entries_in, outcomes_in, outcomes_of, Lock, Finish, Forget, Prepare, Commit, Discard, Done}
 use Rattle.cbdc_model.specs.Slots.{Phase, slot, slot_stamp, Idle, InLock, InFinish}
 use Rattle.cbdc_model.specs.Replies.{entries}
 use Rattle.cbdc_model.specs.Outcomes.{decisions}
@@ -16,7 +17,7 @@ use Rattle.ledger_laws.proofs.Moves.{greatest_bound}
 use Rattle.lane_laws.specs.Batches.{own, view}
 use Rattle.lane_laws.specs.Calls.{shard, is_concerned, AreParts, AreLocks, IsFinish, IsForget, lock_of, finish_of, forget_of}
 use Rattle.lane_laws.specs.Gathering.{stamp_at}
-use Rattle.lane_laws.specs.Answers.{FinishAnswer, ForgetAnswer}
+use Rattle.lane_laws.specs.Answers.{LockAnswer, FinishAnswer, ForgetAnswer, Locked, AskedTimes}
 use Rattle.lane_laws.specs.Traces.{ToldDiscarded, ToldCommitted, ToldPrepared}
 use Rattle.lane_laws.proofs.Own.{record_own}
 use Rattle.lane_laws.proofs.Views.{Moved, moved_on, shards_moved}
@@ -187,6 +188,50 @@ module _ (K : Shape) (pieces : List (List Compact)) (alone : Bool) (lane number 
           | inr q ↦ no_end (slot (told.before_discard s).seen lane).phase (ap (λ q. q.phase) (at_discard s) ∙ ((fins_shards s).slot_is c).1) q
         ]
 
+  -- what the shards have behind the Locks
+  pub record LocksShard (rs : List ShardReplies) (I J : ℕ → Sight) (s : ℕ) : Type 0 where
+    pub looks : LooksLock K lane number txs rs J s
+    pub number_is : is_concerned K txs s ≡ true → (slot (J s).seen lane).number ≡ number
+    pub others : is_concerned K txs s ≡ false → own lane (J s).seen ≡ own lane (I s).seen
+    pub adds : is_concerned K txs s ≡ true
+        → (own lane (J s).seen ≡ Lock (reply_stamp (replies_at rs s)) B (answered_with (part K.shards s 0 txs) (replies_in (replies_at rs s))) ∷ own lane (I s).seen) ⊎ ((slot (I s).seen lane).number ≡ number)
+
+  locks_shard : (rs : List ShardReplies) (log : Sight) (I M J : ℕ → Sight) (s : ℕ) → LockedShard K alone lane number txs rs I M s → Quiet K pieces alone lane number home txs log M J → LocksShard rs I J s
+  locks_shard rs log I M J s l q = record {
+    looks = record {
+      entries_are = ap entries_in same ∙ l.looks.entries_are;
+      stamp_is = ap stamp_in same ∙ l.looks.stamp_is;
+      some = λ c. ap is_some same ∙ l.looks.some c;
+      part_is = λ c. ap (λ o. entries (entries_in o)) same ∙ l.looks.part_is c;
+    };
+    number_is = λ c. ap (λ z. z.number) (same_slot K pieces alone lane number home txs log M J q s) ∙ l.number_is c;
+    others = λ c. q.own_same s ∙ ap (λ v. own lane v.seen) (l.others c);
+    adds = λ c. elim (l.adds c) [ inl e ↦ inl (q.own_same s ∙ e) | inr n ↦ inr n ];
+  }
+    where
+      same : record_of 2 (J s).seen B ≡ record_of 2 (M s).seen B
+      same = same_record 2 lane B (M s).seen (J s).seen refl (q.own_same s)
+
+  -- the phase of the Locks, with its repeats
+  pub record LocksRun (rs : List ShardReplies) (log : Sight) (I J : ℕ → Sight) : Type 0 where
+    pub moved : Moved K pieces alone lane log I log J
+    pub shards : (s : ℕ) → LocksShard rs I J s
+
+  pub locks_run : (log : Sight) (I M J : ℕ → Sight) (t repeats : ℕ) (parts : List (ℕ × List Entry)) (rs : List ShardReplies) → Open K lane number txs log t → ((s : ℕ) → is_concerned K txs s ≡ false → record_of 2 (I s).seen B ≡ None)
+      → AreParts K txs parts → Locked alone (map (lock_of B t) parts) I M rs → AskedTimes (LockAnswer alone) (map (lock_of B t) parts) repeats M J → LocksRun rs log I J
+  locks_run log I M J t repeats parts rs o none are l again =
+      let cs = are_locks K txs B t parts are in
+      let shards = locked_shard K alone lane number txs t I M rs (map (lock_of B t) parts) l.asked.answers none cs l.asked.each l.asked.others l.gathered in
+      let q = locks_quiet K pieces alone lane number home txs log t repeats M J (map (lock_of B t) parts) cs (λ s c. (shards s).number_is c) again in
+      record {
+        moved = on log log log I M J (shards_moved K lane home pieces alone log I M (locks_step K pieces alone lane number home txs false t log I M (map (lock_of B t) parts) l.asked.answers o.prepare cs l.asked.each l.asked.others
+            (locks_fine l.asked.answers (gathered_fine (map (lock_of B t) parts) l.asked.answers rs l.gathered.replies)))) q.moved;
+        shards = λ s. locks_shard rs log I M J s (shards s) q;
+      }
+    where
+      locks_fine : (answers : List (Result Replied NodeFault)) → Every Fine answers → Every (OkUnless false) answers
+      locks_fine answers h = every_unless answers h
+
   -- from a Prepare on
   pub record PreparedRun (log log' : Sight) (I J : ℕ → Sight) (os : List Outcome) : Type 0 where
     pub replies : List ShardReplies
@@ -195,6 +240,32 @@ module _ (K : Shape) (pieces : List (List Compact)) (alone : Bool) (lane number 
     pub log_committed : Sight
     pub before_finish : ℕ → Sight
     pub commit : LogStep lane log log_committed (Commit committed B os)
-    pub locked : (s : ℕ) → LockedShard K alone lane number txs replies I before_finish s
+    pub locked : (s : ℕ) → LocksShard replies I before_finish s
     pub rest : CommittedRun os log_committed log' before_finish J
     pub moved : Moved K pieces alone lane log I log' J
+
+  -- the outcomes are those that the Commit names
+  named_outcomes : (log : Sight) (os ds : List Outcome) (tc : ℕ) → (slot log.seen lane).number ≡ number → record_of 7 log.seen B ≡ Some (Commit tc B ds) → os ≡ outcomes_of log.seen (open_batch log.seen lane) → os ≡ ds
+  named_outcomes log os ds tc n commit e = e ∙ ap (λ m. let b : Batch = record { lane = lane; number = m } in outcomes_of log.seen b) n ∙ ap outcomes_in commit
+
+  pub prepared_run : (log log' : Sight) (I J : ℕ → Sight) (t repeats : ℕ) (parts : List (ℕ × List Entry)) (os : List Outcome) → Open K lane number txs log t
+      → ((s kind : ℕ) → (kind ≡ 2) ⊎ (kind ≡ 3) ⊎ (kind ≡ 4) → is_concerned K txs s ≡ false → record_of kind (I s).seen B ≡ None) → AreParts K txs parts
+      → ToldPrepared alone B t repeats parts log log' I J os → PreparedRun log log' I J os
+  prepared_run log log' I J t repeats parts os o none are told =
+      let l = locks_run log I told.after_lock told.before_decide t repeats parts told.replies o (λ s c. none s 2 (inl refl) c) are told.locks told.locks_again in
+      let d = commit_ok K pieces alone lane number home txs log told.log_committed told.before_decide t o told.replies (λ s. (l.shards s).looks) told.committed told.decide in
+      let e = named_outcomes told.log_committed os (decided K txs told.replies) told.committed d.0.stays.open_number d.1 told.outcomes in
+      let r = committed_run told.log_committed log' told.before_decide J t t told.committed os repeats (map (lock_of B t) parts) d.0.stays (d.1 ∙ ap (λ q. Some (Commit told.committed B q)) (sym e)) (λ s. (l.shards s).looks.part_is)
+          (λ s kind h c. same_record kind lane B (I s).seen (told.before_decide s).seen refl ((l.shards s).others c) ∙ none s kind (inr h) c)
+          (are_locks K txs B t parts are) told.rest in
+      record {
+        replies = told.replies;
+        os_is = e;
+        committed = told.committed;
+        log_committed = told.log_committed;
+        before_finish = told.before_decide;
+        commit = subst (λ q. LogStep lane log told.log_committed (Commit told.committed B q)) (sym e) d.0.step;
+        locked = l.shards;
+        rest = r;
+        moved = on log log log' I told.before_decide J l.moved (on log told.log_committed log' told.before_decide told.before_decide J d.0.moved r.moved);
+      }
