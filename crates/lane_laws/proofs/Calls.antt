@@ -49,7 +49,7 @@ module _ (K : Shape) (txs : List Compact) (b : Batch) where
   pub are_forgets : (u t : ℕ) (locks : List (ℕ × LockCall)) → AreLocks K txs b u locks → AreForgets K txs b t (map (forget_of b t) locks)
   are_forgets u t locks are = calls_mapped K txs (IsLock K txs b u) (IsForget K txs b t) (forget_of b t) (λ c. refl) (λ c p. (p.0, refl)) locks are
 
-in_range : (K : Shape) (txs : List Compact) (s : ℕ) → is_concerned K txs s ≡ true → s < K.shards
+pub in_range : (K : Shape) (txs : List Compact) (s : ℕ) → is_concerned K txs s ≡ true → s < K.shards
 in_range K txs s c = numbers s K.shards (not (is_no_part (part K.shards s 0 txs))) c
   where
     numbers : (s n : ℕ) (a : Bool) → (nat_lt s n && a) ≡ true → s < n

@@ -12,3 +12,4 @@ pub mod Shards
 pub mod Quiet
 pub mod Calls
 pub mod Runs
+pub mod Whole
