@@ -13,3 +13,4 @@ pub mod Quiet
 pub mod Calls
 pub mod Runs
 pub mod Whole
+pub mod Stops

@@ -17,7 +17,7 @@ use Rattle.ledger_laws.proofs.Moves.{greatest_bound}
 use Rattle.lane_laws.specs.Batches.{own, view}
 use Rattle.lane_laws.specs.Calls.{shard, is_concerned, AreParts, AreLocks, IsFinish, IsForget, lock_of, finish_of, forget_of}
 use Rattle.lane_laws.specs.Gathering.{stamp_at}
-use Rattle.lane_laws.specs.Answers.{LockAnswer, FinishAnswer, ForgetAnswer, Locked, AskedTimes}
+use Rattle.lane_laws.specs.Answers.{LockAnswer, FinishAnswer, ForgetAnswer, Locked, Stamped, AskedTimes}
 use Rattle.lane_laws.specs.Traces.{ToldDiscarded, ToldCommitted, ToldPrepared}
 use Rattle.lane_laws.proofs.Own.{record_own}
 use Rattle.lane_laws.proofs.Views.{Moved, moved_on, shards_moved}
@@ -51,24 +51,40 @@ module _ (K : Shape) (pieces : List (List Compact)) (alone : Bool) (lane number 
     pub shards : (s : ℕ) → StampedShard K alone lane number txs 4 Idle Idle ends (λ s. Forget (ends s) B) I J s
     pub above : (s : ℕ) → s < K.shards → ends s < ended
 
+  -- the Forgets
+  pub record ForgetsRun (log : Sight) (I J : ℕ → Sight) (m : ℕ) (ends : ℕ → ℕ) : Type 0 where
+    pub moved : Moved K pieces alone lane log I log J
+    pub shards : (s : ℕ) → StampedShard K alone lane number txs 4 Idle Idle ends (λ s. Forget (ends s) B) I J s
+    pub looks : Looks K lane number txs 4 ends J
+    pub greatest_is : m ≡ greatest ends K.shards
+
+  pub forgets_run : (log : Sight) (I J : ℕ → Sight) (u td m : ℕ) (locks : List (ℕ × LockCall)) → record_of 8 log.seen B ≡ Some (Discard td B)
+      → ((s : ℕ) → is_concerned K txs s ≡ false → record_of 4 (I s).seen B ≡ None) → IsForgot K alone lane number txs I → AreLocks K txs B u locks
+      → (f : Stamped (ForgetAnswer alone) (map (forget_of B td) locks) I J m) → ForgetsRun log I J m (stamp_at shard (map (forget_of B td) locks) f.asked.answers)
+  forgets_run log I J u td m locks discard none forgot are f =
+      let cs = are_forgets K txs B u td locks are in
+      let shards = forgotten_shard K alone lane number txs td I J (map (forget_of B td) locks) f.asked.answers none forgot cs f.asked.each f.asked.others f.latest.0 in
+      record {
+        moved = shards_moved K lane home pieces alone log I J
+            (forgets_step K pieces alone lane number home txs false td log I J (map (forget_of B td) locks) f.asked.answers discard cs f.asked.each f.asked.others (every_unless f.asked.answers (every_fine f.asked.answers f.latest.0)));
+        shards = shards;
+        looks = record { some = λ s c. (shards s).some c; stamp = λ s. (shards s).stamp };
+        greatest_is = latest_greatest K txs (IsForget K txs B td) (ForgetAnswer alone) (λ c p. p.0) (map (forget_of B td) locks) I J m cs f.asked f.latest;
+      }
+
   pub discarded_run : (log log' : Sight) (I J : ℕ → Sight) (t u td : ℕ) (locks : List (ℕ × LockCall)) → Open K lane number txs log t → record_of 8 log.seen B ≡ Some (Discard td B)
       → ((s : ℕ) → is_concerned K txs s ≡ false → record_of 4 (I s).seen B ≡ None) → IsForgot K alone lane number txs I → AreLocks K txs B u locks
       → (told : ToldDiscarded alone B td locks log log' I J) → DiscardedRun log log' I J told.ended (stamp_at shard (map (forget_of B td) locks) told.forgets.asked.answers)
   discarded_run log log' I J t u td locks o discard none forgot are told =
-          let cs = are_forgets K txs B u td locks are in
-          let f = told.forgets in
-          let shards = forgotten_shard K alone lane number txs td I J (map (forget_of B td) locks) f.asked.answers none forgot cs f.asked.each f.asked.others f.latest.0 in
-          let looks : Looks K lane number txs 4 (stamp_at shard (map (forget_of B td) locks) f.asked.answers) J = record { some = λ s c. (shards s).some c; stamp = λ s. (shards s).stamp } in
-          let m = latest_greatest K txs (IsForget K txs B td) (ForgetAnswer alone) (λ c p. p.0) (map (forget_of B td) locks) I J told.forgotten cs f.asked f.latest in
-          let d = done_ok K pieces alone lane number home txs log log' J t o told.forgotten (stamp_at shard (map (forget_of B td) locks) f.asked.answers) looks m told.ended told.done in
-          let above = done_above K pieces alone lane number home txs log log' J t o told.forgotten (stamp_at shard (map (forget_of B td) locks) f.asked.answers) looks m told.ended told.done in
-          record {
-            moved = on log log log' I J J (shards_moved K lane home pieces alone log I J
-                (forgets_step K pieces alone lane number home txs false td log I J (map (forget_of B td) locks) f.asked.answers discard cs f.asked.each f.asked.others (every_unless f.asked.answers (every_fine f.asked.answers f.latest.0)))) d.0;
-            step = d.1;
-            shards = shards;
-            above = λ s lt. (let h = greatest_bound (λ s. stamp_at shard (map (forget_of B td) locks) f.asked.answers s) K.shards s lt in omega (arith, h, m, above));
-          }
+      let r = forgets_run log I J u td told.forgotten locks discard none forgot are told.forgets in
+      let d = done_ok K pieces alone lane number home txs log log' J t o told.forgotten (stamp_at shard (map (forget_of B td) locks) told.forgets.asked.answers) r.looks r.greatest_is told.ended told.done in
+      let above = done_above K pieces alone lane number home txs log log' J t o told.forgotten (stamp_at shard (map (forget_of B td) locks) told.forgets.asked.answers) r.looks r.greatest_is told.ended told.done in
+      record {
+        moved = on log log log' I J J r.moved d.0;
+        step = d.1;
+        shards = r.shards;
+        above = λ s lt. (let h = greatest_bound (λ s. stamp_at shard (map (forget_of B td) locks) told.forgets.asked.answers s) K.shards s lt in let m = r.greatest_is in omega (arith, h, m, above));
+      }
 
   -- the shards' own records and slots, from a Commit on
   pub record ShardRun (os : List Outcome) (fins ends : ℕ → ℕ) (I J : ℕ → Sight) (s : ℕ) : Type 0 where
@@ -103,42 +119,53 @@ module _ (K : Shape) (pieces : List (List Compact)) (alone : Bool) (lane number 
   no_end' : {X : Type 0} (p : Phase) → p ≡ Idle → p ≡ InFinish → X
   no_end' p a b = absurd (let z : Idle ≡ InFinish = sym a ∙ b in cc)
 
+  -- the Finishes, with their repeats
+  pub record FinishesRun (log : Sight) (I J : ℕ → Sight) (os : List Outcome) (m : ℕ) (fins : ℕ → ℕ) : Type 0 where
+    pub moved : Moved K pieces alone lane log I log J
+    pub looks : Looks K lane number txs 3 fins J
+    pub greatest_is : m ≡ greatest fins K.shards
+    pub finished : (s : ℕ) → is_concerned K txs s ≡ true → (slot (J s).seen lane).phase ≡ InFinish
+    pub others : (s : ℕ) → is_concerned K txs s ≡ false → own lane (J s).seen ≡ own lane (I s).seen
+    pub adds : (s : ℕ) → is_concerned K txs s ≡ true → (slot (I s).seen lane).phase ≡ InLock → own lane (J s).seen ≡ Finish (fins s) B (decisions os (part K.shards s 0 txs)) ∷ own lane (I s).seen
+
+  pub finishes_run : (log : Sight) (I M J : ℕ → Sight) (u tc m : ℕ) (os : List Outcome) (repeats : ℕ) (locks : List (ℕ × LockCall)) → record_of 7 log.seen B ≡ Some (Commit tc B os)
+      → ((s : ℕ) → is_concerned K txs s ≡ true → entries (lock_in (I s).seen B) ≡ part K.shards s 0 txs) → ((s : ℕ) → is_concerned K txs s ≡ false → record_of 3 (I s).seen B ≡ None) → AreLocks K txs B u locks
+      → (f : Stamped (FinishAnswer alone) (map (finish_of B tc os) locks) I M m) → AskedTimes (FinishAnswer alone) (map (finish_of B tc os) locks) repeats M J
+      → FinishesRun log I J os m (stamp_at shard (map (finish_of B tc os) locks) f.asked.answers)
+  finishes_run log I M J u tc m os repeats locks commit part_is none are f again =
+      let cs = are_finishes K txs B os u tc locks are in
+      let shards = finished_shard K alone lane number txs os tc I M (map (finish_of B tc os) locks) f.asked.answers none cs f.asked.each f.asked.others f.latest.0 in
+      let q = finishes_quiet K pieces alone lane number home txs log os tc repeats M J (map (finish_of B tc os) locks) cs (λ s c p. no_phase (slot (M s).seen lane).phase ((shards s).slot_is c).1 p) again in
+      record {
+        moved = on log log log I M J (shards_moved K lane home pieces alone log I M (finishes_step K pieces alone lane number home txs false os tc log I M (map (finish_of B tc os) locks) f.asked.answers
+            commit part_is cs f.asked.each f.asked.others (every_unless f.asked.answers (every_fine f.asked.answers f.latest.0)))) q.moved;
+        looks = record {
+          some = λ s c. ap is_some (same_record 3 lane B (M s).seen (J s).seen refl (q.own_same s)) ∙ (shards s).some c;
+          stamp = λ s. ap stamp_in (same_record 3 lane B (M s).seen (J s).seen refl (q.own_same s)) ∙ (shards s).stamp;
+        };
+        greatest_is = latest_greatest K txs (IsFinish K txs os B tc) (FinishAnswer alone) (λ c p. p.0) (map (finish_of B tc os) locks) I M m cs f.asked f.latest;
+        finished = λ s c. ap (λ z. z.phase) (same_slot K pieces alone lane number home txs log M J q s) ∙ ((shards s).slot_is c).1;
+        others = λ s c. q.own_same s ∙ ap (λ v. own lane v.seen) ((shards s).others c);
+        adds = λ s c p. q.own_same s ∙ (elim ((shards s).adds c) [ inl e ↦ e | inr n ↦ no_phase (slot (I s).seen lane).phase n p ]);
+      }
+
+  -- behind the Finishes no batch is forgotten
+  pub not_forgot : (log : Sight) (I J : ℕ → Sight) (os : List Outcome) (m : ℕ) (fins : ℕ → ℕ) → FinishesRun log I J os m fins → IsForgot K alone lane number txs J
+  not_forgot log I J os m fins r s c n p = no_end (slot (J s).seen lane).phase (r.finished s c) p
+
   module _ (log log' : Sight) (I J : ℕ → Sight) (t u tc : ℕ) (os : List Outcome) (repeats : ℕ) (locks : List (ℕ × LockCall)) (o : Open K lane number txs log t) (commit : record_of 7 log.seen B ≡ Some (Commit tc B os))
       (part_is : (s : ℕ) → is_concerned K txs s ≡ true → entries (lock_in (I s).seen B) ≡ part K.shards s 0 txs)
       (none : (s kind : ℕ) → (kind ≡ 3) ⊎ (kind ≡ 4) → is_concerned K txs s ≡ false → record_of kind (I s).seen B ≡ None) (are : AreLocks K txs B u locks) (told : ToldCommitted alone B tc os repeats locks log log' I J) where
-    fins_shards : (s : ℕ) → StampedShard K alone lane number txs 3 InFinish InFinish (stamp_at shard (map (finish_of B tc os) locks) told.finishes.asked.answers)
-        (λ s. Finish (stamp_at shard (map (finish_of B tc os) locks) told.finishes.asked.answers s) B (decisions os (part K.shards s 0 txs))) I told.after_finish s
-    fins_shards = finished_shard K alone lane number txs os tc I told.after_finish (map (finish_of B tc os) locks) told.finishes.asked.answers (λ s c. none s 3 (inl refl) c)
-        (are_finishes K txs B os u tc locks are) told.finishes.asked.each told.finishes.asked.others told.finishes.latest.0
-
-    fins_quiet : Quiet K pieces alone lane number home txs log told.after_finish told.before_discard
-    fins_quiet = finishes_quiet K pieces alone lane number home txs log os tc repeats told.after_finish told.before_discard (map (finish_of B tc os) locks) (are_finishes K txs B os u tc locks are)
-        (λ s c p. no_phase (slot (told.after_finish s).seen lane).phase ((fins_shards s).slot_is c).1 p) told.finishes_again
-
-    fins_looks : Looks K lane number txs 3 (stamp_at shard (map (finish_of B tc os) locks) told.finishes.asked.answers) told.before_discard
-    fins_looks = record {
-      some = λ s c. ap is_some (same_record 3 lane B (told.after_finish s).seen (told.before_discard s).seen refl (fins_quiet.own_same s)) ∙ (fins_shards s).some c;
-      stamp = λ s. ap stamp_in (same_record 3 lane B (told.after_finish s).seen (told.before_discard s).seen refl (fins_quiet.own_same s)) ∙ (fins_shards s).stamp;
-    }
-
-    greatest_is : told.finished ≡ greatest (λ s. stamp_at shard (map (finish_of B tc os) locks) told.finishes.asked.answers s) K.shards
-    greatest_is = latest_greatest K txs (IsFinish K txs os B tc) (FinishAnswer alone) (λ c p. p.0) (map (finish_of B tc os) locks) I told.after_finish told.finished (are_finishes K txs B os u tc locks are) told.finishes.asked told.finishes.latest
+    fins_run : FinishesRun log I told.before_discard os told.finished (stamp_at shard (map (finish_of B tc os) locks) told.finishes.asked.answers)
+    fins_run = finishes_run log I told.after_finish told.before_discard u tc told.finished os repeats locks commit part_is (λ s c. none s 3 (inl refl) c) are told.finishes told.finishes_again
 
     discarding : LogDone K pieces alone lane number home txs log told.log_discarded told.before_discard t (Discard told.discarded B) × (record_of 8 told.log_discarded.seen B ≡ Some (Discard told.discarded B))
-    discarding = discard_ok K pieces alone lane number home txs log told.log_discarded told.before_discard t o told.finished (stamp_at shard (map (finish_of B tc os) locks) told.finishes.asked.answers) fins_looks greatest_is told.discarded told.discard
-
-    at_discard : (s : ℕ) → slot (told.before_discard s).seen lane ≡ slot (told.after_finish s).seen lane
-    at_discard s = same_slot K pieces alone lane number home txs log told.after_finish told.before_discard fins_quiet s
-
-    others_then : (s : ℕ) → is_concerned K txs s ≡ false → own lane (told.before_discard s).seen ≡ own lane (I s).seen
-    others_then s c = fins_quiet.own_same s ∙ ap (λ v. own lane v.seen) ((fins_shards s).others c)
-
-    forgotten : IsForgot K alone lane number txs told.before_discard
-    forgotten s c n p = no_end (slot (told.before_discard s).seen lane).phase (ap (λ q. q.phase) (at_discard s) ∙ ((fins_shards s).slot_is c).1) p
+    discarding = discard_ok K pieces alone lane number home txs log told.log_discarded told.before_discard t o told.finished (stamp_at shard (map (finish_of B tc os) locks) told.finishes.asked.answers) fins_run.looks fins_run.greatest_is told.discarded told.discard
 
     ending : DiscardedRun told.log_discarded log' told.before_discard told.after_done told.rest.ended (stamp_at shard (map (forget_of B told.discarded) locks) told.rest.forgets.asked.answers)
     ending = discarded_run told.log_discarded log' told.before_discard told.after_done t u told.discarded locks discarding.0.stays discarding.1
-        (λ s c. same_record 4 lane B (I s).seen (told.before_discard s).seen refl (others_then s c) ∙ none s 4 (inr refl) c) forgotten are told.rest
+        (λ s c. same_record 4 lane B (I s).seen (told.before_discard s).seen refl (fins_run.others s c) ∙ none s 4 (inr refl) c)
+        (not_forgot log I told.before_discard os told.finished (stamp_at shard (map (finish_of B tc os) locks) told.finishes.asked.answers) fins_run) are told.rest
 
     late : Quiet K pieces alone lane number home txs log' told.after_done J
     late =
@@ -152,14 +179,10 @@ module _ (K : Shape) (pieces : List (List Compact)) (alone : Bool) (lane number 
             (λ s c p. no_end' (slot (told.after_finishes s).seen lane).phase (ap (λ q. q.phase) (sb s) ∙ ((ending.shards s).slot_is c).1) p) told.forgets_late in
         quiet_on K pieces alone lane number home txs log' told.after_done told.after_finishes J ab c
 
-    finish_moved : Moved K pieces alone lane log I log told.after_finish
-    finish_moved = shards_moved K lane home pieces alone log I told.after_finish (finishes_step K pieces alone lane number home txs false os tc log I told.after_finish (map (finish_of B tc os) locks) told.finishes.asked.answers
-        commit part_is (are_finishes K txs B os u tc locks are) told.finishes.asked.each told.finishes.asked.others (every_unless told.finishes.asked.answers (every_fine told.finishes.asked.answers told.finishes.latest.0)))
-
     pub committed_run : CommittedRun os log log' I J
     committed_run = record {
-      moved = on log log log' I told.after_finish J finish_moved (on log log log' told.after_finish told.before_discard J fins_quiet.moved
-          (on log told.log_discarded log' told.before_discard told.before_discard J discarding.0.moved (on told.log_discarded log' log' told.before_discard told.after_done J ending.moved late.moved)));
+      moved = on log log log' I told.before_discard J fins_run.moved
+          (on log told.log_discarded log' told.before_discard told.before_discard J discarding.0.moved (on told.log_discarded log' log' told.before_discard told.after_done J ending.moved late.moved));
       discarded = told.discarded;
       ended = told.rest.ended;
       log_own = ending.step.own_is ∙ ap (λ L. Done told.rest.ended B ∷ L) discarding.0.step.own_is;
@@ -170,22 +193,18 @@ module _ (K : Shape) (pieces : List (List Compact)) (alone : Bool) (lane number 
       ends = stamp_at shard (map (forget_of B told.discarded) locks) told.rest.forgets.asked.answers;
       above = ending.above;
       shards = λ s. record {
-        others = λ c. late.own_same s ∙ ap (λ v. own lane v.seen) ((ending.shards s).others c) ∙ others_then s c;
+        others = λ c. late.own_same s ∙ ap (λ v. own lane v.seen) ((ending.shards s).others c) ∙ fins_run.others s c;
         number_is = λ c. ap (λ q. q.number) (same_slot K pieces alone lane number home txs log' told.after_done J late s) ∙ ((ending.shards s).slot_is c).0;
         idle = λ c. ap (λ q. q.phase) (same_slot K pieces alone lane number home txs log' told.after_done J late s) ∙ ((ending.shards s).slot_is c).1;
-        adds = λ c p. late.own_same s ∙ forget_added s c ∙ ap (λ L. Forget (stamp_at shard (map (forget_of B told.discarded) locks) told.rest.forgets.asked.answers s) B ∷ L) (fins_quiet.own_same s ∙ finish_added s c p);
+        adds = λ c p. late.own_same s ∙ forget_added s c ∙ ap (λ L. Forget (stamp_at shard (map (forget_of B told.discarded) locks) told.rest.forgets.asked.answers s) B ∷ L) (fins_run.adds s c p);
       };
     }
       where
-        finish_added : (s : ℕ) → is_concerned K txs s ≡ true → (slot (I s).seen lane).phase ≡ InLock
-            → own lane (told.after_finish s).seen ≡ Finish (stamp_at shard (map (finish_of B tc os) locks) told.finishes.asked.answers s) B (decisions os (part K.shards s 0 txs)) ∷ own lane (I s).seen
-        finish_added s c p = elim ((fins_shards s).adds c) [ inl e ↦ e | inr q ↦ no_phase (slot (I s).seen lane).phase q p ]
-
         forget_added : (s : ℕ) → is_concerned K txs s ≡ true
             → own lane (told.after_done s).seen ≡ Forget (stamp_at shard (map (forget_of B told.discarded) locks) told.rest.forgets.asked.answers s) B ∷ own lane (told.before_discard s).seen
         forget_added s c = elim ((ending.shards s).adds c) [
           | inl e ↦ e
-          | inr q ↦ no_end (slot (told.before_discard s).seen lane).phase (ap (λ q. q.phase) (at_discard s) ∙ ((fins_shards s).slot_is c).1) q
+          | inr q ↦ no_end (slot (told.before_discard s).seen lane).phase (fins_run.finished s c) q
         ]
 
   -- what the shards have behind the Locks
@@ -245,7 +264,7 @@ module _ (K : Shape) (pieces : List (List Compact)) (alone : Bool) (lane number 
     pub moved : Moved K pieces alone lane log I log' J
 
   -- the outcomes are those that the Commit names
-  named_outcomes : (log : Sight) (os ds : List Outcome) (tc : ℕ) → (slot log.seen lane).number ≡ number → record_of 7 log.seen B ≡ Some (Commit tc B ds) → os ≡ outcomes_of log.seen (open_batch log.seen lane) → os ≡ ds
+  pub named_outcomes : (log : Sight) (os ds : List Outcome) (tc : ℕ) → (slot log.seen lane).number ≡ number → record_of 7 log.seen B ≡ Some (Commit tc B ds) → os ≡ outcomes_of log.seen (open_batch log.seen lane) → os ≡ ds
   named_outcomes log os ds tc n commit e = e ∙ ap (λ m. let b : Batch = record { lane = lane; number = m } in outcomes_of log.seen b) n ∙ ap outcomes_in commit
 
   pub prepared_run : (log log' : Sight) (I J : ℕ → Sight) (t repeats : ℕ) (parts : List (ℕ × List Entry)) (os : List Outcome) → Open K lane number txs log t
