@@ -14,3 +14,5 @@ pub mod Calls
 pub mod Runs
 pub mod Whole
 pub mod Stops
+pub mod Laning
+pub mod Leaving
