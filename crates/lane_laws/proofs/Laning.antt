@@ -31,7 +31,11 @@ in_first p ps txs h = elim (in_contains (p ∷ []) txs h) [
 
 pub lane_begins : (K : Shape) (alone : Bool) (lane k : ℕ) (txs : List Compact) (log : Sight) (shards : ℕ → Sight) → Settled K lane k log shards → LaneSo K alone lane txs txs log shards log shards
 lane_begins K alone lane k txs log shards st = record {
-  pieces = []; cut = refl; made = made_none K [] alone lane (view K lane log shards); settled = subst (λ n. Settled K lane n log shards) (sym st.number) st; prepares = refl;
+  pieces = [];
+  cut = refl;
+  made = made_none K [] alone lane (view K lane log shards);
+  settled = subst (λ n. Settled K lane n log shards) (sym st.number) st;
+  prepares = refl;
 }
 
 module _ (K : Shape) (alone : Bool) (lane : ℕ) (txs rest : List Compact) (log0 log1 log2 : Sight) (shards0 shards1 shards2 : ℕ → Sight) (so : LaneSo K alone lane txs rest log0 shards0 log1 shards1) where

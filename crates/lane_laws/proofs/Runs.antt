@@ -172,11 +172,11 @@ module _ (K : Shape) (pieces : List (List Compact)) (alone : Bool) (lane number 
         let a = locks_quiet K pieces alone lane number home txs log' u repeats told.after_done told.after_locks locks are (λ s c. ((ending.shards s).slot_is c).0) told.locks_late in
         let sa = λ (s : ℕ). same_slot K pieces alone lane number home txs log' told.after_done told.after_locks a s in
         let b = finishes_quiet K pieces alone lane number home txs log' os tc repeats told.after_locks told.after_finishes (map (finish_of B tc os) locks) (are_finishes K txs B os u tc locks are)
-            (λ s c p. no_idle (slot (told.after_locks s).seen lane).phase (ap (λ q. q.phase) (sa s) ∙ ((ending.shards s).slot_is c).1) p) told.finishes_late in
+        (λ s c p. no_idle (slot (told.after_locks s).seen lane).phase (ap (λ q. q.phase) (sa s) ∙ ((ending.shards s).slot_is c).1) p) told.finishes_late in
         let ab = quiet_on K pieces alone lane number home txs log' told.after_done told.after_locks told.after_finishes a b in
         let sb = λ (s : ℕ). same_slot K pieces alone lane number home txs log' told.after_done told.after_finishes ab s in
         let c = forgets_quiet K pieces alone lane number home txs log' told.discarded repeats told.after_finishes J (map (forget_of B told.discarded) locks) (are_forgets K txs B u told.discarded locks are)
-            (λ s c p. no_end' (slot (told.after_finishes s).seen lane).phase (ap (λ q. q.phase) (sb s) ∙ ((ending.shards s).slot_is c).1) p) told.forgets_late in
+        (λ s c p. no_end' (slot (told.after_finishes s).seen lane).phase (ap (λ q. q.phase) (sb s) ∙ ((ending.shards s).slot_is c).1) p) told.forgets_late in
         quiet_on K pieces alone lane number home txs log' told.after_done told.after_finishes J ab c
 
     pub committed_run : CommittedRun os log log' I J
@@ -222,6 +222,7 @@ module _ (K : Shape) (pieces : List (List Compact)) (alone : Bool) (lane number 
       stamp_is = ap stamp_in same ∙ l.looks.stamp_is;
       some = λ c. ap is_some same ∙ l.looks.some c;
       part_is = λ c. ap (λ o. entries (entries_in o)) same ∙ l.looks.part_is c;
+      replied = l.looks.replied;
     };
     number_is = λ c. ap (λ z. z.number) (same_slot K pieces alone lane number home txs log M J q s) ∙ l.number_is c;
     others = λ c. q.own_same s ∙ ap (λ v. own lane v.seen) (l.others c);
@@ -275,8 +276,8 @@ module _ (K : Shape) (pieces : List (List Compact)) (alone : Bool) (lane number 
       let d = commit_ok K pieces alone lane number home txs log told.log_committed told.before_decide t o told.replies (λ s. (l.shards s).looks) told.committed told.decide in
       let e = named_outcomes told.log_committed os (decided K txs told.replies) told.committed d.0.stays.open_number d.1 told.outcomes in
       let r = committed_run told.log_committed log' told.before_decide J t t told.committed os repeats (map (lock_of B t) parts) d.0.stays (d.1 ∙ ap (λ q. Some (Commit told.committed B q)) (sym e)) (λ s. (l.shards s).looks.part_is)
-          (λ s kind h c. same_record kind lane B (I s).seen (told.before_decide s).seen refl ((l.shards s).others c) ∙ none s kind (inr h) c)
-          (are_locks K txs B t parts are) told.rest in
+      (λ s kind h c. same_record kind lane B (I s).seen (told.before_decide s).seen refl ((l.shards s).others c) ∙ none s kind (inr h) c)
+      (are_locks K txs B t parts are) told.rest in
       record {
         replies = told.replies;
         os_is = e;

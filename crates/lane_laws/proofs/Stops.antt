@@ -181,7 +181,7 @@ batch_stopped K alone lane k txs repeats parts log log' I J node f st are (at_pr
 batch_stopped K alone lane k txs repeats parts log log' I J node f st are (behind_prepare b log1 t told stop) =
     let p = prepare_ok K alone lane k st.home txs log log1 I st.number b t told in
     let r = prepared_stopped K (txs ∷ []) alone lane (suc k) st.home txs log1 log' I J t repeats parts node f (opened K lane k txs log log1 t st.shape p.2)
-        (λ s kind h c. st.fresh_shard s kind (batch_of lane k) refl (omega arith)) are (subst (λ c. PreparedStopped K alone c t repeats parts log1 log' I J node f) p.0 stop) in
+    (λ s kind h c. st.fresh_shard s kind (batch_of lane k) refl (omega arith)) are (subst (λ c. PreparedStopped K alone c t repeats parts log1 log' I J node f) p.0 stop) in
     let h = fell_on K (txs ∷ []) alone lane log log1 log' I I J p.1 r.fell in
     record {
       made = h.made;

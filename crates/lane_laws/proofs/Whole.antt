@@ -63,7 +63,12 @@ module _ (K : Shape) (alone : Bool) (lane k : ℕ) (txs : List Compact) (log log
 
   abbrev pub recorded : BatchRecords
   recorded = record {
-    batch = B; prepared = t; outcomes = os; committed = r.committed; discarded = r.rest.discarded; done = r.rest.ended;
+    batch = B;
+    prepared = t;
+    outcomes = os;
+    committed = r.committed;
+    discarded = r.rest.discarded;
+    done = r.rest.ended;
     locked = λ s. reply_stamp (replies_at r.replies s);
     entries = λ s. answered_with (part K.shards s 0 txs) (replies_in (replies_at r.replies s));
     finished = r.rest.fins;
@@ -95,9 +100,9 @@ module _ (K : Shape) (alone : Bool) (lane k : ℕ) (txs : List Compact) (log log
   shard_grew : (s : ℕ) → own lane (J s).seen ≡ at_shard K recorded txs s ++ own lane (I s).seen
   shard_grew s = elim (is_concerned K txs s) as (λ c. is_concerned K txs s ≡ c → own lane (J s).seen ≡ (if c then Forget (r.rest.ends s) B ∷ Finish (r.rest.fins s) B (decisions os (part K.shards s 0 txs))
       ∷ Lock (reply_stamp (replies_at r.replies s)) B (answered_with (part K.shards s 0 txs) (replies_in (replies_at r.replies s))) ∷ [] else []) ++ own lane (I s).seen) [
-    | true ↦ λ c. own_shard s c
-    | false ↦ λ c. own_other s c
-  ] refl
+        | true ↦ λ c. own_shard s c
+        | false ↦ λ c. own_other s c
+      ] refl
 
   same_slot : (s : ℕ) → is_concerned K txs s ≡ false → slot (J s).seen lane ≡ slot (I s).seen lane
   same_slot s c = slot_own lane (J s).seen ∙ ap (λ L. slot L lane) (own_other s c) ∙ sym (slot_own lane (I s).seen)
@@ -131,7 +136,7 @@ module _ (K : Shape) (alone : Bool) (lane k : ℕ) (txs : List Compact) (log log
       | inl c ↦ (
           let f : slot_stamp (J s).seen lane ≡ r.rest.ends s
           = stamp_front lane (J s).seen (Finish (r.rest.fins s) B (decisions os (part K.shards s 0 txs)) ∷ Lock (reply_stamp (replies_at r.replies s)) B (answered_with (part K.shards s 0 txs) (replies_in (replies_at r.replies s))) ∷ own lane (I s).seen)
-              (Forget (r.rest.ends s) B) (own_shard s c) itself in
+          (Forget (r.rest.ends s) B) (own_shard s c) itself in
           let a = r.rest.above s (in_range K txs s c) in let e = r.rest.newest in omega (arith, f, a, e))
       | inr c ↦ (
           let f : slot_stamp (J s).seen lane ≡ slot_stamp (I s).seen lane = stamp_own lane (J s).seen ∙ ap (λ L. slot_stamp L lane) (own_other s c) ∙ sym (stamp_own lane (I s).seen) in
