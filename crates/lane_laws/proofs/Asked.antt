@@ -103,12 +103,15 @@ module _ (K : Shape) (pieces : List (List Compact)) (alone : Bool) (lane number 
 
       owes : (found : List Record) → Finds alone lane (I s).seen found → Owes K pieces lane (view K lane log I) (shard_node K s) found (lock_record found (record { batch = B; part = part K.shards s 0 txs; cause = t }))
       owes found f =
-          let cause : record_of 6 (replaced (view K lane log I) (shard_node K s) found (home_of K lane)) B ≡ Some (Prepare t B txs) = ap (λ L. record_of 6 L B) (home_read log I s found) ∙ prepare in
-          (same_number lane, tt, (
-            ap is_some cause,
-            λ s' e. entries_answered found B (part K.shards s 0 txs) [] ∙ ap (λ n. part K.shards n 0 txs) (same_shard K.coordinators s s' e) ∙ ap (λ o. part K.shards s' 0 (txs_in o)) (sym cause),
-            sym (λ i. suc (max (last_stamp (here log I s found i)) (stamp_in (cause i)))),
-          ))
+          let cause : record_of 6 (replaced (view K lane log I) (shard_node K s) found (home_of K lane)) B ≡ Some (Prepare t B txs) = ap (λ L. record_of 6 L B) (home_read log I s found) ∙ prepare in (
+            same_number lane,
+            tt,
+            (
+              ap is_some cause,
+              λ s' e. entries_answered found B (part K.shards s 0 txs) [] ∙ ap (λ n. part K.shards n 0 txs) (same_shard K.coordinators s s' e) ∙ ap (λ o. part K.shards s' 0 (txs_in o)) (sym cause),
+              sym (λ i. suc (max (last_stamp (here log I s found i)) (stamp_in (cause i)))),
+            ),
+          )
         where
           same_shard : (c s s' : ℕ) → c + s ≡ c + s' → s ≡ s'
           same_shard c s s' e = omega arith
@@ -138,12 +141,15 @@ module _ (K : Shape) (pieces : List (List Compact)) (alone : Bool) (lane number 
       owes : is_concerned K txs s ≡ true → (found : List Record) → Finds alone lane (I s).seen found
           → Owes K pieces lane (view K lane log I) (shard_node K s) found (Finish (next_stamp found t) B (decisions os (part K.shards s 0 txs)))
       owes c found f =
-          let cause : record_of 7 (replaced (view K lane log I) (shard_node K s) found (home_of K lane)) B ≡ Some (Commit t B os) = ap (λ L. record_of 7 L B) (home_read log I s found) ∙ commit in
-          (same_number lane, tt, (
-            ap is_some cause,
-            sym (λ i. decisions (ap outcomes_in cause i) ((ap (λ L. entries (lock_of L B)) (here log I s found) ∙ ap (λ o. entries (entries_in o)) (finds_record alone 2 B (I s).seen found f) ∙ locks s c) i)),
-            sym (λ i. suc (max (last_stamp (here log I s found i)) (stamp_in (cause i)))),
-          ))
+          let cause : record_of 7 (replaced (view K lane log I) (shard_node K s) found (home_of K lane)) B ≡ Some (Commit t B os) = ap (λ L. record_of 7 L B) (home_read log I s found) ∙ commit in (
+            same_number lane,
+            tt,
+            (
+              ap is_some cause,
+              sym (λ i. decisions (ap outcomes_in cause i) ((ap (λ L. entries (lock_of L B)) (here log I s found) ∙ ap (λ o. entries (entries_in o)) (finds_record alone 2 B (I s).seen found f) ∙ locks s c) i)),
+              sym (λ i. suc (max (last_stamp (here log I s found i)) (stamp_in (cause i)))),
+            ),
+          )
 
       wrote : (L : List Record) (b : ℕ) (r : Record) → stamp_by (next_finish L B (decisions os (part K.shards s 0 txs)) t) (Finish (next_stamp L t) B (decisions os (part K.shards s 0 txs))) ≡ Writes b r
           → r ≡ Finish (next_stamp L t) B (decisions os (part K.shards s 0 txs))
@@ -168,11 +174,14 @@ module _ (K : Shape) (pieces : List (List Compact)) (alone : Bool) (lane number 
     where
       owes : (found : List Record) → Finds alone lane (I s).seen found → Owes K pieces lane (view K lane log I) (shard_node K s) found (Forget (next_stamp found t) B)
       owes found f =
-          let cause : record_of 8 (replaced (view K lane log I) (shard_node K s) found (home_of K lane)) B ≡ Some (Discard t B) = ap (λ L. record_of 8 L B) (home_read log I s found) ∙ discard in
-          (same_number lane, tt, (
-            ap is_some cause,
-            sym (λ i. suc (max (last_stamp (here log I s found i)) (stamp_in (cause i)))),
-          ))
+          let cause : record_of 8 (replaced (view K lane log I) (shard_node K s) found (home_of K lane)) B ≡ Some (Discard t B) = ap (λ L. record_of 8 L B) (home_read log I s found) ∙ discard in (
+            same_number lane,
+            tt,
+            (
+              ap is_some cause,
+              sym (λ i. suc (max (last_stamp (here log I s found i)) (stamp_in (cause i)))),
+            ),
+          )
 
       answer : (a : Result ℕ NodeFault) → OkUnless fails a → ForgetAnswer alone (s, record { batch = B; cause = t }) (I s) (J s) a → ShardStep log I J s
       answer a ok told = call_step K pieces alone lane fails false (view K lane log I) (shard_node K s) (I s) (J s)

@@ -10,3 +10,9 @@ pub mod LogCalls
 pub mod Preparing
 pub mod Shards
 pub mod Quiet
+pub mod Calls
+pub mod Runs
+pub mod Whole
+pub mod Stops
+pub mod Laning
+pub mod Leaving

@@ -1,5 +1,5 @@
 -- The calls at a lane's coordinator: what each leaves there.
-use Rattle.std.proofs.Common.{◌≡◌, ◌⊎◌, inl, inr, ℕ, zero, suc, ◌+◌, ◌^◌, ◌<◌, ◌≤◌, max, Bool, true, false, ◌&&◌, ◌==◌, not, nat_lt, List, [], ◌∷◌, Option, Some, is_some, Result, Ok, Err, refl, sym, ap, ◌∙◌, subst, arith}
+use Rattle.std.proofs.Common.{◌≡◌, ◌⊎◌, inl, inr, ℕ, zero, suc, ◌+◌, ◌^◌, ◌<◌, ◌≤◌, max, Bool, true, false, ◌&&◌, ◌==◌, not, nat_lt, List, [], ◌∷◌, length, Option, Some, is_some, Result, Ok, Err, refl, sym, ap, ◌∙◌, subst, arith}
 use Rattle.cbdc_types.specs.declared.calls.NodeFault.{NodeFault}
 use Rattle.cbdc_types.specs.declared.calls.NodeFault.TheVariants.{Broken, Refused as Refuses, ClockEnd, Full, DiskFault, Memory}
 use Rattle.cbdc_types.specs.declared.batch.ShardReplies.{ShardReplies}
@@ -20,6 +20,7 @@ use Rattle.ledger_laws.proofs.Slots.{same_batch_self}
 use Rattle.ledger_laws.proofs.Finds.{replaced_at, replaced_away}
 use Rattle.lane_laws.specs.Batches.{own, view, IsRisen, TakesRoom}
 use Rattle.lane_laws.specs.Calls.{is_concerned}
+use Rattle.lane_laws.specs.Answers.{DecideAnswer, AreRepliedTo}
 use Rattle.lane_laws.proofs.Own.{own_in, record_own, finds_own, finds_slot, finds_record}
 use Rattle.lane_laws.proofs.Steps.{StepAt}
 use Rattle.lane_laws.proofs.Views.{Moved, Fell, view_home, view_shard, apart_home, log_moved, log_fell}
@@ -79,9 +80,11 @@ module _ (K : Shape) (pieces : List (List Compact)) (alone : Bool) (lane : ℕ) 
   step fails answer good told = call_step K pieces alone lane fails false (view K lane log shards) (home_of K lane) log log' by next (view_home K lane home log shards (home_of K lane) refl)
       (λ L s e. late_unbroken (next_stamp L m) (next_stamp L m) (next L) s e)
       (λ L a r e. (late_wrote (next_stamp L m) (next_stamp L m) a (next L) r e).1)
-      (λ found f. (subst (λ r. is_in_lane lane r ≡ true) (sym (is found f)) (lane_is (next_stamp found m)),
+      (λ found f. (
+        subst (λ r. is_in_lane lane r ≡ true) (sym (is found f)) (lane_is (next_stamp found m)),
         subst (λ r. Holds pieces r) (sym (is found f)) (holds (next_stamp found m)),
-        subst (λ r. IsCaused K (replaced (view K lane log shards) (home_of K lane) found) (home_of K lane) r) (sym (is found f)) (caused found f)))
+        subst (λ r. IsCaused K (replaced (view K lane log shards) (home_of K lane) found) (home_of K lane) r) (sym (is found f)) (caused found f),
+      ))
       answer good told
 
   pub late_ok : (a : ℕ) → Told alone lane false (λ broken J. unless_broken broken (by J)) log log' (Ok a) → Moved K pieces alone lane log shards log' shards × LogStep lane log log' (named a)
@@ -128,6 +131,7 @@ module _ (K : Shape) (lane number : ℕ) (txs : List Compact) where
     pub stamp_is : stamp_in (record_of 2 (shards s).seen named_batch) ≡ reply_stamp (replies_at rs s)
     pub some : is_concerned K txs s ≡ true → is_some (record_of 2 (shards s).seen named_batch) ≡ true
     pub part_is : is_concerned K txs s ≡ true → entries (lock_of (shards s).seen named_batch) ≡ part K.shards s 0 txs
+    pub replied : s < K.shards → length (replies_in (replies_at rs s)) ≡ length (part K.shards s 0 txs)
 
 module _ (K : Shape) (pieces : List (List Compact)) (alone : Bool) (lane number : ℕ) (home : home_of K lane < K.coordinators) (txs : List Compact) where
   abbrev B : Batch
@@ -170,7 +174,7 @@ module _ (K : Shape) (pieces : List (List Compact)) (alone : Bool) (lane number 
     commit_caused rs looks = (
       λ s c. subst (λ q. is_some q ≡ true) (sym (at_is 2 s)) ((looks s).some (concerned_is K txs s (subst (λ ts. Concerned K ts s) txs_are c))),
       sym (λ i. outcomes (λ s. (ap entries_in (at_is 2 s) ∙ (looks s).entries_are) i) K.shards 0 txs)
-      ∙ sym (ap (λ ts. outcomes (λ s. entries_in (at_shards K (replaced (view K lane log shards) (home_of K lane) found) 2 B s)) K.shards 0 ts) txs_are),
+          ∙ sym (ap (λ ts. outcomes (λ s. entries_in (at_shards K (replaced (view K lane log shards) (home_of K lane) found) 2 B s)) K.shards 0 ts) txs_are),
       sym (λ i. suc (max (last_stamp (here i)) (greatest (λ s. (ap stamp_in (at_is 2 s) ∙ (looks s).stamp_is) i) K.shards))),
     )
 
@@ -205,19 +209,26 @@ module _ (K : Shape) (pieces : List (List Compact)) (alone : Bool) (lane number 
       abbrev committed : ℕ → Record
       committed n = Commit n B (decided K txs rs)
 
-      decide_told : (answer : Result ℕ NodeFault) → Told alone lane false (decide_due log.header.shape lane rs) log log' answer → Told alone lane false (decide_due K lane rs) log log' answer
-      decide_told answer told = subst (λ k. Told alone lane false (decide_due k lane rs) log log' answer) o.shape told
+      all_replied : AreRepliedTo log.header.shape (txs_of log.seen (open_batch log.seen lane)) rs
+      all_replied =
+          let b : open_batch log.seen lane ≡ B = λ i. record { lane = lane; number = o.open_number i } in
+          let t : txs_of log.seen (open_batch log.seen lane) ≡ txs = ap (λ c. txs_of log.seen c) b ∙ ap txs_in o.prepare in
+          subst (λ k. AreRepliedTo k (txs_of log.seen (open_batch log.seen lane)) rs) (sym o.shape) (subst (λ ts. AreRepliedTo K ts rs) (sym t) (λ s lt. (looks s).replied lt))
 
-      pub commit_ok : (tc : ℕ) → Told alone lane false (decide_due log.header.shape lane rs) log log' (Ok tc) → LogDone log log' shards t (Commit tc B (decided K txs rs)) × (record_of 7 log'.seen B ≡ Some (Commit tc B (decided K txs rs)))
+      decide_told : (answer : Result ℕ NodeFault) → DecideAnswer alone lane rs log log' answer → Told alone lane false (decide_due K lane rs) log log' answer
+      decide_told answer told = subst (λ k. Told alone lane false (decide_due k lane rs) log log' answer) o.shape (told all_replied)
+
+      pub commit_ok : (tc : ℕ) → DecideAnswer alone lane rs log log' (Ok tc) → LogDone log log' shards t (Commit tc B (decided K txs rs)) × (record_of 7 log'.seen B ≡ Some (Commit tc B (decided K txs rs)))
       commit_ok tc told =
           let d = late_ok K pieces alone lane home log log' shards (reply_cause K rs) (λ L. commit_record K lane rs L) (λ n. Commit n B (decided K txs rs)) (λ found f. commit_named log shards t o found f rs) (λ n. same_number lane) (λ n. refl) (λ n. tt)
-              (λ found f. commit_caused log shards t o found f rs looks) tc (decide_told (Ok tc) told) in
-          (record { moved = d.0; step = d.1; stays = still_open log log' t (Commit tc B (decided K txs rs)) o d.1 (λ L. refl) (λ L. let z : (lane == lane) ≡ true = same_number lane in rw z) },
-          ap (λ L. record_of 7 L B) d.1.seen_is ∙ (let z : same_batch B B ≡ true = self in rw z))
+          (λ found f. commit_caused log shards t o found f rs looks) tc (decide_told (Ok tc) told) in (
+            record { moved = d.0; step = d.1; stays = still_open log log' t (Commit tc B (decided K txs rs)) o d.1 (λ L. refl) (λ L. let z : (lane == lane) ≡ true = same_number lane in rw z) },
+            ap (λ L. record_of 7 L B) d.1.seen_is ∙ (let z : same_batch B B ≡ true = self in rw z),
+          )
 
-      pub commit_err : (f : NodeFault) → Told alone lane false (decide_due log.header.shape lane rs) log log' (Err f) → LogFell log log' shards f
+      pub commit_err : (f : NodeFault) → DecideAnswer alone lane rs log log' (Err f) → LogFell log log' shards f
       commit_err f told = late_err K pieces alone lane home log log' shards (reply_cause K rs) (λ L. commit_record K lane rs L) (λ n. Commit n B (decided K txs rs)) (λ found f. commit_named log shards t o found f rs) (λ n. same_number lane) (λ n. refl) (λ n. tt)
-              (λ found f. commit_caused log shards t o found f rs looks) f (decide_told (Err f) told)
+          (λ found f. commit_caused log shards t o found f rs looks) f (decide_told (Err f) told)
 
     -- Discard
     module _ (m : ℕ) (stamps : ℕ → ℕ) (looks : Looks K lane number txs 3 stamps shards) (greatest_is : m ≡ greatest stamps K.shards) where
@@ -227,9 +238,10 @@ module _ (K : Shape) (pieces : List (List Compact)) (alone : Bool) (lane number 
       pub discard_ok : (td : ℕ) → Told alone lane false (discard_due lane m) log log' (Ok td) → LogDone log log' shards t (Discard td B) × (record_of 8 log'.seen B ≡ Some (Discard td B))
       discard_ok td told =
           let d = late_ok K pieces alone lane home log log' shards m (λ L. discard_record lane m L) (λ n. Discard n B) discard_named (λ n. same_number lane) (λ n. refl) (λ n. tt)
-              (λ found f. (have log shards t o found f 3 stamps looks, stamped log shards t o found f 3 m stamps looks greatest_is)) td told in
-          (record { moved = d.0; step = d.1; stays = still_open log log' t (Discard td B) o d.1 (λ L. refl) (λ L. let z : (lane == lane) ≡ true = same_number lane in rw z) },
-          ap (λ L. record_of 8 L B) d.1.seen_is ∙ (let z : same_batch B B ≡ true = self in rw z))
+          (λ found f. (have log shards t o found f 3 stamps looks, stamped log shards t o found f 3 m stamps looks greatest_is)) td told in (
+            record { moved = d.0; step = d.1; stays = still_open log log' t (Discard td B) o d.1 (λ L. refl) (λ L. let z : (lane == lane) ≡ true = same_number lane in rw z) },
+            ap (λ L. record_of 8 L B) d.1.seen_is ∙ (let z : same_batch B B ≡ true = self in rw z),
+          )
 
       pub discard_err : (f : NodeFault) → Told alone lane false (discard_due lane m) log log' (Err f) → LogFell log log' shards f
       discard_err f told = late_err K pieces alone lane home log log' shards m (λ L. discard_record lane m L) (λ n. Discard n B) discard_named (λ n. same_number lane) (λ n. refl) (λ n. tt)

@@ -80,10 +80,14 @@ module _ (K : Shape) (alone : Bool) (lane k : ℕ) (home : home_of K lane < K.co
       go (inr w) =
           let e = prepared log.header.shape log.capacity lane txs w.found (b, t) w.what w.writes in
           let n : new_batch w.found lane ≡ batch_of lane k = ap (λ n. batch_of lane n) (ap (λ q. q.number) (finds_slot alone lane log.seen w.found w.finds) ∙ number_is) in
-          let stamp : t ≡ next_stamp w.found 0 = ap (λ p. p.1) e.0 in
-          (ap (λ p. p.0) e.0 ∙ n, log_moved K lane home (txs ∷ []) alone log log' shards (step false (Ok (b, t)) (inr ((b, t), refl)) told),
-          wrote_step alone lane (by log.header.shape log.capacity lane txs) log log' (b, t) (Prepare t (batch_of lane k) txs) 0 w (e.1 ∙ (λ i. Prepare (sym stamp i) (n i) txs)) (same_number lane) stamp)
+          let stamp : t ≡ next_stamp w.found 0 = ap (λ p. p.1) e.0 in (
+            ap (λ p. p.0) e.0 ∙ n,
+            log_moved K lane home (txs ∷ []) alone log log' shards (step false (Ok (b, t)) (inr ((b, t), refl)) told),
+            wrote_step alone lane (by log.header.shape log.capacity lane txs) log log' (b, t) (Prepare t (batch_of lane k) txs) 0 w (e.1 ∙ (λ i. Prepare (sym stamp i) (n i) txs)) (same_number lane) stamp,
+          )
 
   pub prepare_err : (f : NodeFault) → Told alone lane true (prepare_due log.header.shape log.capacity lane txs) log log' (Err f) → Fell K (txs ∷ []) alone lane log shards log' shards × LogFailed lane log log' f
-  prepare_err f told = (log_fell K lane home (txs ∷ []) alone true log log' shards (step true (Err f) (inl refl) told),
-    stopped_same alone lane true (by log.header.shape log.capacity lane txs) log log' f (told_err alone lane true (by log.header.shape log.capacity lane txs) log log' f (unbroken log.header.shape log.capacity lane txs) told))
+  prepare_err f told = (
+    log_fell K lane home (txs ∷ []) alone true log log' shards (step true (Err f) (inl refl) told),
+    stopped_same alone lane true (by log.header.shape log.capacity lane txs) log log' f (told_err alone lane true (by log.header.shape log.capacity lane txs) log log' f (unbroken log.header.shape log.capacity lane txs) told),
+  )

@@ -36,8 +36,10 @@ entry_same e f h =
     let b = both (same_digest e.id f.id) (same_digests e.inputs f.inputs && same_digests e.outputs f.outputs) a.1 in
     let c = both (same_digests e.inputs f.inputs) (same_digests e.outputs f.outputs) b.1 in
     λ i. record {
-      place = number_same e.place f.place a.0 i; id = same_digest_is e.id f.id b.0 i;
-      inputs = digests_same e.inputs f.inputs c.0 i; outputs = digests_same e.outputs f.outputs c.1 i;
+      place = number_same e.place f.place a.0 i;
+      id = same_digest_is e.id f.id b.0 i;
+      inputs = digests_same e.inputs f.inputs c.0 i;
+      outputs = digests_same e.outputs f.outputs c.1 i;
     }
 
 pub decision_same : (d e : Bool) → same_decision d e ≡ true → d ≡ e

@@ -1,5 +1,5 @@
 -- A phase in which all went well, shard by shard: new answers and stored ones alike.
-use Rattle.std.proofs.Common.{◌≡◌, ◌⊎◌, inl, inr, ℕ, zero, suc, ◌+◌, ◌<◌, ◌≤◌, max, Bool, true, false, ◌&&◌, ◌==◌, not, nat_lt, if◌then◌else◌, List, [], ◌∷◌, map, Option, Some, None, is_some, Result, Ok, Err, IsOk, refl, sym, ap, ◌∙◌, subst, arith}
+use Rattle.std.proofs.Common.{◌≡◌, ◌⊎◌, inl, inr, ℕ, zero, suc, ◌+◌, ◌<◌, ◌≤◌, max, Bool, true, false, ◌&&◌, ◌==◌, not, nat_lt, if◌then◌else◌, List, [], ◌∷◌, length, map, Option, Some, None, is_some, Result, Ok, Err, IsOk, refl, sym, ap, ◌∙◌, subst, arith}
 use Rattle.cbdc_types.specs.declared.calls.LockCall.{LockCall}
 use Rattle.cbdc_types.specs.declared.calls.FinishCall.{FinishCall}
 use Rattle.cbdc_types.specs.declared.calls.ForgetCall.{ForgetCall}
@@ -46,6 +46,24 @@ has_part K txs s c = tests (nat_lt s K.shards) (is_no_part (part K.shards s 0 tx
   where
     tests : (a b : Bool) → (a && not b) ≡ true → b ≡ false
     tests a b h = grind (arith, h)
+
+-- and another shard's has none
+no_entries : (K : Shape) (txs : List Compact) (s : ℕ) → s < K.shards → is_concerned K txs s ≡ false → part K.shards s 0 txs ≡ []
+no_entries K txs s lt c = go (part K.shards s 0 txs) (tests (nat_lt s K.shards) (is_no_part (part K.shards s 0 txs)) (below s K.shards lt) c)
+  where
+    below : (s n : ℕ) → s < n → nat_lt s n ≡ true
+    below s n lt = grind (arith, lt)
+
+    tests : (a b : Bool) → a ≡ true → (a && not b) ≡ false → b ≡ true
+    tests a b t h = grind (arith, t, h)
+
+    go : (p : List Entry) → is_no_part p ≡ true → p ≡ []
+    go [] h = refl
+    go (e ∷ p) h = absurd (let z : false ≡ true = h in cc)
+
+as_many : (es : List Answered) → length (replies es) ≡ length (entries es)
+as_many [] = refl
+as_many (a ∷ es) = let e = as_many es in omega arith
 
 -- what answers to a part is there
 some_entries : (o : Option Record) (p : List Entry) → entries (entries_in o) ≡ p → is_no_part p ≡ false → is_some o ≡ true
@@ -96,6 +114,7 @@ module _ (K : Shape) (alone : Bool) (lane number : ℕ) (txs : List Compact) whe
         stamp_is = stamp ∙ ap reply_stamp (sym r);
         some = λ y. some_entries (record_of 2 (J s).seen B) (part K.shards s 0 txs) (ap entries is ∙ parts) (has_part K txs s c);
         part_is = λ y. ap entries is ∙ parts;
+        replied = λ lt. ap (λ o. length (replies_in o)) r ∙ ap length reps ∙ as_many es ∙ ap length parts;
       }
 
       made : (c : is_concerned K txs s ≡ true) (rep : ShardReplies) → replies_at rs s ≡ Some rep
@@ -150,6 +169,7 @@ module _ (K : Shape) (alone : Bool) (lane number : ℕ) (txs : List Compact) whe
               stamp_is = ap stamp_in no ∙ ap reply_stamp (sym e);
               some = λ c. absurd (calls.covers s c n);
               part_is = λ c. absurd (calls.covers s c n);
+              replied = λ lt. ap (λ o. length (replies_in o)) e ∙ sym (ap length (no_entries K txs s lt (not_true (is_concerned K txs s) (λ c. calls.covers s c n))));
             };
             number_is = λ c. absurd (calls.covers s c n);
             others = λ c. others s n;
@@ -200,7 +220,7 @@ module _ (K : Shape) (alone : Bool) (lane number : ℕ) (txs : List Compact) whe
       stood c n is w =
           let k = finish_stored w.found B (decisions os (part K.shards s 0 txs)) t n (stamp_kept (next_finish w.found B (decisions os (part K.shards s 0 txs)) t) (Finish (next_stamp w.found t) B (decisions os (part K.shards s 0 txs))) n w.answers) in
           let ds : decisions_in (record_of 3 (J s).seen B) ≡ decisions os (part K.shards s 0 txs) = ap (λ L. decisions_in (record_of 3 L B)) w.seen
-              ∙ no_difference same_decision decision_same (decisions_in (record_of 3 w.found B)) (decisions os (part K.shards s 0 txs)) k.same in
+          ∙ no_difference same_decision decision_same (decisions_in (record_of 3 w.found B)) (decisions os (part K.shards s 0 txs)) k.same in
           record {
             some = λ y. some_decisions (record_of 3 (J s).seen B) os (part K.shards s 0 txs) ds (has_part K txs s c);
             stamp = ap (λ L. stamp_in (record_of 3 L B)) w.seen ∙ sym k.stamp ∙ sym is;

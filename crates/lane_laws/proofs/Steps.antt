@@ -79,11 +79,17 @@ module _ (K : Shape) (pieces : List (List Compact)) (alone : Bool) (lane : ℕ) 
       go (stays_there e q) = inl q
       go (comes_there found f e q) = inl q
       go (makes_there found r f e a i h c) = inl a
-      go (fails_there w found r f e a i h c) = inr (r, a, i, record {
-        lists = I;
-        ends = λ m. grows_at m (J m) (step m);
-        caused = subst (λ L. IsCaused K (replaced I n L) n r) (sym e) c;
-      }, h)
+      go (fails_there w found r f e a i h c) = inr (
+        r,
+        a,
+        i,
+        record {
+          lists = I;
+          ends = λ m. grows_at m (J m) (step m);
+          caused = subst (λ L. IsCaused K (replaced I n L) n r) (sym e) c;
+        },
+        h,
+      )
 
 pub unflown_step : (K : Shape) (pieces : List (List Compact)) (alone : Bool) (lane : ℕ) (I : ℕ → List Record) (n : ℕ) (before after : Option Record) (new : List Record)
     → StepAt K pieces alone lane false I n before after new → after ≡ before

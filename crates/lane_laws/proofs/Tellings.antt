@@ -53,13 +53,25 @@ pub told_ok : {A : Type 0} (alone : Bool) (lane : ℕ) (memory : Bool) (by : Lis
     → Told alone lane memory (λ broken J. unless_broken broken (by J)) old new (Ok a) → Stood alone lane by old new a ⊎ Wrote alone lane by old new a
 told_ok alone lane memory by old new a t = elim (t.meets) [
   | inl h ↦ inl (record {
-      found = t.found; finds = t.finds; node = h.1.node; seen = h.1.seen; flight = h.1.flight; later = t.later;
-      answers = not_broken_ok t.broken (by t.found) a h.0;
-    })
+    found = t.found;
+    finds = t.finds;
+    node = h.1.node;
+    seen = h.1.seen;
+    flight = h.1.flight;
+    later = t.later;
+    answers = not_broken_ok t.broken (by t.found) a h.0;
+  })
   | inr h ↦ inr (record {
-      found = t.found; what = h.0; finds = t.finds; node = h.2.node; seen = h.2.seen; flight = h.2.flight; later = t.later; order = t.order;
-      writes = not_broken t.broken (by t.found) a h.0 h.1;
-    })
+    found = t.found;
+    what = h.0;
+    finds = t.finds;
+    node = h.2.node;
+    seen = h.2.seen;
+    flight = h.2.flight;
+    later = t.later;
+    order = t.order;
+    writes = not_broken t.broken (by t.found) a h.0 h.1;
+  })
 ]
 
 -- a fault of the disk shows in its count
@@ -88,7 +100,10 @@ told_err {A = A} alone lane memory by old new f never t = go f t.meets
 
     go : (g : NodeFault) → MeetsFault memory (unless_broken t.broken (by t.found)) old new t.found g → Stopped alone lane memory by old new g
     go DiskFault h = record {
-      found = t.found; finds = t.finds; node = h.3.node; seen = h.3.seen;
+      found = t.found;
+      finds = t.finds;
+      node = h.3.node;
+      seen = h.3.seen;
       flight = inr (h.0, h.1, not_broken t.broken (by t.found) h.0 h.1 h.2, h.3.flight);
       risen = risen_since old.opened old.faults new.opened new.faults h.3.node.opened t.since_opened h.3.rose;
       why = tt;

@@ -5,10 +5,10 @@ use Rattle.cbdc_types.specs.declared.calls.NodeFault.{NodeFault}
 use Rattle.cbdc_types.specs.declared.batch.ShardReplies.{ShardReplies}
 use Rattle.cbdc_model.specs.Records.{Shape, Batch, Compact, Entry, Outcome, outcomes_of}
 use Rattle.cbdc_model.specs.Ranges.{shard_node, home_of}
-use Rattle.cbdc_model.specs.Due.{open_batch, prepare_due, decide_due, discard_due, done_due}
+use Rattle.cbdc_model.specs.Due.{open_batch, prepare_due, discard_due, done_due}
 use Rattle.cbdc_model.specs.Sights.{Sight, Told}
 use Rattle.lane_laws.specs.Calls.{lock_of, finish_of, forget_of}
-use Rattle.lane_laws.specs.Answers.{LockAnswer, FinishAnswer, ForgetAnswer, AskedTimes, Locked, Stamped, StoppedAt}
+use Rattle.lane_laws.specs.Answers.{DecideAnswer, LockAnswer, FinishAnswer, ForgetAnswer, AskedTimes, Locked, Stamped, StoppedAt}
 
 -- from a Discard to the batch's end: the Forgets, the Done
 pub record ToldDiscarded (alone : Bool) (b : Batch) (cause : ℕ) (locks : List (ℕ × LockCall)) (log log' : Sight) (I J : ℕ → Sight) : Type 0 where
@@ -44,7 +44,7 @@ pub record ToldPrepared (alone : Bool) (b : Batch) (cause : ℕ) (repeats : ℕ)
   pub locks_again : AskedTimes (LockAnswer alone) (map (lock_of b cause) parts) repeats after_lock before_decide
   pub log_committed : Sight
   pub committed : ℕ
-  pub decide : Told alone b.lane false (decide_due log.header.shape b.lane replies) log log_committed (Ok committed)
+  pub decide : DecideAnswer alone b.lane replies log log_committed (Ok committed)
   pub outcomes : os ≡ outcomes_of log_committed.seen (open_batch log_committed.seen b.lane)
   pub rest : ToldCommitted alone b committed os repeats (map (lock_of b cause) parts) log_committed log' before_decide J
 
@@ -77,10 +77,10 @@ pub data PreparedStopped (K : Shape) (alone : Bool) (b : Batch) (cause : ℕ) (r
   at_lock : (s : ℕ) → StoppedAt (LockAnswer alone) (map (lock_of b cause) parts) I J s f → log' ≡ log → node ≡ shard_node K s → PreparedStopped K alone b cause repeats parts log log' I J node f
   at_decide : (replies : List ShardReplies) (after_lock : ℕ → Sight) → Locked alone (map (lock_of b cause) parts) I after_lock replies
       → AskedTimes (LockAnswer alone) (map (lock_of b cause) parts) repeats after_lock J
-      → Told alone b.lane false (decide_due log.header.shape b.lane replies) log log' (Err f) → node ≡ home_of K b.lane → PreparedStopped K alone b cause repeats parts log log' I J node f
+      → DecideAnswer alone b.lane replies log log' (Err f) → node ≡ home_of K b.lane → PreparedStopped K alone b cause repeats parts log log' I J node f
   behind_commit : (replies : List ShardReplies) (after_lock : ℕ → Sight) → Locked alone (map (lock_of b cause) parts) I after_lock replies
       → (before_decide : ℕ → Sight) → AskedTimes (LockAnswer alone) (map (lock_of b cause) parts) repeats after_lock before_decide
-      → (log_committed : Sight) (committed : ℕ) → Told alone b.lane false (decide_due log.header.shape b.lane replies) log log_committed (Ok committed)
+      → (log_committed : Sight) (committed : ℕ) → DecideAnswer alone b.lane replies log log_committed (Ok committed)
       → (os : List Outcome) → os ≡ outcomes_of log_committed.seen (open_batch log_committed.seen b.lane)
       → CommittedStopped K alone b committed os repeats (map (lock_of b cause) parts) log_committed log' before_decide J node f → PreparedStopped K alone b cause repeats parts log log' I J node f
 
