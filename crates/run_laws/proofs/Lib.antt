@@ -4,3 +4,4 @@ pub mod OtherLanes
 pub mod Nodes
 pub mod Proper
 pub mod Ends
+pub mod PartCalls

@@ -1,7 +1,9 @@
 -- What a run does to the journals of all nodes, turn by turn.
-use Rattle.std.specs.Prelude.{◌≡◌, ◌⊎◌, ℕ, ◌-◌, ◌*◌, ◌<◌, ◌≢◌, Contains, true, nat_lt, if◌then◌else◌, List, []}
-use Rattle.cbdc_model.specs.Records.{Shape, Compact, Record}
-use Rattle.cbdc_model.specs.Ranges.{home_of}
+use Rattle.std.specs.Prelude.{◌≡◌, ◌⊎◌, ℕ, ◌-◌, ◌*◌, ◌<◌, ◌≢◌, ◌≤◌, false, length, All, Contains, true, nat_lt, if◌then◌else◌, List, []}
+use Rattle.cbdc_model.specs.Records.{Shape, Header, Compact, Entry, Record}
+use Rattle.cbdc_model.specs.Grammar.{HasSize, IsCompact}
+use Rattle.cbdc_model.specs.Calls.{PlacesRise, IsPartEntry}
+use Rattle.cbdc_model.specs.Ranges.{home_of, shard_node, part, is_no_part}
 use Rattle.cbdc_model.specs.Slots.{slot, Idle}
 use Rattle.cbdc_model.specs.Coins.{Output, FullTx}
 use Rattle.cbdc_model.specs.Clean.{Clean, IsProper, IsProperCompact}
@@ -69,3 +71,14 @@ abbrev pub EndLaw : Type 0
 EndLaw = (K : Shape) (mint : List Output) (submissions : List FullTx) (logs shards : ℕ → Sight)
     → 0 < K.shards → 0 < K.lanes → Clean mint submissions → KeptJournals K mint submissions (seen_by K logs shards)
     → ((lane : ℕ) → lane < K.coordinators * K.lanes → (slot (logs (home_of K lane)).seen lane).phase ≡ Idle) → Headline K mint submissions (seen_by K logs shards)
+
+-- the part of a concerned shard is within the limits: as a call to lock must have it
+pub record IsFitPart (h : Header) (part : List Entry) : Type 0 where
+  pub size : HasSize h.shape part
+  pub places : PlacesRise 0 h.shape.batch part
+  pub entries : All (IsPartEntry h) part
+
+-- the parts of a batch within the limits are within them
+abbrev pub PartLaw : Type 0
+PartLaw = (h : Header) (txs : List Compact) (s : ℕ) → length txs ≤ h.shape.batch → All IsCompact txs → h.node ≡ shard_node h.shape s
+    → is_no_part (part h.shape.shards s 0 txs) ≡ false → IsFitPart h (part h.shape.shards s 0 txs)

@@ -1,7 +1,7 @@
 //! Laws that take what lanes say of their turns to the journals of the whole ledger. They have no body that runs.
 #![tactic(auto)]
 
-ghost use Rattle.run_laws.specs.Runs.{TurnLaw, RestLaw, OthersLaw, NodesLaw, SoundLaw, GrowLaw, EndLaw};
+ghost use Rattle.run_laws.specs.Runs.{TurnLaw, RestLaw, OthersLaw, NodesLaw, SoundLaw, GrowLaw, EndLaw, PartLaw};
 
 /// A lane's turn keeps the journals, whatever it came to.
 pub fn turn_law()
@@ -36,4 +36,9 @@ pub fn grow_law()
 /// Where journals are kept and every lane is idle, the sentence holds of them.
 pub fn end_law()
     ensures { EndLaw }
+{}
+
+/// The parts of a batch within the limits are within them.
+pub fn part_law()
+    ensures { PartLaw }
 {}
