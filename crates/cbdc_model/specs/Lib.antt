@@ -22,3 +22,4 @@ pub mod Sights
 pub mod Waves
 pub mod Places
 pub mod Calls
+pub mod Fates
