@@ -19,3 +19,4 @@ pub mod Lanes
 pub mod Deciding
 pub mod Due
 pub mod Sights
+pub mod Fates
