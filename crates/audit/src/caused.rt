@@ -16,7 +16,7 @@ use model_check::{are_outcomes, is_concerned, is_part_from};
 use std::alloc::{AllocError, Global};
 
 // The node of a batch's coordinator.
-fn home_of(shape: &Shape, batch: &BatchId) -> u32
+pub(crate) fn home_of(shape: &Shape, batch: &BatchId) -> u32
     ensures { result ≡ home_of shape.now batch.now.lane }
 {
     batch.lane.0 / shape.lanes()
