@@ -9,7 +9,7 @@ use Rattle.clap.specs.declared.error.kind.ErrorKind.{ErrorKind}
 use Rattle.clap.specs.declared.error.kind.ErrorKind.TheVariants.{OutOfMemory}
 use Rattle.command_line.specs.Asked.{is_mistake, is_wish, HasMistake, HasWish, IsAsked, IsRefused, IsShow, faults_of}
 use Rattle.command_line.specs.declared.request.Request.{Request}
-use Rattle.command_line.specs.declared.request.Request.TheVariants.{Init, Run, Recover, Status, Show}
+use Rattle.command_line.specs.declared.request.Request.TheVariants.{Init, Run, Recover, Status, Audit, Show}
 use Rattle.command_line.specs.declared.request.WordsFault.{WordsFault}
 use Rattle.command_line.specs.declared.request.WordsFault.TheVariants.{Bad, Memory}
 
@@ -42,6 +42,7 @@ asked_by_wish words (Ok (Show text)) shows wish = wish (search rules)
 asked_by_wish words (Ok (Init shape mint)) shows wish = absurd shows
 asked_by_wish words (Ok (Run verdicts clients)) shows wish = absurd shows
 asked_by_wish words (Ok Recover) shows wish = absurd shows
+asked_by_wish words (Ok (Audit mint clients)) shows wish = absurd shows
 asked_by_wish words (Ok (Status hashes)) shows wish = absurd shows
 asked_by_wish words (Err e) shows wish = tt
 

@@ -12,7 +12,7 @@ use Rattle.command_line.specs.Values.{IsHashText, IsNumber}
 use Rattle.command_line.specs.Words.{AreFiles, IsGivenThere, StandsThere}
 use Rattle.command_line.specs.declared.request.FileWord.{FileWord}
 use Rattle.command_line.specs.declared.request.Request.{Request}
-use Rattle.command_line.specs.declared.request.Request.TheVariants.{Init, Run, Recover, Status, Show}
+use Rattle.command_line.specs.declared.request.Request.TheVariants.{Init, Run, Recover, Status, Audit, Show}
 use Rattle.command_line.specs.declared.request.WordsFault.{WordsFault}
 use Rattle.command_line.specs.declared.request.WordsFault.TheVariants.{Bad, Memory}
 
@@ -105,11 +105,22 @@ IsStatus words rows hashes =
     Meets words (codes "status") rows
     × ((given : List Text) × (all_of (codes "hash") rows ≡ Some given) × (map decode_of given ≡ map (λ h. Ok h) hashes))
 
+-- the texts of words that may be left out
+abbrev pub listed : Option (List Text) → List Text
+listed None = []
+listed (Some names) = names
+
+abbrev pub IsAudit : List Text → List Row → FileWord → List FileWord → Type 0
+IsAudit words rows mint clients =
+    Meets words (codes "audit") rows × (first_of (codes "mint") rows ≡ Some mint.name.now) × StandsThere words mint
+    × AreFiles words (listed (all_of (codes "client") rows)) clients
+
 abbrev pub IsAsked : List Text → Request → Type 0
 IsAsked words (Init shape mint) = (rows : List Row) × IsInit words rows shape mint
 IsAsked words (Run verdicts clients) = (rows : List Row) × IsRun words rows verdicts clients.items
 IsAsked words Recover = (rows : List Row) × Meets words (codes "recover") rows
 IsAsked words (Status hashes) = (rows : List Row) × IsStatus words rows hashes.items
+IsAsked words (Audit mint clients) = (rows : List Row) × IsAudit words rows mint clients.items
 IsAsked words (Show text) = HasWish (faults_of words)
 
 -- a value is out of form: a number of `init`, or a hash of `status`

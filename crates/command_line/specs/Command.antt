@@ -42,6 +42,10 @@ verdicts_rule = record (required (codes "verdicts")) { long = Some (codes "verdi
 abbrev pub client_rule : Rule
 client_rule = some (codes "client")
 
+-- words that may be left out
+abbrev pub rest_rule : Rule
+rest_rule = record (some (codes "client")) { required = false }
+
 abbrev pub hash_rule : Rule
 hash_rule = some (codes "hash")
 
@@ -74,6 +78,9 @@ recover_shape = (new_app (codes "recover")).top
 abbrev pub status_shape : Shape
 status_shape = (with_rule (new_app (codes "status")) hash_rule).top
 
+abbrev pub audit_shape : Shape
+audit_shape = (with_rule (with_rule (new_app (codes "audit")) mint_rule) rest_rule).top
+
 abbrev pub help_shape : Shape
 help_shape = (with_rule (new_app (codes "help")) topic_rule).top
 
@@ -92,8 +99,12 @@ with_settings a = record a {
 abbrev pub main : App
 main = with_subcommand (with_subcommand (with_settings (new_app (codes "hamilton"))) init_shape) run_shape
 
+-- the first four
+abbrev pub looks : App
+looks = with_subcommand (with_subcommand main recover_shape) status_shape
+
 abbrev pub hamilton : App
-hamilton = with_subcommand (with_subcommand (with_subcommand main recover_shape) status_shape) help_shape
+hamilton = with_subcommand (with_subcommand looks audit_shape) help_shape
 
 -- an argument with this rule, of one level
 pub record IsArg (a : Arg) (r : Rule) : Type 0 where

@@ -1,7 +1,7 @@
 // The command as clap reads it. Each function states what the definitions say of its part.
 ghost use Rattle.std.specs.Prelude.{◌≡◌, codes, IfOk};
 ghost use Rattle.clap.specs.Words.{app_of, new_app};
-ghost use Rattle.command_line.specs.Command.{IsArg, IsLeaf, IsTop, with_settings, shards_rule, coordinators_rule, lanes_rule, batch_rule, mint_rule, verdicts_rule, client_rule, hash_rule, topic_rule, nodes_shape, sized_shape, init_shape, run_shape, recover_shape, status_shape, help_shape, main, hamilton};
+ghost use Rattle.command_line.specs.Command.{IsArg, IsLeaf, IsTop, with_settings, shards_rule, coordinators_rule, lanes_rule, batch_rule, mint_rule, verdicts_rule, client_rule, rest_rule, hash_rule, topic_rule, nodes_shape, sized_shape, init_shape, run_shape, recover_shape, status_shape, audit_shape, help_shape, main, looks, hamilton};
 
 use clap::{Arg, Command};
 use std::alloc::{AllocError, Global};
@@ -75,6 +75,15 @@ fn client_arg<'a>(alloc: Global) -> Arg<'a>
         .help("The files of the transactions to run, one after another")
 }
 
+fn rest_arg<'a>(alloc: Global) -> Arg<'a>
+    ensures { IsArg result rest_rule }
+{
+    Arg::new(alloc, "client")
+        .num_args(1..)
+        .value_name("CLIENT")
+        .help("The files of the transactions that were run")
+}
+
 fn hash_arg<'a>(alloc: Global) -> Arg<'a>
     ensures { IsArg result hash_rule }
 {
@@ -141,6 +150,15 @@ fn status_command<'a>(alloc: Global) -> Result<Command<'a>, AllocError>
         .arg(hash_arg(alloc))
 }
 
+fn audit_command<'a>(alloc: Global) -> Result<Command<'a>, AllocError>
+    ensures { IfOk result (λ c. IsLeaf c audit_shape) }
+{
+    Command::new(alloc, "audit")
+        .about("Checks the journals and what they commit from the first record on")
+        .arg(mint_arg(alloc))?
+        .arg(rest_arg(alloc))
+}
+
 fn help_command<'a>(alloc: Global) -> Result<Command<'a>, AllocError>
     ensures { IfOk result (λ c. IsLeaf c help_shape) }
 {
@@ -170,14 +188,21 @@ fn with_main<'a>(alloc: Global) -> Result<Command<'a>, AllocError>
     top(alloc).subcommand(init)?.subcommand(run)
 }
 
+// The command with those below it that look at a ledger, too.
+fn with_looks<'a>(alloc: Global) -> Result<Command<'a>, AllocError>
+    ensures { IfOk result (λ c. IsTop c looks) }
+{
+    let status = status_command(alloc)?;
+    let main = with_main(alloc)?;
+    main.subcommand(recover_command(alloc))?.subcommand(status)
+}
+
 /// The program's command.
 pub(crate) fn program<'a>(alloc: Global) -> Result<Command<'a>, AllocError>
     ensures { IfOk result (λ c. app_of c ≡ hamilton) }
 {
-    let status = status_command(alloc)?;
+    let audit = audit_command(alloc)?;
     let help = help_command(alloc)?;
-    let main = with_main(alloc)?;
-    main.subcommand(recover_command(alloc))?
-        .subcommand(status)?
-        .subcommand(help)
+    let looks = with_looks(alloc)?;
+    looks.subcommand(audit)?.subcommand(help)
 }

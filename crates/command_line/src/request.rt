@@ -1,8 +1,8 @@
 // What the words ask for.
 ghost use Rattle.std.specs.Prelude.{◌≡◌, ◌≤◌, ◌<◌, [], codes, length, map, IsTrue, IfSome, IfOk, IfErr, IsErrOf, IsOk, Some, None, Ok};
 ghost use Rattle.hex.specs.Hex.{decode_of};
-ghost use Rattle.clap.specs.Words.{fault_of, first_of, found_of, kind_of, rows_of, subcommand_of, subcommand_rows_of};
-ghost use Rattle.command_line.specs.Asked.{IsAsked, IsRefused, IsShow, HasMistake, HasWish, HasNumber, HasNoNumber, HasShape, HasNoShape, HasNoHashes, Meets, is_mistake, is_wish, help_words};
+ghost use Rattle.clap.specs.Words.{all_of, fault_of, first_of, found_of, kind_of, rows_of, subcommand_of, subcommand_rows_of};
+ghost use Rattle.command_line.specs.Asked.{IsAsked, IsRefused, IsShow, HasMistake, HasWish, HasNumber, HasNoNumber, HasShape, HasNoShape, HasNoHashes, Meets, is_mistake, is_wish, help_words, listed};
 ghost use Rattle.command_line.specs.Command.{hamilton};
 ghost use Rattle.command_line.specs.Words.{AreFiles, IsGivenThere, StandsThere, texts};
 
@@ -47,6 +47,11 @@ pub enum Request<'a> {
     /// Tell what is known of hashes.
     Status {
         hashes: Vec<Hash>,
+    },
+    /// Check the journals against a mint and the transactions of client files.
+    Audit {
+        mint: FileWord<'a>,
+        clients: Vec<FileWord<'a>>,
     },
     /// Print this text to the standard output, and do nothing else.
     Show(String),
@@ -175,16 +180,18 @@ fn file_at<'a>(words: &'a [String], place: usize, name: &'a str) -> Option<FileW
     None
 }
 
+// The first place behind the program's name and the command's.
+const FIRST: Place = Place {
+    at: 2,
+    trailing: false,
+};
+
 // The mint's file.
 fn mint_of<'a>(words: &'a [String], name: &'a str) -> Option<FileWord<'a>>
     ensures there { IfSome result (λ f. StandsThere (texts words.entry.now) f) }
     ensures name { IfSome result (λ f. f.name.now ≡ name.entry.now) }
 {
-    let from = Place {
-        at: 2,
-        trailing: false,
-    };
-    match next_value(words, from) {
+    match next_value(words, FIRST) {
         Some(place) => file_at(words, place.at, name),
         None => None,
     }
@@ -246,19 +253,17 @@ fn verdicts_of<'a>(words: &'a [String], name: &'a str) -> Option<FileWord<'a>>
     }
 }
 
-// The client files.
+// The client files, from a place on.
 fn clients_of<'a>(
     alloc: Global,
     words: &'a [String],
+    start: Place,
     names: &[&'a str],
 ) -> Option<Vec<FileWord<'a>>>
     ensures { IfSome result (λ files. AreFiles (texts words.entry.now) (map (λ n. n.now) names.entry.now) files.items) }
 {
     let mut files = Vec::new(alloc);
-    let mut from = Place {
-        at: 2,
-        trailing: false,
-    };
+    let mut from = start;
     'names: for name in names {
         let Some(place) = next_value(words, from) else {
             return None;
@@ -296,8 +301,53 @@ fn run_request<'a>(
     let Some(names) = inner.get_strs("client") else {
         return None;
     };
-    match clients_of(alloc, words, names) {
+    match clients_of(alloc, words, FIRST, names) {
         Some(clients) => Some(Request::Run { verdicts, clients }),
+        None => None,
+    }
+}
+
+// The client files of an audit, which may be left out.
+#[tactic(auto, using(crate::proofs::Rows::rows))]
+fn rest_of<'a>(
+    alloc: Global,
+    words: &'a [String],
+    start: Place,
+    inner: &ArgMatches<'a>,
+) -> Option<Vec<FileWord<'a>>>
+    ensures { IfSome result (λ files. AreFiles (texts words.entry.now) (listed (all_of (codes "client") (rows_of (found_of inner.now)))) files.items) }
+{
+    match inner.get_strs("client") {
+        Some(names) => clients_of(alloc, words, start, names),
+        None => Some(Vec::new(alloc)),
+    }
+}
+
+// What the matches of `audit` ask for.
+#[tactic(auto, using(crate::proofs::Rows::rows))]
+fn audit_request<'a>(
+    alloc: Global,
+    words: &'a [String],
+    inner: &ArgMatches<'a>,
+) -> Option<Request<'a>>
+    requires { Meets (texts words.now) (codes "audit") (rows_of (found_of inner.now)) }
+    ensures { IfSome result (λ r. IsAsked (texts words.entry.now) r) }
+{
+    let Some(name) = inner.get_str("mint") else {
+        return None;
+    };
+    let Some(place) = next_value(words, FIRST) else {
+        return None;
+    };
+    let Some(mint) = file_at(words, place.at, name) else {
+        return None;
+    };
+    let start = Place {
+        at: place.at + 1,
+        trailing: place.trailing,
+    };
+    match rest_of(alloc, words, start, inner) {
+        Some(clients) => Some(Request::Audit { mint, clients }),
         None => None,
     }
 }
@@ -364,6 +414,9 @@ fn asked_of<'a>(
     }
     if name == "status" {
         return status_request(alloc, words, inner);
+    }
+    if name == "audit" {
+        return audit_request(alloc, words, inner).ok_or(WordsFault::Memory);
     }
     if name == "help" {
         return help_asked(alloc, words, inner);

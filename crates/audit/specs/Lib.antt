@@ -1,0 +1,4 @@
+pub mod Knowing
+pub mod Stops
+pub mod Walks
+pub mod Verdicts

@@ -1,0 +1,160 @@
+// The audit of a history.
+ghost use Rattle.std.specs.Prelude.{◌↔◌, ℕ, All, List as Items, IfOk, IsTrue, IfSome, MatchOption};
+ghost use Rattle.cbdc_model.specs.Records.{Record as ModelRecord};
+ghost use Rattle.history.specs.Rows.{read, rows_at, IsPlace};
+ghost use Rattle.audit.specs.Knowing.{Knows};
+ghost use Rattle.audit.specs.Walks.{AllDone, IsDone, IsFirstOpen};
+ghost use Rattle.audit.specs.Verdicts.{IsVerdict, IsWalked};
+ghost use Rattle.audit.specs.Stops.{CanStop};
+
+use crate::caused::{home_of, is_caused, txs_of};
+use crate::folding::Fold;
+use crate::handed::ById;
+use crate::known::Known;
+use crate::verdict::{Totals, Verdict};
+use cbdc_types::{FullTx, Output, Record, Shape, UnsoundKind};
+use history::{Place, record_at};
+use std::alloc::{AllocError, Global};
+
+// What a walk has come to: all places, with what is known then, or the first place at which something is wrong.
+#[derive(Drop)]
+enum Walked {
+    Whole(Known),
+    Stopped { place: u64, kind: UnsoundKind },
+}
+
+// Spends what a record commits. What is wrong, if something is.
+fn commit(
+    alloc: Global,
+    known: &Known,
+    journals: &[&[Record]],
+    node: u32,
+    r: &Record,
+    ids: &ById,
+    handed: &[FullTx],
+    fold: &mut Fold,
+) -> Result<Option<UnsoundKind>, AllocError>
+    ensures { IfOk result (λ o. IfSome o CanStop) }
+{
+    match r {
+        Record::Commit {
+            batch,
+            outcomes,
+            ..
+        } => {
+            let txs = txs_of(known, journals, node, batch);
+            fold.commit(alloc, ids, handed, txs, outcomes.as_slice())
+        }
+        _ => Ok(None),
+    }
+}
+
+// Walks over a history, and spends what it commits.
+fn walk(
+    alloc: Global,
+    shape: &Shape,
+    journals: &[&[Record]],
+    history: &[Place],
+    ids: &ById,
+    handed: &[FullTx],
+    fold: &mut Fold,
+) -> Result<Walked, AllocError>
+    requires { All (IsPlace (read journals.now)) history.now }
+    ensures { IfOk result (IsWalked shape.now (read journals.now) history.now) }
+{
+    let mut known = Known::new(alloc);
+    'places: for at in 0..history.len() {
+        let place = history[at];
+        let r = record_at(journals, place);
+        if !is_caused(alloc, &known, journals, shape, place.node, r)? {
+            return Ok(Walked::Stopped {
+                place: at as u64,
+                kind: UnsoundKind::Cause,
+            });
+        }
+        if let Some(kind) = commit(alloc, &known, journals, place.node, r, ids, handed, fold)? {
+            return Ok(Walked::Stopped {
+                place: at as u64,
+                kind,
+            });
+        }
+        known.note(place.node, place.index, r)?;
+    }
+    Ok(Walked::Whole(known))
+}
+
+// Whether a record's batch is done, where it is a Prepare.
+fn is_done(known: &Known, journals: &[&[Record]], shape: &Shape, r: &Record) -> bool
+    ensures { (J : ℕ → Items ModelRecord) → Knows (read journals.now) known.now J → (IsTrue result ↔ IsDone shape.now J r.now) }
+{
+    match r {
+        Record::Prepare { batch, .. } => known
+            .found(journals, home_of(shape, batch), 9, batch)
+            .is_some(),
+        _ => true,
+    }
+}
+
+// The first place of a Prepare whose batch is not done.
+fn first_open(
+    known: &Known,
+    journals: &[&[Record]],
+    shape: &Shape,
+    history: &[Place],
+) -> Option<u64>
+    requires { All (IsPlace (read journals.now)) history.now }
+    ensures { (J : ℕ → Items ModelRecord) → Knows (read journals.now) known.now J
+        → MatchOption result (AllDone shape.now J (rows_at (read journals.now) history.now)) (IsFirstOpen shape.now J (rows_at (read journals.now) history.now)) }
+{
+    'places: for at in 0..history.len() {
+        let r = record_at(journals, history[at]);
+        let done = is_done(known, journals, shape, r);
+        if !done {
+            return Some(at as u64);
+        }
+    }
+    None
+}
+
+// The sum of the minted values.
+fn minted(mint: &[Output]) -> u128 {
+    let mut minted = 0u128;
+    'outputs: for output in mint {
+        minted = minted.saturating_add(u128::from(output.value));
+    }
+    minted
+}
+
+/// Walks over a history from its oldest place on. At each record it tries whether the record is caused by those before it, and at a
+/// Commit, for each committed transaction in the order of the batch, whether a transaction with its compact form was handed in, and
+/// whether the first such one can be spent from the book, which begins as the mint. The first failure is the answer. Then the first Prepare whose
+/// batch is not done is, if there is one.
+pub fn audit(
+    alloc: Global,
+    shape: &Shape,
+    journals: &[&[Record]],
+    history: &[Place],
+    mint: &[Output],
+    handed: &[FullTx],
+) -> Result<Verdict, AllocError>
+    requires { All (IsPlace (read journals.now)) history.now }
+    ensures { IfOk result (IsVerdict shape.now (rows_at (read journals.now) history.now)) }
+{
+    let ids = ById::of(alloc, handed)?;
+    let mut fold = Fold::of_mint(alloc, mint)?;
+    match walk(alloc, shape, journals, history, &ids, handed, &mut fold)? {
+        Walked::Stopped { place, kind } => Ok(Verdict::Unsound { place, kind }),
+        Walked::Whole(known) => match first_open(&known, journals, shape, history) {
+            Some(place) => Ok(Verdict::Unsound {
+                place,
+                kind: UnsoundKind::Unfinished,
+            }),
+            None => Ok(Verdict::Sound(Totals {
+                coins: fold.book.len(),
+                value: fold.book.value(),
+                minted: minted(mint),
+                committed: fold.committed,
+            })),
+        },
+    }
+}

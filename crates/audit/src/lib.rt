@@ -1,0 +1,16 @@
+//! The checks of a ledger's history: each record is caused by those before it, and what it commits can be spent.
+#![tactic(auto)]
+
+mod auditing;
+mod book;
+mod caused;
+mod folding;
+mod handed;
+mod known;
+mod outcomes;
+mod verdict;
+mod walking;
+
+pub use auditing::audit;
+pub use verdict::{Totals, Verdict};
+pub use walking::causes;
