@@ -57,3 +57,4 @@ pub mod Resuming
 pub mod Writing
 pub mod LaneRuns
 pub mod LanePhases
+pub mod Opening
