@@ -52,3 +52,9 @@ pub mod Older
 pub mod Phases
 pub mod Late
 pub mod Settling
+pub mod Fitting
+pub mod Resuming
+pub mod Writing
+pub mod LaneRuns
+pub mod LanePhases
+pub mod Opening

@@ -22,9 +22,9 @@ use Rattle.ledger_laws.proofs.Standing.{Facts, standing}
 use Rattle.ledger_laws.proofs.Repeats.{all_order}
 
 -- of one journal and one hash
-record Older (x : Digest) (J : List Record) : Type 0 where
-  locked : (c : Batch) → status J x ≡ Locked c → has_lock J c ≡ true
-  older : (b c : Batch) → status J x ≡ Locked c → has_finish J b ≡ true → 0 < count x (made_outputs (lock_of J b) (decisions_in (record_of 3 J b)))
+pub record Older (x : Digest) (J : List Record) : Type 0 where
+  pub locked : (c : Batch) → status J x ≡ Locked c → has_lock J c ≡ true
+  pub older : (b c : Batch) → status J x ≡ Locked c → has_finish J b ≡ true → 0 < count x (made_outputs (lock_of J b) (decisions_in (record_of 3 J b)))
       → stamp_in (record_of 3 J b) < stamp_in (record_of 2 J c)
 
 not_locked : (c : Batch) → Unspent ≡ Locked c → ⊥
@@ -165,7 +165,7 @@ module _ (K : Shape) (minting : Minted) (P : Compact → Type 0) (shards : 0 < K
   abbrev whole : List Row → List Row
   whole later = later ++ first_rows K minting
 
-  all_older : (later : List Row) → Steady K minting P later → (x : Digest) (n : ℕ) → Older x (journal n (whole later))
+  pub all_older : (later : List Row) → Steady K minting P later → (x : Digest) (n : ℕ) → Older x (journal n (whole later))
   all_older [] kept x n = record {
     locked = λ c e. absurd (never_locked x (journal n (first_rows K minting)) (journal_first n (first_rows K minting) (all_first K minting P shards)) c e);
     older = λ b c e f m. absurd (never_locked x (journal n (first_rows K minting)) (journal_first n (first_rows K minting) (all_first K minting P shards)) c e);

@@ -118,12 +118,12 @@ forget_appends J b cause q r h =
     let three = in_finish (slot J b.lane).phase J b cause q r two.1 in
     (three.1, three.0, equal b.number (slot J b.lane).number one.0 two.0)
 
-entries_answered : (J : List Record) (b : Batch) (p : List Entry) (claimed : List Digest) → entries (answered J b claimed p) ≡ p
+pub entries_answered : (J : List Record) (b : Batch) (p : List Entry) (claimed : List Digest) → entries (answered J b claimed p) ≡ p
 entries_answered J b [] claimed = refl
 entries_answered J b (e ∷ es) claimed =
     ap (λ rest. e ∷ rest) (entries_answered J b es (if is_held (reply_to J b claimed e.inputs) then e.inputs ++ claimed else claimed))
 
-newer : (own cause : ℕ) → own < suc (max own cause)
+pub newer : (own cause : ℕ) → own < suc (max own cause)
 newer own cause = omega arith
 
 module _ (K : Shape) (P : Compact → Type 0) (id : Digest) (n : ℕ) (J : ℕ → List Record) where

@@ -14,7 +14,7 @@ use Rattle.ledger_laws.proofs.Rows.{at, away, at_node, head_at, head_away}
 use Rattle.ledger_laws.proofs.Worlds.{set_same, set_other}
 use Rattle.ledger_laws.proofs.FirstWorld.{init_at, init_beyond, init_journals, in_or_beyond}
 
-run-append : (K : Shape) (minting : Minted) (u v w : World) (es fs : List Event) → Run K minting u es v → Run K minting v fs w → Run K minting u (es ++ fs) w
+pub run-append : (K : Shape) (minting : Minted) (u v w : World) (es fs : List Event) → Run K minting u es v → Run K minting v fs w → Run K minting u (es ++ fs) w
 run-append K minting u v w [] fs same run = subst (λ a. Run K minting a fs w) same run
 run-append K minting u v w (e ∷ es) fs run more = (run.0, run.1, run-append K minting run.0 v w es fs run.2 more)
 
@@ -33,13 +33,13 @@ at_a_node K node J (Done stamp b) next = omega (arith, next.1)
 module _ (K : Shape) (minting : Minted) (P : Compact → Type 0) (shards : 0 < K.shards) where
   -- one record begins and ends
   module _ (w : World) (n : ℕ) (q : Record) (lt : n < length w) where
-    abbrev flying : Node
+    abbrev pub flying : Node
     flying = record { journal = journals w n; up = true; flight = Some q }
 
-    abbrev begun : World
+    abbrev pub begun : World
     begun = effect w (Begin n q)
 
-    abbrev ended : World
+    abbrev pub ended : World
     ended = effect begun (End n)
 
     begun_length : length begun ≡ length w
@@ -51,17 +51,17 @@ module _ (K : Shape) (minting : Minted) (P : Compact → Type 0) (shards : 0 < K
     begun_at : node_at begun n ≡ flying
     begun_at = set_same K minting P shards w n flying lt
 
-    ended_at : node_at ended n ≡ record { journal = q ∷ journals w n; up = true; flight = None }
+    pub ended_at : node_at ended n ≡ record { journal = q ∷ journals w n; up = true; flight = None }
     ended_at = set_same K minting P shards begun n _ in_begun
         ∙ (λ i. record { journal = flushed (begun_at i).flight (begun_at i).journal; up = true; flight = None })
 
-    ended_away : (m : ℕ) → (n == m) ≡ false → node_at ended m ≡ node_at w m
+    pub ended_away : (m : ℕ) → (n == m) ≡ false → node_at ended m ≡ node_at w m
     ended_away m e = set_other K minting P shards begun n m _ e ∙ set_other K minting P shards w n m flying e
 
-    ended_length : length ended ≡ length w
+    pub ended_length : length ended ≡ length w
     ended_length = length-set {A = Node} begun n (record { journal = flushed (node_at begun n).flight (journals begun n); up = true; flight = None }) ∙ begun_length
 
-    written : IsQuiet w n → After (header_of K minting.id n) (journals w n) q → IsCaused K (journals w) n q → Run K minting w (Begin n q ∷ End n ∷ []) ended
+    pub written : IsQuiet w n → After (header_of K minting.id n) (journals w n) q → IsCaused K (journals w) n q → Run K minting w (Begin n q ∷ End n ∷ []) ended
     written quiet next caused = (
       begun,
       inl ((quiet, next, caused), refl),

@@ -18,10 +18,12 @@ use Rattle.ledger_laws.specs.Laws.{SettledLaw}
 use Rattle.cbdc_model.specs.Clean.{IsProperCompact}
 use Rattle.ledger_laws.proofs.Last.{last_of, slot_by, slot_is, last_found, last_in_lane}
 
-module _ (K : Shape) (minting : Minted) (P : Compact → Type 0) (shards : 0 < K.shards) (later : List Row) (kept : Steady K minting P later) (lane : ℕ)
-    (idle : (slot (journal (lane / K.lanes) (later ++ first_rows K minting)) lane).phase ≡ Idle) where
+module _ (K : Shape) (minting : Minted) (P : Compact → Type 0) (shards : 0 < K.shards) (later : List Row) (kept : Steady K minting P later) (lane : ℕ) where
   abbrev J : ℕ → List Record
   J n = journal n (later ++ first_rows K minting)
+
+  abbrev AtRest : Type 0
+  AtRest = (slot (J (lane / K.lanes)) lane).phase ≡ Idle
 
   abbrev B : ℕ → Batch
   B m = record { lane = lane; number = m }
@@ -30,8 +32,8 @@ module _ (K : Shape) (minting : Minted) (P : Compact → Type 0) (shards : 0 < K
   st = all_structure K minting P shards later kept
 
   -- a batch that is locked at a shard is forgotten there
-  forgot : (s m : ℕ) → s < K.shards → has_lock (J (shard_node K s)) (B m) ≡ true → has_forget (J (shard_node K s)) (B m) ≡ true
-  forgot s m lt h =
+  forgot : AtRest → (s m : ℕ) → s < K.shards → has_lock (J (shard_node K s)) (B m) ≡ true → has_forget (J (shard_node K s)) (B m) ≡ true
+  forgot idle s m lt h =
       let p : has_prepare (J (lane / K.lanes)) (B m) ≡ true = st.lock_prepared (shard_node K s) (B m) h in
       let d = (all_dones K minting P shards later kept (lane / K.lanes)).idle_done (B m) p idle in
       done_forgot K minting P shards later kept (B m) d s
@@ -40,11 +42,11 @@ module _ (K : Shape) (minting : Minted) (P : Compact → Type 0) (shards : 0 < K
   no_prepare : (s m : ℕ) → has_prepare (J (shard_node K s)) (B m) ≡ false
   no_prepare s m = (all_dones K minting P shards later kept (shard_node K s)).pure (B m) (omega arith)
 
-  pub shard_idle : (s : ℕ) → s < K.shards → (slot (J (shard_node K s)) lane).phase ≡ Idle
-  shard_idle s lt = elim ((slot (J (shard_node K s)) lane).phase) as (λ p. (slot (J (shard_node K s)) lane).phase ≡ p → p ≡ Idle) [
+  pub shard_idle : AtRest → (s : ℕ) → s < K.shards → (slot (J (shard_node K s)) lane).phase ≡ Idle
+  shard_idle idle s lt = elim ((slot (J (shard_node K s)) lane).phase) as (λ p. (slot (J (shard_node K s)) lane).phase ≡ p → p ≡ Idle) [
     | Idle ↦ λ e. refl
-    | InLock ↦ λ e. absurd (true_false _ (forgot s _ lt ((st.journals (shard_node K s)).locked (B _) e refl).0) ((all_more K minting P shards later kept (shard_node K s)).in_lock (B _) e refl))
-    | InFinish ↦ λ e. (let f = (all_more K minting P shards later kept (shard_node K s)).in_finish (B (slot (J (shard_node K s)) lane).number) e refl in absurd (true_false _ (forgot s _ lt f.0) f.1))
+    | InLock ↦ λ e. absurd (true_false _ (forgot idle s _ lt ((st.journals (shard_node K s)).locked (B _) e refl).0) ((all_more K minting P shards later kept (shard_node K s)).in_lock (B _) e refl))
+    | InFinish ↦ λ e. (let f = (all_more K minting P shards later kept (shard_node K s)).in_finish (B (slot (J (shard_node K s)) lane).number) e refl in absurd (true_false _ (forgot idle s _ lt f.0) f.1))
     | InPrepare ↦ λ e. absurd (true_false _ ((st.journals (shard_node K s)).prepared (B _) e refl).0 (no_prepare s _))
     | InCommit ↦ λ e. absurd (true_false _ ((all_phases K minting P shards later kept (shard_node K s)).commit_here (B _) e refl).0 (no_prepare s _))
     | InDiscard ↦ λ e. absurd (true_false _ ((all_phases K minting P shards later kept (shard_node K s)).discard_here (B _) e refl).0 (no_prepare s _))
@@ -106,10 +108,10 @@ module _ (K : Shape) (minting : Minted) (P : Compact → Type 0) (shards : 0 < K
       omega (arith, shard_number s)
 
   -- and its last record there is older than the newest of the coordinator
-  pub shard_stamp : (s : ℕ) → s < K.shards → slot_stamp (J (shard_node K s)) lane ≤ last_stamp (J (lane / K.lanes))
-  shard_stamp s lt = elim (last_of (J (shard_node K s)) lane) as (λ o. last_of (J (shard_node K s)) lane ≡ o → stamp_in o ≤ last_stamp (J (lane / K.lanes))) [
+  pub shard_stamp : AtRest → (s : ℕ) → s < K.shards → slot_stamp (J (shard_node K s)) lane ≤ last_stamp (J (lane / K.lanes))
+  shard_stamp idle s lt = elim (last_of (J (shard_node K s)) lane) as (λ o. last_of (J (shard_node K s)) lane ≡ o → stamp_in o ≤ last_stamp (J (lane / K.lanes))) [
     | None ↦ λ e. omega arith
-    | Some r ↦ λ e. of_record r (sym (ap (λ q. q.phase) (slot_is (J (shard_node K s)) lane ∙ ap slot_by e)) ∙ shard_idle s lt) e (last_in_lane (J (shard_node K s)) lane r e)
+    | Some r ↦ λ e. of_record r (sym (ap (λ q. q.phase) (slot_is (J (shard_node K s)) lane ∙ ap slot_by e)) ∙ shard_idle idle s lt) e (last_in_lane (J (shard_node K s)) lane r e)
   ] refl
     where
       test : (kind n : ℕ) (c : Batch) → (c.lane == lane) ≡ true → c.number ≡ n → ((kind == kind) && same_batch c (record { lane = lane; number = n })) ≡ true
@@ -138,6 +140,6 @@ pub settled_law : SettledLaw
 settled_law K mint txs later lane shards kept idle s lt =
     let k = steady K (minted mint) (IsProperCompact txs) later kept in (
       shard_idle K (minted mint) (IsProperCompact txs) shards later k lane idle s lt,
-      shard_number K (minted mint) (IsProperCompact txs) shards later k lane idle s,
+      shard_number K (minted mint) (IsProperCompact txs) shards later k lane s,
       shard_stamp K (minted mint) (IsProperCompact txs) shards later k lane idle s lt,
     )

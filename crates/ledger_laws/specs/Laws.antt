@@ -1,5 +1,5 @@
 -- The laws, each as one statement.
-use Rattle.std.specs.Prelude.{◌≡◌, ◌⊎◌, ◌↔◌, ℕ, ◌<◌, ◌≤◌, ◌+◌, true, List, ◌++◌, length, Contains, Some, is_some}
+use Rattle.std.specs.Prelude.{◌≡◌, ◌⊎◌, ◌↔◌, ℕ, ◌<◌, ◌≤◌, ◌+◌, ◌*◌, ◌^◌, Bool, true, List, ◌++◌, length, Contains, Some, is_some}
 use Rattle.cbdc_model.specs.Records.{last_stamp, Shape, Digest, Compact, Batch, Record, Row, journal, record_of, stamp_in}
 use Rattle.cbdc_model.specs.Status.{status, Locked, Absent}
 use Rattle.cbdc_model.specs.Ranges.{home_of, shard_node, journal_at, lane_journal}
@@ -15,6 +15,7 @@ use Rattle.cbdc_model.specs.After.{After}
 use Rattle.cbdc_model.specs.Lanes.{Seen, KeptLists, AllPass, Wave}
 use Rattle.ledger_laws.specs.Sets.{Folds}
 use Rattle.ledger_laws.specs.Reach.{Reached}
+use Rattle.ledger_laws.specs.Resumed.{IsStampedUpTo, Recovers}
 use Rattle.ledger_laws.specs.Phases.{IsInPhaseOrder, IsAfterEarlier, IsLate}
 
 -- the committed transactions of every kept history fold, where hashes don't clash
@@ -132,3 +133,10 @@ SettledLaw = (K : Shape) (mint : List Output) (submissions : List FullTx) (later
     → ((slot (journal (shard_node K s) (history_of K mint later)) lane).phase ≡ Idle)
     × ((slot (journal (shard_node K s) (history_of K mint later)) lane).number ≤ (slot (journal (home_of K lane) (history_of K mint later)) lane).number)
     × (slot_stamp (journal (shard_node K s) (history_of K mint later)) lane ≤ last_stamp (journal (home_of K lane) (history_of K mint later)))
+
+-- from any kept world that has as many stamps left as records may still come for open batches, bringing the nodes up, whatever they keep of
+-- what was in flight, and writing what is still to come leads to a recovered world, with no new Prepare
+abbrev pub RecoveryLaw : Type 0
+RecoveryLaw = (K : Shape) (mint : List Output) (submissions : List FullTx) (w : World) (kept_at : ℕ → Bool) (top : ℕ) → 0 < K.shards → 0 < K.lanes
+    → KeptWorld K mint submissions w → IsStampedUpTo top w → top + K.coordinators * K.lanes * (3 * K.shards + 3) ≤ 2 ^ 62
+    → Recovers K mint submissions kept_at w

@@ -1,7 +1,7 @@
 //! The laws of the ledger: functions with an empty body, whose contracts are the theorems. Nothing of them runs.
 #![tactic(auto)]
 
-ghost use Rattle.ledger_laws.specs.Laws.{AnswerLaw, CutLaw, FlightLaw, FoldLaw, HeadlineLaw, IdleLaw, KeptLaw, LateLaw, LocalLaw, MakerLaw, MoreLaw, OneHistoryLaw, PhaseLaw, ReachLaw, RecoveredLaw, SettledLaw, StepLaw, WaveLaw};
+ghost use Rattle.ledger_laws.specs.Laws.{AnswerLaw, CutLaw, FlightLaw, FoldLaw, HeadlineLaw, IdleLaw, KeptLaw, LateLaw, LocalLaw, MakerLaw, MoreLaw, OneHistoryLaw, PhaseLaw, ReachLaw, RecoveredLaw, RecoveryLaw, SettledLaw, StepLaw, WaveLaw};
 
 /// Where no two coins or transactions share a hash, the committed transactions of every kept
 /// history can be spent one after another from the mint, each finding all its inputs. The book
@@ -116,4 +116,12 @@ pub fn late_law()
 /// refuses the next batch.
 pub fn settled_law()
     ensures { SettledLaw }
+{}
+
+/// From any kept world, where the greatest stamp and three records for each shard and three more
+/// for each lane come to 2^62 at most: the nodes are opened again, each keeping what was in flight
+/// or not, and then what is still to come of the open batches is written, with no new Prepare; the
+/// world that this leads to is kept and recovered.
+pub fn recovery_law()
+    ensures { RecoveryLaw }
 {}

@@ -99,6 +99,7 @@ pub use parts::entry_at;
 pub use parts::hashes_on;
 pub use parts::home_of;
 pub use parts::is_concerned;
+pub use parts::is_entry_at;
 pub use parts::is_part_from;
 pub use parts::part_of;
 pub use plans::LockPlan;

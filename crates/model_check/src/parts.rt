@@ -153,8 +153,8 @@ fn are_those_on(shards: u32, shard: u32, xs: &[Hash], ys: &[Hash]) -> bool
     }
 }
 
-// Whether an entry is a transaction's at a shard, with this place.
-fn is_entry_at(shards: u32, shard: u32, place: u64, t: &CompactTx, e: &Entry) -> bool
+/// Whether an entry is a transaction's at a shard, with this place.
+pub fn is_entry_at(shards: u32, shard: u32, place: u64, t: &CompactTx, e: &Entry) -> bool
     requires { shards < 2 ^ 24 }
     ensures { IsTrue result ↔ (e.now ≡ entry_of shards shard place t.now) }
 {

@@ -1,0 +1,212 @@
+-- What stands of a lane's last batch at its coordinator, by its phase; and one lane after the other is brought to rest.
+use Rattle.std.proofs.Common.{◌≡◌, ◌⊎◌, inl, inr, ℕ, zero, suc, ◌+◌, ◌*◌, ◌^◌, ◌<◌, ◌≤◌, ◌/◌, true, false, ◌&&◌, ◌==◌, List, [], ◌∷◌, ◌++◌, Some, None, is_some, refl, sym, ap, ◌∙◌, subst, arith}
+use Rattle.std.proofs.Math.Nat.{div-lt_iff_lt-mul}
+use Rattle.cbdc_model.specs.Records.{Shape, Batch, Compact, Record, Row, journal, record_of, kind_of, is_of, Genesis, Lock, Finish, Forget, Start, Prepare, Commit, Discard, Done}
+use Rattle.cbdc_model.specs.Slots.{slot, Idle, InLock, InFinish, InPrepare, InCommit, InDiscard}
+use Rattle.cbdc_model.specs.Grammar.{IsInGrammar}
+use Rattle.cbdc_model.specs.History.{Minted, header_of, first_rows}
+use Rattle.cbdc_model.specs.World.{World, Event, journals, Run}
+use Rattle.ledger_laws.specs.Resumed.{BeginNoPrepare}
+use Rattle.ledger_laws.proofs.Next.{Steady}
+use Rattle.ledger_laws.proofs.Slots.{JournalOk}
+use Rattle.ledger_laws.proofs.Dones.{PhaseOk}
+use Rattle.ledger_laws.proofs.Rows.{at, away, at_node}
+use Rattle.ledger_laws.proofs.Moves.{split_test, all_structure}
+use Rattle.ledger_laws.proofs.Alikes.{found_passes}
+use Rattle.ledger_laws.proofs.Recovered.{all_dones, all_phases}
+use Rattle.ledger_laws.proofs.Reaching.{run-append}
+use Rattle.ledger_laws.proofs.Last as last
+use Rattle.ledger_laws.proofs.Resuming.{found_grammar}
+use Rattle.ledger_laws.proofs.Writing.{Open, Goes, stay, begin-append, raise}
+use Rattle.ledger_laws.proofs.LaneRuns.{Prepared, Committed, Discarded, by_prepare, by_commit, by_discard}
+
+module _ (H : List Record) (b : Batch) where
+  prepare_is : (slot H b.lane).number ≡ b.number → (r : Record) → record_of 6 H b ≡ Some r → ((kind_of r == 6) && is_of b r) ≡ true → (txs : List Compact) × Prepared b txs H
+  prepare_is n (Prepare stamp c txs) e t =
+      (txs, record { cause = stamp; stands = subst (λ d. record_of 6 H b ≡ Some (Prepare stamp d txs)) (split_test 6 6 c b t).1 e; number = n })
+  prepare_is n (Genesis header hs) e t = absurd (let z : false ≡ true = t in cc)
+  prepare_is n (Start header) e t = absurd (let z : false ≡ true = t in cc)
+  prepare_is n (Lock stamp c es) e t = absurd (let z : false ≡ true = t in cc)
+  prepare_is n (Finish stamp c ds) e t = absurd (let z : false ≡ true = t in cc)
+  prepare_is n (Forget stamp c) e t = absurd (let z : false ≡ true = t in cc)
+  prepare_is n (Commit stamp c os) e t = absurd (let z : false ≡ true = t in cc)
+  prepare_is n (Discard stamp c) e t = absurd (let z : false ≡ true = t in cc)
+  prepare_is n (Done stamp c) e t = absurd (let z : false ≡ true = t in cc)
+
+  commit_is : (r : Record) → record_of 7 H b ≡ Some r → ((kind_of r == 7) && is_of b r) ≡ true → Committed b H
+  commit_is (Commit stamp c os) e t = record { stamp = stamp; outcomes = os; stands = subst (λ d. record_of 7 H b ≡ Some (Commit stamp d os)) (split_test 7 7 c b t).1 e }
+  commit_is (Genesis header hs) e t = absurd (let z : false ≡ true = t in cc)
+  commit_is (Start header) e t = absurd (let z : false ≡ true = t in cc)
+  commit_is (Lock stamp c es) e t = absurd (let z : false ≡ true = t in cc)
+  commit_is (Finish stamp c ds) e t = absurd (let z : false ≡ true = t in cc)
+  commit_is (Forget stamp c) e t = absurd (let z : false ≡ true = t in cc)
+  commit_is (Prepare stamp c txs) e t = absurd (let z : false ≡ true = t in cc)
+  commit_is (Discard stamp c) e t = absurd (let z : false ≡ true = t in cc)
+  commit_is (Done stamp c) e t = absurd (let z : false ≡ true = t in cc)
+
+  discard_is : (r : Record) → record_of 8 H b ≡ Some r → ((kind_of r == 8) && is_of b r) ≡ true → Discarded b H
+  discard_is (Discard stamp c) e t = record { stamp = stamp; stands = subst (λ d. record_of 8 H b ≡ Some (Discard stamp d)) (split_test 8 8 c b t).1 e }
+  discard_is (Genesis header hs) e t = absurd (let z : false ≡ true = t in cc)
+  discard_is (Start header) e t = absurd (let z : false ≡ true = t in cc)
+  discard_is (Lock stamp c es) e t = absurd (let z : false ≡ true = t in cc)
+  discard_is (Finish stamp c ds) e t = absurd (let z : false ≡ true = t in cc)
+  discard_is (Forget stamp c) e t = absurd (let z : false ≡ true = t in cc)
+  discard_is (Prepare stamp c txs) e t = absurd (let z : false ≡ true = t in cc)
+  discard_is (Commit stamp c os) e t = absurd (let z : false ≡ true = t in cc)
+  discard_is (Done stamp c) e t = absurd (let z : false ≡ true = t in cc)
+
+  prepared : is_some (record_of 6 H b) ≡ true → (slot H b.lane).number ≡ b.number → (txs : List Compact) × Prepared b txs H
+  prepared h n = elim (record_of 6 H b) as (λ o. record_of 6 H b ≡ o → is_some o ≡ true → (txs : List Compact) × Prepared b txs H) [
+    | None ↦ λ e t. absurd (let z : false ≡ true = t in cc)
+    | Some r ↦ λ e t. prepare_is n r e (found_passes 6 H b r e)
+  ] refl h
+
+  committed : is_some (record_of 7 H b) ≡ true → Committed b H
+  committed h = elim (record_of 7 H b) as (λ o. record_of 7 H b ≡ o → is_some o ≡ true → Committed b H) [
+    | None ↦ λ e t. absurd (let z : false ≡ true = t in cc)
+    | Some r ↦ λ e t. commit_is r e (found_passes 7 H b r e)
+  ] refl h
+
+  discarded : (slot H b.lane).phase ≡ InDiscard → (slot H b.lane).number ≡ b.number → Discarded b H
+  discarded p n = by_last (last.last_is H b n)
+    where
+      to_kind : (kind : ℕ) (r : Record) → record_of kind H b ≡ Some r → kind_of r ≡ kind → (last.slot_by (Some r)).phase ≡ InDiscard → Discarded b H
+      to_kind kind (Discard stamp c) e k q =
+          let e' : record_of 8 H b ≡ Some (Discard stamp c) = subst (λ m. record_of m H b ≡ Some (Discard stamp c)) (sym k) e in
+          discard_is (Discard stamp c) e' (found_passes 8 H b (Discard stamp c) e')
+      to_kind kind (Genesis header hs) e k q = absurd (let z : Idle ≡ InDiscard = q in cc)
+      to_kind kind (Start header) e k q = absurd (let z : Idle ≡ InDiscard = q in cc)
+      to_kind kind (Lock stamp c es) e k q = absurd (let z : InLock ≡ InDiscard = q in cc)
+      to_kind kind (Finish stamp c ds) e k q = absurd (let z : InFinish ≡ InDiscard = q in cc)
+      to_kind kind (Forget stamp c) e k q = absurd (let z : Idle ≡ InDiscard = q in cc)
+      to_kind kind (Prepare stamp c txs) e k q = absurd (let z : InPrepare ≡ InDiscard = q in cc)
+      to_kind kind (Commit stamp c os) e k q = absurd (let z : InCommit ≡ InDiscard = q in cc)
+      to_kind kind (Done stamp c) e k q = absurd (let z : Idle ≡ InDiscard = q in cc)
+
+      by_last : last.LastIs H b → Discarded b H
+      by_last (last.nothing_yet z i) = absurd (let q : Idle ≡ InDiscard = sym i ∙ p in cc)
+      by_last (last.of_kind kind r e w k q) = to_kind kind r e k (sym q ∙ p)
+
+-- no shard's record stands at a coordinator
+module _ (K : Shape) (minting : Minted) (P : Compact → Type 0) (shards : 0 < K.shards) (later : List Row) (kept : Steady K minting P later) (n : ℕ) (home : n < K.coordinators) where
+  abbrev J : List Record
+  J = journal n (later ++ first_rows K minting)
+
+  stands_elsewhere : (kind : ℕ) (b : Batch) (r : Record) → ((kind_of r == kind) && is_of b r) ≡ true → (kind ≡ 2) ⊎ (kind ≡ 3) → IsInGrammar (header_of K minting.id n) r → ⊥
+  stands_elsewhere kind b (Lock stamp c es) t which g = omega (arith, g.2.0)
+  stands_elsewhere kind b (Finish stamp c ds) t which g = omega (arith, g.2.0)
+  stands_elsewhere kind b (Forget stamp c) t which g = omega (arith, g.2.0)
+  stands_elsewhere kind b (Genesis header hs) t which g = omega (arith, g.2.0)
+  stands_elsewhere kind b (Start header) t which g = grind (arith, t)
+  stands_elsewhere kind b (Prepare stamp c txs) t which g = not_six 6 kind c b t which (omega arith)
+    where
+      not_six : (k kind : ℕ) (c b : Batch) → ((k == kind) && is_of b (Forget 0 c)) ≡ true → (kind ≡ 2) ⊎ (kind ≡ 3) → 3 < k → ⊥
+      not_six k kind c b t which lt = let s : (k ≡ kind) × (c ≡ b) = split_test k kind c b t in grind arith
+  stands_elsewhere kind b (Commit stamp c os) t which g = not_seven 7 kind c b t which (omega arith)
+    where
+      not_seven : (k kind : ℕ) (c b : Batch) → ((k == kind) && is_of b (Forget 0 c)) ≡ true → (kind ≡ 2) ⊎ (kind ≡ 3) → 3 < k → ⊥
+      not_seven k kind c b t which lt = let s : (k ≡ kind) × (c ≡ b) = split_test k kind c b t in grind arith
+  stands_elsewhere kind b (Discard stamp c) t which g = not_eight 8 kind c b t which (omega arith)
+    where
+      not_eight : (k kind : ℕ) (c b : Batch) → ((k == kind) && is_of b (Forget 0 c)) ≡ true → (kind ≡ 2) ⊎ (kind ≡ 3) → 3 < k → ⊥
+      not_eight k kind c b t which lt = let s : (k ≡ kind) × (c ≡ b) = split_test k kind c b t in grind arith
+  stands_elsewhere kind b (Done stamp c) t which g = not_nine 9 kind c b t which (omega arith)
+    where
+      not_nine : (k kind : ℕ) (c b : Batch) → ((k == kind) && is_of b (Forget 0 c)) ≡ true → (kind ≡ 2) ⊎ (kind ≡ 3) → 3 < k → ⊥
+      not_nine k kind c b t which lt = let s : (k ≡ kind) × (c ≡ b) = split_test k kind c b t in grind arith
+
+  not_here : (kind : ℕ) (b : Batch) → (kind ≡ 2) ⊎ (kind ≡ 3) → is_some (record_of kind J b) ≡ true → ⊥
+  not_here kind b which h = elim (record_of kind J b) as (λ o. record_of kind J b ≡ o → is_some o ≡ true → ⊥) [
+    | None ↦ λ e t. absurd (let z : false ≡ true = t in cc)
+    | Some r ↦ λ e t. stands_elsewhere kind b r (found_passes kind J b r e) which (found_grammar K minting P shards later kept n kind b r e)
+  ] refl h
+
+  never_locked : (b : Batch) → (slot J b.lane).phase ≡ InLock → (slot J b.lane).number ≡ b.number → ⊥
+  never_locked b p e = not_here 2 b (inl refl) (((all_structure K minting P shards later kept).journals n).locked b p e).0
+
+  never_finished : (b : Batch) → (slot J b.lane).phase ≡ InFinish → (slot J b.lane).number ≡ b.number → ⊥
+  never_finished b p e = not_here 3 b (inr refl) ((all_dones K minting P shards later kept n).finish_here b p e)
+
+module _ (K : Shape) (minting : Minted) (P : Compact → Type 0) (shards : 0 < K.shards) where
+  abbrev pub after_lane : ℕ → ℕ
+  after_lane top = top + (3 * K.shards + 3)
+
+  -- one lane
+  lane_rests : (top : ℕ) (w : World) (lane : ℕ) → lane / K.lanes < K.coordinators → after_lane top ≤ 2 ^ 62 → Open K minting P shards top w
+      → Goes K minting P shards (after_lane top) lane w (λ v. (slot (journals v (lane / K.lanes)) lane).phase ≡ Idle)
+  lane_rests top w lane home room o = elim ((slot (journals w (lane / K.lanes)) lane).phase) as (λ p. (slot (journals w (lane / K.lanes)) lane).phase ≡ p
+      → Goes K minting P shards (after_lane top) lane w (λ v. (slot (journals v (lane / K.lanes)) lane).phase ≡ Idle)) [
+        | Idle ↦ λ p. stay K minting P shards (after_lane top) lane w (λ v. (slot (journals v (lane / K.lanes)) lane).phase ≡ Idle) (raise K minting P shards top (after_lane top) w (omega arith) o) p
+        | InLock ↦ λ p. absurd (never_locked K minting P shards o.kept.later o.kept.kept (lane / K.lanes) home (record { lane = lane; number = (slot (journals w (lane / K.lanes)) lane).number })
+            (ap (λ J. (slot J lane).phase) (o.kept.history (lane / K.lanes)) ∙ p) (ap (λ J. (slot J lane).number) (o.kept.history (lane / K.lanes))))
+        | InFinish ↦ λ p. absurd (never_finished K minting P shards o.kept.later o.kept.kept (lane / K.lanes) home (record { lane = lane; number = (slot (journals w (lane / K.lanes)) lane).number })
+            (ap (λ J. (slot J lane).phase) (o.kept.history (lane / K.lanes)) ∙ p) (ap (λ J. (slot J lane).number) (o.kept.history (lane / K.lanes))))
+        | InPrepare ↦ λ p.
+            let b : Batch = record { lane = lane; number = (slot (journals w (lane / K.lanes)) lane).number } in
+            let f = prepared (journals w (lane / K.lanes)) (record { lane = lane; number = (slot (journals w (lane / K.lanes)) lane).number }) (own.prepared (record { lane = lane; number = (slot (journals w (lane / K.lanes)) lane).number }) p refl).0 refl in
+            by_prepare K minting P shards (record { lane = lane; number = (slot (journals w (lane / K.lanes)) lane).number }) f.0 home (journals w (lane / K.lanes)) f.1 p top w room o refl
+        | InCommit ↦ λ p.
+            let h = phases.commit_here (record { lane = lane; number = (slot (journals w (lane / K.lanes)) lane).number }) p refl in
+            let f = prepared (journals w (lane / K.lanes)) (record { lane = lane; number = (slot (journals w (lane / K.lanes)) lane).number }) h.0 refl in
+            by_commit K minting P shards (record { lane = lane; number = (slot (journals w (lane / K.lanes)) lane).number }) f.0 home (journals w (lane / K.lanes)) f.1
+            (committed (journals w (lane / K.lanes)) (record { lane = lane; number = (slot (journals w (lane / K.lanes)) lane).number }) h.1) p top w room o refl
+        | InDiscard ↦ λ p.
+            let h = phases.discard_here (record { lane = lane; number = (slot (journals w (lane / K.lanes)) lane).number }) p refl in
+            let f = prepared (journals w (lane / K.lanes)) (record { lane = lane; number = (slot (journals w (lane / K.lanes)) lane).number }) h.0 refl in
+            by_discard K minting P shards (record { lane = lane; number = (slot (journals w (lane / K.lanes)) lane).number }) f.0 home (journals w (lane / K.lanes)) f.1
+            (discarded (journals w (lane / K.lanes)) (record { lane = lane; number = (slot (journals w (lane / K.lanes)) lane).number }) p refl) p top w room o refl
+      ] refl
+    where
+      own : JournalOk (journals w (lane / K.lanes))
+      own = subst (λ J. JournalOk J) (o.kept.history (lane / K.lanes)) ((all_structure K minting P shards o.kept.later o.kept.kept).journals (lane / K.lanes))
+
+      phases : PhaseOk (journals w (lane / K.lanes))
+      phases = subst (λ J. PhaseOk J) (o.kept.history (lane / K.lanes)) (all_phases K minting P shards o.kept.later o.kept.kept (lane / K.lanes))
+
+  -- the lanes below n are at rest
+  pub record Rests (n top : ℕ) (w : World) : Type 0 where
+    pub new : World
+    pub events : List Event
+    pub run : Run K minting w events new
+    pub none : BeginNoPrepare events
+    pub is_open : Open K minting P shards top new
+    pub idle : (lane : ℕ) → lane < n → (slot (journals new (lane / K.lanes)) lane).phase ≡ Idle
+
+  pub lanes_rest : 0 < K.lanes → (n : ℕ) → n ≤ K.coordinators * K.lanes → (top : ℕ) (w : World) → top + n * (3 * K.shards + 3) ≤ 2 ^ 62 → Open K minting P shards top w
+      → Rests n (top + n * (3 * K.shards + 3)) w
+  lanes_rest lanes zero le top w room o = record {
+    new = w;
+    events = [];
+    run = refl;
+    none = tt;
+    is_open = raise K minting P shards top (top + 0 * (3 * K.shards + 3)) w (omega arith) o;
+    idle = λ lane lt. absurd (omega arith);
+  }
+  lanes_rest lanes (suc n) le top w room o = next (lanes_rest lanes n (omega arith) top w (less n (3 * K.shards + 3) top (2 ^ 62) room) o)
+    where
+      less : (n m t bound : ℕ) → t + suc n * m ≤ bound → t + n * m ≤ bound
+      less n m t bound h = omega arith
+
+      more : (n m t bound : ℕ) → t + suc n * m ≤ bound → (t + n * m) + m ≤ bound
+      more n m t bound h = omega arith
+
+      same_top : (n m t : ℕ) → (t + n * m) + m ≤ t + suc n * m
+      same_top n m t = omega arith
+
+      below : (lane : ℕ) → lane < suc n → (n == lane) ≡ false → lane < n
+      below lane lt e = grind arith
+
+      next : Rests n (top + n * (3 * K.shards + 3)) w → Rests (suc n) (top + suc n * (3 * K.shards + 3)) w
+      next r =
+          let g = lane_rests (top + n * (3 * K.shards + 3)) r.new n ((div-lt_iff_lt-mul lanes).1 (omega arith)) (more n (3 * K.shards + 3) top (2 ^ 62) room) r.is_open in
+          record {
+            new = g.new;
+            events = r.events ++ g.events;
+            run = run-append K minting w r.new g.new r.events g.events r.run g.run;
+            none = begin-append r.events g.events r.none g.none;
+            is_open = raise K minting P shards (after_lane (top + n * (3 * K.shards + 3))) (top + suc n * (3 * K.shards + 3)) g.new (same_top n (3 * K.shards + 3) top) g.is_open;
+            idle = λ lane lt. elim (at_node n lane) [
+              | at e ↦ subst (λ l. (slot (journals g.new (l / K.lanes)) l).phase ≡ Idle) e g.what
+              | away e ↦ ap (λ s. s.phase) (g.others (lane / K.lanes) lane e) ∙ r.idle lane (below lane lt e)
+            ];
+          }

@@ -1,0 +1,136 @@
+-- One record is written in a world that is up, and writings in turn.
+use Rattle.std.proofs.Common.{◌≡◌, inl, inr, ℕ, zero, suc, ◌+◌, ◌<◌, ◌≤◌, ◌/◌, true, false, ◌&&◌, ◌==◌, if◌then◌else◌, List, [], ◌∷◌, ◌++◌, length, Some, None, is_some, refl, sym, ap, ◌∙◌, subst, arith}
+use Rattle.cbdc_model.specs.Records.{Shape, Batch, Compact, Record, journal, record_of, kind_of, is_of, stamp_of, last_stamp, Genesis, Lock, Finish, Forget, Start, Prepare, Commit, Discard, Done}
+use Rattle.cbdc_model.specs.Slots.{Slot, slot}
+use Rattle.cbdc_model.specs.Causes.{IsCaused}
+use Rattle.cbdc_model.specs.Grammar.{IsInGrammar}
+use Rattle.cbdc_model.specs.After.{After}
+use Rattle.cbdc_model.specs.History.{Minted, header_of, first_rows}
+use Rattle.cbdc_model.specs.World.{World, Node, Event, Begin, End, EventsPass, node_at, journals, Run}
+use Rattle.ledger_laws.specs.Resumed.{BeginNoPrepare}
+use Rattle.ledger_laws.proofs.Next.{Next, AllProper}
+use Rattle.ledger_laws.proofs.Rows.{at, away, at_node}
+use Rattle.ledger_laws.proofs.Ledger.{SteadyWorld, after_of, passes_of}
+use Rattle.ledger_laws.proofs.Worlds.{run_keeps}
+use Rattle.ledger_laws.proofs.Reaching.{run-append, ended, ended_at, ended_away, ended_length, written}
+use Rattle.ledger_laws.proofs.Resuming.{Writes}
+
+pub begin-append : (es fs : List Event) → BeginNoPrepare es → BeginNoPrepare fs → BeginNoPrepare (es ++ fs)
+begin-append [] fs h g = g
+begin-append (e ∷ es) fs h g = (h.0, begin-append es fs h.1 g)
+
+-- a record of a lane leaves the slots of the others
+other_slots : (r : Record) (b : Batch) (J : List Record) (lane : ℕ) → is_of b r ≡ true → (b.lane == lane) ≡ false → slot (r ∷ J) lane ≡ slot J lane
+other_slots (Genesis header hs) b J lane h apart = refl
+other_slots (Start header) b J lane h apart = refl
+other_slots (Lock stamp c es) b J lane h apart = let e : (c.lane == lane) ≡ false = grind (arith, h, apart) in rw e
+other_slots (Finish stamp c ds) b J lane h apart = let e : (c.lane == lane) ≡ false = grind (arith, h, apart) in rw e
+other_slots (Forget stamp c) b J lane h apart = let e : (c.lane == lane) ≡ false = grind (arith, h, apart) in rw e
+other_slots (Prepare stamp c txs) b J lane h apart = let e : (c.lane == lane) ≡ false = grind (arith, h, apart) in rw e
+other_slots (Commit stamp c os) b J lane h apart = let e : (c.lane == lane) ≡ false = grind (arith, h, apart) in rw e
+other_slots (Discard stamp c) b J lane h apart = let e : (c.lane == lane) ≡ false = grind (arith, h, apart) in rw e
+other_slots (Done stamp c) b J lane h apart = let e : (c.lane == lane) ≡ false = grind (arith, h, apart) in rw e
+
+of_batch : (kind : ℕ) (r : Record) (b : Batch) → ((kind_of r == kind) && is_of b r) ≡ true → is_of b r ≡ true
+of_batch kind r b t = grind arith
+
+module _ (K : Shape) (minting : Minted) (P : Compact → Type 0) (shards : 0 < K.shards) where
+  -- a kept world whose nodes are all up with nothing in flight, and whose stamps are at most this
+  pub record Open (top : ℕ) (w : World) : Type 0 where
+    pub kept : SteadyWorld K minting P w
+    pub size : length w ≡ K.coordinators + K.shards
+    pub up : (n : ℕ) → n < length w → (node_at w n).up ≡ true
+    pub quiet : (n : ℕ) → n < length w → (node_at w n).flight ≡ None
+    pub low : (n : ℕ) → last_stamp (journals w n) ≤ top
+
+  -- the slots of other lanes are as they were
+  abbrev pub Others : ℕ → World → World → Type 0
+  Others lane old new = (n other : ℕ) → (lane == other) ≡ false → slot (journals new n) other ≡ slot (journals old n) other
+
+  -- events without a new Prepare lead to an open world
+  pub record Goes (top lane : ℕ) (old : World) (Q : World → Type 0) : Type 0 where
+    pub new : World
+    pub events : List Event
+    pub run : Run K minting old events new
+    pub none : BeginNoPrepare events
+    pub is_open : Open top new
+    pub others : Others lane old new
+    pub what : Q new
+
+  pub stay : (top lane : ℕ) (w : World) (Q : World → Type 0) → Open top w → Q w → Goes top lane w Q
+  stay top lane w Q o q = record { new = w; events = []; run = refl; none = tt; is_open = o; others = λ n other apart. refl; what = q }
+
+  pub go_on : (middle top lane : ℕ) (w : World) (Q R : World → Type 0) → Goes middle lane w Q → ((v : World) → Open middle v → Q v → Goes top lane v R) → Goes top lane w R
+  go_on middle top lane w Q R g f =
+      let h = f g.new g.is_open g.what in
+      record {
+        new = h.new;
+        events = g.events ++ h.events;
+        run = run-append K minting w g.new h.new g.events h.events g.run h.run;
+        none = begin-append g.events h.events g.none h.none;
+        is_open = h.is_open;
+        others = λ n other apart. h.others n other apart ∙ g.others n other apart;
+        what = h.what;
+      }
+
+  pub weaken : (low high lane : ℕ) (w : World) (Q R : World → Type 0) → low ≤ high → Goes low lane w Q → ((v : World) → Q v → R v) → Goes high lane w R
+  weaken low high lane w Q R le g f = record {
+    new = g.new;
+    events = g.events;
+    run = g.run;
+    none = g.none;
+    is_open = record { kept = g.is_open.kept; size = g.is_open.size; up = g.is_open.up; quiet = g.is_open.quiet; low = λ n. omega (arith, g.is_open.low n) };
+    others = g.others;
+    what = f g.new g.what;
+  }
+
+  pub raise : (low high : ℕ) (w : World) → low ≤ high → Open low w → Open high w
+  raise low high w le o = record { kept = o.kept; size = o.size; up = o.up; quiet = o.quiet; low = λ n. omega (arith, o.low n) }
+
+  -- what a writing leaves
+  pub record Written (w : World) (n kind : ℕ) (b : Batch) (new : World) : Type 0 where
+    pub here : (r : Record) × ((((kind_of r == kind) && is_of b r) ≡ true) × (journals new n ≡ r ∷ journals w n))
+    pub elsewhere : (m : ℕ) → (n == m) ≡ false → journals new m ≡ journals w m
+
+  pub write : (top : ℕ) (w : World) (n kind : ℕ) (b : Batch) → Open top w → n < length w → Writes K minting.id P (journals w) n b kind top
+      → Goes (suc top) b.lane w (Written w n kind b)
+  write top w n kind b o lt q = record {
+    new = ended K minting P shards w n q.r lt;
+    events = Begin n q.r ∷ End n ∷ [];
+    run = run_of;
+    none = (q.begun, (tt, tt));
+    is_open = record {
+      kept = run_keeps K minting P shards w (ended K minting P shards w n q.r lt) (Begin n q.r ∷ End n ∷ []) o.kept (passes_of P q.r q.passes, (tt, tt)) run_of;
+      size = ended_length K minting P shards w n q.r lt ∙ o.size;
+      up = λ m l. elim (at_node n m) [
+        | at e ↦ subst (λ k. (node_at (ended K minting P shards w n q.r lt) k).up ≡ true) e (ap (λ v. v.up) (ended_at K minting P shards w n q.r lt))
+        | away e ↦ ap (λ v. v.up) (ended_away K minting P shards w n q.r lt m e) ∙ o.up m (shorter m l)
+      ];
+      quiet = λ m l. elim (at_node n m) [
+        | at e ↦ subst (λ k. (node_at (ended K minting P shards w n q.r lt) k).flight ≡ None) e (ap (λ v. v.flight) (ended_at K minting P shards w n q.r lt))
+        | away e ↦ ap (λ v. v.flight) (ended_away K minting P shards w n q.r lt m e) ∙ o.quiet m (shorter m l)
+      ];
+      low = λ m. elim (at_node n m) [
+        | at e ↦ subst (λ k. last_stamp (journals (ended K minting P shards w n q.r lt) k) ≤ suc top) e (subst (λ J. last_stamp J ≤ suc top) (sym own) q.stamp)
+        | away e ↦ subst (λ J. last_stamp J ≤ suc top) (sym (rest m e)) (let l = o.low m in omega arith)
+      ];
+    };
+    others = λ m other apart. elim (at_node n m) [
+      | at e ↦ subst (λ k. slot (journals (ended K minting P shards w n q.r lt) k) other ≡ slot (journals w k) other) e
+          (ap (λ J. slot J other) own ∙ other_slots q.r b (journals w n) other (of_batch kind q.r b q.of_kind) apart)
+      | away e ↦ ap (λ J. slot J other) (rest m e)
+    ];
+    what = record { here = (q.r, (q.of_kind, own)); elsewhere = rest };
+  }
+    where
+      run_of : Run K minting w (Begin n q.r ∷ End n ∷ []) (ended K minting P shards w n q.r lt)
+      run_of = written K minting P shards w n q.r lt (lt, o.up n lt, o.quiet n lt) (after_of K minting.id n (journals w n) q.r q.next q.grammar) q.caused
+
+      own : journals (ended K minting P shards w n q.r lt) n ≡ q.r ∷ journals w n
+      own = ap (λ v. v.journal) (ended_at K minting P shards w n q.r lt)
+
+      rest : (m : ℕ) → (n == m) ≡ false → journals (ended K minting P shards w n q.r lt) m ≡ journals w m
+      rest m e = ap (λ v. v.journal) (ended_away K minting P shards w n q.r lt m e)
+
+      shorter : (m : ℕ) → m < length (ended K minting P shards w n q.r lt) → m < length w
+      shorter m l = let k : length (ended K minting P shards w n q.r lt) ≡ length w = ended_length K minting P shards w n q.r lt in omega arith

@@ -1,0 +1,16 @@
+use Rattle.std.proofs.Common.{◌≡◌, ◌+◌, ◌∙◌, map, take, sym, subst, arith}
+use Rattle.std.proofs.lemmas.List.{map_more}
+use Rattle.cbdc_model.specs.World.{Run}
+use Rattle.world_core.specs.Events.{event_in, mint_of}
+use Rattle.world_core.proofs.Worlds.{run_more}
+use Rattle.world_core.proofs.world.World.run.Goals as goal
+
+pub loop-event-preserved : goal.loop-event-preserved
+loop-event-preserved c = (
+  c.step.ensures.mint.0 ∙ c.loop-event.invariant.0,
+  c.step.ensures.mint.1 ∙ c.loop-event.invariant.1,
+  λ hashes. run_more c.loop-event.self.shape c.args.self.now.shape c.loop-event.self.genesis c.args.self.now.genesis hashes
+      c.loop-event.invariant.0 c.loop-event.invariant.1 c.args.self.now.nodes.items c.loop-event.self.nodes.items c.step.new.self.nodes.items
+      c.args.events.now c.loop-event.event-index c.event-item.result (omega arith) c.event-item.is
+      (c.loop-event.invariant.2 hashes) (c.in_ok-step.ensures.ok hashes),
+)
