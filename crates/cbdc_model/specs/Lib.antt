@@ -20,3 +20,5 @@ pub mod Deciding
 pub mod Due
 pub mod Sights
 pub mod Fates
+pub mod Waves
+pub mod Places
