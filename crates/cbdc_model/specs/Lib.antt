@@ -19,6 +19,7 @@ pub mod Lanes
 pub mod Deciding
 pub mod Due
 pub mod Sights
+pub mod Fates
 pub mod Waves
 pub mod Places
 pub mod Calls
