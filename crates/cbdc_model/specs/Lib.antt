@@ -23,4 +23,3 @@ pub mod Fates
 pub mod Waves
 pub mod Places
 pub mod Calls
-pub mod Fates
