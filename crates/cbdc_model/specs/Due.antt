@@ -85,7 +85,7 @@ prepare_record J lane txs = Prepare (next_stamp J 0) (new_batch J lane) txs
 abbrev pub prepare_due : Shape → ℕ → ℕ → List Compact → Option ℕ → List Record → Due (Batch × ℕ)
 prepare_due K capacity lane txs broken J =
     unless_broken broken (if_early last_early (next_stamp J 0)
-        (if_room (used_of J) (need_of K J (prepare_record J lane txs)) capacity (Writes (new_batch J lane, next_stamp J 0) (prepare_record J lane txs))))
+    (if_room (used_of J) (need_of K J (prepare_record J lane txs)) capacity (Writes (new_batch J lane, next_stamp J 0) (prepare_record J lane txs))))
 
 -- Commit of the lane's prepared batch, by what its shards replied
 abbrev pub commit_record : Shape → ℕ → List ShardReplies → List Record → Record

@@ -19,3 +19,5 @@ pub mod Lanes
 pub mod Deciding
 pub mod Due
 pub mod Sights
+pub mod Waves
+pub mod Places

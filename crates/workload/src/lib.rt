@@ -1,0 +1,52 @@
+//! A workload from a number: as many transactions as wanted, all sound and free of conflict.
+#![tactic(auto)]
+
+mod coins;
+mod spends;
+#[cfg(test)]
+mod tests;
+mod verdicts;
+
+ghost use Rattle.std.specs.Prelude.{◌≡◌, ◌≤◌, IfOk};
+ghost use Rattle.workload.specs.Generator.{workload_of};
+
+use cbdc_types::{FullTx, List, Mint};
+use coins::{genesis_of, mint_of};
+use identifiers::tx_id;
+use spends::{joins_of, splits_of};
+use std::alloc::{AllocError, Global};
+use verdicts::verdicts_of;
+
+/// A mint, the transactions of two client files, and the verdict file behind them.
+#[derive(Debug, PartialEq, Eq, Drop)]
+pub struct Workload {
+    /// The coins, in order.
+    pub mint: Mint,
+    /// The first client file: each coin is split in two.
+    pub splits: List<FullTx>,
+    /// The second client file: the two halves of a coin are joined.
+    pub joins: List<FullTx>,
+    /// The bytes of the verdict file: each input's witness is good.
+    pub verdicts: List<u8>,
+}
+
+/// The workload of so many transactions, at most 10,000, from a seed. The same seed gives the same workload.
+pub fn generate(alloc: Global, seed: u64, count: u64) -> Result<Workload, AllocError>
+    requires { count ≤ 10000 }
+    ensures { IfOk result (λ w. w ≡ workload_of seed count) }
+{
+    let joined = count / 2;
+    let minted = count - joined;
+    let mint = mint_of(alloc, seed, minted)?;
+    let genesis = genesis_of(alloc, mint);
+    let id = tx_id(&genesis);
+    let splits = splits_of(alloc, seed, count, &id, minted)?;
+    let joins = joins_of(alloc, seed, count, &id, joined)?;
+    let verdicts = verdicts_of(alloc, splits.as_slice(), joins.as_slice())?;
+    Ok(Workload {
+        mint: genesis.outputs,
+        splits,
+        joins,
+        verdicts,
+    })
+}
