@@ -1,6 +1,6 @@
 -- What recovery writes may stand in the journals: the entries and replies of a part, and the outcomes by answered parts.
 use Rattle.std.proofs.Common.{◌≡◌, ℕ, zero, suc, ◌+◌, ◌<◌, ◌≤◌, Bool, true, false, ◌&&◌, ◌==◌, if◌then◌else◌, List, [], ◌∷◌, ◌++◌, length, Option, Some, None, refl, ap, arith}
-use Rattle.std.specs.List.{All, AllByRecursion}
+use Rattle.std.specs.List.{AllByRecursion}
 use Rattle.std.proofs.lemmas.List.Elements.{All-from_recursion, recursion_from_All}
 use Rattle.cbdc_model.specs.Records.{Digest, Shape, Batch, Compact, Reply, Outcome, Answered, Record, is_held, Held, Missing, Taken}
 use Rattle.cbdc_model.specs.Status.{Status, status, has, Unspent, Locked, Absent}

@@ -1,5 +1,5 @@
 -- What stands of a lane's last batch at its coordinator, by its phase; and one lane after the other is brought to rest.
-use Rattle.std.proofs.Common.{◌≡◌, ◌⊎◌, inl, inr, ℕ, zero, suc, ◌+◌, ◌*◌, ◌^◌, ◌<◌, ◌≤◌, ◌/◌, true, false, ◌&&◌, ◌==◌, List, [], ◌∷◌, ◌++◌, Some, None, is_some, refl, sym, ap, ◌∙◌, subst, arith}
+use Rattle.std.proofs.Common.{◌≡◌, ◌⊎◌, inl, inr, ℕ, zero, suc, ◌+◌, ◌*◌, ◌^◌, ◌<◌, ◌≤◌, ◌/◌, true, false, ◌&&◌, ◌==◌, List, [], ◌++◌, Some, None, is_some, refl, sym, ap, ◌∙◌, subst, arith}
 use Rattle.std.proofs.Math.Nat.{div-lt_iff_lt-mul}
 use Rattle.cbdc_model.specs.Records.{Shape, Batch, Compact, Record, Row, journal, record_of, kind_of, is_of, Genesis, Lock, Finish, Forget, Start, Prepare, Commit, Discard, Done}
 use Rattle.cbdc_model.specs.Slots.{slot, Idle, InLock, InFinish, InPrepare, InCommit, InDiscard}
@@ -16,8 +16,8 @@ use Rattle.ledger_laws.proofs.Alikes.{found_passes}
 use Rattle.ledger_laws.proofs.Recovered.{all_dones, all_phases}
 use Rattle.ledger_laws.proofs.Reaching.{run-append}
 use Rattle.ledger_laws.proofs.Last as last
-use Rattle.ledger_laws.proofs.Resuming.{found_grammar}
-use Rattle.ledger_laws.proofs.Writing.{Open, Goes, stay, begin-append, raise}
+use Rattle.ledger_laws.proofs.Found.{found_grammar}
+use Rattle.ledger_laws.proofs.Writing.{AllLocked, Open, Goes, stay, begin-append, raise}
 use Rattle.ledger_laws.proofs.LaneRuns.{Prepared, Committed, Discarded, by_prepare, by_commit, by_discard}
 
 module _ (H : List Record) (b : Batch) where
@@ -132,9 +132,9 @@ module _ (K : Shape) (minting : Minted) (P : Compact → Type 0) (shards : 0 < K
   after_lane top = top + (3 * K.shards + 3)
 
   -- one lane
-  lane_rests : (top : ℕ) (w : World) (lane : ℕ) → lane / K.lanes < K.coordinators → after_lane top ≤ 2 ^ 62 → Open K minting P shards top w
+  lane_rests : (top : ℕ) (w : World) (lane : ℕ) → lane / K.lanes < K.coordinators → after_lane top ≤ 2 ^ 62 + 2 ^ 20 → (after_lane top ≤ 2 ^ 62) ⊎ AllLocked K w → Open K minting P shards top w
       → Goes K minting P shards (after_lane top) lane w (λ v. (slot (journals v (lane / K.lanes)) lane).phase ≡ Idle)
-  lane_rests top w lane home room o = elim ((slot (journals w (lane / K.lanes)) lane).phase) as (λ p. (slot (journals w (lane / K.lanes)) lane).phase ≡ p
+  lane_rests top w lane home room early o = elim ((slot (journals w (lane / K.lanes)) lane).phase) as (λ p. (slot (journals w (lane / K.lanes)) lane).phase ≡ p
       → Goes K minting P shards (after_lane top) lane w (λ v. (slot (journals v (lane / K.lanes)) lane).phase ≡ Idle)) [
         | Idle ↦ λ p. stay K minting P shards (after_lane top) lane w (λ v. (slot (journals v (lane / K.lanes)) lane).phase ≡ Idle) (raise K minting P shards top (after_lane top) w (omega arith) o) p
         | InLock ↦ λ p. absurd (never_locked K minting P shards o.kept.later o.kept.kept (lane / K.lanes) home (record { lane = lane; number = (slot (journals w (lane / K.lanes)) lane).number })
@@ -144,7 +144,7 @@ module _ (K : Shape) (minting : Minted) (P : Compact → Type 0) (shards : 0 < K
         | InPrepare ↦ λ p.
             let b : Batch = record { lane = lane; number = (slot (journals w (lane / K.lanes)) lane).number } in
             let f = prepared (journals w (lane / K.lanes)) (record { lane = lane; number = (slot (journals w (lane / K.lanes)) lane).number }) (own.prepared (record { lane = lane; number = (slot (journals w (lane / K.lanes)) lane).number }) p refl).0 refl in
-            by_prepare K minting P shards (record { lane = lane; number = (slot (journals w (lane / K.lanes)) lane).number }) f.0 home (journals w (lane / K.lanes)) f.1 p top w room o refl
+            by_prepare K minting P shards (record { lane = lane; number = (slot (journals w (lane / K.lanes)) lane).number }) f.0 home (journals w (lane / K.lanes)) f.1 p top w room early o refl
         | InCommit ↦ λ p.
             let h = phases.commit_here (record { lane = lane; number = (slot (journals w (lane / K.lanes)) lane).number }) p refl in
             let f = prepared (journals w (lane / K.lanes)) (record { lane = lane; number = (slot (journals w (lane / K.lanes)) lane).number }) h.0 refl in
@@ -170,19 +170,22 @@ module _ (K : Shape) (minting : Minted) (P : Compact → Type 0) (shards : 0 < K
     pub run : Run K minting w events new
     pub none : BeginNoPrepare events
     pub is_open : Open K minting P shards top new
+    pub locks : AllLocked K w → AllLocked K new
     pub idle : (lane : ℕ) → lane < n → (slot (journals new (lane / K.lanes)) lane).phase ≡ Idle
 
-  pub lanes_rest : 0 < K.lanes → (n : ℕ) → n ≤ K.coordinators * K.lanes → (top : ℕ) (w : World) → top + n * (3 * K.shards + 3) ≤ 2 ^ 62 → Open K minting P shards top w
+  pub lanes_rest : 0 < K.lanes → (n : ℕ) → n ≤ K.coordinators * K.lanes → (top : ℕ) (w : World) → top + n * (3 * K.shards + 3) ≤ 2 ^ 62 + 2 ^ 20
+      → (top + n * (3 * K.shards + 3) ≤ 2 ^ 62) ⊎ AllLocked K w → Open K minting P shards top w
       → Rests n (top + n * (3 * K.shards + 3)) w
-  lanes_rest lanes zero le top w room o = record {
+  lanes_rest lanes zero le top w room early o = record {
     new = w;
     events = [];
     run = refl;
     none = tt;
     is_open = raise K minting P shards top (top + 0 * (3 * K.shards + 3)) w (omega arith) o;
+    locks = λ l. l;
     idle = λ lane lt. absurd (omega arith);
   }
-  lanes_rest lanes (suc n) le top w room o = next (lanes_rest lanes n (omega arith) top w (less n (3 * K.shards + 3) top (2 ^ 62) room) o)
+  lanes_rest lanes (suc n) le top w room early o = next (lanes_rest lanes n (omega arith) top w (less n (3 * K.shards + 3) top (2 ^ 62 + 2 ^ 20) room) before o)
     where
       less : (n m t bound : ℕ) → t + suc n * m ≤ bound → t + n * m ≤ bound
       less n m t bound h = omega arith
@@ -193,17 +196,24 @@ module _ (K : Shape) (minting : Minted) (P : Compact → Type 0) (shards : 0 < K
       same_top : (n m t : ℕ) → (t + n * m) + m ≤ t + suc n * m
       same_top n m t = omega arith
 
+      before : (top + n * (3 * K.shards + 3) ≤ 2 ^ 62) ⊎ AllLocked K w
+      before = elim early [ inl h ↦ inl (less n (3 * K.shards + 3) top (2 ^ 62) h) | inr l ↦ inr l ]
+
+      then_on : (v : World) → (AllLocked K w → AllLocked K v) → ((top + n * (3 * K.shards + 3)) + (3 * K.shards + 3) ≤ 2 ^ 62) ⊎ AllLocked K v
+      then_on v f = elim early [ inl h ↦ inl (more n (3 * K.shards + 3) top (2 ^ 62) h) | inr l ↦ inr (f l) ]
+
       below : (lane : ℕ) → lane < suc n → (n == lane) ≡ false → lane < n
       below lane lt e = grind arith
 
       next : Rests n (top + n * (3 * K.shards + 3)) w → Rests (suc n) (top + suc n * (3 * K.shards + 3)) w
       next r =
-          let g = lane_rests (top + n * (3 * K.shards + 3)) r.new n ((div-lt_iff_lt-mul lanes).1 (omega arith)) (more n (3 * K.shards + 3) top (2 ^ 62) room) r.is_open in
+          let g = lane_rests (top + n * (3 * K.shards + 3)) r.new n ((div-lt_iff_lt-mul lanes).1 (omega arith)) (more n (3 * K.shards + 3) top (2 ^ 62 + 2 ^ 20) room) (then_on r.new r.locks) r.is_open in
           record {
             new = g.new;
             events = r.events ++ g.events;
             run = run-append K minting w r.new g.new r.events g.events r.run g.run;
             none = begin-append r.events g.events r.none g.none;
+            locks = λ l. g.locks (r.locks l);
             is_open = raise K minting P shards (after_lane (top + n * (3 * K.shards + 3))) (top + suc n * (3 * K.shards + 3)) g.new (same_top n (3 * K.shards + 3) top) g.is_open;
             idle = λ lane lt. elim (at_node n lane) [
               | at e ↦ subst (λ l. (slot (journals g.new (l / K.lanes)) l).phase ≡ Idle) e g.what

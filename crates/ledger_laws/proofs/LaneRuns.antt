@@ -1,19 +1,17 @@
 -- One lane's open batch is brought to its Done, phase by phase.
-use Rattle.std.proofs.Common.{◌≡◌, ℕ, zero, suc, ◌+◌, ◌*◌, ◌^◌, ◌<◌, ◌≤◌, ◌/◌, true, false, ◌&&◌, ◌==◌, List, ◌∷◌, length, Some, None, is_some, refl, sym, ap, ◌∙◌, subst, arith}
-use Rattle.cbdc_model.specs.Records.{Shape, Batch, same_batch, Compact, Outcome, Record, journal, record_of, kind_of, is_of, txs_in, txs_of, last_stamp, Genesis, Lock, Finish, Forget, Start, Prepare, Commit, Discard, Done}
-use Rattle.cbdc_model.specs.Slots.{slot, Idle, InLock, InFinish, InPrepare, InCommit, InDiscard}
+use Rattle.std.proofs.Common.{◌≡◌, ◌⊎◌, inl, inr, ℕ, zero, suc, ◌+◌, ◌*◌, ◌^◌, ◌<◌, ◌≤◌, ◌/◌, true, false, ◌&&◌, ◌==◌, List, ◌∷◌, Some, is_some, refl, sym, ap, ◌∙◌, subst, arith}
+use Rattle.cbdc_model.specs.Records.{Shape, Batch, same_batch, Compact, Outcome, Record, record_of, kind_of, is_of, txs_in, txs_of, last_stamp, Genesis, Lock, Finish, Forget, Start, Prepare, Commit, Discard, Done}
+use Rattle.cbdc_model.specs.Slots.{slot, Idle, InPrepare, InCommit, InDiscard}
 use Rattle.cbdc_model.specs.Ranges.{shard_node, part, is_no_part, Concerned}
 use Rattle.cbdc_model.specs.Causes.{AllHave}
-use Rattle.cbdc_model.specs.History.{Minted, first_rows}
+use Rattle.cbdc_model.specs.History.{Minted}
 use Rattle.cbdc_model.specs.World.{World, journals}
 use Rattle.ledger_laws.proofs.Rows.{at, away, at_node}
 use Rattle.ledger_laws.proofs.Lookups.{true_false}
-use Rattle.ledger_laws.proofs.Moves.{split_test, test_step, all_structure}
-use Rattle.ledger_laws.proofs.Alikes.{found_passes}
-use Rattle.ledger_laws.proofs.Recovered.{all_dones, all_phases}
-use Rattle.ledger_laws.proofs.Last as last
-use Rattle.ledger_laws.proofs.Resuming.{Writes, found_new, found_grammar, lock_writes, commit_writes, finish_writes, discard_writes, forget_writes, done_writes}
-use Rattle.ledger_laws.proofs.Writing.{Open, Goes, Written, write, stay, go_on, weaken, raise}
+use Rattle.ledger_laws.proofs.Moves.{split_test}
+use Rattle.ledger_laws.proofs.Found.{found_new}
+use Rattle.ledger_laws.proofs.Resuming.{Writes, lock_writes, commit_writes, finish_writes, discard_writes, forget_writes, done_writes}
+use Rattle.ledger_laws.proofs.Writing.{AllLocked, Open, Goes, Written, write, stay, go_on, weaken, raise}
 
 number_self : (n : ℕ) → (n == n) ≡ true
 number_self n = grind arith
@@ -103,16 +101,16 @@ module _ (K : Shape) (minting : Minted) (P : Compact → Type 0) (shards : 0 < K
     all : (s : ℕ) → s < n → Concerned K txs s → is_some (record_of kind (journals w (shard_node K s)) b) ≡ true
 
   -- what a shard may still have to write
-  abbrev Due : ℕ → List Record → Type 0
-  Due kind H = (top : ℕ) (w : World) → suc top ≤ 2 ^ 62 → Open K minting P shards top w → At w H → (s : ℕ) → Concerned K txs s
+  abbrev Due : ℕ → ℕ → List Record → Type 0
+  Due limit kind H = (top : ℕ) (w : World) → suc top ≤ limit → Open K minting P shards top w → At w H → (s : ℕ) → Concerned K txs s
       → is_some (record_of kind (journals w (shard_node K s)) b) ≡ false → Writes K minting.id P (journals w) (shard_node K s) b kind top
 
-  ask : (kind : ℕ) (H : List Record) → Due kind H → (n : ℕ) → n ≤ K.shards → (top : ℕ) (w : World) → top + n ≤ 2 ^ 62 → Open K minting P shards top w → At w H
+  ask : (limit kind : ℕ) (H : List Record) → Due limit kind H → (n : ℕ) → n ≤ K.shards → (top : ℕ) (w : World) → top + n ≤ limit → Open K minting P shards top w → At w H
       → Goes K minting P shards (top + n) b.lane w (Asked kind H n)
-  ask kind H due zero le top w room o same =
+  ask limit kind H due zero le top w room o same =
       stay K minting P shards (top + 0) b.lane w (Asked kind H 0) (raise K minting P shards top (top + 0) w (omega arith) o) (record { same = same; all = λ s lt c. absurd (omega arith) })
-  ask kind H due (suc n) le top w room o same =
-      go_on K minting P shards (top + n) (top + suc n) b.lane w (Asked kind H n) (Asked kind H (suc n)) (ask kind H due n (omega arith) top w (omega arith) o same) turn
+  ask limit kind H due (suc n) le top w room o same =
+      go_on K minting P shards (top + n) (top + suc n) b.lane w (Asked kind H n) (Asked kind H (suc n)) (ask limit kind H due n (omega arith) top w (omega arith) o same) turn
     where
       idle_turn : (v : World) → Open K minting P shards (top + n) v → Asked kind H n v → (Concerned K txs n → is_some (record_of kind (journals v (shard_node K n)) b) ≡ true)
           → Goes K minting P shards (top + suc n) b.lane v (Asked kind H (suc n))
@@ -154,18 +152,18 @@ module _ (K : Shape) (minting : Minted) (P : Compact → Type 0) (shards : 0 < K
   have_all kind H w p q s c = q.all s c.0 (subst (λ ts. Concerned K ts s) (ap (λ J. txs_of J b) q.same ∙ ap txs_in p.stands) c)
 
   -- what may be written, of the journals of a world
-  module _ (H : List Record) (p : Prepared b txs H) (top : ℕ) (w : World) (room : suc top ≤ 2 ^ 62) (o : Open K minting P shards top w) (same : At w H) where
+  module _ (H : List Record) (p : Prepared b txs H) (top : ℕ) (w : World) (room : suc top ≤ 2 ^ 62 + 2 ^ 20) (o : Open K minting P shards top w) (same : At w H) where
     stands_here : record_of 6 (journals w (b.lane / K.lanes)) b ≡ Some (Prepare p.cause b txs)
     stands_here = ap (λ J. record_of 6 J b) same ∙ p.stands
 
     number_here : (slot (journals w (b.lane / K.lanes)) b.lane).number ≡ b.number
     number_here = ap (λ J. (slot J b.lane).number) same ∙ p.number
 
-    lock_due : (s : ℕ) → Concerned K txs s → is_some (record_of 2 (journals w (shard_node K s)) b) ≡ false → Writes K minting.id P (journals w) (shard_node K s) b 2 top
+    lock_due : suc top ≤ 2 ^ 62 → (s : ℕ) → Concerned K txs s → is_some (record_of 2 (journals w (shard_node K s)) b) ≡ false → Writes K minting.id P (journals w) (shard_node K s) b 2 top
     lock_due = subst (λ J. ((n : ℕ) → last_stamp (J n) ≤ top) → record_of 6 (J (b.lane / K.lanes)) b ≡ Some (Prepare p.cause b txs) → (slot (J (b.lane / K.lanes)) b.lane).number ≡ b.number
-        → (s : ℕ) → Concerned K txs s → is_some (record_of 2 (J (shard_node K s)) b) ≡ false → Writes K minting.id P J (shard_node K s) b 2 top)
+        → suc top ≤ 2 ^ 62 → (s : ℕ) → Concerned K txs s → is_some (record_of 2 (J (shard_node K s)) b) ≡ false → Writes K minting.id P J (shard_node K s) b 2 top)
         (λ i n. o.kept.history n i)
-        (λ low e n s c m. lock_writes K minting P shards o.kept.later o.kept.kept top low room b p.cause txs e n s c m) o.low stands_here number_here
+        (λ low e n in_time s c m. lock_writes K minting P shards o.kept.later o.kept.kept top low room b p.cause txs e n in_time s c m) o.low stands_here number_here
 
     commit_due : (slot (journals w (b.lane / K.lanes)) b.lane).phase ≡ InPrepare → AllHave K (journals w) 2 b → Writes K minting.id P (journals w) (b.lane / K.lanes) b 7 top
     commit_due = subst (λ J. ((n : ℕ) → last_stamp (J n) ≤ top) → record_of 6 (J (b.lane / K.lanes)) b ≡ Some (Prepare p.cause b txs) → (slot (J (b.lane / K.lanes)) b.lane).number ≡ b.number
@@ -202,22 +200,22 @@ module _ (K : Shape) (minting : Minted) (P : Compact → Type 0) (shards : 0 < K
         (λ low e n ph h. done_writes K minting P shards o.kept.later o.kept.kept top low room b p.cause txs e n ph h) o.low stands_here number_here
 
   -- from each phase on
-  from_discard : (H : List Record) → Prepared b txs H → Discarded b H → (slot H b.lane).phase ≡ InDiscard → (top : ℕ) (w : World) → suc (top + K.shards) ≤ 2 ^ 62
+  from_discard : (H : List Record) → Prepared b txs H → Discarded b H → (slot H b.lane).phase ≡ InDiscard → (top : ℕ) (w : World) → suc (top + K.shards) ≤ 2 ^ 62 + 2 ^ 20
       → Open K minting P shards top w → At w H → Goes K minting P shards (suc (top + K.shards)) b.lane w AtRest
   from_discard H p d phase top w room o same =
       go_on K minting P shards (top + K.shards) (suc (top + K.shards)) b.lane w (Asked 4 H K.shards) AtRest
-      (ask 4 H (λ top w room o same s c m. forget_due H p top w room o same d s c m) K.shards (omega arith) top w (omega arith) o same)
+      (ask (2 ^ 62 + 2 ^ 20) 4 H (λ top w room o same s c m. forget_due H p top w room o same d s c m) K.shards (omega arith) top w (omega arith) o same)
       (λ v o q.
       weaken K minting P shards (suc (top + K.shards)) (suc (top + K.shards)) b.lane v (Written K minting P shards v (b.lane / K.lanes) 9 b) AtRest (omega arith)
       (write K minting P shards (top + K.shards) v (b.lane / K.lanes) 9 b o (let z = o.size in omega arith)
       (done_due H p (top + K.shards) v room o q.same (ap (λ J. (slot J b.lane).phase) q.same ∙ phase) (have_all 4 H v p q)))
       (λ u wr. ap (λ J. (slot J b.lane).phase) (wr.here.1.1 ∙ ap (λ J. wr.here.0 ∷ J) q.same) ∙ after_done b txs H p wr.here.0 wr.here.1.0))
 
-  from_commit : (H : List Record) → Prepared b txs H → Committed b H → (slot H b.lane).phase ≡ InCommit → (top : ℕ) (w : World) → suc (suc (top + K.shards) + K.shards) ≤ 2 ^ 62
+  from_commit : (H : List Record) → Prepared b txs H → Committed b H → (slot H b.lane).phase ≡ InCommit → (top : ℕ) (w : World) → suc (suc (top + K.shards) + K.shards) ≤ 2 ^ 62 + 2 ^ 20
       → Open K minting P shards top w → At w H → Goes K minting P shards (suc (suc (top + K.shards) + K.shards)) b.lane w AtRest
   from_commit H p c phase top w room o same =
       go_on K minting P shards (top + K.shards) (suc (suc (top + K.shards) + K.shards)) b.lane w (Asked 3 H K.shards) AtRest
-      (ask 3 H (λ top w room o same s t m. finish_due H p top w room o same c s t m) K.shards (omega arith) top w (omega arith) o same)
+      (ask (2 ^ 62 + 2 ^ 20) 3 H (λ top w room o same s t m. finish_due H p top w room o same c s t m) K.shards (omega arith) top w (omega arith) o same)
       (λ v o q.
       go_on K minting P shards (suc (top + K.shards)) (suc (suc (top + K.shards) + K.shards)) b.lane v (Written K minting P shards v (b.lane / K.lanes) 8 b) AtRest
       (write K minting P shards (top + K.shards) v (b.lane / K.lanes) 8 b o (let z = o.size in omega arith)
@@ -226,35 +224,39 @@ module _ (K : Shape) (minting : Minted) (P : Compact → Type 0) (shards : 0 < K
       let f = after_discard b txs H p wr.here.0 wr.here.1.0 in
       from_discard (wr.here.0 ∷ H) f.0 f.1 f.2 (suc (top + K.shards)) u room o (wr.here.1.1 ∙ ap (λ J. wr.here.0 ∷ J) q.same)))
 
-  from_prepare : (H : List Record) → Prepared b txs H → (slot H b.lane).phase ≡ InPrepare → (top : ℕ) (w : World) → suc (suc (suc (top + K.shards) + K.shards) + K.shards) ≤ 2 ^ 62
-      → Open K minting P shards top w → At w H → Goes K minting P shards (suc (suc (suc (top + K.shards) + K.shards) + K.shards)) b.lane w AtRest
-  from_prepare H p phase top w room o same =
-      go_on K minting P shards (top + K.shards) (suc (suc (suc (top + K.shards) + K.shards) + K.shards)) b.lane w (Asked 2 H K.shards) AtRest
-      (ask 2 H (λ top w room o same s c m. lock_due H p top w room o same s c m) K.shards (omega arith) top w (omega arith) o same)
-      (λ v o q.
-      go_on K minting P shards (suc (top + K.shards)) (suc (suc (suc (top + K.shards) + K.shards) + K.shards)) b.lane v (Written K minting P shards v (b.lane / K.lanes) 7 b) AtRest
-      (write K minting P shards (top + K.shards) v (b.lane / K.lanes) 7 b o (let z = o.size in omega arith)
-      (commit_due H p (top + K.shards) v (omega arith) o q.same (ap (λ J. (slot J b.lane).phase) q.same ∙ phase) (have_all 2 H v p q)))
+  from_locks : (H : List Record) → Prepared b txs H → (slot H b.lane).phase ≡ InPrepare → (top : ℕ) (w : World) → suc (suc (suc top + K.shards) + K.shards) ≤ 2 ^ 62 + 2 ^ 20
+      → Open K minting P shards top w → Asked 2 H K.shards w → Goes K minting P shards (suc (suc (suc top + K.shards) + K.shards)) b.lane w AtRest
+  from_locks H p phase top w room o q =
+      go_on K minting P shards (suc top) (suc (suc (suc top + K.shards) + K.shards)) b.lane w (Written K minting P shards w (b.lane / K.lanes) 7 b) AtRest
+      (write K minting P shards top w (b.lane / K.lanes) 7 b o (let z = o.size in omega arith)
+      (commit_due H p top w (omega arith) o q.same (ap (λ J. (slot J b.lane).phase) q.same ∙ phase) (have_all 2 H w p q)))
       (λ u o wr.
       let f = after_commit b txs H p wr.here.0 wr.here.1.0 in
-      from_commit (wr.here.0 ∷ H) f.0 f.1 f.2 (suc (top + K.shards)) u room o (wr.here.1.1 ∙ ap (λ J. wr.here.0 ∷ J) q.same)))
+      from_commit (wr.here.0 ∷ H) f.0 f.1 f.2 (suc top) u room o (wr.here.1.1 ∙ ap (λ J. wr.here.0 ∷ J) q.same))
 
   abbrev pub most : ℕ → ℕ
   most top = top + (3 * K.shards + 3)
 
-  pub by_prepare : (H : List Record) → Prepared b txs H → (slot H b.lane).phase ≡ InPrepare → (top : ℕ) (w : World) → most top ≤ 2 ^ 62
-      → Open K minting P shards top w → At w H → Goes K minting P shards (most top) b.lane w AtRest
-  by_prepare H p phase top w room o same =
-      weaken K minting P shards (suc (suc (suc (top + K.shards) + K.shards) + K.shards)) (most top) b.lane w AtRest AtRest (omega arith)
-      (from_prepare H p phase top w (omega arith) o same) (λ v q. q)
+  -- from a Prepare on, where there are early stamps for its Locks, or they all stand
+  pub by_prepare : (H : List Record) → Prepared b txs H → (slot H b.lane).phase ≡ InPrepare → (top : ℕ) (w : World) → most top ≤ 2 ^ 62 + 2 ^ 20
+      → (most top ≤ 2 ^ 62) ⊎ AllLocked K w → Open K minting P shards top w → At w H → Goes K minting P shards (most top) b.lane w AtRest
+  by_prepare H p phase top w room (inl in_time) o same =
+      go_on K minting P shards (top + K.shards) (most top) b.lane w (Asked 2 H K.shards) AtRest
+      (ask (2 ^ 62) 2 H (λ top w room o same s c m. lock_due H p top w (omega arith) o same room s c m) K.shards (omega arith) top w (omega arith) o same)
+      (λ v o q. weaken K minting P shards (suc (suc (suc (top + K.shards) + K.shards) + K.shards)) (most top) b.lane v AtRest AtRest (omega arith)
+      (from_locks H p phase (top + K.shards) v (omega arith) o q) (λ v q. q))
+  by_prepare H p phase top w room (inr locked) o same =
+      weaken K minting P shards (suc (suc (suc top + K.shards) + K.shards)) (most top) b.lane w AtRest AtRest (omega arith)
+      (from_locks H p phase top w (omega arith) o
+      (record { same = same; all = λ s lt c. locked b s (subst (λ ts. Concerned K ts s) (sym (ap (λ J. txs_of J b) same ∙ ap txs_in p.stands)) c) })) (λ v q. q)
 
-  pub by_commit : (H : List Record) → Prepared b txs H → Committed b H → (slot H b.lane).phase ≡ InCommit → (top : ℕ) (w : World) → most top ≤ 2 ^ 62
+  pub by_commit : (H : List Record) → Prepared b txs H → Committed b H → (slot H b.lane).phase ≡ InCommit → (top : ℕ) (w : World) → most top ≤ 2 ^ 62 + 2 ^ 20
       → Open K minting P shards top w → At w H → Goes K minting P shards (most top) b.lane w AtRest
   by_commit H p c phase top w room o same =
       weaken K minting P shards (suc (suc (top + K.shards) + K.shards)) (most top) b.lane w AtRest AtRest (omega arith)
       (from_commit H p c phase top w (omega arith) o same) (λ v q. q)
 
-  pub by_discard : (H : List Record) → Prepared b txs H → Discarded b H → (slot H b.lane).phase ≡ InDiscard → (top : ℕ) (w : World) → most top ≤ 2 ^ 62
+  pub by_discard : (H : List Record) → Prepared b txs H → Discarded b H → (slot H b.lane).phase ≡ InDiscard → (top : ℕ) (w : World) → most top ≤ 2 ^ 62 + 2 ^ 20
       → Open K minting P shards top w → At w H → Goes K minting P shards (most top) b.lane w AtRest
   by_discard H p d phase top w room o same =
       weaken K minting P shards (suc (top + K.shards)) (most top) b.lane w AtRest AtRest (omega arith)

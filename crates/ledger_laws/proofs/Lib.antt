@@ -53,6 +53,7 @@ pub mod Phases
 pub mod Late
 pub mod Settling
 pub mod Fitting
+pub mod Found
 pub mod Resuming
 pub mod Writing
 pub mod LaneRuns

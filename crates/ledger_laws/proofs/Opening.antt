@@ -1,18 +1,17 @@
 -- Nodes are brought up, each keeping what was in flight or not, and then every lane is brought to rest.
-use Rattle.std.proofs.Common.{◌≡◌, ◌⊎◌, inl, inr, ℕ, zero, suc, ◌+◌, ◌*◌, ◌^◌, ◌<◌, ◌≤◌, ◌/◌, Bool, true, false, ◌==◌, if◌then◌else◌, List, [], ◌∷◌, ◌++◌, length, length-set, Option, Some, None, refl, sym, ap, ◌∙◌, subst, arith}
+use Rattle.std.proofs.Common.{◌≡◌, ◌⊎◌, inl, inr, ℕ, zero, suc, ◌+◌, ◌*◌, ◌^◌, ◌<◌, ◌≤◌, Bool, true, false, ◌==◌, if◌then◌else◌, List, [], ◌∷◌, length, length-set, Option, Some, None, refl, sym, ap, ◌∙◌, subst, arith}
 use Rattle.cbdc_model.specs.Records.{Shape, Compact, Record, stamp_of, last_stamp}
-use Rattle.cbdc_model.specs.Coins.{Output, FullTx}
 use Rattle.cbdc_model.specs.Clean.{IsProperCompact}
 use Rattle.cbdc_model.specs.History.{Minted, minted}
-use Rattle.cbdc_model.specs.World.{World, Node, Event, Crash, Reopen, EventsPass, no_node, node_at, journals, flushed, effect, Step, Run, IsRecovered}
-use Rattle.ledger_laws.specs.Resumed.{openings, IsStampedUpTo, Recovers}
+use Rattle.cbdc_model.specs.World.{World, Node, Crash, Reopen, node_at, journals, flushed, effect, Step, Run}
+use Rattle.ledger_laws.specs.Resumed.{IsNoPrepare, openings, HasAllLocks, Recovers}
 use Rattle.ledger_laws.specs.Laws.{RecoveryLaw}
 use Rattle.ledger_laws.proofs.Rows.{at, away, at_node}
 use Rattle.ledger_laws.proofs.Ledger.{SteadyWorld}
 use Rattle.ledger_laws.proofs.Worlds.{set_same, set_other, run_keeps}
 use Rattle.ledger_laws.proofs.FirstWorld.{to_steady, to_kept}
 use Rattle.ledger_laws.proofs.Reaching.{run-append}
-use Rattle.ledger_laws.proofs.Writing.{Open}
+use Rattle.ledger_laws.proofs.Writing.{Grows, as_is, by_one, AllLocked, locks_stay, Open}
 use Rattle.ledger_laws.proofs.LanePhases.{Rests, lanes_rest}
 
 some_is : (q r : Record) → Some q ≡ Some r → q ≡ r
@@ -31,7 +30,12 @@ kept_low : (kept : Bool) (f : Option Record) (J : List Record) (top : ℕ) → l
 kept_low true f J top h g = flushed_low f J top h g
 kept_low false f J top h g = h
 
-module _ (K : Shape) (minting : Minted) (P : Compact → Type 0) (shards : 0 < K.shards) (kept_at : ℕ → Bool) (top : ℕ) where
+kept_grows : (kept : Bool) (f : Option Record) (J : List Record) → ((r : Record) → f ≡ Some r → IsNoPrepare r) → Grows J (if kept then flushed f J else J)
+kept_grows true None J h = as_is refl
+kept_grows true (Some r) J h = by_one r (h r refl) refl
+kept_grows false f J h = as_is refl
+
+module _ (K : Shape) (minting : Minted) (P : Compact → Type 0) (shards : 0 < K.shards) (kept_at : ℕ → Bool) (top : ℕ) (InTime : Type 0) where
   -- the nodes below n are up with nothing in flight
   record Partly (n : ℕ) (w : World) : Type 0 where
     kept : SteadyWorld K minting P w
@@ -39,6 +43,7 @@ module _ (K : Shape) (minting : Minted) (P : Compact → Type 0) (shards : 0 < K
     low : (m : ℕ) → last_stamp (journals w m) ≤ top
     flights : (m : ℕ) (r : Record) → (node_at w m).flight ≡ Some r → stamp_of r ≤ top
     ready : (m : ℕ) → m < n → ((node_at w m).up ≡ true) × ((node_at w m).flight ≡ None)
+    early : InTime ⊎ HasAllLocks K w
 
   -- a world after the node was stopped, and after it was opened again
   module _ (n : ℕ) (w : World) (lt : n < length w) where
@@ -48,9 +53,7 @@ module _ (K : Shape) (minting : Minted) (P : Compact → Type 0) (shards : 0 < K
       down : (node_at v n).up ≡ false
       low : ((m : ℕ) → last_stamp (journals w m) ≤ top) → ((m : ℕ) (r : Record) → (node_at w m).flight ≡ Some r → stamp_of r ≤ top) → last_stamp (journals v n) ≤ top
       others : (m : ℕ) → (n == m) ≡ false → node_at v m ≡ node_at w m
-
-    crashed : World
-    crashed = effect w (Crash n (kept_at n))
+      grows : ((m : ℕ) (r : Record) → (node_at w m).flight ≡ Some r → IsNoPrepare r) → Grows (journals w n) (journals v n)
 
     stopped : (v : World) × Stopped v
     stopped = elim ((node_at w n).up) as (λ u. (node_at w n).up ≡ u → (v : World) × Stopped v) [
@@ -62,6 +65,7 @@ module _ (K : Shape) (minting : Minted) (P : Compact → Type 0) (shards : 0 < K
           down = ap (λ v. v.up) here;
           low = λ low flights. subst (λ J. last_stamp J ≤ top) (sym (ap (λ v. v.journal) here)) (kept_low (kept_at n) (node_at w n).flight (journals w n) top (low n) (flights n));
           others = λ m e. set_other K minting P shards w n m _ e;
+          grows = λ flights. subst (λ J. Grows (journals w n) J) (sym (ap (λ v. v.journal) here)) (kept_grows (kept_at n) (node_at w n).flight (journals w n) (flights n));
         },
       )
       | false ↦ λ u. (
@@ -72,6 +76,7 @@ module _ (K : Shape) (minting : Minted) (P : Compact → Type 0) (shards : 0 < K
           down = u;
           low = λ low flights. low n;
           others = λ m e. refl;
+          grows = λ flights. as_is refl;
         },
       )
     ] refl
@@ -94,13 +99,14 @@ module _ (K : Shape) (minting : Minted) (P : Compact → Type 0) (shards : 0 < K
             | at e ↦ subst (λ k. last_stamp (journals (effect v (Reopen n)) k) ≤ top) e (subst (λ J. last_stamp J ≤ top) (sym (ap (λ u. u.journal) here)) (s.low p.low p.flights))
             | away e ↦ subst (λ u. last_stamp u.journal ≤ top) (sym (rest m e)) (p.low m)
           ];
-          flights = λ m r f. elim (at_node n m) [
-            | at e ↦ absurd (none_in_flight r (sym (ap (λ u. u.flight) here) ∙ subst (λ k. (node_at (effect v (Reopen n)) k).flight ≡ Some r) (sym e) f))
-            | away e ↦ p.flights m r (sym (ap (λ u. u.flight) (rest m e)) ∙ f)
-          ];
+          flights = λ m r f. p.flights m r (flying m r f);
           ready = λ m l. elim (at_node n m) [
             | at e ↦ subst (λ k. ((node_at (effect v (Reopen n)) k).up ≡ true) × ((node_at (effect v (Reopen n)) k).flight ≡ None)) e (ap (λ u. u.up) here, ap (λ u. u.flight) here)
             | away e ↦ subst (λ u. (u.up ≡ true) × (u.flight ≡ None)) (sym (rest m e)) (p.ready m (below m l e))
+          ];
+          early = elim p.early [
+            | inl h ↦ inl h
+            | inr l ↦ inr (record { locks = locks_stay K w (effect v (Reopen n)) (grown l.flights) l.locks; flights = λ m r f. l.flights m r (flying m r f) })
           ];
         },
       )
@@ -120,6 +126,18 @@ module _ (K : Shape) (minting : Minted) (P : Compact → Type 0) (shards : 0 < K
           none_in_flight : (r : Record) → None ≡ Some r → ⊥
           none_in_flight r e = cc
 
+          flying : (m : ℕ) (r : Record) → (node_at (effect v (Reopen n)) m).flight ≡ Some r → (node_at w m).flight ≡ Some r
+          flying m r f = elim (at_node n m) [
+            | at e ↦ absurd (none_in_flight r (sym (ap (λ u. u.flight) here) ∙ subst (λ k. (node_at (effect v (Reopen n)) k).flight ≡ Some r) (sym e) f))
+            | away e ↦ sym (ap (λ u. u.flight) (rest m e)) ∙ f
+          ]
+
+          grown : ((m : ℕ) (r : Record) → (node_at w m).flight ≡ Some r → IsNoPrepare r) → (m : ℕ) → Grows (journals w m) (journals (effect v (Reopen n)) m)
+          grown h m = elim (at_node n m) [
+            | at e ↦ subst (λ k. Grows (journals w k) (journals (effect v (Reopen n)) k)) e (subst (λ J. Grows (journals w n) J) (sym (ap (λ u. u.journal) here)) (s.grows h))
+            | away e ↦ as_is (ap (λ u. u.journal) (rest m e))
+          ]
+
           below : (m : ℕ) → m < suc n → (n == m) ≡ false → m < n
           below m l e = grind arith
 
@@ -136,12 +154,13 @@ module _ (K : Shape) (minting : Minted) (P : Compact → Type 0) (shards : 0 < K
   opened w p = record { kept = p.kept; size = p.size; up = λ n lt. (p.ready n lt).0; quiet = λ n lt. (p.ready n lt).1; low = p.low }
 
 pub recovery_law : RecoveryLaw
-recovery_law K mint txs w kept_at top shards lanes kept stamps room = by_opening (bring_all K (minted mint) (IsProperCompact txs) shards kept_at top (length w) w (omega arith) (record {
+recovery_law K mint txs w kept_at top shards lanes kept stamps room early = by_opening (bring_all K (minted mint) (IsProperCompact txs) shards kept_at top (top + K.coordinators * K.lanes * (3 * K.shards + 3) ≤ 2 ^ 62) (length w) w (omega arith) (record {
   kept = to_steady K mint txs w kept;
   size = kept.size;
   low = stamps.journals;
   flights = stamps.flights;
   ready = λ m lt. absurd (omega arith);
+  early = early;
 }))
   where
     by_lanes : (v : World) → Run K (minted mint) w (openings kept_at (length w)) v
@@ -155,7 +174,13 @@ recovery_law K mint txs w kept_at top shards lanes kept stamps room = by_opening
       recovered = record { up = r.is_open.up; quiet = r.is_open.quiet; idle = r.idle };
     }
 
-    by_opening : (v : World) × Run K (minted mint) w (openings kept_at (length w)) v × Partly K (minted mint) (IsProperCompact txs) shards kept_at top (length w) v → Recovers K mint txs kept_at w
+    all_locked : (v : World) → (top + K.coordinators * K.lanes * (3 * K.shards + 3) ≤ 2 ^ 62) ⊎ HasAllLocks K v → (top + K.coordinators * K.lanes * (3 * K.shards + 3) ≤ 2 ^ 62) ⊎ AllLocked K v
+    all_locked v (inl h) = inl h
+    all_locked v (inr l) = inr l.locks
+
+    by_opening : (v : World) × Run K (minted mint) w (openings kept_at (length w)) v
+        × Partly K (minted mint) (IsProperCompact txs) shards kept_at top (top + K.coordinators * K.lanes * (3 * K.shards + 3) ≤ 2 ^ 62) (length w) v → Recovers K mint txs kept_at w
     by_opening (v, run, p) =
-        by_lanes v run (lanes_rest K (minted mint) (IsProperCompact txs) shards lanes (K.coordinators * K.lanes) (omega arith) top v room
-        (opened K (minted mint) (IsProperCompact txs) shards kept_at top v (subst (λ n. Partly K (minted mint) (IsProperCompact txs) shards kept_at top n v) (kept.size ∙ sym p.size) p)))
+        by_lanes v run (lanes_rest K (minted mint) (IsProperCompact txs) shards lanes (K.coordinators * K.lanes) (omega arith) top v room (all_locked v p.early)
+        (opened K (minted mint) (IsProperCompact txs) shards kept_at top (top + K.coordinators * K.lanes * (3 * K.shards + 3) ≤ 2 ^ 62) v
+        (subst (λ n. Partly K (minted mint) (IsProperCompact txs) shards kept_at top (top + K.coordinators * K.lanes * (3 * K.shards + 3) ≤ 2 ^ 62) n v) (kept.size ∙ sym p.size) p)))

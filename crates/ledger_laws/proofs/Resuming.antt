@@ -1,42 +1,26 @@
 -- What is still to come of a lane's open batch may be written: the Locks of a prepared batch, its Commit, the Finishes, the Discard, the Forgets, the Done.
-use Rattle.std.proofs.Common.{◌≡◌, ◌⊎◌, inl, inr, ℕ, zero, suc, ◌+◌, ◌^◌, ◌<◌, ◌≤◌, ◌/◌, max, Bool, true, false, ◌&&◌, ◌==◌, List, [], ◌∷◌, ◌++◌, length, Option, Some, None, is_some, refl, sym, ap, ◌∙◌, subst, arith}
-use Rattle.std.specs.List.{All, AllByRecursion}
+use Rattle.std.proofs.Common.{◌≡◌, inl, inr, ℕ, zero, suc, ◌+◌, ◌^◌, ◌<◌, ◌≤◌, ◌/◌, max, true, false, ◌&&◌, ◌==◌, List, [], ◌∷◌, ◌++◌, length, Some, is_some, refl, sym, ap, ◌∙◌, subst, arith}
+use Rattle.std.specs.List.{AllByRecursion}
 use Rattle.std.proofs.lemmas.List.Elements.{All-from_recursion, recursion_from_All}
-use Rattle.cbdc_model.specs.Records.{Digest, Shape, Batch, same_batch, Compact, Entry, Outcome, Answered, Record, Row, journal, record_of, kind_of, is_of, is_in_lane, entries_in, txs_in, outcomes_in, lock_of, txs_of, outcomes_of, stamp_of, stamp_in, last_stamp, Genesis, Lock, Finish, Forget, Start, Prepare, Commit, Discard, Done}
-use Rattle.cbdc_model.specs.Slots.{slot, Idle, InLock, InFinish, InPrepare, InCommit, InDiscard}
-use Rattle.cbdc_model.specs.Status.{status, Locked}
+use Rattle.cbdc_model.specs.Records.{Digest, Shape, Batch, Compact, Entry, Outcome, Answered, Record, Row, journal, record_of, kind_of, is_of, entries_in, txs_in, outcomes_in, lock_of, txs_of, stamp_of, stamp_in, last_stamp, Lock, Finish, Forget, Prepare, Commit, Discard, Done}
+use Rattle.cbdc_model.specs.Slots.{slot, InPrepare, InCommit, InDiscard}
 use Rattle.cbdc_model.specs.Replies.{answered, entries}
 use Rattle.cbdc_model.specs.Ranges.{shard_node, part, is_no_part, Concerned}
 use Rattle.cbdc_model.specs.Outcomes.{decisions, outcomes}
-use Rattle.cbdc_model.specs.Grammar.{IsShard, IsBatchOf, HasSize, IsEntry, IsOutcome, IsCompact, IsInGrammar}
+use Rattle.cbdc_model.specs.Grammar.{IsShard, IsEntry, IsOutcome, IsCompact, IsInGrammar}
 use Rattle.cbdc_model.specs.Causes.{greatest, at_shards, AllHave, IsCaused, last_of}
 use Rattle.cbdc_model.specs.History.{Minted, header_of, first_rows}
-use Rattle.ledger_laws.proofs.Next.{Next, has_lock, has_finish, has_forget, has_prepare, Steady, AllProper}
-use Rattle.ledger_laws.proofs.Rows.{at, away, at_node, head_at, head_away}
+use Rattle.ledger_laws.proofs.Next.{Next, has_lock, has_finish, has_forget, Steady, AllProper}
 use Rattle.ledger_laws.proofs.Lookups.{true_false, no_lock}
 use Rattle.ledger_laws.proofs.Slots.{same_batch_self}
-use Rattle.ledger_laws.proofs.First.{journal_first, all_first}
-use Rattle.ledger_laws.proofs.Moves.{none_of, split_test, test_step}
-use Rattle.ledger_laws.proofs.Alikes.{found_passes}
-use Rattle.ledger_laws.proofs.Recovered.{all_dones, all_phases}
+use Rattle.ledger_laws.proofs.Recovered.{all_dones}
 use Rattle.ledger_laws.proofs.Repeats.{all_order, lock_answered, finish_answered, forget_answered}
 use Rattle.ledger_laws.proofs.Answered.{LockAnswered, FinishAnswered, ForgetAnswered, lock_stale, lock_stored, lock_appends, finish_stale, finish_stored, finish_appends, forget_stale, forget_stored, forget_appends}
-use Rattle.ledger_laws.proofs.Last as last
-use Rattle.ledger_laws.proofs.Phases.{in_order}
 use Rattle.ledger_laws.proofs.Settling.{shard_number}
 use Rattle.ledger_laws.proofs.Planned.{entries_answered, newer}
-use Rattle.ledger_laws.proofs.Older.{all_older}
+use Rattle.ledger_laws.proofs.Found.{found_grammar, lock_fits, forgot_here, finished_here, locked_here, commit_locked, holders}
 use Rattle.ledger_laws.proofs.Fitting.{Fits, part_fits, outcomes_fit, outcomes_length}
 use Rattle.ledger_laws.specs.Resumed.{IsNoPrepare}
-
-pub found_new : (kind : ℕ) (q : Record) (J : List Record) (b : Batch) → ((kind_of q == kind) && is_of b q) ≡ true → record_of kind (q ∷ J) b ≡ Some q
-found_new kind q J b t = rw t
-
-some_is : (q r : Record) → Some q ≡ Some r → q ≡ r
-some_is q r e = cc
-
-both_same : (c b : Batch) → (c.lane == b.lane) ≡ true → c.number ≡ b.number → same_batch c b ≡ true
-both_same c b l n = grind arith
 
 -- a record that may be written at a node, of a kind of a batch, with a stamp at most one above all last ones
 pub record Writes (K : Shape) (id : Digest) (P : Compact → Type 0) (J : ℕ → List Record) (n : ℕ) (b : Batch) (kind top : ℕ) : Type 0 where
@@ -48,25 +32,6 @@ pub record Writes (K : Shape) (id : Digest) (P : Compact → Type 0) (J : ℕ �
   pub of_kind : ((kind_of r == kind) && is_of b r) ≡ true
   pub stamp : stamp_of r ≤ suc top
   pub begun : IsNoPrepare r
-
--- every record that stands is in the grammar of its node
-pub found_grammar : (K : Shape) (minting : Minted) (P : Compact → Type 0) (shards : 0 < K.shards) (later : List Row) → Steady K minting P later → (n kind : ℕ) (b : Batch) (r : Record)
-    → record_of kind (journal n (later ++ first_rows K minting)) b ≡ Some r → IsInGrammar (header_of K minting.id n) r
-found_grammar K minting P shards [] kept n kind b r e =
-    absurd (true_false _ (ap is_some e) (none_of kind (journal n (first_rows K minting)) (journal_first n (first_rows K minting) (all_first K minting P shards)) b))
-found_grammar K minting P shards (row ∷ later) kept n kind b r e =
-    elim (at_node row.node n) [
-      | away a ↦ found_grammar K minting P shards later kept.3 n kind b r (ap (λ J. record_of kind J b) (sym (head_away row (later ++ first_rows K minting) n a)) ∙ e)
-      | at a ↦
-          let e' : record_of kind (row.what ∷ journal n (later ++ first_rows K minting)) b ≡ Some r
-          = ap (λ J. record_of kind J b) (sym (head_at row (later ++ first_rows K minting) n a)) ∙ e in
-          elim ((kind_of row.what == kind) && is_of b row.what) as (λ t. ((kind_of row.what == kind) && is_of b row.what) ≡ t → IsInGrammar (header_of K minting.id n) r) [
-            | true ↦ λ t.
-                let is : row.what ≡ r = some_is row.what r (sym (found_new kind row.what (journal n (later ++ first_rows K minting)) b t) ∙ e') in
-                subst (λ q. IsInGrammar (header_of K minting.id n) q) is (subst (λ m. IsInGrammar (header_of K minting.id m) row.what) a kept.4)
-            | false ↦ λ t. found_grammar K minting P shards later kept.3 n kind b r (sym (test_step kind row.what (journal n (later ++ first_rows K minting)) b t) ∙ e')
-          ] refl
-    ]
 
 some_entries : (p : List Entry) (es : List Answered) → entries es ≡ p → is_no_part p ≡ false → 0 < length es
 some_entries p [] e h = absurd (let z : true ≡ false = ap is_no_part e ∙ h in cc)
@@ -86,79 +51,15 @@ stamped own cause top h g = omega arith
 early : (own cause top : ℕ) → own ≤ top → cause ≤ top → suc top ≤ 2 ^ 62 → (1 ≤ suc (max own cause)) × (suc (max own cause) ≤ 2 ^ 62)
 early own cause top h g room = (omega arith, omega arith)
 
-late : (own cause top : ℕ) → own ≤ top → cause ≤ top → suc top ≤ 2 ^ 62 → (1 ≤ suc (max own cause)) × (suc (max own cause) ≤ 2 ^ 62 + 2 ^ 20)
+late : (own cause top : ℕ) → own ≤ top → cause ≤ top → suc top ≤ 2 ^ 62 + 2 ^ 20 → (1 ≤ suc (max own cause)) × (suc (max own cause) ≤ 2 ^ 62 + 2 ^ 20)
 late own cause top h g room = (omega arith, omega arith)
 
 module _ (K : Shape) (minting : Minted) (P : Compact → Type 0) (shards : 0 < K.shards) (later : List Row) (kept : Steady K minting P later) where
   abbrev J : ℕ → List Record
   J n = journal n (later ++ first_rows K minting)
 
-  -- what is known of the Lock that stands
-  record LockFits (n : ℕ) (b : Batch) : Type 0 where
-    of_shape : IsBatchOf K b
-    size : (1 ≤ length (lock_of (J n) b)) × (length (lock_of (J n) b) ≤ K.batch)
-    all : AllByRecursion (IsEntry K n) (lock_of (J n) b)
-
-  lock_fits : (n : ℕ) (b : Batch) → has_lock (J n) b ≡ true → LockFits n b
-  lock_fits n b h = elim (record_of 2 (J n) b) as (λ o. record_of 2 (J n) b ≡ o → is_some o ≡ true → LockFits n b) [
-    | None ↦ λ e t. absurd (let z : false ≡ true = t in cc)
-    | Some r ↦ λ e t. of_record r e (found_passes 2 (J n) b r e) (found_grammar K minting P shards later kept n 2 b r e)
-  ] refl h
-    where
-      of_record : (r : Record) → record_of 2 (J n) b ≡ Some r → ((kind_of r == 2) && is_of b r) ≡ true → IsInGrammar (header_of K minting.id n) r → LockFits n b
-      of_record (Lock stamp c es) e t g =
-          let is : es ≡ lock_of (J n) b = ap entries_in (sym e) in
-          record {
-            of_shape = subst (λ d. IsBatchOf K d) (split_test 2 2 c b t).1 g.1;
-            size = subst (λ fs. (1 ≤ length fs) × (length fs ≤ K.batch)) is g.3;
-            all = subst (λ fs. AllByRecursion (IsEntry K n) fs) is (recursion_from_All (IsEntry K n) es g.5);
-          }
-      of_record (Genesis header hs) e t g = absurd (let z : false ≡ true = t in cc)
-      of_record (Start header) e t g = absurd (let z : false ≡ true = t in cc)
-      of_record (Finish stamp c ds) e t g = absurd (let z : false ≡ true = t in cc)
-      of_record (Forget stamp c) e t g = absurd (let z : false ≡ true = t in cc)
-      of_record (Prepare stamp c txs) e t g = absurd (let z : false ≡ true = t in cc)
-      of_record (Commit stamp c os) e t g = absurd (let z : false ≡ true = t in cc)
-      of_record (Discard stamp c) e t g = absurd (let z : false ≡ true = t in cc)
-      of_record (Done stamp c) e t g = absurd (let z : false ≡ true = t in cc)
-
-  -- where the lane is idle at a shard with this number, the batch is forgotten there
-  forgot_here : (s : ℕ) (b : Batch) → 1 ≤ b.number → (slot (J (shard_node K s)) b.lane).number ≡ b.number → (slot (J (shard_node K s)) b.lane).phase ≡ Idle → has_forget (J (shard_node K s)) b ≡ true
-  forgot_here s b some n p = elim (last.last_of (J (shard_node K s)) b.lane) as (λ o. last.last_of (J (shard_node K s)) b.lane ≡ o → has_forget (J (shard_node K s)) b ≡ true) [
-    | None ↦ λ e. absurd (let z : (slot (J (shard_node K s)) b.lane).number ≡ 0 = ap (λ q. q.number) (last.slot_is (J (shard_node K s)) b.lane ∙ ap last.slot_by e) in omega arith)
-    | Some r ↦ λ e. of_record r e (last.last_in_lane (J (shard_node K s)) b.lane r e)
-        (sym (ap (λ q. q.number) (last.slot_is (J (shard_node K s)) b.lane ∙ ap last.slot_by e)) ∙ n) (sym (ap (λ q. q.phase) (last.slot_is (J (shard_node K s)) b.lane ∙ ap last.slot_by e)) ∙ p)
-  ] refl
-    where
-      of_record : (r : Record) → last.last_of (J (shard_node K s)) b.lane ≡ Some r → is_in_lane b.lane r ≡ true → (last.slot_by (Some r)).number ≡ b.number
-          → (last.slot_by (Some r)).phase ≡ Idle → has_forget (J (shard_node K s)) b ≡ true
-      of_record (Forget stamp c) e l m i = ap is_some (last.last_found (J (shard_node K s)) 4 b (Forget stamp c) e (both_same c b l m))
-      of_record (Done stamp c) e l m i =
-          absurd (true_false _ ((all_phases K minting P shards later kept (shard_node K s)).done_prepared b (ap is_some (last.last_found (J (shard_node K s)) 9 b (Done stamp c) e (both_same c b l m)))).0
-          ((all_dones K minting P shards later kept (shard_node K s)).pure b (omega arith)))
-      of_record (Genesis header hs) e l m i = absurd (let z : false ≡ true = l in cc)
-      of_record (Start header) e l m i = absurd (let z : false ≡ true = l in cc)
-      of_record (Lock stamp c es) e l m i = absurd (let z : InLock ≡ Idle = i in cc)
-      of_record (Finish stamp c ds) e l m i = absurd (let z : InFinish ≡ Idle = i in cc)
-      of_record (Prepare stamp c txs) e l m i = absurd (let z : InPrepare ≡ Idle = i in cc)
-      of_record (Commit stamp c os) e l m i = absurd (let z : InCommit ≡ Idle = i in cc)
-      of_record (Discard stamp c) e l m i = absurd (let z : InDiscard ≡ Idle = i in cc)
-
-  finished_here : (s : ℕ) (b : Batch) → has_forget (J (shard_node K s)) b ≡ true → has_finish (J (shard_node K s)) b ≡ true
-  finished_here s b h = (all_dones K minting P shards later kept (shard_node K s)).forgot b h
-
-  locked_here : (s : ℕ) (b : Batch) → has_finish (J (shard_node K s)) b ≡ true → has_lock (J (shard_node K s)) b ≡ true
-  locked_here s b h = ((in_order K minting P shards later kept b).finish s h).0
-
-  commit_locked : (b : Batch) (stamp : ℕ) (os : List Outcome) → record_of 7 (J (b.lane / K.lanes)) b ≡ Some (Commit stamp b os) → (s : ℕ) → Concerned K (txs_of (J (b.lane / K.lanes)) b) s
-      → has_lock (J (shard_node K s)) b ≡ true
-  commit_locked b stamp os e s c = (((in_order K minting P shards later kept b).commit (ap is_some e)).1 s c).0
-
-  holders : (n : ℕ) (x : Digest) (by : Batch) → status (J n) x ≡ Locked by → IsBatchOf K by
-  holders n x by e = (lock_fits n by ((all_older K minting P shards later kept x n).locked by e)).of_shape
-
-  -- all last stamps are at most this, and one more is early
-  module _ (top : ℕ) (low : (n : ℕ) → last_stamp (J n) ≤ top) (room : suc top ≤ 2 ^ 62) where
+  -- all last stamps are at most this, and there is one more
+  module _ (top : ℕ) (low : (n : ℕ) → last_stamp (J n) ≤ top) (room : suc top ≤ 2 ^ 62 + 2 ^ 20) where
     low_at : (kind n : ℕ) (b : Batch) → stamp_in (record_of kind (J n) b) ≤ top
     low_at kind n b = omega (arith, (all_order K minting P shards later kept n).stamps_le kind b, low n)
 
@@ -177,8 +78,8 @@ module _ (K : Shape) (minting : Minted) (P : Compact → Type 0) (shards : 0 < K
       same_txs : txs_of (J (b.lane / K.lanes)) b ≡ txs
       same_txs = ap txs_in stands
 
-      pub lock_writes : (s : ℕ) → Concerned K txs s → has_lock (J (shard_node K s)) b ≡ false → Writes K minting.id P J (shard_node K s) b 2 top
-      lock_writes s c missing = by_answer (lock_answered K minting P shards later kept b cause txs stands s c.0)
+      pub lock_writes : suc top ≤ 2 ^ 62 → (s : ℕ) → Concerned K txs s → has_lock (J (shard_node K s)) b ≡ false → Writes K minting.id P J (shard_node K s) b 2 top
+      lock_writes in_time s c missing = by_answer (lock_answered K minting P shards later kept b cause txs stands s c.0)
         where
           same : entries (answered (J (shard_node K s)) b [] (part K.shards s 0 txs)) ≡ part K.shards s 0 txs
           same = entries_answered (J (shard_node K s)) b (part K.shards s 0 txs) []
@@ -186,8 +87,8 @@ module _ (K : Shape) (minting : Minted) (P : Compact → Type 0) (shards : 0 < K
           low_cause : cause ≤ top
           low_cause = let l : stamp_in (record_of 6 (J (b.lane / K.lanes)) b) ≤ top = low_at 6 (b.lane / K.lanes) b in subst (λ r. stamp_in r ≤ top) stands l
 
-          fits : Fits K s (J (shard_node K s)) b prepared.1 (holders (shard_node K s)) 0 K.batch (length txs) (answered (J (shard_node K s)) b [] (part K.shards s 0 txs))
-          fits = part_fits K s (J (shard_node K s)) b prepared.1 (holders (shard_node K s)) [] 0 K.batch txs (recursion_from_All IsCompact txs prepared.4) (omega (arith, prepared.3))
+          fits : Fits K s (J (shard_node K s)) b prepared.1 (holders K minting P shards later kept (shard_node K s)) 0 K.batch (length txs) (answered (J (shard_node K s)) b [] (part K.shards s 0 txs))
+          fits = part_fits K s (J (shard_node K s)) b prepared.1 (holders K minting P shards later kept (shard_node K s)) [] 0 K.batch txs (recursion_from_All IsCompact txs prepared.4) (omega (arith, prepared.3))
 
           some : 0 < length (answered (J (shard_node K s)) b [] (part K.shards s 0 txs))
           some = some_entries (part K.shards s 0 txs) (answered (J (shard_node K s)) b [] (part K.shards s 0 txs)) same c.1
@@ -197,7 +98,7 @@ module _ (K : Shape) (minting : Minted) (P : Compact → Type 0) (shards : 0 < K
 
           by_answer : LockAnswered (J (shard_node K s)) b (part K.shards s 0 txs) cause → Writes K minting.id P J (shard_node K s) b 2 top
           by_answer (lock_stale (inl lt)) = absurd (not_past s lt)
-          by_answer (lock_stale (inr (e, i))) = absurd (true_false _ (locked_here s b (finished_here s b (forgot_here s b prepared.1.1 e i))) missing)
+          by_answer (lock_stale (inr (e, i))) = absurd (true_false _ (locked_here K minting P shards later kept s b (finished_here K minting P shards later kept s b (forgot_here K minting P shards later kept s b prepared.1.1 e i))) missing)
           by_answer (lock_stored n e) = absurd (locked e)
           by_answer (lock_appends lt i after) = record {
             r = Lock (suc (max (last_stamp (J (shard_node K s))) cause)) b (answered (J (shard_node K s)) b [] (part K.shards s 0 txs));
@@ -209,7 +110,7 @@ module _ (K : Shape) (minting : Minted) (P : Compact → Type 0) (shards : 0 < K
             );
             passes = tt;
             grammar = (
-              early (last_stamp (J (shard_node K s))) cause top (low (shard_node K s)) low_cause room,
+              early (last_stamp (J (shard_node K s))) cause top (low (shard_node K s)) low_cause in_time,
               prepared.1,
               at_shard s c.0,
               (some, omega (arith, fits.size, prepared.3)),
@@ -245,7 +146,7 @@ module _ (K : Shape) (minting : Minted) (P : Compact → Type 0) (shards : 0 < K
 
           locks_fit : (s : ℕ) → s < K.shards → AllByRecursion (IsEntry K (shard_node K s)) (entries_in (at_shards K J 2 b s))
           locks_fit s lt = elim (has_lock (J (shard_node K s)) b) as (λ c. has_lock (J (shard_node K s)) b ≡ c → AllByRecursion (IsEntry K (shard_node K s)) (lock_of (J (shard_node K s)) b)) [
-            | true ↦ λ e. (lock_fits (shard_node K s) b e).all
+            | true ↦ λ e. (lock_fits K minting P shards later kept (shard_node K s) b e).all
             | false ↦ λ e. subst (λ fs. AllByRecursion (IsEntry K (shard_node K s)) fs) (sym (no_lock (J (shard_node K s)) b e)) tt
           ] refl
 
@@ -295,14 +196,14 @@ module _ (K : Shape) (minting : Minted) (P : Compact → Type 0) (shards : 0 < K
           low_commit = let l : stamp_in (record_of 7 (J (b.lane / K.lanes)) b) ≤ top = low_at 7 (b.lane / K.lanes) b in subst (λ r. stamp_in r ≤ top) committed l
 
           locked : has_lock (J (shard_node K s)) b ≡ true
-          locked = commit_locked b stamp os committed s (subst (λ ts. Concerned K ts s) (sym same_txs) c)
+          locked = commit_locked K minting P shards later kept b stamp os committed s (subst (λ ts. Concerned K ts s) (sym same_txs) c)
 
           sized : (1 ≤ length (decisions os (entries (lock_of (J (shard_node K s)) b)))) × (length (decisions os (entries (lock_of (J (shard_node K s)) b))) ≤ K.batch)
-          sized = let f = (lock_fits (shard_node K s) b locked).size in let l = decisions_length os (lock_of (J (shard_node K s)) b) in (omega arith, omega arith)
+          sized = let f = (lock_fits K minting P shards later kept (shard_node K s) b locked).size in let l = decisions_length os (lock_of (J (shard_node K s)) b) in (omega arith, omega arith)
 
           by_answer : FinishAnswered (J (shard_node K s)) b (decisions os (entries (lock_of (J (shard_node K s)) b))) stamp → Writes K minting.id P J (shard_node K s) b 3 top
           by_answer (finish_stale (inl lt)) = absurd (not_past s lt)
-          by_answer (finish_stale (inr (e, i))) = absurd (true_false _ (finished_here s b (forgot_here s b prepared.1.1 e i)) missing)
+          by_answer (finish_stale (inr (e, i))) = absurd (true_false _ (finished_here K minting P shards later kept s b (forgot_here K minting P shards later kept s b prepared.1.1 e i)) missing)
           by_answer (finish_stored n p e) = absurd (true_false _ ((all_dones K minting P shards later kept (shard_node K s)).finish_here b p n) missing)
           by_answer (finish_appends n p fit after) = record {
             r = Finish (suc (max (last_stamp (J (shard_node K s))) stamp)) b (decisions os (entries (lock_of (J (shard_node K s)) b)));
@@ -329,7 +230,7 @@ module _ (K : Shape) (minting : Minted) (P : Compact → Type 0) (shards : 0 < K
 
           by_answer : ForgetAnswered (J (shard_node K s)) b stamp → Writes K minting.id P J (shard_node K s) b 4 top
           by_answer (forget_stale lt) = absurd (not_past s lt)
-          by_answer (forget_stored n p) = absurd (true_false _ (forgot_here s b prepared.1.1 n p) missing)
+          by_answer (forget_stored n p) = absurd (true_false _ (forgot_here K minting P shards later kept s b prepared.1.1 n p) missing)
           by_answer (forget_appends n p after) = record {
             r = Forget (suc (max (last_stamp (J (shard_node K s))) stamp)) b;
             next = (newer (last_stamp (J (shard_node K s))) stamp, at_shard s c.0, p, n);

@@ -1,14 +1,12 @@
 -- One record is written in a world that is up, and writings in turn.
-use Rattle.std.proofs.Common.{◌≡◌, inl, inr, ℕ, zero, suc, ◌+◌, ◌<◌, ◌≤◌, ◌/◌, true, false, ◌&&◌, ◌==◌, if◌then◌else◌, List, [], ◌∷◌, ◌++◌, length, Some, None, is_some, refl, sym, ap, ◌∙◌, subst, arith}
-use Rattle.cbdc_model.specs.Records.{Shape, Batch, Compact, Record, journal, record_of, kind_of, is_of, stamp_of, last_stamp, Genesis, Lock, Finish, Forget, Start, Prepare, Commit, Discard, Done}
-use Rattle.cbdc_model.specs.Slots.{Slot, slot}
-use Rattle.cbdc_model.specs.Causes.{IsCaused}
-use Rattle.cbdc_model.specs.Grammar.{IsInGrammar}
-use Rattle.cbdc_model.specs.After.{After}
-use Rattle.cbdc_model.specs.History.{Minted, header_of, first_rows}
-use Rattle.cbdc_model.specs.World.{World, Node, Event, Begin, End, EventsPass, node_at, journals, Run}
-use Rattle.ledger_laws.specs.Resumed.{BeginNoPrepare}
-use Rattle.ledger_laws.proofs.Next.{Next, AllProper}
+use Rattle.std.proofs.Common.{◌≡◌, ℕ, suc, ◌+◌, ◌<◌, ◌≤◌, ◌/◌, true, false, ◌&&◌, ◌==◌, cond, List, [], ◌∷◌, ◌++◌, length, Some, None, is_some, refl, sym, ap, ◌∙◌, subst, arith}
+use Rattle.cbdc_model.specs.Records.{Shape, Batch, Compact, Record, record_of, txs_of, kind_of, is_of, last_stamp, Genesis, Lock, Finish, Forget, Start, Prepare, Commit, Discard, Done}
+use Rattle.cbdc_model.specs.Slots.{slot}
+use Rattle.cbdc_model.specs.Ranges.{shard_node, Concerned}
+use Rattle.cbdc_model.specs.Causes.{AllHave}
+use Rattle.cbdc_model.specs.History.{Minted}
+use Rattle.cbdc_model.specs.World.{World, Event, Begin, End, node_at, journals, Run}
+use Rattle.ledger_laws.specs.Resumed.{IsNoPrepare, BeginNoPrepare}
 use Rattle.ledger_laws.proofs.Rows.{at, away, at_node}
 use Rattle.ledger_laws.proofs.Ledger.{SteadyWorld, after_of, passes_of}
 use Rattle.ledger_laws.proofs.Worlds.{run_keeps}
@@ -34,6 +32,41 @@ other_slots (Done stamp c) b J lane h apart = let e : (c.lane == lane) ≡ false
 of_batch : (kind : ℕ) (r : Record) (b : Batch) → ((kind_of r == kind) && is_of b r) ≡ true → is_of b r ≡ true
 of_batch kind r b t = grind arith
 
+-- a journal that stays or grows by a record that is no Prepare
+pub data Grows (J I : List Record) : Type 0 where
+  as_is : I ≡ J → Grows J I
+  by_one : (r : Record) → IsNoPrepare r → I ≡ r ∷ J → Grows J I
+
+same_txs : (r : Record) (J : List Record) (c : Batch) → IsNoPrepare r → txs_of (r ∷ J) c ≡ txs_of J c
+same_txs (Genesis header hs) J c h = refl
+same_txs (Start header) J c h = refl
+same_txs (Lock stamp d es) J c h = refl
+same_txs (Finish stamp d ds) J c h = refl
+same_txs (Forget stamp d) J c h = refl
+same_txs (Prepare stamp d txs) J c h = absurd h
+same_txs (Commit stamp d os) J c h = refl
+same_txs (Discard stamp d) J c h = refl
+same_txs (Done stamp d) J c h = refl
+
+more_locks : (r : Record) (J : List Record) (c : Batch) → is_some (record_of 2 J c) ≡ true → is_some (record_of 2 (r ∷ J) c) ≡ true
+more_locks r J c h = elim ((kind_of r == 2) && is_of c r) as (λ t. is_some (cond t (Some r) (record_of 2 J c)) ≡ true) [ true ↦ refl | false ↦ h ]
+
+grown_txs : (J I : List Record) (c : Batch) → Grows J I → txs_of I c ≡ txs_of J c
+grown_txs J I c (as_is e) = ap (λ X. txs_of X c) e
+grown_txs J I c (by_one r h e) = ap (λ X. txs_of X c) e ∙ same_txs r J c h
+
+grown_locks : (J I : List Record) (c : Batch) → Grows J I → is_some (record_of 2 J c) ≡ true → is_some (record_of 2 I c) ≡ true
+grown_locks J I c (as_is e) h = subst (λ X. is_some (record_of 2 X c) ≡ true) (sym e) h
+grown_locks J I c (by_one r n e) h = subst (λ X. is_some (record_of 2 X c) ≡ true) (sym e) (more_locks r J c h)
+
+-- each shard that a Prepare concerns has its Lock
+abbrev pub AllLocked : Shape → World → Type 0
+AllLocked K w = (c : Batch) → AllHave K (journals w) 2 c
+
+pub locks_stay : (K : Shape) (old new : World) → ((n : ℕ) → Grows (journals old n) (journals new n)) → AllLocked K old → AllLocked K new
+locks_stay K old new g l c s concerned = grown_locks (journals old (shard_node K s)) (journals new (shard_node K s)) c (g (shard_node K s))
+    (l c s (subst (λ ts. Concerned K ts s) (grown_txs (journals old (c.lane / K.lanes)) (journals new (c.lane / K.lanes)) c (g (c.lane / K.lanes))) concerned))
+
 module _ (K : Shape) (minting : Minted) (P : Compact → Type 0) (shards : 0 < K.shards) where
   -- a kept world whose nodes are all up with nothing in flight, and whose stamps are at most this
   pub record Open (top : ℕ) (w : World) : Type 0 where
@@ -55,10 +88,11 @@ module _ (K : Shape) (minting : Minted) (P : Compact → Type 0) (shards : 0 < K
     pub none : BeginNoPrepare events
     pub is_open : Open top new
     pub others : Others lane old new
+    pub locks : AllLocked K old → AllLocked K new
     pub what : Q new
 
   pub stay : (top lane : ℕ) (w : World) (Q : World → Type 0) → Open top w → Q w → Goes top lane w Q
-  stay top lane w Q o q = record { new = w; events = []; run = refl; none = tt; is_open = o; others = λ n other apart. refl; what = q }
+  stay top lane w Q o q = record { new = w; events = []; run = refl; none = tt; is_open = o; others = λ n other apart. refl; locks = λ l. l; what = q }
 
   pub go_on : (middle top lane : ℕ) (w : World) (Q R : World → Type 0) → Goes middle lane w Q → ((v : World) → Open middle v → Q v → Goes top lane v R) → Goes top lane w R
   go_on middle top lane w Q R g f =
@@ -70,6 +104,7 @@ module _ (K : Shape) (minting : Minted) (P : Compact → Type 0) (shards : 0 < K
         none = begin-append g.events h.events g.none h.none;
         is_open = h.is_open;
         others = λ n other apart. h.others n other apart ∙ g.others n other apart;
+        locks = λ l. h.locks (g.locks l);
         what = h.what;
       }
 
@@ -81,6 +116,7 @@ module _ (K : Shape) (minting : Minted) (P : Compact → Type 0) (shards : 0 < K
     none = g.none;
     is_open = record { kept = g.is_open.kept; size = g.is_open.size; up = g.is_open.up; quiet = g.is_open.quiet; low = λ n. omega (arith, g.is_open.low n) };
     others = g.others;
+    locks = g.locks;
     what = f g.new g.what;
   }
 
@@ -120,6 +156,10 @@ module _ (K : Shape) (minting : Minted) (P : Compact → Type 0) (shards : 0 < K
           (ap (λ J. slot J other) own ∙ other_slots q.r b (journals w n) other (of_batch kind q.r b q.of_kind) apart)
       | away e ↦ ap (λ J. slot J other) (rest m e)
     ];
+    locks = locks_stay K w (ended K minting P shards w n q.r lt) (λ m. elim (at_node n m) [
+      | at e ↦ subst (λ k. Grows (journals w k) (journals (ended K minting P shards w n q.r lt) k)) e (by_one q.r q.begun own)
+      | away e ↦ as_is (rest m e)
+    ]);
     what = record { here = (q.r, (q.of_kind, own)); elsewhere = rest };
   }
     where

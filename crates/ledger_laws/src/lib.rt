@@ -118,10 +118,11 @@ pub fn settled_law()
     ensures { SettledLaw }
 {}
 
-/// From any kept world, where the greatest stamp and three records for each shard and three more
-/// for each lane come to 2^62 at most: the nodes are opened again, each keeping what was in flight
-/// or not, and then what is still to come of the open batches is written, with no new Prepare; the
-/// world that this leads to is kept and recovered.
+/// From any kept world in which a stamp is left for each record that may still come, and an early
+/// one where a Lock is still to come: the nodes are opened again, each keeping what was in flight or
+/// not, and then what is still to come of the open batches is written, with no new Prepare. The world
+/// that this leads to is kept and recovered. A lane's batch has three records for each shard at most,
+/// and three more.
 pub fn recovery_law()
     ensures { RecoveryLaw }
 {}

@@ -1,10 +1,10 @@
 -- Journals of nodes, runs that go on, and the clock of calls that are answered.
-use Rattle.std.proofs.Common.{◌≡◌, ℕ, suc, ◌+◌, ◌<◌, ◌≤◌, ◌^◌, max, Bool, true, false, if◌then◌else◌, List, [], ◌∷◌, ◌++◌, map, take, get_or, length, Option, Some, None, refl, sym, ap, ◌∙◌, subst, arith}
+use Rattle.std.proofs.Common.{◌≡◌, ℕ, suc, ◌+◌, ◌<◌, ◌≤◌, ◌^◌, max, List, [], ◌∷◌, ◌++◌, map, take, get_or, length, Some, None, refl, sym, subst, arith}
 use Rattle.std.proofs.Math.ListN.{get_or-map}
 use Rattle.std.proofs.lemmas.List.{map_more}
-use Rattle.cbdc_model.specs.Records.{Digest, Shape, Header, Record, last_stamp, stamp_of}
-use Rattle.cbdc_model.specs.Next.{next_stamp, next_lock, next_finish, next_forget}
-use Rattle.cbdc_model.specs.Grammar.{IsInGrammar, IsEarly, IsLater}
+use Rattle.cbdc_model.specs.Records.{Digest, Shape, Header, Record, last_stamp}
+use Rattle.cbdc_model.specs.Next.{next_lock, next_finish, next_forget}
+use Rattle.cbdc_model.specs.Grammar.{IsInGrammar}
 use Rattle.cbdc_model.specs.History.{Minted}
 use Rattle.cbdc_model.specs.World.{Node, World, no_node, journals, ShardCall, Lock_call, Finish_call, Forget_call, appends, record_for, Event, Step, Run}
 use Rattle.cbdc_model.specs.Next.{Plan, Kept, Append, Refuse}

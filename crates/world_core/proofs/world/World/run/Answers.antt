@@ -1,7 +1,4 @@
-use Rattle.std.proofs.Common.{◌≡◌, ◌+◌, ◌∙◌, map, take, sym, subst, arith}
-use Rattle.std.proofs.lemmas.List.{map_more}
-use Rattle.cbdc_model.specs.World.{Run}
-use Rattle.world_core.specs.Events.{event_in, mint_of}
+use Rattle.std.proofs.Common.{◌∙◌, arith}
 use Rattle.world_core.proofs.Worlds.{run_more}
 use Rattle.world_core.proofs.world.World.run.Goals as goal
 
