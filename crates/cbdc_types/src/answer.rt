@@ -1,5 +1,5 @@
 // What the program answers.
-use crate::{Hash, Header, LaneId, NodeId, Stamp};
+use crate::{Hash, Header, NodeId, Stamp};
 
 /// Why a sentinel refuses a transaction. Places count from 0.
 #[derive(Clone, Copy, Debug, PartialEq, Eq)]
@@ -97,8 +97,6 @@ pub enum Answer {
         node: NodeId,
         stamp: Stamp,
     },
-    /// A batch of the lane stands unfinished from an earlier run.
-    Unfinished(LaneId),
     /// The shard refused a call that its own batch's records call for.
     Refused(NodeId),
     Damaged {

@@ -1,8 +1,14 @@
 -- Which answers a part of the work may give, and what must have happened for them.
-use Rattle.std.specs.Prelude.{◌≡◌, ◌<◌, ℕ}
+use Rattle.std.specs.Prelude.{◌≡◌, ◌⊎◌, ◌++◌, ◌∷◌, ℕ, List, Some, codes, slice_get}
+use Rattle.line_text.specs.Lines.{Text}
 use Rattle.outside.specs.Counts.{Rose}
 use Rattle.cbdc_types.specs.declared.answer.Answer.{Answer}
 use Rattle.cbdc_types.specs.declared.answer.Answer.TheVariants as answers
+use Rattle.command_line.specs.Asked.{IsRefused}
+use Rattle.command_line.specs.declared.request.FileWord.{FileWord}
+use Rattle.command_line.specs.declared.request.Request.{Request}
+use Rattle.command_line.specs.declared.request.Request.TheVariants.{Init, Run}
+use Rattle.command_line.specs.declared.request.WordsFault.TheVariants.{Bad}
 
 -- reading a file: it names that file, and a fault of reading has its cause
 abbrev pub IsFileFault : ℕ → ℕ → ℕ → Answer → Type 0
@@ -10,3 +16,54 @@ IsFileFault place before now (answers.BadInput file at kind) = file ≡ place
 IsFileFault place before now (answers.ReadFault file) = (file ≡ place) × Rose before now
 IsFileFault place before now answers.Memory = Unit {0}
 IsFileFault place before now other = ⊥
+
+-- the count of faults of this file's name rose, and the file has this place
+abbrev pub FileRose : (Text → ℕ) → (Text → ℕ) → FileWord → ℕ → Type 0
+FileRose before now file place = (place ≡ file.place) × Rose (before file.name.now) (now file.name.now)
+
+-- one of these files does so
+abbrev pub OneRose : (Text → ℕ) → (Text → ℕ) → List FileWord → ℕ → Type 0
+OneRose before now files place = (k : ℕ) × (file : FileWord) × (slice_get files k ≡ Some file) × FileRose before now file place
+
+-- reading files: a fault of reading has its cause
+abbrev pub IsFilesFault : (Text → ℕ) → (Text → ℕ) → List FileWord → Answer → Type 0
+IsFilesFault before now files (answers.BadInput file at kind) = Unit {0}
+IsFilesFault before now files (answers.ReadFault file) = OneRose before now files file
+IsFilesFault before now files answers.Memory = Unit {0}
+IsFilesFault before now files other = ⊥
+
+-- one of the files that are asked for does so
+abbrev pub RequestRose : Request → (Text → ℕ) → (Text → ℕ) → ℕ → Type 0
+RequestRose (Init shape mint) before now place = FileRose before now mint place
+RequestRose (Run verdicts clients) before now place = OneRose before now clients.items place ⊎ FileRose before now verdicts place
+RequestRose other before now place = ⊥
+
+-- the work at the nodes: no words, no file and no output are at fault
+abbrev pub IsNodesFault : Answer → Type 0
+IsNodesFault answers.Ok = ⊥
+IsNodesFault answers.BadWords = ⊥
+IsNodesFault (answers.BadInput file at kind) = ⊥
+IsNodesFault (answers.TooMuch total) = ⊥
+IsNodesFault (answers.ReadFault file) = ⊥
+IsNodesFault answers.WriteFault = ⊥
+IsNodesFault other = Unit {0}
+
+-- doing what is asked: a fault of reading or writing has its cause
+abbrev pub IsDone : (ℕ → Type 0) → Type 0 → Answer → Type 0
+IsDone read written answers.BadWords = ⊥
+IsDone read written (answers.ReadFault file) = read file
+IsDone read written answers.WriteFault = written
+IsDone read written other = Unit {0}
+
+-- the word at this place names a file, whose count of faults rose; verdicts may stand behind their option
+abbrev pub NamedRose : List Text → (Text → ℕ) → (Text → ℕ) → ℕ → Type 0
+NamedRose words before now place =
+    (name : Text) × ((slice_get words place ≡ Some name) ⊎ (slice_get words place ≡ Some (codes "--verdicts" ++ 61 ∷ name)))
+    × Rose (before name) (now name)
+
+-- doing what the words ask for: words that are refused, and a fault of reading or writing, have their cause
+abbrev pub IsAnswered : List Text → (Text → ℕ) → (Text → ℕ) → Type 0 → Answer → Type 0
+IsAnswered words before now written answers.BadWords = IsRefused words Bad
+IsAnswered words before now written (answers.ReadFault file) = NamedRose words before now file
+IsAnswered words before now written answers.WriteFault = written
+IsAnswered words before now written other = Unit {0}

@@ -1,7 +1,8 @@
 // Input files, by the words that name them.
 ghost use Rattle.std.specs.Prelude.{◌≡◌, ◌≤◌, ℕ, List, IfErr};
 ghost use Rattle.outside.specs.Counts.{Rose};
-ghost use Rattle.commands.specs.Causes.{IsFileFault};
+ghost use Rattle.line_text.specs.Lines.{Text};
+ghost use Rattle.commands.specs.Causes.{IsFileFault, IsFilesFault};
 
 use cbdc_types::{Answer, FullTx, InputKind, List, Mint};
 use client_files::{FetchFault, FileFault, fetch, read_clients, read_mint};
@@ -17,6 +18,7 @@ fn bytes_of<I: Inbox>(
     file: &FileWord,
 ) -> Result<(List<u8>, bool), Answer>
     ensures fault { IfErr result (IsFileFault file.now.place (I.count inbox.old file.now.name.now) (I.count inbox.new file.now.name.now)) }
+    ensures later { (other : Text) → I.count inbox.old other ≤ I.count inbox.new other }
 {
     match fetch(alloc, inbox, file.name) {
         Ok(found) => Ok(found),
@@ -46,6 +48,7 @@ pub(crate) fn mint_in<I: Inbox>(
     file: &FileWord,
 ) -> Result<Mint, Answer>
     ensures fault { IfErr result (IsFileFault file.now.place (I.count inbox.old file.now.name.now) (I.count inbox.new file.now.name.now)) }
+    ensures later { (other : Text) → I.count inbox.old other ≤ I.count inbox.new other }
 {
     match bytes_of(alloc, inbox, file) {
         Ok((bytes, more)) => match read_mint(alloc, bytes.as_slice(), more) {
@@ -64,6 +67,7 @@ pub(crate) fn clients_in<I: Inbox>(
     before: u64,
 ) -> Result<List<FullTx>, Answer>
     ensures fault { IfErr result (IsFileFault file.now.place (I.count inbox.old file.now.name.now) (I.count inbox.new file.now.name.now)) }
+    ensures later { (other : Text) → I.count inbox.old other ≤ I.count inbox.new other }
 {
     match bytes_of(alloc, inbox, file) {
         Ok((bytes, more)) => match read_clients(alloc, bytes.as_slice(), more, before) {
@@ -100,6 +104,7 @@ pub(crate) fn verdicts_in<I: Inbox>(
     file: &FileWord,
 ) -> Result<VerdictFile, Answer>
     ensures fault { IfErr result (IsFileFault file.now.place (I.count inbox.old file.now.name.now) (I.count inbox.new file.now.name.now)) }
+    ensures later { (other : Text) → I.count inbox.old other ≤ I.count inbox.new other }
 {
     match bytes_of(alloc, inbox, file) {
         Ok((bytes, more)) => match VerdictFile::read(alloc, bytes.as_slice(), more) {
@@ -115,10 +120,13 @@ pub(crate) fn all_clients_in<I: Inbox>(
     alloc: Global,
     inbox: &mut I,
     files: &[FileWord],
-) -> Result<Vec<List<FullTx>>, Answer> {
+) -> Result<Vec<List<FullTx>>, Answer>
+    ensures fault { IfErr result (IsFilesFault (I.count inbox.old) (I.count inbox.new) files.now) }
+    ensures later { (other : Text) → I.count inbox.old other ≤ I.count inbox.new other }
+{
     let mut all = Vec::new(alloc);
     let mut before = 0u64;
-    for file in files {
+    'files: for file in files {
         let txs = match clients_in(alloc, inbox, file, before) {
             Ok(txs) => txs,
             Err(fault) => return Err(fault),

@@ -1,5 +1,7 @@
 // `init`: the first records of a ledger.
-ghost use Rattle.std.specs.Prelude.{◌≡◌, ◌≤◌, ℕ};
+ghost use Rattle.std.specs.Prelude.{◌≡◌, ◌≤◌, ℕ, IfErr};
+ghost use Rattle.outside.specs.Counts.{Rose};
+ghost use Rattle.commands.specs.Causes.{IsNodesFault, IsDone, FileRose};
 
 use crate::files::mint_in;
 use crate::minting::{genesis_of, hashes_by_shard, total_of};
@@ -52,6 +54,7 @@ fn make_nodes<R: Rack>(
     records: &[Record],
 ) -> Result<(), Answer>
     requires { (n : ℕ) → R.can_take rack.old n }
+    ensures work { IfErr result IsNodesFault }
     ensures back { (n : ℕ) → R.can_take rack.new n }
     ensures later { (n : ℕ) → R.count rack.old n ≤ R.count rack.new n }
 {
@@ -79,6 +82,8 @@ pub(crate) fn init<I: Inbox, R: Rack, O: Sink>(
     out: &mut O,
 ) -> Answer
     requires { (n : ℕ) → R.can_take rack.old n }
+    ensures cause { IsDone (FileRose (I.count inbox.old) (I.count inbox.new) file.now) (Rose (O.count out.old) (O.count out.new)) result }
+    ensures written_later { O.count out.old ≤ O.count out.new }
     ensures back { (n : ℕ) → R.can_take rack.new n }
     ensures later { (n : ℕ) → R.count rack.old n ≤ R.count rack.new n }
 {

@@ -1,7 +1,8 @@
 // The nodes of a ledger, open.
-ghost use Rattle.std.specs.Prelude.{◌≡◌, ◌+◌, ◌≤◌, ◌<◌, ◌^◌, ℕ, length, IfOk, OnErr};
+ghost use Rattle.std.specs.Prelude.{◌≡◌, ◌+◌, ◌≤◌, ◌<◌, ◌^◌, ℕ, length, IfOk, IfErr, OnErr};
 ghost use Rattle.gate_journal.specs.Shown.{disk_of};
 ghost use Rattle.rack_nodes.specs.Places.{EachFrom, MayReturn};
+ghost use Rattle.commands.specs.Causes.{IsNodesFault};
 
 use cbdc_types::{Answer, Header, NodeId};
 use coord_log::CoordLog;
@@ -24,6 +25,7 @@ fn lead_alone<R: Rack>(
     lead: CoordLog<R::Disk>,
 ) -> Result<Vec<CoordLog<R::Disk>>, Answer>
     requires { MayReturn (λ x. x.faults) (R.can_put rack.old) 0 lead }
+    ensures work { IfErr result IsNodesFault }
     ensures alone { IfOk result (λ v. (length v.items ≡ 1) × EachFrom (MayReturn (λ x. x.faults) (R.can_put rack.new)) 0 v.items) }
     ensures back { OnErr result (R.can_take rack.new 0) }
     ensures others_in { (n : ℕ) → 1 ≤ n → R.can_take rack.old n → R.can_take rack.new n }
@@ -46,6 +48,7 @@ fn open_logs<R: Rack>(
     rack: &mut R,
 ) -> Result<(Header, Vec<CoordLog<R::Disk>>), Answer>
     requires { (n : ℕ) → R.can_take rack.old n }
+    ensures work { IfErr result IsNodesFault }
     ensures few { IfOk result (λ l. l.0.shape.coordinators + l.0.shape.shards < 2 ^ 32) }
     ensures logs { IfOk result (λ l. (length l.1.items ≡ l.0.shape.coordinators) × EachFrom (MayReturn (λ x. x.faults) (R.can_put rack.new)) 0 l.1.items) }
     ensures others_in { IfOk result (λ l. (n : ℕ) → l.0.shape.coordinators ≤ n → R.can_take rack.new n) }
@@ -72,6 +75,7 @@ fn open_logs<R: Rack>(
 /// Opens all nodes of the ledger whose first node is node 0. After a fault all disks are back.
 pub(crate) fn open_ledger<R: Rack>(alloc: Global, rack: &mut R) -> Result<Ledger<R::Disk>, Answer>
     requires { (n : ℕ) → R.can_take rack.old n }
+    ensures work { IfErr result IsNodesFault }
     ensures few { IfOk result (λ l. length l.logs.items + length l.shards.items < 2 ^ 32) }
     ensures logs { IfOk result (λ l. EachFrom (MayReturn (λ x. x.faults) (R.can_put rack.new)) 0 l.logs.items) }
     ensures shards { IfOk result (λ l. EachFrom (MayReturn (λ x. R.Disk.count (disk_of x.log.journal)) (R.can_put rack.new)) (length l.logs.items) l.shards.items) }

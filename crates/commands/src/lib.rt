@@ -2,12 +2,16 @@
 #![tactic(auto)]
 
 mod checked;
+mod faults;
 mod files;
 mod initial;
 mod ledger;
+mod lending;
 mod looking;
 mod minting;
+mod recovering;
 mod report;
+mod resuming;
 mod running;
 mod top;
 mod turns;

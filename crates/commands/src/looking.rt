@@ -1,10 +1,11 @@
-// `status` and `recover`: what a ledger knows, read from its open nodes.
+// `status`: what a ledger knows, read from its open nodes.
 ghost use Rattle.std.specs.Prelude.{◌≤◌, ℕ};
+ghost use Rattle.outside.specs.Counts.{Rose, HasCause};
+ghost use Rattle.commands.specs.Causes.{IsDone};
 
 use crate::ledger::{Ledger, close_ledger, open_ledger};
-use crate::running::{unfinished, unspent_of};
 use cbdc_types::{Answer, Hash, Status};
-use line_text::{WriteFault, write_recovery, write_status};
+use line_text::{WriteFault, write_status};
 use outside::{Disk, Rack, Sink};
 use shard_node::ShardNode;
 use shard_ranges::shard_of;
@@ -37,8 +38,10 @@ fn write_statuses<O: Sink>(
     out: &mut O,
     hashes: &[Hash],
     statuses: &[Status],
-) -> Result<(), WriteFault> {
-    for (hash, status) in hashes.iter().zip(statuses) {
+) -> Result<(), WriteFault>
+    ensures cause { HasCause (O.count out.old) (O.count out.new) result }
+{
+    'hashes: for (hash, status) in hashes.iter().zip(statuses) {
         write_status(out, hash, status)?;
     }
     Ok(())
@@ -52,6 +55,8 @@ pub(crate) fn status<R: Rack, O: Sink>(
     out: &mut O,
 ) -> Answer
     requires { (n : ℕ) → R.can_take rack.old n }
+    ensures cause { IsDone (λ file. ⊥) (Rose (O.count out.old) (O.count out.new)) result }
+    ensures written_later { O.count out.old ≤ O.count out.new }
     ensures back { (n : ℕ) → R.can_take rack.new n }
     ensures later { (n : ℕ) → R.count rack.old n ≤ R.count rack.new n }
 {
@@ -65,28 +70,6 @@ pub(crate) fn status<R: Rack, O: Sink>(
         return Answer::Memory;
     };
     match write_statuses(out, hashes, &told) {
-        Ok(()) => Answer::Ok,
-        Err(_) => Answer::WriteFault,
-    }
-}
-
-/// Says that no batch is open, and how many hashes are unspent. An open batch is not resumed yet: it is a fault.
-pub(crate) fn recover<R: Rack, O: Sink>(alloc: Global, rack: &mut R, out: &mut O) -> Answer
-    requires { (n : ℕ) → R.can_take rack.old n }
-    ensures back { (n : ℕ) → R.can_take rack.new n }
-    ensures later { (n : ℕ) → R.count rack.old n ≤ R.count rack.new n }
-{
-    let ledger = match open_ledger(alloc, rack) {
-        Ok(ledger) => ledger,
-        Err(fault) => return fault,
-    };
-    let open = unfinished(&ledger.logs);
-    let unspent = unspent_of(&ledger.shards);
-    close_ledger(rack, ledger);
-    if let Some(lane) = open {
-        return Answer::Unfinished(lane);
-    }
-    match write_recovery(out, 0, unspent) {
         Ok(()) => Answer::Ok,
         Err(_) => Answer::WriteFault,
     }

@@ -1,4 +1,7 @@
 // The lines of a run.
+ghost use Rattle.std.specs.Prelude.{◌≤◌};
+ghost use Rattle.outside.specs.Counts.{HasCause};
+
 use crate::checked::{Checked, Verdict};
 use crate::turns::{Decided, Lane};
 use cbdc_types::Outcome;
@@ -101,7 +104,9 @@ fn write_one<O: Sink>(
     file: u64,
     place: u64,
     one: &Checked,
-) -> Result<(), WriteFault> {
+) -> Result<(), WriteFault>
+    ensures cause { HasCause (O.count out.old) (O.count out.new) result }
+{
     if let Verdict::Refused(why) = &one.verdict {
         return write_refused(out, file, place, &one.id, why);
     }
@@ -115,9 +120,11 @@ fn write_one<O: Sink>(
 }
 
 // Writes the lines of a file's submissions.
-fn write_wave<O: Sink>(out: &mut O, wave: &Wave, file: u64) -> Result<(), WriteFault> {
+fn write_wave<O: Sink>(out: &mut O, wave: &Wave, file: u64) -> Result<(), WriteFault>
+    ensures cause { HasCause (O.count out.old) (O.count out.new) result }
+{
     let mut place = 0u64;
-    for one in &wave.checked {
+    'lines: for one in &wave.checked {
         write_one(out, wave, file, place, one)?;
         place = place.saturating_add(1);
     }
@@ -125,9 +132,11 @@ fn write_wave<O: Sink>(out: &mut O, wave: &Wave, file: u64) -> Result<(), WriteF
 }
 
 /// Writes a line for each submission, in order of file and place, and the summary.
-pub(crate) fn write_report<O: Sink>(out: &mut O, report: &Report) -> Result<(), WriteFault> {
+pub(crate) fn write_report<O: Sink>(out: &mut O, report: &Report) -> Result<(), WriteFault>
+    ensures cause { HasCause (O.count out.old) (O.count out.new) result }
+{
     let mut file = 1u64;
-    for wave in &report.waves {
+    'waves: for wave in &report.waves {
         write_wave(out, wave, file)?;
         file = file.saturating_add(1);
     }

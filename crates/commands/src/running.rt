@@ -1,18 +1,21 @@
 // `run`: the transactions of client files, file by file.
-ghost use Rattle.std.specs.Prelude.{◌≡◌, ◌≤◌, ℕ, length};
+ghost use Rattle.std.specs.Prelude.{◌≡◌, ◌≤◌, ◌⊎◌, ℕ, length, IfSome, IfErr};
 ghost use Rattle.gate_journal.specs.Shown.{disk_of};
 ghost use Rattle.node_ports.specs.Nodes.{faults_at};
+ghost use Rattle.outside.specs.Counts.{Rose};
+ghost use Rattle.commands.specs.Causes.{IsNodesFault, IsDone, OneRose, FileRose};
 
 use crate::checked::{Submitted, check_all};
+use crate::faults::answer_of;
 use crate::files::{all_clients_in, verdicts_in};
 use crate::ledger::{Ledger, close_ledger, open_ledger};
+use crate::lending::{lend, take_back};
 use crate::report::{Report, Wave, write_report};
+use crate::resuming::resume_all;
 use crate::turns::{Lane, run_wave};
-use cbdc_types::{Answer, CompactTx, FullTx, LaneId, List, Shape};
+use cbdc_types::{Answer, CompactTx, FullTx, List, Shape};
 use command_line::FileWord;
-use coord_core::LanePhase;
-use coord_log::CoordLog;
-use lane_driver::{LaneFault, LaneFaultKind, Ports};
+use lane_driver::Ports;
 use node_ports::{NodeLogs, NodeShards};
 use outside::{Disk, Gate, Inbox, Rack, Sink};
 use shard_node::ShardNode;
@@ -26,61 +29,13 @@ struct Ran<D: Disk> {
     result: Result<Report, Answer>,
 }
 
-// What a lane's fault answers.
-fn answer_of(fault: &LaneFault) -> Answer {
-    let node = fault.node;
-    match fault.fault {
-        LaneFaultKind::DiskFault => Answer::DiskFault(node),
-        LaneFaultKind::Full {
-            used,
-            need,
-            capacity,
-        } => Answer::Full {
-            node,
-            used,
-            need,
-            capacity,
-        },
-        LaneFaultKind::ClockEnd { stamp } => Answer::ClockEnd { node, stamp },
-        LaneFaultKind::Memory => Answer::Memory,
-        LaneFaultKind::Refused(_) => Answer::Refused(node),
-    }
-}
-
 // The fault of the least lane that has one.
-fn first_fault(lanes: &[Lane]) -> Option<Answer> {
+fn first_fault(lanes: &[Lane]) -> Option<Answer>
+    ensures { IfSome result IsNodesFault }
+{
     for lane in lanes {
         if let Some(fault) = &lane.fault {
             return Some(answer_of(fault));
-        }
-    }
-    None
-}
-
-// Whether the lane is one of this coordinator's that has an unfinished batch.
-fn is_unfinished<D: Disk>(log: &CoordLog<D>, lane: LaneId) -> bool {
-    let header = log.header();
-    if header.node.0 != lane.0 / header.shape.lanes() {
-        return false;
-    }
-    !matches!(log.phase(lane), LanePhase::Idle(_))
-}
-
-// The least lane of a coordinator that has an unfinished batch.
-fn unfinished_at<D: Disk>(log: &CoordLog<D>) -> Option<LaneId> {
-    for lane in 0..log.header().shape.lane_count() {
-        if is_unfinished(log, LaneId(lane)) {
-            return Some(LaneId(lane));
-        }
-    }
-    None
-}
-
-/// The least lane that has an unfinished batch.
-pub(crate) fn unfinished<D: Disk>(logs: &[CoordLog<D>]) -> Option<LaneId> {
-    for log in logs {
-        if let Some(lane) = unfinished_at(log) {
-            return Some(lane);
         }
     }
     None
@@ -140,6 +95,7 @@ fn run_waves<W: Wait, D: Disk, G: Gate>(
     ports: &mut Ports<NodeShards<W, D>, NodeLogs<W, D>>,
     gate: &G,
 ) -> Result<(), Answer>
+    ensures work { IfErr result IsNodesFault }
     ensures logs { length ports.new.log.logs.items ≡ length ports.old.log.logs.items }
     ensures shards { length ports.new.shards.nodes.items ≡ length ports.old.shards.nodes.items }
     ensures log_later { (n : ℕ) → faults_at (λ x. x.faults) ports.old.log.logs.items n ≤ faults_at (λ x. x.faults) ports.new.log.logs.items n }
@@ -163,21 +119,23 @@ fn run_over<W: Wait, D: Disk, V: Verifier, G: Gate>(
     ports: &mut Ports<NodeShards<W, D>, NodeLogs<W, D>>,
     gate: &G,
 ) -> Result<Report, Answer>
+    ensures work { IfErr result IsNodesFault }
     ensures logs { length ports.new.log.logs.items ≡ length ports.old.log.logs.items }
     ensures shards { length ports.new.shards.nodes.items ≡ length ports.old.shards.nodes.items }
     ensures log_later { (n : ℕ) → faults_at (λ x. x.faults) ports.old.log.logs.items n ≤ faults_at (λ x. x.faults) ports.new.log.logs.items n }
     ensures shard_later { (n : ℕ) → faults_at (λ x. D.count (disk_of x.log.journal)) ports.old.shards.nodes.items n ≤ faults_at (λ x. D.count (disk_of x.log.journal)) ports.new.shards.nodes.items n }
 {
-    if let Some(lane) = unfinished(&ports.log.logs) {
-        return Err(Answer::Unfinished(lane));
-    }
+    let resumed = match resume_all(alloc, shape, ports, gate) {
+        Ok(batches) => batches.len() as u64,
+        Err(fault) => return Err(fault),
+    };
     let Ok(mut waves) = waves_of(alloc, files, shape, verifier) else {
         return Err(Answer::Memory);
     };
     match run_waves(alloc, shape, &mut waves, ports, gate) {
         Ok(()) => Ok(Report {
             waves,
-            resumed: 0,
+            resumed,
             unspent: unspent_of(&ports.shards.nodes),
         }),
         Err(fault) => Err(fault),
@@ -193,36 +151,16 @@ fn run_open<W: Wait, D: Disk, V: Verifier, G: Gate>(
     verifier: &V,
     gate: &G,
 ) -> Ran<D>
+    ensures work { IfErr result.result IsNodesFault }
     ensures logs { length result.ledger.logs.items ≡ length ledger.logs.items }
     ensures shards { length result.ledger.shards.items ≡ length ledger.shards.items }
     ensures log_later { (n : ℕ) → faults_at (λ x. x.faults) ledger.logs.items n ≤ faults_at (λ x. x.faults) result.ledger.logs.items n }
     ensures shard_later { (n : ℕ) → faults_at (λ x. D.count (disk_of x.log.journal)) ledger.shards.items n ≤ faults_at (λ x. D.count (disk_of x.log.journal)) result.ledger.shards.items n }
 {
-    let Ledger {
-        header,
-        logs,
-        shards,
-    } = ledger;
-    let shape = header.shape;
-    let mut ports = Ports {
-        shards: NodeShards {
-            rt,
-            lane: LaneId(0),
-            first: shape.coordinators(),
-            nodes: shards,
-        },
-        log: NodeLogs { rt, logs, at: 0 },
-    };
-    let result = run_over(alloc, &shape, files, verifier, &mut ports, gate);
-    let Ports { shards, log } = ports;
-    let NodeShards { nodes, .. } = shards;
-    let NodeLogs { logs, .. } = log;
+    let (header, mut ports) = lend(rt, ledger);
+    let result = run_over(alloc, &header.shape, files, verifier, &mut ports, gate);
     Ran {
-        ledger: Ledger {
-            header,
-            logs,
-            shards: nodes,
-        },
+        ledger: take_back(header, ports),
         result,
     }
 }
@@ -237,6 +175,7 @@ fn run_on<W: Wait, R: Rack, V: Verifier, G: Gate>(
     gate: &G,
 ) -> Result<Report, Answer>
     requires { (n : ℕ) → R.can_take rack.old n }
+    ensures work { IfErr result IsNodesFault }
     ensures back { (n : ℕ) → R.can_take rack.new n }
     ensures later { (n : ℕ) → R.count rack.old n ≤ R.count rack.new n }
 {
@@ -262,6 +201,9 @@ pub(crate) fn run<W: Wait, I: Inbox, R: Rack, O: Sink, G: Gate>(
     gate: &G,
 ) -> Answer
     requires { (n : ℕ) → R.can_take rack.old n }
+    ensures cause { IsDone (λ place. OneRose (I.count inbox.old) (I.count inbox.new) clients.now place ⊎ FileRose (I.count inbox.old) (I.count inbox.new) verdicts.now place)
+        (Rose (O.count out.old) (O.count out.new)) result }
+    ensures written_later { O.count out.old ≤ O.count out.new }
     ensures back { (n : ℕ) → R.can_take rack.new n }
     ensures later { (n : ℕ) → R.count rack.old n ≤ R.count rack.new n }
 {

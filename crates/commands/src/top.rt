@@ -1,8 +1,13 @@
 // The top call.
-ghost use Rattle.std.specs.Prelude.{ℕ};
+ghost use Rattle.std.specs.Prelude.{◌≡◌, ◌≤◌, ℕ};
+ghost use Rattle.command_line.specs.Asked.{IsRefused};
+ghost use Rattle.command_line.specs.Words.{texts};
+ghost use Rattle.commands.specs.Causes.{IsAnswered, IsDone, NamedRose, RequestRose};
+ghost use Rattle.outside.specs.Counts.{Rose};
 
 use crate::initial::init;
-use crate::looking::{recover, status};
+use crate::looking::status;
+use crate::recovering::recover;
 use crate::running::run;
 use cbdc_types::Answer;
 use command_line::{Request, WordsFault, parse};
@@ -18,7 +23,10 @@ pub struct Done<R> {
 }
 
 // Prints a text that the words ask for.
-fn show<O: Sink>(out: &mut O, text: &str) -> Answer {
+fn show<O: Sink>(out: &mut O, text: &str) -> Answer
+    ensures cause { IsDone (λ file. ⊥) (Rose (O.count out.old) (O.count out.new)) result }
+    ensures written_later { O.count out.old ≤ O.count out.new }
+{
     match write_all(out, text.as_bytes()) {
         Ok(()) => Answer::Ok,
         Err(_) => Answer::WriteFault,
@@ -49,14 +57,16 @@ fn answer_to<W: Wait, I: Inbox, R: Rack, O: Sink, G: Gate>(
     gate: &G,
 ) -> Answer
     requires { (n : ℕ) → R.can_take rack.old n }
-    ensures { (n : ℕ) → R.can_take rack.new n }
+    ensures back { (n : ℕ) → R.can_take rack.new n }
+    ensures cause { IsDone (RequestRose request.now (I.count inbox.old) (I.count inbox.new)) (Rose (O.count out.old) (O.count out.new)) result }
+    ensures written_later { O.count out.old ≤ O.count out.new }
 {
     match request {
         Request::Init { shape, mint } => init(alloc, shape, mint, inbox, rack, out),
         Request::Run { verdicts, clients } => {
             run(rt, alloc, clients, verdicts, inbox, rack, out, gate)
         }
-        Request::Recover => recover(alloc, rack, out),
+        Request::Recover => recover(rt, alloc, rack, out, gate),
         Request::Status { hashes } => status(alloc, hashes, rack, out),
         Request::Show(text) => show(out, text.as_str()),
     }
@@ -73,7 +83,9 @@ fn answer_words<W: Wait, I: Inbox, R: Rack, O: Sink, G: Gate>(
     gate: &G,
 ) -> Answer
     requires { (n : ℕ) → R.can_take rack.old n }
-    ensures { (n : ℕ) → R.can_take rack.new n }
+    ensures back { (n : ℕ) → R.can_take rack.new n }
+    ensures cause { IsAnswered (texts words.now) (I.count inbox.old) (I.count inbox.new) (Rose (O.count out.old) (O.count out.new)) result }
+    ensures written_later { O.count out.old ≤ O.count out.new }
 {
     match parse(alloc, words) {
         Ok(request) => answer_to(rt, alloc, &request, inbox, rack, out, gate),
@@ -94,6 +106,9 @@ pub fn process<W: Wait, I: Inbox, R: Rack, O: Sink, G: Gate>(
 ) -> Done<R>
     requires { (n : ℕ) → R.can_take rack n }
     ensures back { (n : ℕ) → R.can_take result.rack n }
+    ensures bad_words { result.status ≡ Answer.BadWords → IsRefused (texts words.now) WordsFault.Bad }
+    ensures read { (file : ℕ) → result.status ≡ Answer.ReadFault file → NamedRose (texts words.now) (I.count inbox.old) (I.count inbox.new) file }
+    ensures written { result.status ≡ Answer.WriteFault → Rose (O.count out.old) (O.count out.new) }
 {
     let mut rack = rack;
     let status = answer_words(rt, alloc, words, inbox, &mut rack, out, gate);

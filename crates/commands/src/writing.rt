@@ -2,6 +2,7 @@
 ghost use Rattle.std.specs.Prelude.{◌≡◌, ◌+◌, ◌≤◌, ◌<◌, ◌^◌, ℕ, length, IfErr};
 ghost use Rattle.outside.specs.Counts.{Rose};
 ghost use Rattle.rack_nodes.specs.Places.{EachFrom, MayReturn, IsOpening};
+ghost use Rattle.commands.specs.Causes.{IsNodesFault};
 
 use cbdc_types::{Answer, Header, NodeId, Record};
 use outside::{Disk, Rack};
@@ -46,6 +47,7 @@ pub(crate) fn write_all_firsts<R: Rack>(
 ) -> Result<(), Answer>
     requires few { length blanks.items < 2 ^ 32 }
     requires out { EachFrom (MayReturn (λ b. R.Disk.count b.disk) (R.can_put rack.old)) 0 blanks.items }
+    ensures work { IfErr result IsNodesFault }
     ensures back { (n : ℕ) → n < length blanks.items → R.can_take rack.new n }
     ensures others_in { (n : ℕ) → length blanks.items ≤ n → R.can_take rack.old n → R.can_take rack.new n }
     ensures later { (n : ℕ) → R.count rack.old n ≤ R.count rack.new n }

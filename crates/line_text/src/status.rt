@@ -17,7 +17,6 @@ pub fn status_code(answer: &Answer) -> u8
         Answer::Unsound { .. } => 6,
         Answer::ClockEnd { .. } => 7,
         Answer::Damaged { .. } => 8,
-        Answer::Unfinished(_) => 9,
         Answer::ReadFault { .. } => 10,
         Answer::WriteFault => 11,
         Answer::DiskFault(_) => 12,

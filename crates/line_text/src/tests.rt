@@ -289,7 +289,6 @@ fn faults(shape: &Shape) -> [(Answer, &'static str, u8); 25] {
             "fault damaged 1 at 138\n",
             8,
         ),
-        (Answer::Unfinished(LaneId(0)), "fault unfinished 0\n", 9),
         (Answer::Refused(NodeId(1)), "fault refused 1\n", 17),
         (Answer::ReadFault { file: 2 }, "fault read v\n", 10),
         (Answer::DiskFault(NodeId(1)), "fault disk 1\n", 12),

@@ -20,7 +20,6 @@ still_open h k n p q t u o e keeps lt is =
       phase_is = same.0 ∙ is.phase_is;
       txs = same.1 ∙ is.txs;
       size = is.size;
-      limits = is.limits;
       stamp = is.stamp;
       outcomes = is.outcomes;
     })

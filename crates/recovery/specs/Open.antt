@@ -6,7 +6,7 @@ use Rattle.cbdc_types.specs.declared.batch.Phase.{Phase as OpenPhase}
 use Rattle.cbdc_types.specs.declared.batch.Phase.TheVariants.{Prepared, Committed, Discarded}
 use Rattle.cbdc_model.specs.Records.{Header, Compact}
 use Rattle.cbdc_model.specs.Slots.{Phase, InPrepare, InCommit, InDiscard}
-use Rattle.cbdc_model.specs.Grammar.{HasSize, IsCompact}
+use Rattle.cbdc_model.specs.Grammar.{HasSize}
 use Rattle.lane_driver.specs.Told.{IsLane, IsStamp}
 use Rattle.recovery.specs.declared.resumed.ResumedBatch.{ResumedBatch}
 
@@ -28,7 +28,6 @@ pub record IsOpen (h : Header) (phase : ℕ → Phase) (open_txs : ℕ → List 
   pub phase_is : phase o.batch.lane ≡ phase_of o.phase
   pub txs : open_txs o.batch.lane ≡ o.txs
   pub size : HasSize h.shape o.txs
-  pub limits : All IsCompact o.txs
   pub stamp : IsStamp o.stamp
   pub outcomes : HasOutcomes o.phase (length o.outcomes) (length o.txs)
 

@@ -1,4 +1,4 @@
-use Rattle.std.proofs.Common.{◌≡◌, ◌≢◌, ◌+◌, ◌≤◌, ◌<◌, ℕ, length, arith, inl, inr}
+use Rattle.std.proofs.Common.{◌≤◌, arith, inr}
 use Rattle.commands.proofs.ledger.open_logs.Goals as goal
 
 pub open_all-requires-clause-waiting : goal.open_all-requires-clause-waiting

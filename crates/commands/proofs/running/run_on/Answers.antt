@@ -1,4 +1,4 @@
-use Rattle.std.proofs.Common.{◌≡◌, ◌≤◌, ℕ, length, sym, subst}
+use Rattle.std.proofs.Common.{ℕ, length, sym, subst}
 use Rattle.gate_journal.specs.Shown.{disk_of}
 use Rattle.rack_nodes.specs.Places.{EachFrom, MayReturn}
 use Rattle.commands.proofs.Later.{each_later}

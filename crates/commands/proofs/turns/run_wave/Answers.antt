@@ -1,4 +1,4 @@
-use Rattle.std.proofs.Common.{◌∙◌, ◌≡◌, ◌≤◌, ℕ, arith}
+use Rattle.std.proofs.Common.{◌∙◌, arith}
 use Rattle.commands.proofs.turns.run_wave.Goals as goal
 
 pub rounds-preserved : goal.rounds-preserved

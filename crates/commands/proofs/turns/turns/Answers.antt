@@ -1,4 +1,4 @@
-use Rattle.std.proofs.Common.{◌∙◌, ◌≡◌, ◌≤◌, ℕ, arith}
+use Rattle.std.proofs.Common.{◌∙◌, arith}
 use Rattle.commands.proofs.turns.turns.Goals as goal
 
 pub lanes-preserved : goal.lanes-preserved

@@ -1,4 +1,4 @@
-use Rattle.std.proofs.Common.{◌≡◌, ◌^◌, ◌+◌, ◌≤◌, ◌<◌, ℕ, length, vec_len}
+use Rattle.std.proofs.Common.{◌^◌, ◌≤◌, ◌<◌, ℕ, length, vec_len}
 use Rattle.rack_nodes.specs.Places.{EachFrom, MayReturn}
 use Rattle.commands.proofs.writing.write_all_firsts.Given as goal
 

@@ -1,0 +1,5 @@
+use Rattle.commands.proofs.Named.{answered}
+use Rattle.commands.proofs.top.answer_words.Goals as goal
+
+pub returns-in-Ok-clause-cause : goal.returns-in-Ok-clause-cause
+returns-in-Ok-clause-cause g c = answered _ _ _ c.in-Ok.request _ c.answer_to.result c.in-Ok.ensures.asked c.answer_to.ensures.cause

@@ -1,0 +1,19 @@
+use Rattle.std.proofs.Common.{subst, arith}
+use Rattle.outside.specs.Counts.{Rose}
+use Rattle.command_line.specs.Words.{texts}
+use Rattle.commands.specs.Causes.{IsAnswered}
+use Rattle.commands.proofs.Counts.{rose_later}
+use Rattle.commands.proofs.top.process.Goals as goal
+
+pub returns-clause-bad_words : goal.returns-clause-bad_words
+returns-clause-bad_words g c is =
+    subst (λ a. IsAnswered (texts c.args.words.now) (g.I.Inbox.count c.args.inbox.now) (g.I.Inbox.count c.answer_words-status.new.inbox) (Rose (g.O.Sink.count c.args.out.now) (g.O.Sink.count c.answer_words-status.new.out)) a) is c.answer_words-status.ensures.cause
+
+pub returns-clause-read : goal.returns-clause-read
+returns-clause-read g c file is =
+    subst (λ a. IsAnswered (texts c.args.words.now) (g.I.Inbox.count c.args.inbox.now) (g.I.Inbox.count c.answer_words-status.new.inbox) (Rose (g.O.Sink.count c.args.out.now) (g.O.Sink.count c.answer_words-status.new.out)) a) is c.answer_words-status.ensures.cause
+
+pub returns-clause-written : goal.returns-clause-written
+returns-clause-written g c is =
+    rose_later (g.O.Sink.count c.args.out.now) (g.O.Sink.count c.args.out.now) (g.O.Sink.count c.answer_words-status.new.out) (g.O.Sink.count c.write_fault.new.out) (omega arith) c.write_fault.ensures.cause.later
+    (subst (λ a. IsAnswered (texts c.args.words.now) (g.I.Inbox.count c.args.inbox.now) (g.I.Inbox.count c.answer_words-status.new.inbox) (Rose (g.O.Sink.count c.args.out.now) (g.O.Sink.count c.answer_words-status.new.out)) a) is c.answer_words-status.ensures.cause)

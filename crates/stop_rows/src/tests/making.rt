@@ -1,0 +1,181 @@
+// Files of a ledger of two shards, racks that are cut off, and one run of the program over them.
+ghost use Rattle.std.specs.Prelude.{IfOk};
+ghost use Rattle.mem_devices.specs.Racks.{AllIn};
+
+use cbdc_types::NodeId;
+use commands::{Done, process};
+use line_text::status_code;
+use mem_devices::{MemInbox, MemRack, MemSink, PlainDisk};
+use outside::{Disk, OpenGate};
+use std::alloc::Global;
+use std::process::Abort;
+use std::sync::Wait;
+use std::test::Fail;
+
+/// How many bytes each disk may have.
+pub(crate) const CAPACITY: usize = 10_000;
+
+// The files by name, in hexadecimal digits: the mint of a coin of 100 on shard 0, another mint, and client files. `a`
+// pays the coin to shard 1; `c` spends the coin and one of shard 1 that is not there; `d` pays the coin to shard 0; `e` is
+// empty.
+const FILES: [(&str, &str); 6] = [
+    (
+        "m",
+        "010000000000000001000000000000000000000000000000000000000000000000000000000000006400000000000000",
+    ),
+    (
+        "n",
+        "010000000000000001000000000000000000000000000000000000000000000000000000000000003200000000000000",
+    ),
+    (
+        "a",
+        "0100000000000000010000000000000047b7a252c13b014cd8e4e9767aa2b8de3e37704772a2d9ab29c63864921300d90000000000000000010000000000000000000000000000000000000000000000000000000000000064000000000000000100000000000000030000000000000000000000000000000000000000000000000000000000000064000000000000000100000000000000400000000000000000000000000000000000000000000000000000000000000000000000000000000000000000000000000000000000000000000000000000000000000000000000",
+    ),
+    (
+        "c",
+        "0100000000000000020000000000000047b7a252c13b014cd8e4e9767aa2b8de3e37704772a2d9ab29c63864921300d90000000000000000010000000000000000000000000000000000000000000000000000000000000064000000000000007c9fa136d4413fa6173637e883b6998d32e1d675f88cddff9dcbcf331820f4b80000000000000000070000000000000000000000000000000000000000000000000000000000000001000000000000000100000000000000020000000000000000000000000000000000000000000000000000000000000065000000000000000200000000000000400000000000000000000000000000000000000000000000000000000000000000000000000000000000000000000000000000000000000000000000000000000000000000000000400000000000000000000000000000000000000000000000000000000000000000000000000000000000000000000000000000000000000000000000000000000000000000000000",
+    ),
+    (
+        "d",
+        "0100000000000000010000000000000047b7a252c13b014cd8e4e9767aa2b8de3e37704772a2d9ab29c63864921300d90000000000000000010000000000000000000000000000000000000000000000000000000000000064000000000000000100000000000000010000000000000000000000000000000000000000000000000000000000000064000000000000000100000000000000400000000000000000000000000000000000000000000000000000000000000000000000000000000000000000000000000000000000000000000000000000000000000000000000",
+    ),
+    ("e", "0000000000000000"),
+];
+
+// A good line for each input of the client files.
+const VERDICTS: &str =
+    "f456f5694698458a7281c08080cf16b8ddd5bba2d48e5eb89fdb545c1eef3864 0 good\n6627eabcbdd438bbe17b84d49a07b60d4d4d77fac22669be6acb8dcaeb38a7df 0 good\n6627eabcbdd438bbe17b84d49a07b60d4d4d77fac22669be6acb8dcaeb38a7df 1 good\nb4694a2899850129a47aefad7a230e0b416c6ce027648a362ee36e18510c6316 0 good\n";
+
+// The bytes that digits spell.
+fn decoded(alloc: Global, digits: &str) -> Result<Vec<u8>, Fail> {
+    match hex::decode(alloc, digits) {
+        Ok(bytes) => Ok(bytes),
+        Err(_) => Err(Fail::new("no digits")),
+    }
+}
+
+// A file by its name.
+fn named(alloc: Global, file: &(&str, &str)) -> Result<(String, Vec<u8>), Fail> {
+    Ok((String::from_str(alloc, file.0)?, decoded(alloc, file.1)?))
+}
+
+// All files.
+fn inbox(alloc: Global) -> Result<MemInbox, Fail> {
+    let mut all = Vec::new(alloc);
+    for file in &FILES {
+        all.push(named(alloc, file)?)?;
+    }
+    let lines = Vec::from_slice(alloc, VERDICTS.as_bytes())?;
+    all.push((String::from_str(alloc, "v")?, lines))?;
+    Ok(MemInbox::new(all))
+}
+
+// The words, behind the program's name.
+fn owned(alloc: Global, words: &[&str]) -> Result<Vec<String>, Fail> {
+    let mut all = Vec::new(alloc);
+    all.push(String::from_str(alloc, "hamilton")?)?;
+    for word in words {
+        all.push(String::from_str(alloc, word)?)?;
+    }
+    Ok(all)
+}
+
+/// Runs the program with these words over the rack, with an output that takes so many bytes, and checks its text and
+/// status.
+pub(crate) fn expect_in<W: Wait + Abort, D: Disk + Drop>(
+    rt: &W,
+    alloc: Global,
+    rack: MemRack<D>,
+    words: &[&str],
+    room: usize,
+    status: u8,
+    text: &str,
+) -> Result<MemRack<D>, Fail>
+    requires { AllIn rack }
+    ensures { IfOk result (λ r. AllIn r) }
+{
+    let words = owned(alloc, words)?;
+    let mut inbox = inbox(alloc)?;
+    let mut out = MemSink::new(alloc, room, Vec::new(alloc))?;
+    let Done { status: told, rack } = process(
+        rt, alloc, &words, &mut inbox, rack, &mut out, &OpenGate,
+    );
+    assert_eq!(rt; out.taken(), text.as_bytes());
+    assert_eq!(rt; status_code(&told), status);
+    Ok(rack)
+}
+
+/// The same with an output that takes all.
+pub(crate) fn expect<W: Wait + Abort, D: Disk + Drop>(
+    rt: &W,
+    alloc: Global,
+    rack: MemRack<D>,
+    words: &[&str],
+    status: u8,
+    text: &str,
+) -> Result<MemRack<D>, Fail>
+    requires { AllIn rack }
+    ensures { IfOk result (λ r. AllIn r) }
+{
+    expect_in(rt, alloc, rack, words, 100_000, status, text)
+}
+
+// How many bytes the body of the record at this gate has.
+fn length_at(bytes: &[u8], gate: usize) -> usize {
+    let low = bytes.get(gate.saturating_add(1)).copied().unwrap_or(0);
+    let high = bytes.get(gate.saturating_add(2)).copied().unwrap_or(0);
+    usize::from(high) * 256 + usize::from(low)
+}
+
+/// Where the gate behind so many records stands.
+pub(crate) fn gate_of(bytes: &[u8], records: usize) -> usize {
+    let mut at = 0usize;
+    for _ in 0..records {
+        at = at.saturating_add(9).saturating_add(length_at(bytes, at));
+    }
+    at
+}
+
+/// The bytes of a disk with its first records alone, and the closed gate behind them.
+pub(crate) fn cut(alloc: Global, bytes: &[u8], records: usize) -> Result<Vec<u8>, Fail> {
+    let mut kept = Vec::from_slice(alloc, bytes)?;
+    kept.truncate(gate_of(bytes, records));
+    kept.push(0)?;
+    Ok(kept)
+}
+
+// A disk with these bytes.
+fn disk_of(alloc: Global, bytes: &[u8]) -> Result<PlainDisk, Fail> {
+    if bytes.len() > CAPACITY {
+        return Err(Fail::new("too many bytes"));
+    }
+    Ok(PlainDisk::with_bytes(Vec::from_slice(alloc, bytes)?, CAPACITY)?)
+}
+
+/// A rack of disks with these bytes.
+pub(crate) fn rack_of(alloc: Global, disks: &[Vec<u8>]) -> Result<MemRack<PlainDisk>, Fail>
+    ensures { IfOk result (λ r. AllIn r) }
+{
+    let mut all = Vec::new(alloc);
+    for bytes in disks {
+        all.push(disk_of(alloc, bytes)?)?;
+    }
+    Ok(MemRack::new(alloc, all)?)
+}
+
+// The bytes of a node's disk.
+fn bytes_at(alloc: Global, rack: &MemRack<PlainDisk>, node: u32) -> Result<Vec<u8>, Fail> {
+    match rack.disk(NodeId(node)) {
+        Some(disk) => Ok(Vec::from_slice(alloc, disk.bytes())?),
+        None => Err(Fail::new("a disk is out")),
+    }
+}
+
+/// The bytes of the disks of a rack of three nodes.
+pub(crate) fn bytes_of(alloc: Global, rack: &MemRack<PlainDisk>) -> Result<Vec<Vec<u8>>, Fail> {
+    let mut all = Vec::new(alloc);
+    for node in 0..3 {
+        all.push(bytes_at(alloc, rack, node)?)?;
+    }
+    Ok(all)
+}
