@@ -1,6 +1,7 @@
 // `status` and `recover`: what a ledger knows, read from its open nodes.
 ghost use Rattle.std.specs.Prelude.{◌≤◌, ℕ};
 
+use crate::auditing::open_caused;
 use crate::ledger::{Ledger, close_ledger, open_ledger};
 use crate::running::{unfinished, unspent_of};
 use cbdc_types::{Answer, Hash, Status};
@@ -76,7 +77,7 @@ pub(crate) fn recover<R: Rack, O: Sink>(alloc: Global, rack: &mut R, out: &mut O
     ensures back { (n : ℕ) → R.can_take rack.new n }
     ensures later { (n : ℕ) → R.count rack.old n ≤ R.count rack.new n }
 {
-    let ledger = match open_ledger(alloc, rack) {
+    let ledger = match open_caused(alloc, rack) {
         Ok(ledger) => ledger,
         Err(fault) => return fault,
     };

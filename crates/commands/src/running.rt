@@ -3,9 +3,10 @@ ghost use Rattle.std.specs.Prelude.{◌≡◌, ◌≤◌, ℕ, length};
 ghost use Rattle.gate_journal.specs.Shown.{disk_of};
 ghost use Rattle.node_ports.specs.Nodes.{faults_at};
 
+use crate::auditing::open_caused;
 use crate::checked::{Submitted, check_all};
 use crate::files::{all_clients_in, verdicts_in};
-use crate::ledger::{Ledger, close_ledger, open_ledger};
+use crate::ledger::{Ledger, close_ledger};
 use crate::report::{Report, Wave, write_report};
 use crate::turns::{Lane, run_wave};
 use cbdc_types::{Answer, CompactTx, FullTx, LaneId, List, Shape};
@@ -240,7 +241,7 @@ fn run_on<W: Wait, R: Rack, V: Verifier, G: Gate>(
     ensures back { (n : ℕ) → R.can_take rack.new n }
     ensures later { (n : ℕ) → R.count rack.old n ≤ R.count rack.new n }
 {
-    let ledger = match open_ledger(alloc, rack) {
+    let ledger = match open_caused(alloc, rack) {
         Ok(ledger) => ledger,
         Err(fault) => return Err(fault),
     };

@@ -1,6 +1,7 @@
 // The top call.
 ghost use Rattle.std.specs.Prelude.{ℕ};
 
+use crate::auditing::audit;
 use crate::initial::init;
 use crate::looking::{recover, status};
 use crate::running::run;
@@ -58,6 +59,7 @@ fn answer_to<W: Wait, I: Inbox, R: Rack, O: Sink, G: Gate>(
         }
         Request::Recover => recover(alloc, rack, out),
         Request::Status { hashes } => status(alloc, hashes, rack, out),
+        Request::Audit { mint, clients } => audit(alloc, mint, clients, inbox, rack, out),
         Request::Show(text) => show(out, text.as_str()),
     }
 }
