@@ -7,7 +7,7 @@ use Rattle.command_line.specs.Asked.{IsAsked}
 use Rattle.command_line.specs.Words.{StandsThere, IsGivenThere}
 use Rattle.command_line.specs.declared.request.FileWord.{FileWord}
 use Rattle.command_line.specs.declared.request.Request.{Request}
-use Rattle.command_line.specs.declared.request.Request.TheVariants.{Init, Run, Recover, Status, Show}
+use Rattle.command_line.specs.declared.request.Request.TheVariants.{Init, Run, Recover, Status, Audit, Show}
 use Rattle.commands.specs.Causes.{FileRose, RequestRose, NamedRose, IsDone, IsAnswered}
 use Rattle.commands.proofs.Stands.{stands_at}
 
@@ -27,6 +27,10 @@ request_named words b n (Run verdicts clients) place asked rose =
     (λ own. given_named words b n verdicts place asked.1.2 own) rose
 request_named words b n Recover place asked rose = absurd rose
 request_named words b n (Status hashes) place asked rose = absurd rose
+request_named words b n (Audit mint clients) place asked rose =
+    ⊎_elim
+    (λ own. stands_named words b n mint place asked.1.2 own)
+    (λ one. stands_named words b n one.1 place (stands_at words clients.items one.0 one.1 asked.1.3.there one.2) one.3) rose
 request_named words b n (Show text) place asked rose = absurd rose
 
 pub answered : (words : List Text) (b n : Text → ℕ) (r : Request) (written : Type 0) (a : Answer) → IsAsked words r → IsDone (RequestRose r b n) written a → IsAnswered words b n written a

@@ -7,7 +7,7 @@ use Rattle.cbdc_types.specs.declared.answer.Answer.TheVariants as answers
 use Rattle.command_line.specs.Asked.{IsRefused}
 use Rattle.command_line.specs.declared.request.FileWord.{FileWord}
 use Rattle.command_line.specs.declared.request.Request.{Request}
-use Rattle.command_line.specs.declared.request.Request.TheVariants.{Init, Run}
+use Rattle.command_line.specs.declared.request.Request.TheVariants.{Init, Run, Audit}
 use Rattle.command_line.specs.declared.request.WordsFault.TheVariants.{Bad}
 
 -- reading a file: it names that file, and a fault of reading has its cause
@@ -36,6 +36,7 @@ IsFilesFault before now files other = ⊥
 abbrev pub RequestRose : Request → (Text → ℕ) → (Text → ℕ) → ℕ → Type 0
 RequestRose (Init shape mint) before now place = FileRose before now mint place
 RequestRose (Run verdicts clients) before now place = OneRose before now clients.items place ⊎ FileRose before now verdicts place
+RequestRose (Audit mint clients) before now place = FileRose before now mint place ⊎ OneRose before now clients.items place
 RequestRose other before now place = ⊥
 
 -- the work at the nodes: no words, no file and no output are at fault

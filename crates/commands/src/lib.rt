@@ -1,6 +1,7 @@
 //! The top call: what the program does with its words, its files, its disks and its output.
 #![tactic(auto)]
 
+mod auditing;
 mod checked;
 mod faults;
 mod files;

@@ -5,7 +5,8 @@ ghost use Rattle.node_ports.specs.Nodes.{faults_at};
 ghost use Rattle.outside.specs.Counts.{Rose, HasCause};
 ghost use Rattle.commands.specs.Causes.{IsNodesFault, IsDone};
 
-use crate::ledger::{Ledger, close_ledger, open_ledger};
+use crate::auditing::open_caused;
+use crate::ledger::{Ledger, close_ledger};
 use crate::lending::{lend, take_back};
 use crate::resuming::resume_all;
 use crate::running::unspent_of;
@@ -68,7 +69,7 @@ fn recover_on<W: Wait, R: Rack, G: Gate>(
     ensures back { (n : ℕ) → R.can_take rack.new n }
     ensures later { (n : ℕ) → R.count rack.old n ≤ R.count rack.new n }
 {
-    let ledger = match open_ledger(alloc, rack) {
+    let ledger = match open_caused(alloc, rack) {
         Ok(ledger) => ledger,
         Err(fault) => return Err(fault),
     };

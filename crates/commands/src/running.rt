@@ -5,10 +5,11 @@ ghost use Rattle.node_ports.specs.Nodes.{faults_at};
 ghost use Rattle.outside.specs.Counts.{Rose};
 ghost use Rattle.commands.specs.Causes.{IsNodesFault, IsDone, OneRose, FileRose};
 
+use crate::auditing::open_caused;
 use crate::checked::{Submitted, check_all};
 use crate::faults::answer_of;
 use crate::files::{all_clients_in, verdicts_in};
-use crate::ledger::{Ledger, close_ledger, open_ledger};
+use crate::ledger::{Ledger, close_ledger};
 use crate::lending::{lend, take_back};
 use crate::report::{Report, Wave, write_report};
 use crate::resuming::resume_all;
@@ -179,7 +180,7 @@ fn run_on<W: Wait, R: Rack, V: Verifier, G: Gate>(
     ensures back { (n : ℕ) → R.can_take rack.new n }
     ensures later { (n : ℕ) → R.count rack.old n ≤ R.count rack.new n }
 {
-    let ledger = match open_ledger(alloc, rack) {
+    let ledger = match open_caused(alloc, rack) {
         Ok(ledger) => ledger,
         Err(fault) => return Err(fault),
     };

@@ -5,6 +5,7 @@ ghost use Rattle.command_line.specs.Words.{texts};
 ghost use Rattle.commands.specs.Causes.{IsAnswered, IsDone, NamedRose, RequestRose};
 ghost use Rattle.outside.specs.Counts.{Rose};
 
+use crate::auditing::audit;
 use crate::initial::init;
 use crate::looking::status;
 use crate::recovering::recover;
@@ -68,6 +69,7 @@ fn answer_to<W: Wait, I: Inbox, R: Rack, O: Sink, G: Gate>(
         }
         Request::Recover => recover(rt, alloc, rack, out, gate),
         Request::Status { hashes } => status(alloc, hashes, rack, out),
+        Request::Audit { mint, clients } => audit(alloc, mint, clients, inbox, rack, out),
         Request::Show(text) => show(out, text.as_str()),
     }
 }

@@ -1,0 +1,209 @@
+// `audit`, and the check of causes ahead of all that resumes.
+ghost use Rattle.std.specs.Prelude.{◌≡◌, ◌⊎◌, ◌+◌, ◌≤◌, ◌<◌, ◌^◌, ℕ, length, IfOk, IfErr, OnErr};
+ghost use Rattle.outside.specs.Counts.{Rose};
+ghost use Rattle.commands.specs.Causes.{IsNodesFault, IsDone, OneRose, FileRose};
+ghost use Rattle.gate_journal.specs.Shown.{disk_of};
+ghost use Rattle.rack_nodes.specs.Places.{EachFrom, MayReturn};
+
+use crate::files::{all_clients_in, mint_in};
+use crate::ledger::{Ledger, close_ledger, open_ledger};
+use crate::minting::genesis_of;
+use audit::{Totals, Verdict, causes};
+use cbdc_types::{Answer, FullTx, Hash, Header, List, NodeId, Output, Record, UnsoundKind};
+use command_line::FileWord;
+use coord_log::CoordLog;
+use history::merge;
+use identifiers::tx_id;
+use line_text::{AuditSummary, write_audit};
+use outside::{Disk, Inbox, Rack, Sink};
+use rack_nodes::open_one;
+use std::alloc::{AllocError, Global};
+
+// The journals of all nodes, the oldest record first.
+fn lent<'a, D: Disk>(alloc: Global, ledger: &'a Ledger<D>) -> Result<Vec<&'a [Record]>, AllocError>
+    ensures { IfOk result (λ v. length v.items ≡ length ledger.entry.now.logs.items + length ledger.entry.now.shards.items) }
+{
+    let mut all = Vec::new(alloc);
+    'logs: for log in &ledger.logs {
+        all.push(log.records())?;
+    }
+    'shards: for shard in &ledger.shards {
+        all.push(shard.records())?;
+    }
+    Ok(all)
+}
+
+// The first place of the history that is not caused by what stands before it.
+fn first_uncaused<D: Disk>(alloc: Global, ledger: &Ledger<D>) -> Result<Option<u64>, AllocError>
+    requires { length ledger.now.logs.items + length ledger.now.shards.items < 2 ^ 32 }
+{
+    let journals = lent(alloc, ledger)?;
+    let history = merge(alloc, &journals)?;
+    causes(alloc, &ledger.header.shape, &journals, history.as_slice())
+}
+
+/// Opens all nodes, where each record of their history is caused by what stands before it. After a fault all disks are back.
+pub(crate) fn open_caused<R: Rack>(alloc: Global, rack: &mut R) -> Result<Ledger<R::Disk>, Answer>
+    requires { (n : ℕ) → R.can_take rack.old n }
+    ensures work { IfErr result IsNodesFault }
+    ensures few { IfOk result (λ l. length l.logs.items + length l.shards.items < 2 ^ 32) }
+    ensures logs { IfOk result (λ l. EachFrom (MayReturn (λ x. x.faults) (R.can_put rack.new)) 0 l.logs.items) }
+    ensures shards { IfOk result (λ l. EachFrom (MayReturn (λ x. R.Disk.count (disk_of x.log.journal)) (R.can_put rack.new)) (length l.logs.items) l.shards.items) }
+    ensures others_in { IfOk result (λ l. (n : ℕ) → length l.logs.items + length l.shards.items ≤ n → R.can_take rack.new n) }
+    ensures back { OnErr result ((n : ℕ) → R.can_take rack.new n) }
+    ensures later { (n : ℕ) → R.count rack.old n ≤ R.count rack.new n }
+{
+    let ledger = match open_ledger(alloc, rack) {
+        Ok(ledger) => ledger,
+        Err(fault) => return Err(fault),
+    };
+    let fault = match first_uncaused(alloc, &ledger) {
+        Ok(None) => return Ok(ledger),
+        Ok(Some(place)) => Answer::Unsound {
+            place,
+            kind: UnsoundKind::Cause,
+        },
+        Err(_) => Answer::Memory,
+    };
+    close_ledger(rack, ledger);
+    Err(fault)
+}
+
+// Whether node 0 was made by a mint with this id. It is put back.
+fn check_mint<R: Rack>(alloc: Global, rack: &mut R, id: &Hash) -> Result<(), Answer>
+    requires { (n : ℕ) → R.can_take rack.old n }
+    ensures work { IfErr result IsNodesFault }
+    ensures back { (n : ℕ) → R.can_take rack.new n }
+    ensures later { (n : ℕ) → R.count rack.old n ≤ R.count rack.new n }
+{
+    let lead: CoordLog<R::Disk> = match open_one(alloc, rack, NodeId(0), None) {
+        Ok(lead) => lead,
+        Err(fault) => return Err(fault),
+    };
+    let kept = *lead.header();
+    rack.put(NodeId(0), lead.into_disk());
+    if kept.genesis == *id {
+        return Ok(());
+    }
+    Err(Answer::Foreign {
+        node: NodeId(0),
+        kept,
+        asked: Header {
+            node: kept.node,
+            shape: kept.shape,
+            genesis: *id,
+        },
+    })
+}
+
+// The transactions of files in one list.
+fn joined(alloc: Global, files: Vec<List<FullTx>>) -> Result<Vec<FullTx>, AllocError> {
+    let mut all = Vec::new(alloc);
+    'files: for file in files {
+        'txs: for tx in file.into_vec() {
+            all.push(tx)?;
+        }
+    }
+    Ok(all)
+}
+
+// What an audit of an open ledger finds.
+fn verdict_of<D: Disk>(
+    alloc: Global,
+    ledger: &Ledger<D>,
+    mint: &[Output],
+    handed: &[FullTx],
+) -> Result<Verdict, AllocError>
+    requires { length ledger.now.logs.items + length ledger.now.shards.items < 2 ^ 32 }
+{
+    let journals = lent(alloc, ledger)?;
+    let history = merge(alloc, &journals)?;
+    audit::audit(
+        alloc,
+        &ledger.header.shape,
+        &journals,
+        history.as_slice(),
+        mint,
+        handed,
+    )
+}
+
+// What an audit of the rack finds.
+fn verdict_on<R: Rack>(
+    alloc: Global,
+    rack: &mut R,
+    mint: &[Output],
+    handed: &[FullTx],
+) -> Result<Verdict, Answer>
+    requires { (n : ℕ) → R.can_take rack.old n }
+    ensures work { IfErr result IsNodesFault }
+    ensures back { (n : ℕ) → R.can_take rack.new n }
+    ensures later { (n : ℕ) → R.count rack.old n ≤ R.count rack.new n }
+{
+    let ledger = match open_ledger(alloc, rack) {
+        Ok(ledger) => ledger,
+        Err(fault) => return Err(fault),
+    };
+    let verdict = verdict_of(alloc, &ledger, mint, handed);
+    close_ledger(rack, ledger);
+    match verdict {
+        Ok(verdict) => Ok(verdict),
+        Err(_) => Err(Answer::Memory),
+    }
+}
+
+// Prints what a sound ledger comes to.
+fn print<O: Sink>(out: &mut O, totals: &Totals) -> Answer
+    ensures cause { IsDone (λ file. ⊥) (Rose (O.count out.old) (O.count out.new)) result }
+    ensures later { O.count out.old ≤ O.count out.new }
+{
+    let summary = AuditSummary {
+        coins: totals.coins,
+        value: totals.value,
+        minted: totals.minted,
+        committed: totals.committed,
+    };
+    match write_audit(out, &summary) {
+        Ok(()) => Answer::Ok,
+        Err(_) => Answer::WriteFault,
+    }
+}
+
+/// Checks the journals against a mint and the transactions that were handed in. No journal changes.
+pub(crate) fn audit<I: Inbox, R: Rack, O: Sink>(
+    alloc: Global,
+    mint: &FileWord,
+    clients: &[FileWord],
+    inbox: &mut I,
+    rack: &mut R,
+    out: &mut O,
+) -> Answer
+    requires { (n : ℕ) → R.can_take rack.old n }
+    ensures cause { IsDone (λ place. FileRose (I.count inbox.old) (I.count inbox.new) mint.now place ⊎ OneRose (I.count inbox.old) (I.count inbox.new) clients.now place)
+        (Rose (O.count out.old) (O.count out.new)) result }
+    ensures written_later { O.count out.old ≤ O.count out.new }
+    ensures back { (n : ℕ) → R.can_take rack.new n }
+    ensures later { (n : ℕ) → R.count rack.old n ≤ R.count rack.new n }
+{
+    let mint = match mint_in(alloc, inbox, mint) {
+        Ok(mint) => mint,
+        Err(fault) => return fault,
+    };
+    let files = match all_clients_in(alloc, inbox, clients) {
+        Ok(files) => files,
+        Err(fault) => return fault,
+    };
+    let Ok(handed) = joined(alloc, files) else {
+        return Answer::Memory;
+    };
+    let genesis = genesis_of(alloc, mint);
+    match check_mint(alloc, rack, &tx_id(&genesis)) {
+        Ok(()) => {}
+        Err(fault) => return fault,
+    }
+    match verdict_on(alloc, rack, genesis.outputs.as_slice(), &handed) {
+        Ok(Verdict::Sound(totals)) => print(out, &totals),
+        Ok(Verdict::Unsound { place, kind }) => Answer::Unsound { place, kind },
+        Err(fault) => fault,
+    }
+}
