@@ -1,5 +1,5 @@
 // What a shard writes where a call is made again.
-ghost use Rattle.std.specs.Prelude.{◌≡◌, ◌<◌, ◌^◌, ◌↔◌, IsTrue, IfOk, MatchOption, List as Items};
+ghost use Rattle.std.specs.Prelude.{◌≡◌, ◌<◌, ◌^◌, ◌↔◌, IsTrue, IfOk, MatchOption};
 ghost use Rattle.cbdc_model.specs.Records.{last_stamp, Record as AnyRecord};
 ghost use Rattle.cbdc_model.specs.World.{record_for, journals, batch_of, Lock_call, Finish_call, Forget_call};
 ghost use Rattle.world_core.specs.Events.{call_in, cause_of, InClock, IsAnswered};

@@ -1,11 +1,10 @@
 // Whether a call may be made at a node, and a record begun there, by what stands in the journals.
-ghost use Rattle.std.specs.Prelude.{◌≡◌, ◌<◌, ◌↔◌, ℕ, IsTrue, IfOk, map};
+ghost use Rattle.std.specs.Prelude.{◌≡◌, ◌<◌, ◌↔◌, IsTrue, IfOk, map};
 ghost use Rattle.cbdc_model.specs.Ranges.{home_of};
 ghost use Rattle.cbdc_model.specs.History.{header_of};
 ghost use Rattle.cbdc_model.specs.After.{After};
 ghost use Rattle.cbdc_model.specs.Causes.{IsCaused};
 ghost use Rattle.cbdc_model.specs.World.{journals, Lock_call, Finish_call, Forget_call, IsConcerned, CauseStands};
-ghost use Rattle.model_check.specs.Journals.{journals_in};
 ghost use Rattle.world_core.specs.Events.{call_in};
 
 use crate::events::ShardCall;

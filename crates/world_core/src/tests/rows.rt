@@ -6,7 +6,7 @@ use cbdc_types::{
 };
 use compact_tx::compact;
 use identifiers::input_hash;
-use model_check::genesis_id;
+use model_check::{genesis_id, is_recovered};
 use std::test::Fail;
 
 // A ledger with one coordinator and one shard, whose mint is one coin of 100.
@@ -253,15 +253,17 @@ fn stopped(rt: &HostRuntime, kept: bool) -> Result<bool, Fail> {
     world.step(rt.alloc(), &Event::Crash(NodeId(1), kept))?;
     let while_down = ask_finish(rt)?;
     world.step(rt.alloc(), &while_down)?;
+    let down = !world.nodes.iter().all(|n| n.up);
     world.step(rt.alloc(), &Event::Reopen(NodeId(1)))?;
+    let open = !is_recovered(world.nodes.as_slice(), &own.shape);
     let before = if kept { 4 } else { 3 };
-    if !is_row(rt, &world, &own, before)? {
+    if !down || !open || !is_row(rt, &world, &own, before)? {
         return Ok(false);
     }
     world.step(rt.alloc(), &ask_finish(rt)?)?;
     world.step(rt.alloc(), &Event::End(NodeId(1)))?;
     write(rt, &mut world, &own, 5, 7)?;
-    is_row(rt, &world, &own, 7)
+    Ok(is_recovered(world.nodes.as_slice(), &own.shape) && is_row(rt, &world, &own, 7)?)
 }
 
 #[test]
