@@ -2,7 +2,6 @@
 ghost use Rattle.std.specs.Prelude.{◌≡◌, ◌⊎◌, ◌+◌, ◌≤◌, ◌<◌, ◌^◌, ℕ, length, IfOk, IfErr, OnErr};
 ghost use Rattle.outside.specs.Counts.{Rose};
 ghost use Rattle.commands.specs.Causes.{IsNodesFault, IsDone, OneRose, FileRose};
-ghost use Rattle.gate_journal.specs.Shown.{disk_of};
 ghost use Rattle.rack_nodes.specs.Places.{EachFrom, MayReturn};
 
 use crate::files::{all_clients_in, mint_in};
@@ -48,7 +47,7 @@ pub(crate) fn open_caused<R: Rack>(alloc: Global, rack: &mut R) -> Result<Ledger
     ensures work { IfErr result IsNodesFault }
     ensures few { IfOk result (λ l. length l.logs.items + length l.shards.items < 2 ^ 32) }
     ensures logs { IfOk result (λ l. EachFrom (MayReturn (λ x. x.faults) (R.can_put rack.new)) 0 l.logs.items) }
-    ensures shards { IfOk result (λ l. EachFrom (MayReturn (λ x. R.Disk.count (disk_of x.log.journal)) (R.can_put rack.new)) (length l.logs.items) l.shards.items) }
+    ensures shards { IfOk result (λ l. EachFrom (MayReturn (λ x. R.Disk.count x.disk) (R.can_put rack.new)) (length l.logs.items) l.shards.items) }
     ensures others_in { IfOk result (λ l. (n : ℕ) → length l.logs.items + length l.shards.items ≤ n → R.can_take rack.new n) }
     ensures back { OnErr result ((n : ℕ) → R.can_take rack.new n) }
     ensures later { (n : ℕ) → R.count rack.old n ≤ R.count rack.new n }

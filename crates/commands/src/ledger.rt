@@ -1,6 +1,5 @@
 // The nodes of a ledger, open.
 ghost use Rattle.std.specs.Prelude.{◌≡◌, ◌+◌, ◌≤◌, ◌<◌, ◌^◌, ℕ, length, IfOk, IfErr, OnErr};
-ghost use Rattle.gate_journal.specs.Shown.{disk_of};
 ghost use Rattle.rack_nodes.specs.Places.{EachFrom, MayReturn};
 ghost use Rattle.commands.specs.Causes.{IsNodesFault};
 
@@ -78,7 +77,7 @@ pub(crate) fn open_ledger<R: Rack>(alloc: Global, rack: &mut R) -> Result<Ledger
     ensures work { IfErr result IsNodesFault }
     ensures few { IfOk result (λ l. length l.logs.items + length l.shards.items < 2 ^ 32) }
     ensures logs { IfOk result (λ l. EachFrom (MayReturn (λ x. x.faults) (R.can_put rack.new)) 0 l.logs.items) }
-    ensures shards { IfOk result (λ l. EachFrom (MayReturn (λ x. R.Disk.count (disk_of x.log.journal)) (R.can_put rack.new)) (length l.logs.items) l.shards.items) }
+    ensures shards { IfOk result (λ l. EachFrom (MayReturn (λ x. R.Disk.count x.disk) (R.can_put rack.new)) (length l.logs.items) l.shards.items) }
     ensures others_in { IfOk result (λ l. (n : ℕ) → length l.logs.items + length l.shards.items ≤ n → R.can_take rack.new n) }
     ensures back { OnErr result ((n : ℕ) → R.can_take rack.new n) }
     ensures later { (n : ℕ) → R.count rack.old n ≤ R.count rack.new n }
@@ -106,7 +105,7 @@ pub(crate) fn open_ledger<R: Rack>(alloc: Global, rack: &mut R) -> Result<Ledger
 pub(crate) fn close_ledger<R: Rack>(rack: &mut R, ledger: Ledger<R::Disk>)
     requires few { length ledger.logs.items + length ledger.shards.items < 2 ^ 32 }
     requires logs { EachFrom (MayReturn (λ x. x.faults) (R.can_put rack.old)) 0 ledger.logs.items }
-    requires shards { EachFrom (MayReturn (λ x. R.Disk.count (disk_of x.log.journal)) (R.can_put rack.old)) (length ledger.logs.items) ledger.shards.items }
+    requires shards { EachFrom (MayReturn (λ x. R.Disk.count x.disk) (R.can_put rack.old)) (length ledger.logs.items) ledger.shards.items }
     requires others { (n : ℕ) → length ledger.logs.items + length ledger.shards.items ≤ n → R.can_take rack.old n }
     ensures back { (n : ℕ) → R.can_take rack.new n }
     ensures later { (n : ℕ) → R.count rack.old n ≤ R.count rack.new n }

@@ -1,6 +1,5 @@
 // `recover`: open batches are taken to their end.
 ghost use Rattle.std.specs.Prelude.{◌≡◌, ◌≤◌, ℕ, length, IfErr};
-ghost use Rattle.gate_journal.specs.Shown.{disk_of};
 ghost use Rattle.node_ports.specs.Nodes.{faults_at};
 ghost use Rattle.outside.specs.Counts.{Rose, HasCause};
 ghost use Rattle.commands.specs.Causes.{IsNodesFault, IsDone};
@@ -41,7 +40,7 @@ fn recover_open<W: Wait, D: Disk, G: Gate>(
     ensures logs { length result.ledger.logs.items ≡ length ledger.logs.items }
     ensures shards { length result.ledger.shards.items ≡ length ledger.shards.items }
     ensures log_later { (n : ℕ) → faults_at (λ x. x.faults) ledger.logs.items n ≤ faults_at (λ x. x.faults) result.ledger.logs.items n }
-    ensures shard_later { (n : ℕ) → faults_at (λ x. D.count (disk_of x.log.journal)) ledger.shards.items n ≤ faults_at (λ x. D.count (disk_of x.log.journal)) result.ledger.shards.items n }
+    ensures shard_later { (n : ℕ) → faults_at (λ x. D.count x.disk) ledger.shards.items n ≤ faults_at (λ x. D.count x.disk) result.ledger.shards.items n }
 {
     let (header, mut ports) = lend(rt, ledger);
     let result = match resume_all(alloc, &header.shape, &mut ports, gate) {

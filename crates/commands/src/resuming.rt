@@ -4,7 +4,6 @@ ghost use Rattle.cbdc_model.specs.Records.{kind_of, is_of, txs_of, txs_in as in_
 ghost use Rattle.cbdc_model.specs.Slots.{slot};
 ghost use Rattle.coord_core.specs.Phases.{slot_of};
 ghost use Rattle.coord_core.specs.Stands.{batch_of};
-ghost use Rattle.gate_journal.specs.Shown.{disk_of};
 ghost use Rattle.lane_driver.specs.Told.{IsLane};
 ghost use Rattle.node_ports.specs.Nodes.{faults_at, log_at};
 ghost use Rattle.commands.specs.Causes.{IsNodesFault};
@@ -175,7 +174,7 @@ fn resume_open<W: Wait, D: Disk, G: Gate>(
     ensures logs { length ports.new.log.logs.items ≡ length ports.old.log.logs.items }
     ensures shards { length ports.new.shards.nodes.items ≡ length ports.old.shards.nodes.items }
     ensures log_later { (n : ℕ) → faults_at (λ x. x.faults) ports.old.log.logs.items n ≤ faults_at (λ x. x.faults) ports.new.log.logs.items n }
-    ensures shard_later { (n : ℕ) → faults_at (λ x. D.count (disk_of x.log.journal)) ports.old.shards.nodes.items n ≤ faults_at (λ x. D.count (disk_of x.log.journal)) ports.new.shards.nodes.items n }
+    ensures shard_later { (n : ℕ) → faults_at (λ x. D.count x.disk) ports.old.shards.nodes.items n ≤ faults_at (λ x. D.count x.disk) ports.new.shards.nodes.items n }
 {
     resume(alloc, shape, &[open], ports, gate)
 }
@@ -191,7 +190,7 @@ fn resume_one<W: Wait, D: Disk, G: Gate>(
     ensures logs { length ports.new.log.logs.items ≡ length ports.old.log.logs.items }
     ensures shards { length ports.new.shards.nodes.items ≡ length ports.old.shards.nodes.items }
     ensures log_later { (n : ℕ) → faults_at (λ x. x.faults) ports.old.log.logs.items n ≤ faults_at (λ x. x.faults) ports.new.log.logs.items n }
-    ensures shard_later { (n : ℕ) → faults_at (λ x. D.count (disk_of x.log.journal)) ports.old.shards.nodes.items n ≤ faults_at (λ x. D.count (disk_of x.log.journal)) ports.new.shards.nodes.items n }
+    ensures shard_later { (n : ℕ) → faults_at (λ x. D.count x.disk) ports.old.shards.nodes.items n ≤ faults_at (λ x. D.count x.disk) ports.new.shards.nodes.items n }
 {
     let home = lane.0 / shape.lanes();
     ports.log.at = home;
@@ -235,7 +234,7 @@ pub(crate) fn resume_all<W: Wait, D: Disk, G: Gate>(
     ensures logs { length ports.new.log.logs.items ≡ length ports.old.log.logs.items }
     ensures shards { length ports.new.shards.nodes.items ≡ length ports.old.shards.nodes.items }
     ensures log_later { (n : ℕ) → faults_at (λ x. x.faults) ports.old.log.logs.items n ≤ faults_at (λ x. x.faults) ports.new.log.logs.items n }
-    ensures shard_later { (n : ℕ) → faults_at (λ x. D.count (disk_of x.log.journal)) ports.old.shards.nodes.items n ≤ faults_at (λ x. D.count (disk_of x.log.journal)) ports.new.shards.nodes.items n }
+    ensures shard_later { (n : ℕ) → faults_at (λ x. D.count x.disk) ports.old.shards.nodes.items n ≤ faults_at (λ x. D.count x.disk) ports.new.shards.nodes.items n }
 {
     let Ok(mut batches) = Vec::with_capacity(alloc, shape.lane_count() as usize) else {
         return Err(Answer::Memory);

@@ -1,6 +1,5 @@
 // `run`: the transactions of client files, file by file.
 ghost use Rattle.std.specs.Prelude.{◌≡◌, ◌≤◌, ◌⊎◌, ℕ, length, IfSome, IfErr};
-ghost use Rattle.gate_journal.specs.Shown.{disk_of};
 ghost use Rattle.node_ports.specs.Nodes.{faults_at};
 ghost use Rattle.outside.specs.Counts.{Rose};
 ghost use Rattle.commands.specs.Causes.{IsNodesFault, IsDone, OneRose, FileRose};
@@ -100,7 +99,7 @@ fn run_waves<W: Wait, D: Disk, G: Gate>(
     ensures logs { length ports.new.log.logs.items ≡ length ports.old.log.logs.items }
     ensures shards { length ports.new.shards.nodes.items ≡ length ports.old.shards.nodes.items }
     ensures log_later { (n : ℕ) → faults_at (λ x. x.faults) ports.old.log.logs.items n ≤ faults_at (λ x. x.faults) ports.new.log.logs.items n }
-    ensures shard_later { (n : ℕ) → faults_at (λ x. D.count (disk_of x.log.journal)) ports.old.shards.nodes.items n ≤ faults_at (λ x. D.count (disk_of x.log.journal)) ports.new.shards.nodes.items n }
+    ensures shard_later { (n : ℕ) → faults_at (λ x. D.count x.disk) ports.old.shards.nodes.items n ≤ faults_at (λ x. D.count x.disk) ports.new.shards.nodes.items n }
 {
     'waves: for wave in waves {
         run_wave(alloc, shape, &mut wave.lanes, ports, gate);
@@ -124,7 +123,7 @@ fn run_over<W: Wait, D: Disk, V: Verifier, G: Gate>(
     ensures logs { length ports.new.log.logs.items ≡ length ports.old.log.logs.items }
     ensures shards { length ports.new.shards.nodes.items ≡ length ports.old.shards.nodes.items }
     ensures log_later { (n : ℕ) → faults_at (λ x. x.faults) ports.old.log.logs.items n ≤ faults_at (λ x. x.faults) ports.new.log.logs.items n }
-    ensures shard_later { (n : ℕ) → faults_at (λ x. D.count (disk_of x.log.journal)) ports.old.shards.nodes.items n ≤ faults_at (λ x. D.count (disk_of x.log.journal)) ports.new.shards.nodes.items n }
+    ensures shard_later { (n : ℕ) → faults_at (λ x. D.count x.disk) ports.old.shards.nodes.items n ≤ faults_at (λ x. D.count x.disk) ports.new.shards.nodes.items n }
 {
     let resumed = match resume_all(alloc, shape, ports, gate) {
         Ok(batches) => batches.len() as u64,
@@ -156,7 +155,7 @@ fn run_open<W: Wait, D: Disk, V: Verifier, G: Gate>(
     ensures logs { length result.ledger.logs.items ≡ length ledger.logs.items }
     ensures shards { length result.ledger.shards.items ≡ length ledger.shards.items }
     ensures log_later { (n : ℕ) → faults_at (λ x. x.faults) ledger.logs.items n ≤ faults_at (λ x. x.faults) result.ledger.logs.items n }
-    ensures shard_later { (n : ℕ) → faults_at (λ x. D.count (disk_of x.log.journal)) ledger.shards.items n ≤ faults_at (λ x. D.count (disk_of x.log.journal)) result.ledger.shards.items n }
+    ensures shard_later { (n : ℕ) → faults_at (λ x. D.count x.disk) ledger.shards.items n ≤ faults_at (λ x. D.count x.disk) result.ledger.shards.items n }
 {
     let (header, mut ports) = lend(rt, ledger);
     let result = run_over(alloc, &header.shape, files, verifier, &mut ports, gate);

@@ -2,7 +2,6 @@
 ghost use Rattle.std.specs.Prelude.{◌≡◌, ◌≤◌, ◌<◌, ◌*◌, ◌^◌, ℕ, IsTrue, length};
 ghost use Rattle.cbdc_model.specs.Slots.{slot, Idle};
 ghost use Rattle.cbdc_model.specs.Grammar.{HasSize};
-ghost use Rattle.gate_journal.specs.Shown.{disk_of};
 ghost use Rattle.lane_driver.specs.Told.{IsLane};
 ghost use Rattle.node_ports.specs.Nodes.{faults_at, log_at};
 
@@ -113,7 +112,7 @@ fn run_piece<W: Wait, D: Disk, G: Gate>(
     ensures logs { length ports.new.log.logs.items ≡ length ports.old.log.logs.items }
     ensures shards { length ports.new.shards.nodes.items ≡ length ports.old.shards.nodes.items }
     ensures log_later { (n : ℕ) → faults_at (λ x. x.faults) ports.old.log.logs.items n ≤ faults_at (λ x. x.faults) ports.new.log.logs.items n }
-    ensures shard_later { (n : ℕ) → faults_at (λ x. D.count (disk_of x.log.journal)) ports.old.shards.nodes.items n ≤ faults_at (λ x. D.count (disk_of x.log.journal)) ports.new.shards.nodes.items n }
+    ensures shard_later { (n : ℕ) → faults_at (λ x. D.count x.disk) ports.old.shards.nodes.items n ≤ faults_at (λ x. D.count x.disk) ports.new.shards.nodes.items n }
 {
     let Some(log) = ports.log.logs.get(ports.log.at as usize) else {
         return Err(no_memory());
@@ -139,7 +138,7 @@ fn turn<W: Wait, D: Disk, G: Gate>(
     ensures logs { length ports.new.log.logs.items ≡ length ports.old.log.logs.items }
     ensures shards { length ports.new.shards.nodes.items ≡ length ports.old.shards.nodes.items }
     ensures log_later { (n : ℕ) → faults_at (λ x. x.faults) ports.old.log.logs.items n ≤ faults_at (λ x. x.faults) ports.new.log.logs.items n }
-    ensures shard_later { (n : ℕ) → faults_at (λ x. D.count (disk_of x.log.journal)) ports.old.shards.nodes.items n ≤ faults_at (λ x. D.count (disk_of x.log.journal)) ports.new.shards.nodes.items n }
+    ensures shard_later { (n : ℕ) → faults_at (λ x. D.count x.disk) ports.old.shards.nodes.items n ≤ faults_at (λ x. D.count x.disk) ports.new.shards.nodes.items n }
 {
     let Some(lane) = lanes.get_mut(number as usize) else {
         return;
@@ -168,7 +167,7 @@ fn turns<W: Wait, D: Disk, G: Gate>(
     ensures logs { length ports.new.log.logs.items ≡ length ports.old.log.logs.items }
     ensures shards { length ports.new.shards.nodes.items ≡ length ports.old.shards.nodes.items }
     ensures log_later { (n : ℕ) → faults_at (λ x. x.faults) ports.old.log.logs.items n ≤ faults_at (λ x. x.faults) ports.new.log.logs.items n }
-    ensures shard_later { (n : ℕ) → faults_at (λ x. D.count (disk_of x.log.journal)) ports.old.shards.nodes.items n ≤ faults_at (λ x. D.count (disk_of x.log.journal)) ports.new.shards.nodes.items n }
+    ensures shard_later { (n : ℕ) → faults_at (λ x. D.count x.disk) ports.old.shards.nodes.items n ≤ faults_at (λ x. D.count x.disk) ports.new.shards.nodes.items n }
 {
     'lanes: for number in 0..shape.lane_count() {
         turn(alloc, shape, number, lanes, ports, gate);
@@ -196,7 +195,7 @@ pub(crate) fn run_wave<W: Wait, D: Disk, G: Gate>(
     ensures logs { length ports.new.log.logs.items ≡ length ports.old.log.logs.items }
     ensures shards { length ports.new.shards.nodes.items ≡ length ports.old.shards.nodes.items }
     ensures log_later { (n : ℕ) → faults_at (λ x. x.faults) ports.old.log.logs.items n ≤ faults_at (λ x. x.faults) ports.new.log.logs.items n }
-    ensures shard_later { (n : ℕ) → faults_at (λ x. D.count (disk_of x.log.journal)) ports.old.shards.nodes.items n ≤ faults_at (λ x. D.count (disk_of x.log.journal)) ports.new.shards.nodes.items n }
+    ensures shard_later { (n : ℕ) → faults_at (λ x. D.count x.disk) ports.old.shards.nodes.items n ≤ faults_at (λ x. D.count x.disk) ports.new.shards.nodes.items n }
 {
     let rounds = rounds_of(shape, lanes);
     'rounds: for _ in 0..rounds {

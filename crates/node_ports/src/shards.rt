@@ -1,15 +1,14 @@
 // The shards of a ledger.
-ghost use Rattle.std.specs.Prelude.{◌≡◌, ◌≤◌, ◌<◌, ◌^◌, ℕ, length, IfOk, IsTrue, ◌*◌};
-ghost use Rattle.gate_journal.specs.Shown.{disk_of};
+ghost use Rattle.std.specs.Prelude.{◌≡◌, ◌≤◌, ◌<◌, ◌^◌, ℕ, length, IfOk};
 ghost use Rattle.lane_driver.specs.Told.{IsStamp, LockTold, StampTold, EachAnswer};
 ghost use Rattle.node_ports.specs.Nodes.{faults_at};
 
 use cbdc_types::{
-    BatchId, FinishCall, ForgetCall, LaneId, LockCall, NodeFault, NodeId, Refused, Replied, Stamp,
+    FinishCall, ForgetCall, LaneId, LockCall, NodeFault, NodeId, Refused, Replied, Stamp,
 };
 use lane_driver::PortSet;
 use outside::{Disk, Gate, Point, When};
-use shard_node::ShardNode;
+use shard_node::{ShardNode, is_finish_call, is_forget_call, is_lock_call};
 use std::sync::Wait;
 
 /// The shards of a ledger for one lane: the first of them is this node.
@@ -28,8 +27,8 @@ const FINISH: u8 = 3;
 
 const FORGET: u8 = 4;
 
-// The answer to a call that names a lane which the ledger doesn't have.
-const NO_LANE: NodeFault = NodeFault::Refused(Refused::NotLocked { kept: 0 });
+// The answer to a call that no lane of the ledger makes.
+const NO_CALL: NodeFault = NodeFault::Refused(Refused::NotLocked { kept: 0 });
 
 // A stamp that an answer may carry.
 fn checked(stamp: Stamp) -> Result<Stamp, NodeFault>
@@ -41,20 +40,13 @@ fn checked(stamp: Stamp) -> Result<Stamp, NodeFault>
     Ok(stamp)
 }
 
-// Whether the shard's ledger has the batch's lane.
-fn has_lane<D: Disk>(node: &ShardNode<D>, batch: &BatchId) -> bool
-    ensures { IsTrue result → batch.now.lane < node.now.log.header.shape.coordinators * node.now.log.header.shape.lanes }
-{
-    batch.lane.0 < node.header().shape.lane_count()
-}
-
 fn lock_at<D: Disk>(node: &mut ShardNode<D>, call: &LockCall) -> Result<Replied, NodeFault>
     requires { IsStamp call.now.cause }
     ensures told { IfOk result (λ a. IsStamp a.stamp) }
-    ensures later { D.count (disk_of node.old.log.journal) ≤ D.count (disk_of node.new.log.journal) }
+    ensures later { D.count node.old.disk ≤ D.count node.new.disk }
 {
-    if !has_lane(node, &call.batch) {
-        return Err(NO_LANE);
+    if !is_lock_call(node.header(), call) {
+        return Err(NO_CALL);
     }
     match node.lock(call) {
         Ok(replied) => match checked(replied.stamp) {
@@ -68,10 +60,10 @@ fn lock_at<D: Disk>(node: &mut ShardNode<D>, call: &LockCall) -> Result<Replied,
 fn finish_at<D: Disk>(node: &mut ShardNode<D>, call: &FinishCall) -> Result<Stamp, NodeFault>
     requires { IsStamp call.now.cause }
     ensures told { IfOk result IsStamp }
-    ensures later { D.count (disk_of node.old.log.journal) ≤ D.count (disk_of node.new.log.journal) }
+    ensures later { D.count node.old.disk ≤ D.count node.new.disk }
 {
-    if !has_lane(node, &call.batch) {
-        return Err(NO_LANE);
+    if !is_finish_call(node.header(), call) {
+        return Err(NO_CALL);
     }
     match node.finish(call) {
         Ok(stamp) => checked(stamp),
@@ -82,10 +74,10 @@ fn finish_at<D: Disk>(node: &mut ShardNode<D>, call: &FinishCall) -> Result<Stam
 fn forget_at<D: Disk>(node: &mut ShardNode<D>, call: &ForgetCall) -> Result<Stamp, NodeFault>
     requires { IsStamp call.now.cause }
     ensures told { IfOk result IsStamp }
-    ensures later { D.count (disk_of node.old.log.journal) ≤ D.count (disk_of node.new.log.journal) }
+    ensures later { D.count node.old.disk ≤ D.count node.new.disk }
 {
-    if !has_lane(node, &call.batch) {
-        return Err(NO_LANE);
+    if !is_forget_call(node.header(), call) {
+        return Err(NO_CALL);
     }
     match node.forget(call) {
         Ok(stamp) => checked(stamp),
@@ -117,7 +109,7 @@ impl<'r, W: Wait, D: Disk> NodeShards<'r, W, D> {
         requires cause { IsStamp call.now.cause }
         ensures told { IfOk result (λ a. IsStamp a.stamp) }
         ensures count { length self.new.nodes.items ≡ length self.old.nodes.items }
-        ensures later { (n : ℕ) → faults_at (λ x. D.count (disk_of x.log.journal)) self.old.nodes.items n ≤ faults_at (λ x. D.count (disk_of x.log.journal)) self.new.nodes.items n }
+        ensures later { (n : ℕ) → faults_at (λ x. D.count x.disk) self.old.nodes.items n ≤ faults_at (λ x. D.count x.disk) self.new.nodes.items n }
     {
         self.pass(gate, shard, LOCK, When::Before);
         self.pass(gate, shard, LOCK, When::Inside);
@@ -136,7 +128,7 @@ impl<'r, W: Wait, D: Disk> NodeShards<'r, W, D> {
         requires cause { IsStamp call.now.cause }
         ensures told { IfOk result IsStamp }
         ensures count { length self.new.nodes.items ≡ length self.old.nodes.items }
-        ensures later { (n : ℕ) → faults_at (λ x. D.count (disk_of x.log.journal)) self.old.nodes.items n ≤ faults_at (λ x. D.count (disk_of x.log.journal)) self.new.nodes.items n }
+        ensures later { (n : ℕ) → faults_at (λ x. D.count x.disk) self.old.nodes.items n ≤ faults_at (λ x. D.count x.disk) self.new.nodes.items n }
     {
         self.pass(gate, shard, FINISH, When::Before);
         self.pass(gate, shard, FINISH, When::Inside);
@@ -155,7 +147,7 @@ impl<'r, W: Wait, D: Disk> NodeShards<'r, W, D> {
         requires cause { IsStamp call.now.cause }
         ensures told { IfOk result IsStamp }
         ensures count { length self.new.nodes.items ≡ length self.old.nodes.items }
-        ensures later { (n : ℕ) → faults_at (λ x. D.count (disk_of x.log.journal)) self.old.nodes.items n ≤ faults_at (λ x. D.count (disk_of x.log.journal)) self.new.nodes.items n }
+        ensures later { (n : ℕ) → faults_at (λ x. D.count x.disk) self.old.nodes.items n ≤ faults_at (λ x. D.count x.disk) self.new.nodes.items n }
     {
         self.pass(gate, shard, FORGET, When::Before);
         self.pass(gate, shard, FORGET, When::Inside);
@@ -168,7 +160,7 @@ impl<'r, W: Wait, D: Disk> NodeShards<'r, W, D> {
 impl<'r, W: Wait, D: Disk> PortSet for NodeShards<'r, W, D> {
     ghost count = { λ p. length p.nodes.items };
 
-    ghost faults = { λ p n. faults_at (λ x. D.count (disk_of x.log.journal)) p.nodes.items n };
+    ghost faults = { λ p n. faults_at (λ x. D.count x.disk) p.nodes.items n };
 
     fn lock<G: Gate>(
         &mut self,

@@ -1,7 +1,6 @@
 // Coordinators and shards on the disks of a rack.
 ghost use Rattle.std.specs.Prelude.{◌≡◌, ◌≤◌, ℕ, IfErr, MatchResult};
 ghost use Rattle.outside.specs.Counts.{Rose};
-ghost use Rattle.gate_journal.specs.Shown.{disk_of};
 ghost use Rattle.rack_nodes.specs.Places.{IsOpening};
 
 use crate::OnDisk;
@@ -128,7 +127,7 @@ impl<D: Disk> OnDisk<D> for CoordLog<D> {
 }
 
 impl<D: Disk> OnDisk<D> for ShardNode<D> {
-    ghost faults = { λ n. D.count (disk_of n.log.journal) };
+    ghost faults = { λ n. D.count n.disk };
 
     fn open_disk(
         alloc: Global,

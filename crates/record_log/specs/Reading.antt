@@ -45,3 +45,8 @@ IsNoLog bytes (Fault DiskFault) = Unit {0}
 IsNoLog bytes (Fault Memory) = Unit {0}
 IsNoLog bytes (Fault other) = ⊥
 IsNoLog bytes (Cut h records at) = MayHold h records.items × CutsOff (IsInGrammar h) records.items at bytes
+
+-- the records before a cut are those of a journal
+abbrev pub HoldsBefore : NoLog → Type 0
+HoldsBefore (Cut h records at) = MayHold h records.items
+HoldsBefore (Fault fault) = Unit {0}

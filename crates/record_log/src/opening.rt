@@ -9,7 +9,7 @@ ghost use Rattle.cbdc_model.specs.Room.{size_of};
 ghost use Rattle.record_codec.specs.Bodies.{body_of};
 ghost use Rattle.record_codec.specs.Exact.{IsFirst};
 ghost use Rattle.record_log.specs.Held.{OpensTo, MayHold};
-ghost use Rattle.record_log.specs.Reading.{IsRead, IsUnread, IsNoLog};
+ghost use Rattle.record_log.specs.Reading.{IsRead, IsUnread, IsNoLog, HoldsBefore};
 ghost use Rattle.record_log.specs.Logs.{HoldsAll};
 
 use crate::RecordLog;
@@ -125,7 +125,9 @@ fn log_of<D: Disk>(
     journal: Journal<D>,
     read: Read,
 ) -> Result<RecordLog<D>, (D, NoLog)>
-    requires { broken_of journal ≡ None }
+    requires whole { broken_of journal ≡ None }
+    requires grammar { MayHold read.header read.records.items }
+    ensures grammar { IfErr result (λ e. HoldsBefore e.1) }
     ensures log { IfOk result (λ l. (l.journal ≡ journal) × (l.header ≡ read.header) × (l.records.items ≡ read.records.items) × (read.cut ≡ None)) }
     ensures cut { IfErr result (λ e. (e.0 ≡ disk_of journal) × IfSome read.cut (λ at. e.1 ≡ NoLog.Cut read.header read.records at)) }
     ensures is_cut { IfErr result (λ e. IsSome read.cut) }
@@ -155,7 +157,9 @@ fn log_of<D: Disk>(
 
 // Records that are cut off by one that is none, or else by the damage behind them.
 fn cut_at(read: Read, damaged: u64) -> NoLog
-    ensures { MatchOption read.cut (result ≡ NoLog.Cut read.header read.records damaged) (λ at. result ≡ NoLog.Cut read.header read.records at) }
+    requires { MayHold read.header read.records.items }
+    ensures grammar { HoldsBefore result }
+    ensures cut { MatchOption read.cut (result ≡ NoLog.Cut read.header read.records damaged) (λ at. result ≡ NoLog.Cut read.header read.records at) }
 {
     let Read {
         header,
@@ -179,6 +183,7 @@ fn cut_at(read: Read, damaged: u64) -> NoLog
 // What is told of a disk that is damaged at a place behind these bodies.
 fn cut_of(alloc: Global, before: &[List<u8>], damaged: u64) -> NoLog
     ensures told { result ≢ NoLog.Fault NodeOpenFault.DiskFault }
+    ensures grammar { HoldsBefore result }
     ensures cut { (c : Items ℕ) → Breaks before.now c → damaged ≡ length (rows before.now) → 1 ≤ length before.now → IsNoLog c result }
 {
     match records_of(alloc, before) {
@@ -191,6 +196,7 @@ fn cut_of(alloc: Global, before: &[List<u8>], damaged: u64) -> NoLog
 fn refusal_of(alloc: Global, fault: OpenFault) -> NoLog
     ensures fault { result ≡ NoLog.Fault NodeOpenFault.DiskFault → fault ≡ OpenFault.DiskFault }
     ensures refusal { (c : Items ℕ) → IsRefusal c fault → IsNoLog c result }
+    ensures grammar { HoldsBefore result }
 {
     match fault {
         OpenFault::Damaged { at, before } => cut_of(alloc, before.as_slice(), at),
@@ -210,6 +216,7 @@ pub fn open_records<D: Disk>(alloc: Global, disk: D) -> Result<RecordLog<D>, (D,
 
     // Which refusal it is.
     ensures refusal { IfErr result (λ e. Tells (D.content disk) (λ c. IsNoLog c e.1)) }
+    ensures before { IfErr result (λ e. HoldsBefore e.1) }
     ensures later { MatchResult result (λ l. D.count disk ≤ D.count (disk_of l.journal)) (λ e. D.count disk ≤ D.count e.0) }
     ensures fault { IfErr result (λ e. e.1 ≡ NoLog.Fault NodeOpenFault.DiskFault → Rose (D.count disk) (D.count e.0)) }
     ensures limit { MatchResult result (λ l. D.limit (disk_of l.journal) ≡ D.limit disk) (λ e. D.limit e.0 ≡ D.limit disk) }

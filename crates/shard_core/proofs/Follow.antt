@@ -10,7 +10,7 @@ use Rattle.shard_core.specs.Places.{first_place, fits_reply}
 use Rattle.shard_core.specs.Slots.{SlotStands, batch_in}
 use Rattle.dtx_replies.specs.declared.slots.Slot.TheVariants.{Locked as Taken}
 
-entries_answered : (es : List Entry) (past : List Record) (b : Batch) (claimed : List Digest) → entries (answered past b claimed es) ≡ es
+pub entries_answered : (es : List Entry) (past : List Record) (b : Batch) (claimed : List Digest) → entries (answered past b claimed es) ≡ es
 entries_answered [] past b claimed = refl
 entries_answered (e ∷ es) past b claimed =
     ap (λ xs. e ∷ xs) (entries_answered es past b (if is_held (reply_to past b claimed e.inputs) then e.inputs ++ claimed else claimed))
@@ -32,7 +32,7 @@ same_answered (x ∷ xs) (y ∷ ys) e r =
           first ∙ ap (λ r. record { entry = b.entry; reply = r }) q
 
 -- a Lock carries the replies that the shard gives
-answered_same : (past : List Record) (b : Batch) (es : List Answered) → replies (answered past b [] (entries es)) ≡ replies es → es ≡ answered past b [] (entries es)
+pub answered_same : (past : List Record) (b : Batch) (es : List Answered) → replies (answered past b [] (entries es)) ≡ replies es → es ≡ answered past b [] (entries es)
 answered_same past b es r = same_answered es (answered past b [] (entries es)) (sym (entries_answered (entries es) past b [])) (sym r)
 
 none_under : (o : Option ℕ) → option_map (λ n. suc n) o ≡ None → o ≡ None

@@ -1,8 +1,37 @@
 -- What a caller of a shard must know.
-use Rattle.std.specs.Prelude.{ℕ, ◌*◌, ◌^◌, ◌<◌, ◌≤◌}
-use Rattle.cbdc_model.specs.Records.{Shape, Batch}
+use Rattle.std.specs.Prelude.{ℕ, ◌+◌, ◌^◌, ◌<◌, ◌≤◌, List, [], ◌∷◌, length, All}
+use Rattle.cbdc_types.specs.declared.calls.LockCall.{LockCall}
+use Rattle.cbdc_types.specs.declared.calls.FinishCall.{FinishCall}
+use Rattle.cbdc_types.specs.declared.calls.ForgetCall.{ForgetCall}
+use Rattle.cbdc_model.specs.Records.{Header, Entry}
+use Rattle.cbdc_model.specs.Grammar.{IsHash, IsHashList, IsBatchOf, AreHere, HasSize}
 
--- the batch is of a lane of the ledger, and the cause is a stamp
-pub record IsCallOf (K : Shape) (b : Batch) (cause : ℕ) : Type 0 where
-  pub lane : b.lane < K.coordinators * K.lanes
-  pub cause_fits : cause < 2 ^ 63
+-- the places rise, and are below the limit
+abbrev pub PlacesRise : ℕ → ℕ → List Entry → Type 0
+PlacesRise low limit [] = Unit {0}
+PlacesRise low limit (e ∷ es) = (low ≤ e.place) × (e.place < limit) × PlacesRise (e.place + 1) limit es
+
+-- an entry of a part names at least one hash, and all of them lie on the node's shard
+pub record IsPartEntry (h : Header) (e : Entry) : Type 0 where
+  pub id : IsHash e.id
+  pub inputs : IsHashList e.inputs
+  pub outputs : IsHashList e.outputs
+  pub some : 1 ≤ length e.inputs + length e.outputs
+  pub inputs_here : AreHere h.shape h.node e.inputs
+  pub outputs_here : AreHere h.shape h.node e.outputs
+
+pub record IsLockCall (h : Header) (c : LockCall) : Type 0 where
+  pub batch : IsBatchOf h.shape c.batch
+  pub cause : c.cause < 2 ^ 63
+  pub size : HasSize h.shape c.part
+  pub places : PlacesRise 0 h.shape.batch c.part
+  pub entries : All (IsPartEntry h) c.part
+
+pub record IsFinishCall (h : Header) (c : FinishCall) : Type 0 where
+  pub batch : IsBatchOf h.shape c.batch
+  pub cause : c.cause < 2 ^ 63
+  pub size : HasSize h.shape c.decisions
+
+pub record IsForgetCall (h : Header) (c : ForgetCall) : Type 0 where
+  pub batch : IsBatchOf h.shape c.batch
+  pub cause : c.cause < 2 ^ 63

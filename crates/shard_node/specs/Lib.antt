@@ -1,1 +1,4 @@
+pub mod Shards
 pub mod Conditions
+pub mod Parts
+pub mod Opening

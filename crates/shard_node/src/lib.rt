@@ -1,10 +1,13 @@
 //! A shard on its disk: it writes each record down before it applies it.
 #![tactic(auto)]
 
-mod faults;
+mod conditions;
+mod locking;
 mod node;
 mod opening;
-mod pure;
-mod room;
+mod parts;
+mod stamping;
+mod writing;
 
+pub use conditions::{is_finish_call, is_forget_call, is_lock_call};
 pub use node::ShardNode;

@@ -1,59 +1,121 @@
 // Opening a shard.
-ghost use Rattle.std.specs.Prelude.{◌≡◌, ◌≢◌, ◌≤◌, IfOk, IfErr, IfSome, MatchResult};
+ghost use Rattle.std.specs.Prelude.{◌≡◌, ◌≢◌, ◌+◌, ◌≤◌, ◌∷◌, [], ℕ, None, length, reverse, sum_by, vec_capacity, All, IfOk, IfErr, MatchResult};
 ghost use Rattle.outside.specs.Counts.{Rose};
-ghost use Rattle.gate_journal.specs.Shown.{disk_of};
+ghost use Rattle.outside.specs.Images.{Tells, Leaves};
+ghost use Rattle.gate_journal.specs.Shown.{disk_of, gate_of, broken_of};
+ghost use Rattle.cbdc_model.specs.Grammar.{IsShard};
+ghost use Rattle.cbdc_model.specs.Room.{size_of};
+ghost use Rattle.record_log.specs.Held.{MayHold};
+ghost use Rattle.record_log.specs.Reading.{HoldsBefore};
+ghost use Rattle.record_log.specs.Logs.{IsUntouched};
+ghost use Rattle.shard_node.specs.Shards.{HoldsJournal};
+ghost use Rattle.shard_node.specs.Opening.{IsShardJournal, IsPlayed};
+ghost use Rattle.shard_node.specs.Parts.{IsShardOf, HaveDecisions};
 
 use crate::ShardNode;
-use crate::pure::Core;
-use crate::room::Room;
+use crate::locking::LARGEST_FINISH;
+use crate::parts::Parts;
+use crate::writing::apply;
 use cbdc_types::{Header, NodeOpenFault, Record};
 use outside::Disk;
-use record_log::{NoLog, RecordLog, open_records, take_in_all};
+use record_codec::size_of_record;
+use record_log::{NoLog, RecordLog, open_records};
 use shard_core::ShardCore;
 use std::alloc::{AllocError, Global};
 
-// The pure shard that begins with this record. None where it is a coordinator's.
-fn core_of(alloc: Global, header: &Header, records: &[Record]) -> Result<Option<Core>, AllocError>
-    ensures { IfOk result (λ o. IfSome o (λ c. c.shard.header ≡ header.now)) }
-{
-    match records.first() {
-        Some(Record::Genesis { hashes, .. }) => Ok(Some(Core {
-            shard: ShardCore::new(alloc, header, hashes.as_slice())?,
-        })),
-        _ => Ok(None),
-    }
+/// The fewest bytes of a record that is still to come.
+const LEAST: u64 = 34;
+
+// What a shard has beside its journal: the core, and the memory for the decisions of its lanes' batches.
+#[derive(Drop)]
+struct Opened {
+    core: ShardCore,
+    decisions: Vec<Vec<bool>>,
 }
 
-// What is kept behind records, and the memory for it.
-fn room_of(alloc: Global, header: &Header, records: &[Record]) -> Result<Room, AllocError> {
-    let mut room = Room::new(alloc, header.shape.lane_count())?;
-    'records: for record in records {
-        if let Record::Lock { batch, entries, .. } = record {
-            room.reserve(*batch, entries.len())?;
-        }
-        room.keep_behind(record);
-    }
-    Ok(room)
-}
-
-// The shard that these records make, or why they make none.
-fn replayed(alloc: Global, header: &Header, records: &[Record]) -> Result<Core, NodeOpenFault>
-    ensures header { IfOk result (λ c. c.shard.header ≡ header.now) }
+// The core that a journal's first record begins with. A coordinator's begins with another.
+fn first_core(alloc: Global, header: &Header, first: &Record) -> Result<ShardCore, NodeOpenFault>
+    requires { MayHold header.now (first.now ∷ []) }
+    ensures played { IfOk result (λ core. IsPlayed header.now core (first.now ∷ [])) }
     ensures fault { IfErr result (λ e. e ≢ NodeOpenFault.DiskFault) }
 {
-    match core_of(alloc, header, records) {
-        Ok(Some(mut core)) => match take_in_all(&mut core, records) {
-            Ok(None) => Ok(core),
-            Ok(Some(at)) => Err(NodeOpenFault::Damaged { at }),
+    match first {
+        Record::Genesis { hashes, .. } => match ShardCore::new(alloc, header, hashes.as_slice()) {
+            Ok(core) => Ok(core),
             Err(_) => Err(NodeOpenFault::Memory),
         },
-        Ok(None) => Err(NodeOpenFault::OtherKind),
+        _ => Err(NodeOpenFault::OtherKind),
+    }
+}
+
+// The core that these records make, or why they make none.
+fn replayed(alloc: Global, header: &Header, records: &[Record]) -> Result<ShardCore, NodeOpenFault>
+    requires { MayHold header.now records.now }
+    ensures played { IfOk result (λ core. IsPlayed header.now core (reverse records.now)) }
+    ensures fault { IfErr result (λ e. e ≢ NodeOpenFault.DiskFault) }
+{
+    let mut core = first_core(alloc, header, &records[0])?;
+    let mut at = size_of_record(&records[0]);
+    'records: for i in 1..records.len() {
+        let next = &records[i];
+        match core.admit(next) {
+            Ok(true) => apply(&mut core, next),
+            Ok(false) => return Err(NodeOpenFault::Damaged { at }),
+            Err(_) => return Err(NodeOpenFault::Memory),
+        }
+        at = at.saturating_add(size_of_record(next));
+    }
+    Ok(core)
+}
+
+// Memory for as many decisions in each of so many lanes.
+fn memory_of(alloc: Global, lanes: u32, batch: u32) -> Result<Vec<Vec<bool>>, AllocError>
+    ensures lanes { IfOk result (λ v. length v.items ≡ lanes) }
+    ensures room { IfOk result (λ v. All (λ m. batch ≤ vec_capacity m) v.items) }
+{
+    let mut memory = Vec::with_capacity(alloc, lanes as usize)?;
+    'lanes: for _lane in 0..lanes {
+        memory.push(Vec::with_capacity(alloc, batch as usize)?)?;
+    }
+    Ok(memory)
+}
+
+// What a shard has beside its journal, with the room and the memory for its unfinished batches.
+fn opened_of<D: Disk>(alloc: Global, log: &mut RecordLog<D>) -> Result<Opened, NodeOpenFault>
+    requires grammar { MayHold log.old.header log.old.records.items }
+    requires ends { gate_of log.old.journal ≡ sum_by size_of log.old.records.items }
+    requires whole { broken_of log.old.journal ≡ None }
+    ensures shard { IfOk result (λ o. (count : ℕ) → count ≤ D.count (disk_of log.new.journal)
+        → IsShardOf (record { log = log.new; core = o.core; decisions = o.decisions; flight = None; opened = count })) }
+    ensures fault { IfErr result (λ e. e ≢ NodeOpenFault.DiskFault) }
+    ensures untouched { IsUntouched log.old log.new }
+    ensures records { log.new.records.items ≡ log.old.records.items }
+    ensures header { log.new.header ≡ log.old.header }
+{
+    let core = replayed(alloc, &log.header, &log.records)?;
+    let used = log.used();
+    let need = core.kept_room();
+    let capacity = log.capacity();
+    if used > capacity || need > capacity - used {
+        return Err(NodeOpenFault::Full {
+            used,
+            need,
+            capacity,
+        });
+    }
+    let shape = log.header.shape;
+    let Ok(decisions) = memory_of(alloc, shape.lane_count(), shape.batch()) else {
+        return Err(NodeOpenFault::Memory);
+    };
+    match log.reserve((need / LEAST + 1) as usize, LARGEST_FINISH) {
+        Ok(()) => Ok(Opened { core, decisions }),
         Err(_) => Err(NodeOpenFault::Memory),
     }
 }
 
 // Why a journal that is cut off behind these records is refused: by an earlier one, if one is not next.
 fn cut_fault(alloc: Global, header: &Header, records: &[Record], at: u64) -> NodeOpenFault
+    requires { MayHold header.now records.now }
     ensures { result ≢ NodeOpenFault.DiskFault }
 {
     match replayed(alloc, header, records) {
@@ -64,6 +126,7 @@ fn cut_fault(alloc: Global, header: &Header, records: &[Record], at: u64) -> Nod
 
 // Why a disk did not open into records.
 fn no_log_fault(alloc: Global, refused: NoLog) -> NodeOpenFault
+    requires { HoldsBefore refused }
     ensures { result ≡ NodeOpenFault.DiskFault → refused ≡ NoLog.Fault NodeOpenFault.DiskFault }
 {
     match refused {
@@ -76,59 +139,41 @@ fn no_log_fault(alloc: Global, refused: NoLog) -> NodeOpenFault
     }
 }
 
-// The most bytes that a later record of these batches takes.
-fn largest(records: &[Record]) -> u64 {
-    let mut largest = 42u64;
-    'records: for record in records {
-        if let Record::Lock { entries, .. } = record {
-            largest = largest.max((entries.len() as u64).saturating_add(42));
-        }
-    }
-    largest
-}
-
-// What a shard has beside its journal: the pure shard and its room, with the memory for unfinished batches.
-fn parts_of<D: Disk>(alloc: Global, log: &mut RecordLog<D>) -> Result<(Core, Room), NodeOpenFault>
-    ensures fault { IfErr result (λ e. e ≢ NodeOpenFault.DiskFault) }
-    ensures core { IfOk result (λ r. r.0.shard.header ≡ log.new.header) }
-    ensures same { D.count (disk_of log.new.journal) ≡ D.count (disk_of log.old.journal) }
-{
-    let core = match replayed(alloc, &log.header, &log.records) {
-        Ok(core) => core,
-        Err(fault) => return Err(fault),
-    };
-    let Ok(room) = room_of(alloc, &log.header, &log.records) else {
-        return Err(NodeOpenFault::Memory);
-    };
-    let used = log.used();
-    let need = room.kept();
-    let capacity = log.capacity();
-    if used.saturating_add(need) > capacity {
-        return Err(NodeOpenFault::Full {
-            used,
-            need,
-            capacity,
-        });
-    }
-    let ahead = room.open_lanes().saturating_mul(2);
-    let bytes = largest(&log.records).min(1 << 30);
-    match log.reserve(ahead, bytes) {
-        Ok(()) => Ok((core, room)),
-        Err(_) => Err(NodeOpenFault::Memory),
-    }
-}
-
 impl<D: Disk> ShardNode<D> {
     /// Opens a shard's disk. A refusal hands the disk back.
     pub fn open(alloc: Global, disk: D) -> Result<ShardNode<D>, (D, NodeOpenFault)>
-        ensures later { MatchResult result (λ n. D.count disk ≤ D.count (disk_of n.log.journal)) (λ e. D.count disk ≤ D.count e.0) }
+        // The content opens to just this journal, and a crash leaves nothing else.
+        ensures opens { IfOk result (λ n. Tells (D.content disk) (λ c. IsShardJournal n.header n.journal c × HoldsJournal D.content D.images n)) }
+        ensures fresh { IfOk result (λ n. (n.flight ≡ None) × (n.broken ≡ None) × (n.opened ≡ D.count n.disk)) }
+        ensures later { MatchResult result (λ n. D.count disk ≤ D.count n.disk) (λ e. D.count disk ≤ D.count e.0) }
         ensures fault { IfErr result (λ e. e.1 ≡ NodeOpenFault.DiskFault → Rose (D.count disk) (D.count e.0)) }
+        ensures limit { MatchResult result (λ n. D.limit n.disk ≡ D.limit disk) (λ e. D.limit e.0 ≡ D.limit disk) }
+
+        // It changes nothing that a crash may leave.
+        ensures leaves { MatchResult result
+            (λ n. Leaves D.tells_past D.moment D.images_since D.images disk n.disk (D.images disk))
+            (λ e. Leaves D.tells_past D.moment D.images_since D.images disk e.0 (D.images disk)) }
     {
         match open_records(alloc, disk) {
-            Ok(mut log) => match parts_of(alloc, &mut log) {
-                Ok((core, room)) => Ok(ShardNode::of_parts(alloc, log, core, room)),
-                Err(fault) => Err((log.into_disk(), fault)),
-            },
+            Ok(found) => {
+                let mut log = found;
+                match opened_of(alloc, &mut log) {
+                    Ok(Opened { core, decisions }) => {
+                        let opened = log.faults();
+                        Ok(ShardNode::of_parts(
+                            alloc,
+                            Parts {
+                                log,
+                                core,
+                                decisions,
+                                flight: None,
+                                opened,
+                            },
+                        ))
+                    }
+                    Err(fault) => Err((log.into_disk(), fault)),
+                }
+            }
             Err((disk, refused)) => {
                 let fault = no_log_fault(alloc, refused);
                 Err((disk, fault))

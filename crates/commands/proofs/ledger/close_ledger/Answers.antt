@@ -1,14 +1,13 @@
 use Rattle.std.proofs.Common.{◌≡◌, ◌+◌, ℕ, length, sym, subst, arith, inl, inr}
 use Rattle.std.proofs.lemmas.Bool.{cases_lt}
-use Rattle.gate_journal.specs.Shown.{disk_of}
 use Rattle.rack_nodes.specs.Places.{EachFrom, MayReturn}
 use Rattle.rack_nodes.proofs.Each.{each_weaker}
 use Rattle.commands.proofs.ledger.close_ledger.Goals as goal
 
 pub close_all-requires-2-clause-out : goal.close_all-requires-2-clause-out
 close_all-requires-2-clause-out g c =
-    let P = MayReturn (λ x. g.R.Disk.Disk.count (disk_of x.log.journal)) (g.R.Rack.can_put c.args.rack.now) in
-    let Q = MayReturn (λ x. g.R.Disk.Disk.count (disk_of x.log.journal)) (g.R.Rack.can_put c.close_all.new.rack) in
+    let P = MayReturn (λ x. g.R.Disk.Disk.count x.disk) (g.R.Rack.can_put c.args.rack.now) in
+    let Q = MayReturn (λ x. g.R.Disk.Disk.count x.disk) (g.R.Rack.can_put c.close_all.new.rack) in
     let first : c.len-first.result ≡ length c.args.ledger.logs.items = omega (arith, c.len-first.ensures, c.args.ledger.logs.ok) in
     subst (λ (k : ℕ). EachFrom Q k c.args.ledger.shards.items) (sym first)
     (each_weaker P Q (length c.args.ledger.logs.items) c.args.ledger.shards.items

@@ -1,5 +1,4 @@
 use Rattle.std.proofs.Common.{◌∙◌, ℕ, sym, subst, arith, inl, inr}
-use Rattle.gate_journal.specs.Shown.{disk_of}
 use Rattle.rack_nodes.specs.Places.{EachFrom, MayReturn}
 use Rattle.rack_nodes.proofs.Each.{each_weaker}
 use Rattle.commands.proofs.ledger.open_ledger.Goals as goal
@@ -20,7 +19,7 @@ returns-in-Ok-open_all-clause-logs g c =
 
 pub returns-in-Ok-open_all-clause-shards : goal.returns-in-Ok-open_all-clause-shards
 returns-in-Ok-open_all-clause-shards g c =
-    subst (λ (k : ℕ). EachFrom (MayReturn (λ x. g.R.Disk.Disk.count (disk_of x.log.journal)) (g.R.Rack.can_put c.open_all.new.rack)) k c.in-Ok-open_all.shards.items)
+    subst (λ (k : ℕ). EachFrom (MayReturn (λ x. g.R.Disk.Disk.count x.disk) (g.R.Rack.can_put c.open_all.new.rack)) k c.in-Ok-open_all.shards.items)
     (c.coordinators-first.ensures.value ∙ sym c.in-Ok.ensures.logs.0) c.in-Ok-open_all.ensures.out
 
 pub returns-in-Ok-open_all-clause-others_in : goal.returns-in-Ok-open_all-clause-others_in

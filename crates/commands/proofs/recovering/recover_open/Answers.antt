@@ -1,8 +1,7 @@
-use Rattle.gate_journal.specs.Shown.{disk_of}
 use Rattle.commands.proofs.Later.{later_through}
 use Rattle.commands.proofs.recovering.recover_open.Goals as goal
 
 pub returns-clause-shard_later : goal.returns-clause-shard_later
 returns-clause-shard_later g c =
-    later_through (λ x. g.D.Disk.count (disk_of x.log.journal)) c.args.ledger.shards.items c.lend-header.result.1.shards.nodes.items c.resume_all.new.ports.shards.nodes.items c.take_back.result.shards.items
+    later_through (λ x. g.D.Disk.count x.disk) c.args.ledger.shards.items c.lend-header.result.1.shards.nodes.items c.resume_all.new.ports.shards.nodes.items c.take_back.result.shards.items
     c.lend-header.ensures.shards c.take_back.ensures.shards c.resume_all.ensures.shard_later

@@ -1,5 +1,4 @@
 use Rattle.std.proofs.Common.{ℕ, length, sym, subst}
-use Rattle.gate_journal.specs.Shown.{disk_of}
 use Rattle.rack_nodes.specs.Places.{EachFrom, MayReturn}
 use Rattle.commands.proofs.Later.{each_later}
 use Rattle.commands.proofs.running.run_on.Goals as goal
@@ -12,5 +11,5 @@ close_ledger-requires-clause-logs g c =
 pub close_ledger-requires-clause-shards : goal.close_ledger-requires-clause-shards
 close_ledger-requires-clause-shards g c =
     let ran = c.run_open-ledger.ensures in
-    subst (λ (k : ℕ). EachFrom (MayReturn (λ x. g.R.Disk.Disk.count (disk_of x.log.journal)) (g.R.Rack.can_put c.open_caused.new.rack)) k c.run_open-ledger.result.ledger.shards.items) (sym ran.logs)
-    (each_later (λ x. g.R.Disk.Disk.count (disk_of x.log.journal)) (g.R.Rack.can_put c.open_caused.new.rack) (length c.in-Ok.ledger.logs.items) c.in-Ok.ledger.shards.items c.run_open-ledger.result.ledger.shards.items ran.shards ran.shard_later c.in-Ok.ensures.shards)
+    subst (λ (k : ℕ). EachFrom (MayReturn (λ x. g.R.Disk.Disk.count x.disk) (g.R.Rack.can_put c.open_caused.new.rack)) k c.run_open-ledger.result.ledger.shards.items) (sym ran.logs)
+    (each_later (λ x. g.R.Disk.Disk.count x.disk) (g.R.Rack.can_put c.open_caused.new.rack) (length c.in-Ok.ledger.logs.items) c.in-Ok.ledger.shards.items c.run_open-ledger.result.ledger.shards.items ran.shards ran.shard_later c.in-Ok.ensures.shards)

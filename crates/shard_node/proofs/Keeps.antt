@@ -1,0 +1,124 @@
+-- A shard's parts stay a shard's behind a record.
+use Rattle.std.proofs.Common.{◌≡◌, ℕ, ◌+◌, ◌*◌, ◌≤◌, List, [], ◌∷◌, length, reverse, Option, Some, None, option_map, refl, sym, ◌∙◌, ap, subst, arith}
+use Rattle.std.specs.Prelude.{slice_get}
+use Rattle.std.proofs.lemmas.List.{reverse-append}
+use Rattle.std.proofs.lemmas.List.Sums.{sum_by-cons}
+use Rattle.cbdc_types.specs.Limits.{IsWithinLimits}
+use Rattle.cbdc_model.specs.Records.{Header, Record}
+use Rattle.cbdc_model.specs.Grammar.{IsShard}
+use Rattle.cbdc_model.specs.After.{After, IsJournal}
+use Rattle.cbdc_model.specs.Room.{kept_room, size_of}
+use Rattle.cbdc_model.specs.Due.{used_of}
+use Rattle.cbdc_model.specs.Sights.{IsBrokenSince, Stays, Appends, Fails}
+use Rattle.outside.specs.declared.disk.Disk.{Ghosts}
+use Rattle.gate_journal.specs.Shown.{disk_of, gate_of, broken_of}
+use Rattle.record_log.specs.Logs.{HasRoom}
+use Rattle.record_log.proofs.Sizes.{size_is}
+use Rattle.dtx_replies.specs.declared.slots.Slot.{Slot as LaneSlot}
+use Rattle.shard_core.specs.declared.core_state.ShardCore.{ShardCore}
+use Rattle.shard_core.specs.Stands.{Stands, IsSameState}
+use Rattle.shard_node.specs.declared.parts.Parts.{Parts}
+use Rattle.shard_node.specs.Shards.{sight_of}
+use Rattle.shard_node.specs.Parts.{HaveDecisions, HasRecords, IsShardOf, HasWritten, HasFailed, journal_of, view_of}
+use Rattle.shard_node.proofs.Follows.{goes_on}
+
+-- room made in the core changes nothing that it stands for
+pub stands_same : (old new : ShardCore) (J : List Record) → IsSameState old new → Stands old J → Stands new J
+stands_same old new J same stands = record {
+  lanes = λ lane s is. stands.lanes lane s (subst (λ (slots : List LaneSlot). slice_get slots lane ≡ Some s) same.slots is);
+  last = same.last ∙ stands.last;
+  hashes = record {
+    unspent = λ x. same.unspent x ∙ stands.hashes.unspent x;
+    locked = λ x. ap (option_map (λ p. p.0)) (same.locks x) ∙ stands.hashes.locked x;
+  };
+}
+
+none_some : {A : Type 0} (n : ℕ) (o : Option ℕ) → o ≡ Some n → o ≡ None → A
+none_some n o e f = cc
+
+module _ {D : Type 0} {G : Ghosts D} where
+  pub made_room : (p : Parts D G) (core : ShardCore) → IsShardOf p → IsSameState p.core core → IsShardOf (record p { core = core })
+  made_room p core is same = record {
+    header = same.header ∙ is.header;
+    stands = stands_same p.core core (journal_of p) same is.stands;
+    journal = is.journal;
+    shard = is.shard;
+    limits = is.limits;
+    lanes = is.lanes;
+    opened = is.opened;
+    since = is.since;
+    sound = is.sound;
+  }
+
+  -- what holds while a record is on its way
+  pub record Standing (p : Parts D G) : Type 0 where
+    pub header : p.core.header ≡ p.log.header
+    pub stands : Stands p.core (journal_of p)
+    pub journal : IsJournal p.log.header (journal_of p)
+    pub shard : IsShard p.log.header.shape p.log.header.node
+    pub limits : IsWithinLimits p.log.header.shape
+    pub lanes : length p.decisions.items ≡ p.log.header.shape.coordinators * p.log.header.shape.lanes
+    pub opened : p.opened ≤ G.count (disk_of p.log.journal)
+
+  pub standing : (p : Parts D G) → IsShardOf p → Standing p
+  standing p is = record { header = is.header; stands = is.stands; journal = is.journal; shard = is.shard; limits = is.limits; lanes = is.lanes; opened = is.opened }
+
+  pushed : (p new : Parts D G) (r : Record) → HasWritten p new r → journal_of new ≡ r ∷ journal_of p
+  pushed p new r w = ap reverse w.records ∙ reverse-append p.log.records.items (r ∷ [])
+
+  pub wrote : (p new : Parts D G) (r : Record) → Standing p → HasWritten p new r → After p.log.header (journal_of p) r → gate_of p.log.journal + 1 ≡ used_of (journal_of p)
+      → used_of (r ∷ journal_of p) + kept_room p.log.header.shape (r ∷ journal_of p) ≤ G.limit (disk_of p.log.journal) → HaveDecisions (r ∷ journal_of p) p.decisions.items
+      → (count : ℕ) → HasRoom p.log (count + 1) 1057 → kept_room p.log.header.shape (r ∷ journal_of p) ≤ 34 * count → p.flight ≡ None → IsShardOf new
+  wrote p new r s w next used free decisions count room enough landed =
+      let J = journal_of p in
+      let is : journal_of new ≡ r ∷ J = pushed p new r w in
+      let size = size_is p.log.header r s.limits next.0 in
+      let more = sum_by-cons size_of r J in
+      record {
+        header = w.core_header ∙ s.header ∙ sym w.header;
+        stands = subst (λ (l : List Record). Stands new.core l) (sym is) (w.stands J s.stands);
+        journal = subst (λ (h : Header). IsJournal h (journal_of new)) (sym w.header) (subst (λ (l : List Record). IsJournal p.log.header l) (sym is) (goes_on p.log.header J r s.journal next));
+        shard = subst (λ (h : Header). IsShard h.shape h.node) (sym w.header) s.shard;
+        limits = subst (λ (h : Header). IsWithinLimits h.shape) (sym w.header) s.limits;
+        lanes = ap (λ v. length v.items) w.decisions ∙ s.lanes ∙ ap (λ (h : Header). h.shape.coordinators * h.shape.lanes) (sym w.header);
+        opened = omega (arith, w.opened, w.later, s.opened);
+        since = subst (λ (o : Option ℕ). IsBrokenSince new.opened (G.count (disk_of new.log.journal)) o) (sym w.broken) tt;
+        sound = λ _. record {
+          used = let now : gate_of new.log.journal + 1 ≡ used_of (r ∷ J) = omega (arith, w.gate, used, size, more) in now ∙ ap used_of (sym is);
+          free =
+              let now : used_of (r ∷ J) + kept_room p.log.header.shape (r ∷ J) ≤ G.limit (disk_of new.log.journal) = omega (arith, free, w.limit) in
+              subst (λ (h : Header). used_of (journal_of new) + kept_room h.shape (journal_of new) ≤ G.limit (disk_of new.log.journal)) (sym w.header)
+              (subst (λ (l : List Record). used_of l + kept_room p.log.header.shape l ≤ G.limit (disk_of new.log.journal)) (sym is) now);
+          decisions = subst (λ v. HaveDecisions (journal_of new) v.items) (sym w.decisions) (subst (λ (l : List Record). HaveDecisions l p.decisions.items) (sym is) decisions);
+          records =
+              let now : HasRecords new.log (kept_room p.log.header.shape (r ∷ J)) = record { count = count; room = w.room count 1057 room; enough = enough } in
+              subst (λ (h : Header). HasRecords new.log (kept_room h.shape (journal_of new))) (sym w.header) (subst (λ (l : List Record). HasRecords new.log (kept_room p.log.header.shape l)) (sym is) now);
+          landed = w.flight ∙ landed;
+        };
+      }
+
+  pub failed : (p new : Parts D G) (r : Record) → Standing p → HasFailed p new r → IsShardOf new
+  failed p new r s f =
+      let is : journal_of new ≡ journal_of p = ap reverse f.records in
+      record {
+        header = ap (λ c. c.header) f.core ∙ s.header ∙ sym f.header;
+        stands = subst (λ c. Stands c (journal_of new)) (sym f.core) (subst (λ (l : List Record). Stands p.core l) (sym is) s.stands);
+        journal = subst (λ (h : Header). IsJournal h (journal_of new)) (sym f.header) (subst (λ (l : List Record). IsJournal p.log.header l) (sym is) s.journal);
+        shard = subst (λ (h : Header). IsShard h.shape h.node) (sym f.header) s.shard;
+        limits = subst (λ (h : Header). IsWithinLimits h.shape) (sym f.header) s.limits;
+        lanes = ap (λ v. length v.items) f.decisions ∙ s.lanes ∙ ap (λ (h : Header). h.shape.coordinators * h.shape.lanes) (sym f.header);
+        opened = omega (arith, f.opened, f.later, s.opened);
+        since = subst (λ (o : Option ℕ). IsBrokenSince new.opened (G.count (disk_of new.log.journal)) o) (sym f.broken) (omega (arith, f.opened, f.rose, s.opened), omega arith);
+        sound = λ none. none_some (G.count (disk_of new.log.journal)) (broken_of new.log.journal) f.broken none;
+      }
+
+  -- ---- what a caller sees
+
+  pub stays : (p : Parts D G) → Stays (sight_of G.count G.limit (view_of p)) (sight_of G.count G.limit (view_of p)) (journal_of p)
+  stays p = record { node = record { header = refl; opened = refl; capacity = refl; later = omega arith }; seen = refl; flight = refl }
+
+  pub appends : (p new : Parts D G) (r : Record) → HasWritten p new r → Appends (sight_of G.count G.limit (view_of p)) (sight_of G.count G.limit (view_of new)) (journal_of p) r
+  appends p new r w = record { node = record { header = w.header; opened = w.opened; capacity = w.limit; later = w.later }; seen = pushed p new r w; flight = w.flight }
+
+  pub fails : (p new : Parts D G) (r : Record) → HasFailed p new r → Fails (sight_of G.count G.limit (view_of p)) (sight_of G.count G.limit (view_of new)) (journal_of p) r
+  fails p new r f = record { node = record { header = f.header; opened = f.opened; capacity = f.limit; later = f.later }; seen = ap reverse f.records; flight = f.flight; rose = f.rose }

@@ -1,0 +1,10 @@
+pub mod Lanes
+pub mod Rooms
+pub mod Follows
+pub mod Keeps
+pub mod Owed
+pub mod Stamps
+pub mod Locks
+pub mod Going
+pub mod Opens
+pub mod Later

@@ -1,0 +1,86 @@
+use Rattle.std.proofs.Common.{arith}
+use Rattle.shard_node.proofs.Keeps.{stays}
+use Rattle.shard_node.proofs.Locks.{HasTaken, size_exact, kept_exact, lock_full_is, taken_shard, lock_memory, lock_room, lock_wrote, lock_done, lock_failed}
+use Rattle.shard_node.proofs.locking.append_lock.Goals as goal
+
+pub overflow_add-later-2 : goal.overflow_add-later-2
+overflow_add-later-2 g c =
+    let kept = kept_exact c.args.parts.now c.args.call.now c.args.replied c.requires.shard c.requires.call c.requires.whole c.requires.next (omega arith) c.in-Ok.next c.in-Ok.ensures c.kept_room.result c.kept_room.ensures in
+    omega (arith, kept.1, c.len.ensures, c.requires.call.size.1, c.requires.shard.limits.batch)
+
+pub overflow_add-need : goal.overflow_add-need
+overflow_add-need g c =
+    let size = size_exact c.args.parts.now c.args.call.now c.args.replied c.requires.shard c.requires.call c.requires.whole c.requires.next (omega arith) c.in-Ok.next c.in-Ok.ensures c.size_of_record-size.result c.size_of_record-size.ensures in
+    let kept = kept_exact c.args.parts.now c.args.call.now c.args.replied c.requires.shard c.requires.call c.requires.whole c.requires.next (omega arith) c.in-Ok.next c.in-Ok.ensures c.kept_room.result c.kept_room.ensures in
+    omega (arith, size.1, kept.1, c.len.ensures, c.requires.call.size.1, c.requires.shard.limits.batch)
+
+pub returns-then-need-capacity-clause-meets : goal.returns-then-need-capacity-clause-meets
+returns-then-need-capacity-clause-meets g c =
+    let size = size_exact c.args.parts.now c.args.call.now c.args.replied c.requires.shard c.requires.call c.requires.whole c.requires.next (omega arith) c.in-Ok.next c.in-Ok.ensures c.size_of_record-size.result c.size_of_record-size.ensures in
+    let kept = kept_exact c.args.parts.now c.args.call.now c.args.replied c.requires.shard c.requires.call c.requires.whole c.requires.next (omega arith) c.in-Ok.next c.in-Ok.ensures c.kept_room.result c.kept_room.ensures in (
+      lock_full_is c.args.parts.now c.args.call.now c.args.replied c.requires.shard c.requires.call c.requires.whole c.requires.next (omega arith) c.in-Ok.next c.in-Ok.ensures
+          c.size_of_record-size.result c.len.result c.kept_room.result size.0 c.len.ensures kept.0 c.used-used.result c.capacity-capacity.result c.used-used.ensures c.capacity-capacity.ensures c.if-need-capacity.true,
+      stays c.args.parts.now,
+    )
+
+pub take_memory-requires-clause-bytes : goal.take_memory-requires-clause-bytes
+take_memory-requires-clause-bytes g c =
+    let size = size_exact c.args.parts.now c.args.call.now c.args.replied c.requires.shard c.requires.call c.requires.whole c.requires.next (omega arith) c.in-Ok.next c.in-Ok.ensures c.size_of_record-size.result c.size_of_record-size.ensures in
+    let kept = kept_exact c.args.parts.now c.args.call.now c.args.replied c.requires.shard c.requires.call c.requires.whole c.requires.next (omega arith) c.in-Ok.next c.in-Ok.ensures c.kept_room.result c.kept_room.ensures in
+    omega (arith, size.1, c.max.ensures)
+
+pub returns-in-Err-clause-shard : goal.returns-in-Err-clause-shard
+returns-in-Err-clause-shard g c =
+    let taken : HasTaken c.args.parts.now c.take_memory.new.log c.take_memory.new.memory c.args.call.now.batch.lane =
+    record { lanes = c.take_memory.ensures.lanes; others = c.take_memory.ensures.others; keeps = c.take_memory.ensures.keeps; untouched = c.take_memory.ensures.untouched; records = c.take_memory.ensures.records; header = c.take_memory.ensures.header } in
+    taken_shard c.args.parts.now c.args.call.now c.args.replied c.requires.shard c.requires.call c.requires.whole c.requires.next c.take_memory.new.log c.take_memory.new.memory taken
+
+pub write-requires-clause-memory : goal.write-requires-clause-memory
+write-requires-clause-memory g c =
+    let size = size_exact c.args.parts.now c.args.call.now c.args.replied c.requires.shard c.requires.call c.requires.whole c.requires.next (omega arith) c.in-Ok.next c.in-Ok.ensures c.size_of_record-size.result c.size_of_record-size.ensures in
+    let kept = kept_exact c.args.parts.now c.args.call.now c.args.replied c.requires.shard c.requires.call c.requires.whole c.requires.next (omega arith) c.in-Ok.next c.in-Ok.ensures c.kept_room.result c.kept_room.ensures in
+    let taken : HasTaken c.args.parts.now c.take_memory.new.log c.take_memory.new.memory c.args.call.now.batch.lane =
+    record { lanes = c.take_memory.ensures.lanes; others = c.take_memory.ensures.others; keeps = c.take_memory.ensures.keeps; untouched = c.take_memory.ensures.untouched; records = c.take_memory.ensures.records; header = c.take_memory.ensures.header } in
+    lock_memory c.args.parts.now c.args.call.now c.args.replied c.requires.shard c.requires.call c.requires.whole c.requires.next (omega arith) c.in-Ok.next c.in-Ok.ensures
+    c.size_of_record-size.result c.len.result c.kept_room.result size.0 c.len.ensures kept.0 c.used-used.result c.capacity-capacity.result c.used-used.ensures c.capacity-capacity.ensures c.if-need-capacity.false
+    c.take_memory.new.log c.take_memory.new.memory taken c.max.result (omega arith) (omega arith) c.in-Ok-take_memory.ensures.room (λ m get. omega (arith, c.in-Ok-take_memory.ensures.decisions m get, c.len-2.ensures, c.len.ensures))
+
+pub write-requires-clause-room : goal.write-requires-clause-room
+write-requires-clause-room g c =
+    let size = size_exact c.args.parts.now c.args.call.now c.args.replied c.requires.shard c.requires.call c.requires.whole c.requires.next (omega arith) c.in-Ok.next c.in-Ok.ensures c.size_of_record-size.result c.size_of_record-size.ensures in
+    let kept = kept_exact c.args.parts.now c.args.call.now c.args.replied c.requires.shard c.requires.call c.requires.whole c.requires.next (omega arith) c.in-Ok.next c.in-Ok.ensures c.kept_room.result c.kept_room.ensures in
+    let taken : HasTaken c.args.parts.now c.take_memory.new.log c.take_memory.new.memory c.args.call.now.batch.lane =
+    record { lanes = c.take_memory.ensures.lanes; others = c.take_memory.ensures.others; keeps = c.take_memory.ensures.keeps; untouched = c.take_memory.ensures.untouched; records = c.take_memory.ensures.records; header = c.take_memory.ensures.header } in
+    lock_room c.args.parts.now c.args.call.now c.args.replied c.requires.shard c.requires.call c.requires.whole c.requires.next (omega arith) c.in-Ok.next c.in-Ok.ensures
+    c.size_of_record-size.result c.len.result c.kept_room.result size.0 c.len.ensures kept.0 c.used-used.result c.capacity-capacity.result c.used-used.ensures c.capacity-capacity.ensures c.if-need-capacity.false
+    c.take_memory.new.log c.take_memory.new.memory taken c.max.result (omega arith) (omega arith) c.in-Ok-take_memory.ensures.room (λ m get. omega (arith, c.in-Ok-take_memory.ensures.decisions m get, c.len-2.ensures, c.len.ensures))
+
+pub returns-in-Ok-write-clause-shard : goal.returns-in-Ok-write-clause-shard
+returns-in-Ok-write-clause-shard g c =
+    let size = size_exact c.args.parts.now c.args.call.now c.args.replied c.requires.shard c.requires.call c.requires.whole c.requires.next (omega arith) c.in-Ok.next c.in-Ok.ensures c.size_of_record-size.result c.size_of_record-size.ensures in
+    let kept = kept_exact c.args.parts.now c.args.call.now c.args.replied c.requires.shard c.requires.call c.requires.whole c.requires.next (omega arith) c.in-Ok.next c.in-Ok.ensures c.kept_room.result c.kept_room.ensures in
+    let taken : HasTaken c.args.parts.now c.take_memory.new.log c.take_memory.new.memory c.args.call.now.batch.lane =
+    record { lanes = c.take_memory.ensures.lanes; others = c.take_memory.ensures.others; keeps = c.take_memory.ensures.keeps; untouched = c.take_memory.ensures.untouched; records = c.take_memory.ensures.records; header = c.take_memory.ensures.header } in
+    lock_wrote c.args.parts.now c.args.call.now c.args.replied c.requires.shard c.requires.call c.requires.whole c.requires.next (omega arith) c.in-Ok.next c.in-Ok.ensures
+    c.size_of_record-size.result c.len.result c.kept_room.result size.0 c.len.ensures kept.0 c.used-used.result c.capacity-capacity.result c.used-used.ensures c.capacity-capacity.ensures c.if-need-capacity.false
+    c.take_memory.new.log c.take_memory.new.memory taken c.max.result (omega arith) (omega arith) c.in-Ok-take_memory.ensures.room (λ m get. omega (arith, c.in-Ok-take_memory.ensures.decisions m get, c.len-2.ensures, c.len.ensures)) c.write.new.parts c.in-Ok-write.ensures.written
+
+pub returns-in-Ok-write-clause-meets : goal.returns-in-Ok-write-clause-meets
+returns-in-Ok-write-clause-meets g c =
+    let size = size_exact c.args.parts.now c.args.call.now c.args.replied c.requires.shard c.requires.call c.requires.whole c.requires.next (omega arith) c.in-Ok.next c.in-Ok.ensures c.size_of_record-size.result c.size_of_record-size.ensures in
+    let kept = kept_exact c.args.parts.now c.args.call.now c.args.replied c.requires.shard c.requires.call c.requires.whole c.requires.next (omega arith) c.in-Ok.next c.in-Ok.ensures c.kept_room.result c.kept_room.ensures in
+    let taken : HasTaken c.args.parts.now c.take_memory.new.log c.take_memory.new.memory c.args.call.now.batch.lane =
+    record { lanes = c.take_memory.ensures.lanes; others = c.take_memory.ensures.others; keeps = c.take_memory.ensures.keeps; untouched = c.take_memory.ensures.untouched; records = c.take_memory.ensures.records; header = c.take_memory.ensures.header } in
+    lock_done c.args.parts.now c.args.call.now c.args.replied c.requires.shard c.requires.call c.requires.whole c.requires.next (omega arith) c.in-Ok.next c.in-Ok.ensures
+    c.size_of_record-size.result c.len.result c.kept_room.result size.0 c.len.ensures kept.0 c.used-used.result c.capacity-capacity.result c.used-used.ensures c.capacity-capacity.ensures c.if-need-capacity.false
+    c.take_memory.new.log c.take_memory.new.memory taken c.max.result (omega arith) (omega arith) c.in-Ok-take_memory.ensures.room (λ m get. omega (arith, c.in-Ok-take_memory.ensures.decisions m get, c.len-2.ensures, c.len.ensures)) c.write.new.parts c.in-Ok-write.ensures.written
+
+pub returns-in-Err-write-clause-meets : goal.returns-in-Err-write-clause-meets
+returns-in-Err-write-clause-meets g c =
+    let size = size_exact c.args.parts.now c.args.call.now c.args.replied c.requires.shard c.requires.call c.requires.whole c.requires.next (omega arith) c.in-Ok.next c.in-Ok.ensures c.size_of_record-size.result c.size_of_record-size.ensures in
+    let kept = kept_exact c.args.parts.now c.args.call.now c.args.replied c.requires.shard c.requires.call c.requires.whole c.requires.next (omega arith) c.in-Ok.next c.in-Ok.ensures c.kept_room.result c.kept_room.ensures in
+    let taken : HasTaken c.args.parts.now c.take_memory.new.log c.take_memory.new.memory c.args.call.now.batch.lane =
+    record { lanes = c.take_memory.ensures.lanes; others = c.take_memory.ensures.others; keeps = c.take_memory.ensures.keeps; untouched = c.take_memory.ensures.untouched; records = c.take_memory.ensures.records; header = c.take_memory.ensures.header } in
+    lock_failed c.args.parts.now c.args.call.now c.args.replied c.requires.shard c.requires.call c.requires.whole c.requires.next (omega arith) c.in-Ok.next c.in-Ok.ensures
+    c.size_of_record-size.result c.len.result c.kept_room.result size.0 c.len.ensures kept.0 c.used-used.result c.capacity-capacity.result c.used-used.ensures c.capacity-capacity.ensures c.if-need-capacity.false
+    c.take_memory.new.log c.take_memory.new.memory taken c.max.result (omega arith) (omega arith) c.in-Ok-take_memory.ensures.room (λ m get. omega (arith, c.in-Ok-take_memory.ensures.decisions m get, c.len-2.ensures, c.len.ensures)) c.write.new.parts c.in-Err-write.fault c.in-Err-write.ensures.fault c.in-Err-write.ensures.failed

@@ -1,0 +1,9 @@
+use Rattle.std.proofs.Common.{refl, arith}
+use Rattle.shard_node.proofs.Opens.{opened_holds}
+use Rattle.shard_node.proofs.node.ShardNode.open.Goals as goal
+
+pub returns-in-Ok-opened_of-clause-opens : goal.returns-in-Ok-opened_of-clause-opens
+returns-in-Ok-opened_of-clause-opens g c = λ bytes told.
+    let found = c.in-Ok.ensures.opens bytes told in
+    let shard = c.in-Ok-opened_of.ensures.shard c.faults-opened.result (omega (arith, c.faults-opened.ensures)) in
+    rw c.of_parts.ensures (opened_holds c.in-Ok.found c.opened_of.new.log _ bytes refl refl shard c.opened_of.ensures.untouched c.opened_of.ensures.records found.0 found.1)

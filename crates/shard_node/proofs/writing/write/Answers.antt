@@ -1,0 +1,20 @@
+use Rattle.std.proofs.Common.{◌+◌, ◌∷◌, ◌++◌, [], List, refl, ap, ◌∙◌}
+use Rattle.gate_journal.specs.Shown.{gate_of, broken_of}
+use Rattle.cbdc_model.specs.Records.{Record}
+use Rattle.shard_node.proofs.writing.write.Goals as goal
+
+pub returns-in-Ok-clause-written : goal.returns-in-Ok-clause-written
+returns-in-Ok-clause-written g c = record {
+  records = c.keep.ensures.kept ∙ ap (λ (l : List Record). l ++ c.args.next ∷ []) c.write.ensures.records;
+  header = c.keep.ensures.header ∙ c.write.ensures.header;
+  core_header = c.apply.ensures.header;
+  stands = c.apply.ensures.stands;
+  decisions = refl;
+  flight = refl;
+  opened = refl;
+  gate = ap gate_of c.keep.ensures.journal ∙ c.in-Ok.ensures.grows.0;
+  broken = ap broken_of c.keep.ensures.journal ∙ c.in-Ok.ensures.grows.1;
+  limit = rw c.keep.ensures.journal c.write.ensures.limit;
+  later = rw c.keep.ensures.journal c.write.ensures.later;
+  room = λ count bytes has. c.keep.ensures.room count bytes (c.write.ensures.keeps (count + 1) bytes has);
+}

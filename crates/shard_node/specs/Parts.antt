@@ -1,0 +1,103 @@
+-- What always holds of the parts of a shard.
+use Rattle.std.specs.Prelude.{◌≡◌, ℕ, ◌+◌, ◌*◌, ◌≤◌, Bool, List, [], ◌∷◌, ◌++◌, length, reverse, vec_capacity, Option, Some, None, slice_get}
+use Rattle.std.specs.Global.{Vec}
+use Rattle.cbdc_types.specs.declared.calls.LockCall.{LockCall}
+use Rattle.cbdc_types.specs.declared.calls.Replied.{Replied}
+use Rattle.cbdc_model.specs.Records.{Header, Record, lock_of, Lock}
+use Rattle.cbdc_model.specs.Replies.{entries, replies}
+use Rattle.cbdc_model.specs.Slots.{slot, InLock}
+use Rattle.cbdc_types.specs.Limits.{IsWithinLimits}
+use Rattle.cbdc_model.specs.Grammar.{IsShard}
+use Rattle.cbdc_model.specs.After.{IsJournal}
+use Rattle.cbdc_model.specs.Room.{kept_room}
+use Rattle.cbdc_model.specs.Due.{used_of, open_batch}
+use Rattle.cbdc_model.specs.Sights.{IsBrokenSince}
+use Rattle.outside.specs.declared.disk.Disk.{Ghosts}
+use Rattle.gate_journal.specs.Shown.{disk_of, gate_of, broken_of}
+use Rattle.record_log.specs.declared.log.RecordLog.{RecordLog}
+use Rattle.record_log.specs.Logs.{HasRoom}
+use Rattle.outside.specs.Counts.{Rose}
+use Rattle.record_codec.specs.Bodies.{body_of}
+use Rattle.shard_core.specs.Stands.{Stands}
+use Rattle.shard_node.specs.declared.parts.Parts.{Parts}
+use Rattle.shard_node.specs.Shards.{ShardOf}
+
+-- for each locked batch there is memory for a decision on each entry
+abbrev pub HaveDecisions : List Record → List (Vec Bool) → Type 0
+HaveDecisions J memory =
+    (lane : ℕ) (m : Vec Bool) → slice_get memory lane ≡ Some m → (slot J lane).phase ≡ InLock → length (lock_of J (open_batch J lane)) ≤ vec_capacity m
+
+-- there is memory for the records behind those of unfinished batches, of which each takes 34 bytes at least, up to the largest Finish
+pub record HasRecords {D : Type 0} {G : Ghosts D} (log : RecordLog D G) (kept : ℕ) : Type 0 where
+  pub count : ℕ
+  pub room : HasRoom log count 1057
+  pub enough : kept ≤ 34 * count
+
+-- as long as no append has failed, the journal's bytes are counted, what its unfinished batches still need is free, and so is the memory
+pub record IsSound {D : Type 0} {G : Ghosts D} (log : RecordLog D G) (K : Header) (J : List Record) (memory : List (Vec Bool)) (flight : Option Record) : Type 0 where
+  pub used : gate_of log.journal + 1 ≡ used_of J
+  pub free : used_of J + kept_room K.shape J ≤ G.limit (disk_of log.journal)
+  pub decisions : HaveDecisions J memory
+  pub records : HasRecords log (kept_room K.shape J)
+  pub landed : flight ≡ None
+
+-- the journal of a shard, the newest record first
+abbrev pub journal_of : {D : Type 0} {G : Ghosts D} → Parts D G → List Record
+journal_of p = reverse p.log.records.items
+
+-- what contracts see of it
+abbrev pub view_of : {D : Type 0} {G : Ghosts D} → Parts D G → ShardOf D
+view_of p = record {
+  header = p.log.header;
+  journal = journal_of p;
+  flight = p.flight;
+  opened = p.opened;
+  broken = broken_of p.log.journal;
+  gate = gate_of p.log.journal;
+  disk = disk_of p.log.journal;
+}
+
+-- the core stands for the journal, which is a shard's
+pub record IsShardOf {D : Type 0} {G : Ghosts D} (p : Parts D G) : Type 0 where
+  pub header : p.core.header ≡ p.log.header
+  pub stands : Stands p.core (journal_of p)
+  pub journal : IsJournal p.log.header (journal_of p)
+  pub shard : IsShard p.log.header.shape p.log.header.node
+  pub limits : IsWithinLimits p.log.header.shape
+  pub lanes : length p.decisions.items ≡ p.log.header.shape.coordinators * p.log.header.shape.lanes
+  pub opened : p.opened ≤ G.count (disk_of p.log.journal)
+  pub since : IsBrokenSince p.opened (G.count (disk_of p.log.journal)) (broken_of p.log.journal)
+  pub sound : broken_of p.log.journal ≡ None → IsSound p.log p.log.header (journal_of p) p.decisions.items p.flight
+
+-- the record was written and taken in
+pub record HasWritten {D : Type 0} {G : Ghosts D} (old new : Parts D G) (r : Record) : Type 0 where
+  pub records : new.log.records.items ≡ old.log.records.items ++ r ∷ []
+  pub header : new.log.header ≡ old.log.header
+  pub core_header : new.core.header ≡ old.core.header
+  pub stands : (J : List Record) → Stands old.core J → Stands new.core (r ∷ J)
+  pub decisions : new.decisions ≡ old.decisions
+  pub flight : new.flight ≡ old.flight
+  pub opened : new.opened ≡ old.opened
+  pub gate : gate_of new.log.journal ≡ gate_of old.log.journal + 9 + length (body_of r)
+  pub broken : broken_of new.log.journal ≡ None
+  pub limit : G.limit (disk_of new.log.journal) ≡ G.limit (disk_of old.log.journal)
+  pub later : G.count (disk_of old.log.journal) ≤ G.count (disk_of new.log.journal)
+  pub room : (count bytes : ℕ) → HasRoom old.log (count + 1) bytes → HasRoom new.log count bytes
+
+-- the disk failed at it
+pub record HasFailed {D : Type 0} {G : Ghosts D} (old new : Parts D G) (r : Record) : Type 0 where
+  pub records : new.log.records.items ≡ old.log.records.items
+  pub header : new.log.header ≡ old.log.header
+  pub core : new.core ≡ old.core
+  pub decisions : new.decisions ≡ old.decisions
+  pub flight : new.flight ≡ Some r
+  pub opened : new.opened ≡ old.opened
+  pub broken : broken_of new.log.journal ≡ Some (G.count (disk_of new.log.journal))
+  pub limit : G.limit (disk_of new.log.journal) ≡ G.limit (disk_of old.log.journal)
+  pub rose : Rose (G.count (disk_of old.log.journal)) (G.count (disk_of new.log.journal))
+  pub later : G.count (disk_of old.log.journal) ≤ G.count (disk_of new.log.journal)
+
+-- the record is the Lock of this call with these replies
+abbrev pub IsLockOf : Record → LockCall → Replied → Type 0
+IsLockOf (Lock stamp b es) c a = (stamp ≡ a.stamp) × (b ≡ c.batch) × (entries es ≡ c.part) × (replies es ≡ a.replies)
+IsLockOf other c a = ⊥

@@ -1,0 +1,157 @@
+// Finish and Forget: their room and memory were taken by the Lock.
+ghost use Rattle.std.specs.Prelude.{◌≡◌, ◌≢◌, ◌≤◌, ◌<◌, ℕ, Bool, false, None, Some, length, vec_capacity, slice_get};
+ghost use Rattle.std.specs.Global.{Vec as GhostVec};
+ghost use Rattle.gate_journal.specs.Shown.{disk_of, broken_of};
+ghost use Rattle.cbdc_model.specs.Due.{finish_due, forget_due};
+ghost use Rattle.cbdc_model.specs.Next.{next_finish, next_forget, Append};
+ghost use Rattle.cbdc_model.specs.Sights.{Meets};
+ghost use Rattle.shard_core.specs.Admitted.{IsFinishable};
+ghost use Rattle.shard_core.specs.Stands.{IsDone};
+ghost use Rattle.shard_node.specs.Conditions.{IsFinishCall, IsForgetCall};
+ghost use Rattle.shard_node.specs.Shards.{HoldsJournal, sight_of, broken_behind};
+ghost use Rattle.shard_node.specs.Parts.{IsShardOf, journal_of, view_of};
+
+use crate::parts::Parts;
+use crate::writing::write;
+use cbdc_types::{Decisions, FinishCall, ForgetCall, LaneId, List, NodeFault, Record, Stamp};
+use outside::Disk;
+use shard_core::StampPlan;
+use std::alloc::Global;
+use std::mem;
+
+/// The last stamp of a Finish or a Forget.
+const LAST_STAMP: u64 = 4611686018428436480;
+
+// The decisions in memory that was taken for the lane.
+fn take_decisions(
+    alloc: Global,
+    memory: &mut Vec<Vec<bool>>,
+    lane: LaneId,
+    decisions: &[bool],
+) -> Decisions
+    requires lane { lane < length memory.old.items }
+    requires room { (m : GhostVec Bool) → slice_get memory.old.items lane ≡ Some m → length decisions.now ≤ vec_capacity m }
+    ensures value { result ≡ decisions.now }
+    ensures lanes { length memory.new.items ≡ length memory.old.items }
+    ensures others { (l : ℕ) (m : GhostVec Bool) → l ≢ lane → slice_get memory.new.items l ≡ Some m → slice_get memory.old.items l ≡ Some m }
+{
+    let mut kept = mem::replace(&mut memory[lane.0 as usize], Vec::new(alloc));
+    kept.clear();
+    kept.extend_from_slice(decisions).unwrap();
+    List::from_vec(kept)
+}
+
+// Finishes a batch that may be finished.
+fn append_finish<D: Disk>(
+    alloc: Global,
+    parts: &mut Parts<D>,
+    call: &FinishCall,
+    stamp: Stamp,
+) -> Result<Stamp, NodeFault>
+    requires shard { IsShardOf parts.old }
+    requires call { IsFinishCall parts.old.log.header call.now }
+    requires whole { broken_of parts.old.log.journal ≡ None }
+    requires next { next_finish (journal_of parts.old) call.now.batch call.now.decisions call.now.cause ≡ Append stamp }
+    requires locked { IsFinishable parts.old.core call.now.batch call.now.decisions }
+    ensures shard { IsShardOf parts.new }
+    ensures meets { Meets false (finish_due call.now None (journal_of parts.old))
+        (sight_of D.count D.limit (view_of parts.old)) (sight_of D.count D.limit (view_of parts.new)) (journal_of parts.old) result }
+    ensures broken { broken_of parts.new.log.journal ≡ broken_behind result (D.count (disk_of parts.new.log.journal)) None }
+    ensures holds { HoldsJournal D.content D.images (view_of parts.old) → HoldsJournal D.content D.images (view_of parts.new) }
+{
+    if stamp.0 > LAST_STAMP {
+        return Err(NodeFault::ClockEnd { stamp });
+    }
+    let decisions = take_decisions(
+        alloc,
+        &mut parts.decisions,
+        call.batch.lane,
+        call.decisions.as_slice(),
+    );
+    let next = Record::Finish {
+        stamp,
+        batch: call.batch,
+        decisions,
+    };
+    match write(parts, next) {
+        Ok(()) => Ok(stamp),
+        Err(fault) => Err(fault),
+    }
+}
+
+// Forgets a batch that may be forgotten.
+fn append_forget<D: Disk>(
+    parts: &mut Parts<D>,
+    call: &ForgetCall,
+    stamp: Stamp,
+) -> Result<Stamp, NodeFault>
+    requires shard { IsShardOf parts.old }
+    requires call { IsForgetCall parts.old.log.header call.now }
+    requires whole { broken_of parts.old.log.journal ≡ None }
+    requires next { next_forget (journal_of parts.old) call.now.batch call.now.cause ≡ Append stamp }
+    requires done { IsDone parts.old.core call.now.batch.lane }
+    ensures shard { IsShardOf parts.new }
+    ensures meets { Meets false (forget_due call.now None (journal_of parts.old))
+        (sight_of D.count D.limit (view_of parts.old)) (sight_of D.count D.limit (view_of parts.new)) (journal_of parts.old) result }
+    ensures broken { broken_of parts.new.log.journal ≡ broken_behind result (D.count (disk_of parts.new.log.journal)) None }
+    ensures holds { HoldsJournal D.content D.images (view_of parts.old) → HoldsJournal D.content D.images (view_of parts.new) }
+{
+    if stamp.0 > LAST_STAMP {
+        return Err(NodeFault::ClockEnd { stamp });
+    }
+    let next = Record::Forget {
+        stamp,
+        batch: call.batch,
+    };
+    match write(parts, next) {
+        Ok(()) => Ok(stamp),
+        Err(fault) => Err(fault),
+    }
+}
+
+/// Applies a locked batch, or answers as before.
+pub(crate) fn finish_parts<D: Disk>(
+    alloc: Global,
+    parts: &mut Parts<D>,
+    call: &FinishCall,
+) -> Result<Stamp, NodeFault>
+    requires shard { IsShardOf parts.old }
+    requires call { IsFinishCall parts.old.log.header call.now }
+    ensures shard { IsShardOf parts.new }
+    ensures meets { Meets false (finish_due call.now (broken_of parts.old.log.journal) (journal_of parts.old))
+        (sight_of D.count D.limit (view_of parts.old)) (sight_of D.count D.limit (view_of parts.new)) (journal_of parts.old) result }
+    ensures broken { broken_of parts.new.log.journal ≡ broken_behind result (D.count (disk_of parts.new.log.journal)) (broken_of parts.old.log.journal) }
+    ensures holds { HoldsJournal D.content D.images (view_of parts.old) → HoldsJournal D.content D.images (view_of parts.new) }
+{
+    if let Some(since) = parts.log.is_broken() {
+        return Err(NodeFault::Broken { since });
+    }
+    match parts.core.plan_finish(call) {
+        StampPlan::Kept(stamp) => Ok(stamp),
+        StampPlan::Refused(why) => Err(NodeFault::Refused(why)),
+        StampPlan::Append(stamp) => append_finish(alloc, parts, call, stamp),
+    }
+}
+
+/// Forgets a finished batch, or answers as before.
+pub(crate) fn forget_parts<D: Disk>(
+    parts: &mut Parts<D>,
+    call: &ForgetCall,
+) -> Result<Stamp, NodeFault>
+    requires shard { IsShardOf parts.old }
+    requires call { IsForgetCall parts.old.log.header call.now }
+    ensures shard { IsShardOf parts.new }
+    ensures meets { Meets false (forget_due call.now (broken_of parts.old.log.journal) (journal_of parts.old))
+        (sight_of D.count D.limit (view_of parts.old)) (sight_of D.count D.limit (view_of parts.new)) (journal_of parts.old) result }
+    ensures broken { broken_of parts.new.log.journal ≡ broken_behind result (D.count (disk_of parts.new.log.journal)) (broken_of parts.old.log.journal) }
+    ensures holds { HoldsJournal D.content D.images (view_of parts.old) → HoldsJournal D.content D.images (view_of parts.new) }
+{
+    if let Some(since) = parts.log.is_broken() {
+        return Err(NodeFault::Broken { since });
+    }
+    match parts.core.plan_forget(call) {
+        StampPlan::Kept(stamp) => Ok(stamp),
+        StampPlan::Refused(why) => Err(NodeFault::Refused(why)),
+        StampPlan::Append(stamp) => append_forget(parts, call, stamp),
+    }
+}

@@ -1,0 +1,56 @@
+// Writing a record down, and then taking it in.
+ghost use Rattle.std.specs.Prelude.{◌≡◌, ◌+◌, ◌≤◌, ◌∷◌, List as Items, None, length, OnOk, OnErr, IfErr};
+ghost use Rattle.gate_journal.specs.Shown.{disk_of, gate_of, broken_of};
+ghost use Rattle.cbdc_model.specs.Records.{Record as AnyRecord};
+ghost use Rattle.record_codec.specs.Bodies.{body_of};
+ghost use Rattle.record_log.specs.Logs.{HasRoom};
+ghost use Rattle.shard_core.specs.Admitted.{IsAdmitted};
+ghost use Rattle.shard_core.specs.Stands.{Stands};
+ghost use Rattle.shard_node.specs.Shards.{HoldsJournal};
+ghost use Rattle.shard_node.specs.Parts.{HasWritten, HasFailed, view_of};
+
+use crate::parts::Parts;
+use cbdc_types::{NodeFault, Record};
+use outside::Disk;
+use record_log::LogFault;
+use shard_core::ShardCore;
+
+/// Takes an appended record in.
+pub(crate) fn apply(core: &mut ShardCore, next: &Record)
+    requires { IsAdmitted core.old next.now }
+    ensures stands { (J : Items AnyRecord) → Stands core.old J → Stands core.new (next.now ∷ J) }
+    ensures header { core.new.header ≡ core.old.header }
+{
+    match next {
+        Record::Lock { .. } => core.apply_lock(next),
+        Record::Finish { .. } => core.apply_finish(next),
+        Record::Forget { .. } => core.apply_forget(next),
+        _ => unreachable!(),
+    }
+}
+
+/// Writes a record, for which there is room, and then takes it in. Where the disk fails, the record is in flight.
+pub(crate) fn write<D: Disk>(parts: &mut Parts<D>, next: Record) -> Result<(), NodeFault>
+    requires admitted { IsAdmitted parts.old.core next }
+    requires memory { HasRoom parts.old.log 1 (length (body_of next)) }
+    requires whole { broken_of parts.old.log.journal ≡ None }
+    requires landed { parts.old.flight ≡ None }
+    requires room { gate_of parts.old.log.journal + 1 + (9 + length (body_of next)) ≤ D.limit (disk_of parts.old.log.journal) }
+    ensures written { OnOk result (HasWritten parts.old parts.new next) }
+    ensures failed { OnErr result (HasFailed parts.old parts.new next) }
+    ensures fault { IfErr result (λ e. e ≡ NodeFault.DiskFault) }
+    ensures holds { HoldsJournal D.content D.images (view_of parts.old) → HoldsJournal D.content D.images (view_of parts.new) }
+{
+    match parts.log.write(&next) {
+        Ok(()) => {
+            apply(&mut parts.core, &next);
+            parts.log.keep(next);
+            Ok(())
+        }
+        Err(LogFault::DiskFault) => {
+            parts.flight = Some(next);
+            Err(NodeFault::DiskFault)
+        }
+        Err(_) => unreachable!(),
+    }
+}
