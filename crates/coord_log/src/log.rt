@@ -5,7 +5,7 @@ ghost use Rattle.gate_journal.specs.Shown.{disk_of, broken_of};
 ghost use Rattle.cbdc_model.specs.Records.{Prepare, Commit, Discard, Done, last_stamp, txs_of};
 ghost use Rattle.cbdc_model.specs.Slots.{slot, Idle, InPrepare, InCommit, InDiscard};
 ghost use Rattle.cbdc_model.specs.Due.{open_batch, prepare_due, decide_due, discard_due, done_due};
-ghost use Rattle.cbdc_model.specs.Sights.{Meets};
+ghost use Rattle.cbdc_model.specs.Sights.{Meets, IsSameNode};
 ghost use Rattle.coord_core.specs.Phases.{slot_of};
 ghost use Rattle.coord_core.specs.Hashes.{AllNameBatches};
 ghost use Rattle.coord_core.specs.Decided.{RisesBelow, AllEarlier, AreRepliesTo};
@@ -155,6 +155,9 @@ impl<D: Disk> CoordLog<D> {
         ensures meets { AreRepliesTo self.old.header.shape (txs_of self.old.journal (open_batch self.old.journal lane)) replies.now
             → Meets false (decide_due self.old.header.shape lane replies.now self.old.broken self.old.journal) (sight self.old) (sight self.new) self.old.journal result }
         ensures appended { IfOk result (λ t. self.new.journal ≡ Commit t (open_batch self.old.journal lane) out.new.items ∷ self.old.journal) }
+        ensures bound { IfOk result (λ t. t ≤ 2 ^ 62 + 2 ^ 20) }
+        ensures count { OnOk result (length out.new.items ≡ length (txs_of self.old.journal (open_batch self.old.journal lane))) }
+        ensures node { IsSameNode (sight self.old) (sight self.new) }
         ensures breaks { Breaks result self.old.broken self.new.broken self.new.faults }
         ensures holds { HoldsJournal D.content D.images self.old → HoldsJournal D.content D.images self.new }
     {

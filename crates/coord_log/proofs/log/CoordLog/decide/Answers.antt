@@ -1,4 +1,4 @@
-use Rattle.std.proofs.Common.{◌≡◌, ◌≤◌, ◌<◌, ◌∷◌, Err, ℕ, List, suc, max, refl, ap, sym, ◌∙◌, subst, arith, reverse, None, Some, false}
+use Rattle.std.proofs.Common.{◌≡◌, ◌≤◌, ◌<◌, ◌∷◌, Err, ℕ, List, suc, max, refl, ap, sym, ◌∙◌, subst, arith, length, reverse, None, Some, false}
 use Rattle.std.specs.Prelude.{All}
 use Rattle.gate_journal.specs.Shown.{broken_of, disk_of}
 use Rattle.cbdc_types.specs.declared.calls.NodeFault.TheVariants.{ClockEnd}
@@ -6,7 +6,10 @@ use Rattle.cbdc_model.specs.Records.{Shape, Header, Record, Outcome, txs_of, out
 use Rattle.cbdc_model.specs.Grammar.{IsOutcome}
 use Rattle.cbdc_model.specs.Slots.{slot, InPrepare}
 use Rattle.cbdc_model.specs.Due.{Answers, last_late, open_batch, decide_due}
-use Rattle.cbdc_model.specs.Sights.{MeetsFault}
+use Rattle.cbdc_model.specs.Sights.{IsSameNode}
+use Rattle.std.proofs.lemmas.List.{length-map}
+use Rattle.coord_core.specs.Masks.{mask_of}
+use Rattle.coord_core.proofs.Walks.{length-combined}
 use Rattle.coord_core.specs.Decided.{latest, combined, AreRepliesTo}
 use Rattle.coord_core.specs.Hashes.{AllNameBatches}
 use Rattle.coord_core.specs.Lanes.{CoordOf, IsNext, IsOwn, lane_at, open_batch as core_batch}
@@ -96,3 +99,22 @@ returns-clause-appended g c =
     made (batch_is core (reverse c.self.inside.log.records.items) c.args.lane c.self.invariant.on.stands own) c.tell.ensures in
     (c.in-Ok.ensures.told c.self.inside.opened).seen ∙ ap (λ x. x ∷ reverse c.self.inside.log.records.items) is
     ∙ ap (λ x. Commit c.commit_stamp-stamp.result (open_batch x c.args.lane) c.tell.new.out.items ∷ x) journal
+
+pub returns-in-Err-clause-node : goal.returns-in-Err-clause-node
+returns-in-Err-clause-node g c = let P : LogOf g.row.D.Denot → Type 0 = λ x. IsSameNode (sight x) (sight (shown c.write.new.log c.self.inside.opened c.write.new.flight)) in subst P c.self.view_is (c.in-Err.ensures.told c.self.inside.opened).1.node
+
+pub returns-clause-node : goal.returns-clause-node
+returns-clause-node g c = let P : LogOf g.row.D.Denot → Type 0 = λ x. IsSameNode (sight x) (sight (shown c.write.new.log c.self.inside.opened c.write.new.flight)) in subst P c.self.view_is (c.in-Ok.ensures.told c.self.inside.opened).node
+
+pub returns-clause-count : goal.returns-clause-count
+returns-clause-count g c =
+    let core = c.self.inside.core in
+    let sound = c.self.invariant in
+    let own : IsOwn c.self.inside.core.header c.args.lane = own_lane c.self.inside.log core c.self.inside.opened c.self.inside.flight c.args.self.now c.args.lane c.self.view_is sound.on.header c.requires.own in
+    let phase = own_phase c.self.inside.log c.self.inside.opened c.self.inside.flight c.args.self.now c.args.lane InPrepare c.self.view_is c.requires.prepared in
+    let J : List Record → Type 0 = λ x. length c.tell.new.out.items ≡ length (txs_of x (open_batch x c.args.lane)) in
+    let txs = txs_of (reverse c.self.inside.log.records.items) (open_batch (reverse c.self.inside.log.records.items) c.args.lane) in
+    let told : c.tell.new.out.items ≡ combined (lane_at c.self.inside.core c.args.lane).masks c.args.replies.now = c.tell.ensures ∙ ap (λ x. outcomes_in (Some x)) c.decide-next.ensures.«record» in
+    let masks : length (lane_at c.self.inside.core c.args.lane).masks ≡ length (txs_of (reverse c.self.inside.log.records.items) (open_batch (reverse c.self.inside.log.records.items) c.args.lane)) =
+        ap length (sound.on.stands.masks c.args.lane own phase) ∙ length-map txs (λ t. mask_of c.self.inside.core.header.shape.shards t) in
+    subst J (ap (λ x. x.journal) c.self.view_is) (ap length told ∙ length-combined (lane_at c.self.inside.core c.args.lane).masks c.args.replies.now ∙ masks)
