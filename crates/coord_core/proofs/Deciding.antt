@@ -109,8 +109,8 @@ told_by shards s n locks k [] rs len at = refl
 told_by shards s n locks k (t ∷ ts) rs len at = go (told_by shards s n locks (suc k) ts) (misses shards s t) refl rs len at
   where
     go : ((rs : List Reply) → length rs ≡ length (part shards s (suc k) ts)
-            → ((j : ℕ) → suc k ≤ j → reply_at (locks s) j ≡ reply_at (answered_with (part shards s (suc k) ts) rs) j)
-            → told s (masks_of shards ts) rs (outcomes_from locks (suc s) n (suc k) ts) ≡ outcomes_from locks s (suc n) (suc k) ts)
+        → ((j : ℕ) → suc k ≤ j → reply_at (locks s) j ≡ reply_at (answered_with (part shards s (suc k) ts) rs) j)
+        → told s (masks_of shards ts) rs (outcomes_from locks (suc s) n (suc k) ts) ≡ outcomes_from locks s (suc n) (suc k) ts)
         → (b : Bool) → misses shards s t ≡ b → (rs : List Reply) → length rs ≡ length (part shards s k (t ∷ ts))
         → ((j : ℕ) → k ≤ j → reply_at (locks s) j ≡ reply_at (answered_with (part shards s k (t ∷ ts)) rs) j)
         → told s (masks_of shards (t ∷ ts)) rs (outcomes_from locks (suc s) n k (t ∷ ts)) ≡ outcomes_from locks s (suc n) k (t ∷ ts)
@@ -132,7 +132,7 @@ told_by shards s n locks k (t ∷ ts) rs len at = go (told_by shards s n locks (
         let first : reply_at (answered_with (entry_of shards s k t ∷ part shards s (suc k) ts) (r ∷ rs)) k ≡ Some r = rw same refl in
         let here : reply_at (locks s) k ≡ Some r = at k (omega arith) ∙ ap (λ p. reply_at (answered_with p (r ∷ rs)) k) is ∙ first in
         let later : (j : ℕ) → suc k ≤ j → reply_at (answered_with (entry_of shards s k t ∷ part shards s (suc k) ts) (r ∷ rs)) j ≡ reply_at (answered_with (part shards s (suc k) ts) rs) j =
-            λ j le. (let f : eqb k j ≡ false = ne_eqb k j (omega arith) in rw f refl) in
+        λ j le. (let f : eqb k j ≡ false = ne_eqb k j (omega arith) in rw f refl) in
         let tail = ih rs (omega arith) (λ j le. at j (omega arith) ∙ ap (λ p. reply_at (answered_with p (r ∷ rs)) j) is ∙ later j le) in
         told_cons s (mask_of shards t) (masks_of shards ts) r rs (outcome locks k (suc s) n) (outcomes_from locks (suc s) n (suc k) ts) (mask_set shards s t e)
         ∙ ap (λ os. outcome_by (Some r) s (outcome locks k (suc s) n) ∷ os) tail
@@ -190,9 +190,9 @@ combined_by shards (suc n) s limit locks txs (r ∷ rs) sum rise is len = go (co
         let here : replies_at (r ∷ rs) s ≡ Some r = found_at r rs s e in
         let rise' : RisesBelow (suc s) limit rs = let P : ℕ → Type 0 = λ x. RisesBelow (suc x) limit rs in subst P e rise.2 in
         let rest : combined (masks_of shards txs) rs ≡ outcomes_from locks (suc s) n 0 txs =
-            ih rise'
-                (λ i le lt. is i (omega arith) lt ∙ ap (λ x. answered_with (part shards i 0 txs) (replies_in x)) (later_at r rs i (omega arith)))
-                (λ i le lt. ap (λ x. length (replies_in x)) (sym (later_at r rs i (omega arith))) ∙ len i (omega arith) lt) in
+        ih rise'
+        (λ i le lt. is i (omega arith) lt ∙ ap (λ x. answered_with (part shards i 0 txs) (replies_in x)) (later_at r rs i (omega arith)))
+        (λ i le lt. ap (λ x. length (replies_in x)) (sym (later_at r rs i (omega arith))) ∙ len i (omega arith) lt) in
         let own : locks s ≡ answered_with (part shards s 0 txs) r.replies = is s (omega arith) (omega arith) ∙ ap (λ x. answered_with (part shards s 0 txs) (replies_in x)) here in
         let count : length r.replies ≡ length (part shards s 0 txs) = ap (λ x. length (replies_in x)) (sym here) ∙ len s (omega arith) (omega arith) in
         ap (λ os. told r.shard (masks_of shards txs) r.replies os) rest
@@ -237,7 +237,7 @@ latest_below low limit n b f (r ∷ rs) rise is all le =
     let own : f r.shard ≡ r.stamp = is r.shard (omega (arith, rise.0)) ∙ ap reply_stamp (found_at r rs r.shard refl) in
     let up : f r.shard ≤ b = all r.shard rise.1 in
     latest_below (suc r.shard) limit (max n r.stamp) b f rs rise.2
-        (λ i above. is i (omega (arith, rise.0)) ∙ ap reply_stamp (later_at r rs i (omega arith))) all (omega arith)
+    (λ i above. is i (omega (arith, rise.0)) ∙ ap reply_stamp (later_at r rs i (omega arith))) all (omega arith)
 
 stamp_below : (n : ℕ) (rs : List ShardReplies) (i : ℕ) → reply_stamp (replies_at rs i) ≤ latest n rs
 stamp_below n [] i = omega arith
@@ -252,8 +252,8 @@ pub latest_is : (K : Shape) (n : ℕ) (replies : List ShardReplies) → RisesBel
 latest_is K n replies rise =
     let f : ℕ → ℕ = λ s. reply_stamp (replies_at replies s) in
     let up : latest n replies ≤ max n (greatest f K.shards) =
-        latest_below 0 K.shards n (max n (greatest f K.shards)) f replies rise (λ i le. refl)
-            (λ i lt. (let h : f i ≤ greatest f K.shards = greatest_above f K.shards i lt in omega arith)) (omega arith) in
+    latest_below 0 K.shards n (max n (greatest f K.shards)) f replies rise (λ i le. refl)
+    (λ i lt. (let h : f i ≤ greatest f K.shards = greatest_above f K.shards i lt in omega arith)) (omega arith) in
     let down : greatest f K.shards ≤ latest n replies = greatest_below f K.shards (latest n replies) (λ s lt. stamp_below n replies s) in
     let own : n ≤ latest n replies = latest-ge n replies in
     omega arith

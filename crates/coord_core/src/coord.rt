@@ -153,6 +153,7 @@ impl CoordCore {
         ensures record { result ≡ Commit (suc (latest self.old.last replies.now)) (open_batch self.old lane) (combined (lane_at self.old lane).masks replies.now) }
         ensures same { IsSameButRoom self.old self.new }
         ensures others { KeepsOthers self.old self.new lane }
+        ensures whole { IsWhole self.new }
 
         // It is what becomes of these transactions, if the replies are to their parts.
         ensures decided { (txs : List Compact) → (lane_at self.old lane).masks ≡ masks_of self.old.header.shape.shards txs → AreRepliesTo self.old.header.shape txs replies.now
@@ -180,8 +181,10 @@ impl CoordCore {
     /// The stamp of a Commit by these replies.
     pub fn commit_stamp(&self, replies: &Replies) -> Stamp
         requires { AllEarlier (2 ^ 63) replies.now }
-        ensures { result ≡ suc (latest self.now.last replies.now) }
+        ensures value { result ≡ suc (latest self.now.last replies.now) }
+        ensures whole { IsWhole self.now }
     {
+        let _ = &self.lanes;
         Stamp(latest_stamp(self.last, replies.as_slice()) + 1)
     }
 
@@ -196,7 +199,9 @@ impl CoordCore {
 
     /// How many bytes are kept free for the later records of unfinished batches.
     pub fn kept_room(&self) -> u64
-        ensures { result ≡ kept_of self.now.lanes }
+        ensures value { result ≡ kept_of self.now.lanes }
+        ensures bound { result ≤ 935648 }
+        ensures whole { IsWhole self.now }
     {
         let mut kept = 0;
         for lane in &self.lanes {
@@ -221,6 +226,7 @@ impl CoordCore {
     fn outcomes(&mut self, lane: LaneId, replies: &Replies) -> Outcomes
         requires room { HasRoom self.old lane (length (lane_at self.old lane).masks) }
         requires rising { RisesBelow 0 64 replies.now }
+        ensures whole { IsWhole self.new }
         ensures value { result ≡ combined (lane_at self.old lane).masks replies.now }
         ensures grammar { (K : Shape) → RisesBelow 0 K.shards replies.now → AllNameBatches K replies.now → All (IsOutcome K) result }
         ensures same { IsSameButRoom self.old self.new }
@@ -271,11 +277,13 @@ impl CoordCore {
         }
     }
 
-    // One more than the greatest of the last stamp and the cause.
-    fn after(&self, cause: Stamp) -> Stamp
+    /// The stamp of a record with this cause: one more than the greatest of the last stamp and the cause's.
+    pub fn after(&self, cause: Stamp) -> Stamp
         requires { cause < 2 ^ 63 }
-        ensures { result ≡ suc (max self.now.last cause) }
+        ensures value { result ≡ suc (max self.now.last cause) }
+        ensures whole { IsWhole self.now }
     {
+        let _ = &self.lanes;
         Stamp(self.last.max(cause.0) + 1)
     }
 
@@ -370,6 +378,7 @@ impl CoordCore {
     pub fn apply(&mut self, r: &Record)
         requires { IsNext self.old r.now }
         ensures taken { Takes self.old self.new r.now }
+        ensures whole { IsWhole self.old }
 
         // The lanes are then as the journal with the record leaves them.
         ensures stands { (past : List AnyRecord) → StandsFor self.old past → StandsFor self.new (r.now ∷ past) }

@@ -21,8 +21,7 @@ follows_next c J (Finish stamp b ds) stands next = absurd next
 follows_next c J (Forget stamp b) stands next = absurd next
 follows_next c J (Start header) stands next = absurd next
 follows_next c J (Prepare stamp b txs) stands next =
-    let s : (lane_at c b.lane).slot ≡ slot J b.lane = stands.slots b.lane next.0.0.0 in
-    (
+    let s : (lane_at c b.lane).slot ≡ slot J b.lane = stands.slots b.lane next.0.0.0 in (
       omega (arith, stands.last, next.0.0.1),
       sym next.0.0.0,
       ap (λ x. x.phase) (sym s) ∙ next.0.1,
@@ -31,8 +30,7 @@ follows_next c J (Prepare stamp b txs) stands next =
 follows_next c J (Commit stamp b os) stands next =
     let s : slot J b.lane ≡ record { number = b.number; phase = InPrepare } = sym (stands.slots b.lane next.0.0) ∙ next.1 in
     let batch : batch_of J b.lane ≡ b = ap (λ x. record { lane = b.lane; number = x.number }) s in
-    let masks : (lane_at c b.lane).masks ≡ masks_of c.header.shape.shards (txs_of J (batch_of J b.lane)) = stands.masks b.lane next.0.0 (ap (λ x. x.phase) s) in
-    (
+    let masks : (lane_at c b.lane).masks ≡ masks_of c.header.shape.shards (txs_of J (batch_of J b.lane)) = stands.masks b.lane next.0.0 (ap (λ x. x.phase) s) in (
       omega (arith, stands.last, next.0.1),
       sym next.0.0,
       ap (λ x. x.phase) s,
@@ -163,7 +161,7 @@ size_prepare h past stamp b txs lane size old phase = go (eqb_tells b.lane lane)
         let s : slot (Prepare stamp b txs ∷ past) lane ≡ slot past lane = rw f refl in
         let same : (n : ℕ) → txs_of (Prepare stamp b txs ∷ past) (record { lane = lane; number = n }) ≡ txs_of past (record { lane = lane; number = n }) = λ n. rw f refl in
         let e : txs_of (Prepare stamp b txs ∷ past) (open_batch (Prepare stamp b txs ∷ past) lane) ≡ txs_of past (open_batch past lane) =
-            same (slot (Prepare stamp b txs ∷ past) lane).number ∙ ap (λ x. txs_of past (record { lane = lane; number = x.number })) s in
+        same (slot (Prepare stamp b txs ∷ past) lane).number ∙ ap (λ x. txs_of past (record { lane = lane; number = x.number })) s in
         let P : List Compact → Type 0 = λ ts. HasSize h.shape ts in
         subst P (sym e) (old (sym (ap (λ x. x.phase) s) ∙ phase))
 

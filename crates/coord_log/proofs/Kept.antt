@@ -37,7 +37,7 @@ own_room c J lane whole stands j own =
     let s : (lane_at c lane).slot ≡ slot J lane = stands.slots lane own in
     let b : Batch = record { lane = lane; number = (slot J lane).number } in
     let masks : (slot J lane).phase ≡ InPrepare → length (txs_of J b) ≡ length (lane_at c lane).masks =
-        λ e. sym (ap length (stands.masks lane own e) ∙ length-map (txs_of J b) (λ t. mask_of c.header.shape.shards t)) in
+    λ e. sym (ap length (stands.masks lane own e) ∙ length-map (txs_of J b) (λ t. mask_of c.header.shape.shards t)) in
     coord_room (slot J lane).phase (length (lock_of J b)) (length (txs_of J b)) (length (lane_at c lane).masks) (coord_phase c.header lane (slot J lane) (slot_facts c.header J lane whole.node j)) masks
     ∙ ap (λ x. room_in x.phase 0 (length (lane_at c lane).masks)) (sym s)
 
@@ -70,10 +70,10 @@ own_sum c J (suc i) whole stands j le =
     let own : IsOwn c.header (c.header.node * c.header.shape.lanes + i) = div-mul-add c.header.node L i lt in
     let place : (c.header.node * c.header.shape.lanes + i) % c.header.shape.lanes ≡ i = mod-mul-add c.header.node L i lt in
     let here : lane_room J (c.header.node * c.header.shape.lanes + i) ≡ lane_kept (get_or c.lanes i no_lane) =
-        own_room c J (c.header.node * c.header.shape.lanes + i) whole stands j own ∙ ap (λ x. lane_kept (get_or c.lanes x no_lane)) place in
+    own_room c J (c.header.node * c.header.shape.lanes + i) whole stands j own ∙ ap (λ x. lane_kept (get_or c.lanes x no_lane)) place in
     let one : suc i ≡ i + 1 = omega arith in
     let more : sum_by lane_kept (take (suc i) c.lanes) ≡ sum_by lane_kept (take i c.lanes) + lane_kept (get_or c.lanes i no_lane) =
-        ap (λ x. sum_by lane_kept (take x c.lanes)) one ∙ ap (sum_by lane_kept) (take_more c.lanes i no_lane (omega arith)) ∙ sum_by_push lane_kept (take i c.lanes) (get_or c.lanes i no_lane) in
+    ap (λ x. sum_by lane_kept (take x c.lanes)) one ∙ ap (sum_by lane_kept) (take_more c.lanes i no_lane (omega arith)) ∙ sum_by_push lane_kept (take i c.lanes) (get_or c.lanes i no_lane) in
     let ih = own_sum c J i whole stands j (omega arith) in
     let here' : kept_below J (suc (c.header.node * c.header.shape.lanes + i)) ≡ kept_below J (c.header.node * c.header.shape.lanes + i) + lane_kept (get_or c.lanes i no_lane) = ap (λ x. kept_below J (c.header.node * c.header.shape.lanes + i) + x) here in
     ap (kept_below J) e ∙ here' ∙ omega (arith, ih, more)
@@ -86,14 +86,14 @@ kept_is c J whole stands j =
     let C : ℕ = c.header.shape.coordinators in
     let at_lane : (m : ℕ) → m / L ≡ p → p * L + m % L ≡ m = λ m e. ap (λ x. x * L + m % L) (sym e) ∙ div-add-mod' m L in
     let below : kept_below J (0 + p * L) ≡ 0 =
-        zeros J 0 (p * L) (λ m le lt. other_room c.header J m whole.node j (λ e. (let h : p * L + m % L ≡ m = at_lane m e in omega arith))) in
+    zeros J 0 (p * L) (λ m le lt. other_room c.header J m whole.node j (λ e. (let h : p * L + m % L ≡ m = at_lane m e in omega arith))) in
     let own : kept_below J (p * L + L) ≡ kept_below J (p * L) + sum_by lane_kept (take L c.lanes) = own_sum c J L whole stands j (omega (arith, whole.lanes)) in
     let whole_list : take L c.lanes ≡ c.lanes = take_all L c.lanes (omega (arith, whole.lanes)) in
     let fits : suc p * L ≤ C * L = mul-le-mul_right L whole.node in
     let one_more : suc p * L ≡ p * L + L = suc-mul p L in
     let k : ℕ = C * L - (p * L + L) in
     let above : kept_below J ((p * L + L) + k) ≡ kept_below J (p * L + L) =
-        zeros J (p * L + L) k (λ m le lt. other_room c.header J m whole.node j (λ e. (let h : p * L + m % L ≡ m = at_lane m e in let l : m % L < L = mod-lt m whole.limits.some_lane in omega arith))) in
+    zeros J (p * L + L) k (λ m le lt. other_room c.header J m whole.node j (λ e. (let h : p * L + m % L ≡ m = at_lane m e in let l : m % L < L = mod-lt m whole.limits.some_lane in omega arith))) in
     let all : (p * L + L) + k ≡ C * L = omega arith in
     let start : 0 + p * L ≡ p * L = omega arith in
     sym (sym (ap (kept_below J) all) ∙ above ∙ own ∙ ap (λ x. x + sum_by lane_kept (take L c.lanes)) (sym (ap (kept_below J) start) ∙ below) ∙ ap (λ x. 0 + sum_by lane_kept x) whole_list ∙ omega arith)

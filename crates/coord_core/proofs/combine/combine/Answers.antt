@@ -33,6 +33,6 @@ loop-i-preserved c = record {
   within = omega arith;
   grammar = λ K rise named.
       c.tell.ensures.grammar K (rises_at 0 K.shards c.args.replies.now (c.loop-i.i - 1) c.index-replies-i.result rise (omega arith))
-          (let P : List Reply → Type 0 = λ rs. All (λ r. NamesBatch K r) rs in subst P (sym c.as_slice.ensures) (named_at K c.args.replies.now (c.loop-i.i - 1) c.index-replies-i-in-loop-i.result named (omega arith)))
-          (c.loop-i.invariant.grammar K rise named);
+      (let P : List Reply → Type 0 = λ rs. All (λ r. NamesBatch K r) rs in subst P (sym c.as_slice.ensures) (named_at K c.args.replies.now (c.loop-i.i - 1) c.index-replies-i-in-loop-i.result named (omega arith)))
+      (c.loop-i.invariant.grammar K rise named);
 }

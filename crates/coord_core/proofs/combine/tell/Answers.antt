@@ -23,7 +23,7 @@ loop-k-preserved c =
                 let all = c.loop-k.invariant.grammar K below named old in
                 let rest : IsOutcome K w.index.result.now = let P : Outcome → Type 0 = λ o. IsOutcome K o in subst P (sym w.index.ensures) (all c.loop-k.k w.index.result.now (omega arith)) in
                 let next : IsOutcome K (outcome_by (Some w.index-replies-next.result) c.args.shard w.index.result.now) =
-                    let P : Outcome → Type 0 = λ o. IsOutcome K o in subst P w.outcome_with.ensures.value (w.outcome_with.ensures.grammar K below here rest) in
+                let P : Outcome → Type 0 = λ o. IsOutcome K o in subst P w.outcome_with.ensures.value (w.outcome_with.ensures.grammar K below here rest) in
                 let Q : Outcome → Type 0 = λ o. IsOutcome K o in All-set Q c.loop-k.outcomes.items c.loop-k.k _ next all;
           })
       | else-next-replies w ↦

@@ -11,9 +11,9 @@ pub returns-clause-decided : goal.returns-clause-decided
 returns-clause-decided c = λ txs masks are.
     let K = c.args.self.now.header.shape in
     let stamp : c.commit_stamp-stamp.result ≡ suc (max c.args.self.now.last (reply_cause K c.args.replies.now)) =
-        c.commit_stamp-stamp.ensures ∙ ap suc (latest_is K c.args.self.now.last c.args.replies.now are.rising) in
+    c.commit_stamp-stamp.ensures.value ∙ ap suc (latest_is K c.args.self.now.last c.args.replies.now are.rising) in
     let outcomes : c.outcomes.result ≡ decided K txs c.args.replies.now =
-        c.outcomes.ensures.value ∙ ap (λ ms. combined ms c.args.replies.now) masks ∙ decided_is K txs c.args.replies.now are in
+    c.outcomes.ensures.value ∙ ap (λ ms. combined ms c.args.replies.now) masks ∙ decided_is K txs c.args.replies.now are in
     rw (stamp, outcomes, c.number.ensures.value) refl
 
 pub returns-clause-next : goal.returns-clause-next
@@ -21,8 +21,8 @@ returns-clause-next c = λ within.
     let same = c.outcomes.ensures.same in (
       (
         rw same.header c.requires.own,
-        rw (same.last, c.commit_stamp-stamp.ensures) (omega (arith, latest-ge c.args.self.now.last c.args.replies.now)),
-        rw c.commit_stamp-stamp.ensures within,
+        rw (same.last, c.commit_stamp-stamp.ensures.value) (omega (arith, latest-ge c.args.self.now.last c.args.replies.now)),
+        rw c.commit_stamp-stamp.ensures.value within,
       ),
       same.slots c.args.lane ∙ slot_is _ _ _ c.number.ensures.value c.requires.prepared,
       ap length (same.masks c.args.lane) ∙ sym (ap length c.outcomes.ensures.value ∙ length-combined _ _),

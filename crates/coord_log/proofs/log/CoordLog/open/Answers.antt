@@ -1,0 +1,25 @@
+use Rattle.std.proofs.Common.{◌≡◌, ℕ, List, reverse, refl, ap, sym, ◌∙◌, subst, None}
+use Rattle.std.proofs.lemmas.List.{reverse-reverse}
+use Rattle.gate_journal.specs.Shown.{disk_of}
+use Rattle.cbdc_model.specs.Records.{Record}
+use Rattle.record_log.specs.Held.{OpensTo}
+use Rattle.coord_log.specs.Logs.{LogOf, HoldsJournal}
+use Rattle.coord_log.specs.Inside.{shown}
+use Rattle.coord_log.proofs.Opened.{holds_same}
+use Rattle.coord_log.proofs.Written.{to_journal}
+use Rattle.coord_log.proofs.log.CoordLog.open.Goals as goal
+
+pub of_parts-requires : goal.of_parts-requires
+of_parts-requires g c = c.in-Ok-lanes_of.ensures.sound
+
+pub returns-in-Ok-lanes_of-clause-content : goal.returns-in-Ok-lanes_of-clause-content
+returns-in-Ok-lanes_of-clause-content g c = λ bytes told.
+    let opens = c.in-Ok.ensures.opens bytes told in
+    let new = c.lanes_of.new.log in
+    let count = g.D.Disk.count (disk_of c.lanes_of.new.log.journal) in
+    let records : reverse (reverse c.lanes_of.new.log.records.items) ≡ c.in-Ok.log.records.items = reverse-reverse c.lanes_of.new.log.records.items ∙ c.lanes_of.ensures.records in
+    let O : List Record → Type 0 = λ x. OpensTo x bytes in
+    let P : LogOf g.row.D.Denot → Type 0 = λ l. OpensTo (reverse l.journal) bytes × HoldsJournal g.D.Disk.content g.D.Disk.images l in
+    let both : P (shown new count None) =
+    (subst O (sym records) opens.0, to_journal new count None refl (holds_same c.in-Ok.log new c.lanes_of.ensures.untouched c.lanes_of.ensures.records opens.1)) in
+    subst P (sym c.of_parts.ensures) both
