@@ -1,3 +1,4 @@
 pub mod Finding
 pub mod Deciding
 pub mod Steps
+pub mod Keeping

@@ -1,6 +1,10 @@
 -- Which places of a history are caused.
 use Rattle.std.specs.Prelude.{◌≡◌, ℕ, true, List, [], ◌∷◌, ◌++◌, All, length, reverse, is_some}
-use Rattle.cbdc_model.specs.Records.{Shape, Record, Row, journal, record_of, Genesis, Lock, Finish, Forget, Start, Prepare, Commit, Discard, Done}
+use Rattle.cbdc_model.specs.After.{After}
+use Rattle.cbdc_model.specs.Coins.{Output, FullTx}
+use Rattle.cbdc_model.specs.Clean.{IsProperCompact}
+use Rattle.cbdc_model.specs.History.{Minted, minted, header_of, first_rows, history_of, TxsPass, IsKept}
+use Rattle.cbdc_model.specs.Records.{Shape, Compact, Record, Row, journal, record_of, Genesis, Lock, Finish, Forget, Start, Prepare, Commit, Discard, Done}
 use Rattle.cbdc_model.specs.Ranges.{home_of}
 use Rattle.cbdc_model.specs.Causes.{IsCaused}
 
@@ -50,3 +54,14 @@ pub record IsCausedTo (K : Shape) (rows : List Row) (place : ℕ) : Type 0 where
   pub stands : length before ≡ place
   pub caused : AllCaused K (reverse before)
   pub here : IsCausedBy K (reverse before) row
+
+-- each row of a ledger's history behind its first ones is after those of its journal, and its Prepares have transactions that pass
+abbrev pub AllFollow : Shape → Minted → (Compact → Type 0) → List Row → Type 0
+AllFollow K m P [] = Unit {0}
+AllFollow K m P (row ∷ later) =
+    After (header_of K m.id row.node) (journal row.node (later ++ first_rows K m)) row.what × TxsPass P row.what × AllFollow K m P later
+
+-- a ledger's history whose rows are caused is kept, where they follow their journals and their Prepares' transactions pass
+abbrev pub CausedLaw : Type 0
+CausedLaw = (K : Shape) (mint : List Output) (submissions : List FullTx) (later : List Row) → AllCaused K (history_of K mint later)
+    → AllFollow K (minted mint) (IsProperCompact submissions) later → IsKept K mint submissions later

@@ -7,10 +7,12 @@ mod caused;
 mod folding;
 mod handed;
 mod known;
+mod laws;
 mod outcomes;
 mod verdict;
 mod walking;
 
 pub use auditing::audit;
+pub use laws::caused_law;
 pub use verdict::{Totals, Verdict};
 pub use walking::causes;

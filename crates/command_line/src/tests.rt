@@ -25,6 +25,16 @@ fn told_run(
     Ok(text)
 }
 
+// The files of an audit, in one line.
+fn told_audit(alloc: Global, mint: &FileWord, clients: &[FileWord]) -> Result<String, AllocError> {
+    let mut text = format!(in alloc; "audit {} {}", mint.name, mint.place)?;
+    for file in clients {
+        let one = format!(in alloc; " {} {}", file.name, file.place)?;
+        text.push_str(one.as_str())?;
+    }
+    Ok(text)
+}
+
 // The hashes, in one line.
 fn told_status(alloc: Global, hashes: &[Hash]) -> Result<String, AllocError> {
     let mut text = String::from_str(alloc, "status")?;
@@ -42,6 +52,7 @@ fn told_request(alloc: Global, request: &Request) -> Result<String, AllocError> 
         Request::Run { verdicts, clients } => told_run(alloc, verdicts, clients.as_slice()),
         Request::Recover => format!(in alloc; "recover"),
         Request::Status { hashes } => told_status(alloc, hashes.as_slice()),
+        Request::Audit { mint, clients } => told_audit(alloc, mint, clients.as_slice()),
         Request::Show(text) => text.clone(),
     }
 }
@@ -86,6 +97,9 @@ fn words_ask_for_commands(rt: HostRuntime) -> Result<(), Fail> {
         ),
         ("hamilton run --verdicts  c", "run  3 c 4"),
         ("hamilton recover", "recover"),
+        ("hamilton audit m", "audit m 2"),
+        ("hamilton audit m c d", "audit m 2 c 3 d 4"),
+        ("hamilton audit -- -m m", "audit -m 3 m 4"),
     ] {
         assert_eq!(rt; told(alloc, words)?.as_str(), want, "at {words:?}");
     }
@@ -135,6 +149,7 @@ fn help_and_the_version_are_shown(rt: HostRuntime) -> Result<(), Fail> {
         ("run", "Usage: hamilton run --verdicts <FILE> <CLIENT>...\n"),
         ("recover", "Usage: hamilton recover\n"),
         ("status", "Usage: hamilton status <HASH>...\n"),
+        ("audit", "Usage: hamilton audit <MINT> [CLIENT]...\n"),
     ] {
         let behind = format!(in alloc; "hamilton help {command}")?;
         let of_command = told(alloc, behind.as_str())?;
@@ -154,7 +169,8 @@ fn other_words_are_bad(rt: HostRuntime) -> Result<(), Fail> {
         "hamilton",
         "hamilton ",
         "hamilton walk",
-        "hamilton audit m",
+        "hamilton audit",
+        "hamilton audit --fast m",
         "hamilton gen 7 1000",
         "hamilton help walk",
         "hamilton init",
