@@ -50,11 +50,11 @@ fn is_commit(h: &Header, stamp: Stamp, batch: &BatchId, outcomes: &[Outcome]) ->
         && are_outcomes_of(&h.shape, outcomes)
 }
 
-/// Whether the record may stand in a journal with this header, whatever stands before it. Takes no memory.
-pub fn is_in_grammar(h: &Header, record: &Record) -> bool
-    ensures { IsTrue result ↔ IsInGrammar h.now record.now }
+/// Whether a record may stand in a journal with this header, whatever stands before it. Takes no memory.
+pub fn is_in_grammar(h: &Header, r: &Record) -> bool
+    ensures { IsTrue result ↔ IsInGrammar h.now r.now }
 {
-    match record {
+    match r {
         Record::Genesis { header, hashes } => is_genesis(h, header, hashes.as_slice()),
         Record::Lock {
             stamp,
