@@ -71,7 +71,8 @@ impl<D: Disk> CoordLog<D> {
 
     /// Gives the disk back. Takes no memory.
     pub fn into_disk(self) -> D
-        ensures { result ≡ self.disk }
+        ensures disk { result ≡ self.disk }
+        ensures faults { D.count result ≡ self.faults }
     {
         let CoordLog {
             alloc: _,
