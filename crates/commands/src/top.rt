@@ -34,6 +34,14 @@ fn show<O: Sink>(out: &mut O, text: &str) -> Answer
     }
 }
 
+// The name in a word that names a file: verdicts may stand behind their option.
+fn bare(word: &str) -> &str {
+    match word.strip_prefix("--verdicts=") {
+        Some(name) => name,
+        None => word,
+    }
+}
+
 // The name of the file that an answer speaks of.
 fn name_of<'a>(words: &'a [String], answer: &Answer) -> &'a str {
     let place = match answer {
@@ -42,7 +50,7 @@ fn name_of<'a>(words: &'a [String], answer: &Answer) -> &'a str {
         _ => return "",
     };
     match words.get(place as usize) {
-        Some(word) => word.as_str(),
+        Some(word) => bare(word.as_str()),
         None => "",
     }
 }

@@ -105,6 +105,25 @@ pub(crate) fn expect_in<W: Wait + Abort, D: Disk + Drop>(
     Ok(rack)
 }
 
+/// The status of a run with these words over the rack, whatever it prints.
+pub(crate) fn status_of<W: Wait + Abort, D: Disk + Drop>(
+    rt: &W,
+    alloc: Global,
+    rack: MemRack<D>,
+    words: &[&str],
+) -> Result<u8, Fail>
+    requires { AllIn rack }
+{
+    let words = owned(alloc, words)?;
+    let mut inbox = inbox(alloc)?;
+    let mut out = MemSink::new(alloc, 100_000, Vec::new(alloc))?;
+    let Done { status, rack: _ } = process(
+        rt, alloc, &words, &mut inbox, rack, &mut out, &OpenGate,
+    );
+    assert!(rt; !out.taken().is_empty());
+    Ok(status_code(&status))
+}
+
 /// The same with an output that takes all.
 pub(crate) fn expect<W: Wait + Abort, D: Disk + Drop>(
     rt: &W,

@@ -3,7 +3,7 @@
 ghost use Rattle.std.specs.Prelude.{IfOk};
 ghost use Rattle.mem_devices.specs.Racks.{AllIn};
 
-use super::making::{CAPACITY, bytes_of, cut, expect, expect_in, gate_of, rack_of};
+use super::making::{CAPACITY, bytes_of, cut, expect, expect_in, gate_of, rack_of, status_of};
 use mem_devices::{FaultDisk, MemRack, PlainDisk};
 use std::alloc::Global;
 use std::process::Abort;
@@ -164,9 +164,11 @@ fn a_torn_gate(rt: HostRuntime) -> Result<(), Fail> {
     let alloc = rt.alloc();
     let whole = made(rt, rt.alloc(), &PAY, PAY_TEXT)?;
     let mut disks = stopped(alloc, &whole, &[3, 2, 2])?;
-    let gate = gate_of(&whole[0], 2);
-    if let Some(byte) = disks[0].get_mut(gate) {
-        *byte = 7;
+    if let (Some(disk), Some(own)) = (disks.first_mut(), whole.first()) {
+        let gate = gate_of(own, 2);
+        if let Some(byte) = disk.get_mut(gate) {
+            *byte = 7;
+        }
     }
     let rack = rack_of(alloc, &disks)?;
     let text = "batch 0 1 prepare confirmed 1 rejected 0\nresumed 1\nunspent 1\n";
@@ -330,19 +332,38 @@ fn a_disk_that_fails(rt: HostRuntime) -> Result<(), Fail> {
     Ok(())
 }
 
-/// A node of another mint, one of another shape, and a node of the other kind.
+// The disks, but with the second of other disks at one place.
+fn replaced(
+    alloc: Global,
+    disks: &[Vec<u8>],
+    place: usize,
+    others: &[Vec<u8>],
+) -> Result<Vec<Vec<u8>>, Fail> {
+    let mut all = Vec::new(alloc);
+    for own in disks {
+        let bytes = if all.len() == place {
+            others.get(1).unwrap_or(own)
+        } else {
+            own
+        };
+        all.push(Vec::from_slice(alloc, bytes)?)?;
+    }
+    Ok(all)
+}
+
+/// A node of another mint, and a node of the other kind.
 #[test]
 fn disks_of_another_ledger(rt: HostRuntime) -> Result<(), Fail> {
     let rt = &rt;
     let alloc = rt.alloc();
-    let mut disks = made(rt, rt.alloc(), &PAY, PAY_TEXT)?;
+    let disks = made(rt, rt.alloc(), &PAY, PAY_TEXT)?;
     let empty = rack_of(alloc, &[Vec::new(alloc), Vec::new(alloc), Vec::new(alloc)])?;
     let words = ["init", "--shards", "2", "n"];
     let text =
         "coins 1\nminted 50\ngenesis ab297859aa4c8874fdaa2b398f854881ea227c0139b89dca96e0a67cb542b385\n";
     let other = expect(rt, alloc, empty, &words, 0, text)?;
     let other = bytes_of(alloc, &other)?;
-    disks[1] = Vec::from_slice(alloc, &other[1])?;
+    let disks = replaced(alloc, &disks, 1, &other)?;
     let rack = expect(
         rt,
         alloc,
@@ -353,7 +374,7 @@ fn disks_of_another_ledger(rt: HostRuntime) -> Result<(), Fail> {
     )?;
     let rack = expect(rt, alloc, rack, &["recover"], 4, "fault foreign 1\n")?;
     let _ = expect(rt, alloc, rack, &INIT, 4, "fault not empty 0\n")?;
-    disks[0] = Vec::from_slice(alloc, &other[1])?;
+    let disks = replaced(alloc, &disks, 0, &other)?;
     let rack = expect(
         rt,
         alloc,
@@ -384,5 +405,28 @@ fn an_output_that_fails(rt: HostRuntime) -> Result<(), Fail> {
     )?;
     let rack = expect_in(rt, alloc, rack, &["recover"], 10, 11, "resumed 0\n")?;
     let _ = expect_in(rt, alloc, rack, &["words"], 5, 2, "fault")?;
+    Ok(())
+}
+
+/// Help is no fault, and needs no disk. A file behind the option for verdicts is named without it.
+#[test]
+fn help_and_names(rt: HostRuntime) -> Result<(), Fail> {
+    let rt = &rt;
+    let alloc = rt.alloc();
+    assert_eq!(rt; status_of(rt, alloc, rack_of(alloc, &[])?, &["--help"])?, 0);
+    assert_eq!(rt;
+        status_of(rt, alloc, rack_of(alloc, &[])?, &["help", "run"])?,
+        0
+    );
+    let words = ["run", "--verdicts=w", "e"];
+    let rack = expect(
+        rt,
+        alloc,
+        rack_of(alloc, &[])?,
+        &words,
+        10,
+        "fault read w\n",
+    )?;
+    let _ = expect_in(rt, alloc, rack, &["--help"], 0, 11, "")?;
     Ok(())
 }
