@@ -1,5 +1,5 @@
 -- What a record asks of the hashes and the batches that it names.
-use Rattle.std.specs.Prelude.{ℕ, List, [], ◌∷◌, All}
+use Rattle.std.specs.Prelude.{List, [], ◌∷◌, All}
 use Rattle.cbdc_types.specs.declared.batch.ShardReplies.{ShardReplies}
 use Rattle.cbdc_model.specs.Records.{Shape, Compact, Reply, Held, Missing, Taken}
 use Rattle.cbdc_model.specs.Grammar.{IsHash, IsBatchOf}

@@ -1,24 +1,24 @@
 -- What is owed to a call that decides, and that its Commit has its place.
-use Rattle.std.proofs.Common.{◌≡◌, ℕ, suc, ◌+◌, ◌*◌, ◌<◌, ◌≤◌, max, List, [], ◌∷◌, length, reverse, refl, ap, sym, ◌∙◌, subst, arith, Some, None, Option, Result, Ok, Err, false}
+use Rattle.std.proofs.Common.{◌≡◌, ℕ, suc, ◌+◌, ◌*◌, ◌<◌, ◌≤◌, max, List, length, reverse, ap, sym, ◌∙◌, subst, arith, Some, None, Option, Err}
 use Rattle.std.specs.Prelude.{All}
 use Rattle.std.proofs.lemmas.List.{length-map}
 use Rattle.outside.specs.declared.disk.Disk.{Ghosts}
-use Rattle.gate_journal.specs.Shown.{disk_of, gate_of, broken_of}
+use Rattle.gate_journal.specs.Shown.{broken_of}
 use Rattle.cbdc_types.specs.declared.batch.ShardReplies.{ShardReplies}
 use Rattle.cbdc_types.specs.declared.calls.NodeFault.TheVariants.{ClockEnd}
-use Rattle.cbdc_model.specs.Records.{Header, Shape, Record, Batch, Compact, Outcome, txs_of, outcomes_in, last_stamp, Commit}
-use Rattle.cbdc_model.specs.Slots.{Slot, slot, Idle, InPrepare}
+use Rattle.cbdc_model.specs.Records.{Header, Shape, Record, Batch, Compact, Outcome, txs_of, outcomes_in, Commit}
+use Rattle.cbdc_model.specs.Slots.{slot, Idle, InPrepare}
 use Rattle.cbdc_model.specs.Grammar.{IsBatchOf, IsOutcome, HasSize}
 use Rattle.cbdc_model.specs.Next.{next_stamp}
 use Rattle.cbdc_model.specs.Deciding.{decided, reply_cause}
-use Rattle.cbdc_model.specs.Due.{Due, Answers, Writes, last_late, open_batch, decide_due, commit_record}
-use Rattle.cbdc_model.specs.Room.{size_of, outcome_size, room_in}
+use Rattle.cbdc_model.specs.Due.{Answers, Writes, last_late, open_batch, decide_due, commit_record}
+use Rattle.cbdc_model.specs.Room.{size_of, room_in}
 use Rattle.record_log.specs.Logs.{HasRoom}
 use Rattle.record_log.specs.declared.log.RecordLog.{RecordLog}
 use Rattle.coord_core.specs.Masks.{mask_of, masks_of}
 use Rattle.coord_core.specs.Decided.{latest, AreRepliesTo}
-use Rattle.coord_core.specs.Lanes.{CoordOf, IsWhole, IsOwn, IsNext, lane_at, lane_kept, kept_of, ahead_in, ahead_of, IsSameButRoom, KeepsOthers, open_batch as core_batch}
-use Rattle.coord_core.specs.Stands.{StandsFor, batch_of}
+use Rattle.coord_core.specs.Lanes.{CoordOf, IsWhole, IsOwn, IsNext, lane_at, lane_kept, ahead_in, ahead_of, IsSameButRoom, KeepsOthers, open_batch as core_batch}
+use Rattle.coord_core.specs.Stands.{StandsFor}
 use Rattle.coord_core.proofs.Deciding.{latest_is}
 use Rattle.coord_log.specs.Inside.{largest, IsReady, StandsOn, IsDue}
 use Rattle.coord_log.proofs.Going.{stands_same}

@@ -1,16 +1,16 @@
 -- What a coordinator's journal says of its lanes.
-use Rattle.std.proofs.Common.{◌≡◌, ◌≢◌, ◌⊎◌, ℕ, zero, suc, ◌+◌, ◌*◌, ◌/◌, ◌%◌, ◌<◌, ◌≤◌, Bool, true, false, List, [], ◌∷◌, length, Option, Some, None, refl, ap, sym, ◌∙◌, subst, arith, inl, inr, eqb, eq-eqb}
-use Rattle.std.specs.Prelude.{if◌then◌else◌, ◌==◌, ◌&&◌}
+use Rattle.std.proofs.Common.{◌≡◌, ◌≢◌, ◌⊎◌, ℕ, ◌+◌, ◌<◌, true, false, List, [], ◌∷◌, length, Option, Some, None, refl, ap, sym, ◌∙◌, subst, arith, inl, inr, eqb, eq-eqb}
+use Rattle.std.specs.Prelude.{if◌then◌else◌, ◌==◌}
 use Rattle.std.proofs.lemmas.Bool.Decides.{eqb_tells}
 use Rattle.std.proofs.lemmas.List.{length-map}
-use Rattle.cbdc_model.specs.Records.{Header, Shape, Record, Batch, Compact, Answered, txs_of, last_stamp, same_batch, Genesis, Lock, Finish, Forget, Start, Prepare, Commit, Discard, Done}
+use Rattle.cbdc_model.specs.Records.{Header, Record, Batch, Compact, txs_of, Genesis, Lock, Finish, Forget, Start, Prepare, Commit, Discard, Done}
 use Rattle.cbdc_model.specs.Slots.{Slot, Phase, slot, Idle, InLock, InFinish, InPrepare, InCommit, InDiscard}
 use Rattle.cbdc_model.specs.Ranges.{home_of}
-use Rattle.cbdc_model.specs.Grammar.{IsBatchOf, IsShard, HasSize, IsInGrammar}
+use Rattle.cbdc_model.specs.Grammar.{IsBatchOf, HasSize}
 use Rattle.cbdc_model.specs.After.{After, Follows, IsJournal}
 use Rattle.cbdc_model.specs.Due.{open_batch}
 use Rattle.coord_core.specs.Masks.{mask_of, masks_of}
-use Rattle.coord_core.specs.Lanes.{CoordOf, IsOwn, IsNext, lane_at}
+use Rattle.coord_core.specs.Lanes.{CoordOf, IsNext, lane_at}
 use Rattle.coord_core.specs.Stands.{StandsFor, batch_of}
 
 -- a record that is next for the lanes follows the journal that they stand for

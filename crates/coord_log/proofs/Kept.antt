@@ -1,5 +1,5 @@
 -- What lanes keep free is what their journal says.
-use Rattle.std.proofs.Common.{◌≡◌, ◌≢◌, ◌⊎◌, ℕ, zero, suc, ◌+◌, ◌-◌, ◌*◌, ◌/◌, ◌%◌, ◌<◌, ◌≤◌, List, [], ◌∷◌, length, take, get_or, refl, ap, sym, ◌∙◌, arith, inl, inr, mod-lt}
+use Rattle.std.proofs.Common.{◌≡◌, ℕ, zero, suc, ◌+◌, ◌-◌, ◌*◌, ◌/◌, ◌%◌, ◌<◌, ◌≤◌, List, length, take, get_or, refl, ap, sym, ◌∙◌, arith, inl, inr, mod-lt}
 use Rattle.std.specs.List.{sum_by}
 use Rattle.std.proofs.Math.Nat.{mul-le-mul_right, suc-mul}
 use Rattle.std.proofs.lemmas.Nat.{div-mul-add, mod-mul-add, div-add-mod'}
@@ -10,11 +10,10 @@ use Rattle.cbdc_model.specs.Slots.{Slot, Phase, slot, Idle, InLock, InFinish, In
 use Rattle.cbdc_model.specs.Ranges.{home_of}
 use Rattle.cbdc_model.specs.Room.{room_in, lane_room, kept_below, kept_room}
 use Rattle.cbdc_model.specs.After.{IsJournal}
-use Rattle.cbdc_model.specs.Due.{open_batch}
 use Rattle.coord_core.specs.Masks.{mask_of}
-use Rattle.coord_core.specs.Lanes.{CoordOf, LaneOf, IsOwn, IsWhole, no_lane, lane_at, lane_kept, kept_of}
-use Rattle.coord_core.specs.Stands.{StandsFor, batch_of}
-use Rattle.coord_log.proofs.Journals.{IsCoordPhase, SlotFacts, slot_facts, no_slot}
+use Rattle.coord_core.specs.Lanes.{CoordOf, IsOwn, IsWhole, no_lane, lane_at, lane_kept, kept_of}
+use Rattle.coord_core.specs.Stands.{StandsFor}
+use Rattle.coord_log.proofs.Journals.{IsCoordPhase, SlotFacts, slot_facts}
 
 coord_room : (p : Phase) (m n k : ℕ) → IsCoordPhase p → (p ≡ InPrepare → n ≡ k) → room_in p m n ≡ room_in p 0 k
 coord_room Idle m n k coord same = refl

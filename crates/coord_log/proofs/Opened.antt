@@ -1,14 +1,13 @@
 -- A journal that was read: its records are next, one by one.
-use Rattle.std.proofs.Common.{◌≡◌, ℕ, zero, suc, ◌+◌, ◌<◌, ◌≤◌, List, [], ◌∷◌, ◌++◌, length, get_or, take, reverse, refl, ap, sym, ◌∙◌, subst, arith, None, Option}
-use Rattle.std.specs.Prelude.{All, sum_by}
-use Rattle.std.proofs.lemmas.List.{reverse-append, reverse-reverse}
+use Rattle.std.proofs.Common.{◌≡◌, ℕ, ◌+◌, ◌<◌, ◌≤◌, List, [], ◌∷◌, ◌++◌, length, get_or, take, reverse, refl, ap, sym, ◌∙◌, subst, arith, None, Option}
+use Rattle.std.specs.Prelude.{sum_by}
+use Rattle.std.proofs.lemmas.List.{reverse-append}
 use Rattle.std.proofs.lemmas.List.Sums.{sum_by-append, sum_by-cons}
 use Rattle.outside.specs.declared.disk.Disk.{Ghosts}
 use Rattle.gate_journal.specs.Shown.{disk_of, gate_of, broken_of}
 use Rattle.cbdc_model.specs.Records.{Header, Record, Start}
 use Rattle.cbdc_model.specs.Grammar.{IsInGrammar}
 use Rattle.cbdc_model.specs.After.{After, Follows, IsJournal}
-use Rattle.cbdc_model.specs.Due.{used_of}
 use Rattle.cbdc_model.specs.Room.{size_of}
 use Rattle.cbdc_model.specs.Sights.{IsBrokenSince}
 use Rattle.record_log.specs.Held.{MayHold, Holds}

@@ -1,31 +1,26 @@
 -- What is owed to a call, and that its record has its place.
-use Rattle.std.proofs.Common.{◌≡◌, ◌⊎◌, ℕ, suc, ◌+◌, ◌*◌, ◌/◌, ◌<◌, ◌≤◌, ◌^◌, max, Bool, List, [], ◌∷◌, length, reverse, refl, ap, sym, ◌∙◌, subst, arith, inl, inr, Some, None, Option, Result, Ok, Err}
-use Rattle.std.specs.Prelude.{All, nat_lt}
+use Rattle.std.proofs.Common.{◌≡◌, ℕ, suc, ◌+◌, ◌<◌, ◌≤◌, max, Bool, List, length, reverse, refl, ap, sym, ◌∙◌, subst, arith, inl, inr, Some, None, Option, Ok, Err}
 use Rattle.std.proofs.lemmas.Bool.{le-ltb, lt-ltb}
 use Rattle.outside.specs.declared.disk.Disk.{Ghosts}
-use Rattle.gate_journal.specs.Shown.{disk_of, gate_of, broken_of}
-use Rattle.cbdc_types.specs.declared.batch.ShardReplies.{ShardReplies}
+use Rattle.gate_journal.specs.Shown.{broken_of}
 use Rattle.cbdc_types.specs.declared.calls.NodeFault.{NodeFault}
-use Rattle.cbdc_types.specs.declared.calls.NodeFault.TheVariants.{Broken, ClockEnd, Full, DiskFault, Memory}
-use Rattle.cbdc_model.specs.Records.{Header, Shape, Record, Batch, Compact, Outcome, txs_of, last_stamp, Prepare, Commit, Discard, Done}
-use Rattle.cbdc_model.specs.Slots.{Slot, Phase, slot, Idle, InPrepare, InCommit, InDiscard}
-use Rattle.cbdc_model.specs.Ranges.{home_of}
-use Rattle.cbdc_model.specs.Grammar.{IsLater, IsBatchOf, IsOutcome, HasSize}
+use Rattle.cbdc_types.specs.declared.calls.NodeFault.TheVariants.{ClockEnd, DiskFault}
+use Rattle.cbdc_model.specs.Records.{Header, Record, Batch, Discard, Done}
+use Rattle.cbdc_model.specs.Slots.{Phase, slot, Idle, InCommit, InDiscard}
+use Rattle.cbdc_model.specs.Grammar.{IsBatchOf}
 use Rattle.cbdc_model.specs.After.{IsJournal}
 use Rattle.cbdc_model.specs.Next.{next_stamp}
-use Rattle.cbdc_model.specs.Deciding.{decided, reply_cause}
-use Rattle.cbdc_model.specs.Due.{Due, Answers, Writes, unless_broken, if_early, if_room, last_early, last_late, open_batch, new_batch, discard_due, done_due, decide_due, discard_record, done_record, commit_record}
-use Rattle.cbdc_model.specs.Room.{size_of, outcome_size, room_in}
-use Rattle.cbdc_model.specs.Sights.{Sight, Stays, Appends, Fails, MeetsFault, Meets}
+use Rattle.cbdc_model.specs.Due.{Due, Answers, Writes, unless_broken, if_early, last_late, open_batch, discard_due, done_due, discard_record, done_record}
+use Rattle.cbdc_model.specs.Room.{room_in}
+use Rattle.cbdc_model.specs.Sights.{Sight, Appends, Fails, MeetsFault, Meets}
 use Rattle.record_log.specs.Logs.{HasRoom}
 use Rattle.record_log.specs.declared.log.RecordLog.{RecordLog}
-use Rattle.coord_core.specs.Masks.{mask_of}
-use Rattle.coord_core.specs.Lanes.{CoordOf, IsWhole, IsOwn, IsNext, Takes, lane_at, lane_kept, kept_of, ahead_in, ahead_of, AllRoomed, OthersRoomed, open_batch as core_batch}
-use Rattle.coord_core.specs.Stands.{StandsFor, batch_of}
+use Rattle.coord_core.specs.Lanes.{CoordOf, IsWhole, IsOwn, IsNext, lane_at, lane_kept, ahead_in, ahead_of, open_batch as core_batch}
+use Rattle.coord_core.specs.Stands.{StandsFor}
 use Rattle.coord_log.specs.Logs.{LogOf, sight, Breaks}
-use Rattle.coord_log.specs.Inside.{shown, largest, HasPlace, IsReady, StandsOn, IsSound, IsDue}
-use Rattle.coord_log.proofs.Journals.{SlotFacts, slot_facts, prepared_size}
-use Rattle.coord_log.proofs.Places.{commit_place, discard_place, done_place, all_others, next_fits, next_ahead, commit_size}
+use Rattle.coord_log.specs.Inside.{shown, largest, IsReady, StandsOn, IsDue}
+use Rattle.coord_log.proofs.Journals.{SlotFacts, slot_facts}
+use Rattle.coord_log.proofs.Places.{discard_place, done_place, all_others, next_fits, next_ahead}
 
 -- the record was written, or the disk failed at it
 pub meets_ok : {A : Type 0} (memory : Bool) (due : Due A) (a : A) (r : Record) (old new : Sight) (J : List Record) → due ≡ Writes a r → Appends old new J r → Meets memory due old new J (Ok a)

@@ -3,12 +3,11 @@ use Rattle.std.proofs.Common.{◌≡◌, ◌≢◌, ◌⊎◌, ℕ, zero, suc, �
 use Rattle.std.specs.Prelude.{sum_by, All}
 use Rattle.std.proofs.lemmas.Bool.Decides.{eqb_tells}
 use Rattle.std.proofs.lemmas.List.{get_or-set_same, get_or-set_other, length-map}
-use Rattle.std.proofs.lemmas.List.Elements.{All-weaker}
 use Rattle.std.proofs.lemmas.List.Sums.{sum_by-set, sum_by-le}
 use Rattle.outside.specs.declared.disk.Disk.{Ghosts}
 use Rattle.gate_journal.specs.Shown.{disk_of, gate_of}
-use Rattle.cbdc_model.specs.Records.{Shape, Header, Record, Batch, Compact, Outcome, Won, Lacks, Blocked, Genesis, Lock, Finish, Forget, Start, Prepare, Commit, Discard, Done}
-use Rattle.cbdc_model.specs.Slots.{Slot, Phase, Idle, InPrepare, InCommit, InDiscard}
+use Rattle.cbdc_model.specs.Records.{Header, Record, Batch, Compact, Outcome, Won, Lacks, Blocked, Genesis, Lock, Finish, Forget, Start, Prepare, Commit, Discard, Done}
+use Rattle.cbdc_model.specs.Slots.{Slot, Idle, InPrepare, InCommit, InDiscard}
 use Rattle.cbdc_model.specs.Room.{size_of, outcome_size, room_in, room_behind_prepare}
 use Rattle.record_log.specs.Logs.{HasRoom}
 use Rattle.record_log.specs.declared.log.RecordLog.{RecordLog}

@@ -1,6 +1,6 @@
 -- What is owed to a call that prepares, and that its Prepare has its place.
-use Rattle.std.proofs.Common.{◌≡◌, ℕ, suc, ◌+◌, ◌*◌, ◌/◌, ◌%◌, ◌<◌, ◌≤◌, ◌^◌, ◌-◌, max, min, true, List, [], ◌∷◌, length, reverse, get_or, refl, ap, sym, ◌∙◌, subst, arith, Some, None, Option, Result, Ok, Err, mod-lt}
-use Rattle.std.specs.Prelude.{All, sum_by}
+use Rattle.std.proofs.Common.{◌≡◌, ℕ, suc, ◌+◌, ◌*◌, ◌/◌, ◌%◌, ◌<◌, ◌≤◌, ◌^◌, ◌-◌, min, true, List, length, reverse, get_or, refl, ap, sym, ◌∙◌, subst, arith, None, Option, Err, mod-lt}
+use Rattle.std.specs.Prelude.{All}
 use Rattle.std.proofs.lemmas.Bool.{le-ltb, lt-ltb}
 use Rattle.std.proofs.Math.Nat.{mul-le-mul_right, suc-mul}
 use Rattle.std.proofs.lemmas.Nat.{div-add-mod'}
@@ -10,20 +10,20 @@ use Rattle.gate_journal.specs.Shown.{disk_of, gate_of, broken_of}
 use Rattle.cbdc_types.specs.declared.calls.NodeFault.{NodeFault}
 use Rattle.cbdc_types.specs.declared.calls.NodeFault.TheVariants.{Broken, Refused as Refuses, ClockEnd, Full, DiskFault, Memory}
 use Rattle.cbdc_model.specs.Records.{Header, Shape, Record, Batch, Compact, Prepare}
-use Rattle.cbdc_model.specs.Slots.{slot, Idle}
-use Rattle.cbdc_model.specs.Grammar.{IsBatchOf, IsCompact, IsInGrammar}
+use Rattle.cbdc_model.specs.Slots.{slot}
+use Rattle.cbdc_model.specs.Grammar.{IsInGrammar}
 use Rattle.cbdc_model.specs.After.{IsJournal}
 use Rattle.cbdc_model.specs.Next.{next_stamp}
-use Rattle.cbdc_model.specs.Due.{Due, Answers, Writes, last_early, unless_broken, if_room, used_of, new_batch, prepare_due, prepare_record}
+use Rattle.cbdc_model.specs.Due.{Due, Answers, Writes, last_early, if_room, used_of, new_batch, prepare_due, prepare_record}
 use Rattle.cbdc_model.specs.Room.{size_of, compact_size, room_behind_prepare, kept_room, need_of}
 use Rattle.cbdc_model.specs.Sights.{Sight, Stays, MeetsFault, IsBrokenSince}
 use Rattle.record_log.specs.Logs.{HasRoom, KeepsRoom, IsUntouched}
 use Rattle.record_log.specs.declared.log.RecordLog.{RecordLog}
 use Rattle.coord_core.specs.Hashes.{AreHashed}
-use Rattle.coord_core.specs.Lanes.{CoordOf, LaneOf, IsWhole, IsOwn, IsNext, IsSameButRoom, HasGrown, no_lane, lane_at, kept_of, ahead_of, next_batch}
+use Rattle.coord_core.specs.Lanes.{CoordOf, IsWhole, IsOwn, IsNext, IsSameButRoom, HasGrown, no_lane, lane_at, kept_of, ahead_of, next_batch}
 use Rattle.coord_core.specs.Stands.{StandsFor}
-use Rattle.coord_log.specs.Logs.{LogOf, IsShort}
-use Rattle.coord_log.specs.Inside.{shown, largest, HasPlace, IsReady, StandsOn, IsSound, IsDue, IsNoRoom}
+use Rattle.coord_log.specs.Logs.{IsShort}
+use Rattle.coord_log.specs.Inside.{shown, largest, IsReady, StandsOn, IsSound, IsDue, IsNoRoom}
 use Rattle.coord_log.proofs.Going.{stands_same}
 use Rattle.coord_log.proofs.Places.{prepare_place, rooms_grow, fewer}
 use Rattle.coord_log.proofs.Kept.{kept_is}

@@ -1,5 +1,5 @@
 -- What a write leaves of a coordinator's parts.
-use Rattle.std.proofs.Common.{◌≡◌, ℕ, ◌+◌, ◌-◌, ◌<◌, ◌≤◌, List, [], ◌∷◌, ◌++◌, length, reverse, refl, ap, sym, ◌∙◌, subst, arith, Some, None, Option, Result, Err}
+use Rattle.std.proofs.Common.{◌≡◌, ℕ, ◌+◌, ◌-◌, ◌≤◌, List, [], ◌∷◌, ◌++◌, length, reverse, refl, ap, sym, ◌∙◌, subst, arith, Some, None, Option, Result}
 use Rattle.std.specs.Prelude.{MatchOption, IsOkUnless, sum_by}
 use Rattle.std.proofs.lemmas.Bool.{le-ltb}
 use Rattle.std.proofs.lemmas.List.{reverse-append, reverse-reverse}
@@ -19,15 +19,15 @@ use Rattle.cbdc_model.specs.Room.{size_of}
 use Rattle.cbdc_model.specs.Sights.{HasRisen, IsBrokenSince}
 use Rattle.record_codec.specs.Bodies.{body_of}
 use Rattle.record_log.proofs.Sizes.{size_is}
-use Rattle.record_log.specs.Held.{bodies_of, Holds, OpensToEither}
+use Rattle.record_log.specs.Held.{bodies_of, OpensToEither}
 use Rattle.record_log.specs.Logs.{HoldsAll, HasRoom}
 use Rattle.record_log.specs.declared.log.LogFault.{LogFault}
 use Rattle.record_log.specs.declared.log.LogFault.TheVariants.{DiskFault}
 use Rattle.record_log.specs.declared.log.RecordLog.{RecordLog}
-use Rattle.coord_core.specs.Lanes.{CoordOf, IsWhole, IsNext, Takes, ahead_of}
+use Rattle.coord_core.specs.Lanes.{CoordOf, Takes, ahead_of}
 use Rattle.coord_core.specs.Stands.{StandsFor}
 use Rattle.coord_log.specs.Logs.{HoldsJournal}
-use Rattle.coord_log.specs.Inside.{shown, largest, HasPlace, IsReady, StandsOn, IsSound, IsDue}
+use Rattle.coord_log.specs.Inside.{shown, largest, HasPlace, IsSound, IsDue}
 use Rattle.coord_log.proofs.Journals.{follows_next, journal_more}
 use Rattle.coord_log.proofs.Going.{takes_header}
 

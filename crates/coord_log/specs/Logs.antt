@@ -1,7 +1,7 @@
 -- What contracts see of a coordinator on its disk.
-use Rattle.std.specs.Prelude.{◌≡◌, ℕ, ◌-◌, ◌≤◌, List, length, reverse, Option, Some, None, Result, Ok, Err}
+use Rattle.std.specs.Prelude.{◌≡◌, ℕ, ◌-◌, ◌≤◌, List, length, reverse, Option, Some, None, Result, Err}
 use Rattle.cbdc_types.specs.declared.calls.NodeFault.{NodeFault}
-use Rattle.cbdc_types.specs.declared.calls.NodeFault.TheVariants.{Broken, Refused as Refuses, ClockEnd, Full, DiskFault, Memory}
+use Rattle.cbdc_types.specs.declared.calls.NodeFault.TheVariants.{DiskFault}
 use Rattle.cbdc_model.specs.Records.{Header, Compact, Record}
 use Rattle.cbdc_model.specs.Sights.{Sight}
 use Rattle.record_log.specs.Held.{Holds, OpensToEither}

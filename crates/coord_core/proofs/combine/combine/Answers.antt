@@ -1,4 +1,4 @@
-use Rattle.std.proofs.Common.{arith, rules, ◌-◌, List, subst, sym}
+use Rattle.std.proofs.Common.{arith, ◌-◌, List, subst, sym}
 use Rattle.coord_core.proofs.Walks.{rises_at, held_step}
 use Rattle.coord_core.proofs.Outcomes.{won_outcomes, named_at}
 use Rattle.cbdc_model.specs.Grammar.{IsOutcome}

@@ -1,4 +1,4 @@
-use Rattle.std.proofs.Common.{◌≡◌, ◌+◌, ◌≤◌, ℕ, List, reverse, subst, arith}
+use Rattle.std.proofs.Common.{◌+◌, ◌≤◌, ℕ, List, reverse, subst, arith}
 use Rattle.gate_journal.specs.Shown.{disk_of, gate_of}
 use Rattle.cbdc_model.specs.Records.{Record}
 use Rattle.cbdc_model.specs.After.{IsJournal}

@@ -1,9 +1,8 @@
-use Rattle.std.proofs.Common.{arith, rules, ◌≡◌, List, ◌∷◌, [], reverse, take, ap, sym, ◌∙◌, subst}
+use Rattle.std.proofs.Common.{rules, List, reverse, take, sym, ◌∙◌, subst}
 use Rattle.std.proofs.lemmas.List.{take_all}
 use Rattle.cbdc_model.specs.Records.{Record}
 use Rattle.cbdc_model.specs.After.{IsJournal}
 use Rattle.coord_core.specs.Stands.{StandsFor}
-use Rattle.record_log.specs.Held.{MayHold}
 use Rattle.coord_log.proofs.Places.{rooms_grow, taken_rooms}
 use Rattle.coord_log.proofs.Opened.{journal_first, journal_next}
 use Rattle.coord_log.proofs.Going.{went_on, takes_header, stands_same}

@@ -1,13 +1,7 @@
-use Rattle.std.proofs.Common.{◌≡◌, ◌+◌, ◌≤◌, ◌∷◌, [], ◌++◌, ℕ, List, length, reverse, refl, ap, sym, ◌∙◌, arith, Ok, Err, subst}
-use Rattle.outside.specs.Counts.{Rose}
+use Rattle.std.proofs.Common.{◌≡◌, ◌+◌, ◌∷◌, [], ◌++◌, length, reverse, refl, ap, ◌∙◌, arith, Err}
 use Rattle.gate_journal.specs.Shown.{disk_of, gate_of, broken_of}
-use Rattle.gate_journal.specs.declared.journal.Journal.{Journal}
-use Rattle.cbdc_model.specs.Records.{Record}
-use Rattle.cbdc_model.specs.Room.{size_of}
 use Rattle.record_codec.specs.Bodies.{body_of}
 use Rattle.record_log.proofs.Sizes.{size_is}
-use Rattle.record_log.specs.Held.{Holds}
-use Rattle.record_log.specs.Logs.{HasRoom, HoldsAll}
 use Rattle.record_log.specs.declared.log.LogFault.TheVariants.{DiskFault}
 use Rattle.coord_log.proofs.Written.{only_disk, own_room, sound_after, sound_broken, to_journal, from_journal, to_broken}
 use Rattle.coord_log.proofs.writing.write.Given as given

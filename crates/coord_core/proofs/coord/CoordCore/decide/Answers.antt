@@ -1,8 +1,6 @@
-use Rattle.std.proofs.Common.{arith, ◌≡◌, ◌<◌, suc, max, ap, sym, ◌∙◌, length, refl}
+use Rattle.std.proofs.Common.{arith, ◌≡◌, suc, max, ap, sym, ◌∙◌, length, refl}
 use Rattle.cbdc_model.specs.Deciding.{decided, reply_cause}
-use Rattle.cbdc_model.specs.Records.{Commit}
 use Rattle.coord_core.specs.Decided.{combined}
-use Rattle.coord_core.specs.Lanes.{lane_at, open_batch, IsOwn}
 use Rattle.coord_core.proofs.Walks.{latest-ge, length-combined, slot_is, rises_within}
 use Rattle.coord_core.proofs.Deciding.{decided_is, latest_is}
 use Rattle.coord_core.proofs.coord.CoordCore.decide.Goals as goal

@@ -1,10 +1,10 @@
-use Rattle.std.proofs.Common.{◌≡◌, ◌≤◌, ◌<◌, ◌∷◌, Err, ℕ, List, suc, max, refl, ap, sym, ◌∙◌, subst, arith, length, reverse, None, Some, false}
+use Rattle.std.proofs.Common.{◌≡◌, ◌≤◌, ◌<◌, ◌∷◌, Err, ℕ, List, suc, refl, ap, sym, ◌∙◌, subst, arith, length, reverse, None, Some, false}
 use Rattle.std.specs.Prelude.{All}
-use Rattle.gate_journal.specs.Shown.{broken_of, disk_of}
+use Rattle.gate_journal.specs.Shown.{broken_of}
 use Rattle.cbdc_types.specs.declared.calls.NodeFault.TheVariants.{ClockEnd}
-use Rattle.cbdc_model.specs.Records.{Shape, Header, Record, Outcome, txs_of, outcomes_in, Commit}
+use Rattle.cbdc_model.specs.Records.{Header, Record, Outcome, txs_of, outcomes_in, Commit}
 use Rattle.cbdc_model.specs.Grammar.{IsOutcome}
-use Rattle.cbdc_model.specs.Slots.{slot, InPrepare}
+use Rattle.cbdc_model.specs.Slots.{InPrepare}
 use Rattle.cbdc_model.specs.Due.{Answers, last_late, open_batch, decide_due}
 use Rattle.cbdc_model.specs.Sights.{IsSameNode}
 use Rattle.std.proofs.lemmas.List.{length-map}
@@ -12,9 +12,9 @@ use Rattle.coord_core.specs.Masks.{mask_of}
 use Rattle.coord_core.proofs.Walks.{length-combined}
 use Rattle.coord_core.specs.Decided.{latest, combined, AreRepliesTo}
 use Rattle.coord_core.specs.Hashes.{AllNameBatches}
-use Rattle.coord_core.specs.Lanes.{CoordOf, IsNext, IsOwn, lane_at, open_batch as core_batch}
+use Rattle.coord_core.specs.Lanes.{IsOwn, lane_at, open_batch as core_batch}
 use Rattle.coord_log.specs.Logs.{LogOf, sight}
-use Rattle.coord_log.specs.Inside.{shown, IsDue}
+use Rattle.coord_log.specs.Inside.{shown}
 use Rattle.coord_log.proofs.Owed.{told_ok, told_err, breaks_err, own_lane, own_phase, batch_is}
 use Rattle.coord_log.proofs.Deciding.{decide_owed, decide_late, decide_ready, told_is}
 use Rattle.coord_log.proofs.log.CoordLog.decide.Goals as goal
@@ -116,5 +116,5 @@ returns-clause-count g c =
     let txs = txs_of (reverse c.self.inside.log.records.items) (open_batch (reverse c.self.inside.log.records.items) c.args.lane) in
     let told : c.tell.new.out.items ≡ combined (lane_at c.self.inside.core c.args.lane).masks c.args.replies.now = c.tell.ensures ∙ ap (λ x. outcomes_in (Some x)) c.decide-next.ensures.«record» in
     let masks : length (lane_at c.self.inside.core c.args.lane).masks ≡ length (txs_of (reverse c.self.inside.log.records.items) (open_batch (reverse c.self.inside.log.records.items) c.args.lane)) =
-        ap length (sound.on.stands.masks c.args.lane own phase) ∙ length-map txs (λ t. mask_of c.self.inside.core.header.shape.shards t) in
+    ap length (sound.on.stands.masks c.args.lane own phase) ∙ length-map txs (λ t. mask_of c.self.inside.core.header.shape.shards t) in
     subst J (ap (λ x. x.journal) c.self.view_is) (ap length told ∙ length-combined (lane_at c.self.inside.core c.args.lane).masks c.args.replies.now ∙ masks)

@@ -1,5 +1,5 @@
-use Rattle.std.proofs.Common.{◌≡◌, ◌≤◌, ℕ, suc, max, ap, sym, ◌∙◌, subst, arith, None, false}
-use Rattle.gate_journal.specs.Shown.{broken_of, disk_of}
+use Rattle.std.proofs.Common.{◌≡◌, ◌≤◌, ℕ, suc, max, sym, ◌∙◌, subst, arith, None, false}
+use Rattle.gate_journal.specs.Shown.{broken_of}
 use Rattle.cbdc_model.specs.Due.{last_late, done_due}
 use Rattle.cbdc_model.specs.Slots.{InDiscard}
 use Rattle.coord_core.specs.Lanes.{CoordOf, IsNext, IsOwn}

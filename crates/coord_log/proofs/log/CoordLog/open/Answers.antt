@@ -1,4 +1,4 @@
-use Rattle.std.proofs.Common.{◌≡◌, ℕ, List, reverse, refl, ap, sym, ◌∙◌, subst, None}
+use Rattle.std.proofs.Common.{◌≡◌, List, reverse, refl, sym, ◌∙◌, subst, None}
 use Rattle.std.proofs.lemmas.List.{reverse-reverse}
 use Rattle.gate_journal.specs.Shown.{disk_of}
 use Rattle.cbdc_model.specs.Records.{Record}

@@ -1,19 +1,16 @@
-use Rattle.std.proofs.Common.{◌≡◌, ◌≤◌, ◌<◌, ◌+◌, ◌^◌, ℕ, List, suc, max, min, refl, ap, sym, ◌∙◌, subst, arith, reverse, length, None, Some, Err, true}
+use Rattle.std.proofs.Common.{◌≡◌, ◌≤◌, ◌+◌, ℕ, refl, ap, sym, ◌∙◌, subst, arith, reverse, length, None, Err, true}
 use Rattle.gate_journal.specs.Shown.{broken_of, disk_of, gate_of}
-use Rattle.cbdc_model.specs.Records.{Shape, Header, Record, Batch, Prepare}
-use Rattle.cbdc_model.specs.Room.{size_of, room_behind_prepare, need_of}
+use Rattle.cbdc_model.specs.Records.{Header, Batch, Prepare}
+use Rattle.cbdc_model.specs.Room.{size_of, room_behind_prepare}
 use Rattle.cbdc_model.specs.After.{IsJournal}
 use Rattle.cbdc_types.specs.declared.calls.NodeFault.TheVariants.{Full}
-use Rattle.cbdc_model.specs.Slots.{slot, Idle}
-use Rattle.cbdc_model.specs.Next.{next_stamp}
-use Rattle.cbdc_model.specs.Due.{Due, Answers, Writes, last_early, used_of, new_batch, prepare_due, prepare_record}
-use Rattle.cbdc_model.specs.Sights.{MeetsFault, Stays}
-use Rattle.coord_core.specs.Lanes.{CoordOf, IsNext, IsOwn, lane_at, kept_of, next_batch}
+use Rattle.cbdc_model.specs.Due.{Answers, Writes, last_early, prepare_due}
+use Rattle.cbdc_model.specs.Sights.{Stays}
+use Rattle.coord_core.specs.Lanes.{IsOwn, kept_of, next_batch}
 use Rattle.coord_log.specs.Logs.{LogOf, sight}
-use Rattle.coord_log.specs.Inside.{shown, IsDue, IsSound}
+use Rattle.coord_log.specs.Inside.{shown}
 use Rattle.coord_log.proofs.Owed.{told_ok, told_err, breaks_err, own_lane}
 use Rattle.coord_log.proofs.Preparing.{Prepares, sound_kept, shown_same, room_refused, exact_size, prepare_small, prepare_ready, prepare_owed, prepare_full}
-use Rattle.coord_log.proofs.log.CoordLog.prepare.Given as given
 use Rattle.coord_log.proofs.log.CoordLog.prepare.Goals as goal
 
 pub make_room-requires-clause-size : goal.make_room-requires-clause-size
