@@ -168,7 +168,7 @@ fn resume_open<W: Wait, D: Disk, G: Gate>(
     ports: &mut Ports<NodeShards<W, D>, NodeLogs<W, D>>,
     gate: &G,
 ) -> Result<Resumed, LaneFault>
-    requires is_open { let log = log_at ports.old.log.logs.items ports.old.log.at in IsOpen log.header (λ l. (slot log.seen l).phase) (λ l. txs_of log.seen (batch_of log.seen l)) «open» }
+    requires is_open { let log = log_at ports.old.log.logs.items ports.old.log.at in IsOpen log.header (λ l. (slot log.journal l).phase) (λ l. txs_of log.journal (batch_of log.journal l)) «open» }
     requires shape { (log_at ports.old.log.logs.items ports.old.log.at).header.shape ≡ shape.now }
     requires count { length ports.old.shards.nodes.items ≡ shape.now.shards }
     ensures logs { length ports.new.log.logs.items ≡ length ports.old.log.logs.items }

@@ -1,4 +1,2 @@
 pub mod Walks
 pub mod Standing
-pub mod Deciding
-pub mod Outcomes

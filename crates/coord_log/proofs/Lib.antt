@@ -1,9 +1,1 @@
 pub mod Going
-pub mod Journals
-pub mod Kept
-pub mod Written
-pub mod Places
-pub mod Owed
-pub mod Deciding
-pub mod Preparing
-pub mod Opened

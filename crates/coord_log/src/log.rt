@@ -1,16 +1,13 @@
 // The calls at a coordinator.
-ghost use Rattle.std.specs.Prelude.{◌≡◌, ◌≢◌, ◌+◌, ◌≤◌, ◌<◌, ◌^◌, ◌∷◌, [], List, ℕ, Option, None, Some, true, false, suc, max, length, reverse, vec_capacity, All, OnOk, OnErr, IfOk, IfErr, IsErrOf};
+ghost use Rattle.std.specs.Prelude.{◌≡◌, ◌+◌, ◌≤◌, ◌<◌, ◌^◌, ◌∷◌, [], List, suc, max, length, reverse, vec_capacity, OnOk, OnErr, IfOk, IfErr, IsErrOf};
 ghost use Rattle.outside.specs.Counts.{Rose};
-ghost use Rattle.gate_journal.specs.Shown.{disk_of, broken_of};
+ghost use Rattle.gate_journal.specs.Shown.{disk_of};
 ghost use Rattle.cbdc_model.specs.Records.{Prepare, Commit, Discard, Done, last_stamp, txs_of};
 ghost use Rattle.cbdc_model.specs.Slots.{slot, Idle, InPrepare, InCommit, InDiscard};
-ghost use Rattle.cbdc_model.specs.Due.{open_batch, prepare_due, decide_due, discard_due, done_due};
-ghost use Rattle.cbdc_model.specs.Sights.{Meets, IsSameNode};
 ghost use Rattle.coord_core.specs.Phases.{slot_of};
-ghost use Rattle.coord_core.specs.Hashes.{AllNameBatches};
-ghost use Rattle.coord_core.specs.Decided.{RisesBelow, AllEarlier, AreRepliesTo};
+ghost use Rattle.coord_core.specs.Decided.{RisesBelow, AllEarlier};
 ghost use Rattle.coord_core.specs.Lanes.{IsOwn};
-ghost use Rattle.coord_log.specs.Logs.{sight, HoldsJournal, Breaks, IsShort};
+ghost use Rattle.coord_core.specs.Stands.{StandsFor, batch_of};
 
 use crate::copying::{outcomes_of, stamp_of, tell, txs_of};
 use crate::writing::{make_room, write};
@@ -24,37 +21,38 @@ use record_log::RecordLog;
 use std::alloc::{AllocError, Global};
 use std::marker::Model;
 
+/// The most bytes that memory is taken for.
+const LARGEST: u64 = 1 << 40;
+
 /// The last stamp of a Prepare.
 const LAST_PREPARE: u64 = 1 << 62;
 
 /// The last stamp of a Commit, a Discard or a Done.
 const LAST_STAMP: u64 = (1 << 62) + (1 << 20);
 
-/// A coordinator on its disk. Contracts see its header, its journal (the newest record first), the record that a
-/// failed call may have left on the disk, how often the disk has failed, and the disk.
+/// A coordinator on its disk. Contracts see its header, its journal (the newest record first), how often its disk
+/// has failed, and the bytes that the journal takes and may take.
 #[derive(Drop)]
 pub struct CoordLog<D: Disk> {
     alloc: Global,
     log: RecordLog<D>,
     core: CoordCore,
-    opened: u64,
-    flight: Option<Record>,
 }
 
 impl<D: Disk> Model for CoordLog<D> {
+    ghost use Rattle.std.specs.Prelude.{◌≡◌, ◌+◌, reverse};
+    ghost use Rattle.gate_journal.specs.Shown.{disk_of, gate_of, broken_of};
+    ghost use Rattle.coord_core.specs.Stands.{StandsFor};
     ghost use Rattle.coord_log.specs.Logs.{LogOf};
-    ghost use Rattle.coord_log.specs.Inside.{shown, IsSound};
 
-    ghost Value = { LogOf D };
+    ghost Value = { LogOf };
 
-    ghost view = { λ l. shown l.log l.opened l.flight };
+    ghost view = { λ l. record { header = l.log.header; journal = reverse l.log.records.items; faults = D.count (disk_of l.log.journal); broken = broken_of l.log.journal; used = gate_of l.log.journal + 1; capacity = D.limit (disk_of l.log.journal) } };
 
-    ghost invariant = { λ l. IsSound l.log l.core l.opened l.flight };
+    ghost invariant = { λ l. (l.core.header ≡ l.log.header) × StandsFor l.core (reverse l.log.records.items) };
 }
 
 impl<D: Disk> CoordLog<D> {
-    ghost use Rattle.coord_log.specs.Inside.{shown, IsSound, IsDue};
-
     /// The header of its journal. Takes no memory.
     pub fn header(&self) -> &Header
         ensures { result.now ≡ self.now.header }
@@ -71,15 +69,12 @@ impl<D: Disk> CoordLog<D> {
 
     /// Gives the disk back. Takes no memory.
     pub fn into_disk(self) -> D
-        ensures disk { result ≡ self.disk }
-        ensures faults { D.count result ≡ self.faults }
+        ensures { D.count result ≡ self.faults }
     {
         let CoordLog {
             alloc: _,
             log,
             core: _,
-            opened: _,
-            flight: _,
         } = self;
         log.into_disk()
     }
@@ -103,16 +98,15 @@ impl<D: Disk> CoordLog<D> {
         requires idle { (slot self.old.journal lane).phase ≡ Idle }
         requires some { 1 ≤ length txs.now }
         requires limit { length txs.now ≤ self.old.header.shape.batch }
-        requires short { All IsShort txs.now }
-
-        // It does what the journal says, or wants memory.
-        ensures meets { Meets true (prepare_due self.old.header.shape self.old.capacity lane txs.now self.old.broken self.old.journal) (sight self.old) (sight self.new) self.old.journal result }
-        ensures breaks { Breaks result self.old.broken self.new.broken self.new.faults }
-        ensures holds { HoldsJournal D.content D.images self.old → HoldsJournal D.content D.images self.new }
+        ensures appended { IfOk result (λ a. self.new.journal ≡ Prepare a.1 a.0 txs.now ∷ self.old.journal) }
+        ensures named { IfOk result (λ a. (a.0.lane ≡ lane) × (a.1 ≤ 2 ^ 62)) }
+        ensures header { self.new.header ≡ self.old.header }
+        ensures as_before { OnErr result (self.new.journal ≡ self.old.journal) }
+        ensures fault { IsErrOf result NodeFault.DiskFault → Rose self.old.faults self.new.faults }
+        ensures later { self.old.faults ≤ self.new.faults }
     {
-        match self.log.is_broken() {
-            Some(since) => return Err(NodeFault::Broken { since }),
-            None => {}
+        if let Some(since) = self.log.is_broken() {
+            return Err(NodeFault::Broken { since });
         }
         let Ok(next) = self.core.prepare(lane, txs) else {
             return Err(NodeFault::Memory);
@@ -120,20 +114,17 @@ impl<D: Disk> CoordLog<D> {
         let Record::Prepare { stamp, batch, .. } = &next else {
             unreachable!()
         };
-        let stamp = *stamp;
-        let batch = *batch;
-        if stamp.0 > LAST_PREPARE {
-            return Err(NodeFault::ClockEnd { stamp });
+        let answer = (*batch, *stamp);
+        if answer.1.0 > LAST_PREPARE {
+            return Err(NodeFault::ClockEnd { stamp: answer.1 });
         }
-        match make_room(&mut self.log, &self.core, size_of_record(&next), txs.len()) {
-            Ok(()) => {}
-            Err(fault) => return Err(fault),
+        let size = size_of_record(&next);
+        if size > LARGEST {
+            return Err(NodeFault::Memory);
         }
-        match write(&mut self.log, &mut self.core, &mut self.flight, next) {
-            Ok(()) => {}
-            Err(fault) => return Err(fault),
-        }
-        Ok((batch, stamp))
+        make_room(&mut self.log, &self.core, size, txs.len())?;
+        write(&mut self.log, &mut self.core, next)?;
+        Ok(answer)
     }
 
     /// Decides a lane's prepared batch by the replies of each shard that it concerns, as many as its part has
@@ -148,34 +139,29 @@ impl<D: Disk> CoordLog<D> {
         requires prepared { (slot self.old.journal lane).phase ≡ InPrepare }
         requires rising { RisesBelow 0 self.old.header.shape.shards replies.now }
         requires earlier { AllEarlier (2 ^ 63) replies.now }
-        requires named { AllNameBatches self.old.header.shape replies.now }
         requires empty { out.old.items ≡ [] }
-        requires room { length (txs_of self.old.journal (open_batch self.old.journal lane)) ≤ vec_capacity out.old }
-
-        // It does what the journal and the replies say, if each shard replied to its part.
-        ensures meets { AreRepliesTo self.old.header.shape (txs_of self.old.journal (open_batch self.old.journal lane)) replies.now
-            → Meets false (decide_due self.old.header.shape lane replies.now self.old.broken self.old.journal) (sight self.old) (sight self.new) self.old.journal result }
-        ensures appended { IfOk result (λ t. self.new.journal ≡ Commit t (open_batch self.old.journal lane) out.new.items ∷ self.old.journal) }
+        requires room { length (txs_of self.old.journal (batch_of self.old.journal lane)) ≤ vec_capacity out.old }
+        ensures header { self.new.header ≡ self.old.header }
+        ensures appended { IfOk result (λ t. self.new.journal ≡ Commit t (batch_of self.old.journal lane) out.new.items ∷ self.old.journal) }
         ensures bound { IfOk result (λ t. t ≤ 2 ^ 62 + 2 ^ 20) }
-        ensures count { OnOk result (length out.new.items ≡ length (txs_of self.old.journal (open_batch self.old.journal lane))) }
-        ensures node { IsSameNode (sight self.old) (sight self.new) }
-        ensures breaks { Breaks result self.old.broken self.new.broken self.new.faults }
-        ensures holds { HoldsJournal D.content D.images self.old → HoldsJournal D.content D.images self.new }
+        ensures outcomes { OnOk result (length out.new.items ≡ length (txs_of self.old.journal (batch_of self.old.journal lane))) }
+        ensures as_before { OnErr result (self.new.journal ≡ self.old.journal) }
+        ensures fault { IsErrOf result NodeFault.DiskFault → Rose self.old.faults self.new.faults }
+        ensures later { self.old.faults ≤ self.new.faults }
     {
-        match self.log.is_broken() {
-            Some(since) => return Err(NodeFault::Broken { since }),
-            None => {}
+        if let Some(since) = self.log.is_broken() {
+            return Err(NodeFault::Broken { since });
         }
         let stamp = self.core.commit_stamp(replies);
         if stamp.0 > LAST_STAMP {
             return Err(NodeFault::ClockEnd { stamp });
         }
+        if !self.core.has_room(lane) {
+            return Err(NodeFault::Memory);
+        }
         let next = self.core.decide(lane, replies);
         tell(&next, out);
-        match write(&mut self.log, &mut self.core, &mut self.flight, next) {
-            Ok(()) => {}
-            Err(fault) => return Err(fault),
-        }
+        write(&mut self.log, &mut self.core, next)?;
         Ok(stamp)
     }
 
@@ -185,23 +171,25 @@ impl<D: Disk> CoordLog<D> {
         requires own { IsOwn self.old.header lane }
         requires committed { (slot self.old.journal lane).phase ≡ InCommit }
         requires cause { cause < 2 ^ 63 }
-        ensures meets { Meets false (discard_due lane cause self.old.broken self.old.journal) (sight self.old) (sight self.new) self.old.journal result }
-        ensures breaks { Breaks result self.old.broken self.new.broken self.new.faults }
-        ensures holds { HoldsJournal D.content D.images self.old → HoldsJournal D.content D.images self.new }
+        ensures header { self.new.header ≡ self.old.header }
+        ensures appended { IfOk result (λ t. self.new.journal ≡ Discard t (batch_of self.old.journal lane) ∷ self.old.journal) }
+        ensures bound { IfOk result (λ t. t ≤ 2 ^ 62 + 2 ^ 20) }
+        ensures as_before { OnErr result (self.new.journal ≡ self.old.journal) }
+        ensures fault { IsErrOf result NodeFault.DiskFault → Rose self.old.faults self.new.faults }
+        ensures later { self.old.faults ≤ self.new.faults }
     {
-        match self.log.is_broken() {
-            Some(since) => return Err(NodeFault::Broken { since }),
-            None => {}
+        if let Some(since) = self.log.is_broken() {
+            return Err(NodeFault::Broken { since });
         }
-        let stamp = self.core.after(cause);
+        let next = self.core.discard(lane, cause);
+        let Record::Discard { stamp, .. } = &next else {
+            unreachable!()
+        };
+        let stamp = *stamp;
         if stamp.0 > LAST_STAMP {
             return Err(NodeFault::ClockEnd { stamp });
         }
-        let next = self.core.discard(lane, cause);
-        match write(&mut self.log, &mut self.core, &mut self.flight, next) {
-            Ok(()) => {}
-            Err(fault) => return Err(fault),
-        }
+        write(&mut self.log, &mut self.core, next)?;
         Ok(stamp)
     }
 
@@ -211,23 +199,25 @@ impl<D: Disk> CoordLog<D> {
         requires own { IsOwn self.old.header lane }
         requires discarded { (slot self.old.journal lane).phase ≡ InDiscard }
         requires cause { cause < 2 ^ 63 }
-        ensures meets { Meets false (done_due lane cause self.old.broken self.old.journal) (sight self.old) (sight self.new) self.old.journal result }
-        ensures breaks { Breaks result self.old.broken self.new.broken self.new.faults }
-        ensures holds { HoldsJournal D.content D.images self.old → HoldsJournal D.content D.images self.new }
+        ensures header { self.new.header ≡ self.old.header }
+        ensures appended { IfOk result (λ t. self.new.journal ≡ Done t (batch_of self.old.journal lane) ∷ self.old.journal) }
+        ensures bound { IfOk result (λ t. t ≤ 2 ^ 62 + 2 ^ 20) }
+        ensures as_before { OnErr result (self.new.journal ≡ self.old.journal) }
+        ensures fault { IsErrOf result NodeFault.DiskFault → Rose self.old.faults self.new.faults }
+        ensures later { self.old.faults ≤ self.new.faults }
     {
-        match self.log.is_broken() {
-            Some(since) => return Err(NodeFault::Broken { since }),
-            None => {}
+        if let Some(since) = self.log.is_broken() {
+            return Err(NodeFault::Broken { since });
         }
-        let stamp = self.core.after(cause);
+        let next = self.core.done(lane, cause);
+        let Record::Done { stamp, .. } = &next else {
+            unreachable!()
+        };
+        let stamp = *stamp;
         if stamp.0 > LAST_STAMP {
             return Err(NodeFault::ClockEnd { stamp });
         }
-        let next = self.core.done(lane, cause);
-        match write(&mut self.log, &mut self.core, &mut self.flight, next) {
-            Ok(()) => {}
-            Err(fault) => return Err(fault),
-        }
+        write(&mut self.log, &mut self.core, next)?;
         Ok(stamp)
     }
 
@@ -254,18 +244,13 @@ impl<D: Disk> CoordLog<D> {
         }))
     }
 
-    // A coordinator that was opened just now.
     pub(crate) fn of_parts(alloc: Global, log: RecordLog<D>, core: CoordCore) -> CoordLog<D>
-        requires { IsSound log core (D.count (disk_of log.journal)) None }
-        ensures { result ≡ shown log (D.count (disk_of log.journal)) None }
+        requires header { core.header ≡ log.header }
+        requires stands { StandsFor core (reverse log.records.items) }
+        ensures faults { result.faults ≡ D.count (disk_of log.journal) }
+        ensures header { result.header ≡ log.header }
+        ensures journal { result.journal ≡ reverse log.records.items }
     {
-        let opened = log.faults();
-        CoordLog {
-            alloc,
-            log,
-            core,
-            opened,
-            flight: None,
-        }
+        CoordLog { alloc, log, core }
     }
 }

@@ -1,17 +1,8 @@
 // Opening a coordinator.
-ghost use Rattle.std.specs.Prelude.{◌≡◌, ◌≢◌, ◌≤◌, ◌<◌, None, length, reverse, sum_by, ◌∷◌, [], IfOk, IfErr, OnOk, MatchResult};
+ghost use Rattle.std.specs.Prelude.{◌≡◌, ◌≢◌, ◌≤◌, ◌<◌, length, reverse, ◌∷◌, [], IfOk, IfErr, MatchResult};
 ghost use Rattle.outside.specs.Counts.{Rose};
-ghost use Rattle.outside.specs.Images.{Tells, Leaves};
-ghost use Rattle.gate_journal.specs.Shown.{disk_of, gate_of, broken_of};
-ghost use Rattle.record_log.specs.Held.{MayHold, OpensTo};
-ghost use Rattle.record_log.specs.Logs.{IsUntouched};
-ghost use Rattle.cbdc_model.specs.Records.{Start};
-ghost use Rattle.cbdc_model.specs.After.{IsJournal};
-ghost use Rattle.cbdc_model.specs.Room.{size_of};
+ghost use Rattle.gate_journal.specs.Shown.{disk_of};
 ghost use Rattle.coord_core.specs.Stands.{StandsFor};
-ghost use Rattle.coord_core.specs.Lanes.{AllRoomed};
-ghost use Rattle.coord_log.specs.Logs.{HoldsJournal};
-ghost use Rattle.coord_log.specs.Inside.{IsSound};
 
 use crate::CoordLog;
 use crate::writing::LARGEST_COMMIT;
@@ -26,9 +17,7 @@ use std::alloc::Global;
 fn first_lanes(alloc: Global, header: &Header, first: &Record) -> Result<CoordCore, NodeOpenFault>
     ensures fault { IfErr result (λ e. e ≢ NodeOpenFault.DiskFault) }
     ensures header { IfOk result (λ c. c.header ≡ header.now) }
-    ensures started { IfOk result (λ c. first.now ≡ Start header.now) }
     ensures stands { IfOk result (λ c. StandsFor c (first.now ∷ [])) }
-    ensures rooms { IfOk result AllRoomed }
 {
     let Record::Start { header: told } = first else {
         return Err(NodeOpenFault::OtherKind);
@@ -47,8 +36,6 @@ fn replayed(alloc: Global, header: &Header, records: &[Record]) -> Result<CoordC
     ensures fault { IfErr result (λ e. e ≢ NodeOpenFault.DiskFault) }
     ensures header { IfOk result (λ c. c.header ≡ header.now) }
     ensures stands { IfOk result (λ c. StandsFor c (reverse records.now)) }
-    ensures rooms { IfOk result AllRoomed }
-    ensures journal { MayHold header.now records.now → OnOk result (IsJournal header.now (reverse records.now)) }
 {
     if records.is_empty() {
         return Err(NodeOpenFault::NotReady);
@@ -56,13 +43,12 @@ fn replayed(alloc: Global, header: &Header, records: &[Record]) -> Result<CoordC
     let mut core = first_lanes(alloc, header, &records[0])?;
     let mut at = size_of_record(&records[0]);
     for i in 1..records.len() {
-        let next = &records[i];
-        match core.admit(next) {
-            Ok(true) => core.apply(next),
+        match core.admit(&records[i]) {
+            Ok(true) => core.apply(&records[i]),
             Ok(false) => return Err(NodeOpenFault::Damaged { at }),
             Err(_) => return Err(NodeOpenFault::Memory),
         }
-        at = at.saturating_add(size_of_record(next));
+        at = at.saturating_add(size_of_record(&records[i]));
     }
     Ok(core)
 }
@@ -93,20 +79,16 @@ fn no_log_fault(alloc: Global, refused: NoLog) -> NodeOpenFault
 
 // The lanes behind a journal, with the room and the memory for the records that are still to come.
 fn lanes_of<D: Disk>(alloc: Global, log: &mut RecordLog<D>) -> Result<CoordCore, NodeOpenFault>
-    requires grammar { MayHold log.old.header log.old.records.items }
-    requires ends { gate_of log.old.journal ≡ sum_by size_of log.old.records.items }
-    requires whole { broken_of log.old.journal ≡ None }
     ensures fault { IfErr result (λ e. e ≢ NodeOpenFault.DiskFault) }
-    ensures untouched { IsUntouched log.old log.new }
-    ensures records { log.new.records.items ≡ log.old.records.items }
-    ensures header { log.new.header ≡ log.old.header }
-    ensures sound { IfOk result (λ c. IsSound log.new c (D.count (disk_of log.new.journal)) None) }
+    ensures faults { D.count (disk_of log.new.journal) ≡ D.count (disk_of log.old.journal) }
+    ensures header { IfOk result (λ c. c.header ≡ log.new.header) }
+    ensures stands { IfOk result (λ c. StandsFor c (reverse log.new.records.items)) }
 {
     let core = replayed(alloc, &log.header, &log.records)?;
     let used = log.used();
     let need = core.kept_room();
     let capacity = log.capacity();
-    if capacity < used || capacity - used < need {
+    if used.saturating_add(need) > capacity {
         return Err(NodeOpenFault::Full {
             used,
             need,
@@ -124,12 +106,6 @@ impl<D: Disk> CoordLog<D> {
     pub fn open(alloc: Global, disk: D) -> Result<CoordLog<D>, (D, NodeOpenFault)>
         ensures later { MatchResult result (λ l. D.count disk ≤ l.faults) (λ e. D.count disk ≤ D.count e.0) }
         ensures fault { IfErr result (λ e. e.1 ≡ NodeOpenFault.DiskFault → Rose (D.count disk) (D.count e.0)) }
-
-        // It is open from now on, and nothing is in flight.
-        ensures opened { IfOk result (λ l. (l.opened ≡ l.faults) × (l.broken ≡ None) × (l.flight ≡ None)) }
-
-        // Its journal is what the content opens to, and what each image of the disk is.
-        ensures content { IfOk result (λ l. Tells (D.content disk) (λ c. OpensTo (reverse l.journal) c × HoldsJournal D.content D.images l)) }
     {
         match open_records(alloc, disk) {
             Ok(mut log) => match lanes_of(alloc, &mut log) {

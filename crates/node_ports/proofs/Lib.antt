@@ -1,4 +1,3 @@
 pub mod Faults
 pub mod Places
 pub mod Rises
-pub mod Owed

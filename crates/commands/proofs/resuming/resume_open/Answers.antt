@@ -11,5 +11,5 @@ use Rattle.commands.proofs.resuming.resume_open.Goals as goal
 pub resume-requires-clause-is_open : goal.resume-requires-clause-is_open
 resume-requires-clause-is_open g c =
     let log = log_at c.args.ports.now.log.logs.items c.args.ports.now.log.at in
-    let P : OpenLane → Type 0 = λ o. IsOpen log.header (λ l. (slot log.seen l).phase) (λ l. txs_of log.seen (batch_of log.seen l)) o in
+    let P : OpenLane → Type 0 = λ o. IsOpen log.header (λ l. (slot log.journal l).phase) (λ l. txs_of log.journal (batch_of log.journal l)) o in
     All-cons P c.args.open [] c.requires.is_open (All-nil P)
