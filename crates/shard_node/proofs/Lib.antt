@@ -8,3 +8,4 @@ pub mod Locks
 pub mod Going
 pub mod Opens
 pub mod Later
+pub mod Stops

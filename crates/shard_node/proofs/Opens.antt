@@ -28,7 +28,7 @@ use Rattle.shard_node.proofs.Lanes.{lock_few}
 use Rattle.shard_node.proofs.Rooms.{kept_small}
 use Rattle.shard_node.proofs.Follows.{in_grammar}
 
-sum_reverse : (xs : List Record) → sum_by size_of (reverse xs) ≡ sum_by size_of xs
+pub sum_reverse : (xs : List Record) → sum_by size_of (reverse xs) ≡ sum_by size_of xs
 sum_reverse [] = refl
 sum_reverse (x ∷ xs) =
     let turned : reverse (x ∷ xs) ≡ reverse xs ++ x ∷ [] = reverse-append (x ∷ []) xs in

@@ -1,15 +1,15 @@
 // Opening a shard.
-ghost use Rattle.std.specs.Prelude.{◌≡◌, ◌≢◌, ◌+◌, ◌≤◌, ◌∷◌, [], ℕ, None, length, reverse, sum_by, vec_capacity, All, IfOk, IfErr, MatchResult};
+ghost use Rattle.std.specs.Prelude.{◌≡◌, ◌≢◌, ◌+◌, ◌≤◌, ◌∷◌, [], ℕ, List as Items, None, length, reverse, sum_by, vec_capacity, All, IfOk, IfErr, MatchResult};
 ghost use Rattle.outside.specs.Counts.{Rose};
 ghost use Rattle.outside.specs.Images.{Tells, Leaves};
 ghost use Rattle.gate_journal.specs.Shown.{disk_of, gate_of, broken_of};
-ghost use Rattle.cbdc_model.specs.Grammar.{IsShard};
+ghost use Rattle.cbdc_model.specs.Grammar.{IsInGrammar};
 ghost use Rattle.cbdc_model.specs.Room.{size_of};
-ghost use Rattle.record_log.specs.Held.{MayHold};
-ghost use Rattle.record_log.specs.Reading.{HoldsBefore};
+ghost use Rattle.record_log.specs.Held.{MayHold, OpensTo, CutsOff};
+ghost use Rattle.record_log.specs.Reading.{HoldsBefore, IsNoLog};
 ghost use Rattle.record_log.specs.Logs.{IsUntouched};
 ghost use Rattle.shard_node.specs.Shards.{HoldsJournal};
-ghost use Rattle.shard_node.specs.Opening.{IsShardJournal, IsPlayed};
+ghost use Rattle.shard_node.specs.Opening.{IsShardJournal, IsPlayed, IsUnbegun, IsUnplayed, IsNoShard};
 ghost use Rattle.shard_node.specs.Parts.{IsShardOf, HaveDecisions};
 
 use crate::ShardNode;
@@ -37,14 +37,15 @@ struct Opened {
 fn first_core(alloc: Global, header: &Header, first: &Record) -> Result<ShardCore, NodeOpenFault>
     requires { MayHold header.now (first.now ∷ []) }
     ensures played { IfOk result (λ core. IsPlayed header.now core (first.now ∷ [])) }
-    ensures fault { IfErr result (λ e. e ≢ NodeOpenFault.DiskFault) }
+    ensures unplayed { IfErr result (IsUnbegun first.now) }
 {
     match first {
         Record::Genesis { hashes, .. } => match ShardCore::new(alloc, header, hashes.as_slice()) {
             Ok(core) => Ok(core),
             Err(_) => Err(NodeOpenFault::Memory),
         },
-        _ => Err(NodeOpenFault::OtherKind),
+        Record::Start { .. } => Err(NodeOpenFault::OtherKind),
+        _ => unreachable!(),
     }
 }
 
@@ -52,9 +53,12 @@ fn first_core(alloc: Global, header: &Header, first: &Record) -> Result<ShardCor
 fn replayed(alloc: Global, header: &Header, records: &[Record]) -> Result<ShardCore, NodeOpenFault>
     requires { MayHold header.now records.now }
     ensures played { IfOk result (λ core. IsPlayed header.now core (reverse records.now)) }
-    ensures fault { IfErr result (λ e. e ≢ NodeOpenFault.DiskFault) }
+    ensures unplayed { IfErr result (IsUnplayed header.now records.now) }
 {
-    let mut core = first_core(alloc, header, &records[0])?;
+    let mut core = match first_core(alloc, header, &records[0]) {
+        Ok(core) => core,
+        Err(fault) => return Err(fault),
+    };
     let mut at = size_of_record(&records[0]);
     'records: for i in 1..records.len() {
         let next = &records[i];
@@ -87,16 +91,20 @@ fn opened_of<D: Disk>(alloc: Global, log: &mut RecordLog<D>) -> Result<Opened, N
     requires whole { broken_of log.old.journal ≡ None }
     ensures shard { IfOk result (λ o. (count : ℕ) → count ≤ D.count (disk_of log.new.journal)
         → IsShardOf (record { log = log.new; core = o.core; decisions = o.decisions; flight = None; opened = count })) }
+    ensures refusal { IfErr result (λ e. (c : Items ℕ) → OpensTo log.old.records.items c → IsNoShard (D.limit (disk_of log.old.journal)) c e) }
     ensures fault { IfErr result (λ e. e ≢ NodeOpenFault.DiskFault) }
     ensures untouched { IsUntouched log.old log.new }
     ensures records { log.new.records.items ≡ log.old.records.items }
     ensures header { log.new.header ≡ log.old.header }
 {
-    let core = replayed(alloc, &log.header, &log.records)?;
     let used = log.used();
+    let core = match replayed(alloc, &log.header, &log.records) {
+        Ok(core) => core,
+        Err(fault) => return Err(fault),
+    };
     let need = core.kept_room();
     let capacity = log.capacity();
-    if used > capacity || need > capacity - used {
+    if need > capacity - used {
         return Err(NodeOpenFault::Full {
             used,
             need,
@@ -116,7 +124,8 @@ fn opened_of<D: Disk>(alloc: Global, log: &mut RecordLog<D>) -> Result<Opened, N
 // Why a journal that is cut off behind these records is refused: by an earlier one, if one is not next.
 fn cut_fault(alloc: Global, header: &Header, records: &[Record], at: u64) -> NodeOpenFault
     requires { MayHold header.now records.now }
-    ensures { result ≢ NodeOpenFault.DiskFault }
+    ensures fault { result ≢ NodeOpenFault.DiskFault }
+    ensures refusal { (limit : ℕ) (c : Items ℕ) → CutsOff (IsInGrammar header.now) records.now at c → IsNoShard limit c result }
 {
     match replayed(alloc, header, records) {
         Ok(_) => NodeOpenFault::Damaged { at },
@@ -127,7 +136,8 @@ fn cut_fault(alloc: Global, header: &Header, records: &[Record], at: u64) -> Nod
 // Why a disk did not open into records.
 fn no_log_fault(alloc: Global, refused: NoLog) -> NodeOpenFault
     requires { HoldsBefore refused }
-    ensures { result ≡ NodeOpenFault.DiskFault → refused ≡ NoLog.Fault NodeOpenFault.DiskFault }
+    ensures fault { result ≡ NodeOpenFault.DiskFault → refused ≡ NoLog.Fault NodeOpenFault.DiskFault }
+    ensures refusal { (limit : ℕ) (c : Items ℕ) → IsNoLog c refused → IsNoShard limit c result }
 {
     match refused {
         NoLog::Fault(fault) => fault,
@@ -144,6 +154,9 @@ impl<D: Disk> ShardNode<D> {
     pub fn open(alloc: Global, disk: D) -> Result<ShardNode<D>, (D, NodeOpenFault)>
         // The content opens to just this journal, and a crash leaves nothing else.
         ensures opens { IfOk result (λ n. Tells (D.content disk) (λ c. IsShardJournal n.header n.journal c × HoldsJournal D.content D.images n)) }
+
+        // Which refusal it is.
+        ensures refusal { IfErr result (λ e. Tells (D.content disk) (λ c. IsNoShard (D.limit disk) c e.1)) }
         ensures fresh { IfOk result (λ n. (n.flight ≡ None) × (n.broken ≡ None) × (n.opened ≡ D.count n.disk)) }
         ensures later { MatchResult result (λ n. D.count disk ≤ D.count n.disk) (λ e. D.count disk ≤ D.count e.0) }
         ensures fault { IfErr result (λ e. e.1 ≡ NodeOpenFault.DiskFault → Rose (D.count disk) (D.count e.0)) }
