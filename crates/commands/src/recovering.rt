@@ -9,8 +9,10 @@ use crate::ledger::{Ledger, close_ledger};
 use crate::lending::{lend, take_back};
 use crate::resuming::resume_all;
 use crate::running::unspent_of;
-use cbdc_types::{Answer, Outcome};
+use cbdc_types::{Answer, Outcome, Shape};
+use lane_driver::Ports;
 use line_text::{WriteFault, write_recovery, write_resumed};
+use node_ports::{NodeLogs, NodeShards};
 use outside::{Disk, Gate, Rack, Sink};
 use recovery::ResumedBatch;
 use std::alloc::Global;
@@ -29,6 +31,28 @@ struct Resuming<D: Disk> {
     result: Result<Recovered, Answer>,
 }
 
+// Takes the open batches to their end, and counts the hashes that are then unspent.
+fn recover_over<W: Wait, D: Disk, G: Gate>(
+    alloc: Global,
+    shape: &Shape,
+    ports: &mut Ports<NodeShards<W, D>, NodeLogs<W, D>>,
+    gate: &G,
+) -> Result<Recovered, Answer>
+    ensures work { IfErr result IsNodesFault }
+    ensures logs { length ports.new.log.logs.items ≡ length ports.old.log.logs.items }
+    ensures shards { length ports.new.shards.nodes.items ≡ length ports.old.shards.nodes.items }
+    ensures log_later { (n : ℕ) → faults_at (λ x. x.faults) ports.old.log.logs.items n ≤ faults_at (λ x. x.faults) ports.new.log.logs.items n }
+    ensures shard_later { (n : ℕ) → faults_at (λ x. D.count x.disk) ports.old.shards.nodes.items n ≤ faults_at (λ x. D.count x.disk) ports.new.shards.nodes.items n }
+{
+    match resume_all(alloc, shape, ports, gate) {
+        Ok(batches) => Ok(Recovered {
+            batches,
+            unspent: unspent_of(&ports.shards.nodes),
+        }),
+        Err(fault) => Err(fault),
+    }
+}
+
 // Takes the open batches of an open ledger to their end.
 fn recover_open<W: Wait, D: Disk, G: Gate>(
     rt: &W,
@@ -43,13 +67,7 @@ fn recover_open<W: Wait, D: Disk, G: Gate>(
     ensures shard_later { (n : ℕ) → faults_at (λ x. D.count x.disk) ledger.shards.items n ≤ faults_at (λ x. D.count x.disk) result.ledger.shards.items n }
 {
     let (header, mut ports) = lend(rt, ledger);
-    let result = match resume_all(alloc, &header.shape, &mut ports, gate) {
-        Ok(batches) => Ok(Recovered {
-            batches,
-            unspent: unspent_of(&ports.shards.nodes),
-        }),
-        Err(fault) => Err(fault),
-    };
+    let result = recover_over(alloc, &header.shape, &mut ports, gate);
     Resuming {
         ledger: take_back(header, ports),
         result,
