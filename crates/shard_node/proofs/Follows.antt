@@ -12,7 +12,7 @@ use Rattle.cbdc_model.specs.Grammar.{IsHash, IsBatchOf, IsShard, IsEntry, IsRepl
 use Rattle.cbdc_model.specs.After.{After, FitsReplies, IsJournal}
 use Rattle.shard_core.proofs.Follow.{entries_answered, fits_all}
 use Rattle.shard_core.proofs.Places.{misfit_is}
-use Rattle.shard_node.specs.Conditions.{PlacesRise, IsPartEntry, IsLockCall, IsFinishCall, IsForgetCall}
+use Rattle.cbdc_model.specs.Calls.{PlacesRise, IsPartEntry, IsLockCall, IsFinishCall, IsForgetCall}
 use Rattle.cbdc_types.specs.declared.calls.LockCall.{LockCall}
 use Rattle.cbdc_types.specs.declared.calls.FinishCall.{FinishCall}
 use Rattle.cbdc_types.specs.declared.calls.ForgetCall.{ForgetCall}

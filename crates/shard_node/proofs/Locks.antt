@@ -28,7 +28,7 @@ use Rattle.shard_core.specs.Stands.{Stands}
 use Rattle.shard_core.proofs.Applies.{Yes, No, same_nat}
 use Rattle.shard_core.proofs.Follow.{answered_same}
 use Rattle.shard_node.specs.declared.parts.Parts.{Parts}
-use Rattle.shard_node.specs.Conditions.{IsLockCall}
+use Rattle.cbdc_model.specs.Calls.{IsLockCall}
 use Rattle.shard_node.specs.Shards.{ShardOf, sight_of}
 use Rattle.shard_node.specs.Parts.{HaveDecisions, HasRecords, IsShardOf, HasWritten, HasFailed, IsLockOf, journal_of, view_of}
 use Rattle.shard_node.proofs.Lanes.{IsLockedWith, same_room, same_lock, past_lock, own_lock, locked_room, room_idle}

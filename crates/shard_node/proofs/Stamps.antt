@@ -21,7 +21,7 @@ use Rattle.record_log.specs.Logs.{HasRoom}
 use Rattle.record_log.proofs.Sizes.{size_is}
 use Rattle.shard_core.proofs.Applies.{Yes, No, same_nat}
 use Rattle.shard_node.specs.declared.parts.Parts.{Parts}
-use Rattle.shard_node.specs.Conditions.{IsFinishCall, IsForgetCall}
+use Rattle.cbdc_model.specs.Calls.{IsFinishCall, IsForgetCall}
 use Rattle.shard_node.specs.Shards.{sight_of}
 use Rattle.shard_node.specs.Parts.{HasRecords, IsShardOf, HasWritten, HasFailed, journal_of, view_of}
 use Rattle.shard_node.proofs.Lanes.{IsLockedWith, same_room, same_lock, past_finish, past_forget, own_finish, own_forget, room_locked, room_finished, finished_room, forgotten_room}

@@ -1,4 +1,3 @@
 pub mod Shards
-pub mod Conditions
 pub mod Parts
 pub mod Opening

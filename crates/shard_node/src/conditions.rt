@@ -2,7 +2,7 @@
 ghost use Rattle.std.specs.Prelude.{◌≡◌, ◌↔◌, ◌^◌, ◌<◌, ◌≤◌, All, IsTrue};
 ghost use Rattle.cbdc_model.specs.Grammar.{AreHere, IsBatchOf, IsHash, IsHashList};
 ghost use Rattle.cbdc_model.specs.Ranges.{shard_of as the_shard, shard_node as the_node};
-ghost use Rattle.shard_node.specs.Conditions.{PlacesRise, IsPartEntry, IsLockCall, IsFinishCall, IsForgetCall};
+ghost use Rattle.cbdc_model.specs.Calls.{PlacesRise, IsPartEntry, IsLockCall, IsFinishCall, IsForgetCall};
 
 use cbdc_types::{BatchId, Entry, FinishCall, ForgetCall, Hash, Header, LockCall, Shape, Stamp};
 use shard_ranges::shard_of;

@@ -8,7 +8,7 @@ ghost use Rattle.cbdc_model.specs.Sights.{Meets};
 ghost use Rattle.record_log.specs.Logs.{HasRoom, KeepsRoom, IsUntouched};
 ghost use Rattle.shard_core.specs.Plans.{replies_at};
 ghost use Rattle.shard_core.specs.Stands.{IsReady, IsFree};
-ghost use Rattle.shard_node.specs.Conditions.{IsLockCall};
+ghost use Rattle.cbdc_model.specs.Calls.{IsLockCall};
 ghost use Rattle.shard_node.specs.Shards.{HoldsJournal, sight_of, broken_behind};
 ghost use Rattle.shard_node.specs.Parts.{IsShardOf, IsLockOf, journal_of, view_of};
 

@@ -6,7 +6,7 @@ ghost use Rattle.cbdc_model.specs.Status.{status};
 ghost use Rattle.cbdc_model.specs.Fates.{fate};
 ghost use Rattle.shard_core.specs.Counts.{Counts};
 ghost use Rattle.shard_core.specs.Remembers.{told};
-ghost use Rattle.shard_node.specs.Conditions.{IsLockCall, IsFinishCall, IsForgetCall};
+ghost use Rattle.cbdc_model.specs.Calls.{IsLockCall, IsFinishCall, IsForgetCall};
 ghost use Rattle.shard_node.specs.Shards.{HoldsJournal, sight_of, broken_behind};
 
 use crate::locking::lock_parts;

@@ -7,7 +7,7 @@ ghost use Rattle.cbdc_model.specs.Next.{next_finish, next_forget, Append};
 ghost use Rattle.cbdc_model.specs.Sights.{Meets};
 ghost use Rattle.shard_core.specs.Admitted.{IsFinishable};
 ghost use Rattle.shard_core.specs.Stands.{IsDone};
-ghost use Rattle.shard_node.specs.Conditions.{IsFinishCall, IsForgetCall};
+ghost use Rattle.cbdc_model.specs.Calls.{IsFinishCall, IsForgetCall};
 ghost use Rattle.shard_node.specs.Shards.{HoldsJournal, sight_of, broken_behind};
 ghost use Rattle.shard_node.specs.Parts.{IsShardOf, journal_of, view_of};
 

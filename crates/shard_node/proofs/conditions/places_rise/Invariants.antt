@@ -1,5 +1,5 @@
 use Rattle.std.proofs.Common.{◌↔◌, ◌≤◌, ◌^◌, drop}
-use Rattle.shard_node.specs.Conditions.{PlacesRise}
+use Rattle.cbdc_model.specs.Calls.{PlacesRise}
 use Rattle.shard_node.proofs.conditions.places_rise.Given as goal
 
 abbrev pub invariant-entries : goal.invariant-entries
