@@ -21,3 +21,4 @@ pub mod Due
 pub mod Sights
 pub mod Waves
 pub mod Places
+pub mod Fates

@@ -1,5 +1,5 @@
 // The slots: one for each lane.
-ghost use Rattle.std.specs.Prelude.{◌≡◌, ◌+◌, ◌≤◌, ◌<◌, length, IfOk, OnOk, slice_index_or, slice_get, slice_set, replicate, Some};
+ghost use Rattle.std.specs.Prelude.{◌≡◌, ◌↔◌, [], IsTrue, ◌+◌, ◌≤◌, ◌<◌, length, IfOk, OnOk, slice_index_or, slice_get, slice_set, replicate, Some};
 ghost use Rattle.dtx_replies.specs.declared.slots.Slot.TheVariants.{Idle};
 
 use cbdc_types::{Decisions, LaneId, List, Part, Reply, Stamp};
@@ -53,7 +53,9 @@ impl Slots {
     }
 
     /// Whether there is no lane. Takes no memory.
-    pub fn is_empty(&self) -> bool {
+    pub fn is_empty(&self) -> bool
+        ensures { IsTrue result ↔ (self.now ≡ []) }
+    {
         self.slots.is_empty()
     }
 

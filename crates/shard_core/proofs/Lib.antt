@@ -7,3 +7,5 @@ pub mod Digests
 pub mod Claims
 pub mod Moves
 pub mod Applies
+pub mod Remembering
+pub mod Follow

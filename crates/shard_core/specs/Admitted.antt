@@ -1,11 +1,12 @@
 -- The condition of taking a record in.
-use Rattle.std.specs.Prelude.{◌≡◌, ℕ, ◌*◌, ◌<◌, ◌≤◌, ◌^◌, Bool, List, length, Some, slice_get}
+use Rattle.std.specs.Prelude.{◌≡◌, ℕ, ◌*◌, ◌<◌, ◌^◌, Bool, List, length, Some, slice_get}
 use Rattle.cbdc_model.specs.Records.{Batch, Entry, Reply, Record, Lock, Finish, Forget}
 use Rattle.cbdc_model.specs.Replies.{entries, replies}
 use Rattle.dtx_replies.specs.declared.slots.Slot.TheVariants.{Locked as Taken}
 use Rattle.shard_core.specs.declared.core_state.ShardCore.{ShardCore}
 use Rattle.shard_core.specs.Stands.{IsReady, IsFree, IsDone}
 
+-- the batch is of a lane here, and the stamp is below 2^63
 abbrev pub IsOfLane : ShardCore → Batch → ℕ → Type 0
 IsOfLane core b stamp = (b.lane < core.header.shape.coordinators * core.header.shape.lanes) × (stamp < 2 ^ 63)
 
@@ -36,9 +37,3 @@ IsAdmitted core (Lock stamp b es) = IsLockAdmitted core (Lock stamp b es)
 IsAdmitted core (Finish stamp b ds) = IsFinishAdmitted core (Finish stamp b ds)
 IsAdmitted core (Forget stamp b) = IsForgetAdmitted core (Forget stamp b)
 IsAdmitted core other = ⊥
-
--- the batch is one of a lane here, and the stamp is later than the last and within the bound
-abbrev pub IsLaterAt : ShardCore → Batch → ℕ → ℕ → Type 0
-IsLaterAt core b stamp bound =
-    (b.lane < core.header.shape.coordinators * core.header.shape.lanes) × (1 ≤ b.number) × (b.number ≤ 2 ^ 62)
-    × (core.last < stamp) × (stamp ≤ bound)

@@ -8,3 +8,5 @@ pub mod Agrees
 pub mod Moves
 pub mod Memory
 pub mod Counts
+pub mod Remembers
+pub mod Next

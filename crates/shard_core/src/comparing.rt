@@ -12,7 +12,8 @@ fn are_same_hashes(a: &[Hash], b: &[Hash]) -> bool
     a == b
 }
 
-fn is_same_hash(x: &Hash, y: &Hash) -> bool
+/// Whether two hashes are the same.
+pub fn is_same_hash(x: &Hash, y: &Hash) -> bool
     ensures { result ≡ same_digest x.now y.now }
 {
     x == y

@@ -1,20 +1,25 @@
 // Copies of parts, for the slots.
-ghost use Rattle.std.specs.Prelude.{◌≡◌, length, IfOk};
-ghost use Rattle.std.specs.Bool.{OnTrue};
+ghost use Rattle.std.specs.Prelude.{◌≡◌, ◌↔◌, length, IfOk, IsTrue};
 ghost use Rattle.cbdc_model.specs.Replies.{entries as parts_of, replies as replies_of};
 
 use cbdc_types::{Answered, Entry, List, Reply};
 use std::alloc::{AllocError, Global};
 
+fn is_same_reply(x: &Reply, y: &Reply) -> bool
+    ensures { IsTrue result ↔ (x.now ≡ y.now) }
+{
+    x == y
+}
+
 // Whether the replies of a Lock are these.
 pub fn same_replies(entries: &[Answered], replies: &[Reply]) -> bool
-    ensures { OnTrue result (replies.now ≡ replies_of entries.now) }
+    ensures { IsTrue result ↔ (replies.now ≡ replies_of entries.now) }
 {
     if entries.len() != replies.len() {
         return false;
     }
     for at in 0..replies.len() {
-        if entries[at].reply != replies[at] {
+        if !is_same_reply(&entries[at].reply, &replies[at]) {
             return false;
         }
     }

@@ -1,13 +1,17 @@
 // The shard: its unspent hashes, its locks and its lanes' slots.
-ghost use Rattle.std.specs.Prelude.{◌≡◌, ◌+◌, ◌*◌, ◌≤◌, ◌<◌, ◌^◌, ◌↔◌, ℕ, length, vec_capacity, Some, slice_get, slice_set, IsTrue, IfOk, OnOk};
-ghost use Rattle.cbdc_model.specs.Records.{Digest};
+ghost use Rattle.std.specs.Prelude.{◌≡◌, ◌+◌, ◌-◌, ◌*◌, min, List as Items, ◌≤◌, ◌<◌, ◌^◌, ◌↔◌, ℕ, length, vec_capacity, Some, slice_get, slice_set, IsTrue, IfOk, OnOk};
+ghost use Rattle.cbdc_model.specs.Records.{Digest, Record};
+ghost use Rattle.cbdc_model.specs.Room.{lane_room};
+ghost use Rattle.cbdc_model.specs.Fates.{lane_fate};
+ghost use Rattle.shard_core.specs.Slots.{SlotStands};
+ghost use Rattle.shard_core.specs.Remembers.{told, has_id, fate_of};
 ghost use Rattle.cbdc_model.specs.Status.{has};
 ghost use Rattle.shard_core.specs.Moves.{owed_in};
 ghost use Rattle.shard_core.specs.Memory.{HaveMemory, ArePaired};
 ghost use Rattle.cbdc_types.specs.declared.record.Header.{Header};
 
 use crate::applying::{hash_count, lock_held, make_committed, return_others, take_committed};
-use crate::comparing::misfit;
+use crate::comparing::{is_same_hash, misfit};
 use crate::copying::{copy_of, entries_of, same_replies};
 use crate::judging::{LockAnswer, judge_finish, judge_forget, judge_lock, kept_replies};
 use crate::plans::{LockPlan, Remembered, StampPlan};
@@ -17,8 +21,8 @@ use cbdc_types::{
     LockCall, Part, Record, Refused, Replied, Reply, Stamp, Status,
 };
 use dtx_replies::{Slot, Slots};
+use record_grammar::is_in_grammar;
 use shard_locks::Locks;
-use shard_ranges::shard_of;
 use shard_table::Table;
 use std::alloc::{AllocError, Global};
 use std::mem;
@@ -59,24 +63,14 @@ pub struct ShardCore {
 }
 
 // The bytes that are kept free for the later records of a slot's batch.
-fn room_of(slot: &Slot) -> u64 {
+fn room_of(slot: &Slot) -> u64
+    ensures { (J : Items Record) (lane : ℕ) → SlotStands slot.now J lane → result ≡ min (lane_room J lane) (2 ^ 64 - 1) }
+{
     match slot {
         Slot::Idle(_, _) => 0,
         Slot::Locked(_, part, _, _) => (part.len() as u64).saturating_add(76),
         Slot::Finished(_, _, _, _, _, _) => 34,
     }
-}
-
-// Whether each hash lies on this shard.
-fn are_here(hashes: &[Hash], shards: u32, shard: u32) -> bool
-    requires { shards < 2 ^ 24 }
-{
-    for x in hashes {
-        if shard_of(x, shards) != shard {
-            return false;
-        }
-    }
-    true
 }
 
 // The decisions in memory that was taken ahead.
@@ -123,11 +117,13 @@ fn table_of(alloc: Global, hashes: &[Hash]) -> Result<Table, AllocError>
 }
 
 // What a slot remembers of a transaction.
-fn remembered_in(slot: &Slot, id: &Hash) -> Option<Remembered> {
+fn remembered_in(slot: &Slot, id: &Hash) -> Option<Remembered>
+    ensures { (J : Items Record) (lane : ℕ) → SlotStands slot.now J lane → told result ≡ lane_fate J id.now lane }
+{
     match slot {
         Slot::Idle(_, _) => None,
         Slot::Locked(_, part, _, _) => {
-            if part.as_slice().iter().any(|entry| entry.id == *id) {
+            if has_entry(part.as_slice(), id) {
                 Some(Remembered::Waiting)
             } else {
                 None
@@ -139,10 +135,25 @@ fn remembered_in(slot: &Slot, id: &Hash) -> Option<Remembered> {
     }
 }
 
-fn decided_in(entries: &[Entry], decisions: &[bool], id: &Hash) -> Option<Remembered> {
-    for (entry, commit) in entries.iter().zip(decisions) {
-        if entry.id == *id {
-            return Some(if *commit {
+// Whether an entry has this id.
+fn has_entry(entries: &[Entry], id: &Hash) -> bool
+    ensures { result ≡ has_id entries.now id.now }
+{
+    for entry in entries {
+        if is_same_hash(&entry.id, id) {
+            return true;
+        }
+    }
+    false
+}
+
+// What the decision of the first entry with this id says.
+fn decided_in(entries: &[Entry], decisions: &[bool], id: &Hash) -> Option<Remembered>
+    ensures { told result ≡ fate_of entries.now decisions.now id.now }
+{
+    for at in 0..entries.len().min(decisions.len()) {
+        if is_same_hash(&entries[at].id, id) {
+            return Some(if decisions[at] {
                 Remembered::Committed
             } else {
                 Remembered::Rejected
@@ -154,14 +165,17 @@ fn decided_in(entries: &[Entry], decisions: &[bool], id: &Hash) -> Option<Rememb
 
 impl ShardCore {
     ghost use Rattle.std.specs.Bool.{OnTrue};
-    ghost use Rattle.std.specs.Prelude.{List as Items, [], ◌∷◌};
-    ghost use Rattle.cbdc_model.specs.Records.{Record, Batch, Answered, last_stamp};
+    ghost use Rattle.std.specs.Prelude.{[], ◌∷◌};
+    ghost use Rattle.cbdc_model.specs.Records.{Batch, Answered, last_stamp};
     ghost use Rattle.cbdc_model.specs.Next.{next_lock, next_finish, next_forget, next_stamp};
     ghost use Rattle.cbdc_model.specs.Status.{status};
     ghost use Rattle.shard_core.specs.Stands.{Stands, IsSameState, IsReady, IsReadyFor, IsFree, IsDone};
-    ghost use Rattle.cbdc_model.specs.Replies.{entries as entries_in, replies as replies_in};
     ghost use Rattle.shard_core.specs.Plans.{stamp_plan, lock_plan, IsFinishPlan, IsForgetPlan};
-    ghost use Rattle.shard_core.specs.Admitted.{IsAdmitted, IsLockAdmitted, IsFinishAdmitted, IsForgetAdmitted, IsOfLane, IsLaterAt, IsFinishable};
+    ghost use Rattle.shard_core.specs.Admitted.{IsAdmitted, IsLockAdmitted, IsFinishAdmitted, IsForgetAdmitted, IsOfLane, IsFinishable};
+    ghost use Rattle.shard_core.specs.Next.{StandsFor, IsOpenTo};
+    ghost use Rattle.cbdc_model.specs.After.{After, Follows};
+    ghost use Rattle.cbdc_model.specs.Room.{kept_room as room_kept};
+    ghost use Rattle.cbdc_model.specs.Fates.{fate};
     ghost use Rattle.shard_core.specs.Counts.{Counts};
 
     /// The shard with this header whose journal holds the Genesis of these hashes alone.
@@ -288,7 +302,11 @@ impl ShardCore {
     pub fn admit(&mut self, r: &Record) -> Result<bool, AllocError>
         ensures same { IsSameState self.old self.new }
         ensures admitted { IfOk result (λ yes. OnTrue yes (IsAdmitted self.new r.now)) }
+        ensures next { IfOk result (λ yes. (J : Items Record) → StandsFor self.old J → (IsTrue yes ↔ After self.old.header J r.now)) }
     {
+        if !is_in_grammar(&self.header, r) {
+            return Ok(false);
+        }
         match r {
             Record::Lock {
                 stamp,
@@ -311,12 +329,13 @@ impl ShardCore {
         batch: &BatchId,
         answered: &[Answered],
     ) -> Result<bool, AllocError>
+        requires { IsOfLane self.old batch.now stamp }
         ensures same { IsSameState self.old self.new }
-        ensures admitted { IfOk result (λ yes. OnTrue yes (IsOfLane self.new batch.now stamp)) }
-        ensures free { IfOk result (λ yes. OnTrue yes (IsFree self.new batch.now.lane)) }
-        ensures ready { IfOk result (λ yes. OnTrue yes (IsReady self.new (entries_in answered.now) (replies_in answered.now))) }
+        ensures admitted { IfOk result (λ yes. OnTrue yes (IsLockAdmitted self.new (Record.Lock stamp batch.now answered.now))) }
+        ensures next { IfOk result (λ yes. (J : Items Record) → Stands self.old J
+            → (IsTrue yes ↔ Follows self.old.header J (Record.Lock stamp batch.now answered.now))) }
     {
-        if !self.is_next_lock(stamp, batch, answered) {
+        if !self.is_open_to(stamp, batch) {
             return Ok(false);
         }
         let entries = entries_of(self.alloc, answered)?;
@@ -334,76 +353,53 @@ impl ShardCore {
         Ok(true)
     }
 
-    // Whether the batch is one of a lane here, and the stamp is later than the last one and within its bound.
-    fn is_later(&self, stamp: Stamp, batch: &BatchId, bound: u64) -> bool
-        ensures { IsTrue result ↔ IsLaterAt self.now batch.now stamp bound }
-    {
-        batch.lane.0 < self.header.shape.lane_count()
-            && 1 <= batch.number
-            && batch.number <= 1 << 62
-            && self.last.0 < stamp.0
-            && stamp.0 <= bound
-    }
-
-    fn is_next_lock(&self, stamp: Stamp, batch: &BatchId, answered: &[Answered]) -> bool
-        ensures later { OnTrue result (IsLaterAt self.now batch.now stamp (2 ^ 62)) }
+    // Whether the lane is free for a Lock of the batch with this stamp.
+    fn is_open_to(&self, stamp: Stamp, batch: &BatchId) -> bool
+        requires { IsOfLane self.now batch.now stamp }
         ensures free { OnTrue result (IsFree self.now batch.now.lane) }
+        ensures lane { (J : Items Record) → Stands self.now J → (IsTrue result ↔ IsOpenTo J batch.now stamp) }
     {
-        if !self.is_later(stamp, batch, 1 << 62) || answered.is_empty() {
-            return false;
-        }
-        if !self.are_mine(answered) {
+        if stamp.0 <= self.last_stamp().0 {
             return false;
         }
         match self.slots.slot(batch.lane) {
             Slot::Idle(number, _) => *number < batch.number,
-            _ => false,
+            Slot::Locked(_, _, _, _) => false,
+            Slot::Finished(_, _, _, _, _, _) => false,
         }
-    }
-
-    // Whether each hash of a part lies here.
-    fn are_mine(&self, answered: &[Answered]) -> bool {
-        let shards = self.header.shape.shards();
-        let first = self.header.shape.coordinators();
-        let node = self.header.node.0;
-        if node < first {
-            return false;
-        }
-        for one in answered {
-            if !are_here(one.entry.inputs.as_slice(), shards, node - first)
-                || !are_here(one.entry.outputs.as_slice(), shards, node - first)
-            {
-                return false;
-            }
-        }
-        true
     }
 
     fn is_next_finish(&self, stamp: Stamp, batch: &BatchId, decisions: &[bool]) -> bool
-        ensures later { OnTrue result (IsLaterAt self.now batch.now stamp (2 ^ 62 + 2 ^ 20)) }
+        requires { IsOfLane self.now batch.now stamp }
         ensures locked { OnTrue result (IsFinishable self.now batch.now decisions.now) }
+        ensures next { (J : Items Record) → Stands self.now J
+            → (IsTrue result ↔ Follows self.now.header J (Record.Finish stamp batch.now decisions.now)) }
     {
-        if !self.is_later(stamp, batch, (1 << 62) + (1 << 20)) {
+        if stamp.0 <= self.last_stamp().0 {
             return false;
         }
         match self.slots.slot(batch.lane) {
+            Slot::Idle(_, _) => false,
             Slot::Locked(number, _, replies, _) => {
                 *number == batch.number && misfit(replies.as_slice(), decisions).is_none()
             }
-            _ => false,
+            Slot::Finished(_, _, _, _, _, _) => false,
         }
     }
 
     fn is_next_forget(&self, stamp: Stamp, batch: &BatchId) -> bool
-        ensures later { OnTrue result (IsLaterAt self.now batch.now stamp (2 ^ 62 + 2 ^ 20)) }
+        requires { IsOfLane self.now batch.now stamp }
         ensures done { OnTrue result (IsDone self.now batch.now.lane) }
+        ensures next { (J : Items Record) → Stands self.now J
+            → (IsTrue result ↔ Follows self.now.header J (Record.Forget stamp batch.now)) }
     {
-        if !self.is_later(stamp, batch, (1 << 62) + (1 << 20)) {
+        if stamp.0 <= self.last_stamp().0 {
             return false;
         }
         match self.slots.slot(batch.lane) {
+            Slot::Idle(_, _) => false,
+            Slot::Locked(_, _, _, _) => false,
             Slot::Finished(number, _, _, _, _, _) => *number == batch.number,
-            _ => false,
         }
     }
 
@@ -501,7 +497,9 @@ impl ShardCore {
 
     /// What is remembered of a transaction: of the batches that are locked or finished here and have this id, that of
     /// the least lane decides. Takes no memory.
-    pub fn check_tx(&self, id: &Hash) -> Option<Remembered> {
+    pub fn check_tx(&self, id: &Hash) -> Option<Remembered>
+        ensures { (J : Items Record) → Stands self.now J → told result ≡ fate self.now.header.shape J id.now }
+    {
         for lane in 0..self.header.shape.lane_count() {
             let found = remembered_in(self.slots.slot(LaneId(lane)), id);
             if found.is_some() {
@@ -511,8 +509,11 @@ impl ShardCore {
         None
     }
 
-    /// The bytes that are kept free in the journal for the later records of unfinished batches. Takes no memory.
-    pub fn kept_room(&self) -> u64 {
+    /// The bytes that are kept free in the journal for the later records of unfinished batches, or the greatest number
+    /// where they are more. Takes no memory.
+    pub fn kept_room(&self) -> u64
+        ensures { (J : Items Record) → Stands self.now J → result ≡ min (room_kept self.now.header.shape J) (2 ^ 64 - 1) }
+    {
         let mut room = 0u64;
         for lane in 0..self.header.shape.lane_count() {
             room = room.saturating_add(room_of(self.slots.slot(LaneId(lane))));

@@ -1,0 +1,5 @@
+pub mod Places
+pub mod Entries
+pub mod Opens
+pub mod Grows
+pub mod Numbers

@@ -1,5 +1,7 @@
 // The parts of a batch.
-ghost use Rattle.std.specs.Prelude.{◌≡◌, ◌≤◌, ◌<◌, ◌^◌, ℕ, length, vec_len, IfOk, OnOk};
+ghost use Rattle.std.specs.Prelude.{◌≡◌, ◌≤◌, ◌<◌, ◌^◌, ◌++◌, ℕ, length, vec_len, List as Items, [], ◌∷◌, IfOk, OnOk};
+ghost use Rattle.cbdc_model.specs.Records.{Compact, Digest, Entry, Shape};
+ghost use Rattle.shard_ranges.specs.Parts.{AreBefore, AreGrown, AreParts, AreSplit, entry_if, numbered};
 
 use crate::shard_of;
 use cbdc_types::{CompactTx, Entry, Hash, List, Part, Shape};
@@ -13,6 +15,9 @@ fn open_entry(
     id: &Hash,
 ) -> Result<(), AllocError>
     ensures some { OnOk result (0 < vec_len entries.new) }
+    ensures opened { OnOk result ((before : Items Entry) (ins outs : Items Digest) → AreBefore place before
+        → entries.old.items ≡ before ++ entry_if place id.now ins outs
+        → entries.new.items ≡ before ++ record { place = place; id = id.now; inputs = ins; outputs = outs } ∷ []) }
 {
     if let Some(last) = entries.last() {
         if last.place == place {
@@ -35,7 +40,11 @@ fn add_input(
     place: u32,
     id: &Hash,
     x: &Hash,
-) -> Result<(), AllocError> {
+) -> Result<(), AllocError>
+    ensures { OnOk result ((before : Items Entry) (ins outs : Items Digest) → AreBefore place before
+        → entries.old.items ≡ before ++ entry_if place id.now ins outs
+        → entries.new.items ≡ before ++ entry_if place id.now (ins ++ x.now ∷ []) outs) }
+{
     open_entry(alloc, entries, place, id)?;
     let last = entries.len() - 1;
     entries[last].inputs.push(*x)?;
@@ -49,10 +58,58 @@ fn add_output(
     place: u32,
     id: &Hash,
     x: &Hash,
-) -> Result<(), AllocError> {
+) -> Result<(), AllocError>
+    ensures { OnOk result ((before : Items Entry) (ins outs : Items Digest) → AreBefore place before
+        → entries.old.items ≡ before ++ entry_if place id.now ins outs
+        → entries.new.items ≡ before ++ entry_if place id.now ins (outs ++ x.now ∷ [])) }
+{
     open_entry(alloc, entries, place, id)?;
     let last = entries.len() - 1;
     entries[last].outputs.push(*x)?;
+    Ok(())
+}
+
+// Puts each input of a transaction into its shard's part.
+fn add_inputs(
+    alloc: Global,
+    parts: &mut Vec<Vec<Entry>>,
+    shards: u32,
+    place: u32,
+    tx: &CompactTx,
+) -> Result<(), AllocError>
+    requires count { vec_len parts.old ≡ shards }
+    requires some { 0 < shards }
+    requires few { shards ≤ 64 }
+    ensures count { vec_len parts.new ≡ shards }
+    ensures grown { OnOk result ((txs : Items Compact) → length txs ≡ place → AreSplit shards txs parts.old.items
+        → AreGrown shards txs place tx.now.id tx.now.inputs [] parts.new.items) }
+{
+    for x in tx.inputs.as_slice() {
+        let shard = shard_of(x, shards) as usize;
+        add_input(alloc, &mut parts[shard], place, &tx.id, x)?;
+    }
+    Ok(())
+}
+
+// Puts each output of a transaction into its shard's part, behind its inputs.
+fn add_outputs(
+    alloc: Global,
+    parts: &mut Vec<Vec<Entry>>,
+    shards: u32,
+    place: u32,
+    tx: &CompactTx,
+) -> Result<(), AllocError>
+    requires count { vec_len parts.old ≡ shards }
+    requires some { 0 < shards }
+    requires few { shards ≤ 64 }
+    ensures count { vec_len parts.new ≡ shards }
+    ensures grown { OnOk result ((txs : Items Compact) → length txs ≡ place → AreGrown shards txs place tx.now.id tx.now.inputs [] parts.old.items
+        → AreGrown shards txs place tx.now.id tx.now.inputs tx.now.outputs parts.new.items) }
+{
+    for x in tx.outputs.as_slice() {
+        let shard = shard_of(x, shards) as usize;
+        add_output(alloc, &mut parts[shard], place, &tx.id, x)?;
+    }
     Ok(())
 }
 
@@ -68,21 +125,17 @@ fn add_tx(
     requires some { 0 < shards }
     requires few { shards ≤ 64 }
     ensures count { vec_len parts.new ≡ shards }
+    ensures added { OnOk result ((txs : Items Compact) → length txs ≡ place → AreSplit shards txs parts.old.items
+        → AreSplit shards (txs ++ tx.now ∷ []) parts.new.items) }
 {
-    for x in tx.inputs.as_slice() {
-        let shard = shard_of(x, shards) as usize;
-        add_input(alloc, &mut parts[shard], place, &tx.id, x)?;
-    }
-    for x in tx.outputs.as_slice() {
-        let shard = shard_of(x, shards) as usize;
-        add_output(alloc, &mut parts[shard], place, &tx.id, x)?;
-    }
-    Ok(())
+    add_inputs(alloc, parts, shards, place, tx)?;
+    add_outputs(alloc, parts, shards, place, tx)
 }
 
 // An empty part for each shard.
 fn empty_parts(alloc: Global, shards: u32) -> Result<Vec<Vec<Entry>>, AllocError>
     ensures count { IfOk result (λ v. vec_len v ≡ shards) }
+    ensures empty { IfOk result (λ v. AreSplit shards [] v.items) }
 {
     let mut parts = Vec::with_capacity(alloc, shards as usize)?;
     for _shard in 0..shards {
@@ -91,17 +144,27 @@ fn empty_parts(alloc: Global, shards: u32) -> Result<Vec<Vec<Entry>>, AllocError
     Ok(parts)
 }
 
+// Puts a shard's part behind those found so far, where it has an entry.
+fn keep(found: &mut Vec<(u32, Part)>, shard: u32, entries: Vec<Entry>) -> Result<(), AllocError>
+    ensures { OnOk result (found.new.items ≡ found.old.items ++ numbered shard (entries ∷ [])) }
+{
+    if entries.is_empty() {
+        return Ok(());
+    }
+    found.push((shard, List::from_vec(entries)))?;
+    Ok(())
+}
+
 // The parts that have an entry, each with its shard.
 fn concerned(alloc: Global, parts: Vec<Vec<Entry>>) -> Result<List<(u32, Part)>, AllocError>
-    requires { vec_len parts < 2 ^ 32 }
+    requires { vec_len parts ≤ 64 }
+    ensures { IfOk result (λ ps. ps ≡ numbered 0 parts.items) }
 {
-    let mut found = Vec::new(alloc);
+    let mut found = Vec::with_capacity(alloc, parts.len())?;
     let mut shard = 0u32;
     for entries in parts {
-        if !entries.is_empty() {
-            found.push((shard, List::from_vec(entries)))?;
-        }
-        shard = shard.saturating_add(1);
+        keep(&mut found, shard, entries)?;
+        shard += 1;
     }
     Ok(List::from_vec(found))
 }
@@ -114,6 +177,7 @@ pub fn split(
     shape: &Shape,
 ) -> Result<List<(u32, Part)>, AllocError>
     requires { length txs.now < 2 ^ 32 }
+    ensures { IfOk result (AreParts shape.now txs.now) }
 {
     let shards = shape.shards();
     let mut parts = empty_parts(alloc, shards)?;

@@ -1,0 +1,9 @@
+//! Which records may stand in a journal, whatever stands before them.
+#![tactic(auto)]
+
+mod entries;
+mod hashes;
+mod limits;
+mod records;
+
+pub use records::is_in_grammar;
