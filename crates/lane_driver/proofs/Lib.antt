@@ -5,3 +5,5 @@ pub mod Phasing
 pub mod Rising
 pub mod Ready
 pub mod Cutting
+mod Telling
+mod Turning

@@ -4,3 +4,4 @@ pub mod Faults
 pub mod Gathering
 pub mod Rooms
 pub mod Reports
+pub mod Stops

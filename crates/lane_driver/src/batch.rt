@@ -1,5 +1,5 @@
 // A batch of a lane, phase by phase.
-ghost use Rattle.std.specs.Prelude.{◌≡◌, ◌≤◌, ◌<◌, [], ◌∷◌, length, map, IfOk, OnOk, All, ℕ};
+ghost use Rattle.std.specs.Prelude.{◌≡◌, ◌≤◌, ◌<◌, [], ◌∷◌, length, map, IfOk, IfErr, OnOk, All, ℕ};
 ghost use Rattle.std.specs.Vec.{vec_capacity};
 ghost use Rattle.cbdc_model.specs.Slots.{Idle, InPrepare, InCommit, InDiscard};
 ghost use Rattle.cbdc_model.specs.Ranges.{home_of};
@@ -8,6 +8,9 @@ ghost use Rattle.lane_driver.specs.Calls.{shard, forget_of};
 ghost use Rattle.lane_driver.specs.Told.{IsLane, KeepsOthers, IsLockCall, IsStamp, AreShards};
 ghost use Rattle.lane_driver.specs.Rooms.{IsBatchRoom, IsLaterRoom};
 ghost use Rattle.lane_driver.specs.Reports.{AreReports};
+ghost use Rattle.lane_driver.specs.Stops.{IsDiscardedStopped, IsCommittedStopped, IsPreparedStopped, IsBatchStopped, IsOneBatch};
+ghost use Rattle.lane_laws.specs.Batches.{Settled, BatchDone};
+ghost use Rattle.lane_laws.specs.Traces.{ToldDiscarded, ToldCommitted, ToldPrepared};
 
 use crate::fault::{BatchReport, LaneFault, LaneReport, fault_at, no_memory};
 use crate::order::{finish_calls, forget_calls, lock_calls};
@@ -41,6 +44,8 @@ pub fn from_discarded<S: PortSet, L: LogPort, G: Gate>(
     ports: &mut Ports<S, L>,
     gate: &G,
 ) -> Result<(), LaneFault>
+    requires same { S.alone ≡ L.alone }
+    requires at { L.at ports.old.log ≡ home_of shape.now batch.now.lane }
     requires home { IsLane (L.header ports.old.log) batch.now.lane }
     requires phase { L.phase ports.old.log batch.now.lane ≡ InDiscard }
     requires count { S.count ports.old.shards ≡ shape.now.shards }
@@ -49,6 +54,9 @@ pub fn from_discarded<S: PortSet, L: LogPort, G: Gate>(
     requires empty { forgets.old.items ≡ [] }
     requires room { length locks.now ≤ vec_capacity forgets.old }
     requires answers { length locks.now ≤ vec_capacity stamped.old }
+    ensures told { OnOk result (ToldDiscarded L.alone batch.now cause locks.now (L.sights ports.old.log (L.at ports.old.log)) (L.sights ports.new.log (L.at ports.new.log)) (S.sights ports.old.shards) (S.sights ports.new.shards)) }
+    ensures stopped { IfErr result (IsDiscardedStopped shape.now L.alone batch.now cause locks.now (L.sights ports.old.log (L.at ports.old.log)) (L.sights ports.new.log (L.at ports.new.log)) (S.sights ports.old.shards) (S.sights ports.new.shards)) }
+    ensures at_same { L.at ports.new.log ≡ L.at ports.old.log }
     ensures phase { OnOk result (L.phase ports.new.log batch.now.lane ≡ Idle) }
     ensures others { OnOk result (KeepsOthers (L.header ports.old.log) batch.now.lane (L.phase ports.old.log) (L.phase ports.new.log) (L.open_txs ports.old.log) (L.open_txs ports.new.log)) }
     ensures header { L.header ports.new.log ≡ L.header ports.old.log }
@@ -84,6 +92,8 @@ pub fn from_committed<S: PortSet, L: LogPort, G: Gate>(
     repeats: u32,
     gate: &G,
 ) -> Result<(), LaneFault>
+    requires same { S.alone ≡ L.alone }
+    requires at { L.at ports.old.log ≡ home_of shape.now batch.now.lane }
     requires home { IsLane (L.header ports.old.log) batch.now.lane }
     requires phase { L.phase ports.old.log batch.now.lane ≡ InCommit }
     requires count { S.count ports.old.shards ≡ shape.now.shards }
@@ -93,6 +103,9 @@ pub fn from_committed<S: PortSet, L: LogPort, G: Gate>(
     requires cause { IsStamp cause }
     requires again { length locks.now ≤ vec_capacity again.old }
     requires room { IsLaterRoom (length locks.now) (length outcomes.now) room }
+    ensures told { OnOk result (ToldCommitted L.alone batch.now cause outcomes.now repeats locks.now (L.sights ports.old.log (L.at ports.old.log)) (L.sights ports.new.log (L.at ports.new.log)) (S.sights ports.old.shards) (S.sights ports.new.shards)) }
+    ensures stopped { IfErr result (IsCommittedStopped shape.now L.alone batch.now cause outcomes.now repeats locks.now (L.sights ports.old.log (L.at ports.old.log)) (L.sights ports.new.log (L.at ports.new.log)) (S.sights ports.old.shards) (S.sights ports.new.shards)) }
+    ensures at_same { L.at ports.new.log ≡ L.at ports.old.log }
     ensures phase { OnOk result (L.phase ports.new.log batch.now.lane ≡ Idle) }
     ensures others { OnOk result (KeepsOthers (L.header ports.old.log) batch.now.lane (L.phase ports.old.log) (L.phase ports.new.log) (L.open_txs ports.old.log) (L.open_txs ports.new.log)) }
     ensures header { L.header ports.new.log ≡ L.header ports.old.log }
@@ -147,12 +160,17 @@ pub fn from_prepared<S: PortSet, L: LogPort, G: Gate>(
     repeats: u32,
     gate: &G,
 ) -> Result<Outcomes, LaneFault>
+    requires same { S.alone ≡ L.alone }
+    requires at { L.at ports.old.log ≡ home_of shape.now batch.now.lane }
     requires home { IsLane (L.header ports.old.log) batch.now.lane }
     requires shape { (L.header ports.old.log).shape ≡ shape.now }
     requires phase { L.phase ports.old.log batch.now.lane ≡ InPrepare }
     requires count { S.count ports.old.shards ≡ shape.now.shards }
     requires cause { IsStamp cause }
     requires room { IsBatchRoom shape.now.shards (length (L.open_txs ports.old.log batch.now.lane)) room }
+    ensures told { IfOk result (ToldPrepared L.alone batch.now cause repeats room.parts (L.sights ports.old.log (L.at ports.old.log)) (L.sights ports.new.log (L.at ports.new.log)) (S.sights ports.old.shards) (S.sights ports.new.shards)) }
+    ensures stopped { IfErr result (IsPreparedStopped shape.now L.alone batch.now cause repeats room.parts (L.sights ports.old.log (L.at ports.old.log)) (L.sights ports.new.log (L.at ports.new.log)) (S.sights ports.old.shards) (S.sights ports.new.shards)) }
+    ensures at_same { L.at ports.new.log ≡ L.at ports.old.log }
     ensures phase { OnOk result (L.phase ports.new.log batch.now.lane ≡ Idle) }
     ensures others { OnOk result (KeepsOthers (L.header ports.old.log) batch.now.lane (L.phase ports.old.log) (L.phase ports.new.log) (L.open_txs ports.old.log) (L.open_txs ports.new.log)) }
     ensures header { L.header ports.new.log ≡ L.header ports.old.log }
@@ -199,11 +217,16 @@ pub(crate) fn one_batch<S: PortSet, L: LogPort, G: Gate>(
     repeats: u32,
     gate: &G,
 ) -> Result<BatchReport, LaneFault>
+    requires same { S.alone ≡ L.alone }
+    requires at { L.at ports.old.log ≡ home_of shape.now lane }
     requires home { IsLane (L.header ports.old.log) lane }
     requires shape { (L.header ports.old.log).shape ≡ shape.now }
     requires idle { L.phase ports.old.log lane ≡ Idle }
     requires count { S.count ports.old.shards ≡ shape.now.shards }
     requires size { HasSize shape.now txs.now }
+    ensures done { IfOk result (λ r. (k : ℕ) → Settled shape.now lane k (L.sights ports.old.log (L.at ports.old.log)) (S.sights ports.old.shards) → BatchDone shape.now L.alone lane k txs.now (L.sights ports.old.log (L.at ports.old.log)) (S.sights ports.old.shards) (L.sights ports.new.log (L.at ports.new.log)) (S.sights ports.new.shards) r.batch r.outcomes) }
+    ensures stopped { IfErr result (IsBatchStopped shape.now L.alone lane txs.now (L.sights ports.old.log (L.at ports.old.log)) (S.sights ports.old.shards) (L.sights ports.new.log (L.at ports.new.log)) (S.sights ports.new.shards)) }
+    ensures at_same { L.at ports.new.log ≡ L.at ports.old.log }
     ensures idle { OnOk result (L.phase ports.new.log lane ≡ Idle) }
     ensures header { L.header ports.new.log ≡ L.header ports.old.log }
     ensures log_count { L.count ports.new.log ≡ L.count ports.old.log }
@@ -238,11 +261,16 @@ pub fn run_batch<S: PortSet, L: LogPort, G: Gate>(
     repeats: u32,
     gate: &G,
 ) -> Result<LaneReport, LaneFault>
+    requires same { S.alone ≡ L.alone }
+    requires at { L.at ports.old.log ≡ home_of shape.now lane }
     requires home { IsLane (L.header ports.old.log) lane }
     requires shape { (L.header ports.old.log).shape ≡ shape.now }
     requires idle { L.phase ports.old.log lane ≡ Idle }
     requires count { S.count ports.old.shards ≡ shape.now.shards }
     requires size { HasSize shape.now txs.now }
+    ensures done { IfOk result (λ r. IsOneBatch shape.now L.alone lane txs.now (L.sights ports.old.log (L.at ports.old.log)) (S.sights ports.old.shards) (L.sights ports.new.log (L.at ports.new.log)) (S.sights ports.new.shards) r.batches) }
+    ensures stopped { IfErr result (IsBatchStopped shape.now L.alone lane txs.now (L.sights ports.old.log (L.at ports.old.log)) (S.sights ports.old.shards) (L.sights ports.new.log (L.at ports.new.log)) (S.sights ports.new.shards)) }
+    ensures at_same { L.at ports.new.log ≡ L.at ports.old.log }
     ensures idle { OnOk result (L.phase ports.new.log lane ≡ Idle) }
     ensures header { L.header ports.new.log ≡ L.header ports.old.log }
     ensures log_count { L.count ports.new.log ≡ L.count ports.old.log }

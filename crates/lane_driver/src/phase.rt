@@ -2,6 +2,9 @@
 ghost use Rattle.std.specs.Prelude.{◌≡◌, ◌<◌, ◌≤◌, [], length, IfOk, IfErr, MatchResult, All, ℕ};
 ghost use Rattle.std.specs.Vec.{vec_capacity};
 ghost use Rattle.lane_driver.specs.Calls.{shard};
+ghost use Rattle.cbdc_model.specs.Ranges.{shard_node};
+ghost use Rattle.lane_laws.specs.Answers.{LockAnswer, FinishAnswer, ForgetAnswer, AskedTimes, Locked, Stamped};
+ghost use Rattle.lane_driver.specs.Stops.{IsFaultOf, IsStoppedAt};
 ghost use Rattle.lane_driver.specs.Told.{IsLockCall, IsFinishCall, IsForgetCall, AreShards, AreReplies, IsStamp};
 
 use crate::answer::{ShardFault, gather, latest};
@@ -16,6 +19,7 @@ use outside::Gate;
 // The fault of the lane, where a shard's was the first.
 fn of_shard(shape: &Shape, fault: ShardFault) -> LaneFault
     requires { fault.shard < shape.now.shards }
+    ensures { IsFaultOf result (shard_node shape.now fault.shard) fault.fault }
 {
     fault_at(NodeId(shape.coordinators() + fault.shard), fault.fault)
 }
@@ -34,6 +38,7 @@ pub fn lock_again<S: PortSet, G: Gate>(
     ensures capacity { vec_capacity answers.new ≡ vec_capacity answers.old }
     ensures count { S.count shards.new ≡ S.count shards.old }
     ensures later { (n : ℕ) → S.faults shards.old n ≤ S.faults shards.new n }
+    ensures told { AskedTimes (LockAnswer S.alone) calls.now repeats (S.sights shards.old) (S.sights shards.new) }
 {
     for _time in 0..repeats {
         answers.clear();
@@ -55,6 +60,7 @@ pub fn finish_again<S: PortSet, G: Gate>(
     ensures capacity { vec_capacity answers.new ≡ vec_capacity answers.old }
     ensures count { S.count shards.new ≡ S.count shards.old }
     ensures later { (n : ℕ) → S.faults shards.old n ≤ S.faults shards.new n }
+    ensures told { AskedTimes (FinishAnswer S.alone) calls.now repeats (S.sights shards.old) (S.sights shards.new) }
 {
     for _time in 0..repeats {
         answers.clear();
@@ -76,6 +82,7 @@ pub fn forget_again<S: PortSet, G: Gate>(
     ensures capacity { vec_capacity answers.new ≡ vec_capacity answers.old }
     ensures count { S.count shards.new ≡ S.count shards.old }
     ensures later { (n : ℕ) → S.faults shards.old n ≤ S.faults shards.new n }
+    ensures told { AskedTimes (ForgetAnswer S.alone) calls.now repeats (S.sights shards.old) (S.sights shards.new) }
 {
     for _time in 0..repeats {
         answers.clear();
@@ -101,6 +108,8 @@ pub fn lock_phase<S: PortSet, G: Gate>(
     requires replies_room { length calls.now ≤ vec_capacity replies }
     ensures count { S.count shards.new ≡ S.count shards.old }
     ensures later { (n : ℕ) → S.faults shards.old n ≤ S.faults shards.new n }
+    ensures told { IfOk result (Locked S.alone calls.now (S.sights shards.old) (S.sights shards.new)) }
+    ensures stopped { IfErr result (IsStoppedAt shape.now (LockAnswer S.alone) calls.now (S.sights shards.old) (S.sights shards.new)) }
     ensures replies { IfOk result (AreReplies shape.now) }
 {
     shards.lock(calls, &mut answers, gate);
@@ -125,6 +134,8 @@ pub fn finish_phase<S: PortSet, G: Gate>(
     ensures capacity { vec_capacity answers.new ≡ vec_capacity answers.old }
     ensures count { S.count shards.new ≡ S.count shards.old }
     ensures later { (n : ℕ) → S.faults shards.old n ≤ S.faults shards.new n }
+    ensures told { IfOk result (Stamped (FinishAnswer S.alone) calls.now (S.sights shards.old) (S.sights shards.new)) }
+    ensures stopped { IfErr result (IsStoppedAt shape.now (FinishAnswer S.alone) calls.now (S.sights shards.old) (S.sights shards.new)) }
     ensures stamp { IfOk result IsStamp }
 {
     answers.clear();
@@ -150,6 +161,8 @@ pub fn forget_phase<S: PortSet, G: Gate>(
     ensures capacity { vec_capacity answers.new ≡ vec_capacity answers.old }
     ensures count { S.count shards.new ≡ S.count shards.old }
     ensures later { (n : ℕ) → S.faults shards.old n ≤ S.faults shards.new n }
+    ensures told { IfOk result (Stamped (ForgetAnswer S.alone) calls.now (S.sights shards.old) (S.sights shards.new)) }
+    ensures stopped { IfErr result (IsStoppedAt shape.now (ForgetAnswer S.alone) calls.now (S.sights shards.old) (S.sights shards.new)) }
     ensures stamp { IfOk result IsStamp }
 {
     answers.clear();

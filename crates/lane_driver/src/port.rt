@@ -1,11 +1,15 @@
 // The ports through which a lane speaks to nodes.
-ghost use Rattle.std.specs.Prelude.{◌≡◌, ◌≤◌, ℕ, List, [], length, All, IfOk, OnOk};
+ghost use Rattle.std.specs.Prelude.{◌≡◌, ◌≢◌, ◌≤◌, ℕ, Bool, true, false, List, [], length, All, IfOk, OnOk};
 ghost use Rattle.std.specs.Vec.{vec_capacity};
 ghost use Rattle.cbdc_model.specs.Records.{Header, Compact};
 ghost use Rattle.cbdc_model.specs.Slots.{Phase, Idle, InPrepare, InCommit, InDiscard};
 ghost use Rattle.cbdc_model.specs.Grammar.{HasSize};
 ghost use Rattle.lane_driver.specs.Told.{IsLane, KeepsOthers, IsLockCall, IsFinishCall, IsForgetCall, AreShards, EachAnswer, LockTold, StampTold, AreReplies, IsPrepared, IsStamp};
 ghost use Rattle.lane_driver.specs.Calls.{shard};
+ghost use Rattle.cbdc_model.specs.Records.{outcomes_of};
+ghost use Rattle.cbdc_model.specs.Due.{open_batch, prepare_due, discard_due, done_due};
+ghost use Rattle.cbdc_model.specs.Sights.{Sight, Told};
+ghost use Rattle.lane_laws.specs.Answers.{DecideAnswer, LockAnswer, FinishAnswer, ForgetAnswer, EachTold, Others};
 
 use cbdc_types::{
     BatchId, CompactTx, FinishCall, ForgetCall, LaneId, LockCall, NodeFault, Outcome, Replied,
@@ -15,6 +19,15 @@ use outside::Gate;
 
 /// The log of a lane's coordinator.
 pub trait LogPort {
+    /// What is known of each coordinator, by its number.
+    ghost sights: { Self → ℕ → Sight };
+
+    /// The coordinator that the calls go to.
+    ghost at: { Self → ℕ };
+
+    /// Whether no other lane's records come between two calls.
+    ghost alone: { Bool };
+
     /// The header of the coordinator's journal.
     ghost header: { Self → Header };
 
@@ -46,6 +59,9 @@ pub trait LogPort {
         ensures others { OnOk result (KeepsOthers (header self.old) lane (phase self.old) (phase self.new) (open_txs self.old) (open_txs self.new)) }
         ensures header { header self.new ≡ header self.old }
         ensures count { count self.new ≡ count self.old }
+        ensures told { Told alone lane true (prepare_due (sights self.old (at self.old)).header.shape (sights self.old (at self.old)).capacity lane txs.now) (sights self.old (at self.old)) (sights self.new (at self.new)) result }
+        ensures at_same { at self.new ≡ at self.old }
+        ensures elsewhere { (n : ℕ) → n ≢ at self.old → sights self.new n ≡ sights self.old n }
         ensures later { (n : ℕ) → faults self.old n ≤ faults self.new n };
 
     /// Decides the prepared batch by what its shards replied, and tells the outcomes.
@@ -67,6 +83,10 @@ pub trait LogPort {
         ensures others { OnOk result (KeepsOthers (header self.old) lane (phase self.old) (phase self.new) (open_txs self.old) (open_txs self.new)) }
         ensures header { header self.new ≡ header self.old }
         ensures count { count self.new ≡ count self.old }
+        ensures told { DecideAnswer alone lane replies.now (sights self.old (at self.old)) (sights self.new (at self.new)) result }
+        ensures written { OnOk result (out.new.items ≡ outcomes_of (sights self.new (at self.new)).seen (open_batch (sights self.new (at self.new)).seen lane)) }
+        ensures at_same { at self.new ≡ at self.old }
+        ensures elsewhere { (n : ℕ) → n ≢ at self.old → sights self.new n ≡ sights self.old n }
         ensures later { (n : ℕ) → faults self.old n ≤ faults self.new n };
 
     /// Writes down that the decided batch is applied everywhere.
@@ -79,6 +99,9 @@ pub trait LogPort {
         ensures others { OnOk result (KeepsOthers (header self.old) lane (phase self.old) (phase self.new) (open_txs self.old) (open_txs self.new)) }
         ensures header { header self.new ≡ header self.old }
         ensures count { count self.new ≡ count self.old }
+        ensures told { Told alone lane false (discard_due lane cause) (sights self.old (at self.old)) (sights self.new (at self.new)) result }
+        ensures at_same { at self.new ≡ at self.old }
+        ensures elsewhere { (n : ℕ) → n ≢ at self.old → sights self.new n ≡ sights self.old n }
         ensures later { (n : ℕ) → faults self.old n ≤ faults self.new n };
 
     /// Writes down that the batch is forgotten everywhere.
@@ -91,6 +114,9 @@ pub trait LogPort {
         ensures others { OnOk result (KeepsOthers (header self.old) lane (phase self.old) (phase self.new) (open_txs self.old) (open_txs self.new)) }
         ensures header { header self.new ≡ header self.old }
         ensures count { count self.new ≡ count self.old }
+        ensures told { Told alone lane false (done_due lane cause) (sights self.old (at self.old)) (sights self.new (at self.new)) result }
+        ensures at_same { at self.new ≡ at self.old }
+        ensures elsewhere { (n : ℕ) → n ≢ at self.old → sights self.new n ≡ sights self.old n }
         ensures later { (n : ℕ) → faults self.old n ≤ faults self.new n };
 }
 
@@ -112,6 +138,12 @@ pub trait ShardPort {
 /// The shards of a ledger. All calls of a phase are made, whatever one answers; the answers stand in the
 /// calls' order, and `out` has room for them.
 pub trait PortSet {
+    /// What is known of each shard.
+    ghost sights: { Self → ℕ → Sight };
+
+    /// Whether no other lane's records come between two calls.
+    ghost alone: { Bool };
+
     /// How many shards there are.
     ghost count: { Self → ℕ };
 
@@ -129,6 +161,8 @@ pub trait PortSet {
         requires empty { out.old.items ≡ [] }
         requires room { length calls.now ≤ vec_capacity out.old }
         ensures each { EachAnswer LockTold calls.now out.new.items }
+        ensures told { EachTold (LockAnswer alone) calls.now out.new.items (sights self.old) (sights self.new) }
+        ensures untouched { Others calls.now (sights self.old) (sights self.new) }
         ensures capacity { vec_capacity out.new ≡ vec_capacity out.old }
         ensures count { count self.new ≡ count self.old }
         ensures later { (n : ℕ) → faults self.old n ≤ faults self.new n };
@@ -144,6 +178,8 @@ pub trait PortSet {
         requires empty { out.old.items ≡ [] }
         requires room { length calls.now ≤ vec_capacity out.old }
         ensures each { EachAnswer StampTold calls.now out.new.items }
+        ensures told { EachTold (FinishAnswer alone) calls.now out.new.items (sights self.old) (sights self.new) }
+        ensures untouched { Others calls.now (sights self.old) (sights self.new) }
         ensures capacity { vec_capacity out.new ≡ vec_capacity out.old }
         ensures count { count self.new ≡ count self.old }
         ensures later { (n : ℕ) → faults self.old n ≤ faults self.new n };
@@ -159,6 +195,8 @@ pub trait PortSet {
         requires empty { out.old.items ≡ [] }
         requires room { length calls.now ≤ vec_capacity out.old }
         ensures each { EachAnswer StampTold calls.now out.new.items }
+        ensures told { EachTold (ForgetAnswer alone) calls.now out.new.items (sights self.old) (sights self.new) }
+        ensures untouched { Others calls.now (sights self.old) (sights self.new) }
         ensures capacity { vec_capacity out.new ≡ vec_capacity out.old }
         ensures count { count self.new ≡ count self.old }
         ensures later { (n : ℕ) → faults self.old n ≤ faults self.new n };

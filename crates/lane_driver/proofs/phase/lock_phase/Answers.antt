@@ -1,5 +1,7 @@
 use Rattle.std.proofs.lemmas.Slice.Zip.{AllZip-long}
 use Rattle.lane_driver.specs.Told.{LockTold}
+use Rattle.lane_laws.specs.Answers.{LockAnswer}
+use Rattle.lane_driver.proofs.Telling.{stopped_at}
 use Rattle.lane_driver.proofs.Phasing.{fault_inside, gathered_replies}
 use Rattle.lane_driver.proofs.phase.lock_phase.Goals as goal
 
@@ -11,3 +13,10 @@ of_shard-requires g c = fault_inside c.args.calls.now _ c.in-Err.fault.shard c.a
 
 pub returns-in-Ok-clause-replies : goal.returns-in-Ok-clause-replies
 returns-in-Ok-clause-replies g c = gathered_replies c.args.shape.now c.args.calls.now _ c.in-Ok.replies c.in-Ok.ensures c.lock.ensures.each c.requires.shards
+
+pub returns-in-Ok-clause-told : goal.returns-in-Ok-clause-told
+returns-in-Ok-clause-told g c = record { asked = record { answers = c.lock.new.out.items; each = c.lock.ensures.told; others = c.lock.ensures.untouched }; gathered = c.in-Ok.ensures }
+
+pub returns-in-Err-clause-stopped : goal.returns-in-Err-clause-stopped
+returns-in-Err-clause-stopped g c = stopped_at c.args.shape.now (LockAnswer g.S.PortSet.alone) c.args.calls.now (g.S.PortSet.sights c.args.shards.now) (g.S.PortSet.sights c.lock.new.self) c.lock.new.out.items
+    c.in-Err.fault.shard c.in-Err.fault.fault c.of_shard.result c.of_shard.ensures c.lock.ensures.told c.lock.ensures.untouched c.in-Err.ensures
