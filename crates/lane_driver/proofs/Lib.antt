@@ -7,3 +7,4 @@ pub mod Ready
 pub mod Cutting
 mod Telling
 mod Turning
+mod Batching

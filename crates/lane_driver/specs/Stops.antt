@@ -6,7 +6,7 @@ use Rattle.cbdc_model.specs.Records.{Shape, Batch, Compact, Entry, Outcome}
 use Rattle.cbdc_model.specs.Ranges.{shard_node}
 use Rattle.cbdc_model.specs.Sights.{Sight}
 use Rattle.lane_laws.specs.Answers.{StoppedAt}
-use Rattle.lane_laws.specs.Batches.{Settled, BatchDone, BatchStopped, LaneStopped}
+use Rattle.lane_laws.specs.Batches.{Settled, BatchDone, BatchStopped, LaneSo, LaneStopped}
 use Rattle.lane_laws.specs.Traces.{DiscardedStopped, CommittedStopped, PreparedStopped}
 use Rattle.lane_driver.specs.Faults.{kind_of}
 use Rattle.lane_driver.specs.declared.fault.LaneFault.{LaneFault}
@@ -45,3 +45,10 @@ IsBatchStopped K alone lane txs log I log' J e =
 abbrev pub IsOneBatch : Shape → Bool → ℕ → List Compact → Sight → (ℕ → Sight) → Sight → (ℕ → Sight) → List BatchReport → Type 0
 IsOneBatch K alone lane txs log I log' J reports =
     (r : BatchReport) × (reports ≡ r ∷ []) × ((k : ℕ) → Settled K lane k log I → BatchDone K alone lane k txs log I log' J r.batch r.outcomes)
+
+-- a lane that was settled stopped at a batch, or had no memory: its batches up to there are done
+abbrev pub IsLaneStopped : Shape → Bool → ℕ → List Compact → Sight → (ℕ → Sight) → Sight → (ℕ → Sight) → LaneFault → Type 0
+IsLaneStopped K alone lane txs log I log' J e =
+    (k : ℕ) → Settled K lane k log I
+    → ((e ≡ record { node = 0; fault = NoMemory }) × ((rest : List Compact) × LaneSo K alone lane txs rest log I log' J))
+    ⊎ ((n : ℕ) × (f : NodeFault) × IsFaultOf e n f × LaneStopped K alone lane txs log I log' J n f)

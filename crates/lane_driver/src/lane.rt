@@ -1,8 +1,11 @@
 // A lane's transactions, batch by batch.
-ghost use Rattle.std.specs.Prelude.{◌≡◌, ◌≤◌, ◌<◌, [], List, length, IfOk, OnOk, All, ℕ};
+ghost use Rattle.std.specs.Prelude.{◌≡◌, ◌≤◌, ◌<◌, [], List, length, IfOk, IfErr, OnOk, All, ℕ};
 ghost use Rattle.std.specs.Vec.{vec_capacity};
 ghost use Rattle.cbdc_model.specs.Records.{Compact};
 ghost use Rattle.cbdc_model.specs.Slots.{Idle};
+ghost use Rattle.cbdc_model.specs.Ranges.{home_of};
+ghost use Rattle.lane_laws.specs.Batches.{Settled, LaneSo};
+ghost use Rattle.lane_driver.specs.Stops.{IsLaneStopped};
 ghost use Rattle.lane_driver.specs.Told.{IsLane};
 ghost use Rattle.lane_driver.specs.Reports.{IsReported};
 
@@ -25,10 +28,15 @@ pub fn run_lane<S: PortSet, L: LogPort, G: Gate>(
     repeats: u32,
     gate: &G,
 ) -> Result<LaneReport, LaneFault>
+    requires same { S.alone ≡ L.alone }
+    requires at { L.at ports.old.log ≡ home_of shape.now lane }
     requires home { IsLane (L.header ports.old.log) lane }
     requires shape { (L.header ports.old.log).shape ≡ shape.now }
     requires idle { L.phase ports.old.log lane ≡ Idle }
     requires count { S.count ports.old.shards ≡ shape.now.shards }
+    ensures done { OnOk result ((k : ℕ) → Settled shape.now lane k (L.sights ports.old.log (L.at ports.old.log)) (S.sights ports.old.shards) → LaneSo shape.now L.alone lane txs.now [] (L.sights ports.old.log (L.at ports.old.log)) (S.sights ports.old.shards) (L.sights ports.new.log (L.at ports.new.log)) (S.sights ports.new.shards)) }
+    ensures stopped { IfErr result (IsLaneStopped shape.now L.alone lane txs.now (L.sights ports.old.log (L.at ports.old.log)) (S.sights ports.old.shards) (L.sights ports.new.log (L.at ports.new.log)) (S.sights ports.new.shards)) }
+    ensures at_same { L.at ports.new.log ≡ L.at ports.old.log }
     ensures idle { OnOk result (L.phase ports.new.log lane ≡ Idle) }
     ensures header { L.header ports.new.log ≡ L.header ports.old.log }
     ensures log_count { L.count ports.new.log ≡ L.count ports.old.log }

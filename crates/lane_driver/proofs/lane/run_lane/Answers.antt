@@ -1,6 +1,9 @@
-use Rattle.std.proofs.Common.{rules, arith, ◌≡◌, ◌<◌, ◌+◌, ◌∙◌, ap, sym, subst, length, take, drop, min}
+use Rattle.std.proofs.Common.{rules, arith, inl, refl, [], ◌≡◌, ◌<◌, ◌+◌, ◌∙◌, ap, sym, subst, length, take, drop, min}
 use Rattle.std.proofs.lemmas.List.Elements.{All-same, All-drop}
 use Rattle.std.specs.Vec.{vec_len, vec_capacity}
+use Rattle.lane_laws.specs.Batches.{LaneSo}
+use Rattle.lane_laws.proofs.Laning.{lane_begins}
+use Rattle.lane_driver.proofs.Batching.{lane_on, lane_off}
 use Rattle.lane_driver.specs.Reports.{IsReported}
 use Rattle.lane_driver.proofs.Cutting.{room_after, reported_more}
 use Rattle.lane_driver.proofs.lane.run_lane.Goals as goal
@@ -12,6 +15,9 @@ pieces-preserved g c =
     let at = c.split_at.ensures in
     let room : vec_len c.pieces.batches < vec_capacity c.pieces.batches = search rules in
     record {
+      at_same = c.in-Ok-one_batch.ensures.at_same ∙ c.pieces.invariant.at_same;
+      so = λ k st. lane_on c.args.shape.now g.L.LogPort.alone c.args.lane c.args.txs.now c.pieces.rest.now c.split_at.result.0.now (g.L.LogPort.sights c.args.ports.now.log (g.L.LogPort.at c.args.ports.now.log)) (g.L.LogPort.sights c.pieces.ports.log (g.L.LogPort.at c.pieces.ports.log)) (g.L.LogPort.sights c.one_batch.new.ports.log (g.L.LogPort.at c.one_batch.new.ports.log)) (g.S.PortSet.sights c.args.ports.now.shards) (g.S.PortSet.sights c.pieces.ports.shards) (g.S.PortSet.sights c.one_batch.new.ports.shards) (c.pieces.invariant.so k st) (c.split_at.ensures.front ∙ ap (λ n. take n c.pieces.rest.now) (c.min.ensures ∙ ap (λ n. min n (length c.pieces.rest.now)) c.batch-size.ensures.value))
+          c.split_at.result.1.now c.in-Ok-one_batch.report.batch c.in-Ok-one_batch.report.outcomes some (c.split_at.ensures.back ∙ ap (λ n. drop n c.pieces.rest.now) (c.min.ensures ∙ ap (λ n. min n (length c.pieces.rest.now)) c.batch-size.ensures.value)) c.in-Ok-one_batch.ensures.done;
       idle = search rules;
       header = search rules;
       count = search rules;
@@ -24,3 +30,29 @@ pieces-preserved g c =
           (reported_more c.args.lane c.args.shape.now.batch c.args.txs.now c.pieces.rest.now c.split_at.result.0.now c.split_at.result.1.now c.pieces.batches.items c.in-Ok-one_batch.report
           c.pieces.invariant.report some (at.front ∙ ap (λ n. take n c.pieces.rest.now) size) (at.back ∙ ap (λ n. drop n c.pieces.rest.now) size) c.in-Ok-one_batch.ensures.report);
     }
+
+pub returns-in-Err-one_batch-clause-stopped : goal.returns-in-Err-one_batch-clause-stopped
+returns-in-Err-one_batch-clause-stopped g c k st = lane_off c.args.shape.now g.L.LogPort.alone c.args.lane c.args.txs.now c.pieces.rest.now c.split_at.result.0.now (g.L.LogPort.sights c.args.ports.now.log (g.L.LogPort.at c.args.ports.now.log)) (g.L.LogPort.sights c.pieces.ports.log (g.L.LogPort.at c.pieces.ports.log)) (g.L.LogPort.sights c.one_batch.new.ports.log (g.L.LogPort.at c.one_batch.new.ports.log)) (g.S.PortSet.sights c.args.ports.now.shards) (g.S.PortSet.sights c.pieces.ports.shards) (g.S.PortSet.sights c.one_batch.new.ports.shards) (c.pieces.invariant.so k st) (c.split_at.ensures.front ∙ ap (λ n. take n c.pieces.rest.now) (c.min.ensures ∙ ap (λ n. min n (length c.pieces.rest.now)) c.batch-size.ensures.value))
+    c.in-Err-one_batch.fault c.in-Err-one_batch.ensures.stopped
+
+pub returns-in-Err-clause-stopped : goal.returns-in-Err-clause-stopped
+returns-in-Err-clause-stopped g c k st = inl (c.no_memory.ensures, (c.args.txs.now, lane_begins c.args.shape.now g.L.LogPort.alone c.args.lane k c.args.txs.now (g.L.LogPort.sights c.args.ports.now.log (g.L.LogPort.at c.args.ports.now.log)) (g.S.PortSet.sights c.args.ports.now.shards) st))
+
+pub pieces-init : goal.pieces-init
+pieces-init g c = record {
+  at_same = refl;
+  so = λ k st. lane_begins c.args.shape.now g.L.LogPort.alone c.args.lane k c.args.txs.now (g.L.LogPort.sights c.args.ports.now.log (g.L.LogPort.at c.args.ports.now.log)) (g.S.PortSet.sights c.args.ports.now.shards) st;
+  idle = search rules;
+  header = search rules;
+  count = search rules;
+  log_count = search rules;
+  shard_later = λ n. omega arith;
+  log_later = λ n. omega arith;
+  room = search rules;
+  report = search rules;
+}
+
+pub returns-clause-done : goal.returns-clause-done
+returns-clause-done g c k st =
+    let e : c.pieces.rest.now ≡ [] = search rules in
+    subst (λ r. LaneSo c.args.shape.now g.L.LogPort.alone c.args.lane c.args.txs.now r (g.L.LogPort.sights c.args.ports.now.log (g.L.LogPort.at c.args.ports.now.log)) (g.S.PortSet.sights c.args.ports.now.shards) (g.L.LogPort.sights c.pieces.ports.log (g.L.LogPort.at c.pieces.ports.log)) (g.S.PortSet.sights c.pieces.ports.shards)) e (c.pieces.invariant.so k st)

@@ -2,11 +2,16 @@ use Rattle.std.proofs.Common.{◌≡◌, ◌+◌, ◌*◌, ◌≤◌, ℕ, lengt
 use Rattle.std.specs.List.{All}
 use Rattle.std.specs.Vec.{vec_capacity, vec_len}
 use Rattle.cbdc_model.specs.Slots.{Idle}
+use Rattle.lane_laws.specs.Batches.{Settled, LaneSo}
 use Rattle.lane_driver.specs.Reports.{IsReported}
 use Rattle.lane_driver.proofs.lane.run_lane.Given as goal
 
 abbrev pub invariant-pieces : goal.invariant-pieces
 invariant-pieces g l = record {
+  at_same : g.L.LogPort.at l.ports.log ≡ g.L.LogPort.at l.initial.ports.log;
+  so : (k : ℕ) → Settled l.shape l.lane k (g.L.LogPort.sights l.initial.ports.log (g.L.LogPort.at l.initial.ports.log)) (g.S.PortSet.sights l.initial.ports.shards)
+      → LaneSo l.shape g.L.LogPort.alone l.lane l.txs l.rest (g.L.LogPort.sights l.initial.ports.log (g.L.LogPort.at l.initial.ports.log)) (g.S.PortSet.sights l.initial.ports.shards)
+      (g.L.LogPort.sights l.ports.log (g.L.LogPort.at l.ports.log)) (g.S.PortSet.sights l.ports.shards);
   idle : g.L.LogPort.phase l.ports.log l.lane ≡ Idle;
   header : g.L.LogPort.header l.ports.log ≡ g.L.LogPort.header l.initial.ports.log;
   count : g.S.PortSet.count l.ports.shards ≡ g.S.PortSet.count l.initial.ports.shards;
