@@ -1,5 +1,5 @@
 -- What was told of a whole batch, and what it comes to.
-use Rattle.std.proofs.Common.{◌≡◌, ◌⊎◌, inl, inr, ℕ, ◌<◌, min, Bool, true, List, [], ◌∷◌, length, take, drop, Result, Ok, Err, refl, sym, ap, ◌∙◌, subst}
+use Rattle.std.proofs.Common.{◌≡◌, ◌⊎◌, inl, inr, ℕ, suc, ◌<◌, ◌==◌, min, Bool, true, List, [], ◌∷◌, length, take, drop, Result, Ok, Err, refl, sym, ap, ◌∙◌, subst, arith}
 use Rattle.std.proofs.lemmas.List.{take_min, drop_min}
 use Rattle.cbdc_types.specs.declared.calls.NodeFault.{NodeFault}
 use Rattle.cbdc_model.specs.Records.{Shape, Batch, Compact, Entry, Outcome}
@@ -43,3 +43,10 @@ module _ (K : Shape) (alone : Bool) (lane : ℕ) (txs rest piece : List Compact)
   lane_off e (inr h) =
       let s = h (slot log1.seen lane).number so.settled in
       inr (s.0, s.1, s.2, lane_stops K alone lane txs rest log0 log1 log2 I0 I1 I2 so piece s.0 s.1 (front ∙ take_min K.batch rest) s.3)
+
+pub none_left : (xs : List Compact) → true ≡ (length xs == 0) → xs ≡ []
+none_left [] h = refl
+none_left (x ∷ xs) h = absurd (some (length xs) (sym h))
+  where
+    some : (n : ℕ) → (suc n == 0) ≡ true → ⊥
+    some n h = grind (arith, h)

@@ -3,7 +3,7 @@ use Rattle.std.proofs.lemmas.List.Elements.{All-same, All-drop}
 use Rattle.std.specs.Vec.{vec_len, vec_capacity}
 use Rattle.lane_laws.specs.Batches.{LaneSo}
 use Rattle.lane_laws.proofs.Laning.{lane_begins}
-use Rattle.lane_driver.proofs.Batching.{lane_on, lane_off}
+use Rattle.lane_driver.proofs.Batching.{lane_on, lane_off, none_left}
 use Rattle.lane_driver.specs.Reports.{IsReported}
 use Rattle.lane_driver.proofs.Cutting.{room_after, reported_more}
 use Rattle.lane_driver.proofs.lane.run_lane.Goals as goal
@@ -54,5 +54,5 @@ pieces-init g c = record {
 
 pub returns-clause-done : goal.returns-clause-done
 returns-clause-done g c k st =
-    let e : c.pieces.rest.now ≡ [] = search rules in
+    let e : c.pieces.rest.now ≡ [] = none_left c.pieces.rest.now c.pieces-test.ensures in
     subst (λ r. LaneSo c.args.shape.now g.L.LogPort.alone c.args.lane c.args.txs.now r (g.L.LogPort.sights c.args.ports.now.log (g.L.LogPort.at c.args.ports.now.log)) (g.S.PortSet.sights c.args.ports.now.shards) (g.L.LogPort.sights c.pieces.ports.log (g.L.LogPort.at c.pieces.ports.log)) (g.S.PortSet.sights c.pieces.ports.shards)) e (c.pieces.invariant.so k st)
