@@ -31,11 +31,14 @@ fn resume_prepared<S: PortSet, L: LogPort, G: Gate>(
     gate: &G,
 ) -> Result<ResumedBatch, LaneFault>
     requires phase { unfinished.now.phase ≡ Prepared }
+    requires same { S.alone ≡ L.alone }
+    requires at { L.at ports.old.log ≡ (L.header ports.old.log).node }
     requires is_open { IsOpen (L.header ports.old.log) (L.phase ports.old.log) (L.open_txs ports.old.log) unfinished.now }
     requires shape { (L.header ports.old.log).shape ≡ shape.now }
     requires count { S.count ports.old.shards ≡ shape.now.shards }
     ensures idle { OnOk result (L.phase ports.new.log unfinished.now.batch.lane ≡ Idle) }
     ensures others { OnOk result (KeepsOthers (L.header ports.old.log) unfinished.now.batch.lane (L.phase ports.old.log) (L.phase ports.new.log) (L.open_txs ports.old.log) (L.open_txs ports.new.log)) }
+    ensures at_same { L.at ports.new.log ≡ L.at ports.old.log }
     ensures header { L.header ports.new.log ≡ L.header ports.old.log }
     ensures log_count { L.count ports.new.log ≡ L.count ports.old.log }
     ensures count { S.count ports.new.shards ≡ S.count ports.old.shards }
@@ -75,11 +78,14 @@ fn resume_committed<S: PortSet, L: LogPort, G: Gate>(
     gate: &G,
 ) -> Result<ResumedBatch, LaneFault>
     requires phase { unfinished.now.phase ≡ Committed }
+    requires same { S.alone ≡ L.alone }
+    requires at { L.at ports.old.log ≡ (L.header ports.old.log).node }
     requires is_open { IsOpen (L.header ports.old.log) (L.phase ports.old.log) (L.open_txs ports.old.log) unfinished.now }
     requires shape { (L.header ports.old.log).shape ≡ shape.now }
     requires count { S.count ports.old.shards ≡ shape.now.shards }
     ensures idle { OnOk result (L.phase ports.new.log unfinished.now.batch.lane ≡ Idle) }
     ensures others { OnOk result (KeepsOthers (L.header ports.old.log) unfinished.now.batch.lane (L.phase ports.old.log) (L.phase ports.new.log) (L.open_txs ports.old.log) (L.open_txs ports.new.log)) }
+    ensures at_same { L.at ports.new.log ≡ L.at ports.old.log }
     ensures header { L.header ports.new.log ≡ L.header ports.old.log }
     ensures log_count { L.count ports.new.log ≡ L.count ports.old.log }
     ensures count { S.count ports.new.shards ≡ S.count ports.old.shards }
@@ -136,11 +142,14 @@ fn resume_discarded<S: PortSet, L: LogPort, G: Gate>(
     gate: &G,
 ) -> Result<ResumedBatch, LaneFault>
     requires phase { unfinished.now.phase ≡ Discarded }
+    requires same { S.alone ≡ L.alone }
+    requires at { L.at ports.old.log ≡ (L.header ports.old.log).node }
     requires is_open { IsOpen (L.header ports.old.log) (L.phase ports.old.log) (L.open_txs ports.old.log) unfinished.now }
     requires shape { (L.header ports.old.log).shape ≡ shape.now }
     requires count { S.count ports.old.shards ≡ shape.now.shards }
     ensures idle { OnOk result (L.phase ports.new.log unfinished.now.batch.lane ≡ Idle) }
     ensures others { OnOk result (KeepsOthers (L.header ports.old.log) unfinished.now.batch.lane (L.phase ports.old.log) (L.phase ports.new.log) (L.open_txs ports.old.log) (L.open_txs ports.new.log)) }
+    ensures at_same { L.at ports.new.log ≡ L.at ports.old.log }
     ensures header { L.header ports.new.log ≡ L.header ports.old.log }
     ensures log_count { L.count ports.new.log ≡ L.count ports.old.log }
     ensures count { S.count ports.new.shards ≡ S.count ports.old.shards }
@@ -200,11 +209,14 @@ fn resume_lane<S: PortSet, L: LogPort, G: Gate>(
     ports: &mut Ports<S, L>,
     gate: &G,
 ) -> Result<ResumedBatch, LaneFault>
+    requires same { S.alone ≡ L.alone }
+    requires at { L.at ports.old.log ≡ (L.header ports.old.log).node }
     requires is_open { IsOpen (L.header ports.old.log) (L.phase ports.old.log) (L.open_txs ports.old.log) unfinished.now }
     requires shape { (L.header ports.old.log).shape ≡ shape.now }
     requires count { S.count ports.old.shards ≡ shape.now.shards }
     ensures idle { OnOk result (L.phase ports.new.log unfinished.now.batch.lane ≡ Idle) }
     ensures others { OnOk result (KeepsOthers (L.header ports.old.log) unfinished.now.batch.lane (L.phase ports.old.log) (L.phase ports.new.log) (L.open_txs ports.old.log) (L.open_txs ports.new.log)) }
+    ensures at_same { L.at ports.new.log ≡ L.at ports.old.log }
     ensures header { L.header ports.new.log ≡ L.header ports.old.log }
     ensures log_count { L.count ports.new.log ≡ L.count ports.old.log }
     ensures count { S.count ports.new.shards ≡ S.count ports.old.shards }
@@ -229,10 +241,13 @@ pub fn resume<S: PortSet, L: LogPort, G: Gate>(
     ports: &mut Ports<S, L>,
     gate: &G,
 ) -> Result<Resumed, LaneFault>
+    requires same { S.alone ≡ L.alone }
+    requires at { L.at ports.old.log ≡ (L.header ports.old.log).node }
     requires is_open { All (IsOpen (L.header ports.old.log) (L.phase ports.old.log) (L.open_txs ports.old.log)) lanes.now }
     requires rise { LanesRise lanes.now }
     requires shape { (L.header ports.old.log).shape ≡ shape.now }
     requires count { S.count ports.old.shards ≡ shape.now.shards }
+    ensures at_same { L.at ports.new.log ≡ L.at ports.old.log }
     ensures header { L.header ports.new.log ≡ L.header ports.old.log }
     ensures log_count { L.count ports.new.log ≡ L.count ports.old.log }
     ensures count { S.count ports.new.shards ≡ S.count ports.old.shards }

@@ -13,6 +13,7 @@ loop-unfinished-preserved g c =
     let i = c.loop-unfinished.unfinished-index in
     let told = c.in-Ok-resume_lane.ensures in
     record {
+      at_same = told.at_same ∙ inv.at_same;
       header = told.header ∙ inv.header;
       log_count = told.log_count ∙ inv.log_count;
       count = told.count ∙ inv.count;
@@ -25,3 +26,12 @@ loop-unfinished-preserved g c =
       len = c.push_reserved.ensures.len ∙ ap (λ n. n + 1) inv.len;
       room = c.push_reserved.ensures.capacity ∙ inv.room;
     }
+
+pub resume_lane-requires-clause-at : goal.resume_lane-requires-clause-at
+resume_lane-requires-clause-at g c = c.loop-unfinished.invariant.at_same ∙ c.requires.at ∙ ap (λ h. h.node) (sym c.loop-unfinished.invariant.header)
+
+pub returns-in-Err-resume_lane-clause-at_same : goal.returns-in-Err-resume_lane-clause-at_same
+returns-in-Err-resume_lane-clause-at_same g c = c.in-Err-resume_lane.ensures.at_same ∙ c.loop-unfinished.invariant.at_same
+
+pub returns-clause-at_same : goal.returns-clause-at_same
+returns-clause-at_same g c = c.loop-unfinished.invariant.at_same

@@ -6,6 +6,7 @@ use Rattle.recovery.proofs.resuming.resume.Given as goal
 
 abbrev pub invariant-loop-unfinished : goal.invariant-loop-unfinished
 invariant-loop-unfinished g l = record {
+  at_same : g.L.LogPort.at l.ports.log ≡ g.L.LogPort.at l.initial.ports.log;
   header : g.L.LogPort.header l.ports.log ≡ g.L.LogPort.header l.initial.ports.log;
   log_count : g.L.LogPort.count l.ports.log ≡ g.L.LogPort.count l.initial.ports.log;
   shard_later : (n : ℕ) → g.S.PortSet.faults l.initial.ports.shards n ≤ g.S.PortSet.faults l.ports.shards n;

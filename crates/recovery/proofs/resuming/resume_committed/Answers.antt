@@ -7,7 +7,7 @@ use Rattle.recovery.proofs.resuming.resume_committed.Goals as goal
 
 pub from_committed-requires-clause-shards : goal.from_committed-requires-clause-shards
 from_committed-requires-clause-shards g c =
-    lock_shards c.args.unfinished.now.batch c.args.unfinished.now.stamp _ _ refl c.in-Ok-take.room.parts _ (c.deref.ensures.value ∙ c.lock_calls.ensures) c.in-Ok-take.ensures.parts
+    lock_shards c.args.unfinished.now.batch c.args.unfinished.now.stamp _ _ refl c.in-Ok-take.room.parts _ (c.deref.ensures.value ∙ c.lock_calls.ensures) c.in-Ok-take.ensures.room.parts
 
 pub from_committed-requires-clause-locks : goal.from_committed-requires-clause-locks
 from_committed-requires-clause-locks g c =
@@ -15,11 +15,11 @@ from_committed-requires-clause-locks g c =
 
 pub from_committed-requires-clause-parts : goal.from_committed-requires-clause-parts
 from_committed-requires-clause-parts g c =
-    lock_sizes c.args.unfinished.now.batch c.args.unfinished.now.stamp c.in-Ok-take.room.parts _ _ _ (c.deref.ensures.value ∙ c.lock_calls.ensures) c.in-Ok-take.ensures.small
+    lock_sizes c.args.unfinished.now.batch c.args.unfinished.now.stamp c.in-Ok-take.room.parts _ _ _ (c.deref.ensures.value ∙ c.lock_calls.ensures) c.in-Ok-take.ensures.room.small
     (ap length c.as_slice-3.ensures ∙ (subst (λ p. HasOutcomes p (length c.args.unfinished.now.outcomes) (length c.args.unfinished.now.txs)) c.requires.phase c.requires.is_open.outcomes ∙ sym (ap length c.as_slice-2.ensures)))
 
 pub from_committed-requires-clause-room : goal.from_committed-requires-clause-room
 from_committed-requires-clause-room g c =
     later_room _ _ _ _ c.in-Ok-take.room.later
     (ap length (c.deref.ensures.value ∙ c.lock_calls.ensures) ∙ length-map c.in-Ok-take.room.parts _)
-    (ap length c.as_slice-3.ensures ∙ (subst (λ p. HasOutcomes p (length c.args.unfinished.now.outcomes) (length c.args.unfinished.now.txs)) c.requires.phase c.requires.is_open.outcomes ∙ sym (ap length c.as_slice-2.ensures))) c.in-Ok-take.ensures.later
+    (ap length c.as_slice-3.ensures ∙ (subst (λ p. HasOutcomes p (length c.args.unfinished.now.outcomes) (length c.args.unfinished.now.txs)) c.requires.phase c.requires.is_open.outcomes ∙ sym (ap length c.as_slice-2.ensures))) c.in-Ok-take.ensures.room.later
