@@ -16,3 +16,4 @@ pub mod Whole
 pub mod Stops
 pub mod Laning
 pub mod Leaving
+pub mod Resumes

@@ -3,3 +3,4 @@ pub mod Gathering
 pub mod Answers
 pub mod Batches
 pub mod Traces
+pub mod Resuming
