@@ -1,5 +1,5 @@
 -- The lanes that are open at a coordinator.
-use Rattle.std.specs.Prelude.{◌≡◌, ◌≢◌, ℕ, ◌<◌, List, [], ◌∷◌, length}
+use Rattle.std.specs.Prelude.{◌≡◌, ◌≢◌, ◌⊎◌, ℕ, ◌<◌, Bool, List, [], ◌∷◌, length}
 use Rattle.std.specs.List.{All, AllZip}
 use Rattle.cbdc_types.specs.declared.batch.OpenLane.{OpenLane}
 use Rattle.cbdc_types.specs.declared.batch.Phase.{Phase as OpenPhase}
@@ -7,6 +7,12 @@ use Rattle.cbdc_types.specs.declared.batch.Phase.TheVariants.{Prepared, Committe
 use Rattle.cbdc_model.specs.Records.{Header, Compact}
 use Rattle.cbdc_model.specs.Slots.{Phase, InPrepare, InCommit, InDiscard}
 use Rattle.cbdc_model.specs.Grammar.{HasSize, IsCompact}
+use Rattle.cbdc_model.specs.Records.{Shape}
+use Rattle.cbdc_model.specs.Sights.{Sight}
+use Rattle.cbdc_types.specs.declared.calls.NodeFault.{NodeFault}
+use Rattle.lane_laws.specs.Resuming.{IsOpenAt, IsCommittedAt, IsDiscardedAt, IsLeft}
+use Rattle.lane_driver.specs.declared.fault.LaneFault.{LaneFault}
+use Rattle.lane_driver.specs.Stops.{IsFaultOf, HasNoMemory}
 use Rattle.lane_driver.specs.Told.{IsLane, IsStamp}
 use Rattle.recovery.specs.declared.resumed.ResumedBatch.{ResumedBatch}
 
@@ -49,3 +55,14 @@ pub record IsResumed (o : OpenLane) (r : ResumedBatch) : Type 0 where
 
 abbrev pub AreResumed : List OpenLane → List ResumedBatch → Type 0
 AreResumed os rs = AllZip IsResumed os rs
+
+-- the journals have of the open batch what is told of it
+abbrev pub IsUnfinished : OpenPhase → Shape → OpenLane → Sight → (ℕ → Sight) → Type 0
+IsUnfinished Prepared K o log shards = IsOpenAt K o.batch o.txs o.stamp log shards
+IsUnfinished Committed K o log shards = (prepared : ℕ) × IsCommittedAt K o.batch o.txs prepared o.stamp o.outcomes log shards
+IsUnfinished Discarded K o log shards = (prepared : ℕ) × IsDiscardedAt K o.batch o.txs prepared o.stamp log shards
+
+-- it stopped at a node's fault, or was not begun for want of memory
+abbrev pub IsResumeStopped : Shape → Bool → OpenLane → Sight → (ℕ → Sight) → Sight → (ℕ → Sight) → LaneFault → Type 0
+IsResumeStopped K alone o log I log' J e =
+    HasNoMemory e log I log' J ⊎ (IsUnfinished o.phase K o log I → (n : ℕ) × (f : NodeFault) × IsFaultOf e n f × IsLeft K alone o.batch log I log' J n f)

@@ -1,10 +1,11 @@
 // Open batches are taken to their end.
-ghost use Rattle.std.specs.Prelude.{◌≡◌, ◌≤◌, ◌<◌, ℕ, [], length, IfOk, OnOk, All};
+ghost use Rattle.std.specs.Prelude.{◌≡◌, ◌≤◌, ◌<◌, ℕ, [], length, IfOk, IfErr, OnOk, All};
 ghost use Rattle.std.specs.Vec.{vec_capacity};
 ghost use Rattle.cbdc_model.specs.Slots.{Idle};
 ghost use Rattle.cbdc_types.specs.declared.batch.Phase.TheVariants.{Prepared, Committed, Discarded};
+ghost use Rattle.lane_laws.specs.Resuming.{IsTakenUp};
 ghost use Rattle.lane_driver.specs.Told.{KeepsOthers};
-ghost use Rattle.recovery.specs.Open.{IsOpen, LanesRise, IsResumed, AreResumed};
+ghost use Rattle.recovery.specs.Open.{IsOpen, LanesRise, IsResumed, AreResumed, IsUnfinished, IsResumeStopped};
 
 use crate::resumed::{Resumed, ResumedBatch};
 use cbdc_types::{List, OpenLane, Outcome, Outcomes, Phase, Shape};
@@ -36,6 +37,8 @@ fn resume_prepared<S: PortSet, L: LogPort, G: Gate>(
     requires is_open { IsOpen (L.header ports.old.log) (L.phase ports.old.log) (L.open_txs ports.old.log) unfinished.now }
     requires shape { (L.header ports.old.log).shape ≡ shape.now }
     requires count { S.count ports.old.shards ≡ shape.now.shards }
+    ensures taken { OnOk result (IsUnfinished unfinished.now.phase shape.now unfinished.now (L.sights ports.old.log (L.at ports.old.log)) (S.sights ports.old.shards) → IsTakenUp shape.now L.alone unfinished.now.batch (L.sights ports.old.log (L.at ports.old.log)) (S.sights ports.old.shards) (L.sights ports.new.log (L.at ports.new.log)) (S.sights ports.new.shards)) }
+    ensures left { IfErr result (IsResumeStopped shape.now L.alone unfinished.now (L.sights ports.old.log (L.at ports.old.log)) (S.sights ports.old.shards) (L.sights ports.new.log (L.at ports.new.log)) (S.sights ports.new.shards)) }
     ensures idle { OnOk result (L.phase ports.new.log unfinished.now.batch.lane ≡ Idle) }
     ensures others { OnOk result (KeepsOthers (L.header ports.old.log) unfinished.now.batch.lane (L.phase ports.old.log) (L.phase ports.new.log) (L.open_txs ports.old.log) (L.open_txs ports.new.log)) }
     ensures at_same { L.at ports.new.log ≡ L.at ports.old.log }
@@ -83,6 +86,8 @@ fn resume_committed<S: PortSet, L: LogPort, G: Gate>(
     requires is_open { IsOpen (L.header ports.old.log) (L.phase ports.old.log) (L.open_txs ports.old.log) unfinished.now }
     requires shape { (L.header ports.old.log).shape ≡ shape.now }
     requires count { S.count ports.old.shards ≡ shape.now.shards }
+    ensures taken { OnOk result (IsUnfinished unfinished.now.phase shape.now unfinished.now (L.sights ports.old.log (L.at ports.old.log)) (S.sights ports.old.shards) → IsTakenUp shape.now L.alone unfinished.now.batch (L.sights ports.old.log (L.at ports.old.log)) (S.sights ports.old.shards) (L.sights ports.new.log (L.at ports.new.log)) (S.sights ports.new.shards)) }
+    ensures left { IfErr result (IsResumeStopped shape.now L.alone unfinished.now (L.sights ports.old.log (L.at ports.old.log)) (S.sights ports.old.shards) (L.sights ports.new.log (L.at ports.new.log)) (S.sights ports.new.shards)) }
     ensures idle { OnOk result (L.phase ports.new.log unfinished.now.batch.lane ≡ Idle) }
     ensures others { OnOk result (KeepsOthers (L.header ports.old.log) unfinished.now.batch.lane (L.phase ports.old.log) (L.phase ports.new.log) (L.open_txs ports.old.log) (L.open_txs ports.new.log)) }
     ensures at_same { L.at ports.new.log ≡ L.at ports.old.log }
@@ -147,6 +152,8 @@ fn resume_discarded<S: PortSet, L: LogPort, G: Gate>(
     requires is_open { IsOpen (L.header ports.old.log) (L.phase ports.old.log) (L.open_txs ports.old.log) unfinished.now }
     requires shape { (L.header ports.old.log).shape ≡ shape.now }
     requires count { S.count ports.old.shards ≡ shape.now.shards }
+    ensures taken { OnOk result (IsUnfinished unfinished.now.phase shape.now unfinished.now (L.sights ports.old.log (L.at ports.old.log)) (S.sights ports.old.shards) → IsTakenUp shape.now L.alone unfinished.now.batch (L.sights ports.old.log (L.at ports.old.log)) (S.sights ports.old.shards) (L.sights ports.new.log (L.at ports.new.log)) (S.sights ports.new.shards)) }
+    ensures left { IfErr result (IsResumeStopped shape.now L.alone unfinished.now (L.sights ports.old.log (L.at ports.old.log)) (S.sights ports.old.shards) (L.sights ports.new.log (L.at ports.new.log)) (S.sights ports.new.shards)) }
     ensures idle { OnOk result (L.phase ports.new.log unfinished.now.batch.lane ≡ Idle) }
     ensures others { OnOk result (KeepsOthers (L.header ports.old.log) unfinished.now.batch.lane (L.phase ports.old.log) (L.phase ports.new.log) (L.open_txs ports.old.log) (L.open_txs ports.new.log)) }
     ensures at_same { L.at ports.new.log ≡ L.at ports.old.log }
@@ -201,8 +208,8 @@ fn resume_discarded<S: PortSet, L: LogPort, G: Gate>(
     }
 }
 
-// One open lane.
-fn resume_lane<S: PortSet, L: LogPort, G: Gate>(
+/// Takes one open batch to its end, from the phase in which it stands.
+pub fn resume_lane<S: PortSet, L: LogPort, G: Gate>(
     alloc: Global,
     shape: &Shape,
     unfinished: &OpenLane,
@@ -214,6 +221,8 @@ fn resume_lane<S: PortSet, L: LogPort, G: Gate>(
     requires is_open { IsOpen (L.header ports.old.log) (L.phase ports.old.log) (L.open_txs ports.old.log) unfinished.now }
     requires shape { (L.header ports.old.log).shape ≡ shape.now }
     requires count { S.count ports.old.shards ≡ shape.now.shards }
+    ensures taken { OnOk result (IsUnfinished unfinished.now.phase shape.now unfinished.now (L.sights ports.old.log (L.at ports.old.log)) (S.sights ports.old.shards) → IsTakenUp shape.now L.alone unfinished.now.batch (L.sights ports.old.log (L.at ports.old.log)) (S.sights ports.old.shards) (L.sights ports.new.log (L.at ports.new.log)) (S.sights ports.new.shards)) }
+    ensures left { IfErr result (IsResumeStopped shape.now L.alone unfinished.now (L.sights ports.old.log (L.at ports.old.log)) (S.sights ports.old.shards) (L.sights ports.new.log (L.at ports.new.log)) (S.sights ports.new.shards)) }
     ensures idle { OnOk result (L.phase ports.new.log unfinished.now.batch.lane ≡ Idle) }
     ensures others { OnOk result (KeepsOthers (L.header ports.old.log) unfinished.now.batch.lane (L.phase ports.old.log) (L.phase ports.new.log) (L.open_txs ports.old.log) (L.open_txs ports.new.log)) }
     ensures at_same { L.at ports.new.log ≡ L.at ports.old.log }
