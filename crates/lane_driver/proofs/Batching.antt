@@ -1,5 +1,5 @@
 -- What was told of a whole batch, and what it comes to.
-use Rattle.std.proofs.Common.{◌≡◌, ◌⊎◌, inl, inr, ℕ, suc, ◌<◌, ◌==◌, min, Bool, true, List, [], ◌∷◌, length, take, drop, Result, Ok, Err, refl, sym, ap, ◌∙◌, subst, arith}
+use Rattle.std.proofs.Common.{◌≡◌, ◌⊎◌, inl, inr, ℕ, suc, ◌<◌, ◌==◌, min, Bool, true, List, [], ◌∷◌, length, take, drop, Ok, Err, refl, sym, ◌∙◌, subst, arith}
 use Rattle.std.proofs.lemmas.List.{take_min, drop_min}
 use Rattle.cbdc_types.specs.declared.calls.NodeFault.{NodeFault}
 use Rattle.cbdc_model.specs.Records.{Shape, Batch, Compact, Entry, Outcome}
@@ -8,7 +8,7 @@ use Rattle.cbdc_model.specs.Slots.{slot}
 use Rattle.cbdc_model.specs.Due.{prepare_due}
 use Rattle.cbdc_model.specs.Sights.{Sight, Told}
 use Rattle.lane_laws.specs.Calls.{AreParts}
-use Rattle.lane_laws.specs.Batches.{Settled, BatchDone, BatchStopped, LaneSo, LaneStopped}
+use Rattle.lane_laws.specs.Batches.{Settled, BatchDone, LaneSo, LaneStopped}
 use Rattle.lane_laws.specs.Traces.{ToldPrepared, at_prepare, behind_prepare}
 use Rattle.lane_laws.proofs.Whole.{batch_done}
 use Rattle.lane_laws.proofs.Stops.{batch_stopped}

@@ -1,6 +1,6 @@
 -- What the answers of a phase tell of shards and stamps.
-use Rattle.std.proofs.Common.{◌≡◌, ℕ, ◌+◌, ◌^◌, ◌<◌, max, List, [], ◌∷◌, length, get_or, map, Result, Ok, Err, IfOk, IsOk, refl, arith, ap, ◌∙◌, sym, subst, lit<}
-use Rattle.std.specs.List.{All, AllZip}
+use Rattle.std.proofs.Common.{◌≡◌, ℕ, ◌^◌, ◌<◌, List, [], ◌∷◌, map, Result, Ok, Err, IfOk, arith, subst, lit<}
+use Rattle.std.specs.List.{All}
 use Rattle.std.proofs.lemmas.List.Elements.{All-nil, All-cons, All-head, All-tail}
 use Rattle.cbdc_types.specs.declared.calls.NodeFault.{NodeFault}
 use Rattle.cbdc_types.specs.declared.calls.LockCall.{LockCall}

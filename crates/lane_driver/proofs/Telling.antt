@@ -1,12 +1,12 @@
 -- What was told of calls made again, and of a phase.
-use Rattle.std.proofs.Common.{◌≡◌, ℕ, zero, suc, ◌+◌, ◌≤◌, List, Result, refl, subst, arith}
+use Rattle.std.proofs.Common.{◌≡◌, ℕ, suc, ◌+◌, ◌≤◌, List, Result, subst, arith}
 use Rattle.cbdc_types.specs.declared.calls.NodeFault.{NodeFault}
 use Rattle.cbdc_model.specs.Sights.{Sight}
 use Rattle.cbdc_model.specs.Records.{Shape}
 use Rattle.cbdc_model.specs.Ranges.{shard_node}
 use Rattle.lane_laws.specs.Calls.{shard}
 use Rattle.lane_laws.specs.Gathering.{FirstFault}
-use Rattle.lane_laws.specs.Answers.{Asked, AskedTimes, EachTold, Others, StoppedAt}
+use Rattle.lane_laws.specs.Answers.{AskedTimes, EachTold, Others}
 use Rattle.lane_driver.specs.declared.fault.LaneFault.{LaneFault}
 use Rattle.lane_driver.specs.Stops.{IsFaultOf, IsStoppedAt}
 

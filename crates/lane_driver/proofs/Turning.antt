@@ -1,5 +1,5 @@
 -- What was told of some calls is told of the same calls, whichever of the two ports says that it is alone.
-use Rattle.std.proofs.Common.{◌≡◌, ℕ, Bool, true, false, List, Result, Ok, Err, map, refl, sym, ap, ◌∙◌, subst}
+use Rattle.std.proofs.Common.{◌≡◌, ℕ, Bool, false, List, Result, Ok, Err, map, refl, subst}
 use Rattle.cbdc_types.specs.declared.calls.LockCall.{LockCall}
 use Rattle.cbdc_types.specs.declared.calls.FinishCall.{FinishCall}
 use Rattle.cbdc_types.specs.declared.calls.ForgetCall.{ForgetCall}
@@ -11,7 +11,7 @@ use Rattle.cbdc_model.specs.Due.{open_batch, discard_due, done_due}
 use Rattle.cbdc_model.specs.Sights.{Sight, Told}
 use Rattle.lane_laws.specs.Calls.{lock_of, finish_of, forget_of}
 use Rattle.lane_laws.specs.Answers.{DecideAnswer, LockAnswer, FinishAnswer, ForgetAnswer, AskedTimes, Locked, Stamped, StoppedAt}
-use Rattle.lane_laws.specs.Traces.{ToldDiscarded, ToldCommitted, DiscardedStopped, at_forget, at_done, CommittedStopped, at_finish, at_discard, behind_discard, PreparedStopped, at_lock, at_decide, behind_commit}
+use Rattle.lane_laws.specs.Traces.{ToldCommitted, at_forget, at_done, at_finish, at_discard, behind_discard, at_lock, at_decide, behind_commit}
 use Rattle.lane_driver.specs.declared.fault.LaneFault.{LaneFault}
 use Rattle.lane_driver.specs.Faults.{kind_of}
 use Rattle.lane_driver.specs.Stops.{IsFaultOf, IsStoppedAt, IsDiscardedStopped, IsCommittedStopped, IsPreparedStopped}
@@ -51,12 +51,22 @@ finish_stops K a a' b cause os n locks cs log I J e same is (s, f, at, stop) = (
 module _ (K : Shape) (a a' : Bool) (b : Batch) (cause : ℕ) (os : List Outcome) (n m : ℕ) (locks : List (ℕ × LockCall)) (cs cs2 : List (ℕ × FinishCall)) (log log1 : Sight) (I M X : ℕ → Sight) (same : a ≡ a')
     (is : cs ≡ map (finish_of b cause os) locks) (is2 : cs2 ≡ map (finish_of b cause os) locks) (phase : Stamped (FinishAnswer a) cs I M m) (again : AskedTimes (FinishAnswer a) cs2 n M X) where
   pub discard_stops : (f : NodeFault) (e : LaneFault) → IsFaultOf e (home_of K b.lane) f → Told a' b.lane false (discard_due b.lane m) log log1 (Err f) → IsCommittedStopped K a' b cause os n locks log log1 I X e
-  discard_stops f e at told = (home_of K b.lane, f, at, at_discard m M (turn_stamped FinishAnswer a a' cs (map (finish_of b cause os) locks) I M m same is phase)
-    (turn_times FinishAnswer a a' cs2 (map (finish_of b cause os) locks) n M X same is2 again) told refl)
+  discard_stops f e at told = (
+    home_of K b.lane,
+    f,
+    at,
+    at_discard m M (turn_stamped FinishAnswer a a' cs (map (finish_of b cause os) locks) I M m same is phase)
+        (turn_times FinishAnswer a a' cs2 (map (finish_of b cause os) locks) n M X same is2 again) told refl,
+  )
 
   pub later_stops : (td : ℕ) (log' : Sight) (J : ℕ → Sight) (e : LaneFault) → Told a' b.lane false (discard_due b.lane m) log log1 (Ok td) → IsDiscardedStopped K a' b td locks log1 log' X J e → IsCommittedStopped K a' b cause os n locks log log' I J e
-  later_stops td log' J e told (node, f, at, stop) = (node, f, at, behind_discard m M (turn_stamped FinishAnswer a a' cs (map (finish_of b cause os) locks) I M m same is phase) X
-    (turn_times FinishAnswer a a' cs2 (map (finish_of b cause os) locks) n M X same is2 again) log1 td told stop)
+  later_stops td log' J e told (node, f, at, stop) = (
+    node,
+    f,
+    at,
+    behind_discard m M (turn_stamped FinishAnswer a a' cs (map (finish_of b cause os) locks) I M m same is phase) X
+        (turn_times FinishAnswer a a' cs2 (map (finish_of b cause os) locks) n M X same is2 again) log1 td told stop,
+  )
 
 -- those of a prepared one
 pub lock_stops : (K : Shape) (a a' : Bool) (b : Batch) (cause n : ℕ) (parts : List (ℕ × List Entry)) (cs : List (ℕ × LockCall)) (log : Sight) (I J : ℕ → Sight) (e : LaneFault) → a ≡ a' → cs ≡ map (lock_of b cause) parts
@@ -66,16 +76,26 @@ lock_stops K a a' b cause n parts cs log I J e same is (s, f, at, stop) = (shard
 module _ (K : Shape) (a a' : Bool) (b : Batch) (cause n : ℕ) (rs : List ShardReplies) (parts : List (ℕ × List Entry)) (cs cs2 : List (ℕ × LockCall)) (log log1 : Sight) (I M X : ℕ → Sight) (same : a ≡ a')
     (is : cs ≡ map (lock_of b cause) parts) (is2 : cs2 ≡ map (lock_of b cause) parts) (phase : Locked a cs I M rs) (again : AskedTimes (LockAnswer a) cs2 n M X) where
   pub decide_stops : (f : NodeFault) (e : LaneFault) → IsFaultOf e (home_of K b.lane) f → DecideAnswer a' b.lane rs log log1 (Err f) → IsPreparedStopped K a' b cause n parts log log1 I X e
-  decide_stops f e at told = (home_of K b.lane, f, at, at_decide rs M (turn_locked a a' cs (map (lock_of b cause) parts) I M rs same is phase)
-    (turn_times LockAnswer a a' cs2 (map (lock_of b cause) parts) n M X same is2 again) told refl)
+  decide_stops f e at told = (
+    home_of K b.lane,
+    f,
+    at,
+    at_decide rs M (turn_locked a a' cs (map (lock_of b cause) parts) I M rs same is phase)
+        (turn_times LockAnswer a a' cs2 (map (lock_of b cause) parts) n M X same is2 again) told refl,
+  )
 
   pub commit_stops : (tc : ℕ) (os : List Outcome) (log' : Sight) (J : ℕ → Sight) (e : LaneFault) (cs3 : List (ℕ × LockCall)) → cs3 ≡ map (lock_of b cause) parts → DecideAnswer a' b.lane rs log log1 (Ok tc) → os ≡ outcomes_of log1.seen (open_batch log1.seen b.lane)
       → IsCommittedStopped K a' b tc os n cs3 log1 log' X J e → IsPreparedStopped K a' b cause n parts log log' I J e
   commit_stops tc os log' J e cs3 is3 told os_is stop = go (subst (λ ds. IsCommittedStopped K a' b tc os n ds log1 log' X J e) is3 stop)
     where
       go : IsCommittedStopped K a' b tc os n (map (lock_of b cause) parts) log1 log' X J e → IsPreparedStopped K a' b cause n parts log log' I J e
-      go (node, f, at, stop) = (node, f, at, behind_commit rs M (turn_locked a a' cs (map (lock_of b cause) parts) I M rs same is phase) X
-        (turn_times LockAnswer a a' cs2 (map (lock_of b cause) parts) n M X same is2 again) log1 tc told os os_is stop)
+      go (node, f, at, stop) = (
+        node,
+        f,
+        at,
+        behind_commit rs M (turn_locked a a' cs (map (lock_of b cause) parts) I M rs same is phase) X
+            (turn_times LockAnswer a a' cs2 (map (lock_of b cause) parts) n M X same is2 again) log1 tc told os os_is stop,
+      )
 
 pub turn_committed : (a : Bool) (b : Batch) (cause : ℕ) (os os' : List Outcome) (n : ℕ) (cs cs' : List (ℕ × LockCall)) (log log' : Sight) (I J : ℕ → Sight) → os ≡ os' → cs ≡ cs'
     → ToldCommitted a b cause os n cs log log' I J → ToldCommitted a b cause os' n cs' log log' I J

@@ -1,5 +1,5 @@
 -- What a lane reports.
-use Rattle.std.specs.Prelude.{◌≡◌, ℕ, ◌<◌, List, [], ◌∷◌, length, take, drop, reverse}
+use Rattle.std.specs.Prelude.{◌≡◌, ℕ, List, length, reverse}
 use Rattle.std.specs.List.{AllZip}
 use Rattle.cbdc_model.specs.Records.{Compact}
 use Rattle.lane_driver.specs.declared.fault.BatchReport.{BatchReport}

@@ -1,13 +1,13 @@
 -- A call or a phase whatever its answers are: what it made is caused, by look-ups alone. It serves new batches, batches that a fault
 -- stopped, repeats and resumed batches.
-use Rattle.std.proofs.Common.{◌≡◌, ◌⊎◌, inl, inr, ℕ, suc, ◌+◌, ◌<◌, max, Bool, true, false, ◌==◌, List, [], ◌∷◌, ◌++◌, if◌then◌else◌, Option, Some, is_some, Result, Ok, Err, refl, sym, ap, ◌∙◌, subst, arith}
+use Rattle.std.proofs.Common.{◌≡◌, ◌⊎◌, inl, inr, ℕ, suc, ◌+◌, ◌<◌, max, Bool, true, false, ◌==◌, List, [], ◌∷◌, ◌++◌, if◌then◌else◌, Some, is_some, Result, Ok, Err, refl, sym, ap, ◌∙◌, subst, arith}
 use Rattle.cbdc_types.specs.declared.calls.LockCall.{LockCall}
 use Rattle.cbdc_types.specs.declared.calls.FinishCall.{FinishCall}
 use Rattle.cbdc_types.specs.declared.calls.ForgetCall.{ForgetCall}
 use Rattle.cbdc_types.specs.declared.calls.Replied.{Replied}
 use Rattle.cbdc_types.specs.declared.calls.NodeFault.{NodeFault}
 use Rattle.cbdc_types.specs.declared.calls.NodeFault.TheVariants.{Broken}
-use Rattle.cbdc_model.specs.Records.{Batch, Compact, Entry, Answered, Digest, Outcome, Record, Shape, is_held, is_in_lane, record_of, lock_of, last_stamp, stamp_in, txs_in, outcomes_in, entries_in, Lock, Finish, Forget, Prepare, Commit, Discard}
+use Rattle.cbdc_model.specs.Records.{Batch, Compact, Entry, Digest, Outcome, Record, Shape, is_held, is_in_lane, record_of, lock_of, last_stamp, stamp_in, txs_in, outcomes_in, entries_in, Finish, Forget, Prepare, Commit, Discard}
 use Rattle.cbdc_model.specs.Replies.{entries, answered, reply_to}
 use Rattle.cbdc_model.specs.Causes.{IsCaused}
 use Rattle.cbdc_model.specs.Outcomes.{decisions}
@@ -19,12 +19,12 @@ use Rattle.cbdc_model.specs.Due.{Due, Answers, Writes, unless_broken, lock_by, l
 use Rattle.cbdc_model.specs.Sights.{Sight, Finds, Told}
 use Rattle.ledger_laws.proofs.Finds.{replaced_at, replaced_away}
 use Rattle.lane_laws.specs.Batches.{view}
-use Rattle.lane_laws.specs.Calls.{shard, NotAmong, is_concerned, IsLock, IsFinish, IsForget, AreLocks, AreFinishes, AreForgets, Every}
+use Rattle.lane_laws.specs.Calls.{is_concerned, IsLock, IsFinish, IsForget, AreLocks, AreFinishes, AreForgets, Every}
 use Rattle.lane_laws.specs.Answers.{EachTold, Others, LockAnswer, FinishAnswer, ForgetAnswer}
 use Rattle.lane_laws.proofs.Own.{finds_record}
 use Rattle.lane_laws.proofs.Steps.{StepAt, stays_there, comes_there, makes_there, fails_there}
 use Rattle.lane_laws.proofs.Views.{view_home, view_shard, apart_home}
-use Rattle.lane_laws.proofs.Dues.{lock_wrote, lock_unbroken, stamp_wrote, stamp_unbroken, finish_new, forget_new}
+use Rattle.lane_laws.proofs.Dues.{lock_wrote, lock_unbroken, stamp_wrote, stamp_unbroken}
 use Rattle.lane_laws.proofs.Tellings.{Wrote, Stood, Stopped, told_ok, told_err}
 use Rattle.lane_laws.proofs.ByShard.{Fine, AskedAt, no_call, one_call, asked_at}
 

@@ -1,5 +1,5 @@
 -- The answers of a phase's calls, by shard.
-use Rattle.std.proofs.Common.{◌≡◌, ◌⊎◌, inl, inr, ℕ, zero, suc, ◌<◌, ◌≤◌, max, Bool, true, false, ◌==◌, if◌then◌else◌, List, [], ◌∷◌, length, map, Option, Some, None, Result, Ok, Err, IsOk, slice_index_or, refl, sym, ap, ◌∙◌, subst, arith}
+use Rattle.std.proofs.Common.{◌≡◌, ℕ, zero, suc, ◌<◌, ◌≤◌, max, Bool, true, false, ◌==◌, List, [], ◌∷◌, length, map, Some, None, Result, Ok, Err, IsOk, slice_index_or, refl, sym, ap, ◌∙◌, subst, arith}
 use Rattle.std.specs.List.{All}
 use Rattle.std.proofs.lemmas.List.Elements.{All-head, All-tail}
 use Rattle.cbdc_types.specs.declared.calls.LockCall.{LockCall}
@@ -10,7 +10,7 @@ use Rattle.cbdc_model.specs.Causes.{greatest}
 use Rattle.cbdc_model.specs.Deciding.{replies_at}
 use Rattle.cbdc_model.specs.Sights.{Sight}
 use Rattle.lane_laws.specs.Calls.{shard, NotAmong, AllAbove, IsRising, Every}
-use Rattle.lane_laws.specs.Gathering.{Gathered, FirstFault, IsLatest, ok_stamp, latest_of, stamp_at, replied_of}
+use Rattle.lane_laws.specs.Gathering.{FirstFault, ok_stamp, latest_of, stamp_at, replied_of}
 use Rattle.lane_laws.specs.Answers.{EachTold, LockAnswer}
 
 is_same : (a b : ℕ) → (a == b) ≡ true → a ≡ b

@@ -1,14 +1,12 @@
 -- What a node's answer says of what it found: the record that it wrote, or what it had kept.
-use Rattle.std.proofs.Common.{◌≡◌, ◌⊎◌, inl, inr, ℕ, suc, ◌<◌, ◌≤◌, max, Bool, true, false, ◌&&◌, ◌||◌, not, ◌==◌, ◌+◌, ◌^◌, nat_lt, if◌then◌else◌, List, [], ◌∷◌, Option, Some, None, Result, Ok, Err, refl, sym, ap, ◌∙◌, subst, arith, bytes_eq}
+use Rattle.std.proofs.Common.{◌≡◌, ℕ, ◌<◌, Bool, true, false, ◌&&◌, ◌||◌, not, ◌==◌, ◌+◌, ◌^◌, nat_lt, if◌then◌else◌, List, [], Option, Some, None, Result, Ok, Err, refl, sym, ap, subst, arith}
 use Rattle.cbdc_types.specs.declared.calls.LockCall.{LockCall}
-use Rattle.cbdc_types.specs.declared.calls.FinishCall.{FinishCall}
-use Rattle.cbdc_types.specs.declared.calls.ForgetCall.{ForgetCall}
 use Rattle.cbdc_types.specs.declared.calls.Refused.{Refused}
 use Rattle.cbdc_types.specs.declared.calls.Refused.TheVariants.{Stale, LaneOpen, NotLocked, NotFinished, OtherPart, OtherOutcome, EarlyStamp}
 use Rattle.cbdc_types.specs.declared.calls.Replied.{Replied}
 use Rattle.cbdc_types.specs.declared.calls.NodeFault.{NodeFault}
-use Rattle.cbdc_types.specs.declared.calls.NodeFault.TheVariants.{Broken, Refused as Refuses, ClockEnd, Full, DiskFault, Memory}
-use Rattle.cbdc_model.specs.Records.{Shape, Batch, Compact, Entry, Answered, Record, record_of, lock_of, decisions_in, stamp_in, last_stamp, Lock, Finish, Forget}
+use Rattle.cbdc_types.specs.declared.calls.NodeFault.TheVariants.{Broken, Refused as Refuses, ClockEnd, Full}
+use Rattle.cbdc_model.specs.Records.{Shape, Batch, Entry, Record, record_of, lock_of, decisions_in, stamp_in}
 use Rattle.cbdc_model.specs.Slots.{Phase, slot, slot_stamp, Idle, InLock, InFinish, InPrepare, InCommit, InDiscard}
 use Rattle.cbdc_model.specs.Replies.{answered, entries, replies}
 use Rattle.cbdc_model.specs.Next.{Plan, Kept, Append, Refuse, RepliesAt, difference, same_entry, same_decision, is_idle, next_stamp, misfit, next_lock, lock_again, next_finish, finish_in, finish_now, finish_again, next_forget, forget_in}

@@ -1,15 +1,15 @@
 -- A lane's batches add up.
-use Rattle.std.proofs.Common.{◌≡◌, ◌⊎◌, inl, inr, ℕ, suc, ◌<◌, Bool, List, [], ◌∷◌, ◌++◌, length, take, drop, refl, sym, ap, ◌∙◌, subst}
+use Rattle.std.proofs.Common.{◌≡◌, inl, inr, ℕ, ◌<◌, Bool, List, [], ◌∷◌, length, take, drop, refl, sym, ap, ◌∙◌, subst}
 use Rattle.std.specs.Prelude.{Contains}
 use Rattle.cbdc_types.specs.declared.calls.NodeFault.{NodeFault}
 use Rattle.cbdc_model.specs.Records.{Shape, Batch, Compact, Outcome, Record}
 use Rattle.cbdc_model.specs.Slots.{slot}
 use Rattle.cbdc_model.specs.Lanes.{Made}
 use Rattle.cbdc_model.specs.Sights.{Sight}
-use Rattle.ledger_laws.proofs.Members.{In, in_contains, contains_in}
+use Rattle.ledger_laws.proofs.Members.{in_contains, contains_in}
 use Rattle.ledger_laws.proofs.Cuts.{made_none, made_trans}
 use Rattle.ledger_laws.proofs.Turns.{holds_more}
-use Rattle.lane_laws.specs.Batches.{view, prepared, prepared_of, Settled, BatchDone, BatchStopped, CutFrom, LaneSo, LaneStopped}
+use Rattle.lane_laws.specs.Batches.{view, prepared, Settled, BatchDone, BatchStopped, LaneSo, LaneStopped}
 
 pub made_more : (K : Shape) (p q : List (List Compact)) (alone : Bool) (lane : ℕ) (I J : ℕ → List Record) → ((txs : List Compact) → Contains p txs → Contains q txs) → Made K p alone lane I J → Made K q alone lane I J
 made_more K p q alone lane I J h m = record {

@@ -1,6 +1,6 @@
 -- What the lock's end says of a lane's seats gives what it left; and then what the lane had seen of itself holds of the final journals.
-use Rattle.std.proofs.Common.{◌≡◌, ◌⊎◌, inl, inr, ℕ, zero, suc, ◌+◌, Bool, true, false, List, [], ◌∷◌, ◌++◌, length, length-append, refl, sym, ap, ◌∙◌, subst, arith}
-use Rattle.cbdc_model.specs.Records.{Compact, Record, is_in_lane}
+use Rattle.std.proofs.Common.{◌≡◌, ℕ, suc, ◌+◌, true, false, List, [], ◌∷◌, ◌++◌, length, length-append, refl, sym, ap, ◌∙◌, arith}
+use Rattle.cbdc_model.specs.Records.{Record, is_in_lane}
 use Rattle.cbdc_model.specs.Slots.{slot, Idle}
 use Rattle.cbdc_model.specs.Lanes.{IsEnd, Left}
 use Rattle.lane_laws.specs.Batches.{own, prepared, prepared_of}

@@ -1,10 +1,10 @@
 -- The calls at a lane's coordinator: what each leaves there.
-use Rattle.std.proofs.Common.{◌≡◌, ◌⊎◌, inl, inr, ℕ, zero, suc, ◌+◌, ◌^◌, ◌<◌, ◌≤◌, max, Bool, true, false, ◌&&◌, ◌==◌, not, nat_lt, List, [], ◌∷◌, length, Option, Some, is_some, Result, Ok, Err, refl, sym, ap, ◌∙◌, subst, arith}
+use Rattle.std.proofs.Common.{◌≡◌, ◌⊎◌, inl, inr, ℕ, suc, ◌<◌, ◌≤◌, max, Bool, true, false, ◌&&◌, ◌==◌, not, nat_lt, List, ◌∷◌, length, Some, is_some, Result, Ok, Err, refl, sym, ap, ◌∙◌, subst, arith}
 use Rattle.cbdc_types.specs.declared.calls.NodeFault.{NodeFault}
 use Rattle.cbdc_types.specs.declared.calls.NodeFault.TheVariants.{Broken, Refused as Refuses, ClockEnd, Full, DiskFault, Memory}
 use Rattle.cbdc_types.specs.declared.batch.ShardReplies.{ShardReplies}
-use Rattle.cbdc_model.specs.Records.{Batch, same_batch, Compact, Answered, Entry, Outcome, Record, Shape, is_in_lane, record_of, lock_of, txs_of, last_stamp, stamp_of, stamp_in, txs_in, entries_in, Prepare, Commit, Discard, Done}
-use Rattle.cbdc_model.specs.Slots.{slot, slot_stamp}
+use Rattle.cbdc_model.specs.Records.{Batch, same_batch, Compact, Record, Shape, is_in_lane, record_of, lock_of, txs_of, last_stamp, stamp_of, stamp_in, txs_in, entries_in, Prepare, Commit, Discard, Done}
+use Rattle.cbdc_model.specs.Slots.{slot}
 use Rattle.cbdc_model.specs.Replies.{entries}
 use Rattle.cbdc_model.specs.Causes.{IsCaused, IsStamped, AllHave, at_shards, last_of, greatest}
 use Rattle.cbdc_model.specs.Outcomes.{outcomes}
@@ -13,8 +13,7 @@ use Rattle.cbdc_model.specs.Deciding.{decided, reply_cause, replies_at, replies_
 use Rattle.cbdc_model.specs.World.{replaced}
 use Rattle.cbdc_model.specs.Lanes.{Holds}
 use Rattle.cbdc_model.specs.Next.{next_stamp}
-use Rattle.cbdc_model.specs.Due.{Due, Answers, Writes, unless_broken, if_early, if_room, last_early, last_late, used_of, open_batch, new_batch, prepare_record, prepare_due, decide_due, commit_record, discard_due, discard_record, done_due, done_record}
-use Rattle.cbdc_model.specs.Room.{need_of}
+use Rattle.cbdc_model.specs.Due.{Due, Writes, unless_broken, if_early, last_late, open_batch, decide_due, commit_record, discard_due, discard_record, done_due, done_record}
 use Rattle.cbdc_model.specs.Sights.{Sight, Finds, Told}
 use Rattle.ledger_laws.proofs.Slots.{same_batch_self}
 use Rattle.ledger_laws.proofs.Finds.{replaced_at, replaced_away}
@@ -24,9 +23,9 @@ use Rattle.lane_laws.specs.Answers.{DecideAnswer, AreRepliedTo}
 use Rattle.lane_laws.proofs.Own.{own_in, record_own, finds_own, finds_slot, finds_record}
 use Rattle.lane_laws.proofs.Steps.{StepAt}
 use Rattle.lane_laws.proofs.Views.{Moved, Fell, view_home, view_shard, apart_home, log_moved, log_fell}
-use Rattle.lane_laws.proofs.Dues.{err, ok, past, past_ok, writes_same, late_wrote, late_stored, late_unbroken, late_full, late_end}
+use Rattle.lane_laws.proofs.Dues.{past, late_wrote, late_stored, late_unbroken, late_full, late_end}
 use Rattle.lane_laws.proofs.Tellings.{Wrote, Stood, Stopped, FaultBy, told_ok, told_err}
-use Rattle.lane_laws.proofs.Asked.{Owes, call_step}
+use Rattle.lane_laws.proofs.Asked.{call_step}
 
 pub concerned_is : (K : Shape) (txs : List Compact) (s : ℕ) → Concerned K txs s → is_concerned K txs s ≡ true
 concerned_is K txs s c = numbers s K.shards (is_no_part (part K.shards s 0 txs)) c.0 c.1

@@ -1,23 +1,22 @@
 -- Prepare: a new batch of an idle lane.
-use Rattle.std.proofs.Common.{◌≡◌, ◌⊎◌, inl, inr, ℕ, suc, ◌+◌, ◌^◌, ◌<◌, max, Bool, true, false, ◌==◌, nat_lt, if◌then◌else◌, List, [], ◌∷◌, Option, Some, Result, Ok, Err, refl, sym, ap, ◌∙◌, subst, arith}
+use Rattle.std.proofs.Common.{◌≡◌, ◌⊎◌, inl, inr, ℕ, suc, ◌+◌, ◌<◌, max, Bool, true, false, ◌==◌, nat_lt, if◌then◌else◌, List, [], ◌∷◌, Result, Ok, Err, refl, sym, ap, ◌∙◌, arith}
 use Rattle.std.specs.Prelude.{Contains}
 use Rattle.cbdc_types.specs.declared.calls.NodeFault.{NodeFault}
 use Rattle.cbdc_types.specs.declared.calls.NodeFault.TheVariants.{Broken, ClockEnd, Full}
-use Rattle.cbdc_model.specs.Records.{Batch, Compact, Record, Shape, is_in_lane, last_stamp, stamp_of, Prepare}
+use Rattle.cbdc_model.specs.Records.{Batch, Compact, Record, Shape, last_stamp, Prepare}
 use Rattle.cbdc_model.specs.Slots.{slot}
 use Rattle.cbdc_model.specs.Ranges.{home_of}
-use Rattle.cbdc_model.specs.World.{replaced}
 use Rattle.cbdc_model.specs.Next.{next_stamp}
-use Rattle.cbdc_model.specs.Due.{Due, Answers, Writes, unless_broken, if_early, if_room, last_early, used_of, new_batch, prepare_record, prepare_due}
+use Rattle.cbdc_model.specs.Due.{Due, Answers, Writes, if_early, if_room, last_early, used_of, new_batch, prepare_record, prepare_due}
 use Rattle.cbdc_model.specs.Room.{need_of}
-use Rattle.cbdc_model.specs.Sights.{Sight, Finds, Told}
+use Rattle.cbdc_model.specs.Sights.{Sight, Told}
 use Rattle.ledger_laws.proofs.Finds.{replaced_at}
-use Rattle.lane_laws.specs.Batches.{own, view}
+use Rattle.lane_laws.specs.Batches.{view}
 use Rattle.lane_laws.proofs.Own.{finds_slot}
 use Rattle.lane_laws.proofs.Steps.{StepAt}
 use Rattle.lane_laws.proofs.Views.{Moved, Fell, view_home, log_moved, log_fell}
 use Rattle.lane_laws.proofs.Dues.{err, ok, past, past_ok, writes_same}
-use Rattle.lane_laws.proofs.Tellings.{Wrote, Stood, Stopped, told_ok, told_err}
+use Rattle.lane_laws.proofs.Tellings.{Wrote, Stood, told_ok, told_err}
 use Rattle.lane_laws.proofs.Asked.{call_step}
 use Rattle.lane_laws.proofs.LogCalls.{LogStep, LogFailed, wrote_step, stopped_same}
 

@@ -1,26 +1,26 @@
 -- Calls made again append nothing.
-use Rattle.std.proofs.Common.{◌≡◌, ◌⊎◌, inl, inr, ℕ, zero, suc, ◌<◌, Bool, true, false, ◌==◌, List, [], ◌∷◌, Option, Some, Result, Ok, Err, refl, sym, ap, ◌∙◌, subst, arith}
+use Rattle.std.proofs.Common.{◌≡◌, ◌⊎◌, inl, inr, ℕ, zero, suc, ◌<◌, Bool, true, false, ◌==◌, List, Result, Ok, Err, sym, ap, ◌∙◌, subst, arith}
 use Rattle.cbdc_types.specs.declared.calls.LockCall.{LockCall}
 use Rattle.cbdc_types.specs.declared.calls.FinishCall.{FinishCall}
 use Rattle.cbdc_types.specs.declared.calls.ForgetCall.{ForgetCall}
 use Rattle.cbdc_types.specs.declared.calls.Replied.{Replied}
 use Rattle.cbdc_types.specs.declared.calls.NodeFault.{NodeFault}
 use Rattle.cbdc_types.specs.declared.calls.NodeFault.TheVariants.{Broken}
-use Rattle.cbdc_model.specs.Records.{Batch, Compact, Outcome, Record, Shape, record_of, Finish, Forget}
-use Rattle.cbdc_model.specs.Slots.{slot, slot_stamp, InLock, InFinish}
+use Rattle.cbdc_model.specs.Records.{Batch, Compact, Outcome, Record, Shape, Finish, Forget}
+use Rattle.cbdc_model.specs.Slots.{slot, InLock, InFinish}
 use Rattle.cbdc_model.specs.Outcomes.{decisions}
 use Rattle.cbdc_model.specs.Ranges.{home_of, part}
 use Rattle.cbdc_model.specs.Next.{next_lock, next_finish, next_forget, next_stamp}
 use Rattle.cbdc_model.specs.Due.{Due, Answers, Writes, unless_broken, lock_by, stamp_by}
 use Rattle.cbdc_model.specs.Sights.{Sight, Finds, Told}
-use Rattle.lane_laws.specs.Batches.{own, view}
-use Rattle.lane_laws.specs.Calls.{shard, NotAmong, is_concerned, Every, IsLock, IsFinish, IsForget, AreLocks, AreFinishes, AreForgets}
+use Rattle.lane_laws.specs.Batches.{own}
+use Rattle.lane_laws.specs.Calls.{is_concerned, Every, IsLock, IsFinish, IsForget, AreLocks, AreFinishes, AreForgets}
 use Rattle.lane_laws.specs.Answers.{LockAnswer, FinishAnswer, ForgetAnswer, Asked, AskedTimes}
 use Rattle.lane_laws.proofs.Own.{finds_own, finds_slot, slot_own}
 use Rattle.lane_laws.proofs.Steps.{stays_there, comes_there}
 use Rattle.lane_laws.proofs.Views.{Moved, view_shard, moved_on, shards_moved}
 use Rattle.lane_laws.proofs.Dues.{lock_wrote, lock_new, lock_unbroken, stamp_wrote, stamp_unbroken, finish_new, forget_new}
-use Rattle.lane_laws.proofs.Tellings.{Wrote, Stood, Stopped, told_ok, told_err}
+use Rattle.lane_laws.proofs.Tellings.{told_ok, told_err}
 use Rattle.lane_laws.proofs.ByShard.{AskedAt, no_call, one_call, asked_at, every_any}
 
 -- nothing was written, and nothing left in flight

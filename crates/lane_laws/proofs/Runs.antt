@@ -1,11 +1,11 @@
 -- A batch from what was told of its calls, new and resumed alike.
-use Rattle.std.proofs.Common.{◌≡◌, ◌⊎◌, inl, inr, ℕ, zero, suc, ◌+◌, ◌<◌, ◌≤◌, max, Bool, true, false, ◌&&◌, ◌==◌, not, nat_lt, if◌then◌else◌, List, [], ◌∷◌, ◌++◌, map, Option, Some, None, is_some, Result, Ok, Err, refl, sym, ap, ◌∙◌, subst, arith}
+use Rattle.std.proofs.Common.{◌≡◌, ◌⊎◌, inl, inr, ℕ, ◌<◌, Bool, true, false, List, [], ◌∷◌, map, Some, None, is_some, Result, refl, sym, ap, ◌∙◌, subst, arith}
 use Rattle.cbdc_types.specs.declared.calls.LockCall.{LockCall}
 use Rattle.cbdc_types.specs.declared.calls.Replied.{Replied}
 use Rattle.cbdc_types.specs.declared.calls.NodeFault.{NodeFault}
 use Rattle.cbdc_types.specs.declared.batch.ShardReplies.{ShardReplies}
-use Rattle.cbdc_model.specs.Records.{Batch, same_batch, Compact, Entry, Outcome, Record, Shape, record_of, lock_of as lock_in, last_stamp, stamp_in, entries_in, outcomes_in, outcomes_of, Lock, Finish, Forget, Prepare, Commit, Discard, Done}
-use Rattle.cbdc_model.specs.Slots.{Phase, slot, slot_stamp, Idle, InLock, InFinish}
+use Rattle.cbdc_model.specs.Records.{Batch, Compact, Entry, Outcome, Record, Shape, record_of, lock_of as lock_in, last_stamp, stamp_in, entries_in, outcomes_in, outcomes_of, Lock, Finish, Forget, Commit, Discard, Done}
+use Rattle.cbdc_model.specs.Slots.{Phase, slot, Idle, InLock, InFinish}
 use Rattle.cbdc_model.specs.Replies.{entries}
 use Rattle.cbdc_model.specs.Outcomes.{decisions}
 use Rattle.cbdc_model.specs.Causes.{greatest}
@@ -14,7 +14,7 @@ use Rattle.cbdc_model.specs.Deciding.{decided, replies_at, replies_in, reply_sta
 use Rattle.cbdc_model.specs.Due.{open_batch}
 use Rattle.cbdc_model.specs.Sights.{Sight}
 use Rattle.ledger_laws.proofs.Moves.{greatest_bound}
-use Rattle.lane_laws.specs.Batches.{own, view}
+use Rattle.lane_laws.specs.Batches.{own}
 use Rattle.lane_laws.specs.Calls.{shard, is_concerned, AreParts, AreLocks, IsFinish, IsForget, lock_of, finish_of, forget_of}
 use Rattle.lane_laws.specs.Gathering.{stamp_at}
 use Rattle.lane_laws.specs.Answers.{LockAnswer, FinishAnswer, ForgetAnswer, Locked, Stamped, AskedTimes}

@@ -1,5 +1,5 @@
 -- What is kept without a difference is the same.
-use Rattle.std.proofs.Common.{◌≡◌, ℕ, suc, Bool, true, false, ◌&&◌, ◌==◌, not, if◌then◌else◌, List, [], ◌∷◌, Option, Some, None, option_map, refl, sym, ap, ◌∙◌, subst, arith}
+use Rattle.std.proofs.Common.{◌≡◌, ℕ, suc, Bool, true, false, ◌&&◌, ◌==◌, if◌then◌else◌, List, [], ◌∷◌, Option, Some, None, option_map, refl, sym, arith}
 use Rattle.cbdc_model.specs.Records.{Digest, same_digest, Entry}
 use Rattle.cbdc_model.specs.Next.{difference, same_entry, same_digests, same_decision}
 use Rattle.ledger_laws.proofs.Counts.{same_digest_is}

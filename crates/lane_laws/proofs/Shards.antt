@@ -1,5 +1,5 @@
 -- A phase in which all went well, shard by shard: new answers and stored ones alike.
-use Rattle.std.proofs.Common.{◌≡◌, ◌⊎◌, inl, inr, ℕ, zero, suc, ◌+◌, ◌<◌, ◌≤◌, max, Bool, true, false, ◌&&◌, ◌==◌, not, nat_lt, if◌then◌else◌, List, [], ◌∷◌, length, map, Option, Some, None, is_some, Result, Ok, Err, IsOk, refl, sym, ap, ◌∙◌, subst, arith}
+use Rattle.std.proofs.Common.{◌≡◌, ◌⊎◌, inl, inr, ℕ, ◌<◌, Bool, true, false, ◌&&◌, ◌==◌, not, nat_lt, List, [], ◌∷◌, length, Option, Some, None, is_some, Result, Ok, IsOk, refl, sym, ap, ◌∙◌, subst, arith}
 use Rattle.cbdc_types.specs.declared.calls.LockCall.{LockCall}
 use Rattle.cbdc_types.specs.declared.calls.FinishCall.{FinishCall}
 use Rattle.cbdc_types.specs.declared.calls.ForgetCall.{ForgetCall}
@@ -7,23 +7,23 @@ use Rattle.std.specs.List.{All}
 use Rattle.cbdc_types.specs.declared.calls.Replied.{Replied}
 use Rattle.cbdc_types.specs.declared.calls.NodeFault.{NodeFault}
 use Rattle.cbdc_types.specs.declared.batch.ShardReplies.{ShardReplies}
-use Rattle.cbdc_model.specs.Records.{Batch, same_batch, Compact, Answered, Entry, Outcome, Record, Shape, is_in_lane, record_of, lock_of, stamp_in, entries_in, decisions_in, Genesis, Start, Lock, Finish, Forget, Prepare, Commit, Discard, Done}
-use Rattle.cbdc_model.specs.Slots.{Slot, Phase, slot, slot_stamp, Idle, InLock, InFinish}
+use Rattle.cbdc_model.specs.Records.{Batch, same_batch, Compact, Answered, Entry, Outcome, Record, Shape, record_of, lock_of, stamp_in, entries_in, decisions_in, Lock, Finish, Forget}
+use Rattle.cbdc_model.specs.Slots.{Phase, slot, slot_stamp, Idle, InFinish}
 use Rattle.cbdc_model.specs.Replies.{entries, replies, answered}
 use Rattle.cbdc_model.specs.Outcomes.{decisions}
 use Rattle.cbdc_model.specs.Ranges.{part, is_no_part}
 use Rattle.cbdc_model.specs.Deciding.{replies_at, replies_in, reply_stamp, answered_with}
-use Rattle.cbdc_model.specs.Next.{next_lock, next_finish, next_forget, next_stamp, difference, same_entry, same_decision}
-use Rattle.cbdc_model.specs.Due.{Due, lock_by, lock_record, stamp_by, replied_of as stored_of}
+use Rattle.cbdc_model.specs.Next.{next_lock, next_finish, next_forget, next_stamp, same_entry, same_decision}
+use Rattle.cbdc_model.specs.Due.{lock_by, stamp_by}
 use Rattle.cbdc_model.specs.Sights.{Sight, Finds}
 use Rattle.ledger_laws.proofs.Slots.{same_batch_self}
 use Rattle.lane_laws.specs.Batches.{own}
 use Rattle.lane_laws.specs.Calls.{shard, is_concerned, IsLock, IsFinish, IsForget, AreLocks, AreFinishes, AreForgets}
 use Rattle.lane_laws.specs.Gathering.{Gathered, stamp_at, replied_of}
 use Rattle.lane_laws.specs.Answers.{EachTold, Others, LockAnswer, FinishAnswer, ForgetAnswer}
-use Rattle.lane_laws.proofs.Own.{own_in, finds_own, finds_slot, finds_stamp, finds_record, slot_own}
+use Rattle.lane_laws.proofs.Own.{own_in, finds_own, finds_slot, finds_stamp, finds_record}
 use Rattle.lane_laws.proofs.Sameness.{no_difference, entry_same, decision_same}
-use Rattle.lane_laws.proofs.Dues.{lock_wrote, lock_kept, lock_new, lock_stored, stamp_wrote, stamp_kept, finish_new, finish_stored, FinishStored, forget_new, forget_stored, ForgetStored}
+use Rattle.lane_laws.proofs.Dues.{lock_wrote, lock_kept, lock_new, lock_stored, stamp_wrote, stamp_kept, finish_new, finish_stored, forget_new, forget_stored}
 use Rattle.lane_laws.proofs.Tellings.{Wrote, Stood, told_ok}
 use Rattle.lane_laws.proofs.ByShard.{LockedAt, no_lock, one_lock, locked_at, StampedAt, no_stamp, one_stamp, stamped_at, every_fine}
 use Rattle.lane_laws.proofs.Asked.{entries_answered}

@@ -1,40 +1,35 @@
 -- A batch that a fault stopped: what was made is caused, and so is what was left in flight; and the fault is a node's own answer.
-use Rattle.std.proofs.Common.{◌≡◌, ◌⊎◌, inl, inr, ℕ, zero, suc, ◌<◌, Bool, true, false, List, [], ◌∷◌, map, Option, Some, None, is_some, Result, Ok, Err, refl, sym, ap, ◌∙◌, subst, arith}
+use Rattle.std.proofs.Common.{◌≡◌, ◌⊎◌, inl, inr, ℕ, suc, ◌<◌, Bool, true, false, List, [], ◌∷◌, map, Some, None, Result, Err, refl, sym, ap, ◌∙◌, subst, arith}
 use Rattle.cbdc_types.specs.declared.calls.LockCall.{LockCall}
 use Rattle.cbdc_types.specs.declared.calls.FinishCall.{FinishCall}
 use Rattle.cbdc_types.specs.declared.calls.ForgetCall.{ForgetCall}
-use Rattle.cbdc_types.specs.declared.calls.Replied.{Replied}
 use Rattle.cbdc_types.specs.declared.calls.NodeFault.{NodeFault}
 use Rattle.cbdc_types.specs.declared.calls.NodeFault.TheVariants.{Broken, Refused as Refuses, ClockEnd, Full, DiskFault, Memory}
-use Rattle.cbdc_types.specs.declared.batch.ShardReplies.{ShardReplies}
-use Rattle.cbdc_model.specs.Records.{Batch, Compact, Entry, Outcome, Record, Shape, record_of, lock_of as lock_in, stamp_in, Lock, Finish, Forget, Prepare, Commit, Discard, Done, Genesis, Start}
-use Rattle.cbdc_model.specs.Slots.{slot, Phase, Idle, InFinish}
+use Rattle.cbdc_model.specs.Records.{Batch, Compact, Entry, Outcome, Record, Shape, record_of, lock_of as lock_in, Finish, Forget, Commit, Discard}
 use Rattle.cbdc_model.specs.Replies.{entries}
 use Rattle.cbdc_model.specs.Outcomes.{decisions}
-use Rattle.cbdc_model.specs.Causes.{greatest}
-use Rattle.cbdc_model.specs.Ranges.{home_of, shard_node, part}
+use Rattle.cbdc_model.specs.Ranges.{home_of, part}
 use Rattle.cbdc_model.specs.Deciding.{decided}
 use Rattle.cbdc_model.specs.Next.{Plan, next_lock, next_finish, next_forget, next_stamp}
-use Rattle.cbdc_model.specs.Due.{Due, lock_by, stamp_by, open_batch}
-use Rattle.cbdc_model.specs.Sights.{Sight, Told}
-use Rattle.lane_laws.specs.Batches.{own, view, prepared, prepared_of, Settled, IsRisen, IsAnswerOf, TakesRoom, LacksRecord, BatchStopped}
+use Rattle.cbdc_model.specs.Due.{lock_by, stamp_by}
+use Rattle.cbdc_model.specs.Sights.{Sight}
+use Rattle.lane_laws.specs.Batches.{own, prepared, prepared_of, Settled, IsAnswerOf, TakesRoom, BatchStopped}
 use Rattle.lane_laws.specs.Calls.{shard, is_concerned, Every, AreParts, AreLocks, IsLock, IsFinish, IsForget, lock_of, finish_of, forget_of}
 use Rattle.lane_laws.specs.Gathering.{stamp_at}
-use Rattle.lane_laws.specs.Answers.{LockAnswer, FinishAnswer, ForgetAnswer, StoppedAt, AskedTimes}
+use Rattle.lane_laws.specs.Answers.{LockAnswer, FinishAnswer, ForgetAnswer}
 use Rattle.lane_laws.specs.Traces.{DiscardedStopped, at_forget, at_done, CommittedStopped, at_finish, at_discard, behind_discard, PreparedStopped, at_lock, at_decide, behind_commit, ToldStopped, at_prepare, behind_prepare}
 use Rattle.lane_laws.proofs.Own.{finds_own}
-use Rattle.lane_laws.proofs.Views.{Moved, Fell, moved_none, moved_on, fell_on, shards_fell}
+use Rattle.lane_laws.proofs.Views.{Moved, Fell, fell_on, shards_fell}
 use Rattle.lane_laws.proofs.Dues.{lock_unbroken, stamp_unbroken, stamp_full, stamp_end}
 use Rattle.lane_laws.proofs.Tellings.{Stopped, FaultBy, told_err}
 use Rattle.lane_laws.proofs.ByShard.{every_any, first_at}
 use Rattle.lane_laws.proofs.Asked.{OkUnless, locks_step, finishes_step, forgets_step}
-use Rattle.lane_laws.proofs.LogCalls.{LogStep, LogFailed, Open, Looks, LooksLock, LogDone, LogFell, commit_ok, commit_err, discard_ok, discard_err, done_err}
-use Rattle.lane_laws.proofs.Shards.{StampedShard, finished_shard, forgotten_shard, IsForgot}
-use Rattle.lane_laws.proofs.Quiet.{Quiet, same_slot, finishes_quiet}
-use Rattle.lane_laws.proofs.Calls.{are_locks, are_finishes, are_forgets, latest_greatest}
+use Rattle.lane_laws.proofs.LogCalls.{Open, LogFell, commit_ok, commit_err, discard_ok, discard_err, done_err}
+use Rattle.lane_laws.proofs.Shards.{IsForgot}
+use Rattle.lane_laws.proofs.Calls.{are_locks, are_finishes, are_forgets}
 use Rattle.lane_laws.proofs.Preparing.{batch_of, prepare_ok, prepare_err}
 use Rattle.lane_laws.proofs.Whole.{opened}
-use Rattle.lane_laws.proofs.Runs.{same_record, LocksRun, locks_run, LocksShard, named_outcomes, FinishesRun, finishes_run, ForgetsRun, forgets_run, not_forgot}
+use Rattle.lane_laws.proofs.Runs.{same_record, locks_run, named_outcomes, finishes_run, forgets_run, not_forgot}
 
 kept_room : (p : Plan ℕ) (what : Record) (f : NodeFault) → FaultBy false (stamp_by p what) f → TakesRoom f → ⊥
 kept_room p what (Broken since) w t = t

@@ -1,11 +1,11 @@
 -- What a lane is told of a call: the record that was written, what stood already, or why it stopped.
-use Rattle.std.proofs.Common.{◌≡◌, ◌⊎◌, inl, inr, ℕ, ◌+◌, ◌-◌, ◌^◌, ◌≤◌, min, Bool, true, List, ◌∷◌, Option, Some, None, Result, Ok, Err, refl, sym, ap, ◌∙◌, subst, arith}
+use Rattle.std.proofs.Common.{◌≡◌, ◌⊎◌, inl, inr, ℕ, ◌≤◌, Bool, true, List, ◌∷◌, Option, Some, None, Ok, Err, refl, sym, subst, arith}
 use Rattle.cbdc_types.specs.declared.calls.NodeFault.{NodeFault}
 use Rattle.cbdc_types.specs.declared.calls.NodeFault.TheVariants.{Broken, Refused as Refuses, ClockEnd, Full, DiskFault, Memory}
 use Rattle.cbdc_model.specs.Records.{Record, last_stamp}
 use Rattle.cbdc_model.specs.Slots.{slot_stamp}
 use Rattle.cbdc_model.specs.Due.{Due, Answers, Writes, unless_broken}
-use Rattle.cbdc_model.specs.Sights.{Sight, HasRisen, IsSameNode, Stays, Appends, Fails, Meets, MeetsFault, Finds, IsBrokenSince, Told}
+use Rattle.cbdc_model.specs.Sights.{Sight, HasRisen, IsSameNode, Stays, MeetsFault, Finds, IsBrokenSince, Told}
 use Rattle.lane_laws.specs.Batches.{IsRisen}
 use Rattle.lane_laws.proofs.Dues.{err, not_broken, not_broken_ok}
 

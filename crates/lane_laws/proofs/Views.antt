@@ -1,5 +1,5 @@
 -- Steps of a lane's view: a call at its coordinator, and a phase at its shards.
-use Rattle.std.proofs.Common.{◌≡◌, ◌⊎◌, inl, inr, ℕ, ◌+◌, ◌-◌, ◌/◌, ◌<◌, ◌≤◌, Bool, true, false, ◌==◌, nat_lt, if◌then◌else◌, List, [], Option, Some, None, refl, sym, ap, ◌∙◌, subst, arith}
+use Rattle.std.proofs.Common.{◌≡◌, inl, ℕ, ◌+◌, ◌-◌, ◌<◌, ◌≤◌, Bool, true, false, ◌==◌, nat_lt, if◌then◌else◌, List, Option, None, refl, sym, ◌∙◌, subst, arith}
 use Rattle.cbdc_model.specs.Records.{Compact, Record, Shape}
 use Rattle.cbdc_model.specs.Ranges.{shard_node, home_of}
 use Rattle.cbdc_model.specs.Lanes.{Made}

@@ -1,14 +1,14 @@
 -- A whole new batch of a settled lane: exactly its records, and the lane is settled again.
-use Rattle.std.proofs.Common.{◌≡◌, ◌⊎◌, inl, inr, ℕ, zero, suc, ◌+◌, ◌<◌, ◌≤◌, max, Bool, true, false, ◌&&◌, ◌==◌, not, nat_lt, if◌then◌else◌, List, [], ◌∷◌, ◌++◌, Option, Some, None, is_some, refl, sym, ap, ◌∙◌, subst, arith}
-use Rattle.cbdc_model.specs.Records.{Batch, same_batch, Compact, Answered, Entry, Outcome, Record, Shape, is_in_lane, kind_of, is_of, record_of, last_stamp, stamp_in, Genesis, Start, Lock, Finish, Forget, Prepare, Commit, Discard, Done}
-use Rattle.cbdc_model.specs.Slots.{Slot, slot, slot_stamp, Idle, InLock}
+use Rattle.std.proofs.Common.{◌≡◌, ◌⊎◌, inl, inr, ℕ, suc, ◌<◌, Bool, true, false, ◌&&◌, ◌==◌, if◌then◌else◌, List, [], ◌∷◌, ◌++◌, Some, None, refl, sym, ap, ◌∙◌, subst, arith}
+use Rattle.cbdc_model.specs.Records.{Batch, same_batch, Compact, Entry, Outcome, Record, Shape, is_in_lane, kind_of, is_of, record_of, last_stamp, stamp_in, Lock, Finish, Forget, Prepare, Commit, Discard, Done}
+use Rattle.cbdc_model.specs.Slots.{slot, slot_stamp, Idle, InLock}
 use Rattle.cbdc_model.specs.Outcomes.{decisions}
-use Rattle.cbdc_model.specs.Ranges.{home_of, part, is_no_part}
+use Rattle.cbdc_model.specs.Ranges.{part}
 use Rattle.cbdc_model.specs.Deciding.{replies_at, replies_in, reply_stamp, answered_with}
 use Rattle.cbdc_model.specs.Sights.{Sight}
 use Rattle.ledger_laws.proofs.Slots.{same_batch_self}
 use Rattle.ledger_laws.proofs.Moves.{test_step}
-use Rattle.lane_laws.specs.Batches.{own, view, Settled, Grew, BatchRecords, at_log, at_shard, BatchDone}
+use Rattle.lane_laws.specs.Batches.{own, Settled, BatchRecords, at_shard, BatchDone}
 use Rattle.lane_laws.specs.Calls.{is_concerned, AreParts}
 use Rattle.lane_laws.specs.Traces.{ToldPrepared, ToldBatch}
 use Rattle.lane_laws.proofs.Own.{look, slot_own, stamp_own}
@@ -16,7 +16,7 @@ use Rattle.lane_laws.proofs.Views.{Moved, moved_on}
 use Rattle.lane_laws.proofs.LogCalls.{LogStep, Open}
 use Rattle.lane_laws.proofs.Preparing.{batch_of, prepare_ok}
 use Rattle.lane_laws.proofs.Calls.{in_range}
-use Rattle.lane_laws.proofs.Runs.{ShardRun, CommittedRun, LocksShard, PreparedRun, prepared_run, same_record}
+use Rattle.lane_laws.proofs.Runs.{PreparedRun, prepared_run, same_record}
 
 slot_front : (lane : ℕ) (L X : List Record) (r : Record) → own lane L ≡ r ∷ X → slot L lane ≡ slot (r ∷ X) lane
 slot_front lane L X r e = slot_own lane L ∙ ap (λ K. slot K lane) e

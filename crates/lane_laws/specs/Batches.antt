@@ -1,5 +1,5 @@
 -- A lane's batch over what the lane has seen.
-use Rattle.std.specs.Prelude.{◌≡◌, ◌⊎◌, ℕ, zero, suc, ◌+◌, ◌-◌, ◌^◌, ◌<◌, ◌≤◌, Bool, true, false, ◌&&◌, ◌==◌, not, nat_lt, if◌then◌else◌, List, [], ◌∷◌, ◌++◌, length, take, drop, Option, Some, None}
+use Rattle.std.specs.Prelude.{◌≡◌, ◌⊎◌, ℕ, suc, ◌+◌, ◌-◌, ◌^◌, ◌<◌, ◌≤◌, Bool, true, ◌==◌, nat_lt, if◌then◌else◌, List, [], ◌∷◌, ◌++◌, length, take, drop, Option, Some, None}
 use Rattle.cbdc_types.specs.declared.calls.NodeFault.{NodeFault}
 use Rattle.cbdc_types.specs.declared.calls.NodeFault.TheVariants.{Broken, Refused as Refuses, ClockEnd, Full, DiskFault, Memory}
 use Rattle.cbdc_model.specs.Records.{Shape, Batch, Compact, Answered, Outcome, Record, record_of, is_in_lane, last_stamp, Genesis, Start, Lock, Finish, Forget, Prepare, Commit, Discard, Done}

@@ -1,7 +1,7 @@
 -- A batch that an earlier run left open, as the lane finds it, and what its resuming comes to.
 use Rattle.std.specs.Prelude.{◌≡◌, ◌⊎◌, ℕ, ◌<◌, Bool, true, false, List, [], Some, None, is_some}
 use Rattle.cbdc_types.specs.declared.calls.NodeFault.{NodeFault}
-use Rattle.cbdc_model.specs.Records.{Shape, Batch, Compact, Outcome, Record, record_of, lock_of, stamp_in, Prepare, Commit, Discard}
+use Rattle.cbdc_model.specs.Records.{Shape, Batch, Compact, Outcome, record_of, lock_of, stamp_in, Prepare, Commit, Discard}
 use Rattle.cbdc_model.specs.Slots.{slot, slot_stamp, Idle}
 use Rattle.cbdc_model.specs.Replies.{entries}
 use Rattle.cbdc_model.specs.Ranges.{home_of, part}

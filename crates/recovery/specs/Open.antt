@@ -1,5 +1,5 @@
 -- The lanes that are open at a coordinator.
-use Rattle.std.specs.Prelude.{◌≡◌, ◌≢◌, ◌⊎◌, ℕ, ◌<◌, Bool, List, [], ◌∷◌, length}
+use Rattle.std.specs.Prelude.{◌≡◌, ◌⊎◌, ℕ, ◌<◌, Bool, List, [], ◌∷◌, length}
 use Rattle.std.specs.List.{All, AllZip}
 use Rattle.cbdc_types.specs.declared.batch.OpenLane.{OpenLane}
 use Rattle.cbdc_types.specs.declared.batch.Phase.{Phase as OpenPhase}

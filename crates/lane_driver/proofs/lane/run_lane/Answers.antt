@@ -1,5 +1,4 @@
 use Rattle.std.proofs.Common.{rules, arith, inl, refl, [], ◌≡◌, ◌<◌, ◌+◌, ◌∙◌, ap, sym, subst, length, take, drop, min}
-use Rattle.std.proofs.lemmas.List.Elements.{All-same, All-drop}
 use Rattle.std.specs.Vec.{vec_len, vec_capacity}
 use Rattle.lane_laws.specs.Batches.{LaneSo}
 use Rattle.lane_laws.proofs.Laning.{lane_begins}

@@ -1,4 +1,4 @@
-use Rattle.std.proofs.Common.{◌∙◌, ◌≡◌, ◌+◌, sym, ap, subst, take, ◌≤◌, arith}
+use Rattle.std.proofs.Common.{◌∙◌, ◌+◌, sym, ap, subst, take, arith}
 use Rattle.recovery.specs.Open.{AreResumed}
 use Rattle.recovery.proofs.Rest.{open_here, rise_rest, open_rest, resumed_more}
 use Rattle.recovery.proofs.resuming.resume.Goals as goal

@@ -1,6 +1,5 @@
-use Rattle.std.proofs.Common.{◌∙◌, ◌≡◌, refl, sym, ap, subst, length}
+use Rattle.std.proofs.Common.{◌∙◌, refl, sym, ap, subst, length}
 use Rattle.std.proofs.lemmas.List.{length-map}
-use Rattle.cbdc_types.specs.declared.batch.Phase.{Phase}
 use Rattle.recovery.specs.Open.{HasOutcomes}
 use Rattle.lane_driver.proofs.Ready.{lock_shards, lock_stamps, lock_sizes, later_room}
 use Rattle.recovery.proofs.Taking.{committed_taken, committed_left}
