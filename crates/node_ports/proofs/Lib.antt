@@ -1,3 +1,4 @@
 pub mod Faults
 pub mod Places
 pub mod Rises
+pub mod Owed
