@@ -1,7 +1,7 @@
 use crate::{ShardNode, is_lock_call};
 use cbdc_types::{
     Answered, BatchId, Entry, Hash, Header, LaneId, List, LockCall, NodeFault, NodeId,
-    NodeOpenFault, Record, Reply, Shape, Stamp,
+    NodeOpenFault, Record, Replied, Reply, Shape, Stamp,
 };
 use gate_journal::Journal;
 use mem_devices::{Choice, FaultDisk, PlainDisk};
@@ -102,16 +102,20 @@ fn locked(rt: &HostRuntime, capacity: usize) -> Result<Option<NodeFault>, Fail> 
         return Err("no shard".into());
     };
     let mut node = opened;
-    asked(&mut node, &call(rt)?)
+    Ok(asked(&mut node, &call(rt)?))
 }
 
-fn asked<D: Disk>(node: &mut ShardNode<D>, call: &LockCall) -> Result<Option<NodeFault>, Fail> {
-    if !is_lock_call(node.header(), call) {
-        return Err("no call of a lane".into());
-    }
-    match node.lock(call) {
-        Ok(_) => Ok(None),
-        Err(fault) => Ok(Some(fault)),
+fn fault_of(answer: Result<Replied, NodeFault>) -> Option<NodeFault> {
+    answer.err()
+}
+
+// The fault that a call is answered, which is one that a shard may be asked.
+fn asked<D: Disk>(node: &mut ShardNode<D>, call: &LockCall) -> Option<NodeFault> {
+    let may_ask = is_lock_call(node.header(), call);
+    if may_ask {
+        fault_of(node.lock(call))
+    } else {
+        Some(NodeFault::Memory)
     }
 }
 
@@ -190,9 +194,9 @@ fn a_failed_sync_leaves_the_record_or_not(rt: HostRuntime) -> Result<(), Fail> {
         return Err("no shard".into());
     };
     let mut node = opened;
-    assert_eq!(rt; asked(&mut node, &call(&rt)?)?, Some(NodeFault::DiskFault));
+    assert_eq!(rt; asked(&mut node, &call(&rt)?), Some(NodeFault::DiskFault));
     assert_eq!(rt;
-        asked(&mut node, &call(&rt)?)?,
+        asked(&mut node, &call(&rt)?),
         Some(NodeFault::Broken { since: 1 })
     );
     assert_eq!(rt; node.records().len(), 1);
