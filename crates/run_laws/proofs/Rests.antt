@@ -120,7 +120,7 @@ module _ (K : Shape) (minting : Minted) (P : Compact → Type 0) (some : 0 < K.s
   number_there s =
       let here : (slot (journal (home_of K lane) (later ++ first_rows K minting)) lane).number ≡ (slot log lane).number = ap (λ J. (slot J lane).number) at_home in
       let there : (slot (journal (shard_node K s) (later ++ first_rows K minting)) lane).number ≡ (slot (shards s).seen lane).number = ap (λ J. (slot J lane).number) (at_shard s) in
-      omega (arith, shard_number K minting P some later kept lane idle_home s)
+      omega (arith, shard_number K minting P some later kept lane s)
 
   stamp_there : (s : ℕ) → slot_stamp (shards s).seen lane ≤ last_stamp log
   stamp_there s = elim (in_or_beyond s) [
