@@ -1,5 +1,5 @@
 -- Replies and outcomes by place.
-use Rattle.std.proofs.Common.{◌≡◌, ◌<◌, ◌≤◌, ◌+◌, ◌-◌, ℕ, suc, zero, Bool, true, false, ◌==◌, List, [], ◌∷◌, ◌++◌, length, take, drop, get_or, Option, Some, None, if◌then◌else◌, refl, sym, ap, ◌∙◌, subst, arith, add-one}
+use Rattle.std.proofs.Common.{◌≡◌, ◌<◌, ◌≤◌, ◌+◌, ◌-◌, ℕ, suc, zero, true, false, ◌==◌, List, [], ◌∷◌, ◌++◌, length, take, drop, get_or, Option, Some, None, if◌then◌else◌, refl, sym, ap, ◌∙◌, arith, add-one}
 use Rattle.std.specs.Prelude.{IfOk, Vec, Result, Ok, Err}
 use Rattle.std.proofs.lemmas.List.{ext_get_or, drop_all, append-nil, take_all, take_more}
 use Rattle.cbdc_model.specs.Records.{Answered, Compact, Outcome, Reply, Won, is_won}

@@ -1,9 +1,8 @@
 -- What is found in what is known.
-use Rattle.std.proofs.Common.{◌≡◌, ◌<◌, ◌+◌, ℕ, Bool, true, false, ◌&&◌, ◌==◌, nat_eq, List, [], ◌∷◌, length, Option, Some, None, if◌then◌else◌, refl, sym, ap, ◌∙◌, subst, arith, option_map, unwrap_or}
+use Rattle.std.proofs.Common.{◌≡◌, ◌<◌, ℕ, Bool, true, false, ◌&&◌, ◌==◌, nat_eq, List, ◌∷◌, length, Option, Some, None, if◌then◌else◌, refl, sym, ap, ◌∙◌, subst, arith, option_map, unwrap_or}
 use Rattle.std.specs.Borrow.{Bor}
 use Rattle.std.specs.Prelude.{MatchOption, IsSomeAnd}
-use Rattle.std.specs.HashMap.{get, HashMap, Updates}
-use Rattle.std.proofs.lemmas.Grind.{common_steps}
+use Rattle.std.specs.HashMap.{get}
 use Rattle.cbdc_model.specs.Records.{Batch, Record, Row, journal, record_of, kind_of, is_of, stamp_of, last_stamp, same_batch}
 use Rattle.history.specs.Rows.{journal_in, record_at}
 use Rattle.history.proofs.Rows.{at, away, at_node, head_at, head_away}

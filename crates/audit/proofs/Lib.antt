@@ -1,4 +1,14 @@
 pub mod Finding
 pub mod Deciding
 pub mod Steps
+pub mod Books
 pub mod Keeping
+pub mod Once
+pub mod Holders
+pub mod Locking
+pub mod Unspent
+pub mod Indexing
+pub mod Spendings
+pub mod Sound
+pub mod Single
+pub mod Ordered

@@ -1,18 +1,24 @@
 -- The steps of a walk over a history.
-use Rattle.std.proofs.Common.{◌≡◌, ◌<◌, ◌≤◌, ◌+◌, ◌-◌, ℕ, List, [], ◌∷◌, ◌++◌, length, take, drop, reverse, get_or, map, refl, sym, ap, ◌∙◌, subst, arith}
+use Rattle.std.proofs.Common.{◌≡◌, ◌<◌, ◌+◌, ℕ, List, [], ◌∷◌, ◌++◌, length, take, drop, reverse, get_or, sym, ap, ◌∙◌, subst, arith}
 use Rattle.std.proofs.lemmas.List.{map_more, map-append, take-append-drop, drop_more, length-map, length-take-le, reverse-append}
 use Rattle.std.proofs.lemmas.List.Elements.{All-push, All-same}
 use Rattle.cbdc_model.specs.Records.{Shape, Record, Row, journal}
+use Rattle.cbdc_model.specs.Coins.{Output, FullTx}
+use Rattle.cbdc_model.specs.Book.{Book}
+use Rattle.cbdc_model.specs.History.{committed, newly_won}
+use Rattle.cbdc_types.specs.declared.answer.UnsoundKind.{UnsoundKind}
+use Rattle.cbdc_types.specs.declared.answer.UnsoundKind.TheVariants.{Cause, Unknown, Unfunded, Unfinished}
+use Rattle.audit.specs.declared.folding.Fold.{Fold}
+use Rattle.audit.specs.declared.verdict.Verdict.TheVariants.{Unsound}
+use Rattle.audit.specs.Spending.{IsFirstWrong}
+use Rattle.audit.specs.Verdicts.{Passes, IsFault, IsFirstFault, IsVerdict}
+use Rattle.audit.specs.Keeping.{HasSpent}
 use Rattle.cbdc_model.specs.Causes.{IsCaused}
 use Rattle.history.specs.declared.place.Place.{Place}
 use Rattle.history.specs.Rows.{row_at, rows_at, record_at, newest_first}
 use Rattle.audit.specs.declared.known.Known.{Known}
 use Rattle.audit.specs.Knowing.{Knows}
-use Rattle.cbdc_types.specs.declared.answer.UnsoundKind.{UnsoundKind}
-use Rattle.cbdc_types.specs.declared.answer.UnsoundKind.TheVariants.{Cause, Unknown, Unfunded, Unfinished}
-use Rattle.audit.specs.Walks.{AllCaused, IsFirstUncaused, IsCausedTo, IsDone, AllDone, IsFirstOpen}
-use Rattle.audit.specs.Stops.{CanStop}
-use Rattle.audit.specs.Verdicts.{IsStop, IsFault}
+use Rattle.audit.specs.Walks.{IsCausedBy, AllCaused, IsFirstUncaused, IsDone, AllDone, IsFirstOpen}
 
 -- one more row is the newest
 pub one_more : (all : List (List Record)) (h : List Place) (k : ℕ) (d : Place) → k < length h
@@ -60,18 +66,6 @@ first_uncaused K all h k p d r lt ep er rest uncaused = record {
   uncaused = uncaused;
 }
 
-pub caused_to : (K : Shape) (all : List (List Record)) (h : List Place) (k : ℕ) (p d : Place) (r : Record) → k < length h → p ≡ get_or h k d → r ≡ record_at all p
-    → AllCaused K (newest_first all (take k h)) → IsCaused K (λ n. journal n (newest_first all (take k h))) p.node r → IsCausedTo K (rows_at all h) k
-caused_to K all h k p d r lt ep er rest here = record {
-  before = rows_at all (take k h);
-  row = record { node = p.node; what = r };
-  after = rows_at all (drop (k + 1) h);
-  rows_are = split_rows all h k p d r lt ep er;
-  stands = before_length all h k lt;
-  caused = rest;
-  here = here;
-}
-
 pub first_open_at : (K : Shape) (J : ℕ → List Record) (all : List (List Record)) (h : List Place) (k : ℕ) (p d : Place) (r : Record) → k < length h → p ≡ get_or h k d → r ≡ record_at all p
     → AllDone K J (rows_at all (take k h)) → (IsDone K J r → ⊥) → IsFirstOpen K J (rows_at all h) k
 first_open_at K J all h k p d r lt ep er rest unfinished = record {
@@ -91,14 +85,39 @@ done_more K J all h k p d r lt ep er rest here =
     All-same P (rows_at all (take (k + 1) h)) (rows_at all (take k h) ++ row_at all (get_or h k d) ∷ []) (map_more (row_at all) h k d lt)
     (All-push P (rows_at all (take k h)) (row_at all (get_or h k d)) rest (subst (λ q. IsDone K J (record_at all q)) ep (subst (IsDone K J) er here)))
 
-pub stop_at : (K : Shape) (rows : List Row) (place : ℕ) (kind : UnsoundKind) → CanStop kind → IsCausedTo K rows place → IsStop K rows place kind
-stop_at K rows place Cause can to = absurd can
-stop_at K rows place (Unknown id) can to = to
-stop_at K rows place (Unfunded id) can to = to
-stop_at K rows place Unfinished can to = absurd can
+-- the row at a place is the first with which something is wrong
+pub first_fault : (K : Shape) (mint : List Output) (handed : List FullTx) (all : List (List Record)) (h : List Place) (k : ℕ) (p d : Place) (r : Record) (kind : UnsoundKind) (b : Book) → k < length h → p ≡ get_or h k d
+    → r ≡ record_at all p → Passes K mint handed (newest_first all (take k h)) b → IsFault K mint handed (newest_first all (take k h)) (record { node = p.node; what = r }) kind
+    → IsFirstFault K mint handed (rows_at all h) k kind
+first_fault K mint handed all h k p d r kind b lt ep er pass fault = record {
+  before = rows_at all (take k h);
+  row = record { node = p.node; what = r };
+  after = rows_at all (drop (k + 1) h);
+  rows_are = split_rows all h k p d r lt ep er;
+  stands = before_length all h k lt;
+  book = b;
+  pass = pass;
+  fault = fault;
+}
 
-pub stop_fault : (K : Shape) (rows : List Row) (place : ℕ) (kind : UnsoundKind) → IsStop K rows place kind → IsFault K rows place kind
-stop_fault K rows place Cause s = s
-stop_fault K rows place (Unknown id) s = s
-stop_fault K rows place (Unfunded id) s = s
-stop_fault K rows place Unfinished s = absurd s
+pub fault_of : (K : Shape) (mint : List Output) (handed : List FullTx) (past : List Row) (row : Row) (kind : UnsoundKind) → IsCausedBy K past row
+    → IsFirstWrong mint handed (committed past) (newly_won row.what (journal row.node past)) kind → IsFault K mint handed past row kind
+fault_of K mint handed past row Cause caused w = absurd w.wrong
+fault_of K mint handed past row (Unknown id) caused w = (caused, w)
+fault_of K mint handed past row (Unfunded id) caused w = (caused, w)
+fault_of K mint handed past row Unfinished caused w = absurd w.wrong
+
+pub passes_of : (K : Shape) (mint : List Output) (handed : List FullTx) (past : List Row) (fold : Fold) → AllCaused K past → (s : HasSpent mint handed (committed past) fold) → Passes K mint handed past s.left
+passes_of K mint handed past fold caused s = record { caused = caused; spent = s.are_spent }
+
+pub spent_next : (mint : List Output) (handed : List FullTx) (all : List (List Record)) (h : List Place) (k : ℕ) (p d : Place) (r : Record) (fold : Fold) → k < length h → p ≡ get_or h k d → r ≡ record_at all p
+    → HasSpent mint handed (committed (newest_first all (take k h)) ++ newly_won r (journal p.node (newest_first all (take k h)))) fold
+    → HasSpent mint handed (committed (newest_first all (take (k + 1) h))) fold
+spent_next mint handed all h k p d r fold lt ep er s = subst (λ rows. HasSpent mint handed (committed rows) fold) (sym (next_row all h k p d r lt ep er)) s
+
+-- what is wrong at a place is the verdict
+pub verdict_of : (K : Shape) (mint : List Output) (handed : List FullTx) (rows : List Row) (place : ℕ) (kind : UnsoundKind) → IsFirstFault K mint handed rows place kind → IsVerdict K mint handed rows (Unsound place kind)
+verdict_of K mint handed rows place Cause f = f
+verdict_of K mint handed rows place (Unknown id) f = f
+verdict_of K mint handed rows place (Unfunded id) f = f
+verdict_of K mint handed rows place Unfinished f = absurd f.fault

@@ -1,4 +1,6 @@
 pub mod Knowing
-pub mod Stops
 pub mod Walks
+pub mod Spending
 pub mod Verdicts
+pub mod Keeping
+pub mod Laws

@@ -1,40 +1,65 @@
 -- What an audit's verdict says.
-use Rattle.std.specs.Prelude.{◌≡◌, ℕ, List, reverse}
+use Rattle.std.specs.Prelude.{◌≡◌, ℕ, List, ◌∷◌, ◌++◌, length, reverse}
+use Rattle.std.specs.FinMap.{len}
 use Rattle.cbdc_types.specs.declared.answer.UnsoundKind.{UnsoundKind}
 use Rattle.cbdc_types.specs.declared.answer.UnsoundKind.TheVariants.{Cause, Unknown, Unfunded, Unfinished}
 use Rattle.cbdc_model.specs.Records.{Shape, Record, Row, journal}
-use Rattle.history.specs.declared.place.Place.{Place}
-use Rattle.history.specs.Rows.{rows_at, newest_first}
-use Rattle.audit.specs.declared.known.Known.{Known}
-use Rattle.audit.specs.declared.auditing.Walked.{Walked}
-use Rattle.audit.specs.declared.auditing.Walked.TheVariants.{Whole, Stopped}
+use Rattle.cbdc_model.specs.Coins.{Output, FullTx}
+use Rattle.cbdc_model.specs.Book.{Book, value}
+use Rattle.cbdc_model.specs.Clean.{value_out}
+use Rattle.cbdc_model.specs.History.{committed, newly_won}
+use Rattle.audit.specs.declared.verdict.Totals.{Totals}
 use Rattle.audit.specs.declared.verdict.Verdict.{Verdict}
 use Rattle.audit.specs.declared.verdict.Verdict.TheVariants.{Sound, Unsound}
-use Rattle.audit.specs.Knowing.{Knows}
-use Rattle.audit.specs.Walks.{AllCaused, IsFirstUncaused, IsCausedTo, AllDone, IsFirstOpen}
+use Rattle.audit.specs.Walks.{IsCausedBy, AllCaused, AllDone, IsFirstOpen}
+use Rattle.audit.specs.Spending.{AreSpent, IsFirstWrong}
 
 -- the journals of a history whose oldest row is the first
 abbrev pub journals_of : List Row → ℕ → List Record
 journals_of rows n = journal n (reverse rows)
 
--- what is wrong at a place
-abbrev pub IsFault : Shape → List Row → ℕ → UnsoundKind → Type 0
-IsFault K rows place Cause = IsFirstUncaused K rows place
-IsFault K rows place (Unknown id) = IsCausedTo K rows place
-IsFault K rows place (Unfunded id) = IsCausedTo K rows place
-IsFault K rows place Unfinished = AllCaused K (reverse rows) × IsFirstOpen K (journals_of rows) rows place
+-- each row of a history, the newest of which is the first, is caused by those before it, and what they commit can be spent and leaves this book
+pub record Passes (K : Shape) (mint : List Output) (handed : List FullTx) (past : List Row) (b : Book) : Type 0 where
+  pub caused : AllCaused K past
+  pub spent : AreSpent mint handed (committed past) b
 
-abbrev pub IsVerdict : Shape → List Row → Verdict → Type 0
-IsVerdict K rows (Sound totals) = AllCaused K (reverse rows) × AllDone K (journals_of rows) rows
-IsVerdict K rows (Unsound place kind) = IsFault K rows place kind
+-- what is wrong with a row behind these: it is not caused, or it is and something is wrong with what it commits
+abbrev pub IsFault : Shape → List Output → List FullTx → List Row → Row → UnsoundKind → Type 0
+IsFault K mint handed past row Cause = IsCausedBy K past row → ⊥
+IsFault K mint handed past row (Unknown id) = IsCausedBy K past row × IsFirstWrong mint handed (committed past) (newly_won row.what (journal row.node past)) (Unknown id)
+IsFault K mint handed past row (Unfunded id) = IsCausedBy K past row × IsFirstWrong mint handed (committed past) (newly_won row.what (journal row.node past)) (Unfunded id)
+IsFault K mint handed past row Unfinished = ⊥
 
--- what a walk says
-abbrev pub IsStop : Shape → List Row → ℕ → UnsoundKind → Type 0
-IsStop K rows place Cause = IsFirstUncaused K rows place
-IsStop K rows place (Unknown id) = IsCausedTo K rows place
-IsStop K rows place (Unfunded id) = IsCausedTo K rows place
-IsStop K rows place Unfinished = ⊥
+-- the row at this place of a history, the oldest of which is the first, is the first with which something is wrong
+pub record IsFirstFault (K : Shape) (mint : List Output) (handed : List FullTx) (rows : List Row) (place : ℕ) (kind : UnsoundKind) : Type 0 where
+  pub before : List Row
+  pub row : Row
+  pub after : List Row
+  pub rows_are : rows ≡ before ++ row ∷ after
+  pub stands : length before ≡ place
+  pub book : Book
+  pub pass : Passes K mint handed (reverse before) book
+  pub fault : IsFault K mint handed (reverse before) row kind
 
-abbrev pub IsWalked : Shape → List (List Record) → List Place → Walked → Type 0
-IsWalked K all h (Whole known) = Knows all known (λ n. journal n (newest_first all h)) × AllCaused K (newest_first all h)
-IsWalked K all h (Stopped place kind) = IsStop K (rows_at all h) place kind
+-- nothing is wrong with any row, and the row at this place is the first Prepare whose batch is not done
+pub record IsUnfinished (K : Shape) (mint : List Output) (handed : List FullTx) (rows : List Row) (place : ℕ) : Type 0 where
+  pub book : Book
+  pub pass : Passes K mint handed (reverse rows) book
+  pub first : IsFirstOpen K (journals_of rows) rows place
+
+-- nothing is wrong with any row, all batches are done, and the totals are those of the last book, the mint and what is committed
+pub record IsSound (K : Shape) (mint : List Output) (handed : List FullTx) (rows : List Row) (totals : Totals) : Type 0 where
+  pub book : Book
+  pub pass : Passes K mint handed (reverse rows) book
+  pub done : AllDone K (journals_of rows) rows
+  pub coins : totals.coins ≡ len book
+  pub value : totals.value ≡ value book
+  pub minted : totals.minted ≡ value_out mint
+  pub committed : totals.committed ≡ length (committed (reverse rows))
+
+abbrev pub IsVerdict : Shape → List Output → List FullTx → List Row → Verdict → Type 0
+IsVerdict K mint handed rows (Sound totals) = IsSound K mint handed rows totals
+IsVerdict K mint handed rows (Unsound place Cause) = IsFirstFault K mint handed rows place Cause
+IsVerdict K mint handed rows (Unsound place (Unknown id)) = IsFirstFault K mint handed rows place (Unknown id)
+IsVerdict K mint handed rows (Unsound place (Unfunded id)) = IsFirstFault K mint handed rows place (Unfunded id)
+IsVerdict K mint handed rows (Unsound place Unfinished) = IsUnfinished K mint handed rows place

@@ -4,7 +4,7 @@ use Rattle.cbdc_model.specs.After.{After}
 use Rattle.cbdc_model.specs.Coins.{Output, FullTx}
 use Rattle.cbdc_model.specs.Clean.{IsProperCompact}
 use Rattle.cbdc_model.specs.History.{Minted, minted, header_of, first_rows, history_of, TxsPass, IsKept}
-use Rattle.cbdc_model.specs.Records.{Shape, Compact, Record, Row, journal, record_of, Genesis, Lock, Finish, Forget, Start, Prepare, Commit, Discard, Done}
+use Rattle.cbdc_model.specs.Records.{Shape, Compact, Record, Row, journal, record_of, Prepare}
 use Rattle.cbdc_model.specs.Ranges.{home_of}
 use Rattle.cbdc_model.specs.Causes.{IsCaused}
 
@@ -44,16 +44,6 @@ pub record IsFirstOpen (K : Shape) (J : ℕ → List Record) (rows : List Row) (
   pub stands : length before ≡ place
   pub done : AllDone K J before
   pub unfinished : IsDone K J row.what → ⊥
-
--- all rows up to this place are caused by those before them
-pub record IsCausedTo (K : Shape) (rows : List Row) (place : ℕ) : Type 0 where
-  pub before : List Row
-  pub row : Row
-  pub after : List Row
-  pub rows_are : rows ≡ before ++ row ∷ after
-  pub stands : length before ≡ place
-  pub caused : AllCaused K (reverse before)
-  pub here : IsCausedBy K (reverse before) row
 
 -- each row of a ledger's history behind its first ones is after those of its journal, and its Prepares have transactions that pass
 abbrev pub AllFollow : Shape → Minted → (Compact → Type 0) → List Row → Type 0

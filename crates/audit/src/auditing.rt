@@ -1,11 +1,15 @@
 // The audit of a history.
-ghost use Rattle.std.specs.Prelude.{◌↔◌, ℕ, All, List as Items, IfOk, IsTrue, IfSome, MatchOption};
-ghost use Rattle.cbdc_model.specs.Records.{Record as ModelRecord};
+ghost use Rattle.std.specs.Prelude.{◌≡◌, ◌↔◌, ◌++◌, [], ℕ, All, List as Items, IfOk, IsTrue, MatchOption};
+ghost use Rattle.cbdc_model.specs.Records.{Compact, Record as ModelRecord};
+ghost use Rattle.cbdc_model.specs.Coins.{Output as ModelOutput};
+ghost use Rattle.cbdc_model.specs.Clean.{value_out};
+ghost use Rattle.cbdc_model.specs.History.{newly_won};
 ghost use Rattle.history.specs.Rows.{read, rows_at, IsPlace};
 ghost use Rattle.audit.specs.Knowing.{Knows};
 ghost use Rattle.audit.specs.Walks.{AllDone, IsDone, IsFirstOpen};
-ghost use Rattle.audit.specs.Verdicts.{IsVerdict, IsWalked};
-ghost use Rattle.audit.specs.Stops.{CanStop};
+ghost use Rattle.audit.specs.Spending.{IsFirstWrong};
+ghost use Rattle.audit.specs.Verdicts.{IsVerdict};
+ghost use Rattle.audit.specs.Keeping.{IsIndex, HasSpent, IsWalked};
 
 use crate::caused::{home_of, is_caused, txs_of};
 use crate::folding::Fold;
@@ -34,7 +38,10 @@ fn commit(
     handed: &[FullTx],
     fold: &mut Fold,
 ) -> Result<Option<UnsoundKind>, AllocError>
-    ensures { IfOk result (λ o. IfSome o CanStop) }
+    ensures { (mint : Items ModelOutput) → (forms : Items Compact) → (J : ℕ → Items ModelRecord) → Knows (read journals.now) known.now J
+        → IsIndex handed.now ids.now → HasSpent mint handed.now forms fold.old
+        → IfOk result (λ o. MatchOption o (HasSpent mint handed.now (forms ++ newly_won r.now (J node)) fold.new)
+        (IsFirstWrong mint handed.now forms (newly_won r.now (J node)))) }
 {
     match r {
         Record::Commit {
@@ -60,7 +67,8 @@ fn walk(
     fold: &mut Fold,
 ) -> Result<Walked, AllocError>
     requires { All (IsPlace (read journals.now)) history.now }
-    ensures { IfOk result (IsWalked shape.now (read journals.now) history.now) }
+    ensures { (mint : Items ModelOutput) → IsIndex handed.now ids.now → HasSpent mint handed.now [] fold.old
+        → IfOk result (IsWalked shape.now mint handed.now (read journals.now) history.now fold.new) }
 {
     let mut known = Known::new(alloc);
     'places: for at in 0..history.len() {
@@ -117,18 +125,21 @@ fn first_open(
 }
 
 // The sum of the minted values.
-fn minted(mint: &[Output]) -> u128 {
+fn minted(mint: &[Output]) -> u128
+    ensures { result ≡ value_out mint.now }
+{
     let mut minted = 0u128;
     'outputs: for output in mint {
-        minted = minted.saturating_add(u128::from(output.value));
+        minted += u128::from(output.value);
     }
     minted
 }
 
 /// Walks over a history from its oldest place on. At each record it tries whether the record is caused by those before it, and at a
 /// Commit, for each committed transaction in the order of the batch, whether a transaction with its compact form was handed in, and
-/// whether the first such one can be spent from the book, which begins as the mint. The first failure is the answer. Then the first Prepare whose
-/// batch is not done is, if there is one.
+/// whether the first such one can be spent from the book, which begins as the mint. The first failure is the answer. Then the first
+/// Prepare whose batch is not done is, if there is one. Else the answer is what the last book, the mint and the committed transactions
+/// come to.
 pub fn audit(
     alloc: Global,
     shape: &Shape,
@@ -138,10 +149,10 @@ pub fn audit(
     handed: &[FullTx],
 ) -> Result<Verdict, AllocError>
     requires { All (IsPlace (read journals.now)) history.now }
-    ensures { IfOk result (IsVerdict shape.now (rows_at (read journals.now) history.now)) }
+    ensures { IfOk result (IsVerdict shape.now mint.now handed.now (rows_at (read journals.now) history.now)) }
 {
     let ids = ById::of(alloc, handed)?;
-    let mut fold = Fold::of_mint(alloc, mint)?;
+    let mut fold = Fold::of_mint(alloc, mint, handed)?;
     match walk(alloc, shape, journals, history, &ids, handed, &mut fold)? {
         Walked::Stopped { place, kind } => Ok(Verdict::Unsound { place, kind }),
         Walked::Whole(known) => match first_open(&known, journals, shape, history) {

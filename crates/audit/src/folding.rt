@@ -1,6 +1,10 @@
 // The committed transactions of a history, spent one after another.
-ghost use Rattle.std.specs.Prelude.{IfOk, IfSome};
-ghost use Rattle.audit.specs.Stops.{CanStop};
+ghost use Rattle.std.specs.Prelude.{◌++◌, ◌∷◌, [], List as Items, IfOk, MatchOption};
+ghost use Rattle.cbdc_model.specs.Records.{Compact};
+ghost use Rattle.cbdc_model.specs.Coins.{Output as ModelOutput};
+ghost use Rattle.cbdc_model.specs.Book.{Book as ModelBook};
+ghost use Rattle.cbdc_model.specs.Outcomes.{won_txs};
+ghost use Rattle.audit.specs.Spending.{AreSpent, IsWrong, IsFirstWrong};
 
 use crate::book::Book;
 use crate::handed::ById;
@@ -16,12 +20,18 @@ pub(crate) struct Fold {
 }
 
 impl Fold {
+    ghost use Rattle.audit.specs.Keeping.{IsIndex, HasSpent};
+
     /// A mint, with nothing spent.
-    pub(crate) fn of_mint(alloc: Global, mint: &[Output]) -> Result<Fold, AllocError> {
-        Ok(Fold {
-            book: Book::of_mint(alloc, mint)?,
-            committed: 0,
-        })
+    pub(crate) fn of_mint(
+        alloc: Global,
+        mint: &[Output],
+        handed: &[FullTx],
+    ) -> Result<Fold, AllocError>
+        ensures { IfOk result (HasSpent mint.now handed.now []) }
+    {
+        let book = Book::of_mint(alloc, mint)?;
+        Ok(Fold { book, committed: 0 })
     }
 
     // Spends the first transaction that was handed in with this compact form. What is wrong with it, if anything is.
@@ -32,7 +42,9 @@ impl Fold {
         handed: &[FullTx],
         form: &CompactTx,
     ) -> Result<Option<UnsoundKind>, AllocError>
-        ensures { IfOk result (λ o. IfSome o CanStop) }
+        ensures { (mint : Items ModelOutput) → (forms : Items Compact) → IsIndex handed.now ids.now → HasSpent mint handed.now forms self.old
+            → IfOk result (λ o. MatchOption o (HasSpent mint handed.now (forms ++ form.now ∷ []) self.new)
+            (λ kind. (b : ModelBook) × AreSpent mint handed.now forms b × IsWrong handed.now b form.now kind)) }
     {
         let Some(tx) = ids.first_with(alloc, handed, form)? else {
             return Ok(Some(UnsoundKind::Unknown(form.id)));
@@ -40,7 +52,10 @@ impl Fold {
         if !self.book.spend(tx)? {
             return Ok(Some(UnsoundKind::Unfunded(form.id)));
         }
-        self.committed = self.committed.saturating_add(1);
+        let Some(committed) = self.committed.checked_add(1) else {
+            return Err(AllocError);
+        };
+        self.committed = committed;
         Ok(None)
     }
 
@@ -53,13 +68,14 @@ impl Fold {
         txs: &[CompactTx],
         outcomes: &[Outcome],
     ) -> Result<Option<UnsoundKind>, AllocError>
-        ensures { IfOk result (λ o. IfSome o CanStop) }
+        ensures { (mint : Items ModelOutput) → (forms : Items Compact) → IsIndex handed.now ids.now → HasSpent mint handed.now forms self.old
+            → IfOk result (λ o. MatchOption o (HasSpent mint handed.now (forms ++ won_txs txs.now outcomes.now) self.new)
+            (IsFirstWrong mint handed.now forms (won_txs txs.now outcomes.now))) }
     {
-        'txs: for (form, outcome) in txs.iter().zip(outcomes) {
-            if is_won(outcome) {
-                let wrong = self.spend(alloc, ids, handed, form)?;
-                if wrong.is_some() {
-                    return Ok(wrong);
+        'txs: for at in 0..txs.len().min(outcomes.len()) {
+            if is_won(&outcomes[at]) {
+                if let Some(kind) = self.spend(alloc, ids, handed, &txs[at])? {
+                    return Ok(Some(kind));
                 }
             }
         }

@@ -1,4 +1,9 @@
 // The transactions that were handed in, by their ids.
+ghost use Rattle.std.specs.Prelude.{◌≡◌, ◌++◌, ◌∷◌, [], List as Items, length, None, Some, IfOk, OnOk, MatchOption};
+ghost use Rattle.cbdc_model.specs.Coins.{FullTx as ModelTx, compact};
+ghost use Rattle.cbdc_model.specs.History.{same_compact, first_with};
+ghost use Rattle.audit.specs.Keeping.{IsIndex};
+
 use cbdc_types::{CompactTx, FullTx, Hash};
 use compact_tx::compact;
 use identifiers::tx_id;
@@ -9,7 +14,14 @@ use std::collections::HashMap;
 /// The index of the first transaction with each id.
 #[derive(Drop)]
 pub(crate) struct ById {
-    firsts: HashMap<Hash, u64>,
+    pub(crate) firsts: HashMap<Hash, u64>,
+}
+
+// Whether a transaction has a compact form.
+fn has_form(alloc: Global, tx: &FullTx, form: &CompactTx) -> Result<bool, AllocError>
+    ensures { IfOk result (λ yes. yes ≡ same_compact (compact tx.now) form.now) }
+{
+    Ok(is_same_compact(&compact(alloc, tx)?, form))
 }
 
 // The first transaction with a compact form, by looking at each.
@@ -17,26 +29,39 @@ fn search<'a>(
     alloc: Global,
     txs: &'a [FullTx],
     form: &CompactTx,
-) -> Result<Option<&'a FullTx>, AllocError> {
-    'txs: for tx in txs {
-        if is_same_compact(&compact(alloc, tx)?, form) {
-            return Ok(Some(tx));
+) -> Result<Option<&'a FullTx>, AllocError>
+    ensures { IfOk result (λ o. MatchOption o (first_with txs.now form.now ≡ None) (λ t. first_with txs.now form.now ≡ Some t.now)) }
+{
+    'txs: for at in 0..txs.len() {
+        if has_form(alloc, &txs[at], form)? {
+            return Ok(Some(&txs[at]));
         }
     }
     Ok(None)
 }
 
 impl ById {
+    // Takes one more transaction in, behind so many others.
+    fn note(&mut self, tx: &FullTx, at: u64) -> Result<(), AllocError>
+        ensures { OnOk result ((txs : Items ModelTx) → length txs ≡ at → IsIndex txs self.old → IsIndex (txs ++ tx.now ∷ []) self.new) }
+    {
+        let id = tx_id(tx);
+        if self.firsts.contains_key(&id) {
+            return Ok(());
+        }
+        self.firsts.insert(id, at)?;
+        Ok(())
+    }
+
     /// Takes transactions in.
-    pub(crate) fn of(alloc: Global, txs: &[FullTx]) -> Result<ById, AllocError> {
+    pub(crate) fn of(alloc: Global, txs: &[FullTx]) -> Result<ById, AllocError>
+        ensures { IfOk result (IsIndex txs.now) }
+    {
         let mut all = ById {
             firsts: HashMap::new(alloc),
         };
         'txs: for at in 0..txs.len() {
-            let id = tx_id(&txs[at]);
-            if !all.firsts.contains_key(&id) {
-                all.firsts.insert(id, at as u64)?;
-            }
+            all.note(&txs[at], at as u64)?;
         }
         Ok(all)
     }
@@ -47,14 +72,17 @@ impl ById {
         alloc: Global,
         txs: &'a [FullTx],
         form: &CompactTx,
-    ) -> Result<Option<&'a FullTx>, AllocError> {
+    ) -> Result<Option<&'a FullTx>, AllocError>
+        ensures { IsIndex txs.now self.now
+            → IfOk result (λ o. MatchOption o (first_with txs.now form.now ≡ None) (λ t. first_with txs.now form.now ≡ Some t.now)) }
+    {
         let Some(at) = self.firsts.get(&form.id) else {
             return Ok(None);
         };
         let Some(first) = txs.get(*at as usize) else {
             return Ok(None);
         };
-        if is_same_compact(&compact(alloc, first)?, form) {
+        if has_form(alloc, first, form)? {
             return Ok(Some(first));
         }
         search(alloc, txs, form)

@@ -13,6 +13,6 @@ mod verdict;
 mod walking;
 
 pub use auditing::audit;
-pub use laws::caused_law;
+pub use laws::{caused_law, one_verdict_law, ordered_law, unspent_law};
 pub use verdict::{Totals, Verdict};
 pub use walking::causes;

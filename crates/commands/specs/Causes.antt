@@ -10,13 +10,6 @@ use Rattle.command_line.specs.declared.request.Request.{Request}
 use Rattle.command_line.specs.declared.request.Request.TheVariants.{Init, Run, Audit}
 use Rattle.command_line.specs.declared.request.WordsFault.TheVariants.{Bad}
 
--- reading a file: it names that file, and a fault of reading has its cause
-abbrev pub IsFileFault : ℕ → ℕ → ℕ → Answer → Type 0
-IsFileFault place before now (answers.BadInput file at kind) = file ≡ place
-IsFileFault place before now (answers.ReadFault file) = (file ≡ place) × Rose before now
-IsFileFault place before now answers.Memory = Unit {0}
-IsFileFault place before now other = ⊥
-
 -- the count of faults of this file's name rose, and the file has this place
 abbrev pub FileRose : (Text → ℕ) → (Text → ℕ) → FileWord → ℕ → Type 0
 FileRose before now file place = (place ≡ file.place) × Rose (before file.name.now) (now file.name.now)
@@ -25,13 +18,6 @@ FileRose before now file place = (place ≡ file.place) × Rose (before file.nam
 abbrev pub OneRose : (Text → ℕ) → (Text → ℕ) → List FileWord → ℕ → Type 0
 OneRose before now files place = (k : ℕ) × (file : FileWord) × (slice_get files k ≡ Some file) × FileRose before now file place
 
--- reading files: a fault of reading has its cause
-abbrev pub IsFilesFault : (Text → ℕ) → (Text → ℕ) → List FileWord → Answer → Type 0
-IsFilesFault before now files (answers.BadInput file at kind) = Unit {0}
-IsFilesFault before now files (answers.ReadFault file) = OneRose before now files file
-IsFilesFault before now files answers.Memory = Unit {0}
-IsFilesFault before now files other = ⊥
-
 -- one of the files that are asked for does so
 abbrev pub RequestRose : Request → (Text → ℕ) → (Text → ℕ) → ℕ → Type 0
 RequestRose (Init shape mint) before now place = FileRose before now mint place
@@ -39,15 +25,19 @@ RequestRose (Run verdicts clients) before now place = OneRose before now clients
 RequestRose (Audit mint clients) before now place = FileRose before now mint place ⊎ OneRose before now clients.items place
 RequestRose other before now place = ⊥
 
--- the work at the nodes: no words, no file and no output are at fault
-abbrev pub IsNodesFault : Answer → Type 0
-IsNodesFault answers.Ok = ⊥
-IsNodesFault answers.BadWords = ⊥
-IsNodesFault (answers.BadInput file at kind) = ⊥
-IsNodesFault (answers.TooMuch total) = ⊥
-IsNodesFault (answers.ReadFault file) = ⊥
-IsNodesFault answers.WriteFault = ⊥
-IsNodesFault other = Unit {0}
+-- reading and the work at the nodes: neither words nor the output are at fault, and a fault of reading has its cause
+abbrev pub IsFault : (ℕ → Type 0) → Answer → Type 0
+IsFault read answers.Ok = ⊥
+IsFault read answers.BadWords = ⊥
+IsFault read answers.WriteFault = ⊥
+IsFault read (answers.ReadFault file) = read file
+IsFault read other = Unit {0}
+
+-- all was done, whether its lines could be written or not
+abbrev pub IsWell : Answer → Type 0
+IsWell answers.Ok = Unit {0}
+IsWell answers.WriteFault = Unit {0}
+IsWell other = ⊥
 
 -- doing what is asked: a fault of reading or writing has its cause
 abbrev pub IsDone : (ℕ → Type 0) → Type 0 → Answer → Type 0

@@ -1,79 +1,40 @@
-// `audit`, and the check of causes ahead of all that resumes.
-ghost use Rattle.std.specs.Prelude.{◌≡◌, ◌⊎◌, ◌+◌, ◌≤◌, ◌<◌, ◌^◌, ℕ, length, IfOk, IfErr, OnErr};
+// `audit`: the journals against a mint and the transactions that were handed in.
+ghost use Rattle.std.specs.Prelude.{◌≡◌, ◌⊎◌, ◌+◌, ◌≤◌, ◌<◌, ◌^◌, ℕ, length, IfOk, IfErr};
 ghost use Rattle.outside.specs.Counts.{Rose};
-ghost use Rattle.commands.specs.Causes.{IsNodesFault, IsDone, OneRose, FileRose};
-ghost use Rattle.rack_nodes.specs.Places.{EachFrom, MayReturn};
+ghost use Rattle.commands.specs.Causes.{IsFault, IsDone, OneRose, FileRose};
 
-use crate::files::{all_clients_in, mint_in};
-use crate::ledger::{Ledger, close_ledger, open_ledger};
-use crate::minting::genesis_of;
-use audit::{Totals, Verdict, causes};
-use cbdc_types::{Answer, FullTx, Hash, Header, List, NodeId, Output, Record, UnsoundKind};
+use audit::{Totals, Verdict};
+use cbdc_types::{Answer, FullTx, Hash, Header, List, Mint, NodeId, Output, Record};
 use command_line::FileWord;
 use coord_log::CoordLog;
 use history::merge;
 use identifiers::tx_id;
+use input_files::{all_clients_in, mint_in};
 use line_text::{AuditSummary, write_audit};
 use outside::{Disk, Inbox, Rack, Sink};
+use rack_ledgers::{Nodes, close_nodes, open_nodes};
 use rack_nodes::open_one;
 use std::alloc::{AllocError, Global};
 
 // The journals of all nodes, the oldest record first.
-fn lent<'a, D: Disk>(alloc: Global, ledger: &'a Ledger<D>) -> Result<Vec<&'a [Record]>, AllocError>
-    ensures { IfOk result (λ v. length v.items ≡ length ledger.entry.now.logs.items + length ledger.entry.now.shards.items) }
+fn lent<'a, D: Disk>(alloc: Global, nodes: &'a Nodes<D>) -> Result<Vec<&'a [Record]>, AllocError>
+    ensures { IfOk result (λ v. length v.items ≡ length nodes.entry.now.logs.items + length nodes.entry.now.shards.items) }
 {
     let mut all = Vec::new(alloc);
-    'logs: for log in &ledger.logs {
+    'logs: for log in &nodes.logs {
         all.push(log.records())?;
     }
-    'shards: for shard in &ledger.shards {
+    'shards: for shard in &nodes.shards {
         all.push(shard.records())?;
     }
     Ok(all)
 }
 
-// The first place of the history that is not caused by what stands before it.
-fn first_uncaused<D: Disk>(alloc: Global, ledger: &Ledger<D>) -> Result<Option<u64>, AllocError>
-    requires { length ledger.now.logs.items + length ledger.now.shards.items < 2 ^ 32 }
-{
-    let journals = lent(alloc, ledger)?;
-    let history = merge(alloc, &journals)?;
-    causes(alloc, &ledger.header.shape, &journals, history.as_slice())
-}
-
-/// Opens all nodes, where each record of their history is caused by what stands before it. After a fault all disks are back.
-pub(crate) fn open_caused<R: Rack>(alloc: Global, rack: &mut R) -> Result<Ledger<R::Disk>, Answer>
-    requires { (n : ℕ) → R.can_take rack.old n }
-    ensures work { IfErr result IsNodesFault }
-    ensures few { IfOk result (λ l. length l.logs.items + length l.shards.items < 2 ^ 32) }
-    ensures logs { IfOk result (λ l. EachFrom (MayReturn (λ x. x.faults) (R.can_put rack.new)) 0 l.logs.items) }
-    ensures shards { IfOk result (λ l. EachFrom (MayReturn (λ x. R.Disk.count x.disk) (R.can_put rack.new)) (length l.logs.items) l.shards.items) }
-    ensures others_in { IfOk result (λ l. (n : ℕ) → length l.logs.items + length l.shards.items ≤ n → R.can_take rack.new n) }
-    ensures back { OnErr result ((n : ℕ) → R.can_take rack.new n) }
-    ensures later { (n : ℕ) → R.count rack.old n ≤ R.count rack.new n }
-{
-    let ledger = match open_ledger(alloc, rack) {
-        Ok(ledger) => ledger,
-        Err(fault) => return Err(fault),
-    };
-    let fault = match first_uncaused(alloc, &ledger) {
-        Ok(None) => return Ok(ledger),
-        Ok(Some(place)) => Answer::Unsound {
-            place,
-            kind: UnsoundKind::Cause,
-        },
-        Err(_) => Answer::Memory,
-    };
-    close_ledger(rack, ledger);
-    Err(fault)
-}
-
 // Whether node 0 was made by a mint with this id. It is put back.
 fn check_mint<R: Rack>(alloc: Global, rack: &mut R, id: &Hash) -> Result<(), Answer>
     requires { (n : ℕ) → R.can_take rack.old n }
-    ensures work { IfErr result IsNodesFault }
+    ensures fault { IfErr result (IsFault (λ place. ⊥)) }
     ensures back { (n : ℕ) → R.can_take rack.new n }
-    ensures later { (n : ℕ) → R.count rack.old n ≤ R.count rack.new n }
 {
     let lead: CoordLog<R::Disk> = match open_one(alloc, rack, NodeId(0), None) {
         Ok(lead) => lead,
@@ -106,20 +67,29 @@ fn joined(alloc: Global, files: Vec<List<FullTx>>) -> Result<Vec<FullTx>, AllocE
     Ok(all)
 }
 
+// The transaction that a mint stands for: it has no inputs.
+fn genesis_of(alloc: Global, mint: Mint) -> FullTx {
+    FullTx {
+        inputs: List::new(alloc),
+        outputs: mint,
+        witnesses: List::new(alloc),
+    }
+}
+
 // What an audit of an open ledger finds.
 fn verdict_of<D: Disk>(
     alloc: Global,
-    ledger: &Ledger<D>,
+    nodes: &Nodes<D>,
     mint: &[Output],
     handed: &[FullTx],
 ) -> Result<Verdict, AllocError>
-    requires { length ledger.now.logs.items + length ledger.now.shards.items < 2 ^ 32 }
+    requires { length nodes.now.logs.items + length nodes.now.shards.items < 2 ^ 32 }
 {
-    let journals = lent(alloc, ledger)?;
+    let journals = lent(alloc, nodes)?;
     let history = merge(alloc, &journals)?;
     audit::audit(
         alloc,
-        &ledger.header.shape,
+        &nodes.header.shape,
         &journals,
         history.as_slice(),
         mint,
@@ -135,16 +105,15 @@ fn verdict_on<R: Rack>(
     handed: &[FullTx],
 ) -> Result<Verdict, Answer>
     requires { (n : ℕ) → R.can_take rack.old n }
-    ensures work { IfErr result IsNodesFault }
+    ensures fault { IfErr result (IsFault (λ place. ⊥)) }
     ensures back { (n : ℕ) → R.can_take rack.new n }
-    ensures later { (n : ℕ) → R.count rack.old n ≤ R.count rack.new n }
 {
-    let ledger = match open_ledger(alloc, rack) {
-        Ok(ledger) => ledger,
+    let nodes = match open_nodes(alloc, rack) {
+        Ok(nodes) => nodes,
         Err(fault) => return Err(fault),
     };
-    let verdict = verdict_of(alloc, &ledger, mint, handed);
-    close_ledger(rack, ledger);
+    let verdict = verdict_of(alloc, &nodes, mint, handed);
+    close_nodes(rack, nodes);
     match verdict {
         Ok(verdict) => Ok(verdict),
         Err(_) => Err(Answer::Memory),
@@ -182,7 +151,6 @@ pub(crate) fn audit<I: Inbox, R: Rack, O: Sink>(
         (Rose (O.count out.old) (O.count out.new)) result }
     ensures written_later { O.count out.old ≤ O.count out.new }
     ensures back { (n : ℕ) → R.can_take rack.new n }
-    ensures later { (n : ℕ) → R.count rack.old n ≤ R.count rack.new n }
 {
     let mint = match mint_in(alloc, inbox, mint) {
         Ok(mint) => mint,

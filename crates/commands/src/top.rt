@@ -2,7 +2,10 @@
 ghost use Rattle.std.specs.Prelude.{◌≡◌, ◌≤◌, ℕ};
 ghost use Rattle.command_line.specs.Asked.{IsRefused};
 ghost use Rattle.command_line.specs.Words.{texts};
-ghost use Rattle.commands.specs.Causes.{IsAnswered, IsDone, NamedRose, RequestRose};
+ghost use Rattle.command_line.specs.Asked.{IsAsked};
+ghost use Rattle.command_line.specs.declared.request.Request.{Request as Asked};
+ghost use Rattle.commands.specs.Causes.{IsAnswered, IsDone, IsWell, NamedRose, RequestRose};
+ghost use Rattle.commands.specs.Outcomes.{Did};
 ghost use Rattle.outside.specs.Counts.{Rose};
 
 use crate::auditing::audit;
@@ -68,6 +71,7 @@ fn answer_to<W: Wait, I: Inbox, R: Rack, O: Sink, G: Gate>(
     requires { (n : ℕ) → R.can_take rack.old n }
     ensures back { (n : ℕ) → R.can_take rack.new n }
     ensures cause { IsDone (RequestRose request.now (I.count inbox.old) (I.count inbox.new)) (Rose (O.count out.old) (O.count out.new)) result }
+    ensures did { IsWell result → Did (I.file inbox.old) R.Disk.content R.Disk.images (R.held rack.old) (R.held rack.new) request.now }
     ensures written_later { O.count out.old ≤ O.count out.new }
 {
     match request {
@@ -95,6 +99,7 @@ fn answer_words<W: Wait, I: Inbox, R: Rack, O: Sink, G: Gate>(
     requires { (n : ℕ) → R.can_take rack.old n }
     ensures back { (n : ℕ) → R.can_take rack.new n }
     ensures cause { IsAnswered (texts words.now) (I.count inbox.old) (I.count inbox.new) (Rose (O.count out.old) (O.count out.new)) result }
+    ensures did { IsWell result → (r : Asked) × IsAsked (texts words.now) r × Did (I.file inbox.old) R.Disk.content R.Disk.images (R.held rack.old) (R.held rack.new) r }
     ensures written_later { O.count out.old ≤ O.count out.new }
 {
     match parse(alloc, words) {
@@ -116,6 +121,10 @@ pub fn process<W: Wait, I: Inbox, R: Rack, O: Sink, G: Gate>(
 ) -> Done<R>
     requires { (n : ℕ) → R.can_take rack n }
     ensures back { (n : ℕ) → R.can_take result.rack n }
+    // What the words ask for was done, whether its lines could be written or not: a ledger was made, files were run over one, or its
+    // open batches were brought to their end; and where no two outputs share a hash, the headline holds of the journals at exit.
+    ensures did { IsWell result.status → (r : Asked) × IsAsked (texts words.now) r × Did (I.file inbox.old) R.Disk.content R.Disk.images (R.held rack) (R.held result.rack) r }
+
     ensures bad_words { result.status ≡ Answer.BadWords → IsRefused (texts words.now) WordsFault.Bad }
     ensures read { (file : ℕ) → result.status ≡ Answer.ReadFault file → NamedRose (texts words.now) (I.count inbox.old) (I.count inbox.new) file }
     ensures written { result.status ≡ Answer.WriteFault → Rose (O.count out.old) (O.count out.new) }

@@ -1,2 +1,5 @@
 pub mod Walks
 pub mod Standing
+pub mod Deciding
+pub mod Outcomes
+pub mod Following

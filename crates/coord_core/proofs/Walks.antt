@@ -1,5 +1,5 @@
 -- One step of a walk over a list, and of what is computed on the way.
-use Rattle.std.proofs.Common.{◌≡◌, ℕ, suc, ◌+◌, ◌^◌, ◌<◌, ◌≤◌, max, List, [], ◌∷◌, ◌++◌, length, get_or, set, take, drop, refl, ap, sym, ◌∙◌, subst, arith, add-one, drop-cons, append_assoc, Some, Bool, true, false}
+use Rattle.std.proofs.Common.{◌≡◌, ℕ, suc, ◌+◌, ◌^◌, ◌<◌, ◌≤◌, max, List, [], ◌∷◌, ◌++◌, length, get_or, set, take, drop, refl, ap, sym, ◌∙◌, subst, arith, add-one, drop-cons, append_assoc, Some, true, false}
 use Rattle.std.specs.Prelude.{bit_or, if◌then◌else◌, ◌==◌}
 use Rattle.std.proofs.lemmas.Bool.{ne_eqb}
 use Rattle.std.specs.Int.{bit_at}
@@ -13,7 +13,6 @@ use Rattle.cbdc_model.specs.Records.{Compact}
 use Rattle.coord_core.specs.Masks.{marked, mask_of, masks_of}
 use Rattle.std.proofs.Common.{zero, map}
 use Rattle.cbdc_model.specs.Records.{Won}
-use Rattle.coord_core.specs.Lanes.{LaneOf, lane_kept, kept_of}
 use Rattle.coord_core.specs.Decided.{told, combined, latest, AllEarlier, RisesBelow}
 
 -- what is left of a list at a place: the item there, and the rest
@@ -40,11 +39,11 @@ told_none s [] os = refl
 told_none s (m ∷ ms) [] = refl
 told_none s (m ∷ ms) (o ∷ os) = refl
 
-told_cons : (s m : ℕ) (ms : List ℕ) (r : Reply) (rs : List Reply) (o : Outcome) (os : List Outcome) → bit_at m s ≡ 1
+pub told_cons : (s m : ℕ) (ms : List ℕ) (r : Reply) (rs : List Reply) (o : Outcome) (os : List Outcome) → bit_at m s ≡ 1
     → told s (m ∷ ms) (r ∷ rs) (o ∷ os) ≡ outcome_by (Some r) s o ∷ told s ms rs os
 told_cons s m ms r rs o os set = rw set refl
 
-told_pass : (s m : ℕ) (ms : List ℕ) (rs : List Reply) (o : Outcome) (os : List Outcome) → (bit_at m s ≡ 1 → ⊥)
+pub told_pass : (s m : ℕ) (ms : List ℕ) (rs : List Reply) (o : Outcome) (os : List Outcome) → (bit_at m s ≡ 1 → ⊥)
     → told s (m ∷ ms) rs (o ∷ os) ≡ o ∷ told s ms rs os
 told_pass s m ms [] o os clear = sym (ap (λ x. o ∷ x) (told_none s ms os))
 told_pass s m ms (r ∷ rs) o os clear = rw (ne_eqb _ _ clear) refl
@@ -109,10 +108,6 @@ masks_step shards txs i t ms ms' lt is old more = more ∙ ap (λ x. x ++ mask_o
 
 pub took_one : {A : Type 0} (xs : List A) (i : ℕ) (x : A) (ys zs : List A) → i < length xs → x ≡ get_or xs i x → ys ≡ take i xs → zs ≡ ys ++ x ∷ [] → zs ≡ take (i + 1) xs
 took_one xs i x ys zs lt is old more = more ∙ ap (λ w. w ++ x ∷ []) old ∙ ap (λ w. take i xs ++ w ∷ []) is ∙ sym (take_more xs i x lt)
-
-pub kept_step : (ls : List LaneOf) (i kept : ℕ) (l : LaneOf) → i < length ls → l ≡ get_or ls i l
-    → (kept + lane_kept l) + kept_of (drop (i + 1) ls) ≡ kept + kept_of (drop i ls)
-kept_step ls i kept l lt is = let e : kept_of (drop i ls) ≡ lane_kept l + kept_of (drop (i + 1) ls) = ap kept_of (rest_is ls i l lt is) in omega arith
 
 pub latest-ge : (n : ℕ) (rs : List ShardReplies) → n ≤ latest n rs
 latest-ge n [] = omega arith

@@ -1,38 +1,11 @@
--- What becomes of a batch by what its shards replied.
-use Rattle.std.specs.Prelude.{ℕ, suc, ◌<◌, max, ◌==◌, List, [], ◌∷◌, map, if◌then◌else◌, Option, Some, None}
+-- The replies by which a batch is decided, and what the code makes of them.
+use Rattle.std.specs.Prelude.{◌≡◌, ℕ, suc, ◌<◌, max, ◌==◌, List, [], ◌∷◌, map, length, if◌then◌else◌, Some}
 use Rattle.std.specs.Int.{bit_at}
 use Rattle.cbdc_types.specs.declared.batch.ShardReplies.{ShardReplies}
-use Rattle.cbdc_model.specs.Records.{Shape, Compact, Entry, Reply, Outcome, Answered, Won}
+use Rattle.cbdc_model.specs.Records.{Shape, Compact, Reply, Outcome, Won}
 use Rattle.cbdc_model.specs.Ranges.{part}
-use Rattle.cbdc_model.specs.Outcomes.{outcome_by, outcomes}
-use Rattle.cbdc_model.specs.Causes.{greatest}
-
--- what a shard replied
-abbrev pub replies_at : List ShardReplies → ℕ → Option ShardReplies
-replies_at [] s = None
-replies_at (r ∷ rs) s = if r.shard == s then Some r else replies_at rs s
-
-abbrev pub replies_in : Option ShardReplies → List Reply
-replies_in None = []
-replies_in (Some r) = r.replies
-
-abbrev pub reply_stamp : Option ShardReplies → ℕ
-reply_stamp None = 0
-reply_stamp (Some r) = r.stamp
-
--- a part with the replies to it, in order
-abbrev pub answered_with : List Entry → List Reply → List Answered
-answered_with [] rs = []
-answered_with (e ∷ es) [] = []
-answered_with (e ∷ es) (r ∷ rs) = record { entry = e; reply = r } ∷ answered_with es rs
-
--- the outcomes of a batch by these replies: of each transaction Held, or the least shard that refuses
-abbrev pub decided : Shape → List Compact → List ShardReplies → List Outcome
-decided K txs replies = outcomes (λ s. answered_with (part K.shards s 0 txs) (replies_in (replies_at replies s))) K.shards 0 txs
-
--- the greatest stamp of the replies
-abbrev pub reply_cause : Shape → List ShardReplies → ℕ
-reply_cause K replies = greatest (λ s. reply_stamp (replies_at replies s)) K.shards
+use Rattle.cbdc_model.specs.Outcomes.{outcome_by}
+use Rattle.cbdc_model.specs.Deciding.{replies_at, replies_in}
 
 -- one shard's replies, taken into the outcomes by the greater shards; the masks say which transactions it replies to
 abbrev pub told : ℕ → List ℕ → List Reply → List Outcome → List Outcome
@@ -59,3 +32,8 @@ RisesBelow low limit (r ∷ rs) = (low < suc r.shard) × (r.shard < limit) × Ri
 abbrev pub AllEarlier : ℕ → List ShardReplies → Type 0
 AllEarlier limit [] = Unit {0}
 AllEarlier limit (r ∷ rs) = (r.stamp < limit) × AllEarlier limit rs
+
+-- the shards rise, and each has replied to each entry of its part
+pub record AreRepliesTo (K : Shape) (txs : List Compact) (replies : List ShardReplies) : Type 0 where
+  pub rising : RisesBelow 0 K.shards replies
+  pub each : (s : ℕ) → s < K.shards → length (replies_in (replies_at replies s)) ≡ length (part K.shards s 0 txs)

@@ -1,8 +1,8 @@
 -- What a coordinator keeps of its lanes.
-use Rattle.std.specs.Prelude.{◌≡◌, ℕ, ◌+◌, ◌^◌, ◌%◌, ◌<◌, ◌≤◌, List, [], length, slice_index_or, slice_set, All, ◌∷◌}
+use Rattle.std.specs.Prelude.{◌≡◌, ℕ, ◌+◌, ◌^◌, ◌%◌, ◌<◌, ◌≤◌, List, [], length, slice_index_or, slice_set, sum_by, ◌≢◌, All}
 use Rattle.cbdc_types.specs.Limits.{IsWithinLimits}
 use Rattle.cbdc_model.specs.Records.{Header, Batch, Compact, Record, Prepare, Commit, Discard, Done}
-use Rattle.cbdc_model.specs.Slots.{Slot, Idle, InPrepare, InCommit, InDiscard}
+use Rattle.cbdc_model.specs.Slots.{Slot, Phase, Idle, InLock, InFinish, InPrepare, InCommit, InDiscard}
 use Rattle.cbdc_model.specs.Ranges.{home_of}
 use Rattle.cbdc_model.specs.Room.{room_in}
 use Rattle.coord_core.specs.Masks.{masks_of}
@@ -97,13 +97,6 @@ IsNext c other = IsAdmitted c other
 abbrev pub HasRoom : CoordOf → ℕ → ℕ → Type 0
 HasRoom c lane n = n ≤ (lane_at c lane).room
 
--- nothing but the room has changed, and it has not shrunk
-pub record IsSameButRoom (old new : CoordOf) : Type 0 where
-  pub header : new.header ≡ old.header
-  pub last : new.last ≡ old.last
-  pub slots : (lane : ℕ) → (lane_at new lane).slot ≡ (lane_at old lane).slot
-  pub masks : (lane : ℕ) → (lane_at new lane).masks ≡ (lane_at old lane).masks
-
 -- a lane without a batch
 pub record IsIdle (l : LaneOf) : Type 0 where
   pub slot : l.slot ≡ record { number = 0; phase = Idle }
@@ -120,5 +113,43 @@ abbrev pub lane_kept : LaneOf → ℕ
 lane_kept l = room_in l.slot.phase 0 (length l.masks)
 
 abbrev pub kept_of : List LaneOf → ℕ
-kept_of [] = 0
-kept_of (l ∷ ls) = lane_kept l + kept_of ls
+kept_of ls = sum_by lane_kept ls
+
+-- how many records are still to come of a batch in a phase, and of the batches of some lanes
+abbrev pub ahead_in : Phase → ℕ
+ahead_in Idle = 0
+ahead_in InLock = 2
+ahead_in InFinish = 1
+ahead_in InPrepare = 3
+ahead_in InCommit = 2
+ahead_in InDiscard = 1
+
+abbrev pub ahead_of : List LaneOf → ℕ
+ahead_of ls = sum_by (λ l. ahead_in l.slot.phase) ls
+
+-- nothing but the room has changed
+pub record IsSameButRoom (old new : CoordOf) : Type 0 where
+  pub header : new.header ≡ old.header
+  pub last : new.last ≡ old.last
+  pub slots : (lane : ℕ) → (lane_at new lane).slot ≡ (lane_at old lane).slot
+  pub masks : (lane : ℕ) → (lane_at new lane).masks ≡ (lane_at old lane).masks
+  pub kept : kept_of new.lanes ≡ kept_of old.lanes
+  pub ahead : ahead_of new.lanes ≡ ahead_of old.lanes
+
+-- no lane has less room
+abbrev pub HasGrown : CoordOf → CoordOf → Type 0
+HasGrown old new = (lane : ℕ) → (lane_at old lane).room ≤ (lane_at new lane).room
+
+-- the other lanes have as much room
+abbrev pub KeepsOthers : CoordOf → CoordOf → ℕ → Type 0
+KeepsOthers old new lane = (other : ℕ) → other % old.header.shape.lanes ≢ lane % old.header.shape.lanes → (lane_at new other).room ≡ (lane_at old other).room
+
+-- a prepared batch has room for its outcomes: on this lane, on all lanes, on all but one
+abbrev pub IsRoomed : LaneOf → Type 0
+IsRoomed l = l.slot.phase ≡ InPrepare → length l.masks ≤ l.room
+
+abbrev pub AllRoomed : CoordOf → Type 0
+AllRoomed c = (lane : ℕ) → IsRoomed (lane_at c lane)
+
+abbrev pub OthersRoomed : CoordOf → ℕ → Type 0
+OthersRoomed c lane = (other : ℕ) → other % c.header.shape.lanes ≢ lane % c.header.shape.lanes → IsRoomed (lane_at c other)

@@ -1,18 +1,22 @@
 // The outcomes of a batch by its shards' replies.
-ghost use Rattle.std.specs.Prelude.{◌≡◌, ◌≤◌, ◌<◌, ◌^◌, length, vec_len, vec_capacity, Some, []};
+ghost use Rattle.std.specs.Prelude.{◌≡◌, ◌≤◌, ◌<◌, ◌^◌, length, vec_len, vec_capacity, Some, [], All};
+ghost use Rattle.cbdc_model.specs.Records.{Shape};
+ghost use Rattle.cbdc_model.specs.Grammar.{IsOutcome};
 ghost use Rattle.cbdc_model.specs.Outcomes.{outcome_by};
+ghost use Rattle.coord_core.specs.Hashes.{NamesBatch, AllNameBatches};
 ghost use Rattle.coord_core.specs.Decided.{told, combined, latest, RisesBelow, AllEarlier};
 
-use cbdc_types::{Outcome, Reply, ShardReplies};
+use cbdc_types::{Hash, Outcome, Reply, ShardReplies};
 
 // The outcome with one shard's reply, given that of the greater shards.
 fn outcome_with(shard: u32, reply: &Reply, rest: Outcome) -> Outcome
-    ensures { result ≡ outcome_by (Some reply.now) shard rest }
+    ensures value { result ≡ outcome_by (Some reply.now) shard rest }
+    ensures grammar { (K : Shape) → shard < K.shards → NamesBatch K reply.now → IsOutcome K rest → IsOutcome K result }
 {
     match *reply {
         Reply::Held => rest,
-        Reply::Missing(x) => Outcome::Missing(shard, x),
-        Reply::Locked(x, by) => Outcome::Locked(shard, x, by),
+        Reply::Missing(x) => Outcome::Missing(shard, Hash(x.0)),
+        Reply::Locked(x, by) => Outcome::Locked(shard, Hash(x.0), by),
     }
 }
 
@@ -22,6 +26,7 @@ fn tell(shard: u32, masks: &[u64], replies: &[Reply], outcomes: &mut Vec<Outcome
     requires same_length { vec_len outcomes.old ≡ length masks.now }
     ensures items { outcomes.new.items ≡ told shard masks.now replies.now outcomes.old.items }
     ensures same_length { vec_len outcomes.new ≡ length masks.now }
+    ensures grammar { (K : Shape) → shard < K.shards → All (NamesBatch K) replies.now → All (IsOutcome K) outcomes.old.items → All (IsOutcome K) outcomes.new.items }
 {
     let mut next = 0;
     for k in 0..masks.len() {
@@ -37,7 +42,8 @@ pub(crate) fn combine(masks: &[u64], replies: &[ShardReplies], outcomes: &mut Ve
     requires empty { outcomes.old.items ≡ [] }
     requires room { length masks.now ≤ vec_capacity outcomes.old }
     requires rising { RisesBelow 0 64 replies.now }
-    ensures { outcomes.new.items ≡ combined masks.now replies.now }
+    ensures value { outcomes.new.items ≡ combined masks.now replies.now }
+    ensures grammar { (K : Shape) → RisesBelow 0 K.shards replies.now → AllNameBatches K replies.now → All (IsOutcome K) outcomes.new.items }
 {
     for _ in masks {
         outcomes.push_reserved(Outcome::Held);

@@ -1,11 +1,16 @@
 // The lanes of a coordinator.
-ghost use Rattle.std.specs.Prelude.{◌≡◌, ◌↔◌, IsTrue, ◌≤◌, ◌<◌, ◌+◌, ◌%◌, ◌^◌, ℕ, suc, max, length, IfOk, OnOk, OnErr, [], ◌∷◌, List, All};
-ghost use Rattle.cbdc_model.specs.Records.{Record as AnyRecord, Start, Prepare, Commit, Discard, Done};
+ghost use Rattle.std.specs.Prelude.{◌≡◌, ◌≢◌, ◌↔◌, IsTrue, ◌≤◌, ◌<◌, ◌+◌, ◌%◌, ◌^◌, ℕ, suc, max, length, IfOk, OnOk, OnErr, [], ◌∷◌, List, All, Some};
+ghost use Rattle.cbdc_model.specs.Records.{Record as AnyRecord, Shape, Compact, outcomes_in, Start, Prepare, Commit, Discard, Done};
+ghost use Rattle.cbdc_model.specs.Grammar.{IsInGrammar, IsOutcome};
+ghost use Rattle.cbdc_model.specs.After.{After};
+ghost use Rattle.cbdc_model.specs.Deciding.{decided, reply_cause};
 ghost use Rattle.cbdc_model.specs.Slots.{Idle, InPrepare, InCommit, InDiscard};
 ghost use Rattle.coord_core.specs.Phases.{slot_of};
-ghost use Rattle.coord_core.specs.Decided.{combined, latest, RisesBelow, AllEarlier};
+ghost use Rattle.coord_core.specs.Hashes.{AreHashed, AllNameBatches};
+ghost use Rattle.coord_core.specs.Decided.{combined, latest, RisesBelow, AllEarlier, AreRepliesTo};
+ghost use Rattle.coord_core.specs.Masks.{masks_of};
 ghost use Rattle.coord_core.specs.Stands.{StandsFor};
-ghost use Rattle.coord_core.specs.Lanes.{IsOwn, lane_at, with_lane, open_batch, next_batch, IsNext, HasRoom, IsSameButRoom, turned, begun, Takes, IsFresh, IsIdle, IsLaterAt, IsAdmitted, kept_of, IsPrepareAt, IsCommitAt};
+ghost use Rattle.coord_core.specs.Lanes.{IsOwn, lane_at, with_lane, open_batch, next_batch, IsNext, HasRoom, IsSameButRoom, HasGrown, KeepsOthers, ahead_of, turned, begun, Takes, IsFresh, IsIdle, IsLaterAt, IsAdmitted, kept_of, IsPrepareAt, IsCommitAt};
 
 use crate::combine::latest_stamp;
 use crate::copying::copied_txs;
@@ -85,6 +90,7 @@ impl CoordCore {
     /// Takes the memory of a batch of n transactions on a lane.
     fn reserve(&mut self, lane: LaneId, n: usize) -> Result<(), AllocError>
         ensures same { IsSameButRoom self.old self.new }
+        ensures grown { HasGrown self.old self.new }
         ensures room { OnOk result (HasRoom self.new lane n) }
     {
         let place = self.place(lane);
@@ -101,8 +107,10 @@ impl CoordCore {
         requires limit { length txs.now ≤ self.old.header.shape.batch }
         ensures record { IfOk result (λ r. r ≡ Prepare (self.old.last + 1) (next_batch self.old lane) txs.now) }
         ensures same { IsSameButRoom self.old self.new }
+        ensures grown { HasGrown self.old self.new }
         ensures room { OnOk result (HasRoom self.new lane (length txs.now)) }
         ensures limits { IsWithinLimits self.old.header.shape }
+        ensures hashes { IfOk result (λ r. All AreHashed txs.now) }
 
         // It may be taken in.
         ensures next { IfOk result (λ r. self.old.last < 2 ^ 62 + 2 ^ 20 → IsNext self.new r) }
@@ -145,6 +153,15 @@ impl CoordCore {
         requires earlier { AllEarlier (2 ^ 63) replies.now }
         ensures record { result ≡ Commit (suc (latest self.old.last replies.now)) (open_batch self.old lane) (combined (lane_at self.old lane).masks replies.now) }
         ensures same { IsSameButRoom self.old self.new }
+        ensures others { KeepsOthers self.old self.new lane }
+        ensures whole { IsWhole self.new }
+
+        // It is what becomes of these transactions, if the replies are to their parts.
+        ensures decided { (txs : List Compact) → (lane_at self.old lane).masks ≡ masks_of self.old.header.shape.shards txs → AreRepliesTo self.old.header.shape txs replies.now
+            → result ≡ Commit (suc (max self.old.last (reply_cause self.old.header.shape replies.now))) (open_batch self.old lane) (decided self.old.header.shape txs replies.now) }
+
+        // Its outcomes are in the grammar.
+        ensures outcomes { AllNameBatches self.old.header.shape replies.now → All (IsOutcome self.old.header.shape) (outcomes_in (Some result)) }
 
         // It may be taken in.
         ensures next { suc (latest self.old.last replies.now) ≤ 2 ^ 62 + 2 ^ 20 → IsNext self.new result }
@@ -165,8 +182,10 @@ impl CoordCore {
     /// The stamp of a Commit by these replies.
     pub fn commit_stamp(&self, replies: &Replies) -> Stamp
         requires { AllEarlier (2 ^ 63) replies.now }
-        ensures { result ≡ suc (latest self.now.last replies.now) }
+        ensures value { result ≡ suc (latest self.now.last replies.now) }
+        ensures whole { IsWhole self.now }
     {
+        let _ = &self.lanes;
         Stamp(latest_stamp(self.last, replies.as_slice()) + 1)
     }
 
@@ -181,7 +200,9 @@ impl CoordCore {
 
     /// How many bytes are kept free for the later records of unfinished batches.
     pub fn kept_room(&self) -> u64
-        ensures { result ≡ kept_of self.now.lanes }
+        ensures value { result ≡ kept_of self.now.lanes }
+        ensures bound { result ≤ 935648 }
+        ensures whole { IsWhole self.now }
     {
         let mut kept = 0;
         for lane in &self.lanes {
@@ -190,9 +211,10 @@ impl CoordCore {
         kept
     }
 
-    /// How many records unfinished batches still have to come, at most 3 of each lane.
+    /// How many records of unfinished batches are still to come, at most 3 of each lane.
     pub fn records_ahead(&self) -> usize
-        ensures { result ≤ 48 }
+        ensures value { result ≡ ahead_of self.now.lanes }
+        ensures bound { result ≤ 48 }
     {
         let mut ahead = 0;
         for lane in &self.lanes {
@@ -205,8 +227,11 @@ impl CoordCore {
     fn outcomes(&mut self, lane: LaneId, replies: &Replies) -> Outcomes
         requires room { HasRoom self.old lane (length (lane_at self.old lane).masks) }
         requires rising { RisesBelow 0 64 replies.now }
+        ensures whole { IsWhole self.new }
         ensures value { result ≡ combined (lane_at self.old lane).masks replies.now }
+        ensures grammar { (K : Shape) → RisesBelow 0 K.shards replies.now → AllNameBatches K replies.now → All (IsOutcome K) result }
         ensures same { IsSameButRoom self.old self.new }
+        ensures others { KeepsOthers self.old self.new lane }
     {
         let place = self.place(lane);
         let lane = &mut self.lanes[place];
@@ -253,11 +278,13 @@ impl CoordCore {
         }
     }
 
-    // One more than the greatest of the last stamp and the cause.
-    fn after(&self, cause: Stamp) -> Stamp
+    /// The stamp of a record with this cause: one more than the greatest of the last stamp and the cause's.
+    pub fn after(&self, cause: Stamp) -> Stamp
         requires { cause < 2 ^ 63 }
-        ensures { result ≡ suc (max self.now.last cause) }
+        ensures value { result ≡ suc (max self.now.last cause) }
+        ensures whole { IsWhole self.now }
     {
+        let _ = &self.lanes;
         Stamp(self.last.max(cause.0) + 1)
     }
 
@@ -299,7 +326,22 @@ impl CoordCore {
     /// coordinator, with stamps that rise. The memory to take it in is taken then.
     pub fn admit(&mut self, next: &Record) -> Result<bool, AllocError>
         ensures next { IfOk result (λ b. IsTrue b ↔ IsAdmitted self.old next.now) }
+
+        // A record of the grammar is next just where it may come behind the journal that the lanes stand for.
+        ensures after { IfOk result (λ b. IsInGrammar self.old.header next.now → (J : List AnyRecord) → StandsFor self.old J → J ≢ [] → (IsTrue b ↔ After self.old.header J next.now)) }
         ensures same { IsSameButRoom self.old self.new }
+        ensures grown { HasGrown self.old self.new }
+        ensures room { IfOk result (λ b. IsTrue b → IsNext self.new next.now) }
+    {
+        let _ = &self.lanes;
+        self.admit_next(next)
+    }
+
+    // Whether a record is next on its lane.
+    fn admit_next(&mut self, next: &Record) -> Result<bool, AllocError>
+        ensures next { IfOk result (λ b. IsTrue b ↔ IsAdmitted self.old next.now) }
+        ensures same { IsSameButRoom self.old self.new }
+        ensures grown { HasGrown self.old self.new }
         ensures room { IfOk result (λ b. IsTrue b → IsNext self.new next.now) }
     {
         match next {
@@ -351,6 +393,7 @@ impl CoordCore {
     pub fn apply(&mut self, r: &Record)
         requires { IsNext self.old r.now }
         ensures taken { Takes self.old self.new r.now }
+        ensures whole { IsWhole self.old }
 
         // The lanes are then as the journal with the record leaves them.
         ensures stands { (past : List AnyRecord) → StandsFor self.old past → StandsFor self.new (r.now ∷ past) }

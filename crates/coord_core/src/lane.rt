@@ -1,10 +1,13 @@
 // One lane of a coordinator.
-ghost use Rattle.std.specs.Prelude.{◌≡◌, ◌↔◌, IsTrue, ◌≤◌, ◌<◌, ◌+◌, length, OnOk, OnErr, []};
+ghost use Rattle.std.specs.Prelude.{◌≡◌, ◌↔◌, IsTrue, ◌≤◌, ◌<◌, ◌+◌, length, OnOk, OnErr, [], All};
+ghost use Rattle.cbdc_model.specs.Records.{Shape};
+ghost use Rattle.cbdc_model.specs.Grammar.{IsOutcome};
 ghost use Rattle.cbdc_model.specs.Slots.{InPrepare};
 ghost use Rattle.coord_core.specs.Phases.{slot_of};
+ghost use Rattle.coord_core.specs.Hashes.{AllNameBatches};
 ghost use Rattle.coord_core.specs.Masks.{masks_of};
 ghost use Rattle.coord_core.specs.Decided.{combined, RisesBelow};
-ghost use Rattle.coord_core.specs.Lanes.{lane_kept};
+ghost use Rattle.coord_core.specs.Lanes.{lane_kept, ahead_in};
 
 use crate::combine::combine;
 use crate::mask::mask;
@@ -105,6 +108,7 @@ impl Lane {
         requires room { length self.old.masks ≤ self.old.room }
         requires rising { RisesBelow 0 64 replies.now }
         ensures outcomes { result.items ≡ combined self.old.masks replies.now }
+        ensures grammar { (K : Shape) → RisesBelow 0 K.shards replies.now → AllNameBatches K replies.now → All (IsOutcome K) result.items }
         ensures slot { self.new.slot ≡ self.old.slot }
         ensures masks { self.new.masks ≡ self.old.masks }
     {
@@ -137,7 +141,8 @@ impl Lane {
 
     /// How many records the lane's batch still has to come.
     pub(crate) fn records_ahead(&self) -> usize
-        ensures { result ≤ 3 }
+        ensures value { result ≡ ahead_in self.now.slot.phase }
+        ensures bound { result ≤ 3 }
     {
         match self.phase {
             LanePhase::Idle(_) => 0,

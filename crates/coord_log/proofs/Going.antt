@@ -1,5 +1,5 @@
 -- Going over records from the oldest on.
-use Rattle.std.proofs.Common.{◌≡◌, ℕ, ◌+◌, ◌<◌, List, [], ◌∷◌, ◌++◌, length, get_or, take, reverse, ap, ◌∙◌, sym, subst}
+use Rattle.std.proofs.Common.{◌≡◌, ℕ, ◌+◌, ◌<◌, List, [], ◌∷◌, length, get_or, take, reverse, ap, ◌∙◌, sym, subst}
 use Rattle.std.proofs.lemmas.List.{take_more, reverse-append}
 use Rattle.cbdc_model.specs.Records.{Header, Record, txs_of, Genesis, Lock, Finish, Forget, Start, Prepare, Commit, Discard, Done}
 use Rattle.coord_core.specs.Masks.{masks_of}

@@ -1,1 +1,10 @@
 pub mod Going
+pub mod Journals
+pub mod Kept
+pub mod Written
+pub mod Places
+pub mod Owed
+pub mod Deciding
+pub mod Preparing
+pub mod Opened
+pub mod Stops

@@ -1,1 +1,4 @@
 pub mod Logs
+pub mod Inside
+pub mod Opening
+pub mod OpenLanes

@@ -1,34 +1,99 @@
 // What the records of a lane's open batch hold.
-ghost use Rattle.std.specs.Prelude.{◌≡◌, ◌≤◌, length, [], Some};
+ghost use Rattle.std.specs.Prelude.{◌≡◌, ◌≤◌, ◌==◌, ◌&&◌, length, reverse, [], Some, IfOk};
 ghost use Rattle.std.specs.Vec.{vec_capacity};
-ghost use Rattle.cbdc_model.specs.Records.{outcomes_in};
+ghost use Rattle.cbdc_model.specs.Records.{kind_of, is_of, is_in_lane, stamp_in, txs_in, outcomes_in, txs_of as journal_txs, outcomes_of as journal_outcomes};
+ghost use Rattle.cbdc_model.specs.Slots.{slot_stamp};
 
 use cbdc_types::{BatchId, CompactTx, LaneId, List, Outcome, Outcomes, Record, Stamp};
 use coord_core::copied_txs;
 use std::alloc::{AllocError, Global};
 
-// The batch and the stamp of a record behind the first.
-fn name_of(record: &Record) -> Option<(BatchId, Stamp)> {
-    match record {
-        Record::Genesis { .. } => None,
-        Record::Start { .. } => None,
-        Record::Lock { stamp, batch, .. } => Some((*batch, *stamp)),
-        Record::Finish { stamp, batch, .. } => Some((*batch, *stamp)),
-        Record::Forget { stamp, batch } => Some((*batch, *stamp)),
-        Record::Prepare { stamp, batch, .. } => Some((*batch, *stamp)),
-        Record::Commit { stamp, batch, .. } => Some((*batch, *stamp)),
-        Record::Discard { stamp, batch } => Some((*batch, *stamp)),
-        Record::Done { stamp, batch } => Some((*batch, *stamp)),
+// Whether a record is of this lane.
+fn is_of_lane(written: &Record, lane: LaneId) -> bool
+    ensures { result ≡ is_in_lane lane written.now }
+{
+    match written {
+        Record::Genesis { .. } => false,
+        Record::Start { .. } => false,
+        Record::Lock { batch, .. } => batch.lane == lane,
+        Record::Finish { batch, .. } => batch.lane == lane,
+        Record::Forget { batch, .. } => batch.lane == lane,
+        Record::Prepare { batch, .. } => batch.lane == lane,
+        Record::Commit { batch, .. } => batch.lane == lane,
+        Record::Discard { batch, .. } => batch.lane == lane,
+        Record::Done { batch, .. } => batch.lane == lane,
+    }
+}
+
+// The stamp of a record, 0 for a first one.
+fn stamp_at(written: &Record) -> Stamp
+    ensures { result ≡ stamp_in (Some written.now) }
+{
+    match written {
+        Record::Genesis { .. } => Stamp(0),
+        Record::Start { .. } => Stamp(0),
+        Record::Lock { stamp, .. } => *stamp,
+        Record::Finish { stamp, .. } => *stamp,
+        Record::Forget { stamp, .. } => *stamp,
+        Record::Prepare { stamp, .. } => *stamp,
+        Record::Commit { stamp, .. } => *stamp,
+        Record::Discard { stamp, .. } => *stamp,
+        Record::Done { stamp, .. } => *stamp,
+    }
+}
+
+// Whether a record is the Prepare of a batch.
+fn is_prepare_of(written: &Record, wanted: &BatchId) -> bool
+    ensures { result ≡ (kind_of written.now == 6) && is_of wanted.now written.now }
+{
+    match written {
+        Record::Prepare { batch, .. } => {
+            batch.lane == wanted.lane && batch.number == wanted.number
+        }
+        _ => false,
+    }
+}
+
+// Whether a record is the Commit of a batch.
+fn is_commit_of(written: &Record, wanted: &BatchId) -> bool
+    ensures { result ≡ (kind_of written.now == 7) && is_of wanted.now written.now }
+{
+    match written {
+        Record::Commit { batch, .. } => batch.lane == wanted.lane && batch.number == wanted.number,
+        _ => false,
+    }
+}
+
+// A copy of the transactions of a Prepare.
+fn copied_from_prepare(alloc: Global, written: &Record) -> Result<List<CompactTx>, AllocError>
+    ensures { IfOk result (λ txs. txs ≡ txs_in (Some written.now)) }
+{
+    match written {
+        Record::Prepare { txs, .. } => copied_txs(alloc, txs.as_slice()),
+        _ => Ok(List::new(alloc)),
+    }
+}
+
+// A copy of the outcomes of a Commit.
+fn copied_from_commit(alloc: Global, written: &Record) -> Result<Outcomes, AllocError>
+    ensures { IfOk result (λ os. os ≡ outcomes_in (Some written.now)) }
+{
+    match written {
+        Record::Commit { outcomes, .. } => {
+            let copied = Vec::from_slice(alloc, outcomes.as_slice())?;
+            Ok(List::from_vec(copied))
+        }
+        _ => Ok(List::new(alloc)),
     }
 }
 
 /// The stamp of a lane's newest record, 0 where there is none.
-pub(crate) fn stamp_of(records: &[Record], lane: LaneId) -> Stamp {
-    for record in records.iter().rev() {
-        if let Some((batch, stamp)) = name_of(record) {
-            if batch.lane == lane {
-                return stamp;
-            }
+pub(crate) fn stamp_of(records: &[Record], lane: LaneId) -> Stamp
+    ensures { result ≡ slot_stamp (reverse records.now) lane }
+{
+    'records: for i in (0..records.len()).rev() {
+        if is_of_lane(&records[i], lane) {
+            return stamp_at(&records[i]);
         }
     }
     Stamp(0)
@@ -39,12 +104,12 @@ pub(crate) fn txs_of(
     alloc: Global,
     records: &[Record],
     wanted: &BatchId,
-) -> Result<List<CompactTx>, AllocError> {
-    for record in records.iter().rev() {
-        if let Record::Prepare { batch, txs, .. } = record {
-            if *batch == *wanted {
-                return copied_txs(alloc, txs.as_slice());
-            }
+) -> Result<List<CompactTx>, AllocError>
+    ensures { IfOk result (λ txs. txs ≡ journal_txs (reverse records.now) wanted.now) }
+{
+    'records: for i in (0..records.len()).rev() {
+        if is_prepare_of(&records[i], wanted) {
+            return copied_from_prepare(alloc, &records[i]);
         }
     }
     Ok(List::new(alloc))
@@ -55,17 +120,12 @@ pub(crate) fn outcomes_of(
     alloc: Global,
     records: &[Record],
     wanted: &BatchId,
-) -> Result<Outcomes, AllocError> {
-    for record in records.iter().rev() {
-        if let Record::Commit {
-            batch,
-            outcomes,
-            ..
-        } = record
-        {
-            if *batch == *wanted {
-                return Ok(List::from_vec(Vec::from_slice(alloc, outcomes.as_slice())?));
-            }
+) -> Result<Outcomes, AllocError>
+    ensures { IfOk result (λ os. os ≡ journal_outcomes (reverse records.now) wanted.now) }
+{
+    'records: for i in (0..records.len()).rev() {
+        if is_commit_of(&records[i], wanted) {
+            return copied_from_commit(alloc, &records[i]);
         }
     }
     Ok(List::new(alloc))

@@ -4,6 +4,8 @@
 mod copying;
 mod log;
 mod opening;
+#[cfg(test)]
+mod tests;
 mod writing;
 
 pub use log::CoordLog;

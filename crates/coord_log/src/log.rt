@@ -1,13 +1,18 @@
 // The calls at a coordinator.
-ghost use Rattle.std.specs.Prelude.{◌≡◌, ◌+◌, ◌≤◌, ◌<◌, ◌^◌, ◌∷◌, [], List, suc, max, length, reverse, vec_capacity, OnOk, OnErr, IfOk, IfErr, IsErrOf};
+ghost use Rattle.std.specs.Prelude.{◌≡◌, ◌≢◌, ◌+◌, ◌≤◌, ◌<◌, ◌^◌, ◌∷◌, [], List, ℕ, Option, None, Some, true, false, suc, max, length, reverse, vec_capacity, All, OnOk, OnErr, IfOk, IfErr, IsErrOf};
 ghost use Rattle.outside.specs.Counts.{Rose};
-ghost use Rattle.gate_journal.specs.Shown.{disk_of};
-ghost use Rattle.cbdc_model.specs.Records.{Prepare, Commit, Discard, Done, last_stamp, txs_of};
+ghost use Rattle.gate_journal.specs.Shown.{disk_of, broken_of};
+ghost use Rattle.cbdc_model.specs.Records.{Record, Prepare, Commit, Discard, Done, last_stamp, txs_of};
+ghost use Rattle.cbdc_model.specs.After.{IsJournal};
 ghost use Rattle.cbdc_model.specs.Slots.{slot, Idle, InPrepare, InCommit, InDiscard};
+ghost use Rattle.cbdc_model.specs.Due.{open_batch, prepare_due, decide_due, discard_due, done_due};
+ghost use Rattle.cbdc_model.specs.Sights.{Meets, MeetsFault, IsSameNode, IsBrokenSince};
 ghost use Rattle.coord_core.specs.Phases.{slot_of};
-ghost use Rattle.coord_core.specs.Decided.{RisesBelow, AllEarlier};
+ghost use Rattle.coord_core.specs.Hashes.{AllNameBatches};
+ghost use Rattle.coord_core.specs.Decided.{RisesBelow, AllEarlier, AreRepliesTo};
 ghost use Rattle.coord_core.specs.Lanes.{IsOwn};
-ghost use Rattle.coord_core.specs.Stands.{StandsFor, batch_of};
+ghost use Rattle.coord_log.specs.Logs.{sight, HoldsJournal, Breaks, IsShort, commit_due};
+ghost use Rattle.coord_log.specs.OpenLanes.{open_lane};
 
 use crate::copying::{outcomes_of, stamp_of, tell, txs_of};
 use crate::writing::{make_room, write};
@@ -21,60 +26,67 @@ use record_log::RecordLog;
 use std::alloc::{AllocError, Global};
 use std::marker::Model;
 
-/// The most bytes that memory is taken for.
-const LARGEST: u64 = 1 << 40;
-
 /// The last stamp of a Prepare.
 const LAST_PREPARE: u64 = 1 << 62;
 
 /// The last stamp of a Commit, a Discard or a Done.
 const LAST_STAMP: u64 = (1 << 62) + (1 << 20);
 
-/// A coordinator on its disk. Contracts see its header, its journal (the newest record first), how often its disk
-/// has failed, and the bytes that the journal takes and may take.
+/// A coordinator on its disk. Contracts see its header, its journal (the newest record first), the record that a
+/// failed call may have left on the disk, how often the disk has failed, and the disk.
 #[derive(Drop)]
 pub struct CoordLog<D: Disk> {
     alloc: Global,
     log: RecordLog<D>,
     core: CoordCore,
+    opened: u64,
+    flight: Option<Record>,
 }
 
 impl<D: Disk> Model for CoordLog<D> {
-    ghost use Rattle.std.specs.Prelude.{◌≡◌, ◌+◌, reverse};
-    ghost use Rattle.gate_journal.specs.Shown.{disk_of, gate_of, broken_of};
-    ghost use Rattle.coord_core.specs.Stands.{StandsFor};
     ghost use Rattle.coord_log.specs.Logs.{LogOf};
+    ghost use Rattle.coord_log.specs.Inside.{shown, IsSound};
 
-    ghost Value = { LogOf };
+    ghost Value = { LogOf D };
 
-    ghost view = { λ l. record { header = l.log.header; journal = reverse l.log.records.items; faults = D.count (disk_of l.log.journal); broken = broken_of l.log.journal; used = gate_of l.log.journal + 1; capacity = D.limit (disk_of l.log.journal) } };
+    ghost view = { λ l. shown l.log l.opened l.flight };
 
-    ghost invariant = { λ l. (l.core.header ≡ l.log.header) × StandsFor l.core (reverse l.log.records.items) };
+    ghost invariant = { λ l. IsSound l.log l.core l.opened l.flight };
 }
 
 impl<D: Disk> CoordLog<D> {
+    ghost use Rattle.coord_log.specs.Inside.{shown, IsSound, IsDue};
+
     /// The header of its journal. Takes no memory.
     pub fn header(&self) -> &Header
-        ensures { result.now ≡ self.now.header }
+        ensures header { result.now ≡ self.now.header }
+
+        // Its disk's count has not fallen since it was opened, and has risen if an append has failed since.
+        ensures since_opened { self.now.opened ≤ self.now.faults }
+        ensures since_broken { IsBrokenSince self.now.opened self.now.faults self.now.broken }
+        ensures count { self.now.faults ≡ D.count self.now.disk }
     {
         &self.log.header
     }
 
     /// Its records, the newest last. Takes no memory.
     pub fn records(&self) -> &[Record]
-        ensures { reverse result.now ≡ self.now.journal }
+        ensures records { reverse result.now ≡ self.now.journal }
+        ensures journal { IsJournal self.now.header self.now.journal }
     {
         self.log.records.as_slice()
     }
 
     /// Gives the disk back. Takes no memory.
     pub fn into_disk(self) -> D
-        ensures { D.count result ≡ self.faults }
+        ensures { result ≡ self.disk }
     {
         let CoordLog {
             alloc: _,
             log,
             core: _,
+            opened: _,
+            flight: _,
         } = self;
         log.into_disk()
     }
@@ -98,15 +110,19 @@ impl<D: Disk> CoordLog<D> {
         requires idle { (slot self.old.journal lane).phase ≡ Idle }
         requires some { 1 ≤ length txs.now }
         requires limit { length txs.now ≤ self.old.header.shape.batch }
-        ensures appended { IfOk result (λ a. self.new.journal ≡ Prepare a.1 a.0 txs.now ∷ self.old.journal) }
-        ensures named { IfOk result (λ a. (a.0.lane ≡ lane) × (a.1 ≤ 2 ^ 62)) }
+        requires short { All IsShort txs.now }
+
+        // It does what the journal says, or wants memory.
+        ensures meets { Meets true (prepare_due self.old.header.shape self.old.capacity lane txs.now self.old.broken self.old.journal) (sight self.old) (sight self.new) self.old.journal result }
+        ensures breaks { Breaks result self.old.broken self.new.broken self.new.faults }
+        ensures journal { IsJournal self.new.header self.new.journal }
         ensures header { self.new.header ≡ self.old.header }
-        ensures as_before { OnErr result (self.new.journal ≡ self.old.journal) }
-        ensures fault { IsErrOf result NodeFault.DiskFault → Rose self.old.faults self.new.faults }
-        ensures later { self.old.faults ≤ self.new.faults }
+        ensures limit { self.new.capacity ≡ self.old.capacity }
+        ensures holds { HoldsJournal D.content D.images self.old → HoldsJournal D.content D.images self.new }
     {
-        if let Some(since) = self.log.is_broken() {
-            return Err(NodeFault::Broken { since });
+        match self.log.is_broken() {
+            Some(since) => return Err(NodeFault::Broken { since }),
+            None => {}
         }
         let Ok(next) = self.core.prepare(lane, txs) else {
             return Err(NodeFault::Memory);
@@ -114,17 +130,20 @@ impl<D: Disk> CoordLog<D> {
         let Record::Prepare { stamp, batch, .. } = &next else {
             unreachable!()
         };
-        let answer = (*batch, *stamp);
-        if answer.1.0 > LAST_PREPARE {
-            return Err(NodeFault::ClockEnd { stamp: answer.1 });
+        let stamp = *stamp;
+        let batch = *batch;
+        if stamp.0 > LAST_PREPARE {
+            return Err(NodeFault::ClockEnd { stamp });
         }
-        let size = size_of_record(&next);
-        if size > LARGEST {
-            return Err(NodeFault::Memory);
+        match make_room(&mut self.log, &self.core, size_of_record(&next), txs.len()) {
+            Ok(()) => {}
+            Err(fault) => return Err(fault),
         }
-        make_room(&mut self.log, &self.core, size, txs.len())?;
-        write(&mut self.log, &mut self.core, next)?;
-        Ok(answer)
+        match write(&mut self.log, &mut self.core, &mut self.flight, next) {
+            Ok(()) => {}
+            Err(fault) => return Err(fault),
+        }
+        Ok((batch, stamp))
     }
 
     /// Decides a lane's prepared batch by the replies of each shard that it concerns, as many as its part has
@@ -139,29 +158,40 @@ impl<D: Disk> CoordLog<D> {
         requires prepared { (slot self.old.journal lane).phase ≡ InPrepare }
         requires rising { RisesBelow 0 self.old.header.shape.shards replies.now }
         requires earlier { AllEarlier (2 ^ 63) replies.now }
+        requires named { AllNameBatches self.old.header.shape replies.now }
         requires empty { out.old.items ≡ [] }
-        requires room { length (txs_of self.old.journal (batch_of self.old.journal lane)) ≤ vec_capacity out.old }
-        ensures header { self.new.header ≡ self.old.header }
-        ensures appended { IfOk result (λ t. self.new.journal ≡ Commit t (batch_of self.old.journal lane) out.new.items ∷ self.old.journal) }
-        ensures bound { IfOk result (λ t. t ≤ 2 ^ 62 + 2 ^ 20) }
-        ensures outcomes { OnOk result (length out.new.items ≡ length (txs_of self.old.journal (batch_of self.old.journal lane))) }
+        requires room { length (txs_of self.old.journal (open_batch self.old.journal lane)) ≤ vec_capacity out.old }
+
+        // It does what the journal and the replies say, if each shard replied to its part.
+        ensures meets { AreRepliesTo self.old.header.shape (txs_of self.old.journal (open_batch self.old.journal lane)) replies.now
+            → Meets false (decide_due self.old.header.shape lane replies.now self.old.broken self.old.journal) (sight self.old) (sight self.new) self.old.journal result }
+        // Whatever they replied, a fault is its disk's, or has its cause in the stamp that follows theirs.
+        ensures fault { IfErr result (λ f. (r : Record) × MeetsFault false (commit_due self.old.header.shape replies.now r self.old.broken self.old.journal) (sight self.old) (sight self.new) self.old.journal f) }
         ensures as_before { OnErr result (self.new.journal ≡ self.old.journal) }
-        ensures fault { IsErrOf result NodeFault.DiskFault → Rose self.old.faults self.new.faults }
-        ensures later { self.old.faults ≤ self.new.faults }
+        ensures appended { IfOk result (λ t. self.new.journal ≡ Commit t (open_batch self.old.journal lane) out.new.items ∷ self.old.journal) }
+        ensures bound { IfOk result (λ t. t ≤ 2 ^ 62 + 2 ^ 20) }
+        ensures count { OnOk result (length out.new.items ≡ length (txs_of self.old.journal (open_batch self.old.journal lane))) }
+        ensures node { IsSameNode (sight self.old) (sight self.new) }
+        ensures breaks { Breaks result self.old.broken self.new.broken self.new.faults }
+        ensures journal { IsJournal self.new.header self.new.journal }
+        ensures header { self.new.header ≡ self.old.header }
+        ensures limit { self.new.capacity ≡ self.old.capacity }
+        ensures holds { HoldsJournal D.content D.images self.old → HoldsJournal D.content D.images self.new }
     {
-        if let Some(since) = self.log.is_broken() {
-            return Err(NodeFault::Broken { since });
+        match self.log.is_broken() {
+            Some(since) => return Err(NodeFault::Broken { since }),
+            None => {}
         }
         let stamp = self.core.commit_stamp(replies);
         if stamp.0 > LAST_STAMP {
             return Err(NodeFault::ClockEnd { stamp });
         }
-        if !self.core.has_room(lane) {
-            return Err(NodeFault::Memory);
-        }
         let next = self.core.decide(lane, replies);
         tell(&next, out);
-        write(&mut self.log, &mut self.core, next)?;
+        match write(&mut self.log, &mut self.core, &mut self.flight, next) {
+            Ok(()) => {}
+            Err(fault) => return Err(fault),
+        }
         Ok(stamp)
     }
 
@@ -171,25 +201,26 @@ impl<D: Disk> CoordLog<D> {
         requires own { IsOwn self.old.header lane }
         requires committed { (slot self.old.journal lane).phase ≡ InCommit }
         requires cause { cause < 2 ^ 63 }
+        ensures meets { Meets false (discard_due lane cause self.old.broken self.old.journal) (sight self.old) (sight self.new) self.old.journal result }
+        ensures breaks { Breaks result self.old.broken self.new.broken self.new.faults }
+        ensures journal { IsJournal self.new.header self.new.journal }
         ensures header { self.new.header ≡ self.old.header }
-        ensures appended { IfOk result (λ t. self.new.journal ≡ Discard t (batch_of self.old.journal lane) ∷ self.old.journal) }
-        ensures bound { IfOk result (λ t. t ≤ 2 ^ 62 + 2 ^ 20) }
-        ensures as_before { OnErr result (self.new.journal ≡ self.old.journal) }
-        ensures fault { IsErrOf result NodeFault.DiskFault → Rose self.old.faults self.new.faults }
-        ensures later { self.old.faults ≤ self.new.faults }
+        ensures limit { self.new.capacity ≡ self.old.capacity }
+        ensures holds { HoldsJournal D.content D.images self.old → HoldsJournal D.content D.images self.new }
     {
-        if let Some(since) = self.log.is_broken() {
-            return Err(NodeFault::Broken { since });
+        match self.log.is_broken() {
+            Some(since) => return Err(NodeFault::Broken { since }),
+            None => {}
         }
-        let next = self.core.discard(lane, cause);
-        let Record::Discard { stamp, .. } = &next else {
-            unreachable!()
-        };
-        let stamp = *stamp;
+        let stamp = self.core.after(cause);
         if stamp.0 > LAST_STAMP {
             return Err(NodeFault::ClockEnd { stamp });
         }
-        write(&mut self.log, &mut self.core, next)?;
+        let next = self.core.discard(lane, cause);
+        match write(&mut self.log, &mut self.core, &mut self.flight, next) {
+            Ok(()) => {}
+            Err(fault) => return Err(fault),
+        }
         Ok(stamp)
     }
 
@@ -199,31 +230,33 @@ impl<D: Disk> CoordLog<D> {
         requires own { IsOwn self.old.header lane }
         requires discarded { (slot self.old.journal lane).phase ≡ InDiscard }
         requires cause { cause < 2 ^ 63 }
+        ensures meets { Meets false (done_due lane cause self.old.broken self.old.journal) (sight self.old) (sight self.new) self.old.journal result }
+        ensures breaks { Breaks result self.old.broken self.new.broken self.new.faults }
+        ensures journal { IsJournal self.new.header self.new.journal }
         ensures header { self.new.header ≡ self.old.header }
-        ensures appended { IfOk result (λ t. self.new.journal ≡ Done t (batch_of self.old.journal lane) ∷ self.old.journal) }
-        ensures bound { IfOk result (λ t. t ≤ 2 ^ 62 + 2 ^ 20) }
-        ensures as_before { OnErr result (self.new.journal ≡ self.old.journal) }
-        ensures fault { IsErrOf result NodeFault.DiskFault → Rose self.old.faults self.new.faults }
-        ensures later { self.old.faults ≤ self.new.faults }
+        ensures limit { self.new.capacity ≡ self.old.capacity }
+        ensures holds { HoldsJournal D.content D.images self.old → HoldsJournal D.content D.images self.new }
     {
-        if let Some(since) = self.log.is_broken() {
-            return Err(NodeFault::Broken { since });
+        match self.log.is_broken() {
+            Some(since) => return Err(NodeFault::Broken { since }),
+            None => {}
         }
-        let next = self.core.done(lane, cause);
-        let Record::Done { stamp, .. } = &next else {
-            unreachable!()
-        };
-        let stamp = *stamp;
+        let stamp = self.core.after(cause);
         if stamp.0 > LAST_STAMP {
             return Err(NodeFault::ClockEnd { stamp });
         }
-        write(&mut self.log, &mut self.core, next)?;
+        let next = self.core.done(lane, cause);
+        match write(&mut self.log, &mut self.core, &mut self.flight, next) {
+            Ok(()) => {}
+            Err(fault) => return Err(fault),
+        }
         Ok(stamp)
     }
 
     /// A copy of a lane's open batch, as its records hold it. None where the lane is idle.
     pub fn open_lane(&self, lane: LaneId) -> Result<Option<OpenLane>, AllocError>
         requires { IsOwn self.now.header lane }
+        ensures { IfOk result (λ o. o ≡ open_lane self.now.journal lane) }
     {
         let (number, phase) = match self.core.phase(lane) {
             LanePhase::Idle(_) => return Ok(None),
@@ -244,13 +277,18 @@ impl<D: Disk> CoordLog<D> {
         }))
     }
 
+    // A coordinator that was opened just now.
     pub(crate) fn of_parts(alloc: Global, log: RecordLog<D>, core: CoordCore) -> CoordLog<D>
-        requires header { core.header ≡ log.header }
-        requires stands { StandsFor core (reverse log.records.items) }
-        ensures faults { result.faults ≡ D.count (disk_of log.journal) }
-        ensures header { result.header ≡ log.header }
-        ensures journal { result.journal ≡ reverse log.records.items }
+        requires { IsSound log core (D.count (disk_of log.journal)) None }
+        ensures { result ≡ shown log (D.count (disk_of log.journal)) None }
     {
-        CoordLog { alloc, log, core }
+        let opened = log.faults();
+        CoordLog {
+            alloc,
+            log,
+            core,
+            opened,
+            flight: None,
+        }
     }
 }

@@ -1,8 +1,18 @@
 // Opening a coordinator.
-ghost use Rattle.std.specs.Prelude.{◌≡◌, ◌≢◌, ◌≤◌, ◌<◌, length, reverse, ◌∷◌, [], IfOk, IfErr, MatchResult};
+ghost use Rattle.std.specs.Prelude.{◌≡◌, ◌≢◌, ◌≤◌, ◌<◌, ◌∷◌, [], ℕ, List as Items, None, reverse, sum_by, IfOk, IfErr, MatchResult};
+ghost use Rattle.cbdc_types.specs.declared.calls.NodeOpenFault.{NodeOpenFault as TheFault};
 ghost use Rattle.outside.specs.Counts.{Rose};
-ghost use Rattle.gate_journal.specs.Shown.{disk_of};
-ghost use Rattle.coord_core.specs.Stands.{StandsFor};
+ghost use Rattle.outside.specs.Images.{Tells, Leaves};
+ghost use Rattle.gate_journal.specs.Shown.{disk_of, gate_of, broken_of};
+ghost use Rattle.cbdc_model.specs.Grammar.{IsInGrammar};
+ghost use Rattle.cbdc_model.specs.After.{IsJournal};
+ghost use Rattle.cbdc_model.specs.Room.{size_of};
+ghost use Rattle.record_log.specs.Held.{MayHold, OpensTo, CutsOff};
+ghost use Rattle.record_log.specs.Reading.{HoldsBefore, IsNoLog};
+ghost use Rattle.record_log.specs.Logs.{IsUntouched};
+ghost use Rattle.coord_log.specs.Logs.{HoldsJournal};
+ghost use Rattle.coord_log.specs.Inside.{IsSound};
+ghost use Rattle.coord_log.specs.Opening.{IsCoord, IsCoordJournal, IsPlayed, IsUnbegun, IsUnplayed, IsNoCoord};
 
 use crate::CoordLog;
 use crate::writing::LARGEST_COMMIT;
@@ -13,82 +23,67 @@ use record_codec::size_of_record;
 use record_log::{NoLog, RecordLog, open_records};
 use std::alloc::Global;
 
-// The lanes behind a first record.
+// The lanes that a journal's first record begins with. A shard's begins with another.
 fn first_lanes(alloc: Global, header: &Header, first: &Record) -> Result<CoordCore, NodeOpenFault>
-    ensures fault { IfErr result (λ e. e ≢ NodeOpenFault.DiskFault) }
-    ensures header { IfOk result (λ c. c.header ≡ header.now) }
-    ensures stands { IfOk result (λ c. StandsFor c (first.now ∷ [])) }
+    requires { MayHold header.now (first.now ∷ []) }
+    ensures played { IfOk result (λ c. IsPlayed header.now c (first.now ∷ [])) }
+    ensures unplayed { IfErr result (IsUnbegun first.now) }
 {
-    let Record::Start { header: told } = first else {
-        return Err(NodeOpenFault::OtherKind);
-    };
-    if *told != *header || header.node.0 >= header.shape.coordinators() {
-        return Err(NodeOpenFault::NotReady);
-    }
-    match CoordCore::new(alloc, header) {
-        Ok(core) => Ok(core),
-        Err(_) => Err(NodeOpenFault::Memory),
+    match first {
+        Record::Start { .. } => match CoordCore::new(alloc, header) {
+            Ok(core) => Ok(core),
+            Err(_) => Err(NodeOpenFault::Memory),
+        },
+        Record::Genesis { .. } => Err(NodeOpenFault::OtherKind),
+        _ => unreachable!(),
     }
 }
 
-// The lanes behind records, or why there are none.
+// The lanes that these records make, or why they make none.
 fn replayed(alloc: Global, header: &Header, records: &[Record]) -> Result<CoordCore, NodeOpenFault>
-    ensures fault { IfErr result (λ e. e ≢ NodeOpenFault.DiskFault) }
-    ensures header { IfOk result (λ c. c.header ≡ header.now) }
-    ensures stands { IfOk result (λ c. StandsFor c (reverse records.now)) }
+    requires { MayHold header.now records.now }
+    ensures played { IfOk result (λ c. IsPlayed header.now c (reverse records.now)) }
+    ensures unplayed { IfErr result (IsUnplayed header.now records.now) }
 {
-    if records.is_empty() {
-        return Err(NodeOpenFault::NotReady);
-    }
-    let mut core = first_lanes(alloc, header, &records[0])?;
+    let mut core = match first_lanes(alloc, header, &records[0]) {
+        Ok(core) => core,
+        Err(fault) => return Err(fault),
+    };
     let mut at = size_of_record(&records[0]);
-    for i in 1..records.len() {
-        match core.admit(&records[i]) {
-            Ok(true) => core.apply(&records[i]),
+    'records: for i in 1..records.len() {
+        let next = &records[i];
+        match core.admit(next) {
+            Ok(true) => core.apply(next),
             Ok(false) => return Err(NodeOpenFault::Damaged { at }),
             Err(_) => return Err(NodeOpenFault::Memory),
         }
-        at = at.saturating_add(size_of_record(&records[i]));
+        at = at.saturating_add(size_of_record(next));
     }
     Ok(core)
 }
 
-// Why a journal that is cut off behind these records is refused: by an earlier one, if one is not next.
-fn cut_fault(alloc: Global, header: &Header, records: &[Record], at: u64) -> NodeOpenFault
-    ensures { result ≢ NodeOpenFault.DiskFault }
-{
-    match replayed(alloc, header, records) {
-        Ok(_) => NodeOpenFault::Damaged { at },
-        Err(fault) => fault,
-    }
-}
-
-// Why a disk did not open into records.
-fn no_log_fault(alloc: Global, refused: NoLog) -> NodeOpenFault
-    ensures { result ≡ NodeOpenFault.DiskFault → refused ≡ NoLog.Fault NodeOpenFault.DiskFault }
-{
-    match refused {
-        NoLog::Fault(fault) => fault,
-        NoLog::Cut {
-            header,
-            records,
-            at,
-        } => cut_fault(alloc, &header, &records, at),
-    }
-}
-
 // The lanes behind a journal, with the room and the memory for the records that are still to come.
 fn lanes_of<D: Disk>(alloc: Global, log: &mut RecordLog<D>) -> Result<CoordCore, NodeOpenFault>
+    requires grammar { MayHold log.old.header log.old.records.items }
+    requires ends { gate_of log.old.journal ≡ sum_by size_of log.old.records.items }
+    requires whole { broken_of log.old.journal ≡ None }
+    ensures sound { IfOk result (λ c. IsSound log.new c (D.count (disk_of log.new.journal)) None) }
+    ensures journal { IfOk result (λ c. IsJournal log.new.header (reverse log.new.records.items)) }
+    ensures coordinator { IfOk result (λ c. IsCoord log.new.header) }
+    ensures refusal { IfErr result (λ e. (c : Items ℕ) → OpensTo log.old.records.items c → IsNoCoord (D.limit (disk_of log.old.journal)) c e) }
     ensures fault { IfErr result (λ e. e ≢ NodeOpenFault.DiskFault) }
-    ensures faults { D.count (disk_of log.new.journal) ≡ D.count (disk_of log.old.journal) }
-    ensures header { IfOk result (λ c. c.header ≡ log.new.header) }
-    ensures stands { IfOk result (λ c. StandsFor c (reverse log.new.records.items)) }
+    ensures untouched { IsUntouched log.old log.new }
+    ensures records { log.new.records.items ≡ log.old.records.items }
+    ensures header { log.new.header ≡ log.old.header }
 {
-    let core = replayed(alloc, &log.header, &log.records)?;
     let used = log.used();
+    let core = match replayed(alloc, &log.header, &log.records) {
+        Ok(core) => core,
+        Err(fault) => return Err(fault),
+    };
     let need = core.kept_room();
     let capacity = log.capacity();
-    if used.saturating_add(need) > capacity {
+    if need > capacity - used {
         return Err(NodeOpenFault::Full {
             used,
             need,
@@ -101,17 +96,65 @@ fn lanes_of<D: Disk>(alloc: Global, log: &mut RecordLog<D>) -> Result<CoordCore,
     }
 }
 
+// Why a journal that is cut off behind these records is refused: by an earlier one, if one is not next.
+fn cut_fault(alloc: Global, header: &Header, records: &[Record], at: u64) -> NodeOpenFault
+    requires { MayHold header.now records.now }
+    ensures fault { result ≢ NodeOpenFault.DiskFault }
+    ensures refusal { (limit : ℕ) (c : Items ℕ) → CutsOff (IsInGrammar header.now) records.now at c → IsNoCoord limit c result }
+{
+    match replayed(alloc, header, records) {
+        Ok(_) => NodeOpenFault::Damaged { at },
+        Err(fault) => fault,
+    }
+}
+
+// Why a disk did not open into records.
+fn no_log_fault(alloc: Global, refused: NoLog) -> NodeOpenFault
+    requires { HoldsBefore refused }
+    ensures fault { result ≡ NodeOpenFault.DiskFault → refused ≡ NoLog.Fault NodeOpenFault.DiskFault }
+    ensures kept { (fault : TheFault) → refused ≡ NoLog.Fault fault → result ≡ fault }
+    ensures refusal { (limit : ℕ) (c : Items ℕ) → IsNoLog c refused → IsNoCoord limit c result }
+{
+    match refused {
+        NoLog::Fault(fault) => fault,
+        NoLog::Cut {
+            header,
+            records,
+            at,
+        } => cut_fault(alloc, &header, &records, at),
+    }
+}
+
 impl<D: Disk> CoordLog<D> {
     /// Opens a coordinator's disk. A refusal hands the disk back.
     pub fn open(alloc: Global, disk: D) -> Result<CoordLog<D>, (D, NodeOpenFault)>
+        // The content opens to just this journal, and a crash leaves nothing else.
+        ensures opens { IfOk result (λ l. Tells (D.content disk) (λ c. IsCoordJournal l.header l.journal c × HoldsJournal D.content D.images l)) }
+        ensures journal { IfOk result (λ l. IsJournal l.header l.journal) }
+        ensures coordinator { IfOk result (λ l. IsCoord l.header) }
+
+        // Which refusal it is.
+        ensures refusal { IfErr result (λ e. Tells (D.content disk) (λ c. IsNoCoord (D.limit disk) c e.1)) }
+        ensures fresh { IfOk result (λ l. (l.flight ≡ None) × (l.broken ≡ None) × (l.opened ≡ l.faults)) }
         ensures later { MatchResult result (λ l. D.count disk ≤ l.faults) (λ e. D.count disk ≤ D.count e.0) }
         ensures fault { IfErr result (λ e. e.1 ≡ NodeOpenFault.DiskFault → Rose (D.count disk) (D.count e.0)) }
+        ensures limit { MatchResult result (λ l. l.capacity ≡ D.limit disk) (λ e. D.limit e.0 ≡ D.limit disk) }
+        ensures shows { IfOk result (λ l. (l.faults ≡ D.count l.disk) × (l.capacity ≡ D.limit l.disk)) }
+
+        // A disk of the other kind of node still reads as before, and a crash may leave nothing more than before.
+        ensures same { IfErr result (λ e. e.1 ≡ NodeOpenFault.OtherKind → D.content e.0 ≡ D.content disk) }
+        ensures leaves { MatchResult result
+            (λ l. Leaves D.tells_past D.moment D.images_since D.images disk l.disk (D.images disk))
+            (λ e. Leaves D.tells_past D.moment D.images_since D.images disk e.0 (D.images disk)) }
     {
         match open_records(alloc, disk) {
-            Ok(mut log) => match lanes_of(alloc, &mut log) {
-                Ok(core) => Ok(CoordLog::of_parts(alloc, log, core)),
-                Err(fault) => Err((log.into_disk(), fault)),
-            },
+            Ok(found) => {
+                let mut log = found;
+                match lanes_of(alloc, &mut log) {
+                    Ok(core) => Ok(CoordLog::of_parts(alloc, log, core)),
+                    Err(fault) => Err((log.into_disk(), fault)),
+                }
+            }
             Err((disk, refused)) => {
                 let fault = no_log_fault(alloc, refused);
                 Err((disk, fault))

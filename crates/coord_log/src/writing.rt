@@ -1,15 +1,18 @@
 // Writing a record, and the room for it.
-ghost use Rattle.std.specs.Prelude.{◌≡◌, ◌+◌, ◌*◌, ◌≤◌, ◌<◌, ◌^◌, ◌++◌, ◌∷◌, [], List, OnOk, OnErr, IfErr, IsErrOf};
-ghost use Rattle.outside.specs.Counts.{Rose};
-ghost use Rattle.gate_journal.specs.Shown.{disk_of};
-ghost use Rattle.cbdc_model.specs.Records.{Record as AnyRecord};
-ghost use Rattle.coord_core.specs.Lanes.{IsNext};
-ghost use Rattle.coord_core.specs.Stands.{StandsFor};
+ghost use Rattle.std.specs.Prelude.{◌≡◌, ◌+◌, ◌*◌, ◌≤◌, ◌<◌, ◌^◌, ◌++◌, ◌∷◌, ℕ, Option, None, length, reverse, OnOk, OnErr, IfErr, MatchResult};
+ghost use Rattle.gate_journal.specs.Shown.{disk_of, gate_of, broken_of};
+ghost use Rattle.cbdc_model.specs.After.{IsJournal};
+ghost use Rattle.cbdc_model.specs.Room.{room_behind_prepare};
+ghost use Rattle.cbdc_model.specs.Sights.{Appends, Fails};
+ghost use Rattle.coord_core.specs.Lanes.{IsWhole, kept_of, ahead_of};
+ghost use Rattle.record_log.specs.Logs.{HasRoom, KeepsRoom, IsUntouched};
+ghost use Rattle.coord_log.specs.Logs.{sight, HoldsJournal};
+ghost use Rattle.coord_log.specs.Inside.{shown, largest, IsSound, IsDue, IsNoRoom};
 
 use cbdc_types::{NodeFault, Record};
 use coord_core::CoordCore;
 use outside::Disk;
-use record_log::{LogFault, RecordLog};
+use record_log::RecordLog;
 
 /// The bytes of a Commit without its outcomes, and of a Discard and a Done.
 const BEHIND_PREPARE: u64 = 110;
@@ -17,55 +20,37 @@ const BEHIND_PREPARE: u64 = 110;
 /// The most bytes of an outcome.
 const OUTCOME: u64 = 57;
 
-/// The bytes of a Commit without its outcomes.
-const COMMIT: u64 = 42;
-
 /// The most bytes of a Commit: of 1,024 outcomes.
 pub(crate) const LARGEST_COMMIT: u64 = 58410;
 
-// What a record that was not appended answers.
-fn fault_of(fault: LogFault) -> NodeFault
-    ensures { result ≡ NodeFault.DiskFault → fault ≡ LogFault.DiskFault }
-{
-    match fault {
-        LogFault::Broken { since } => NodeFault::Broken { since },
-        LogFault::Full {
-            used,
-            need,
-            capacity,
-        } => NodeFault::Full {
-            used,
-            need,
-            capacity,
-        },
-        LogFault::DiskFault => NodeFault::DiskFault,
-        LogFault::NoRoom => NodeFault::Memory,
-    }
-}
-
-/// Writes a record, and then takes it in.
+/// Writes a record that has its place, and then takes it in. Where the disk fails, the record is in flight.
 pub(crate) fn write<D: Disk>(
     log: &mut RecordLog<D>,
     core: &mut CoordCore,
+    flight: &mut Option<Record>,
     next: Record,
 ) -> Result<(), NodeFault>
-    requires { IsNext core.old next }
+    requires { IsDue log.old core.old flight.old next }
+    ensures told { (opened : ℕ) → MatchResult result
+        (λ _. Appends (sight (shown log.old opened flight.old)) (sight (shown log.new opened flight.new)) (reverse log.old.records.items) next)
+        (λ e. (e ≡ NodeFault.DiskFault) × Fails (sight (shown log.old opened flight.old)) (sight (shown log.new opened flight.new)) (reverse log.old.records.items) next) }
+    ensures sound { (opened : ℕ) → opened ≤ D.count (disk_of log.old.journal) → IsSound log.new core.new opened flight.new }
+    ensures broken { MatchResult result (λ _. broken_of log.new.journal ≡ None) (λ _. broken_of log.new.journal ≡ Option.Some (D.count (disk_of log.new.journal))) }
+    ensures holds { (opened : ℕ) → HoldsJournal D.content D.images (shown log.old opened flight.old) → HoldsJournal D.content D.images (shown log.new opened flight.new) }
+    ensures journal { IsJournal log.new.header (reverse log.new.records.items) }
     ensures header { log.new.header ≡ log.old.header }
-    ensures kept { OnOk result (log.new.records.items ≡ log.old.records.items ++ next ∷ []) }
-    ensures stands { OnOk result ((past : List AnyRecord) → StandsFor core.old past → StandsFor core.new (next ∷ past)) }
-    ensures core_header { core.new.header ≡ core.old.header }
-    ensures as_before { OnErr result (log.new.records.items ≡ log.old.records.items) }
-    ensures core_as_before { OnErr result (core.new ≡ core.old) }
-    ensures fault { IsErrOf result NodeFault.DiskFault → Rose (D.count (disk_of log.old.journal)) (D.count (disk_of log.new.journal)) }
-    ensures later { D.count (disk_of log.old.journal) ≤ D.count (disk_of log.new.journal) }
+    ensures limit { D.limit (disk_of log.new.journal) ≡ D.limit (disk_of log.old.journal) }
 {
-    match log.append(next) {
+    match log.write(&next) {
         Ok(()) => {
-            let last = log.records.len() - 1;
-            core.apply(&log.records[last]);
+            core.apply(&next);
+            log.keep(next);
             Ok(())
         }
-        Err(fault) => Err(fault_of(fault)),
+        Err(_) => {
+            *flight = Some(next);
+            Err(NodeFault::DiskFault)
+        }
     }
 }
 
@@ -77,27 +62,29 @@ pub(crate) fn make_room<D: Disk>(
     size: u64,
     count: usize,
 ) -> Result<(), NodeFault>
-    requires size { size < 2 ^ 62 }
+    requires size { size < 2 ^ 40 }
     requires count { count ≤ 1024 }
+    requires used { gate_of log.old.journal + 1 ≤ D.limit (disk_of log.old.journal) }
+    ensures whole { IsWhole core.now }
     ensures header { log.new.header ≡ log.old.header }
     ensures records { log.new.records.items ≡ log.old.records.items }
-    ensures faults { D.count (disk_of log.new.journal) ≡ D.count (disk_of log.old.journal) }
-    ensures fault { IsErrOf result NodeFault.DiskFault → Rose (D.count (disk_of log.old.journal)) (D.count (disk_of log.new.journal)) }
+    ensures untouched { IsUntouched log.old log.new }
+    ensures keeps { KeepsRoom log.old log.new }
+    ensures room { OnOk result (HasRoom log.new (ahead_of core.now.lanes + 4) size × HasRoom log.new (ahead_of core.now.lanes + 4) largest) }
+    ensures space { OnOk result (gate_of log.old.journal + 1 + (size + room_behind_prepare count + kept_of core.now.lanes) ≤ D.limit (disk_of log.old.journal)) }
+    ensures refusal { IfErr result (λ e. IsNoRoom (gate_of log.old.journal + 1) (size + room_behind_prepare count + kept_of core.now.lanes) (D.limit (disk_of log.old.journal)) e) }
 {
     let used = log.used();
-    let need = size
-        .saturating_add(BEHIND_PREPARE + OUTCOME * count as u64)
-        .saturating_add(core.kept_room());
+    let need = size + BEHIND_PREPARE + OUTCOME * count as u64 + core.kept_room();
     let capacity = log.capacity();
-    if used.saturating_add(need) > capacity {
+    if need > capacity - used {
         return Err(NodeFault::Full {
             used,
             need,
             capacity,
         });
     }
-    let largest = size.max(COMMIT + OUTCOME * count as u64);
-    match log.reserve(core.records_ahead() + 4, largest) {
+    match log.reserve(core.records_ahead() + 4, size.max(LARGEST_COMMIT)) {
         Ok(()) => Ok(()),
         Err(_) => Err(NodeFault::Memory),
     }

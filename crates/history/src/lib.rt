@@ -1,8 +1,10 @@
 //! The history of a ledger: the records of all its journals in one order, by stamp and node.
 #![tactic(auto)]
 
+mod laws;
 mod merging;
 mod place;
 
+pub use laws::rises_law;
 pub use merging::{merge, record_at, stamp_of};
 pub use place::{History, Place};

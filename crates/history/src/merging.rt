@@ -1,5 +1,5 @@
 // The merge of journals.
-ghost use Rattle.std.specs.Prelude.{◌≡◌, ◌⊎◌, ◌+◌, ◌-◌, ◌<◌, ◌≤◌, ◌^◌, ◌++◌, ℕ, [], ◌∷◌, List as Items, All, length, map, IfOk};
+ghost use Rattle.std.specs.Prelude.{◌≡◌, ◌⊎◌, ◌+◌, ◌-◌, ◌<◌, ◌≤◌, ◌^◌, ◌++◌, ℕ, [], ◌∷◌, List as Items, All, length, map, reverse, IfOk};
 ghost use Rattle.cbdc_model.specs.Records.{journal, stamp_of};
 ghost use Rattle.cbdc_model.specs.History.{goes_above, IsOrdered};
 ghost use Rattle.history.specs.Rows.{read, row_at, rows_at, record_at, newest_first, Rises, journal_in, IsPlace};
@@ -125,10 +125,12 @@ fn merge_between(
 }
 
 /// The places of all records of some journals in one order, by stamp and then by node, the oldest first. Each journal, in which the
-/// oldest record is the first, stands among them as it is; where the stamps of each journal rise, all are in order.
+/// oldest record is the first, stands among them as it is, also read with the newest first; where the stamps of each journal rise, all are
+/// in order.
 pub fn merge(alloc: Global, journals: &[&[Record]]) -> Result<History, AllocError>
     requires { length journals.now < 2 ^ 32 }
     ensures journals { IfOk result (λ h. (n : ℕ) → journal n (rows_at (read journals.now) h) ≡ journal_in (read journals.now) n) }
+    ensures newest_first { IfOk result (λ h. (n : ℕ) → journal n (newest_first (read journals.now) h) ≡ reverse (journal_in (read journals.now) n)) }
     ensures ordered { ((n : ℕ) → Rises (journal_in (read journals.now) n)) → IfOk result (λ h. IsOrdered (newest_first (read journals.now) h)) }
     ensures places { IfOk result (λ h. All (IsPlace (read journals.now)) h) }
 {

@@ -1,12 +1,12 @@
 -- A lane's list, cut into batches.
-use Rattle.std.proofs.Common.{◌≡◌, ℕ, ◌+◌, ◌*◌, ◌-◌, ◌<◌, ◌≤◌, min, List, [], ◌∷◌, ◌++◌, length, take, drop, reverse, refl, arith, ap, ◌∙◌, sym, subst}
+use Rattle.std.proofs.Common.{◌≡◌, ℕ, ◌+◌, ◌*◌, ◌<◌, ◌≤◌, min, List, [], ◌∷◌, ◌++◌, length, take, drop, reverse, arith, ◌∙◌, sym, subst}
 use Rattle.std.proofs.Math.Nat.{mul-le-mul_left}
 use Rattle.std.proofs.lemmas.List.{take_min, drop_min}
 use Rattle.std.proofs.lemmas.Slice.Zip.{all_zipped_more}
 use Rattle.std.proofs.lemmas.Grind.{reverse_onto}
 use Rattle.cbdc_model.specs.Records.{Compact}
 use Rattle.lane_driver.specs.declared.fault.BatchReport.{BatchReport}
-use Rattle.lane_driver.specs.Reports.{IsReported, AreReports, CutFrom}
+use Rattle.lane_driver.specs.Reports.{IsReported, AreReports}
 
 -- a piece more needs no more room than there is
 pub room_after : (r b n c m k d : ℕ) → 0 < r → r + b * n ≤ b * c → m + min b r ≡ r → n < c → k ≡ n + 1 → d ≡ c → m + b * k ≤ b * d

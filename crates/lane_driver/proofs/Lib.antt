@@ -4,4 +4,9 @@ pub mod Faulted
 pub mod Phasing
 pub mod Rising
 pub mod Ready
+pub mod Fitting
 pub mod Cutting
+mod Telling
+mod Turning
+mod Batching
+pub mod Causing

@@ -1,15 +1,17 @@
 -- What the answers of a phase tell of shards and stamps.
-use Rattle.std.proofs.Common.{◌≡◌, ℕ, ◌+◌, ◌^◌, ◌<◌, max, List, [], ◌∷◌, length, get_or, map, Result, Ok, Err, IfOk, IsOk, refl, arith, ap, ◌∙◌, sym, subst, lit<}
-use Rattle.std.specs.List.{All, AllZip}
+use Rattle.std.proofs.Common.{◌≡◌, ℕ, ◌^◌, ◌<◌, List, [], ◌∷◌, map, Result, Ok, Err, IfOk, arith, subst, lit<}
+use Rattle.std.specs.List.{All}
 use Rattle.std.proofs.lemmas.List.Elements.{All-nil, All-cons, All-head, All-tail}
 use Rattle.cbdc_types.specs.declared.calls.NodeFault.{NodeFault}
 use Rattle.cbdc_types.specs.declared.calls.LockCall.{LockCall}
 use Rattle.cbdc_types.specs.declared.calls.Replied.{Replied}
 use Rattle.cbdc_types.specs.declared.batch.ShardReplies.{ShardReplies}
 use Rattle.cbdc_model.specs.Records.{Shape}
+use Rattle.cbdc_model.specs.Grammar.{IsReply}
+use Rattle.cbdc_model.specs.Sights.{Sight}
 use Rattle.lane_driver.specs.Calls.{shard, AllAbove, IsRising}
 use Rattle.lane_driver.specs.Gathering.{FirstFault, Gathered, ok_stamp, latest_of, replied_of}
-use Rattle.lane_driver.specs.Told.{AreShards, AreReplies, EachAnswer, LockTold, StampTold, IsStamp}
+use Rattle.lane_driver.specs.Told.{AreShards, AreShardsOf, AreReplies, EachAnswer, LockTold, StampTold, IsStamp}
 
 -- the shard of a fault is one of those called
 pub fault_inside : {X A : Type 0} (cs : List (ℕ × X)) (answers : List (Result A NodeFault)) (s n : ℕ) (f : NodeFault)
@@ -60,17 +62,32 @@ below_alike n f g (c ∷ cs) (r ∷ rs) e h =
 pub shards_alike : (n : ℕ) {C R : Type 0} (f : C → ℕ) (g : R → ℕ) (cs : List C) (rs : List R) → map g rs ≡ map f cs → AreShards f n cs → AreShards g n rs
 shards_alike n f g cs rs e h = (rising_alike f g cs rs e h.0, below_alike n f g cs rs e h.1)
 
-replied_stamps : (cs : List (ℕ × LockCall)) (answers : List (Result Replied NodeFault)) (rs : List ShardReplies)
-    → map (λ r. Ok (replied_of r)) rs ≡ answers → EachAnswer LockTold cs answers → All (λ r. IsStamp r.stamp) rs
-replied_stamps cs answers [] e h = All-nil (λ r. IsStamp r.stamp)
-replied_stamps cs [] (r ∷ rs) e h = cc
-replied_stamps [] (a ∷ answers) (r ∷ rs) e h = absurd h
-replied_stamps (c ∷ cs) (a ∷ answers) (r ∷ rs) e h =
-    let head : a ≡ Ok (replied_of r) = cc in
-    let tail : map (λ r. Ok (replied_of r)) rs ≡ answers = cc in
-    All-cons (λ r. IsStamp r.stamp) r rs (subst (λ (a : Result Replied NodeFault). LockTold c a) head h.0) (replied_stamps cs answers rs tail h.1)
+module _ (I : ℕ → Sight) where
+  replied_stamps : (cs : List (ℕ × LockCall)) (answers : List (Result Replied NodeFault)) (rs : List ShardReplies)
+      → map (λ r. Ok (replied_of r)) rs ≡ answers → EachAnswer (LockTold I) cs answers → All (λ r. IsStamp r.stamp) rs
+  replied_stamps cs answers [] e h = All-nil (λ r. IsStamp r.stamp)
+  replied_stamps cs [] (r ∷ rs) e h = cc
+  replied_stamps [] (a ∷ answers) (r ∷ rs) e h = absurd h
+  replied_stamps (c ∷ cs) (a ∷ answers) (r ∷ rs) e h =
+      let head : a ≡ Ok (replied_of r) = cc in
+      let tail : map (λ r. Ok (replied_of r)) rs ≡ answers = cc in
+      let told = subst (λ (a : Result Replied NodeFault). LockTold I c a) head h.0 in
+      All-cons (λ r. IsStamp r.stamp) r rs told.0 (replied_stamps cs answers rs tail h.1)
 
-pub gathered_replies : (K : Shape) (cs : List (ℕ × LockCall)) (answers : List (Result Replied NodeFault)) (rs : List ShardReplies)
-    → Gathered cs answers rs → EachAnswer LockTold cs answers → AreShards shard K.shards cs → AreReplies K rs
-gathered_replies K cs answers rs g told below =
-    (shards_alike K.shards shard (λ r. r.shard) cs rs g.shards below, replied_stamps cs answers rs g.replies told)
+  replied_names : (K : Shape) → AreShardsOf K I → (cs : List (ℕ × LockCall)) (answers : List (Result Replied NodeFault)) (rs : List ShardReplies)
+      → map (λ r. Ok (replied_of r)) rs ≡ answers → All (λ c. shard c < K.shards) cs → EachAnswer (LockTold I) cs answers → All (λ r. All (IsReply K) r.replies) rs
+  replied_names K ledger cs answers [] e within h = All-nil (λ r. All (IsReply K) r.replies)
+  replied_names K ledger cs [] (r ∷ rs) e within h = cc
+  replied_names K ledger [] (a ∷ answers) (r ∷ rs) e within h = absurd h
+  replied_names K ledger (c ∷ cs) (a ∷ answers) (r ∷ rs) e within h =
+      let head : a ≡ Ok (replied_of r) = cc in
+      let tail : map (λ r. Ok (replied_of r)) rs ≡ answers = cc in
+      let told = subst (λ (a : Result Replied NodeFault). LockTold I c a) head h.0 in
+      let at = ledger c.0 (All-head (λ c. shard c < K.shards) c cs within) in
+      All-cons (λ r. All (IsReply K) r.replies) r rs (subst (λ K. All (IsReply K) r.replies) at.0 told.1)
+      (replied_names K ledger cs answers rs tail (All-tail (λ c. shard c < K.shards) c cs within) h.1)
+
+pub gathered_replies : (K : Shape) (I : ℕ → Sight) (cs : List (ℕ × LockCall)) (answers : List (Result Replied NodeFault)) (rs : List ShardReplies)
+    → Gathered cs answers rs → EachAnswer (LockTold I) cs answers → AreShardsOf K I → AreShards shard K.shards cs → AreReplies K rs
+gathered_replies K I cs answers rs g told ledger below =
+    (shards_alike K.shards shard (λ r. r.shard) cs rs g.shards below, replied_stamps I cs answers rs g.replies told, replied_names I K ledger cs answers rs g.replies below.1 told)

@@ -1,5 +1,5 @@
 -- The calls that were made of parts, and of other calls, may be made.
-use Rattle.std.proofs.Common.{◌≡◌, ℕ, ◌<◌, ◌≤◌, List, [], ◌∷◌, length, map, refl, arith, ap, ◌∙◌, sym, subst}
+use Rattle.std.proofs.Common.{◌≡◌, ℕ, ◌≤◌, List, [], ◌∷◌, length, map, refl, arith, ap, ◌∙◌, sym, subst}
 use Rattle.std.specs.List.{All}
 use Rattle.std.proofs.lemmas.List.Elements.{All-map, All-weaker, All-same}
 use Rattle.cbdc_types.specs.declared.calls.LockCall.{LockCall}
@@ -7,7 +7,7 @@ use Rattle.cbdc_types.specs.declared.calls.FinishCall.{FinishCall}
 use Rattle.cbdc_types.specs.declared.calls.ForgetCall.{ForgetCall}
 use Rattle.cbdc_model.specs.Records.{Batch, Entry, Outcome}
 use Rattle.lane_driver.specs.Calls.{shard, lock_of, finish_of, forget_of}
-use Rattle.lane_driver.specs.Told.{AreShards, IsLockCall, IsFinishCall, IsForgetCall, IsStamp}
+use Rattle.lane_driver.specs.Told.{AreShards}
 use Rattle.lane_driver.specs.declared.room.LaterRoom.{LaterRoom}
 use Rattle.lane_driver.specs.Rooms.{IsLaterRoom}
 use Rattle.lane_driver.proofs.Phasing.{shards_alike}
@@ -21,14 +21,8 @@ mapped_shards : {X Y : Type 0} (f : ℕ × X → ℕ × Y) → ((x : ℕ × X) �
 mapped_shards f same m n k xs ys e h =
     subst (λ m. AreShards shard m ys) (sym k) (shards_alike n shard shard xs ys (ap (λ zs. map shard zs) e ∙ shards-map f same xs) h)
 
-mapped_all : {X Y : Type 0} (P : Y → Type 0) (f : X → Y) → ((x : X) → P (f x)) → (xs : List X) (ys : List Y) → ys ≡ map f xs → All P ys
-mapped_all P f h xs ys e = All-same P ys (map f xs) e (All-map P f xs (λ k d lt. h _))
-
 pub lock_shards : (b : Batch) (t m n : ℕ) → m ≡ n → (ps : List (ℕ × List Entry)) (cs : List (ℕ × LockCall)) → cs ≡ map (lock_of b t) ps → AreShards shard n ps → AreShards shard m cs
 lock_shards b t m n k ps cs e h = mapped_shards (lock_of b t) (λ x. refl) m n k ps cs e h
-
-pub lock_stamps : (b : Batch) (t : ℕ) (ps : List (ℕ × List Entry)) (cs : List (ℕ × LockCall)) → cs ≡ map (lock_of b t) ps → IsStamp t → All IsLockCall cs
-lock_stamps b t ps cs e h = mapped_all IsLockCall (lock_of b t) (λ x. h) ps cs e
 
 pub lock_sizes : (b : Batch) (t : ℕ) (ps : List (ℕ × List Entry)) (cs : List (ℕ × LockCall)) (n m : ℕ) → cs ≡ map (lock_of b t) ps → All (λ p. length p.1 ≤ n) ps → m ≡ n → All (λ c. length c.1.part ≤ m) cs
 lock_sizes b t ps cs n m e h k =
@@ -39,14 +33,8 @@ lock_sizes b t ps cs n m e h k =
 pub finish_shards : (b : Batch) (t : ℕ) (os : List Outcome) (m n : ℕ) → m ≡ n → (cs : List (ℕ × LockCall)) (fs : List (ℕ × FinishCall)) → fs ≡ map (finish_of b t os) cs → AreShards shard n cs → AreShards shard m fs
 finish_shards b t os m n k cs fs e h = mapped_shards (finish_of b t os) (λ x. refl) m n k cs fs e h
 
-pub finish_stamps : (b : Batch) (t : ℕ) (os : List Outcome) (cs : List (ℕ × LockCall)) (fs : List (ℕ × FinishCall)) → fs ≡ map (finish_of b t os) cs → IsStamp t → All IsFinishCall fs
-finish_stamps b t os cs fs e h = mapped_all IsFinishCall (finish_of b t os) (λ x. h) cs fs e
-
 pub forget_shards : (b : Batch) (t m n : ℕ) → m ≡ n → (cs : List (ℕ × LockCall)) (fs : List (ℕ × ForgetCall)) → fs ≡ map (forget_of b t) cs → AreShards shard n cs → AreShards shard m fs
 forget_shards b t m n k cs fs e h = mapped_shards (forget_of b t) (λ x. refl) m n k cs fs e h
-
-pub forget_stamps : (b : Batch) (t : ℕ) (cs : List (ℕ × LockCall)) (fs : List (ℕ × ForgetCall)) → fs ≡ map (forget_of b t) cs → IsStamp t → All IsForgetCall fs
-forget_stamps b t cs fs e h = mapped_all IsForgetCall (forget_of b t) (λ x. h) cs fs e
 
 pub later_room : (m n k l : ℕ) (r : LaterRoom) → m ≡ n → k ≡ l → IsLaterRoom n l r → IsLaterRoom m k r
 later_room m n k l r e f h = subst (λ m. IsLaterRoom m k r) (sym e) (subst (λ k. IsLaterRoom n k r) (sym f) h)

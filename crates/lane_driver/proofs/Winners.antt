@@ -1,5 +1,5 @@
 -- Whether the transaction at a place is committed, by what stands there.
-use Rattle.std.proofs.Common.{◌≡◌, ℕ, zero, suc, ◌<◌, ◌≤◌, Bool, false, List, [], ◌∷◌, length, get_or, refl, arith, ap, ◌∙◌, sym}
+use Rattle.std.proofs.Common.{◌≡◌, ℕ, zero, suc, ◌<◌, ◌≤◌, false, List, [], ◌∷◌, length, get_or, refl, arith, ap, sym}
 use Rattle.cbdc_model.specs.Records.{Outcome, is_won}
 use Rattle.cbdc_model.specs.Outcomes.{won_at}
 

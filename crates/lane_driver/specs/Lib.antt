@@ -4,3 +4,5 @@ pub mod Faults
 pub mod Gathering
 pub mod Rooms
 pub mod Reports
+pub mod Stops
+pub mod Causes

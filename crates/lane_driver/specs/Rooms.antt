@@ -1,5 +1,5 @@
 -- The memory of a batch, taken before its first call.
-use Rattle.std.specs.Prelude.{◌≡◌, ℕ, ◌≤◌, List, [], length}
+use Rattle.std.specs.Prelude.{◌≡◌, ℕ, ◌≤◌, [], length}
 use Rattle.std.specs.List.{All}
 use Rattle.std.specs.Vec.{vec_capacity, vec_len}
 use Rattle.lane_driver.specs.declared.room.BatchRoom.{BatchRoom}

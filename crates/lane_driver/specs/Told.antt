@@ -1,5 +1,5 @@
 -- What the ports are asked, and what they tell.
-use Rattle.std.specs.Prelude.{◌≡◌, ◌≢◌, ℕ, ◌*◌, ◌^◌, ◌<◌, List, length, Result, IfOk}
+use Rattle.std.specs.Prelude.{◌≡◌, ◌≢◌, ℕ, ◌*◌, ◌^◌, ◌<◌, List, Result, IfOk}
 use Rattle.std.specs.List.{All, AllZip}
 use Rattle.cbdc_types.specs.declared.calls.LockCall.{LockCall}
 use Rattle.cbdc_types.specs.declared.calls.FinishCall.{FinishCall}
@@ -7,9 +7,13 @@ use Rattle.cbdc_types.specs.declared.calls.ForgetCall.{ForgetCall}
 use Rattle.cbdc_types.specs.declared.calls.Replied.{Replied}
 use Rattle.cbdc_types.specs.declared.calls.NodeFault.{NodeFault}
 use Rattle.cbdc_types.specs.declared.batch.ShardReplies.{ShardReplies}
-use Rattle.cbdc_model.specs.Records.{Shape, Header, Batch, Compact}
+use Rattle.cbdc_model.specs.Records.{Shape, Header, Batch, Compact, Entry}
 use Rattle.cbdc_model.specs.Slots.{Phase}
-use Rattle.cbdc_model.specs.Ranges.{home_of}
+use Rattle.cbdc_model.specs.Ranges.{home_of, shard_node}
+use Rattle.cbdc_model.specs.Grammar.{IsBatchOf, IsReply}
+use Rattle.cbdc_model.specs.Calls.{IsLockCall, IsFinishCall, IsForgetCall}
+use Rattle.cbdc_model.specs.Sights.{Sight}
+use Rattle.lane_laws.specs.Parts.{IsFitPart}
 use Rattle.lane_driver.specs.Calls.{IsRising}
 
 -- the lane is one of this coordinator
@@ -24,18 +28,31 @@ abbrev pub IsStamp : ℕ → Type 0
 IsStamp t = t < 2 ^ 63
 
 -- a batch of the lane, and the stamp of its Prepare
-abbrev pub IsPrepared : ℕ → Batch × ℕ → Type 0
-IsPrepared lane p = (p.0.lane ≡ lane) × IsStamp p.1
+pub record IsPrepared (K : Shape) (lane : ℕ) (p : Batch × ℕ) : Type 0 where
+  pub lane_is : p.0.lane ≡ lane
+  pub batch : IsBatchOf K p.0
+  pub stamp : IsStamp p.1
 
--- what is asked of a shard
-abbrev pub IsLockCall : ℕ × LockCall → Type 0
-IsLockCall c = IsStamp c.1.cause
+-- these are the shards of a ledger of this shape, each at its own node
+abbrev pub AreShardsOf : Shape → (ℕ → Sight) → Type 0
+AreShardsOf K I = (s : ℕ) → s < K.shards → ((I s).header.shape ≡ K) × ((I s).header.node ≡ shard_node K s)
 
-abbrev pub IsFinishCall : ℕ × FinishCall → Type 0
-IsFinishCall c = IsStamp c.1.cause
+-- no shard's header has changed
+abbrev pub KeepHeaders : (ℕ → Sight) → (ℕ → Sight) → Type 0
+KeepHeaders I J = (s : ℕ) → (J s).header ≡ (I s).header
 
-abbrev pub IsForgetCall : ℕ × ForgetCall → Type 0
-IsForgetCall c = IsStamp c.1.cause
+-- each call, and each part, is within the limits of the shard that it goes to
+abbrev pub AreLockCalls : (ℕ → Sight) → List (ℕ × LockCall) → Type 0
+AreLockCalls I cs = All (λ c. IsLockCall (I c.0).header c.1) cs
+
+abbrev pub AreFinishCalls : (ℕ → Sight) → List (ℕ × FinishCall) → Type 0
+AreFinishCalls I cs = All (λ c. IsFinishCall (I c.0).header c.1) cs
+
+abbrev pub AreForgetCalls : (ℕ → Sight) → List (ℕ × ForgetCall) → Type 0
+AreForgetCalls I cs = All (λ c. IsForgetCall (I c.0).header c.1) cs
+
+abbrev pub AreFitParts : (ℕ → Sight) → List (ℕ × List Entry) → Type 0
+AreFitParts I ps = All (λ p. IsFitPart (I p.0).header p.1) ps
 
 -- the shards rise, and are among so many
 abbrev pub AreShards : {C : Type 0} → (C → ℕ) → ℕ → List C → Type 0
@@ -45,12 +62,13 @@ AreShards shard shards cs = IsRising shard cs × All (λ c. shard c < shards) cs
 abbrev pub EachAnswer : {C A : Type 0} → (C → A → Type 0) → List C → List A → Type 0
 EachAnswer told cs answers = AllZip told cs answers
 
-abbrev pub LockTold : ℕ × LockCall → Result Replied NodeFault → Type 0
-LockTold c answer = IfOk answer (λ a. IsStamp a.stamp)
+-- a shard replies by hashes and batches of its shape
+abbrev pub LockTold : (ℕ → Sight) → ℕ × LockCall → Result Replied NodeFault → Type 0
+LockTold I c answer = IfOk answer (λ a. IsStamp a.stamp × All (IsReply (I c.0).header.shape) a.replies)
 
 abbrev pub StampTold : {C : Type 0} → ℕ × C → Result ℕ NodeFault → Type 0
 StampTold c answer = IfOk answer IsStamp
 
--- what the shards replied: they rise
+-- what the shards replied: they rise, and reply by hashes and batches of the shape
 abbrev pub AreReplies : Shape → List ShardReplies → Type 0
-AreReplies K rs = AreShards (λ r. r.shard) K.shards rs × All (λ r. IsStamp r.stamp) rs
+AreReplies K rs = AreShards (λ r. r.shard) K.shards rs × All (λ r. IsStamp r.stamp) rs × All (λ r. All (IsReply K) r.replies) rs

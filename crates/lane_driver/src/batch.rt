@@ -1,13 +1,17 @@
 // A batch of a lane, phase by phase.
-ghost use Rattle.std.specs.Prelude.{◌≡◌, ◌≤◌, ◌<◌, [], ◌∷◌, length, map, IfOk, OnOk, All, ℕ};
+ghost use Rattle.std.specs.Prelude.{◌≡◌, ◌≢◌, ◌≤◌, ◌<◌, [], ◌∷◌, length, map, IfOk, IfErr, OnOk, All, ℕ};
 ghost use Rattle.std.specs.Vec.{vec_capacity};
 ghost use Rattle.cbdc_model.specs.Slots.{Idle, InPrepare, InCommit, InDiscard};
 ghost use Rattle.cbdc_model.specs.Ranges.{home_of};
-ghost use Rattle.cbdc_model.specs.Grammar.{HasSize};
+ghost use Rattle.cbdc_model.specs.Grammar.{HasSize, IsBatchOf, IsCompact};
 ghost use Rattle.lane_driver.specs.Calls.{shard, forget_of};
-ghost use Rattle.lane_driver.specs.Told.{IsLane, KeepsOthers, IsLockCall, IsStamp, AreShards};
+ghost use Rattle.lane_driver.specs.Told.{IsLane, KeepsOthers, KeepHeaders, AreShardsOf, AreLockCalls, AreFitParts, IsStamp, AreShards};
 ghost use Rattle.lane_driver.specs.Rooms.{IsBatchRoom, IsLaterRoom};
 ghost use Rattle.lane_driver.specs.Reports.{AreReports};
+ghost use Rattle.lane_driver.specs.Causes.{IsCausedFault};
+ghost use Rattle.lane_driver.specs.Stops.{IsDiscardedStopped, IsCommittedStopped, IsPreparedStopped, IsBatchStopped, IsOneBatch};
+ghost use Rattle.lane_laws.specs.Batches.{Settled, BatchDone};
+ghost use Rattle.lane_laws.specs.Traces.{ToldDiscarded, ToldCommitted, ToldPrepared};
 
 use crate::fault::{BatchReport, LaneFault, LaneReport, fault_at, no_memory};
 use crate::order::{finish_calls, forget_calls, lock_calls};
@@ -41,21 +45,33 @@ pub fn from_discarded<S: PortSet, L: LogPort, G: Gate>(
     ports: &mut Ports<S, L>,
     gate: &G,
 ) -> Result<(), LaneFault>
+    requires same { S.alone ≡ L.alone }
+    requires at { L.at ports.old.log ≡ home_of shape.now batch.now.lane }
     requires home { IsLane (L.header ports.old.log) batch.now.lane }
     requires phase { L.phase ports.old.log batch.now.lane ≡ InDiscard }
     requires count { S.count ports.old.shards ≡ shape.now.shards }
+    requires ledger { AreShardsOf shape.now (S.sights ports.old.shards) }
     requires shards { AreShards shard shape.now.shards locks.now }
+    requires batch { IsBatchOf shape.now batch.now }
     requires cause { IsStamp cause }
     requires empty { forgets.old.items ≡ [] }
     requires room { length locks.now ≤ vec_capacity forgets.old }
     requires answers { length locks.now ≤ vec_capacity stamped.old }
+    ensures told { OnOk result (ToldDiscarded L.alone batch.now cause locks.now (L.sights ports.old.log (L.at ports.old.log)) (L.sights ports.new.log (L.at ports.new.log)) (S.sights ports.old.shards) (S.sights ports.new.shards)) }
+    ensures stopped { IfErr result (IsDiscardedStopped shape.now L.alone batch.now cause locks.now (L.sights ports.old.log (L.at ports.old.log)) (L.sights ports.new.log (L.at ports.new.log)) (S.sights ports.old.shards) (S.sights ports.new.shards)) }
+    ensures fault { IfErr result (IsCausedFault shape.now (L.sights ports.new.log) (S.sights ports.new.shards)) }
+    ensures at_same { L.at ports.new.log ≡ L.at ports.old.log }
     ensures phase { OnOk result (L.phase ports.new.log batch.now.lane ≡ Idle) }
-    ensures others { OnOk result (KeepsOthers (L.header ports.old.log) batch.now.lane (L.phase ports.old.log) (L.phase ports.new.log) (L.open_txs ports.old.log) (L.open_txs ports.new.log)) }
+    ensures others { KeepsOthers (L.header ports.old.log) batch.now.lane (L.phase ports.old.log) (L.phase ports.new.log) (L.open_txs ports.old.log) (L.open_txs ports.new.log) }
     ensures header { L.header ports.new.log ≡ L.header ports.old.log }
     ensures log_count { L.count ports.new.log ≡ L.count ports.old.log }
     ensures count { S.count ports.new.shards ≡ S.count ports.old.shards }
     ensures shard_later { (n : ℕ) → S.faults ports.old.shards n ≤ S.faults ports.new.shards n }
     ensures log_later { (n : ℕ) → L.faults ports.old.log n ≤ L.faults ports.new.log n }
+    ensures elsewhere { (n : ℕ) → n ≢ L.at ports.old.log → L.sights ports.new.log n ≡ L.sights ports.old.log n }
+    ensures headers { KeepHeaders (S.sights ports.old.shards) (S.sights ports.new.shards) }
+    ensures log_holds { L.holds ports.old.log → L.holds ports.new.log }
+    ensures shard_holds { S.holds ports.old.shards → S.holds ports.new.shards }
     ensures calls { forgets.new.items ≡ map (forget_of batch.now cause) locks.now }
     ensures capacity { vec_capacity stamped.new ≡ vec_capacity stamped.old }
 {
@@ -84,22 +100,34 @@ pub fn from_committed<S: PortSet, L: LogPort, G: Gate>(
     repeats: u32,
     gate: &G,
 ) -> Result<(), LaneFault>
+    requires same { S.alone ≡ L.alone }
+    requires at { L.at ports.old.log ≡ home_of shape.now batch.now.lane }
     requires home { IsLane (L.header ports.old.log) batch.now.lane }
     requires phase { L.phase ports.old.log batch.now.lane ≡ InCommit }
     requires count { S.count ports.old.shards ≡ shape.now.shards }
+    requires ledger { AreShardsOf shape.now (S.sights ports.old.shards) }
     requires shards { AreShards shard shape.now.shards locks.now }
-    requires locks { All IsLockCall locks.now }
+    requires locks { AreLockCalls (S.sights ports.old.shards) locks.now }
     requires parts { All (λ c. length c.1.part ≤ length outcomes.now) locks.now }
+    requires batch { IsBatchOf shape.now batch.now }
     requires cause { IsStamp cause }
     requires again { length locks.now ≤ vec_capacity again.old }
     requires room { IsLaterRoom (length locks.now) (length outcomes.now) room }
+    ensures told { OnOk result (ToldCommitted L.alone batch.now cause outcomes.now repeats locks.now (L.sights ports.old.log (L.at ports.old.log)) (L.sights ports.new.log (L.at ports.new.log)) (S.sights ports.old.shards) (S.sights ports.new.shards)) }
+    ensures stopped { IfErr result (IsCommittedStopped shape.now L.alone batch.now cause outcomes.now repeats locks.now (L.sights ports.old.log (L.at ports.old.log)) (L.sights ports.new.log (L.at ports.new.log)) (S.sights ports.old.shards) (S.sights ports.new.shards)) }
+    ensures fault { IfErr result (IsCausedFault shape.now (L.sights ports.new.log) (S.sights ports.new.shards)) }
+    ensures at_same { L.at ports.new.log ≡ L.at ports.old.log }
     ensures phase { OnOk result (L.phase ports.new.log batch.now.lane ≡ Idle) }
-    ensures others { OnOk result (KeepsOthers (L.header ports.old.log) batch.now.lane (L.phase ports.old.log) (L.phase ports.new.log) (L.open_txs ports.old.log) (L.open_txs ports.new.log)) }
+    ensures others { KeepsOthers (L.header ports.old.log) batch.now.lane (L.phase ports.old.log) (L.phase ports.new.log) (L.open_txs ports.old.log) (L.open_txs ports.new.log) }
     ensures header { L.header ports.new.log ≡ L.header ports.old.log }
     ensures log_count { L.count ports.new.log ≡ L.count ports.old.log }
     ensures count { S.count ports.new.shards ≡ S.count ports.old.shards }
     ensures shard_later { (n : ℕ) → S.faults ports.old.shards n ≤ S.faults ports.new.shards n }
     ensures log_later { (n : ℕ) → L.faults ports.old.log n ≤ L.faults ports.new.log n }
+    ensures elsewhere { (n : ℕ) → n ≢ L.at ports.old.log → L.sights ports.new.log n ≡ L.sights ports.old.log n }
+    ensures headers { KeepHeaders (S.sights ports.old.shards) (S.sights ports.new.shards) }
+    ensures log_holds { L.holds ports.old.log → L.holds ports.new.log }
+    ensures shard_holds { S.holds ports.old.shards → S.holds ports.new.shards }
 {
     let LaterRoom {
         mut finishes,
@@ -147,19 +175,32 @@ pub fn from_prepared<S: PortSet, L: LogPort, G: Gate>(
     repeats: u32,
     gate: &G,
 ) -> Result<Outcomes, LaneFault>
+    requires same { S.alone ≡ L.alone }
+    requires at { L.at ports.old.log ≡ home_of shape.now batch.now.lane }
     requires home { IsLane (L.header ports.old.log) batch.now.lane }
     requires shape { (L.header ports.old.log).shape ≡ shape.now }
     requires phase { L.phase ports.old.log batch.now.lane ≡ InPrepare }
     requires count { S.count ports.old.shards ≡ shape.now.shards }
+    requires ledger { AreShardsOf shape.now (S.sights ports.old.shards) }
+    requires batch { IsBatchOf shape.now batch.now }
     requires cause { IsStamp cause }
+    requires parts { AreFitParts (S.sights ports.old.shards) room.parts }
     requires room { IsBatchRoom shape.now.shards (length (L.open_txs ports.old.log batch.now.lane)) room }
+    ensures told { IfOk result (ToldPrepared L.alone batch.now cause repeats room.parts (L.sights ports.old.log (L.at ports.old.log)) (L.sights ports.new.log (L.at ports.new.log)) (S.sights ports.old.shards) (S.sights ports.new.shards)) }
+    ensures stopped { IfErr result (IsPreparedStopped shape.now L.alone batch.now cause repeats room.parts (L.sights ports.old.log (L.at ports.old.log)) (L.sights ports.new.log (L.at ports.new.log)) (S.sights ports.old.shards) (S.sights ports.new.shards)) }
+    ensures fault { IfErr result (IsCausedFault shape.now (L.sights ports.new.log) (S.sights ports.new.shards)) }
+    ensures at_same { L.at ports.new.log ≡ L.at ports.old.log }
     ensures phase { OnOk result (L.phase ports.new.log batch.now.lane ≡ Idle) }
-    ensures others { OnOk result (KeepsOthers (L.header ports.old.log) batch.now.lane (L.phase ports.old.log) (L.phase ports.new.log) (L.open_txs ports.old.log) (L.open_txs ports.new.log)) }
+    ensures others { KeepsOthers (L.header ports.old.log) batch.now.lane (L.phase ports.old.log) (L.phase ports.new.log) (L.open_txs ports.old.log) (L.open_txs ports.new.log) }
     ensures header { L.header ports.new.log ≡ L.header ports.old.log }
     ensures log_count { L.count ports.new.log ≡ L.count ports.old.log }
     ensures count { S.count ports.new.shards ≡ S.count ports.old.shards }
     ensures shard_later { (n : ℕ) → S.faults ports.old.shards n ≤ S.faults ports.new.shards n }
     ensures log_later { (n : ℕ) → L.faults ports.old.log n ≤ L.faults ports.new.log n }
+    ensures elsewhere { (n : ℕ) → n ≢ L.at ports.old.log → L.sights ports.new.log n ≡ L.sights ports.old.log n }
+    ensures headers { KeepHeaders (S.sights ports.old.shards) (S.sights ports.new.shards) }
+    ensures log_holds { L.holds ports.old.log → L.holds ports.new.log }
+    ensures shard_holds { S.holds ports.old.shards → S.holds ports.new.shards }
     ensures outcomes { IfOk result (λ os. length os ≡ length (L.open_txs ports.old.log batch.now.lane)) }
 {
     let BatchRoom {
@@ -199,17 +240,30 @@ pub(crate) fn one_batch<S: PortSet, L: LogPort, G: Gate>(
     repeats: u32,
     gate: &G,
 ) -> Result<BatchReport, LaneFault>
+    requires same { S.alone ≡ L.alone }
+    requires at { L.at ports.old.log ≡ home_of shape.now lane }
     requires home { IsLane (L.header ports.old.log) lane }
     requires shape { (L.header ports.old.log).shape ≡ shape.now }
     requires idle { L.phase ports.old.log lane ≡ Idle }
     requires count { S.count ports.old.shards ≡ shape.now.shards }
+    requires ledger { AreShardsOf shape.now (S.sights ports.old.shards) }
     requires size { HasSize shape.now txs.now }
+    requires limits { All IsCompact txs.now }
+    ensures done { IfOk result (λ r. (k : ℕ) → Settled shape.now lane k (L.sights ports.old.log (L.at ports.old.log)) (S.sights ports.old.shards) → BatchDone shape.now L.alone lane k txs.now (L.sights ports.old.log (L.at ports.old.log)) (S.sights ports.old.shards) (L.sights ports.new.log (L.at ports.new.log)) (S.sights ports.new.shards) r.batch r.outcomes) }
+    ensures stopped { IfErr result (IsBatchStopped shape.now L.alone lane txs.now (L.sights ports.old.log (L.at ports.old.log)) (S.sights ports.old.shards) (L.sights ports.new.log (L.at ports.new.log)) (S.sights ports.new.shards)) }
+    ensures fault { IfErr result (IsCausedFault shape.now (L.sights ports.new.log) (S.sights ports.new.shards)) }
+    ensures at_same { L.at ports.new.log ≡ L.at ports.old.log }
     ensures idle { OnOk result (L.phase ports.new.log lane ≡ Idle) }
+    ensures others { KeepsOthers (L.header ports.old.log) lane (L.phase ports.old.log) (L.phase ports.new.log) (L.open_txs ports.old.log) (L.open_txs ports.new.log) }
     ensures header { L.header ports.new.log ≡ L.header ports.old.log }
     ensures log_count { L.count ports.new.log ≡ L.count ports.old.log }
     ensures count { S.count ports.new.shards ≡ S.count ports.old.shards }
     ensures shard_later { (n : ℕ) → S.faults ports.old.shards n ≤ S.faults ports.new.shards n }
     ensures log_later { (n : ℕ) → L.faults ports.old.log n ≤ L.faults ports.new.log n }
+    ensures elsewhere { (n : ℕ) → n ≢ L.at ports.old.log → L.sights ports.new.log n ≡ L.sights ports.old.log n }
+    ensures headers { KeepHeaders (S.sights ports.old.shards) (S.sights ports.new.shards) }
+    ensures log_holds { L.holds ports.old.log → L.holds ports.new.log }
+    ensures shard_holds { S.holds ports.old.shards → S.holds ports.new.shards }
     ensures report { IfOk result (λ r. (r.batch.lane ≡ lane) × (length r.outcomes ≡ length txs.now)) }
 {
     let _limit = shape.batch();
@@ -238,17 +292,30 @@ pub fn run_batch<S: PortSet, L: LogPort, G: Gate>(
     repeats: u32,
     gate: &G,
 ) -> Result<LaneReport, LaneFault>
+    requires same { S.alone ≡ L.alone }
+    requires at { L.at ports.old.log ≡ home_of shape.now lane }
     requires home { IsLane (L.header ports.old.log) lane }
     requires shape { (L.header ports.old.log).shape ≡ shape.now }
     requires idle { L.phase ports.old.log lane ≡ Idle }
     requires count { S.count ports.old.shards ≡ shape.now.shards }
+    requires ledger { AreShardsOf shape.now (S.sights ports.old.shards) }
     requires size { HasSize shape.now txs.now }
+    requires limits { All IsCompact txs.now }
+    ensures done { IfOk result (λ r. IsOneBatch shape.now L.alone lane txs.now (L.sights ports.old.log (L.at ports.old.log)) (S.sights ports.old.shards) (L.sights ports.new.log (L.at ports.new.log)) (S.sights ports.new.shards) r.batches) }
+    ensures stopped { IfErr result (IsBatchStopped shape.now L.alone lane txs.now (L.sights ports.old.log (L.at ports.old.log)) (S.sights ports.old.shards) (L.sights ports.new.log (L.at ports.new.log)) (S.sights ports.new.shards)) }
+    ensures fault { IfErr result (IsCausedFault shape.now (L.sights ports.new.log) (S.sights ports.new.shards)) }
+    ensures at_same { L.at ports.new.log ≡ L.at ports.old.log }
     ensures idle { OnOk result (L.phase ports.new.log lane ≡ Idle) }
+    ensures others { KeepsOthers (L.header ports.old.log) lane (L.phase ports.old.log) (L.phase ports.new.log) (L.open_txs ports.old.log) (L.open_txs ports.new.log) }
     ensures header { L.header ports.new.log ≡ L.header ports.old.log }
     ensures log_count { L.count ports.new.log ≡ L.count ports.old.log }
     ensures count { S.count ports.new.shards ≡ S.count ports.old.shards }
     ensures shard_later { (n : ℕ) → S.faults ports.old.shards n ≤ S.faults ports.new.shards n }
     ensures log_later { (n : ℕ) → L.faults ports.old.log n ≤ L.faults ports.new.log n }
+    ensures elsewhere { (n : ℕ) → n ≢ L.at ports.old.log → L.sights ports.new.log n ≡ L.sights ports.old.log n }
+    ensures headers { KeepHeaders (S.sights ports.old.shards) (S.sights ports.new.shards) }
+    ensures log_holds { L.holds ports.old.log → L.holds ports.new.log }
+    ensures shard_holds { S.holds ports.old.shards → S.holds ports.new.shards }
     ensures report { IfOk result (λ r. AreReports lane r.batches (txs.now ∷ [])) }
 {
     let mut batches = match Vec::with_capacity(alloc, 1) {

@@ -1,9 +1,14 @@
 // A lane's transactions, batch by batch.
-ghost use Rattle.std.specs.Prelude.{◌≡◌, ◌≤◌, ◌<◌, [], List, length, IfOk, OnOk, All, ℕ};
+ghost use Rattle.std.specs.Prelude.{◌≡◌, ◌≢◌, ◌≤◌, ◌<◌, [], List, length, IfOk, IfErr, OnOk, All, ℕ};
 ghost use Rattle.std.specs.Vec.{vec_capacity};
 ghost use Rattle.cbdc_model.specs.Records.{Compact};
 ghost use Rattle.cbdc_model.specs.Slots.{Idle};
-ghost use Rattle.lane_driver.specs.Told.{IsLane};
+ghost use Rattle.cbdc_model.specs.Grammar.{IsCompact};
+ghost use Rattle.cbdc_model.specs.Ranges.{home_of};
+ghost use Rattle.lane_laws.specs.Batches.{Settled, LaneSo};
+ghost use Rattle.lane_driver.specs.Causes.{IsCausedFault};
+ghost use Rattle.lane_driver.specs.Stops.{IsLaneStopped};
+ghost use Rattle.lane_driver.specs.Told.{IsLane, KeepsOthers, AreShardsOf, KeepHeaders};
 ghost use Rattle.lane_driver.specs.Reports.{IsReported};
 
 use crate::batch::one_batch;
@@ -25,16 +30,29 @@ pub fn run_lane<S: PortSet, L: LogPort, G: Gate>(
     repeats: u32,
     gate: &G,
 ) -> Result<LaneReport, LaneFault>
+    requires same { S.alone ≡ L.alone }
+    requires at { L.at ports.old.log ≡ home_of shape.now lane }
     requires home { IsLane (L.header ports.old.log) lane }
     requires shape { (L.header ports.old.log).shape ≡ shape.now }
     requires idle { L.phase ports.old.log lane ≡ Idle }
     requires count { S.count ports.old.shards ≡ shape.now.shards }
+    requires ledger { AreShardsOf shape.now (S.sights ports.old.shards) }
+    requires limits { All IsCompact txs.now }
+    ensures done { OnOk result ((k : ℕ) → Settled shape.now lane k (L.sights ports.old.log (L.at ports.old.log)) (S.sights ports.old.shards) → LaneSo shape.now L.alone lane txs.now [] (L.sights ports.old.log (L.at ports.old.log)) (S.sights ports.old.shards) (L.sights ports.new.log (L.at ports.new.log)) (S.sights ports.new.shards)) }
+    ensures stopped { IfErr result (IsLaneStopped shape.now L.alone lane txs.now (L.sights ports.old.log (L.at ports.old.log)) (S.sights ports.old.shards) (L.sights ports.new.log (L.at ports.new.log)) (S.sights ports.new.shards)) }
+    ensures fault { IfErr result (IsCausedFault shape.now (L.sights ports.new.log) (S.sights ports.new.shards)) }
+    ensures at_same { L.at ports.new.log ≡ L.at ports.old.log }
     ensures idle { OnOk result (L.phase ports.new.log lane ≡ Idle) }
+    ensures others { KeepsOthers (L.header ports.old.log) lane (L.phase ports.old.log) (L.phase ports.new.log) (L.open_txs ports.old.log) (L.open_txs ports.new.log) }
     ensures header { L.header ports.new.log ≡ L.header ports.old.log }
     ensures log_count { L.count ports.new.log ≡ L.count ports.old.log }
     ensures count { S.count ports.new.shards ≡ S.count ports.old.shards }
     ensures shard_later { (n : ℕ) → S.faults ports.old.shards n ≤ S.faults ports.new.shards n }
     ensures log_later { (n : ℕ) → L.faults ports.old.log n ≤ L.faults ports.new.log n }
+    ensures elsewhere { (n : ℕ) → n ≢ L.at ports.old.log → L.sights ports.new.log n ≡ L.sights ports.old.log n }
+    ensures headers { KeepHeaders (S.sights ports.old.shards) (S.sights ports.new.shards) }
+    ensures log_holds { L.holds ports.old.log → L.holds ports.new.log }
+    ensures shard_holds { S.holds ports.old.shards → S.holds ports.new.shards }
     ensures report { IfOk result (λ r. IsReported lane shape.now.batch txs.now [] r.batches) }
 {
     let size = shape.batch() as usize;

@@ -2,7 +2,11 @@
 ghost use Rattle.std.specs.Prelude.{◌≡◌, ◌<◌, ◌≤◌, [], length, IfOk, IfErr, MatchResult, All, ℕ};
 ghost use Rattle.std.specs.Vec.{vec_capacity};
 ghost use Rattle.lane_driver.specs.Calls.{shard};
-ghost use Rattle.lane_driver.specs.Told.{IsLockCall, IsFinishCall, IsForgetCall, AreShards, AreReplies, IsStamp};
+ghost use Rattle.cbdc_model.specs.Ranges.{shard_node};
+ghost use Rattle.lane_laws.specs.Answers.{LockAnswer, FinishAnswer, ForgetAnswer, AskedTimes, Locked, Stamped};
+ghost use Rattle.lane_driver.specs.Causes.{IsShardFault};
+ghost use Rattle.lane_driver.specs.Stops.{IsFaultOf, IsStoppedAt};
+ghost use Rattle.lane_driver.specs.Told.{AreShardsOf, KeepHeaders, AreLockCalls, AreFinishCalls, AreForgetCalls, AreShards, AreReplies, IsStamp};
 
 use crate::answer::{ShardFault, gather, latest};
 use crate::fault::{LaneFault, fault_at};
@@ -16,6 +20,7 @@ use outside::Gate;
 // The fault of the lane, where a shard's was the first.
 fn of_shard(shape: &Shape, fault: ShardFault) -> LaneFault
     requires { fault.shard < shape.now.shards }
+    ensures { IsFaultOf result (shard_node shape.now fault.shard) fault.fault }
 {
     fault_at(NodeId(shape.coordinators() + fault.shard), fault.fault)
 }
@@ -29,11 +34,14 @@ pub fn lock_again<S: PortSet, G: Gate>(
     gate: &G,
 )
     requires shards { AreShards shard (S.count shards.old) calls.now }
-    requires calls { All IsLockCall calls.now }
+    requires calls { AreLockCalls (S.sights shards.old) calls.now }
     requires room { length calls.now ≤ vec_capacity answers.old }
     ensures capacity { vec_capacity answers.new ≡ vec_capacity answers.old }
     ensures count { S.count shards.new ≡ S.count shards.old }
+    ensures headers { KeepHeaders (S.sights shards.old) (S.sights shards.new) }
     ensures later { (n : ℕ) → S.faults shards.old n ≤ S.faults shards.new n }
+    ensures holds { S.holds shards.old → S.holds shards.new }
+    ensures told { AskedTimes (LockAnswer S.alone) calls.now repeats (S.sights shards.old) (S.sights shards.new) }
 {
     for _time in 0..repeats {
         answers.clear();
@@ -50,11 +58,14 @@ pub fn finish_again<S: PortSet, G: Gate>(
     gate: &G,
 )
     requires shards { AreShards shard (S.count shards.old) calls.now }
-    requires calls { All IsFinishCall calls.now }
+    requires calls { AreFinishCalls (S.sights shards.old) calls.now }
     requires room { length calls.now ≤ vec_capacity answers.old }
     ensures capacity { vec_capacity answers.new ≡ vec_capacity answers.old }
     ensures count { S.count shards.new ≡ S.count shards.old }
+    ensures headers { KeepHeaders (S.sights shards.old) (S.sights shards.new) }
     ensures later { (n : ℕ) → S.faults shards.old n ≤ S.faults shards.new n }
+    ensures holds { S.holds shards.old → S.holds shards.new }
+    ensures told { AskedTimes (FinishAnswer S.alone) calls.now repeats (S.sights shards.old) (S.sights shards.new) }
 {
     for _time in 0..repeats {
         answers.clear();
@@ -71,11 +82,14 @@ pub fn forget_again<S: PortSet, G: Gate>(
     gate: &G,
 )
     requires shards { AreShards shard (S.count shards.old) calls.now }
-    requires calls { All IsForgetCall calls.now }
+    requires calls { AreForgetCalls (S.sights shards.old) calls.now }
     requires room { length calls.now ≤ vec_capacity answers.old }
     ensures capacity { vec_capacity answers.new ≡ vec_capacity answers.old }
     ensures count { S.count shards.new ≡ S.count shards.old }
+    ensures headers { KeepHeaders (S.sights shards.old) (S.sights shards.new) }
     ensures later { (n : ℕ) → S.faults shards.old n ≤ S.faults shards.new n }
+    ensures holds { S.holds shards.old → S.holds shards.new }
+    ensures told { AskedTimes (ForgetAnswer S.alone) calls.now repeats (S.sights shards.old) (S.sights shards.new) }
 {
     for _time in 0..repeats {
         answers.clear();
@@ -93,14 +107,20 @@ pub fn lock_phase<S: PortSet, G: Gate>(
     gate: &G,
 ) -> Result<Replies, LaneFault>
     requires count { S.count shards.old ≡ shape.now.shards }
+    requires ledger { AreShardsOf shape.now (S.sights shards.old) }
     requires shards { AreShards shard shape.now.shards calls.now }
-    requires calls { All IsLockCall calls.now }
+    requires calls { AreLockCalls (S.sights shards.old) calls.now }
     requires empty { answers.items ≡ [] }
     requires room { length calls.now ≤ vec_capacity answers }
     requires no_replies { replies.items ≡ [] }
     requires replies_room { length calls.now ≤ vec_capacity replies }
     ensures count { S.count shards.new ≡ S.count shards.old }
+    ensures headers { KeepHeaders (S.sights shards.old) (S.sights shards.new) }
     ensures later { (n : ℕ) → S.faults shards.old n ≤ S.faults shards.new n }
+    ensures holds { S.holds shards.old → S.holds shards.new }
+    ensures told { IfOk result (Locked S.alone calls.now (S.sights shards.old) (S.sights shards.new)) }
+    ensures stopped { IfErr result (IsStoppedAt shape.now (LockAnswer S.alone) calls.now (S.sights shards.old) (S.sights shards.new)) }
+    ensures fault { IfErr result (IsShardFault shape.now (S.sights shards.new)) }
     ensures replies { IfOk result (AreReplies shape.now) }
 {
     shards.lock(calls, &mut answers, gate);
@@ -120,11 +140,16 @@ pub fn finish_phase<S: PortSet, G: Gate>(
 ) -> Result<Stamp, LaneFault>
     requires count { S.count shards.old ≡ shape.now.shards }
     requires shards { AreShards shard shape.now.shards calls.now }
-    requires calls { All IsFinishCall calls.now }
+    requires calls { AreFinishCalls (S.sights shards.old) calls.now }
     requires room { length calls.now ≤ vec_capacity answers.old }
     ensures capacity { vec_capacity answers.new ≡ vec_capacity answers.old }
     ensures count { S.count shards.new ≡ S.count shards.old }
+    ensures headers { KeepHeaders (S.sights shards.old) (S.sights shards.new) }
     ensures later { (n : ℕ) → S.faults shards.old n ≤ S.faults shards.new n }
+    ensures holds { S.holds shards.old → S.holds shards.new }
+    ensures told { IfOk result (Stamped (FinishAnswer S.alone) calls.now (S.sights shards.old) (S.sights shards.new)) }
+    ensures stopped { IfErr result (IsStoppedAt shape.now (FinishAnswer S.alone) calls.now (S.sights shards.old) (S.sights shards.new)) }
+    ensures fault { IfErr result (IsShardFault shape.now (S.sights shards.new)) }
     ensures stamp { IfOk result IsStamp }
 {
     answers.clear();
@@ -145,11 +170,16 @@ pub fn forget_phase<S: PortSet, G: Gate>(
 ) -> Result<Stamp, LaneFault>
     requires count { S.count shards.old ≡ shape.now.shards }
     requires shards { AreShards shard shape.now.shards calls.now }
-    requires calls { All IsForgetCall calls.now }
+    requires calls { AreForgetCalls (S.sights shards.old) calls.now }
     requires room { length calls.now ≤ vec_capacity answers.old }
     ensures capacity { vec_capacity answers.new ≡ vec_capacity answers.old }
     ensures count { S.count shards.new ≡ S.count shards.old }
+    ensures headers { KeepHeaders (S.sights shards.old) (S.sights shards.new) }
     ensures later { (n : ℕ) → S.faults shards.old n ≤ S.faults shards.new n }
+    ensures holds { S.holds shards.old → S.holds shards.new }
+    ensures told { IfOk result (Stamped (ForgetAnswer S.alone) calls.now (S.sights shards.old) (S.sights shards.new)) }
+    ensures stopped { IfErr result (IsStoppedAt shape.now (ForgetAnswer S.alone) calls.now (S.sights shards.old) (S.sights shards.new)) }
+    ensures fault { IfErr result (IsShardFault shape.now (S.sights shards.new)) }
     ensures stamp { IfOk result IsStamp }
 {
     answers.clear();

@@ -1,11 +1,17 @@
 // The ports through which a lane speaks to nodes.
-ghost use Rattle.std.specs.Prelude.{◌≡◌, ◌≤◌, ℕ, List, [], length, All, IfOk, OnOk};
+ghost use Rattle.std.specs.Prelude.{◌≡◌, ◌≢◌, ◌≤◌, ℕ, Bool, true, false, List, [], length, All, IfOk, IfErr, OnOk};
 ghost use Rattle.std.specs.Vec.{vec_capacity};
 ghost use Rattle.cbdc_model.specs.Records.{Header, Compact};
 ghost use Rattle.cbdc_model.specs.Slots.{Phase, Idle, InPrepare, InCommit, InDiscard};
-ghost use Rattle.cbdc_model.specs.Grammar.{HasSize};
-ghost use Rattle.lane_driver.specs.Told.{IsLane, KeepsOthers, IsLockCall, IsFinishCall, IsForgetCall, AreShards, EachAnswer, LockTold, StampTold, AreReplies, IsPrepared, IsStamp};
+ghost use Rattle.cbdc_model.specs.Grammar.{HasSize, IsCompact};
+ghost use Rattle.lane_driver.specs.Told.{IsLane, KeepsOthers, KeepHeaders, AreLockCalls, AreFinishCalls, AreForgetCalls, AreShards, EachAnswer, LockTold, StampTold, AreReplies, IsPrepared, IsStamp};
+ghost use Rattle.lane_driver.specs.Faults.{kind_of};
+ghost use Rattle.lane_driver.specs.Causes.{IsLogCause};
 ghost use Rattle.lane_driver.specs.Calls.{shard};
+ghost use Rattle.cbdc_model.specs.Records.{outcomes_of};
+ghost use Rattle.cbdc_model.specs.Due.{open_batch, prepare_due, discard_due, done_due};
+ghost use Rattle.cbdc_model.specs.Sights.{Sight, Told};
+ghost use Rattle.lane_laws.specs.Answers.{DecideAnswer, LockAnswer, FinishAnswer, ForgetAnswer, EachTold, Others};
 
 use cbdc_types::{
     BatchId, CompactTx, FinishCall, ForgetCall, LaneId, LockCall, NodeFault, Outcome, Replied,
@@ -15,6 +21,15 @@ use outside::Gate;
 
 /// The log of a lane's coordinator.
 pub trait LogPort {
+    /// What is known of each coordinator, by its number.
+    ghost sights: { Self → ℕ → Sight };
+
+    /// The coordinator that the calls go to.
+    ghost at: { Self → ℕ };
+
+    /// Whether no other lane's records come between two calls.
+    ghost alone: { Bool };
+
     /// The header of the coordinator's journal.
     ghost header: { Self → Header };
 
@@ -30,6 +45,9 @@ pub trait LogPort {
     /// How often the disk of each of them has failed.
     ghost faults: { Self → ℕ → ℕ };
 
+    /// What stays true of its nodes, whatever is asked of them.
+    ghost holds: { Self → Type 0 };
+
     /// Begins a batch of an idle lane: its name, and the stamp of its Prepare.
     fn prepare<G: Gate>(
         &mut self,
@@ -40,13 +58,18 @@ pub trait LogPort {
         requires home { IsLane (header self.old) lane }
         requires idle { phase self.old lane ≡ Idle }
         requires size { HasSize (header self.old).shape txs.now }
-        ensures prepared { IfOk result (IsPrepared lane) }
+        requires limits { All IsCompact txs.now }
+        ensures prepared { IfOk result (IsPrepared (header self.old).shape lane) }
         ensures phase { OnOk result (phase self.new lane ≡ InPrepare) }
         ensures txs { OnOk result (open_txs self.new lane ≡ txs.now) }
-        ensures others { OnOk result (KeepsOthers (header self.old) lane (phase self.old) (phase self.new) (open_txs self.old) (open_txs self.new)) }
+        ensures others { KeepsOthers (header self.old) lane (phase self.old) (phase self.new) (open_txs self.old) (open_txs self.new) }
         ensures header { header self.new ≡ header self.old }
         ensures count { count self.new ≡ count self.old }
-        ensures later { (n : ℕ) → faults self.old n ≤ faults self.new n };
+        ensures told { Told alone lane true (prepare_due (sights self.old (at self.old)).header.shape (sights self.old (at self.old)).capacity lane txs.now) (sights self.old (at self.old)) (sights self.new (at self.new)) result }
+        ensures at_same { at self.new ≡ at self.old }
+        ensures elsewhere { (n : ℕ) → n ≢ at self.old → sights self.new n ≡ sights self.old n }
+        ensures later { (n : ℕ) → faults self.old n ≤ faults self.new n }
+        ensures holds { holds self.old → holds self.new };
 
     /// Decides the prepared batch by what its shards replied, and tells the outcomes.
     fn decide<G: Gate>(
@@ -64,10 +87,16 @@ pub trait LogPort {
         ensures stamp { IfOk result IsStamp }
         ensures phase { OnOk result (phase self.new lane ≡ InCommit) }
         ensures outcomes { OnOk result (length out.new.items ≡ length (open_txs self.old lane)) }
-        ensures others { OnOk result (KeepsOthers (header self.old) lane (phase self.old) (phase self.new) (open_txs self.old) (open_txs self.new)) }
+        ensures others { KeepsOthers (header self.old) lane (phase self.old) (phase self.new) (open_txs self.old) (open_txs self.new) }
         ensures header { header self.new ≡ header self.old }
         ensures count { count self.new ≡ count self.old }
-        ensures later { (n : ℕ) → faults self.old n ≤ faults self.new n };
+        ensures fault { IfErr result (λ f. IsLogCause (kind_of f) (sights self.new (at self.new))) }
+        ensures told { DecideAnswer alone lane replies.now (sights self.old (at self.old)) (sights self.new (at self.new)) result }
+        ensures written { OnOk result (out.new.items ≡ outcomes_of (sights self.new (at self.new)).seen (open_batch (sights self.new (at self.new)).seen lane)) }
+        ensures at_same { at self.new ≡ at self.old }
+        ensures elsewhere { (n : ℕ) → n ≢ at self.old → sights self.new n ≡ sights self.old n }
+        ensures later { (n : ℕ) → faults self.old n ≤ faults self.new n }
+        ensures holds { holds self.old → holds self.new };
 
     /// Writes down that the decided batch is applied everywhere.
     fn discard<G: Gate>(&mut self, lane: LaneId, cause: Stamp, gate: &G) -> Result<Stamp, NodeFault>
@@ -76,10 +105,14 @@ pub trait LogPort {
         requires cause { IsStamp cause }
         ensures stamp { IfOk result IsStamp }
         ensures phase { OnOk result (phase self.new lane ≡ InDiscard) }
-        ensures others { OnOk result (KeepsOthers (header self.old) lane (phase self.old) (phase self.new) (open_txs self.old) (open_txs self.new)) }
+        ensures others { KeepsOthers (header self.old) lane (phase self.old) (phase self.new) (open_txs self.old) (open_txs self.new) }
         ensures header { header self.new ≡ header self.old }
         ensures count { count self.new ≡ count self.old }
-        ensures later { (n : ℕ) → faults self.old n ≤ faults self.new n };
+        ensures told { Told alone lane false (discard_due lane cause) (sights self.old (at self.old)) (sights self.new (at self.new)) result }
+        ensures at_same { at self.new ≡ at self.old }
+        ensures elsewhere { (n : ℕ) → n ≢ at self.old → sights self.new n ≡ sights self.old n }
+        ensures later { (n : ℕ) → faults self.old n ≤ faults self.new n }
+        ensures holds { holds self.old → holds self.new };
 
     /// Writes down that the batch is forgotten everywhere.
     fn done<G: Gate>(&mut self, lane: LaneId, cause: Stamp, gate: &G) -> Result<Stamp, NodeFault>
@@ -88,35 +121,33 @@ pub trait LogPort {
         requires cause { IsStamp cause }
         ensures stamp { IfOk result IsStamp }
         ensures phase { OnOk result (phase self.new lane ≡ Idle) }
-        ensures others { OnOk result (KeepsOthers (header self.old) lane (phase self.old) (phase self.new) (open_txs self.old) (open_txs self.new)) }
+        ensures others { KeepsOthers (header self.old) lane (phase self.old) (phase self.new) (open_txs self.old) (open_txs self.new) }
         ensures header { header self.new ≡ header self.old }
         ensures count { count self.new ≡ count self.old }
-        ensures later { (n : ℕ) → faults self.old n ≤ faults self.new n };
-}
-
-/// One shard.
-pub trait ShardPort {
-    fn lock<G: Gate>(&mut self, call: &LockCall, gate: &G) -> Result<Replied, NodeFault>
-        requires { IsStamp call.now.cause }
-        ensures { IfOk result (λ a. IsStamp a.stamp) };
-
-    fn finish<G: Gate>(&mut self, call: &FinishCall, gate: &G) -> Result<Stamp, NodeFault>
-        requires { IsStamp call.now.cause }
-        ensures { IfOk result IsStamp };
-
-    fn forget<G: Gate>(&mut self, call: &ForgetCall, gate: &G) -> Result<Stamp, NodeFault>
-        requires { IsStamp call.now.cause }
-        ensures { IfOk result IsStamp };
+        ensures told { Told alone lane false (done_due lane cause) (sights self.old (at self.old)) (sights self.new (at self.new)) result }
+        ensures at_same { at self.new ≡ at self.old }
+        ensures elsewhere { (n : ℕ) → n ≢ at self.old → sights self.new n ≡ sights self.old n }
+        ensures later { (n : ℕ) → faults self.old n ≤ faults self.new n }
+        ensures holds { holds self.old → holds self.new };
 }
 
 /// The shards of a ledger. All calls of a phase are made, whatever one answers; the answers stand in the
 /// calls' order, and `out` has room for them.
 pub trait PortSet {
+    /// What is known of each shard.
+    ghost sights: { Self → ℕ → Sight };
+
+    /// Whether no other lane's records come between two calls.
+    ghost alone: { Bool };
+
     /// How many shards there are.
     ghost count: { Self → ℕ };
 
     /// How often the disk of each shard has failed.
     ghost faults: { Self → ℕ → ℕ };
+
+    /// What stays true of its nodes, whatever is asked of them.
+    ghost holds: { Self → Type 0 };
 
     fn lock<G: Gate>(
         &mut self,
@@ -125,13 +156,17 @@ pub trait PortSet {
         gate: &G,
     )
         requires shards { AreShards shard (count self.old) calls.now }
-        requires calls { All IsLockCall calls.now }
+        requires calls { AreLockCalls (sights self.old) calls.now }
         requires empty { out.old.items ≡ [] }
         requires room { length calls.now ≤ vec_capacity out.old }
-        ensures each { EachAnswer LockTold calls.now out.new.items }
+        ensures each { EachAnswer (LockTold (sights self.old)) calls.now out.new.items }
+        ensures told { EachTold (LockAnswer alone) calls.now out.new.items (sights self.old) (sights self.new) }
+        ensures untouched { Others calls.now (sights self.old) (sights self.new) }
+        ensures headers { KeepHeaders (sights self.old) (sights self.new) }
         ensures capacity { vec_capacity out.new ≡ vec_capacity out.old }
         ensures count { count self.new ≡ count self.old }
-        ensures later { (n : ℕ) → faults self.old n ≤ faults self.new n };
+        ensures later { (n : ℕ) → faults self.old n ≤ faults self.new n }
+        ensures holds { holds self.old → holds self.new };
 
     fn finish<G: Gate>(
         &mut self,
@@ -140,13 +175,17 @@ pub trait PortSet {
         gate: &G,
     )
         requires shards { AreShards shard (count self.old) calls.now }
-        requires calls { All IsFinishCall calls.now }
+        requires calls { AreFinishCalls (sights self.old) calls.now }
         requires empty { out.old.items ≡ [] }
         requires room { length calls.now ≤ vec_capacity out.old }
         ensures each { EachAnswer StampTold calls.now out.new.items }
+        ensures told { EachTold (FinishAnswer alone) calls.now out.new.items (sights self.old) (sights self.new) }
+        ensures untouched { Others calls.now (sights self.old) (sights self.new) }
+        ensures headers { KeepHeaders (sights self.old) (sights self.new) }
         ensures capacity { vec_capacity out.new ≡ vec_capacity out.old }
         ensures count { count self.new ≡ count self.old }
-        ensures later { (n : ℕ) → faults self.old n ≤ faults self.new n };
+        ensures later { (n : ℕ) → faults self.old n ≤ faults self.new n }
+        ensures holds { holds self.old → holds self.new };
 
     fn forget<G: Gate>(
         &mut self,
@@ -155,13 +194,17 @@ pub trait PortSet {
         gate: &G,
     )
         requires shards { AreShards shard (count self.old) calls.now }
-        requires calls { All IsForgetCall calls.now }
+        requires calls { AreForgetCalls (sights self.old) calls.now }
         requires empty { out.old.items ≡ [] }
         requires room { length calls.now ≤ vec_capacity out.old }
         ensures each { EachAnswer StampTold calls.now out.new.items }
+        ensures told { EachTold (ForgetAnswer alone) calls.now out.new.items (sights self.old) (sights self.new) }
+        ensures untouched { Others calls.now (sights self.old) (sights self.new) }
+        ensures headers { KeepHeaders (sights self.old) (sights self.new) }
         ensures capacity { vec_capacity out.new ≡ vec_capacity out.old }
         ensures count { count self.new ≡ count self.old }
-        ensures later { (n : ℕ) → faults self.old n ≤ faults self.new n };
+        ensures later { (n : ℕ) → faults self.old n ≤ faults self.new n }
+        ensures holds { holds self.old → holds self.new };
 }
 
 /// What a lane speaks to: the shards, and the log of its coordinator.

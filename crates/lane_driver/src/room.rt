@@ -1,7 +1,7 @@
 // The memory of a batch.
 ghost use Rattle.std.specs.Prelude.{◌≡◌, ◌≤◌, ◌<◌, ◌^◌, [], length, IfOk, IsTrue, All};
 ghost use Rattle.std.specs.Vec.{vec_capacity, vec_len};
-ghost use Rattle.lane_driver.specs.Calls.{shard};
+ghost use Rattle.lane_driver.specs.Calls.{shard, AreParts};
 ghost use Rattle.lane_driver.specs.Told.{AreShards};
 ghost use Rattle.lane_driver.specs.Rooms.{IsBatchRoom, IsLaterRoom};
 
@@ -79,7 +79,8 @@ impl BatchRoom {
     /// The parts of these transactions, and the memory of their batch.
     pub fn take(alloc: Global, shape: &Shape, txs: &[CompactTx]) -> Result<BatchRoom, AllocError>
         requires { length txs.now < 2 ^ 32 }
-        ensures { IfOk result (IsBatchRoom shape.now.shards (length txs.now)) }
+        ensures room { IfOk result (IsBatchRoom shape.now.shards (length txs.now)) }
+        ensures parts { IfOk result (λ r. AreParts shape.now txs.now r.parts) }
     {
         let parts = split(alloc, txs, shape)?;
         if !is_division(parts.as_slice(), shape.shards(), txs.len()) {

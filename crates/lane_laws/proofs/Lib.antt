@@ -17,3 +17,4 @@ pub mod Stops
 pub mod Laning
 pub mod Leaving
 pub mod Resumes
+pub mod PartCalls

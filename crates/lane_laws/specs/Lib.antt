@@ -4,3 +4,4 @@ pub mod Answers
 pub mod Batches
 pub mod Traces
 pub mod Resuming
+pub mod Parts

@@ -1,16 +1,58 @@
--- The coordinator at a place.
-use Rattle.std.proofs.Common.{◌≡◌, ◌<◌, ◌*◌, ℕ, zero, suc, List, [], ◌∷◌, length, get_or, refl, arith}
-use Rattle.coord_log.specs.Logs.{LogOf}
-use Rattle.node_ports.specs.Nodes.{log_at}
+-- The node at a place, when one of them has turned into another.
+use Rattle.std.proofs.Common.{inl, inr, ◌≡◌, ◌≢◌, ◌<◌, ◌≤◌, ◌*◌, ℕ, zero, suc, List, [], ◌∷◌, length, get_or, set, refl, sym, ap, ◌∙◌, subst, arith}
+use Rattle.std.specs.List.{All}
+use Rattle.std.proofs.lemmas.Bool.{cases_eq}
+use Rattle.std.proofs.lemmas.List.Elements.{All-set}
+use Rattle.cbdc_model.specs.Sights.{Sight}
+use Rattle.node_ports.specs.Nodes.{sight_at}
 
--- where it has a lane, there is one
-pub log_inside : (xs : List LogOf) (at lane : ℕ) → lane < (log_at xs at).header.shape.coordinators * (log_at xs at).header.shape.lanes → at < length xs
-log_inside [] at lane within = omega (arith, within)
-log_inside (x ∷ xs) zero lane within = omega arith
-log_inside (x ∷ xs) (suc at) lane within = omega (arith, log_inside xs at lane within)
+-- where a ledger has a lane, there is a node
+pub inside : {N : Type 0} (f : N → Sight) (xs : List N) (at lane : ℕ) → lane < (sight_at f xs at).header.shape.coordinators * (sight_at f xs at).header.shape.lanes → at < length xs
+inside f [] at lane within = omega (arith, within)
+inside f (x ∷ xs) zero lane within = omega arith
+inside f (x ∷ xs) (suc at) lane within = omega (arith, inside f xs at lane within)
 
--- it is found whatever stands for none
-pub same_at : {N : Type 0} (xs : List N) (at : ℕ) (d e : N) → at < length xs → get_or xs at d ≡ get_or xs at e
-same_at [] at d e within = absurd (omega (arith, within))
-same_at (x ∷ xs) zero d e within = refl
-same_at (x ∷ xs) (suc at) d e within = same_at xs at d e (omega (arith, within))
+found : {N : Type 0} (f : N → Sight) (xs : List N) (at : ℕ) (d : N) → at < length xs → sight_at f xs at ≡ f (get_or xs at d)
+found f [] at d within = absurd (omega (arith, within))
+found f (x ∷ xs) zero d within = refl
+found f (x ∷ xs) (suc at) d within = found f xs at d (omega (arith, within))
+
+set_here : {N : Type 0} (f : N → Sight) (xs : List N) (at : ℕ) (y : N) → at < length xs → sight_at f (set xs at y) at ≡ f y
+set_here f [] at y within = absurd (omega (arith, within))
+set_here f (x ∷ xs) zero y within = refl
+set_here f (x ∷ xs) (suc at) y within = set_here f xs at y (omega (arith, within))
+
+pub set_elsewhere : {N : Type 0} (f : N → Sight) (xs : List N) (at : ℕ) (y : N) (n : ℕ) → n ≢ at → sight_at f (set xs at y) n ≡ sight_at f xs n
+set_elsewhere f [] at y n ne = refl
+set_elsewhere f (x ∷ xs) zero y zero ne = absurd (ne refl)
+set_elsewhere f (x ∷ xs) zero y (suc n) ne = refl
+set_elsewhere f (x ∷ xs) (suc at) y zero ne = refl
+set_elsewhere f (x ∷ xs) (suc at) y (suc n) ne = set_elsewhere f xs at y n (λ e. ne (ap (λ m. suc m) e))
+
+-- a node that is there turns from x to y
+module _ {N : Type 0} (f : N → Sight) (xs : List N) (at : ℕ) (x y : N) (within : at < length xs) (is : x ≡ get_or xs at x) where
+  pub old_is : sight_at f xs at ≡ f x
+  old_is = found f xs at x within ∙ ap f (sym is)
+
+  pub new_is : sight_at f (set xs at y) at ≡ f y
+  new_is = set_here f xs at y within
+
+  pub turned : (P : Sight → Sight → Type 0) → P (f x) (f y) → P (sight_at f xs at) (sight_at f (set xs at y) at)
+  turned P h = subst (λ a. P a (sight_at f (set xs at y) at)) (sym old_is) (subst (λ b. P (f x) b) (sym new_is) h)
+
+  at_or_not : (P : ℕ → Type 0) → P at → ((n : ℕ) → n ≢ at → P n) → (n : ℕ) → P n
+  at_or_not P here there n = elim (cases_eq n at) [
+    | inl e ↦ subst P (sym e) here
+    | inr ne ↦ there n ne
+  ]
+
+  pub turned_faults : (f x).faults ≤ (f y).faults → (n : ℕ) → (sight_at f xs n).faults ≤ (sight_at f (set xs at y) n).faults
+  turned_faults le = at_or_not (λ n. (sight_at f xs n).faults ≤ (sight_at f (set xs at y) n).faults) (turned (λ a b. a.faults ≤ b.faults) le)
+      (λ n ne. let e = ap (λ a. a.faults) (set_elsewhere f xs at y n ne) in omega (arith, e))
+
+  pub turned_headers : (f y).header ≡ (f x).header → (n : ℕ) → (sight_at f (set xs at y) n).header ≡ (sight_at f xs n).header
+  turned_headers same = at_or_not (λ n. (sight_at f (set xs at y) n).header ≡ (sight_at f xs n).header) (turned (λ a b. b.header ≡ a.header) same)
+      (λ n ne. ap (λ a. a.header) (set_elsewhere f xs at y n ne))
+
+  pub turned_held : (P : N → Type 0) → (P x → P y) → All P xs → All P (set xs at y)
+  turned_held P keeps all = All-set P xs at y (keeps (subst P (sym is) (all at x within))) all

@@ -1,9 +1,13 @@
 -- Replies of shards that rise, in the words of the lane and of the coordinator.
-use Rattle.std.proofs.Common.{◌≡◌, ◌<◌, ℕ, suc, List, [], ◌∷◌, arith}
+use Rattle.std.proofs.Common.{◌<◌, ℕ, suc, List, [], ◌∷◌, arith}
 use Rattle.std.specs.List.{All}
-use Rattle.std.proofs.lemmas.List.Elements.{All-head, All-tail}
+use Rattle.std.proofs.lemmas.List.Elements.{All-head, All-tail, All-weaker}
 use Rattle.cbdc_types.specs.declared.batch.ShardReplies.{ShardReplies}
+use Rattle.cbdc_model.specs.Records.{Shape, Reply, Held, Missing, Taken}
+use Rattle.cbdc_model.specs.Grammar.{IsReply}
 use Rattle.lane_driver.specs.Calls.{IsRising, AllAbove}
+use Rattle.lane_driver.specs.Told.{AreShards}
+use Rattle.coord_core.specs.Hashes.{NamesBatch, AllNameBatches}
 use Rattle.coord_core.specs.Decided.{RisesBelow, AllEarlier}
 
 -- the first is not below
@@ -27,3 +31,16 @@ begins_low (r ∷ rs) = omega arith
 pub all_earlier : (limit : ℕ) (rs : List ShardReplies) → All (λ r. r.stamp < limit) rs → AllEarlier limit rs
 all_earlier limit [] all = tt
 all_earlier limit (r ∷ rs) all = (All-head (λ r. r.stamp < limit) r rs all, all_earlier limit rs (All-tail (λ r. r.stamp < limit) r rs all))
+
+pub rises : (shards : ℕ) (rs : List ShardReplies) → AreShards (λ r. r.shard) shards rs → RisesBelow 0 shards rs
+rises shards rs are = rises_below 0 shards rs (begins_low rs) are.0 are.1
+
+names_one : (K : Shape) (r : Reply) → IsReply K r → NamesBatch K r
+names_one K Held is = tt
+names_one K (Missing x) is = tt
+names_one K (Taken x by) is = is.1
+
+pub all_name : (K : Shape) (rs : List ShardReplies) → All (λ r. All (IsReply K) r.replies) rs → AllNameBatches K rs
+all_name K [] all = tt
+all_name K (r ∷ rs) all =
+    (All-weaker (IsReply K) (NamesBatch K) (names_one K) r.replies (All-head (λ r. All (IsReply K) r.replies) r rs all), all_name K rs (All-tail (λ r. All (IsReply K) r.replies) r rs all))

@@ -1,29 +1,49 @@
 -- Nodes by their places in a list.
-use Rattle.std.specs.Prelude.{ℕ, zero, suc, List, [], ◌∷◌, None, get_or}
-use Rattle.cbdc_model.specs.Records.{Header, txs_of}
+use Rattle.std.specs.Prelude.{ℕ, zero, suc, List, [], ◌∷◌, Option, None, All}
+use Rattle.cbdc_model.specs.Records.{txs_of}
 use Rattle.cbdc_model.specs.Slots.{slot}
-use Rattle.coord_core.specs.Stands.{batch_of}
+use Rattle.cbdc_model.specs.Due.{open_batch}
+use Rattle.cbdc_model.specs.After.{IsJournal}
+use Rattle.cbdc_model.specs.Sights.{Sight}
 use Rattle.lane_driver.specs.Told.{KeepsOthers}
-use Rattle.coord_log.specs.Logs.{LogOf}
+use Rattle.coord_log.specs.Logs.{LogOf, HoldsJournal as HoldsLog}
+use Rattle.shard_node.specs.Shards.{ShardOf, HoldsJournal as HoldsShard}
 
--- how often the disk of the node at a place has failed; 0 where there is none
-abbrev pub faults_at : {N : Type 0} → (N → ℕ) → List N → ℕ → ℕ
-faults_at f [] n = 0
-faults_at f (x ∷ xs) zero = f x
-faults_at f (x ∷ xs) (suc n) = faults_at f xs n
+-- a node that isn't there: its ledger has no lanes
+abbrev pub no_node : Sight
+no_node = record {
+  header = record { node = 0; shape = record { shards = 0; coordinators = 0; lanes = 0; batch = 0 }; genesis = [] };
+  seen = [];
+  flight = None;
+  faults = 0;
+  opened = 0;
+  capacity = 0;
+}
 
--- the header of no ledger: it has no lanes
-abbrev pub no_header : Header
-no_header = record { node = 0; shape = record { shards = 0; coordinators = 0; lanes = 0; batch = 0 }; genesis = [] }
+-- what is seen of the node at a place
+abbrev pub sight_at : {N : Type 0} → (N → Sight) → List N → ℕ → Sight
+sight_at sight [] n = no_node
+sight_at sight (x ∷ xs) zero = sight x
+sight_at sight (x ∷ xs) (suc n) = sight_at sight xs n
 
--- the log of no ledger
-abbrev pub no_log : LogOf
-no_log = record { header = no_header; journal = []; faults = 0; broken = None; used = 0; capacity = 0 }
+-- the coordinator's journal is one of its header, and its disk holds it
+pub record IsLogHeld {D : Type 0} (content : D → Option (List ℕ)) (images : D → List ℕ → Type 0) (l : LogOf D) : Type 0 where
+  pub journal : IsJournal l.header l.journal
+  pub held : HoldsLog content images l
 
--- the coordinator at a place
-abbrev pub log_at : List LogOf → ℕ → LogOf
-log_at logs at = get_or logs at no_log
+-- the shard's
+pub record IsShardHeld {D : Type 0} (content : D → Option (List ℕ)) (images : D → List ℕ → Type 0) (s : ShardOf D) : Type 0 where
+  pub journal : IsJournal s.header s.journal
+  pub held : HoldsShard content images s
 
--- its other lanes are as before
-abbrev pub KeepsRest : LogOf → LogOf → ℕ → Type 0
-KeepsRest old new lane = KeepsOthers old.header lane (λ l. (slot old.journal l).phase) (λ l. (slot new.journal l).phase) (λ l. txs_of old.journal (batch_of old.journal l)) (λ l. txs_of new.journal (batch_of new.journal l))
+-- all of them
+abbrev pub AreLogsHeld : {D : Type 0} → (D → Option (List ℕ)) → (D → List ℕ → Type 0) → List (LogOf D) → Type 0
+AreLogsHeld content images ls = All (IsLogHeld content images) ls
+
+abbrev pub AreShardsHeld : {D : Type 0} → (D → Option (List ℕ)) → (D → List ℕ → Type 0) → List (ShardOf D) → Type 0
+AreShardsHeld content images ss = All (IsShardHeld content images) ss
+
+-- the coordinator's other lanes are as before
+abbrev pub KeepsRest : Sight → Sight → ℕ → Type 0
+KeepsRest old new lane =
+    KeepsOthers old.header lane (λ l. (slot old.seen l).phase) (λ l. (slot new.seen l).phase) (λ l. txs_of old.seen (open_batch old.seen l)) (λ l. txs_of new.seen (open_batch new.seen l))

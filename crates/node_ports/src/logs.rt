@@ -1,12 +1,16 @@
 // The coordinators of a ledger.
-ghost use Rattle.std.specs.Prelude.{◌≡◌, ◌≤◌, ◌<◌, ◌^◌, [], ℕ, length, vec_capacity, IfOk, OnOk};
-ghost use Rattle.cbdc_model.specs.Grammar.{HasSize};
-ghost use Rattle.cbdc_model.specs.Records.{txs_of};
+ghost use Rattle.std.specs.Prelude.{◌≡◌, ◌≢◌, ◌≤◌, ℕ, true, false, [], length, vec_capacity, All, IfOk, IfErr, OnOk};
+ghost use Rattle.cbdc_model.specs.Grammar.{HasSize, IsCompact};
+ghost use Rattle.cbdc_model.specs.Records.{txs_of, outcomes_of};
+ghost use Rattle.cbdc_model.specs.Due.{open_batch, prepare_due, discard_due, done_due};
 ghost use Rattle.cbdc_model.specs.Slots.{slot, Idle, InPrepare, InCommit, InDiscard};
-ghost use Rattle.coord_core.specs.Stands.{batch_of};
-ghost use Rattle.coord_core.specs.Lanes.{IsOwn};
+ghost use Rattle.cbdc_model.specs.Sights.{Told};
+ghost use Rattle.lane_laws.specs.Answers.{DecideAnswer};
 ghost use Rattle.lane_driver.specs.Told.{IsLane, IsPrepared, IsStamp, AreReplies};
-ghost use Rattle.node_ports.specs.Nodes.{log_at, faults_at, KeepsRest};
+ghost use Rattle.lane_driver.specs.Faults.{kind_of};
+ghost use Rattle.lane_driver.specs.Causes.{IsLogCause};
+ghost use Rattle.coord_log.specs.Logs.{sight};
+ghost use Rattle.node_ports.specs.Nodes.{sight_at, KeepsRest, IsLogHeld, AreLogsHeld};
 
 use cbdc_types::{BatchId, CompactTx, LaneId, NodeFault, NodeId, Outcome, Replies, Stamp};
 use coord_log::CoordLog;
@@ -56,13 +60,17 @@ fn prepare_at<D: Disk>(
     requires home { IsLane log.old.header lane }
     requires idle { (slot log.old.journal lane).phase ≡ Idle }
     requires size { HasSize log.old.header.shape txs.now }
-    ensures prepared { IfOk result (IsPrepared lane) }
+    requires limits { All IsCompact txs.now }
+    ensures told { Told true lane true (prepare_due log.old.header.shape log.old.capacity lane txs.now) (sight log.old) (sight log.new) result }
+    ensures prepared { IfOk result (IsPrepared log.old.header.shape lane) }
     ensures phase { OnOk result ((slot log.new.journal lane).phase ≡ InPrepare) }
-    ensures txs { OnOk result (txs_of log.new.journal (batch_of log.new.journal lane) ≡ txs.now) }
-    ensures others { OnOk result (KeepsRest log.old log.new lane) }
+    ensures txs { OnOk result (txs_of log.new.journal (open_batch log.new.journal lane) ≡ txs.now) }
+    ensures others { KeepsRest (sight log.old) (sight log.new) lane }
     ensures header { log.new.header ≡ log.old.header }
     ensures later { log.old.faults ≤ log.new.faults }
+    ensures holds { IsLogHeld D.content D.images log.old → IsLogHeld D.content D.images log.new }
 {
+    let _header = log.header();
     log.prepare(lane, txs)
 }
 
@@ -77,14 +85,19 @@ fn decide_at<D: Disk>(
     requires phase { (slot log.old.journal lane).phase ≡ InPrepare }
     requires replies { AreReplies log.old.header.shape replies.now }
     requires empty { out.old.items ≡ [] }
-    requires room { length (txs_of log.old.journal (batch_of log.old.journal lane)) ≤ vec_capacity out.old }
+    requires room { length (txs_of log.old.journal (open_batch log.old.journal lane)) ≤ vec_capacity out.old }
+    ensures told { DecideAnswer true lane replies.now (sight log.old) (sight log.new) result }
+    ensures fault { IfErr result (λ f. IsLogCause (kind_of f) (sight log.new)) }
     ensures stamp { IfOk result IsStamp }
     ensures phase { OnOk result ((slot log.new.journal lane).phase ≡ InCommit) }
-    ensures outcomes { OnOk result (length out.new.items ≡ length (txs_of log.old.journal (batch_of log.old.journal lane))) }
-    ensures others { OnOk result (KeepsRest log.old log.new lane) }
+    ensures outcomes { OnOk result (length out.new.items ≡ length (txs_of log.old.journal (open_batch log.old.journal lane))) }
+    ensures written { OnOk result (out.new.items ≡ outcomes_of log.new.journal (open_batch log.new.journal lane)) }
+    ensures others { KeepsRest (sight log.old) (sight log.new) lane }
     ensures header { log.new.header ≡ log.old.header }
     ensures later { log.old.faults ≤ log.new.faults }
+    ensures holds { IsLogHeld D.content D.images log.old → IsLogHeld D.content D.images log.new }
 {
+    let _header = log.header();
     log.decide(lane, replies, out)
 }
 
@@ -97,12 +110,15 @@ fn discard_at<D: Disk>(
     requires home { IsLane log.old.header lane }
     requires phase { (slot log.old.journal lane).phase ≡ InCommit }
     requires cause { IsStamp cause }
+    ensures told { Told true lane false (discard_due lane cause) (sight log.old) (sight log.new) result }
     ensures stamp { IfOk result IsStamp }
     ensures phase { OnOk result ((slot log.new.journal lane).phase ≡ InDiscard) }
-    ensures others { OnOk result (KeepsRest log.old log.new lane) }
+    ensures others { KeepsRest (sight log.old) (sight log.new) lane }
     ensures header { log.new.header ≡ log.old.header }
     ensures later { log.old.faults ≤ log.new.faults }
+    ensures holds { IsLogHeld D.content D.images log.old → IsLogHeld D.content D.images log.new }
 {
+    let _header = log.header();
     log.discard(lane, cause)
 }
 
@@ -111,25 +127,36 @@ fn done_at<D: Disk>(log: &mut CoordLog<D>, lane: LaneId, cause: Stamp) -> Result
     requires home { IsLane log.old.header lane }
     requires phase { (slot log.old.journal lane).phase ≡ InDiscard }
     requires cause { IsStamp cause }
+    ensures told { Told true lane false (done_due lane cause) (sight log.old) (sight log.new) result }
     ensures stamp { IfOk result IsStamp }
     ensures phase { OnOk result ((slot log.new.journal lane).phase ≡ Idle) }
-    ensures others { OnOk result (KeepsRest log.old log.new lane) }
+    ensures others { KeepsRest (sight log.old) (sight log.new) lane }
     ensures header { log.new.header ≡ log.old.header }
     ensures later { log.old.faults ≤ log.new.faults }
+    ensures holds { IsLogHeld D.content D.images log.old → IsLogHeld D.content D.images log.new }
 {
+    let _header = log.header();
     log.done(lane, cause)
 }
 
 impl<'r, W: Wait, D: Disk> LogPort for NodeLogs<'r, W, D> {
-    ghost header = { λ p. (log_at p.logs.items p.at).header };
+    ghost sights = { λ p n. sight_at sight p.logs.items n };
 
-    ghost phase = { λ p lane. (slot (log_at p.logs.items p.at).journal lane).phase };
+    ghost at = { λ p. p.at };
 
-    ghost open_txs = { λ p lane. txs_of (log_at p.logs.items p.at).journal (batch_of (log_at p.logs.items p.at).journal lane) };
+    ghost alone = { true };
+
+    ghost header = { λ p. (sight_at sight p.logs.items p.at).header };
+
+    ghost phase = { λ p lane. (slot (sight_at sight p.logs.items p.at).seen lane).phase };
+
+    ghost open_txs = { λ p lane. txs_of (sight_at sight p.logs.items p.at).seen (open_batch (sight_at sight p.logs.items p.at).seen lane) };
 
     ghost count = { λ p. length p.logs.items };
 
-    ghost faults = { λ p n. faults_at (λ x. x.faults) p.logs.items n };
+    ghost faults = { λ p n. (sight_at sight p.logs.items n).faults };
+
+    ghost holds = { λ p. AreLogsHeld D.content D.images p.logs.items };
 
     fn prepare<G: Gate>(
         &mut self,

@@ -1,14 +1,17 @@
 // The shards of a ledger.
-ghost use Rattle.std.specs.Prelude.{◌≡◌, ◌≤◌, ◌<◌, ◌^◌, ℕ, length, IfOk};
-ghost use Rattle.lane_driver.specs.Told.{IsStamp, LockTold, StampTold, EachAnswer};
-ghost use Rattle.node_ports.specs.Nodes.{faults_at};
+ghost use Rattle.std.specs.Prelude.{◌≡◌, ◌≢◌, ◌≤◌, ◌<◌, ℕ, true, false, length, IfOk, All};
+ghost use Rattle.cbdc_model.specs.Calls.{IsLockCall, IsFinishCall, IsForgetCall};
+ghost use Rattle.cbdc_model.specs.Grammar.{IsReply};
+ghost use Rattle.cbdc_model.specs.Due.{lock_due, finish_due, forget_due};
+ghost use Rattle.cbdc_model.specs.Sights.{Told};
+ghost use Rattle.lane_driver.specs.Told.{IsStamp, KeepHeaders};
+ghost use Rattle.shard_node.specs.Shards.{sight_of};
+ghost use Rattle.node_ports.specs.Nodes.{sight_at, IsShardHeld, AreShardsHeld};
 
-use cbdc_types::{
-    FinishCall, ForgetCall, LaneId, LockCall, NodeFault, NodeId, Refused, Replied, Stamp,
-};
+use cbdc_types::{FinishCall, ForgetCall, LaneId, LockCall, NodeFault, NodeId, Replied, Stamp};
 use lane_driver::PortSet;
 use outside::{Disk, Gate, Point, When};
-use shard_node::{ShardNode, is_finish_call, is_forget_call, is_lock_call};
+use shard_node::ShardNode;
 use std::sync::Wait;
 
 /// The shards of a ledger for one lane: the first of them is this node.
@@ -27,62 +30,41 @@ const FINISH: u8 = 3;
 
 const FORGET: u8 = 4;
 
-// The answer to a call that no lane of the ledger makes.
-const NO_CALL: NodeFault = NodeFault::Refused(Refused::NotLocked { kept: 0 });
-
-// A stamp that an answer may carry.
-fn checked(stamp: Stamp) -> Result<Stamp, NodeFault>
-    ensures { IfOk result (λ t. (t ≡ stamp) × IsStamp t) }
-{
-    if stamp.0 >= 1 << 63 {
-        return Err(NodeFault::Refused(Refused::EarlyStamp { kept: stamp }));
-    }
-    Ok(stamp)
-}
-
+// Makes a call at a shard.
 fn lock_at<D: Disk>(node: &mut ShardNode<D>, call: &LockCall) -> Result<Replied, NodeFault>
-    requires { IsStamp call.now.cause }
-    ensures told { IfOk result (λ a. IsStamp a.stamp) }
+    requires { IsLockCall node.old.header call.now }
+    ensures answer { Told true call.now.batch.lane true (lock_due node.old.header.shape (D.limit node.old.disk) call.now) (sight_of D.count D.limit node.old) (sight_of D.count D.limit node.new) result }
+    ensures told { IfOk result (λ a. IsStamp a.stamp × All (IsReply node.old.header.shape) a.replies) }
+    ensures header { node.new.header ≡ node.old.header }
     ensures later { D.count node.old.disk ≤ D.count node.new.disk }
+    ensures holds { IsShardHeld D.content D.images node.old → IsShardHeld D.content D.images node.new }
 {
-    if !is_lock_call(node.header(), call) {
-        return Err(NO_CALL);
-    }
-    match node.lock(call) {
-        Ok(replied) => match checked(replied.stamp) {
-            Ok(_) => Ok(replied),
-            Err(fault) => Err(fault),
-        },
-        Err(fault) => Err(fault),
-    }
+    let _header = node.header();
+    node.lock(call)
 }
 
 fn finish_at<D: Disk>(node: &mut ShardNode<D>, call: &FinishCall) -> Result<Stamp, NodeFault>
-    requires { IsStamp call.now.cause }
+    requires { IsFinishCall node.old.header call.now }
+    ensures answer { Told true call.now.batch.lane false (finish_due call.now) (sight_of D.count D.limit node.old) (sight_of D.count D.limit node.new) result }
     ensures told { IfOk result IsStamp }
+    ensures header { node.new.header ≡ node.old.header }
     ensures later { D.count node.old.disk ≤ D.count node.new.disk }
+    ensures holds { IsShardHeld D.content D.images node.old → IsShardHeld D.content D.images node.new }
 {
-    if !is_finish_call(node.header(), call) {
-        return Err(NO_CALL);
-    }
-    match node.finish(call) {
-        Ok(stamp) => checked(stamp),
-        Err(fault) => Err(fault),
-    }
+    let _header = node.header();
+    node.finish(call)
 }
 
 fn forget_at<D: Disk>(node: &mut ShardNode<D>, call: &ForgetCall) -> Result<Stamp, NodeFault>
-    requires { IsStamp call.now.cause }
+    requires { IsForgetCall node.old.header call.now }
+    ensures answer { Told true call.now.batch.lane false (forget_due call.now) (sight_of D.count D.limit node.old) (sight_of D.count D.limit node.new) result }
     ensures told { IfOk result IsStamp }
+    ensures header { node.new.header ≡ node.old.header }
     ensures later { D.count node.old.disk ≤ D.count node.new.disk }
+    ensures holds { IsShardHeld D.content D.images node.old → IsShardHeld D.content D.images node.new }
 {
-    if !is_forget_call(node.header(), call) {
-        return Err(NO_CALL);
-    }
-    match node.forget(call) {
-        Ok(stamp) => checked(stamp),
-        Err(fault) => Err(fault),
-    }
+    let _header = node.header();
+    node.forget(call)
 }
 
 impl<'r, W: Wait, D: Disk> NodeShards<'r, W, D> {
@@ -106,10 +88,14 @@ impl<'r, W: Wait, D: Disk> NodeShards<'r, W, D> {
         gate: &G,
     ) -> Result<Replied, NodeFault>
         requires place { shard < length self.old.nodes.items }
-        requires cause { IsStamp call.now.cause }
-        ensures told { IfOk result (λ a. IsStamp a.stamp) }
+        requires call { IsLockCall (sight_at (sight_of D.count D.limit) self.old.nodes.items shard).header call.now }
+        ensures answer { Told true call.now.batch.lane true (lock_due (sight_at (sight_of D.count D.limit) self.old.nodes.items shard).header.shape (sight_at (sight_of D.count D.limit) self.old.nodes.items shard).capacity call.now) (sight_at (sight_of D.count D.limit) self.old.nodes.items shard) (sight_at (sight_of D.count D.limit) self.new.nodes.items shard) result }
+        ensures told { IfOk result (λ a. IsStamp a.stamp × All (IsReply (sight_at (sight_of D.count D.limit) self.old.nodes.items shard).header.shape) a.replies) }
+        ensures elsewhere { (n : ℕ) → n ≢ shard → sight_at (sight_of D.count D.limit) self.new.nodes.items n ≡ sight_at (sight_of D.count D.limit) self.old.nodes.items n }
+        ensures headers { KeepHeaders (sight_at (sight_of D.count D.limit) self.old.nodes.items) (sight_at (sight_of D.count D.limit) self.new.nodes.items) }
         ensures count { length self.new.nodes.items ≡ length self.old.nodes.items }
-        ensures later { (n : ℕ) → faults_at (λ x. D.count x.disk) self.old.nodes.items n ≤ faults_at (λ x. D.count x.disk) self.new.nodes.items n }
+        ensures later { (n : ℕ) → (sight_at (sight_of D.count D.limit) self.old.nodes.items n).faults ≤ (sight_at (sight_of D.count D.limit) self.new.nodes.items n).faults }
+        ensures holds { AreShardsHeld D.content D.images self.old.nodes.items → AreShardsHeld D.content D.images self.new.nodes.items }
     {
         self.pass(gate, shard, LOCK, When::Before);
         self.pass(gate, shard, LOCK, When::Inside);
@@ -125,10 +111,14 @@ impl<'r, W: Wait, D: Disk> NodeShards<'r, W, D> {
         gate: &G,
     ) -> Result<Stamp, NodeFault>
         requires place { shard < length self.old.nodes.items }
-        requires cause { IsStamp call.now.cause }
+        requires call { IsFinishCall (sight_at (sight_of D.count D.limit) self.old.nodes.items shard).header call.now }
+        ensures answer { Told true call.now.batch.lane false (finish_due call.now) (sight_at (sight_of D.count D.limit) self.old.nodes.items shard) (sight_at (sight_of D.count D.limit) self.new.nodes.items shard) result }
         ensures told { IfOk result IsStamp }
+        ensures elsewhere { (n : ℕ) → n ≢ shard → sight_at (sight_of D.count D.limit) self.new.nodes.items n ≡ sight_at (sight_of D.count D.limit) self.old.nodes.items n }
+        ensures headers { KeepHeaders (sight_at (sight_of D.count D.limit) self.old.nodes.items) (sight_at (sight_of D.count D.limit) self.new.nodes.items) }
         ensures count { length self.new.nodes.items ≡ length self.old.nodes.items }
-        ensures later { (n : ℕ) → faults_at (λ x. D.count x.disk) self.old.nodes.items n ≤ faults_at (λ x. D.count x.disk) self.new.nodes.items n }
+        ensures later { (n : ℕ) → (sight_at (sight_of D.count D.limit) self.old.nodes.items n).faults ≤ (sight_at (sight_of D.count D.limit) self.new.nodes.items n).faults }
+        ensures holds { AreShardsHeld D.content D.images self.old.nodes.items → AreShardsHeld D.content D.images self.new.nodes.items }
     {
         self.pass(gate, shard, FINISH, When::Before);
         self.pass(gate, shard, FINISH, When::Inside);
@@ -144,10 +134,14 @@ impl<'r, W: Wait, D: Disk> NodeShards<'r, W, D> {
         gate: &G,
     ) -> Result<Stamp, NodeFault>
         requires place { shard < length self.old.nodes.items }
-        requires cause { IsStamp call.now.cause }
+        requires call { IsForgetCall (sight_at (sight_of D.count D.limit) self.old.nodes.items shard).header call.now }
+        ensures answer { Told true call.now.batch.lane false (forget_due call.now) (sight_at (sight_of D.count D.limit) self.old.nodes.items shard) (sight_at (sight_of D.count D.limit) self.new.nodes.items shard) result }
         ensures told { IfOk result IsStamp }
+        ensures elsewhere { (n : ℕ) → n ≢ shard → sight_at (sight_of D.count D.limit) self.new.nodes.items n ≡ sight_at (sight_of D.count D.limit) self.old.nodes.items n }
+        ensures headers { KeepHeaders (sight_at (sight_of D.count D.limit) self.old.nodes.items) (sight_at (sight_of D.count D.limit) self.new.nodes.items) }
         ensures count { length self.new.nodes.items ≡ length self.old.nodes.items }
-        ensures later { (n : ℕ) → faults_at (λ x. D.count x.disk) self.old.nodes.items n ≤ faults_at (λ x. D.count x.disk) self.new.nodes.items n }
+        ensures later { (n : ℕ) → (sight_at (sight_of D.count D.limit) self.old.nodes.items n).faults ≤ (sight_at (sight_of D.count D.limit) self.new.nodes.items n).faults }
+        ensures holds { AreShardsHeld D.content D.images self.old.nodes.items → AreShardsHeld D.content D.images self.new.nodes.items }
     {
         self.pass(gate, shard, FORGET, When::Before);
         self.pass(gate, shard, FORGET, When::Inside);
@@ -158,9 +152,15 @@ impl<'r, W: Wait, D: Disk> NodeShards<'r, W, D> {
 }
 
 impl<'r, W: Wait, D: Disk> PortSet for NodeShards<'r, W, D> {
+    ghost sights = { λ p n. sight_at (sight_of D.count D.limit) p.nodes.items n };
+
+    ghost alone = { true };
+
     ghost count = { λ p. length p.nodes.items };
 
-    ghost faults = { λ p n. faults_at (λ x. D.count x.disk) p.nodes.items n };
+    ghost faults = { λ p n. (sight_at (sight_of D.count D.limit) p.nodes.items n).faults };
+
+    ghost holds = { λ p. AreShardsHeld D.content D.images p.nodes.items };
 
     fn lock<G: Gate>(
         &mut self,

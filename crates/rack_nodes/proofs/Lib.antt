@@ -1,2 +1,9 @@
 pub mod Each
 pub mod Range
+pub mod Wholes
+pub mod Told
+pub mod Closing
+pub mod Firsts
+pub mod Backs
+pub mod Blanks
+pub mod Refusals

@@ -1,6 +1,7 @@
 // Putting disks back.
 ghost use Rattle.std.specs.Prelude.{◌≡◌, ◌^◌, ◌+◌, ◌≤◌, ◌<◌, ℕ, length};
 ghost use Rattle.rack_nodes.specs.Places.{EachFrom, MayReturn, IsOutside};
+ghost use Rattle.rack_nodes.specs.Racked.{OfTold};
 
 use crate::OnDisk;
 use cbdc_types::NodeId;
@@ -9,7 +10,9 @@ use outside::Rack;
 /// Puts the disks of nodes back, the first of which has this place.
 pub fn close_all<R: Rack, N: OnDisk<R::Disk>>(rack: &mut R, first: u32, nodes: Vec<N>)
     requires few { first + length nodes.items < 2 ^ 32 }
-    requires out { EachFrom (MayReturn N.faults (R.can_put rack.old)) first nodes.items }
+    requires out { EachFrom (MayReturn (λ n. R.Disk.count (N.disk_of n)) (R.can_put rack.old)) first nodes.items }
+    ensures closed { EachFrom (λ n x. OfTold (R.held rack.new n) (λ now. now ≡ N.disk_of x)) first nodes.items }
+    ensures others_held { (n : ℕ) → IsOutside first (first + length nodes.items) n → R.held rack.new n ≡ R.held rack.old n }
     ensures back { (n : ℕ) → first ≤ n → n < first + length nodes.items → R.can_take rack.new n }
     ensures others_in { (n : ℕ) → IsOutside first (first + length nodes.items) n → R.can_take rack.old n → R.can_take rack.new n }
     ensures others_out { (n k : ℕ) → IsOutside first (first + length nodes.items) n → R.can_put rack.old n k → R.can_put rack.new n k }

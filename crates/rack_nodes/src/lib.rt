@@ -1,6 +1,7 @@
 //! Opening the nodes of a rack one after another, and putting their disks back.
 #![tactic(auto)]
 
+mod asked;
 mod blank;
 mod close;
 mod first;

@@ -1,57 +1,22 @@
 // Coordinators and shards on the disks of a rack.
 ghost use Rattle.std.specs.Prelude.{◌≡◌, ◌≤◌, ℕ, IfErr, MatchResult};
+ghost use Rattle.std.specs.Option.{option_copied};
 ghost use Rattle.outside.specs.Counts.{Rose};
+ghost use Rattle.outside.specs.Images.{Tells, Leaves};
+ghost use Rattle.record_log.specs.Held.{HasRow};
+ghost use Rattle.coord_log.specs.Opening.{IsGenesis};
+ghost use Rattle.shard_node.specs.Opening.{IsStart};
 ghost use Rattle.rack_nodes.specs.Places.{IsOpening};
+ghost use Rattle.rack_nodes.specs.Asked.{IsCoordinator, IsShardNode};
+ghost use Rattle.rack_nodes.specs.Refused.{IsNoNode, IsNodeRefusal};
 
 use crate::OnDisk;
+use crate::asked::{answer_of, foreign, is_asked};
 use cbdc_types::{Answer, Header, NodeId, NodeOpenFault};
 use coord_log::CoordLog;
 use outside::Disk;
 use shard_node::ShardNode;
 use std::alloc::Global;
-
-// The header that a node of the ledger should have, or of the ledger that it keeps.
-fn asked_of(kept: &Header, node: NodeId, ledger: Option<&Header>) -> Header {
-    let ledger = ledger.unwrap_or(kept);
-    Header {
-        node,
-        shape: ledger.shape,
-        genesis: ledger.genesis,
-    }
-}
-
-// The answer where a node has another header than it should have.
-fn foreign(kept: &Header, node: NodeId, ledger: Option<&Header>) -> Answer
-    ensures { (before now : ℕ) → IsOpening node before now result }
-{
-    Answer::Foreign {
-        node,
-        kept: *kept,
-        asked: asked_of(kept, node, ledger),
-    }
-}
-
-// What a refusal to open a node answers.
-fn answer_of(node: NodeId, fault: NodeOpenFault) -> Answer
-    ensures { (before now : ℕ) → (fault ≡ NodeOpenFault.DiskFault → Rose before now) → IsOpening node before now result }
-{
-    match fault {
-        NodeOpenFault::DiskFault => Answer::DiskFault(node),
-        NodeOpenFault::NotReady | NodeOpenFault::OtherKind => Answer::NotReady(node),
-        NodeOpenFault::Damaged { at } => Answer::Damaged { node, at },
-        NodeOpenFault::Full {
-            used,
-            need,
-            capacity,
-        } => Answer::Full {
-            node,
-            used,
-            need,
-            capacity,
-        },
-        NodeOpenFault::Memory => Answer::Memory,
-    }
-}
 
 // Why a shard's disk is none of the coordinator that is asked for.
 fn shard_instead<D: Disk>(
@@ -60,8 +25,12 @@ fn shard_instead<D: Disk>(
     ledger: Option<&Header>,
     disk: D,
 ) -> (D, Answer)
-    ensures later { D.count disk ≤ D.count result.0 }
+    ensures refusal { Tells (D.content disk) (λ c. HasRow IsGenesis c → IsNoNode IsCoordinator node (option_copied ledger.entry) (D.limit disk) c result.1) }
+    ensures kind { IsNodeRefusal result.1 }
     ensures fault { IsOpening node (D.count disk) (D.count result.0) result.1 }
+    ensures later { D.count disk ≤ D.count result.0 }
+    ensures limit { D.limit result.0 ≡ D.limit disk }
+    ensures leaves { Leaves D.tells_past D.moment D.images_since D.images disk result.0 (D.images disk) }
 {
     match ShardNode::open(alloc, disk) {
         Ok(shard) => {
@@ -79,8 +48,12 @@ fn coordinator_instead<D: Disk>(
     ledger: Option<&Header>,
     disk: D,
 ) -> (D, Answer)
-    ensures later { D.count disk ≤ D.count result.0 }
+    ensures refusal { Tells (D.content disk) (λ c. HasRow IsStart c → IsNoNode IsShardNode node (option_copied ledger.entry) (D.limit disk) c result.1) }
+    ensures kind { IsNodeRefusal result.1 }
     ensures fault { IsOpening node (D.count disk) (D.count result.0) result.1 }
+    ensures later { D.count disk ≤ D.count result.0 }
+    ensures limit { D.limit result.0 ≡ D.limit disk }
+    ensures leaves { Leaves D.tells_past D.moment D.images_since D.images disk result.0 (D.images disk) }
 {
     match CoordLog::open(alloc, disk) {
         Ok(log) => {
@@ -91,13 +64,27 @@ fn coordinator_instead<D: Disk>(
     }
 }
 
-// Whether a node has the header that it should have.
-fn is_asked(kept: &Header, node: NodeId, ledger: Option<&Header>) -> bool {
-    *kept == asked_of(kept, node, ledger)
-}
-
 impl<D: Disk> OnDisk<D> for CoordLog<D> {
-    ghost faults = { λ n. n.faults };
+    ghost use Rattle.coord_log.specs.Logs.{HoldsJournal};
+    ghost use Rattle.coord_log.specs.Opening.{IsCoordJournal};
+    ghost use Rattle.cbdc_model.specs.After.{IsJournal};
+    ghost use Rattle.rack_nodes.specs.Asked.{IsAsked, IsCoordinator};
+    ghost use Rattle.rack_nodes.specs.Refused.{IsNoNode, IsNodeRefusal};
+    ghost use Rattle.std.specs.Prelude.{◌≡◌, None, refl};
+
+    ghost disk_of = { λ n. n.disk };
+
+    ghost opens = { λ n c. IsCoordJournal n.header n.journal c × HoldsJournal D.content D.images n };
+
+    ghost fits = { λ node ledger n. IsAsked node ledger n.header × IsCoordinator n.header × IsJournal n.header n.journal × (n.flight ≡ None) × (n.broken ≡ None) × (n.opened ≡ n.faults) × (n.faults ≡ D.count n.disk) };
+
+    ghost refused = { λ node ledger limit c e. IsNoNode IsCoordinator node ledger limit c e };
+
+    ghost refusals = { λ e. IsNodeRefusal e };
+
+    ghost free = { λ node ledger limit c. (tt, refl) };
+
+    ghost may_fail = { λ node. (tt, tt) };
 
     fn open_disk(
         alloc: Global,
@@ -127,7 +114,26 @@ impl<D: Disk> OnDisk<D> for CoordLog<D> {
 }
 
 impl<D: Disk> OnDisk<D> for ShardNode<D> {
-    ghost faults = { λ n. D.count n.disk };
+    ghost use Rattle.shard_node.specs.Shards.{HoldsJournal};
+    ghost use Rattle.shard_node.specs.Opening.{IsShardJournal};
+    ghost use Rattle.cbdc_model.specs.After.{IsJournal};
+    ghost use Rattle.rack_nodes.specs.Asked.{IsAsked, IsShardNode};
+    ghost use Rattle.rack_nodes.specs.Refused.{IsNoNode, IsNodeRefusal};
+    ghost use Rattle.std.specs.Prelude.{◌≡◌, None, refl};
+
+    ghost disk_of = { λ n. n.disk };
+
+    ghost opens = { λ n c. IsShardJournal n.header n.journal c × HoldsJournal D.content D.images n };
+
+    ghost fits = { λ node ledger n. IsAsked node ledger n.header × IsShardNode n.header × IsJournal n.header n.journal × (n.flight ≡ None) × (n.broken ≡ None) × (n.opened ≡ D.count n.disk) };
+
+    ghost refused = { λ node ledger limit c e. IsNoNode IsShardNode node ledger limit c e };
+
+    ghost refusals = { λ e. IsNodeRefusal e };
+
+    ghost free = { λ node ledger limit c. (tt, refl) };
+
+    ghost may_fail = { λ node. (tt, tt) };
 
     fn open_disk(
         alloc: Global,

@@ -1,7 +1,7 @@
 -- Where the rows of a journal end, and what stands there.
 use Rattle.std.proofs.Common.{◌≡◌, ◌⊎◌, inl, inr, ⊎_elim, ℕ, ◌+◌, ◌<◌, ◌≤◌, ◌^◌, List, [], ◌∷◌, ◌++◌, length, refl, sym, ◌∙◌, ap, subst, arith, rules, length-append, append_assoc, Option, Some, None, Result, Ok, Err}
 use Rattle.std.specs.Global.{Vec}
-use Rattle.std.specs.Prelude.{IfSome, IsSome, IfOk, IfErr, MatchOption}
+use Rattle.std.specs.Prelude.{IfSome, IsSome, IfOk, IfErr, MatchOption, MatchResult}
 use Rattle.std.specs.List.{AllByRecursion}
 use Rattle.std.proofs.lemmas.Bool.{false≢true}
 use Rattle.std.proofs.lemmas.List.Concat.{flat_map-append}
@@ -120,3 +120,7 @@ if_ok (Err e) P Q is step = search rules
 pub if_err : {A E : Type 0} (r : Result A E) (P Q R : E → Type 0) → IfErr r P → IfErr r Q → ((e : E) → P e → Q e → R e) → IfErr r R
 if_err (Ok a) P Q R is also step = search rules
 if_err (Err e) P Q R is also step = step e is also
+
+pub if_both : {A E : Type 0} (r : Result A E) (P Q : A → Type 0) (R S : E → Type 0) → IfOk r P → IfErr r R → ((a : A) → P a → Q a) → ((e : E) → R e → S e) → MatchResult r Q S
+if_both (Ok a) P Q R S is also step other = step a is
+if_both (Err e) P Q R S is also step other = other e also

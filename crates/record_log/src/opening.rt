@@ -195,6 +195,8 @@ fn cut_of(alloc: Global, before: &[List<u8>], damaged: u64) -> NoLog
 // What is told of a disk whose journal did not open.
 fn refusal_of(alloc: Global, fault: OpenFault) -> NoLog
     ensures fault { result ≡ NoLog.Fault NodeOpenFault.DiskFault → fault ≡ OpenFault.DiskFault }
+    ensures is_fault { fault ≡ OpenFault.DiskFault → result ≡ NoLog.Fault NodeOpenFault.DiskFault }
+    ensures is_memory { fault ≡ OpenFault.Memory → result ≡ NoLog.Fault NodeOpenFault.Memory }
     ensures refusal { (c : Items ℕ) → IsRefusal c fault → IsNoLog c result }
     ensures grammar { HoldsBefore result }
 {
@@ -221,7 +223,9 @@ pub fn open_records<D: Disk>(alloc: Global, disk: D) -> Result<RecordLog<D>, (D,
     ensures fault { IfErr result (λ e. e.1 ≡ NoLog.Fault NodeOpenFault.DiskFault → Rose (D.count disk) (D.count e.0)) }
     ensures limit { MatchResult result (λ l. D.limit (disk_of l.journal) ≡ D.limit disk) (λ e. D.limit e.0 ≡ D.limit disk) }
 
-    // It changes nothing that a crash may leave.
+    // What was read is still what is read, and it changes nothing that a crash may leave.
+    ensures same { MatchResult result (λ l. D.content (disk_of l.journal) ≡ D.content disk)
+        (λ e. e.1 ≢ NoLog.Fault NodeOpenFault.DiskFault → e.1 ≢ NoLog.Fault NodeOpenFault.Memory → D.content e.0 ≡ D.content disk) }
     ensures leaves { MatchResult result
         (λ l. Leaves D.tells_past D.moment D.images_since D.images disk (disk_of l.journal) (D.images disk))
         (λ e. Leaves D.tells_past D.moment D.images_since D.images disk e.0 (D.images disk)) }

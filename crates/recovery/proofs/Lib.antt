@@ -1,1 +1,2 @@
 pub mod Rest
+mod Taking

@@ -1,11 +1,11 @@
 -- The lanes that are still open once one is resumed.
-use Rattle.std.proofs.Common.{◌≡◌, ◌≢◌, ℕ, suc, ◌+◌, ◌<◌, List, [], ◌∷◌, ◌++◌, length, get_or, take, drop, refl, arith, ap, ◌∙◌, sym, subst, add-one, drop-cons}
+use Rattle.std.proofs.Common.{◌≡◌, ◌≢◌, ℕ, suc, ◌+◌, ◌<◌, List, [], ◌∷◌, ◌++◌, length, get_or, take, drop, arith, ap, ◌∙◌, sym, subst, add-one, drop-cons}
 use Rattle.std.specs.List.{All}
 use Rattle.std.proofs.lemmas.List.Elements.{All-nil, All-cons, All-head, All-tail}
 use Rattle.cbdc_types.specs.declared.batch.OpenLane.{OpenLane}
 use Rattle.cbdc_model.specs.Records.{Header, Compact}
 use Rattle.cbdc_model.specs.Slots.{Phase}
-use Rattle.lane_driver.specs.Told.{IsLane, KeepsOthers}
+use Rattle.lane_driver.specs.Told.{KeepsOthers}
 use Rattle.std.proofs.lemmas.List.{take_more}
 use Rattle.std.proofs.lemmas.Slice.Zip.{all_zipped_more}
 use Rattle.recovery.specs.declared.resumed.ResumedBatch.{ResumedBatch}
@@ -17,9 +17,11 @@ still_open h k n p q t u o e keeps lt is =
     let same = keeps o.batch.lane is.lane other in
     subst (λ h. IsOpen h q u o) (sym e) (record {
       lane = is.lane;
+      batch = is.batch;
       phase_is = same.0 ∙ is.phase_is;
       txs = same.1 ∙ is.txs;
       size = is.size;
+      limits = is.limits;
       stamp = is.stamp;
       outcomes = is.outcomes;
     })

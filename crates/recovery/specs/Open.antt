@@ -1,12 +1,18 @@
 -- The lanes that are open at a coordinator.
-use Rattle.std.specs.Prelude.{◌≡◌, ◌≢◌, ℕ, ◌<◌, List, [], ◌∷◌, length}
+use Rattle.std.specs.Prelude.{◌≡◌, ◌⊎◌, ℕ, ◌<◌, Bool, List, [], ◌∷◌, length}
 use Rattle.std.specs.List.{All, AllZip}
 use Rattle.cbdc_types.specs.declared.batch.OpenLane.{OpenLane}
 use Rattle.cbdc_types.specs.declared.batch.Phase.{Phase as OpenPhase}
 use Rattle.cbdc_types.specs.declared.batch.Phase.TheVariants.{Prepared, Committed, Discarded}
 use Rattle.cbdc_model.specs.Records.{Header, Compact}
 use Rattle.cbdc_model.specs.Slots.{Phase, InPrepare, InCommit, InDiscard}
-use Rattle.cbdc_model.specs.Grammar.{HasSize}
+use Rattle.cbdc_model.specs.Grammar.{HasSize, IsBatchOf, IsCompact}
+use Rattle.cbdc_model.specs.Records.{Shape, Record, outcomes_of}
+use Rattle.cbdc_model.specs.Sights.{Sight}
+use Rattle.cbdc_types.specs.declared.calls.NodeFault.{NodeFault}
+use Rattle.lane_laws.specs.Resuming.{IsOpenAt, IsCommittedAt, IsDiscardedAt, IsLeft}
+use Rattle.lane_driver.specs.declared.fault.LaneFault.{LaneFault}
+use Rattle.lane_driver.specs.Stops.{IsFaultOf, HasNoMemory}
 use Rattle.lane_driver.specs.Told.{IsLane, IsStamp}
 use Rattle.recovery.specs.declared.resumed.ResumedBatch.{ResumedBatch}
 
@@ -25,9 +31,11 @@ HasOutcomes Discarded outcomes txs = outcomes ≡ txs
 -- the lane is open at the coordinator as told
 pub record IsOpen (h : Header) (phase : ℕ → Phase) (open_txs : ℕ → List Compact) (o : OpenLane) : Type 0 where
   pub lane : IsLane h o.batch.lane
+  pub batch : IsBatchOf h.shape o.batch
   pub phase_is : phase o.batch.lane ≡ phase_of o.phase
   pub txs : open_txs o.batch.lane ≡ o.txs
   pub size : HasSize h.shape o.txs
+  pub limits : All IsCompact o.txs
   pub stamp : IsStamp o.stamp
   pub outcomes : HasOutcomes o.phase (length o.outcomes) (length o.txs)
 
@@ -48,3 +56,20 @@ pub record IsResumed (o : OpenLane) (r : ResumedBatch) : Type 0 where
 
 abbrev pub AreResumed : List OpenLane → List ResumedBatch → Type 0
 AreResumed os rs = AllZip IsResumed os rs
+
+-- the journals have of the open batch what is told of it
+abbrev pub IsUnfinished : OpenPhase → Shape → OpenLane → Sight → (ℕ → Sight) → Type 0
+IsUnfinished Prepared K o log shards = IsOpenAt K o.batch o.txs o.stamp log shards
+IsUnfinished Committed K o log shards = (prepared : ℕ) × IsCommittedAt K o.batch o.txs prepared o.stamp o.outcomes log shards
+IsUnfinished Discarded K o log shards = (prepared : ℕ) × IsDiscardedAt K o.batch o.txs prepared o.stamp log shards
+
+-- the outcomes of the batch are those of the Commit that was written now, or those that it had
+abbrev pub HasItsOutcomes : OpenPhase → OpenLane → List Record → ResumedBatch → Type 0
+HasItsOutcomes Prepared o J r = r.outcomes ≡ outcomes_of J o.batch
+HasItsOutcomes Committed o J r = r.outcomes ≡ o.outcomes
+HasItsOutcomes Discarded o J r = r.outcomes ≡ o.outcomes
+
+-- it stopped at a node's fault, or was not begun for want of memory
+abbrev pub IsResumeStopped : Shape → Bool → OpenLane → Sight → (ℕ → Sight) → Sight → (ℕ → Sight) → LaneFault → Type 0
+IsResumeStopped K alone o log I log' J e =
+    HasNoMemory e log I log' J ⊎ (IsUnfinished o.phase K o log I → (n : ℕ) × (f : NodeFault) × IsFaultOf e n f × IsLeft K alone o.batch log I log' J n f)

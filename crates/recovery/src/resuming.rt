@@ -1,10 +1,12 @@
 // Open batches are taken to their end.
-ghost use Rattle.std.specs.Prelude.{◌≡◌, ◌≤◌, ◌<◌, ℕ, [], length, IfOk, OnOk, All};
+ghost use Rattle.std.specs.Prelude.{◌≡◌, ◌≢◌, ◌≤◌, ◌<◌, ℕ, [], length, IfOk, IfErr, OnOk, All};
 ghost use Rattle.std.specs.Vec.{vec_capacity};
 ghost use Rattle.cbdc_model.specs.Slots.{Idle};
 ghost use Rattle.cbdc_types.specs.declared.batch.Phase.TheVariants.{Prepared, Committed, Discarded};
-ghost use Rattle.lane_driver.specs.Told.{KeepsOthers};
-ghost use Rattle.recovery.specs.Open.{IsOpen, LanesRise, IsResumed, AreResumed};
+ghost use Rattle.lane_laws.specs.Resuming.{IsTakenUp};
+ghost use Rattle.lane_driver.specs.Told.{KeepsOthers, AreShardsOf, KeepHeaders};
+ghost use Rattle.lane_driver.specs.Causes.{IsCausedFault};
+ghost use Rattle.recovery.specs.Open.{IsOpen, LanesRise, IsResumed, AreResumed, IsUnfinished, HasItsOutcomes, IsResumeStopped};
 
 use crate::resumed::{Resumed, ResumedBatch};
 use cbdc_types::{List, OpenLane, Outcome, Outcomes, Phase, Shape};
@@ -31,16 +33,28 @@ fn resume_prepared<S: PortSet, L: LogPort, G: Gate>(
     gate: &G,
 ) -> Result<ResumedBatch, LaneFault>
     requires phase { unfinished.now.phase ≡ Prepared }
+    requires same { S.alone ≡ L.alone }
+    requires at { L.at ports.old.log ≡ (L.header ports.old.log).node }
     requires is_open { IsOpen (L.header ports.old.log) (L.phase ports.old.log) (L.open_txs ports.old.log) unfinished.now }
     requires shape { (L.header ports.old.log).shape ≡ shape.now }
     requires count { S.count ports.old.shards ≡ shape.now.shards }
+    requires ledger { AreShardsOf shape.now (S.sights ports.old.shards) }
+    ensures taken { OnOk result (IsUnfinished unfinished.now.phase shape.now unfinished.now (L.sights ports.old.log (L.at ports.old.log)) (S.sights ports.old.shards) → IsTakenUp shape.now L.alone unfinished.now.batch (L.sights ports.old.log (L.at ports.old.log)) (S.sights ports.old.shards) (L.sights ports.new.log (L.at ports.new.log)) (S.sights ports.new.shards)) }
+    ensures outcomes { IfOk result (λ r. IsUnfinished unfinished.now.phase shape.now unfinished.now (L.sights ports.old.log (L.at ports.old.log)) (S.sights ports.old.shards) → HasItsOutcomes unfinished.now.phase unfinished.now (L.sights ports.new.log (L.at ports.new.log)).seen r) }
+    ensures left { IfErr result (IsResumeStopped shape.now L.alone unfinished.now (L.sights ports.old.log (L.at ports.old.log)) (S.sights ports.old.shards) (L.sights ports.new.log (L.at ports.new.log)) (S.sights ports.new.shards)) }
+    ensures fault { IfErr result (IsCausedFault shape.now (L.sights ports.new.log) (S.sights ports.new.shards)) }
     ensures idle { OnOk result (L.phase ports.new.log unfinished.now.batch.lane ≡ Idle) }
-    ensures others { OnOk result (KeepsOthers (L.header ports.old.log) unfinished.now.batch.lane (L.phase ports.old.log) (L.phase ports.new.log) (L.open_txs ports.old.log) (L.open_txs ports.new.log)) }
+    ensures others { KeepsOthers (L.header ports.old.log) unfinished.now.batch.lane (L.phase ports.old.log) (L.phase ports.new.log) (L.open_txs ports.old.log) (L.open_txs ports.new.log) }
+    ensures at_same { L.at ports.new.log ≡ L.at ports.old.log }
     ensures header { L.header ports.new.log ≡ L.header ports.old.log }
     ensures log_count { L.count ports.new.log ≡ L.count ports.old.log }
     ensures count { S.count ports.new.shards ≡ S.count ports.old.shards }
     ensures shard_later { (n : ℕ) → S.faults ports.old.shards n ≤ S.faults ports.new.shards n }
     ensures log_later { (n : ℕ) → L.faults ports.old.log n ≤ L.faults ports.new.log n }
+    ensures elsewhere { (n : ℕ) → n ≢ L.at ports.old.log → L.sights ports.new.log n ≡ L.sights ports.old.log n }
+    ensures headers { KeepHeaders (S.sights ports.old.shards) (S.sights ports.new.shards) }
+    ensures log_holds { L.holds ports.old.log → L.holds ports.new.log }
+    ensures shard_holds { S.holds ports.old.shards → S.holds ports.new.shards }
     ensures resumed { IfOk result (IsResumed unfinished.now) }
 {
     let _limit = shape.batch();
@@ -75,16 +89,28 @@ fn resume_committed<S: PortSet, L: LogPort, G: Gate>(
     gate: &G,
 ) -> Result<ResumedBatch, LaneFault>
     requires phase { unfinished.now.phase ≡ Committed }
+    requires same { S.alone ≡ L.alone }
+    requires at { L.at ports.old.log ≡ (L.header ports.old.log).node }
     requires is_open { IsOpen (L.header ports.old.log) (L.phase ports.old.log) (L.open_txs ports.old.log) unfinished.now }
     requires shape { (L.header ports.old.log).shape ≡ shape.now }
     requires count { S.count ports.old.shards ≡ shape.now.shards }
+    requires ledger { AreShardsOf shape.now (S.sights ports.old.shards) }
+    ensures taken { OnOk result (IsUnfinished unfinished.now.phase shape.now unfinished.now (L.sights ports.old.log (L.at ports.old.log)) (S.sights ports.old.shards) → IsTakenUp shape.now L.alone unfinished.now.batch (L.sights ports.old.log (L.at ports.old.log)) (S.sights ports.old.shards) (L.sights ports.new.log (L.at ports.new.log)) (S.sights ports.new.shards)) }
+    ensures outcomes { IfOk result (λ r. IsUnfinished unfinished.now.phase shape.now unfinished.now (L.sights ports.old.log (L.at ports.old.log)) (S.sights ports.old.shards) → HasItsOutcomes unfinished.now.phase unfinished.now (L.sights ports.new.log (L.at ports.new.log)).seen r) }
+    ensures left { IfErr result (IsResumeStopped shape.now L.alone unfinished.now (L.sights ports.old.log (L.at ports.old.log)) (S.sights ports.old.shards) (L.sights ports.new.log (L.at ports.new.log)) (S.sights ports.new.shards)) }
+    ensures fault { IfErr result (IsCausedFault shape.now (L.sights ports.new.log) (S.sights ports.new.shards)) }
     ensures idle { OnOk result (L.phase ports.new.log unfinished.now.batch.lane ≡ Idle) }
-    ensures others { OnOk result (KeepsOthers (L.header ports.old.log) unfinished.now.batch.lane (L.phase ports.old.log) (L.phase ports.new.log) (L.open_txs ports.old.log) (L.open_txs ports.new.log)) }
+    ensures others { KeepsOthers (L.header ports.old.log) unfinished.now.batch.lane (L.phase ports.old.log) (L.phase ports.new.log) (L.open_txs ports.old.log) (L.open_txs ports.new.log) }
+    ensures at_same { L.at ports.new.log ≡ L.at ports.old.log }
     ensures header { L.header ports.new.log ≡ L.header ports.old.log }
     ensures log_count { L.count ports.new.log ≡ L.count ports.old.log }
     ensures count { S.count ports.new.shards ≡ S.count ports.old.shards }
     ensures shard_later { (n : ℕ) → S.faults ports.old.shards n ≤ S.faults ports.new.shards n }
     ensures log_later { (n : ℕ) → L.faults ports.old.log n ≤ L.faults ports.new.log n }
+    ensures elsewhere { (n : ℕ) → n ≢ L.at ports.old.log → L.sights ports.new.log n ≡ L.sights ports.old.log n }
+    ensures headers { KeepHeaders (S.sights ports.old.shards) (S.sights ports.new.shards) }
+    ensures log_holds { L.holds ports.old.log → L.holds ports.new.log }
+    ensures shard_holds { S.holds ports.old.shards → S.holds ports.new.shards }
     ensures resumed { IfOk result (IsResumed unfinished.now) }
 {
     let _limit = shape.batch();
@@ -136,16 +162,28 @@ fn resume_discarded<S: PortSet, L: LogPort, G: Gate>(
     gate: &G,
 ) -> Result<ResumedBatch, LaneFault>
     requires phase { unfinished.now.phase ≡ Discarded }
+    requires same { S.alone ≡ L.alone }
+    requires at { L.at ports.old.log ≡ (L.header ports.old.log).node }
     requires is_open { IsOpen (L.header ports.old.log) (L.phase ports.old.log) (L.open_txs ports.old.log) unfinished.now }
     requires shape { (L.header ports.old.log).shape ≡ shape.now }
     requires count { S.count ports.old.shards ≡ shape.now.shards }
+    requires ledger { AreShardsOf shape.now (S.sights ports.old.shards) }
+    ensures taken { OnOk result (IsUnfinished unfinished.now.phase shape.now unfinished.now (L.sights ports.old.log (L.at ports.old.log)) (S.sights ports.old.shards) → IsTakenUp shape.now L.alone unfinished.now.batch (L.sights ports.old.log (L.at ports.old.log)) (S.sights ports.old.shards) (L.sights ports.new.log (L.at ports.new.log)) (S.sights ports.new.shards)) }
+    ensures outcomes { IfOk result (λ r. IsUnfinished unfinished.now.phase shape.now unfinished.now (L.sights ports.old.log (L.at ports.old.log)) (S.sights ports.old.shards) → HasItsOutcomes unfinished.now.phase unfinished.now (L.sights ports.new.log (L.at ports.new.log)).seen r) }
+    ensures left { IfErr result (IsResumeStopped shape.now L.alone unfinished.now (L.sights ports.old.log (L.at ports.old.log)) (S.sights ports.old.shards) (L.sights ports.new.log (L.at ports.new.log)) (S.sights ports.new.shards)) }
+    ensures fault { IfErr result (IsCausedFault shape.now (L.sights ports.new.log) (S.sights ports.new.shards)) }
     ensures idle { OnOk result (L.phase ports.new.log unfinished.now.batch.lane ≡ Idle) }
-    ensures others { OnOk result (KeepsOthers (L.header ports.old.log) unfinished.now.batch.lane (L.phase ports.old.log) (L.phase ports.new.log) (L.open_txs ports.old.log) (L.open_txs ports.new.log)) }
+    ensures others { KeepsOthers (L.header ports.old.log) unfinished.now.batch.lane (L.phase ports.old.log) (L.phase ports.new.log) (L.open_txs ports.old.log) (L.open_txs ports.new.log) }
+    ensures at_same { L.at ports.new.log ≡ L.at ports.old.log }
     ensures header { L.header ports.new.log ≡ L.header ports.old.log }
     ensures log_count { L.count ports.new.log ≡ L.count ports.old.log }
     ensures count { S.count ports.new.shards ≡ S.count ports.old.shards }
     ensures shard_later { (n : ℕ) → S.faults ports.old.shards n ≤ S.faults ports.new.shards n }
     ensures log_later { (n : ℕ) → L.faults ports.old.log n ≤ L.faults ports.new.log n }
+    ensures elsewhere { (n : ℕ) → n ≢ L.at ports.old.log → L.sights ports.new.log n ≡ L.sights ports.old.log n }
+    ensures headers { KeepHeaders (S.sights ports.old.shards) (S.sights ports.new.shards) }
+    ensures log_holds { L.holds ports.old.log → L.holds ports.new.log }
+    ensures shard_holds { S.holds ports.old.shards → S.holds ports.new.shards }
     ensures resumed { IfOk result (IsResumed unfinished.now) }
 {
     let _limit = shape.batch();
@@ -192,24 +230,36 @@ fn resume_discarded<S: PortSet, L: LogPort, G: Gate>(
     }
 }
 
-// One open lane.
-fn resume_lane<S: PortSet, L: LogPort, G: Gate>(
+/// Takes one open batch to its end, from the phase in which it stands.
+pub fn resume_lane<S: PortSet, L: LogPort, G: Gate>(
     alloc: Global,
     shape: &Shape,
     unfinished: &OpenLane,
     ports: &mut Ports<S, L>,
     gate: &G,
 ) -> Result<ResumedBatch, LaneFault>
+    requires same { S.alone ≡ L.alone }
+    requires at { L.at ports.old.log ≡ (L.header ports.old.log).node }
     requires is_open { IsOpen (L.header ports.old.log) (L.phase ports.old.log) (L.open_txs ports.old.log) unfinished.now }
     requires shape { (L.header ports.old.log).shape ≡ shape.now }
     requires count { S.count ports.old.shards ≡ shape.now.shards }
+    requires ledger { AreShardsOf shape.now (S.sights ports.old.shards) }
+    ensures taken { OnOk result (IsUnfinished unfinished.now.phase shape.now unfinished.now (L.sights ports.old.log (L.at ports.old.log)) (S.sights ports.old.shards) → IsTakenUp shape.now L.alone unfinished.now.batch (L.sights ports.old.log (L.at ports.old.log)) (S.sights ports.old.shards) (L.sights ports.new.log (L.at ports.new.log)) (S.sights ports.new.shards)) }
+    ensures outcomes { IfOk result (λ r. IsUnfinished unfinished.now.phase shape.now unfinished.now (L.sights ports.old.log (L.at ports.old.log)) (S.sights ports.old.shards) → HasItsOutcomes unfinished.now.phase unfinished.now (L.sights ports.new.log (L.at ports.new.log)).seen r) }
+    ensures left { IfErr result (IsResumeStopped shape.now L.alone unfinished.now (L.sights ports.old.log (L.at ports.old.log)) (S.sights ports.old.shards) (L.sights ports.new.log (L.at ports.new.log)) (S.sights ports.new.shards)) }
+    ensures fault { IfErr result (IsCausedFault shape.now (L.sights ports.new.log) (S.sights ports.new.shards)) }
     ensures idle { OnOk result (L.phase ports.new.log unfinished.now.batch.lane ≡ Idle) }
-    ensures others { OnOk result (KeepsOthers (L.header ports.old.log) unfinished.now.batch.lane (L.phase ports.old.log) (L.phase ports.new.log) (L.open_txs ports.old.log) (L.open_txs ports.new.log)) }
+    ensures others { KeepsOthers (L.header ports.old.log) unfinished.now.batch.lane (L.phase ports.old.log) (L.phase ports.new.log) (L.open_txs ports.old.log) (L.open_txs ports.new.log) }
+    ensures at_same { L.at ports.new.log ≡ L.at ports.old.log }
     ensures header { L.header ports.new.log ≡ L.header ports.old.log }
     ensures log_count { L.count ports.new.log ≡ L.count ports.old.log }
     ensures count { S.count ports.new.shards ≡ S.count ports.old.shards }
     ensures shard_later { (n : ℕ) → S.faults ports.old.shards n ≤ S.faults ports.new.shards n }
     ensures log_later { (n : ℕ) → L.faults ports.old.log n ≤ L.faults ports.new.log n }
+    ensures elsewhere { (n : ℕ) → n ≢ L.at ports.old.log → L.sights ports.new.log n ≡ L.sights ports.old.log n }
+    ensures headers { KeepHeaders (S.sights ports.old.shards) (S.sights ports.new.shards) }
+    ensures log_holds { L.holds ports.old.log → L.holds ports.new.log }
+    ensures shard_holds { S.holds ports.old.shards → S.holds ports.new.shards }
     ensures resumed { IfOk result (IsResumed unfinished.now) }
 {
     match unfinished.phase {
@@ -229,15 +279,24 @@ pub fn resume<S: PortSet, L: LogPort, G: Gate>(
     ports: &mut Ports<S, L>,
     gate: &G,
 ) -> Result<Resumed, LaneFault>
+    requires same { S.alone ≡ L.alone }
+    requires at { L.at ports.old.log ≡ (L.header ports.old.log).node }
     requires is_open { All (IsOpen (L.header ports.old.log) (L.phase ports.old.log) (L.open_txs ports.old.log)) lanes.now }
     requires rise { LanesRise lanes.now }
     requires shape { (L.header ports.old.log).shape ≡ shape.now }
     requires count { S.count ports.old.shards ≡ shape.now.shards }
+    requires ledger { AreShardsOf shape.now (S.sights ports.old.shards) }
+    ensures fault { IfErr result (IsCausedFault shape.now (L.sights ports.new.log) (S.sights ports.new.shards)) }
+    ensures at_same { L.at ports.new.log ≡ L.at ports.old.log }
     ensures header { L.header ports.new.log ≡ L.header ports.old.log }
     ensures log_count { L.count ports.new.log ≡ L.count ports.old.log }
     ensures count { S.count ports.new.shards ≡ S.count ports.old.shards }
     ensures shard_later { (n : ℕ) → S.faults ports.old.shards n ≤ S.faults ports.new.shards n }
     ensures log_later { (n : ℕ) → L.faults ports.old.log n ≤ L.faults ports.new.log n }
+    ensures elsewhere { (n : ℕ) → n ≢ L.at ports.old.log → L.sights ports.new.log n ≡ L.sights ports.old.log n }
+    ensures headers { KeepHeaders (S.sights ports.old.shards) (S.sights ports.new.shards) }
+    ensures log_holds { L.holds ports.old.log → L.holds ports.new.log }
+    ensures shard_holds { S.holds ports.old.shards → S.holds ports.new.shards }
     ensures resumed { IfOk result (λ r. AreResumed lanes.now r.batches) }
 {
     let mut batches = match Vec::with_capacity(alloc, lanes.len()) {

@@ -5,3 +5,12 @@ pub mod Nodes
 pub mod Proper
 pub mod Ends
 pub mod PartCalls
+pub mod Seen
+pub mod LastRecords
+pub mod OpenLanes
+pub mod NewRecords
+pub mod TurnKinds
+pub mod BatchTurns
+pub mod WaveTurns
+pub mod Members
+pub mod Flights

@@ -63,7 +63,7 @@ node_below K n J (Discard stamp b) next = omega (arith, next.1)
 node_below K n J (Done stamp b) next = omega (arith, next.1)
 
 -- behind the last node there is no journal
-none_beyond : (K : Shape) (minting : Minted) (P : Compact → Type 0) (later : List Row) → Steady K minting P later → (n : ℕ) → K.coordinators + K.shards ≤ n
+pub none_beyond : (K : Shape) (minting : Minted) (P : Compact → Type 0) (later : List Row) → Steady K minting P later → (n : ℕ) → K.coordinators + K.shards ≤ n
     → journal n (later ++ first_rows K minting) ≡ []
 none_beyond K minting P [] kept n le = first_beyond K minting n le
 none_beyond K minting P (row ∷ later) kept n le =

@@ -11,11 +11,11 @@ use Rattle.ledger_laws.proofs.LaneLaws.{wave_law}
 use Rattle.run_laws.specs.Runs.{seen_by, IsTurn, TurnLaw}
 
 -- the lane sees its coordinator and the shards
-abbrev sees : Shape → ℕ → ℕ → Bool
+abbrev pub sees : Shape → ℕ → ℕ → Bool
 sees K lane n = (home_of K lane == n) || not (nat_lt n K.coordinators)
 
 -- what it sees of a node is the node's journal
-seen_view : (K : Shape) (lane : ℕ) (logs shards : ℕ → Sight) (n : ℕ) → home_of K lane < K.coordinators → sees K lane n ≡ true
+pub seen_view : (K : Shape) (lane : ℕ) (logs shards : ℕ → Sight) (n : ℕ) → home_of K lane < K.coordinators → sees K lane n ≡ true
     → seen_by K logs shards n ≡ view K lane (logs (home_of K lane)) shards n
 seen_view K lane logs shards n home s =
     elim (home_of K lane == n) as (λ t. (home_of K lane == n) ≡ t → seen_by K logs shards n ≡ (if t then (logs (home_of K lane)).seen else (if nat_lt n K.coordinators then [] else (shards (n - K.coordinators)).seen))) [

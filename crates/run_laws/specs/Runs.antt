@@ -1,8 +1,7 @@
 -- What a run does to the journals of all nodes, turn by turn.
 use Rattle.std.specs.Prelude.{◌≡◌, ◌⊎◌, ℕ, ◌-◌, ◌*◌, ◌<◌, ◌≢◌, ◌≤◌, false, length, All, Contains, true, nat_lt, if◌then◌else◌, List, []}
-use Rattle.cbdc_model.specs.Records.{Shape, Header, Compact, Entry, Record}
-use Rattle.cbdc_model.specs.Grammar.{HasSize, IsCompact}
-use Rattle.cbdc_model.specs.Calls.{PlacesRise, IsPartEntry}
+use Rattle.cbdc_model.specs.Records.{Shape, Header, Compact, Record}
+use Rattle.cbdc_model.specs.Grammar.{IsCompact}
 use Rattle.cbdc_model.specs.Ranges.{home_of, shard_node, part, is_no_part}
 use Rattle.cbdc_model.specs.Slots.{slot, Idle}
 use Rattle.cbdc_model.specs.Coins.{Output, FullTx}
@@ -16,6 +15,7 @@ use Rattle.cbdc_model.specs.Lanes.{Made, AllPass, NextFrom}
 use Rattle.cbdc_model.specs.Waves.{prepared}
 use Rattle.cbdc_model.specs.Sights.{Sight}
 use Rattle.lane_laws.specs.Batches.{view, Settled}
+pub use Rattle.lane_laws.specs.Parts.{IsFitPart}
 
 -- the journals of all nodes, the coordinators first, as they are seen
 abbrev pub seen_by : Shape → (ℕ → Sight) → (ℕ → Sight) → ℕ → List Record
@@ -71,12 +71,6 @@ abbrev pub EndLaw : Type 0
 EndLaw = (K : Shape) (mint : List Output) (submissions : List FullTx) (logs shards : ℕ → Sight)
     → 0 < K.shards → 0 < K.lanes → Clean mint submissions → KeptJournals K mint submissions (seen_by K logs shards)
     → ((lane : ℕ) → lane < K.coordinators * K.lanes → (slot (logs (home_of K lane)).seen lane).phase ≡ Idle) → Headline K mint submissions (seen_by K logs shards)
-
--- the part of a concerned shard is within the limits: as a call to lock must have it
-pub record IsFitPart (h : Header) (part : List Entry) : Type 0 where
-  pub size : HasSize h.shape part
-  pub places : PlacesRise 0 h.shape.batch part
-  pub entries : All (IsPartEntry h) part
 
 -- the parts of a batch within the limits are within them
 abbrev pub PartLaw : Type 0

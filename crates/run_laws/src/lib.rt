@@ -1,7 +1,12 @@
 //! Laws that take what lanes say of their turns to the journals of the whole ledger. They have no body that runs.
 #![tactic(auto)]
 
+ghost use Rattle.run_laws.specs.Flights.{FlownLaw, FlushLaw};
+ghost use Rattle.run_laws.specs.Members.{CompactLaw, MemberLaw};
+ghost use Rattle.run_laws.specs.Open.{ResumeLaw};
 ghost use Rattle.run_laws.specs.Runs.{TurnLaw, RestLaw, OthersLaw, NodesLaw, SoundLaw, GrowLaw, EndLaw, PartLaw};
+ghost use Rattle.run_laws.specs.Turns.{TakenLaw, SeenLaw, EndsLaw, PreparedLaw, DoneTurnLaw, OpenTurnLaw, ResumedTurnLaw};
+ghost use Rattle.run_laws.specs.WaveSteps.{TakesLaw, WaveBeginsLaw, WaveStepLaw, WaveSkipLaw, WaveEndsLaw, ResumingBeginsLaw, ResumingStepLaw, ResumingSkipLaw, ResumingEndsLaw, WavesBeginLaw, WavesStepLaw};
 
 /// A lane's turn keeps the journals, whatever it came to.
 pub fn turn_law()
@@ -41,4 +46,120 @@ pub fn end_law()
 /// The parts of a batch within the limits are within them.
 pub fn part_law()
     ensures { PartLaw }
+{}
+
+/// In kept journals a lane that is not idle at its coordinator has an open batch as recovery wants it: its Prepare stands, with
+/// transactions within the limits, and behind it what the lane's phase says.
+pub fn resume_law()
+    ensures { ResumeLaw }
+{}
+
+/// What a lane's driver, or the resuming of its batch, leaves is a turn of the lane, whatever it came to.
+pub fn taken_law()
+    ensures { TakenLaw }
+{}
+
+/// The journals of all nodes are those of the coordinators and of the shards.
+pub fn seen_law()
+    ensures { SeenLaw }
+{}
+
+/// Every journal grows at its end over a turn.
+pub fn ends_law()
+    ensures { EndsLaw }
+{}
+
+/// A turn prepares what was asked of it and nothing else.
+pub fn prepared_law()
+    ensures { PreparedLaw }
+{}
+
+/// A batch that is done: its lane's turn wrote records of this new batch alone.
+pub fn done_turn_law()
+    ensures { DoneTurnLaw }
+{}
+
+/// In kept journals a turn that prepares nothing writes records of the lane's open batch alone.
+pub fn open_turn_law()
+    ensures { OpenTurnLaw }
+{}
+
+/// A batch that was taken up: its lane's turn brought it to its end, and did nothing else.
+pub fn resumed_turn_law()
+    ensures { ResumedTurnLaw }
+{}
+
+/// A batch's size more is what a lane takes by its next batch.
+pub fn takes_law()
+    ensures { TakesLaw }
+{}
+
+/// A wave begins where every lane is idle.
+pub fn wave_begins_law()
+    ensures { WaveBeginsLaw }
+{}
+
+/// It goes on by a turn that does a lane's next batch.
+pub fn wave_step_law()
+    ensures { WaveStepLaw }
+{}
+
+/// It stays where lanes with nothing left are passed over.
+pub fn wave_skip_law()
+    ensures { WaveSkipLaw }
+{}
+
+/// Where every lane has taken all, the file was run.
+pub fn wave_ends_law()
+    ensures { WaveEndsLaw }
+{}
+
+/// Resuming begins with nothing done.
+pub fn resuming_begins_law()
+    ensures { ResumingBeginsLaw }
+{}
+
+/// It goes on by a turn that brings the next lane's open batch to its end.
+pub fn resuming_step_law()
+    ensures { ResumingStepLaw }
+{}
+
+/// It passes over lanes that are idle.
+pub fn resuming_skip_law()
+    ensures { ResumingSkipLaw }
+{}
+
+/// Behind the last lane the journals are resumed.
+pub fn resuming_ends_law()
+    ensures { ResumingEndsLaw }
+{}
+
+/// A run begins with what was open resumed.
+pub fn waves_begin_law()
+    ensures { WavesBeginLaw }
+{}
+
+/// It goes on by one file more.
+pub fn waves_step_law()
+    ensures { WavesStepLaw }
+{}
+
+/// The compact form of a transaction within the limits is within them.
+pub fn compact_law()
+    ensures { CompactLaw }
+{}
+
+/// The compact form of a sound submission is that of a proper one.
+pub fn member_law()
+    ensures { MemberLaw }
+{}
+
+/// What is in flight behind a turn was so before, or is caused by what the journals have.
+pub fn flown_law()
+    ensures { FlownLaw }
+{}
+
+/// Journals stay kept where what was in flight stands behind them or not.
+pub fn flush_law()
+    ensures { FlushLaw }
 {}

@@ -1,7 +1,9 @@
 // The calls at a shard.
 ghost use Rattle.std.specs.Prelude.{◌≡◌, ◌≤◌, true, false, reverse};
 ghost use Rattle.cbdc_model.specs.Due.{lock_due, finish_due, forget_due};
-ghost use Rattle.cbdc_model.specs.Sights.{Meets};
+ghost use Rattle.cbdc_model.specs.Sights.{Meets, IsBrokenSince};
+ghost use Rattle.cbdc_model.specs.After.{IsJournal};
+ghost use Rattle.cbdc_model.specs.Grammar.{IsShard};
 ghost use Rattle.cbdc_model.specs.Status.{status};
 ghost use Rattle.cbdc_model.specs.Fates.{fate};
 ghost use Rattle.shard_core.specs.Counts.{Counts};
@@ -59,6 +61,7 @@ impl<D: Disk> ShardNode<D> {
         ensures broken { self.new.broken ≡ broken_behind result (D.count self.new.disk) self.old.broken }
         ensures later { D.count self.old.disk ≤ D.count self.new.disk }
         ensures header { self.new.header ≡ self.old.header }
+        ensures journal { IsJournal self.new.header self.new.journal }
         ensures holds { HoldsJournal D.content D.images self.old → HoldsJournal D.content D.images self.new }
     {
         lock_parts(self.alloc, &mut self.parts, call)
@@ -72,6 +75,7 @@ impl<D: Disk> ShardNode<D> {
         ensures broken { self.new.broken ≡ broken_behind result (D.count self.new.disk) self.old.broken }
         ensures later { D.count self.old.disk ≤ D.count self.new.disk }
         ensures header { self.new.header ≡ self.old.header }
+        ensures journal { IsJournal self.new.header self.new.journal }
         ensures holds { HoldsJournal D.content D.images self.old → HoldsJournal D.content D.images self.new }
     {
         finish_parts(self.alloc, &mut self.parts, call)
@@ -85,6 +89,7 @@ impl<D: Disk> ShardNode<D> {
         ensures broken { self.new.broken ≡ broken_behind result (D.count self.new.disk) self.old.broken }
         ensures later { D.count self.old.disk ≤ D.count self.new.disk }
         ensures header { self.new.header ≡ self.old.header }
+        ensures journal { IsJournal self.new.header self.new.journal }
         ensures holds { HoldsJournal D.content D.images self.old → HoldsJournal D.content D.images self.new }
     {
         forget_parts(&mut self.parts, call)
@@ -113,14 +118,20 @@ impl<D: Disk> ShardNode<D> {
 
     /// The header of its journal. Takes no memory.
     pub fn header(&self) -> &Header
-        ensures { result.now ≡ self.now.header }
+        ensures header { result.now ≡ self.now.header }
+
+        // Its disk's count has not fallen since it was opened, and has risen if an append has failed since.
+        ensures since_opened { self.now.opened ≤ D.count self.now.disk }
+        ensures since_broken { IsBrokenSince self.now.opened (D.count self.now.disk) self.now.broken }
     {
         &self.parts.log.header
     }
 
     /// Its records, the newest last. Takes no memory.
     pub fn records(&self) -> &[Record]
-        ensures { reverse result.now ≡ self.now.journal }
+        ensures records { reverse result.now ≡ self.now.journal }
+        ensures journal { IsJournal self.now.header self.now.journal }
+        ensures shard { IsShard self.now.header.shape self.now.header.node }
     {
         self.parts.log.records.as_slice()
     }

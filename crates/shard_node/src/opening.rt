@@ -1,9 +1,11 @@
 // Opening a shard.
 ghost use Rattle.std.specs.Prelude.{◌≡◌, ◌≢◌, ◌+◌, ◌≤◌, ◌∷◌, [], ℕ, List as Items, None, length, reverse, sum_by, vec_capacity, All, IfOk, IfErr, MatchResult};
+ghost use Rattle.cbdc_types.specs.declared.calls.NodeOpenFault.{NodeOpenFault as TheFault};
 ghost use Rattle.outside.specs.Counts.{Rose};
 ghost use Rattle.outside.specs.Images.{Tells, Leaves};
 ghost use Rattle.gate_journal.specs.Shown.{disk_of, gate_of, broken_of};
-ghost use Rattle.cbdc_model.specs.Grammar.{IsInGrammar};
+ghost use Rattle.cbdc_model.specs.After.{IsJournal};
+ghost use Rattle.cbdc_model.specs.Grammar.{IsInGrammar, IsShard};
 ghost use Rattle.cbdc_model.specs.Room.{size_of};
 ghost use Rattle.record_log.specs.Held.{MayHold, OpensTo, CutsOff};
 ghost use Rattle.record_log.specs.Reading.{HoldsBefore, IsNoLog};
@@ -137,6 +139,7 @@ fn cut_fault(alloc: Global, header: &Header, records: &[Record], at: u64) -> Nod
 fn no_log_fault(alloc: Global, refused: NoLog) -> NodeOpenFault
     requires { HoldsBefore refused }
     ensures fault { result ≡ NodeOpenFault.DiskFault → refused ≡ NoLog.Fault NodeOpenFault.DiskFault }
+    ensures kept { (fault : TheFault) → refused ≡ NoLog.Fault fault → result ≡ fault }
     ensures refusal { (limit : ℕ) (c : Items ℕ) → IsNoLog c refused → IsNoShard limit c result }
 {
     match refused {
@@ -155,6 +158,10 @@ impl<D: Disk> ShardNode<D> {
         // The content opens to just this journal, and a crash leaves nothing else.
         ensures opens { IfOk result (λ n. Tells (D.content disk) (λ c. IsShardJournal n.header n.journal c × HoldsJournal D.content D.images n)) }
 
+        // It is a shard's journal, whatever the content tells.
+        ensures journal { IfOk result (λ n. IsJournal n.header n.journal) }
+        ensures shard_node { IfOk result (λ n. IsShard n.header.shape n.header.node) }
+
         // Which refusal it is.
         ensures refusal { IfErr result (λ e. Tells (D.content disk) (λ c. IsNoShard (D.limit disk) c e.1)) }
         ensures fresh { IfOk result (λ n. (n.flight ≡ None) × (n.broken ≡ None) × (n.opened ≡ D.count n.disk)) }
@@ -162,7 +169,8 @@ impl<D: Disk> ShardNode<D> {
         ensures fault { IfErr result (λ e. e.1 ≡ NodeOpenFault.DiskFault → Rose (D.count disk) (D.count e.0)) }
         ensures limit { MatchResult result (λ n. D.limit n.disk ≡ D.limit disk) (λ e. D.limit e.0 ≡ D.limit disk) }
 
-        // It changes nothing that a crash may leave.
+        // A disk of the other kind of node still reads as before, and a crash may leave nothing more than before.
+        ensures same { IfErr result (λ e. e.1 ≡ NodeOpenFault.OtherKind → D.content e.0 ≡ D.content disk) }
         ensures leaves { MatchResult result
             (λ n. Leaves D.tells_past D.moment D.images_since D.images disk n.disk (D.images disk))
             (λ e. Leaves D.tells_past D.moment D.images_since D.images disk e.0 (D.images disk)) }

@@ -1,6 +1,5 @@
-use Rattle.std.proofs.Common.{◌≡◌, ◌∙◌, ℕ, Bool, true, false, List, get_or, take, refl, subst}
+use Rattle.std.proofs.Common.{◌≡◌, Bool, true, false, get_or, refl, subst}
 use Rattle.std.proofs.lemmas.List.{take_all}
-use Rattle.cbdc_model.specs.Records.{Record}
 use Rattle.history.specs.declared.place.Place.{Place}
 use Rattle.history.specs.Rows.{read, rows_at}
 use Rattle.audit.specs.Walks.{AllDone}

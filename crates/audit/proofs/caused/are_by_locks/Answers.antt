@@ -1,4 +1,3 @@
-use Rattle.std.proofs.Common.{◌∙◌}
 use Rattle.audit.proofs.caused.are_by_locks.Goals as goal
 
 pub returns : goal.returns

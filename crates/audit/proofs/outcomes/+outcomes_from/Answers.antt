@@ -1,4 +1,4 @@
-use Rattle.std.proofs.Common.{◌≡◌, ◌∙◌, ◌<◌, ◌+◌, ℕ, ap, sym, subst, arith, length, get_or, List, None}
+use Rattle.std.proofs.Common.{◌∙◌, ◌<◌, ℕ, ap, sym, subst, arith, length, get_or, List, None}
 use Rattle.cbdc_model.specs.Records.{entries_in, Answered, Won}
 use Rattle.cbdc_model.specs.Causes.{at_shards}
 use Rattle.cbdc_model.specs.Outcomes.{outcome_by, reply_at}

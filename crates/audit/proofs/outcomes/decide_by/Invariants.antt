@@ -1,4 +1,4 @@
-use Rattle.std.proofs.Common.{◌≡◌, ◌<◌, ◌≤◌, ℕ, length, get_or, None}
+use Rattle.std.proofs.Common.{◌≡◌, ◌<◌, ◌≤◌, ℕ, get_or, None}
 use Rattle.cbdc_model.specs.Records.{Won}
 use Rattle.cbdc_model.specs.Outcomes.{outcome_by}
 use Rattle.audit.proofs.outcomes.decide_by.Given as goal

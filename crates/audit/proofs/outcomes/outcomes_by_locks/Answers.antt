@@ -1,6 +1,4 @@
-use Rattle.std.proofs.Common.{ℕ, ◌≡◌, ◌<◌, length, get_or, Result, Ok, Err}
-use Rattle.std.specs.Prelude.{IfOk}
-use Rattle.cbdc_model.specs.Records.{Won, entries_in}
+use Rattle.cbdc_model.specs.Records.{entries_in}
 use Rattle.cbdc_model.specs.Causes.{at_shards}
 use Rattle.audit.proofs.Deciding.{outcomes_if_ok}
 use Rattle.audit.proofs.outcomes.outcomes_by_locks.Goals as goal

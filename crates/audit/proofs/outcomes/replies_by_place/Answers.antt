@@ -1,8 +1,6 @@
-use Rattle.std.proofs.Common.{◌≡◌, ◌∙◌, ◌<◌, ◌+◌, ℕ, ap, sym, subst, arith, refl, length, take, get_or, List, Option, None}
-use Rattle.cbdc_model.specs.Records.{Answered, Reply}
-use Rattle.cbdc_model.specs.Outcomes.{reply_at}
+use Rattle.std.proofs.Common.{◌≡◌, ◌∙◌, ◌<◌, ℕ, ap, subst, length, get_or, None}
 use Rattle.audit.specs.Knowing.{reply_with}
-use Rattle.audit.proofs.Deciding.{written_back, more_replies}
+use Rattle.audit.proofs.Deciding.{more_replies}
 use Rattle.audit.proofs.outcomes.replies_by_place.Goals as goal
 
 pub loop-answered-preserved : goal.loop-answered-preserved

@@ -1,4 +1,4 @@
-use Rattle.std.proofs.Common.{◌≡◌, ◌∙◌, ℕ, Bool, true, false, List, get_or, take, sym, refl}
+use Rattle.std.proofs.Common.{◌≡◌, ℕ, Bool, true, false, List, get_or, take, sym, refl}
 use Rattle.std.proofs.lemmas.List.Elements.{All-get_or}
 use Rattle.cbdc_model.specs.Records.{Record, journal}
 use Rattle.history.specs.declared.place.Place.{Place}

@@ -5,4 +5,4 @@ abbrev pub invariant-logs : goal.invariant-logs
 invariant-logs g l = length l.all.items ≡ l.log-index
 
 abbrev pub invariant-shards : goal.invariant-shards
-invariant-shards g l = length l.all.items ≡ length l.ledger.logs.items + l.shard-index
+invariant-shards g l = length l.all.items ≡ length l.nodes.logs.items + l.shard-index

@@ -1,6 +1,10 @@
 use Rattle.std.proofs.Common.{◌≡◌, ◌≤◌, drop, take, length, vec_len, vec_capacity, map}
 use Rattle.cbdc_model.specs.Records.{Won}
-use Rattle.coord_core.specs.Decided.{combined}
+use Rattle.std.specs.Prelude.{All}
+use Rattle.cbdc_model.specs.Records.{Shape}
+use Rattle.cbdc_model.specs.Grammar.{IsOutcome}
+use Rattle.coord_core.specs.Hashes.{AllNameBatches}
+use Rattle.coord_core.specs.Decided.{combined, RisesBelow}
 use Rattle.coord_core.proofs.combine.combine.Given as goal
 
 abbrev pub invariant-loop : goal.invariant-loop
@@ -15,4 +19,5 @@ invariant-loop-i l = record {
   combined : l.outcomes.items ≡ combined l.masks (drop l.i l.replies);
   count : vec_len l.outcomes ≡ length l.masks;
   within : l.i ≤ length l.replies;
+  grammar : (K : Shape) → RisesBelow 0 K.shards l.replies → AllNameBatches K l.replies → All (IsOutcome K) l.outcomes.items;
 }

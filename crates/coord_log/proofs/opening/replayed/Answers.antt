@@ -1,28 +1,30 @@
-use Rattle.std.proofs.Common.{arith, rules, ◌≡◌, List, ◌∷◌, [], reverse, take, ap, sym, ◌∙◌, subst}
-use Rattle.std.proofs.lemmas.List.{take_all}
+use Rattle.std.proofs.Common.{◌≡◌, ◌+◌, ◌∷◌, reverse, take, sym, subst}
 use Rattle.cbdc_model.specs.Records.{Record}
-use Rattle.coord_core.specs.Stands.{StandsFor}
-use Rattle.coord_log.proofs.Going.{went_on, takes_header, stands_same}
+use Rattle.cbdc_model.specs.Grammar.{IsInGrammar}
+use Rattle.record_log.proofs.Sizes.{grammar_of}
+use Rattle.coord_log.specs.Opening.{IsPlayed}
+use Rattle.coord_log.proofs.Going.{went_on, stands_same}
+use Rattle.coord_log.proofs.Opened.{next_played}
+use Rattle.coord_log.proofs.Stops.{place_more, stopped}
 use Rattle.coord_log.proofs.opening.replayed.Goals as goal
 
-pub loop-i-init : goal.loop-i-init
-loop-i-init c = record {
-  header = c.in_ok-core.ensures.header;
-  stands = let P : List Record → Type 0 = λ x. StandsFor c.in_ok-core.core x in
-      subst P (sym (went_on c.args.records.now 0 c.index-records-0.result (search rules) c.index-records-0.is)) c.in_ok-core.ensures.stands;
-  some = search rules;
-}
+pub records-preserved : goal.records-preserved
+records-preserved c =
+    let on : reverse (take (c.records.i + 1) c.args.records.now) ≡ c.index-records-i.result ∷ reverse (take c.records.i c.args.records.now)
+    = went_on c.args.records.now c.records.i c.index-records-i.result c.records-test.true c.index-records-i.is in
+    let I : Record → Type 0 = λ x. IsInGrammar c.args.header.now x in
+    let grammar : IsInGrammar c.args.header.now c.index-records-i.result = subst I (sym c.index-records-i.is) (grammar_of c.args.header.now c.args.records.now c.requires c.records.i c.index-records-i.result c.records-test.true) in
+    let played : IsPlayed c.args.header.now c.apply.new.self (reverse (take (c.records.i + 1) c.args.records.now)) =
+    rw on (next_played c.args.header.now c.records.core c.admit.new.self c.apply.new.self (reverse (take c.records.i c.args.records.now)) c.index-records-i.result c.records.invariant.played c.apply.ensures.whole c.admit.ensures.same
+    c.admit.ensures.grown (c.in-Ok-true.ensures.room c.in-Ok-true.field-0-test) grammar c.apply.ensures.taken
+    (c.apply.ensures.stands (reverse (take c.records.i c.args.records.now)) (stands_same c.records.core c.admit.new.self _ c.admit.ensures.same c.records.invariant.played.stands))) in
+    record {
+      played = played;
+      place = place_more c.args.records.now c.records.at c.records.i c.size_of_record.result c.saturating_add-at.result c.index-records-i.result c.records-test.true c.index-records-i.is c.records.invariant.place c.size_of_record.ensures
+          c.saturating_add-at.ensures;
+    }
 
-pub loop-i-preserved : goal.loop-i-preserved
-loop-i-preserved c = record {
-  header = takes_header c.admit.new.self c.apply.new.self c.index-records-i-in-Ok-true.result c.apply.ensures.taken ∙ c.admit.ensures.same.header ∙ c.loop-i.invariant.header;
-  stands = let P : List Record → Type 0 = λ x. StandsFor c.apply.new.self x in
-      subst P (sym (went_on c.args.records.now c.loop-i.i c.index-records-i-in-Ok-true.result c.loop-i-test.true c.index-records-i-in-Ok-true.is))
-      (c.apply.ensures.stands (reverse (take c.loop-i.i c.args.records.now)) (stands_same c.loop-i.core c.admit.new.self _ c.admit.ensures.same c.loop-i.invariant.stands));
-  some = c.loop-i.invariant.some;
-}
-
-pub returns-clause-stands : goal.returns-clause-stands
-returns-clause-stands c =
-    let P : List Record → Type 0 = λ x. StandsFor c.loop-i.core (reverse x) in
-    subst P (take_all c.loop-i.i c.args.records.now c.loop-i-test.false) c.loop-i.invariant.stands
+pub returns-in-Ok-false-clause-unplayed : goal.returns-in-Ok-false-clause-unplayed
+returns-in-Ok-false-clause-unplayed c =
+    stopped c.args.header.now c.records.core c.args.records.now c.records.at c.records.i c.index-records-i.result c.in-Ok-false.field-0 c.requires c.records.invariant.played c.records.invariant.place c.records-test.true c.index-records-i.is
+    c.in-Ok-false.field-0-test c.in-Ok-false.ensures.after

@@ -1,8 +1,21 @@
-use Rattle.std.proofs.Common.{sym, subst}
+use Rattle.std.proofs.Common.{◌≡◌, ◌∙◌, ap, length, reverse, sym, subst}
+use Rattle.std.proofs.lemmas.List.{length-map}
+use Rattle.cbdc_model.specs.Records.{journal}
 use Rattle.cbdc_model.specs.History.{IsOrdered}
-use Rattle.history.specs.Rows.{read, rows_at, newest_first}
+use Rattle.history.specs.Rows.{read, rows_at, newest_first, journal_in}
+use Rattle.history.specs.Merges.{journals_below}
 use Rattle.history.proofs.Rows.{ordered_from}
+use Rattle.history.proofs.Steps.{all_nodes}
+use Rattle.history.proofs.Journals.{journal-reverse}
 use Rattle.history.proofs.merging.merge.Goals as goal
+
+pub returns-clause-newest_first : goal.returns-clause-newest_first
+returns-clause-newest_first c = λ n.
+    let whole : journals_below (read c.args.journals.now) 0 (length c.args.journals.now) n ≡ journal_in (read c.args.journals.now) n
+    = subst (λ k. journals_below (read c.args.journals.now) 0 k n ≡ journal_in (read c.args.journals.now) n) (length-map c.args.journals.now (λ j. j.now)) (all_nodes (read c.args.journals.now) n) in
+    ap (λ h. journal n (newest_first (read c.args.journals.now) h)) c.from_vec.ensures
+    ∙ journal-reverse n (rows_at (read c.args.journals.now) c.in_ok-places.places.items)
+    ∙ ap reverse (c.in_ok-places.ensures.journals n ∙ whole)
 
 pub returns-clause-ordered : goal.returns-clause-ordered
 returns-clause-ordered c = λ rises.

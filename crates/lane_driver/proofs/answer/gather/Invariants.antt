@@ -1,4 +1,4 @@
-use Rattle.std.proofs.Common.{◌≡◌, map, take, length, Result, Ok}
+use Rattle.std.proofs.Common.{◌≡◌, map, take, length, Ok}
 use Rattle.std.specs.Vec.{vec_capacity}
 use Rattle.lane_driver.specs.Calls.{shard}
 use Rattle.lane_driver.specs.Gathering.{replied_of}

@@ -1,5 +1,13 @@
-use Rattle.std.proofs.Common.{◌∙◌, ◌≡◌, refl, sym}
-use Rattle.lane_driver.proofs.Ready.{finish_shards, finish_stamps, forget_shards, forget_stamps}
+use Rattle.std.proofs.Common.{◌∙◌, refl, map}
+use Rattle.cbdc_model.specs.Ranges.{home_of}
+use Rattle.lane_laws.specs.Calls.{finish_of, forget_of}
+use Rattle.lane_laws.specs.Answers.{LockAnswer, FinishAnswer, ForgetAnswer}
+use Rattle.lane_driver.proofs.Turning.{turn_stamped, turn_times, finish_stops, discard_stops, later_stops, home_fault}
+use Rattle.cbdc_model.specs.Calls.{IsLockCall, IsFinishCall, IsForgetCall}
+use Rattle.lane_driver.proofs.Ready.{finish_shards, forget_shards}
+use Rattle.lane_driver.proofs.Fitting.{finishes_ready, forgets_ready, calls_kept, ledger_kept, headers_on}
+use Rattle.std.proofs.Common.{inr}
+use Rattle.lane_driver.proofs.Causing.{log_fault, discard_caused}
 use Rattle.lane_driver.proofs.batch.from_committed.Goals as goal
 
 pub finish_phase-requires-clause-shards : goal.finish_phase-requires-clause-shards
@@ -8,7 +16,7 @@ finish_phase-requires-clause-shards g c =
 
 pub finish_phase-requires-clause-calls : goal.finish_phase-requires-clause-calls
 finish_phase-requires-clause-calls g c =
-    finish_stamps c.args.batch.now c.args.cause c.args.outcomes.now c.args.locks.now _ (c.deref.ensures.value ∙ c.finish_calls.ensures) c.requires.cause
+    finishes_ready c.args.shape.now (g.S.PortSet.sights c.args.ports.now.shards) c.requires.ledger c.args.batch.now c.args.cause c.requires.batch c.requires.cause c.args.outcomes.now c.args.locks.now _ (c.deref.ensures.value ∙ c.finish_calls.ensures) c.requires.shards c.requires.locks
 
 pub finish_again-requires-clause-shards : goal.finish_again-requires-clause-shards
 finish_again-requires-clause-shards g c =
@@ -16,7 +24,7 @@ finish_again-requires-clause-shards g c =
 
 pub finish_again-requires-clause-calls : goal.finish_again-requires-clause-calls
 finish_again-requires-clause-calls g c =
-    finish_stamps c.args.batch.now c.args.cause c.args.outcomes.now c.args.locks.now _ (c.deref-2.ensures.value ∙ c.finish_calls.ensures) c.requires.cause
+    calls_kept IsFinishCall (g.S.PortSet.sights c.args.ports.now.shards) (g.S.PortSet.sights c.finish_phase.new.shards) c.in-Ok.ensures.headers c.deref-2.result.now (finishes_ready c.args.shape.now (g.S.PortSet.sights c.args.ports.now.shards) c.requires.ledger c.args.batch.now c.args.cause c.requires.batch c.requires.cause c.args.outcomes.now c.args.locks.now _ (c.deref-2.ensures.value ∙ c.finish_calls.ensures) c.requires.shards c.requires.locks)
 
 pub finish_again-requires-2-clause-shards : goal.finish_again-requires-2-clause-shards
 finish_again-requires-2-clause-shards g c =
@@ -24,7 +32,7 @@ finish_again-requires-2-clause-shards g c =
 
 pub finish_again-requires-2-clause-calls : goal.finish_again-requires-2-clause-calls
 finish_again-requires-2-clause-calls g c =
-    finish_stamps c.args.batch.now c.args.cause c.args.outcomes.now c.args.locks.now _ (c.deref-3.ensures.value ∙ c.finish_calls.ensures) c.requires.cause
+    calls_kept IsFinishCall (g.S.PortSet.sights c.args.ports.now.shards) (g.S.PortSet.sights c.lock_again.new.shards) (headers_on (g.S.PortSet.sights c.args.ports.now.shards) (g.S.PortSet.sights c.from_discarded.new.ports.shards) (g.S.PortSet.sights c.lock_again.new.shards) (headers_on (g.S.PortSet.sights c.args.ports.now.shards) (g.S.PortSet.sights c.finish_again.new.shards) (g.S.PortSet.sights c.from_discarded.new.ports.shards) (headers_on (g.S.PortSet.sights c.args.ports.now.shards) (g.S.PortSet.sights c.finish_phase.new.shards) (g.S.PortSet.sights c.finish_again.new.shards) c.in-Ok.ensures.headers c.finish_again.ensures.headers) c.in-Ok-from_discarded.ensures.headers) c.lock_again.ensures.headers) c.deref-3.result.now (finishes_ready c.args.shape.now (g.S.PortSet.sights c.args.ports.now.shards) c.requires.ledger c.args.batch.now c.args.cause c.requires.batch c.requires.cause c.args.outcomes.now c.args.locks.now _ (c.deref-3.ensures.value ∙ c.finish_calls.ensures) c.requires.shards c.requires.locks)
 
 pub forget_again-requires-clause-shards : goal.forget_again-requires-clause-shards
 forget_again-requires-clause-shards g c =
@@ -32,4 +40,52 @@ forget_again-requires-clause-shards g c =
 
 pub forget_again-requires-clause-calls : goal.forget_again-requires-clause-calls
 forget_again-requires-clause-calls g c =
-    forget_stamps c.args.batch.now c.in-Ok-discard.stamp c.args.locks.now _ (c.deref-4.ensures.value ∙ c.in-Ok-from_discarded.ensures.calls) c.in-Ok-discard.ensures.stamp
+    calls_kept IsForgetCall (g.S.PortSet.sights c.args.ports.now.shards) (g.S.PortSet.sights c.finish_again-2.new.shards) (headers_on (g.S.PortSet.sights c.args.ports.now.shards) (g.S.PortSet.sights c.lock_again.new.shards) (g.S.PortSet.sights c.finish_again-2.new.shards) (headers_on (g.S.PortSet.sights c.args.ports.now.shards) (g.S.PortSet.sights c.from_discarded.new.ports.shards) (g.S.PortSet.sights c.lock_again.new.shards) (headers_on (g.S.PortSet.sights c.args.ports.now.shards) (g.S.PortSet.sights c.finish_again.new.shards) (g.S.PortSet.sights c.from_discarded.new.ports.shards) (headers_on (g.S.PortSet.sights c.args.ports.now.shards) (g.S.PortSet.sights c.finish_phase.new.shards) (g.S.PortSet.sights c.finish_again.new.shards) c.in-Ok.ensures.headers c.finish_again.ensures.headers) c.in-Ok-from_discarded.ensures.headers) c.lock_again.ensures.headers) c.finish_again-2.ensures.headers) c.deref-4.result.now (forgets_ready c.args.shape.now (g.S.PortSet.sights c.args.ports.now.shards) c.requires.ledger c.args.batch.now c.in-Ok-discard.stamp c.requires.batch c.in-Ok-discard.ensures.stamp c.args.locks.now _ (c.deref-4.ensures.value ∙ c.in-Ok-from_discarded.ensures.calls) c.requires.shards)
+
+pub returns-clause-told : goal.returns-clause-told
+returns-clause-told g c = record {
+  finished = c.in-Ok.stamp;
+  after_finish = g.S.PortSet.sights c.finish_phase.new.shards;
+  finishes = turn_stamped FinishAnswer g.S.PortSet.alone g.L.LogPort.alone c.deref.result.now (map (finish_of c.args.batch.now c.args.cause c.args.outcomes.now) c.args.locks.now) (g.S.PortSet.sights c.args.ports.now.shards) (g.S.PortSet.sights c.finish_phase.new.shards) c.in-Ok.stamp c.requires.same (c.deref.ensures.value ∙ c.finish_calls.ensures) c.in-Ok.ensures.told;
+  before_discard = g.S.PortSet.sights c.finish_again.new.shards;
+  finishes_again = turn_times FinishAnswer g.S.PortSet.alone g.L.LogPort.alone c.deref-2.result.now (map (finish_of c.args.batch.now c.args.cause c.args.outcomes.now) c.args.locks.now) c.args.repeats (g.S.PortSet.sights c.finish_phase.new.shards) (g.S.PortSet.sights c.finish_again.new.shards) c.requires.same (c.deref-2.ensures.value ∙ c.finish_calls.ensures) c.finish_again.ensures.told;
+  log_discarded = g.L.LogPort.sights c.discard.new.self (g.L.LogPort.at c.discard.new.self);
+  discarded = c.in-Ok-discard.stamp;
+  discard = c.in-Ok-discard.ensures.told;
+  after_done = g.S.PortSet.sights c.from_discarded.new.ports.shards;
+  rest = c.in-Ok-from_discarded.ensures.told;
+  after_locks = g.S.PortSet.sights c.lock_again.new.shards;
+  locks_late = turn_times LockAnswer g.S.PortSet.alone g.L.LogPort.alone c.args.locks.now c.args.locks.now c.args.repeats (g.S.PortSet.sights c.from_discarded.new.ports.shards) (g.S.PortSet.sights c.lock_again.new.shards) c.requires.same refl c.lock_again.ensures.told;
+  after_finishes = g.S.PortSet.sights c.finish_again-2.new.shards;
+  finishes_late = turn_times FinishAnswer g.S.PortSet.alone g.L.LogPort.alone c.deref-3.result.now (map (finish_of c.args.batch.now c.args.cause c.args.outcomes.now) c.args.locks.now) c.args.repeats (g.S.PortSet.sights c.lock_again.new.shards) (g.S.PortSet.sights c.finish_again-2.new.shards) c.requires.same (c.deref-3.ensures.value ∙ c.finish_calls.ensures) c.finish_again-2.ensures.told;
+  forgets_late = turn_times ForgetAnswer g.S.PortSet.alone g.L.LogPort.alone c.deref-4.result.now (map (forget_of c.args.batch.now c.in-Ok-discard.stamp) c.args.locks.now) c.args.repeats (g.S.PortSet.sights c.finish_again-2.new.shards) (g.S.PortSet.sights c.forget_again.new.shards) c.requires.same
+      (c.deref-4.ensures.value ∙ c.in-Ok-from_discarded.ensures.calls) c.forget_again.ensures.told;
+}
+
+pub returns-in-Err-clause-stopped : goal.returns-in-Err-clause-stopped
+returns-in-Err-clause-stopped g c = finish_stops c.args.shape.now g.S.PortSet.alone g.L.LogPort.alone c.args.batch.now c.args.cause c.args.outcomes.now c.args.repeats c.args.locks.now c.deref.result.now (g.L.LogPort.sights c.args.ports.now.log (g.L.LogPort.at c.args.ports.now.log))
+    (g.S.PortSet.sights c.args.ports.now.shards) (g.S.PortSet.sights c.finish_phase.new.shards) c.in-Err.fault c.requires.same (c.deref.ensures.value ∙ c.finish_calls.ensures) c.in-Err.ensures.stopped
+
+pub returns-in-Err-discard-clause-stopped : goal.returns-in-Err-discard-clause-stopped
+returns-in-Err-discard-clause-stopped g c = discard_stops c.args.shape.now g.S.PortSet.alone g.L.LogPort.alone c.args.batch.now c.args.cause c.args.outcomes.now c.args.repeats c.in-Ok.stamp c.args.locks.now c.deref.result.now c.deref-2.result.now (g.L.LogPort.sights c.args.ports.now.log (g.L.LogPort.at c.args.ports.now.log)) (g.L.LogPort.sights c.discard.new.self (g.L.LogPort.at c.discard.new.self))
+    (g.S.PortSet.sights c.args.ports.now.shards) (g.S.PortSet.sights c.finish_phase.new.shards) (g.S.PortSet.sights c.finish_again.new.shards) c.requires.same (c.deref.ensures.value ∙ c.finish_calls.ensures) (c.deref-2.ensures.value ∙ c.finish_calls.ensures) c.in-Ok.ensures.told c.finish_again.ensures.told
+    c.in-Err-discard.fault c.fault_at.result (home_fault c.fault_at.result c.home.result (home_of c.args.shape.now c.args.batch.now.lane) c.in-Err-discard.fault c.fault_at.ensures c.home.ensures) c.in-Err-discard.ensures.told
+
+pub returns-in-Err-from_discarded-clause-stopped : goal.returns-in-Err-from_discarded-clause-stopped
+returns-in-Err-from_discarded-clause-stopped g c = later_stops c.args.shape.now g.S.PortSet.alone g.L.LogPort.alone c.args.batch.now c.args.cause c.args.outcomes.now c.args.repeats c.in-Ok.stamp c.args.locks.now c.deref.result.now c.deref-2.result.now (g.L.LogPort.sights c.args.ports.now.log (g.L.LogPort.at c.args.ports.now.log)) (g.L.LogPort.sights c.discard.new.self (g.L.LogPort.at c.discard.new.self))
+    (g.S.PortSet.sights c.args.ports.now.shards) (g.S.PortSet.sights c.finish_phase.new.shards) (g.S.PortSet.sights c.finish_again.new.shards) c.requires.same (c.deref.ensures.value ∙ c.finish_calls.ensures) (c.deref-2.ensures.value ∙ c.finish_calls.ensures) c.in-Ok.ensures.told c.finish_again.ensures.told
+    c.in-Ok-discard.stamp (g.L.LogPort.sights c.from_discarded.new.ports.log (g.L.LogPort.at c.from_discarded.new.ports.log)) (g.S.PortSet.sights c.from_discarded.new.ports.shards) c.in-Err-from_discarded.fault c.in-Ok-discard.ensures.told c.in-Err-from_discarded.ensures.stopped
+
+pub from_discarded-requires-clause-ledger : goal.from_discarded-requires-clause-ledger
+from_discarded-requires-clause-ledger g c = ledger_kept c.args.shape.now (g.S.PortSet.sights c.args.ports.now.shards) (g.S.PortSet.sights c.finish_again.new.shards) c.requires.ledger (headers_on (g.S.PortSet.sights c.args.ports.now.shards) (g.S.PortSet.sights c.finish_phase.new.shards) (g.S.PortSet.sights c.finish_again.new.shards) c.in-Ok.ensures.headers c.finish_again.ensures.headers)
+
+pub lock_again-requires-clause-calls : goal.lock_again-requires-clause-calls
+lock_again-requires-clause-calls g c = calls_kept IsLockCall (g.S.PortSet.sights c.args.ports.now.shards) (g.S.PortSet.sights c.from_discarded.new.ports.shards) (headers_on (g.S.PortSet.sights c.args.ports.now.shards) (g.S.PortSet.sights c.finish_again.new.shards) (g.S.PortSet.sights c.from_discarded.new.ports.shards) (headers_on (g.S.PortSet.sights c.args.ports.now.shards) (g.S.PortSet.sights c.finish_phase.new.shards) (g.S.PortSet.sights c.finish_again.new.shards) c.in-Ok.ensures.headers c.finish_again.ensures.headers) c.in-Ok-from_discarded.ensures.headers) c.args.locks.now c.requires.locks
+
+pub returns-in-Err-clause-fault : goal.returns-in-Err-clause-fault
+returns-in-Err-clause-fault g c = inr (inr c.in-Err.ensures.fault)
+
+pub returns-in-Err-discard-clause-fault : goal.returns-in-Err-discard-clause-fault
+returns-in-Err-discard-clause-fault g c = log_fault c.args.shape.now c.args.batch.now.lane (g.L.LogPort.at c.discard.new.self) (g.L.LogPort.sights c.discard.new.self) (g.S.PortSet.sights c.finish_again.new.shards) c.in-Err-discard.fault c.fault_at.result c.requires.batch.0 (c.in-Err-discard.ensures.at_same ∙ c.requires.at)
+    (home_fault c.fault_at.result c.home.result (home_of c.args.shape.now c.args.batch.now.lane) c.in-Err-discard.fault c.fault_at.ensures c.home.ensures)
+    (discard_caused g.L.LogPort.alone c.args.batch.now.lane c.in-Ok.stamp (g.L.LogPort.sights c.args.ports.now.log (g.L.LogPort.at c.args.ports.now.log)) (g.L.LogPort.sights c.discard.new.self (g.L.LogPort.at c.discard.new.self)) c.in-Err-discard.fault c.in-Err-discard.ensures.told)

@@ -1,6 +1,14 @@
-use Rattle.std.proofs.Common.{◌∙◌, ◌≡◌, refl, sym, ap, length}
+use Rattle.std.proofs.Common.{◌∙◌, refl, sym, ap, length, map}
+use Rattle.cbdc_model.specs.Ranges.{home_of}
+use Rattle.lane_laws.specs.Calls.{lock_of}
+use Rattle.lane_laws.specs.Answers.{LockAnswer}
+use Rattle.lane_driver.proofs.Turning.{turn_locked, turn_times, turn_committed, lock_stops, decide_stops, commit_stops, home_fault}
 use Rattle.std.proofs.lemmas.List.{length-map}
-use Rattle.lane_driver.proofs.Ready.{lock_shards, lock_stamps, lock_sizes, later_room}
+use Rattle.lane_driver.proofs.Ready.{lock_shards, lock_sizes, later_room}
+use Rattle.cbdc_model.specs.Calls.{IsLockCall}
+use Rattle.lane_driver.proofs.Fitting.{locks_ready, calls_kept, ledger_kept, headers_on}
+use Rattle.std.proofs.Common.{inr}
+use Rattle.lane_driver.proofs.Causing.{log_fault}
 use Rattle.lane_driver.proofs.batch.from_prepared.Goals as goal
 
 pub lock_phase-requires-clause-shards : goal.lock_phase-requires-clause-shards
@@ -9,7 +17,7 @@ lock_phase-requires-clause-shards g c =
 
 pub lock_phase-requires-clause-calls : goal.lock_phase-requires-clause-calls
 lock_phase-requires-clause-calls g c =
-    lock_stamps c.args.batch.now c.args.cause c.args.room.parts _ (c.deref.ensures.value ∙ c.lock_calls.ensures) c.requires.cause
+    locks_ready c.args.shape.now (g.S.PortSet.sights c.args.ports.now.shards) c.requires.ledger c.args.batch.now c.args.cause c.requires.batch c.requires.cause c.args.room.parts _ (c.deref.ensures.value ∙ c.lock_calls.ensures) c.requires.room.parts c.requires.parts
 
 pub lock_again-requires-clause-shards : goal.lock_again-requires-clause-shards
 lock_again-requires-clause-shards g c =
@@ -17,7 +25,7 @@ lock_again-requires-clause-shards g c =
 
 pub lock_again-requires-clause-calls : goal.lock_again-requires-clause-calls
 lock_again-requires-clause-calls g c =
-    lock_stamps c.args.batch.now c.args.cause c.args.room.parts _ (c.deref-2.ensures.value ∙ c.lock_calls.ensures) c.requires.cause
+    calls_kept IsLockCall (g.S.PortSet.sights c.args.ports.now.shards) (g.S.PortSet.sights c.lock_phase.new.shards) c.in-Ok.ensures.headers c.deref-2.result.now (locks_ready c.args.shape.now (g.S.PortSet.sights c.args.ports.now.shards) c.requires.ledger c.args.batch.now c.args.cause c.requires.batch c.requires.cause c.args.room.parts _ (c.deref-2.ensures.value ∙ c.lock_calls.ensures) c.requires.room.parts c.requires.parts)
 
 pub from_committed-requires-clause-shards : goal.from_committed-requires-clause-shards
 from_committed-requires-clause-shards g c =
@@ -25,7 +33,7 @@ from_committed-requires-clause-shards g c =
 
 pub from_committed-requires-clause-locks : goal.from_committed-requires-clause-locks
 from_committed-requires-clause-locks g c =
-    lock_stamps c.args.batch.now c.args.cause c.args.room.parts _ (c.deref-3.ensures.value ∙ c.lock_calls.ensures) c.requires.cause
+    calls_kept IsLockCall (g.S.PortSet.sights c.args.ports.now.shards) (g.S.PortSet.sights c.lock_again.new.shards) (headers_on (g.S.PortSet.sights c.args.ports.now.shards) (g.S.PortSet.sights c.lock_phase.new.shards) (g.S.PortSet.sights c.lock_again.new.shards) c.in-Ok.ensures.headers c.lock_again.ensures.headers) c.deref-3.result.now (locks_ready c.args.shape.now (g.S.PortSet.sights c.args.ports.now.shards) c.requires.ledger c.args.batch.now c.args.cause c.requires.batch c.requires.cause c.args.room.parts _ (c.deref-3.ensures.value ∙ c.lock_calls.ensures) c.requires.room.parts c.requires.parts)
 
 pub from_committed-requires-clause-parts : goal.from_committed-requires-clause-parts
 from_committed-requires-clause-parts g c =
@@ -37,3 +45,45 @@ from_committed-requires-clause-room g c =
     later_room _ _ _ _ c.args.room.later
     (ap length (c.deref-3.ensures.value ∙ c.lock_calls.ensures) ∙ length-map c.args.room.parts _)
     (ap length c.deref-4.ensures.value ∙ c.in-Ok-decide.ensures.outcomes) c.requires.room.later
+
+pub returns-in-Ok-from_committed-clause-told : goal.returns-in-Ok-from_committed-clause-told
+returns-in-Ok-from_committed-clause-told g c = record {
+  replies = c.in-Ok.replies;
+  after_lock = g.S.PortSet.sights c.lock_phase.new.shards;
+  locks = turn_locked g.S.PortSet.alone g.L.LogPort.alone c.deref.result.now (map (lock_of c.args.batch.now c.args.cause) c.args.room.parts) (g.S.PortSet.sights c.args.ports.now.shards) (g.S.PortSet.sights c.lock_phase.new.shards) c.in-Ok.replies c.requires.same (c.deref.ensures.value ∙ c.lock_calls.ensures) c.in-Ok.ensures.told;
+  before_decide = g.S.PortSet.sights c.lock_again.new.shards;
+  locks_again = turn_times LockAnswer g.S.PortSet.alone g.L.LogPort.alone c.deref-2.result.now (map (lock_of c.args.batch.now c.args.cause) c.args.room.parts) c.args.repeats (g.S.PortSet.sights c.lock_phase.new.shards) (g.S.PortSet.sights c.lock_again.new.shards) c.requires.same (c.deref-2.ensures.value ∙ c.lock_calls.ensures) c.lock_again.ensures.told;
+  log_committed = g.L.LogPort.sights c.decide.new.self (g.L.LogPort.at c.decide.new.self);
+  committed = c.in-Ok-decide.stamp;
+  decide = c.in-Ok-decide.ensures.told;
+  outcomes = c.from_vec.ensures ∙ c.in-Ok-decide.ensures.written;
+  rest = turn_committed g.L.LogPort.alone c.args.batch.now c.in-Ok-decide.stamp c.deref-4.result.now c.from_vec.result c.args.repeats c.deref-3.result.now (map (lock_of c.args.batch.now c.args.cause) c.args.room.parts) (g.L.LogPort.sights c.decide.new.self (g.L.LogPort.at c.decide.new.self)) (g.L.LogPort.sights c.from_committed.new.ports.log (g.L.LogPort.at c.from_committed.new.ports.log)) (g.S.PortSet.sights c.lock_again.new.shards) (g.S.PortSet.sights c.from_committed.new.ports.shards)
+      (c.deref-4.ensures.value ∙ sym c.from_vec.ensures) (c.deref-3.ensures.value ∙ c.lock_calls.ensures) c.in-Ok-from_committed.ensures.told;
+}
+
+pub returns-in-Err-clause-stopped : goal.returns-in-Err-clause-stopped
+returns-in-Err-clause-stopped g c = lock_stops c.args.shape.now g.S.PortSet.alone g.L.LogPort.alone c.args.batch.now c.args.cause c.args.repeats c.args.room.parts c.deref.result.now (g.L.LogPort.sights c.args.ports.now.log (g.L.LogPort.at c.args.ports.now.log))
+    (g.S.PortSet.sights c.args.ports.now.shards) (g.S.PortSet.sights c.lock_phase.new.shards) c.in-Err.fault c.requires.same (c.deref.ensures.value ∙ c.lock_calls.ensures) c.in-Err.ensures.stopped
+
+pub returns-in-Err-decide-clause-stopped : goal.returns-in-Err-decide-clause-stopped
+returns-in-Err-decide-clause-stopped g c = decide_stops c.args.shape.now g.S.PortSet.alone g.L.LogPort.alone c.args.batch.now c.args.cause c.args.repeats c.in-Ok.replies c.args.room.parts c.deref.result.now c.deref-2.result.now (g.L.LogPort.sights c.args.ports.now.log (g.L.LogPort.at c.args.ports.now.log)) (g.L.LogPort.sights c.decide.new.self (g.L.LogPort.at c.decide.new.self))
+    (g.S.PortSet.sights c.args.ports.now.shards) (g.S.PortSet.sights c.lock_phase.new.shards) (g.S.PortSet.sights c.lock_again.new.shards) c.requires.same (c.deref.ensures.value ∙ c.lock_calls.ensures) (c.deref-2.ensures.value ∙ c.lock_calls.ensures) c.in-Ok.ensures.told c.lock_again.ensures.told
+    c.in-Err-decide.fault c.fault_at.result (home_fault c.fault_at.result c.home.result (home_of c.args.shape.now c.args.batch.now.lane) c.in-Err-decide.fault c.fault_at.ensures c.home.ensures) c.in-Err-decide.ensures.told
+
+pub returns-clause-stopped : goal.returns-clause-stopped
+returns-clause-stopped g c = commit_stops c.args.shape.now g.S.PortSet.alone g.L.LogPort.alone c.args.batch.now c.args.cause c.args.repeats c.in-Ok.replies c.args.room.parts c.deref.result.now c.deref-2.result.now (g.L.LogPort.sights c.args.ports.now.log (g.L.LogPort.at c.args.ports.now.log)) (g.L.LogPort.sights c.decide.new.self (g.L.LogPort.at c.decide.new.self))
+    (g.S.PortSet.sights c.args.ports.now.shards) (g.S.PortSet.sights c.lock_phase.new.shards) (g.S.PortSet.sights c.lock_again.new.shards) c.requires.same (c.deref.ensures.value ∙ c.lock_calls.ensures) (c.deref-2.ensures.value ∙ c.lock_calls.ensures) c.in-Ok.ensures.told c.lock_again.ensures.told
+    c.in-Ok-decide.stamp c.deref-4.result.now (g.L.LogPort.sights c.from_committed.new.ports.log (g.L.LogPort.at c.from_committed.new.ports.log)) (g.S.PortSet.sights c.from_committed.new.ports.shards) c.in-Err-from_committed.fault c.deref-3.result.now (c.deref-3.ensures.value ∙ c.lock_calls.ensures) c.in-Ok-decide.ensures.told
+    (c.deref-4.ensures.value ∙ c.in-Ok-decide.ensures.written) c.in-Err-from_committed.ensures.stopped
+
+pub from_committed-requires-clause-ledger : goal.from_committed-requires-clause-ledger
+from_committed-requires-clause-ledger g c =
+    ledger_kept c.args.shape.now (g.S.PortSet.sights c.args.ports.now.shards) (g.S.PortSet.sights c.lock_again.new.shards) c.requires.ledger (headers_on (g.S.PortSet.sights c.args.ports.now.shards) (g.S.PortSet.sights c.lock_phase.new.shards) (g.S.PortSet.sights c.lock_again.new.shards) c.in-Ok.ensures.headers c.lock_again.ensures.headers)
+
+pub returns-in-Err-clause-fault : goal.returns-in-Err-clause-fault
+returns-in-Err-clause-fault g c = inr (inr c.in-Err.ensures.fault)
+
+pub returns-in-Err-decide-clause-fault : goal.returns-in-Err-decide-clause-fault
+returns-in-Err-decide-clause-fault g c = log_fault c.args.shape.now c.args.batch.now.lane (g.L.LogPort.at c.decide.new.self) (g.L.LogPort.sights c.decide.new.self) (g.S.PortSet.sights c.lock_again.new.shards) c.in-Err-decide.fault c.fault_at.result c.requires.batch.0 (c.in-Err-decide.ensures.at_same ∙ c.requires.at)
+    (home_fault c.fault_at.result c.home.result (home_of c.args.shape.now c.args.batch.now.lane) c.in-Err-decide.fault c.fault_at.ensures c.home.ensures)
+    (c.in-Err-decide.ensures.fault)

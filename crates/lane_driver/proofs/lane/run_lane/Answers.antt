@@ -1,6 +1,12 @@
-use Rattle.std.proofs.Common.{rules, arith, ◌≡◌, ◌<◌, ◌+◌, ◌∙◌, ap, sym, subst, length, take, drop, min}
-use Rattle.std.proofs.lemmas.List.Elements.{All-same, All-drop}
+use Rattle.std.proofs.Common.{rules, arith, inl, refl, [], ◌≡◌, ◌<◌, ◌+◌, ◌∙◌, ap, sym, subst, length, take, drop, min}
 use Rattle.std.specs.Vec.{vec_len, vec_capacity}
+use Rattle.std.specs.List.{All}
+use Rattle.std.proofs.lemmas.List.Elements.{All-take, All-drop}
+use Rattle.cbdc_model.specs.Grammar.{IsCompact}
+use Rattle.lane_driver.proofs.Fitting.{elsewhere_on, others_on, headers_on, ledger_kept}
+use Rattle.lane_laws.specs.Batches.{LaneSo}
+use Rattle.lane_laws.proofs.Laning.{lane_begins}
+use Rattle.lane_driver.proofs.Batching.{lane_on, lane_off, none_left}
 use Rattle.lane_driver.specs.Reports.{IsReported}
 use Rattle.lane_driver.proofs.Cutting.{room_after, reported_more}
 use Rattle.lane_driver.proofs.lane.run_lane.Goals as goal
@@ -12,15 +18,95 @@ pieces-preserved g c =
     let at = c.split_at.ensures in
     let room : vec_len c.pieces.batches < vec_capacity c.pieces.batches = search rules in
     record {
+      at_same = c.in-Ok-one_batch.ensures.at_same ∙ c.pieces.invariant.at_same;
+      so = λ k st. lane_on c.args.shape.now g.L.LogPort.alone c.args.lane c.args.txs.now c.pieces.rest.now c.split_at.result.0.now (g.L.LogPort.sights c.args.ports.now.log (g.L.LogPort.at c.args.ports.now.log)) (g.L.LogPort.sights c.pieces.ports.log (g.L.LogPort.at c.pieces.ports.log)) (g.L.LogPort.sights c.one_batch.new.ports.log (g.L.LogPort.at c.one_batch.new.ports.log)) (g.S.PortSet.sights c.args.ports.now.shards) (g.S.PortSet.sights c.pieces.ports.shards) (g.S.PortSet.sights c.one_batch.new.ports.shards) (c.pieces.invariant.so k st) (c.split_at.ensures.front ∙ ap (λ n. take n c.pieces.rest.now) (c.min.ensures ∙ ap (λ n. min n (length c.pieces.rest.now)) c.batch-size.ensures.value))
+          c.split_at.result.1.now c.in-Ok-one_batch.report.batch c.in-Ok-one_batch.report.outcomes some (c.split_at.ensures.back ∙ ap (λ n. drop n c.pieces.rest.now) (c.min.ensures ∙ ap (λ n. min n (length c.pieces.rest.now)) c.batch-size.ensures.value)) c.in-Ok-one_batch.ensures.done;
       idle = search rules;
+      others = others_on (g.L.LogPort.header c.args.ports.now.log) (g.L.LogPort.header c.pieces.ports.log) c.args.lane (g.L.LogPort.phase c.args.ports.now.log) (g.L.LogPort.phase c.pieces.ports.log) (g.L.LogPort.phase c.one_batch.new.ports.log) (g.L.LogPort.open_txs c.args.ports.now.log) (g.L.LogPort.open_txs c.pieces.ports.log) (g.L.LogPort.open_txs c.one_batch.new.ports.log) c.pieces.invariant.header c.pieces.invariant.others c.in-Ok-one_batch.ensures.others;
       header = search rules;
       count = search rules;
       log_count = search rules;
       shard_later = λ n. omega (arith, c.pieces.invariant.shard_later n, c.in-Ok-one_batch.ensures.shard_later n);
       log_later = λ n. omega (arith, c.pieces.invariant.log_later n, c.in-Ok-one_batch.ensures.log_later n);
+      elsewhere = elsewhere_on (g.L.LogPort.at c.args.ports.now.log) (g.L.LogPort.at c.pieces.ports.log) (g.L.LogPort.sights c.args.ports.now.log) (g.L.LogPort.sights c.pieces.ports.log) (g.L.LogPort.sights c.one_batch.new.ports.log) c.pieces.invariant.at_same c.pieces.invariant.elsewhere c.in-Ok-one_batch.ensures.elsewhere;
+      headers = headers_on (g.S.PortSet.sights c.args.ports.now.shards) (g.S.PortSet.sights c.pieces.ports.shards) (g.S.PortSet.sights c.one_batch.new.ports.shards) c.pieces.invariant.headers c.in-Ok-one_batch.ensures.headers;
+      log_holds = λ h. c.in-Ok-one_batch.ensures.log_holds (c.pieces.invariant.log_holds h);
+      shard_holds = λ h. c.in-Ok-one_batch.ensures.shard_holds (c.pieces.invariant.shard_holds h);
+      limits = subst (λ xs. All IsCompact xs) (sym (at.back ∙ ap (λ n. drop n c.pieces.rest.now) size)) (All-drop IsCompact (min c.args.shape.now.batch (length c.pieces.rest.now)) c.pieces.rest.now c.pieces.invariant.limits);
       room = room_after (length c.pieces.rest.now) c.args.shape.now.batch _ _ (length c.split_at.result.1.now) _ _ some c.pieces.invariant.room (ap (λ n. length c.split_at.result.1.now + n) (sym size) ∙ at.back_len) room
           c.push_reserved.ensures.len c.push_reserved.ensures.capacity;
       report = subst (λ reports. IsReported c.args.lane c.args.shape.now.batch c.args.txs.now c.split_at.result.1.now reports) (sym c.push_reserved.ensures.items)
           (reported_more c.args.lane c.args.shape.now.batch c.args.txs.now c.pieces.rest.now c.split_at.result.0.now c.split_at.result.1.now c.pieces.batches.items c.in-Ok-one_batch.report
           c.pieces.invariant.report some (at.front ∙ ap (λ n. take n c.pieces.rest.now) size) (at.back ∙ ap (λ n. drop n c.pieces.rest.now) size) c.in-Ok-one_batch.ensures.report);
     }
+
+pub returns-in-Err-one_batch-clause-stopped : goal.returns-in-Err-one_batch-clause-stopped
+returns-in-Err-one_batch-clause-stopped g c k st = lane_off c.args.shape.now g.L.LogPort.alone c.args.lane c.args.txs.now c.pieces.rest.now c.split_at.result.0.now (g.L.LogPort.sights c.args.ports.now.log (g.L.LogPort.at c.args.ports.now.log)) (g.L.LogPort.sights c.pieces.ports.log (g.L.LogPort.at c.pieces.ports.log)) (g.L.LogPort.sights c.one_batch.new.ports.log (g.L.LogPort.at c.one_batch.new.ports.log)) (g.S.PortSet.sights c.args.ports.now.shards) (g.S.PortSet.sights c.pieces.ports.shards) (g.S.PortSet.sights c.one_batch.new.ports.shards) (c.pieces.invariant.so k st) (c.split_at.ensures.front ∙ ap (λ n. take n c.pieces.rest.now) (c.min.ensures ∙ ap (λ n. min n (length c.pieces.rest.now)) c.batch-size.ensures.value))
+    c.in-Err-one_batch.fault c.in-Err-one_batch.ensures.stopped
+
+pub returns-in-Err-clause-stopped : goal.returns-in-Err-clause-stopped
+returns-in-Err-clause-stopped g c k st = inl (c.no_memory.ensures, (c.args.txs.now, lane_begins c.args.shape.now g.L.LogPort.alone c.args.lane k c.args.txs.now (g.L.LogPort.sights c.args.ports.now.log (g.L.LogPort.at c.args.ports.now.log)) (g.S.PortSet.sights c.args.ports.now.shards) st))
+
+pub pieces-init : goal.pieces-init
+pieces-init g c = record {
+  at_same = refl;
+  so = λ k st. lane_begins c.args.shape.now g.L.LogPort.alone c.args.lane k c.args.txs.now (g.L.LogPort.sights c.args.ports.now.log (g.L.LogPort.at c.args.ports.now.log)) (g.S.PortSet.sights c.args.ports.now.shards) st;
+  idle = search rules;
+  others = λ l is ne. (refl, refl);
+  header = search rules;
+  count = search rules;
+  log_count = search rules;
+  shard_later = λ n. omega arith;
+  log_later = λ n. omega arith;
+  elsewhere = λ n ne. refl;
+  headers = λ s. refl;
+  log_holds = λ h. h;
+  shard_holds = λ h. h;
+  limits = c.requires.limits;
+  room = search rules;
+  report = search rules;
+}
+
+pub returns-clause-done : goal.returns-clause-done
+returns-clause-done g c k st =
+    let e : c.pieces.rest.now ≡ [] = none_left c.pieces.rest.now c.pieces-test.ensures in
+    subst (λ r. LaneSo c.args.shape.now g.L.LogPort.alone c.args.lane c.args.txs.now r (g.L.LogPort.sights c.args.ports.now.log (g.L.LogPort.at c.args.ports.now.log)) (g.S.PortSet.sights c.args.ports.now.shards) (g.L.LogPort.sights c.pieces.ports.log (g.L.LogPort.at c.pieces.ports.log)) (g.S.PortSet.sights c.pieces.ports.shards)) e (c.pieces.invariant.so k st)
+
+pub one_batch-requires-clause-ledger : goal.one_batch-requires-clause-ledger
+one_batch-requires-clause-ledger g c = ledger_kept c.args.shape.now (g.S.PortSet.sights c.args.ports.now.shards) (g.S.PortSet.sights c.pieces.ports.shards) c.requires.ledger c.pieces.invariant.headers
+
+pub one_batch-requires-clause-limits : goal.one_batch-requires-clause-limits
+one_batch-requires-clause-limits g c = subst (λ xs. All IsCompact xs) (sym c.split_at.ensures.front) (All-take IsCompact c.min.result c.pieces.rest.now c.pieces.invariant.limits)
+
+pub returns-in-Err-one_batch-clause-elsewhere : goal.returns-in-Err-one_batch-clause-elsewhere
+returns-in-Err-one_batch-clause-elsewhere g c = elsewhere_on (g.L.LogPort.at c.args.ports.now.log) (g.L.LogPort.at c.pieces.ports.log) (g.L.LogPort.sights c.args.ports.now.log) (g.L.LogPort.sights c.pieces.ports.log) (g.L.LogPort.sights c.one_batch.new.ports.log) c.pieces.invariant.at_same c.pieces.invariant.elsewhere c.in-Err-one_batch.ensures.elsewhere
+
+pub returns-in-Err-one_batch-clause-headers : goal.returns-in-Err-one_batch-clause-headers
+returns-in-Err-one_batch-clause-headers g c = headers_on (g.S.PortSet.sights c.args.ports.now.shards) (g.S.PortSet.sights c.pieces.ports.shards) (g.S.PortSet.sights c.one_batch.new.ports.shards) c.pieces.invariant.headers c.in-Err-one_batch.ensures.headers
+
+pub returns-in-Err-one_batch-clause-log_holds : goal.returns-in-Err-one_batch-clause-log_holds
+returns-in-Err-one_batch-clause-log_holds g c h = c.in-Err-one_batch.ensures.log_holds (c.pieces.invariant.log_holds h)
+
+pub returns-in-Err-one_batch-clause-shard_holds : goal.returns-in-Err-one_batch-clause-shard_holds
+returns-in-Err-one_batch-clause-shard_holds g c h = c.in-Err-one_batch.ensures.shard_holds (c.pieces.invariant.shard_holds h)
+
+pub returns-clause-elsewhere : goal.returns-clause-elsewhere
+returns-clause-elsewhere g c = c.pieces.invariant.elsewhere
+
+pub returns-clause-headers : goal.returns-clause-headers
+returns-clause-headers g c = c.pieces.invariant.headers
+
+pub returns-clause-log_holds : goal.returns-clause-log_holds
+returns-clause-log_holds g c = c.pieces.invariant.log_holds
+
+pub returns-clause-shard_holds : goal.returns-clause-shard_holds
+returns-clause-shard_holds g c = c.pieces.invariant.shard_holds
+
+pub returns-in-Err-one_batch-clause-others : goal.returns-in-Err-one_batch-clause-others
+returns-in-Err-one_batch-clause-others g c = others_on (g.L.LogPort.header c.args.ports.now.log) (g.L.LogPort.header c.pieces.ports.log) c.args.lane (g.L.LogPort.phase c.args.ports.now.log) (g.L.LogPort.phase c.pieces.ports.log) (g.L.LogPort.phase c.one_batch.new.ports.log) (g.L.LogPort.open_txs c.args.ports.now.log) (g.L.LogPort.open_txs c.pieces.ports.log) (g.L.LogPort.open_txs c.one_batch.new.ports.log) c.pieces.invariant.header c.pieces.invariant.others c.in-Err-one_batch.ensures.others
+
+pub returns-clause-others : goal.returns-clause-others
+returns-clause-others g c = c.pieces.invariant.others
+
+pub returns-in-Err-clause-fault : goal.returns-in-Err-clause-fault
+returns-in-Err-clause-fault g c = inl c.no_memory.ensures

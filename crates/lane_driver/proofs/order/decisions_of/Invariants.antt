@@ -1,4 +1,4 @@
-use Rattle.std.proofs.Common.{◌≡◌, map, take}
+use Rattle.std.proofs.Common.{◌≡◌, take}
 use Rattle.std.specs.Vec.{vec_capacity}
 use Rattle.cbdc_model.specs.Outcomes.{decisions}
 use Rattle.lane_driver.proofs.order.decisions_of.Given as goal

@@ -1,5 +1,4 @@
-use Rattle.std.proofs.Common.{rules, arith, ◌≡◌, ◌<◌, ◌≤◌, ◌+◌, ℕ, length, get_or, take, ap, sym, subst}
-use Rattle.std.specs.List.{All}
+use Rattle.std.proofs.Common.{arith, ◌≡◌, ◌<◌, ◌≤◌, length, get_or, ap, subst}
 use Rattle.std.proofs.lemmas.List.Elements.{All-more}
 use Rattle.lane_driver.specs.Calls.{shard}
 use Rattle.lane_driver.proofs.Rising.{rising-more, before-more}

@@ -1,4 +1,4 @@
-use Rattle.std.proofs.Common.{◌≡◌, ◌≤◌, ◌<◌, take, length}
+use Rattle.std.proofs.Common.{◌≤◌, ◌<◌, take, length}
 use Rattle.std.specs.List.{All}
 use Rattle.lane_driver.specs.Calls.{shard, IsRising}
 use Rattle.lane_driver.proofs.room.is_division.Given as goal

@@ -1,7 +1,8 @@
 use Rattle.std.proofs.Common.{◌≡◌, ◌∙◌, List, ℕ, length, sym, ap}
 use Rattle.gate_journal.specs.Rows.{rows}
+use Rattle.gate_journal.specs.Shown.{disk_of}
 use Rattle.record_log.specs.Held.{bodies_of}
-use Rattle.record_log.proofs.Cuts.{log_cut_is, unread_is, read_whole, if_ok, if_err}
+use Rattle.record_log.proofs.Cuts.{log_cut_is, unread_is, read_whole, if_ok, if_err, if_both}
 use Rattle.record_log.proofs.Sizes.{rows_size, limits_of, grammar_of}
 use Rattle.record_log.proofs.opening.open_records.Goals as goal
 
@@ -38,3 +39,14 @@ returns-in-Ok-clause-refusal g c = λ bytes told.
 
 pub returns-clause-refusal : goal.returns-clause-refusal
 returns-clause-refusal g c = λ bytes told. c.refusal_of-refused.ensures.refusal bytes (c.in-Err.ensures.refusal bytes told)
+
+pub returns-in-Ok-records_of-clause-same : goal.returns-in-Ok-records_of-clause-same
+returns-in-Ok-records_of-clause-same g c = if_both c.log_of.result _ _ _ _ c.log_of.ensures.log c.log_of.ensures.cut
+    (λ l is. ap (λ j. g.D.Disk.content (disk_of j)) is.0 ∙ c.in-Ok.ensures.same)
+    (λ e is. λ fault memory. ap g.D.Disk.content is.0 ∙ c.in-Ok.ensures.same)
+
+pub returns-in-Ok-clause-same : goal.returns-in-Ok-clause-same
+returns-in-Ok-clause-same g c = λ fault memory. ap g.D.Disk.content c.into_disk.ensures ∙ c.in-Ok.ensures.same
+
+pub returns-clause-same : goal.returns-clause-same
+returns-clause-same g c = λ fault memory. c.in-Err.ensures.same (λ is. fault (c.refusal_of-refused.ensures.is_fault is)) (λ is. memory (c.refusal_of-refused.ensures.is_memory is))

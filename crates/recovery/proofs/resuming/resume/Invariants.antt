@@ -1,15 +1,21 @@
-use Rattle.std.proofs.Common.{◌≡◌, ◌≤◌, ℕ, length, take, drop}
+use Rattle.std.proofs.Common.{◌≡◌, ◌≢◌, ◌≤◌, ℕ, length, take, drop}
 use Rattle.std.specs.List.{All}
 use Rattle.std.specs.Vec.{vec_capacity, vec_len}
+use Rattle.lane_driver.specs.Told.{KeepHeaders}
 use Rattle.recovery.specs.Open.{IsOpen, LanesRise, AreResumed}
 use Rattle.recovery.proofs.resuming.resume.Given as goal
 
 abbrev pub invariant-loop-unfinished : goal.invariant-loop-unfinished
 invariant-loop-unfinished g l = record {
+  at_same : g.L.LogPort.at l.ports.log ≡ g.L.LogPort.at l.initial.ports.log;
   header : g.L.LogPort.header l.ports.log ≡ g.L.LogPort.header l.initial.ports.log;
   log_count : g.L.LogPort.count l.ports.log ≡ g.L.LogPort.count l.initial.ports.log;
   shard_later : (n : ℕ) → g.S.PortSet.faults l.initial.ports.shards n ≤ g.S.PortSet.faults l.ports.shards n;
   log_later : (n : ℕ) → g.L.LogPort.faults l.initial.ports.log n ≤ g.L.LogPort.faults l.ports.log n;
+  elsewhere : (n : ℕ) → n ≢ g.L.LogPort.at l.initial.ports.log → g.L.LogPort.sights l.ports.log n ≡ g.L.LogPort.sights l.initial.ports.log n;
+  headers : KeepHeaders (g.S.PortSet.sights l.initial.ports.shards) (g.S.PortSet.sights l.ports.shards);
+  log_holds : g.L.LogPort.holds l.initial.ports.log → g.L.LogPort.holds l.ports.log;
+  shard_holds : g.S.PortSet.holds l.initial.ports.shards → g.S.PortSet.holds l.ports.shards;
   count : g.S.PortSet.count l.ports.shards ≡ g.S.PortSet.count l.initial.ports.shards;
   open_rest : All (IsOpen (g.L.LogPort.header l.ports.log) (g.L.LogPort.phase l.ports.log) (g.L.LogPort.open_txs l.ports.log)) (drop l.unfinished-index l.lanes);
   rise : LanesRise (drop l.unfinished-index l.lanes);

@@ -1,4 +1,4 @@
-use Rattle.std.proofs.Common.{◌≡◌, ◌∙◌, ap, cond, Some}
+use Rattle.std.proofs.Common.{◌∙◌, ap, cond, Some}
 use Rattle.audit.specs.Knowing.{index_of, same_key}
 use Rattle.audit.proofs.Finding.{key_test}
 use Rattle.audit.proofs.known.Known.keep.Goals as goal

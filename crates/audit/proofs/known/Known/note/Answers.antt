@@ -1,4 +1,4 @@
-use Rattle.std.proofs.Common.{◌≡◌, ◌∙◌, ap, cond, Some, eqb, nat_eq}
+use Rattle.std.proofs.Common.{◌∙◌, ap, cond, Some, eqb, nat_eq}
 use Rattle.std.specs.HashMap.{get}
 use Rattle.audit.proofs.Finding.{noted}
 use Rattle.audit.proofs.known.Known.note.Goals as goal

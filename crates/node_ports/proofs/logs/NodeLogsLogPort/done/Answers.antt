@@ -1,18 +1,50 @@
-use Rattle.std.proofs.Common.{◌≡◌, ◌≤◌, ◌∙◌, slice_set, sym, subst}
+use Rattle.std.proofs.Common.{◌≡◌, true, false, subst, arith}
 use Rattle.std.specs.Result.{OnOk}
-use Rattle.std.proofs.lemmas.List.{get_or-set_same}
-use Rattle.node_ports.specs.Nodes.{log_at, no_log, KeepsRest}
-use Rattle.node_ports.proofs.Faults.{faults_later}
-use Rattle.node_ports.proofs.Places.{log_inside, same_at}
+use Rattle.cbdc_model.specs.Sights.{Sight, Told}
+use Rattle.cbdc_model.specs.Slots.{slot, Idle, InDiscard}
+use Rattle.cbdc_model.specs.Due.{done_due}
+use Rattle.coord_log.specs.Logs.{sight}
+use Rattle.lane_driver.specs.Told.{IsLane}
+use Rattle.node_ports.specs.Nodes.{KeepsRest, IsLogHeld}
+use Rattle.node_ports.proofs.Places.{inside, old_is, turned, set_elsewhere, turned_faults, turned_held}
 use Rattle.node_ports.proofs.logs.NodeLogsLogPort.done.Goals as goal
+
+pub index_mut-requires : goal.index_mut-requires
+index_mut-requires g c =
+    let within = inside sight c.args.self.now.logs.items c.args.self.now.at c.args.lane c.requires.home.0 in omega (arith, c.args.self.now.logs.ok.0)
+
+pub done_at-answer-requires-clause-home : goal.done_at-answer-requires-clause-home
+done_at-answer-requires-clause-home g c =
+    let P : Sight → Type 0 = λ a. IsLane a.header c.args.lane in subst P (old_is sight c.args.self.now.logs.items c.args.self.now.at c.index_mut.result.now c.index_mut.result.now (inside sight c.args.self.now.logs.items c.args.self.now.at c.args.lane c.requires.home.0) c.index_mut.ensures.value) c.requires.home
+
+pub done_at-answer-requires-clause-phase : goal.done_at-answer-requires-clause-phase
+done_at-answer-requires-clause-phase g c =
+    let P : Sight → Type 0 = λ a. (slot a.seen c.args.lane).phase ≡ InDiscard in subst P (old_is sight c.args.self.now.logs.items c.args.self.now.at c.index_mut.result.now c.index_mut.result.now (inside sight c.args.self.now.logs.items c.args.self.now.at c.args.lane c.requires.home.0) c.index_mut.ensures.value) c.requires.phase
+
+pub returns-clause-told : goal.returns-clause-told
+returns-clause-told g c =
+    turned sight c.args.self.now.logs.items c.args.self.now.at c.index_mut.result.now c.done_at-answer.new.log (inside sight c.args.self.now.logs.items c.args.self.now.at c.args.lane c.requires.home.0) c.index_mut.ensures.value (λ a b. Told true c.args.lane false (done_due c.args.lane c.args.cause) a b c.done_at-answer.result) c.done_at-answer.ensures.told
+
+pub returns-clause-phase : goal.returns-clause-phase
+returns-clause-phase g c =
+    turned sight c.args.self.now.logs.items c.args.self.now.at c.index_mut.result.now c.done_at-answer.new.log (inside sight c.args.self.now.logs.items c.args.self.now.at c.args.lane c.requires.home.0) c.index_mut.ensures.value (λ a b. OnOk c.done_at-answer.result ((slot b.seen c.args.lane).phase ≡ Idle)) c.done_at-answer.ensures.phase
 
 pub returns-clause-others : goal.returns-clause-others
 returns-clause-others g c =
-    let within = log_inside c.args.self.now.logs.items c.args.self.now.at c.args.lane c.requires.home.0 in
-    let is : c.index_mut.result.now ≡ log_at c.args.self.now.logs.items c.args.self.now.at = c.index_mut.ensures.value ∙ same_at c.args.self.now.logs.items c.args.self.now.at c.index_mut.result.now no_log within in
-    subst (λ x. OnOk c.done_at-answer.result (KeepsRest x (log_at (slice_set c.args.self.now.logs.items c.args.self.now.at c.done_at-answer.new.log) c.args.self.now.at) c.args.lane)) is
-    (subst (λ y. OnOk c.done_at-answer.result (KeepsRest c.index_mut.result.now y c.args.lane)) (sym (get_or-set_same c.args.self.now.logs.items c.args.self.now.at c.done_at-answer.new.log no_log within)) c.done_at-answer.ensures.others)
+    turned sight c.args.self.now.logs.items c.args.self.now.at c.index_mut.result.now c.done_at-answer.new.log (inside sight c.args.self.now.logs.items c.args.self.now.at c.args.lane c.requires.home.0) c.index_mut.ensures.value (λ a b. KeepsRest a b c.args.lane) c.done_at-answer.ensures.others
+
+pub returns-clause-header : goal.returns-clause-header
+returns-clause-header g c =
+    turned sight c.args.self.now.logs.items c.args.self.now.at c.index_mut.result.now c.done_at-answer.new.log (inside sight c.args.self.now.logs.items c.args.self.now.at c.args.lane c.requires.home.0) c.index_mut.ensures.value (λ a b. b.header ≡ a.header) c.done_at-answer.ensures.header
+
+pub returns-clause-elsewhere : goal.returns-clause-elsewhere
+returns-clause-elsewhere g c =
+    λ n ne. set_elsewhere sight c.args.self.now.logs.items c.args.self.now.at c.done_at-answer.new.log n ne
 
 pub returns-clause-later : goal.returns-clause-later
 returns-clause-later g c =
-    faults_later (λ x. x.faults) c.args.self.now.logs.items c.args.self.now.at c.done_at-answer.new.log c.index_mut.result.now (subst (λ x. x.faults ≤ c.done_at-answer.new.log.faults) c.index_mut.ensures.value c.done_at-answer.ensures.later)
+    turned_faults sight c.args.self.now.logs.items c.args.self.now.at c.index_mut.result.now c.done_at-answer.new.log (inside sight c.args.self.now.logs.items c.args.self.now.at c.args.lane c.requires.home.0) c.index_mut.ensures.value c.done_at-answer.ensures.later
+
+pub returns-clause-holds : goal.returns-clause-holds
+returns-clause-holds g c =
+    turned_held sight c.args.self.now.logs.items c.args.self.now.at c.index_mut.result.now c.done_at-answer.new.log (inside sight c.args.self.now.logs.items c.args.self.now.at c.args.lane c.requires.home.0) c.index_mut.ensures.value (IsLogHeld g.D.Disk.content g.D.Disk.images) c.done_at-answer.ensures.holds

@@ -1,22 +1,48 @@
-use Rattle.std.proofs.Common.{◌≡◌, ◌+◌, ◌++◌, ◌∷◌, ◌∙◌, [], ℕ, take, length, ap, sym, subst, arith, rules}
+use Rattle.std.proofs.Common.{◌+◌, ◌<◌, ◌++◌, ◌∷◌, ◌∙◌, [], ℕ, true, take, length, sym, subst, refl, arith, rules}
 use Rattle.std.specs.List.{AllZip}
-use Rattle.std.proofs.lemmas.List.{take_more}
 use Rattle.std.proofs.lemmas.Slice.Zip.{all_zipped_more}
 use Rattle.cbdc_types.specs.declared.calls.ForgetCall.{ForgetCall}
+use Rattle.cbdc_model.specs.Calls.{IsForgetCall}
+use Rattle.cbdc_model.specs.Sights.{Sight}
+use Rattle.lane_laws.specs.Answers.{ForgetAnswer, EachTold}
 use Rattle.lane_driver.specs.Told.{StampTold}
+use Rattle.shard_node.specs.Shards.{sight_of}
+use Rattle.node_ports.specs.Nodes.{sight_at}
+use Rattle.node_ports.proofs.Walking.{longer, as_found0, told_more, others_more}
 use Rattle.node_ports.proofs.shards.NodeShardsPortSet.forget.Goals as goal
 
 pub calls-preserved : goal.calls-preserved
 calls-preserved g c =
-    let i = c.calls.shard-index in
-    let xs = c.args.calls.now in
-    let x = c.calls-item.result in
-    let longer : take (i + 1) xs ≡ take i xs ++ x ∷ [] = take_more xs i x c.calls-test.true ∙ ap (λ y. take i xs ++ y ∷ []) (sym c.calls-item.is) in
-    let step = all_zipped_more (StampTold {C = ForgetCall}) (take i xs) c.calls.out.items x c.forget_one-answer.result c.calls.invariant.told c.forget_one-answer.ensures.told in
     record {
-      told = subst (λ ys. AllZip (StampTold {C = ForgetCall}) ys c.push_reserved.new.self.items) (sym longer) (subst (λ ys. AllZip (StampTold {C = ForgetCall}) (take i xs ++ x ∷ []) ys) (sym c.push_reserved.ensures.items) step);
+      each = subst (λ ys. AllZip (StampTold {C = ForgetCall}) ys c.push_reserved.new.self.items) (sym (longer (ForgetAnswer true) c.args.calls.now c.calls.shard-index c.calls-item.result c.calls-test.true c.calls-item.is)) (subst (λ ys. AllZip (StampTold {C = ForgetCall}) (take c.calls.shard-index c.args.calls.now ++ c.calls-item.result ∷ []) ys) (sym c.push_reserved.ensures.items) (all_zipped_more (StampTold {C = ForgetCall}) (take c.calls.shard-index c.args.calls.now) c.calls.out.items c.calls-item.result c.forget_one-answer.result c.calls.invariant.each c.forget_one-answer.ensures.told));
+      told = subst (λ ys. EachTold (ForgetAnswer true) (take (c.calls.shard-index + 1) c.args.calls.now) ys (sight_at (sight_of g.D.Disk.count g.D.Disk.limit) c.args.self.now.nodes.items) (sight_at (sight_of g.D.Disk.count g.D.Disk.limit) c.forget_one-answer.new.self.nodes.items)) (sym c.push_reserved.ensures.items) (told_more (ForgetAnswer true) c.args.calls.now c.calls.shard-index c.calls-item.result c.calls-test.true c.calls-item.is (sight_at (sight_of g.D.Disk.count g.D.Disk.limit) c.args.self.now.nodes.items) (sight_at (sight_of g.D.Disk.count g.D.Disk.limit) c.calls.self.nodes.items) (sight_at (sight_of g.D.Disk.count g.D.Disk.limit) c.forget_one-answer.new.self.nodes.items) c.requires.shards.0 c.forget_one-answer.ensures.elsewhere c.forget_one-answer.result c.calls.out.items c.calls.invariant.told c.calls.invariant.untouched c.forget_one-answer.ensures.answer);
+      untouched = others_more (ForgetAnswer true) c.args.calls.now c.calls.shard-index c.calls-item.result c.calls-test.true c.calls-item.is (sight_at (sight_of g.D.Disk.count g.D.Disk.limit) c.args.self.now.nodes.items) (sight_at (sight_of g.D.Disk.count g.D.Disk.limit) c.calls.self.nodes.items) (sight_at (sight_of g.D.Disk.count g.D.Disk.limit) c.forget_one-answer.new.self.nodes.items) c.requires.shards.0 c.forget_one-answer.ensures.elsewhere c.calls.invariant.untouched;
+      headers = λ s. c.forget_one-answer.ensures.headers s ∙ c.calls.invariant.headers s;
       filled = omega (arith, c.push_reserved.ensures.len, c.calls.invariant.filled);
       capacity = c.push_reserved.ensures.capacity ∙ c.calls.invariant.capacity;
       count = c.forget_one-answer.ensures.count ∙ c.calls.invariant.count;
       later = λ n. omega (arith, c.calls.invariant.later n, c.forget_one-answer.ensures.later n);
+      holds = λ h. c.forget_one-answer.ensures.holds (c.calls.invariant.holds h);
+    }
+
+pub forget_one-answer-requires-clause-call : goal.forget_one-answer-requires-clause-call
+forget_one-answer-requires-clause-call g c =
+    let P : Sight → Type 0 = λ a. IsForgetCall a.header c.calls-item.result.1 in subst P (sym (as_found0 (ForgetAnswer true) c.args.calls.now c.calls.shard-index c.calls-item.result c.calls-test.true c.calls-item.is (sight_at (sight_of g.D.Disk.count g.D.Disk.limit) c.args.self.now.nodes.items) (sight_at (sight_of g.D.Disk.count g.D.Disk.limit) c.calls.self.nodes.items) c.requires.shards.0 c.calls.invariant.untouched)) (subst (λ d. IsForgetCall ((sight_at (sight_of g.D.Disk.count g.D.Disk.limit) c.args.self.now.nodes.items) d.0).header d.1) (sym c.calls-item.is) (c.requires.calls c.calls.shard-index c.calls-item.result c.calls-test.true))
+
+pub forget_one-answer-requires-clause-place : goal.forget_one-answer-requires-clause-place
+forget_one-answer-requires-clause-place g c =
+    let P : ℕ → Type 0 = λ n. n < length c.calls.self.nodes.items in subst (λ d. d.0 < length c.calls.self.nodes.items) (sym c.calls-item.is) (omega (arith, c.requires.shards.1 c.calls.shard-index c.calls-item.result c.calls-test.true, c.calls.invariant.count))
+
+pub calls-init : goal.calls-init
+calls-init g c =
+    record {
+      each = search rules;
+      told = subst (λ answers. EachTold (ForgetAnswer true) [] answers (sight_at (sight_of g.D.Disk.count g.D.Disk.limit) c.args.self.now.nodes.items) (sight_at (sight_of g.D.Disk.count g.D.Disk.limit) c.args.self.now.nodes.items)) (sym c.requires.empty) tt;
+      untouched = λ s not. refl;
+      headers = λ s. refl;
+      filled = search rules;
+      capacity = refl;
+      count = refl;
+      later = λ n. omega arith;
+      holds = λ h. h;
     }

@@ -1,21 +1,49 @@
-use Rattle.std.proofs.Common.{◌≡◌, ◌+◌, ◌++◌, ◌∷◌, ◌∙◌, [], ℕ, take, length, ap, sym, subst, arith, rules}
-use Rattle.std.specs.List.{AllZip}
-use Rattle.std.proofs.lemmas.List.{take_more}
+use Rattle.std.proofs.Common.{◌+◌, ◌<◌, ◌++◌, ◌∷◌, ◌∙◌, [], ℕ, true, take, length, sym, subst, refl, arith, rules}
+use Rattle.std.specs.List.{All, AllZip}
+use Rattle.std.specs.Result.{IfOk}
 use Rattle.std.proofs.lemmas.Slice.Zip.{all_zipped_more}
-use Rattle.lane_driver.specs.Told.{LockTold}
+use Rattle.cbdc_model.specs.Calls.{IsLockCall}
+use Rattle.cbdc_model.specs.Grammar.{IsReply}
+use Rattle.cbdc_model.specs.Sights.{Sight}
+use Rattle.lane_laws.specs.Answers.{LockAnswer, EachTold}
+use Rattle.lane_driver.specs.Told.{LockTold, IsStamp}
+use Rattle.shard_node.specs.Shards.{sight_of}
+use Rattle.node_ports.specs.Nodes.{sight_at}
+use Rattle.node_ports.proofs.Walking.{longer, as_found, as_found0, told_more, others_more}
 use Rattle.node_ports.proofs.shards.NodeShardsPortSet.lock.Goals as goal
 
 pub calls-preserved : goal.calls-preserved
 calls-preserved g c =
-    let i = c.calls.shard-index in
-    let xs = c.args.calls.now in
-    let x = c.calls-item.result in
-    let longer : take (i + 1) xs ≡ take i xs ++ x ∷ [] = take_more xs i x c.calls-test.true ∙ ap (λ y. take i xs ++ y ∷ []) (sym c.calls-item.is) in
-    let step = all_zipped_more LockTold (take i xs) c.calls.out.items x c.lock_one-answer.result c.calls.invariant.told c.lock_one-answer.ensures.told in
     record {
-      told = subst (λ ys. AllZip LockTold ys c.push_reserved.new.self.items) (sym longer) (subst (λ ys. AllZip LockTold (take i xs ++ x ∷ []) ys) (sym c.push_reserved.ensures.items) step);
+      each = subst (λ ys. AllZip (LockTold (sight_at (sight_of g.D.Disk.count g.D.Disk.limit) c.args.self.now.nodes.items)) ys c.push_reserved.new.self.items) (sym (longer (LockAnswer true) c.args.calls.now c.calls.shard-index c.calls-item.result c.calls-test.true c.calls-item.is)) (subst (λ ys. AllZip (LockTold (sight_at (sight_of g.D.Disk.count g.D.Disk.limit) c.args.self.now.nodes.items)) (take c.calls.shard-index c.args.calls.now ++ c.calls-item.result ∷ []) ys) (sym c.push_reserved.ensures.items) (all_zipped_more (LockTold (sight_at (sight_of g.D.Disk.count g.D.Disk.limit) c.args.self.now.nodes.items)) (take c.calls.shard-index c.args.calls.now) c.calls.out.items c.calls-item.result c.lock_one-answer.result c.calls.invariant.each (subst (λ a. IfOk c.lock_one-answer.result (λ r. IsStamp r.stamp × All (IsReply a.header.shape) r.replies)) (as_found (LockAnswer true) c.args.calls.now c.calls.shard-index c.calls-item.result c.calls-test.true c.calls-item.is (sight_at (sight_of g.D.Disk.count g.D.Disk.limit) c.args.self.now.nodes.items) (sight_at (sight_of g.D.Disk.count g.D.Disk.limit) c.calls.self.nodes.items) (sight_at (sight_of g.D.Disk.count g.D.Disk.limit) c.lock_one-answer.new.self.nodes.items) c.requires.shards.0 c.lock_one-answer.ensures.elsewhere c.calls.invariant.untouched) c.lock_one-answer.ensures.told)));
+      told = subst (λ ys. EachTold (LockAnswer true) (take (c.calls.shard-index + 1) c.args.calls.now) ys (sight_at (sight_of g.D.Disk.count g.D.Disk.limit) c.args.self.now.nodes.items) (sight_at (sight_of g.D.Disk.count g.D.Disk.limit) c.lock_one-answer.new.self.nodes.items)) (sym c.push_reserved.ensures.items) (told_more (LockAnswer true) c.args.calls.now c.calls.shard-index c.calls-item.result c.calls-test.true c.calls-item.is (sight_at (sight_of g.D.Disk.count g.D.Disk.limit) c.args.self.now.nodes.items) (sight_at (sight_of g.D.Disk.count g.D.Disk.limit) c.calls.self.nodes.items) (sight_at (sight_of g.D.Disk.count g.D.Disk.limit) c.lock_one-answer.new.self.nodes.items) c.requires.shards.0 c.lock_one-answer.ensures.elsewhere c.lock_one-answer.result c.calls.out.items c.calls.invariant.told c.calls.invariant.untouched c.lock_one-answer.ensures.answer);
+      untouched = others_more (LockAnswer true) c.args.calls.now c.calls.shard-index c.calls-item.result c.calls-test.true c.calls-item.is (sight_at (sight_of g.D.Disk.count g.D.Disk.limit) c.args.self.now.nodes.items) (sight_at (sight_of g.D.Disk.count g.D.Disk.limit) c.calls.self.nodes.items) (sight_at (sight_of g.D.Disk.count g.D.Disk.limit) c.lock_one-answer.new.self.nodes.items) c.requires.shards.0 c.lock_one-answer.ensures.elsewhere c.calls.invariant.untouched;
+      headers = λ s. c.lock_one-answer.ensures.headers s ∙ c.calls.invariant.headers s;
       filled = omega (arith, c.push_reserved.ensures.len, c.calls.invariant.filled);
       capacity = c.push_reserved.ensures.capacity ∙ c.calls.invariant.capacity;
       count = c.lock_one-answer.ensures.count ∙ c.calls.invariant.count;
       later = λ n. omega (arith, c.calls.invariant.later n, c.lock_one-answer.ensures.later n);
+      holds = λ h. c.lock_one-answer.ensures.holds (c.calls.invariant.holds h);
+    }
+
+pub lock_one-answer-requires-clause-call : goal.lock_one-answer-requires-clause-call
+lock_one-answer-requires-clause-call g c =
+    let P : Sight → Type 0 = λ a. IsLockCall a.header c.calls-item.result.1 in subst P (sym (as_found0 (LockAnswer true) c.args.calls.now c.calls.shard-index c.calls-item.result c.calls-test.true c.calls-item.is (sight_at (sight_of g.D.Disk.count g.D.Disk.limit) c.args.self.now.nodes.items) (sight_at (sight_of g.D.Disk.count g.D.Disk.limit) c.calls.self.nodes.items) c.requires.shards.0 c.calls.invariant.untouched)) (subst (λ d. IsLockCall ((sight_at (sight_of g.D.Disk.count g.D.Disk.limit) c.args.self.now.nodes.items) d.0).header d.1) (sym c.calls-item.is) (c.requires.calls c.calls.shard-index c.calls-item.result c.calls-test.true))
+
+pub lock_one-answer-requires-clause-place : goal.lock_one-answer-requires-clause-place
+lock_one-answer-requires-clause-place g c =
+    let P : ℕ → Type 0 = λ n. n < length c.calls.self.nodes.items in subst (λ d. d.0 < length c.calls.self.nodes.items) (sym c.calls-item.is) (omega (arith, c.requires.shards.1 c.calls.shard-index c.calls-item.result c.calls-test.true, c.calls.invariant.count))
+
+pub calls-init : goal.calls-init
+calls-init g c =
+    record {
+      each = search rules;
+      told = subst (λ answers. EachTold (LockAnswer true) [] answers (sight_at (sight_of g.D.Disk.count g.D.Disk.limit) c.args.self.now.nodes.items) (sight_at (sight_of g.D.Disk.count g.D.Disk.limit) c.args.self.now.nodes.items)) (sym c.requires.empty) tt;
+      untouched = λ s not. refl;
+      headers = λ s. refl;
+      filled = search rules;
+      capacity = refl;
+      count = refl;
+      later = λ n. omega arith;
+      holds = λ h. h;
     }

@@ -1,10 +1,11 @@
+use Rattle.std.specs.Option.{option_copied}
+use Rattle.rack_nodes.specs.Asked.{IsShardNode}
+use Rattle.rack_nodes.proofs.Refusals.{told_foreign, other_shard, not_kept}
 use Rattle.rack_nodes.proofs.nodes.ShardNodeOnDisk.open_disk.Goals as goal
 
-pub returns-else-is_asked-clause-fault : goal.returns-else-is_asked-clause-fault
-returns-else-is_asked-clause-fault g c = c.foreign-answer.ensures (g.D.Disk.count c.args.disk) (g.D.Disk.count c.into_disk.result)
-
-pub returns-in-Err : goal.returns-in-Err
-returns-in-Err g c = record {
-  later = c.in-Err.ensures.later;
-  fault = c.answer_of.ensures (g.D.Disk.count c.args.disk) (g.D.Disk.count c.in-Err.disk) (λ is. c.in-Err.ensures.fault is);
-}
+pub returns-else-is_asked-clause-refusal : goal.returns-else-is_asked-clause-refusal
+returns-else-is_asked-clause-refusal g c = λ bytes told.
+    let ledger = option_copied c.args.ledger in
+    told_foreign IsShardNode c.args.node ledger (g.D.Disk.limit c.args.disk) bytes c.header-else-is_asked.result.now c.in-Ok.shard.header c.foreign-answer.result c.header-else-is_asked.ensures.header c.foreign-answer.ensures
+    (other_shard c.args.node ledger (g.D.Disk.limit c.args.disk) bytes c.in-Ok.shard.header c.in-Ok.shard.journal (c.in-Ok.ensures.opens bytes told).0
+    (not_kept c.is_asked.result c.args.node ledger c.header.result.now c.in-Ok.shard.header c.if-is_asked.false c.is_asked.ensures c.header.ensures.header))

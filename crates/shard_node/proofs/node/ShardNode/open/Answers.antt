@@ -1,5 +1,6 @@
 use Rattle.std.proofs.Common.{refl, arith}
 use Rattle.shard_node.proofs.Opens.{opened_holds}
+use Rattle.cbdc_types.specs.declared.calls.NodeOpenFault.TheVariants.{DiskFault, Memory}
 use Rattle.shard_node.proofs.node.ShardNode.open.Goals as goal
 
 pub returns-in-Ok-opened_of-clause-opens : goal.returns-in-Ok-opened_of-clause-opens
@@ -13,3 +14,8 @@ returns-in-Err-opened_of-clause-refusal g c = λ bytes told. rw (← c.in-Ok.ens
 
 pub returns-in-Err-clause-refusal : goal.returns-in-Err-clause-refusal
 returns-in-Err-clause-refusal g c = λ bytes told. c.no_log_fault-fault.ensures.refusal (g.D.Disk.limit c.args.disk) bytes (c.in-Err.ensures.refusal bytes told)
+
+pub returns-in-Err-clause-same : goal.returns-in-Err-clause-same
+returns-in-Err-clause-same g c = λ other. c.in-Err.ensures.same
+    (λ is. let told = c.no_log_fault-fault.ensures.kept DiskFault is in absurd (cc))
+    (λ is. let told = c.no_log_fault-fault.ensures.kept Memory is in absurd (cc))

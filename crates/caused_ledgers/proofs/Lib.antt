@@ -1,0 +1,4 @@
+pub mod Lending
+pub mod Rising
+pub mod Histories
+pub mod Closed

@@ -1,0 +1,49 @@
+-- The history of a ledger's nodes, and whether each of its records is caused.
+use Rattle.std.specs.Prelude.{◌≡◌, ◌⊎◌, ◌++◌, ℕ, List, map, reverse, Option}
+use Rattle.cbdc_types.specs.declared.answer.Answer.{Answer}
+use Rattle.cbdc_types.specs.declared.answer.Answer.TheVariants as answers
+use Rattle.cbdc_types.specs.declared.answer.UnsoundKind.TheVariants.{Cause}
+use Rattle.cbdc_model.specs.Records.{Shape, Header, Record, Row, journal}
+use Rattle.cbdc_model.specs.History.{IsOrdered}
+use Rattle.history.specs.Rows.{journal_in}
+use Rattle.audit.specs.Walks.{AllCaused, IsFirstUncaused}
+use Rattle.coord_log.specs.Logs.{LogOf}
+use Rattle.shard_node.specs.Shards.{ShardOf}
+use Rattle.rack_ledgers.specs.Ledgers.{AreOpened, IsUnopened}
+
+-- the journals of all nodes, the coordinators first, each with its oldest record first
+abbrev pub journals_of : {D : Type 0} → List (LogOf D) → List (ShardOf D) → List (List Record)
+journals_of logs shards = map (λ l. reverse l.journal) logs ++ map (λ s. reverse s.journal) shards
+
+-- the rows, the oldest first, have these journals, and are in order
+pub record AreMerged (all : List (List Record)) (rows : List Row) : Type 0 where
+  pub journals : (n : ℕ) → journal n rows ≡ journal_in all n
+  pub newest_first : (n : ℕ) → journal n (reverse rows) ≡ reverse (journal_in all n)
+  pub ordered : IsOrdered (reverse rows)
+
+-- each row of the journals' history is caused by those before it
+pub record AreCaused (K : Shape) (all : List (List Record)) : Type 0 where
+  pub rows : List Row
+  pub merged : AreMerged all rows
+  pub caused : AllCaused K (reverse rows)
+
+-- the row at this place of the journals' history, counted from the oldest, is the first that is not
+pub record HasUncaused (K : Shape) (all : List (List Record)) (place : ℕ) : Type 0 where
+  pub rows : List Row
+  pub merged : AreMerged all rows
+  pub first : IsFirstUncaused K rows place
+
+-- all nodes are opened, and the answer is the first place of their history that is not caused
+pub record IsUnsound {D : Type 0} (content : D → Option (List ℕ)) (images : D → List ℕ → Type 0) (limit count : D → ℕ) (held : ℕ → Option D) (answer : Answer) : Type 0 where
+  pub header : Header
+  pub logs : List (LogOf D)
+  pub shards : List (ShardOf D)
+  pub opened : AreOpened content images limit count held header logs shards
+  pub place : ℕ
+  pub told : answer ≡ answers.Unsound place Cause
+  pub uncaused : HasUncaused header.shape (journals_of logs shards) place
+
+-- why the nodes of a ledger are not handed out: one can't be opened, or a record is not caused, or memory ran out
+abbrev pub IsUnresumed : {D : Type 0} → (D → Option (List ℕ)) → (D → List ℕ → Type 0) → (D → ℕ) → (D → ℕ) → (ℕ → Option D) → (ℕ → ℕ) → (ℕ → ℕ) → Answer → Type 0
+IsUnresumed content images limit count held before now answer =
+    IsUnopened content images limit count held before now answer ⊎ (IsUnsound content images limit count held answer ⊎ (answer ≡ answers.Memory))

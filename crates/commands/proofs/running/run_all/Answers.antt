@@ -1,0 +1,21 @@
+use Rattle.std.proofs.Common.{inl, sym, subst}
+use Rattle.input_files.specs.Contents.{AreRead, AreVerdicts}
+use Rattle.rack_runs.proofs.Lent.{on_ok_by}
+use Rattle.commands.proofs.Answers.{first_fault}
+use Rattle.commands.proofs.running.run_all.Goals as goal
+
+pub returns-in-Err-clause-fault : goal.returns-in-Err-clause-fault
+returns-in-Err-clause-fault g c =
+    first_fault (g.I.Inbox.file c.args.inbox.now) (g.I.Inbox.count c.args.inbox.now) (g.I.Inbox.count c.all_clients_in.new.inbox) c.args.clients.now _ (λ place one. inl one) c.in-Err.fault c.in-Err.ensures.fault
+
+pub returns-clause-did : goal.returns-clause-did
+returns-clause-did g c =
+    on_ok_by c.run_on.result
+    (λ shown. record {
+      handed = c.deref.result.now;
+      known = c.in-Ok-verdicts_in.verdicts;
+      read = subst (λ txs. AreRead (g.I.Inbox.file c.args.inbox.now) 0 c.args.clients.now txs) (sym c.deref.ensures.value) c.in-Ok.ensures.read;
+      verdicts_read = subst (λ t. AreVerdicts t c.in-Ok-verdicts_in.verdicts) (c.in-Ok.ensures.same c.args.verdicts.now.name.now) c.in-Ok-verdicts_in.ensures.read;
+      ran = shown;
+    })
+    c.run_on.ensures.ran

@@ -1,7 +1,0 @@
-use Rattle.commands.proofs.Later.{later_through}
-use Rattle.commands.proofs.running.run_open.Goals as goal
-
-pub returns-clause-shard_later : goal.returns-clause-shard_later
-returns-clause-shard_later g c =
-    later_through (λ x. g.D.Disk.count x.disk) c.args.ledger.shards.items c.lend-header.result.1.shards.nodes.items c.run_over-result.new.ports.shards.nodes.items c.take_back.result.shards.items
-    c.lend-header.ensures.shards c.take_back.ensures.shards c.run_over-result.ensures.shard_later

@@ -1,0 +1,132 @@
+-- What a write leaves of a coordinator's parts.
+use Rattle.std.proofs.Common.{◌≡◌, ℕ, ◌+◌, ◌-◌, ◌≤◌, List, [], ◌∷◌, ◌++◌, length, reverse, refl, ap, sym, ◌∙◌, subst, arith, Some, None, Option, Result}
+use Rattle.std.specs.Prelude.{MatchOption, IsOkUnless, sum_by}
+use Rattle.std.proofs.lemmas.Bool.{le-ltb}
+use Rattle.std.proofs.lemmas.List.{reverse-append, reverse-reverse}
+use Rattle.std.proofs.lemmas.List.Sums.{sum_by-cons}
+use Rattle.outside.specs.Counts.{Rose}
+use Rattle.outside.specs.declared.disk.Disk.{Ghosts}
+use Rattle.gate_journal.specs.Shown.{disk_of, gate_of, broken_of}
+use Rattle.gate_journal.specs.Appending.{refusal}
+use Rattle.gate_journal.specs.declared.faults.AppendFault.{AppendFault}
+use Rattle.gate_journal.specs.Rows.{OpensWithOrWithout}
+use Rattle.cbdc_types.specs.Limits.{IsWithinLimits}
+use Rattle.cbdc_model.specs.Records.{Header, Record}
+use Rattle.cbdc_model.specs.Grammar.{IsInGrammar}
+use Rattle.cbdc_model.specs.After.{After, Follows, IsJournal}
+use Rattle.cbdc_model.specs.Due.{used_of}
+use Rattle.cbdc_model.specs.Room.{size_of}
+use Rattle.cbdc_model.specs.Sights.{HasRisen, IsBrokenSince}
+use Rattle.record_codec.specs.Bodies.{body_of}
+use Rattle.record_log.proofs.Sizes.{size_is}
+use Rattle.record_log.specs.Held.{bodies_of, OpensToEither}
+use Rattle.record_log.specs.Logs.{HoldsAll, HasRoom}
+use Rattle.record_log.specs.declared.log.LogFault.{LogFault}
+use Rattle.record_log.specs.declared.log.LogFault.TheVariants.{DiskFault}
+use Rattle.record_log.specs.declared.log.RecordLog.{RecordLog}
+use Rattle.coord_core.specs.Lanes.{CoordOf, Takes, ahead_of}
+use Rattle.coord_core.specs.Stands.{StandsFor}
+use Rattle.coord_log.specs.Logs.{HoldsJournal}
+use Rattle.coord_log.specs.Inside.{shown, largest, HasPlace, IsSound, IsDue}
+use Rattle.coord_log.proofs.Journals.{follows_next, journal_more}
+use Rattle.coord_log.proofs.Going.{takes_header}
+
+-- where there is room, only the disk can fail
+pub only_disk : {T : Type 0} (P : AppendFault → Type 0) (broken : Option ℕ) (used need limit : ℕ) (result : Result T LogFault) → broken ≡ None → used + need ≤ limit
+    → MatchOption (refusal broken used need limit) (IsOkUnless result DiskFault) P → IsOkUnless result DiskFault
+only_disk P broken used need limit result whole fits answer =
+    let f = le-ltb limit (used + need) fits in
+    let none : refusal broken used need limit ≡ None = rw whole (rw f refl) in
+    rw none at answer
+
+-- a longer list, newest first
+newest : (xs : List Record) (r : Record) → reverse (xs ++ r ∷ []) ≡ r ∷ reverse xs
+newest xs r = reverse-append xs (r ∷ [])
+
+-- memory for the record itself
+pub own_room : {D : Type 0} {G : Ghosts D} (l : RecordLog D G) (h : Header) (r : Record) → IsWithinLimits h.shape → IsInGrammar h r → HasRoom l 1 (size_of r) → HasRoom l 1 (length (body_of r))
+own_room l h r limits is room =
+    let e = size_is h r limits is in
+    record { records = room.records; body = omega (arith, room.body, e); row = omega (arith, room.row, e) }
+
+-- the record was written
+pub sound_after : {D : Type 0} {G : Ghosts D} (old new : RecordLog D G) (c d : CoordOf) (flight : Option Record) (r : Record) (opened : ℕ)
+    → IsDue old c flight r → opened ≤ G.count (disk_of old.journal) → G.count (disk_of old.journal) ≤ G.count (disk_of new.journal)
+    → new.records.items ≡ old.records.items ++ r ∷ [] → new.header ≡ old.header → gate_of new.journal ≡ gate_of old.journal + 9 + length (body_of r) → broken_of new.journal ≡ None
+    → G.limit (disk_of new.journal) ≡ G.limit (disk_of old.journal) → ((count bytes : ℕ) → HasRoom old (count + 1) bytes → HasRoom new count bytes)
+    → Takes c d r → StandsFor d (r ∷ reverse old.records.items) → IsSound new d opened flight
+sound_after {D} {G} old new c d flight r opened due since later records header gate whole limit room takes stands =
+    let J : reverse new.records.items ≡ r ∷ reverse old.records.items = ap reverse records ∙ newest old.records.items r in
+    let size : 9 + length (body_of r) ≡ size_of r = size_is old.header r due.on.limits due.grammar in
+    let place : HasPlace old d (size_of r) 1 = due.place d takes in
+    let F : Header → Type 0 = λ h. Follows h (reverse old.records.items) r in
+    let after : After old.header (reverse old.records.items) r = (due.grammar, subst F due.on.header (follows_next c (reverse old.records.items) r due.on.stands due.next)) in
+    let sums : sum_by size_of (r ∷ reverse old.records.items) ≡ size_of r + sum_by size_of (reverse old.records.items) = sum_by-cons size_of r (reverse old.records.items) in
+    let u : used_of (reverse new.records.items) ≡ gate_of new.journal + 1 = ap used_of J ∙ omega (arith, sums, due.used) in
+    let memory : HasRoom new (ahead_of d.lanes) largest =
+    room (ahead_of d.lanes) largest (let P : ℕ → Type 0 = λ n. HasRoom old n largest in subst P (omega arith) place.memory) in
+    record {
+      on = record {
+        header = takes_header c d r takes ∙ due.on.header ∙ sym header;
+        limits = let P : Header → Type 0 = λ h. IsWithinLimits h.shape in subst P (sym header) due.on.limits;
+        stands = let P : List Record → Type 0 = λ x. StandsFor d x in subst P (sym J) stands;
+        journal = let P : Header → List Record → Type 0 = λ h x. IsJournal h x in rw (header, J) (journal_more old.header (reverse old.records.items) r due.on.journal after);
+      };
+      since_opened = omega arith;
+      broken = let B : Option ℕ → Type 0 = λ b. IsBrokenSince opened (G.count (disk_of new.journal)) b in subst B (sym whole) tt;
+      ready = λ e. record {
+        used = sym u;
+        none_left = due.none_left;
+        place = record {
+          space = omega (arith, place.space);
+          rooms = place.rooms;
+          memory = let P : ℕ → Type 0 = λ n. HasRoom new n largest in subst P (omega arith) memory;
+        };
+      };
+    }
+
+-- the disk failed at it
+pub sound_broken : {D : Type 0} {G : Ghosts D} (old new : RecordLog D G) (c : CoordOf) (flight left : Option Record) (r : Record) (opened : ℕ)
+    → IsDue old c flight r → opened ≤ G.count (disk_of old.journal) → Rose (G.count (disk_of old.journal)) (G.count (disk_of new.journal)) → G.count (disk_of old.journal) ≤ G.count (disk_of new.journal)
+    → new.records.items ≡ old.records.items → new.header ≡ old.header → broken_of new.journal ≡ Some (G.count (disk_of new.journal)) → IsSound new c opened left
+sound_broken {D} {G} old new c flight left r opened due since rose later records header broken =
+    let risen : HasRisen opened (G.count (disk_of new.journal)) = omega arith in
+    let B : Option ℕ → Type 0 = λ b. IsBrokenSince opened (G.count (disk_of new.journal)) b in
+    record {
+      on = record {
+        header = due.on.header ∙ sym header;
+        limits = let P : Header → Type 0 = λ h. IsWithinLimits h.shape in subst P (sym header) due.on.limits;
+        stands = let P : List Record → Type 0 = λ x. StandsFor c (reverse x) in subst P (sym records) due.on.stands;
+        journal = rw (header, records) due.on.journal;
+      };
+      since_opened = omega arith;
+      broken = subst B (sym broken) (risen, omega arith);
+      ready = λ e. cc;
+    }
+
+-- a disk that holds the records, and nothing in flight
+pub to_journal : {D : Type 0} {G : Ghosts D} (l : RecordLog D G) (opened : ℕ) (flight : Option Record) → flight ≡ None → HoldsAll l l.records.items → HoldsJournal G.content G.images (shown l opened flight)
+to_journal {D} {G} l opened flight none holds =
+    let same : reverse (reverse l.records.items) ≡ l.records.items = reverse-reverse l.records.items in
+    let at : gate_of l.journal + 1 - 1 ≡ gate_of l.journal = omega arith in
+    record {
+      each = λ c image. rw (none, same) (let P : List ℕ → Type 0 = λ x. OpensToEither l.records.items None x in subst P (sym (holds.durable c image)) holds.opens);
+      reads = λ e. rw (at, same) holds;
+    }
+
+pub from_journal : {D : Type 0} {G : Ghosts D} (l : RecordLog D G) (opened : ℕ) (flight : Option Record) → broken_of l.journal ≡ None → HoldsJournal G.content G.images (shown l opened flight) → HoldsAll l l.records.items
+from_journal {D} {G} l opened flight whole journal =
+    let same : reverse (reverse l.records.items) ≡ l.records.items = reverse-reverse l.records.items in
+    let at : gate_of l.journal + 1 - 1 ≡ gate_of l.journal = omega arith in
+    let h = journal.reads whole in
+    rw (at, same) at h
+
+-- a disk that failed leaves the record in flight
+pub to_broken : {D : Type 0} {G : Ghosts D} (l : RecordLog D G) (records : List Record) (opened : ℕ) (r : Record) → l.records.items ≡ records → broken_of l.journal ≡ Some (G.count (disk_of l.journal))
+    → ((c : List ℕ) → G.images (disk_of l.journal) c → OpensWithOrWithout (bodies_of records) (body_of r) c) → HoldsJournal G.content G.images (shown l opened (Some r))
+to_broken {D} {G} l records opened r same broken each =
+    let twice : reverse (reverse l.records.items) ≡ records = reverse-reverse l.records.items ∙ same in
+    record {
+      each = λ c image. rw twice (each c image);
+      reads = λ e. cc;
+    }

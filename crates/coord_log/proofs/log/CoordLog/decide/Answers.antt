@@ -1,0 +1,154 @@
+use Rattle.std.proofs.Common.{◌≡◌, ◌≤◌, ◌<◌, ◌∷◌, [], Err, ℕ, List, suc, refl, ap, sym, ◌∙◌, subst, arith, length, reverse, None, Some, false}
+use Rattle.std.specs.Prelude.{All}
+use Rattle.gate_journal.specs.Shown.{broken_of}
+use Rattle.cbdc_types.specs.declared.calls.NodeFault.TheVariants.{Broken, ClockEnd}
+use Rattle.cbdc_model.specs.Records.{Header, Record, Outcome, txs_of, outcomes_in, Commit}
+use Rattle.cbdc_model.specs.Grammar.{IsOutcome}
+use Rattle.cbdc_model.specs.Slots.{InPrepare}
+use Rattle.cbdc_model.specs.Due.{Answers, last_late, open_batch, decide_due}
+use Rattle.cbdc_model.specs.Sights.{IsSameNode}
+use Rattle.std.proofs.lemmas.List.{length-map}
+use Rattle.coord_core.specs.Masks.{mask_of}
+use Rattle.coord_core.proofs.Walks.{length-combined}
+use Rattle.coord_core.specs.Decided.{latest, combined, AreRepliesTo}
+use Rattle.coord_core.specs.Hashes.{AllNameBatches}
+use Rattle.coord_core.specs.Lanes.{IsOwn, lane_at, open_batch as core_batch}
+use Rattle.coord_log.specs.Logs.{LogOf, sight, commit_due}
+use Rattle.coord_log.specs.Inside.{shown}
+use Rattle.coord_log.proofs.Owed.{told_ok, told_err, breaks_err, own_lane, own_phase, batch_is}
+use Rattle.coord_log.proofs.Deciding.{commit_owed, commit_late, decide_owed, decide_late, decide_ready, told_is}
+use Rattle.coord_log.proofs.log.CoordLog.decide.Goals as goal
+
+pub write-requires : goal.write-requires
+write-requires g c =
+    let l = c.self.inside.log in
+    let core = c.self.inside.core in
+    let sound = c.self.invariant in
+    let whole : broken_of c.self.inside.log.journal ≡ None = sym c.is_broken.ensures ∙ c.in-None.is in
+    let own : IsOwn c.self.inside.core.header c.args.lane = own_lane l core c.self.inside.opened c.self.inside.flight c.args.self.now c.args.lane c.self.view_is sound.on.header c.requires.own in
+    let phase = own_phase l c.self.inside.opened c.self.inside.flight c.args.self.now c.args.lane InPrepare c.self.view_is c.requires.prepared in
+    let late : suc (latest c.self.inside.core.last c.args.replies.now) ≤ last_late = omega (arith, c.commit_stamp-stamp.ensures.value, c.stamp.view_is, c.if-stamp-gt-LAST_STAMP.false) in
+    let shape : c.args.self.now.header ≡ c.self.inside.core.header = ap (λ x. x.header) (sym c.self.view_is) ∙ sym sound.on.header in
+    let N : Header → Type 0 = λ h. AllNameBatches h.shape c.args.replies.now in
+    let named = subst N shape c.requires.named in
+    let O : Header → Type 0 = λ h. All (λ o. IsOutcome h.shape o) (outcomes_in (Some c.decide-next.result)) in
+    let outcomes = subst O sound.on.header (c.decide-next.ensures.outcomes named) in
+    let R : Record → Type 0 = λ x. All (λ o. IsOutcome c.self.inside.log.header.shape o) (outcomes_in (Some x)) in
+    decide_ready l core c.decide-next.new.self c.self.inside.flight c.args.lane (suc (latest c.self.inside.core.last c.args.replies.now))
+    (combined (lane_at c.self.inside.core c.args.lane).masks c.args.replies.now) c.decide-next.result c.decide-next.ensures.whole c.decide-next.ensures.same c.decide-next.ensures.others
+    sound.on whole (sound.ready whole) own phase (omega arith) late c.decide-next.ensures.«record» (subst R c.decide-next.ensures.«record» outcomes) (c.decide-next.ensures.next late)
+
+pub returns-then-stamp-gt-LAST_STAMP-clause-meets : goal.returns-then-stamp-gt-LAST_STAMP-clause-meets
+returns-then-stamp-gt-LAST_STAMP-clause-meets g c = λ are.
+    let sound = c.self.invariant in
+    let whole : broken_of c.self.inside.log.journal ≡ None = sym c.is_broken.ensures ∙ c.in-None.is in
+    let K = c.args.self.now.header.shape in
+    let late : last_late < c.commit_stamp-stamp.result = omega (arith, c.stamp.view_is, c.if-stamp-gt-LAST_STAMP.true) in
+    let P : LogOf g.row.D.Denot → Type 0 = λ x. AreRepliesTo c.args.self.now.header.shape (txs_of x.journal (open_batch x.journal c.args.lane)) c.args.replies.now
+    → decide_due c.args.self.now.header.shape c.args.lane c.args.replies.now x.broken x.journal ≡ Answers (Err (ClockEnd c.commit_stamp-stamp.result)) in
+    let owed = subst P c.self.view_is
+    (λ a. decide_late c.self.inside.core K _ _ c.args.lane c.commit_stamp-stamp.result _ c.args.replies.now sound.on.stands whole c.commit_stamp-stamp.ensures.value late a) are in
+    (owed, record { node = record { header = refl; opened = refl; capacity = refl; later = omega arith }; seen = refl; flight = refl })
+
+pub returns-in-Err-clause-meets : goal.returns-in-Err-clause-meets
+returns-in-Err-clause-meets g c = λ are.
+    let l = c.self.inside.log in
+    let core = c.self.inside.core in
+    let sound = c.self.invariant in
+    let whole : broken_of c.self.inside.log.journal ≡ None = sym c.is_broken.ensures ∙ c.in-None.is in
+    let own : IsOwn c.self.inside.core.header c.args.lane = own_lane l core c.self.inside.opened c.self.inside.flight c.args.self.now c.args.lane c.self.view_is sound.on.header c.requires.own in
+    let phase = own_phase l c.self.inside.opened c.self.inside.flight c.args.self.now c.args.lane InPrepare c.self.view_is c.requires.prepared in
+    let shape : c.args.self.now.header.shape ≡ c.self.inside.core.header.shape = ap (λ x. x.header.shape) (sym c.self.view_is) ∙ ap (λ h. h.shape) (sym sound.on.header) in
+    let J : List Record → Type 0 = λ x. AreRepliesTo c.args.self.now.header.shape (txs_of x (open_batch x c.args.lane)) c.args.replies.now in
+    let are' = subst J (ap (λ x. x.journal) (sym c.self.view_is)) are in
+    told_err false (λ broken J. decide_due c.args.self.now.header.shape c.args.lane c.args.replies.now broken J) l c.write.new.log c.self.inside.opened c.self.inside.flight c.write.new.flight c.args.self.now
+    c.commit_stamp-stamp.result c.decide-next.result c.in-Err.fault c.self.view_is
+    (decide_owed core c.args.self.now.header.shape _ _ c.args.lane c.commit_stamp-stamp.result c.decide-next.result c.args.replies.now shape sound.on.stands own whole phase c.commit_stamp-stamp.ensures.value
+    (omega (arith, c.stamp.view_is, c.if-stamp-gt-LAST_STAMP.false)) c.decide-next.ensures.decided are')
+    (c.in-Err.ensures.told c.self.inside.opened)
+
+pub returns-in-Err-clause-breaks : goal.returns-in-Err-clause-breaks
+returns-in-Err-clause-breaks g c = breaks_err ℕ c.in-Err.fault _ _ _ (c.in-Err.ensures.told c.self.inside.opened).0 c.in-Err.ensures.broken
+
+pub returns-clause-meets : goal.returns-clause-meets
+returns-clause-meets g c = λ are.
+    let l = c.self.inside.log in
+    let core = c.self.inside.core in
+    let sound = c.self.invariant in
+    let whole : broken_of c.self.inside.log.journal ≡ None = sym c.is_broken.ensures ∙ c.in-None.is in
+    let own : IsOwn c.self.inside.core.header c.args.lane = own_lane l core c.self.inside.opened c.self.inside.flight c.args.self.now c.args.lane c.self.view_is sound.on.header c.requires.own in
+    let phase = own_phase l c.self.inside.opened c.self.inside.flight c.args.self.now c.args.lane InPrepare c.self.view_is c.requires.prepared in
+    let shape : c.args.self.now.header.shape ≡ c.self.inside.core.header.shape = ap (λ x. x.header.shape) (sym c.self.view_is) ∙ ap (λ h. h.shape) (sym sound.on.header) in
+    let J : List Record → Type 0 = λ x. AreRepliesTo c.args.self.now.header.shape (txs_of x (open_batch x c.args.lane)) c.args.replies.now in
+    let are' = subst J (ap (λ x. x.journal) (sym c.self.view_is)) are in
+    told_ok false (λ broken J. decide_due c.args.self.now.header.shape c.args.lane c.args.replies.now broken J) l c.write.new.log c.self.inside.opened c.self.inside.flight c.write.new.flight c.args.self.now
+    c.commit_stamp-stamp.result c.decide-next.result c.self.view_is
+    (decide_owed core c.args.self.now.header.shape _ _ c.args.lane c.commit_stamp-stamp.result c.decide-next.result c.args.replies.now shape sound.on.stands own whole phase c.commit_stamp-stamp.ensures.value
+    (omega (arith, c.stamp.view_is, c.if-stamp-gt-LAST_STAMP.false)) c.decide-next.ensures.decided are')
+    (c.in-Ok.ensures.told c.self.inside.opened)
+
+pub returns-clause-appended : goal.returns-clause-appended
+returns-clause-appended g c =
+    let core = c.self.inside.core in
+    let own : IsOwn c.self.inside.core.header c.args.lane = own_lane c.self.inside.log core c.self.inside.opened c.self.inside.flight c.args.self.now c.args.lane c.self.view_is c.self.invariant.on.header c.requires.own in
+    let journal : reverse c.self.inside.log.records.items ≡ c.args.self.now.journal = ap (λ x. x.journal) c.self.view_is in
+    let os : List Outcome = combined (lane_at c.self.inside.core c.args.lane).masks c.args.replies.now in
+    let made : c.decide-next.result ≡ Commit c.commit_stamp-stamp.result (core_batch c.self.inside.core c.args.lane) (combined (lane_at c.self.inside.core c.args.lane).masks c.args.replies.now) =
+    c.decide-next.ensures.«record» ∙ ap (λ t. Commit t (core_batch c.self.inside.core c.args.lane) (combined (lane_at c.self.inside.core c.args.lane).masks c.args.replies.now)) (sym c.commit_stamp-stamp.ensures.value) in
+    let is = told_is c.decide-next.result c.commit_stamp-stamp.result (core_batch c.self.inside.core c.args.lane) (open_batch (reverse c.self.inside.log.records.items) c.args.lane) os c.tell.new.out.items
+    made (batch_is core (reverse c.self.inside.log.records.items) c.args.lane c.self.invariant.on.stands own) c.tell.ensures in
+    (c.in-Ok.ensures.told c.self.inside.opened).seen ∙ ap (λ x. x ∷ reverse c.self.inside.log.records.items) is
+    ∙ ap (λ x. Commit c.commit_stamp-stamp.result (open_batch x c.args.lane) c.tell.new.out.items ∷ x) journal
+
+pub returns-in-Err-clause-node : goal.returns-in-Err-clause-node
+returns-in-Err-clause-node g c = let P : LogOf g.row.D.Denot → Type 0 = λ x. IsSameNode (sight x) (sight (shown c.write.new.log c.self.inside.opened c.write.new.flight)) in subst P c.self.view_is (c.in-Err.ensures.told c.self.inside.opened).1.node
+
+pub returns-clause-node : goal.returns-clause-node
+returns-clause-node g c = let P : LogOf g.row.D.Denot → Type 0 = λ x. IsSameNode (sight x) (sight (shown c.write.new.log c.self.inside.opened c.write.new.flight)) in subst P c.self.view_is (c.in-Ok.ensures.told c.self.inside.opened).node
+
+pub returns-clause-count : goal.returns-clause-count
+returns-clause-count g c =
+    let core = c.self.inside.core in
+    let sound = c.self.invariant in
+    let own : IsOwn c.self.inside.core.header c.args.lane = own_lane c.self.inside.log core c.self.inside.opened c.self.inside.flight c.args.self.now c.args.lane c.self.view_is sound.on.header c.requires.own in
+    let phase = own_phase c.self.inside.log c.self.inside.opened c.self.inside.flight c.args.self.now c.args.lane InPrepare c.self.view_is c.requires.prepared in
+    let J : List Record → Type 0 = λ x. length c.tell.new.out.items ≡ length (txs_of x (open_batch x c.args.lane)) in
+    let txs = txs_of (reverse c.self.inside.log.records.items) (open_batch (reverse c.self.inside.log.records.items) c.args.lane) in
+    let told : c.tell.new.out.items ≡ combined (lane_at c.self.inside.core c.args.lane).masks c.args.replies.now = c.tell.ensures ∙ ap (λ x. outcomes_in (Some x)) c.decide-next.ensures.«record» in
+    let masks : length (lane_at c.self.inside.core c.args.lane).masks ≡ length (txs_of (reverse c.self.inside.log.records.items) (open_batch (reverse c.self.inside.log.records.items) c.args.lane)) =
+    ap length (sound.on.stands.masks c.args.lane own phase) ∙ length-map txs (λ t. mask_of c.self.inside.core.header.shape.shards t) in
+    subst J (ap (λ x. x.journal) c.self.view_is) (ap length told ∙ length-combined (lane_at c.self.inside.core c.args.lane).masks c.args.replies.now ∙ masks)
+
+pub returns-in-Some-clause-fault : goal.returns-in-Some-clause-fault
+returns-in-Some-clause-fault g c =
+    let r : Record = Commit 0 (open_batch c.args.self.now.journal c.args.lane) [] in
+    let broken : c.args.self.now.broken ≡ Some c.in-Some.since = ap (λ x. x.broken) (sym c.self.view_is) ∙ sym c.is_broken.ensures ∙ c.in-Some.is in
+    let due : commit_due c.args.self.now.header.shape c.args.replies.now r c.args.self.now.broken c.args.self.now.journal ≡ Answers (Err (Broken c.in-Some.since)) =
+    ap (λ b. commit_due c.args.self.now.header.shape c.args.replies.now r b c.args.self.now.journal) broken in
+    (r, (due, record { node = record { header = refl; opened = refl; capacity = refl; later = omega arith }; seen = refl; flight = refl }))
+
+pub returns-then-stamp-gt-LAST_STAMP-clause-fault : goal.returns-then-stamp-gt-LAST_STAMP-clause-fault
+returns-then-stamp-gt-LAST_STAMP-clause-fault g c =
+    let sound = c.self.invariant in
+    let whole : broken_of c.self.inside.log.journal ≡ None = sym c.is_broken.ensures ∙ c.in-None.is in
+    let K = c.args.self.now.header.shape in
+    let late : last_late < c.commit_stamp-stamp.result = omega (arith, c.stamp.view_is, c.if-stamp-gt-LAST_STAMP.true) in
+    let r : Record = Commit 0 (open_batch c.args.self.now.journal c.args.lane) [] in
+    let P : LogOf g.row.D.Denot → Type 0 = λ x. commit_due c.args.self.now.header.shape c.args.replies.now r x.broken x.journal ≡ Answers (Err (ClockEnd c.commit_stamp-stamp.result)) in
+    let due = subst P c.self.view_is (commit_late c.self.inside.core K _ _ c.commit_stamp-stamp.result r c.args.replies.now sound.on.stands whole c.requires.rising c.commit_stamp-stamp.ensures.value late) in
+    (r, (due, record { node = record { header = refl; opened = refl; capacity = refl; later = omega arith }; seen = refl; flight = refl }))
+
+pub returns-in-Err-clause-fault : goal.returns-in-Err-clause-fault
+returns-in-Err-clause-fault g c =
+    let sound = c.self.invariant in
+    let whole : broken_of c.self.inside.log.journal ≡ None = sym c.is_broken.ensures ∙ c.in-None.is in (
+      c.decide-next.result,
+      told_err false (λ broken J. commit_due c.args.self.now.header.shape c.args.replies.now c.decide-next.result broken J) c.self.inside.log c.write.new.log c.self.inside.opened c.self.inside.flight c.write.new.flight c.args.self.now
+          c.commit_stamp-stamp.result c.decide-next.result c.in-Err.fault c.self.view_is
+          (commit_owed c.self.inside.core c.args.self.now.header.shape _ _ c.commit_stamp-stamp.result c.decide-next.result c.args.replies.now sound.on.stands whole c.requires.rising c.commit_stamp-stamp.ensures.value
+          (omega (arith, c.stamp.view_is, c.if-stamp-gt-LAST_STAMP.false)))
+          (c.in-Err.ensures.told c.self.inside.opened),
+    )
+
+pub returns-in-Err-clause-as_before : goal.returns-in-Err-clause-as_before
+returns-in-Err-clause-as_before g c = (c.in-Err.ensures.told c.self.inside.opened).1.seen ∙ ap (λ x. x.journal) c.self.view_is

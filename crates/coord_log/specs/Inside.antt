@@ -1,0 +1,79 @@
+-- What holds of a coordinator's parts.
+use Rattle.std.specs.Prelude.{◌≡◌, ℕ, ◌+◌, ◌≤◌, ◌<◌, reverse, Option, None}
+use Rattle.outside.specs.declared.disk.Disk.{Ghosts}
+use Rattle.gate_journal.specs.Shown.{disk_of, gate_of, broken_of}
+use Rattle.cbdc_types.specs.declared.calls.NodeFault.{NodeFault}
+use Rattle.cbdc_types.specs.declared.calls.NodeFault.TheVariants.{Full, Memory}
+use Rattle.cbdc_types.specs.Limits.{IsWithinLimits}
+use Rattle.cbdc_model.specs.Records.{Record}
+use Rattle.cbdc_model.specs.Grammar.{IsInGrammar}
+use Rattle.cbdc_model.specs.After.{IsJournal}
+use Rattle.cbdc_model.specs.Due.{used_of}
+use Rattle.cbdc_model.specs.Room.{size_of}
+use Rattle.cbdc_model.specs.Sights.{IsBrokenSince}
+use Rattle.record_log.specs.declared.log.RecordLog.{RecordLog}
+use Rattle.record_log.specs.Logs.{HasRoom}
+use Rattle.coord_core.specs.Lanes.{CoordOf, IsNext, Takes, AllRoomed, kept_of, ahead_of}
+use Rattle.coord_core.specs.Stands.{StandsFor}
+use Rattle.coord_log.specs.Logs.{LogOf}
+
+-- what contracts see of these parts
+abbrev pub shown : {D : Type 0} {G : Ghosts D} → RecordLog D G → ℕ → Option Record → LogOf D
+shown {D} {G} l opened flight = record {
+  header = l.header;
+  journal = reverse l.records.items;
+  flight = flight;
+  faults = G.count (disk_of l.journal);
+  opened = opened;
+  broken = broken_of l.journal;
+  used = gate_of l.journal + 1;
+  capacity = G.limit (disk_of l.journal);
+  disk = disk_of l.journal;
+}
+
+-- the most bytes of a later record's body
+abbrev pub largest : ℕ
+largest = 58410
+
+-- there is room and memory for a record, and behind it for the later ones of the batches that are open then
+pub record HasPlace {D : Type 0} {G : Ghosts D} (l : RecordLog D G) (c : CoordOf) (bytes count : ℕ) : Type 0 where
+  pub space : gate_of l.journal + 1 + bytes + kept_of c.lanes ≤ G.limit (disk_of l.journal)
+  pub rooms : AllRoomed c
+  pub memory : HasRoom l (count + ahead_of c.lanes) largest
+
+-- no append has failed: the disk takes as many bytes as the journal says, and the open batches have their place
+pub record IsReady {D : Type 0} {G : Ghosts D} (l : RecordLog D G) (c : CoordOf) (flight : Option Record) : Type 0 where
+  pub used : gate_of l.journal + 1 ≡ used_of (reverse l.records.items)
+  pub none_left : flight ≡ None
+  pub place : HasPlace l c 0 0
+
+-- the lanes stand for the journal
+pub record StandsOn {D : Type 0} {G : Ghosts D} (l : RecordLog D G) (c : CoordOf) : Type 0 where
+  pub header : c.header ≡ l.header
+  pub limits : IsWithinLimits l.header.shape
+  pub stands : StandsFor c (reverse l.records.items)
+  pub journal : IsJournal l.header (reverse l.records.items)
+
+pub record IsSound {D : Type 0} {G : Ghosts D} (l : RecordLog D G) (c : CoordOf) (opened : ℕ) (flight : Option Record) : Type 0 where
+  pub on : StandsOn l c
+  pub since_opened : opened ≤ G.count (disk_of l.journal)
+  pub broken : IsBrokenSince opened (G.count (disk_of l.journal)) (broken_of l.journal)
+  pub ready : broken_of l.journal ≡ None → IsReady l c flight
+
+-- the record is next, in the grammar, and has its place
+pub record IsDue {D : Type 0} {G : Ghosts D} (l : RecordLog D G) (c : CoordOf) (flight : Option Record) (r : Record) : Type 0 where
+  pub on : StandsOn l c
+  pub whole : broken_of l.journal ≡ None
+  pub used : gate_of l.journal + 1 ≡ used_of (reverse l.records.items)
+  pub none_left : flight ≡ None
+  pub next : IsNext c r
+  pub grammar : IsInGrammar l.header r
+  pub size : HasRoom l 1 (size_of r)
+  pub fits : gate_of l.journal + 1 + size_of r ≤ G.limit (disk_of l.journal)
+  pub place : (d : CoordOf) → Takes c d r → HasPlace l d (size_of r) 1
+
+-- why there is no room: the disk is full, with these numbers, or memory ran out
+abbrev pub IsNoRoom : ℕ → ℕ → ℕ → NodeFault → Type 0
+IsNoRoom used need capacity (Full u n c) = (capacity < used + need) × (u ≡ used) × (n ≡ need) × (c ≡ capacity)
+IsNoRoom used need capacity Memory = Unit {0}
+IsNoRoom used need capacity other = ⊥

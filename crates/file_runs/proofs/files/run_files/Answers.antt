@@ -1,0 +1,39 @@
+use Rattle.std.proofs.Common.{◌≡◌, ◌∙◌, sym, subst, arith, get_or}
+use Rattle.file_runs.proofs.Joining.{files_step, files_end, keeps_none, keeps_fault}
+use Rattle.file_runs.proofs.files.run_files.Goals as goal
+
+pub returns-in_default-clause-keeps : goal.returns-in_default-clause-keeps
+returns-in_default-clause-keeps g c = keeps_none (g.L.Turns.shape c.args.ledger.now) c.args.files.now (g.L.Turns.journals c.args.ledger.now)
+
+pub returns-in-Err-clause-keeps : goal.returns-in-Err-clause-keeps
+returns-in-Err-clause-keeps g c =
+    keeps_fault (g.L.Turns.shape c.args.ledger.now) (g.L.Turns.shape c.files.ledger) c.args.files.now c.files.txs-index c.as_slice.result.now (g.L.Turns.journals c.args.ledger.now) (g.L.Turns.journals c.files.ledger) (g.L.Turns.journals c.run_file.new.ledger)
+    c.files.invariant.shape c.files-test.true (subst (λ f. f ≡ get_or c.args.files.now c.files.txs-index f) (sym c.as_slice.ensures) c.txs-item.is) c.files.invariant.so.keeps c.run_file.ensures.keeps
+
+pub returns-in-Err-push-clause-keeps : goal.returns-in-Err-push-clause-keeps
+returns-in-Err-push-clause-keeps g c =
+    keeps_fault (g.L.Turns.shape c.args.ledger.now) (g.L.Turns.shape c.files.ledger) c.args.files.now c.files.txs-index c.as_slice.result.now (g.L.Turns.journals c.args.ledger.now) (g.L.Turns.journals c.files.ledger) (g.L.Turns.journals c.run_file.new.ledger)
+    c.files.invariant.shape c.files-test.true (subst (λ f. f ≡ get_or c.args.files.now c.files.txs-index f) (sym c.as_slice.ensures) c.txs-item.is) c.files.invariant.so.keeps c.run_file.ensures.keeps
+
+pub files-preserved : goal.files-preserved
+files-preserved g c =
+    let is = c.files.invariant in
+    let did = c.run_file.ensures in
+    record {
+      shape = did.shape ∙ is.shape;
+      so = files_step (g.L.Turns.shape c.args.ledger.now) (g.L.Turns.shape c.files.ledger) (g.V.Verifier.verdict_of c.args.verifier.now) c.args.files.now c.files.txs-index c.as_slice.result.now
+          (g.L.Turns.journals c.args.ledger.now) (g.L.Turns.journals c.files.ledger) (g.L.Turns.journals c.run_file.new.ledger)
+          is.shape c.files-test.true (subst (λ f. f ≡ get_or c.args.files.now c.files.txs-index f) (sym c.as_slice.ensures) c.txs-item.is) is.so c.in-Ok-run_file.ensures.idle did.keeps c.in-Ok-run_file.ensures.runs;
+      holds = λ h. did.holds (is.holds h);
+      later = λ n. omega (arith, did.later n, is.later n);
+    }
+
+pub returns-clause-keeps : goal.returns-clause-keeps
+returns-clause-keeps g c =
+    (files_end (g.L.Turns.shape c.args.ledger.now) (g.V.Verifier.verdict_of c.args.verifier.now) c.args.files.now c.files.txs-index (g.L.Turns.journals c.args.ledger.now) (g.L.Turns.journals c.files.ledger)
+    (omega (arith, c.files-test.false)) c.files.invariant.so).keeps
+
+pub returns-clause-waves : goal.returns-clause-waves
+returns-clause-waves g c =
+    (files_end (g.L.Turns.shape c.args.ledger.now) (g.V.Verifier.verdict_of c.args.verifier.now) c.args.files.now c.files.txs-index (g.L.Turns.journals c.args.ledger.now) (g.L.Turns.journals c.files.ledger)
+    (omega (arith, c.files-test.false)) c.files.invariant.so).waves

@@ -1,0 +1,13 @@
+use Rattle.std.proofs.Common.{◌≡◌, ◌≤◌, ℕ, take}
+use Rattle.file_runs.proofs.Joining.{FilesSo}
+use Rattle.file_runs.proofs.files.run_files.Given as goal
+
+abbrev pub invariant-files : goal.invariant-files
+invariant-files g l =
+    let K = g.L.Turns.shape l.fn.ledger in
+    record {
+      shape : g.L.Turns.shape l.ledger ≡ K;
+      so : FilesSo K (g.V.Verifier.verdict_of l.fn.verifier) (take l.txs-index l.files) (g.L.Turns.journals l.fn.ledger) (g.L.Turns.journals l.ledger);
+      holds : g.L.Turns.holds l.fn.ledger → g.L.Turns.holds l.ledger;
+      later : (n : ℕ) → g.L.Turns.faults l.fn.ledger n ≤ g.L.Turns.faults l.ledger n;
+    }

@@ -1,0 +1,33 @@
+use Rattle.std.proofs.Common.{◌≡◌, ◌*◌, subst, length}
+use Rattle.submissions.specs.Checks.{AreSent}
+use Rattle.ledger_runs.specs.Waving.{NoFault, FirstFaultIs}
+use Rattle.file_runs.proofs.Filing.{stays_more, are_within, keeps_file, runs_file}
+use Rattle.file_runs.proofs.waves.run_file.Goals as goal
+
+pub returns-in_default-clause-keeps : goal.returns-in_default-clause-keeps
+returns-in_default-clause-keeps g c = stays_more (g.L.Turns.shape c.args.ledger.now) (g.L.Turns.journals c.args.ledger.now) c.args.txs.now
+
+pub returns-in_default-lanes_of-clause-keeps : goal.returns-in_default-lanes_of-clause-keeps
+returns-in_default-lanes_of-clause-keeps g c = stays_more (g.L.Turns.shape c.args.ledger.now) (g.L.Turns.journals c.args.ledger.now) c.args.txs.now
+
+pub run_wave-requires-clause-limits : goal.run_wave-requires-clause-limits
+run_wave-requires-clause-limits g c = are_within (g.V.Verifier.verdict_of c.args.verifier.now) c.args.txs.now c.in-Ok.field-0.lanes.items c.in-Ok-lanes_of.lanes.items c.requires.short c.in-Ok.ensures.sound c.in-Ok-lanes_of.ensures
+
+pub returns-in-Some-clause-keeps : goal.returns-in-Some-clause-keeps
+returns-in-Some-clause-keeps g c =
+    keeps_file (g.L.Turns.shape c.args.ledger.now) (g.V.Verifier.verdict_of c.args.verifier.now) c.args.txs.now c.in-Ok.field-0.lanes.items c.in-Ok-lanes_of.lanes.items
+    (g.L.Turns.journals c.args.ledger.now) (g.L.Turns.journals c.run_wave.new.ledger) c.in-Ok.ensures.sound c.in-Ok-lanes_of.ensures c.run_wave.ensures.keeps
+
+pub returns-in-None-clause-keeps : goal.returns-in-None-clause-keeps
+returns-in-None-clause-keeps g c =
+    keeps_file (g.L.Turns.shape c.args.ledger.now) (g.V.Verifier.verdict_of c.args.verifier.now) c.args.txs.now c.in-Ok.field-0.lanes.items c.in-Ok-lanes_of.lanes.items
+    (g.L.Turns.journals c.args.ledger.now) (g.L.Turns.journals c.run_wave.new.ledger) c.in-Ok.ensures.sound c.in-Ok-lanes_of.ensures c.run_wave.ensures.keeps
+
+pub returns-in-None-clause-runs : goal.returns-in-None-clause-runs
+returns-in-None-clause-runs g c =
+    let K = g.L.Turns.shape c.args.ledger.now in
+    let sent = subst (λ k. AreSent k (g.V.Verifier.verdict_of c.args.verifier.now) c.args.txs.now c.in-Ok.field-0.lanes.items) c.shape.ensures c.in-Ok.ensures.sent in
+    let count = subst (λ k. length c.in-Ok.field-0.lanes.items ≡ k.coordinators * k.lanes) c.shape.ensures c.in-Ok.ensures.lanes in
+    let none = subst (λ o. FirstFaultIs c.deref.result.now o) c.in-None.is c.first_fault.ensures in
+    runs_file K (g.V.Verifier.verdict_of c.args.verifier.now) c.args.txs.now c.in-Ok.field-0.lanes.items c.in-Ok-lanes_of.lanes.items c.run_wave.new.lanes.items
+    (g.L.Turns.journals c.args.ledger.now) (g.L.Turns.journals c.run_wave.new.ledger) count sent c.in-Ok.ensures.sound c.in-Ok-lanes_of.ensures (subst (λ ls. NoFault ls) c.deref.ensures.value none) c.run_wave.ensures.runs

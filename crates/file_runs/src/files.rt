@@ -1,0 +1,58 @@
+// Client files, one after another.
+ghost use Rattle.std.specs.Prelude.{◌≡◌, ◌≤◌, ◌++◌, ℕ, Bool, List, All, OnOk};
+ghost use Rattle.cbdc_model.specs.Records.{Record};
+ghost use Rattle.cbdc_model.specs.Coins.{FullTx as TxOf};
+ghost use Rattle.cbdc_model.specs.World.{AreIdle};
+ghost use Rattle.cbdc_model.specs.Waves.{IsResumed, Waves};
+ghost use Rattle.input_files.specs.Limits.{IsShort};
+ghost use Rattle.submissions.specs.Checks.{TellsSound};
+ghost use Rattle.ledger_runs.specs.Turning.{OfKept, StaysKept};
+ghost use Rattle.file_runs.specs.Runs.{joined};
+
+use crate::waves::{Wave, run_file};
+use cbdc_types::{FullTx, List};
+use lane_driver::{LaneFault, no_memory};
+use ledger_runs::Turns;
+use outside::Gate;
+use std::alloc::Global;
+use verifier_port::Verifier;
+
+/// Runs client files over the nodes of a ledger with no open batch, one after another. The first fault ends it.
+pub fn run_files<L: Turns, V: Verifier, G: Gate>(
+    alloc: Global,
+    ledger: &mut L,
+    files: &[List<FullTx>],
+    verifier: &V,
+    gate: &G,
+) -> Result<Vec<Wave>, LaneFault>
+    requires idle { AreIdle (L.shape ledger.old) (L.journals ledger.old) }
+    requires short { All (λ txs. All IsShort txs) files.now }
+    ensures shape { L.shape ledger.new ≡ L.shape ledger.old }
+    ensures idle { OnOk result (AreIdle (L.shape ledger.old) (L.journals ledger.new)) }
+
+    // Kept journals have grown and are kept, with the submissions of all files besides.
+    ensures keeps { OfKept (L.shape ledger.old) (L.journals ledger.old)
+        (λ mint submissions. StaysKept (L.shape ledger.old) (L.journals ledger.old) (L.journals ledger.new) mint (submissions ++ joined files.now)) }
+
+    // Without a fault, where the journals are those at entry with their open batches brought to their end, the files' waves follow.
+    ensures waves { OnOk result (OfKept (L.shape ledger.old) (L.journals ledger.old) (λ _ _. (sound : TxOf → Bool) (E : ℕ → List Record)
+        → TellsSound (V.verdict_of verifier.now) sound → IsResumed (L.shape ledger.old) E (L.journals ledger.old) → Waves (L.shape ledger.old) sound files.now E (L.journals ledger.new))) }
+
+    ensures holds { L.holds ledger.old → L.holds ledger.new }
+    ensures later { (n : ℕ) → L.faults ledger.old n ≤ L.faults ledger.new n }
+{
+    let Ok(mut waves) = Vec::with_capacity(alloc, files.len()) else {
+        return Err(no_memory());
+    };
+    'files: for txs in files {
+        let wave = match run_file(alloc, ledger, txs.as_slice(), verifier, gate) {
+            Ok(wave) => wave,
+            Err(fault) => return Err(fault),
+        };
+        match waves.push(wave) {
+            Ok(()) => {}
+            Err(_) => return Err(no_memory()),
+        }
+    }
+    Ok(waves)
+}

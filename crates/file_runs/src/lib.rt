@@ -1,0 +1,8 @@
+//! Client files over the nodes of a ledger: each file is a wave, which begins when those of the files before it are done.
+#![tactic(auto)]
+
+mod files;
+mod waves;
+
+pub use files::run_files;
+pub use waves::{Wave, run_file};

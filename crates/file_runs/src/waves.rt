@@ -1,0 +1,74 @@
+// One client file: its submissions are checked, and the sound ones are a wave.
+ghost use Rattle.std.specs.Prelude.{◌≡◌, ◌≤◌, ◌++◌, ℕ, Bool, All, IfOk, OnOk};
+ghost use Rattle.cbdc_model.specs.Coins.{FullTx as TxOf};
+ghost use Rattle.cbdc_model.specs.World.{AreIdle};
+ghost use Rattle.cbdc_model.specs.Waves.{IsFileRun, sent_to};
+ghost use Rattle.input_files.specs.Limits.{IsShort};
+ghost use Rattle.submissions.specs.Checks.{TellsSound, AreChecked};
+ghost use Rattle.ledger_runs.specs.Turning.{OfKept, StaysKept};
+ghost use Rattle.file_runs.specs.Runs.{AreLanesOf};
+
+use cbdc_types::{CompactTx, FullTx};
+use lane_driver::{LaneFault, no_memory};
+use ledger_runs::{Lane, Turns, first_fault, run_wave};
+use outside::Gate;
+use std::alloc::{AllocError, Global};
+use submissions::{Checked, Submitted, check_all};
+use verifier_port::Verifier;
+
+/// A client file that was run: each submission in order, and the lanes with what was decided.
+#[derive(Drop)]
+pub struct Wave {
+    pub checked: Vec<Checked>,
+    pub lanes: Vec<Lane>,
+}
+
+// The lanes of a wave before their first turn.
+fn lanes_of(alloc: Global, lists: Vec<Vec<CompactTx>>) -> Result<Vec<Lane>, AllocError>
+    ensures { IfOk result (λ v. AreLanesOf lists.items v.items) }
+{
+    let mut lanes = Vec::with_capacity(alloc, lists.len())?;
+    'lists: for txs in lists {
+        lanes.push(Lane::new(alloc, txs)?)?;
+    }
+    Ok(lanes)
+}
+
+/// Runs the submissions of a client file over the nodes of a ledger with no open batch. The fault of the least lane that meets
+/// one ends it, behind the turns of the others.
+pub fn run_file<L: Turns, V: Verifier, G: Gate>(
+    alloc: Global,
+    ledger: &mut L,
+    txs: &[FullTx],
+    verifier: &V,
+    gate: &G,
+) -> Result<Wave, LaneFault>
+    requires idle { AreIdle (L.shape ledger.old) (L.journals ledger.old) }
+    requires short { All IsShort txs.now }
+    ensures shape { L.shape ledger.new ≡ L.shape ledger.old }
+    ensures idle { OnOk result (AreIdle (L.shape ledger.old) (L.journals ledger.new)) }
+
+    // Kept journals have grown and are kept, with these submissions besides.
+    ensures keeps { OfKept (L.shape ledger.old) (L.journals ledger.old)
+        (λ mint submissions. StaysKept (L.shape ledger.old) (L.journals ledger.old) (L.journals ledger.new) mint (submissions ++ txs.now)) }
+
+    // Without a fault each lane took what the sound submissions send it, in order, and nothing else was done.
+    ensures runs { OnOk result (OfKept (L.shape ledger.old) (L.journals ledger.old) (λ _ _. (sound : TxOf → Bool) → TellsSound (V.verdict_of verifier.now) sound
+        → IsFileRun (L.shape ledger.old) (sent_to (L.shape ledger.old) sound txs.now) (L.journals ledger.old) (L.journals ledger.new))) }
+    ensures checked { IfOk result (λ w. AreChecked (L.shape ledger.old) (V.verdict_of verifier.now) txs.now w.checked.items) }
+
+    ensures holds { L.holds ledger.old → L.holds ledger.new }
+    ensures later { (n : ℕ) → L.faults ledger.old n ≤ L.faults ledger.new n }
+{
+    let Ok(Submitted { checked, lanes }) = check_all(alloc, txs, ledger.shape(), verifier) else {
+        return Err(no_memory());
+    };
+    let Ok(mut lanes) = lanes_of(alloc, lanes) else {
+        return Err(no_memory());
+    };
+    run_wave(alloc, ledger, &mut lanes, gate);
+    match first_fault(&lanes) {
+        Some(fault) => Err(fault),
+        None => Ok(Wave { checked, lanes }),
+    }
+}

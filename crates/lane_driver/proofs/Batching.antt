@@ -1,0 +1,52 @@
+-- What was told of a whole batch, and what it comes to.
+use Rattle.std.proofs.Common.{◌≡◌, ◌⊎◌, inl, inr, ℕ, suc, ◌<◌, ◌==◌, min, Bool, true, List, [], ◌∷◌, length, take, drop, Ok, Err, refl, sym, ◌∙◌, subst, arith}
+use Rattle.std.proofs.lemmas.List.{take_min, drop_min}
+use Rattle.cbdc_types.specs.declared.calls.NodeFault.{NodeFault}
+use Rattle.cbdc_model.specs.Records.{Shape, Batch, Compact, Entry, Outcome}
+use Rattle.cbdc_model.specs.Ranges.{home_of}
+use Rattle.cbdc_model.specs.Slots.{slot}
+use Rattle.cbdc_model.specs.Due.{prepare_due}
+use Rattle.cbdc_model.specs.Sights.{Sight, Told}
+use Rattle.lane_laws.specs.Calls.{AreParts}
+use Rattle.lane_laws.specs.Batches.{Settled, BatchDone, LaneSo, LaneStopped}
+use Rattle.lane_laws.specs.Traces.{ToldPrepared, at_prepare, behind_prepare}
+use Rattle.lane_laws.proofs.Whole.{batch_done}
+use Rattle.lane_laws.proofs.Stops.{batch_stopped}
+use Rattle.lane_laws.proofs.Laning.{lane_goes_on, lane_stops}
+use Rattle.lane_driver.specs.declared.fault.LaneFault.{LaneFault}
+use Rattle.lane_driver.specs.declared.fault.LaneFaultKind.TheVariants.{Memory as NoMemory}
+use Rattle.lane_driver.specs.Stops.{IsFaultOf, IsPreparedStopped, IsBatchStopped}
+
+module _ (K : Shape) (alone : Bool) (lane : ℕ) (txs : List Compact) (n : ℕ) (parts : List (ℕ × List Entry)) (log log1 : Sight) (I : ℕ → Sight) (are : AreParts K txs parts) where
+  pub prepare_stops : (f : NodeFault) (e : LaneFault) → IsFaultOf e (home_of K lane) f → Told alone lane true (prepare_due log.header.shape log.capacity lane txs) log log1 (Err f) → IsBatchStopped K alone lane txs log I log1 I e
+  prepare_stops f e at told = inr (λ k st. (home_of K lane, f, at, batch_stopped K alone lane k txs n parts log log1 I I (home_of K lane) f st are (at_prepare told (λ s. refl) refl)))
+
+  module _ (b : Batch) (t : ℕ) (told : Told alone lane true (prepare_due log.header.shape log.capacity lane txs) log log1 (Ok (b, t))) (log' : Sight) (J : ℕ → Sight) where
+    pub prepared_done : (os : List Outcome) → ToldPrepared alone b t n parts log1 log' I J os → (k : ℕ) → Settled K lane k log I → BatchDone K alone lane k txs log I log' J b os
+    prepared_done os rest k st = batch_done K alone lane k txs n parts log log' I J b os st are (record { log_prepared = log1; prepared = t; prepare = told; rest = rest })
+
+    pub prepared_stops : (e : LaneFault) → IsPreparedStopped K alone b t n parts log1 log' I J e → IsBatchStopped K alone lane txs log I log' J e
+    prepared_stops e (node, f, at, stop) = inr (λ k st. (node, f, at, batch_stopped K alone lane k txs n parts log log' I J node f st are (behind_prepare b log1 t told stop)))
+
+-- a lane goes on by a batch, or stops at one
+module _ (K : Shape) (alone : Bool) (lane : ℕ) (txs rest piece : List Compact) (log0 log1 log2 : Sight) (I0 I1 I2 : ℕ → Sight) (so : LaneSo K alone lane txs rest log0 I0 log1 I1)
+    (front : piece ≡ take (min K.batch (length rest)) rest) where
+  pub lane_on : (more : List Compact) (b : Batch) (os : List Outcome) → 0 < length rest → more ≡ drop (min K.batch (length rest)) rest
+      → ((k : ℕ) → Settled K lane k log1 I1 → BatchDone K alone lane k piece log1 I1 log2 I2 b os) → LaneSo K alone lane txs more log0 I0 log2 I2
+  lane_on more b os some back done =
+      subst (λ r. LaneSo K alone lane txs r log0 I0 log2 I2) (sym (back ∙ drop_min K.batch rest))
+      (lane_goes_on K alone lane txs rest log0 log1 log2 I0 I1 I2 so piece b os some (front ∙ take_min K.batch rest) (done (slot log1.seen lane).number so.settled))
+
+  pub lane_off : (e : LaneFault) → IsBatchStopped K alone lane piece log1 I1 log2 I2 e
+      → ((e ≡ record { node = 0; fault = NoMemory }) × ((rest : List Compact) × LaneSo K alone lane txs rest log0 I0 log2 I2)) ⊎ ((n : ℕ) × (f : NodeFault) × IsFaultOf e n f × LaneStopped K alone lane txs log0 I0 log2 I2 n f)
+  lane_off e (inl h) = inl (h.0, (rest, subst (λ (X : ℕ → Sight). LaneSo K alone lane txs rest log0 I0 log2 X) (sym h.2) (subst (λ l. LaneSo K alone lane txs rest log0 I0 l I1) (sym h.1) so)))
+  lane_off e (inr h) =
+      let s = h (slot log1.seen lane).number so.settled in
+      inr (s.0, s.1, s.2, lane_stops K alone lane txs rest log0 log1 log2 I0 I1 I2 so piece s.0 s.1 (front ∙ take_min K.batch rest) s.3)
+
+pub none_left : (xs : List Compact) → true ≡ (length xs == 0) → xs ≡ []
+none_left [] h = refl
+none_left (x ∷ xs) h = absurd (some (length xs) (sym h))
+  where
+    some : (n : ℕ) → (suc n == 0) ≡ true → ⊥
+    some n h = grind (arith, h)

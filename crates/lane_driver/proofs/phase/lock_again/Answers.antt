@@ -1,0 +1,11 @@
+use Rattle.lane_laws.specs.Answers.{LockAnswer}
+use Rattle.cbdc_model.specs.Calls.{IsLockCall}
+use Rattle.lane_driver.proofs.Telling.{asked_all}
+use Rattle.lane_driver.proofs.Fitting.{calls_kept}
+use Rattle.lane_driver.proofs.phase.lock_again.Goals as goal
+
+pub returns-clause-told : goal.returns-clause-told
+returns-clause-told g c = asked_all (LockAnswer g.S.PortSet.alone) c.args.calls.now c.loop-time._time c.args.repeats (g.S.PortSet.sights c.args.shards.now) (g.S.PortSet.sights c.loop-time.shards) c.loop-time.auto._time-end c.loop-time-test.false c.loop-time.invariant.told
+
+pub lock-requires-clause-calls : goal.lock-requires-clause-calls
+lock-requires-clause-calls g c = calls_kept IsLockCall (g.S.PortSet.sights c.args.shards.now) (g.S.PortSet.sights c.loop-time.shards) c.loop-time.invariant.headers c.args.calls.now c.requires.calls

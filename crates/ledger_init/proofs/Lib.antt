@@ -1,0 +1,4 @@
+pub mod Written
+pub mod Sizes
+pub mod Places
+pub mod Dealt

@@ -1,0 +1,189 @@
+-- What is on each node's disk behind the opening and the writing.
+use Rattle.std.proofs.Common.{◌≡◌, ◌≢◌, ◌⊎◌, inl, inr, ⊎_elim, ℕ, zero, suc, ◌+◌, ◌^◌, ◌≤◌, ◌<◌, List, [], ◌∷◌, ◌++◌, length, Option, Some, refl, sym, ◌∙◌, ap, ap₂, subst, arith, length-append}
+use Rattle.std.specs.Prelude.{IsSome}
+use Rattle.outside.specs.Counts.{Rose}
+use Rattle.outside.specs.Images.{Tells}
+use Rattle.cbdc_types.specs.Limits.{IsWithinLimits}
+use Rattle.cbdc_types.specs.declared.answer.Answer.{Answer}
+use Rattle.cbdc_types.specs.declared.answer.Answer.TheVariants as answers
+use Rattle.cbdc_model.specs.Records.{Shape, Compact, Record}
+use Rattle.cbdc_model.specs.Coins.{Output, genesis_id, genesis_hashes}
+use Rattle.cbdc_model.specs.Clean.{value_out}
+use Rattle.cbdc_model.specs.History.{Minted, minted}
+use Rattle.cbdc_model.specs.World.{first_record}
+use Rattle.cbdc_model.specs.Room.{size_of}
+use Rattle.gate_journal.specs.Formatting.{IsEmptied}
+use Rattle.rack_nodes.specs.Places.{EachFrom, IsOpening}
+use Rattle.rack_nodes.specs.Racked.{OfTold, IsRead, IsBack, IsOpened, FailsFirst}
+use Rattle.rack_nodes.specs.Blank.{IsUnused, IsNoBlank, IsBlankRefusal}
+use Rattle.rack_nodes.specs.First.{IsBegun, IsUnwritten, first_need}
+use Rattle.rack_nodes.proofs.Each.{each_two, each_weaker, each_split}
+use Rattle.rack_nodes.proofs.Range.{opening_later}
+use Rattle.ledger_init.specs.Made.{node_count, first_of, HoldsFirst, LeavesBut, ToldUnused, MayBeMade, IsFirstInUse, HasPlaceFor, IsLastFull, IsUnmade}
+use Rattle.ledger_init.specs.Places.{minted_by, HoldsOf, LeavesOf, IsDone, IsStopped, StopsAt}
+use Rattle.ledger_init.proofs.Sizes.{first_size}
+
+-- what first records say of a mint's transaction is what they say of the mint
+pub minted_is : (t : Compact) (mint : List Output) → t.id ≡ genesis_id mint → t.outputs ≡ genesis_hashes mint → minted_by t ≡ minted mint
+minted_is t mint id hashes = ap₂ (λ (x : List ℕ) (xs : List (List ℕ)). let m : Minted = record { id = x; hashes = xs } in m) id hashes
+
+begun_weaker : (a b : List ℕ → Type 0) (first : Record) (c : List ℕ) → ((x : List ℕ) → a x → b x) → IsBegun a first c → IsBegun b first c
+begun_weaker a b first c weaker is = ⊎_elim (λ emptied. inl (⊎_elim (λ none. inl none) (λ was. inr (weaker c was)) emptied)) (λ one. inr one) is
+
+emptied_weaker : (a b : List ℕ → Type 0) (c : List ℕ) → ((x : List ℕ) → a x → b x) → IsEmptied a c → IsEmptied b c
+emptied_weaker a b c weaker is = ⊎_elim (λ none. inl none) (λ was. inr (weaker c was)) is
+
+each_join : {X : Type 0} (P : ℕ → X → Type 0) (i : ℕ) (xs ys : List X) → EachFrom P i xs → EachFrom P (i + length xs) ys → EachFrom P i (xs ++ ys)
+each_join P i [] ys one other = subst (λ (k : ℕ). EachFrom P k ys) (omega arith) other
+each_join P i (x ∷ xs) ys one other = (one.0, each_join P (suc i) xs ys one.1 (subst (λ (k : ℕ). EachFrom P k ys) (omega arith) other))
+
+module _ {D B : Type 0} (content : D → Option (List ℕ)) (images : D → List ℕ → Type 0) (limit count : D → ℕ) (disk_of : B → D) (node_of : B → ℕ) (K : Shape) (mint : List Output) (old new : ℕ → Option D) (before now : ℕ → ℕ) where
+  -- a blank of the disk that was told
+  abbrev pub IsBlankAt : ℕ → B → Type 0
+  IsBlankAt n b = ((node_of b ≡ n) × (before n ≤ count (disk_of b))) × OfTold (old n) (λ was. IsOpened content images limit disk_of (λ x c. IsUnused (node_of x) c) was b)
+
+  pub unused_at : (n : ℕ) (b : B) → IsBlankAt n b → ToldUnused content old n
+  unused_at n b blank = λ was is c told. subst (λ (k : ℕ). IsUnused k c) blank.0.0 ((blank.1 was is).stands c told)
+
+  -- what a crash may leave of a blank's disk is what it may leave of the disk that was told
+  pub left_at : (n : ℕ) (b : B) → IsBlankAt n b → OfTold (new n) (LeavesOf content images (λ was. IsBegun was (first_of K mint n)) (disk_of b)) → LeavesBut content images (λ was. IsBegun was (first_of K mint n)) (old n) (new n)
+  left_at n b blank left = λ was is d is_now some c image.
+      let opened = blank.1 was is in
+      begun_weaker (images (disk_of b)) (images was) (first_of K mint n) c opened.read.leaves (left d is_now (opened.told some) c image)
+
+  pub emptied_at : (n : ℕ) (b : B) → IsBlankAt n b → OfTold (new n) (LeavesOf content images IsEmptied (disk_of b)) → LeavesBut content images IsEmptied (old n) (new n)
+  emptied_at n b blank left = λ was is d is_now some c image.
+      let opened = blank.1 was is in
+      emptied_weaker (images (disk_of b)) (images was) c opened.read.leaves (left d is_now (opened.told some) c image)
+
+  holds_at : (n : ℕ) (b : B) → IsBlankAt n b → IsDone content images limit (first_of K mint n) (disk_of b) (new n) → HoldsFirst content images (first_of K mint n) (old n) (new n)
+  holds_at n b blank done = λ was is d is_now some. done.holds d is_now ((blank.1 was is).told some)
+
+  -- a disk that is back as it was
+  pub back_emptied : (n : ℕ) → IsBack images limit (old n) (new n) → LeavesBut content images IsEmptied (old n) (new n)
+  back_emptied n back = λ was is d is_now some c image. inr ((back was is d is_now).leaves c image)
+
+  pub back_begun : (n : ℕ) → IsBack images limit (old n) (new n) → LeavesBut content images (λ was. IsBegun was (first_of K mint n)) (old n) (new n)
+  back_begun n back = λ was is d is_now some c image. inl (inr ((back was is d is_now).leaves c image))
+
+  module _ (blanks : List B) (all : length blanks ≡ node_count K) (opened : EachFrom IsBlankAt 0 blanks) where
+    inside : (n : ℕ) → n < node_count K → n < 0 + length blanks
+    inside n lt = omega (arith, all, lt)
+
+    pub may_be_made : value_out mint < 2 ^ 64 → MayBeMade K mint content old
+    may_be_made fits = record {
+      fits = fits;
+      unused = λ n lt. each_two IsBlankAt IsBlankAt (λ k. ToldUnused content old k) 0 blanks (λ k b blank same. unused_at k b blank) opened opened n (omega arith) (inside n lt);
+    }
+
+    pub all_hold : EachFrom (λ n b. IsDone content images limit (first_of K mint n) (disk_of b) (new n)) 0 blanks → (n : ℕ) → n < node_count K → HoldsFirst content images (first_of K mint n) (old n) (new n)
+    all_hold done n lt = each_two IsBlankAt _ (λ k. HoldsFirst content images (first_of K mint k) (old k) (new k)) 0 blanks holds_at opened done n (omega arith) (inside n lt)
+
+    pub all_left : EachFrom (λ n b. OfTold (new n) (LeavesOf content images (λ was. IsBegun was (first_of K mint n)) (disk_of b))) 0 blanks
+        → (n : ℕ) → n < node_count K → LeavesBut content images (λ was. IsBegun was (first_of K mint n)) (old n) (new n)
+    all_left left n lt = each_two IsBlankAt _ (λ k. LeavesBut content images (λ was. IsBegun was (first_of K mint k)) (old k) (new k)) 0 blanks left_at opened left n (omega arith) (inside n lt)
+
+    module _ (answer : Answer) (stopped : StopsAt (λ n b. OfTold (new n) (λ d. d ≡ disk_of b)) (λ n b. IsStopped content images limit count n (first_of K mint n) answer (now n) (disk_of b) (new n)) (λ n b. IsDone content images limit (first_of K mint n) (disk_of b) (new n)) blanks) where
+      abbrev LeftAt : ℕ → B → Type 0
+      LeftAt n b = OfTold (new n) (LeavesOf content images (λ was. IsBegun was (first_of K mint n)) (disk_of b))
+
+      as_was : (n : ℕ) (b : B) → OfTold (new n) (λ d. d ≡ disk_of b) → LeftAt n b
+      as_was n b same = λ d is_now some c image. inl (inr (subst (λ (x : D). images x c) (same d is_now) image))
+
+      from_zero : length stopped.front ≡ 0 + length stopped.front
+      from_zero = omega arith
+
+      pub stopped_left : EachFrom LeftAt 0 blanks
+      stopped_left = subst (λ (l : List B). EachFrom LeftAt 0 l) (sym stopped.parts)
+          (each_join LeftAt 0 stopped.front (stopped.x ∷ stopped.done)
+          (each_weaker _ LeftAt 0 stopped.front (λ k b ge lt waits. as_was k b waits) stopped.waiting)
+          (subst (λ (k : ℕ). EachFrom LeftAt k (stopped.x ∷ stopped.done)) from_zero
+          ((λ d is_now. (stopped.fails.safe d is_now).begun), each_weaker _ LeftAt (suc (length stopped.front)) stopped.done (λ k b ge lt done. done.begun) stopped.behind)))
+
+      -- the parts of what was opened
+      opened_parts : EachFrom IsBlankAt (length stopped.front) (stopped.x ∷ stopped.done)
+      opened_parts = subst (λ (k : ℕ). EachFrom IsBlankAt k (stopped.x ∷ stopped.done)) (sym from_zero)
+          (each_split IsBlankAt 0 stopped.front (stopped.x ∷ stopped.done) (subst (λ (l : List B). EachFrom IsBlankAt 0 l) stopped.parts opened)).1
+
+      long : length blanks ≡ length stopped.front + suc (length stopped.done)
+      long = ap length stopped.parts ∙ length-append stopped.front (stopped.x ∷ stopped.done)
+
+      lead_of : (front : List B) (x : B) (done : List B) → EachFrom (λ n b. OfTold (new n) (λ d. d ≡ disk_of b)) 0 front → IsStopped content images limit count (length front) (first_of K mint (length front)) answer (now (length front)) (disk_of x) (new (length front))
+          → EachFrom IsBlankAt 0 (front ++ x ∷ done) → answer ≢ answers.DiskFault 0 → LeavesBut content images IsEmptied (old 0) (new 0)
+      lead_of [] x done waits fails blank other = emptied_at 0 x blank.0 (λ d is_now. (fails.safe d is_now).emptied other)
+      lead_of (y ∷ front) x done waits fails blank other = emptied_at 0 y blank.0 (λ d is_now some c image. inr (subst (λ (k : D). images k c) (waits.0 d is_now) image))
+
+      -- node 0 has its first record only where its disk failed
+      pub stopped_lead : answer ≢ answers.DiskFault 0 → LeavesBut content images IsEmptied (old 0) (new 0)
+      stopped_lead other = lead_of stopped.front stopped.x stopped.done stopped.waiting stopped.fails (subst (λ (l : List B). EachFrom IsBlankAt 0 l) stopped.parts opened) other
+
+      pub above_have_place : IsWithinLimits K → length mint ≤ 1000000 → (n : ℕ) → length stopped.front < n → n < node_count K → HasPlaceFor K mint limit old n
+      above_have_place limits few n above lt = each_two IsBlankAt (λ k b. IsDone content images limit (first_of K mint k) (disk_of b) (new k)) (λ k. k < node_count K → HasPlaceFor K mint limit old k) (suc (length stopped.front)) stopped.done
+          (λ k b blank done inside_k was is. omega (arith, done.room, (blank.1 was is).read.room, first_size K mint k limits few inside_k))
+          opened_parts.1 stopped.behind n (omega (arith, above)) (omega (arith, long, all, lt)) lt
+
+      here_inside : length stopped.front < node_count K
+      here_inside = omega (arith, long, all)
+
+  refused_of : (a : Answer) (node : ℕ) (x : B) → node < node_count K → IsBlankAt node x → MayBeMade K mint content old → IsWithinLimits K → length mint ≤ 1000000 → ((n : ℕ) → node < n → n < node_count K → HasPlaceFor K mint limit old n)
+      → IsUnwritten node (limit (disk_of x)) (first_of K mint node) a → IsOpening node (count (disk_of x)) (now node) a → IsUnmade K mint content limit old before now a
+  refused_of (answers.Full n used need capacity) node x inside blank may limits few above un op =
+      let last : IsLastFull K mint limit old node need capacity = record {
+        inside = inside;
+        need_is = un.2 ∙ first_size K mint node limits few inside;
+        capacity_is = λ was is. un.3 ∙ (blank.1 was is).read.room;
+        passes = un.4;
+        above = above;
+      } in
+      (may, un.1, subst (λ (k : ℕ). IsLastFull K mint limit old k need capacity) (sym un.0) last)
+  refused_of (answers.DiskFault n) node x inside blank may limits few above un op =
+      let rose : Rose (before node) (now node) = omega (arith, op.1, blank.0.1) in
+      (may.fits, subst (λ (k : ℕ). k < node_count K) (sym un.0) inside, subst (λ (k : ℕ). Rose (before k) (now k)) (sym un.0) rose)
+  refused_of answers.Memory node x inside blank may limits few above un op = tt
+  refused_of answers.Ok node x inside blank may limits few above un op = absurd un
+  refused_of answers.BadWords node x inside blank may limits few above un op = absurd un
+  refused_of (answers.BadInput file at kind) node x inside blank may limits few above un op = absurd un
+  refused_of (answers.TooMuch total) node x inside blank may limits few above un op = absurd un
+  refused_of (answers.NotReady n) node x inside blank may limits few above un op = absurd un
+  refused_of (answers.Foreign n kept asked) node x inside blank may limits few above un op = absurd un
+  refused_of (answers.NotEmpty n) node x inside blank may limits few above un op = absurd un
+  refused_of (answers.Unsound place kind) node x inside blank may limits few above un op = absurd un
+  refused_of (answers.ClockEnd n stamp) node x inside blank may limits few above un op = absurd un
+  refused_of (answers.Refused n) node x inside blank may limits few above un op = absurd un
+  refused_of (answers.Damaged n at) node x inside blank may limits few above un op = absurd un
+  refused_of (answers.ReadFault file) node x inside blank may limits few above un op = absurd un
+  refused_of answers.WriteFault node x inside blank may limits few above un op = absurd un
+
+  pub stopped_unmade : (blanks : List B) (all : length blanks ≡ node_count K) (opened : EachFrom IsBlankAt 0 blanks) (answer : Answer) (stopped : StopsAt (λ n b. OfTold (new n) (λ d. d ≡ disk_of b)) (λ n b. IsStopped content images limit count n (first_of K mint n) answer (now n) (disk_of b) (new n)) (λ n b. IsDone content images limit (first_of K mint n) (disk_of b) (new n)) blanks)
+      → value_out mint < 2 ^ 64 → IsWithinLimits K → length mint ≤ 1000000 → IsUnmade K mint content limit old before now answer
+  stopped_unmade blanks all opened answer stopped fits limits few =
+      refused_of answer (length stopped.front) stopped.x (here_inside blanks all opened answer stopped) (opened_parts blanks all opened answer stopped).0 (may_be_made blanks all opened fits) limits few
+      (above_have_place blanks all opened answer stopped limits few) stopped.fails.refusal stopped.fails.opening
+
+  -- a node that can't be opened
+  pub opening_unmade : (a : Answer) (start end : ℕ) → start ≡ 0 → end ≡ node_count K → value_out mint < 2 ^ 64
+      → FailsFirst IsBlankAt (λ n e. (IsBlankRefusal e × IsOpening n (before n) (now n) e) × OfTold (old n) (λ was. Tells (content was) (λ c. IsNoBlank n c e))) start end a → IsUnmade K mint content limit old before now a
+  opening_unmade (answers.NotEmpty n) start end is_start is_end fits first =
+      let here : IsFirstInUse K mint content old first.node = record {
+        fits = fits;
+        inside = omega (arith, first.inside, is_end);
+        in_use = λ was is c told. (first.fails.1 was is c told).1;
+        before = λ k lt. each_two IsBlankAt IsBlankAt (λ m. ToldUnused content old m) start first.before (λ m b blank same. unused_at m b blank) first.opened first.opened k (omega (arith, is_start)) (omega (arith, first.places, lt));
+      } in
+      subst (λ (k : ℕ). IsFirstInUse K mint content old k) (sym first.fails.0.1) here
+  opening_unmade (answers.DiskFault n) start end is_start is_end fits first =
+      (fits, omega (arith, first.fails.0.1.0, first.inside, is_end), subst (λ (k : ℕ). Rose (before k) (now k)) (sym first.fails.0.1.0) first.fails.0.1.1)
+  opening_unmade answers.Memory start end is_start is_end fits first = tt
+  opening_unmade answers.Ok start end is_start is_end fits first = absurd first.fails.0.0
+  opening_unmade answers.BadWords start end is_start is_end fits first = absurd first.fails.0.0
+  opening_unmade (answers.BadInput file at kind) start end is_start is_end fits first = absurd first.fails.0.0
+  opening_unmade (answers.TooMuch total) start end is_start is_end fits first = absurd first.fails.0.0
+  opening_unmade (answers.NotReady n) start end is_start is_end fits first = absurd first.fails.0.0
+  opening_unmade (answers.Foreign n kept asked) start end is_start is_end fits first = absurd first.fails.0.0
+  opening_unmade (answers.Full n used need capacity) start end is_start is_end fits first = absurd first.fails.0.0
+  opening_unmade (answers.Unsound place kind) start end is_start is_end fits first = absurd first.fails.0.0
+  opening_unmade (answers.ClockEnd n stamp) start end is_start is_end fits first = absurd first.fails.0.0
+  opening_unmade (answers.Refused n) start end is_start is_end fits first = absurd first.fails.0.0
+  opening_unmade (answers.Damaged n at) start end is_start is_end fits first = absurd first.fails.0.0
+  opening_unmade (answers.ReadFault file) start end is_start is_end fits first = absurd first.fails.0.0
+  opening_unmade answers.WriteFault start end is_start is_end fits first = absurd first.fails.0.0

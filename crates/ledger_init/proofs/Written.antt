@@ -1,0 +1,36 @@
+-- The first records, written from the last node on.
+use Rattle.std.proofs.Common.{◌≡◌, ◌≢◌, ◌⊎◌, inl, inr, ℕ, suc, ◌+◌, ◌≤◌, ◌<◌, List, [], ◌∷◌, ◌++◌, length, Option, Some, refl, sym, ◌∙◌, ap, subst, arith, append_assoc, length-append}
+use Rattle.cbdc_types.specs.declared.answer.Answer.{Answer}
+use Rattle.cbdc_model.specs.Records.{Record}
+use Rattle.rack_nodes.specs.Places.{EachFrom}
+use Rattle.rack_nodes.specs.Racked.{OfTold, GoesOn}
+use Rattle.rack_nodes.proofs.Each.{each_weaker}
+use Rattle.rack_nodes.proofs.Range.{opening_later}
+use Rattle.ledger_init.specs.Places.{StopsAt, IsSafe, IsDone, IsStopped}
+
+-- it stops at a node, and those before it are closed
+pub stops : {X : Type 0} (W F P Q : ℕ → X → Type 0) (front rest whole : List X) (x : X) (node : ℕ) → node ≡ length rest → front ≡ rest ++ x ∷ [] → GoesOn P 0 front whole
+    → ((k : ℕ) (d : X) → node < k → P k d → Q k d) → F node x → EachFrom W 0 rest → StopsAt W F Q whole
+stops W F P Q front rest whole x node place last so_far keeps fails waits =
+    let longer : 0 + length front ≡ suc (length rest) = omega (arith, ap length last, length-append rest (x ∷ [])) in
+    let kept = each_weaker P Q (0 + length front) so_far.more (λ k d ge lt p. keeps k d (omega (arith, ge, longer, place)) p) so_far.each in
+    record {
+      front = rest;
+      x = x;
+      done = so_far.more;
+      parts = so_far.parts ∙ ap (λ (l : List _). l ++ so_far.more) last ∙ append_assoc rest (x ∷ []) so_far.more;
+      waiting = waits;
+      fails = subst (λ (k : ℕ). F k x) place fails;
+      behind = subst (λ (k : ℕ). EachFrom Q k so_far.more) longer kept;
+    }
+
+module _ {D : Type 0} (content : D → Option (List ℕ)) (images : D → List ℕ → Type 0) (limit count : D → ℕ) where
+  pub done_still : (first : Record) (given : D) (old new : Option D) → new ≡ old → IsDone content images limit first given old → IsDone content images limit first given new
+  done_still first given old new same is = subst (λ (h : Option D). IsDone content images limit first given h) (sym same) is
+
+  pub stopped_still : (node : ℕ) (first : Record) (a : Answer) (now later : ℕ) (given : D) (old new : Option D) → new ≡ old → now ≤ later → IsStopped content images limit count node first a now given old → IsStopped content images limit count node first a later given new
+  stopped_still node first a now later given old new same le is = record {
+    safe = subst (λ (h : Option D). OfTold h (IsSafe content images node first a given)) (sym same) is.safe;
+    refusal = is.refusal;
+    opening = opening_later node (count given) (count given) now later a (omega arith) le is.opening;
+  }

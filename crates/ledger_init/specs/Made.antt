@@ -1,0 +1,72 @@
+-- What is on the disks of a ledger that was made, and why one was not.
+use Rattle.std.specs.Prelude.{◌≡◌, ◌+◌, ◌^◌, ◌≤◌, ◌<◌, ℕ, List, [], ◌∷◌, length, Option, IsSome}
+use Rattle.outside.specs.Counts.{Rose}
+use Rattle.outside.specs.Images.{Tells}
+use Rattle.cbdc_types.specs.declared.answer.Answer.{Answer}
+use Rattle.cbdc_types.specs.declared.answer.Answer.TheVariants as answers
+use Rattle.cbdc_model.specs.Records.{Shape, Record}
+use Rattle.cbdc_model.specs.Coins.{Output}
+use Rattle.cbdc_model.specs.Clean.{value_out}
+use Rattle.cbdc_model.specs.History.{minted}
+use Rattle.cbdc_model.specs.World.{first_record}
+use Rattle.cbdc_model.specs.Room.{size_of}
+use Rattle.record_codec.specs.Bodies.{body_of}
+use Rattle.record_log.specs.Held.{Holds}
+use Rattle.rack_nodes.specs.Racked.{OfTold}
+use Rattle.rack_nodes.specs.Blank.{IsInUse, IsUnused}
+
+-- the number of a ledger's nodes
+abbrev pub node_count : Shape → ℕ
+node_count K = K.coordinators + K.shards
+
+-- the first record of a node of the ledger that a mint begins
+abbrev pub first_of : Shape → List Output → ℕ → Record
+first_of K mint n = first_record K (minted mint) n
+
+-- where the disk told its content, it now holds this record alone, and so does whatever a crash may leave of it
+abbrev pub HoldsFirst : {D : Type 0} → (D → Option (List ℕ)) → (D → List ℕ → Type 0) → Record → Option D → Option D → Type 0
+HoldsFirst content images first old new = OfTold old (λ was. OfTold new (λ now. IsSome (content was) → Holds (content now) (images now) (9 + length (body_of first)) (first ∷ [])))
+
+-- where the disk told its content, a crash leaves nothing but what has the property, by what it might have left before
+abbrev pub LeavesBut : {D : Type 0} → (D → Option (List ℕ)) → (D → List ℕ → Type 0) → ((List ℕ → Type 0) → List ℕ → Type 0) → Option D → Option D → Type 0
+LeavesBut content images P old new = OfTold old (λ was. OfTold new (λ now. IsSome (content was) → (c : List ℕ) → images now c → P (images was) c))
+
+-- the node's disk tells that it is in use, or that it is not
+abbrev pub ToldInUse : {D : Type 0} → (D → Option (List ℕ)) → (ℕ → Option D) → ℕ → Type 0
+ToldInUse content held n = OfTold (held n) (λ was. Tells (content was) (IsInUse n))
+
+abbrev pub ToldUnused : {D : Type 0} → (D → Option (List ℕ)) → (ℕ → Option D) → ℕ → Type 0
+ToldUnused content held n = OfTold (held n) (λ was. Tells (content was) (IsUnused n))
+
+-- the mint's values fit, and no node's disk is in use
+pub record MayBeMade {D : Type 0} (K : Shape) (mint : List Output) (content : D → Option (List ℕ)) (held : ℕ → Option D) : Type 0 where
+  pub fits : value_out mint < 2 ^ 64
+  pub unused : (n : ℕ) → n < node_count K → ToldUnused content held n
+
+-- this node is in use, and is the first one
+pub record IsFirstInUse {D : Type 0} (K : Shape) (mint : List Output) (content : D → Option (List ℕ)) (held : ℕ → Option D) (node : ℕ) : Type 0 where
+  pub fits : value_out mint < 2 ^ 64
+  pub inside : node < node_count K
+  pub in_use : ToldInUse content held node
+  pub before : (n : ℕ) → n < node → ToldUnused content held n
+
+-- there is room for the node's first record and a closing gate
+abbrev pub HasPlaceFor : {D : Type 0} → Shape → List Output → (D → ℕ) → (ℕ → Option D) → ℕ → Type 0
+HasPlaceFor K mint limit held n = OfTold (held n) (λ was. size_of (first_of K mint n) + 1 ≤ limit was)
+
+-- this node has no room for its first record, and is the last one
+pub record IsLastFull {D : Type 0} (K : Shape) (mint : List Output) (limit : D → ℕ) (held : ℕ → Option D) (node need capacity : ℕ) : Type 0 where
+  pub inside : node < node_count K
+  pub need_is : need ≡ size_of (first_of K mint node) + 1
+  pub capacity_is : OfTold (held node) (λ was. capacity ≡ limit was)
+  pub passes : capacity < need
+  pub above : (n : ℕ) → node < n → n < node_count K → HasPlaceFor K mint limit held n
+
+-- why a ledger was not made of these disks, whose counts of faults were and are these
+abbrev pub IsUnmade : {D : Type 0} → Shape → List Output → (D → Option (List ℕ)) → (D → ℕ) → (ℕ → Option D) → (ℕ → ℕ) → (ℕ → ℕ) → Answer → Type 0
+IsUnmade K mint content limit held before now (answers.TooMuch total) = (total ≡ value_out mint) × (2 ^ 64 ≤ total)
+IsUnmade K mint content limit held before now (answers.NotEmpty n) = IsFirstInUse K mint content held n
+IsUnmade K mint content limit held before now (answers.Full n used need capacity) = MayBeMade K mint content held × (used ≡ 0) × IsLastFull K mint limit held n need capacity
+IsUnmade K mint content limit held before now (answers.DiskFault n) = (value_out mint < 2 ^ 64) × (n < node_count K) × Rose (before n) (now n)
+IsUnmade K mint content limit held before now answers.Memory = Unit {0}
+IsUnmade K mint content limit held before now other = ⊥

@@ -1,0 +1,141 @@
+-- A turn at the nodes of a ledger, and what it comes to for their journals.
+use Rattle.std.proofs.Common.{◌≡◌, ℕ, zero, suc, ◌<◌, true, List, [], ◌∷◌, length, get_or, Option, Some, None, Result, Ok, Err, IfOk, IfErr, OnOk, refl, sym, ap, ◌∙◌, subst, arith}
+use Rattle.cbdc_types.specs.declared.batch.OpenLane.{OpenLane}
+use Rattle.cbdc_model.specs.Records.{Shape, Header, Compact, Record}
+use Rattle.cbdc_model.specs.Slots.{slot, Idle}
+use Rattle.cbdc_model.specs.Ranges.{home_of}
+use Rattle.cbdc_model.specs.Sights.{Sight}
+use Rattle.coord_log.specs.Logs.{LogOf, sight}
+use Rattle.coord_log.specs.OpenLanes.{open_lane}
+use Rattle.coord_core.specs.Lanes.{IsOwn}
+use Rattle.shard_node.specs.Shards.{ShardOf, sight_of}
+use Rattle.node_ports.specs.Nodes.{sight_at}
+use Rattle.lane_laws.specs.Batches.{Settled, BatchDone}
+use Rattle.lane_laws.specs.Resuming.{IsTakenUp}
+use Rattle.lane_driver.specs.declared.fault.LaneFault.{LaneFault}
+use Rattle.lane_driver.specs.declared.fault.BatchReport.{BatchReport}
+use Rattle.lane_driver.specs.declared.fault.LaneReport.{LaneReport}
+use Rattle.lane_driver.specs.Stops.{IsBatchStopped, IsOneBatch}
+use Rattle.lane_driver.specs.Reports.{AreReports}
+use Rattle.recovery.specs.declared.resumed.ResumedBatch.{ResumedBatch}
+use Rattle.recovery.specs.Open.{IsResumed, IsUnfinished, HasItsOutcomes, IsResumeStopped}
+use Rattle.run_laws.proofs.Seen.{seen_log}
+use Rattle.ledger_runs.specs.Turning.{phase_at, IsLaneOf, OfKept, StaysKept, StaysKeptBy, DidBatch, TookUp}
+use Rattle.turn_laws.proofs.OpenThere.{is_idle}
+use Rattle.turn_laws.proofs.Turned.{batch_keeps, stopped_keeps, batch_does, resume_keeps, left_keeps, resume_took}
+use Rattle.ledger_nodes.specs.Ledgers.{IsLedger, journals_of}
+use Rattle.ledger_nodes.specs.Steps.{IsStep}
+use Rattle.ledger_nodes.proofs.Steps.{home_inside, are_nodes, is_lane, log_is}
+
+-- what came is this
+pub on_ok : {A E : Type 0} (r : Result A E) (x : A) (P : Type 0) → r ≡ Ok x → P → OnOk r P
+on_ok r x P e p = subst (λ q. OnOk q P) (sym e) p
+
+pub on_err : {A E : Type 0} (r : Result A E) (x : E) (P : Type 0) → r ≡ Err x → OnOk r P
+on_err r x P e = subst (λ q. OnOk q P) (sym e) tt
+
+pub if_ok : {A E : Type 0} (r : Result A E) (x : A) (P : A → Type 0) → r ≡ Ok x → P x → IfOk r P
+if_ok r x P e p = subst (λ q. IfOk q P) (sym e) p
+
+pub if_err : {A E : Type 0} (r : Result A E) (x : E) (P : A → Type 0) → r ≡ Err x → IfOk r P
+if_err r x P e = subst (λ q. IfOk q P) (sym e) tt
+
+-- the node that was read at a place is what is seen there
+read_at : {D : Type 0} (logs : List (LogOf D)) (n : ℕ) (x : LogOf D) → n < length logs → x ≡ get_or logs n x → sight_at sight logs n ≡ sight x
+read_at [] n x lt e = absurd (let z : n < 0 = lt in omega (arith, z))
+read_at (l ∷ logs) zero x lt e = ap sight (sym e)
+read_at (l ∷ logs) (suc n) x lt e = read_at logs n x (omega (arith, lt)) e
+
+module _ {D : Type 0} (count limit : D → ℕ) (content : D → Option (List ℕ)) (images : D → List ℕ → Type 0) (h : Header) (lane : ℕ) (logs : List (LogOf D)) (shards : List (ShardOf D))
+    (ledger : IsLedger h logs shards) (lt : IsLaneOf h.shape lane) where
+  abbrev K : Shape
+  K = h.shape
+
+  abbrev L : ℕ → Sight
+  L = sight_at sight logs
+
+  abbrev S : ℕ → Sight
+  S = sight_at (sight_of count limit) shards
+
+  abbrev I : ℕ → List Record
+  I = journals_of count limit h.shape logs shards
+
+  home : home_of K lane < K.coordinators
+  home = home_inside lane K.coordinators K.lanes lt
+
+  some : 0 < K.shards
+  some = ledger.limits.some_shard
+
+  shape : (L (home_of K lane)).header.shape ≡ K
+  shape = ap (λ k. k.shape) (ledger.log_headers (home_of K lane) home)
+
+  -- the lane's phase, in all journals and at its coordinator
+  at_log : I (home_of K lane) ≡ (L (home_of K lane)).seen
+  at_log = seen_log K L S (home_of K lane) home
+
+  -- a lane of which nothing is told is idle
+  pub none_open : open_lane (L (home_of K lane)).seen lane ≡ None → phase_at K I lane ≡ Idle
+  none_open told =
+      ap (λ J. (slot J lane).phase) at_log
+      ∙ is_idle (L (home_of K lane)).header (L (home_of K lane)).seen (log_is logs ledger.log_journals (home_of K lane) (subst (λ m. home_of K lane < m) (sym ledger.coordinators) home)) lane
+      (is_lane count limit h logs shards lane (home_of K lane) ledger lt refl)
+      (subst (λ k. k.node < k.shape.coordinators) (sym (ledger.log_headers (home_of K lane) home)) home) told
+
+  module _ (at : ℕ) (x : LogOf D) (at_is : at ≡ home_of K lane) (is : x ≡ get_or logs at x) where
+    here : L (home_of K lane) ≡ sight x
+    here = subst (λ n. sight_at sight logs n ≡ sight x) at_is
+        (read_at logs at x (subst (λ n. n < length logs) (sym at_is) (subst (λ m. home_of K lane < m) (sym ledger.coordinators) home)) is)
+
+    pub own_there : IsOwn x.header lane
+    own_there = subst (λ s. IsOwn s.header lane) here (subst (λ k. IsOwn k lane) (sym (ledger.log_headers (home_of K lane) home)) refl)
+
+    pub told_there : (found o : Option OpenLane) → found ≡ open_lane x.journal lane → found ≡ o → open_lane (L (home_of K lane)).seen lane ≡ o
+    told_there found o e f = ap (λ s. open_lane s.seen lane) here ∙ sym e ∙ f
+
+  module _ (logs' : List (LogOf D)) (shards' : List (ShardOf D)) (step : IsStep count limit content images h lane logs shards logs' shards') where
+    abbrev L' : ℕ → Sight
+    L' = sight_at sight logs'
+
+    abbrev S' : ℕ → Sight
+    S' = sight_at (sight_of count limit) shards'
+
+    abbrev J : ℕ → List Record
+    J = journals_of count limit h.shape logs' shards'
+
+    module _ (idle : phase_at K I lane ≡ Idle) (txs : List Compact) where
+      idle_there : (slot (L (home_of K lane)).seen lane).phase ≡ Idle
+      idle_there = ap (λ J. (slot J lane).phase) (sym at_log) ∙ idle
+
+      pub came_keeps : (came : Result LaneReport LaneFault) → IfOk came (λ r. IsOneBatch K true lane txs (L (home_of K lane)) S (L' (home_of K lane)) S' r.batches)
+          → IfErr came (IsBatchStopped K true lane txs (L (home_of K lane)) S (L' (home_of K lane)) S') → OfKept K I (StaysKeptBy K txs I J)
+      came_keeps (Ok r) done stop =
+          batch_keeps K lane L S L' S' some home shape step.elsewhere (are_nodes count limit h logs shards ledger) (are_nodes count limit h logs' shards' step.ledger) step.log_headers step.shard_headers idle_there txs r.batches done
+      came_keeps (Err e) done stop =
+          stopped_keeps K lane L S L' S' some home shape step.elsewhere (are_nodes count limit h logs shards ledger) (are_nodes count limit h logs' shards' step.ledger) step.log_headers step.shard_headers idle_there txs e stop
+
+      pub came_does : (reports : List BatchReport) (report : BatchReport) → reports ≡ report ∷ [] → IsOneBatch K true lane txs (L (home_of K lane)) S (L' (home_of K lane)) S' reports
+          → AreReports lane reports (txs ∷ []) → OfKept K I (λ _ _. DidBatch K lane txs I J report)
+      came_does reports report is (q, one, done) named =
+          let same : q ≡ report = head_same q report (sym one ∙ is) in
+          batch_does K lane L S L' S' some home shape step.elsewhere (are_nodes count limit h logs shards ledger) (are_nodes count limit h logs' shards' step.ledger) step.log_headers step.shard_headers idle_there txs report
+          (named_one report (subst (λ xs. AreReports lane xs (txs ∷ [])) is named))
+          (subst (λ r. (k : ℕ) → Settled K lane k (L (home_of K lane)) S → BatchDone K true lane k txs (L (home_of K lane)) S (L' (home_of K lane)) S' r.batch r.outcomes) same done)
+        where
+          head_same : (q r : BatchReport) → q ∷ [] ≡ r ∷ [] → q ≡ r
+          head_same q r e = cc
+
+          named_one : (r : BatchReport) → AreReports lane (r ∷ []) (txs ∷ []) → r.batch.lane ≡ lane
+          named_one r z = z.0.0
+
+    module _ (o : OpenLane) (told : open_lane (L (home_of K lane)).seen lane ≡ Some o) where
+      pub resumed_keeps : (came : Result ResumedBatch LaneFault) → OnOk came (IsUnfinished o.phase K o (L (home_of K lane)) S → IsTakenUp K true o.batch (L (home_of K lane)) S (L' (home_of K lane)) S')
+          → IfErr came (IsResumeStopped K true o (L (home_of K lane)) S (L' (home_of K lane)) S') → OfKept K I (StaysKept K I J)
+      resumed_keeps (Ok r) taken stop =
+          resume_keeps K lane L S L' S' some home shape step.elsewhere (are_nodes count limit h logs shards ledger) (are_nodes count limit h logs' shards' step.ledger) step.log_headers step.shard_headers o told taken
+      resumed_keeps (Err e) taken stop =
+          left_keeps K lane L S L' S' some home shape step.elsewhere (are_nodes count limit h logs shards ledger) (are_nodes count limit h logs' shards' step.ledger) step.log_headers step.shard_headers o told e stop
+
+      pub resumed_took : (r : ResumedBatch) → IsResumed o r → (IsUnfinished o.phase K o (L (home_of K lane)) S → IsTakenUp K true o.batch (L (home_of K lane)) S (L' (home_of K lane)) S')
+          → (IsUnfinished o.phase K o (L (home_of K lane)) S → HasItsOutcomes o.phase o (L' (home_of K lane)).seen r) → OfKept K I (λ _ _. TookUp K lane I J (Some r))
+      resumed_took r resumed taken has =
+          resume_took K lane L S L' S' some home shape step.elsewhere (are_nodes count limit h logs shards ledger) (are_nodes count limit h logs' shards' step.ledger) step.log_headers step.shard_headers o told r resumed taken has

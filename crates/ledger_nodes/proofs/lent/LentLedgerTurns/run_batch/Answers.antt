@@ -1,0 +1,34 @@
+use Rattle.std.proofs.Common.{◌≡◌, sym, subst}
+use Rattle.cbdc_model.specs.Slots.{Idle}
+use Rattle.ledger_runs.specs.Turning.{phase_at, IsLaneOf, OfKept, DidBatch}
+use Rattle.ledger_nodes.specs.Ledgers.{journals_of}
+use Rattle.ledger_nodes.proofs.Turns.{on_ok, on_err, if_ok, if_err, came_keeps, came_does}
+use Rattle.ledger_nodes.proofs.lent.LentLedgerTurns.run_batch.Goals.{in-Ok, in-Err}
+use Rattle.ledger_nodes.proofs.lent.LentLedgerTurns.run_batch.Goals as goal
+
+pub returns-clause-idle : goal.returns-clause-idle
+returns-clause-idle g c = rw (← c.self.view_is) (elim c.match-drive_batch.branch [
+  | in-Ok w ↦ on_ok c.match-drive_batch.result w.only.result (phase_at c.self.inside.header.shape (journals_of g.D.Disk.count g.D.Disk.limit c.self.inside.header.shape c.drive_batch.new.ports.log.logs.items c.drive_batch.new.ports.shards.nodes.items) c.args.lane ≡ Idle) w.result-is w.in-Ok.ensures.idle
+  | in-Err w ↦ on_err c.match-drive_batch.result w.in-Err.fault (phase_at c.self.inside.header.shape (journals_of g.D.Disk.count g.D.Disk.limit c.self.inside.header.shape c.drive_batch.new.ports.log.logs.items c.drive_batch.new.ports.shards.nodes.items) c.args.lane ≡ Idle) w.result-is
+])
+
+pub returns-clause-others : goal.returns-clause-others
+returns-clause-others g c = rw (← c.self.view_is) c.drive_batch.ensures.step.others
+
+pub returns-clause-keeps : goal.returns-clause-keeps
+returns-clause-keeps g c = rw (← c.self.view_is)
+    (came_keeps g.D.Disk.count g.D.Disk.limit g.D.Disk.content g.D.Disk.images c.self.inside.header c.args.lane c.self.inside.ports.log.logs.items c.self.inside.ports.shards.nodes.items c.self.invariant (subst (λ v. IsLaneOf v.header.shape c.args.lane) (sym c.self.view_is) c.requires.lane)
+    c.drive_batch.new.ports.log.logs.items c.drive_batch.new.ports.shards.nodes.items c.drive_batch.ensures.step
+    (subst (λ v. phase_at v.header.shape (journals_of g.D.Disk.count g.D.Disk.limit v.header.shape v.logs v.shards) c.args.lane ≡ Idle) (sym c.self.view_is) c.requires.idle) c.args.txs.now c.drive_batch.result c.drive_batch.ensures.done c.drive_batch.ensures.stopped)
+
+pub returns-clause-does : goal.returns-clause-does
+returns-clause-does g c = rw (← c.self.view_is) (elim c.match-drive_batch.branch [
+  | in-Ok w ↦ if_ok c.match-drive_batch.result w.only.result (λ r. OfKept c.self.inside.header.shape (journals_of g.D.Disk.count g.D.Disk.limit c.self.inside.header.shape c.self.inside.ports.log.logs.items c.self.inside.ports.shards.nodes.items) (λ _ _. DidBatch c.self.inside.header.shape c.args.lane c.args.txs.now (journals_of g.D.Disk.count g.D.Disk.limit c.self.inside.header.shape c.self.inside.ports.log.logs.items c.self.inside.ports.shards.nodes.items) (journals_of g.D.Disk.count g.D.Disk.limit c.self.inside.header.shape c.drive_batch.new.ports.log.logs.items c.drive_batch.new.ports.shards.nodes.items) r)) w.result-is
+      (came_does g.D.Disk.count g.D.Disk.limit g.D.Disk.content g.D.Disk.images c.self.inside.header c.args.lane c.self.inside.ports.log.logs.items c.self.inside.ports.shards.nodes.items c.self.invariant (subst (λ v. IsLaneOf v.header.shape c.args.lane) (sym c.self.view_is) c.requires.lane)
+      c.drive_batch.new.ports.log.logs.items c.drive_batch.new.ports.shards.nodes.items c.drive_batch.ensures.step
+      (subst (λ v. phase_at v.header.shape (journals_of g.D.Disk.count g.D.Disk.limit v.header.shape v.logs v.shards) c.args.lane ≡ Idle) (sym c.self.view_is) c.requires.idle) c.args.txs.now w.in-Ok.report.batches w.only.result w.only.ensures w.in-Ok.ensures.done w.in-Ok.ensures.named)
+  | in-Err w ↦ if_err c.match-drive_batch.result w.in-Err.fault (λ r. OfKept c.self.inside.header.shape (journals_of g.D.Disk.count g.D.Disk.limit c.self.inside.header.shape c.self.inside.ports.log.logs.items c.self.inside.ports.shards.nodes.items) (λ _ _. DidBatch c.self.inside.header.shape c.args.lane c.args.txs.now (journals_of g.D.Disk.count g.D.Disk.limit c.self.inside.header.shape c.self.inside.ports.log.logs.items c.self.inside.ports.shards.nodes.items) (journals_of g.D.Disk.count g.D.Disk.limit c.self.inside.header.shape c.drive_batch.new.ports.log.logs.items c.drive_batch.new.ports.shards.nodes.items) r)) w.result-is
+])
+
+pub returns-clause-later : goal.returns-clause-later
+returns-clause-later g c = rw (← c.self.view_is) c.drive_batch.ensures.step.later

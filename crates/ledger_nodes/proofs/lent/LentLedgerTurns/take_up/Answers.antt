@@ -1,0 +1,52 @@
+use Rattle.std.proofs.Common.{Some, None, refl, sym, subst}
+use Rattle.ledger_runs.specs.Turning.{IsLaneOf}
+use Rattle.ledger_nodes.proofs.Turns.{none_open, own_there, told_there, resumed_keeps, resumed_took}
+use Rattle.ledger_nodes.proofs.lent.LentLedgerTurns.take_up.Goals as goal
+
+pub open_lane-requires : goal.open_lane-requires
+open_lane-requires g c = own_there g.D.Disk.count g.D.Disk.limit g.D.Disk.content g.D.Disk.images c.self.inside.header c.args.lane c.self.inside.ports.log.logs.items c.self.inside.ports.shards.nodes.items c.self.invariant (subst (λ v. IsLaneOf v.header.shape c.args.lane) (sym c.self.view_is) c.requires.lane) c.home-at.result c.index.result.now c.home-at.ensures.place c.index.ensures
+
+pub returns-in_default-found-clause-idle : goal.returns-in_default-found-clause-idle
+returns-in_default-found-clause-idle g c = rw (← c.self.view_is) (none_open g.D.Disk.count g.D.Disk.limit g.D.Disk.content g.D.Disk.images c.self.inside.header c.args.lane c.self.inside.ports.log.logs.items c.self.inside.ports.shards.nodes.items c.self.invariant (subst (λ v. IsLaneOf v.header.shape c.args.lane) (sym c.self.view_is) c.requires.lane) (told_there g.D.Disk.count g.D.Disk.limit g.D.Disk.content g.D.Disk.images c.self.inside.header c.args.lane c.self.inside.ports.log.logs.items c.self.inside.ports.shards.nodes.items c.self.invariant (subst (λ v. IsLaneOf v.header.shape c.args.lane) (sym c.self.view_is) c.requires.lane) c.home-at.result c.index.result.now c.home-at.ensures.place c.index.ensures c.in-Ok.found (None) c.in-Ok.ensures c.in_default-found.is))
+
+pub returns-in_default-found-clause-took : goal.returns-in_default-found-clause-took
+returns-in_default-found-clause-took g c = rw (← c.self.view_is) (λ mint submissions kept. ((none_open g.D.Disk.count g.D.Disk.limit g.D.Disk.content g.D.Disk.images c.self.inside.header c.args.lane c.self.inside.ports.log.logs.items c.self.inside.ports.shards.nodes.items c.self.invariant (subst (λ v. IsLaneOf v.header.shape c.args.lane) (sym c.self.view_is) c.requires.lane) (told_there g.D.Disk.count g.D.Disk.limit g.D.Disk.content g.D.Disk.images c.self.inside.header c.args.lane c.self.inside.ports.log.logs.items c.self.inside.ports.shards.nodes.items c.self.invariant (subst (λ v. IsLaneOf v.header.shape c.args.lane) (sym c.self.view_is) c.requires.lane) c.home-at.result c.index.result.now c.home-at.ensures.place c.index.ensures c.in-Ok.found (None) c.in-Ok.ensures c.in_default-found.is)), λ n. refl))
+
+pub drive_resume-requires-clause-told : goal.drive_resume-requires-clause-told
+drive_resume-requires-clause-told g c = (told_there g.D.Disk.count g.D.Disk.limit g.D.Disk.content g.D.Disk.images c.self.inside.header c.args.lane c.self.inside.ports.log.logs.items c.self.inside.ports.shards.nodes.items c.self.invariant (subst (λ v. IsLaneOf v.header.shape c.args.lane) (sym c.self.view_is) c.requires.lane) c.home-at.result c.index.result.now c.home-at.ensures.place c.index.ensures c.in-Ok.found (Some c.in-Some.unfinished) c.in-Ok.ensures c.in-Some.is)
+
+pub returns-in-Ok-drive_resume-clause-others : goal.returns-in-Ok-drive_resume-clause-others
+returns-in-Ok-drive_resume-clause-others g c = rw (← c.self.view_is) c.drive_resume.ensures.step.others
+
+pub returns-in-Ok-drive_resume-clause-keeps : goal.returns-in-Ok-drive_resume-clause-keeps
+returns-in-Ok-drive_resume-clause-keeps g c = rw (← c.self.view_is)
+    (resumed_keeps g.D.Disk.count g.D.Disk.limit g.D.Disk.content g.D.Disk.images c.self.inside.header c.args.lane c.self.inside.ports.log.logs.items c.self.inside.ports.shards.nodes.items c.self.invariant (subst (λ v. IsLaneOf v.header.shape c.args.lane) (sym c.self.view_is) c.requires.lane)
+    c.drive_resume.new.ports.log.logs.items c.drive_resume.new.ports.shards.nodes.items c.drive_resume.ensures.step c.in-Some.unfinished
+    (told_there g.D.Disk.count g.D.Disk.limit g.D.Disk.content g.D.Disk.images c.self.inside.header c.args.lane c.self.inside.ports.log.logs.items c.self.inside.ports.shards.nodes.items c.self.invariant (subst (λ v. IsLaneOf v.header.shape c.args.lane) (sym c.self.view_is) c.requires.lane) c.home-at.result c.index.result.now c.home-at.ensures.place c.index.ensures c.in-Ok.found (Some c.in-Some.unfinished) c.in-Ok.ensures c.in-Some.is) c.drive_resume.result c.drive_resume.ensures.taken c.drive_resume.ensures.left)
+
+pub returns-in-Ok-drive_resume-clause-holds : goal.returns-in-Ok-drive_resume-clause-holds
+returns-in-Ok-drive_resume-clause-holds g c = rw (← c.self.view_is) c.drive_resume.ensures.step.stored
+
+pub returns-in-Ok-drive_resume-clause-later : goal.returns-in-Ok-drive_resume-clause-later
+returns-in-Ok-drive_resume-clause-later g c = rw (← c.self.view_is) c.drive_resume.ensures.step.later
+
+pub returns-clause-others : goal.returns-clause-others
+returns-clause-others g c = rw (← c.self.view_is) c.drive_resume.ensures.step.others
+
+pub returns-clause-keeps : goal.returns-clause-keeps
+returns-clause-keeps g c = rw (← c.self.view_is)
+    (resumed_keeps g.D.Disk.count g.D.Disk.limit g.D.Disk.content g.D.Disk.images c.self.inside.header c.args.lane c.self.inside.ports.log.logs.items c.self.inside.ports.shards.nodes.items c.self.invariant (subst (λ v. IsLaneOf v.header.shape c.args.lane) (sym c.self.view_is) c.requires.lane)
+    c.drive_resume.new.ports.log.logs.items c.drive_resume.new.ports.shards.nodes.items c.drive_resume.ensures.step c.in-Some.unfinished
+    (told_there g.D.Disk.count g.D.Disk.limit g.D.Disk.content g.D.Disk.images c.self.inside.header c.args.lane c.self.inside.ports.log.logs.items c.self.inside.ports.shards.nodes.items c.self.invariant (subst (λ v. IsLaneOf v.header.shape c.args.lane) (sym c.self.view_is) c.requires.lane) c.home-at.result c.index.result.now c.home-at.ensures.place c.index.ensures c.in-Ok.found (Some c.in-Some.unfinished) c.in-Ok.ensures c.in-Some.is) c.drive_resume.result c.drive_resume.ensures.taken c.drive_resume.ensures.left)
+
+pub returns-clause-holds : goal.returns-clause-holds
+returns-clause-holds g c = rw (← c.self.view_is) c.drive_resume.ensures.step.stored
+
+pub returns-clause-later : goal.returns-clause-later
+returns-clause-later g c = rw (← c.self.view_is) c.drive_resume.ensures.step.later
+
+pub returns-in-Ok-drive_resume-clause-took : goal.returns-in-Ok-drive_resume-clause-took
+returns-in-Ok-drive_resume-clause-took g c = rw (← c.self.view_is)
+    (resumed_took g.D.Disk.count g.D.Disk.limit g.D.Disk.content g.D.Disk.images c.self.inside.header c.args.lane c.self.inside.ports.log.logs.items c.self.inside.ports.shards.nodes.items c.self.invariant (subst (λ v. IsLaneOf v.header.shape c.args.lane) (sym c.self.view_is) c.requires.lane)
+    c.drive_resume.new.ports.log.logs.items c.drive_resume.new.ports.shards.nodes.items c.drive_resume.ensures.step c.in-Some.unfinished
+    (told_there g.D.Disk.count g.D.Disk.limit g.D.Disk.content g.D.Disk.images c.self.inside.header c.args.lane c.self.inside.ports.log.logs.items c.self.inside.ports.shards.nodes.items c.self.invariant (subst (λ v. IsLaneOf v.header.shape c.args.lane) (sym c.self.view_is) c.requires.lane) c.home-at.result c.index.result.now c.home-at.ensures.place c.index.ensures c.in-Ok.found (Some c.in-Some.unfinished) c.in-Ok.ensures c.in-Some.is) c.in-Ok-drive_resume.batch c.in-Ok-drive_resume.ensures.resumed c.in-Ok-drive_resume.ensures.taken c.in-Ok-drive_resume.ensures.outcomes)

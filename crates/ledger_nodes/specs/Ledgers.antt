@@ -1,0 +1,41 @@
+-- The nodes of a ledger, open.
+use Rattle.std.specs.Prelude.{◌≡◌, ℕ, ◌-◌, ◌<◌, nat_lt, if◌then◌else◌, List, length, Option, All}
+use Rattle.cbdc_types.specs.Limits.{IsWithinLimits}
+use Rattle.cbdc_model.specs.Records.{Shape, Header, Record}
+use Rattle.cbdc_model.specs.Ranges.{shard_node}
+use Rattle.cbdc_model.specs.After.{IsJournal}
+use Rattle.cbdc_model.specs.History.{header_of}
+use Rattle.coord_log.specs.Logs.{LogOf, sight, HoldsJournal as HoldsLog}
+use Rattle.shard_node.specs.Shards.{ShardOf, sight_of, HoldsJournal as HoldsShard}
+use Rattle.node_ports.specs.Nodes.{sight_at}
+use Rattle.run_laws.specs.Runs.{seen_by}
+
+-- as many coordinators and shards as the ledger's shape has, each under its own header, with a journal of it
+pub record IsLedger {D : Type 0} (h : Header) (logs : List (LogOf D)) (shards : List (ShardOf D)) : Type 0 where
+  pub limits : IsWithinLimits h.shape
+  pub coordinators : length logs ≡ h.shape.coordinators
+  pub shards_are : length shards ≡ h.shape.shards
+  pub log_headers : (n : ℕ) → n < h.shape.coordinators → (sight_at sight logs n).header ≡ header_of h.shape h.genesis n
+  pub shard_headers : (s : ℕ) → s < h.shape.shards → (sight_at (sight_of (λ d. 0) (λ d. 0)) shards s).header ≡ header_of h.shape h.genesis (shard_node h.shape s)
+  pub log_journals : All (λ l. IsJournal l.header l.journal) logs
+  pub shard_journals : All (λ s. IsJournal s.header s.journal) shards
+
+-- what contracts see of a ledger: its header, which is that of node 0, and its nodes
+pub record LedgerOf (D : Type 0) : Type 0 where
+  pub header : Header
+  pub logs : List (LogOf D)
+  pub shards : List (ShardOf D)
+
+-- the journals of all nodes, the coordinators first, by the counts of their disks
+abbrev pub journals_of : {D : Type 0} → (D → ℕ) → (D → ℕ) → Shape → List (LogOf D) → List (ShardOf D) → ℕ → List Record
+journals_of count limit K logs shards = seen_by K (sight_at sight logs) (sight_at (sight_of count limit) shards)
+
+-- how often the disk of each node has failed
+abbrev pub faults_of : {D : Type 0} → (D → ℕ) → (D → ℕ) → Shape → List (LogOf D) → List (ShardOf D) → ℕ → ℕ
+faults_of count limit K logs shards n =
+    if nat_lt n K.coordinators then (sight_at sight logs n).faults else (sight_at (sight_of count limit) shards (n - K.coordinators)).faults
+
+-- each node's disk holds its journal
+pub record AreStored {D : Type 0} (content : D → Option (List ℕ)) (images : D → List ℕ → Type 0) (logs : List (LogOf D)) (shards : List (ShardOf D)) : Type 0 where
+  pub logs_are : All (HoldsLog content images) logs
+  pub shards_are : All (HoldsShard content images) shards

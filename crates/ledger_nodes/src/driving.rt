@@ -1,0 +1,122 @@
+// A lane's driver at the nodes of a ledger.
+ghost use Rattle.std.specs.Prelude.{◌≡◌, ◌<◌, ◌/◌, true, [], ◌∷◌, All, Some, slice_get, IfOk, IfErr, OnOk};
+ghost use Rattle.cbdc_model.specs.After.{IsJournal};
+ghost use Rattle.cbdc_model.specs.Grammar.{HasSize, IsCompact};
+ghost use Rattle.cbdc_model.specs.Ranges.{home_of};
+ghost use Rattle.cbdc_model.specs.Slots.{Idle};
+ghost use Rattle.coord_log.specs.Logs.{sight};
+ghost use Rattle.coord_log.specs.OpenLanes.{open_lane};
+ghost use Rattle.shard_node.specs.Shards.{sight_of};
+ghost use Rattle.node_ports.specs.Nodes.{sight_at};
+ghost use Rattle.lane_driver.specs.Stops.{IsBatchStopped, IsOneBatch};
+ghost use Rattle.lane_driver.specs.Reports.{AreReports};
+ghost use Rattle.lane_laws.specs.Resuming.{IsTakenUp};
+ghost use Rattle.recovery.specs.Open.{IsResumed, IsUnfinished, HasItsOutcomes, IsResumeStopped};
+ghost use Rattle.ledger_runs.specs.Turning.{phase_at, IsLaneOf};
+ghost use Rattle.ledger_nodes.specs.Ledgers.{IsLedger, journals_of};
+ghost use Rattle.ledger_nodes.specs.Steps.{IsStep};
+
+use cbdc_types::{CompactTx, Header, LaneId, OpenLane, Shape};
+use coord_log::CoordLog;
+use lane_driver::{LaneFault, LaneReport, Ports, run_batch};
+use node_ports::{NodeLogs, NodeShards};
+use outside::{Disk, Gate};
+use recovery::{ResumedBatch, resume_lane};
+use shard_node::ShardNode;
+use std::alloc::Global;
+use std::sync::Wait;
+
+/// The place of a lane's coordinator.
+pub(crate) fn home(shape: &Shape, lane: LaneId) -> u32
+    requires { IsLaneOf shape.now lane }
+    ensures place { result ≡ home_of shape.now lane }
+    ensures inside { result < shape.now.coordinators }
+{
+    let _count = shape.coordinators();
+    lane.0 / shape.lanes()
+}
+
+// Each coordinator's journal is one of its header.
+fn see_logs<D: Disk>(logs: &[CoordLog<D>])
+    ensures { All (λ l. IsJournal l.header l.journal) logs.now }
+{
+    'logs: for log in logs {
+        let _records = log.records();
+    }
+}
+
+// Each shard's journal is one of its header.
+fn see_shards<D: Disk>(shards: &[ShardNode<D>])
+    ensures { All (λ s. IsJournal s.header s.journal) shards.now }
+{
+    'shards: for shard in shards {
+        let _records = shard.records();
+    }
+}
+
+/// Runs a batch of an idle lane.
+pub(crate) fn drive_batch<W: Wait, D: Disk, G: Gate>(
+    alloc: Global,
+    header: &Header,
+    lane: LaneId,
+    txs: &[CompactTx],
+    ports: &mut Ports<NodeShards<W, D>, NodeLogs<W, D>>,
+    gate: &G,
+) -> Result<LaneReport, LaneFault>
+    requires ledger { IsLedger header.now ports.old.log.logs.items ports.old.shards.nodes.items }
+    requires lane { IsLaneOf header.now.shape lane }
+    requires idle { phase_at header.now.shape (journals_of D.count D.limit header.now.shape ports.old.log.logs.items ports.old.shards.nodes.items) lane ≡ Idle }
+    requires size { HasSize header.now.shape txs.now }
+    requires limits { All IsCompact txs.now }
+    ensures step { IsStep D.count D.limit D.content D.images header.now lane ports.old.log.logs.items ports.old.shards.nodes.items ports.new.log.logs.items ports.new.shards.nodes.items }
+    ensures done { IfOk result (λ r. IsOneBatch header.now.shape true lane txs.now
+        (sight_at sight ports.old.log.logs.items (home_of header.now.shape lane)) (sight_at (sight_of D.count D.limit) ports.old.shards.nodes.items)
+        (sight_at sight ports.new.log.logs.items (home_of header.now.shape lane)) (sight_at (sight_of D.count D.limit) ports.new.shards.nodes.items) r.batches) }
+    ensures named { IfOk result (λ r. AreReports lane r.batches (txs.now ∷ [])) }
+    ensures stopped { IfErr result (IsBatchStopped header.now.shape true lane txs.now
+        (sight_at sight ports.old.log.logs.items (home_of header.now.shape lane)) (sight_at (sight_of D.count D.limit) ports.old.shards.nodes.items)
+        (sight_at sight ports.new.log.logs.items (home_of header.now.shape lane)) (sight_at (sight_of D.count D.limit) ports.new.shards.nodes.items)) }
+    ensures idle { OnOk result (phase_at header.now.shape (journals_of D.count D.limit header.now.shape ports.new.log.logs.items ports.new.shards.nodes.items) lane ≡ Idle) }
+{
+    ports.log.at = home(&header.shape, lane);
+    ports.shards.lane = lane;
+    let came = run_batch(alloc, &header.shape, lane, txs, ports, 0, gate);
+    see_logs(ports.log.logs.as_slice());
+    see_shards(ports.shards.nodes.as_slice());
+    came
+}
+
+/// Takes a lane's open batch to its end.
+pub(crate) fn drive_resume<W: Wait, D: Disk, G: Gate>(
+    alloc: Global,
+    header: &Header,
+    lane: LaneId,
+    unfinished: &OpenLane,
+    ports: &mut Ports<NodeShards<W, D>, NodeLogs<W, D>>,
+    gate: &G,
+) -> Result<ResumedBatch, LaneFault>
+    requires ledger { IsLedger header.now ports.old.log.logs.items ports.old.shards.nodes.items }
+    requires lane { IsLaneOf header.now.shape lane }
+    requires told { open_lane (sight_at sight ports.old.log.logs.items (home_of header.now.shape lane)).seen lane ≡ Some unfinished.now }
+    ensures step { IsStep D.count D.limit D.content D.images header.now lane ports.old.log.logs.items ports.old.shards.nodes.items ports.new.log.logs.items ports.new.shards.nodes.items }
+    ensures taken { OnOk result (IsUnfinished unfinished.now.phase header.now.shape unfinished.now
+        (sight_at sight ports.old.log.logs.items (home_of header.now.shape lane)) (sight_at (sight_of D.count D.limit) ports.old.shards.nodes.items)
+        → IsTakenUp header.now.shape true unfinished.now.batch
+        (sight_at sight ports.old.log.logs.items (home_of header.now.shape lane)) (sight_at (sight_of D.count D.limit) ports.old.shards.nodes.items)
+        (sight_at sight ports.new.log.logs.items (home_of header.now.shape lane)) (sight_at (sight_of D.count D.limit) ports.new.shards.nodes.items)) }
+    ensures resumed { IfOk result (IsResumed unfinished.now) }
+    ensures outcomes { IfOk result (λ r. IsUnfinished unfinished.now.phase header.now.shape unfinished.now
+        (sight_at sight ports.old.log.logs.items (home_of header.now.shape lane)) (sight_at (sight_of D.count D.limit) ports.old.shards.nodes.items)
+        → HasItsOutcomes unfinished.now.phase unfinished.now (sight_at sight ports.new.log.logs.items (home_of header.now.shape lane)).seen r) }
+    ensures left { IfErr result (IsResumeStopped header.now.shape true unfinished.now
+        (sight_at sight ports.old.log.logs.items (home_of header.now.shape lane)) (sight_at (sight_of D.count D.limit) ports.old.shards.nodes.items)
+        (sight_at sight ports.new.log.logs.items (home_of header.now.shape lane)) (sight_at (sight_of D.count D.limit) ports.new.shards.nodes.items)) }
+    ensures idle { OnOk result (phase_at header.now.shape (journals_of D.count D.limit header.now.shape ports.new.log.logs.items ports.new.shards.nodes.items) lane ≡ Idle) }
+{
+    ports.log.at = home(&header.shape, lane);
+    ports.shards.lane = lane;
+    let came = resume_lane(alloc, &header.shape, unfinished, ports, gate);
+    see_logs(ports.log.logs.as_slice());
+    see_shards(ports.shards.nodes.as_slice());
+    came
+}

@@ -1,0 +1,138 @@
+// The nodes of a ledger, lent to the ports of its lanes.
+ghost use Rattle.std.specs.Prelude.{◌≡◌, ◌∷◌, []};
+ghost use Rattle.lane_driver.specs.declared.fault.BatchReport.{BatchReport as ReportOf};
+ghost use Rattle.ledger_nodes.specs.Ledgers.{journals_of, faults_of, AreStored};
+
+use crate::driving::{drive_batch, drive_resume, home};
+use crate::ledger::Ledger;
+use cbdc_types::{CompactTx, Header, LaneId, Shape};
+use lane_driver::{BatchReport, LaneFault, LaneReport, Ports, no_memory};
+use ledger_runs::Turns;
+use node_ports::{NodeLogs, NodeShards};
+use outside::{Disk, Gate};
+use recovery::ResumedBatch;
+use std::alloc::Global;
+use std::marker::Model;
+use std::sync::Wait;
+
+/// All nodes of a ledger behind the ports of its lanes. Contracts see its header and its nodes, which are a ledger's.
+#[derive(Drop)]
+pub struct LentLedger<'r, W: Wait, D: Disk> {
+    header: Header,
+    ports: Ports<NodeShards<'r, W, D>, NodeLogs<'r, W, D>>,
+}
+
+impl<'r, W: Wait, D: Disk> Model for LentLedger<'r, W, D> {
+    ghost use Rattle.ledger_nodes.specs.Ledgers.{LedgerOf, IsLedger};
+
+    ghost Value = { LedgerOf D };
+
+    ghost view = { λ l. record { header = l.header; logs = l.ports.log.logs.items; shards = l.ports.shards.nodes.items } };
+
+    ghost invariant = { λ l. IsLedger l.header l.ports.log.logs.items l.ports.shards.nodes.items };
+}
+
+/// Lends the nodes of a ledger to the ports of its lanes.
+pub fn lend<'r, W: Wait, D: Disk>(rt: &'r W, ledger: Ledger<D>) -> LentLedger<'r, W, D>
+    ensures { result ≡ ledger }
+{
+    let Ledger {
+        header,
+        logs,
+        shards,
+    } = ledger;
+    LentLedger {
+        header,
+        ports: Ports {
+            shards: NodeShards {
+                rt,
+                lane: LaneId(0),
+                first: header.shape.coordinators(),
+                nodes: shards,
+            },
+            log: NodeLogs { rt, logs, at: 0 },
+        },
+    }
+}
+
+// The one report of a batch.
+fn only(report: LaneReport) -> BatchReport
+    requires { (r : ReportOf) × (report.batches ≡ r ∷ []) }
+    ensures { report.batches ≡ result ∷ [] }
+{
+    let LaneReport { batches } = report;
+    match batches.into_vec().pop() {
+        Some(batch) => batch,
+        None => unreachable!(),
+    }
+}
+
+impl<'r, W: Wait, D: Disk> LentLedger<'r, W, D> {
+    /// The ledger with its nodes back.
+    pub fn take_back(self) -> Ledger<D>
+        ensures { result ≡ self.entry }
+    {
+        let LentLedger { header, ports } = self;
+        let Ports { shards, log } = ports;
+        let NodeShards { nodes, .. } = shards;
+        let NodeLogs { logs, .. } = log;
+        Ledger {
+            header,
+            logs,
+            shards: nodes,
+        }
+    }
+}
+
+impl<'r, W: Wait, D: Disk> Turns for LentLedger<'r, W, D> {
+    ghost shape = { λ l. l.header.shape };
+
+    ghost journals = { λ l. journals_of D.count D.limit l.header.shape l.logs l.shards };
+
+    ghost faults = { λ l. faults_of D.count D.limit l.header.shape l.logs l.shards };
+
+    ghost holds = { λ l. AreStored D.content D.images l.logs l.shards };
+
+    fn shape(&self) -> &Shape {
+        &self.header.shape
+    }
+
+    fn run_batch<G: Gate>(
+        &mut self,
+        alloc: Global,
+        lane: LaneId,
+        txs: &[CompactTx],
+        gate: &G,
+    ) -> Result<BatchReport, LaneFault> {
+        match drive_batch(alloc, &self.header, lane, txs, &mut self.ports, gate) {
+            Ok(report) => Ok(only(report)),
+            Err(fault) => Err(fault),
+        }
+    }
+
+    fn take_up<G: Gate>(
+        &mut self,
+        alloc: Global,
+        lane: LaneId,
+        gate: &G,
+    ) -> Result<Option<ResumedBatch>, LaneFault> {
+        let at = home(&self.header.shape, lane) as usize;
+        let Ok(found) = self.ports.log.logs[at].open_lane(lane) else {
+            return Err(no_memory());
+        };
+        let Some(unfinished) = found else {
+            return Ok(None);
+        };
+        match drive_resume(
+            alloc,
+            &self.header,
+            lane,
+            &unfinished,
+            &mut self.ports,
+            gate,
+        ) {
+            Ok(batch) => Ok(Some(batch)),
+            Err(fault) => Err(fault),
+        }
+    }
+}

@@ -1,0 +1,9 @@
+//! The nodes of a ledger, open, and the turns of its lanes at them.
+#![tactic(auto)]
+
+mod driving;
+mod ledger;
+mod lent;
+
+pub use ledger::Ledger;
+pub use lent::{LentLedger, lend};

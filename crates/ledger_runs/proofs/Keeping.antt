@@ -1,0 +1,63 @@
+-- Turn after turn: what stays kept, and which open batches are at their end.
+use Rattle.std.proofs.Common.{◌≡◌, ◌≢◌, ◌⊎◌, inl, inr, true, false, ◌==◌, ℕ, suc, ◌+◌, ◌*◌, ◌<◌, ◌≤◌, List, [], ◌∷◌, ◌++◌, refl, sym, ap, ◌∙◌, subst, add-one, arith, Option, Some, None}
+use Rattle.std.proofs.lemmas.Bool.Decides.{eqb_tells}
+use Rattle.ledger_laws.proofs.Cuts.{end_self, end_trans}
+use Rattle.cbdc_model.specs.Records.{Shape, Compact, Record}
+use Rattle.cbdc_model.specs.Slots.{slot, Idle}
+use Rattle.cbdc_model.specs.Ranges.{home_of}
+use Rattle.cbdc_model.specs.Coins.{Output, FullTx}
+use Rattle.cbdc_model.specs.World.{KeptJournals}
+use Rattle.recovery.specs.declared.resumed.ResumedBatch.{ResumedBatch}
+use Rattle.run_laws.specs.WaveSteps.{ResumedSo, ResumingStepLaw, ResumingSkipLaw}
+use Rattle.ledger_runs.specs.Turning.{phase_at, OfKept, StaysKept, KeepsLanes, listed, TookUp, TookUpOne}
+use Rattle.std.specs.Prelude.{Result, Ok, Err, OnOk}
+use Rattle.lane_driver.specs.declared.fault.LaneFault.{LaneFault}
+
+lt_or_eq : (l lane : ℕ) → l < lane + 1 → (l < lane) ⊎ (l ≡ lane)
+lt_or_eq l lane low = go (eqb_tells l lane)
+  where
+    go : (((l == lane) ≡ true) × (l ≡ lane)) ⊎ (((l == lane) ≡ false) × (l ≢ lane)) → (l < lane) ⊎ (l ≡ lane)
+    go (inl (b, same)) = inr same
+    go (inr (b, other)) = inl (omega (arith, low, other))
+
+pub stays : (K : Shape) (I : ℕ → List Record) → OfKept K I (StaysKept K I I)
+stays K I mint submissions kept = record { grows = λ n. end_self (I n); kept = kept }
+
+pub stays_on : (K : Shape) (I J L : ℕ → List Record) → OfKept K I (StaysKept K I J) → OfKept K J (StaysKept K J L) → OfKept K I (StaysKept K I L)
+stays_on K I J L one two mint submissions kept =
+    let a = one mint submissions kept in
+    let b = two mint submissions a.kept in
+    record { grows = λ n. end_trans (I n) (J n) (L n) (a.grows n) (b.grows n); kept = b.kept }
+
+-- the next lane has had its turn
+pub resumes_on : ResumingStepLaw → ResumingSkipLaw → (K : Shape) (lane : ℕ) (E J L : ℕ → List Record) (found : Option ResumedBatch)
+    → ResumedSo K lane E J → TookUp K lane J L found → ResumedSo K (lane + 1) E L
+resumes_on step skip K lane E J L (Some r) so took = subst (λ l. ResumedSo K l E L) (sym (add-one lane)) (step K lane r.batch E J L so took.0)
+resumes_on step skip K lane E J L None so (idle, same) =
+    let all : J ≡ L = λ i n. sym (same n) i in
+    let on : ResumedSo K (suc lane) E J = skip K lane (suc lane) E J so (omega arith) (λ l low high. subst (λ m. phase_at K J m ≡ Idle) (omega arith) idle) in
+    subst (λ X. ResumedSo K (lane + 1) E X) all (subst (λ l. ResumedSo K l E J) (sym (add-one lane)) on)
+
+pub stays_next : (K H : Shape) (I J L : ℕ → List Record) → H ≡ K → OfKept K I (StaysKept K I J) → OfKept H J (StaysKept H J L) → OfKept K I (StaysKept K I L)
+stays_next K H I J L e one two = stays_on K I J L one (subst (λ k. OfKept k J (StaysKept k J L)) e two)
+
+-- the lanes that have had their turn are idle
+pub idle_next : (K H : Shape) (lane : ℕ) (J L : ℕ → List Record) → H ≡ K → lane < K.coordinators * K.lanes
+    → ((l : ℕ) → l < lane → phase_at K J l ≡ Idle) → KeepsLanes H lane J L → phase_at H L lane ≡ Idle → (l : ℕ) → l < lane + 1 → phase_at K L l ≡ Idle
+idle_next K H lane J L e below before others now l low = go (lt_or_eq l lane low)
+  where
+    go : (l < lane) ⊎ (l ≡ lane) → phase_at K L l ≡ Idle
+    go (inl less) = subst (λ k. KeepsLanes k lane J L) e others l (omega arith) (λ h. absurd (omega (arith, h, less))) ∙ before l less
+    go (inr same) = subst (λ k. phase_at k L l ≡ Idle) e (subst (λ m. phase_at H L m ≡ Idle) (sym same) now)
+
+pub so_next : ResumingStepLaw → ResumingSkipLaw → (K H : Shape) (lane : ℕ) (E J L : ℕ → List Record) (before after : List ResumedBatch) → H ≡ K
+    → OfKept K E (StaysKept K E J) → OfKept K E (λ _ _. ResumedSo K lane E J) → OfKept H J (λ _ _. TookUpOne H lane J L before after)
+    → OfKept K E (λ _ _. ResumedSo K (lane + 1) E L)
+so_next step skip K H lane E J L before after e keeps so took mint submissions kept =
+    let now = subst (λ k. OfKept k J (λ _ _. TookUpOne k lane J L before after)) e took mint submissions (keeps mint submissions kept).kept in
+    resumes_on step skip K lane E J L now.0 (so mint submissions kept) now.1
+
+pub keeps_found : (K : Shape) (lane : ℕ) (I J : ℕ → List Record) (found : Option ResumedBatch) (r : Result (Unit {0}) LaneFault) (before after : List ResumedBatch)
+    → OfKept K I (λ _ _. TookUp K lane I J found) → OnOk r (after ≡ before ++ listed found) → OnOk r (OfKept K I (λ _ _. TookUpOne K lane I J before after))
+keeps_found K lane I J found (Ok x) before after took e = λ mint submissions kept. (found, took mint submissions kept, e)
+keeps_found K lane I J found (Err f) before after took e = tt

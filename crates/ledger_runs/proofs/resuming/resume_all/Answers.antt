@@ -1,0 +1,49 @@
+use Rattle.std.proofs.Common.{◌≡◌, ◌≤◌, ◌≢◌, ℕ, ◌+◌, ◌*◌, ◌<◌, arith, refl, ap, sym, ◌∙◌, subst}
+use Rattle.run_laws.specs.WaveSteps.{ResumedSo, ResumingStepLaw, ResumingSkipLaw, ResumingBeginsLaw, ResumingEndsLaw}
+use Rattle.run_laws.proofs.WaveTurns.{resuming_begins_law, resuming_step_law, resuming_skip_law, resuming_ends_law}
+use Rattle.ledger_runs.specs.Turning.{phase_at, OfKept, StaysKept}
+use Rattle.ledger_runs.proofs.Keeping.{stays, stays_next, idle_next, so_next}
+use Rattle.ledger_runs.proofs.resuming.resume_all.Goals as goal
+
+pub returns-in-Err-clause-keeps : goal.returns-in-Err-clause-keeps
+returns-in-Err-clause-keeps g c =
+    stays_next (g.L.Turns.shape c.args.ledger.now) _ (g.L.Turns.journals c.args.ledger.now) _ _ c.lanes.invariant.shape c.lanes.invariant.keeps c.resume_next.ensures.keeps
+
+pub lanes-init : goal.lanes-init
+lanes-init g c =
+    let K = g.L.Turns.shape c.args.ledger.now in
+    let E = g.L.Turns.journals c.args.ledger.now in
+    let begins : ResumingBeginsLaw = resuming_begins_law in
+    record {
+      shape = refl;
+      count = c.lane_count-count.ensures.value ∙ ap (λ s. s.coordinators * s.lanes) c.shape.ensures;
+      idle = λ lane low. absurd (omega (arith, low));
+      keeps = stays K E;
+      so = λ _ _ _. begins K E;
+      holds = λ h. h;
+      later = λ n. omega arith;
+    }
+
+pub lanes-preserved : goal.lanes-preserved
+lanes-preserved g c =
+    let K = g.L.Turns.shape c.args.ledger.now in
+    let E = g.L.Turns.journals c.args.ledger.now in
+    let so = c.lanes.invariant in
+    let did = c.resume_next.ensures in
+    let step : ResumingStepLaw = resuming_step_law in
+    let skip : ResumingSkipLaw = resuming_skip_law in
+    record {
+      shape = did.shape ∙ so.shape;
+      count = so.count;
+      idle = idle_next K (g.L.Turns.shape c.lanes.ledger) c.lanes.lane (g.L.Turns.journals c.lanes.ledger) (g.L.Turns.journals c.resume_next.new.ledger) so.shape (omega (arith, c.lanes-test.true, so.count)) so.idle did.others c.in-Ok-resume_next.ensures.idle;
+      keeps = stays_next K _ E _ _ so.shape so.keeps did.keeps;
+      so = so_next step skip K _ c.lanes.lane E _ _ _ _ so.shape so.keeps so.so c.in-Ok-resume_next.ensures.took;
+      holds = λ h. did.holds (so.holds h);
+      later = λ n. omega (arith, did.later n, so.later n);
+    }
+
+pub returns-clause-resumed : goal.returns-clause-resumed
+returns-clause-resumed g c =
+    let ends : ResumingEndsLaw = resuming_ends_law in
+    λ mint submissions kept. ends _ _ _ (subst (λ n. ResumedSo (g.L.Turns.shape c.args.ledger.now) n (g.L.Turns.journals c.args.ledger.now) (g.L.Turns.journals c.lanes.ledger))
+    (omega (arith, c.lanes.invariant.count, c.lanes-test.false, c.lanes.auto.lane-end)) (c.lanes.invariant.so mint submissions kept))

@@ -1,0 +1,20 @@
+use Rattle.std.proofs.Common.{◌≡◌, ◌≤◌, ◌<◌, ◌*◌, ℕ}
+use Rattle.cbdc_model.specs.Slots.{Idle}
+use Rattle.run_laws.specs.WaveSteps.{ResumedSo}
+use Rattle.ledger_runs.specs.Turning.{phase_at, OfKept, StaysKept}
+use Rattle.ledger_runs.proofs.resuming.resume_all.Given as goal
+
+abbrev pub invariant-lanes : goal.invariant-lanes
+invariant-lanes g l =
+    let K = g.L.Turns.shape l.fn.ledger in
+    let E = g.L.Turns.journals l.fn.ledger in
+    let J = g.L.Turns.journals l.ledger in
+    record {
+      shape : g.L.Turns.shape l.ledger ≡ K;
+      count : l.count ≡ K.coordinators * K.lanes;
+      idle : (lane : ℕ) → lane < l.lane → phase_at K J lane ≡ Idle;
+      keeps : OfKept K E (StaysKept K E J);
+      so : OfKept K E (λ _ _. ResumedSo K l.lane E J);
+      holds : g.L.Turns.holds l.fn.ledger → g.L.Turns.holds l.ledger;
+      later : (n : ℕ) → g.L.Turns.faults l.fn.ledger n ≤ g.L.Turns.faults l.ledger n;
+    }

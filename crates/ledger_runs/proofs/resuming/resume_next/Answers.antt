@@ -1,0 +1,5 @@
+use Rattle.ledger_runs.proofs.Keeping.{keeps_found}
+use Rattle.ledger_runs.proofs.resuming.resume_next.Goals as goal
+
+pub returns-in-Ok-clause-took : goal.returns-in-Ok-clause-took
+returns-in-Ok-clause-took g c = keeps_found (g.L.Turns.shape c.args.ledger.now) c.args.lane (g.L.Turns.journals c.args.ledger.now) (g.L.Turns.journals c.take_up.new.self) c.in-Ok.found c.keep.result _ _ c.in-Ok.ensures.took c.keep.ensures

@@ -1,0 +1,42 @@
+use Rattle.std.proofs.Common.{◌≡◌, ◌≤◌, ◌<◌, ◌*◌, ℕ, length, refl, ap, sym, ◌∙◌, subst, arith}
+use Rattle.ledger_runs.specs.Waving.{AreShorter}
+use Rattle.ledger_runs.proofs.WaveKeeping.{RoundsSo, rounds_begin, rounds_step, rounds_end, all_idle, next_start}
+use Rattle.ledger_runs.proofs.waves.run_wave.Goals as goal
+
+pub rounds-init : goal.rounds-init
+rounds-init g c = record {
+  shape = refl;
+  so = rounds_begin (g.L.Turns.shape c.args.ledger.now) (g.L.Turns.journals c.args.ledger.now) c.args.lanes.now.items c.requires.count c.requires.idle c.requires.limits;
+  holds = λ h. h;
+  later = λ n. omega arith;
+}
+
+pub rounds-preserved : goal.rounds-preserved
+rounds-preserved g c =
+    let K = g.L.Turns.shape c.args.ledger.now in
+    let is = c.rounds.invariant in
+    let did = c.turns.ensures in
+    let short = subst (λ ls. AreShorter ls c.longest-most.result) c.deref.ensures.value c.longest-most.ensures in
+    let size : c.batch-size.result ≡ K.batch = c.batch-size.ensures.value ∙ ap (λ s. s.batch) c.shape.ensures in
+    record {
+      shape = did.shape ∙ is.shape;
+      so = rounds_step K (g.L.Turns.shape c.rounds.ledger) c.rounds.start c.saturating_add-start.result c.longest-most.result (g.L.Turns.journals c.args.ledger.now) (g.L.Turns.journals c.rounds.ledger) (g.L.Turns.journals c.turns.new.ledger)
+          c.args.lanes.now.items c.rounds.lanes.items c.turns.new.lanes.items is.shape c.requires.count short
+          (next_start c.rounds.start c.batch-size.result K.batch c.saturating_add-start.result c.longest-most.result size c.saturating_add-start.ensures c.longest-most.type_inv)
+          is.so did.count did.sent did.ready did.limits did.stopped did.keeps did.goes_on;
+      holds = λ h. did.holds (is.holds h);
+      later = λ n. omega (arith, did.later n, is.later n);
+    }
+
+pub returns-clause-idle : goal.returns-clause-idle
+returns-clause-idle g c =
+    let K = g.L.Turns.shape c.args.ledger.now in
+    let so = c.rounds.invariant.so in
+    all_idle K (g.L.Turns.journals c.rounds.ledger) c.rounds.lanes.items (so.as_many ∙ c.requires.count) so.ready
+
+pub returns-clause-runs : goal.returns-clause-runs
+returns-clause-runs g c =
+    let K = g.L.Turns.shape c.args.ledger.now in
+    let short = subst (λ ls. AreShorter ls c.longest-most.result) c.deref.ensures.value c.longest-most.ensures in
+    rounds_end K c.rounds.start c.longest-most.result (g.L.Turns.journals c.args.ledger.now) (g.L.Turns.journals c.rounds.ledger) c.args.lanes.now.items c.rounds.lanes.items c.requires.count short
+    c.rounds-test.false c.rounds.invariant.so

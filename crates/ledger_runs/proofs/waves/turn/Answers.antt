@@ -1,0 +1,14 @@
+use Rattle.std.proofs.Common.{◌≡◌, ◌∙◌, ap, take, drop, arith}
+use Rattle.ledger_runs.proofs.WaveKeeping.{by_piece, took_of}
+use Rattle.ledger_runs.proofs.waves.turn.Goals as goal
+
+pub returns-clause-keeps : goal.returns-clause-keeps
+returns-clause-keeps g c =
+    by_piece (g.L.Turns.shape c.args.ledger.now) c.args.lane.now.txs.items c.piece.result.now c.args.start c.batch-size.result (g.L.Turns.journals c.args.ledger.now) (g.L.Turns.journals c.run_batch-came.new.self)
+    (c.piece.ensures ∙ ap (λ l. take c.batch-size.result (drop c.args.start l)) c.deref.ensures.value) c.run_batch-came.ensures.keeps
+
+pub returns-clause-took : goal.returns-clause-took
+returns-clause-took g c = λ none.
+    took_of (g.L.Turns.shape c.args.ledger.now) c.args.number c.args.start c.batch-size.result c.args.lane.now.txs.items c.piece.result.now (g.L.Turns.journals c.args.ledger.now) (g.L.Turns.journals c.run_batch-came.new.self)
+    c.run_batch-came.result (c.piece.ensures ∙ ap (λ l. take c.batch-size.result (drop c.args.start l)) c.deref.ensures.value)
+    (c.batch-size.ensures.value ∙ ap (λ s. s.batch) c.shape.ensures) (omega (arith, c.if-start-len.false, c.len.ensures)) (c.take_in.ensures.fault none).1 c.run_batch-came.ensures.does

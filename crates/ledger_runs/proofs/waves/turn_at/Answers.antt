@@ -1,0 +1,22 @@
+use Rattle.std.proofs.Common.{◌≡◌, ◌∙◌, sym, ap, subst}
+use Rattle.std.specs.Prelude.{slice_get, slice_set}
+use Rattle.std.proofs.lemmas.List.{get_or-set_same}
+use Rattle.std.proofs.lemmas.Option.{get_or_from_slice_get}
+use Rattle.ledger_runs.specs.Turning.{OfKept, StaysKeptBy}
+use Rattle.ledger_runs.specs.Waving.{TookTurn}
+use Rattle.ledger_runs.proofs.waves.turn_at.Goals as goal
+
+pub returns-clause-keeps : goal.returns-clause-keeps
+returns-clause-keeps g c x there =
+    let e = c.index_mut.ensures.value ∙ get_or_from_slice_get c.args.lanes.now.items c.args.number x c.index_mut.result.now there in
+    let K = g.L.Turns.shape c.args.ledger.now in
+    subst (λ y. OfKept K (g.L.Turns.journals c.args.ledger.now) (StaysKeptBy K y.txs.items (g.L.Turns.journals c.args.ledger.now) (g.L.Turns.journals c.turn.new.ledger))) e c.turn.ensures.keeps
+
+pub returns-clause-took : goal.returns-clause-took
+returns-clause-took g c x y there after =
+    let items = c.args.lanes.now.items in
+    let e = c.index_mut.ensures.value ∙ get_or_from_slice_get items c.args.number x c.index_mut.result.now there in
+    let K = g.L.Turns.shape c.args.ledger.now in
+    let now : c.turn.new.lane ≡ y = sym (get_or-set_same items c.args.number c.turn.new.lane y c.requires.inside) ∙ get_or_from_slice_get (slice_set items c.args.number c.turn.new.lane) c.args.number y y after in
+    λ none. subst (λ z. OfKept K (g.L.Turns.journals c.args.ledger.now) (λ _ _. TookTurn K c.args.number c.args.start z.txs.items (g.L.Turns.journals c.args.ledger.now) (g.L.Turns.journals c.turn.new.ledger))) e
+    (c.turn.ensures.took (ap (λ z. z.fault) now ∙ none))

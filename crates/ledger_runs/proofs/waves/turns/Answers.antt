@@ -1,0 +1,40 @@
+use Rattle.std.proofs.Common.{◌≡◌, ◌≤◌, ◌<◌, ◌*◌, ℕ, length, refl, ap, sym, ◌∙◌, subst, arith}
+use Rattle.std.specs.Prelude.{All}
+use Rattle.ledger_runs.proofs.WaveKeeping.{TurnsSo, turns_begin, turns_step, turns_end}
+use Rattle.ledger_runs.proofs.waves.turns.Goals as goal
+
+pub lanes-init : goal.lanes-init
+lanes-init g c =
+    let K = g.L.Turns.shape c.args.ledger.now in
+    record {
+      shape = refl;
+      count = c.lane_count-count.ensures.value ∙ ap (λ s. s.coordinators * s.lanes) c.shape.ensures;
+      so = turns_begin K c.args.start (g.L.Turns.journals c.args.ledger.now) c.args.lanes.now.items c.requires.ready c.requires.limits;
+      holds = λ h. h;
+      later = λ n. omega arith;
+    }
+
+pub lanes-preserved : goal.lanes-preserved
+lanes-preserved g c =
+    let K = g.L.Turns.shape c.args.ledger.now in
+    let is = c.lanes.invariant in
+    let did = c.turn_at.ensures in
+    let many : length c.lanes.lanes.items ≡ K.coordinators * K.lanes = is.so.as_many ∙ c.requires.count in
+    record {
+      shape = did.shape ∙ is.shape;
+      count = is.count;
+      so = turns_step K (g.L.Turns.shape c.lanes.ledger) c.args.start c.lanes.number (g.L.Turns.journals c.args.ledger.now) (g.L.Turns.journals c.lanes.ledger) (g.L.Turns.journals c.turn_at.new.ledger)
+          c.args.lanes.now.items c.lanes.lanes.items c.turn_at.new.lanes.items is.shape (subst (λ s. 0 < s.batch) c.shape-2.ensures (omega (arith, c.batch-limit.ensures.limits))) (omega (arith, c.lanes-test.true, is.count)) (omega (arith, c.lanes-test.true, is.count, many)) many
+          is.so did.turned did.idle did.others did.keeps did.took;
+      holds = λ h. did.holds (is.holds h);
+      later = λ n. omega (arith, did.later n, is.later n);
+    }
+
+pub turn_at-requires-clause-limits : goal.turn_at-requires-clause-limits
+turn_at-requires-clause-limits g c x there = c.lanes.invariant.so.limits c.lanes.number x there
+
+pub returns-clause-goes_on : goal.returns-clause-goes_on
+returns-clause-goes_on g c =
+    let K = g.L.Turns.shape c.args.ledger.now in
+    turns_end K c.args.start c.lanes.number (g.L.Turns.journals c.args.ledger.now) (g.L.Turns.journals c.lanes.ledger) c.args.lanes.now.items c.lanes.lanes.items
+    (omega (arith, c.lanes.invariant.count, c.lanes-test.false)) c.lanes.invariant.so

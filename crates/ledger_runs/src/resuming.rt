@@ -1,0 +1,76 @@
+// Batches that an earlier run left open.
+ghost use Rattle.std.specs.Prelude.{◌≡◌, ◌≤◌, ℕ, ◌++◌, OnOk};
+ghost use Rattle.cbdc_model.specs.World.{AreIdle};
+ghost use Rattle.cbdc_model.specs.Waves.{IsResumed};
+ghost use Rattle.cbdc_model.specs.Slots.{Idle};
+ghost use Rattle.ledger_runs.specs.Turning.{phase_at, IsLaneOf, KeepsLanes, OfKept, StaysKept, listed, TookUpOne};
+
+use crate::Turns;
+use cbdc_types::LaneId;
+use lane_driver::{LaneFault, no_memory};
+use outside::Gate;
+use recovery::ResumedBatch;
+use std::alloc::Global;
+
+// Keeps what came of a lane behind what came of others.
+fn keep(batches: &mut Vec<ResumedBatch>, found: Option<ResumedBatch>) -> Result<(), LaneFault>
+    ensures { OnOk result (batches.new.items ≡ batches.old.items ++ listed found) }
+{
+    let Some(batch) = found else {
+        return Ok(());
+    };
+    match batches.push(batch) {
+        Ok(()) => Ok(()),
+        Err(_) => Err(no_memory()),
+    }
+}
+
+// Brings the open batch of a lane to its end, if it has one, and keeps what came of it.
+fn resume_next<L: Turns, G: Gate>(
+    alloc: Global,
+    ledger: &mut L,
+    lane: LaneId,
+    batches: &mut Vec<ResumedBatch>,
+    gate: &G,
+) -> Result<(), LaneFault>
+    requires { IsLaneOf (L.shape ledger.old) lane }
+    ensures shape { L.shape ledger.new ≡ L.shape ledger.old }
+    ensures idle { OnOk result (phase_at (L.shape ledger.old) (L.journals ledger.new) lane ≡ Idle) }
+    ensures others { KeepsLanes (L.shape ledger.old) lane (L.journals ledger.old) (L.journals ledger.new) }
+    ensures keeps { OfKept (L.shape ledger.old) (L.journals ledger.old) (StaysKept (L.shape ledger.old) (L.journals ledger.old) (L.journals ledger.new)) }
+    ensures took { OnOk result (OfKept (L.shape ledger.old) (L.journals ledger.old)
+        (λ _ _. TookUpOne (L.shape ledger.old) lane (L.journals ledger.old) (L.journals ledger.new) batches.old.items batches.new.items)) }
+    ensures holds { L.holds ledger.old → L.holds ledger.new }
+    ensures later { (n : ℕ) → L.faults ledger.old n ≤ L.faults ledger.new n }
+{
+    match ledger.take_up(alloc, lane, gate) {
+        Ok(found) => keep(batches, found),
+        Err(fault) => Err(fault),
+    }
+}
+
+/// Brings the open batches of all lanes to their end, in rising order of the lanes. The first lane that meets a fault ends it.
+pub fn resume_all<L: Turns, G: Gate>(
+    alloc: Global,
+    ledger: &mut L,
+    gate: &G,
+) -> Result<Vec<ResumedBatch>, LaneFault>
+    ensures shape { L.shape ledger.new ≡ L.shape ledger.old }
+    ensures idle { OnOk result (AreIdle (L.shape ledger.old) (L.journals ledger.new)) }
+    ensures keeps { OfKept (L.shape ledger.old) (L.journals ledger.old) (StaysKept (L.shape ledger.old) (L.journals ledger.old) (L.journals ledger.new)) }
+    ensures resumed { OnOk result (OfKept (L.shape ledger.old) (L.journals ledger.old) (λ _ _. IsResumed (L.shape ledger.old) (L.journals ledger.old) (L.journals ledger.new))) }
+    ensures holds { L.holds ledger.old → L.holds ledger.new }
+    ensures later { (n : ℕ) → L.faults ledger.old n ≤ L.faults ledger.new n }
+{
+    let count = ledger.shape().lane_count();
+    let Ok(mut batches) = Vec::with_capacity(alloc, count as usize) else {
+        return Err(no_memory());
+    };
+    'lanes: for lane in 0..count {
+        match resume_next(alloc, ledger, LaneId(lane), &mut batches, gate) {
+            Ok(()) => {}
+            Err(fault) => return Err(fault),
+        }
+    }
+    Ok(batches)
+}

@@ -1,0 +1,67 @@
+// What a run asks of the nodes of a ledger.
+ghost use Rattle.std.specs.Prelude.{◌≡◌, ◌≤◌, ℕ, List, All, IfOk, OnOk};
+ghost use Rattle.cbdc_model.specs.Records.{Shape as ShapeOf, Record};
+ghost use Rattle.cbdc_model.specs.Slots.{Idle};
+ghost use Rattle.cbdc_model.specs.Grammar.{HasSize, IsCompact};
+ghost use Rattle.ledger_runs.specs.Turning.{phase_at, IsLaneOf, KeepsLanes, OfKept, StaysKept, StaysKeptBy, DidBatch, TookUp};
+
+use cbdc_types::{CompactTx, LaneId, Shape};
+use lane_driver::{BatchReport, LaneFault};
+use outside::Gate;
+use recovery::ResumedBatch;
+use std::alloc::Global;
+
+/// The nodes of a ledger, at which its lanes take turns.
+pub trait Turns {
+    /// The shape of the ledger.
+    ghost shape: { Self → ShapeOf };
+
+    /// The journal of each node, the newest record first.
+    ghost journals: { Self → ℕ → List Record };
+
+    /// How often the disk of each node has failed.
+    ghost faults: { Self → ℕ → ℕ };
+
+    /// What stays true of the nodes, whatever is asked of them.
+    ghost holds: { Self → Type 0 };
+
+    /// The shape of the ledger.
+    fn shape(&self) -> &Shape
+        ensures { result.now ≡ shape self.now };
+
+    /// Runs a batch of an idle lane: 1 to `batch` transactions.
+    fn run_batch<G: Gate>(
+        &mut self,
+        alloc: Global,
+        lane: LaneId,
+        txs: &[CompactTx],
+        gate: &G,
+    ) -> Result<BatchReport, LaneFault>
+        requires lane { IsLaneOf (shape self.old) lane }
+        requires idle { phase_at (shape self.old) (journals self.old) lane ≡ Idle }
+        requires size { HasSize (shape self.old) txs.now }
+        requires limits { All IsCompact txs.now }
+        ensures shape { shape self.new ≡ shape self.old }
+        ensures idle { OnOk result (phase_at (shape self.old) (journals self.new) lane ≡ Idle) }
+        ensures others { KeepsLanes (shape self.old) lane (journals self.old) (journals self.new) }
+        ensures keeps { OfKept (shape self.old) (journals self.old) (StaysKeptBy (shape self.old) txs.now (journals self.old) (journals self.new)) }
+        ensures does { IfOk result (λ r. OfKept (shape self.old) (journals self.old) (λ _ _. DidBatch (shape self.old) lane txs.now (journals self.old) (journals self.new) r)) }
+        ensures holds { holds self.old → holds self.new }
+        ensures later { (n : ℕ) → faults self.old n ≤ faults self.new n };
+
+    /// Brings the open batch of a lane to its end, if it has one.
+    fn take_up<G: Gate>(
+        &mut self,
+        alloc: Global,
+        lane: LaneId,
+        gate: &G,
+    ) -> Result<Option<ResumedBatch>, LaneFault>
+        requires lane { IsLaneOf (shape self.old) lane }
+        ensures shape { shape self.new ≡ shape self.old }
+        ensures idle { OnOk result (phase_at (shape self.old) (journals self.new) lane ≡ Idle) }
+        ensures others { KeepsLanes (shape self.old) lane (journals self.old) (journals self.new) }
+        ensures keeps { OfKept (shape self.old) (journals self.old) (StaysKept (shape self.old) (journals self.old) (journals self.new)) }
+        ensures took { IfOk result (λ found. OfKept (shape self.old) (journals self.old) (λ _ _. TookUp (shape self.old) lane (journals self.old) (journals self.new) found)) }
+        ensures holds { holds self.old → holds self.new }
+        ensures later { (n : ℕ) → faults self.old n ≤ faults self.new n };
+}

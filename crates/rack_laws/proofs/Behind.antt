@@ -1,0 +1,160 @@
+-- The nodes of a ledger that was opened, and their disks behind a run.
+use Rattle.std.proofs.Common.{◌≡◌, ℕ, suc, ◌+◌, ◌-◌, ◌<◌, ◌≤◌, true, false, nat_lt, if◌then◌else◌, List, [], ◌∷◌, length, get_or, reverse, Option, Some, None, refl, sym, ap, ◌∙◌, subst, arith}
+use Rattle.std.specs.Prelude.{slice_get, All}
+use Rattle.std.proofs.lemmas.Option.{slice_get_within, slice_get-get_or}
+use Rattle.std.proofs.lemmas.Bool.{ltb-true, ltb-false}
+use Rattle.cbdc_model.specs.Records.{Shape, Header, Record}
+use Rattle.cbdc_model.specs.After.{IsJournal}
+use Rattle.record_log.specs.Held.{OpensToEither}
+use Rattle.coord_log.specs.Logs.{LogOf, sight, HoldsJournal as HoldsLog}
+use Rattle.shard_node.specs.Shards.{ShardOf, sight_of, HoldsWith, HoldsJournal as HoldsShard}
+use Rattle.node_ports.specs.Nodes.{sight_at}
+use Rattle.rack_nodes.specs.Places.{EachFrom, MayReturn}
+use Rattle.rack_nodes.specs.Racked.{OfTold}
+use Rattle.rack_ledgers.specs.Ledgers.{ByPlace, AreOpened}
+use Rattle.rack_laws.specs.Shown.{KeepsEach}
+use Rattle.rack_laws.proofs.Opened.{at_place, sight_there, all_by}
+use Rattle.ledger_nodes.specs.Ledgers.{IsLedger, journals_of, faults_of, AreStored}
+
+-- nodes whose disks' counts have not fallen may be put back where those before might
+pub returns : {N : Type 0} (f : N → ℕ) (can : ℕ → ℕ → Type 0) (i : ℕ) (xs ys : List N) → length ys ≡ length xs
+    → ((n : ℕ) (x y : N) → slice_get xs n ≡ Some x → slice_get ys n ≡ Some y → f x ≤ f y) → EachFrom (MayReturn f can) i xs → EachFrom (MayReturn f can) i ys
+returns f can i [] [] e le each = tt
+returns f can i [] (y ∷ ys) e le each = absurd (omega (arith, e))
+returns f can i (x ∷ xs) [] e le each = absurd (omega (arith, e))
+returns f can i (x ∷ xs) (y ∷ ys) e le each =
+    (λ k h. each.0 k (omega (arith, h, le 0 x y refl refl)), returns f can (suc i) xs ys (omega (arith, e)) (λ n a b p q. le (suc n) a b p q) each.1)
+
+-- the item at a place has what all have
+pub by_all : {N : Type 0} (P : N → Type 0) (xs : List N) → All P xs → (n : ℕ) (x : N) → slice_get xs n ≡ Some x → P x
+by_all P xs all n x there =
+    let inside = slice_get_within xs n x there in
+    let got : slice_get xs n ≡ Some (get_or xs n x) = slice_get-get_or xs n x inside in
+    let same : get_or xs n x ≡ x = cc in
+    subst P same (all n x inside)
+
+module _ {D : Type 0} (content : D → Option (List ℕ)) (images : D → List ℕ → Type 0) (limit count : D → ℕ) where
+  -- opened nodes are a ledger's
+  pub is_ledger : (held : ℕ → Option D) (h : Header) (logs : List (LogOf D)) (shards : List (ShardOf D)) → AreOpened content images limit count held h logs shards → IsLedger h logs shards
+  is_ledger held h logs shards are = record {
+    limits = are.limits;
+    coordinators = are.coordinators;
+    shards_are = are.shards_are;
+    log_headers = λ n low.
+        let l = at_place logs n (omega (arith, low, are.coordinators)) in
+        ap (λ s. s.header) (sight_there sight logs n l.0 l.1) ∙ (are.logs_at n l.0 l.1).header;
+    shard_headers = λ s low.
+        let x = at_place shards s (omega (arith, low, are.shards_are)) in
+        ap (λ t. t.header) (sight_there (sight_of (λ d. 0) (λ d. 0)) shards s x.0 x.1) ∙ (are.shards_at s x.0 x.1).header;
+    log_journals = all_by (λ l. IsJournal l.header l.journal) logs (λ n l there. (are.logs_at n l there).journal);
+    shard_journals = all_by (λ s. IsJournal s.header s.journal) shards (λ n s there. (are.shards_at n s there).journal);
+  }
+
+  log_low : (K : Shape) (n : ℕ) → n < K.coordinators → nat_lt n K.coordinators ≡ true
+  log_low K n low = grind (arith, low)
+
+  shard_high : (K : Shape) (s : ℕ) → nat_lt (K.coordinators + s) K.coordinators ≡ false
+  shard_high K s = grind arith
+
+  shard_place : (K : Shape) (s : ℕ) → (K.coordinators + s) - K.coordinators ≡ s
+  shard_place K s = omega arith
+
+  log_faults : (K : Shape) (logs : List (LogOf D)) (shards : List (ShardOf D)) (n : ℕ) (l : LogOf D) → n < K.coordinators → slice_get logs n ≡ Some l → faults_of count limit K logs shards n ≡ l.faults
+  log_faults K logs shards n l low there =
+      ap (λ b. if b then (sight_at sight logs n).faults else (sight_at (sight_of count limit) shards (n - K.coordinators)).faults) (log_low K n low)
+      ∙ ap (λ s. s.faults) (sight_there sight logs n l there)
+
+  shard_faults : (K : Shape) (logs : List (LogOf D)) (shards : List (ShardOf D)) (s : ℕ) (x : ShardOf D) → slice_get shards s ≡ Some x → faults_of count limit K logs shards (K.coordinators + s) ≡ count x.disk
+  shard_faults K logs shards s x there =
+      ap (λ b. if b then (sight_at sight logs (K.coordinators + s)).faults else (sight_at (sight_of count limit) shards ((K.coordinators + s) - K.coordinators)).faults) (shard_high K s)
+      ∙ (ap (λ p. (sight_at (sight_of count limit) shards p).faults) (shard_place K s)
+      ∙ ap (λ t. t.faults) (sight_there (sight_of count limit) shards s x there))
+
+  log_journal : (K : Shape) (logs : List (LogOf D)) (shards : List (ShardOf D)) (n : ℕ) (l : LogOf D) → n < K.coordinators → slice_get logs n ≡ Some l → journals_of count limit K logs shards n ≡ l.journal
+  log_journal K logs shards n l low there =
+      ap (λ b. if b then (sight_at sight logs n).seen else (sight_at (sight_of count limit) shards (n - K.coordinators)).seen) (log_low K n low)
+      ∙ ap (λ s. s.seen) (sight_there sight logs n l there)
+
+  shard_journal : (K : Shape) (logs : List (LogOf D)) (shards : List (ShardOf D)) (s : ℕ) (x : ShardOf D) → slice_get shards s ≡ Some x → journals_of count limit K logs shards (K.coordinators + s) ≡ x.journal
+  shard_journal K logs shards s x there =
+      ap (λ b. if b then (sight_at sight logs (K.coordinators + s)).seen else (sight_at (sight_of count limit) shards ((K.coordinators + s) - K.coordinators)).seen) (shard_high K s)
+      ∙ (ap (λ p. (sight_at (sight_of count limit) shards p).seen) (shard_place K s)
+      ∙ ap (λ t. t.seen) (sight_there (sight_of count limit) shards s x there))
+
+  module _ (held : ℕ → Option D) (h : Header) (logs now : List (LogOf D)) (shards after : List (ShardOf D)) (are : AreOpened content images limit count held h logs shards)
+      (g : Header) (shape : g.shape ≡ h.shape) (is : IsLedger g now after) (later : (n : ℕ) → faults_of count limit h.shape logs shards n ≤ faults_of count limit h.shape now after n) where
+    coordinators_stay : length now ≡ h.shape.coordinators
+    coordinators_stay = is.coordinators ∙ ap (λ k. k.coordinators) shape
+
+    shards_stay : length after ≡ h.shape.shards
+    shards_stay = is.shards_are ∙ ap (λ k. k.shards) shape
+
+    -- the coordinators' disks may be put back
+    pub logs_return : (can : ℕ → ℕ → Type 0) → All (λ l. l.faults ≡ count l.disk) now → EachFrom (MayReturn (λ x. count x.disk) can) 0 logs → EachFrom (MayReturn (λ x. count x.disk) can) 0 now
+    logs_return can counts each = returns (λ x. count x.disk) can 0 logs now (coordinators_stay ∙ sym are.coordinators) le each
+      where
+        le : (n : ℕ) (x y : LogOf D) → slice_get logs n ≡ Some x → slice_get now n ≡ Some y → count x.disk ≤ count y.disk
+        le n x y p q =
+            let low : n < h.shape.coordinators = omega (arith, slice_get_within logs n x p, are.coordinators) in
+            let a : faults_of count limit h.shape logs shards n ≡ count x.disk = log_faults h.shape logs shards n x low p ∙ (are.logs_at n x p).faults in
+            let b : faults_of count limit h.shape now after n ≡ count y.disk = log_faults h.shape now after n y low q ∙ by_all (λ l. l.faults ≡ count l.disk) now counts n y q in
+            omega (arith, a, b, later n)
+
+    -- and the shards'
+    pub shards_return : (can : ℕ → ℕ → Type 0) → EachFrom (MayReturn (λ x. count x.disk) can) (length logs) shards → EachFrom (MayReturn (λ x. count x.disk) can) (length now) after
+    shards_return can each =
+        subst (λ k. EachFrom (MayReturn (λ x. count x.disk) can) k after) (are.coordinators ∙ sym coordinators_stay)
+        (returns (λ x. count x.disk) can (length logs) shards after (shards_stay ∙ sym are.shards_are) le each)
+      where
+        le : (n : ℕ) (x y : ShardOf D) → slice_get shards n ≡ Some x → slice_get after n ≡ Some y → count x.disk ≤ count y.disk
+        le n x y p q =
+            let a = shard_faults h.shape logs shards n x p in
+            let b = shard_faults h.shape now after n y q in
+            omega (arith, a, b, later (h.shape.coordinators + n))
+
+  log_images : (l : LogOf D) (now : Option D) (J : List Record) → J ≡ l.journal → HoldsLog content images l → OfTold now (λ d. d ≡ l.disk)
+      → OfTold now (λ d. (c : List ℕ) → images d c → OpensToEither (reverse J) l.flight c)
+  log_images l now J same holds back d told c image =
+      subst (λ R. OpensToEither (reverse R) l.flight c) (sym same) (holds.each c (subst (λ x. images x c) (back d told) image))
+
+  with_images : (flight : Option Record) (d : D) (gate : ℕ) (J : List Record) → HoldsWith flight (content d) (images d) gate J → (c : List ℕ) → images d c → OpensToEither (reverse J) flight c
+  with_images None d gate J holds c image = subst (λ b. OpensToEither (reverse J) None b) (sym (holds.durable c image)) holds.opens
+  with_images (Some r) d gate J holds c image = holds c image
+
+  shard_images : (x : ShardOf D) (now : Option D) (J : List Record) → J ≡ x.journal → HoldsShard content images x → OfTold now (λ d. d ≡ x.disk)
+      → OfTold now (λ d. (c : List ℕ) → images d c → OpensToEither (reverse J) x.flight c)
+  shard_images x now J same holds back d told c image =
+      subst (λ R. OpensToEither (reverse R) x.flight c) (sym same) (with_images x.flight x.disk x.gate x.journal holds c (subst (λ y. images y c) (back d told) image))
+
+  -- disks that are back keep the journals
+  pub keeps_each : (held : ℕ → Option D) (h : Header) (logs : List (LogOf D)) (shards : List (ShardOf D)) → IsLedger h logs shards → AreStored content images logs shards
+      → ByPlace (λ n l. OfTold (held n) (λ d. d ≡ l.disk)) logs → ByPlace (λ s x. OfTold (held (length logs + s)) (λ d. d ≡ x.disk)) shards
+      → KeepsEach images held h.shape (journals_of count limit h.shape logs shards)
+  keeps_each held h logs shards is stored logs_back shards_back n inside = go (nat_lt n h.shape.coordinators) refl
+    where
+      Kept : Type 0
+      Kept = (flight : Option Record) × OfTold (held n) (λ d. (c : List ℕ) → images d c → OpensToEither (reverse (journals_of count limit h.shape logs shards n)) flight c)
+
+      at_log : n < h.shape.coordinators → Kept
+      at_log low =
+          let l = at_place logs n (omega (arith, low, is.coordinators)) in (
+            l.0.flight,
+            log_images l.0 (held n) (journals_of count limit h.shape logs shards n) (log_journal h.shape logs shards n l.0 low l.1)
+                (by_all (HoldsLog content images) logs stored.logs_are n l.0 l.1) (logs_back n l.0 l.1),
+          )
+
+      at_shard : (s : ℕ) → n ≡ h.shape.coordinators + s → s < h.shape.shards → Kept
+      at_shard s e low =
+          let x = at_place shards s (omega (arith, low, is.shards_are)) in
+          let place : length logs + s ≡ n = omega (arith, e, is.coordinators) in
+          let same : journals_of count limit h.shape logs shards n ≡ x.0.journal = ap (λ k. journals_of count limit h.shape logs shards k) e ∙ shard_journal h.shape logs shards s x.0 x.1 in (
+            x.0.flight,
+            shard_images x.0 (held n) (journals_of count limit h.shape logs shards n) same
+                (by_all (HoldsShard content images) shards stored.shards_are s x.0 x.1) (subst (λ k. OfTold (held k) (λ d. d ≡ x.0.disk)) place (shards_back s x.0 x.1)),
+          )
+
+      go : (b : _) → nat_lt n h.shape.coordinators ≡ b → Kept
+      go true low = at_log (ltb-true n h.shape.coordinators low)
+      go false high =
+          let ge : h.shape.coordinators ≤ n = ltb-false n h.shape.coordinators high in
+          at_shard (n - h.shape.coordinators) (omega (arith, ge)) (omega (arith, ge, inside))

@@ -1,0 +1,32 @@
+-- Ledgers as racks show and store them.
+use Rattle.std.specs.Prelude.{◌≡◌, ℕ, ◌+◌, ◌<◌, List, reverse, Option, Some}
+use Rattle.cbdc_types.specs.Limits.{IsWithinLimits}
+use Rattle.cbdc_model.specs.Records.{Digest, Shape, Record}
+use Rattle.cbdc_model.specs.Coins.{Output, FullTx, genesis_id}
+use Rattle.cbdc_model.specs.History.{header_of}
+use Rattle.cbdc_model.specs.World.{KeptJournals}
+use Rattle.record_log.specs.Held.{OpensToEither}
+use Rattle.rack_nodes.specs.Racked.{OfTold}
+use Rattle.rack_nodes.specs.Refused.{IsNodeJournal}
+
+abbrev pub node_count : Shape → ℕ
+node_count K = K.coordinators + K.shards
+
+-- the rack tells each node's disk, and its content opens to this journal of the ledger
+abbrev pub Shows : {D : Type 0} → (D → Option (List ℕ)) → (ℕ → Option D) → Shape → Digest → (ℕ → List Record) → Type 0
+Shows {D} content held K genesis J = (n : ℕ) → n < node_count K
+    → (d : D) × (held n ≡ Some d) × ((c : List ℕ) × (content d ≡ Some c) × IsNodeJournal (header_of K genesis n) (J n) c)
+
+-- whatever a crash may leave of a node's disk that is told opens to this journal of the ledger
+abbrev pub Stores : {D : Type 0} → (D → List ℕ → Type 0) → (ℕ → Option D) → Shape → Digest → (ℕ → List Record) → Type 0
+Stores images held K genesis J = (n : ℕ) → n < node_count K → OfTold (held n) (λ d. (c : List ℕ) → images d c → IsNodeJournal (header_of K genesis n) (J n) c)
+
+-- of whatever mint and submissions the ledger that the rack shows is kept
+abbrev pub OfShown : {D : Type 0} → (D → Option (List ℕ)) → (ℕ → Option D) → (Shape → List Output → List FullTx → (ℕ → List Record) → Type 0) → Type 0
+OfShown content held P = (K : Shape) (mint : List Output) (submissions : List FullTx) (J : ℕ → List Record)
+    → IsWithinLimits K → Shows content held K (genesis_id mint) J → KeptJournals K mint submissions J → P K mint submissions J
+
+-- whatever a crash may leave of a node's disk that is told opens to this journal, with one record more or without
+abbrev pub KeepsEach : {D : Type 0} → (D → List ℕ → Type 0) → (ℕ → Option D) → Shape → (ℕ → List Record) → Type 0
+KeepsEach images held K X = (n : ℕ) → n < node_count K
+    → (flight : Option Record) × OfTold (held n) (λ d. (c : List ℕ) → images d c → OpensToEither (reverse (X n)) flight c)

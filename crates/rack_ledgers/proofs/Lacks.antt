@@ -1,0 +1,75 @@
+-- The first node that can't be opened.
+use Rattle.std.proofs.Common.{◌≡◌, ◌≤◌, ◌+◌, ◌∷◌, ℕ, List, length, Option, Some, sym, ◌∙◌, subst, arith}
+use Rattle.outside.specs.Images.{Tells}
+use Rattle.cbdc_types.specs.declared.answer.Answer.{Answer}
+use Rattle.cbdc_types.specs.declared.answer.Answer.TheVariants as answers
+use Rattle.cbdc_model.specs.Records.{Header}
+use Rattle.coord_log.specs.Logs.{LogOf}
+use Rattle.rack_nodes.specs.Asked.{IsCoordinator, IsShardNode}
+use Rattle.rack_nodes.specs.Places.{EachFrom, IsOpening}
+use Rattle.rack_nodes.specs.Racked.{OfTold, FailsFirst}
+use Rattle.rack_nodes.specs.Refused.{IsNoNode, IsNodeRefusal}
+use Rattle.rack_nodes.proofs.Range.{opening_later}
+use Rattle.rack_ledgers.specs.Ledgers.{ByPlace, IsLogAt, IsRefused, LacksLog, LacksShard}
+use Rattle.rack_ledgers.proofs.Opened.{OpensLog, OpensShard, led_at, shards_at}
+
+-- want of memory may always be
+pub memory_refused : {D : Type 0} (content : D → Option (List ℕ)) (limit : D → ℕ) (held : ℕ → Option D) (before now : ℕ → ℕ) (Is : Header → Type 0) (ledger : Option Header) (place : ℕ) (e : Answer)
+    → e ≡ answers.Memory → IsRefused content limit held before now Is ledger place e
+memory_refused content limit held before now Is ledger place e is =
+    subst (λ (a : Answer). IsRefused content limit held before now Is ledger place a) (sym is) (record { kind = tt; fault = tt; cause = λ was told c reads. tt })
+
+module _ {D : Type 0} (content : D → Option (List ℕ)) (images : D → List ℕ → Type 0) (limit count : D → ℕ) where
+  -- why a node is refused, by what is still told of its disk
+  pub refused_later : (held mid : ℕ → Option D) (before between now after : ℕ → ℕ) (Is : Header → Type 0) (ledger : Option Header) (node place : ℕ) (e : Answer) → node ≡ place
+      → mid node ≡ held node → before node ≤ between node → now node ≤ after node
+      → (IsNodeRefusal e × IsOpening node (between node) (now node) e) × OfTold (mid node) (λ was. Tells (content was) (λ c. IsNoNode Is node ledger (limit was) c e))
+      → IsRefused content limit held before after Is ledger place e
+  refused_later held mid before between now after Is ledger node place e same kept later longer fails =
+      subst (λ (k : ℕ). IsRefused content limit held before after Is ledger k e) same
+      (record {
+        kind = fails.0.0;
+        fault = opening_later node (before node) (between node) (now node) (after node) e later longer fails.0.1;
+        cause = λ was told. fails.1 was (kept ∙ told);
+      })
+
+  pub lacks_log : (held mid : ℕ → Option D) (before between now after : ℕ → ℕ) (h : Header) (lead : LogOf D) (from end : ℕ) (e : Answer) → from ≡ 1 → end ≡ h.shape.coordinators
+      → ((n : ℕ) → 1 ≤ n → mid n ≡ held n) → ((n : ℕ) → before n ≤ between n) → ((n : ℕ) → now n ≤ after n) → h.node ≡ 0 → IsLogAt content images limit count held h 0 lead
+      → FailsFirst
+      (OpensLog content images limit count mid between h)
+      (λ n a. (IsNodeRefusal a × IsOpening n (between n) (now n) a) × OfTold (mid n) (λ was. Tells (content was) (λ c. IsNoNode IsCoordinator n (Some h) (limit was) c a)))
+      from end e
+      → LacksLog content images limit count held before after e
+  lacks_log held mid before between now after h lead from end e start stop kept later longer first at_lead f =
+      let place : f.node ≡ length (lead ∷ f.before) = omega (arith, f.places, start) in
+      record {
+        header = h;
+        logs = lead ∷ f.before;
+        first = first;
+        some = omega arith;
+        inside = omega (arith, f.inside, f.places, start, stop);
+        logs_at = led_at content images limit count held mid between h lead f.before kept at_lead (subst (λ (k : ℕ). EachFrom (OpensLog content images limit count mid between h) k f.before) start f.opened);
+        refused = refused_later held mid before between now after IsCoordinator (Some h) f.node (length (lead ∷ f.before)) e place (kept f.node (omega (arith, place))) (later f.node) (longer f.node) f.fails;
+      }
+
+  pub lacks_shard : (held mid : ℕ → Option D) (before between now after : ℕ → ℕ) (h : Header) (logs : List (LogOf D)) (from end : ℕ) (e : Answer) → from ≡ h.shape.coordinators → end ≡ h.shape.coordinators + h.shape.shards
+      → ((n : ℕ) → h.shape.coordinators ≤ n → mid n ≡ held n) → ((n : ℕ) → before n ≤ between n) → ((n : ℕ) → now n ≤ after n) → h.node ≡ 0 → length logs ≡ h.shape.coordinators
+      → ByPlace (IsLogAt content images limit count held h) logs
+      → FailsFirst
+      (OpensShard content images limit count mid between h)
+      (λ n a. (IsNodeRefusal a × IsOpening n (between n) (now n) a) × OfTold (mid n) (λ was. Tells (content was) (λ c. IsNoNode IsShardNode n (Some h) (limit was) c a)))
+      from end e
+      → LacksShard content images limit count held before after e
+  lacks_shard held mid before between now after h logs from end e start stop kept later longer first all logs_at f =
+      let place : f.node ≡ h.shape.coordinators + length f.before = omega (arith, f.places, start) in
+      record {
+        header = h;
+        logs = logs;
+        shards = f.before;
+        first = first;
+        coordinators = all;
+        inside = omega (arith, f.inside, f.places, start, stop);
+        logs_at = logs_at;
+        shards_at = shards_at content images limit count held mid between h h.shape.coordinators f.before kept (subst (λ (k : ℕ). EachFrom (OpensShard content images limit count mid between h) k f.before) start f.opened);
+        refused = refused_later held mid before between now after IsShardNode (Some h) f.node (h.shape.coordinators + length f.before) e place (kept f.node (omega (arith, place))) (later f.node) (longer f.node) f.fails;
+      }

@@ -1,0 +1,86 @@
+-- The nodes of a ledger as a rack keeps them.
+use Rattle.std.specs.Prelude.{◌≡◌, ◌⊎◌, ◌+◌, ◌≤◌, ◌<◌, ℕ, List, length, Option, Some, None, slice_get}
+use Rattle.outside.specs.Images.{Tells}
+use Rattle.cbdc_types.specs.Limits.{IsWithinLimits}
+use Rattle.cbdc_types.specs.declared.answer.Answer.{Answer}
+use Rattle.cbdc_model.specs.Records.{Header}
+use Rattle.cbdc_model.specs.After.{IsJournal}
+use Rattle.cbdc_model.specs.History.{header_of}
+use Rattle.coord_log.specs.Logs.{LogOf, HoldsJournal as HoldsLog}
+use Rattle.coord_log.specs.Opening.{IsCoordJournal}
+use Rattle.shard_node.specs.Shards.{ShardOf, HoldsJournal as HoldsShard}
+use Rattle.shard_node.specs.Opening.{IsShardJournal}
+use Rattle.rack_nodes.specs.Asked.{IsCoordinator, IsShardNode}
+use Rattle.rack_nodes.specs.Places.{IsOpening}
+use Rattle.rack_nodes.specs.Racked.{OfTold, IsOpened}
+use Rattle.rack_nodes.specs.Refused.{IsNoNode, IsNodeRefusal}
+
+-- each item has the property at its place
+abbrev pub ByPlace : {N : Type 0} → (ℕ → N → Type 0) → List N → Type 0
+ByPlace P nodes = (n : ℕ) (x : _) → slice_get nodes n ≡ Some x → P n x
+
+-- a coordinator of the ledger with this header has this place, and stands for what was told of its disk
+pub record IsLogAt {D : Type 0} (content : D → Option (List ℕ)) (images : D → List ℕ → Type 0) (limit count : D → ℕ) (held : ℕ → Option D) (h : Header) (place : ℕ) (l : LogOf D) : Type 0 where
+  pub header : l.header ≡ header_of h.shape h.genesis place
+  pub journal : IsJournal l.header l.journal
+  pub flight : l.flight ≡ None
+  pub broken : l.broken ≡ None
+  pub since : l.opened ≡ l.faults
+  pub faults : l.faults ≡ count l.disk
+  pub opened : OfTold (held place) (λ was. IsOpened content images limit (λ x. x.disk) (λ x c. IsCoordJournal x.header x.journal c × HoldsLog content images x) was l)
+
+-- so does a shard
+pub record IsShardAt {D : Type 0} (content : D → Option (List ℕ)) (images : D → List ℕ → Type 0) (limit count : D → ℕ) (held : ℕ → Option D) (h : Header) (place : ℕ) (s : ShardOf D) : Type 0 where
+  pub header : s.header ≡ header_of h.shape h.genesis place
+  pub journal : IsJournal s.header s.journal
+  pub flight : s.flight ≡ None
+  pub broken : s.broken ≡ None
+  pub since : s.opened ≡ count s.disk
+  pub opened : OfTold (held place) (λ was. IsOpened content images limit (λ x. x.disk) (λ x c. IsShardJournal x.header x.journal c × HoldsShard content images x) was s)
+
+-- these are all coordinators and all shards of the ledger with this header, which is that of node 0
+pub record AreOpened {D : Type 0} (content : D → Option (List ℕ)) (images : D → List ℕ → Type 0) (limit count : D → ℕ) (held : ℕ → Option D) (h : Header) (logs : List (LogOf D)) (shards : List (ShardOf D)) : Type 0 where
+  pub first : h.node ≡ 0
+  pub limits : IsWithinLimits h.shape
+  pub coordinators : length logs ≡ h.shape.coordinators
+  pub shards_are : length shards ≡ h.shape.shards
+  pub logs_at : ByPlace (IsLogAt content images limit count held h) logs
+  pub shards_at : ByPlace (λ s x. IsShardAt content images limit count held h (h.shape.coordinators + s) x) shards
+
+-- why the disk that was told of this node is no such node, and a fault of the disk has its cause
+pub record IsRefused {D : Type 0} (content : D → Option (List ℕ)) (limit : D → ℕ) (held : ℕ → Option D) (before now : ℕ → ℕ) (Is : Header → Type 0) (ledger : Option Header) (place : ℕ) (answer : Answer) : Type 0 where
+  pub kind : IsNodeRefusal answer
+  pub fault : IsOpening place (before place) (now place) answer
+  pub cause : OfTold (held place) (λ was. Tells (content was) (λ c. IsNoNode Is place ledger (limit was) c answer))
+
+-- the coordinators before this one are opened, of which node 0 has this header, and why this one is not
+pub record LacksLog {D : Type 0} (content : D → Option (List ℕ)) (images : D → List ℕ → Type 0) (limit count : D → ℕ) (held : ℕ → Option D) (before now : ℕ → ℕ) (answer : Answer) : Type 0 where
+  pub header : Header
+  pub logs : List (LogOf D)
+  pub first : header.node ≡ 0
+  pub some : 1 ≤ length logs
+  pub inside : length logs < header.shape.coordinators
+  pub logs_at : ByPlace (IsLogAt content images limit count held header) logs
+  pub refused : IsRefused content limit held before now IsCoordinator (Some header) (length logs) answer
+
+-- all coordinators and the shards before this one are opened, and why this one is not
+pub record LacksShard {D : Type 0} (content : D → Option (List ℕ)) (images : D → List ℕ → Type 0) (limit count : D → ℕ) (held : ℕ → Option D) (before now : ℕ → ℕ) (answer : Answer) : Type 0 where
+  pub header : Header
+  pub logs : List (LogOf D)
+  pub shards : List (ShardOf D)
+  pub first : header.node ≡ 0
+  pub coordinators : length logs ≡ header.shape.coordinators
+  pub inside : length shards < header.shape.shards
+  pub logs_at : ByPlace (IsLogAt content images limit count held header) logs
+  pub shards_at : ByPlace (λ s x. IsShardAt content images limit count held header (header.shape.coordinators + s) x) shards
+  pub refused : IsRefused content limit held before now IsShardNode (Some header) (header.shape.coordinators + length shards) answer
+
+-- why the first coordinator that can't be opened is not: node 0 by its own header, each other one by node 0's
+abbrev pub IsUnled : {D : Type 0} → (D → Option (List ℕ)) → (D → List ℕ → Type 0) → (D → ℕ) → (D → ℕ) → (ℕ → Option D) → (ℕ → ℕ) → (ℕ → ℕ) → Answer → Type 0
+IsUnled content images limit count held before now answer =
+    IsRefused content limit held before now IsCoordinator None 0 answer ⊎ LacksLog content images limit count held before now answer
+
+-- why the first node that can't be opened is not
+abbrev pub IsUnopened : {D : Type 0} → (D → Option (List ℕ)) → (D → List ℕ → Type 0) → (D → ℕ) → (D → ℕ) → (ℕ → Option D) → (ℕ → ℕ) → (ℕ → ℕ) → Answer → Type 0
+IsUnopened content images limit count held before now answer =
+    IsUnled content images limit count held before now answer ⊎ LacksShard content images limit count held before now answer

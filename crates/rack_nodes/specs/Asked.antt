@@ -1,0 +1,19 @@
+-- The header that a node is asked to have.
+use Rattle.std.specs.Prelude.{◌≡◌, ◌<◌, ℕ, Option, Some, None}
+use Rattle.cbdc_model.specs.Records.{Header}
+use Rattle.cbdc_model.specs.Grammar.{IsShard}
+
+-- this node's number, with the shape and the genesis of the ledger with this header, or with its own where none is given
+abbrev pub asked_of : ℕ → Option Header → Header → Header
+asked_of node (Some ledger) kept = record { node = node; shape = ledger.shape; genesis = ledger.genesis }
+asked_of node None kept = record { node = node; shape = kept.shape; genesis = kept.genesis }
+
+abbrev pub IsAsked : ℕ → Option Header → Header → Type 0
+IsAsked node ledger kept = kept ≡ asked_of node ledger kept
+
+-- the kinds of nodes, by their headers
+abbrev pub IsCoordinator : Header → Type 0
+IsCoordinator h = h.node < h.shape.coordinators
+
+abbrev pub IsShardNode : Header → Type 0
+IsShardNode h = IsShard h.shape h.node

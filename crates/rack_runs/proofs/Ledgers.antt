@@ -1,0 +1,108 @@
+-- The ledger that a rack showed, behind a run.
+use Rattle.std.proofs.Common.{◌≡◌, ℕ, ◌+◌, ◌≤◌, List, [], ◌++◌, length, Bool, Option, refl, sym, ◌∙◌, subst}
+use Rattle.std.proofs.lemmas.List.{append-nil}
+use Rattle.cbdc_types.specs.Limits.{IsWithinLimits}
+use Rattle.cbdc_model.specs.Records.{Shape, Header, Record}
+use Rattle.cbdc_model.specs.Coins.{Output, FullTx, genesis_id}
+use Rattle.cbdc_model.specs.Clean.{Clean, IsProperCompact}
+use Rattle.cbdc_model.specs.History.{minted}
+use Rattle.cbdc_model.specs.Lanes.{IsEnd}
+use Rattle.cbdc_model.specs.World.{KeptJournals, AreIdle}
+use Rattle.cbdc_model.specs.Headline.{Headline}
+use Rattle.cbdc_model.specs.Waves.{IsResumed, Waves}
+use Rattle.ledger_laws.proofs.Ledger.{steady}
+use Rattle.ledger_laws.proofs.Recovery.{idle_law}
+use Rattle.run_laws.proofs.Rests.{none_beyond}
+use Rattle.coord_log.specs.Logs.{LogOf}
+use Rattle.shard_node.specs.Shards.{ShardOf}
+use Rattle.rack_ledgers.specs.Ledgers.{ByPlace, AreOpened}
+use Rattle.rack_nodes.specs.Racked.{OfTold}
+use Rattle.rack_laws.specs.Shown.{Shows, OfShown, KeepsEach, node_count}
+use Rattle.rack_laws.proofs.Opened.{same_shape, same_journals, logs_held, shards_held}
+use Rattle.rack_laws.proofs.Behind.{keeps_each}
+use Rattle.ledger_runs.specs.Turning.{OfKept, StaysKept}
+use Rattle.ledger_nodes.specs.Ledgers.{IsLedger, journals_of, AreStored}
+use Rattle.submissions.specs.Checks.{VerdictsOf, TellsSound}
+use Rattle.file_runs.specs.Runs.{joined}
+use Rattle.rack_runs.specs.Runs.{IsGrown, IsRun, IsRecovered, IsCutShort}
+
+-- kept journals have nothing beyond the ledger's nodes
+beyond : (K : Shape) (mint : List Output) (submissions : List FullTx) (E : ℕ → List Record) → KeptJournals K mint submissions E → (n : ℕ) → node_count K ≤ n → E n ≡ []
+beyond K mint submissions E kept n le =
+    sym (kept.history.journals_are n) ∙ none_beyond K (minted mint) (IsProperCompact submissions) kept.later (steady K (minted mint) (IsProperCompact submissions) kept.later kept.kept) n le
+
+module _ {D : Type 0} (content : D → Option (List ℕ)) (images : D → List ℕ → Type 0) (limit count : D → ℕ) (held back : ℕ → Option D) (h g : Header)
+    (logs now : List (LogOf D)) (shards after : List (ShardOf D)) (files : List (List FullTx))
+    (are : AreOpened content images limit count held h logs shards) (is : IsLedger g now after) (shape : g.shape ≡ h.shape)
+    (logs_back : ByPlace (λ n l. OfTold (back n) (λ d. d ≡ l.disk)) now) (shards_back : ByPlace (λ s x. OfTold (back (length now + s)) (λ d. d ≡ x.disk)) after)
+    (stored : AreStored content images logs shards → AreStored content images now after) where
+  -- what a run says of its journals, by the shape
+  abbrev pub KeepsIt : Shape → Type 0
+  KeepsIt S = OfKept S (journals_of count limit S logs shards) (λ mint submissions. StaysKept S (journals_of count limit S logs shards) (journals_of count limit S now after) mint (submissions ++ joined files))
+
+  pub record Ends (verdicts : VerdictsOf) (S : Shape) : Type 0 where
+    pub idle : AreIdle S (journals_of count limit S now after)
+    pub resumed : OfKept S (journals_of count limit S logs shards) (λ _ _. files ≡ [] → IsResumed S (journals_of count limit S logs shards) (journals_of count limit S now after))
+    pub waves : OfKept S (journals_of count limit S logs shards) (λ _ _. (sound : FullTx → Bool) → TellsSound verdicts sound → Waves S sound files (journals_of count limit S logs shards) (journals_of count limit S now after))
+
+  module _ (K : Shape) (mint : List Output) (submissions : List FullTx) (E : ℕ → List Record) (within : IsWithinLimits K) (shows : Shows content held K (genesis_id mint) E) (kept : KeptJournals K mint submissions E) where
+    shape_is : h.shape ≡ K
+    shape_is = same_shape content images limit count held h logs shards are K (genesis_id mint) E within shows
+
+    journals_are : journals_of count limit K logs shards ≡ E
+    journals_are = λ i n. same_journals content images limit count held h logs shards are K (genesis_id mint) E within shows (beyond K mint submissions E kept) n i
+
+    kept_there : KeptJournals K mint submissions (journals_of count limit K logs shards)
+    kept_there = subst (KeptJournals K mint submissions) (sym journals_are) kept
+
+    is_stored : AreStored content images now after
+    is_stored = stored (record {
+      logs_are = logs_held content images limit count held h logs shards are K (genesis_id mint) E within shows;
+      shards_are = shards_held content images limit count held h logs shards are K (genesis_id mint) E within shows;
+    })
+
+    disks_are : KeepsEach images back K (journals_of count limit K now after)
+    disks_are = subst (λ k. KeepsEach images back k (journals_of count limit k now after)) (shape ∙ shape_is) (keeps_each content images limit count back g now after is is_stored logs_back shards_back)
+
+    is_grown : KeepsIt h.shape → IsGrown images back K mint (submissions ++ joined files) E (journals_of count limit K now after)
+    is_grown keeps =
+        let a = subst KeepsIt shape_is keeps mint submissions kept_there in
+        record {
+          grows = λ n. subst (λ L. IsEnd (L n) (journals_of count limit K now after n)) journals_are (a.grows n);
+          kept = a.kept;
+          disks = disks_are;
+        }
+
+    is_run : (verdicts : VerdictsOf) → KeepsIt h.shape → Ends verdicts h.shape → IsRun images back verdicts files K mint submissions E
+    is_run verdicts keeps ends =
+        let grown = is_grown keeps in
+        let e = subst (Ends verdicts) shape_is ends in
+        record {
+          exit = journals_of count limit K now after;
+          grown = grown;
+          resumed = λ none. subst (λ L. IsResumed K L (journals_of count limit K now after)) journals_are (e.resumed mint submissions kept_there none);
+          waves = λ sound tells. subst (λ L. Waves K sound files L (journals_of count limit K now after)) journals_are (e.waves mint submissions kept_there sound tells);
+          headline = λ clean. idle_law K mint (submissions ++ joined files) (journals_of count limit K now after) within.some_shard within.some_lane clean grown.kept e.idle;
+        }
+
+  pub runs : (verdicts : VerdictsOf) → KeepsIt h.shape → AreIdle h.shape (journals_of count limit h.shape now after)
+      → OfKept h.shape (journals_of count limit h.shape logs shards) (λ _ _. files ≡ [] → IsResumed h.shape (journals_of count limit h.shape logs shards) (journals_of count limit h.shape now after))
+      → OfKept h.shape (journals_of count limit h.shape logs shards) (λ _ _. (sound : FullTx → Bool) → TellsSound verdicts sound → Waves h.shape sound files (journals_of count limit h.shape logs shards) (journals_of count limit h.shape now after))
+      → OfShown content held (IsRun images back verdicts files)
+  runs verdicts keeps idle resumed waves K mint submissions E within shows kept = is_run K mint submissions E within shows kept verdicts keeps (record { idle = idle; resumed = resumed; waves = waves })
+
+  pub cut_short : KeepsIt h.shape → OfShown content held (IsCutShort images back files)
+  cut_short keeps K mint submissions E within shows kept = record { exit = journals_of count limit K now after; grown = is_grown K mint submissions E within shows kept keeps }
+
+-- a run of no files is a recovery
+pub recovers : {D : Type 0} (content : D → Option (List ℕ)) (images : D → List ℕ → Type 0) (held back : ℕ → Option D) (verdicts : VerdictsOf)
+    → OfShown content held (IsRun images back verdicts []) → OfShown content held (IsRecovered images back)
+recovers content images held back verdicts shown K mint submissions E within shows kept =
+    let run = shown K mint submissions E within shows kept in
+    let none : submissions ++ [] ≡ submissions = append-nil submissions in
+    record {
+      exit = run.exit;
+      grown = subst (λ s. IsGrown images back K mint s E run.exit) none run.grown;
+      resumed = run.resumed refl;
+      headline = λ clean. subst (λ s. Headline K mint s run.exit) none (run.headline (subst (Clean mint) (sym none) clean));
+    }

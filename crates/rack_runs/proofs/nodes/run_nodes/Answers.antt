@@ -1,0 +1,87 @@
+use Rattle.std.proofs.Common.{◌≡◌, ◌∙◌, ◌≤◌, ◌++◌, ℕ, Bool, [], subst, sym, ap}
+use Rattle.std.specs.Prelude.{All}
+use Rattle.cbdc_model.specs.Coins.{FullTx as TxOf}
+use Rattle.cbdc_model.specs.World.{AreIdle}
+use Rattle.cbdc_model.specs.Waves.{IsResumed, Waves}
+use Rattle.submissions.specs.Checks.{TellsSound}
+use Rattle.ledger_runs.specs.Turning.{OfKept, StaysKept}
+use Rattle.file_runs.specs.Runs.{joined}
+use Rattle.ledger_nodes.specs.Ledgers.{journals_of, faults_of, AreStored}
+use Rattle.rack_runs.proofs.Lent.{on_ok, lent_journals, lent_faults, on_ok_by}
+use Rattle.rack_runs.proofs.nodes.run_nodes.Goals as goal
+
+pub returns-clause-counts : goal.returns-clause-counts
+returns-clause-counts g c = subst (λ xs. All (λ x. x.faults ≡ g.D.Disk.count x.disk) xs) c.deref.ensures.value c.see_counts.ensures
+
+pub returns-clause-shape : goal.returns-clause-shape
+returns-clause-shape g c =
+    let back : c.run_over-over.new.ledger ≡ record { header = c.header.inside.header; logs = c.header.inside.logs.items; shards = c.header.inside.shards.items } = cc in
+    let lent : c.lend-lent.result ≡ record { header = c.args.nodes.header; logs = c.args.nodes.logs.items; shards = c.args.nodes.shards.items } = c.lend-lent.ensures in
+    let shape : c.run_over-over.new.ledger.header.shape ≡ c.args.nodes.header.shape = c.run_over-over.ensures.shape ∙ ap (λ l. l.header.shape) lent in
+    ap (λ l. l.header.shape) (sym back) ∙ shape
+
+pub returns-clause-idle : goal.returns-clause-idle
+returns-clause-idle g c =
+    let back : c.run_over-over.new.ledger ≡ record { header = c.header.inside.header; logs = c.header.inside.logs.items; shards = c.header.inside.shards.items } = cc in
+    let lent : c.lend-lent.result ≡ record { header = c.args.nodes.header; logs = c.args.nodes.logs.items; shards = c.args.nodes.shards.items } = c.lend-lent.ensures in
+    let shape : c.run_over-over.new.ledger.header.shape ≡ c.args.nodes.header.shape = c.run_over-over.ensures.shape ∙ ap (λ l. l.header.shape) lent in
+    let own = on_ok_by c.run_over-over.result (subst (λ k. AreIdle k (journals_of g.D.Disk.count g.D.Disk.limit c.run_over-over.new.ledger.header.shape c.run_over-over.new.ledger.logs c.run_over-over.new.ledger.shards)) (ap (λ l. l.header.shape) lent)) c.run_over-over.ensures.idle in
+    on_ok _ c.came_of-came.result c.run_over-over.result c.came_of-came.ensures.whole
+    (on_ok_by c.run_over-over.result (lent_journals g.D.Disk.count g.D.Disk.limit (λ L. AreIdle c.args.nodes.header.shape L) c.args.nodes.header.shape c.run_over-over.new.ledger _ back shape) own)
+
+pub returns-clause-keeps : goal.returns-clause-keeps
+returns-clause-keeps g c =
+    let back : c.run_over-over.new.ledger ≡ record { header = c.header.inside.header; logs = c.header.inside.logs.items; shards = c.header.inside.shards.items } = cc in
+    let lent : c.lend-lent.result ≡ record { header = c.args.nodes.header; logs = c.args.nodes.logs.items; shards = c.args.nodes.shards.items } = c.lend-lent.ensures in
+    let shape : c.run_over-over.new.ledger.header.shape ≡ c.args.nodes.header.shape = c.run_over-over.ensures.shape ∙ ap (λ l. l.header.shape) lent in
+    lent_journals g.D.Disk.count g.D.Disk.limit
+    (λ L. OfKept c.args.nodes.header.shape (journals_of g.D.Disk.count g.D.Disk.limit c.args.nodes.header.shape c.args.nodes.logs.items c.args.nodes.shards.items) (λ mint submissions. StaysKept c.args.nodes.header.shape (journals_of g.D.Disk.count g.D.Disk.limit c.args.nodes.header.shape c.args.nodes.logs.items c.args.nodes.shards.items) L mint (submissions ++ joined c.args.files.now)))
+    c.args.nodes.header.shape c.run_over-over.new.ledger _ back shape
+    (subst (λ l. OfKept l.header.shape (journals_of g.D.Disk.count g.D.Disk.limit l.header.shape l.logs l.shards) (λ mint submissions. StaysKept l.header.shape (journals_of g.D.Disk.count g.D.Disk.limit l.header.shape l.logs l.shards)
+    (journals_of g.D.Disk.count g.D.Disk.limit c.run_over-over.new.ledger.header.shape c.run_over-over.new.ledger.logs c.run_over-over.new.ledger.shards) mint (submissions ++ joined c.args.files.now))) lent c.run_over-over.ensures.keeps)
+
+pub returns-clause-waves : goal.returns-clause-waves
+returns-clause-waves g c =
+    let back : c.run_over-over.new.ledger ≡ record { header = c.header.inside.header; logs = c.header.inside.logs.items; shards = c.header.inside.shards.items } = cc in
+    let lent : c.lend-lent.result ≡ record { header = c.args.nodes.header; logs = c.args.nodes.logs.items; shards = c.args.nodes.shards.items } = c.lend-lent.ensures in
+    let shape : c.run_over-over.new.ledger.header.shape ≡ c.args.nodes.header.shape = c.run_over-over.ensures.shape ∙ ap (λ l. l.header.shape) lent in
+    let own = on_ok_by c.run_over-over.result
+    (subst (λ l. OfKept l.header.shape (journals_of g.D.Disk.count g.D.Disk.limit l.header.shape l.logs l.shards) (λ _ _. (sound : TxOf → Bool) → TellsSound (g.V.Verifier.verdict_of c.args.verifier.now) sound → Waves l.header.shape sound c.args.files.now (journals_of g.D.Disk.count g.D.Disk.limit l.header.shape l.logs l.shards)
+    (journals_of g.D.Disk.count g.D.Disk.limit c.run_over-over.new.ledger.header.shape c.run_over-over.new.ledger.logs c.run_over-over.new.ledger.shards))) lent) c.run_over-over.ensures.waves in
+    on_ok _ c.came_of-came.result c.run_over-over.result c.came_of-came.ensures.whole
+    (on_ok_by c.run_over-over.result
+    (lent_journals g.D.Disk.count g.D.Disk.limit
+    (λ L. OfKept c.args.nodes.header.shape (journals_of g.D.Disk.count g.D.Disk.limit c.args.nodes.header.shape c.args.nodes.logs.items c.args.nodes.shards.items) (λ _ _. (sound : TxOf → Bool) → TellsSound (g.V.Verifier.verdict_of c.args.verifier.now) sound → Waves c.args.nodes.header.shape sound c.args.files.now (journals_of g.D.Disk.count g.D.Disk.limit c.args.nodes.header.shape c.args.nodes.logs.items c.args.nodes.shards.items) L))
+    c.args.nodes.header.shape c.run_over-over.new.ledger _ back shape) own)
+
+pub returns-clause-resumed : goal.returns-clause-resumed
+returns-clause-resumed g c =
+    let back : c.run_over-over.new.ledger ≡ record { header = c.header.inside.header; logs = c.header.inside.logs.items; shards = c.header.inside.shards.items } = cc in
+    let lent : c.lend-lent.result ≡ record { header = c.args.nodes.header; logs = c.args.nodes.logs.items; shards = c.args.nodes.shards.items } = c.lend-lent.ensures in
+    let shape : c.run_over-over.new.ledger.header.shape ≡ c.args.nodes.header.shape = c.run_over-over.ensures.shape ∙ ap (λ l. l.header.shape) lent in
+    let own = on_ok_by c.run_over-over.result
+    (subst (λ l. OfKept l.header.shape (journals_of g.D.Disk.count g.D.Disk.limit l.header.shape l.logs l.shards) (λ _ _. c.args.files.now ≡ [] → IsResumed l.header.shape (journals_of g.D.Disk.count g.D.Disk.limit l.header.shape l.logs l.shards)
+    (journals_of g.D.Disk.count g.D.Disk.limit c.run_over-over.new.ledger.header.shape c.run_over-over.new.ledger.logs c.run_over-over.new.ledger.shards))) lent) c.run_over-over.ensures.resumed in
+    on_ok _ c.came_of-came.result c.run_over-over.result c.came_of-came.ensures.whole
+    (on_ok_by c.run_over-over.result
+    (lent_journals g.D.Disk.count g.D.Disk.limit
+    (λ L. OfKept c.args.nodes.header.shape (journals_of g.D.Disk.count g.D.Disk.limit c.args.nodes.header.shape c.args.nodes.logs.items c.args.nodes.shards.items) (λ _ _. c.args.files.now ≡ [] → IsResumed c.args.nodes.header.shape (journals_of g.D.Disk.count g.D.Disk.limit c.args.nodes.header.shape c.args.nodes.logs.items c.args.nodes.shards.items) L))
+    c.args.nodes.header.shape c.run_over-over.new.ledger _ back shape) own)
+
+pub returns-clause-stored : goal.returns-clause-stored
+returns-clause-stored g c stored =
+    let back : c.run_over-over.new.ledger ≡ record { header = c.header.inside.header; logs = c.header.inside.logs.items; shards = c.header.inside.shards.items } = cc in
+    let lent : c.lend-lent.result ≡ record { header = c.args.nodes.header; logs = c.args.nodes.logs.items; shards = c.args.nodes.shards.items } = c.lend-lent.ensures in
+    let shape : c.run_over-over.new.ledger.header.shape ≡ c.args.nodes.header.shape = c.run_over-over.ensures.shape ∙ ap (λ l. l.header.shape) lent in
+    subst (λ l. AreStored g.D.Disk.content g.D.Disk.images l.logs l.shards) back
+    (c.run_over-over.ensures.holds (subst (λ l. AreStored g.D.Disk.content g.D.Disk.images l.logs l.shards) (sym lent) stored))
+
+pub returns-clause-later : goal.returns-clause-later
+returns-clause-later g c =
+    let back : c.run_over-over.new.ledger ≡ record { header = c.header.inside.header; logs = c.header.inside.logs.items; shards = c.header.inside.shards.items } = cc in
+    let lent : c.lend-lent.result ≡ record { header = c.args.nodes.header; logs = c.args.nodes.logs.items; shards = c.args.nodes.shards.items } = c.lend-lent.ensures in
+    let shape : c.run_over-over.new.ledger.header.shape ≡ c.args.nodes.header.shape = c.run_over-over.ensures.shape ∙ ap (λ l. l.header.shape) lent in
+    lent_faults g.D.Disk.count g.D.Disk.limit
+    (λ F. (n : ℕ) → faults_of g.D.Disk.count g.D.Disk.limit c.args.nodes.header.shape c.args.nodes.logs.items c.args.nodes.shards.items n ≤ F n) c.args.nodes.header.shape c.run_over-over.new.ledger _ back shape
+    (subst (λ l. (n : ℕ) → faults_of g.D.Disk.count g.D.Disk.limit l.header.shape l.logs l.shards n
+    ≤ faults_of g.D.Disk.count g.D.Disk.limit c.run_over-over.new.ledger.header.shape c.run_over-over.new.ledger.logs c.run_over-over.new.ledger.shards n) lent c.run_over-over.ensures.later)

@@ -1,0 +1,34 @@
+use Rattle.std.proofs.Common.{length, sym, ◌∙◌}
+use Rattle.std.proofs.lemmas.Bool.{eqb-true}
+use Rattle.rack_runs.proofs.Resumed.{over_cut, over_keeps, over_waves, over_none, none_of}
+use Rattle.rack_runs.proofs.over.run_over.Goals as goal
+
+pub returns-in-Err-clause-keeps : goal.returns-in-Err-clause-keeps
+returns-in-Err-clause-keeps g c =
+    over_cut (g.L.Turns.shape c.args.ledger.now) c.args.files.now (g.L.Turns.journals c.args.ledger.now) (g.L.Turns.journals c.resume_all.new.ledger) c.resume_all.ensures.keeps
+
+pub returns-in-Ok-run_files-clause-keeps : goal.returns-in-Ok-run_files-clause-keeps
+returns-in-Ok-run_files-clause-keeps g c =
+    over_keeps (g.L.Turns.shape c.args.ledger.now) (g.L.Turns.shape c.resume_all.new.ledger) c.args.files.now (g.L.Turns.journals c.args.ledger.now) (g.L.Turns.journals c.resume_all.new.ledger) (g.L.Turns.journals c.run_files.new.ledger)
+    c.resume_all.ensures.shape c.resume_all.ensures.keeps c.run_files.ensures.keeps
+
+pub returns-in-Err-run_files-clause-keeps : goal.returns-in-Err-run_files-clause-keeps
+returns-in-Err-run_files-clause-keeps g c =
+    over_keeps (g.L.Turns.shape c.args.ledger.now) (g.L.Turns.shape c.resume_all.new.ledger) c.args.files.now (g.L.Turns.journals c.args.ledger.now) (g.L.Turns.journals c.resume_all.new.ledger) (g.L.Turns.journals c.run_files.new.ledger)
+    c.resume_all.ensures.shape c.resume_all.ensures.keeps c.run_files.ensures.keeps
+
+pub returns-in-Ok-run_files-clause-waves : goal.returns-in-Ok-run_files-clause-waves
+returns-in-Ok-run_files-clause-waves g c =
+    over_waves (g.L.Turns.shape c.args.ledger.now) (g.L.Turns.shape c.resume_all.new.ledger) (g.V.Verifier.verdict_of c.args.verifier.now) c.args.files.now (g.L.Turns.journals c.args.ledger.now) (g.L.Turns.journals c.resume_all.new.ledger) (g.L.Turns.journals c.run_files.new.ledger)
+    c.resume_all.ensures.shape c.resume_all.ensures.keeps c.in-Ok.ensures.resumed c.in-Ok-run_files.ensures.waves
+
+pub returns-then-is_empty-clause-keeps : goal.returns-then-is_empty-clause-keeps
+returns-then-is_empty-clause-keeps g c =
+    over_cut (g.L.Turns.shape c.args.ledger.now) c.args.files.now (g.L.Turns.journals c.args.ledger.now) (g.L.Turns.journals c.resume_all.new.ledger) c.resume_all.ensures.keeps
+
+pub returns-then-is_empty-clause-resumed : goal.returns-then-is_empty-clause-resumed
+returns-then-is_empty-clause-resumed g c mint submissions kept none = c.in-Ok.ensures.resumed mint submissions kept
+
+pub returns-then-is_empty-clause-waves : goal.returns-then-is_empty-clause-waves
+returns-then-is_empty-clause-waves g c =
+    over_none (g.L.Turns.shape c.args.ledger.now) (g.V.Verifier.verdict_of c.args.verifier.now) c.args.files.now (g.L.Turns.journals c.args.ledger.now) (g.L.Turns.journals c.resume_all.new.ledger) (none_of c.args.files.now (eqb-true (length c.args.files.now) 0 (sym c.is_empty.ensures ∙ c.if-is_empty.true))) c.in-Ok.ensures.resumed

@@ -1,0 +1,54 @@
+use Rattle.std.proofs.Common.{◌≡◌, ◌∙◌, inl, inr, length, sym, ap, arith}
+use Rattle.rack_laws.proofs.Behind.{is_ledger, logs_return, shards_return}
+use Rattle.rack_runs.specs.Kinds.{IsLaneAnswer}
+use Rattle.rack_runs.proofs.Lent.{on_ok_all, if_err_by}
+use Rattle.rack_runs.proofs.Ledgers.{runs, cut_short}
+use Rattle.rack_runs.proofs.racks.run_on.Goals as goal
+
+pub run_nodes-nodes-requires-clause-ledger : goal.run_nodes-nodes-requires-clause-ledger
+run_nodes-nodes-requires-clause-ledger g c =
+    is_ledger g.R.Disk.Disk.content g.R.Disk.Disk.images g.R.Disk.Disk.limit g.R.Disk.Disk.count (g.R.Rack.held c.args.rack.now) c.in-Ok.nodes.header c.in-Ok.nodes.logs.items c.in-Ok.nodes.shards.items c.in-Ok.ensures.opened
+
+pub returns-in-Err-clause-stopped : goal.returns-in-Err-clause-stopped
+returns-in-Err-clause-stopped g c = inl (c.in-Err.ensures.refusal, c.in-Err.ensures.held)
+
+pub close_nodes-requires-clause-logs : goal.close_nodes-requires-clause-logs
+close_nodes-requires-clause-logs g c =
+    let ran = c.run_nodes-nodes.ensures in
+    logs_return g.R.Disk.Disk.content g.R.Disk.Disk.images g.R.Disk.Disk.limit g.R.Disk.Disk.count (g.R.Rack.held c.args.rack.now) c.in-Ok.nodes.header c.in-Ok.nodes.logs.items c.run_nodes-nodes.result.nodes.logs.items
+    c.in-Ok.nodes.shards.items c.run_nodes-nodes.result.nodes.shards.items c.in-Ok.ensures.opened c.run_nodes-nodes.result.nodes.header ran.shape ran.ledger ran.later (g.R.Rack.can_put c.open_caused.new.rack) ran.counts c.in-Ok.ensures.logs
+
+pub close_nodes-requires-clause-shards : goal.close_nodes-requires-clause-shards
+close_nodes-requires-clause-shards g c =
+    let ran = c.run_nodes-nodes.ensures in
+    shards_return g.R.Disk.Disk.content g.R.Disk.Disk.images g.R.Disk.Disk.limit g.R.Disk.Disk.count (g.R.Rack.held c.args.rack.now) c.in-Ok.nodes.header c.in-Ok.nodes.logs.items c.run_nodes-nodes.result.nodes.logs.items
+    c.in-Ok.nodes.shards.items c.run_nodes-nodes.result.nodes.shards.items c.in-Ok.ensures.opened c.run_nodes-nodes.result.nodes.header ran.shape ran.ledger ran.later (g.R.Rack.can_put c.open_caused.new.rack) c.in-Ok.ensures.shards
+
+pub close_nodes-requires-clause-others : goal.close_nodes-requires-clause-others
+close_nodes-requires-clause-others g c n le =
+    let ran = c.run_nodes-nodes.ensures in
+    let are = c.in-Ok.ensures.opened in
+    let logs : length c.run_nodes-nodes.result.nodes.logs.items ≡ length c.in-Ok.nodes.logs.items = ran.ledger.coordinators ∙ (ap (λ k. k.coordinators) ran.shape ∙ sym are.coordinators) in
+    let shards : length c.run_nodes-nodes.result.nodes.shards.items ≡ length c.in-Ok.nodes.shards.items = ran.ledger.shards_are ∙ (ap (λ k. k.shards) ran.shape ∙ sym are.shards_are) in
+    c.in-Ok.ensures.others_in n (omega (arith, le, logs, shards))
+
+pub returns-clause-ran : goal.returns-clause-ran
+returns-clause-ran g c =
+    let ran = c.run_nodes-nodes.ensures in
+    on_ok_all c.run_nodes-nodes.result.came
+    (runs g.R.Disk.Disk.content g.R.Disk.Disk.images g.R.Disk.Disk.limit g.R.Disk.Disk.count (g.R.Rack.held c.args.rack.now) (g.R.Rack.held c.close_nodes.new.rack) c.in-Ok.nodes.header c.run_nodes-nodes.result.nodes.header
+    c.in-Ok.nodes.logs.items c.run_nodes-nodes.result.nodes.logs.items c.in-Ok.nodes.shards.items c.run_nodes-nodes.result.nodes.shards.items c.args.files.now c.in-Ok.ensures.opened ran.ledger ran.shape
+    c.close_nodes.ensures.closed_logs c.close_nodes.ensures.closed_shards ran.stored (g.V.Verifier.verdict_of c.args.verifier.now) ran.keeps)
+    ran.idle ran.resumed ran.waves
+
+pub returns-clause-stopped : goal.returns-clause-stopped
+returns-clause-stopped g c =
+    let ran = c.run_nodes-nodes.ensures in
+    if_err_by IsLaneAnswer _ c.run_nodes-nodes.result.came
+    (λ e kind. inr (
+      kind,
+      cut_short g.R.Disk.Disk.content g.R.Disk.Disk.images g.R.Disk.Disk.limit g.R.Disk.Disk.count (g.R.Rack.held c.args.rack.now) (g.R.Rack.held c.close_nodes.new.rack) c.in-Ok.nodes.header
+          c.run_nodes-nodes.result.nodes.header c.in-Ok.nodes.logs.items c.run_nodes-nodes.result.nodes.logs.items c.in-Ok.nodes.shards.items c.run_nodes-nodes.result.nodes.shards.items c.args.files.now c.in-Ok.ensures.opened
+          ran.ledger ran.shape c.close_nodes.ensures.closed_logs c.close_nodes.ensures.closed_shards ran.stored ran.keeps,
+    ))
+    ran.kind

@@ -1,0 +1,28 @@
+// What the fault of a lane answers.
+ghost use Rattle.rack_runs.specs.Kinds.{IsLaneAnswer};
+
+use cbdc_types::Answer;
+use lane_driver::{LaneFault, LaneFaultKind};
+
+/// What a lane's fault answers.
+pub(crate) fn answer_of(fault: &LaneFault) -> Answer
+    ensures { IsLaneAnswer result }
+{
+    let node = fault.node;
+    match fault.fault {
+        LaneFaultKind::DiskFault => Answer::DiskFault(node),
+        LaneFaultKind::Full {
+            used,
+            need,
+            capacity,
+        } => Answer::Full {
+            node,
+            used,
+            need,
+            capacity,
+        },
+        LaneFaultKind::ClockEnd { stamp } => Answer::ClockEnd { node, stamp },
+        LaneFaultKind::Memory => Answer::Memory,
+        LaneFaultKind::Refused(_) => Answer::Refused(node),
+    }
+}

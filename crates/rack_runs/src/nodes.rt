@@ -1,0 +1,124 @@
+// A run over open nodes.
+ghost use Rattle.std.specs.Prelude.{◌≡◌, ◌≤◌, ◌++◌, ℕ, Bool, [], All, OnOk, IfErr, IsOk};
+ghost use Rattle.cbdc_model.specs.Coins.{FullTx as TxOf};
+ghost use Rattle.cbdc_model.specs.World.{AreIdle};
+ghost use Rattle.cbdc_model.specs.Waves.{IsResumed, Waves};
+ghost use Rattle.input_files.specs.Limits.{IsShort};
+ghost use Rattle.submissions.specs.Checks.{TellsSound};
+ghost use Rattle.ledger_runs.specs.Turning.{OfKept, StaysKept};
+ghost use Rattle.file_runs.specs.Runs.{joined};
+ghost use Rattle.ledger_nodes.specs.Ledgers.{IsLedger, journals_of, faults_of, AreStored};
+ghost use Rattle.rack_runs.specs.Kinds.{IsLaneAnswer};
+
+use crate::faults::answer_of;
+use crate::over::{Over, Ran, run_over};
+use cbdc_types::{Answer, FullTx, List};
+use coord_log::CoordLog;
+use lane_driver::LaneFault;
+use ledger_nodes::{Ledger, lend};
+use outside::{Disk, Gate};
+use rack_ledgers::Nodes;
+use shard_node::ShardNode;
+use std::alloc::Global;
+use std::sync::Wait;
+use verifier_port::Verifier;
+
+/// The nodes of a ledger behind a run, and what it came to.
+pub(crate) struct Behind<D: Disk> {
+    pub nodes: Nodes<D>,
+    pub came: Result<Ran, Answer>,
+}
+
+// Each coordinator's count of faults is its disk's.
+fn see_counts<D: Disk>(logs: &[CoordLog<D>])
+    ensures { All (λ l. l.faults ≡ D.count l.disk) logs.now }
+{
+    'logs: for log in logs {
+        let _header = log.header();
+    }
+}
+
+// How many hashes are unspent over all shards.
+fn unspent_of<D: Disk>(shards: &[ShardNode<D>]) -> u64 {
+    let mut unspent = 0u64;
+    for shard in shards {
+        unspent = unspent.saturating_add(shard.unspent_len());
+    }
+    unspent
+}
+
+// What a run came to, behind which the shards are these.
+fn came_of<D: Disk>(over: Result<Over, LaneFault>, shards: &[ShardNode<D>]) -> Result<Ran, Answer>
+    ensures kind { IfErr result IsLaneAnswer }
+    ensures whole { OnOk result (IsOk over) }
+{
+    match over {
+        Ok(Over { resumed, waves }) => Ok(Ran {
+            resumed,
+            waves,
+            unspent: unspent_of(shards),
+        }),
+        Err(fault) => Err(answer_of(&fault)),
+    }
+}
+
+/// Brings the open batches of open nodes to their end, and runs client files.
+pub(crate) fn run_nodes<W: Wait, D: Disk, V: Verifier, G: Gate>(
+    rt: &W,
+    alloc: Global,
+    nodes: Nodes<D>,
+    files: &[List<FullTx>],
+    verifier: &V,
+    gate: &G,
+) -> Behind<D>
+    requires ledger { IsLedger nodes.header nodes.logs.items nodes.shards.items }
+    requires short { All (λ txs. All IsShort txs) files.now }
+    ensures ledger { IsLedger result.nodes.header result.nodes.logs.items result.nodes.shards.items }
+    ensures shape { result.nodes.header.shape ≡ nodes.header.shape }
+    ensures counts { All (λ l. l.faults ≡ D.count l.disk) result.nodes.logs.items }
+    ensures kind { IfErr result.came IsLaneAnswer }
+    ensures idle { OnOk result.came (AreIdle nodes.header.shape (journals_of D.count D.limit nodes.header.shape result.nodes.logs.items result.nodes.shards.items)) }
+    ensures keeps { OfKept nodes.header.shape (journals_of D.count D.limit nodes.header.shape nodes.logs.items nodes.shards.items)
+        (λ mint submissions. StaysKept nodes.header.shape (journals_of D.count D.limit nodes.header.shape nodes.logs.items nodes.shards.items)
+        (journals_of D.count D.limit nodes.header.shape result.nodes.logs.items result.nodes.shards.items) mint (submissions ++ joined files.now)) }
+    ensures waves { OnOk result.came (OfKept nodes.header.shape (journals_of D.count D.limit nodes.header.shape nodes.logs.items nodes.shards.items)
+        (λ _ _. (sound : TxOf → Bool) → TellsSound (V.verdict_of verifier.now) sound
+        → Waves nodes.header.shape sound files.now (journals_of D.count D.limit nodes.header.shape nodes.logs.items nodes.shards.items)
+        (journals_of D.count D.limit nodes.header.shape result.nodes.logs.items result.nodes.shards.items))) }
+    ensures resumed { OnOk result.came (OfKept nodes.header.shape (journals_of D.count D.limit nodes.header.shape nodes.logs.items nodes.shards.items)
+        (λ _ _. files.now ≡ [] → IsResumed nodes.header.shape (journals_of D.count D.limit nodes.header.shape nodes.logs.items nodes.shards.items)
+        (journals_of D.count D.limit nodes.header.shape result.nodes.logs.items result.nodes.shards.items))) }
+    ensures stored { AreStored D.content D.images nodes.logs.items nodes.shards.items → AreStored D.content D.images result.nodes.logs.items result.nodes.shards.items }
+    ensures later { (n : ℕ) → faults_of D.count D.limit nodes.header.shape nodes.logs.items nodes.shards.items n
+        ≤ faults_of D.count D.limit nodes.header.shape result.nodes.logs.items result.nodes.shards.items n }
+{
+    let Nodes {
+        header,
+        logs,
+        shards,
+    } = nodes;
+    let mut lent = lend(
+        rt,
+        Ledger {
+            header,
+            logs,
+            shards,
+        },
+    );
+    let over = run_over(alloc, &mut lent, files, verifier, gate);
+    let Ledger {
+        header,
+        logs,
+        shards,
+    } = lent.take_back();
+    see_counts(&logs);
+    let came = came_of(over, &shards);
+    Behind {
+        nodes: Nodes {
+            header,
+            logs,
+            shards,
+        },
+        came,
+    }
+}

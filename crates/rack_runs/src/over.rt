@@ -1,0 +1,68 @@
+// A run over the nodes of a ledger.
+ghost use Rattle.std.specs.Prelude.{◌≡◌, ◌≤◌, ◌++◌, ℕ, Bool, [], All, OnOk};
+ghost use Rattle.cbdc_model.specs.Coins.{FullTx as TxOf};
+ghost use Rattle.cbdc_model.specs.World.{AreIdle};
+ghost use Rattle.cbdc_model.specs.Waves.{IsResumed, Waves};
+ghost use Rattle.input_files.specs.Limits.{IsShort};
+ghost use Rattle.submissions.specs.Checks.{TellsSound};
+ghost use Rattle.ledger_runs.specs.Turning.{OfKept, StaysKept};
+ghost use Rattle.file_runs.specs.Runs.{joined};
+
+use cbdc_types::{FullTx, List};
+use file_runs::{Wave, run_files};
+use lane_driver::LaneFault;
+use ledger_runs::{Turns, resume_all};
+use outside::Gate;
+use recovery::ResumedBatch;
+use std::alloc::Global;
+use verifier_port::Verifier;
+
+/// What a run did: the batches that an earlier one had left open, in rising order of their lanes, and its files in order.
+#[derive(Drop)]
+pub(crate) struct Over {
+    pub resumed: Vec<ResumedBatch>,
+    pub waves: Vec<Wave>,
+}
+
+/// What a run came to: what it did, and how many hashes are unspent then.
+#[derive(Drop)]
+pub struct Ran {
+    pub resumed: Vec<ResumedBatch>,
+    pub waves: Vec<Wave>,
+    pub unspent: u64,
+}
+
+/// Brings the open batches of a ledger to their end, and runs client files. The first fault ends it.
+pub(crate) fn run_over<L: Turns, V: Verifier, G: Gate>(
+    alloc: Global,
+    ledger: &mut L,
+    files: &[List<FullTx>],
+    verifier: &V,
+    gate: &G,
+) -> Result<Over, LaneFault>
+    requires short { All (λ txs. All IsShort txs) files.now }
+    ensures shape { L.shape ledger.new ≡ L.shape ledger.old }
+    ensures idle { OnOk result (AreIdle (L.shape ledger.old) (L.journals ledger.new)) }
+    ensures keeps { OfKept (L.shape ledger.old) (L.journals ledger.old)
+        (λ mint submissions. StaysKept (L.shape ledger.old) (L.journals ledger.old) (L.journals ledger.new) mint (submissions ++ joined files.now)) }
+    ensures waves { OnOk result (OfKept (L.shape ledger.old) (L.journals ledger.old) (λ _ _. (sound : TxOf → Bool)
+        → TellsSound (V.verdict_of verifier.now) sound → Waves (L.shape ledger.old) sound files.now (L.journals ledger.old) (L.journals ledger.new))) }
+    ensures resumed { OnOk result (OfKept (L.shape ledger.old) (L.journals ledger.old) (λ _ _. files.now ≡ [] → IsResumed (L.shape ledger.old) (L.journals ledger.old) (L.journals ledger.new))) }
+    ensures holds { L.holds ledger.old → L.holds ledger.new }
+    ensures later { (n : ℕ) → L.faults ledger.old n ≤ L.faults ledger.new n }
+{
+    let resumed = match resume_all(alloc, ledger, gate) {
+        Ok(resumed) => resumed,
+        Err(fault) => return Err(fault),
+    };
+    if files.is_empty() {
+        return Ok(Over {
+            resumed,
+            waves: Vec::new(alloc),
+        });
+    }
+    match run_files(alloc, ledger, files, verifier, gate) {
+        Ok(waves) => Ok(Over { resumed, waves }),
+        Err(fault) => Err(fault),
+    }
+}

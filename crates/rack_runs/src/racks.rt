@@ -1,0 +1,67 @@
+// Runs over the ledger on a rack.
+ghost use Rattle.std.specs.Prelude.{◌≤◌, ◌⊎◌, ℕ, [], All, OnOk, IfErr};
+ghost use Rattle.input_files.specs.Limits.{IsShort};
+ghost use Rattle.rack_nodes.specs.Racked.{IsBack};
+ghost use Rattle.caused_ledgers.specs.Caused.{IsUnresumed};
+ghost use Rattle.rack_laws.specs.Shown.{OfShown};
+ghost use Rattle.rack_runs.specs.Kinds.{IsLaneAnswer};
+ghost use Rattle.rack_runs.specs.Runs.{IsRun, IsRecovered, IsCutShort};
+
+use crate::nodes::{Behind, run_nodes};
+use crate::over::Ran;
+use caused_ledgers::open_caused;
+use cbdc_types::{Answer, FullTx, List};
+use outside::{Gate, Rack};
+use rack_ledgers::close_nodes;
+use std::alloc::Global;
+use std::sync::Wait;
+use verifier_port::{AllGood, Verifier};
+
+/// Opens the ledger on a rack, brings its open batches to their end, runs client files and puts all disks back.
+pub fn run_on<W: Wait, R: Rack, V: Verifier, G: Gate>(
+    rt: &W,
+    alloc: Global,
+    rack: &mut R,
+    files: &[List<FullTx>],
+    verifier: &V,
+    gate: &G,
+) -> Result<Ran, Answer>
+    requires all { (n : ℕ) → R.can_take rack.old n }
+    requires short { All (λ txs. All IsShort txs) files.now }
+    // The ledger that the rack showed has its open batches at their end and the files' waves behind them, and each disk keeps its journal.
+    ensures ran { OnOk result (OfShown R.Disk.content (R.held rack.old) (IsRun R.Disk.images (R.held rack.new) (V.verdict_of verifier.now) files.now)) }
+
+    // The nodes could not be opened, and the disks are back; or a lane met a fault: journals have grown at their ends, and are kept.
+    ensures stopped { IfErr result (λ e. (IsUnresumed R.Disk.content R.Disk.images R.Disk.limit R.Disk.count (R.held rack.old) (R.count rack.old) (R.count rack.new) e
+        × ((n : ℕ) → IsBack R.Disk.images R.Disk.limit (R.held rack.old n) (R.held rack.new n)))
+        ⊎ (IsLaneAnswer e × OfShown R.Disk.content (R.held rack.old) (IsCutShort R.Disk.images (R.held rack.new) files.now))) }
+
+    ensures back { (n : ℕ) → R.can_take rack.new n }
+    ensures later { (n : ℕ) → R.count rack.old n ≤ R.count rack.new n }
+{
+    let nodes = match open_caused(alloc, rack) {
+        Ok(nodes) => nodes,
+        Err(fault) => return Err(fault),
+    };
+    let Behind { nodes, came } = run_nodes(rt, alloc, nodes, files, verifier, gate);
+    close_nodes(rack, nodes);
+    came
+}
+
+/// Opens the ledger on a rack, brings its open batches to their end and puts all disks back: a run of no files.
+pub fn recover_on<W: Wait, R: Rack, G: Gate>(
+    rt: &W,
+    alloc: Global,
+    rack: &mut R,
+    gate: &G,
+) -> Result<Ran, Answer>
+    requires all { (n : ℕ) → R.can_take rack.old n }
+    ensures recovered { OnOk result (OfShown R.Disk.content (R.held rack.old) (IsRecovered R.Disk.images (R.held rack.new))) }
+    ensures stopped { IfErr result (λ e. (IsUnresumed R.Disk.content R.Disk.images R.Disk.limit R.Disk.count (R.held rack.old) (R.count rack.old) (R.count rack.new) e
+        × ((n : ℕ) → IsBack R.Disk.images R.Disk.limit (R.held rack.old n) (R.held rack.new n)))
+        ⊎ (IsLaneAnswer e × OfShown R.Disk.content (R.held rack.old) (IsCutShort R.Disk.images (R.held rack.new) []))) }
+    ensures back { (n : ℕ) → R.can_take rack.new n }
+    ensures later { (n : ℕ) → R.count rack.old n ≤ R.count rack.new n }
+{
+    run_on(rt, alloc, rack, &[], &AllGood, gate)
+}

@@ -1,0 +1,71 @@
+-- What was told of a resumed batch, and what it comes to.
+use Rattle.std.proofs.Common.{◌≡◌, inr, ℕ, Bool, true, List, [], ◌∷◌, Some, map, refl, sym, ap, ◌∙◌, subst, arith}
+use Rattle.cbdc_types.specs.declared.batch.OpenLane.{OpenLane}
+use Rattle.cbdc_types.specs.declared.batch.Phase.{Phase as OpenPhase}
+use Rattle.cbdc_types.specs.declared.batch.Phase.TheVariants.{Prepared, Committed, Discarded}
+use Rattle.cbdc_types.specs.declared.calls.LockCall.{LockCall}
+use Rattle.cbdc_model.specs.Records.{Shape, Batch, same_batch, Compact, Entry, Outcome, Record, record_of, outcomes_in, outcomes_of, Commit, Discard, Done}
+use Rattle.cbdc_model.specs.Sights.{Sight}
+use Rattle.lane_laws.specs.Calls.{AreParts, AreLocks, lock_of}
+use Rattle.lane_laws.specs.Traces.{ToldDiscarded, ToldCommitted, ToldPrepared}
+use Rattle.lane_laws.specs.Batches.{own}
+use Rattle.lane_laws.specs.Resuming.{IsTakenUp}
+use Rattle.lane_laws.proofs.Calls.{are_locks}
+use Rattle.lane_laws.proofs.Own.{record_own}
+use Rattle.lane_laws.proofs.Runs.{prepared_run}
+use Rattle.lane_laws.proofs.Resumes.{takes_discarded, takes_committed, takes_prepared, leaves_discarded, leaves_committed, leaves_prepared}
+use Rattle.lane_driver.specs.declared.fault.LaneFault.{LaneFault}
+use Rattle.lane_driver.specs.Stops.{IsDiscardedStopped, IsCommittedStopped, IsPreparedStopped}
+use Rattle.recovery.specs.Open.{IsUnfinished, IsResumeStopped}
+
+-- a batch's Commit under its Done and its Discard
+commit_below : (b : Batch) (ended discarded committed : ℕ) (os : List Outcome) (J : List Record) → record_of 7 (Done ended b ∷ Discard discarded b ∷ Commit committed b os ∷ J) b ≡ Some (Commit committed b os)
+commit_below b ended discarded committed os J = rw same refl
+  where
+    same : same_batch b b ≡ true
+    same = grind arith
+
+module _ (K : Shape) (alone : Bool) (o : OpenLane) (log log' : Sight) (I J : ℕ → Sight) (txs : List Compact) (txs_are : txs ≡ o.txs) (parts : List (ℕ × List Entry)) (are : AreParts K txs parts) where
+  own_parts : AreParts K o.txs parts
+  own_parts = subst (λ ts. AreParts K ts parts) txs_are are
+
+  at_phase : (p : OpenPhase) → o.phase ≡ p → IsUnfinished o.phase K o log I → IsUnfinished p K o log I
+  at_phase p e h = subst (λ q. IsUnfinished q K o log I) e h
+
+  pub prepared_taken : (n : ℕ) (os : List Outcome) → o.phase ≡ Prepared → ToldPrepared alone o.batch o.stamp n parts log log' I J os → IsUnfinished o.phase K o log I → IsTakenUp K alone o.batch log I log' J
+  prepared_taken n os e told h = takes_prepared K alone o.batch o.txs o.stamp log log' I J n parts os (at_phase Prepared e h) own_parts told
+
+  -- the outcomes are those of the Commit that was written
+  pub prepared_outcomes : (n : ℕ) (os : List Outcome) → o.phase ≡ Prepared → ToldPrepared alone o.batch o.stamp n parts log log' I J os → IsUnfinished o.phase K o log I → os ≡ outcomes_of log'.seen o.batch
+  prepared_outcomes n os e told h =
+      let d = at_phase Prepared e h in
+      let r = prepared_run K [] alone o.batch.lane o.batch.number d.home o.txs log log' I J o.stamp n parts os (record { prepare = d.prepare; open_number = d.number; shape = d.shape }) d.others own_parts told in
+      sym (ap outcomes_in (record_own 7 o.batch log'.seen
+      ∙ ap (λ L. record_of 7 L o.batch) (r.rest.log_own ∙ ap (λ L. Done r.rest.ended o.batch ∷ Discard r.rest.discarded o.batch ∷ L) r.commit.own_is)
+      ∙ commit_below o.batch r.rest.ended r.rest.discarded r.committed os (own o.batch.lane log.seen)))
+
+  pub prepared_left : (n : ℕ) (fault : LaneFault) → o.phase ≡ Prepared → IsPreparedStopped K alone o.batch o.stamp n parts log log' I J fault → IsResumeStopped K alone o log I log' J fault
+  prepared_left n fault e (node, f, at, stop) = inr (λ h. (node, f, at, leaves_prepared K alone o.batch o.txs o.stamp log log' I J n parts node f (at_phase Prepared e h) own_parts stop))
+
+  module _ (locks : List (ℕ × LockCall)) (locks_are : locks ≡ map (lock_of o.batch o.stamp) parts) where
+    own_locks : AreLocks K o.txs o.batch o.stamp locks
+    own_locks = subst (λ cs. AreLocks K o.txs o.batch o.stamp cs) (sym locks_are) (are_locks K o.txs o.batch o.stamp parts own_parts)
+
+    pub committed_taken : (n : ℕ) (os : List Outcome) → os ≡ o.outcomes → o.phase ≡ Committed → ToldCommitted alone o.batch o.stamp os n locks log log' I J → IsUnfinished o.phase K o log I → IsTakenUp K alone o.batch log I log' J
+    committed_taken n os os_are e told h =
+        let d = at_phase Committed e h in
+        takes_committed K alone o.batch o.txs d.0 log log' I J o.stamp o.stamp o.outcomes n locks d.1 own_locks (subst (λ qs. ToldCommitted alone o.batch o.stamp qs n locks log log' I J) os_are told)
+
+    pub committed_left : (n : ℕ) (os : List Outcome) (fault : LaneFault) → os ≡ o.outcomes → o.phase ≡ Committed → IsCommittedStopped K alone o.batch o.stamp os n locks log log' I J fault → IsResumeStopped K alone o log I log' J fault
+    committed_left n os fault os_are e stop' = go (subst (λ qs. IsCommittedStopped K alone o.batch o.stamp qs n locks log log' I J fault) os_are stop')
+      where
+        go : IsCommittedStopped K alone o.batch o.stamp o.outcomes n locks log log' I J fault → IsResumeStopped K alone o log I log' J fault
+        go (node, f, at, stop) = inr (λ h. (let d = at_phase Committed e h in
+            (node, f, at, leaves_committed K alone o.batch o.txs d.0 log log' I J o.stamp o.stamp o.outcomes n locks node f d.1 own_locks stop)))
+
+    pub discarded_taken : o.phase ≡ Discarded → ToldDiscarded alone o.batch o.stamp locks log log' I J → IsUnfinished o.phase K o log I → IsTakenUp K alone o.batch log I log' J
+    discarded_taken e told h = let d = at_phase Discarded e h in takes_discarded K alone o.batch o.txs d.0 log log' I J o.stamp o.stamp locks d.1 own_locks told
+
+    pub discarded_left : (fault : LaneFault) → o.phase ≡ Discarded → IsDiscardedStopped K alone o.batch o.stamp locks log log' I J fault → IsResumeStopped K alone o log I log' J fault
+    discarded_left fault e (node, f, at, stop) = inr (λ h. (let d = at_phase Discarded e h in
+        (node, f, at, leaves_discarded K alone o.batch o.txs d.0 log log' I J o.stamp o.stamp locks node f d.1 own_locks stop)))

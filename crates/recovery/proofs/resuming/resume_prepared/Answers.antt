@@ -1,0 +1,28 @@
+use Rattle.recovery.proofs.Taking.{prepared_taken, prepared_left, prepared_outcomes}
+use Rattle.recovery.specs.Open.{HasItsOutcomes}
+use Rattle.std.proofs.Common.{subst, sym}
+use Rattle.cbdc_model.specs.Grammar.{HasSize, IsBatchOf, IsCompact}
+use Rattle.std.specs.List.{All}
+use Rattle.lane_driver.proofs.Fitting.{parts_fit}
+use Rattle.cbdc_types.specs.declared.batch.Phase.TheVariants.{Prepared}
+use Rattle.recovery.proofs.resuming.resume_prepared.Goals as goal
+
+pub returns-in-Ok-from_prepared-clause-taken : goal.returns-in-Ok-from_prepared-clause-taken
+returns-in-Ok-from_prepared-clause-taken g c = prepared_taken c.args.shape.now g.L.LogPort.alone c.args.unfinished.now (g.L.LogPort.sights c.args.ports.now.log (g.L.LogPort.at c.args.ports.now.log)) (g.L.LogPort.sights c.from_prepared.new.ports.log (g.L.LogPort.at c.from_prepared.new.ports.log)) (g.S.PortSet.sights c.args.ports.now.shards) (g.S.PortSet.sights c.from_prepared.new.ports.shards) c.as_slice.result.now c.as_slice.ensures c.in-Ok.room.parts c.in-Ok.ensures.parts
+    0 c.in-Ok-from_prepared.outcomes c.requires.phase c.in-Ok-from_prepared.ensures.told
+
+pub returns-in-Err-from_prepared-clause-left : goal.returns-in-Err-from_prepared-clause-left
+returns-in-Err-from_prepared-clause-left g c = prepared_left c.args.shape.now g.L.LogPort.alone c.args.unfinished.now (g.L.LogPort.sights c.args.ports.now.log (g.L.LogPort.at c.args.ports.now.log)) (g.L.LogPort.sights c.from_prepared.new.ports.log (g.L.LogPort.at c.from_prepared.new.ports.log)) (g.S.PortSet.sights c.args.ports.now.shards) (g.S.PortSet.sights c.from_prepared.new.ports.shards) c.as_slice.result.now c.as_slice.ensures c.in-Ok.room.parts c.in-Ok.ensures.parts
+    0 c.in-Err-from_prepared.fault c.requires.phase c.in-Err-from_prepared.ensures.stopped
+
+pub from_prepared-requires-clause-parts : goal.from_prepared-requires-clause-parts
+from_prepared-requires-clause-parts g c =
+    parts_fit c.args.shape.now (g.S.PortSet.sights c.args.ports.now.shards) c.as_slice.result.now c.in-Ok.room.parts c.requires.ledger (subst (λ txs. HasSize c.args.shape.now txs) (sym c.as_slice.ensures) (subst (λ K. HasSize K c.args.unfinished.now.txs) c.requires.shape c.requires.is_open.size)) (subst (λ txs. All IsCompact txs) (sym c.as_slice.ensures) c.requires.is_open.limits) c.in-Ok.ensures.parts
+
+pub from_prepared-requires-clause-batch : goal.from_prepared-requires-clause-batch
+from_prepared-requires-clause-batch g c = subst (λ K. IsBatchOf K c.args.unfinished.now.batch) c.requires.shape c.requires.is_open.batch
+
+pub returns-in-Ok-from_prepared-clause-outcomes : goal.returns-in-Ok-from_prepared-clause-outcomes
+returns-in-Ok-from_prepared-clause-outcomes g c = λ h. subst (λ p. HasItsOutcomes p c.args.unfinished.now (g.L.LogPort.sights c.from_prepared.new.ports.log (g.L.LogPort.at c.from_prepared.new.ports.log)).seen (record { batch = c.args.unfinished.now.batch; phase = Prepared; outcomes = c.in-Ok-from_prepared.outcomes })) (sym c.requires.phase)
+    (prepared_outcomes c.args.shape.now g.L.LogPort.alone c.args.unfinished.now (g.L.LogPort.sights c.args.ports.now.log (g.L.LogPort.at c.args.ports.now.log)) (g.L.LogPort.sights c.from_prepared.new.ports.log (g.L.LogPort.at c.from_prepared.new.ports.log)) (g.S.PortSet.sights c.args.ports.now.shards) (g.S.PortSet.sights c.from_prepared.new.ports.shards) c.as_slice.result.now c.as_slice.ensures c.in-Ok.room.parts c.in-Ok.ensures.parts
+    0 c.in-Ok-from_prepared.outcomes c.requires.phase c.in-Ok-from_prepared.ensures.told h)

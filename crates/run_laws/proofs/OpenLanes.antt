@@ -1,0 +1,262 @@
+-- In kept journals a lane that is not idle at its coordinator is open there as recovery wants it.
+use Rattle.std.proofs.Common.{◌≡◌, ◌⊎◌, inl, inr, ℕ, suc, ◌^◌, ◌<◌, ◌≤◌, Bool, true, false, ◌&&◌, ◌==◌, not, nat_lt, List, [], ◌∷◌, ◌++◌, length, Option, Some, None, is_some, refl, sym, ap, ◌∙◌, subst, arith}
+use Rattle.cbdc_model.specs.Records.{Shape, Batch, same_batch, Compact, Entry, Answered, Record, Row, journal, record_of, is_in_lane, lock_of, txs_of, outcomes_of, stamp_in, stamp_of, Genesis, Lock, Finish, Forget, Start, Prepare, Commit, Discard, Done}
+use Rattle.cbdc_model.specs.Slots.{Phase, slot, slot_stamp, Idle, InLock, InFinish, InPrepare, InCommit, InDiscard}
+use Rattle.cbdc_model.specs.Grammar.{IsInGrammar}
+use Rattle.cbdc_model.specs.Replies.{entries}
+use Rattle.cbdc_model.specs.Ranges.{home_of, shard_node, part, is_no_part}
+use Rattle.cbdc_model.specs.Outcomes.{outcomes}
+use Rattle.cbdc_model.specs.Due.{open_batch}
+use Rattle.cbdc_model.specs.Clean.{IsProperCompact}
+use Rattle.cbdc_model.specs.History.{Minted, minted, header_of, first_rows}
+use Rattle.cbdc_model.specs.Sights.{Sight}
+use Rattle.lane_laws.specs.Calls.{is_concerned}
+use Rattle.ledger_laws.proofs.Next.{has_lock, Steady}
+use Rattle.ledger_laws.proofs.Lookups.{true_false}
+use Rattle.ledger_laws.proofs.Moves.{not_empty, all_structure, all_more}
+use Rattle.ledger_laws.proofs.Recovered.{all_dones, all_phases}
+use Rattle.ledger_laws.proofs.Standing.{standing}
+use Rattle.ledger_laws.proofs.Last.{last_of, slot_by, slot_is, last_found, last_in_lane}
+use Rattle.ledger_laws.proofs.Phases.{in_order}
+use Rattle.ledger_laws.proofs.Found.{found_grammar, finished_here, locked_here}
+use Rattle.ledger_laws.proofs.Ledger.{steady}
+use Rattle.run_laws.specs.Open.{IsFit, HasAll, IsOpenBy, ResumeLaw}
+use Rattle.run_laws.proofs.Rests.{none_beyond}
+use Rattle.run_laws.proofs.Seen.{seen_log, seen_shard}
+use Rattle.run_laws.proofs.LastRecords.{LastStands, last_stands, last_stamped, IsShardPhase, of_shard, stamp_fits, prepare_stands, commit_stands, discard_stands}
+
+outcomes_length : (locks : ℕ → List Answered) (shards k : ℕ) (txs : List Compact) → length (outcomes locks shards k txs) ≡ length txs
+outcomes_length locks shards k [] = refl
+outcomes_length locks shards k (t ∷ ts) = ap (λ n. suc n) (outcomes_length locks shards (suc k) ts)
+
+none_or_some : (o : Option Record) → (o ≡ None) ⊎ (is_some o ≡ true)
+none_or_some None = inl refl
+none_or_some (Some r) = inr refl
+
+no_part : (p : List Entry) (es : List Answered) → entries es ≡ p → is_no_part p ≡ true → 0 < length es → ⊥
+no_part p es e h lt = true_false (is_no_part p) h (not_empty es p e lt)
+
+concerned : (s shards : ℕ) (a : Bool) → (nat_lt s shards && not a) ≡ true → (s < shards) × (a ≡ false)
+concerned s shards a h = (grind (arith, h), grind (arith, h))
+
+unconcerned : (s shards : ℕ) (a : Bool) → (nat_lt s shards && not a) ≡ false → (shards ≤ s) ⊎ (a ≡ true)
+unconcerned s shards true h = inr refl
+unconcerned s shards false h = inl (let le : shards ≤ s = grind (arith, h) in le)
+
+both_same : (c b : Batch) → (c.lane == b.lane) ≡ true → c.number ≡ b.number → same_batch c b ≡ true
+both_same c b l n = grind arith
+
+-- the same by lists: a coordinator's journal and those of the shards
+module _ (K : Shape) (b : Batch) where
+  pub record Base (H : List Record) (S : ℕ → List Record) : Type 0 where
+    pub fit : IsFit K b H
+    pub others : (s kind : ℕ) → (kind ≡ 2) ⊎ (kind ≡ 3) ⊎ (kind ≡ 4) → is_concerned K (txs_of H b) s ≡ false → record_of kind (S s) b ≡ None
+
+  abbrev LocksAre : List Record → (ℕ → List Record) → Type 0
+  LocksAre H S = (s : ℕ) → is_concerned K (txs_of H b) s ≡ true → entries (lock_of (S s) b) ≡ part K.shards s 0 (txs_of H b)
+
+  abbrev Forgot : List Record → (ℕ → List Record) → Type 0
+  Forgot H S = (s : ℕ) → is_concerned K (txs_of H b) s ≡ true → (slot (S s) b.lane).number ≡ b.number → (slot (S s) b.lane).phase ≡ Idle
+      → (is_some (record_of 4 (S s) b) ≡ true) × (stamp_in (record_of 4 (S s) b) ≡ slot_stamp (S s) b.lane)
+
+  abbrev pub OpenIn : Phase → List Record → (ℕ → List Record) → Type 0
+  OpenIn Idle H S = Unit {0}
+  OpenIn InLock H S = ⊥
+  OpenIn InFinish H S = ⊥
+  OpenIn InPrepare H S = Base H S × (record_of 6 H b ≡ Some (Prepare (slot_stamp H b.lane) b (txs_of H b)))
+  OpenIn InCommit H S =
+      Base H S × HasAll b H × ((stamp : ℕ) × (record_of 6 H b ≡ Some (Prepare stamp b (txs_of H b))))
+      × (record_of 7 H b ≡ Some (Commit (slot_stamp H b.lane) b (outcomes_of H b))) × LocksAre H S
+  OpenIn InDiscard H S =
+      Base H S × HasAll b H × ((stamp : ℕ) × (record_of 6 H b ≡ Some (Prepare stamp b (txs_of H b))))
+      × (record_of 8 H b ≡ Some (Discard (slot_stamp H b.lane) b)) × Forgot H S
+
+  -- as the driver's words say it
+  said : (log : Sight) (shards : ℕ → Sight) → home_of K b.lane < K.coordinators → log.header.shape ≡ K → (slot log.seen b.lane).number ≡ b.number
+      → (p : Phase) → OpenIn p log.seen (λ s. (shards s).seen) → IsOpenBy p K b log shards
+  said log shards home shape number Idle o = tt
+  said log shards home shape number InLock o = o
+  said log shards home shape number InFinish o = o
+  said log shards home shape number InPrepare o = (o.0.fit, record { home = home; shape = shape; prepare = o.1; number = number; others = o.0.others })
+  said log shards home shape number InCommit o = (
+    o.0.fit,
+    o.1,
+    (
+      o.2.0,
+      record {
+        is_open = record { home = home; shape = shape; prepare = o.2.1; number = number; others = o.0.others };
+        commit = o.3;
+        locks = o.4;
+      },
+    ),
+  )
+  said log shards home shape number InDiscard o = (
+    o.0.fit,
+    o.1,
+    (
+      o.2.0,
+      record {
+        is_open = record { home = home; shape = shape; prepare = o.2.1; number = number; others = o.0.others };
+        discard = o.3;
+        forgot = o.4;
+      },
+    ),
+  )
+
+module _ (K : Shape) (minting : Minted) (P : Compact → Type 0) (some : 0 < K.shards) (later : List Row) (kept : Steady K minting P later) (b : Batch)
+    (home : home_of K b.lane < K.coordinators) where
+  abbrev J : ℕ → List Record
+  J n = journal n (later ++ first_rows K minting)
+
+  abbrev H : List Record
+  H = J (home_of K b.lane)
+
+  abbrev S : ℕ → List Record
+  S s = J (shard_node K s)
+
+  module _ (number : (slot H b.lane).number ≡ b.number) (busy : (slot H b.lane).phase ≡ Idle → ⊥) where
+    last : LastStands H b
+    last = last_stands H b number busy
+
+    last_grammar : IsInGrammar (header_of K minting.id (home_of K b.lane)) last.last
+    last_grammar = found_grammar K minting P some later kept (home_of K b.lane) _ b last.last last.stands
+
+    no_shard_phase : IsShardPhase (slot H b.lane).phase → ⊥
+    no_shard_phase p = let le : K.coordinators ≤ home_of K b.lane = of_shard (header_of K minting.id (home_of K b.lane)) last.last last_grammar (subst IsShardPhase (sym last.phase) p) in omega (arith, le, home)
+
+    module _ (prepared : is_some (record_of 6 H b) ≡ true) where
+      prepare : (stamp : ℕ) × (record_of 6 H b ≡ Some (Prepare stamp b (txs_of H b)))
+      prepare = prepare_stands H b prepared
+
+      prepare_grammar : IsInGrammar (header_of K minting.id (home_of K b.lane)) (Prepare prepare.0 b (txs_of H b))
+      prepare_grammar = found_grammar K minting P some later kept (home_of K b.lane) 6 b (Prepare prepare.0 b (txs_of H b)) prepare.1
+
+      fit : IsFit K b H
+      fit = record {
+        size = prepare_grammar.3;
+        limits = prepare_grammar.4;
+        stamp = subst (λ t. t < 2 ^ 63) (sym last.stamp) (stamp_fits (header_of K minting.id (home_of K b.lane)) last.last last_grammar);
+      }
+
+      lock_there : (s kind : ℕ) → (kind ≡ 2) ⊎ (kind ≡ 3) ⊎ (kind ≡ 4) → is_some (record_of kind (S s) b) ≡ true → has_lock (S s) b ≡ true
+      lock_there s kind (inl e) h = subst (λ k. is_some (record_of k (S s) b) ≡ true) e h
+      lock_there s kind (inr (inl e)) h = locked_here K minting P some later kept s b (subst (λ k. is_some (record_of k (S s) b) ≡ true) e h)
+      lock_there s kind (inr (inr e)) h = locked_here K minting P some later kept s b (finished_here K minting P some later kept s b (subst (λ k. is_some (record_of k (S s) b) ≡ true) e h))
+
+      others : (s kind : ℕ) → (kind ≡ 2) ⊎ (kind ≡ 3) ⊎ (kind ≡ 4) → is_concerned K (txs_of H b) s ≡ false → record_of kind (S s) b ≡ None
+      others s kind which c = elim (unconcerned s K.shards (is_no_part (part K.shards s 0 (txs_of H b))) c) [
+        | inl le ↦ ap (λ L. record_of kind L b) (none_beyond K minting P later kept (shard_node K s) (omega (arith, le)))
+        | inr empty ↦ elim (none_or_some (record_of kind (S s) b)) [
+          | inl none ↦ none
+          | inr h ↦
+              let l : has_lock (S s) b ≡ true = lock_there s kind which h in
+              absurd (no_part (part K.shards s 0 (txs_of H b)) (lock_of (S s) b) ((all_structure K minting P some later kept).lock_part s b l) empty
+              ((all_more K minting P some later kept (shard_node K s)).lock_some b l))
+        ]
+      ]
+
+      base : Base K b H S
+      base = record { fit = fit; others = others }
+
+      module _ (committed : is_some (record_of 7 H b) ≡ true) where
+        commit : (stamp : ℕ) × (record_of 7 H b ≡ Some (Commit stamp b (outcomes_of H b)))
+        commit = commit_stands H b committed
+
+        has_all : HasAll b H
+        has_all = ap length (standing K minting P some later kept (home_of K b.lane) 7 b (Commit commit.0 b (outcomes_of H b)) commit.1).2 ∙ outcomes_length _ K.shards 0 (txs_of H b)
+
+        locks : (s : ℕ) → is_concerned K (txs_of H b) s ≡ true → entries (lock_of (S s) b) ≡ part K.shards s 0 (txs_of H b)
+        locks s c = (all_structure K minting P some later kept).lock_part s b
+            (((in_order K minting P some later kept b).commit committed).1 s (concerned s K.shards (is_no_part (part K.shards s 0 (txs_of H b))) c)).0
+
+      forgot : (s : ℕ) → is_concerned K (txs_of H b) s ≡ true → (slot (S s) b.lane).number ≡ b.number → (slot (S s) b.lane).phase ≡ Idle
+          → (is_some (record_of 4 (S s) b) ≡ true) × (stamp_in (record_of 4 (S s) b) ≡ slot_stamp (S s) b.lane)
+      forgot s c n i = elim (last_of (S s) b.lane) as (λ o. last_of (S s) b.lane ≡ o → (is_some (record_of 4 (S s) b) ≡ true) × (stamp_in (record_of 4 (S s) b) ≡ slot_stamp (S s) b.lane)) [
+        | None ↦ λ e. absurd (let z : (slot (S s) b.lane).number ≡ 0 = ap (λ q. q.number) (slot_is (S s) b.lane ∙ ap slot_by e) in omega (arith, z, n, prepare_grammar.1.1))
+        | Some r ↦ λ e. of_record r e (last_in_lane (S s) b.lane r e)
+            (sym (ap (λ q. q.number) (slot_is (S s) b.lane ∙ ap slot_by e)) ∙ n) (sym (ap (λ q. q.phase) (slot_is (S s) b.lane ∙ ap slot_by e)) ∙ i)
+      ] refl
+        where
+          of_record : (r : Record) → last_of (S s) b.lane ≡ Some r → is_in_lane b.lane r ≡ true → (slot_by (Some r)).number ≡ b.number → (slot_by (Some r)).phase ≡ Idle
+              → (is_some (record_of 4 (S s) b) ≡ true) × (stamp_in (record_of 4 (S s) b) ≡ slot_stamp (S s) b.lane)
+          of_record (Forget stamp d) e l m i =
+              let f : record_of 4 (S s) b ≡ Some (Forget stamp d) = last_found (S s) 4 b (Forget stamp d) e (both_same d b l m) in
+              (ap is_some f, ap stamp_in f ∙ sym (ap stamp_in e))
+          of_record (Done stamp d) e l m i =
+              absurd (true_false _ ((all_phases K minting P some later kept (shard_node K s)).done_prepared b (ap is_some (last_found (S s) 9 b (Done stamp d) e (both_same d b l m)))).0
+              ((all_dones K minting P some later kept (shard_node K s)).pure b (omega arith)))
+          of_record (Genesis header hs) e l m i = absurd (let z : false ≡ true = l in cc)
+          of_record (Start header) e l m i = absurd (let z : false ≡ true = l in cc)
+          of_record (Lock stamp d es) e l m i = absurd (let z : InLock ≡ Idle = i in cc)
+          of_record (Finish stamp d ds) e l m i = absurd (let z : InFinish ≡ Idle = i in cc)
+          of_record (Prepare stamp d txs) e l m i = absurd (let z : InPrepare ≡ Idle = i in cc)
+          of_record (Commit stamp d os) e l m i = absurd (let z : InCommit ≡ Idle = i in cc)
+          of_record (Discard stamp d) e l m i = absurd (let z : InDiscard ≡ Idle = i in cc)
+
+    -- the stamp of the last record is the slot's
+    restamped : (kind : ℕ) (r : ℕ → Record) (t : ℕ) → ((t : ℕ) → stamp_of (r t) ≡ t) → record_of kind H b ≡ Some (r t) → slot_stamp H b.lane ≡ stamp_in (record_of kind H b)
+        → record_of kind H b ≡ Some (r (slot_stamp H b.lane))
+    restamped kind r t is e w = e ∙ ap (λ t. Some (r t)) (sym (w ∙ ap stamp_in e ∙ is t))
+
+  busy_in : (p q : Phase) → (slot H b.lane).phase ≡ p → (p ≡ Idle → ⊥) → (slot H b.lane).phase ≡ Idle → ⊥
+  busy_in p q e h i = h (sym e ∙ i)
+
+  pub open_in : (slot H b.lane).number ≡ b.number → (p : Phase) → (slot H b.lane).phase ≡ p → OpenIn K b p H S
+  open_in n Idle e = tt
+  open_in n InLock e =
+      let busy : (slot H b.lane).phase ≡ Idle → ⊥ = λ i. absurd (let z : InLock ≡ Idle = sym e ∙ i in cc) in
+      no_shard_phase n busy (subst IsShardPhase (sym e) tt)
+  open_in n InFinish e =
+      let busy : (slot H b.lane).phase ≡ Idle → ⊥ = λ i. absurd (let z : InFinish ≡ Idle = sym e ∙ i in cc) in
+      no_shard_phase n busy (subst IsShardPhase (sym e) tt)
+  open_in n InPrepare e =
+      let busy : (slot H b.lane).phase ≡ Idle → ⊥ = λ i. absurd (let z : InPrepare ≡ Idle = sym e ∙ i in cc) in
+      let has : is_some (record_of 6 H b) ≡ true = (((all_structure K minting P some later kept).journals (home_of K b.lane)).prepared b e n).0 in
+      let p = prepare n busy has in (
+        base n busy has,
+        restamped n busy 6 (λ t. Prepare t b (txs_of H b)) p.0 (λ t. refl) p.1 (last_stamped H b InPrepare e (last n busy)).1,
+      )
+  open_in n InCommit e =
+      let busy : (slot H b.lane).phase ≡ Idle → ⊥ = λ i. absurd (let z : InCommit ≡ Idle = sym e ∙ i in cc) in
+      let has = (all_phases K minting P some later kept (home_of K b.lane)).commit_here b e n in
+      let c = commit n busy has.0 has.1 in (
+        base n busy has.0,
+        has_all n busy has.0 has.1,
+        prepare n busy has.0,
+        restamped n busy 7 (λ t. Commit t b (outcomes_of H b)) c.0 (λ t. refl) c.1 (last_stamped H b InCommit e (last n busy)).1,
+        locks n busy has.0 has.1,
+      )
+  open_in n InDiscard e =
+      let busy : (slot H b.lane).phase ≡ Idle → ⊥ = λ i. absurd (let z : InDiscard ≡ Idle = sym e ∙ i in cc) in
+      let has = (all_phases K minting P some later kept (home_of K b.lane)).discard_here b e n in
+      let l = last_stamped H b InDiscard e (last n busy) in
+      let d = discard_stands H b (ap is_some l.0) in (
+        base n busy has.0,
+        has_all n busy has.0 has.1,
+        prepare n busy has.0,
+        restamped n busy 8 (λ t. Discard t b) d.0 (λ t. refl) d.1 l.1,
+        forgot n busy has.0,
+      )
+
+pub resume_law : ResumeLaw
+resume_law K mint submissions lane logs shards some home shape kept =
+    said K b (logs (home_of K lane)) shards home shape refl (slot (logs (home_of K lane)).seen lane).phase
+    (subst (λ T. OpenIn K b (slot (logs (home_of K lane)).seen lane).phase (logs (home_of K lane)).seen T) at_shards
+    (subst (λ L. (slot L lane).number ≡ b.number → (p : Phase) → (slot L lane).phase ≡ p → OpenIn K b p L (λ s. journal (shard_node K s) (kept.later ++ first_rows K (minted mint)))) at_home
+    (open_in K (minted mint) (IsProperCompact submissions) some kept.later (steady K (minted mint) (IsProperCompact submissions) kept.later kept.kept) b home)
+    refl (slot (logs (home_of K lane)).seen lane).phase refl))
+  where
+    b : Batch
+    b = open_batch (logs (home_of K lane)).seen lane
+
+    at_home : journal (home_of K lane) (kept.later ++ first_rows K (minted mint)) ≡ (logs (home_of K lane)).seen
+    at_home = kept.history.journals_are (home_of K lane) ∙ seen_log K logs shards (home_of K lane) home
+
+    shards_of : ℕ → List Record
+    shards_of s = journal (shard_node K s) (kept.later ++ first_rows K (minted mint))
+
+    shards_are : ℕ → List Record
+    shards_are s = (shards s).seen
+
+    at_shards : shards_of ≡ shards_are
+    at_shards = λ i s. (kept.history.journals_are (shard_node K s) ∙ seen_shard K logs shards s) i

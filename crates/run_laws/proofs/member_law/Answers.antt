@@ -1,0 +1,5 @@
+use Rattle.run_laws.proofs.member_law.Goals as goal
+use Rattle.run_laws.proofs.Members as laws
+
+pub returns : goal.returns
+returns c = laws.member_law

@@ -1,0 +1,65 @@
+-- What sentinels make of the submissions of a file.
+use Rattle.std.specs.Prelude.{◌≡◌, ◌≢◌, ◌↔◌, ℕ, ◌*◌, ◌%◌, Bool, true, List, [], ◌∷◌, ◌++◌, length, take, slice_get, Some, All, Contains}
+use Rattle.std.specs.Global.{Vec}
+use Rattle.cbdc_types.specs.declared.tx.CompactTx.{CompactTx}
+use Rattle.cbdc_model.specs.Records.{Shape}
+use Rattle.cbdc_model.specs.Coins.{FullTx, compact, tx_id}
+use Rattle.cbdc_model.specs.Waves.{sent_to}
+use Rattle.verifier_port.specs.declared.Verdict.{Verdict}
+use Rattle.sentinel.specs.FirstRefusal.{IsSound, IsFirstRefusal}
+use Rattle.submissions.specs.declared.Checked.{Checked}
+use Rattle.submissions.specs.declared.Judgement.{Judgement}
+use Rattle.submissions.specs.declared.Judgement.TheVariants.{Refused, Sound}
+
+-- a verdict on the witness of each input of each transaction, by id and place
+abbrev pub VerdictsOf : Type 0
+VerdictsOf = List ℕ → ℕ → Verdict
+
+-- a test that says yes exactly for sound transactions
+abbrev pub TellsSound : VerdictsOf → (FullTx → Bool) → Type 0
+TellsSound verdicts sound = (t : FullTx) → (sound t ≡ true) ↔ IsSound t (verdicts (tx_id t))
+
+-- nothing in any list
+abbrev pub AllEmpty : List (Vec CompactTx) → Type 0
+AllEmpty lanes = (lane : ℕ) (list : Vec CompactTx) → slice_get lanes lane ≡ Some list → list.items ≡ []
+
+-- a sentinel's judgement of a transaction: the first reason to refuse it; or it is sound, and its compact form goes to the end of a lane's list
+abbrev pub IsGiven : VerdictsOf → FullTx → ℕ → List CompactTx → List CompactTx → Judgement → Type 0
+IsGiven verdicts t at before after (Refused r) = IsFirstRefusal t (verdicts (tx_id t)) r × (after ≡ before)
+IsGiven verdicts t at before after (Sound lane place) =
+    IsSound t (verdicts (tx_id t)) × (lane ≡ at) × (place ≡ length before) × (after ≡ before ++ compact t ∷ [])
+
+abbrev pub IsJudged : VerdictsOf → FullTx → ℕ → List CompactTx → List CompactTx → Checked → Type 0
+IsJudged verdicts t at before after c = (c.id ≡ tx_id t) × IsGiven verdicts t at before after c.judgement
+
+-- the same in the list of one lane, with those of the others as before
+pub record IsPlaced (verdicts : VerdictsOf) (t : FullTx) (at : ℕ) (old new : List (Vec CompactTx)) (c : Checked) : Type 0 where
+  pub count : length new ≡ length old
+  pub own : (was list : Vec CompactTx) → slice_get old at ≡ Some was → slice_get new at ≡ Some list → IsJudged verdicts t at was.items list.items c
+  pub others : (lane : ℕ) → lane ≢ at → slice_get new lane ≡ slice_get old lane
+
+-- each lane has what is sent to it
+abbrev pub AreSent : Shape → VerdictsOf → List FullTx → List (Vec CompactTx) → Type 0
+AreSent K verdicts file lanes =
+    (sound : FullTx → Bool) → TellsSound verdicts sound
+    → (lane : ℕ) (list : Vec CompactTx) → slice_get lanes lane ≡ Some list → list.items ≡ sent_to K sound file lane
+
+-- the compact form of a sound one of these transactions
+abbrev pub IsSentFrom : VerdictsOf → List FullTx → CompactTx → Type 0
+IsSentFrom verdicts file k = (t : FullTx) × Contains file t × IsSound t (verdicts (tx_id t)) × (k ≡ compact t)
+
+-- each lane has such forms alone
+abbrev pub AreSentFrom : VerdictsOf → List FullTx → List (Vec CompactTx) → Type 0
+AreSentFrom verdicts file lanes = (lane : ℕ) (list : Vec CompactTx) → slice_get lanes lane ≡ Some list → All (IsSentFrom verdicts file) list.items
+
+-- what is said of the submission at place j: the first reason to refuse it; or it is sound, and goes to lane j modulo the lanes, behind the sound ones before it
+abbrev pub IsSaid : Shape → VerdictsOf → List FullTx → ℕ → FullTx → Judgement → Type 0
+IsSaid K verdicts file j t (Refused r) = IsFirstRefusal t (verdicts (tx_id t)) r
+IsSaid K verdicts file j t (Sound lane place) =
+    IsSound t (verdicts (tx_id t)) × (lane ≡ j % (K.coordinators * K.lanes))
+    × ((sound : FullTx → Bool) → TellsSound verdicts sound → place ≡ length (sent_to K sound (take j file) lane))
+
+-- as many as there are submissions, each with its id and what is said of it
+pub record AreChecked (K : Shape) (verdicts : VerdictsOf) (file : List FullTx) (checked : List Checked) : Type 0 where
+  pub count : length checked ≡ length file
+  pub each : (j : ℕ) (t : FullTx) (c : Checked) → slice_get file j ≡ Some t → slice_get checked j ≡ Some c → (c.id ≡ tx_id t) × IsSaid K verdicts file j t c.judgement

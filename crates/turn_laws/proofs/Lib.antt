@@ -1,0 +1,4 @@
+pub mod OwnJournals
+pub mod OpenThere
+pub mod Headers
+pub mod Turned

@@ -1,0 +1,11 @@
+-- The journals of a ledger's nodes, each by what it says of itself.
+use Rattle.std.specs.Prelude.{◌≡◌, ℕ, ◌<◌, ◌≤◌, []}
+use Rattle.cbdc_model.specs.Records.{Shape}
+use Rattle.cbdc_model.specs.After.{IsJournal}
+use Rattle.cbdc_model.specs.Sights.{Sight}
+
+-- each node's journal is one of its header, and there are no shards but those of the shape
+pub record AreNodes (K : Shape) (logs shards : ℕ → Sight) : Type 0 where
+  pub logs_are : (n : ℕ) → n < K.coordinators → IsJournal (logs n).header (logs n).seen
+  pub shards_are : (s : ℕ) → s < K.shards → IsJournal (shards s).header (shards s).seen
+  pub beyond : (s : ℕ) → K.shards ≤ s → (shards s).seen ≡ []

@@ -1,0 +1,7 @@
+pub mod Sharing
+pub mod FreeReplies
+pub mod Told
+pub mod NewRecords
+pub mod Confirmed
+pub mod Placed
+pub mod FreeRuns
