@@ -6,9 +6,9 @@ use Rattle.cbdc_types.specs.declared.answer.Answer.TheVariants as answers
 use Rattle.client_files.specs.declared.fault.BadFile.{BadFile}
 use Rattle.command_line.specs.declared.request.FileWord.{FileWord}
 use Rattle.line_text.specs.Lines.{Text}
-use Rattle.input_files.specs.Contents.{IsNotRead, FirstNotRead, txs_of_file, all_txs}
+use Rattle.input_files.specs.Contents.{IsNotRead, IsNoVerdicts, FirstNotRead, txs_of_file, all_txs}
 use Rattle.commands.proofs.Counts.{rose_later}
-use Rattle.commands.specs.Causes.{IsFault, IsDone, OneRose}
+use Rattle.commands.specs.Causes.{IsFault, IsDone, IsTold, IsWell, OneRose}
 
 pub fault_done : (read : ℕ → Type 0) (written : Type 0) (a : Answer) → IsFault read a → IsDone read written a
 fault_done read written answers.Ok is = absurd is
@@ -62,3 +62,76 @@ first_fault held before now files rose of a is =
 pub one_later : (before mid now : Text → ℕ) (files : List FileWord) (place : ℕ) → ((name : Text) → before name ≤ mid name) → OneRose mid now files place → OneRose before now files place
 one_later before mid now files place later (k, file, at, (is, rose)) =
     (k, file, at, (is, rose_later (before file.name.now) (mid file.name.now) (now file.name.now) (now file.name.now) (later file.name.now) (omega arith) rose))
+
+pub told : (cause : Answer → Type 0) (a : Answer) → cause a → IsTold cause a
+told cause answers.Ok is = tt
+told cause answers.BadWords is = tt
+told cause (answers.BadInput file at kind) is = is
+told cause (answers.TooMuch total) is = is
+told cause (answers.NotReady k) is = is
+told cause (answers.Foreign k kept asked) is = is
+told cause (answers.NotEmpty k) is = is
+told cause (answers.Full k used need capacity) is = is
+told cause (answers.Unsound spot kind) is = is
+told cause (answers.ClockEnd k stamp) is = is
+told cause (answers.Refused k) is = is
+told cause (answers.Damaged k at) is = is
+told cause (answers.ReadFault file) is = is
+told cause answers.WriteFault is = tt
+told cause (answers.DiskFault k) is = is
+told cause answers.Memory is = tt
+
+-- another cause where the one was
+pub told_by : (P Q : Answer → Type 0) (a : Answer) → ((b : Answer) → P b → Q b) → IsTold P a → IsTold Q a
+told_by P Q answers.Ok f is = tt
+told_by P Q answers.BadWords f is = tt
+told_by P Q (answers.BadInput file at kind) f is = f (answers.BadInput file at kind) is
+told_by P Q (answers.TooMuch total) f is = f (answers.TooMuch total) is
+told_by P Q (answers.NotReady k) f is = f (answers.NotReady k) is
+told_by P Q (answers.Foreign k kept asked) f is = f (answers.Foreign k kept asked) is
+told_by P Q (answers.NotEmpty k) f is = f (answers.NotEmpty k) is
+told_by P Q (answers.Full k used need capacity) f is = f (answers.Full k used need capacity) is
+told_by P Q (answers.Unsound spot kind) f is = f (answers.Unsound spot kind) is
+told_by P Q (answers.ClockEnd k stamp) f is = f (answers.ClockEnd k stamp) is
+told_by P Q (answers.Refused k) f is = f (answers.Refused k) is
+told_by P Q (answers.Damaged k at) f is = f (answers.Damaged k at) is
+told_by P Q (answers.ReadFault file) f is = f (answers.ReadFault file) is
+told_by P Q answers.WriteFault f is = tt
+told_by P Q (answers.DiskFault k) f is = f (answers.DiskFault k) is
+told_by P Q answers.Memory f is = tt
+
+pub no_verdicts_later : (place : ℕ) (held : Option (List ℕ)) (before mid now : ℕ) (a : Answer) → before ≤ mid → IsNoVerdicts place held mid now a → IsNoVerdicts place held before now a
+no_verdicts_later place held before mid now answers.Ok later is = is
+no_verdicts_later place held before mid now answers.BadWords later is = is
+no_verdicts_later place held before mid now (answers.BadInput file at kind) later is = is
+no_verdicts_later place held before mid now (answers.TooMuch total) later is = is
+no_verdicts_later place held before mid now (answers.NotReady k) later is = is
+no_verdicts_later place held before mid now (answers.Foreign k kept asked) later is = is
+no_verdicts_later place held before mid now (answers.NotEmpty k) later is = is
+no_verdicts_later place held before mid now (answers.Full k used need capacity) later is = is
+no_verdicts_later place held before mid now (answers.Unsound spot kind) later is = is
+no_verdicts_later place held before mid now (answers.ClockEnd k stamp) later is = is
+no_verdicts_later place held before mid now (answers.Refused k) later is = is
+no_verdicts_later place held before mid now (answers.Damaged k at) later is = is
+no_verdicts_later place held before mid now (answers.ReadFault file) later is = (is.0, rose_later before mid now now later (omega arith) is.1)
+no_verdicts_later place held before mid now answers.WriteFault later is = is
+no_verdicts_later place held before mid now (answers.DiskFault k) later is = is
+no_verdicts_later place held before mid now answers.Memory later is = is
+
+pub well_told : (cause : Answer → Type 0) (a : Answer) → IsWell a → IsTold cause a
+well_told cause answers.Ok is = tt
+well_told cause answers.BadWords is = tt
+well_told cause (answers.BadInput file at kind) is = absurd is
+well_told cause (answers.TooMuch total) is = absurd is
+well_told cause (answers.NotReady k) is = absurd is
+well_told cause (answers.Foreign k kept asked) is = absurd is
+well_told cause (answers.NotEmpty k) is = absurd is
+well_told cause (answers.Full k used need capacity) is = absurd is
+well_told cause (answers.Unsound spot kind) is = absurd is
+well_told cause (answers.ClockEnd k stamp) is = absurd is
+well_told cause (answers.Refused k) is = absurd is
+well_told cause (answers.Damaged k at) is = absurd is
+well_told cause (answers.ReadFault file) is = absurd is
+well_told cause answers.WriteFault is = tt
+well_told cause (answers.DiskFault k) is = absurd is
+well_told cause answers.Memory is = tt

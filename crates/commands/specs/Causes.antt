@@ -39,6 +39,14 @@ IsWell answers.Ok = Unit {0}
 IsWell answers.WriteFault = Unit {0}
 IsWell other = ⊥
 
+-- what it was has its cause, unless all was done, the words are bad or memory ran out
+abbrev pub IsTold : (Answer → Type 0) → Answer → Type 0
+IsTold cause answers.Ok = Unit {0}
+IsTold cause answers.WriteFault = Unit {0}
+IsTold cause answers.BadWords = Unit {0}
+IsTold cause answers.Memory = Unit {0}
+IsTold cause other = cause other
+
 -- doing what is asked: a fault of reading or writing has its cause
 abbrev pub IsDone : (ℕ → Type 0) → Type 0 → Answer → Type 0
 IsDone read written answers.BadWords = ⊥

@@ -1,7 +1,8 @@
 // `status`: what a ledger knows, read from its open nodes.
 ghost use Rattle.std.specs.Prelude.{◌≤◌, ℕ};
 ghost use Rattle.outside.specs.Counts.{Rose, HasCause};
-ghost use Rattle.commands.specs.Causes.{IsDone};
+ghost use Rattle.rack_ledgers.specs.Ledgers.{IsUnopened};
+ghost use Rattle.commands.specs.Causes.{IsDone, IsTold};
 
 use cbdc_types::{Answer, Hash, Status};
 use line_text::{WriteFault, write_status};
@@ -56,6 +57,7 @@ pub(crate) fn status<R: Rack, O: Sink>(
 ) -> Answer
     requires { (n : ℕ) → R.can_take rack.old n }
     ensures cause { IsDone (λ file. ⊥) (Rose (O.count out.old) (O.count out.new)) result }
+    ensures why { IsTold (IsUnopened R.Disk.content R.Disk.images R.Disk.limit R.Disk.count (R.held rack.old) (R.count rack.old) (R.count rack.new)) result }
     ensures written_later { O.count out.old ≤ O.count out.new }
     ensures back { (n : ℕ) → R.can_take rack.new n }
 {

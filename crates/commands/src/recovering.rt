@@ -1,8 +1,8 @@
 // `recover`: open batches are taken to their end.
-ghost use Rattle.std.specs.Prelude.{◌≤◌, ℕ};
+ghost use Rattle.std.specs.Prelude.{◌≤◌, ℕ, []};
 ghost use Rattle.outside.specs.Counts.{Rose, HasCause};
-ghost use Rattle.commands.specs.Causes.{IsDone, IsWell};
-ghost use Rattle.commands.specs.Outcomes.{DidRecover};
+ghost use Rattle.commands.specs.Causes.{IsDone, IsTold, IsWell};
+ghost use Rattle.commands.specs.Outcomes.{DidRecover, WhyNoTurns};
 
 use cbdc_types::{Answer, Outcome};
 use line_text::{WriteFault, write_recovery, write_resumed};
@@ -55,6 +55,7 @@ pub(crate) fn recover<W: Wait, R: Rack, O: Sink, G: Gate>(
     requires { (n : ℕ) → R.can_take rack.old n }
     ensures cause { IsDone (λ file. ⊥) (Rose (O.count out.old) (O.count out.new)) result }
     ensures did { IsWell result → DidRecover R.Disk.content R.Disk.images (R.held rack.old) (R.held rack.new) }
+    ensures why { IsTold (WhyNoTurns R.Disk.content R.Disk.images R.Disk.limit R.Disk.count (R.held rack.old) (R.held rack.new) (R.count rack.old) (R.count rack.new) []) result }
     ensures written_later { O.count out.old ≤ O.count out.new }
     ensures back { (n : ℕ) → R.can_take rack.new n }
 {

@@ -1,8 +1,8 @@
 // `run`: the transactions of client files, file by file.
 ghost use Rattle.std.specs.Prelude.{◌≤◌, ◌⊎◌, ℕ, OnOk, IfErr};
 ghost use Rattle.outside.specs.Counts.{Rose};
-ghost use Rattle.commands.specs.Causes.{IsFault, IsDone, IsWell, OneRose, FileRose};
-ghost use Rattle.commands.specs.Outcomes.{DidRun};
+ghost use Rattle.commands.specs.Causes.{IsFault, IsDone, IsTold, IsWell, OneRose, FileRose};
+ghost use Rattle.commands.specs.Outcomes.{DidRun, WhyNoRun};
 
 use crate::report::write_report;
 use cbdc_types::Answer;
@@ -25,6 +25,7 @@ fn run_all<W: Wait, I: Inbox, R: Rack, G: Gate>(
 ) -> Result<Ran, Answer>
     requires { (n : ℕ) → R.can_take rack.old n }
     ensures did { OnOk result (DidRun (I.file inbox.old) R.Disk.content R.Disk.images (R.held rack.old) (R.held rack.new) verdicts.now clients.now) }
+    ensures why { IfErr result (WhyNoRun (I.file inbox.old) (I.count inbox.old) (I.count inbox.new) R.Disk.content R.Disk.images R.Disk.limit R.Disk.count (R.held rack.old) (R.held rack.new) (R.count rack.old) (R.count rack.new) verdicts.now clients.now) }
     ensures fault { IfErr result (IsFault (λ place. OneRose (I.count inbox.old) (I.count inbox.new) clients.now place ⊎ FileRose (I.count inbox.old) (I.count inbox.new) verdicts.now place)) }
     ensures back { (n : ℕ) → R.can_take rack.new n }
 {
@@ -55,6 +56,7 @@ pub(crate) fn run<W: Wait, I: Inbox, R: Rack, O: Sink, G: Gate>(
     ensures cause { IsDone (λ place. OneRose (I.count inbox.old) (I.count inbox.new) clients.now place ⊎ FileRose (I.count inbox.old) (I.count inbox.new) verdicts.now place)
         (Rose (O.count out.old) (O.count out.new)) result }
     ensures did { IsWell result → DidRun (I.file inbox.old) R.Disk.content R.Disk.images (R.held rack.old) (R.held rack.new) verdicts.now clients.now }
+    ensures why { IsTold (WhyNoRun (I.file inbox.old) (I.count inbox.old) (I.count inbox.new) R.Disk.content R.Disk.images R.Disk.limit R.Disk.count (R.held rack.old) (R.held rack.new) (R.count rack.old) (R.count rack.new) verdicts.now clients.now) result }
     ensures written_later { O.count out.old ≤ O.count out.new }
     ensures back { (n : ℕ) → R.can_take rack.new n }
 {

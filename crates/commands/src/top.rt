@@ -4,8 +4,8 @@ ghost use Rattle.command_line.specs.Asked.{IsRefused};
 ghost use Rattle.command_line.specs.Words.{texts};
 ghost use Rattle.command_line.specs.Asked.{IsAsked};
 ghost use Rattle.command_line.specs.declared.request.Request.{Request as Asked};
-ghost use Rattle.commands.specs.Causes.{IsAnswered, IsDone, IsWell, NamedRose, RequestRose};
-ghost use Rattle.commands.specs.Outcomes.{Did};
+ghost use Rattle.commands.specs.Causes.{IsAnswered, IsDone, IsTold, IsWell, NamedRose, RequestRose};
+ghost use Rattle.commands.specs.Outcomes.{Did, Why};
 ghost use Rattle.outside.specs.Counts.{Rose};
 
 use crate::auditing::audit;
@@ -29,6 +29,7 @@ pub struct Done<R> {
 // Prints a text that the words ask for.
 fn show<O: Sink>(out: &mut O, text: &str) -> Answer
     ensures cause { IsDone (λ file. ⊥) (Rose (O.count out.old) (O.count out.new)) result }
+    ensures shown { IsWell result }
     ensures written_later { O.count out.old ≤ O.count out.new }
 {
     match write_all(out, text.as_bytes()) {
@@ -72,6 +73,7 @@ fn answer_to<W: Wait, I: Inbox, R: Rack, O: Sink, G: Gate>(
     ensures back { (n : ℕ) → R.can_take rack.new n }
     ensures cause { IsDone (RequestRose request.now (I.count inbox.old) (I.count inbox.new)) (Rose (O.count out.old) (O.count out.new)) result }
     ensures did { IsWell result → Did (I.file inbox.old) R.Disk.content R.Disk.images (R.held rack.old) (R.held rack.new) request.now }
+    ensures why { IsTold (Why (I.file inbox.old) (I.count inbox.old) (I.count inbox.new) R.Disk.content R.Disk.images R.Disk.limit R.Disk.count (R.held rack.old) (R.held rack.new) (R.count rack.old) (R.count rack.new) request.now) result }
     ensures written_later { O.count out.old ≤ O.count out.new }
 {
     match request {
@@ -100,6 +102,7 @@ fn answer_words<W: Wait, I: Inbox, R: Rack, O: Sink, G: Gate>(
     ensures back { (n : ℕ) → R.can_take rack.new n }
     ensures cause { IsAnswered (texts words.now) (I.count inbox.old) (I.count inbox.new) (Rose (O.count out.old) (O.count out.new)) result }
     ensures did { IsWell result → (r : Asked) × IsAsked (texts words.now) r × Did (I.file inbox.old) R.Disk.content R.Disk.images (R.held rack.old) (R.held rack.new) r }
+    ensures why { IsTold (λ a. (r : Asked) × IsAsked (texts words.now) r × Why (I.file inbox.old) (I.count inbox.old) (I.count inbox.new) R.Disk.content R.Disk.images R.Disk.limit R.Disk.count (R.held rack.old) (R.held rack.new) (R.count rack.old) (R.count rack.new) r a) result }
     ensures written_later { O.count out.old ≤ O.count out.new }
 {
     match parse(alloc, words) {
@@ -124,6 +127,10 @@ pub fn process<W: Wait, I: Inbox, R: Rack, O: Sink, G: Gate>(
     // What the words ask for was done, whether its lines could be written or not: a ledger was made, files were run over one, or its
     // open batches were brought to their end; and where no two outputs share a hash, the headline holds of the journals at exit.
     ensures did { IsWell result.status → (r : Asked) × IsAsked (texts words.now) r × Did (I.file inbox.old) R.Disk.content R.Disk.images (R.held rack) (R.held result.rack) r }
+
+    // Else why not: a file that is not read, a ledger that can't be made or opened, or a fault of a lane, and what it leaves. Of an audit
+    // it is not told.
+    ensures why { IsTold (λ a. (r : Asked) × IsAsked (texts words.now) r × Why (I.file inbox.old) (I.count inbox.old) (I.count inbox.new) R.Disk.content R.Disk.images R.Disk.limit R.Disk.count (R.held rack) (R.held result.rack) (R.count rack) (R.count result.rack) r a) result.status }
 
     ensures bad_words { result.status ≡ Answer.BadWords → IsRefused (texts words.now) WordsFault.Bad }
     ensures read { (file : ℕ) → result.status ≡ Answer.ReadFault file → NamedRose (texts words.now) (I.count inbox.old) (I.count inbox.new) file }

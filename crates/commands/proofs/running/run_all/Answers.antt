@@ -1,7 +1,7 @@
-use Rattle.std.proofs.Common.{inl, sym, subst}
-use Rattle.input_files.specs.Contents.{AreRead, AreVerdicts}
-use Rattle.rack_runs.proofs.Lent.{on_ok_by}
-use Rattle.commands.proofs.Answers.{first_fault}
+use Rattle.std.proofs.Common.{inl, inr, sym, subst}
+use Rattle.input_files.specs.Contents.{AreRead, AreVerdicts, IsNoVerdicts}
+use Rattle.rack_runs.proofs.Lent.{on_ok_by, if_err_by}
+use Rattle.commands.proofs.Answers.{first_fault, no_verdicts_later}
 use Rattle.commands.proofs.running.run_all.Goals as goal
 
 pub returns-in-Err-clause-fault : goal.returns-in-Err-clause-fault
@@ -19,3 +19,19 @@ returns-clause-did g c =
       ran = shown;
     })
     c.run_on.ensures.ran
+
+pub returns-in-Err-clause-why : goal.returns-in-Err-clause-why
+returns-in-Err-clause-why g c = inl c.in-Err.ensures.fault
+
+pub returns-in-Err-verdicts_in-clause-why : goal.returns-in-Err-verdicts_in-clause-why
+returns-in-Err-verdicts_in-clause-why g c =
+    let name = c.args.verdicts.now.name.now in
+    inr (inl (no_verdicts_later c.args.verdicts.now.place (g.I.Inbox.file c.args.inbox.now name) (g.I.Inbox.count c.args.inbox.now name) (g.I.Inbox.count c.all_clients_in.new.inbox name) (g.I.Inbox.count c.verdicts_in.new.inbox name)
+    c.in-Err-verdicts_in.fault (c.in-Ok.ensures.later name)
+    (subst (λ t. IsNoVerdicts c.args.verdicts.now.place t (g.I.Inbox.count c.all_clients_in.new.inbox name) (g.I.Inbox.count c.verdicts_in.new.inbox name) c.in-Err-verdicts_in.fault) (c.in-Ok.ensures.same name) c.in-Err-verdicts_in.ensures.fault)))
+
+pub returns-clause-why : goal.returns-clause-why
+returns-clause-why g c =
+    if_err_by _ _ c.run_on.result
+    (λ e why. inr (inr (c.deref.result.now, subst (λ txs. AreRead (g.I.Inbox.file c.args.inbox.now) 0 c.args.clients.now txs) (sym c.deref.ensures.value) c.in-Ok.ensures.read, why)))
+    c.run_on.ensures.stopped

@@ -1,3 +1,9 @@
+use Rattle.cbdc_types.specs.declared.answer.Answer.{Answer}
+use Rattle.command_line.specs.Asked.{IsAsked}
+use Rattle.command_line.specs.Words.{texts}
+use Rattle.command_line.specs.declared.request.Request.{Request}
+use Rattle.commands.specs.Outcomes.{Why}
+use Rattle.commands.proofs.Answers.{told_by}
 use Rattle.commands.proofs.Named.{answered}
 use Rattle.commands.proofs.top.answer_words.Goals as goal
 
@@ -6,3 +12,8 @@ returns-in-Ok-clause-cause g c = answered _ _ _ c.in-Ok.request _ c.answer_to.re
 
 pub returns-in-Ok-clause-did : goal.returns-in-Ok-clause-did
 returns-in-Ok-clause-did g c well = (c.in-Ok.request, c.in-Ok.ensures.asked, c.answer_to.ensures.did well)
+
+pub returns-in-Ok-clause-why : goal.returns-in-Ok-clause-why
+returns-in-Ok-clause-why g c =
+    let why : Request → Answer → Type 0 = λ r a. Why (g.I.Inbox.file c.args.inbox.now) (g.I.Inbox.count c.args.inbox.now) (g.I.Inbox.count c.answer_to.new.inbox) g.R.Disk.Disk.content g.R.Disk.Disk.images g.R.Disk.Disk.limit g.R.Disk.Disk.count (g.R.Rack.held c.args.rack.now) (g.R.Rack.held c.answer_to.new.rack) (g.R.Rack.count c.args.rack.now) (g.R.Rack.count c.answer_to.new.rack) r a in
+    told_by (why c.in-Ok.request) (λ a. (r : Request) × IsAsked (texts c.args.words.now) r × why r a) c.answer_to.result (λ a so. (c.in-Ok.request, c.in-Ok.ensures.asked, so)) c.answer_to.ensures.why
