@@ -1,0 +1,20 @@
+-- Words that are refused are not asked for anything.
+use Rattle.std.specs.Prelude.{◌≡◌, ℕ, List, length, All}
+use Rattle.clap.specs.Words.{Text}
+use Rattle.command_line.specs.Asked.{IsAsked, IsRefused}
+use Rattle.command_line.specs.declared.request.Request.{Request}
+use Rattle.command_line.specs.declared.request.Request.TheVariants.{Init, Run, Recover, Status, Audit, Show}
+use Rattle.command_line.specs.declared.request.WordsFault.TheVariants.{Bad}
+
+-- each hash has its 32 bytes
+abbrev pub AreWhole : List (List ℕ) → Type 0
+AreWhole hashes = All (λ h. length h ≡ 32) hashes
+
+-- so have those that a request names
+abbrev pub HasHashes : Request → Type 0
+HasHashes (Status hashes) = AreWhole hashes.items
+HasHashes _ = Unit {0}
+
+-- what the words ask for tells that they are not refused, but for want of memory
+abbrev pub AskedLaw : Type 0
+AskedLaw = (words : List Text) (r : Request) → HasHashes r → IsAsked words r → IsRefused words Bad → ⊥
