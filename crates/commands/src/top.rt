@@ -1,5 +1,5 @@
 // The top call.
-ghost use Rattle.std.specs.Prelude.{◌≡◌, ◌≤◌, ℕ};
+ghost use Rattle.std.specs.Prelude.{◌≡◌, ◌≤◌, ◌⊎◌, ℕ};
 ghost use Rattle.command_line.specs.Asked.{IsRefused};
 ghost use Rattle.command_line.specs.Words.{texts};
 ghost use Rattle.command_line.specs.Asked.{IsAsked};
@@ -19,6 +19,7 @@ use line_text::{write_all, write_fault};
 use outside::{Gate, Inbox, Rack, Sink};
 use std::alloc::Global;
 use std::sync::Wait;
+use word_laws::see_request;
 
 /// What came of the words, and the rack with every disk back in its place.
 pub struct Done<R> {
@@ -101,12 +102,16 @@ fn answer_words<W: Wait, I: Inbox, R: Rack, O: Sink, G: Gate>(
     requires { (n : ℕ) → R.can_take rack.old n }
     ensures back { (n : ℕ) → R.can_take rack.new n }
     ensures cause { IsAnswered (texts words.now) (I.count inbox.old) (I.count inbox.new) (Rose (O.count out.old) (O.count out.new)) result }
+    ensures told { IsRefused (texts words.now) WordsFault.Bad → (result ≡ Answer.BadWords) ⊎ (result ≡ Answer.Memory) }
     ensures did { IsWell result → (r : Asked) × IsAsked (texts words.now) r × Did (I.file inbox.old) R.Disk.content R.Disk.images (R.held rack.old) (R.held rack.new) r }
     ensures why { IsTold (λ a. (r : Asked) × IsAsked (texts words.now) r × Why (I.file inbox.old) (I.count inbox.old) (I.count inbox.new) R.Disk.content R.Disk.images R.Disk.limit R.Disk.count (R.held rack.old) (R.held rack.new) (R.count rack.old) (R.count rack.new) r a) result }
     ensures written_later { O.count out.old ≤ O.count out.new }
 {
     match parse(alloc, words) {
-        Ok(request) => answer_to(rt, alloc, &request, inbox, rack, out, gate),
+        Ok(request) => {
+            see_request(&request);
+            answer_to(rt, alloc, &request, inbox, rack, out, gate)
+        }
         Err(WordsFault::Bad) => Answer::BadWords,
         Err(WordsFault::Memory) => Answer::Memory,
     }
@@ -133,6 +138,7 @@ pub fn process<W: Wait, I: Inbox, R: Rack, O: Sink, G: Gate>(
     ensures why { IsTold (λ a. (r : Asked) × IsAsked (texts words.now) r × Why (I.file inbox.old) (I.count inbox.old) (I.count inbox.new) R.Disk.content R.Disk.images R.Disk.limit R.Disk.count (R.held rack) (R.held result.rack) (R.count rack) (R.count result.rack) r a) result.status }
 
     ensures bad_words { result.status ≡ Answer.BadWords → IsRefused (texts words.now) WordsFault.Bad }
+    ensures told { IsRefused (texts words.now) WordsFault.Bad → (result.status ≡ Answer.BadWords) ⊎ (result.status ≡ Answer.Memory) }
     ensures read { (file : ℕ) → result.status ≡ Answer.ReadFault file → NamedRose (texts words.now) (I.count inbox.old) (I.count inbox.new) file }
     ensures written { result.status ≡ Answer.WriteFault → Rose (O.count out.old) (O.count out.new) }
 {

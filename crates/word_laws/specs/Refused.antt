@@ -3,7 +3,7 @@ use Rattle.std.specs.Prelude.{◌≡◌, ℕ, List, length, All}
 use Rattle.clap.specs.Words.{Text}
 use Rattle.command_line.specs.Asked.{IsAsked, IsRefused}
 use Rattle.command_line.specs.declared.request.Request.{Request}
-use Rattle.command_line.specs.declared.request.Request.TheVariants.{Init, Run, Recover, Status, Audit, Show}
+use Rattle.command_line.specs.declared.request.Request.TheVariants.{Status}
 use Rattle.command_line.specs.declared.request.WordsFault.TheVariants.{Bad}
 
 -- each hash has its 32 bytes

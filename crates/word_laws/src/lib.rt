@@ -1,9 +1,38 @@
 //! What words ask for, and when they are refused. The law has no body that runs.
 #![tactic(auto)]
 
-ghost use Rattle.word_laws.specs.Refused.{AskedLaw};
+ghost use Rattle.std.specs.Prelude.{◌≡◌, length};
+ghost use Rattle.word_laws.specs.Refused.{AreWhole, AskedLaw, HasHashes};
+
+use cbdc_types::Hash;
+use command_line::Request;
 
 /// Words that are refused ask for nothing.
 pub fn asked_law()
     ensures { AskedLaw }
 {}
+
+// A hash has its 32 bytes.
+fn see_hash(hash: &Hash)
+    ensures { length hash.now ≡ 32 }
+{
+    let _bytes = hash.0;
+}
+
+// So has each of these.
+fn see_hashes(hashes: &[Hash])
+    ensures { AreWhole hashes.now }
+{
+    'hashes: for hash in hashes {
+        see_hash(hash);
+    }
+}
+
+/// So has each that a request names, which the law asks for.
+pub fn see_request<'a>(request: &Request<'a>)
+    ensures { HasHashes request.now }
+{
+    if let Request::Status { hashes } = request {
+        see_hashes(hashes);
+    }
+}

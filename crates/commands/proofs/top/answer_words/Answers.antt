@@ -5,6 +5,7 @@ use Rattle.command_line.specs.declared.request.Request.{Request}
 use Rattle.commands.specs.Outcomes.{Why}
 use Rattle.commands.proofs.Answers.{told_by}
 use Rattle.commands.proofs.Named.{answered}
+use Rattle.word_laws.proofs.Refused.{asked_law}
 use Rattle.commands.proofs.top.answer_words.Goals as goal
 
 pub returns-in-Ok-clause-cause : goal.returns-in-Ok-clause-cause
@@ -17,3 +18,6 @@ pub returns-in-Ok-clause-why : goal.returns-in-Ok-clause-why
 returns-in-Ok-clause-why g c =
     let why : Request → Answer → Type 0 = λ r a. Why (g.I.Inbox.file c.args.inbox.now) (g.I.Inbox.count c.args.inbox.now) (g.I.Inbox.count c.answer_to.new.inbox) g.R.Disk.Disk.content g.R.Disk.Disk.images g.R.Disk.Disk.limit g.R.Disk.Disk.count (g.R.Rack.held c.args.rack.now) (g.R.Rack.held c.answer_to.new.rack) (g.R.Rack.count c.args.rack.now) (g.R.Rack.count c.answer_to.new.rack) r a in
     told_by (why c.in-Ok.request) (λ a. (r : Request) × IsAsked (texts c.args.words.now) r × why r a) c.answer_to.result (λ a so. (c.in-Ok.request, c.in-Ok.ensures.asked, so)) c.answer_to.ensures.why
+
+pub returns-in-Ok-clause-told : goal.returns-in-Ok-clause-told
+returns-in-Ok-clause-told g c refused = absurd (asked_law (texts c.args.words.now) c.in-Ok.request c.see_request.ensures c.in-Ok.ensures.asked refused)

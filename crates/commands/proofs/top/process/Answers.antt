@@ -17,3 +17,6 @@ pub returns-clause-written : goal.returns-clause-written
 returns-clause-written g c is =
     rose_later (g.O.Sink.count c.args.out.now) (g.O.Sink.count c.args.out.now) (g.O.Sink.count c.answer_words-status.new.out) (g.O.Sink.count c.write_fault.new.out) (omega arith) c.write_fault.ensures.cause.later
     (subst (λ a. IsAnswered (texts c.args.words.now) (g.I.Inbox.count c.args.inbox.now) (g.I.Inbox.count c.answer_words-status.new.inbox) (Rose (g.O.Sink.count c.args.out.now) (g.O.Sink.count c.answer_words-status.new.out)) a) is c.answer_words-status.ensures.cause)
+
+pub returns-clause-told : goal.returns-clause-told
+returns-clause-told g c refused = c.answer_words-status.ensures.told refused
