@@ -1,6 +1,6 @@
 // The worked rows: one coordinator, one shard, one lane, batches of 16. The mint is one coin of 100 unless said.
 use super::making::{client, expect, genesis, good, mint, pays, spends, two_disks, used};
-use cbdc_types::{FullTx, NodeId};
+use cbdc_types::{FullTx, Input, List, NodeId};
 use identifiers::tx_id;
 use mem_devices::PlainDisk;
 use std::test::Fail;
@@ -336,6 +336,76 @@ fn inputs_past_the_largest_number(rt: HostRuntime) -> Result<(), Fail> {
         0,
         "1 0 6535ef6d6e53bcad168762f427262473524e49228a6ed6886718e61baafd6d5a refused input-overflow\nresumed 0\nbatches 0\nconfirmed 0\nrejected 0\nrefused 1\nunspent 1\n",
     )?;
+    Ok(())
+}
+
+// A transaction without witnesses.
+fn unwitnessed(rt: &HostRuntime, inputs: &[Input], coins: &[(u8, u64)]) -> Result<FullTx, Fail> {
+    let FullTx {
+        inputs,
+        outputs,
+        ..
+    } = pays(rt, inputs, coins)?;
+    Ok(FullTx {
+        inputs,
+        outputs,
+        witnesses: List::new(rt.alloc()),
+    })
+}
+
+// Transactions that are refused for their form: one for each reason that the rows above do not have.
+fn of_bad_form(rt: &HostRuntime) -> Result<Vec<FullTx>, Fail> {
+    let id = genesis(rt, &[COIN])?;
+    let coin = spends(id, 0, COIN);
+    let mut all = Vec::new(rt.alloc());
+    all.push(pays(rt, &[], &[(2, 5)])?)?;
+    all.push(pays(rt, &[coin], &[])?)?;
+    all.push(unwitnessed(rt, &[coin], &[(2, 100)])?)?;
+    all.push(pays(rt, &[coin, coin], &[(2, 200)])?)?;
+    all.push(pays(rt, &[coin, spends(id, 1, (6, 0))], &[(2, 100)])?)?;
+    all.push(pays(rt, &[coin], &[(2, 18446744073709551615), (3, 1)])?)?;
+    all.push(claims(rt, 100, &[(4, 100)])?)?;
+    all.push(claims(rt, 100, &[(5, 100)])?)?;
+    Ok(all)
+}
+
+/// Each other reason to refuse a submission has its line, and none of them is prepared. Of the last two one has a bad witness, and of
+/// the other's witness nothing is known.
+#[test]
+fn each_refusal_has_its_line(rt: HostRuntime) -> Result<(), Fail> {
+    let rt = &rt;
+    let rack = two_disks(rt, 10_000, 10_000)?;
+    let rack = expect(
+        rt,
+        rt.alloc(),
+        rack,
+        &["init", "m"],
+        &[("m", &mint(rt, &[COIN])?)],
+        0,
+        INIT,
+    )?;
+    let all = of_bad_form(rt)?;
+    let mut txs = Vec::new(rt.alloc());
+    for tx in &all {
+        txs.push(tx)?;
+    }
+    let bytes = client(rt, &txs)?;
+    let rack = expect(
+        rt,
+        rt.alloc(),
+        rack,
+        &RUN,
+        &[
+            ("c", &bytes),
+            (
+                "v",
+                b"18a18a0961b2e87d125720b33669f007226725e25988328f9a9f63772f3ca1c3 0 bad\n",
+            ),
+        ],
+        0,
+        "1 0 7165cb286b3dbdf911458e40fefa52d8b5d843ebf31fc9f31b81363a7b97b982 refused no-inputs\n1 1 0a81f942c4dca1a0d787a9443311b2d35c1d5c12031abc8ac77b089db6071afb refused no-outputs\n1 2 82ac01721762f94f705f287735359bd9e5355dcaedced53a221f32bc99636d7c refused witness-count\n1 3 ca099a7e224016e00f81532114f8bdfc54b636cfc3c5e9e62106cfa076c3f89d refused repeated-input 1\n1 4 3341ae0f82f155801f43d3d247ebe947452d4c04fc0c3e34fe59cf392ae1bcfa refused zero-input 1\n1 5 7ab5bf3d691b5d93d8db5cb78e3a0c4893efa8fb1daadbbff4a4a8102bd13a16 refused output-overflow\n1 6 18a18a0961b2e87d125720b33669f007226725e25988328f9a9f63772f3ca1c3 refused bad-witness 0\n1 7 97207811d532b85a0cf22f425596f6092a401a56f10e6b661487ce1ad2c16abc refused unverified 0\nresumed 0\nbatches 0\nconfirmed 0\nrejected 0\nrefused 8\nunspent 1\n",
+    )?;
+    assert_eq!(rt; used(&rack, 0), 99);
     Ok(())
 }
 
