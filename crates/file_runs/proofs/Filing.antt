@@ -17,7 +17,7 @@ use Rattle.submissions.specs.Checks.{VerdictsOf, TellsSound, AreSent, IsSentFrom
 use Rattle.run_laws.proofs.Ends.{grow_law}
 use Rattle.run_laws.proofs.Members.{compact_law, member_law}
 use Rattle.ledger_runs.specs.Turning.{OfKept, StaysKept}
-use Rattle.ledger_runs.specs.Waving.{EachLane, HaveSent, AreWithin, NoFault, AllProper, KeepsSent}
+use Rattle.ledger_runs.specs.Waving.{EachLane, HaveSent, AreWithin, NoFault, AllProper, KeepsSent, OfSent}
 use Rattle.ledger_runs.specs.declared.lanes.Lane.{Lane}
 use Rattle.file_runs.specs.Runs.{AreLanesOf}
 
@@ -70,6 +70,13 @@ pub keeps_file : (K : Shape) (verdicts : VerdictsOf) (file : List FullTx) (lists
     → OfKept K I (λ mint submissions. StaysKept K I J mint (submissions ++ file))
 keeps_file K verdicts file lists lanes I J from are keeps mint submissions kept =
     keeps (gets lanes) (have_gets lanes) mint (submissions ++ file) (kept_more K mint submissions file I kept)
+    (λ lane low. gets_all (IsProperCompact (submissions ++ file)) lanes (each_proper verdicts file submissions lists lanes from are) lane)
+
+-- what holds of a wave of which no lane stopped holds of the file
+pub of_wave : (K : Shape) (verdicts : VerdictsOf) (file : List FullTx) (lists : List (Vec CompactTx)) (lanes after : List Lane) (I : ℕ → List Record) (P : Type 0)
+    → AreSentFrom verdicts file lists → AreLanesOf lists lanes → NoFault after → OfSent K I lanes after P → OfKept K I (λ _ _. P)
+of_wave K verdicts file lists lanes after I P from are none so mint submissions kept =
+    so (gets lanes) (have_gets lanes) none mint (submissions ++ file) (kept_more K mint submissions file I kept)
     (λ lane low. gets_all (IsProperCompact (submissions ++ file)) lanes (each_proper verdicts file submissions lists lanes from are) lane)
 
 -- what is sent to the lanes is what they get, in so far as there are such lanes

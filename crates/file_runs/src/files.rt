@@ -38,6 +38,7 @@ pub fn run_files<L: Turns, V: Verifier, G: Gate>(
     ensures waves { OnOk result (OfKept (L.shape ledger.old) (L.journals ledger.old) (λ _ _. (sound : TxOf → Bool) (E : ℕ → List Record)
         → TellsSound (V.verdict_of verifier.now) sound → IsResumed (L.shape ledger.old) E (L.journals ledger.old) → Waves (L.shape ledger.old) sound files.now E (L.journals ledger.new))) }
 
+    ensures quiet { OnOk result (OfKept (L.shape ledger.old) (L.journals ledger.old) (λ _ _. L.quiet ledger.old → L.quiet ledger.new)) }
     ensures holds { L.holds ledger.old → L.holds ledger.new }
     ensures later { (n : ℕ) → L.faults ledger.old n ≤ L.faults ledger.new n }
 {

@@ -55,6 +55,7 @@ pub fn run_file<L: Turns, V: Verifier, G: Gate>(
     // Without a fault each lane took what the sound submissions send it, in order, and nothing else was done.
     ensures runs { OnOk result (OfKept (L.shape ledger.old) (L.journals ledger.old) (λ _ _. (sound : TxOf → Bool) → TellsSound (V.verdict_of verifier.now) sound
         → IsFileRun (L.shape ledger.old) (sent_to (L.shape ledger.old) sound txs.now) (L.journals ledger.old) (L.journals ledger.new))) }
+    ensures quiet { OnOk result (OfKept (L.shape ledger.old) (L.journals ledger.old) (λ _ _. L.quiet ledger.old → L.quiet ledger.new)) }
     ensures checked { IfOk result (λ w. AreChecked (L.shape ledger.old) (V.verdict_of verifier.now) txs.now w.checked.items) }
 
     ensures holds { L.holds ledger.old → L.holds ledger.new }

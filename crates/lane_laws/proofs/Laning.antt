@@ -34,6 +34,8 @@ lane_begins K alone lane k txs log shards st = record {
   pieces = [];
   cut = refl;
   made = made_none K [] alone lane (view K lane log shards);
+  log_same = refl;
+  shard_same = λ s. refl;
   settled = subst (λ n. Settled K lane n log shards) (sym st.number) st;
   prepares = refl;
 }
@@ -47,6 +49,8 @@ module _ (K : Shape) (alone : Bool) (lane : ℕ) (txs rest : List Compact) (log0
     made = made_trans K (piece ∷ so.pieces) alone lane (view K lane log0 shards0) (view K lane log1 shards1) (view K lane log2 shards2)
         (made_more K so.pieces (piece ∷ so.pieces) alone lane (view K lane log0 shards0) (view K lane log1 shards1) (in_more piece so.pieces) so.made)
         (made_more K (piece ∷ []) (piece ∷ so.pieces) alone lane (view K lane log1 shards1) (view K lane log2 shards2) (in_first piece so.pieces) d.made);
+    log_same = d.log_same ∙ so.log_same;
+    shard_same = λ s. d.shard_same s ∙ so.shard_same s;
     settled = subst (λ n. Settled K lane n log2 shards2) (sym d.settled.number) d.settled;
     prepares = ap prepared d.grew.log_is ∙ ap (λ L. piece ∷ L) so.prepares;
   }

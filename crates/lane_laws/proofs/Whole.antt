@@ -165,9 +165,14 @@ module _ (K : Shape) (alone : Bool) (lane k : ℕ) (txs : List Compact) (log log
     grew = record { log_is = own_log; shard_is = shard_grew };
     batch = refl;
     outcomes = refl;
-    made = (moved_on K (txs ∷ []) alone lane log log1 log' I I J moved r.moved).made;
+    made = all.made;
+    log_same = all.log_same;
+    shard_same = all.shard_same;
     settled = settled_after;
   }
+    where
+      all : Moved K (txs ∷ []) alone lane log I log' J
+      all = moved_on K (txs ∷ []) alone lane log log1 log' I I J moved r.moved
 
 -- the whole batch, from what was told of its calls
 pub batch_done : (K : Shape) (alone : Bool) (lane k : ℕ) (txs : List Compact) (repeats : ℕ) (parts : List (ℕ × List Entry)) (log log' : Sight) (I J : ℕ → Sight) (b : Batch) (os : List Outcome)

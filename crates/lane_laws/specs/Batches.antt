@@ -55,13 +55,15 @@ at_log r txs = Done r.done r.batch ∷ Discard r.discarded r.batch ∷ Commit r.
 abbrev pub at_shard : Shape → BatchRecords → List Compact → ℕ → List Record
 at_shard K r txs s = if is_concerned K txs s then Forget (r.forgotten s) r.batch ∷ Finish (r.finished s) r.batch (r.decisions s) ∷ Lock (r.locked s) r.batch (r.entries s) ∷ [] else []
 
--- a batch of these transactions is done alike, with these outcomes
+-- a batch of these transactions is done alike, with these outcomes, and nothing is left in flight
 pub record BatchDone (K : Shape) (alone : Bool) (lane k : ℕ) (txs : List Compact) (log : Sight) (shards : ℕ → Sight) (log' : Sight) (shards' : ℕ → Sight) (b : Batch) (os : List Outcome) : Type 0 where
   pub records : BatchRecords
   pub grew : Grew lane log shards log' shards' (at_log records txs) (at_shard K records txs)
   pub batch : records.batch ≡ b
   pub outcomes : records.outcomes ≡ os
   pub made : Made K (txs ∷ []) alone lane (view K lane log shards) (view K lane log' shards')
+  pub log_same : log'.flight ≡ log.flight
+  pub shard_same : (s : ℕ) → (shards' s).flight ≡ (shards s).flight
   pub settled : Settled K lane (suc k) log' shards'
 
 -- the transactions of Prepares, the newest first
@@ -131,11 +133,13 @@ abbrev pub CutFrom : ℕ → List Compact → List (List Compact) → List Compa
 CutFrom n txs [] rest = rest ≡ txs
 CutFrom n txs (p ∷ pieces) rest = (before : List Compact) × CutFrom n txs pieces before × (0 < length before) × (p ≡ take n before) × (rest ≡ drop n before)
 
--- a lane that has done these batches, and has the rest to do
+-- a lane that has done these batches, and has the rest to do; nothing is left in flight
 pub record LaneSo (K : Shape) (alone : Bool) (lane : ℕ) (txs rest : List Compact) (log : Sight) (shards : ℕ → Sight) (log' : Sight) (shards' : ℕ → Sight) : Type 0 where
   pub pieces : List (List Compact)
   pub cut : CutFrom K.batch txs pieces rest
   pub made : Made K pieces alone lane (view K lane log shards) (view K lane log' shards')
+  pub log_same : log'.flight ≡ log.flight
+  pub shard_same : (s : ℕ) → (shards' s).flight ≡ (shards s).flight
   pub settled : Settled K lane (slot log'.seen lane).number log' shards'
   pub prepares : prepared_of lane log'.seen ≡ pieces ++ prepared_of lane log.seen
 

@@ -79,6 +79,12 @@ module _ {D : Type 0} where
     same_header (s ∷ shards) zero = refl
     same_header (s ∷ shards) (suc n) = same_header shards n
 
+    -- nor does what is in flight there
+    pub same_flight : (shards : List (ShardOf D)) (n : ℕ) → (sight_at (sight_of count limit) shards n).flight ≡ (sight_at (sight_of (λ d. 0) (λ d. 0)) shards n).flight
+    same_flight [] n = refl
+    same_flight (s ∷ shards) zero = refl
+    same_flight (s ∷ shards) (suc n) = same_flight shards n
+
     pub are_nodes : (h : Header) (logs : List (LogOf D)) (shards : List (ShardOf D)) → IsLedger h logs shards → AreNodes h.shape (sight_at sight logs) (sight_at (sight_of count limit) shards)
     are_nodes h logs shards ledger = record {
       logs_are = λ n lt. log_is logs ledger.log_journals n (subst (λ m. n < m) (sym ledger.coordinators) lt);

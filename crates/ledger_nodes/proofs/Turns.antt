@@ -22,10 +22,11 @@ use Rattle.recovery.specs.Open.{IsResumed, IsUnfinished, HasItsOutcomes, IsResum
 use Rattle.run_laws.proofs.Seen.{seen_log}
 use Rattle.ledger_runs.specs.Turning.{phase_at, IsLaneOf, OfKept, StaysKept, StaysKeptBy, DidBatch, TookUp}
 use Rattle.turn_laws.proofs.OpenThere.{is_idle}
-use Rattle.turn_laws.proofs.Turned.{batch_keeps, stopped_keeps, batch_does, resume_keeps, left_keeps, resume_took}
-use Rattle.ledger_nodes.specs.Ledgers.{IsLedger, journals_of}
+use Rattle.turn_laws.specs.Nodes.{SameFlights}
+use Rattle.turn_laws.proofs.Turned.{batch_keeps, batch_same, stopped_keeps, batch_does, resume_keeps, resume_same, left_keeps, resume_took}
+use Rattle.ledger_nodes.specs.Ledgers.{IsLedger, journals_of, AreQuiet}
 use Rattle.ledger_nodes.specs.Steps.{IsStep}
-use Rattle.ledger_nodes.proofs.Steps.{home_inside, are_nodes, is_lane, log_is}
+use Rattle.ledger_nodes.proofs.Steps.{home_inside, are_nodes, is_lane, log_is, same_flight}
 
 -- what came is this
 pub on_ok : {A E : Type 0} (r : Result A E) (x : A) (P : Type 0) → r ≡ Ok x → P → OnOk r P
@@ -102,6 +103,13 @@ module _ {D : Type 0} (count limit : D → ℕ) (content : D → Option (List �
     abbrev J : ℕ → List Record
     J = journals_of count limit h.shape logs' shards'
 
+    -- nothing is in flight behind a turn that left what was as it was
+    quiet_on : SameFlights L S L' S' → AreQuiet logs shards → AreQuiet logs' shards'
+    quiet_on same was = record {
+      logs_are = λ n. same.logs_same n ∙ was.logs_are n;
+      shards_are = λ s. sym (same_flight count limit shards' s) ∙ same.shards_same s ∙ same_flight count limit shards s ∙ was.shards_are s;
+    }
+
     module _ (idle : phase_at K I lane ≡ Idle) (txs : List Compact) where
       idle_there : (slot (L (home_of K lane)).seen lane).phase ≡ Idle
       idle_there = ap (λ J. (slot J lane).phase) (sym at_log) ∙ idle
@@ -112,6 +120,11 @@ module _ {D : Type 0} (count limit : D → ℕ) (content : D → Option (List �
           batch_keeps K lane L S L' S' some home shape step.elsewhere (are_nodes count limit h logs shards ledger) (are_nodes count limit h logs' shards' step.ledger) step.log_headers step.shard_headers idle_there txs r.batches done
       came_keeps (Err e) done stop =
           stopped_keeps K lane L S L' S' some home shape step.elsewhere (are_nodes count limit h logs shards ledger) (are_nodes count limit h logs' shards' step.ledger) step.log_headers step.shard_headers idle_there txs e stop
+
+      pub came_quiet : (reports : List BatchReport) → IsOneBatch K true lane txs (L (home_of K lane)) S (L' (home_of K lane)) S' reports → OfKept K I (λ _ _. AreQuiet logs shards → AreQuiet logs' shards')
+      came_quiet reports done mint submissions kept =
+          quiet_on (batch_same K lane L S L' S' some home shape step.elsewhere (are_nodes count limit h logs shards ledger) (are_nodes count limit h logs' shards' step.ledger) step.log_headers step.shard_headers idle_there txs reports done
+          mint submissions kept)
 
       pub came_does : (reports : List BatchReport) (report : BatchReport) → reports ≡ report ∷ [] → IsOneBatch K true lane txs (L (home_of K lane)) S (L' (home_of K lane)) S' reports
           → AreReports lane reports (txs ∷ []) → OfKept K I (λ _ _. DidBatch K lane txs I J report)
@@ -134,6 +147,11 @@ module _ {D : Type 0} (count limit : D → ℕ) (content : D → Option (List �
           resume_keeps K lane L S L' S' some home shape step.elsewhere (are_nodes count limit h logs shards ledger) (are_nodes count limit h logs' shards' step.ledger) step.log_headers step.shard_headers o told taken
       resumed_keeps (Err e) taken stop =
           left_keeps K lane L S L' S' some home shape step.elsewhere (are_nodes count limit h logs shards ledger) (are_nodes count limit h logs' shards' step.ledger) step.log_headers step.shard_headers o told e stop
+
+      pub resumed_quiet : (IsUnfinished o.phase K o (L (home_of K lane)) S → IsTakenUp K true o.batch (L (home_of K lane)) S (L' (home_of K lane)) S') → OfKept K I (λ _ _. AreQuiet logs shards → AreQuiet logs' shards')
+      resumed_quiet taken mint submissions kept =
+          quiet_on (resume_same K lane L S L' S' some home shape step.elsewhere (are_nodes count limit h logs shards ledger) (are_nodes count limit h logs' shards' step.ledger) step.log_headers step.shard_headers o told taken
+          mint submissions kept)
 
       pub resumed_took : (r : ResumedBatch) → IsResumed o r → (IsUnfinished o.phase K o (L (home_of K lane)) S → IsTakenUp K true o.batch (L (home_of K lane)) S (L' (home_of K lane)) S')
           → (IsUnfinished o.phase K o (L (home_of K lane)) S → HasItsOutcomes o.phase o (L' (home_of K lane)).seen r) → OfKept K I (λ _ _. TookUp K lane I J (Some r))

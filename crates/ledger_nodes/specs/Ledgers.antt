@@ -1,5 +1,5 @@
 -- The nodes of a ledger, open.
-use Rattle.std.specs.Prelude.{◌≡◌, ℕ, ◌-◌, ◌<◌, nat_lt, if◌then◌else◌, List, length, Option, All}
+use Rattle.std.specs.Prelude.{◌≡◌, ℕ, ◌-◌, ◌<◌, nat_lt, if◌then◌else◌, List, length, Option, None, All}
 use Rattle.cbdc_types.specs.Limits.{IsWithinLimits}
 use Rattle.cbdc_model.specs.Records.{Shape, Header, Record}
 use Rattle.cbdc_model.specs.Ranges.{shard_node}
@@ -39,3 +39,8 @@ faults_of count limit K logs shards n =
 pub record AreStored {D : Type 0} (content : D → Option (List ℕ)) (images : D → List ℕ → Type 0) (logs : List (LogOf D)) (shards : List (ShardOf D)) : Type 0 where
   pub logs_are : All (HoldsLog content images) logs
   pub shards_are : All (HoldsShard content images) shards
+
+-- no node has a record in flight
+pub record AreQuiet {D : Type 0} (logs : List (LogOf D)) (shards : List (ShardOf D)) : Type 0 where
+  pub logs_are : (n : ℕ) → (sight_at sight logs n).flight ≡ None
+  pub shards_are : (s : ℕ) → (sight_at (sight_of (λ d. 0) (λ d. 0)) shards s).flight ≡ None

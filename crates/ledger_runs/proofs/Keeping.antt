@@ -1,5 +1,6 @@
 -- Turn after turn: what stays kept, and which open batches are at their end.
 use Rattle.std.proofs.Common.{◌≡◌, ◌≢◌, ◌⊎◌, inl, inr, true, false, ◌==◌, ℕ, suc, ◌+◌, ◌*◌, ◌<◌, ◌≤◌, List, [], ◌∷◌, ◌++◌, refl, sym, ap, ◌∙◌, subst, add-one, arith, Option, Some, None}
+use Rattle.std.proofs.lemmas.Bool.{false≢true}
 use Rattle.std.proofs.lemmas.Bool.Decides.{eqb_tells}
 use Rattle.ledger_laws.proofs.Cuts.{end_self, end_trans}
 use Rattle.cbdc_model.specs.Records.{Shape, Compact, Record}
@@ -10,7 +11,7 @@ use Rattle.cbdc_model.specs.World.{KeptJournals}
 use Rattle.recovery.specs.declared.resumed.ResumedBatch.{ResumedBatch}
 use Rattle.run_laws.specs.WaveSteps.{ResumedSo, ResumingStepLaw, ResumingSkipLaw}
 use Rattle.ledger_runs.specs.Turning.{phase_at, OfKept, StaysKept, KeepsLanes, listed, TookUp, TookUpOne}
-use Rattle.std.specs.Prelude.{Result, Ok, Err, OnOk}
+use Rattle.std.specs.Prelude.{Result, Ok, Err, OnOk, IsOk}
 use Rattle.lane_driver.specs.declared.fault.LaneFault.{LaneFault}
 
 lt_or_eq : (l lane : ℕ) → l < lane + 1 → (l < lane) ⊎ (l ≡ lane)
@@ -40,6 +41,21 @@ resumes_on step skip K lane E J L None so (idle, same) =
 
 pub stays_next : (K H : Shape) (I J L : ℕ → List Record) → H ≡ K → OfKept K I (StaysKept K I J) → OfKept H J (StaysKept H J L) → OfKept K I (StaysKept K I L)
 stays_next K H I J L e one two = stays_on K I J L one (subst (λ k. OfKept k J (StaysKept k J L)) e two)
+
+-- what one turn leaves as it was, and the next one too
+pub same_next : (K H : Shape) (I J : ℕ → List Record) (P Q R : Type 0) → H ≡ K → OfKept K I (StaysKept K I J)
+    → OfKept K I (λ _ _. P → Q) → OfKept H J (λ _ _. Q → R) → OfKept K I (λ _ _. P → R)
+same_next K H I J P Q R e keeps one two mint submissions kept so =
+    subst (λ k. OfKept k J (λ _ _. Q → R)) e two mint submissions (keeps mint submissions kept).kept (one mint submissions kept so)
+
+-- what holds where it is whole holds of it
+pub of_ok : {A E : Type 0} (r : Result A E) (X : Type 0) → IsOk r → OnOk r X → X
+of_ok (Ok a) X ok so = so
+of_ok (Err e) X ok so = absurd (false≢true ok)
+
+pub on_ok : {A E : Type 0} (r : Result A E) (X : Type 0) → X → OnOk r X
+on_ok (Ok a) X so = so
+on_ok (Err e) X so = tt
 
 -- the lanes that have had their turn are idle
 pub idle_next : (K H : Shape) (lane : ℕ) (J L : ℕ → List Record) → H ≡ K → lane < K.coordinators * K.lanes

@@ -20,7 +20,7 @@ use Rattle.run_laws.proofs.WaveTurns.{takes_law, wave_step_law, wave_ends_law, w
 use Rattle.ledger_laws.proofs.Cuts.{end_self, end_trans}
 use Rattle.std.proofs.Math.ListN.{drop_of_length-le}
 use Rattle.ledger_runs.specs.Turning.{phase_at, IsLaneOf, KeepsLanes, OfKept, StaysKept, StaysKeptBy, DidBatch}
-use Rattle.ledger_runs.specs.Waving.{EachLane, HaveSent, AreWithin, NoFault, AreReady, AllProper, TookTurn, taken_by, KeepsSent, GoesOn, TurnsAt, AreShorter}
+use Rattle.ledger_runs.specs.Waving.{EachLane, HaveSent, AreWithin, NoFault, AreReady, AllProper, TookTurn, taken_by, KeepsSent, OfSent, GoesOn, TurnsAt, AreShorter}
 use Rattle.ledger_runs.specs.declared.lanes.Lane.{Lane}
 
 pub by_piece : (K : Shape) (txs xs : List Compact) (start size : ℕ) (I J : ℕ → List Record) → xs ≡ take size (drop start txs)
@@ -139,6 +139,17 @@ took_wave K sent start lane E I J some (inr (inside, (b, does))) so =
     some_of : (K : Shape) (txs : List Compact) (start : ℕ) → start < length txs → 0 < K.batch → 0 < length (take K.batch (drop start txs))
     some_of K txs start h some = subst (λ n. 0 < n) (sym (length-take K.batch (drop start txs) ∙ ap (λ n. min K.batch n) (length-drop start txs))) (omega (arith, h, some))
 
+-- no lane stopped in the turn, so none had before
+none_before : (turn : ℕ) (now next : List Lane) → turn < length now → TurnsAt turn now next → NoFault next → NoFault now
+none_before turn now next inside turned none l x there = go (eqb_tells l turn)
+  where
+    after : (y : Lane) × (slice_get next turn ≡ Some y)
+    after = at_place next turn (omega (arith, turned.count, inside))
+
+    go : (((l == turn) ≡ true) × (l ≡ turn)) ⊎ (((l == turn) ≡ false) × (l ≢ turn)) → x.fault ≡ None
+    go (inl (b, e)) = turned.stopped x after.0 (subst (λ m. slice_get now m ≡ Some x) e there) after.1 (none turn after.0 after.1)
+    go (inr (b, d)) = none l x (turned.others l d ∙ there)
+
 sent_by : (sent : ℕ → List Compact) (lanes : List Lane) (at : ℕ) (x : Lane) → HaveSent sent lanes → slice_get lanes at ≡ Some x → x.txs.items ≡ sent at
 sent_by sent lanes at x have there = have at x there
 
@@ -156,13 +167,13 @@ turns_step K H start turn I J L before now next same some lane inside many so tu
       (λ l x d there none. ready_still l x d there none) (λ x there none. subst (λ k. phase_at k L turn ≡ Idle) same (idle x there none));
   limits = each_by (λ l x. All IsCompact x.txs.items) turn now next turned.others (λ l x d there. so.limits l x there)
       (λ y there. let x = was_there turn now next y turned.count there in subst (λ v. All IsCompact v.items) (sym (turned.txs x.0 y x.1 there)) (so.limits turn x.0 x.1));
-  stopped = λ none. so.stopped (none_before none);
+  stopped = λ none. so.stopped (none_before turn now next inside turned none);
   keeps = kept_next;
   goes_on = λ sent have none mint submissions kept proper E wave.
       let at = here in
       let mid = so.keeps sent have mint submissions kept proper in
       let did = subst (λ k. OfKept k J (λ _ _. TookTurn k turn start at.0.txs.items J L)) same (took at.0 (next_at none).0 at.1 (next_at none).1 (none turn (next_at none).0 (next_at none).1)) mint submissions mid.kept in
-      took_wave K sent start turn E J L some (subst (λ l. TookTurn K turn start l J L) (so.sent sent have turn at.0 at.1) did) (so.goes_on sent have (none_before none) mint submissions kept proper E wave);
+      took_wave K sent start turn E J L some (subst (λ l. TookTurn K turn start l J L) (so.sent sent have turn at.0 at.1) did) (so.goes_on sent have (none_before turn now next inside turned none) mint submissions kept proper E wave);
 }
   where
     here : (x : Lane) × (slice_get now turn ≡ Some x)
@@ -175,13 +186,6 @@ turns_step K H start turn I J L before now next same some lane inside many so tu
     ready_still l x d there none =
         subst (λ k. KeepsLanes k turn J L) same others l (omega (arith, slice_get_within now l x there, many)) d ∙ so.ready l x there none
 
-    none_before : NoFault next → NoFault now
-    none_before none l x there = go (eqb_tells l turn)
-      where
-        go : (((l == turn) ≡ true) × (l ≡ turn)) ⊎ (((l == turn) ≡ false) × (l ≢ turn)) → x.fault ≡ None
-        go (inl (b, e)) = let y = next_at none in turned.stopped x y.0 (subst (λ m. slice_get now m ≡ Some x) e there) y.1 (none turn y.0 y.1)
-        go (inr (b, d)) = none l x (turned.others l d ∙ there)
-
     kept_next : (sent : ℕ → List Compact) → HaveSent sent before → OfKept K I (KeepsSent K sent I L)
     kept_next sent have mint submissions kept proper =
         let mid = so.keeps sent have mint submissions kept proper in
@@ -189,6 +193,16 @@ turns_step K H start turn I J L before now next same some lane inside many so tu
         let now_on = subst (λ k. OfKept k J (StaysKeptBy k x.0.txs.items J L)) same (keeps x.0 x.1) mint submissions mid.kept
         (subst (λ l. All (IsProperCompact submissions) l) (sym (so.sent sent have turn x.0 x.1)) (proper turn lane)) in
         record { grows = λ n. end_trans (I n) (J n) (L n) (mid.grows n) (now_on.grows n); kept = now_on.kept }
+
+-- what each turn that its lane did not stop in leaves as it was
+pub same_turn : (K H : Shape) (start turn : ℕ) (I J : ℕ → List Record) (before now next : List Lane) (P Q R : Type 0) → H ≡ K → turn < length now
+    → TurnsSo K start turn I J before now → TurnsAt turn now next → OfSent K I before now (P → Q)
+    → ((y : Lane) → slice_get next turn ≡ Some y → y.fault ≡ None → OfKept H J (λ _ _. Q → R)) → OfSent K I before next (P → R)
+same_turn K H start turn I J before now next P Q R same inside so turned one two sent have none mint submissions kept proper was =
+    let after : (y : Lane) × (slice_get next turn ≡ Some y) = at_place next turn (omega (arith, turned.count, inside)) in
+    let mid = so.keeps sent have mint submissions kept proper in
+    subst (λ k. OfKept k J (λ _ _. Q → R)) same (two after.0 after.1 (none turn after.0 after.1)) mint submissions mid.kept
+    (one sent have (none_before turn now next inside turned none) mint submissions kept proper was)
 
 -- when all lanes have had their turns
 pub turns_end : (K : Shape) (start turn : ℕ) (I J : ℕ → List Record) (before now : List Lane) → K.coordinators * K.lanes ≤ turn → TurnsSo K start turn I J before now
@@ -248,6 +262,14 @@ rounds_step K H start next most I J L before now after same many short step so c
         let x = at_place before lane (omega (arith, many, low)) in
         let len : length (s lane) ≤ most = subst (λ l. length l ≤ most) (have lane x.0 x.1) (short lane x.0 x.1) in
         drop_of_length-le (s lane) (le_trans len a) ∙ sym (drop_of_length-le (s lane) (le_trans len b))
+
+-- what each round leaves as it was
+pub same_round : (K H : Shape) (start : ℕ) (I J : ℕ → List Record) (before now after : List Lane) (P Q R : Type 0) → H ≡ K
+    → RoundsSo K start I J before now → (NoFault after → NoFault now) → OfSent K I before now (P → Q) → OfSent H J now after (Q → R) → OfSent K I before after (P → R)
+same_round K H start I J before now after P Q R same so stopped one two sent have none mint submissions kept proper was =
+    let mid = so.keeps sent have mint submissions kept proper in
+    subst (λ k. OfSent k J now after (Q → R)) same two sent (so.sent sent have) none mint submissions mid.kept proper
+    (one sent have (stopped none) mint submissions kept proper was)
 
 pub rounds_end : (K : Shape) (start most : ℕ) (I J : ℕ → List Record) (before now : List Lane) → length before ≡ K.coordinators * K.lanes → AreShorter before most → most ≤ start
     → RoundsSo K start I J before now → (sent : ℕ → List Compact) → HaveSent sent before → NoFault now

@@ -9,7 +9,7 @@ use Rattle.cbdc_model.specs.Waves.{IsFileRun}
 use Rattle.lane_driver.specs.declared.fault.LaneFault.{LaneFault}
 use Rattle.run_laws.specs.Turns.{DoesBatch}
 use Rattle.run_laws.specs.WaveSteps.{WaveSo}
-use Rattle.ledger_runs.specs.Turning.{phase_at, IsLaneOf, StaysKept}
+use Rattle.ledger_runs.specs.Turning.{phase_at, IsLaneOf, OfKept, StaysKept}
 use Rattle.ledger_runs.specs.declared.lanes.Lane.{Lane}
 
 -- the lane at each place has the property
@@ -54,6 +54,10 @@ taken_by start size turn lane = if nat_lt lane turn then start + size else start
 -- kept journals stay kept, where all that the lanes get is proper
 abbrev pub KeepsSent : Shape → (ℕ → List Compact) → (ℕ → List Record) → (ℕ → List Record) → List Output → List FullTx → Type 0
 KeepsSent K sent I J mint submissions = AllProper K sent submissions → StaysKept K I J mint submissions
+
+-- of a wave of which no lane stopped, where the journals are kept and all that the lanes get is proper
+abbrev pub OfSent : Shape → (ℕ → List Record) → List Lane → List Lane → Type 0 → Type 0
+OfSent K I before now P = (sent : ℕ → List Compact) → HaveSent sent before → NoFault now → OfKept K I (λ _ submissions. AllProper K sent submissions → P)
 
 -- a wave that had come so far from journals E has come further
 abbrev pub GoesOn : Shape → (ℕ → List Compact) → (ℕ → ℕ) → (ℕ → ℕ) → (ℕ → List Record) → (ℕ → List Record) → Type 0

@@ -40,6 +40,7 @@ fn resume_next<L: Turns, G: Gate>(
     ensures keeps { OfKept (L.shape ledger.old) (L.journals ledger.old) (StaysKept (L.shape ledger.old) (L.journals ledger.old) (L.journals ledger.new)) }
     ensures took { OnOk result (OfKept (L.shape ledger.old) (L.journals ledger.old)
         (λ _ _. TookUpOne (L.shape ledger.old) lane (L.journals ledger.old) (L.journals ledger.new) batches.old.items batches.new.items)) }
+    ensures quiet { OnOk result (OfKept (L.shape ledger.old) (L.journals ledger.old) (λ _ _. L.quiet ledger.old → L.quiet ledger.new)) }
     ensures holds { L.holds ledger.old → L.holds ledger.new }
     ensures later { (n : ℕ) → L.faults ledger.old n ≤ L.faults ledger.new n }
 {
@@ -59,6 +60,7 @@ pub fn resume_all<L: Turns, G: Gate>(
     ensures idle { OnOk result (AreIdle (L.shape ledger.old) (L.journals ledger.new)) }
     ensures keeps { OfKept (L.shape ledger.old) (L.journals ledger.old) (StaysKept (L.shape ledger.old) (L.journals ledger.old) (L.journals ledger.new)) }
     ensures resumed { OnOk result (OfKept (L.shape ledger.old) (L.journals ledger.old) (λ _ _. IsResumed (L.shape ledger.old) (L.journals ledger.old) (L.journals ledger.new))) }
+    ensures quiet { OnOk result (OfKept (L.shape ledger.old) (L.journals ledger.old) (λ _ _. L.quiet ledger.old → L.quiet ledger.new)) }
     ensures holds { L.holds ledger.old → L.holds ledger.new }
     ensures later { (n : ℕ) → L.faults ledger.old n ≤ L.faults ledger.new n }
 {

@@ -22,6 +22,9 @@ pub trait Turns {
     /// How often the disk of each node has failed.
     ghost faults: { Self → ℕ → ℕ };
 
+    /// No node has a record in flight: one that a failed call may have left on its disk or not.
+    ghost quiet: { Self → Type 0 };
+
     /// What stays true of the nodes, whatever is asked of them.
     ghost holds: { Self → Type 0 };
 
@@ -46,6 +49,7 @@ pub trait Turns {
         ensures others { KeepsLanes (shape self.old) lane (journals self.old) (journals self.new) }
         ensures keeps { OfKept (shape self.old) (journals self.old) (StaysKeptBy (shape self.old) txs.now (journals self.old) (journals self.new)) }
         ensures does { IfOk result (λ r. OfKept (shape self.old) (journals self.old) (λ _ _. DidBatch (shape self.old) lane txs.now (journals self.old) (journals self.new) r)) }
+        ensures quiet { OnOk result (OfKept (shape self.old) (journals self.old) (λ _ _. quiet self.old → quiet self.new)) }
         ensures holds { holds self.old → holds self.new }
         ensures later { (n : ℕ) → faults self.old n ≤ faults self.new n };
 
@@ -62,6 +66,7 @@ pub trait Turns {
         ensures others { KeepsLanes (shape self.old) lane (journals self.old) (journals self.new) }
         ensures keeps { OfKept (shape self.old) (journals self.old) (StaysKept (shape self.old) (journals self.old) (journals self.new)) }
         ensures took { IfOk result (λ found. OfKept (shape self.old) (journals self.old) (λ _ _. TookUp (shape self.old) lane (journals self.old) (journals self.new) found)) }
+        ensures quiet { OnOk result (OfKept (shape self.old) (journals self.old) (λ _ _. quiet self.old → quiet self.new)) }
         ensures holds { holds self.old → holds self.new }
         ensures later { (n : ℕ) → faults self.old n ≤ faults self.new n };
 }

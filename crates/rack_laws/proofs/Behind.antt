@@ -1,5 +1,5 @@
 -- The nodes of a ledger that was opened, and their disks behind a run.
-use Rattle.std.proofs.Common.{◌≡◌, ℕ, suc, ◌+◌, ◌-◌, ◌<◌, ◌≤◌, true, false, nat_lt, if◌then◌else◌, List, [], ◌∷◌, length, get_or, reverse, Option, Some, None, refl, sym, ap, ◌∙◌, subst, arith}
+use Rattle.std.proofs.Common.{◌≡◌, ℕ, zero, suc, ◌+◌, ◌-◌, ◌<◌, ◌≤◌, true, false, nat_lt, if◌then◌else◌, List, [], ◌∷◌, length, get_or, reverse, Option, Some, None, refl, sym, ap, ◌∙◌, subst, arith}
 use Rattle.std.specs.Prelude.{slice_get, All}
 use Rattle.std.proofs.lemmas.Option.{slice_get_within, slice_get-get_or}
 use Rattle.std.proofs.lemmas.Bool.{ltb-true, ltb-false}
@@ -8,13 +8,14 @@ use Rattle.cbdc_model.specs.After.{IsJournal}
 use Rattle.record_log.specs.Held.{OpensToEither}
 use Rattle.coord_log.specs.Logs.{LogOf, sight, HoldsJournal as HoldsLog}
 use Rattle.shard_node.specs.Shards.{ShardOf, sight_of, HoldsWith, HoldsJournal as HoldsShard}
+use Rattle.cbdc_model.specs.Sights.{Sight}
 use Rattle.node_ports.specs.Nodes.{sight_at}
 use Rattle.rack_nodes.specs.Places.{EachFrom, MayReturn}
 use Rattle.rack_nodes.specs.Racked.{OfTold}
 use Rattle.rack_ledgers.specs.Ledgers.{ByPlace, AreOpened}
-use Rattle.rack_laws.specs.Shown.{KeepsEach}
+use Rattle.rack_laws.specs.Shown.{KeepsEach, HoldsEach, node_count}
 use Rattle.rack_laws.proofs.Opened.{at_place, sight_there, all_by}
-use Rattle.ledger_nodes.specs.Ledgers.{IsLedger, journals_of, faults_of, AreStored}
+use Rattle.ledger_nodes.specs.Ledgers.{IsLedger, journals_of, faults_of, AreStored, AreQuiet}
 
 -- nodes whose disks' counts have not fallen may be put back where those before might
 pub returns : {N : Type 0} (f : N → ℕ) (can : ℕ → ℕ → Type 0) (i : ℕ) (xs ys : List N) → length ys ≡ length xs
@@ -33,7 +34,20 @@ by_all P xs all n x there =
     let same : get_or xs n x ≡ x = cc in
     subst P same (all n x inside)
 
+-- nothing is in flight where nothing is at any place
+none_flies : {N : Type 0} (see : N → Sight) (xs : List N) → ((n : ℕ) (x : N) → slice_get xs n ≡ Some x → (see x).flight ≡ None) → (n : ℕ) → (sight_at see xs n).flight ≡ None
+none_flies see [] each n = refl
+none_flies see (x ∷ xs) each zero = each 0 x refl
+none_flies see (x ∷ xs) each (suc n) = none_flies see xs (λ k y there. each (suc k) y there) n
+
 module _ {D : Type 0} (content : D → Option (List ℕ)) (images : D → List ℕ → Type 0) (limit count : D → ℕ) where
+  -- opened nodes have nothing in flight
+  pub are_quiet : (held : ℕ → Option D) (h : Header) (logs : List (LogOf D)) (shards : List (ShardOf D)) → AreOpened content images limit count held h logs shards → AreQuiet logs shards
+  are_quiet held h logs shards are = record {
+    logs_are = none_flies sight logs (λ n l there. (are.logs_at n l there).flight);
+    shards_are = none_flies (sight_of (λ d. 0) (λ d. 0)) shards (λ s x there. (are.shards_at s x there).flight);
+  }
+
   -- opened nodes are a ledger's
   pub is_ledger : (held : ℕ → Option D) (h : Header) (logs : List (LogOf D)) (shards : List (ShardOf D)) → AreOpened content images limit count held h logs shards → IsLedger h logs shards
   is_ledger held h logs shards are = record {
@@ -126,35 +140,60 @@ module _ {D : Type 0} (content : D → Option (List ℕ)) (images : D → List �
   shard_images x now J same holds back d told c image =
       subst (λ R. OpensToEither (reverse R) x.flight c) (sym same) (with_images x.flight x.disk x.gate x.journal holds c (subst (λ y. images y c) (back d told) image))
 
-  -- disks that are back keep the journals
-  pub keeps_each : (held : ℕ → Option D) (h : Header) (logs : List (LogOf D)) (shards : List (ShardOf D)) → IsLedger h logs shards → AreStored content images logs shards
+  -- a disk that is back keeps its node's journal, and what is in flight there, where nodes are not quiet
+  record KeepsIt (held : Option D) (J : List Record) (quiet : Type 0) : Type 0 where
+    flight : Option Record
+    none : quiet → flight ≡ None
+    images_are : OfTold held (λ d. (c : List ℕ) → images d c → OpensToEither (reverse J) flight c)
+
+  each_keeps : (held : ℕ → Option D) (h : Header) (logs : List (LogOf D)) (shards : List (ShardOf D)) → IsLedger h logs shards → AreStored content images logs shards
       → ByPlace (λ n l. OfTold (held n) (λ d. d ≡ l.disk)) logs → ByPlace (λ s x. OfTold (held (length logs + s)) (λ d. d ≡ x.disk)) shards
-      → KeepsEach images held h.shape (journals_of count limit h.shape logs shards)
-  keeps_each held h logs shards is stored logs_back shards_back n inside = go (nat_lt n h.shape.coordinators) refl
+      → (n : ℕ) → n < node_count h.shape → KeepsIt (held n) (journals_of count limit h.shape logs shards n) (AreQuiet logs shards)
+  each_keeps held h logs shards is stored logs_back shards_back n inside = go (nat_lt n h.shape.coordinators) refl
     where
       Kept : Type 0
-      Kept = (flight : Option Record) × OfTold (held n) (λ d. (c : List ℕ) → images d c → OpensToEither (reverse (journals_of count limit h.shape logs shards n)) flight c)
+      Kept = KeepsIt (held n) (journals_of count limit h.shape logs shards n) (AreQuiet logs shards)
 
       at_log : n < h.shape.coordinators → Kept
       at_log low =
-          let l = at_place logs n (omega (arith, low, is.coordinators)) in (
-            l.0.flight,
-            log_images l.0 (held n) (journals_of count limit h.shape logs shards n) (log_journal h.shape logs shards n l.0 low l.1)
-                (by_all (HoldsLog content images) logs stored.logs_are n l.0 l.1) (logs_back n l.0 l.1),
-          )
+          let l = at_place logs n (omega (arith, low, is.coordinators)) in
+          record {
+            flight = l.0.flight;
+            none = λ quiet. sym (ap (λ s. s.flight) (sight_there sight logs n l.0 l.1)) ∙ quiet.logs_are n;
+            images_are = log_images l.0 (held n) (journals_of count limit h.shape logs shards n) (log_journal h.shape logs shards n l.0 low l.1)
+                (by_all (HoldsLog content images) logs stored.logs_are n l.0 l.1) (logs_back n l.0 l.1);
+          }
 
       at_shard : (s : ℕ) → n ≡ h.shape.coordinators + s → s < h.shape.shards → Kept
       at_shard s e low =
           let x = at_place shards s (omega (arith, low, is.shards_are)) in
           let place : length logs + s ≡ n = omega (arith, e, is.coordinators) in
-          let same : journals_of count limit h.shape logs shards n ≡ x.0.journal = ap (λ k. journals_of count limit h.shape logs shards k) e ∙ shard_journal h.shape logs shards s x.0 x.1 in (
-            x.0.flight,
-            shard_images x.0 (held n) (journals_of count limit h.shape logs shards n) same
-                (by_all (HoldsShard content images) shards stored.shards_are s x.0 x.1) (subst (λ k. OfTold (held k) (λ d. d ≡ x.0.disk)) place (shards_back s x.0 x.1)),
-          )
+          let same : journals_of count limit h.shape logs shards n ≡ x.0.journal = ap (λ k. journals_of count limit h.shape logs shards k) e ∙ shard_journal h.shape logs shards s x.0 x.1 in
+          record {
+            flight = x.0.flight;
+            none = λ quiet. sym (ap (λ t. t.flight) (sight_there (sight_of (λ d. 0) (λ d. 0)) shards s x.0 x.1)) ∙ quiet.shards_are s;
+            images_are = shard_images x.0 (held n) (journals_of count limit h.shape logs shards n) same
+                (by_all (HoldsShard content images) shards stored.shards_are s x.0 x.1) (subst (λ k. OfTold (held k) (λ d. d ≡ x.0.disk)) place (shards_back s x.0 x.1));
+          }
 
       go : (b : _) → nat_lt n h.shape.coordinators ≡ b → Kept
       go true low = at_log (ltb-true n h.shape.coordinators low)
       go false high =
           let ge : h.shape.coordinators ≤ n = ltb-false n h.shape.coordinators high in
           at_shard (n - h.shape.coordinators) (omega (arith, ge)) (omega (arith, ge, inside))
+
+  -- disks that are back keep the journals
+  pub keeps_each : (held : ℕ → Option D) (h : Header) (logs : List (LogOf D)) (shards : List (ShardOf D)) → IsLedger h logs shards → AreStored content images logs shards
+      → ByPlace (λ n l. OfTold (held n) (λ d. d ≡ l.disk)) logs → ByPlace (λ s x. OfTold (held (length logs + s)) (λ d. d ≡ x.disk)) shards
+      → KeepsEach images held h.shape (journals_of count limit h.shape logs shards)
+  keeps_each held h logs shards is stored logs_back shards_back n inside =
+      let k = each_keeps held h logs shards is stored logs_back shards_back n inside in
+      (k.flight, k.images_are)
+
+  -- and hold nothing else, where nothing is in flight
+  pub holds_each : (held : ℕ → Option D) (h : Header) (logs : List (LogOf D)) (shards : List (ShardOf D)) → IsLedger h logs shards → AreStored content images logs shards
+      → ByPlace (λ n l. OfTold (held n) (λ d. d ≡ l.disk)) logs → ByPlace (λ s x. OfTold (held (length logs + s)) (λ d. d ≡ x.disk)) shards
+      → AreQuiet logs shards → HoldsEach images held h.shape (journals_of count limit h.shape logs shards)
+  holds_each held h logs shards is stored logs_back shards_back quiet n inside d told c image =
+      let k = each_keeps held h logs shards is stored logs_back shards_back n inside in
+      subst (λ o. OpensToEither (reverse (journals_of count limit h.shape logs shards n)) o c) (k.none quiet) (k.images_are d told c image)

@@ -5,7 +5,7 @@ use Rattle.cbdc_model.specs.Records.{Digest, Shape, Record}
 use Rattle.cbdc_model.specs.Coins.{Output, FullTx, genesis_id}
 use Rattle.cbdc_model.specs.History.{header_of}
 use Rattle.cbdc_model.specs.World.{KeptJournals}
-use Rattle.record_log.specs.Held.{OpensToEither}
+use Rattle.record_log.specs.Held.{OpensTo, OpensToEither}
 use Rattle.rack_nodes.specs.Racked.{OfTold}
 use Rattle.rack_nodes.specs.Refused.{IsNodeJournal}
 
@@ -30,3 +30,7 @@ OfShown content held P = (K : Shape) (mint : List Output) (submissions : List Fu
 abbrev pub KeepsEach : {D : Type 0} → (D → List ℕ → Type 0) → (ℕ → Option D) → Shape → (ℕ → List Record) → Type 0
 KeepsEach images held K X = (n : ℕ) → n < node_count K
     → (flight : Option Record) × OfTold (held n) (λ d. (c : List ℕ) → images d c → OpensToEither (reverse (X n)) flight c)
+
+-- whatever a crash may leave of a node's disk that is told opens to exactly this journal
+abbrev pub HoldsEach : {D : Type 0} → (D → List ℕ → Type 0) → (ℕ → Option D) → Shape → (ℕ → List Record) → Type 0
+HoldsEach images held K X = (n : ℕ) → n < node_count K → OfTold (held n) (λ d. (c : List ℕ) → images d c → OpensTo (reverse (X n)) c)

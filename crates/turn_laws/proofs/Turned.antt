@@ -1,5 +1,6 @@
 -- What the drivers say of a turn, and what it comes to for the journals of all nodes.
-use Rattle.std.proofs.Common.{◌≡◌, ◌⊎◌, inl, inr, ℕ, ◌<◌, true, List, [], ◌∷◌, ◌++◌, All, slice_index_or, Some, is_some, refl, sym, ap, ◌∙◌, subst, arith}
+use Rattle.std.proofs.Common.{◌≡◌, ◌≢◌, ◌⊎◌, inl, inr, ℕ, ◌<◌, ◌==◌, true, false, List, [], ◌∷◌, ◌++◌, All, slice_index_or, Some, is_some, refl, sym, ap, ◌∙◌, subst, arith}
+use Rattle.std.proofs.lemmas.Bool.Decides.{eqb_tells}
 use Rattle.cbdc_types.specs.declared.batch.OpenLane.{OpenLane}
 use Rattle.cbdc_types.specs.declared.batch.Phase.{Phase as OpenPhase}
 use Rattle.cbdc_types.specs.declared.batch.Phase.TheVariants.{Prepared, Committed, Discarded}
@@ -35,7 +36,7 @@ use Rattle.run_laws.proofs.TurnKinds.{taken_law, ends_law}
 use Rattle.run_laws.proofs.BatchTurns.{done_turn_law, resumed_turn_law}
 use Rattle.run_laws.proofs.OpenLanes.{resume_law}
 use Rattle.ledger_runs.specs.Turning.{OfKept, StaysKept, StaysKeptBy, DidBatch, TookUp}
-use Rattle.turn_laws.specs.Nodes.{AreNodes}
+use Rattle.turn_laws.specs.Nodes.{AreNodes, SameFlights}
 use Rattle.turn_laws.proofs.Headers.{are_journals}
 use Rattle.turn_laws.proofs.OwnJournals.{own_ok, stands_still}
 use Rattle.turn_laws.proofs.OpenThere.{told_open, unfinished, never_idle}
@@ -86,6 +87,14 @@ module _ (K : Shape) (lane : ℕ) (logs shards logs' shards' : ℕ → Sight) (s
   none_done : log' ≡ log → shards' ≡ shards → OfKept K I (StaysKept K I J)
   none_done e s mint submissions kept = stays [] mint submissions (pass_none (IsProperCompact submissions)) ((taken_law K lane logs shards logs' shards' elsewhere).4 e s) kept
 
+  -- so is what is in flight, where it is so at the lane's coordinator and at the shards
+  same_flights : log'.flight ≡ log.flight → ((s : ℕ) → (shards' s).flight ≡ (shards s).flight) → SameFlights logs shards logs' shards'
+  same_flights here there = record { logs_same = λ n. go n (eqb_tells n (home_of K lane)); shards_same = there }
+    where
+      go : (n : ℕ) → (((n == home_of K lane) ≡ true) × (n ≡ home_of K lane)) ⊎ (((n == home_of K lane) ≡ false) × (n ≢ home_of K lane)) → (logs' n).flight ≡ (logs n).flight
+      go n (inl (b, e)) = subst (λ m. (logs' m).flight ≡ (logs m).flight) (sym e) here
+      go n (inr (b, other)) = ap (λ s. s.flight) (elsewhere n other)
+
   module _ (idle : (slot log.seen lane).phase ≡ Idle) (txs : List Compact) where
     settled : (mint : List Output) (submissions : List FullTx) → KeptJournals K mint submissions I → Settled K lane (slot log.seen lane).number log shards
     settled mint submissions kept = rest_law K mint submissions lane logs shards some home shape kept idle
@@ -94,6 +103,11 @@ module _ (K : Shape) (lane : ℕ) (logs shards logs' shards' : ℕ → Sight) (s
     batch_keeps reports (r, is, done) mint submissions kept all =
         stays (txs ∷ []) mint submissions (pass_one (IsProperCompact submissions) txs all)
         ((taken_law K lane logs shards logs' shards' elsewhere).0 (slot log.seen lane).number txs r.batch r.outcomes (done (slot log.seen lane).number (settled mint submissions kept))) kept
+
+    pub batch_same : (reports : List BatchReport) → IsOneBatch K true lane txs log shards log' shards' reports → OfKept K I (λ _ _. SameFlights logs shards logs' shards')
+    batch_same reports (r, is, done) mint submissions kept =
+        let d = done (slot log.seen lane).number (settled mint submissions kept) in
+        same_flights d.log_same d.shard_same
 
     pub stopped_keeps : (e : LaneFault) → IsBatchStopped K true lane txs log shards log' shards' e → OfKept K I (StaysKeptBy K txs I J)
     stopped_keeps e (inl none) mint submissions kept all = none_done none.1 none.2 mint submissions kept
@@ -129,6 +143,11 @@ module _ (K : Shape) (lane : ℕ) (logs shards logs' shards' : ℕ → Sight) (s
     pub resume_keeps : (IsUnfinished o.phase K o log shards → IsTakenUp K true o.batch log shards log' shards') → OfKept K I (StaysKept K I J)
     resume_keeps taken mint submissions kept = stays [] mint submissions (pass_none (IsProperCompact submissions))
         ((taken_law K lane logs shards logs' shards' elsewhere).2 o.batch lane_is (taken (still mint submissions kept))) kept
+
+    pub resume_same : (IsUnfinished o.phase K o log shards → IsTakenUp K true o.batch log shards log' shards') → OfKept K I (λ _ _. SameFlights logs shards logs' shards')
+    resume_same taken mint submissions kept =
+        let t = taken (still mint submissions kept) in
+        same_flights t.log_same t.shard_same
 
     pub left_keeps : (e : LaneFault) → IsResumeStopped K true o log shards log' shards' e → OfKept K I (StaysKept K I J)
     left_keeps e (inl none) mint submissions kept = none_done none.1 none.2 mint submissions kept

@@ -1,5 +1,5 @@
-use Rattle.std.proofs.Common.{◌≡◌, ◌∙◌, sym, subst, arith, get_or}
-use Rattle.file_runs.proofs.Joining.{files_step, files_end, keeps_none, keeps_fault}
+use Rattle.std.proofs.Common.{◌≡◌, ◌∙◌, refl, sym, subst, arith, get_or, take}
+use Rattle.file_runs.proofs.Joining.{files_begin, files_step, files_end, same_file, keeps_none, keeps_fault}
 use Rattle.file_runs.proofs.files.run_files.Goals as goal
 
 pub returns-in_default-clause-keeps : goal.returns-in_default-clause-keeps
@@ -15,6 +15,15 @@ returns-in-Err-push-clause-keeps g c =
     keeps_fault (g.L.Turns.shape c.args.ledger.now) (g.L.Turns.shape c.files.ledger) c.args.files.now c.files.txs-index c.as_slice.result.now (g.L.Turns.journals c.args.ledger.now) (g.L.Turns.journals c.files.ledger) (g.L.Turns.journals c.run_file.new.ledger)
     c.files.invariant.shape c.files-test.true (subst (λ f. f ≡ get_or c.args.files.now c.files.txs-index f) (sym c.as_slice.ensures) c.txs-item.is) c.files.invariant.so.keeps c.run_file.ensures.keeps
 
+pub files-init : goal.files-init
+files-init g c = record {
+  shape = refl;
+  so = files_begin (g.L.Turns.shape c.args.ledger.now) (g.V.Verifier.verdict_of c.args.verifier.now) (g.L.Turns.journals c.args.ledger.now) c.requires.idle;
+  quiet = λ _ _ _ was. was;
+  holds = λ h. h;
+  later = λ n. omega arith;
+}
+
 pub files-preserved : goal.files-preserved
 files-preserved g c =
     let is = c.files.invariant in
@@ -24,6 +33,8 @@ files-preserved g c =
       so = files_step (g.L.Turns.shape c.args.ledger.now) (g.L.Turns.shape c.files.ledger) (g.V.Verifier.verdict_of c.args.verifier.now) c.args.files.now c.files.txs-index c.as_slice.result.now
           (g.L.Turns.journals c.args.ledger.now) (g.L.Turns.journals c.files.ledger) (g.L.Turns.journals c.run_file.new.ledger)
           is.shape c.files-test.true (subst (λ f. f ≡ get_or c.args.files.now c.files.txs-index f) (sym c.as_slice.ensures) c.txs-item.is) is.so c.in-Ok-run_file.ensures.idle did.keeps c.in-Ok-run_file.ensures.runs;
+      quiet = same_file (g.L.Turns.shape c.args.ledger.now) (g.L.Turns.shape c.files.ledger) (take c.files.txs-index c.args.files.now) (g.L.Turns.journals c.args.ledger.now) (g.L.Turns.journals c.files.ledger)
+          (g.L.Turns.quiet c.args.ledger.now) (g.L.Turns.quiet c.files.ledger) (g.L.Turns.quiet c.run_file.new.ledger) is.shape is.so.keeps is.quiet c.in-Ok-run_file.ensures.quiet;
       holds = λ h. did.holds (is.holds h);
       later = λ n. omega (arith, did.later n, is.later n);
     }
@@ -37,3 +48,6 @@ pub returns-clause-waves : goal.returns-clause-waves
 returns-clause-waves g c =
     (files_end (g.L.Turns.shape c.args.ledger.now) (g.V.Verifier.verdict_of c.args.verifier.now) c.args.files.now c.files.txs-index (g.L.Turns.journals c.args.ledger.now) (g.L.Turns.journals c.files.ledger)
     (omega (arith, c.files-test.false)) c.files.invariant.so).waves
+
+pub returns-clause-quiet : goal.returns-clause-quiet
+returns-clause-quiet g c = c.files.invariant.quiet

@@ -1,7 +1,7 @@
 use Rattle.std.proofs.Common.{◌≡◌, ◌*◌, subst, length}
 use Rattle.submissions.specs.Checks.{AreSent}
 use Rattle.ledger_runs.specs.Waving.{NoFault, FirstFaultIs}
-use Rattle.file_runs.proofs.Filing.{stays_more, are_within, keeps_file, runs_file}
+use Rattle.file_runs.proofs.Filing.{stays_more, are_within, keeps_file, of_wave, runs_file}
 use Rattle.file_runs.proofs.waves.run_file.Goals as goal
 
 pub returns-in_default-clause-keeps : goal.returns-in_default-clause-keeps
@@ -31,3 +31,9 @@ returns-in-None-clause-runs g c =
     let none = subst (λ o. FirstFaultIs c.deref.result.now o) c.in-None.is c.first_fault.ensures in
     runs_file K (g.V.Verifier.verdict_of c.args.verifier.now) c.args.txs.now c.in-Ok.field-0.lanes.items c.in-Ok-lanes_of.lanes.items c.run_wave.new.lanes.items
     (g.L.Turns.journals c.args.ledger.now) (g.L.Turns.journals c.run_wave.new.ledger) count sent c.in-Ok.ensures.sound c.in-Ok-lanes_of.ensures (subst (λ ls. NoFault ls) c.deref.ensures.value none) c.run_wave.ensures.runs
+
+pub returns-in-None-clause-quiet : goal.returns-in-None-clause-quiet
+returns-in-None-clause-quiet g c =
+    let none = subst (λ o. FirstFaultIs c.deref.result.now o) c.in-None.is c.first_fault.ensures in
+    of_wave (g.L.Turns.shape c.args.ledger.now) (g.V.Verifier.verdict_of c.args.verifier.now) c.args.txs.now c.in-Ok.field-0.lanes.items c.in-Ok-lanes_of.lanes.items c.run_wave.new.lanes.items
+    (g.L.Turns.journals c.args.ledger.now) (g.L.Turns.quiet c.args.ledger.now → g.L.Turns.quiet c.run_wave.new.ledger) c.in-Ok.ensures.sound c.in-Ok-lanes_of.ensures (subst (λ ls. NoFault ls) c.deref.ensures.value none) c.run_wave.ensures.quiet

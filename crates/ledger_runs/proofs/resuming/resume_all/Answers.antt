@@ -2,7 +2,7 @@ use Rattle.std.proofs.Common.{◌≡◌, ◌≤◌, ◌≢◌, ℕ, ◌+◌, ◌
 use Rattle.run_laws.specs.WaveSteps.{ResumedSo, ResumingStepLaw, ResumingSkipLaw, ResumingBeginsLaw, ResumingEndsLaw}
 use Rattle.run_laws.proofs.WaveTurns.{resuming_begins_law, resuming_step_law, resuming_skip_law, resuming_ends_law}
 use Rattle.ledger_runs.specs.Turning.{phase_at, OfKept, StaysKept}
-use Rattle.ledger_runs.proofs.Keeping.{stays, stays_next, idle_next, so_next}
+use Rattle.ledger_runs.proofs.Keeping.{stays, stays_next, same_next, idle_next, so_next}
 use Rattle.ledger_runs.proofs.resuming.resume_all.Goals as goal
 
 pub returns-in-Err-clause-keeps : goal.returns-in-Err-clause-keeps
@@ -20,6 +20,7 @@ lanes-init g c =
       idle = λ lane low. absurd (omega (arith, low));
       keeps = stays K E;
       so = λ _ _ _. begins K E;
+      quiet = λ _ _ _ was. was;
       holds = λ h. h;
       later = λ n. omega arith;
     }
@@ -38,6 +39,8 @@ lanes-preserved g c =
       idle = idle_next K (g.L.Turns.shape c.lanes.ledger) c.lanes.lane (g.L.Turns.journals c.lanes.ledger) (g.L.Turns.journals c.resume_next.new.ledger) so.shape (omega (arith, c.lanes-test.true, so.count)) so.idle did.others c.in-Ok-resume_next.ensures.idle;
       keeps = stays_next K _ E _ _ so.shape so.keeps did.keeps;
       so = so_next step skip K _ c.lanes.lane E _ _ _ _ so.shape so.keeps so.so c.in-Ok-resume_next.ensures.took;
+      quiet = same_next K (g.L.Turns.shape c.lanes.ledger) E (g.L.Turns.journals c.lanes.ledger) (g.L.Turns.quiet c.args.ledger.now) (g.L.Turns.quiet c.lanes.ledger) (g.L.Turns.quiet c.resume_next.new.ledger)
+          so.shape so.keeps so.quiet c.in-Ok-resume_next.ensures.quiet;
       holds = λ h. did.holds (so.holds h);
       later = λ n. omega (arith, did.later n, so.later n);
     }
@@ -47,3 +50,6 @@ returns-clause-resumed g c =
     let ends : ResumingEndsLaw = resuming_ends_law in
     λ mint submissions kept. ends _ _ _ (subst (λ n. ResumedSo (g.L.Turns.shape c.args.ledger.now) n (g.L.Turns.journals c.args.ledger.now) (g.L.Turns.journals c.lanes.ledger))
     (omega (arith, c.lanes.invariant.count, c.lanes-test.false, c.lanes.auto.lane-end)) (c.lanes.invariant.so mint submissions kept))
+
+pub returns-clause-quiet : goal.returns-clause-quiet
+returns-clause-quiet g c = c.lanes.invariant.quiet

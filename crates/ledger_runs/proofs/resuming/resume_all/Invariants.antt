@@ -15,6 +15,7 @@ invariant-lanes g l =
       idle : (lane : ℕ) → lane < l.lane → phase_at K J lane ≡ Idle;
       keeps : OfKept K E (StaysKept K E J);
       so : OfKept K E (λ _ _. ResumedSo K l.lane E J);
+      quiet : OfKept K E (λ _ _. g.L.Turns.quiet l.fn.ledger → g.L.Turns.quiet l.ledger);
       holds : g.L.Turns.holds l.fn.ledger → g.L.Turns.holds l.ledger;
       later : (n : ℕ) → g.L.Turns.faults l.fn.ledger n ≤ g.L.Turns.faults l.ledger n;
     }

@@ -1,12 +1,13 @@
 use Rattle.std.proofs.Common.{◌≡◌, ◌≤◌, ◌<◌, ◌*◌, ℕ, length, refl, ap, sym, ◌∙◌, subst, arith}
 use Rattle.ledger_runs.specs.Waving.{AreShorter}
-use Rattle.ledger_runs.proofs.WaveKeeping.{RoundsSo, rounds_begin, rounds_step, rounds_end, all_idle, next_start}
+use Rattle.ledger_runs.proofs.WaveKeeping.{RoundsSo, rounds_begin, rounds_step, same_round, rounds_end, all_idle, next_start}
 use Rattle.ledger_runs.proofs.waves.run_wave.Goals as goal
 
 pub rounds-init : goal.rounds-init
 rounds-init g c = record {
   shape = refl;
   so = rounds_begin (g.L.Turns.shape c.args.ledger.now) (g.L.Turns.journals c.args.ledger.now) c.args.lanes.now.items c.requires.count c.requires.idle c.requires.limits;
+  quiet = λ _ _ _ _ _ _ _ was. was;
   holds = λ h. h;
   later = λ n. omega arith;
 }
@@ -24,6 +25,8 @@ rounds-preserved g c =
           c.args.lanes.now.items c.rounds.lanes.items c.turns.new.lanes.items is.shape c.requires.count short
           (next_start c.rounds.start c.batch-size.result K.batch c.saturating_add-start.result c.longest-most.result size c.saturating_add-start.ensures c.longest-most.type_inv)
           is.so did.count did.sent did.ready did.limits did.stopped did.keeps did.goes_on;
+      quiet = same_round K (g.L.Turns.shape c.rounds.ledger) c.rounds.start (g.L.Turns.journals c.args.ledger.now) (g.L.Turns.journals c.rounds.ledger) c.args.lanes.now.items c.rounds.lanes.items c.turns.new.lanes.items
+          (g.L.Turns.quiet c.args.ledger.now) (g.L.Turns.quiet c.rounds.ledger) (g.L.Turns.quiet c.turns.new.ledger) is.shape is.so did.stopped is.quiet did.quiet;
       holds = λ h. did.holds (is.holds h);
       later = λ n. omega (arith, did.later n, is.later n);
     }
@@ -40,3 +43,6 @@ returns-clause-runs g c =
     let short = subst (λ ls. AreShorter ls c.longest-most.result) c.deref.ensures.value c.longest-most.ensures in
     rounds_end K c.rounds.start c.longest-most.result (g.L.Turns.journals c.args.ledger.now) (g.L.Turns.journals c.rounds.ledger) c.args.lanes.now.items c.rounds.lanes.items c.requires.count short
     c.rounds-test.false c.rounds.invariant.so
+
+pub returns-clause-quiet : goal.returns-clause-quiet
+returns-clause-quiet g c = c.rounds.invariant.quiet

@@ -1,4 +1,5 @@
 use Rattle.std.proofs.Common.{◌≡◌, ◌∙◌, ap, take, drop, arith}
+use Rattle.ledger_runs.proofs.Keeping.{of_ok}
 use Rattle.ledger_runs.proofs.WaveKeeping.{by_piece, took_of}
 use Rattle.ledger_runs.proofs.waves.turn.Goals as goal
 
@@ -12,3 +13,6 @@ returns-clause-took g c = λ none.
     took_of (g.L.Turns.shape c.args.ledger.now) c.args.number c.args.start c.batch-size.result c.args.lane.now.txs.items c.piece.result.now (g.L.Turns.journals c.args.ledger.now) (g.L.Turns.journals c.run_batch-came.new.self)
     c.run_batch-came.result (c.piece.ensures ∙ ap (λ l. take c.batch-size.result (drop c.args.start l)) c.deref.ensures.value)
     (c.batch-size.ensures.value ∙ ap (λ s. s.batch) c.shape.ensures) (omega (arith, c.if-start-len.false, c.len.ensures)) (c.take_in.ensures.fault none).1 c.run_batch-came.ensures.does
+
+pub returns-clause-quiet : goal.returns-clause-quiet
+returns-clause-quiet g c = λ none. of_ok c.run_batch-came.result _ (c.take_in.ensures.fault none).1 c.run_batch-came.ensures.quiet

@@ -20,3 +20,9 @@ returns-clause-took g c x y there after =
     let now : c.turn.new.lane ≡ y = sym (get_or-set_same items c.args.number c.turn.new.lane y c.requires.inside) ∙ get_or_from_slice_get (slice_set items c.args.number c.turn.new.lane) c.args.number y y after in
     λ none. subst (λ z. OfKept K (g.L.Turns.journals c.args.ledger.now) (λ _ _. TookTurn K c.args.number c.args.start z.txs.items (g.L.Turns.journals c.args.ledger.now) (g.L.Turns.journals c.turn.new.ledger))) e
     (c.turn.ensures.took (ap (λ z. z.fault) now ∙ none))
+
+pub returns-clause-quiet : goal.returns-clause-quiet
+returns-clause-quiet g c y after =
+    let items = c.args.lanes.now.items in
+    let now : c.turn.new.lane ≡ y = sym (get_or-set_same items c.args.number c.turn.new.lane y c.requires.inside) ∙ get_or_from_slice_get (slice_set items c.args.number c.turn.new.lane) c.args.number y y after in
+    λ none. c.turn.ensures.quiet (ap (λ z. z.fault) now ∙ none)

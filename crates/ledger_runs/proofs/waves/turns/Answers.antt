@@ -1,6 +1,6 @@
 use Rattle.std.proofs.Common.{◌≡◌, ◌≤◌, ◌<◌, ◌*◌, ℕ, length, refl, ap, sym, ◌∙◌, subst, arith}
 use Rattle.std.specs.Prelude.{All}
-use Rattle.ledger_runs.proofs.WaveKeeping.{TurnsSo, turns_begin, turns_step, turns_end}
+use Rattle.ledger_runs.proofs.WaveKeeping.{TurnsSo, turns_begin, turns_step, same_turn, turns_end}
 use Rattle.ledger_runs.proofs.waves.turns.Goals as goal
 
 pub lanes-init : goal.lanes-init
@@ -10,6 +10,7 @@ lanes-init g c =
       shape = refl;
       count = c.lane_count-count.ensures.value ∙ ap (λ s. s.coordinators * s.lanes) c.shape.ensures;
       so = turns_begin K c.args.start (g.L.Turns.journals c.args.ledger.now) c.args.lanes.now.items c.requires.ready c.requires.limits;
+      quiet = λ _ _ _ _ _ _ _ was. was;
       holds = λ h. h;
       later = λ n. omega arith;
     }
@@ -26,6 +27,8 @@ lanes-preserved g c =
       so = turns_step K (g.L.Turns.shape c.lanes.ledger) c.args.start c.lanes.number (g.L.Turns.journals c.args.ledger.now) (g.L.Turns.journals c.lanes.ledger) (g.L.Turns.journals c.turn_at.new.ledger)
           c.args.lanes.now.items c.lanes.lanes.items c.turn_at.new.lanes.items is.shape (subst (λ s. 0 < s.batch) c.shape-2.ensures (omega (arith, c.batch-limit.ensures.limits))) (omega (arith, c.lanes-test.true, is.count)) (omega (arith, c.lanes-test.true, is.count, many)) many
           is.so did.turned did.idle did.others did.keeps did.took;
+      quiet = same_turn K (g.L.Turns.shape c.lanes.ledger) c.args.start c.lanes.number (g.L.Turns.journals c.args.ledger.now) (g.L.Turns.journals c.lanes.ledger) c.args.lanes.now.items c.lanes.lanes.items c.turn_at.new.lanes.items
+          (g.L.Turns.quiet c.args.ledger.now) (g.L.Turns.quiet c.lanes.ledger) (g.L.Turns.quiet c.turn_at.new.ledger) is.shape (omega (arith, c.lanes-test.true, is.count, many)) is.so did.turned is.quiet did.quiet;
       holds = λ h. did.holds (is.holds h);
       later = λ n. omega (arith, did.later n, is.later n);
     }
@@ -38,3 +41,6 @@ returns-clause-goes_on g c =
     let K = g.L.Turns.shape c.args.ledger.now in
     turns_end K c.args.start c.lanes.number (g.L.Turns.journals c.args.ledger.now) (g.L.Turns.journals c.lanes.ledger) c.args.lanes.now.items c.lanes.lanes.items
     (omega (arith, c.lanes.invariant.count, c.lanes-test.false)) c.lanes.invariant.so
+
+pub returns-clause-quiet : goal.returns-clause-quiet
+returns-clause-quiet g c = c.lanes.invariant.quiet
