@@ -35,13 +35,20 @@ pub home_fault : (e : LaneFault) (node home : ℕ) (f : NodeFault) → e ≡ rec
 home_fault e node home f is at = subst (λ n. IsFaultOf e n f) at is
 
 -- the ends of a discarded batch that stops
-pub forget_stops : (K : Shape) (a a' : Bool) (b : Batch) (cause : ℕ) (locks : List (ℕ × LockCall)) (cs : List (ℕ × ForgetCall)) (log : Sight) (I J : ℕ → Sight) (e : LaneFault) → a ≡ a' → cs ≡ map (forget_of b cause) locks
-    → IsStoppedAt K (ForgetAnswer a) cs I J e → IsDiscardedStopped K a' b cause locks log log I J e
-forget_stops K a a' b cause locks cs log I J e same is (s, f, at, stop) = (shard_node K s, f, at, at_forget s (turn_stopped ForgetAnswer a a' cs (map (forget_of b cause) locks) I J s f same is stop) refl refl)
+pub forget_stops : (K : Shape) (a a' : Bool) (b : Batch) (cause n : ℕ) (locks : List (ℕ × LockCall)) (cs : List (ℕ × ForgetCall)) (log : Sight) (I J : ℕ → Sight) (e : LaneFault) → a ≡ a' → cs ≡ map (forget_of b cause) locks
+    → IsStoppedAt K (ForgetAnswer a) cs I J e → IsDiscardedStopped K a' b cause n locks log log I J e
+forget_stops K a a' b cause n locks cs log I J e same is (s, f, at, stop) = (shard_node K s, f, at, at_forget s (turn_stopped ForgetAnswer a a' cs (map (forget_of b cause) locks) I J s f same is stop) refl refl)
 
-pub done_stops : (K : Shape) (a a' : Bool) (b : Batch) (cause m : ℕ) (locks : List (ℕ × LockCall)) (cs : List (ℕ × ForgetCall)) (log log' : Sight) (I J : ℕ → Sight) (f : NodeFault) (e : LaneFault) → a ≡ a' → cs ≡ map (forget_of b cause) locks
-    → IsFaultOf e (home_of K b.lane) f → Stamped (ForgetAnswer a) cs I J m → Told a' b.lane false (done_due b.lane m) log log' (Err f) → IsDiscardedStopped K a' b cause locks log log' I J e
-done_stops K a a' b cause m locks cs log log' I J f e same is at phase told = (home_of K b.lane, f, at, at_done m (turn_stamped ForgetAnswer a a' cs (map (forget_of b cause) locks) I J m same is phase) told refl)
+pub done_stops : (K : Shape) (a a' : Bool) (b : Batch) (cause n m : ℕ) (locks : List (ℕ × LockCall)) (cs cs2 : List (ℕ × ForgetCall)) (log log' : Sight) (I M J : ℕ → Sight) (f : NodeFault) (e : LaneFault) → a ≡ a'
+    → cs ≡ map (forget_of b cause) locks → cs2 ≡ map (forget_of b cause) locks → IsFaultOf e (home_of K b.lane) f → Stamped (ForgetAnswer a) cs I M m → AskedTimes (ForgetAnswer a) cs2 n M J
+    → Told a' b.lane false (done_due b.lane m) log log' (Err f) → IsDiscardedStopped K a' b cause n locks log log' I J e
+done_stops K a a' b cause n m locks cs cs2 log log' I M J f e same is is2 at phase again told = (
+  home_of K b.lane,
+  f,
+  at,
+  at_done m M (turn_stamped ForgetAnswer a a' cs (map (forget_of b cause) locks) I M m same is phase)
+      (turn_times ForgetAnswer a a' cs2 (map (forget_of b cause) locks) n M J same is2 again) told refl,
+)
 
 -- those of a committed one
 pub finish_stops : (K : Shape) (a a' : Bool) (b : Batch) (cause : ℕ) (os : List Outcome) (n : ℕ) (locks : List (ℕ × LockCall)) (cs : List (ℕ × FinishCall)) (log : Sight) (I J : ℕ → Sight) (e : LaneFault) → a ≡ a' → cs ≡ map (finish_of b cause os) locks
@@ -59,7 +66,7 @@ module _ (K : Shape) (a a' : Bool) (b : Batch) (cause : ℕ) (os : List Outcome)
         (turn_times FinishAnswer a a' cs2 (map (finish_of b cause os) locks) n M X same is2 again) told refl,
   )
 
-  pub later_stops : (td : ℕ) (log' : Sight) (J : ℕ → Sight) (e : LaneFault) → Told a' b.lane false (discard_due b.lane m) log log1 (Ok td) → IsDiscardedStopped K a' b td locks log1 log' X J e → IsCommittedStopped K a' b cause os n locks log log' I J e
+  pub later_stops : (td : ℕ) (log' : Sight) (J : ℕ → Sight) (e : LaneFault) → Told a' b.lane false (discard_due b.lane m) log log1 (Ok td) → IsDiscardedStopped K a' b td n locks log1 log' X J e → IsCommittedStopped K a' b cause os n locks log log' I J e
   later_stops td log' J e told (node, f, at, stop) = (
     node,
     f,

@@ -22,8 +22,8 @@ abbrev pub IsStoppedAt : {C A : Type 0} → Shape → (ℕ × C → Sight → Si
 IsStoppedAt K told calls I J e = (s : ℕ) × (f : NodeFault) × IsFaultOf e (shard_node K s) f × StoppedAt told calls I J s f
 
 -- a batch stopped behind its Discard, its Commit, its Prepare
-abbrev pub IsDiscardedStopped : Shape → Bool → Batch → ℕ → List (ℕ × LockCall) → Sight → Sight → (ℕ → Sight) → (ℕ → Sight) → LaneFault → Type 0
-IsDiscardedStopped K alone b cause locks log log' I J e = (n : ℕ) × (f : NodeFault) × IsFaultOf e n f × DiscardedStopped K alone b cause locks log log' I J n f
+abbrev pub IsDiscardedStopped : Shape → Bool → Batch → ℕ → ℕ → List (ℕ × LockCall) → Sight → Sight → (ℕ → Sight) → (ℕ → Sight) → LaneFault → Type 0
+IsDiscardedStopped K alone b cause repeats locks log log' I J e = (n : ℕ) × (f : NodeFault) × IsFaultOf e n f × DiscardedStopped K alone b cause repeats locks log log' I J n f
 
 abbrev pub IsCommittedStopped : Shape → Bool → Batch → ℕ → List Outcome → ℕ → List (ℕ × LockCall) → Sight → Sight → (ℕ → Sight) → (ℕ → Sight) → LaneFault → Type 0
 IsCommittedStopped K alone b cause os repeats locks log log' I J e = (n : ℕ) × (f : NodeFault) × IsFaultOf e n f × CommittedStopped K alone b cause os repeats locks log log' I J n f

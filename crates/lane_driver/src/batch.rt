@@ -34,7 +34,8 @@ fn home(shape: &Shape, lane: LaneId) -> NodeId
     NodeId(lane.0 / shape.lanes())
 }
 
-/// Takes a discarded batch to its end: the shards forget it, and it is done. There is room for the calls.
+/// Takes a discarded batch to its end: the shards forget it, and it is done. Its forget calls are made so many times
+/// more after their phase. There is room for the calls.
 pub fn from_discarded<S: PortSet, L: LogPort, G: Gate>(
     shape: &Shape,
     batch: &BatchId,
@@ -43,6 +44,7 @@ pub fn from_discarded<S: PortSet, L: LogPort, G: Gate>(
     forgets: &mut Vec<(u32, ForgetCall)>,
     stamped: &mut Vec<Result<Stamp, NodeFault>>,
     ports: &mut Ports<S, L>,
+    repeats: u32,
     gate: &G,
 ) -> Result<(), LaneFault>
     requires same { S.alone ≡ L.alone }
@@ -57,8 +59,8 @@ pub fn from_discarded<S: PortSet, L: LogPort, G: Gate>(
     requires empty { forgets.old.items ≡ [] }
     requires room { length locks.now ≤ vec_capacity forgets.old }
     requires answers { length locks.now ≤ vec_capacity stamped.old }
-    ensures told { OnOk result (ToldDiscarded L.alone batch.now cause locks.now (L.sights ports.old.log (L.at ports.old.log)) (L.sights ports.new.log (L.at ports.new.log)) (S.sights ports.old.shards) (S.sights ports.new.shards)) }
-    ensures stopped { IfErr result (IsDiscardedStopped shape.now L.alone batch.now cause locks.now (L.sights ports.old.log (L.at ports.old.log)) (L.sights ports.new.log (L.at ports.new.log)) (S.sights ports.old.shards) (S.sights ports.new.shards)) }
+    ensures told { OnOk result (ToldDiscarded L.alone batch.now cause repeats locks.now (L.sights ports.old.log (L.at ports.old.log)) (L.sights ports.new.log (L.at ports.new.log)) (S.sights ports.old.shards) (S.sights ports.new.shards)) }
+    ensures stopped { IfErr result (IsDiscardedStopped shape.now L.alone batch.now cause repeats locks.now (L.sights ports.old.log (L.at ports.old.log)) (L.sights ports.new.log (L.at ports.new.log)) (S.sights ports.old.shards) (S.sights ports.new.shards)) }
     ensures fault { IfErr result (IsCausedFault shape.now (L.sights ports.new.log) (S.sights ports.new.shards)) }
     ensures at_same { L.at ports.new.log ≡ L.at ports.old.log }
     ensures phase { OnOk result (L.phase ports.new.log batch.now.lane ≡ Idle) }
@@ -80,6 +82,7 @@ pub fn from_discarded<S: PortSet, L: LogPort, G: Gate>(
         Ok(stamp) => stamp,
         Err(fault) => return Err(fault),
     };
+    forget_again(&mut ports.shards, forgets, stamped, repeats, gate);
     match ports.log.done(batch.lane, forgotten, gate) {
         Ok(_) => Ok(()),
         Err(fault) => Err(fault_at(home(shape, batch.lane), fault)),
@@ -153,6 +156,7 @@ pub fn from_committed<S: PortSet, L: LogPort, G: Gate>(
         &mut forgets,
         &mut stamped,
         ports,
+        repeats,
         gate,
     ) {
         Ok(()) => {}

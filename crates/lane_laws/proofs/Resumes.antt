@@ -30,9 +30,9 @@ module _ (K : Shape) (alone : Bool) (b : Batch) (txs : List Compact) (t : ℕ) (
   opening : IsOpenAt K b txs t log I → Open K b.lane b.number txs log t
   opening o = record { prepare = o.prepare; open_number = o.number; shape = o.shape }
 
-  pub takes_discarded : (u td : ℕ) (locks : List (ℕ × LockCall)) → IsDiscardedAt K b txs t td log I → AreLocks K txs b u locks → ToldDiscarded alone b td locks log log' I J → IsTakenUp K alone b log I log' J
-  takes_discarded u td locks d are told =
-      let r = discarded_run K [] alone b.lane b.number d.is_open.home txs log log' I J t u td locks (opening d.is_open) d.discard (λ s c. d.is_open.others s 4 (inr (inr refl)) c) d.forgot are told in
+  pub takes_discarded : (u td n : ℕ) (locks : List (ℕ × LockCall)) → IsDiscardedAt K b txs t td log I → AreLocks K txs b u locks → ToldDiscarded alone b td n locks log log' I J → IsTakenUp K alone b log I log' J
+  takes_discarded u td n locks d are told =
+      let r = discarded_run K [] alone b.lane b.number d.is_open.home txs log log' I J t u td n locks (opening d.is_open) d.discard (λ s c. d.is_open.others s 4 (inr (inr refl)) c) d.forgot are told in
       taken told.ended (own b.lane log.seen) r.moved r.step.own_is
 
   pub takes_committed : (u tc : ℕ) (os : List Outcome) (n : ℕ) (locks : List (ℕ × LockCall)) → IsCommittedAt K b txs t tc os log I → AreLocks K txs b u locks → ToldCommitted alone b tc os n locks log log' I J → IsTakenUp K alone b log I log' J
@@ -45,10 +45,10 @@ module _ (K : Shape) (alone : Bool) (b : Batch) (txs : List Compact) (t : ℕ) (
       let r = prepared_run K [] alone b.lane b.number d.home txs log log' I J t n parts os (opening d) d.others are told in
       taken r.rest.ended _ r.moved r.rest.log_own
 
-  pub leaves_discarded : (u td : ℕ) (locks : List (ℕ × LockCall)) (node : ℕ) (f : NodeFault) → IsDiscardedAt K b txs t td log I → AreLocks K txs b u locks → DiscardedStopped K alone b td locks log log' I J node f
+  pub leaves_discarded : (u td n : ℕ) (locks : List (ℕ × LockCall)) (node : ℕ) (f : NodeFault) → IsDiscardedAt K b txs t td log I → AreLocks K txs b u locks → DiscardedStopped K alone b td n locks log log' I J node f
       → IsLeft K alone b log I log' J node f
-  leaves_discarded u td locks node f d are stop =
-      let r = discarded_stopped K [] alone b.lane b.number d.is_open.home txs log log' I J t u td locks node f (opening d.is_open) d.discard (λ s c. d.is_open.others s 4 (inr (inr refl)) c) d.forgot are stop in
+  leaves_discarded u td n locks node f d are stop =
+      let r = discarded_stopped K [] alone b.lane b.number d.is_open.home txs log log' I J t u td n locks node f (opening d.is_open) d.discard (λ s c. d.is_open.others s 4 (inr (inr refl)) c) d.forgot are stop in
       record { made = r.fell.made; flown = r.fell.flown; told = r.told }
 
   pub leaves_committed : (u tc : ℕ) (os : List Outcome) (n : ℕ) (locks : List (ℕ × LockCall)) (node : ℕ) (f : NodeFault) → IsCommittedAt K b txs t tc os log I → AreLocks K txs b u locks

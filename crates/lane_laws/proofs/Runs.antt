@@ -24,7 +24,7 @@ use Rattle.lane_laws.proofs.Views.{Moved, moved_on, shards_moved}
 use Rattle.lane_laws.proofs.ByShard.{every_fine, gathered_fine, Fine}
 use Rattle.lane_laws.proofs.Asked.{OkUnless, locks_step, finishes_step, forgets_step}
 use Rattle.lane_laws.proofs.LogCalls.{LogStep, Open, Looks, LooksLock, LogDone, commit_ok, discard_ok, done_ok, done_above}
-use Rattle.lane_laws.proofs.Shards.{LockedShard, locked_shard, StampedShard, finished_shard, forgotten_shard, IsForgot}
+use Rattle.lane_laws.proofs.Shards.{LockedShard, locked_shard, finished_shard, forgotten_shard, IsForgot}
 use Rattle.lane_laws.proofs.Quiet.{Quiet, quiet_on, same_slot, locks_quiet, finishes_quiet, forgets_quiet}
 use Rattle.lane_laws.proofs.Calls.{are_locks, are_finishes, are_forgets, latest_greatest}
 use Rattle.lane_laws.specs.Calls.{Every}
@@ -44,39 +44,60 @@ module _ (K : Shape) (pieces : List (List Compact)) (alone : Bool) (lane number 
   on : (log log1 log2 : Sight) (I M J : ℕ → Sight) → Moved K pieces alone lane log I log1 M → Moved K pieces alone lane log1 M log2 J → Moved K pieces alone lane log I log2 J
   on log log1 log2 I M J a b = moved_on K pieces alone lane log log1 log2 I M J a b
 
+  -- what a shard has behind the Forgets
+  pub record ForgotShard (ends : ℕ → ℕ) (I J : ℕ → Sight) (s : ℕ) : Type 0 where
+    pub slot_is : is_concerned K txs s ≡ true → ((slot (J s).seen lane).number ≡ number) × ((slot (J s).seen lane).phase ≡ Idle)
+    pub others : is_concerned K txs s ≡ false → own lane (J s).seen ≡ own lane (I s).seen
+    pub adds : is_concerned K txs s ≡ true → (own lane (J s).seen ≡ Forget (ends s) B ∷ own lane (I s).seen) ⊎ ((slot (I s).seen lane).phase ≡ Idle)
+
   -- from a Discard on
   pub record DiscardedRun (log log' : Sight) (I J : ℕ → Sight) (ended : ℕ) (ends : ℕ → ℕ) : Type 0 where
     pub moved : Moved K pieces alone lane log I log' J
     pub step : LogStep lane log log' (Done ended B)
-    pub shards : (s : ℕ) → StampedShard K alone lane number txs 4 Idle Idle ends (λ s. Forget (ends s) B) I J s
+    pub shards : (s : ℕ) → ForgotShard ends I J s
     pub above : (s : ℕ) → s < K.shards → ends s < ended
 
-  -- the Forgets
+  no_end' : {X : Type 0} (p : Phase) → p ≡ Idle → p ≡ InFinish → X
+  no_end' p a b = absurd (let z : Idle ≡ InFinish = sym a ∙ b in cc)
+
+  -- the Forgets, with their repeats
   pub record ForgetsRun (log : Sight) (I J : ℕ → Sight) (m : ℕ) (ends : ℕ → ℕ) : Type 0 where
     pub moved : Moved K pieces alone lane log I log J
-    pub shards : (s : ℕ) → StampedShard K alone lane number txs 4 Idle Idle ends (λ s. Forget (ends s) B) I J s
+    pub shards : (s : ℕ) → ForgotShard ends I J s
     pub looks : Looks K lane number txs 4 ends J
     pub greatest_is : m ≡ greatest ends K.shards
 
-  pub forgets_run : (log : Sight) (I J : ℕ → Sight) (u td m : ℕ) (locks : List (ℕ × LockCall)) → record_of 8 log.seen B ≡ Some (Discard td B)
+  pub forgets_run : (log : Sight) (I M J : ℕ → Sight) (u td m repeats : ℕ) (locks : List (ℕ × LockCall)) → record_of 8 log.seen B ≡ Some (Discard td B)
       → ((s : ℕ) → is_concerned K txs s ≡ false → record_of 4 (I s).seen B ≡ None) → IsForgot K alone lane number txs I → AreLocks K txs B u locks
-      → (f : Stamped (ForgetAnswer alone) (map (forget_of B td) locks) I J m) → ForgetsRun log I J m (stamp_at shard (map (forget_of B td) locks) f.asked.answers)
-  forgets_run log I J u td m locks discard none forgot are f =
+      → (f : Stamped (ForgetAnswer alone) (map (forget_of B td) locks) I M m) → AskedTimes (ForgetAnswer alone) (map (forget_of B td) locks) repeats M J
+      → ForgetsRun log I J m (stamp_at shard (map (forget_of B td) locks) f.asked.answers)
+  forgets_run log I M J u td m repeats locks discard none forgot are f again =
       let cs = are_forgets K txs B u td locks are in
-      let shards = forgotten_shard K alone lane number txs td I J (map (forget_of B td) locks) f.asked.answers none forgot cs f.asked.each f.asked.others f.latest.0 in
+      let shards = forgotten_shard K alone lane number txs td I M (map (forget_of B td) locks) f.asked.answers none forgot cs f.asked.each f.asked.others f.latest.0 in
+      let q = forgets_quiet K pieces alone lane number home txs log td repeats M J (map (forget_of B td) locks) cs (λ s c p. no_end' (slot (M s).seen lane).phase ((shards s).slot_is c).1 p) again in
       record {
-        moved = shards_moved K lane home pieces alone log I J
-            (forgets_step K pieces alone lane number home txs false td log I J (map (forget_of B td) locks) f.asked.answers discard cs f.asked.each f.asked.others (every_unless f.asked.answers (every_fine f.asked.answers f.latest.0)));
-        shards = shards;
-        looks = record { some = λ s c. (shards s).some c; stamp = λ s. (shards s).stamp };
-        greatest_is = latest_greatest K txs (IsForget K txs B td) (ForgetAnswer alone) (λ c p. p.0) (map (forget_of B td) locks) I J m cs f.asked f.latest;
+        moved = on log log log I M J (shards_moved K lane home pieces alone log I M
+            (forgets_step K pieces alone lane number home txs false td log I M (map (forget_of B td) locks) f.asked.answers discard cs f.asked.each f.asked.others (every_unless f.asked.answers (every_fine f.asked.answers f.latest.0)))) q.moved;
+        shards = λ s. record {
+          slot_is = λ c. (
+            ap (λ z. z.number) (same_slot K pieces alone lane number home txs log M J q s) ∙ ((shards s).slot_is c).0,
+            ap (λ z. z.phase) (same_slot K pieces alone lane number home txs log M J q s) ∙ ((shards s).slot_is c).1,
+          );
+          others = λ c. q.own_same s ∙ ap (λ v. own lane v.seen) ((shards s).others c);
+          adds = λ c. elim ((shards s).adds c) [ inl e ↦ inl (q.own_same s ∙ e) | inr n ↦ inr n ];
+        };
+        looks = record {
+          some = λ s c. ap is_some (same_record 4 lane B (M s).seen (J s).seen refl (q.own_same s)) ∙ (shards s).some c;
+          stamp = λ s. ap stamp_in (same_record 4 lane B (M s).seen (J s).seen refl (q.own_same s)) ∙ (shards s).stamp;
+        };
+        greatest_is = latest_greatest K txs (IsForget K txs B td) (ForgetAnswer alone) (λ c p. p.0) (map (forget_of B td) locks) I M m cs f.asked f.latest;
       }
 
-  pub discarded_run : (log log' : Sight) (I J : ℕ → Sight) (t u td : ℕ) (locks : List (ℕ × LockCall)) → Open K lane number txs log t → record_of 8 log.seen B ≡ Some (Discard td B)
+  pub discarded_run : (log log' : Sight) (I J : ℕ → Sight) (t u td repeats : ℕ) (locks : List (ℕ × LockCall)) → Open K lane number txs log t → record_of 8 log.seen B ≡ Some (Discard td B)
       → ((s : ℕ) → is_concerned K txs s ≡ false → record_of 4 (I s).seen B ≡ None) → IsForgot K alone lane number txs I → AreLocks K txs B u locks
-      → (told : ToldDiscarded alone B td locks log log' I J) → DiscardedRun log log' I J told.ended (stamp_at shard (map (forget_of B td) locks) told.forgets.asked.answers)
-  discarded_run log log' I J t u td locks o discard none forgot are told =
-      let r = forgets_run log I J u td told.forgotten locks discard none forgot are told.forgets in
+      → (told : ToldDiscarded alone B td repeats locks log log' I J) → DiscardedRun log log' I J told.ended (stamp_at shard (map (forget_of B td) locks) told.forgets.asked.answers)
+  discarded_run log log' I J t u td repeats locks o discard none forgot are told =
+      let r = forgets_run log I told.after_forget J u td told.forgotten repeats locks discard none forgot are told.forgets told.forgets_again in
       let d = done_ok K pieces alone lane number home txs log log' J t o told.forgotten (stamp_at shard (map (forget_of B td) locks) told.forgets.asked.answers) r.looks r.greatest_is told.ended told.done in
       let above = done_above K pieces alone lane number home txs log log' J t o told.forgotten (stamp_at shard (map (forget_of B td) locks) told.forgets.asked.answers) r.looks r.greatest_is told.ended told.done in
       record {
@@ -115,9 +136,6 @@ module _ (K : Shape) (pieces : List (List Compact)) (alone : Bool) (lane number 
 
   no_end : {X : Type 0} (p : Phase) → p ≡ InFinish → p ≡ Idle → X
   no_end p a b = absurd (let z : InFinish ≡ Idle = sym a ∙ b in cc)
-
-  no_end' : {X : Type 0} (p : Phase) → p ≡ Idle → p ≡ InFinish → X
-  no_end' p a b = absurd (let z : Idle ≡ InFinish = sym a ∙ b in cc)
 
   -- the Finishes, with their repeats
   pub record FinishesRun (log : Sight) (I J : ℕ → Sight) (os : List Outcome) (m : ℕ) (fins : ℕ → ℕ) : Type 0 where
@@ -163,7 +181,7 @@ module _ (K : Shape) (pieces : List (List Compact)) (alone : Bool) (lane number 
     discarding = discard_ok K pieces alone lane number home txs log told.log_discarded told.before_discard t o told.finished (stamp_at shard (map (finish_of B tc os) locks) told.finishes.asked.answers) fins_run.looks fins_run.greatest_is told.discarded told.discard
 
     ending : DiscardedRun told.log_discarded log' told.before_discard told.after_done told.rest.ended (stamp_at shard (map (forget_of B told.discarded) locks) told.rest.forgets.asked.answers)
-    ending = discarded_run told.log_discarded log' told.before_discard told.after_done t u told.discarded locks discarding.0.stays discarding.1
+    ending = discarded_run told.log_discarded log' told.before_discard told.after_done t u told.discarded repeats locks discarding.0.stays discarding.1
         (λ s c. same_record 4 lane B (I s).seen (told.before_discard s).seen refl (fins_run.others s c) ∙ none s 4 (inr refl) c)
         (not_forgot log I told.before_discard os told.finished (stamp_at shard (map (finish_of B tc os) locks) told.finishes.asked.answers) fins_run) are told.rest
 
@@ -193,7 +211,7 @@ module _ (K : Shape) (pieces : List (List Compact)) (alone : Bool) (lane number 
       ends = stamp_at shard (map (forget_of B told.discarded) locks) told.rest.forgets.asked.answers;
       above = ending.above;
       shards = λ s. record {
-        others = λ c. late.own_same s ∙ ap (λ v. own lane v.seen) ((ending.shards s).others c) ∙ fins_run.others s c;
+        others = λ c. late.own_same s ∙ (ending.shards s).others c ∙ fins_run.others s c;
         number_is = λ c. ap (λ q. q.number) (same_slot K pieces alone lane number home txs log' told.after_done J late s) ∙ ((ending.shards s).slot_is c).0;
         idle = λ c. ap (λ q. q.phase) (same_slot K pieces alone lane number home txs log' told.after_done J late s) ∙ ((ending.shards s).slot_is c).1;
         adds = λ c p. late.own_same s ∙ forget_added s c ∙ ap (λ L. Forget (stamp_at shard (map (forget_of B told.discarded) locks) told.rest.forgets.asked.answers s) B ∷ L) (fins_run.adds s c p);

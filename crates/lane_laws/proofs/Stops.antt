@@ -61,10 +61,10 @@ module _ (K : Shape) (pieces : List (List Compact)) (alone : Bool) (lane number 
   anyway : {A : Type 0} (answers : List (Result A NodeFault)) → Every (OkUnless true) answers
   anyway answers = every_any (OkUnless true) (λ a. inl refl) answers
 
-  pub discarded_stopped : (log log' : Sight) (I J : ℕ → Sight) (t u td : ℕ) (locks : List (ℕ × LockCall)) (node : ℕ) (f : NodeFault) → Open K lane number txs log t → record_of 8 log.seen B ≡ Some (Discard td B)
+  pub discarded_stopped : (log log' : Sight) (I J : ℕ → Sight) (t u td repeats : ℕ) (locks : List (ℕ × LockCall)) (node : ℕ) (f : NodeFault) → Open K lane number txs log t → record_of 8 log.seen B ≡ Some (Discard td B)
       → ((s : ℕ) → is_concerned K txs s ≡ false → record_of 4 (I s).seen B ≡ None) → IsForgot K alone lane number txs I → AreLocks K txs B u locks
-      → DiscardedStopped K alone B td locks log log' I J node f → RunStopped log log' I J node f
-  discarded_stopped log log' I J t u td locks node f o discard none forgot are (at_forget s stop same node_is) =
+      → DiscardedStopped K alone B td repeats locks log log' I J node f → RunStopped log log' I J node f
+  discarded_stopped log log' I J t u td repeats locks node f o discard none forgot are (at_forget s stop same node_is) =
       subst (λ l. RunStopped log l I J node f) (sym same) (record {
         fell = shards_fell K lane home pieces alone true log I J (forgets_step K pieces alone lane number home txs true td log I J (map (forget_of B td) locks) stop.asked.answers discard (are_forgets K txs B u td locks are)
             stop.asked.each stop.asked.others (anyway stop.asked.answers));
@@ -78,8 +78,8 @@ module _ (K : Shape) (pieces : List (List Compact)) (alone : Bool) (lane number 
           let c = first_at (ForgetAnswer alone) (IsForget K txs B td) I J s f (map (forget_of B td) locks) stop.asked.answers stop.asked.each (are_forgets K txs B u td locks are).every stop.first in
           told_err alone lane false (λ L. stamp_by (next_forget L B td) (Forget (next_stamp L td) B)) (I s) (J s) f (λ L n e. stamp_unbroken (next_forget L B td) (Forget (next_stamp L td) B) n e)
           (subst (λ (d : ForgetCall). ForgetAnswer alone (s, d) (I s) (J s) (Err f)) c.1.1 c.3)
-  discarded_stopped log log' I J t u td locks node f o discard none forgot are (at_done forgotten phase told node_is) =
-      let r = forgets_run K pieces alone lane number home txs log I J u td forgotten locks discard none forgot are phase in
+  discarded_stopped log log' I J t u td repeats locks node f o discard none forgot are (at_done forgotten after phase again told node_is) =
+      let r = forgets_run K pieces alone lane number home txs log I after J u td forgotten repeats locks discard none forgot are phase again in
       stopped_on log log log' I J J node f r.moved refl
       (log_stopped log log' J node f node_is (done_err K pieces alone lane number home txs log log' J t o forgotten (stamp_at shard (map (forget_of B td) locks) phase.asked.answers) r.looks r.greatest_is f told))
 
@@ -111,7 +111,7 @@ module _ (K : Shape) (pieces : List (List Compact)) (alone : Bool) (lane number 
       let d = discard_ok K pieces alone lane number home txs log log1 before t o finished (stamp_at shard (map (finish_of B tc os) locks) phase.asked.answers) r.looks r.greatest_is td told in
       stopped_on log log log' I before J node f r.moved refl
       (stopped_on log log1 log' before before J node f d.0.moved (ap prepared d.0.step.own_is)
-      (discarded_stopped log1 log' before J t u td locks node f d.0.stays d.1
+      (discarded_stopped log1 log' before J t u td repeats locks node f d.0.stays d.1
       (λ s c. same_record 4 lane B (I s).seen (before s).seen refl (r.others s c) ∙ none s 4 (inr refl) c)
       (not_forgot K pieces alone lane number home txs log I before os finished (stamp_at shard (map (finish_of B tc os) locks) phase.asked.answers) r) are stop))
 

@@ -63,9 +63,9 @@ module _ (K : Shape) (alone : Bool) (o : OpenLane) (log log' : Sight) (I J : ℕ
         go (node, f, at, stop) = inr (λ h. (let d = at_phase Committed e h in
             (node, f, at, leaves_committed K alone o.batch o.txs d.0 log log' I J o.stamp o.stamp o.outcomes n locks node f d.1 own_locks stop)))
 
-    pub discarded_taken : o.phase ≡ Discarded → ToldDiscarded alone o.batch o.stamp locks log log' I J → IsUnfinished o.phase K o log I → IsTakenUp K alone o.batch log I log' J
-    discarded_taken e told h = let d = at_phase Discarded e h in takes_discarded K alone o.batch o.txs d.0 log log' I J o.stamp o.stamp locks d.1 own_locks told
+    pub discarded_taken : o.phase ≡ Discarded → ToldDiscarded alone o.batch o.stamp 0 locks log log' I J → IsUnfinished o.phase K o log I → IsTakenUp K alone o.batch log I log' J
+    discarded_taken e told h = let d = at_phase Discarded e h in takes_discarded K alone o.batch o.txs d.0 log log' I J o.stamp o.stamp 0 locks d.1 own_locks told
 
-    pub discarded_left : (fault : LaneFault) → o.phase ≡ Discarded → IsDiscardedStopped K alone o.batch o.stamp locks log log' I J fault → IsResumeStopped K alone o log I log' J fault
+    pub discarded_left : (fault : LaneFault) → o.phase ≡ Discarded → IsDiscardedStopped K alone o.batch o.stamp 0 locks log log' I J fault → IsResumeStopped K alone o log I log' J fault
     discarded_left fault e (node, f, at, stop) = inr (λ h. (let d = at_phase Discarded e h in
-        (node, f, at, leaves_discarded K alone o.batch o.txs d.0 log log' I J o.stamp o.stamp locks node f d.1 own_locks stop)))
+        (node, f, at, leaves_discarded K alone o.batch o.txs d.0 log log' I J o.stamp o.stamp 0 locks node f d.1 own_locks stop)))

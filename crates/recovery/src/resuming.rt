@@ -219,6 +219,7 @@ fn resume_discarded<S: PortSet, L: LogPort, G: Gate>(
         &mut forgets,
         &mut stamped,
         ports,
+        0,
         gate,
     ) {
         Ok(()) => Ok(ResumedBatch {
