@@ -1,5 +1,0 @@
-mod cores;
-mod counting;
-mod lanes;
-mod ledgers;
-mod parts;
