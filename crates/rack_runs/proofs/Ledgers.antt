@@ -17,11 +17,11 @@ use Rattle.coord_log.specs.Logs.{LogOf}
 use Rattle.shard_node.specs.Shards.{ShardOf}
 use Rattle.rack_ledgers.specs.Ledgers.{ByPlace, AreOpened}
 use Rattle.rack_nodes.specs.Racked.{OfTold}
-use Rattle.rack_laws.specs.Shown.{Shows, OfShown, KeepsEach, node_count}
+use Rattle.rack_laws.specs.Shown.{Shows, OfShown, KeepsEach, HoldsEach, node_count}
 use Rattle.rack_laws.proofs.Opened.{same_shape, same_journals, logs_held, shards_held}
-use Rattle.rack_laws.proofs.Behind.{keeps_each}
+use Rattle.rack_laws.proofs.Behind.{are_quiet, keeps_each, holds_each}
 use Rattle.ledger_runs.specs.Turning.{OfKept, StaysKept}
-use Rattle.ledger_nodes.specs.Ledgers.{IsLedger, journals_of, AreStored}
+use Rattle.ledger_nodes.specs.Ledgers.{IsLedger, journals_of, AreStored, AreQuiet}
 use Rattle.submissions.specs.Checks.{VerdictsOf, TellsSound}
 use Rattle.file_runs.specs.Runs.{joined}
 use Rattle.rack_runs.specs.Runs.{IsGrown, IsRun, IsRecovered, IsCutShort}
@@ -44,6 +44,7 @@ module _ {D : Type 0} (content : D → Option (List ℕ)) (images : D → List �
     pub idle : AreIdle S (journals_of count limit S now after)
     pub resumed : OfKept S (journals_of count limit S logs shards) (λ _ _. files ≡ [] → IsResumed S (journals_of count limit S logs shards) (journals_of count limit S now after))
     pub waves : OfKept S (journals_of count limit S logs shards) (λ _ _. (sound : FullTx → Bool) → TellsSound verdicts sound → Waves S sound files (journals_of count limit S logs shards) (journals_of count limit S now after))
+    pub quiet : OfKept S (journals_of count limit S logs shards) (λ _ _. AreQuiet logs shards → AreQuiet now after)
 
   module _ (K : Shape) (mint : List Output) (submissions : List FullTx) (E : ℕ → List Record) (within : IsWithinLimits K) (shows : Shows content held K (genesis_id mint) E) (kept : KeptJournals K mint submissions E) where
     shape_is : h.shape ≡ K
@@ -61,16 +62,18 @@ module _ {D : Type 0} (content : D → Option (List ℕ)) (images : D → List �
       shards_are = shards_held content images limit count held h logs shards are K (genesis_id mint) E within shows;
     })
 
-    disks_are : KeepsEach images back K (journals_of count limit K now after)
-    disks_are = subst (λ k. KeepsEach images back k (journals_of count limit k now after)) (shape ∙ shape_is) (keeps_each content images limit count back g now after is is_stored logs_back shards_back)
+    disks_keep : KeepsEach images back K (journals_of count limit K now after)
+    disks_keep = subst (λ k. KeepsEach images back k (journals_of count limit k now after)) (shape ∙ shape_is) (keeps_each content images limit count back g now after is is_stored logs_back shards_back)
 
-    is_grown : KeepsIt h.shape → IsGrown images back K mint (submissions ++ joined files) E (journals_of count limit K now after)
+    disks_hold : AreQuiet now after → HoldsEach images back K (journals_of count limit K now after)
+    disks_hold quiet = subst (λ k. HoldsEach images back k (journals_of count limit k now after)) (shape ∙ shape_is) (holds_each content images limit count back g now after is is_stored logs_back shards_back quiet)
+
+    is_grown : KeepsIt h.shape → IsGrown K mint (submissions ++ joined files) E (journals_of count limit K now after)
     is_grown keeps =
         let a = subst KeepsIt shape_is keeps mint submissions kept_there in
         record {
           grows = λ n. subst (λ L. IsEnd (L n) (journals_of count limit K now after n)) journals_are (a.grows n);
           kept = a.kept;
-          disks = disks_are;
         }
 
     is_run : (verdicts : VerdictsOf) → KeepsIt h.shape → Ends verdicts h.shape → IsRun images back verdicts files K mint submissions E
@@ -80,6 +83,7 @@ module _ {D : Type 0} (content : D → Option (List ℕ)) (images : D → List �
         record {
           exit = journals_of count limit K now after;
           grown = grown;
+          disks = disks_hold (e.quiet mint submissions kept_there (are_quiet content images limit count held h logs shards are));
           resumed = λ none. subst (λ L. IsResumed K L (journals_of count limit K now after)) journals_are (e.resumed mint submissions kept_there none);
           waves = λ sound tells. subst (λ L. Waves K sound files L (journals_of count limit K now after)) journals_are (e.waves mint submissions kept_there sound tells);
           headline = λ clean. idle_law K mint (submissions ++ joined files) (journals_of count limit K now after) within.some_shard within.some_lane clean grown.kept e.idle;
@@ -88,11 +92,17 @@ module _ {D : Type 0} (content : D → Option (List ℕ)) (images : D → List �
   pub runs : (verdicts : VerdictsOf) → KeepsIt h.shape → AreIdle h.shape (journals_of count limit h.shape now after)
       → OfKept h.shape (journals_of count limit h.shape logs shards) (λ _ _. files ≡ [] → IsResumed h.shape (journals_of count limit h.shape logs shards) (journals_of count limit h.shape now after))
       → OfKept h.shape (journals_of count limit h.shape logs shards) (λ _ _. (sound : FullTx → Bool) → TellsSound verdicts sound → Waves h.shape sound files (journals_of count limit h.shape logs shards) (journals_of count limit h.shape now after))
+      → OfKept h.shape (journals_of count limit h.shape logs shards) (λ _ _. AreQuiet logs shards → AreQuiet now after)
       → OfShown content held (IsRun images back verdicts files)
-  runs verdicts keeps idle resumed waves K mint submissions E within shows kept = is_run K mint submissions E within shows kept verdicts keeps (record { idle = idle; resumed = resumed; waves = waves })
+  runs verdicts keeps idle resumed waves quiet K mint submissions E within shows kept =
+      is_run K mint submissions E within shows kept verdicts keeps (record { idle = idle; resumed = resumed; waves = waves; quiet = quiet })
 
   pub cut_short : KeepsIt h.shape → OfShown content held (IsCutShort images back files)
-  cut_short keeps K mint submissions E within shows kept = record { exit = journals_of count limit K now after; grown = is_grown K mint submissions E within shows kept keeps }
+  cut_short keeps K mint submissions E within shows kept = record {
+    exit = journals_of count limit K now after;
+    grown = is_grown K mint submissions E within shows kept keeps;
+    disks = disks_keep K mint submissions E within shows kept;
+  }
 
 -- a run of no files is a recovery
 pub recovers : {D : Type 0} (content : D → Option (List ℕ)) (images : D → List ℕ → Type 0) (held back : ℕ → Option D) (verdicts : VerdictsOf)
@@ -102,7 +112,8 @@ recovers content images held back verdicts shown K mint submissions E within sho
     let none : submissions ++ [] ≡ submissions = append-nil submissions in
     record {
       exit = run.exit;
-      grown = subst (λ s. IsGrown images back K mint s E run.exit) none run.grown;
+      grown = subst (λ s. IsGrown K mint s E run.exit) none run.grown;
+      disks = run.disks;
       resumed = run.resumed refl;
       headline = λ clean. subst (λ s. Headline K mint s run.exit) none (run.headline (subst (Clean mint) (sym none) clean));
     }

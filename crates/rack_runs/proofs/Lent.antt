@@ -14,9 +14,9 @@ pub on_ok_by : {B F : Type 0} {X Y : Type 0} (o : Result B F) → (X → Y) → 
 on_ok_by (Ok b) f so = f so
 on_ok_by (Err e) f so = tt
 
-pub on_ok_all : {B F : Type 0} {X Y Z W : Type 0} (o : Result B F) → (X → Y → Z → W) → OnOk o X → OnOk o Y → OnOk o Z → OnOk o W
-on_ok_all (Ok b) f x y z = f x y z
-on_ok_all (Err e) f x y z = tt
+pub on_ok_all : {B F : Type 0} {X Y Z V W : Type 0} (o : Result B F) → (X → Y → Z → V → W) → OnOk o X → OnOk o Y → OnOk o Z → OnOk o V → OnOk o W
+on_ok_all (Ok b) f x y z v = f x y z v
+on_ok_all (Err e) f x y z v = tt
 
 pub if_err_by : {B F : Type 0} (P Q : F → Type 0) (o : Result B F) → ((e : F) → P e → Q e) → IfErr o P → IfErr o Q
 if_err_by P Q (Ok b) f so = tt

@@ -7,7 +7,7 @@ ghost use Rattle.input_files.specs.Limits.{IsShort};
 ghost use Rattle.submissions.specs.Checks.{TellsSound};
 ghost use Rattle.ledger_runs.specs.Turning.{OfKept, StaysKept};
 ghost use Rattle.file_runs.specs.Runs.{joined};
-ghost use Rattle.ledger_nodes.specs.Ledgers.{IsLedger, journals_of, faults_of, AreStored};
+ghost use Rattle.ledger_nodes.specs.Ledgers.{IsLedger, journals_of, faults_of, AreStored, AreQuiet};
 ghost use Rattle.rack_runs.specs.Kinds.{IsLaneAnswer};
 
 use crate::faults::answer_of;
@@ -88,6 +88,8 @@ pub(crate) fn run_nodes<W: Wait, D: Disk, V: Verifier, G: Gate>(
     ensures resumed { OnOk result.came (OfKept nodes.header.shape (journals_of D.count D.limit nodes.header.shape nodes.logs.items nodes.shards.items)
         (λ _ _. files.now ≡ [] → IsResumed nodes.header.shape (journals_of D.count D.limit nodes.header.shape nodes.logs.items nodes.shards.items)
         (journals_of D.count D.limit nodes.header.shape result.nodes.logs.items result.nodes.shards.items))) }
+    ensures quiet { OnOk result.came (OfKept nodes.header.shape (journals_of D.count D.limit nodes.header.shape nodes.logs.items nodes.shards.items)
+        (λ _ _. AreQuiet nodes.logs.items nodes.shards.items → AreQuiet result.nodes.logs.items result.nodes.shards.items)) }
     ensures stored { AreStored D.content D.images nodes.logs.items nodes.shards.items → AreStored D.content D.images result.nodes.logs.items result.nodes.shards.items }
     ensures later { (n : ℕ) → faults_of D.count D.limit nodes.header.shape nodes.logs.items nodes.shards.items n
         ≤ faults_of D.count D.limit nodes.header.shape result.nodes.logs.items result.nodes.shards.items n }

@@ -48,6 +48,7 @@ pub(crate) fn run_over<L: Turns, V: Verifier, G: Gate>(
     ensures waves { OnOk result (OfKept (L.shape ledger.old) (L.journals ledger.old) (λ _ _. (sound : TxOf → Bool)
         → TellsSound (V.verdict_of verifier.now) sound → Waves (L.shape ledger.old) sound files.now (L.journals ledger.old) (L.journals ledger.new))) }
     ensures resumed { OnOk result (OfKept (L.shape ledger.old) (L.journals ledger.old) (λ _ _. files.now ≡ [] → IsResumed (L.shape ledger.old) (L.journals ledger.old) (L.journals ledger.new))) }
+    ensures quiet { OnOk result (OfKept (L.shape ledger.old) (L.journals ledger.old) (λ _ _. L.quiet ledger.old → L.quiet ledger.new)) }
     ensures holds { L.holds ledger.old → L.holds ledger.new }
     ensures later { (n : ℕ) → L.faults ledger.old n ≤ L.faults ledger.new n }
 {

@@ -28,7 +28,7 @@ pub fn run_on<W: Wait, R: Rack, V: Verifier, G: Gate>(
 ) -> Result<Ran, Answer>
     requires all { (n : ℕ) → R.can_take rack.old n }
     requires short { All (λ txs. All IsShort txs) files.now }
-    // The ledger that the rack showed has its open batches at their end and the files' waves behind them, and each disk keeps its journal.
+    // The ledger that the rack showed has its open batches at their end and the files' waves behind them, and each disk holds its journal.
     ensures ran { OnOk result (OfShown R.Disk.content (R.held rack.old) (IsRun R.Disk.images (R.held rack.new) (V.verdict_of verifier.now) files.now)) }
 
     // The nodes could not be opened, and the disks are back; or a lane met a fault: journals have grown at their ends, and are kept.

@@ -6,7 +6,7 @@ use Rattle.cbdc_model.specs.Waves.{IsResumed, Waves}
 use Rattle.submissions.specs.Checks.{TellsSound}
 use Rattle.ledger_runs.specs.Turning.{OfKept, StaysKept}
 use Rattle.file_runs.specs.Runs.{joined}
-use Rattle.ledger_nodes.specs.Ledgers.{journals_of, faults_of, AreStored}
+use Rattle.ledger_nodes.specs.Ledgers.{journals_of, faults_of, AreStored, AreQuiet}
 use Rattle.rack_runs.proofs.Lent.{on_ok, lent_journals, lent_faults, on_ok_by}
 use Rattle.rack_runs.proofs.nodes.run_nodes.Goals as goal
 
@@ -85,3 +85,15 @@ returns-clause-later g c =
     (λ F. (n : ℕ) → faults_of g.D.Disk.count g.D.Disk.limit c.args.nodes.header.shape c.args.nodes.logs.items c.args.nodes.shards.items n ≤ F n) c.args.nodes.header.shape c.run_over-over.new.ledger _ back shape
     (subst (λ l. (n : ℕ) → faults_of g.D.Disk.count g.D.Disk.limit l.header.shape l.logs l.shards n
     ≤ faults_of g.D.Disk.count g.D.Disk.limit c.run_over-over.new.ledger.header.shape c.run_over-over.new.ledger.logs c.run_over-over.new.ledger.shards n) lent c.run_over-over.ensures.later)
+
+pub returns-clause-quiet : goal.returns-clause-quiet
+returns-clause-quiet g c =
+    let back : c.run_over-over.new.ledger ≡ record { header = c.header.inside.header; logs = c.header.inside.logs.items; shards = c.header.inside.shards.items } = cc in
+    let lent : c.lend-lent.result ≡ record { header = c.args.nodes.header; logs = c.args.nodes.logs.items; shards = c.args.nodes.shards.items } = c.lend-lent.ensures in
+    let own = on_ok_by c.run_over-over.result
+    (subst (λ l. OfKept l.header.shape (journals_of g.D.Disk.count g.D.Disk.limit l.header.shape l.logs l.shards)
+    (λ _ _. AreQuiet l.logs l.shards → AreQuiet c.run_over-over.new.ledger.logs c.run_over-over.new.ledger.shards)) lent) c.run_over-over.ensures.quiet in
+    on_ok _ c.came_of-came.result c.run_over-over.result c.came_of-came.ensures.whole
+    (on_ok_by c.run_over-over.result
+    (subst (λ l. OfKept c.args.nodes.header.shape (journals_of g.D.Disk.count g.D.Disk.limit c.args.nodes.header.shape c.args.nodes.logs.items c.args.nodes.shards.items)
+    (λ _ _. AreQuiet c.args.nodes.logs.items c.args.nodes.shards.items → AreQuiet l.logs l.shards)) back) own)

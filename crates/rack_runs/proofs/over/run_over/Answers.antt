@@ -1,5 +1,6 @@
 use Rattle.std.proofs.Common.{length, sym, ◌∙◌}
 use Rattle.std.proofs.lemmas.Bool.{eqb-true}
+use Rattle.ledger_runs.proofs.Keeping.{same_next}
 use Rattle.rack_runs.proofs.Resumed.{over_cut, over_keeps, over_waves, over_none, none_of}
 use Rattle.rack_runs.proofs.over.run_over.Goals as goal
 
@@ -32,3 +33,12 @@ returns-then-is_empty-clause-resumed g c mint submissions kept none = c.in-Ok.en
 pub returns-then-is_empty-clause-waves : goal.returns-then-is_empty-clause-waves
 returns-then-is_empty-clause-waves g c =
     over_none (g.L.Turns.shape c.args.ledger.now) (g.V.Verifier.verdict_of c.args.verifier.now) c.args.files.now (g.L.Turns.journals c.args.ledger.now) (g.L.Turns.journals c.resume_all.new.ledger) (none_of c.args.files.now (eqb-true (length c.args.files.now) 0 (sym c.is_empty.ensures ∙ c.if-is_empty.true))) c.in-Ok.ensures.resumed
+
+pub returns-then-is_empty-clause-quiet : goal.returns-then-is_empty-clause-quiet
+returns-then-is_empty-clause-quiet g c = c.in-Ok.ensures.quiet
+
+pub returns-in-Ok-run_files-clause-quiet : goal.returns-in-Ok-run_files-clause-quiet
+returns-in-Ok-run_files-clause-quiet g c =
+    same_next (g.L.Turns.shape c.args.ledger.now) (g.L.Turns.shape c.resume_all.new.ledger) (g.L.Turns.journals c.args.ledger.now) (g.L.Turns.journals c.resume_all.new.ledger)
+    (g.L.Turns.quiet c.args.ledger.now) (g.L.Turns.quiet c.resume_all.new.ledger) (g.L.Turns.quiet c.run_files.new.ledger)
+    c.resume_all.ensures.shape c.resume_all.ensures.keeps c.in-Ok.ensures.quiet c.in-Ok-run_files.ensures.quiet
