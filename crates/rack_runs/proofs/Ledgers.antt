@@ -23,6 +23,8 @@ use Rattle.rack_laws.proofs.Behind.{are_quiet, keeps_each, holds_each}
 use Rattle.ledger_runs.specs.Turning.{OfKept, StaysKept}
 use Rattle.ledger_nodes.specs.Ledgers.{IsLedger, journals_of, AreStored, AreQuiet}
 use Rattle.submissions.specs.Checks.{VerdictsOf, TellsSound}
+use Rattle.sound_laws.specs.SoundTest.{sound_by}
+use Rattle.sound_laws.proofs.Telling.{is_sound_law}
 use Rattle.file_runs.specs.Runs.{joined}
 use Rattle.rack_runs.specs.Runs.{IsGrown, IsRun, IsRecovered, IsCutShort}
 
@@ -85,7 +87,7 @@ module _ {D : Type 0} (content : D → Option (List ℕ)) (images : D → List �
           grown = grown;
           disks = disks_hold (e.quiet mint submissions kept_there (are_quiet content images limit count held h logs shards are));
           resumed = λ none. subst (λ L. IsResumed K L (journals_of count limit K now after)) journals_are (e.resumed mint submissions kept_there none);
-          waves = λ sound tells. subst (λ L. Waves K sound files L (journals_of count limit K now after)) journals_are (e.waves mint submissions kept_there sound tells);
+          waves = subst (λ L. Waves K (sound_by verdicts) files L (journals_of count limit K now after)) journals_are (e.waves mint submissions kept_there (sound_by verdicts) (is_sound_law verdicts));
           headline = λ clean. idle_law K mint (submissions ++ joined files) (journals_of count limit K now after) within.some_shard within.some_lane clean grown.kept e.idle;
         }
 

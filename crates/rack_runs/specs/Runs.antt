@@ -1,5 +1,5 @@
 -- What runs leave of the ledger that a rack showed.
-use Rattle.std.specs.Prelude.{◌≡◌, ℕ, List, [], ◌++◌, Bool, Option}
+use Rattle.std.specs.Prelude.{◌≡◌, ℕ, List, [], ◌++◌, Option}
 use Rattle.cbdc_model.specs.Records.{Shape, Record}
 use Rattle.cbdc_model.specs.Coins.{Output, FullTx}
 use Rattle.cbdc_model.specs.Clean.{Clean}
@@ -8,7 +8,8 @@ use Rattle.cbdc_model.specs.World.{KeptJournals}
 use Rattle.cbdc_model.specs.Headline.{Headline}
 use Rattle.cbdc_model.specs.Waves.{IsResumed, Waves}
 use Rattle.rack_laws.specs.Shown.{KeepsEach, HoldsEach}
-use Rattle.submissions.specs.Checks.{VerdictsOf, TellsSound}
+use Rattle.submissions.specs.Checks.{VerdictsOf}
+use Rattle.sound_laws.specs.SoundTest.{sound_by}
 use Rattle.file_runs.specs.Runs.{joined}
 
 -- journals that have grown at their ends from those at entry, and are kept
@@ -23,7 +24,7 @@ pub record IsRun {D : Type 0} (images : D → List ℕ → Type 0) (held : ℕ �
   pub grown : IsGrown K mint (submissions ++ joined files) E exit
   pub disks : HoldsEach images held K exit
   pub resumed : files ≡ [] → IsResumed K E exit
-  pub waves : (sound : FullTx → Bool) → TellsSound verdicts sound → Waves K sound files E exit
+  pub waves : Waves K (sound_by verdicts) files E exit
   pub headline : Clean mint (submissions ++ joined files) → Headline K mint (submissions ++ joined files) exit
 
 -- a recovery: the open batches are brought to their end, nothing else is done, each disk holds its journal and no record more, and the

@@ -48,9 +48,13 @@ is_sound t verdicts =
     && each_below (λ i. not (is_bad (verdicts i))) (length t.inputs)
     && each_below (λ i. not (is_absent (verdicts i))) (length t.inputs)
 
+-- whether a transaction is sound by the verdicts on its id
+abbrev pub sound_by : VerdictsOf → FullTx → Bool
+sound_by verdicts t = is_sound t (verdicts (tx_id t))
+
 -- it says yes exactly for the sound transactions
 abbrev pub IsSoundLaw : Type 0
-IsSoundLaw = (verdicts : VerdictsOf) → TellsSound verdicts (λ t. is_sound t (verdicts (tx_id t)))
+IsSoundLaw = (verdicts : VerdictsOf) → TellsSound verdicts (sound_by verdicts)
 
 -- there is a test that does
 abbrev pub SoundTestLaw : Type 0
