@@ -12,13 +12,16 @@ fn slots(rt: HostRuntime) -> Result<(), Fail> {
     assert!(rt; slots.len() == 3);
     assert!(rt; !slots.is_empty());
     for lane in 0..3u32 {
+        assert!(rt; (lane as usize) < slots.len());
         assert_eq!(rt; *slots.slot(LaneId(lane)), Slot::Idle(0, Stamp(0)));
     }
     let own = part(alloc, &[(51, &[1], &[])])?;
     let mut replies = List::new(alloc);
     replies.push(Reply::Held)?;
     slots.put(LaneId(1), Slot::Locked(4, own, replies, Stamp(9)));
+    assert!(rt; slots.len() == 3);
     slots.put(LaneId(2), Slot::Idle(8, Stamp(6)));
+    assert!(rt; slots.len() == 3);
     assert_eq!(rt; *slots.slot(LaneId(0)), Slot::Idle(0, Stamp(0)));
     assert_eq!(rt; *slots.slot(LaneId(2)), Slot::Idle(8, Stamp(6)));
     let Slot::Locked(number, own, replies, stamp) = slots.take(LaneId(1)) else {
@@ -26,11 +29,13 @@ fn slots(rt: HostRuntime) -> Result<(), Fail> {
         return Ok(());
     };
     assert_eq!(rt; number, 4);
+    assert!(rt; slots.len() == 3);
     assert_eq!(rt; stamp, Stamp(9));
     assert_eq!(rt; *slots.slot(LaneId(1)), Slot::Idle(0, Stamp(0)));
     let given = decisions(alloc, &[true])?;
     let slot = Slot::Finished(number, own, replies, given, stamp, Stamp(11));
     slots.put(LaneId(1), slot);
+    assert!(rt; slots.len() == 3);
     let own = part(alloc, &[(51, &[1], &[])])?;
     let mut replies = List::new(alloc);
     replies.push(Reply::Held)?;

@@ -8,6 +8,9 @@ use std::alloc::Global;
 use std::process::Abort;
 use std::test::Fail;
 
+/// The latest stamp that a Lock may have.
+pub(crate) const LATEST: u64 = 1 << 62;
+
 pub(crate) fn hash(byte: u8) -> Hash {
     Hash([byte; 32])
 }
@@ -109,14 +112,14 @@ pub(crate) fn lock(
     call: &LockCall,
 ) -> Result<LockPlan, Fail> {
     assert!(rt; call.batch.lane.0 < core.header().shape.lane_count());
-    assert!(rt; call.cause.0 < 1 << 62);
+    assert!(rt; call.cause.0 <= LATEST);
     Ok(core.plan_lock(call)?)
 }
 
 /// What a Finish is answered.
 pub(crate) fn finish(rt: &impl Abort, core: &ShardCore, call: &FinishCall) -> StampPlan {
     assert!(rt; call.batch.lane.0 < core.header().shape.lane_count());
-    assert!(rt; call.cause.0 < 1 << 62);
+    assert!(rt; call.cause.0 <= LATEST);
     core.plan_finish(call)
 }
 
@@ -127,7 +130,7 @@ pub(crate) fn forget(rt: &impl Abort, core: &ShardCore, batch: BatchId, cause: u
         cause: Stamp(cause),
     };
     assert!(rt; call.batch.lane.0 < core.header().shape.lane_count());
-    assert!(rt; call.cause.0 < 1 << 62);
+    assert!(rt; call.cause.0 <= LATEST);
     core.plan_forget(&call)
 }
 

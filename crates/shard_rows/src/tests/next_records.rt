@@ -1,5 +1,5 @@
 // Which records may come next at a shard.
-use super::making::{Row, batch, finished, forgotten, hash, locked, shard, take_in};
+use super::making::{LATEST, Row, batch, finished, forgotten, hash, locked, shard, take_in};
 use cbdc_types::{Header, List, NodeId, Record, Reply, Shape, Stamp};
 use shard_core::ShardCore;
 use std::process::Abort;
@@ -29,12 +29,11 @@ fn locks(rt: HostRuntime) -> Result<(), Fail> {
     let rt = &rt;
     let own = batch(1, 7);
     let replies = [Reply::Held, Reply::Locked(hash(1), own)];
-    let late = 1u64 << 62;
     let mut core = shard(alloc, &[1])?;
     let mut records = Vec::new(alloc);
     records.push((locked(alloc, 1, own, &ROWS, &replies)?, true))?;
-    records.push((locked(alloc, late, own, &ROWS, &replies)?, true))?;
-    records.push((locked(alloc, late + 1, own, &ROWS, &replies)?, false))?;
+    records.push((locked(alloc, LATEST, own, &ROWS, &replies)?, true))?;
+    records.push((locked(alloc, LATEST + 1, own, &ROWS, &replies)?, false))?;
     records.push((locked(alloc, 0, own, &ROWS, &replies)?, false))?;
     records.push((locked(alloc, 1, batch(4, 7), &ROWS, &replies)?, false))?;
     records.push((locked(alloc, 1, batch(1, 0), &ROWS, &replies)?, false))?;

@@ -15,6 +15,7 @@ fn a_set(rt: HostRuntime) -> Result<(), Fail> {
     assert!(rt; room >= 2);
     table.insert(hash(1));
     assert_eq!(rt; table.spare(), room - 1);
+    assert!(rt; table.spare() > 0);
     table.insert(hash(1));
     assert_eq!(rt; table.spare(), room - 1);
     assert_eq!(rt; table.len(), 1);
@@ -40,8 +41,9 @@ fn locks(rt: HostRuntime) -> Result<(), Fail> {
     let room = locks.spare();
     assert!(rt; room >= 200);
     for byte in 0..200u8 {
-        assert!(rt; locks.spare() > 0 && locks.holder(&hash(byte)).is_none());
-        locks.take(hash(byte), batch(byte as u32, 7), 255 - byte as u32);
+        let x = hash(byte);
+        assert!(rt; locks.spare() > 0 && locks.holder(&x).is_none());
+        locks.take(x, batch(byte as u32, 7), 255 - byte as u32);
     }
     assert!(rt; locks.spare() == room - 200);
     locks.release(&hash(40));
@@ -69,8 +71,9 @@ fn values_under_hashes(rt: HostRuntime) -> Result<(), Fail> {
     let room = slots.spare();
     assert!(rt; room >= 100);
     for byte in 0..100u8 {
-        assert!(rt; slots.spare() > 0 && slots.get(&hash(byte)).is_none());
-        slots.insert(hash(byte), byte);
+        let x = hash(byte);
+        assert!(rt; slots.spare() > 0 && slots.get(&x).is_none());
+        slots.insert(x, byte);
     }
     assert_eq!(rt; slots.len(), 100);
     assert!(rt; slots.spare() == room - 100);
