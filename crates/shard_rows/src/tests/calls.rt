@@ -56,6 +56,10 @@ fn not_locked(kept: u64) -> StampPlan {
     StampPlan::Refused(Refused::NotLocked { kept })
 }
 
+fn not_finished(kept: u64) -> StampPlan {
+    StampPlan::Refused(Refused::NotFinished { kept })
+}
+
 fn other(at: u64) -> StampPlan {
     StampPlan::Refused(Refused::OtherOutcome { at })
 }
@@ -162,11 +166,10 @@ fn finishes(rt: HostRuntime) -> Result<(), Fail> {
 #[test]
 fn forgets(rt: HostRuntime) -> Result<(), Fail> {
     let alloc = rt.alloc();
-    let open = StampPlan::Refused(Refused::NotFinished { kept: 1 });
     let table = [
         (1, 1, 5, not_locked(0)),
-        (2, 1, 5, open),
-        (2, 1, 0, open),
+        (2, 1, 5, not_finished(1)),
+        (2, 1, 0, not_finished(1)),
         (3, 1, 5, StampPlan::Append(Stamp(6))),
         (3, 1, 4, early(4)),
         (3, 0, 4, stale(1)),

@@ -1,7 +1,8 @@
 // Which records may come next at a shard.
 use super::making::{LATEST, Row, batch, finished, forgotten, hash, locked, shard, take_in};
-use cbdc_types::{Header, List, NodeId, Record, Reply, Shape, Stamp};
+use cbdc_types::{BatchId, Header, List, NodeId, Record, Reply, Shape, Stamp};
 use shard_core::ShardCore;
+use std::alloc::Global;
 use std::process::Abort;
 use std::test::Fail;
 
@@ -21,54 +22,88 @@ fn expect_next(
     Ok(())
 }
 
-/// Behind the Genesis a Lock alone is next: with the replies that the shard gives, a number above the lane's, a stamp
-/// above the last one, hashes and lanes that are here.
+// The replies to the rows where the batch is this one: its first entry claims what the second wants.
+fn replies(own: BatchId) -> [Reply; 2] {
+    [Reply::Held, Reply::Locked(hash(1), own)]
+}
+
+// Whether a record is next behind the Genesis of the hash of ones.
+fn is_first(alloc: Global, record: &Record) -> Result<bool, Fail> {
+    let mut core = shard(alloc, &[1])?;
+    Ok(core.admit(record)?)
+}
+
+/// Behind the Genesis a Lock is next with a stamp above 0 and within the bound of a Lock, for a lane that is there and a
+/// number above that lane's.
 #[test]
 fn locks(rt: HostRuntime) -> Result<(), Fail> {
-    let alloc = rt.alloc();
-    let rt = &rt;
+    let table = [
+        (1, batch(1, 7), true),
+        (LATEST, batch(1, 7), true),
+        (LATEST + 1, batch(1, 7), false),
+        (0, batch(1, 7), false),
+        (1, batch(4, 7), false),
+        (1, batch(1, 0), false),
+    ];
+    for (stamp, own, wanted) in table {
+        let record = locked(rt.alloc(), stamp, own, &ROWS, &replies(own))?;
+        assert_eq!(rt; is_first(rt.alloc(), &record)?, wanted, "stamp {stamp}");
+    }
+    Ok(())
+}
+
+/// Each entry has the reply that the shard gives to it.
+#[test]
+fn locks_with_their_replies(rt: HostRuntime) -> Result<(), Fail> {
     let own = batch(1, 7);
-    let replies = [Reply::Held, Reply::Locked(hash(1), own)];
-    let mut core = shard(alloc, &[1])?;
-    let mut records = Vec::new(alloc);
-    records.push((locked(alloc, 1, own, &ROWS, &replies)?, true))?;
-    records.push((locked(alloc, LATEST, own, &ROWS, &replies)?, true))?;
-    records.push((locked(alloc, LATEST + 1, own, &ROWS, &replies)?, false))?;
-    records.push((locked(alloc, 0, own, &ROWS, &replies)?, false))?;
-    records.push((locked(alloc, 1, batch(4, 7), &ROWS, &replies)?, false))?;
-    records.push((locked(alloc, 1, batch(1, 0), &ROWS, &replies)?, false))?;
-    records.push((
-        locked(alloc, 1, own, &ROWS, &[Reply::Held, Reply::Held])?,
-        false,
-    ))?;
-    let missing = [Reply::Held, Reply::Missing(hash(1))];
-    records.push((locked(alloc, 1, own, &ROWS, &missing)?, false))?;
-    let other = [Reply::Held, Reply::Locked(hash(1), batch(1, 6))];
-    records.push((locked(alloc, 1, own, &ROWS, &other)?, false))?;
-    records.push((locked(alloc, 1, own, &[], &[])?, false))?;
-    records.push((
-        locked(alloc, 1, own, &[(51, &[], &[])], &[Reply::Held])?,
-        false,
-    ))?;
-    records.push((finished(alloc, 1, own, &[true, false])?, false))?;
-    records.push((forgotten(1, own), false))?;
+    let table = [
+        (Reply::Locked(hash(1), own), true),
+        (Reply::Locked(hash(1), batch(1, 6)), false),
+        (Reply::Locked(hash(2), own), false),
+        (Reply::Missing(hash(1)), false),
+        (Reply::Held, false),
+    ];
+    for (reply, wanted) in table {
+        let record = locked(rt.alloc(), 1, own, &ROWS, &[Reply::Held, reply])?;
+        assert_eq!(rt; is_first(rt.alloc(), &record)?, wanted);
+    }
+    Ok(())
+}
+
+/// A Lock of nothing, of an entry without hashes, and one of more entries than a batch may have.
+#[test]
+fn locks_of_too_little_and_too_much(rt: HostRuntime) -> Result<(), Fail> {
+    let row: Row = (51, &[], &[2]);
+    let empty: Row = (51, &[], &[]);
+    let tables: [(&[Row], bool); 4] = [
+        (&[], false),
+        (&[empty], false),
+        (&[row, row, row, row], true),
+        (&[row, row, row, row, row], false),
+    ];
+    for (rows, wanted) in tables {
+        let record = locked(rt.alloc(), 1, batch(1, 7), rows, &[Reply::Held; 5])?;
+        assert_eq!(rt; is_first(rt.alloc(), &record)?, wanted);
+    }
+    Ok(())
+}
+
+/// No other kind of record is next behind the Genesis.
+#[test]
+fn other_kinds(rt: HostRuntime) -> Result<(), Fail> {
+    let alloc = rt.alloc();
+    let own = batch(1, 7);
+    assert!(rt; !is_first(alloc, &finished(alloc, 1, own, &[true, false])?)?);
+    assert!(rt; !is_first(alloc, &forgotten(1, own))?);
     let header = Header {
         node: NodeId(2),
         shape: Shape::new(1, 2, 2, 4)?,
         genesis: hash(200),
     };
     let hashes = List::new(alloc);
-    records.push((Record::Genesis { header, hashes }, false))?;
-    records.push((
-        Record::Done {
-            stamp: Stamp(1),
-            batch: own,
-        },
-        false,
-    ))?;
-    expect_next(rt, &mut core, records.as_slice())?;
-    assert_eq!(rt; core.unspent_len(), 1);
-    assert_eq!(rt; core.last_stamp(), Stamp(0));
+    assert!(rt; !is_first(alloc, &Record::Genesis { header, hashes })?);
+    let stamp = Stamp(1);
+    assert!(rt; !is_first(alloc, &Record::Done { stamp, batch: own })?);
     Ok(())
 }
 
@@ -78,9 +113,8 @@ fn finishes_and_forgets(rt: HostRuntime) -> Result<(), Fail> {
     let alloc = rt.alloc();
     let rt = &rt;
     let own = batch(1, 7);
-    let replies = [Reply::Held, Reply::Locked(hash(1), own)];
     let mut core = shard(alloc, &[1])?;
-    take_in(rt, &mut core, &locked(alloc, 5, own, &ROWS, &replies)?)?;
+    take_in(rt, &mut core, &locked(alloc, 5, own, &ROWS, &replies(own))?)?;
     let mut records = Vec::new(alloc);
     records.push((finished(alloc, 6, own, &[true, false])?, true))?;
     records.push((finished(alloc, 6, own, &[false, false])?, true))?;
