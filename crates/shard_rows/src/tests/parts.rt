@@ -25,6 +25,7 @@ fn shares_of_first_bytes(rt: HostRuntime) {
         (255, 1, 0),
     ];
     for (byte, shards, wanted) in table {
+        assert!(rt; shards <= 64);
         let mut bytes = [255u8; 32];
         bytes[0] = byte;
         assert_eq!(rt;
