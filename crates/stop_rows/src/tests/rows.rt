@@ -177,6 +177,66 @@ fn a_torn_gate(rt: HostRuntime) -> Result<(), Fail> {
     Ok(())
 }
 
+// The coin, in upper case digits, and the output of the transaction on both shards.
+const PAID_STATUS: [&str; 3] = [
+    "status",
+    "0BF0376646E6B4974A5A86C6C59DB4396280671B1C89F05DD7D1FA54FE855FAA",
+    "bf4b4fef638ef76da00f7cf1cefd50a8fbbe5fcb55561f64d6710966f38079ae",
+];
+
+// What is known of them where the run was stopped.
+const KNOWN: [Stop; 4] = [
+    Stop {
+        kept: [2, 1, 1],
+        text: "0bf0376646e6b4974a5a86c6c59db4396280671b1c89f05dd7d1fa54fe855faa unspent\nbf4b4fef638ef76da00f7cf1cefd50a8fbbe5fcb55561f64d6710966f38079ae absent\n",
+    },
+    Stop {
+        kept: [2, 2, 1],
+        text: "0bf0376646e6b4974a5a86c6c59db4396280671b1c89f05dd7d1fa54fe855faa locked 0 1\nbf4b4fef638ef76da00f7cf1cefd50a8fbbe5fcb55561f64d6710966f38079ae absent\n",
+    },
+    Stop {
+        kept: [3, 3, 2],
+        text: "0bf0376646e6b4974a5a86c6c59db4396280671b1c89f05dd7d1fa54fe855faa absent\nbf4b4fef638ef76da00f7cf1cefd50a8fbbe5fcb55561f64d6710966f38079ae absent\n",
+    },
+    Stop {
+        kept: [3, 3, 3],
+        text: "0bf0376646e6b4974a5a86c6c59db4396280671b1c89f05dd7d1fa54fe855faa absent\nbf4b4fef638ef76da00f7cf1cefd50a8fbbe5fcb55561f64d6710966f38079ae unspent\n",
+    },
+];
+
+// What is known of a stopped run's hashes; no byte of its disks changes.
+fn knows<W: Wait + Abort>(
+    rt: &W,
+    alloc: Global,
+    whole: &[Vec<u8>],
+    stop: &Stop,
+) -> Result<(), Fail> {
+    let disks = stopped(alloc, whole, &stop.kept)?;
+    let rack = expect(
+        rt,
+        alloc,
+        rack_of(alloc, &disks)?,
+        &PAID_STATUS,
+        0,
+        stop.text,
+    )?;
+    let rack = expect(rt, alloc, rack, &["status", "0bf0"], 2, "fault words\n")?;
+    assert!(rt; bytes_of(alloc, &rack)? == disks);
+    Ok(())
+}
+
+/// `status` of a run that was stopped: each hash by its own shard, locked ones with their batch, in the order of the
+/// words; nothing is resumed.
+#[test]
+fn what_a_stopped_run_knows(rt: HostRuntime) -> Result<(), Fail> {
+    let rt = &rt;
+    let whole = made(rt, rt.alloc(), &PAY, PAY_TEXT)?;
+    for stop in &KNOWN {
+        knows(rt, rt.alloc(), &whole, stop)?;
+    }
+    Ok(())
+}
+
 /// `run` resumes before its first file.
 #[test]
 fn a_run_that_resumes_first(rt: HostRuntime) -> Result<(), Fail> {
