@@ -1,4 +1,4 @@
 pub mod Pages
 pub mod Steps
 pub mod Different
-pub mod Telling
+pub mod Submitted

@@ -1,5 +1,5 @@
 // The numbers that end the text of a run.
-ghost use Rattle.std.specs.Prelude.{◌≡◌, ◌*◌, ◌≤◌, ◌×◌, length, IfSome};
+ghost use Rattle.std.specs.Prelude.{◌≡◌, ◌*◌, ◌≤◌, length, IfSome};
 ghost use Rattle.std.specs.List.{filter};
 ghost use Rattle.model_check.specs.Journals.{journals_in};
 ghost use Rattle.printed_lines.specs.Runs.{is_confirmed, is_rejected, is_refused, count_in};

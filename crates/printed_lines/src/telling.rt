@@ -57,7 +57,8 @@ fn put_status(
         journals,
         shape.coordinators() + shard_of(hash, shape.shards()),
     );
-    write_status(page, hash, &status_of(own, hash))
+    let status = status_of(own, hash);
+    write_status(page, hash, &status)
 }
 
 // Puts the lines of hashes on a page.
