@@ -1,5 +1,5 @@
 -- What came of submissions, by what sentinels said of them.
-use Rattle.std.proofs.Common.{◌≡◌, ◌⊎◌, inl, inr, ℕ, zero, suc, ◌+◌, ◌*◌, ◌%◌, Bool, List, [], ◌∷◌, ◌++◌, length, refl, sym, ◌∙◌, ap, subst, arith, Some, None}
+use Rattle.std.proofs.Common.{◌≡◌, ◌⊎◌, inl, inr, ℕ, zero, suc, ◌+◌, Bool, List, [], ◌∷◌, ◌++◌, length, refl, sym, ◌∙◌, ap, subst, arith, Some, None}
 use Rattle.std.specs.Prelude.{slice_get, take, Option, Result, Ok, Err, IfOk, IfSome, is_ok, if◌then◌else◌}
 use Rattle.std.specs.Result.{result_ok}
 use Rattle.std.specs.List.{AllZip}
@@ -16,7 +16,7 @@ use Rattle.printed_lines.proofs.Pages.{some_is}
 use Rattle.printed_lines.specs.declared.report.Report.{Report}
 use Rattle.printed_lines.specs.declared.report.Report.TheVariants.{Refused, Decided}
 use Rattle.printed_lines.specs.Decided.{decided_at}
-use Rattle.printed_lines.specs.Runs.{lane_at, sent_before, AreReports, AreAllReports}
+use Rattle.printed_lines.specs.Runs.{sent_before}
 use Rattle.printed_lines.specs.Summaries.{Fits, AllFit, AreTold, AreAllTold}
 
 pub fits_refused : (K : Shape) (verdicts : VerdictsOf) (E X : ℕ → List Record) (earlier : List (List FullTx)) (c : Checked) (why : Refusal)

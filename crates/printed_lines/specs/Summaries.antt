@@ -1,5 +1,5 @@
 -- What the parts of the plain program hand to each other.
-use Rattle.std.specs.Prelude.{◌≡◌, ℕ, Bool, List, Option, Some, IfSome}
+use Rattle.std.specs.Prelude.{◌≡◌, ℕ, Bool, List}
 use Rattle.std.specs.List.{AllZip}
 use Rattle.cbdc_model.specs.Records.{Shape, Record}
 use Rattle.cbdc_model.specs.Coins.{FullTx}
