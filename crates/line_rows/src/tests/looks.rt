@@ -1,6 +1,6 @@
 // What `init`, `status` and `audit` print, and the lines of faults.
 use super::making::{
-    COIN, GENESIS, batch, confirmed, journals, ledger, mint, output, run_batch, split, two,
+    COIN, GENESIS, batch, confirmed, journals, mint, new_ledger, output, run_batch, split, two,
 };
 use audit::{Totals, Verdict};
 use cbdc_types::{Answer, Hash, InputKind, NodeId, Shape, UnsoundKind};
@@ -33,7 +33,7 @@ fn a_mint_past_the_greatest_sum(rt: HostRuntime) -> Result<(), Fail> {
 fn what_is_known_of_hashes(rt: HostRuntime) -> Result<(), Fail> {
     let rt = &rt;
     let shape = Shape::new(1, 1, 1, 16)?;
-    let mut exit = ledger(rt)?;
+    let mut exit = new_ledger(rt)?;
     let turns = [confirmed(rt, &split(rt)?)?];
     run_batch(rt, &mut exit, 1, batch(1), &turns)?;
     let mut hashes = Vec::new(rt.alloc());

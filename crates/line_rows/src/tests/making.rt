@@ -152,7 +152,7 @@ pub(crate) struct Ledger {
     pub shard: Vec<Record>,
 }
 
-pub(crate) fn ledger(rt: &HostRuntime) -> Result<Ledger, Fail> {
+pub(crate) fn new_ledger(rt: &HostRuntime) -> Result<Ledger, Fail> {
     let shape = Shape::new(1, 1, 1, 16)?;
     let start = Record::Start {
         header: header(0, shape),

@@ -1,7 +1,7 @@
 // What `run` prints.
 use super::making::{
-    COIN, Ledger, MORE, SPLIT, Turn, WHOLE, batch, confirmed, journals, ledger, locked, missing,
-    one, output, pays, run_batch, split, two, whole,
+    COIN, Ledger, MORE, SPLIT, Turn, WHOLE, batch, confirmed, journals, locked, missing,
+    new_ledger, one, output, pays, run_batch, split, two, whole,
 };
 use cbdc_types::{FullTx, List, Shape};
 use printed_lines::run_text;
@@ -11,7 +11,7 @@ use verifier_port::AllGood;
 // The text of a run of these files from a new ledger to this one, empty where there is none.
 fn text_of(rt: &HostRuntime, exit: Ledger, files: List<List<FullTx>>) -> Result<Vec<u8>, Fail> {
     let shape = Shape::new(1, 1, 1, 16)?;
-    let entry = journals(rt, ledger(rt)?)?;
+    let entry = journals(rt, new_ledger(rt)?)?;
     let exit = journals(rt, exit)?;
     let printed = run_text(
         rt.alloc(),
@@ -26,7 +26,7 @@ fn text_of(rt: &HostRuntime, exit: Ledger, files: List<List<FullTx>>) -> Result<
 
 // A ledger that ran a batch, and maybe another behind it.
 fn ran(rt: &HostRuntime, first: &[Turn], second: &[Turn]) -> Result<Ledger, Fail> {
-    let mut exit = ledger(rt)?;
+    let mut exit = new_ledger(rt)?;
     run_batch(rt, &mut exit, 1, batch(1), first)?;
     if !second.is_empty() {
         run_batch(rt, &mut exit, 8, batch(2), second)?;
@@ -96,7 +96,7 @@ fn a_refused_one_between_sound_ones(rt: HostRuntime) -> Result<(), Fail> {
 #[test]
 fn an_empty_client_file(rt: HostRuntime) -> Result<(), Fail> {
     let rt = &rt;
-    let exit = ledger(rt)?;
+    let exit = new_ledger(rt)?;
     let file = List::new(rt.alloc());
     let text = "resumed 0\nbatches 0\nconfirmed 0\nrejected 0\nrefused 0\nunspent 1\n";
     let printed = text_of(rt, exit, one(rt, file)?)?;
@@ -108,7 +108,7 @@ fn an_empty_client_file(rt: HostRuntime) -> Result<(), Fail> {
 #[test]
 fn an_undecided_submission(rt: HostRuntime) -> Result<(), Fail> {
     let rt = &rt;
-    let exit = ledger(rt)?;
+    let exit = new_ledger(rt)?;
     let printed = text_of(rt, exit, one(rt, one(rt, split(rt)?)?)?)?;
     assert!(rt; printed.is_empty());
     Ok(())
