@@ -1,4 +1,0 @@
-mod looks;
-mod making;
-mod recoveries;
-mod runs;

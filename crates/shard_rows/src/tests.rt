@@ -1,7 +1,0 @@
-mod batches;
-mod calls;
-mod lanes;
-mod making;
-mod next_records;
-mod parts;
-mod sets;
