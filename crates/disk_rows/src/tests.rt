@@ -1,0 +1,4 @@
+mod devices;
+mod journals;
+mod making;
+mod shards;
