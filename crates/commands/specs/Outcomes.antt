@@ -1,8 +1,9 @@
 -- What was done when all went well, by what the files and the disks told before and tell behind it.
-use Rattle.std.specs.Prelude.{◌≡◌, ◌⊎◌, ℕ, ◌<◌, List, [], Option, Ok}
+use Rattle.std.specs.Prelude.{◌≡◌, ◌≢◌, ◌⊎◌, ℕ, ◌<◌, ◌≤◌, List, [], Option, Ok}
 use Rattle.outside.specs.Images.{Tells}
 use Rattle.line_text.specs.Lines.{Text}
 use Rattle.cbdc_types.specs.declared.answer.Answer.{Answer}
+use Rattle.cbdc_types.specs.declared.answer.Answer.TheVariants as answers
 use Rattle.cbdc_model.specs.Records.{Shape}
 use Rattle.cbdc_model.specs.Coins.{Output, FullTx}
 use Rattle.command_line.specs.declared.request.FileWord.{FileWord}
@@ -11,7 +12,9 @@ use Rattle.command_line.specs.declared.request.Request.TheVariants.{Init, Run, R
 use Rattle.input_files.specs.Contents.{mint_of_file, AreRead, AreVerdicts, IsNotRead, FirstNotRead, IsNoVerdicts}
 use Rattle.verifier_port.specs.Files.{told}
 use Rattle.verifier_port.specs.declared.file.VerdictFile.{VerdictFile}
-use Rattle.ledger_init.specs.Made.{MayBeMade, HoldsFirst, first_of, node_count, IsUnmade}
+use Rattle.gate_journal.specs.Formatting.{IsEmptied}
+use Rattle.rack_nodes.specs.First.{IsBegun}
+use Rattle.ledger_init.specs.Made.{MayBeMade, HoldsFirst, LeavesBut, first_of, node_count, IsUnmade}
 use Rattle.rack_nodes.specs.Racked.{IsBack}
 use Rattle.rack_ledgers.specs.Ledgers.{IsUnopened}
 use Rattle.caused_ledgers.specs.Caused.{IsUnresumed}
@@ -79,3 +82,26 @@ Why files files_before files_now content images limit count disks now disks_befo
     IsUnopened content images limit count disks disks_before disks_now answer
 Why files files_before files_now content images limit count disks now disks_before disks_now (Show text) answer = ⊥
 Why files files_before files_now content images limit count disks now disks_before disks_now (Audit mint clients) answer = Unit {0}
+
+-- ---- what is left where it was not done
+
+-- no disk was written
+abbrev pub AreUntouched : {D : Type 0} → (ℕ → Option D) → (ℕ → Option D) → Type 0
+AreUntouched before now = (n : ℕ) → now n ≡ before n
+
+-- The file holds a mint whose ledger was not made. A crash leaves of a node no first record, what it might have left before, or its new one alone;
+-- of node 0 this only where its disk failed, and then all other nodes hold theirs.
+pub record LeavesUnmade {D : Type 0} (files : Text → Option (List ℕ)) (content : D → Option (List ℕ)) (images : D → List ℕ → Type 0) (before now : ℕ → Option D) (shape : Shape) (file : FileWord) (answer : Answer) : Type 0 where
+  pub mint : List Output
+  pub read : Tells (files file.name.now) (λ c. mint_of_file c ≡ Ok mint)
+  pub lead : answer ≢ answers.DiskFault 0 → LeavesBut content images IsEmptied (before 0) (now 0)
+  pub begun : (n : ℕ) → n < node_count shape → LeavesBut content images (λ was. IsBegun was (first_of shape mint n)) (before n) (now n)
+  pub last : LeavesBut content images IsEmptied (before 0) (now 0) ⊎ ((n : ℕ) → 1 ≤ n → n < node_count shape → HoldsFirst content images (first_of shape mint n) (before n) (now n))
+
+abbrev pub InitLeaves : {D : Type 0} → (Text → Option (List ℕ)) → (D → Option (List ℕ)) → (D → List ℕ → Type 0) → (ℕ → Option D) → (ℕ → Option D) → Shape → FileWord → Answer → Type 0
+InitLeaves files content images before now shape file answer = AreUntouched before now ⊎ LeavesUnmade files content images before now shape file answer
+
+-- what is left of the disks by what was asked for: it is told of `init`
+abbrev pub Leaves : {D : Type 0} → (Text → Option (List ℕ)) → (D → Option (List ℕ)) → (D → List ℕ → Type 0) → (ℕ → Option D) → (ℕ → Option D) → Request → Answer → Type 0
+Leaves files content images before now (Init shape mint) answer = InitLeaves files content images before now shape mint answer
+Leaves files content images before now other answer = Unit {0}

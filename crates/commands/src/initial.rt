@@ -2,7 +2,7 @@
 ghost use Rattle.std.specs.Prelude.{◌≤◌, ℕ, OnOk, IfErr};
 ghost use Rattle.outside.specs.Counts.{Rose};
 ghost use Rattle.commands.specs.Causes.{IsFault, IsDone, IsTold, IsWell, FileRose};
-ghost use Rattle.commands.specs.Outcomes.{DidInit, WhyNoInit};
+ghost use Rattle.commands.specs.Outcomes.{DidInit, WhyNoInit, InitLeaves};
 
 use cbdc_types::{Answer, Shape};
 use command_line::FileWord;
@@ -23,6 +23,7 @@ fn make<I: Inbox, R: Rack>(
     requires { (n : ℕ) → R.can_take rack.old n }
     ensures made { OnOk result (DidInit (I.file inbox.old) R.Disk.content R.Disk.images (R.held rack.old) (R.held rack.new) shape.now file.now) }
     ensures why { IfErr result (WhyNoInit (I.file inbox.old) (I.count inbox.old) (I.count inbox.new) R.Disk.content R.Disk.limit (R.held rack.old) (R.count rack.old) (R.count rack.new) shape.now file.now) }
+    ensures left { IfErr result (InitLeaves (I.file inbox.old) R.Disk.content R.Disk.images (R.held rack.old) (R.held rack.new) shape.now file.now) }
     ensures fault { IfErr result (IsFault (FileRose (I.count inbox.old) (I.count inbox.new) file.now)) }
     ensures back { (n : ℕ) → R.can_take rack.new n }
 {
@@ -45,6 +46,7 @@ pub(crate) fn init<I: Inbox, R: Rack, O: Sink>(
     ensures cause { IsDone (FileRose (I.count inbox.old) (I.count inbox.new) file.now) (Rose (O.count out.old) (O.count out.new)) result }
     ensures did { IsWell result → DidInit (I.file inbox.old) R.Disk.content R.Disk.images (R.held rack.old) (R.held rack.new) shape.now file.now }
     ensures why { IsTold (WhyNoInit (I.file inbox.old) (I.count inbox.old) (I.count inbox.new) R.Disk.content R.Disk.limit (R.held rack.old) (R.count rack.old) (R.count rack.new) shape.now file.now) result }
+    ensures left { (IsWell result → ⊥) → InitLeaves (I.file inbox.old) R.Disk.content R.Disk.images (R.held rack.old) (R.held rack.new) shape.now file.now result }
     ensures written_later { O.count out.old ≤ O.count out.new }
     ensures back { (n : ℕ) → R.can_take rack.new n }
 {

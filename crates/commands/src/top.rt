@@ -1,11 +1,11 @@
 // The top call.
-ghost use Rattle.std.specs.Prelude.{◌≡◌, ◌≤◌, ℕ};
+ghost use Rattle.std.specs.Prelude.{◌≡◌, ◌⊎◌, ◌≤◌, ℕ};
 ghost use Rattle.command_line.specs.Asked.{IsRefused};
 ghost use Rattle.command_line.specs.Words.{texts};
 ghost use Rattle.command_line.specs.Asked.{IsAsked};
 ghost use Rattle.command_line.specs.declared.request.Request.{Request as Asked};
 ghost use Rattle.commands.specs.Causes.{IsAnswered, IsDone, IsTold, IsWell, NamedRose, RequestRose};
-ghost use Rattle.commands.specs.Outcomes.{Did, Why};
+ghost use Rattle.commands.specs.Outcomes.{Did, Why, AreUntouched, Leaves};
 ghost use Rattle.outside.specs.Counts.{Rose};
 
 use crate::auditing::audit;
@@ -74,6 +74,7 @@ fn answer_to<W: Wait, I: Inbox, R: Rack, O: Sink, G: Gate>(
     ensures cause { IsDone (RequestRose request.now (I.count inbox.old) (I.count inbox.new)) (Rose (O.count out.old) (O.count out.new)) result }
     ensures did { IsWell result → Did (I.file inbox.old) R.Disk.content R.Disk.images (R.held rack.old) (R.held rack.new) request.now }
     ensures why { IsTold (Why (I.file inbox.old) (I.count inbox.old) (I.count inbox.new) R.Disk.content R.Disk.images R.Disk.limit R.Disk.count (R.held rack.old) (R.held rack.new) (R.count rack.old) (R.count rack.new) request.now) result }
+    ensures left { (IsWell result → ⊥) → Leaves (I.file inbox.old) R.Disk.content R.Disk.images (R.held rack.old) (R.held rack.new) request.now result }
     ensures written_later { O.count out.old ≤ O.count out.new }
 {
     match request {
@@ -103,6 +104,8 @@ fn answer_words<W: Wait, I: Inbox, R: Rack, O: Sink, G: Gate>(
     ensures cause { IsAnswered (texts words.now) (I.count inbox.old) (I.count inbox.new) (Rose (O.count out.old) (O.count out.new)) result }
     ensures did { IsWell result → (r : Asked) × IsAsked (texts words.now) r × Did (I.file inbox.old) R.Disk.content R.Disk.images (R.held rack.old) (R.held rack.new) r }
     ensures why { IsTold (λ a. (r : Asked) × IsAsked (texts words.now) r × Why (I.file inbox.old) (I.count inbox.old) (I.count inbox.new) R.Disk.content R.Disk.images R.Disk.limit R.Disk.count (R.held rack.old) (R.held rack.new) (R.count rack.old) (R.count rack.new) r a) result }
+    ensures left { (IsWell result → ⊥) → AreUntouched (R.held rack.old) (R.held rack.new)
+        ⊎ ((r : Asked) × IsAsked (texts words.now) r × Leaves (I.file inbox.old) R.Disk.content R.Disk.images (R.held rack.old) (R.held rack.new) r result) }
     ensures written_later { O.count out.old ≤ O.count out.new }
 {
     match parse(alloc, words) {
@@ -131,6 +134,10 @@ pub fn process<W: Wait, I: Inbox, R: Rack, O: Sink, G: Gate>(
     // Else why not: a file that is not read, a ledger that can't be made or opened, or a fault of a lane, and what it leaves. Of an audit
     // it is not told.
     ensures why { IsTold (λ a. (r : Asked) × IsAsked (texts words.now) r × Why (I.file inbox.old) (I.count inbox.old) (I.count inbox.new) R.Disk.content R.Disk.images R.Disk.limit R.Disk.count (R.held rack) (R.held result.rack) (R.count rack) (R.count result.rack) r a) result.status }
+
+    // And what is left then: no disk was written, or of `init` what a crash leaves of node 0, whose first record comes last.
+    ensures left { (IsWell result.status → ⊥) → AreUntouched (R.held rack) (R.held result.rack)
+        ⊎ ((r : Asked) × IsAsked (texts words.now) r × Leaves (I.file inbox.old) R.Disk.content R.Disk.images (R.held rack) (R.held result.rack) r result.status) }
 
     ensures bad_words { result.status ≡ Answer.BadWords → IsRefused (texts words.now) WordsFault.Bad }
     ensures read { (file : ℕ) → result.status ≡ Answer.ReadFault file → NamedRose (texts words.now) (I.count inbox.old) (I.count inbox.new) file }

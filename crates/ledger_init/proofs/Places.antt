@@ -117,6 +117,16 @@ module _ {D B : Type 0} (content : D → Option (List ℕ)) (images : D → List
       pub stopped_lead : answer ≢ answers.DiskFault 0 → LeavesBut content images IsEmptied (old 0) (new 0)
       stopped_lead other = lead_of stopped.front stopped.x stopped.done stopped.waiting stopped.fails (subst (λ (l : List B). EachFrom IsBlankAt 0 l) stopped.parts opened) other
 
+      last_of : (front : List B) (x : B) (done : List B) → EachFrom (λ n b. OfTold (new n) (λ d. d ≡ disk_of b)) 0 front → EachFrom IsBlankAt 0 (front ++ x ∷ done)
+          → EachFrom (λ n b. IsDone content images limit (first_of K mint n) (disk_of b) (new n)) (suc (length front)) done → length (front ++ x ∷ done) ≡ node_count K
+          → LeavesBut content images IsEmptied (old 0) (new 0) ⊎ ((n : ℕ) → 1 ≤ n → n < node_count K → HoldsFirst content images (first_of K mint n) (old n) (new n))
+      last_of [] x done waits blank behind all_of = inr (λ n ge lt. each_two IsBlankAt _ (λ k. HoldsFirst content images (first_of K mint k) (old k) (new k)) 1 done holds_at blank.1 behind n ge (omega (arith, all_of, lt)))
+      last_of (y ∷ front) x done waits blank behind all_of = inl (emptied_at 0 y blank.0 (λ d is_now some c image. inr (subst (λ (k : D). images k c) (waits.0 d is_now) image)))
+
+      -- it comes last
+      pub stopped_last : LeavesBut content images IsEmptied (old 0) (new 0) ⊎ ((n : ℕ) → 1 ≤ n → n < node_count K → HoldsFirst content images (first_of K mint n) (old n) (new n))
+      stopped_last = last_of stopped.front stopped.x stopped.done stopped.waiting (subst (λ (l : List B). EachFrom IsBlankAt 0 l) stopped.parts opened) stopped.behind (ap length (sym stopped.parts) ∙ all)
+
       pub above_have_place : IsWithinLimits K → length mint ≤ 1000000 → (n : ℕ) → length stopped.front < n → n < node_count K → HasPlaceFor K mint limit old n
       above_have_place limits few n above lt = each_two IsBlankAt (λ k b. IsDone content images limit (first_of K mint k) (disk_of b) (new k)) (λ k. k < node_count K → HasPlaceFor K mint limit old k) (suc (length stopped.front)) stopped.done
           (λ k b blank done inside_k was is. omega (arith, done.room, (blank.1 was is).read.room, first_size K mint k limits few inside_k))

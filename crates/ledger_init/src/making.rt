@@ -1,5 +1,5 @@
 // Making a ledger.
-ghost use Rattle.std.specs.Prelude.{◌≡◌, ◌≢◌, ◌+◌, ◌≤◌, ◌<◌, ◌^◌, ℕ, length, IfOk, IfErr, OnOk};
+ghost use Rattle.std.specs.Prelude.{◌≡◌, ◌≢◌, ◌⊎◌, ◌+◌, ◌≤◌, ◌<◌, ◌^◌, ℕ, length, IfOk, IfErr, OnOk, OnErr};
 ghost use Rattle.outside.specs.Counts.{Rose};
 ghost use Rattle.cbdc_model.specs.Coins.{genesis_tx, genesis_id, genesis_hashes};
 ghost use Rattle.cbdc_model.specs.Clean.{value_out};
@@ -52,6 +52,8 @@ fn make_nodes<R: Rack>(
     ensures left { (n : ℕ) → n < node_count shape.now
         → LeavesBut R.Disk.content R.Disk.images (λ before. IsBegun before (first_of shape.now mint n)) (R.held rack.old n) (R.held rack.new n) }
     ensures lead { IfErr result (λ e. e ≢ Answer.DiskFault 0 → LeavesBut R.Disk.content R.Disk.images IsEmptied (R.held rack.old 0) (R.held rack.new 0)) }
+    ensures last { OnErr result (LeavesBut R.Disk.content R.Disk.images IsEmptied (R.held rack.old 0) (R.held rack.new 0)
+        ⊎ ((n : ℕ) → 1 ≤ n → n < node_count shape.now → HoldsFirst R.Disk.content R.Disk.images (first_of shape.now mint n) (R.held rack.old n) (R.held rack.new n))) }
     ensures others_held { (n : ℕ) → node_count shape.now ≤ n → R.held rack.new n ≡ R.held rack.old n }
     ensures back { (n : ℕ) → R.can_take rack.new n }
     ensures later { (n : ℕ) → R.count rack.old n ≤ R.count rack.new n }
@@ -94,6 +96,10 @@ pub fn make_ledger<R: Rack>(
     ensures left { (n : ℕ) → n < node_count shape.now
         → LeavesBut R.Disk.content R.Disk.images (λ before. IsBegun before (first_of shape.now mint n)) (R.held rack.old n) (R.held rack.new n) }
     ensures lead { IfErr result (λ e. e ≢ Answer.DiskFault 0 → LeavesBut R.Disk.content R.Disk.images IsEmptied (R.held rack.old 0) (R.held rack.new 0)) }
+
+    // Where that may stand, all other nodes hold their first records.
+    ensures last { OnErr result (LeavesBut R.Disk.content R.Disk.images IsEmptied (R.held rack.old 0) (R.held rack.new 0)
+        ⊎ ((n : ℕ) → 1 ≤ n → n < node_count shape.now → HoldsFirst R.Disk.content R.Disk.images (first_of shape.now mint n) (R.held rack.old n) (R.held rack.new n))) }
 
     ensures others_held { (n : ℕ) → node_count shape.now ≤ n → R.held rack.new n ≡ R.held rack.old n }
     ensures back { (n : ℕ) → R.can_take rack.new n }

@@ -1,3 +1,4 @@
+use Rattle.std.proofs.Common.{inl, inr, refl}
 use Rattle.cbdc_types.specs.declared.answer.Answer.{Answer}
 use Rattle.command_line.specs.Asked.{IsAsked}
 use Rattle.command_line.specs.Words.{texts}
@@ -17,3 +18,6 @@ pub returns-in-Ok-clause-why : goal.returns-in-Ok-clause-why
 returns-in-Ok-clause-why g c =
     let why : Request → Answer → Type 0 = λ r a. Why (g.I.Inbox.file c.args.inbox.now) (g.I.Inbox.count c.args.inbox.now) (g.I.Inbox.count c.answer_to.new.inbox) g.R.Disk.Disk.content g.R.Disk.Disk.images g.R.Disk.Disk.limit g.R.Disk.Disk.count (g.R.Rack.held c.args.rack.now) (g.R.Rack.held c.answer_to.new.rack) (g.R.Rack.count c.args.rack.now) (g.R.Rack.count c.answer_to.new.rack) r a in
     told_by (why c.in-Ok.request) (λ a. (r : Request) × IsAsked (texts c.args.words.now) r × why r a) c.answer_to.result (λ a so. (c.in-Ok.request, c.in-Ok.ensures.asked, so)) c.answer_to.ensures.why
+
+pub returns-in-Ok-clause-left : goal.returns-in-Ok-clause-left
+returns-in-Ok-clause-left g c = λ failed. inr (c.in-Ok.request, c.in-Ok.ensures.asked, c.answer_to.ensures.left failed)
