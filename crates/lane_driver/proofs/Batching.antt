@@ -16,6 +16,11 @@ use Rattle.lane_laws.proofs.Laning.{lane_goes_on, lane_stops}
 use Rattle.lane_driver.specs.declared.fault.LaneFault.{LaneFault}
 use Rattle.lane_driver.specs.declared.fault.LaneFaultKind.TheVariants.{Memory as NoMemory}
 use Rattle.lane_driver.specs.Stops.{IsFaultOf, IsPreparedStopped, IsBatchStopped}
+use Rattle.lane_driver.specs.declared.fault.BatchReport.{BatchReport}
+use Rattle.lane_driver.specs.Reports.{AreDone}
+use Rattle.std.specs.Prelude.{◌++◌, reverse}
+use Rattle.std.proofs.lemmas.List.{reverse-append}
+use Rattle.std.proofs.Common.{ap}
 
 module _ (K : Shape) (alone : Bool) (lane : ℕ) (txs : List Compact) (n : ℕ) (parts : List (ℕ × List Entry)) (log log1 : Sight) (I : ℕ → Sight) (are : AreParts K txs parts) where
   pub prepare_stops : (f : NodeFault) (e : LaneFault) → IsFaultOf e (home_of K lane) f → Told alone lane true (prepare_due log.header.shape log.capacity lane txs) log log1 (Err f) → IsBatchStopped K alone lane txs log I log1 I e
@@ -36,6 +41,21 @@ module _ (K : Shape) (alone : Bool) (lane : ℕ) (txs rest piece : List Compact)
   lane_on more b os some back done =
       subst (λ r. LaneSo K alone lane txs r log0 I0 log2 I2) (sym (back ∙ drop_min K.batch rest))
       (lane_goes_on K alone lane txs rest log0 log1 log2 I0 I1 I2 so piece b os some (front ∙ take_min K.batch rest) (done (slot log1.seen lane).number so.settled))
+
+  pub done_on : (more : List Compact) (reports news : List BatchReport) (r : BatchReport) → news ≡ reports ++ r ∷ [] → 0 < length rest → more ≡ drop (min K.batch (length rest)) rest
+      → AreDone K alone lane txs log0 I0 (reverse reports) rest log1 I1 → ((k : ℕ) → Settled K lane k log1 I1 → BatchDone K alone lane k piece log1 I1 log2 I2 r.batch r.outcomes)
+      → AreDone K alone lane txs log0 I0 (reverse news) more log2 I2
+  done_on more reports news r is some back older done =
+      let next : AreDone K alone lane txs log0 I0 (r ∷ reverse reports) more log2 I2 = (
+        rest,
+        log1,
+        I1,
+        older,
+        some,
+        back ∙ drop_min K.batch rest,
+        subst (λ p. BatchDone K alone lane (slot log1.seen lane).number p log1 I1 log2 I2 r.batch r.outcomes) (front ∙ take_min K.batch rest) (done (slot log1.seen lane).number so.settled),
+      ) in
+      subst (λ rs. AreDone K alone lane txs log0 I0 rs more log2 I2) (sym (ap reverse is ∙ reverse-append reports (r ∷ []))) next
 
   pub lane_off : (e : LaneFault) → IsBatchStopped K alone lane piece log1 I1 log2 I2 e
       → ((e ≡ record { node = 0; fault = NoMemory }) × ((rest : List Compact) × LaneSo K alone lane txs rest log0 I0 log2 I2)) ⊎ ((n : ℕ) × (f : NodeFault) × IsFaultOf e n f × LaneStopped K alone lane txs log0 I0 log2 I2 n f)

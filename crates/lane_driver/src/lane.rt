@@ -1,5 +1,5 @@
 // A lane's transactions, batch by batch.
-ghost use Rattle.std.specs.Prelude.{◌≡◌, ◌≢◌, ◌≤◌, ◌<◌, [], List, length, IfOk, IfErr, OnOk, All, ℕ};
+ghost use Rattle.std.specs.Prelude.{◌≡◌, ◌≢◌, ◌≤◌, ◌<◌, [], List, length, reverse, IfOk, IfErr, OnOk, All, ℕ};
 ghost use Rattle.std.specs.Vec.{vec_capacity};
 ghost use Rattle.cbdc_model.specs.Records.{Compact};
 ghost use Rattle.cbdc_model.specs.Slots.{Idle};
@@ -9,7 +9,7 @@ ghost use Rattle.lane_laws.specs.Batches.{Settled, LaneSo};
 ghost use Rattle.lane_driver.specs.Causes.{IsCausedFault};
 ghost use Rattle.lane_driver.specs.Stops.{IsLaneStopped};
 ghost use Rattle.lane_driver.specs.Told.{IsLane, KeepsOthers, AreShardsOf, KeepHeaders};
-ghost use Rattle.lane_driver.specs.Reports.{IsReported};
+ghost use Rattle.lane_driver.specs.Reports.{IsReported, AreDone};
 
 use crate::batch::one_batch;
 use crate::fault::{LaneFault, LaneReport, no_memory};
@@ -54,6 +54,9 @@ pub fn run_lane<S: PortSet, L: LogPort, G: Gate>(
     ensures log_holds { L.holds ports.old.log → L.holds ports.new.log }
     ensures shard_holds { S.holds ports.old.shards → S.holds ports.new.shards }
     ensures report { IfOk result (λ r. IsReported lane shape.now.batch txs.now [] r.batches) }
+
+    // Each reported batch was done behind the one before it, with the outcomes of its Commit.
+    ensures batches { IfOk result (λ r. (k : ℕ) → Settled shape.now lane k (L.sights ports.old.log (L.at ports.old.log)) (S.sights ports.old.shards) → AreDone shape.now L.alone lane txs.now (L.sights ports.old.log (L.at ports.old.log)) (S.sights ports.old.shards) (reverse r.batches) [] (L.sights ports.new.log (L.at ports.new.log)) (S.sights ports.new.shards)) }
 {
     let size = shape.batch() as usize;
     let mut batches = match Vec::with_capacity(alloc, txs.len().div_ceil(size)) {

@@ -1,4 +1,4 @@
-use Rattle.std.proofs.Common.{rules, arith, inl, refl, [], ◌≡◌, ◌<◌, ◌+◌, ◌∙◌, ap, sym, subst, length, take, drop, min}
+use Rattle.std.proofs.Common.{rules, arith, inl, refl, [], ◌≡◌, ◌<◌, ◌+◌, ◌∙◌, ap, sym, subst, length, reverse, take, drop, min}
 use Rattle.std.specs.Vec.{vec_len, vec_capacity}
 use Rattle.std.specs.List.{All}
 use Rattle.std.proofs.lemmas.List.Elements.{All-take, All-drop}
@@ -6,8 +6,8 @@ use Rattle.cbdc_model.specs.Grammar.{IsCompact}
 use Rattle.lane_driver.proofs.Fitting.{elsewhere_on, others_on, headers_on, ledger_kept}
 use Rattle.lane_laws.specs.Batches.{LaneSo}
 use Rattle.lane_laws.proofs.Laning.{lane_begins}
-use Rattle.lane_driver.proofs.Batching.{lane_on, lane_off, none_left}
-use Rattle.lane_driver.specs.Reports.{IsReported}
+use Rattle.lane_driver.proofs.Batching.{lane_on, done_on, lane_off, none_left}
+use Rattle.lane_driver.specs.Reports.{IsReported, AreDone}
 use Rattle.lane_driver.proofs.Cutting.{room_after, reported_more}
 use Rattle.lane_driver.proofs.lane.run_lane.Goals as goal
 
@@ -35,6 +35,8 @@ pieces-preserved g c =
       limits = subst (λ xs. All IsCompact xs) (sym (at.back ∙ ap (λ n. drop n c.pieces.rest.now) size)) (All-drop IsCompact (min c.args.shape.now.batch (length c.pieces.rest.now)) c.pieces.rest.now c.pieces.invariant.limits);
       room = room_after (length c.pieces.rest.now) c.args.shape.now.batch _ _ (length c.split_at.result.1.now) _ _ some c.pieces.invariant.room (ap (λ n. length c.split_at.result.1.now + n) (sym size) ∙ at.back_len) room
           c.push_reserved.ensures.len c.push_reserved.ensures.capacity;
+      batches = λ k st. done_on c.args.shape.now g.L.LogPort.alone c.args.lane c.args.txs.now c.pieces.rest.now c.split_at.result.0.now (g.L.LogPort.sights c.args.ports.now.log (g.L.LogPort.at c.args.ports.now.log)) (g.L.LogPort.sights c.pieces.ports.log (g.L.LogPort.at c.pieces.ports.log)) (g.L.LogPort.sights c.one_batch.new.ports.log (g.L.LogPort.at c.one_batch.new.ports.log)) (g.S.PortSet.sights c.args.ports.now.shards) (g.S.PortSet.sights c.pieces.ports.shards) (g.S.PortSet.sights c.one_batch.new.ports.shards) (c.pieces.invariant.so k st) (c.split_at.ensures.front ∙ ap (λ n. take n c.pieces.rest.now) (c.min.ensures ∙ ap (λ n. min n (length c.pieces.rest.now)) c.batch-size.ensures.value))
+          c.split_at.result.1.now c.pieces.batches.items _ c.in-Ok-one_batch.report c.push_reserved.ensures.items some (c.split_at.ensures.back ∙ ap (λ n. drop n c.pieces.rest.now) (c.min.ensures ∙ ap (λ n. min n (length c.pieces.rest.now)) c.batch-size.ensures.value)) (c.pieces.invariant.batches k st) c.in-Ok-one_batch.ensures.done;
       report = subst (λ reports. IsReported c.args.lane c.args.shape.now.batch c.args.txs.now c.split_at.result.1.now reports) (sym c.push_reserved.ensures.items)
           (reported_more c.args.lane c.args.shape.now.batch c.args.txs.now c.pieces.rest.now c.split_at.result.0.now c.split_at.result.1.now c.pieces.batches.items c.in-Ok-one_batch.report
           c.pieces.invariant.report some (at.front ∙ ap (λ n. take n c.pieces.rest.now) size) (at.back ∙ ap (λ n. drop n c.pieces.rest.now) size) c.in-Ok-one_batch.ensures.report);
@@ -64,6 +66,10 @@ pieces-init g c = record {
   shard_holds = λ h. h;
   limits = c.requires.limits;
   room = search rules;
+  batches = λ k st. (
+    let none : c.in-Ok.batches.items ≡ [] = search rules in
+    subst (λ rs. AreDone c.args.shape.now g.L.LogPort.alone c.args.lane c.args.txs.now (g.L.LogPort.sights c.args.ports.now.log (g.L.LogPort.at c.args.ports.now.log)) (g.S.PortSet.sights c.args.ports.now.shards) (reverse rs) c.args.txs.now (g.L.LogPort.sights c.args.ports.now.log (g.L.LogPort.at c.args.ports.now.log)) (g.S.PortSet.sights c.args.ports.now.shards)) (sym none) (refl, refl, refl)
+  );
   report = search rules;
 }
 
@@ -71,6 +77,12 @@ pub returns-clause-done : goal.returns-clause-done
 returns-clause-done g c k st =
     let e : c.pieces.rest.now ≡ [] = none_left c.pieces.rest.now c.pieces-test.ensures in
     subst (λ r. LaneSo c.args.shape.now g.L.LogPort.alone c.args.lane c.args.txs.now r (g.L.LogPort.sights c.args.ports.now.log (g.L.LogPort.at c.args.ports.now.log)) (g.S.PortSet.sights c.args.ports.now.shards) (g.L.LogPort.sights c.pieces.ports.log (g.L.LogPort.at c.pieces.ports.log)) (g.S.PortSet.sights c.pieces.ports.shards)) e (c.pieces.invariant.so k st)
+
+pub returns-clause-batches : goal.returns-clause-batches
+returns-clause-batches g c k st =
+    let e : c.pieces.rest.now ≡ [] = none_left c.pieces.rest.now c.pieces-test.ensures in
+    subst (λ bs. AreDone c.args.shape.now g.L.LogPort.alone c.args.lane c.args.txs.now (g.L.LogPort.sights c.args.ports.now.log (g.L.LogPort.at c.args.ports.now.log)) (g.S.PortSet.sights c.args.ports.now.shards) (reverse bs) [] (g.L.LogPort.sights c.pieces.ports.log (g.L.LogPort.at c.pieces.ports.log)) (g.S.PortSet.sights c.pieces.ports.shards)) (sym c.from_vec.ensures)
+    (subst (λ r. AreDone c.args.shape.now g.L.LogPort.alone c.args.lane c.args.txs.now (g.L.LogPort.sights c.args.ports.now.log (g.L.LogPort.at c.args.ports.now.log)) (g.S.PortSet.sights c.args.ports.now.shards) (reverse c.pieces.batches.items) r (g.L.LogPort.sights c.pieces.ports.log (g.L.LogPort.at c.pieces.ports.log)) (g.S.PortSet.sights c.pieces.ports.shards)) e (c.pieces.invariant.batches k st))
 
 pub one_batch-requires-clause-ledger : goal.one_batch-requires-clause-ledger
 one_batch-requires-clause-ledger g c = ledger_kept c.args.shape.now (g.S.PortSet.sights c.args.ports.now.shards) (g.S.PortSet.sights c.pieces.ports.shards) c.requires.ledger c.pieces.invariant.headers

@@ -1,11 +1,11 @@
-use Rattle.std.proofs.Common.{◌≡◌, ◌≢◌, ◌+◌, ◌*◌, ◌≤◌, ℕ, length}
+use Rattle.std.proofs.Common.{◌≡◌, ◌≢◌, ◌+◌, ◌*◌, ◌≤◌, ℕ, length, reverse}
 use Rattle.std.specs.Vec.{vec_capacity, vec_len}
 use Rattle.std.specs.List.{All}
 use Rattle.cbdc_model.specs.Grammar.{IsCompact}
 use Rattle.cbdc_model.specs.Slots.{Idle}
 use Rattle.lane_laws.specs.Batches.{Settled, LaneSo}
 use Rattle.lane_driver.specs.Told.{KeepsOthers, KeepHeaders}
-use Rattle.lane_driver.specs.Reports.{IsReported}
+use Rattle.lane_driver.specs.Reports.{IsReported, AreDone}
 use Rattle.lane_driver.proofs.lane.run_lane.Given as goal
 
 abbrev pub invariant-pieces : goal.invariant-pieces
@@ -27,6 +27,9 @@ invariant-pieces g l = record {
   shard_holds : g.S.PortSet.holds l.initial.ports.shards → g.S.PortSet.holds l.ports.shards;
   limits : All IsCompact l.rest;
   room : length l.rest + l.shape.batch * vec_len l.batches ≤ l.shape.batch * vec_capacity l.batches;
+  batches : (k : ℕ) → Settled l.shape l.lane k (g.L.LogPort.sights l.initial.ports.log (g.L.LogPort.at l.initial.ports.log)) (g.S.PortSet.sights l.initial.ports.shards)
+      → AreDone l.shape g.L.LogPort.alone l.lane l.txs (g.L.LogPort.sights l.initial.ports.log (g.L.LogPort.at l.initial.ports.log)) (g.S.PortSet.sights l.initial.ports.shards) (reverse l.batches.items) l.rest
+      (g.L.LogPort.sights l.ports.log (g.L.LogPort.at l.ports.log)) (g.S.PortSet.sights l.ports.shards);
   report : IsReported l.lane l.shape.batch l.txs l.rest l.batches.items;
 }
 
