@@ -15,7 +15,7 @@ use Rattle.lane_laws.proofs.Stops.{batch_stopped}
 use Rattle.lane_laws.proofs.Laning.{lane_goes_on, lane_stops}
 use Rattle.lane_driver.specs.declared.fault.LaneFault.{LaneFault}
 use Rattle.lane_driver.specs.declared.fault.LaneFaultKind.TheVariants.{Memory as NoMemory}
-use Rattle.lane_driver.specs.Stops.{IsFaultOf, IsPreparedStopped, IsBatchStopped}
+use Rattle.lane_driver.specs.Stops.{IsFaultOf, IsPreparedStopped, IsBatchStopped, IsBatchAnswered}
 use Rattle.lane_driver.specs.declared.fault.BatchReport.{BatchReport}
 use Rattle.lane_driver.specs.Reports.{AreDone}
 use Rattle.std.specs.Prelude.{◌++◌, reverse}
@@ -26,12 +26,18 @@ module _ (K : Shape) (alone : Bool) (lane : ℕ) (txs : List Compact) (n : ℕ) 
   pub prepare_stops : (f : NodeFault) (e : LaneFault) → IsFaultOf e (home_of K lane) f → Told alone lane true (prepare_due log.header.shape log.capacity lane txs) log log1 (Err f) → IsBatchStopped K alone lane txs log I log1 I e
   prepare_stops f e at told = inr (λ k st. (home_of K lane, f, at, batch_stopped K alone lane k txs n parts log log1 I I (home_of K lane) f st are (at_prepare told (λ s. refl) refl)))
 
+  pub prepare_answered : (f : NodeFault) (e : LaneFault) → IsFaultOf e (home_of K lane) f → Told alone lane true (prepare_due log.header.shape log.capacity lane txs) log log1 (Err f) → IsBatchAnswered K alone lane txs n log I log1 I e
+  prepare_answered f e at told = inr (parts, are, home_of K lane, f, at, at_prepare told (λ s. refl) refl)
+
   module _ (b : Batch) (t : ℕ) (told : Told alone lane true (prepare_due log.header.shape log.capacity lane txs) log log1 (Ok (b, t))) (log' : Sight) (J : ℕ → Sight) where
     pub prepared_done : (os : List Outcome) → ToldPrepared alone b t n parts log1 log' I J os → (k : ℕ) → Settled K lane k log I → BatchDone K alone lane k txs log I log' J b os
     prepared_done os rest k st = batch_done K alone lane k txs n parts log log' I J b os st are (record { log_prepared = log1; prepared = t; prepare = told; rest = rest })
 
     pub prepared_stops : (e : LaneFault) → IsPreparedStopped K alone b t n parts log1 log' I J e → IsBatchStopped K alone lane txs log I log' J e
     prepared_stops e (node, f, at, stop) = inr (λ k st. (node, f, at, batch_stopped K alone lane k txs n parts log log' I J node f st are (behind_prepare b log1 t told stop)))
+
+    pub prepared_answered : (e : LaneFault) → IsPreparedStopped K alone b t n parts log1 log' I J e → IsBatchAnswered K alone lane txs n log I log' J e
+    prepared_answered e (node, f, at, stop) = inr (parts, are, node, f, at, behind_prepare b log1 t told stop)
 
 -- a lane goes on by a batch, or stops at one
 module _ (K : Shape) (alone : Bool) (lane : ℕ) (txs rest piece : List Compact) (log0 log1 log2 : Sight) (I0 I1 I2 : ℕ → Sight) (so : LaneSo K alone lane txs rest log0 I0 log1 I1)

@@ -1,5 +1,5 @@
 -- Where a lane stopped, and why.
-use Rattle.std.specs.Prelude.{◌≡◌, ◌⊎◌, ℕ, Bool, List, [], ◌∷◌, Result}
+use Rattle.std.specs.Prelude.{◌≡◌, ◌⊎◌, ℕ, Bool, List, [], ◌∷◌, take, Result}
 use Rattle.cbdc_types.specs.declared.calls.LockCall.{LockCall}
 use Rattle.cbdc_types.specs.declared.calls.NodeFault.{NodeFault}
 use Rattle.cbdc_model.specs.Records.{Shape, Batch, Compact, Entry, Outcome}
@@ -7,7 +7,8 @@ use Rattle.cbdc_model.specs.Ranges.{shard_node}
 use Rattle.cbdc_model.specs.Sights.{Sight}
 use Rattle.lane_laws.specs.Answers.{StoppedAt}
 use Rattle.lane_laws.specs.Batches.{Settled, BatchDone, BatchStopped, LaneSo, LaneStopped}
-use Rattle.lane_laws.specs.Traces.{DiscardedStopped, CommittedStopped, PreparedStopped}
+use Rattle.lane_laws.specs.Calls.{AreParts}
+use Rattle.lane_laws.specs.Traces.{DiscardedStopped, CommittedStopped, PreparedStopped, ToldStopped}
 use Rattle.lane_driver.specs.Faults.{kind_of}
 use Rattle.lane_driver.specs.declared.fault.LaneFault.{LaneFault}
 use Rattle.lane_driver.specs.declared.fault.BatchReport.{BatchReport}
@@ -52,3 +53,16 @@ IsLaneStopped K alone lane txs log I log' J e =
     (k : ℕ) → Settled K lane k log I
     → ((e ≡ record { node = 0; fault = NoMemory }) × ((rest : List Compact) × LaneSo K alone lane txs rest log I log' J))
     ⊎ ((n : ℕ) × (f : NodeFault) × IsFaultOf e n f × LaneStopped K alone lane txs log I log' J n f)
+
+-- the fault is what a node answered to a call of the batch, all calls before which went well; or the driver itself had no memory, before its
+-- first call
+abbrev pub IsBatchAnswered : Shape → Bool → ℕ → List Compact → ℕ → Sight → (ℕ → Sight) → Sight → (ℕ → Sight) → LaneFault → Type 0
+IsBatchAnswered K alone lane txs repeats log I log' J e =
+    HasNoMemory e log I log' J
+    ⊎ ((parts : List (ℕ × List Entry)) × AreParts K txs parts × (n : ℕ) × (f : NodeFault) × IsFaultOf e n f × ToldStopped K alone lane txs repeats parts log log' I J n f)
+
+-- the fault is that of the batch at which the lane stopped, behind those that are done
+abbrev pub IsLaneAnswered : Shape → Bool → ℕ → List Compact → ℕ → Sight → (ℕ → Sight) → Sight → (ℕ → Sight) → LaneFault → Type 0
+IsLaneAnswered K alone lane txs repeats log I log' J e =
+    (rest : List Compact) × (log_before : Sight) × (before : ℕ → Sight) × ((k : ℕ) → Settled K lane k log I → LaneSo K alone lane txs rest log I log_before before)
+    × IsBatchAnswered K alone lane (take K.batch rest) repeats log_before before log' J e

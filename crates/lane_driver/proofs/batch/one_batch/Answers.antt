@@ -1,8 +1,8 @@
 use Rattle.cbdc_model.specs.Ranges.{home_of}
 use Rattle.lane_driver.proofs.Turning.{home_fault}
-use Rattle.lane_driver.proofs.Batching.{prepare_stops, prepared_done, prepared_stops}
+use Rattle.lane_driver.proofs.Batching.{prepare_stops, prepare_answered, prepared_done, prepared_stops, prepared_answered}
 use Rattle.lane_driver.proofs.Fitting.{parts_fit}
-use Rattle.std.proofs.Common.{◌∙◌, ◌*◌, ◌<◌, inl, subst}
+use Rattle.std.proofs.Common.{◌∙◌, ◌*◌, ◌<◌, inl, refl, subst}
 use Rattle.cbdc_model.specs.Records.{Shape}
 use Rattle.lane_driver.proofs.Causing.{log_fault, prepare_caused}
 use Rattle.lane_driver.proofs.batch.one_batch.Goals as goal
@@ -11,12 +11,20 @@ pub returns-in-Err-prepare-clause-stopped : goal.returns-in-Err-prepare-clause-s
 returns-in-Err-prepare-clause-stopped g c = prepare_stops c.args.shape.now g.L.LogPort.alone c.args.lane c.args.txs.now c.args.repeats c.in-Ok.room.parts (g.L.LogPort.sights c.args.ports.now.log (g.L.LogPort.at c.args.ports.now.log)) (g.L.LogPort.sights c.prepare.new.self (g.L.LogPort.at c.prepare.new.self)) (g.S.PortSet.sights c.args.ports.now.shards) c.in-Ok.ensures.parts
     c.in-Err-prepare.fault c.fault_at.result (home_fault c.fault_at.result c.home.result (home_of c.args.shape.now c.args.lane) c.in-Err-prepare.fault c.fault_at.ensures c.home.ensures) c.in-Err-prepare.ensures.told
 
+pub returns-in-Err-prepare-clause-answered : goal.returns-in-Err-prepare-clause-answered
+returns-in-Err-prepare-clause-answered g c = prepare_answered c.args.shape.now g.L.LogPort.alone c.args.lane c.args.txs.now c.args.repeats c.in-Ok.room.parts (g.L.LogPort.sights c.args.ports.now.log (g.L.LogPort.at c.args.ports.now.log)) (g.L.LogPort.sights c.prepare.new.self (g.L.LogPort.at c.prepare.new.self)) (g.S.PortSet.sights c.args.ports.now.shards) c.in-Ok.ensures.parts
+    c.in-Err-prepare.fault c.fault_at.result (home_fault c.fault_at.result c.home.result (home_of c.args.shape.now c.args.lane) c.in-Err-prepare.fault c.fault_at.ensures c.home.ensures) c.in-Err-prepare.ensures.told
+
 pub returns-in-Ok-from_prepared-clause-done : goal.returns-in-Ok-from_prepared-clause-done
 returns-in-Ok-from_prepared-clause-done g c = prepared_done c.args.shape.now g.L.LogPort.alone c.args.lane c.args.txs.now c.args.repeats c.in-Ok.room.parts (g.L.LogPort.sights c.args.ports.now.log (g.L.LogPort.at c.args.ports.now.log)) (g.L.LogPort.sights c.prepare.new.self (g.L.LogPort.at c.prepare.new.self)) (g.S.PortSet.sights c.args.ports.now.shards) c.in-Ok.ensures.parts
     c.in-Ok-prepare.prepared.0 c.in-Ok-prepare.prepared.1 c.in-Ok-prepare.ensures.told (g.L.LogPort.sights c.from_prepared.new.ports.log (g.L.LogPort.at c.from_prepared.new.ports.log)) (g.S.PortSet.sights c.from_prepared.new.ports.shards) c.in-Ok-from_prepared.outcomes c.in-Ok-from_prepared.ensures.told
 
 pub returns-in-Err-from_prepared-clause-stopped : goal.returns-in-Err-from_prepared-clause-stopped
 returns-in-Err-from_prepared-clause-stopped g c = prepared_stops c.args.shape.now g.L.LogPort.alone c.args.lane c.args.txs.now c.args.repeats c.in-Ok.room.parts (g.L.LogPort.sights c.args.ports.now.log (g.L.LogPort.at c.args.ports.now.log)) (g.L.LogPort.sights c.prepare.new.self (g.L.LogPort.at c.prepare.new.self)) (g.S.PortSet.sights c.args.ports.now.shards) c.in-Ok.ensures.parts
+    c.in-Ok-prepare.prepared.0 c.in-Ok-prepare.prepared.1 c.in-Ok-prepare.ensures.told (g.L.LogPort.sights c.from_prepared.new.ports.log (g.L.LogPort.at c.from_prepared.new.ports.log)) (g.S.PortSet.sights c.from_prepared.new.ports.shards) c.in-Err-from_prepared.fault c.in-Err-from_prepared.ensures.stopped
+
+pub returns-in-Err-from_prepared-clause-answered : goal.returns-in-Err-from_prepared-clause-answered
+returns-in-Err-from_prepared-clause-answered g c = prepared_answered c.args.shape.now g.L.LogPort.alone c.args.lane c.args.txs.now c.args.repeats c.in-Ok.room.parts (g.L.LogPort.sights c.args.ports.now.log (g.L.LogPort.at c.args.ports.now.log)) (g.L.LogPort.sights c.prepare.new.self (g.L.LogPort.at c.prepare.new.self)) (g.S.PortSet.sights c.args.ports.now.shards) c.in-Ok.ensures.parts
     c.in-Ok-prepare.prepared.0 c.in-Ok-prepare.prepared.1 c.in-Ok-prepare.ensures.told (g.L.LogPort.sights c.from_prepared.new.ports.log (g.L.LogPort.at c.from_prepared.new.ports.log)) (g.S.PortSet.sights c.from_prepared.new.ports.shards) c.in-Err-from_prepared.fault c.in-Err-from_prepared.ensures.stopped
 
 pub from_prepared-requires-clause-parts : goal.from_prepared-requires-clause-parts
@@ -29,3 +37,6 @@ pub returns-in-Err-prepare-clause-fault : goal.returns-in-Err-prepare-clause-fau
 returns-in-Err-prepare-clause-fault g c = log_fault c.args.shape.now c.args.lane (g.L.LogPort.at c.prepare.new.self) (g.L.LogPort.sights c.prepare.new.self) (g.S.PortSet.sights c.args.ports.now.shards) c.in-Err-prepare.fault c.fault_at.result (subst (λ (K : Shape). c.args.lane < K.coordinators * K.lanes) c.requires.shape c.requires.home.0) (c.in-Err-prepare.ensures.at_same ∙ c.requires.at)
     (home_fault c.fault_at.result c.home.result (home_of c.args.shape.now c.args.lane) c.in-Err-prepare.fault c.fault_at.ensures c.home.ensures)
     (prepare_caused g.L.LogPort.alone c.args.lane c.args.txs.now (g.L.LogPort.sights c.args.ports.now.log (g.L.LogPort.at c.args.ports.now.log)) (g.L.LogPort.sights c.prepare.new.self (g.L.LogPort.at c.prepare.new.self)) c.in-Err-prepare.fault c.in-Err-prepare.ensures.told)
+
+pub returns-in-Err-clause-answered : goal.returns-in-Err-clause-answered
+returns-in-Err-clause-answered g c = inl (c.no_memory.ensures, (refl, refl))

@@ -8,6 +8,8 @@ use Rattle.lane_laws.specs.Batches.{LaneSo}
 use Rattle.lane_laws.proofs.Laning.{lane_begins}
 use Rattle.lane_driver.proofs.Batching.{lane_on, done_on, lane_off, none_left}
 use Rattle.lane_driver.specs.Reports.{IsReported, AreDone}
+use Rattle.lane_driver.specs.Stops.{IsBatchAnswered}
+use Rattle.std.proofs.lemmas.List.{take_min}
 use Rattle.lane_driver.proofs.Cutting.{room_after, reported_more}
 use Rattle.lane_driver.proofs.lane.run_lane.Goals as goal
 
@@ -122,3 +124,22 @@ returns-clause-others g c = c.pieces.invariant.others
 
 pub returns-in-Err-clause-fault : goal.returns-in-Err-clause-fault
 returns-in-Err-clause-fault g c = inl c.no_memory.ensures
+
+pub returns-in-Err-clause-answered : goal.returns-in-Err-clause-answered
+returns-in-Err-clause-answered g c = (
+  c.args.txs.now,
+  (g.L.LogPort.sights c.args.ports.now.log (g.L.LogPort.at c.args.ports.now.log)),
+  (g.S.PortSet.sights c.args.ports.now.shards),
+  (λ k st. lane_begins c.args.shape.now g.L.LogPort.alone c.args.lane k c.args.txs.now (g.L.LogPort.sights c.args.ports.now.log (g.L.LogPort.at c.args.ports.now.log)) (g.S.PortSet.sights c.args.ports.now.shards) st),
+  inl (c.no_memory.ensures, (refl, refl)),
+)
+
+pub returns-in-Err-one_batch-clause-answered : goal.returns-in-Err-one_batch-clause-answered
+returns-in-Err-one_batch-clause-answered g c = (
+  c.pieces.rest.now,
+  (g.L.LogPort.sights c.pieces.ports.log (g.L.LogPort.at c.pieces.ports.log)),
+  (g.S.PortSet.sights c.pieces.ports.shards),
+  c.pieces.invariant.so,
+  subst (λ p. IsBatchAnswered c.args.shape.now g.L.LogPort.alone c.args.lane p c.args.repeats (g.L.LogPort.sights c.pieces.ports.log (g.L.LogPort.at c.pieces.ports.log)) (g.S.PortSet.sights c.pieces.ports.shards) (g.L.LogPort.sights c.one_batch.new.ports.log (g.L.LogPort.at c.one_batch.new.ports.log)) (g.S.PortSet.sights c.one_batch.new.ports.shards) c.in-Err-one_batch.fault)
+      (c.split_at.ensures.front ∙ ap (λ n. take n c.pieces.rest.now) (c.min.ensures ∙ ap (λ n. min n (length c.pieces.rest.now)) c.batch-size.ensures.value) ∙ take_min c.args.shape.now.batch c.pieces.rest.now) c.in-Err-one_batch.ensures.answered,
+)
