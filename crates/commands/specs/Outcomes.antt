@@ -26,7 +26,7 @@ pub record DidInit {D : Type 0} (files : Text → Option (List ℕ)) (content : 
   pub was : MayBeMade shape mint content before
   pub holds : (n : ℕ) → n < node_count shape → HoldsFirst content images (first_of shape mint n) (before n) (now n)
 
--- the files held these transactions and verdicts, which were run over the ledger that the disks told
+-- the files held these transactions and verdicts, which were run over the ledger that the disks told; each disk holds exactly its journal
 pub record DidRun {D : Type 0} (files : Text → Option (List ℕ)) (content : D → Option (List ℕ)) (images : D → List ℕ → Type 0) (before now : ℕ → Option D) (verdicts : FileWord) (clients : List FileWord) : Type 0 where
   pub handed : List (List FullTx)
   pub known : VerdictFile
@@ -34,7 +34,7 @@ pub record DidRun {D : Type 0} (files : Text → Option (List ℕ)) (content : D
   pub verdicts_read : AreVerdicts (files verdicts.name.now) known
   pub ran : OfShown content before (IsRun images now (told known) handed)
 
--- the open batches of the ledger that the disks told were brought to their end
+-- the open batches of the ledger that the disks told were brought to their end; each disk holds exactly its journal
 abbrev pub DidRecover : {D : Type 0} → (D → Option (List ℕ)) → (D → List ℕ → Type 0) → (ℕ → Option D) → (ℕ → Option D) → Type 0
 DidRecover content images before now = OfShown content before (IsRecovered images now)
 
@@ -53,7 +53,7 @@ WhyNoInit files files_before files_now content limit disks disks_before disks_no
     IsNotRead file.place (files file.name.now) mint_of_file (files_before file.name.now) (files_now file.name.now) answer
     ⊎ ((mint : List Output) × Tells (files file.name.now) (λ c. mint_of_file c ≡ Ok mint) × IsUnmade shape mint content limit disks disks_before disks_now answer)
 
--- the ledger could not be opened, and the disks are back as they were read; or a lane met a fault, and its journals have grown at their ends and are kept
+-- the ledger could not be opened, and the disks are back as they were read; or a lane met a fault, and its journals have grown at their ends and are kept, each by its disk, with one record more or without
 abbrev pub WhyNoTurns : {D : Type 0} → (D → Option (List ℕ)) → (D → List ℕ → Type 0) → (D → ℕ) → (D → ℕ) → (ℕ → Option D) → (ℕ → Option D) → (ℕ → ℕ) → (ℕ → ℕ) → List (List FullTx) → Answer → Type 0
 WhyNoTurns content images limit count disks now disks_before disks_now handed answer =
     (IsUnresumed content images limit count disks disks_before disks_now answer × ((n : ℕ) → IsBack images limit (disks n) (now n)))

@@ -130,7 +130,8 @@ pub fn process<W: Wait, I: Inbox, R: Rack, O: Sink, G: Gate>(
     requires { (n : ℕ) → R.can_take rack n }
     ensures back { (n : ℕ) → R.can_take result.rack n }
     // What the words ask for was done, whether its lines could be written or not: a ledger was made, files were run over one, or its
-    // open batches were brought to their end; and where no two outputs share a hash, the headline holds of the journals at exit.
+    // open batches were brought to their end. Whatever a crash leaves of a disk then opens to exactly its node's journal, and where no
+    // two outputs share a hash, the headline holds of the journals at exit.
     ensures did { IsWell result.status → (r : Asked) × IsAsked (texts words.now) r × Did (I.file inbox.old) R.Disk.content R.Disk.images (R.held rack) (R.held result.rack) r }
 
     // Else why not: a file that is not read, a ledger that can't be made or opened, or a fault of a lane, and what it leaves. Of an audit
