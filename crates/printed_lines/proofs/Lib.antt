@@ -1,0 +1,4 @@
+pub mod Pages
+pub mod Steps
+pub mod Different
+pub mod Submitted

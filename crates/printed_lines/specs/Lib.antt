@@ -1,0 +1,6 @@
+pub mod Reports
+pub mod Unspent
+pub mod Recoveries
+pub mod Decided
+pub mod Runs
+pub mod Summaries
