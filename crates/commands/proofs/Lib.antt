@@ -2,3 +2,8 @@ pub mod Counts
 pub mod Stands
 pub mod Named
 pub mod Answers
+pub mod Items
+pub mod Lines
+pub mod Ledgers
+pub mod Did
+pub mod Making

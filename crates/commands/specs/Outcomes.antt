@@ -1,10 +1,14 @@
 -- What was done when all went well, by what the files and the disks told before and tell behind it.
-use Rattle.std.specs.Prelude.{◌≡◌, ◌⊎◌, ℕ, ◌<◌, List, [], Option, Ok}
+use Rattle.std.specs.Prelude.{◌≡◌, ◌⊎◌, ℕ, ◌<◌, List, [], reverse, Option, IsSome, Ok, string_bytes}
 use Rattle.outside.specs.Images.{Tells}
 use Rattle.line_text.specs.Lines.{Text}
 use Rattle.cbdc_types.specs.declared.answer.Answer.{Answer}
-use Rattle.cbdc_model.specs.Records.{Shape}
+use Rattle.cbdc_types.specs.Limits.{IsWithinLimits}
+use Rattle.cbdc_model.specs.Records.{Digest, Shape, Record, journal}
 use Rattle.cbdc_model.specs.Coins.{Output, FullTx}
+use Rattle.cbdc_model.specs.History.{header_of, first_rows, minted}
+use Rattle.cbdc_model.specs.World.{KeptJournals}
+use Rattle.record_log.specs.Held.{OpensTo}
 use Rattle.command_line.specs.declared.request.FileWord.{FileWord}
 use Rattle.command_line.specs.declared.request.Request.{Request}
 use Rattle.command_line.specs.declared.request.Request.TheVariants.{Init, Run, Recover, Status, Audit, Show}
@@ -12,19 +16,30 @@ use Rattle.input_files.specs.Contents.{mint_of_file, AreRead, AreVerdicts, IsNot
 use Rattle.verifier_port.specs.Files.{told}
 use Rattle.verifier_port.specs.declared.file.VerdictFile.{VerdictFile}
 use Rattle.ledger_init.specs.Made.{MayBeMade, HoldsFirst, first_of, node_count, IsUnmade}
-use Rattle.rack_nodes.specs.Racked.{IsBack}
+use Rattle.printed_lines.specs.Reports.{init_lines, status_lines}
+use Rattle.rack_nodes.specs.Racked.{OfTold, IsBack}
+use Rattle.rack_nodes.specs.Refused.{IsNodeJournal}
 use Rattle.rack_ledgers.specs.Ledgers.{IsUnopened}
 use Rattle.caused_ledgers.specs.Caused.{IsUnresumed}
 use Rattle.rack_laws.specs.Shown.{OfShown}
 use Rattle.rack_runs.specs.Kinds.{IsLaneAnswer}
 use Rattle.rack_runs.specs.Runs.{IsRun, IsRecovered, IsCutShort}
 
--- the file held a mint, no node was in use, and each node's disk holds its first record alone
-pub record DidInit {D : Type 0} (files : Text → Option (List ℕ)) (content : D → Option (List ℕ)) (images : D → List ℕ → Type 0) (before now : ℕ → Option D) (shape : Shape) (file : FileWord) : Type 0 where
+-- a first record at each node of the ledger that a mint begins
+abbrev pub first_journals : Shape → List Output → ℕ → List Record
+first_journals K mint n = journal n (first_rows K (minted mint))
+
+-- the file held a mint, no node was in use, each node's disk holds its first record alone, and so does whatever a crash leaves of one that told its
+-- content; the first records are a kept ledger of the mint, to which nothing was handed in yet; and this was printed
+pub record DidInit {D : Type 0} (files : Text → Option (List ℕ)) (content : D → Option (List ℕ)) (images : D → List ℕ → Type 0) (before now : ℕ → Option D) (printed : Text → Type 0) (shape : Shape) (file : FileWord) : Type 0 where
   pub mint : List Output
   pub read : Tells (files file.name.now) (λ c. mint_of_file c ≡ Ok mint)
   pub was : MayBeMade shape mint content before
   pub holds : (n : ℕ) → n < node_count shape → HoldsFirst content images (first_of shape mint n) (before n) (now n)
+  pub opens : (n : ℕ) → n < node_count shape
+      → OfTold (before n) (λ was. OfTold (now n) (λ d. IsSome (content was) → (c : List ℕ) → images d c → OpensTo (reverse (first_journals shape mint n)) c))
+  pub kept : KeptJournals shape mint [] (first_journals shape mint)
+  pub prints : printed (init_lines mint)
 
 -- the files held these transactions and verdicts, which were run over the ledger that the disks told; each disk holds exactly its journal
 pub record DidRun {D : Type 0} (files : Text → Option (List ℕ)) (content : D → Option (List ℕ)) (images : D → List ℕ → Type 0) (before now : ℕ → Option D) (verdicts : FileWord) (clients : List FileWord) : Type 0 where
@@ -38,12 +53,25 @@ pub record DidRun {D : Type 0} (files : Text → Option (List ℕ)) (content : D
 abbrev pub DidRecover : {D : Type 0} → (D → Option (List ℕ)) → (D → List ℕ → Type 0) → (ℕ → Option D) → (ℕ → Option D) → Type 0
 DidRecover content images before now = OfShown content before (IsRecovered images now)
 
--- what was asked for was done
-abbrev pub Did : {D : Type 0} → (Text → Option (List ℕ)) → (D → Option (List ℕ)) → (D → List ℕ → Type 0) → (ℕ → Option D) → (ℕ → Option D) → Request → Type 0
-Did files content images before now (Init shape mint) = DidInit files content images before now shape mint
-Did files content images before now (Run verdicts clients) = DidRun files content images before now verdicts clients.items
-Did files content images before now Recover = DidRecover content images before now
-Did files content images before now other = Unit {0}
+-- what the disks told opened to journals of all nodes of a ledger, the disks are back as they were read, and a line was printed for each hash, in
+-- order, with its status in the journal of the shard that holds it
+pub record DidStatus {D : Type 0} (content : D → Option (List ℕ)) (images : D → List ℕ → Type 0) (limit : D → ℕ) (before now : ℕ → Option D) (printed : Text → Type 0) (hashes : List Digest) : Type 0 where
+  pub shape : Shape
+  pub genesis : Digest
+  pub journals : ℕ → List Record
+  pub limits : IsWithinLimits shape
+  pub opened : (n : ℕ) → n < node_count shape → OfTold (before n) (λ was. Tells (content was) (IsNodeJournal (header_of shape genesis n) (journals n)))
+  pub back : (n : ℕ) → IsBack images limit (before n) (now n)
+  pub prints : printed (status_lines shape journals hashes)
+
+-- what was asked for was done, and this was printed; of a run, a recovery and an audit the text is not told
+abbrev pub Did : {D : Type 0} → (Text → Option (List ℕ)) → (D → Option (List ℕ)) → (D → List ℕ → Type 0) → (D → ℕ) → (ℕ → Option D) → (ℕ → Option D) → (Text → Type 0) → Request → Type 0
+Did files content images limit before now printed (Init shape mint) = DidInit files content images before now printed shape mint
+Did files content images limit before now printed (Run verdicts clients) = DidRun files content images before now verdicts clients.items
+Did files content images limit before now printed Recover = DidRecover content images before now
+Did files content images limit before now printed (Status hashes) = DidStatus content images limit before now printed hashes.items
+Did files content images limit before now printed (Audit mint clients) = Unit {0}
+Did files content images limit before now printed (Show text) = printed (string_bytes text)
 
 -- ---- why it was not done, by the counts of faults of files and disks before and now
 

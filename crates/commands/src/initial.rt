@@ -1,8 +1,10 @@
 // `init`: the first records of a ledger.
-ghost use Rattle.std.specs.Prelude.{◌≤◌, ℕ, OnOk, IfErr};
+ghost use Rattle.std.specs.Prelude.{◌≡◌, ◌≤◌, ℕ, IfOk, IfErr};
 ghost use Rattle.outside.specs.Counts.{Rose};
 ghost use Rattle.commands.specs.Causes.{IsFault, IsDone, IsTold, IsWell, FileRose};
 ghost use Rattle.commands.specs.Outcomes.{DidInit, WhyNoInit};
+ghost use Rattle.commands.specs.Texts.{IsPrinted};
+ghost use Rattle.line_text.specs.Lines.{init_text};
 
 use cbdc_types::{Answer, Shape};
 use command_line::FileWord;
@@ -21,7 +23,7 @@ fn make<I: Inbox, R: Rack>(
     rack: &mut R,
 ) -> Result<Made, Answer>
     requires { (n : ℕ) → R.can_take rack.old n }
-    ensures made { OnOk result (DidInit (I.file inbox.old) R.Disk.content R.Disk.images (R.held rack.old) (R.held rack.new) shape.now file.now) }
+    ensures made { IfOk result (λ m. DidInit (I.file inbox.old) R.Disk.content R.Disk.images (R.held rack.old) (R.held rack.new) (λ text. init_text m.coins m.total m.genesis ≡ text) shape.now file.now) }
     ensures why { IfErr result (WhyNoInit (I.file inbox.old) (I.count inbox.old) (I.count inbox.new) R.Disk.content R.Disk.limit (R.held rack.old) (R.count rack.old) (R.count rack.new) shape.now file.now) }
     ensures fault { IfErr result (IsFault (FileRose (I.count inbox.old) (I.count inbox.new) file.now)) }
     ensures back { (n : ℕ) → R.can_take rack.new n }
@@ -43,7 +45,7 @@ pub(crate) fn init<I: Inbox, R: Rack, O: Sink>(
 ) -> Answer
     requires { (n : ℕ) → R.can_take rack.old n }
     ensures cause { IsDone (FileRose (I.count inbox.old) (I.count inbox.new) file.now) (Rose (O.count out.old) (O.count out.new)) result }
-    ensures did { IsWell result → DidInit (I.file inbox.old) R.Disk.content R.Disk.images (R.held rack.old) (R.held rack.new) shape.now file.now }
+    ensures did { IsWell result → DidInit (I.file inbox.old) R.Disk.content R.Disk.images (R.held rack.old) (R.held rack.new) (IsPrinted (O.taken out.old) (O.taken out.new) result) shape.now file.now }
     ensures why { IsTold (WhyNoInit (I.file inbox.old) (I.count inbox.old) (I.count inbox.new) R.Disk.content R.Disk.limit (R.held rack.old) (R.count rack.old) (R.count rack.new) shape.now file.now) result }
     ensures written_later { O.count out.old ≤ O.count out.new }
     ensures back { (n : ℕ) → R.can_take rack.new n }

@@ -1,8 +1,11 @@
 // `status`: what a ledger knows, read from its open nodes.
-ghost use Rattle.std.specs.Prelude.{◌≤◌, ℕ};
+ghost use Rattle.std.specs.Prelude.{◌≡◌, ◌≤◌, ℕ, length, map, IfOk};
 ghost use Rattle.outside.specs.Counts.{Rose, HasCause};
+ghost use Rattle.line_text.specs.Lines.{Prints};
 ghost use Rattle.rack_ledgers.specs.Ledgers.{IsUnopened};
-ghost use Rattle.commands.specs.Causes.{IsDone, IsTold};
+ghost use Rattle.commands.specs.Causes.{IsDone, IsTold, IsWell};
+ghost use Rattle.commands.specs.Outcomes.{DidStatus};
+ghost use Rattle.commands.specs.Texts.{IsPrinted, told_lines, status_among};
 
 use cbdc_types::{Answer, Hash, Status};
 use line_text::{WriteFault, write_status};
@@ -13,7 +16,9 @@ use shard_ranges::shard_of;
 use std::alloc::{AllocError, Global};
 
 // What the shard of a hash knows of it.
-fn status_of<D: Disk>(shards: &[ShardNode<D>], hash: &Hash) -> Status {
+fn status_of<D: Disk>(shards: &[ShardNode<D>], hash: &Hash) -> Status
+    ensures { length shards.now ≤ 64 → result ≡ status_among shards.now hash.now }
+{
     let count = shards.len().min(64) as u32;
     match shards.get(shard_of(hash, count) as usize) {
         Some(shard) => shard.check_unspent(hash),
@@ -26,9 +31,11 @@ fn statuses<D: Disk>(
     alloc: Global,
     nodes: &Nodes<D>,
     hashes: &[Hash],
-) -> Result<Vec<Status>, AllocError> {
+) -> Result<Vec<Status>, AllocError>
+    ensures { length nodes.now.shards.items ≤ 64 → IfOk result (λ v. v.items ≡ map (status_among nodes.now.shards.items) hashes.now) }
+{
     let mut all = Vec::with_capacity(alloc, hashes.len())?;
-    for hash in hashes {
+    'hashes: for hash in hashes {
         all.push(status_of(&nodes.shards, hash))?;
     }
     Ok(all)
@@ -40,6 +47,7 @@ fn write_statuses<O: Sink>(
     hashes: &[Hash],
     statuses: &[Status],
 ) -> Result<(), WriteFault>
+    ensures prints { Prints (O.taken out.old) (O.taken out.new) (told_lines hashes.now statuses.now) result }
     ensures cause { HasCause (O.count out.old) (O.count out.new) result }
 {
     'hashes: for (hash, status) in hashes.iter().zip(statuses) {
@@ -57,6 +65,7 @@ pub(crate) fn status<R: Rack, O: Sink>(
 ) -> Answer
     requires { (n : ℕ) → R.can_take rack.old n }
     ensures cause { IsDone (λ file. ⊥) (Rose (O.count out.old) (O.count out.new)) result }
+    ensures did { IsWell result → DidStatus R.Disk.content R.Disk.images R.Disk.limit (R.held rack.old) (R.held rack.new) (IsPrinted (O.taken out.old) (O.taken out.new) result) hashes.now }
     ensures why { IsTold (IsUnopened R.Disk.content R.Disk.images R.Disk.limit R.Disk.count (R.held rack.old) (R.count rack.old) (R.count rack.new)) result }
     ensures written_later { O.count out.old ≤ O.count out.new }
     ensures back { (n : ℕ) → R.can_take rack.new n }

@@ -1,5 +1,6 @@
 // The top call.
 ghost use Rattle.std.specs.Prelude.{◌≡◌, ◌≤◌, ◌⊎◌, ℕ};
+ghost use Rattle.commands.specs.Texts.{IsPrinted};
 ghost use Rattle.command_line.specs.Asked.{IsRefused};
 ghost use Rattle.command_line.specs.Words.{texts};
 ghost use Rattle.command_line.specs.Asked.{IsAsked};
@@ -31,6 +32,7 @@ pub struct Done<R> {
 fn show<O: Sink>(out: &mut O, text: &str) -> Answer
     ensures cause { IsDone (λ file. ⊥) (Rose (O.count out.old) (O.count out.new)) result }
     ensures shown { IsWell result }
+    ensures prints { IsPrinted (O.taken out.old) (O.taken out.new) result text.now }
     ensures written_later { O.count out.old ≤ O.count out.new }
 {
     match write_all(out, text.as_bytes()) {
@@ -73,7 +75,7 @@ fn answer_to<W: Wait, I: Inbox, R: Rack, O: Sink, G: Gate>(
     requires { (n : ℕ) → R.can_take rack.old n }
     ensures back { (n : ℕ) → R.can_take rack.new n }
     ensures cause { IsDone (RequestRose request.now (I.count inbox.old) (I.count inbox.new)) (Rose (O.count out.old) (O.count out.new)) result }
-    ensures did { IsWell result → Did (I.file inbox.old) R.Disk.content R.Disk.images (R.held rack.old) (R.held rack.new) request.now }
+    ensures did { IsWell result → Did (I.file inbox.old) R.Disk.content R.Disk.images R.Disk.limit (R.held rack.old) (R.held rack.new) (IsPrinted (O.taken out.old) (O.taken out.new) result) request.now }
     ensures why { IsTold (Why (I.file inbox.old) (I.count inbox.old) (I.count inbox.new) R.Disk.content R.Disk.images R.Disk.limit R.Disk.count (R.held rack.old) (R.held rack.new) (R.count rack.old) (R.count rack.new) request.now) result }
     ensures written_later { O.count out.old ≤ O.count out.new }
 {
@@ -103,7 +105,7 @@ fn answer_words<W: Wait, I: Inbox, R: Rack, O: Sink, G: Gate>(
     ensures back { (n : ℕ) → R.can_take rack.new n }
     ensures cause { IsAnswered (texts words.now) (I.count inbox.old) (I.count inbox.new) (Rose (O.count out.old) (O.count out.new)) result }
     ensures told { IsRefused (texts words.now) WordsFault.Bad → (result ≡ Answer.BadWords) ⊎ (result ≡ Answer.Memory) }
-    ensures did { IsWell result → (r : Asked) × IsAsked (texts words.now) r × Did (I.file inbox.old) R.Disk.content R.Disk.images (R.held rack.old) (R.held rack.new) r }
+    ensures did { IsWell result → (r : Asked) × IsAsked (texts words.now) r × Did (I.file inbox.old) R.Disk.content R.Disk.images R.Disk.limit (R.held rack.old) (R.held rack.new) (IsPrinted (O.taken out.old) (O.taken out.new) result) r }
     ensures why { IsTold (λ a. (r : Asked) × IsAsked (texts words.now) r × Why (I.file inbox.old) (I.count inbox.old) (I.count inbox.new) R.Disk.content R.Disk.images R.Disk.limit R.Disk.count (R.held rack.old) (R.held rack.new) (R.count rack.old) (R.count rack.new) r a) result }
     ensures written_later { O.count out.old ≤ O.count out.new }
 {
@@ -131,8 +133,8 @@ pub fn process<W: Wait, I: Inbox, R: Rack, O: Sink, G: Gate>(
     ensures back { (n : ℕ) → R.can_take result.rack n }
     // What the words ask for was done, whether its lines could be written or not: a ledger was made, files were run over one, or its
     // open batches were brought to their end. Whatever a crash leaves of a disk then opens to exactly its node's journal, and where no
-    // two outputs share a hash, the headline holds of the journals at exit.
-    ensures did { IsWell result.status → (r : Asked) × IsAsked (texts words.now) r × Did (I.file inbox.old) R.Disk.content R.Disk.images (R.held rack) (R.held result.rack) r }
+    // two outputs share a hash, the headline holds of the journals at exit. What `init` and `status` print is told too.
+    ensures did { IsWell result.status → (r : Asked) × IsAsked (texts words.now) r × Did (I.file inbox.old) R.Disk.content R.Disk.images R.Disk.limit (R.held rack) (R.held result.rack) (IsPrinted (O.taken out.old) (O.taken out.new) result.status) r }
 
     // Else why not: a file that is not read, a ledger that can't be made or opened, or a fault of a lane, and what it leaves. Of an audit
     // it is not told.

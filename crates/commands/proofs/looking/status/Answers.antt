@@ -1,7 +1,35 @@
+use Rattle.std.proofs.Common.{◌≡◌, ◌≤◌, ◌∙◌, length, map, subst}
+use Rattle.cbdc_types.specs.declared.answer.Answer.TheVariants as answers
 use Rattle.rack_ledgers.specs.Ledgers.{IsUnopened}
+use Rattle.commands.specs.Texts.{IsPrinted, told_lines, status_among}
 use Rattle.commands.proofs.Answers.{told}
+use Rattle.commands.proofs.Ledgers.{few_shards, did_status}
 use Rattle.commands.proofs.looking.status.Goals as goal
 
 pub returns-in-Err-clause-why : goal.returns-in-Err-clause-why
 returns-in-Err-clause-why g c =
     told (IsUnopened g.R.Disk.Disk.content g.R.Disk.Disk.images g.R.Disk.Disk.limit g.R.Disk.Disk.count (g.R.Rack.held c.args.rack.now) (g.R.Rack.count c.args.rack.now) (g.R.Rack.count c.open_nodes.new.rack)) c.in-Err.fault c.in-Err.ensures.refusal
+
+pub returns-in-Ok-write_statuses-clause-did : goal.returns-in-Ok-write_statuses-clause-did
+returns-in-Ok-write_statuses-clause-did g c well =
+    let held = g.R.Rack.held c.args.rack.now in
+    let nodes = c.in-Ok.nodes in
+    let printed = IsPrinted (g.O.Sink.taken c.args.out.now) (g.O.Sink.taken c.write_statuses.new.out) answers.Ok in
+    let few : length c.in-Ok.nodes.shards.items ≤ 64 =
+    few_shards g.R.Disk.Disk.content g.R.Disk.Disk.images g.R.Disk.Disk.limit g.R.Disk.Disk.count held nodes.header nodes.logs.items nodes.shards.items c.in-Ok.ensures.opened in
+    let same : c.deref.result.now ≡ map (status_among c.in-Ok.nodes.shards.items) c.args.hashes.now = c.deref.ensures.value ∙ c.in-Ok-told.ensures few in
+    did_status g.R.Disk.Disk.content g.R.Disk.Disk.images g.R.Disk.Disk.limit g.R.Disk.Disk.count held nodes.header nodes.logs.items nodes.shards.items c.in-Ok.ensures.opened
+    (g.R.Rack.held c.open_nodes.new.rack) (g.R.Rack.held c.close_nodes.new.rack) c.in-Ok.ensures.others_held c.close_nodes.ensures.closed_logs c.close_nodes.ensures.closed_shards c.close_nodes.ensures.others_held
+    printed c.args.hashes.now (subst (λ ss. printed (told_lines c.args.hashes.now ss)) same c.in-Ok-write_statuses.ensures.prints)
+
+pub returns-clause-did : goal.returns-clause-did
+returns-clause-did g c well =
+    let held = g.R.Rack.held c.args.rack.now in
+    let nodes = c.in-Ok.nodes in
+    let printed = IsPrinted (g.O.Sink.taken c.args.out.now) (g.O.Sink.taken c.write_statuses.new.out) answers.WriteFault in
+    let few : length c.in-Ok.nodes.shards.items ≤ 64 =
+    few_shards g.R.Disk.Disk.content g.R.Disk.Disk.images g.R.Disk.Disk.limit g.R.Disk.Disk.count held nodes.header nodes.logs.items nodes.shards.items c.in-Ok.ensures.opened in
+    let same : c.deref.result.now ≡ map (status_among c.in-Ok.nodes.shards.items) c.args.hashes.now = c.deref.ensures.value ∙ c.in-Ok-told.ensures few in
+    did_status g.R.Disk.Disk.content g.R.Disk.Disk.images g.R.Disk.Disk.limit g.R.Disk.Disk.count held nodes.header nodes.logs.items nodes.shards.items c.in-Ok.ensures.opened
+    (g.R.Rack.held c.open_nodes.new.rack) (g.R.Rack.held c.close_nodes.new.rack) c.in-Ok.ensures.others_held c.close_nodes.ensures.closed_logs c.close_nodes.ensures.closed_shards c.close_nodes.ensures.others_held
+    printed c.args.hashes.now (subst (λ ss. printed (told_lines c.args.hashes.now ss)) same c.in-Err-write_statuses.ensures.prints)

@@ -2,8 +2,22 @@ use Rattle.std.proofs.Common.{subst, arith}
 use Rattle.outside.specs.Counts.{Rose}
 use Rattle.command_line.specs.Words.{texts}
 use Rattle.commands.specs.Causes.{IsAnswered}
+use Rattle.commands.specs.Texts.{IsPrinted}
 use Rattle.commands.proofs.Counts.{rose_later}
+use Rattle.commands.proofs.Did.{did_by, printed_still}
 use Rattle.commands.proofs.top.process.Goals as goal
+
+pub returns-clause-did : goal.returns-clause-did
+returns-clause-did g c well =
+    let (r, asked, was) = c.answer_words-status.ensures.did well in (
+      r,
+      asked,
+      did_by (g.I.Inbox.file c.args.inbox.now) g.R.Disk.Disk.content g.R.Disk.Disk.images g.R.Disk.Disk.limit (g.R.Rack.held c.args.rack) (g.R.Rack.held c.answer_words-status.new.rack)
+          (IsPrinted (g.O.Sink.taken c.args.out.now) (g.O.Sink.taken c.answer_words-status.new.out) c.answer_words-status.result)
+          (IsPrinted (g.O.Sink.taken c.args.out.now) (g.O.Sink.taken c.write_fault.new.out) c.answer_words-status.result)
+          (λ text. printed_still (g.O.Sink.taken c.args.out.now) (g.O.Sink.taken c.answer_words-status.new.out) (g.O.Sink.taken c.write_fault.new.out) c.name_of.result.now text c.write_fault.result c.answer_words-status.result c.write_fault.ensures.prints)
+          r was,
+    )
 
 pub returns-clause-bad_words : goal.returns-clause-bad_words
 returns-clause-bad_words g c is =

@@ -1,0 +1,35 @@
+-- What was done, with another text that was printed.
+use Rattle.std.proofs.Common.{◌≡◌, ◌++◌, ℕ, List, [], take, Option, Some, Result, Ok, Err, ◌∙◌, ap}
+use Rattle.std.proofs.Math.Seq.{take-nil}
+use Rattle.std.proofs.lemmas.List.{append-nil}
+use Rattle.cbdc_types.specs.declared.answer.Answer.{Answer}
+use Rattle.cbdc_types.specs.declared.answer.Answer.TheVariants as answers
+use Rattle.command_line.specs.declared.request.Request.{Request}
+use Rattle.command_line.specs.declared.request.Request.TheVariants.{Init, Run, Recover, Status, Audit, Show}
+use Rattle.line_text.specs.Lines.{Text, Prints}
+use Rattle.line_text.specs.Faults.{fault_text}
+use Rattle.commands.specs.Outcomes.{Did}
+use Rattle.commands.specs.Texts.{IsPrinted}
+
+module _ {D : Type 0} (files : Text → Option (List ℕ)) (content : D → Option (List ℕ)) (images : D → List ℕ → Type 0) (limit : D → ℕ) (before now : ℕ → Option D) (P Q : Text → Type 0) (by : (text : Text) → P text → Q text) where
+  pub did_by : (r : Request) → Did files content images limit before now P r → Did files content images limit before now Q r
+  did_by (Init shape mint) is = record { mint = is.mint; read = is.read; was = is.was; holds = is.holds; opens = is.opens; kept = is.kept; prints = by _ is.prints }
+  did_by (Run verdicts clients) is = is
+  did_by Recover is = is
+  did_by (Status hashes) is =
+      record { shape = is.shape; genesis = is.genesis; journals = is.journals; limits = is.limits; opened = is.opened; back = is.back; prints = by _ is.prints }
+  did_by (Audit mint clients) is = tt
+  did_by (Show text) is = by _ is
+
+-- nothing more was printed
+nothing_more : {E : Type 0} (mid new : Option Text) (t : Text) (r : Result (Unit {0}) E) → Prints mid new [] r → mid ≡ Some t → new ≡ Some t
+nothing_more mid new t (Ok done) is at = is t at ∙ ap (λ (l : Text). Some l) (append-nil t)
+nothing_more mid new t (Err e) is at =
+    let (n, same) = is t at in
+    same ∙ ap (λ (l : Text). Some l) (ap (λ (l : Text). t ++ l) (take-nil n) ∙ append-nil t)
+
+-- all was done, so there is no line of a fault behind it
+pub printed_still : {E : Type 0} (old mid new : Option Text) (name text : Text) (r : Result (Unit {0}) E) (a : Answer) → Prints mid new (fault_text a name) r → IsPrinted old mid a text → IsPrinted old new a text
+printed_still old mid new name text r answers.Ok more is = λ t at. nothing_more mid new (t ++ text) r more (is t at)
+printed_still old mid new name text r answers.WriteFault more is = λ t at. let (n, front) = is t at in (n, nothing_more mid new (t ++ take n text) r more front)
+printed_still old mid new name text r other more is = tt
