@@ -5,6 +5,7 @@ use Rattle.commands.specs.Causes.{IsAnswered}
 use Rattle.commands.specs.Texts.{IsPrinted}
 use Rattle.commands.proofs.Counts.{rose_later}
 use Rattle.commands.proofs.Did.{did_by, printed_still}
+use Rattle.commands.proofs.Faults.{fault_printed}
 use Rattle.commands.proofs.top.process.Goals as goal
 
 pub returns-clause-did : goal.returns-clause-did
@@ -34,3 +35,8 @@ returns-clause-written g c is =
 
 pub returns-clause-told : goal.returns-clause-told
 returns-clause-told g c refused = c.answer_words-status.ensures.told refused
+
+pub returns-clause-fault_line : goal.returns-clause-fault_line
+returns-clause-fault_line g c =
+    fault_printed (texts c.args.words.now) (g.O.Sink.taken c.args.out.now) (g.O.Sink.taken c.answer_words-status.new.out) (g.O.Sink.taken c.write_fault.new.out) c.name_of.result.now c.write_fault.result c.answer_words-status.result
+    c.answer_words-status.ensures.silent c.name_of.ensures c.write_fault.ensures.prints
