@@ -1,12 +1,12 @@
 -- What is printed of a fault.
-use Rattle.std.proofs.Common.{◌≡◌, ◌≤◌, ◌<◌, ◌++◌, ◌∙◌, ℕ, Bool, true, false, if◌then◌else◌, List, length, take, drop, Option, Some, None, Result, Ok, Err, refl, sym, ap, codes, arith}
-use Rattle.std.specs.Prelude.{slice_get, slice_index_or, string_bytes}
+use Rattle.std.proofs.Common.{◌≡◌, ◌⊎◌, inl, inr, ◌≤◌, ◌<◌, ◌++◌, ◌∙◌, ℕ, Bool, true, false, if◌then◌else◌, List, length, take, drop, Option, Some, None, Result, Ok, Err, refl, sym, ap, codes, arith}
+use Rattle.std.specs.Prelude.{OnErr, slice_get, slice_index_or, string_bytes}
 use Rattle.std.specs.Option.{option_map}
 use Rattle.std.specs.Str.{bytes_eq}
 use Rattle.std.specs.Str.Pattern.{FindsTextPrefix, LacksTextAt}
 use Rattle.std.specs.declared.alloc.Global.{Global}
 use Rattle.std.specs.declared.string.String.{String}
-use Rattle.std.proofs.lemmas.List.{length-map, take_all, take_at, take-append-drop}
+use Rattle.std.proofs.lemmas.List.{length-map, take_at, take-append-drop}
 use Rattle.std.proofs.lemmas.Option.{slice_get-get_or, slice_get-map, slice_get_past}
 use Rattle.std.proofs.lemmas.Slice.Eq.{bytes_eq-Decides}
 use Rattle.outside.specs.Images.{Tells}
@@ -37,28 +37,28 @@ silent_same t answers.WriteFault = tt
 silent_same t (answers.DiskFault k) = refl
 silent_same t answers.Memory = refl
 
--- a text that was printed, or a front of it, is a front of it
-front_printed : {E : Type 0} (old mid new : Option Text) (text : Text) (r : Result (Unit {0}) E) → mid ≡ old → Prints mid new text r → Tells old (λ t. (n : ℕ) × (new ≡ Some (t ++ take n text)))
-front_printed old mid new text (Ok done) same prints = λ t is. (length text, prints t (same ∙ is) ∙ ap (λ (l : Text). Some (t ++ l)) (sym (take_all (length text) text (omega arith))))
-front_printed old mid new text (Err e) same prints = λ t is. prints t (same ∙ is)
+-- a text that was printed, or a front of it where the sink failed
+text_printed : {E : Type 0} (old mid new : Option Text) (text : Text) (failed : Type 0) (r : Result (Unit {0}) E) → mid ≡ old → Prints mid new text r → OnErr r failed → Tells old (λ t. (new ≡ Some (t ++ text)) ⊎ (failed × ((n : ℕ) × (new ≡ Some (t ++ take n text)))))
+text_printed old mid new text failed (Ok done) same prints cause = λ t is. inl (prints t (same ∙ is))
+text_printed old mid new text failed (Err e) same prints cause = λ t is. inr (cause, prints t (same ∙ is))
 
-pub fault_printed : {E : Type 0} (words : List Text) (old mid new : Option Text) (name : Text) (r : Result (Unit {0}) E) (a : Answer) → IsSilent old mid a → IsNameOf words a name → Prints mid new (fault_text a name) r → IsFaultPrinted words old new a
-fault_printed words old mid new name r answers.Ok silent named prints = tt
-fault_printed words old mid new name r answers.BadWords silent named prints = (name, named, front_printed old mid new (fault_text answers.BadWords name) r silent prints)
-fault_printed words old mid new name r (answers.BadInput file at kind) silent named prints = (name, named, front_printed old mid new (fault_text (answers.BadInput file at kind) name) r silent prints)
-fault_printed words old mid new name r (answers.TooMuch total) silent named prints = (name, named, front_printed old mid new (fault_text (answers.TooMuch total) name) r silent prints)
-fault_printed words old mid new name r (answers.NotReady k) silent named prints = (name, named, front_printed old mid new (fault_text (answers.NotReady k) name) r silent prints)
-fault_printed words old mid new name r (answers.Foreign k kept asked) silent named prints = (name, named, front_printed old mid new (fault_text (answers.Foreign k kept asked) name) r silent prints)
-fault_printed words old mid new name r (answers.NotEmpty k) silent named prints = (name, named, front_printed old mid new (fault_text (answers.NotEmpty k) name) r silent prints)
-fault_printed words old mid new name r (answers.Full k used need capacity) silent named prints = (name, named, front_printed old mid new (fault_text (answers.Full k used need capacity) name) r silent prints)
-fault_printed words old mid new name r (answers.Unsound spot kind) silent named prints = (name, named, front_printed old mid new (fault_text (answers.Unsound spot kind) name) r silent prints)
-fault_printed words old mid new name r (answers.ClockEnd k stamp) silent named prints = (name, named, front_printed old mid new (fault_text (answers.ClockEnd k stamp) name) r silent prints)
-fault_printed words old mid new name r (answers.Refused k) silent named prints = (name, named, front_printed old mid new (fault_text (answers.Refused k) name) r silent prints)
-fault_printed words old mid new name r (answers.Damaged k at) silent named prints = (name, named, front_printed old mid new (fault_text (answers.Damaged k at) name) r silent prints)
-fault_printed words old mid new name r (answers.ReadFault file) silent named prints = (name, named, front_printed old mid new (fault_text (answers.ReadFault file) name) r silent prints)
-fault_printed words old mid new name r answers.WriteFault silent named prints = tt
-fault_printed words old mid new name r (answers.DiskFault k) silent named prints = (name, named, front_printed old mid new (fault_text (answers.DiskFault k) name) r silent prints)
-fault_printed words old mid new name r answers.Memory silent named prints = (name, named, front_printed old mid new (fault_text answers.Memory name) r silent prints)
+pub fault_printed : {E : Type 0} (words : List Text) (old mid new : Option Text) (name : Text) (failed : Type 0) (r : Result (Unit {0}) E) (a : Answer) → IsSilent old mid a → IsNameOf words a name → Prints mid new (fault_text a name) r → OnErr r failed → IsFaultPrinted words old new failed a
+fault_printed words old mid new name failed r answers.Ok silent named prints cause = tt
+fault_printed words old mid new name failed r answers.BadWords silent named prints cause = (name, named, text_printed old mid new (fault_text answers.BadWords name) failed r silent prints cause)
+fault_printed words old mid new name failed r (answers.BadInput file at kind) silent named prints cause = (name, named, text_printed old mid new (fault_text (answers.BadInput file at kind) name) failed r silent prints cause)
+fault_printed words old mid new name failed r (answers.TooMuch total) silent named prints cause = (name, named, text_printed old mid new (fault_text (answers.TooMuch total) name) failed r silent prints cause)
+fault_printed words old mid new name failed r (answers.NotReady k) silent named prints cause = (name, named, text_printed old mid new (fault_text (answers.NotReady k) name) failed r silent prints cause)
+fault_printed words old mid new name failed r (answers.Foreign k kept asked) silent named prints cause = (name, named, text_printed old mid new (fault_text (answers.Foreign k kept asked) name) failed r silent prints cause)
+fault_printed words old mid new name failed r (answers.NotEmpty k) silent named prints cause = (name, named, text_printed old mid new (fault_text (answers.NotEmpty k) name) failed r silent prints cause)
+fault_printed words old mid new name failed r (answers.Full k used need capacity) silent named prints cause = (name, named, text_printed old mid new (fault_text (answers.Full k used need capacity) name) failed r silent prints cause)
+fault_printed words old mid new name failed r (answers.Unsound spot kind) silent named prints cause = (name, named, text_printed old mid new (fault_text (answers.Unsound spot kind) name) failed r silent prints cause)
+fault_printed words old mid new name failed r (answers.ClockEnd k stamp) silent named prints cause = (name, named, text_printed old mid new (fault_text (answers.ClockEnd k stamp) name) failed r silent prints cause)
+fault_printed words old mid new name failed r (answers.Refused k) silent named prints cause = (name, named, text_printed old mid new (fault_text (answers.Refused k) name) failed r silent prints cause)
+fault_printed words old mid new name failed r (answers.Damaged k at) silent named prints cause = (name, named, text_printed old mid new (fault_text (answers.Damaged k at) name) failed r silent prints cause)
+fault_printed words old mid new name failed r (answers.ReadFault file) silent named prints cause = (name, named, text_printed old mid new (fault_text (answers.ReadFault file) name) failed r silent prints cause)
+fault_printed words old mid new name failed r answers.WriteFault silent named prints cause = tt
+fault_printed words old mid new name failed r (answers.DiskFault k) silent named prints cause = (name, named, text_printed old mid new (fault_text (answers.DiskFault k) name) failed r silent prints cause)
+fault_printed words old mid new name failed r answers.Memory silent named prints cause = (name, named, text_printed old mid new (fault_text answers.Memory name) failed r silent prints cause)
 
 module _ (word : Text) where
   named : (b : _) → bytes_eq (take 11 word) (codes "--verdicts=") ≡ b → name_in word ≡ (if b then drop 11 word else word)

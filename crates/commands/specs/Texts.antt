@@ -1,5 +1,5 @@
 -- What is printed, and what journals the nodes of a ledger have.
-use Rattle.std.specs.Prelude.{◌≡◌, ℕ, zero, suc, ◌-◌, ◌++◌, List, [], ◌∷◌, length, take, Option, Some, slice_get, nat_lt, if◌then◌else◌}
+use Rattle.std.specs.Prelude.{◌≡◌, ◌⊎◌, ℕ, zero, suc, ◌-◌, ◌++◌, List, [], ◌∷◌, length, take, Option, Some, slice_get, nat_lt, if◌then◌else◌}
 use Rattle.outside.specs.Images.{Tells}
 use Rattle.cbdc_types.specs.declared.answer.Answer.{Answer}
 use Rattle.cbdc_types.specs.declared.answer.Answer.TheVariants as answers
@@ -31,11 +31,12 @@ IsNameOf words (answers.BadInput file at kind) name = (word : Text) → slice_ge
 IsNameOf words (answers.ReadFault file) name = (word : Text) → slice_get words file ≡ Some word → name ≡ name_in word
 IsNameOf words other name = Unit {0}
 
--- where the work was not done, the sink has taken the line of the fault or a front of it, and nothing else
-abbrev pub IsFaultPrinted : List Text → Option Text → Option Text → Answer → Type 0
-IsFaultPrinted words before now answers.Ok = Unit {0}
-IsFaultPrinted words before now answers.WriteFault = Unit {0}
-IsFaultPrinted words before now other = (name : Text) × IsNameOf words other name × Tells before (λ t. (n : ℕ) × (now ≡ Some (t ++ take n (fault_text other name))))
+-- where the work was not done, the sink has taken the line of the fault and nothing else, or it failed and has taken a front of it
+abbrev pub IsFaultPrinted : List Text → Option Text → Option Text → Type 0 → Answer → Type 0
+IsFaultPrinted words before now failed answers.Ok = Unit {0}
+IsFaultPrinted words before now failed answers.WriteFault = Unit {0}
+IsFaultPrinted words before now failed other = (name : Text) × IsNameOf words other name
+    × Tells before (λ t. (now ≡ Some (t ++ fault_text other name)) ⊎ (failed × ((n : ℕ) × (now ≡ Some (t ++ take n (fault_text other name))))))
 
 -- a line for each hash, as long as there are statuses
 abbrev pub told_lines : List Digest → List Status → Text

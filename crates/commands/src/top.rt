@@ -150,8 +150,8 @@ pub fn process<W: Wait, I: Inbox, R: Rack, O: Sink, G: Gate>(
     // open batches were brought to their end; and where no two outputs share a hash, the headline holds of the journals at exit.
     ensures did { IsWell result.status → (r : Asked) × IsAsked (texts words.now) r × Did (I.file inbox.old) R.Disk.content R.Disk.images R.Disk.limit (R.held rack) (R.held result.rack) (IsPrinted (O.taken out.old) (O.taken out.new) result.status) r }
 
-    // Else nothing is printed but the line of the fault, or a front of it.
-    ensures fault_line { IsFaultPrinted (texts words.now) (O.taken out.old) (O.taken out.new) result.status }
+    // Else the line of the fault is printed and nothing else, or a front of it where the sink's count rose.
+    ensures fault_line { IsFaultPrinted (texts words.now) (O.taken out.old) (O.taken out.new) (Rose (O.count out.old) (O.count out.new)) result.status }
 
     // And why not: a file that is not read, a ledger that can't be made or opened, or a fault of a lane, and what it leaves. Of an audit
     // it is not told.

@@ -1,4 +1,5 @@
 use Rattle.std.proofs.Common.{subst, arith}
+use Rattle.std.proofs.lemmas.Result.{on_err_weaker}
 use Rattle.outside.specs.Counts.{Rose}
 use Rattle.command_line.specs.Words.{texts}
 use Rattle.commands.specs.Causes.{IsAnswered}
@@ -38,5 +39,9 @@ returns-clause-told g c refused = c.answer_words-status.ensures.told refused
 
 pub returns-clause-fault_line : goal.returns-clause-fault_line
 returns-clause-fault_line g c =
-    fault_printed (texts c.args.words.now) (g.O.Sink.taken c.args.out.now) (g.O.Sink.taken c.answer_words-status.new.out) (g.O.Sink.taken c.write_fault.new.out) c.name_of.result.now c.write_fault.result c.answer_words-status.result
+    let before = g.O.Sink.count c.args.out.now in
+    let mid = g.O.Sink.count c.answer_words-status.new.out in
+    let now = g.O.Sink.count c.write_fault.new.out in
+    fault_printed (texts c.args.words.now) (g.O.Sink.taken c.args.out.now) (g.O.Sink.taken c.answer_words-status.new.out) (g.O.Sink.taken c.write_fault.new.out) c.name_of.result.now (Rose before now) c.write_fault.result c.answer_words-status.result
     c.answer_words-status.ensures.silent c.name_of.ensures c.write_fault.ensures.prints
+    (on_err_weaker c.write_fault.result (rose_later before mid now now c.answer_words-status.ensures.written_later (omega arith)) c.write_fault.ensures.cause.failed)
