@@ -7,3 +7,4 @@ pub mod Lines
 pub mod Ledgers
 pub mod Did
 pub mod Making
+pub mod Faults

@@ -1,13 +1,15 @@
 -- What is printed, and what journals the nodes of a ledger have.
-use Rattle.std.specs.Prelude.{◌≡◌, ℕ, zero, suc, ◌-◌, ◌++◌, List, [], ◌∷◌, length, take, Option, Some, nat_lt, if◌then◌else◌}
+use Rattle.std.specs.Prelude.{◌≡◌, ◌⊎◌, ℕ, zero, suc, ◌-◌, ◌++◌, List, [], ◌∷◌, length, take, Option, Some, slice_get, nat_lt, if◌then◌else◌}
 use Rattle.outside.specs.Images.{Tells}
 use Rattle.cbdc_types.specs.declared.answer.Answer.{Answer}
 use Rattle.cbdc_types.specs.declared.answer.Answer.TheVariants as answers
 use Rattle.cbdc_model.specs.Records.{Digest, Shape, Record}
 use Rattle.cbdc_model.specs.Ranges.{shard_of}
 use Rattle.cbdc_model.specs.Status.{Status, status}
+use Rattle.line_text.specs.Faults.{fault_text}
 use Rattle.line_text.specs.Lines.{Text}
 use Rattle.line_text.specs.Reports.{status_line}
+use Rattle.printed_lines.specs.Reports.{name_in}
 use Rattle.coord_log.specs.Logs.{LogOf}
 use Rattle.shard_node.specs.Shards.{ShardOf}
 
@@ -16,6 +18,25 @@ abbrev pub IsPrinted : Option Text → Option Text → Answer → Text → Type 
 IsPrinted before now answers.Ok text = Tells before (λ t. now ≡ Some (t ++ text))
 IsPrinted before now answers.WriteFault text = Tells before (λ t. (n : ℕ) × (now ≡ Some (t ++ take n text)))
 IsPrinted before now other text = Unit {0}
+
+-- where the work was not done, nothing was printed
+abbrev pub IsSilent : Option Text → Option Text → Answer → Type 0
+IsSilent before now answers.Ok = Unit {0}
+IsSilent before now answers.WriteFault = Unit {0}
+IsSilent before now other = now ≡ before
+
+-- where the answer speaks of a file that has a place among the words, this is the name that stands there
+abbrev pub IsNameOf : List Text → Answer → Text → Type 0
+IsNameOf words (answers.BadInput file at kind) name = (word : Text) → slice_get words file ≡ Some word → name ≡ name_in word
+IsNameOf words (answers.ReadFault file) name = (word : Text) → slice_get words file ≡ Some word → name ≡ name_in word
+IsNameOf words other name = Unit {0}
+
+-- where the work was not done, the sink has taken the line of the fault and nothing else, or it failed and has taken a front of it
+abbrev pub IsFaultPrinted : List Text → Option Text → Option Text → Type 0 → Answer → Type 0
+IsFaultPrinted words before now failed answers.Ok = Unit {0}
+IsFaultPrinted words before now failed answers.WriteFault = Unit {0}
+IsFaultPrinted words before now failed other = (name : Text) × IsNameOf words other name
+    × Tells before (λ t. (now ≡ Some (t ++ fault_text other name)) ⊎ (failed × ((n : ℕ) × (now ≡ Some (t ++ take n (fault_text other name))))))
 
 -- a line for each hash, as long as there are statuses
 abbrev pub told_lines : List Digest → List Status → Text

@@ -2,6 +2,7 @@
 ghost use Rattle.std.specs.Prelude.{◌≡◌, ◌⊎◌, ◌+◌, ◌≤◌, ◌<◌, ◌^◌, ℕ, length, IfOk, IfErr};
 ghost use Rattle.outside.specs.Counts.{Rose};
 ghost use Rattle.commands.specs.Causes.{IsFault, IsDone, OneRose, FileRose};
+ghost use Rattle.commands.specs.Texts.{IsSilent};
 
 use audit::{Totals, Verdict};
 use cbdc_types::{Answer, FullTx, Hash, Header, List, Mint, NodeId, Output, Record};
@@ -123,6 +124,7 @@ fn verdict_on<R: Rack>(
 // Prints what a sound ledger comes to.
 fn print<O: Sink>(out: &mut O, totals: &Totals) -> Answer
     ensures cause { IsDone (λ file. ⊥) (Rose (O.count out.old) (O.count out.new)) result }
+    ensures silent { IsSilent (O.taken out.old) (O.taken out.new) result }
     ensures later { O.count out.old ≤ O.count out.new }
 {
     let summary = AuditSummary {
@@ -149,6 +151,7 @@ pub(crate) fn audit<I: Inbox, R: Rack, O: Sink>(
     requires { (n : ℕ) → R.can_take rack.old n }
     ensures cause { IsDone (λ place. FileRose (I.count inbox.old) (I.count inbox.new) mint.now place ⊎ OneRose (I.count inbox.old) (I.count inbox.new) clients.now place)
         (Rose (O.count out.old) (O.count out.new)) result }
+    ensures silent { IsSilent (O.taken out.old) (O.taken out.new) result }
     ensures written_later { O.count out.old ≤ O.count out.new }
     ensures back { (n : ℕ) → R.can_take rack.new n }
 {

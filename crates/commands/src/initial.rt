@@ -3,7 +3,7 @@ ghost use Rattle.std.specs.Prelude.{◌≡◌, ◌≤◌, ℕ, IfOk, IfErr};
 ghost use Rattle.outside.specs.Counts.{Rose};
 ghost use Rattle.commands.specs.Causes.{IsFault, IsDone, IsTold, IsWell, FileRose};
 ghost use Rattle.commands.specs.Outcomes.{DidInit, WhyNoInit};
-ghost use Rattle.commands.specs.Texts.{IsPrinted};
+ghost use Rattle.commands.specs.Texts.{IsPrinted, IsSilent};
 ghost use Rattle.line_text.specs.Lines.{init_text};
 
 use cbdc_types::{Answer, Shape};
@@ -47,6 +47,7 @@ pub(crate) fn init<I: Inbox, R: Rack, O: Sink>(
     ensures cause { IsDone (FileRose (I.count inbox.old) (I.count inbox.new) file.now) (Rose (O.count out.old) (O.count out.new)) result }
     ensures did { IsWell result → DidInit (I.file inbox.old) R.Disk.content R.Disk.images (R.held rack.old) (R.held rack.new) (IsPrinted (O.taken out.old) (O.taken out.new) result) shape.now file.now }
     ensures why { IsTold (WhyNoInit (I.file inbox.old) (I.count inbox.old) (I.count inbox.new) R.Disk.content R.Disk.limit (R.held rack.old) (R.count rack.old) (R.count rack.new) shape.now file.now) result }
+    ensures silent { IsSilent (O.taken out.old) (O.taken out.new) result }
     ensures written_later { O.count out.old ≤ O.count out.new }
     ensures back { (n : ℕ) → R.can_take rack.new n }
 {

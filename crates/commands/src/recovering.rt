@@ -3,6 +3,7 @@ ghost use Rattle.std.specs.Prelude.{◌≤◌, ℕ, []};
 ghost use Rattle.outside.specs.Counts.{Rose, HasCause};
 ghost use Rattle.commands.specs.Causes.{IsDone, IsTold, IsWell};
 ghost use Rattle.commands.specs.Outcomes.{DidRecover, WhyNoTurns};
+ghost use Rattle.commands.specs.Texts.{IsSilent};
 
 use cbdc_types::{Answer, Outcome};
 use line_text::{WriteFault, write_recovery, write_resumed};
@@ -56,6 +57,7 @@ pub(crate) fn recover<W: Wait, R: Rack, O: Sink, G: Gate>(
     ensures cause { IsDone (λ file. ⊥) (Rose (O.count out.old) (O.count out.new)) result }
     ensures did { IsWell result → DidRecover R.Disk.content R.Disk.images (R.held rack.old) (R.held rack.new) }
     ensures why { IsTold (WhyNoTurns R.Disk.content R.Disk.images R.Disk.limit R.Disk.count (R.held rack.old) (R.held rack.new) (R.count rack.old) (R.count rack.new) []) result }
+    ensures silent { IsSilent (O.taken out.old) (O.taken out.new) result }
     ensures written_later { O.count out.old ≤ O.count out.new }
     ensures back { (n : ℕ) → R.can_take rack.new n }
 {

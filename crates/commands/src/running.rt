@@ -3,6 +3,7 @@ ghost use Rattle.std.specs.Prelude.{◌≤◌, ◌⊎◌, ℕ, OnOk, IfErr};
 ghost use Rattle.outside.specs.Counts.{Rose};
 ghost use Rattle.commands.specs.Causes.{IsFault, IsDone, IsTold, IsWell, OneRose, FileRose};
 ghost use Rattle.commands.specs.Outcomes.{DidRun, WhyNoRun};
+ghost use Rattle.commands.specs.Texts.{IsSilent};
 
 use crate::report::write_report;
 use cbdc_types::Answer;
@@ -57,6 +58,7 @@ pub(crate) fn run<W: Wait, I: Inbox, R: Rack, O: Sink, G: Gate>(
         (Rose (O.count out.old) (O.count out.new)) result }
     ensures did { IsWell result → DidRun (I.file inbox.old) R.Disk.content R.Disk.images (R.held rack.old) (R.held rack.new) verdicts.now clients.now }
     ensures why { IsTold (WhyNoRun (I.file inbox.old) (I.count inbox.old) (I.count inbox.new) R.Disk.content R.Disk.images R.Disk.limit R.Disk.count (R.held rack.old) (R.held rack.new) (R.count rack.old) (R.count rack.new) verdicts.now clients.now) result }
+    ensures silent { IsSilent (O.taken out.old) (O.taken out.new) result }
     ensures written_later { O.count out.old ≤ O.count out.new }
     ensures back { (n : ℕ) → R.can_take rack.new n }
 {

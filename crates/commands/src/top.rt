@@ -1,13 +1,15 @@
 // The top call.
-ghost use Rattle.std.specs.Prelude.{◌≡◌, ◌≤◌, ◌⊎◌, ℕ};
-ghost use Rattle.commands.specs.Texts.{IsPrinted};
+ghost use Rattle.std.specs.Prelude.{◌≡◌, ◌≤◌, ◌⊎◌, ℕ, Some, slice_get};
+ghost use Rattle.commands.specs.Texts.{IsFaultPrinted, IsNameOf, IsPrinted, IsSilent};
 ghost use Rattle.command_line.specs.Asked.{IsRefused};
 ghost use Rattle.command_line.specs.Words.{texts};
 ghost use Rattle.command_line.specs.Asked.{IsAsked};
 ghost use Rattle.command_line.specs.declared.request.Request.{Request as Asked};
 ghost use Rattle.commands.specs.Causes.{IsAnswered, IsDone, IsTold, IsWell, NamedRose, RequestRose};
 ghost use Rattle.commands.specs.Outcomes.{Did, Why};
+ghost use Rattle.line_text.specs.Lines.{Text};
 ghost use Rattle.outside.specs.Counts.{Rose};
+ghost use Rattle.printed_lines.specs.Reports.{name_in};
 
 use crate::auditing::audit;
 use crate::initial::init;
@@ -33,6 +35,7 @@ fn show<O: Sink>(out: &mut O, text: &str) -> Answer
     ensures cause { IsDone (λ file. ⊥) (Rose (O.count out.old) (O.count out.new)) result }
     ensures shown { IsWell result }
     ensures prints { IsPrinted (O.taken out.old) (O.taken out.new) result text.now }
+    ensures silent { IsSilent (O.taken out.old) (O.taken out.new) result }
     ensures written_later { O.count out.old ≤ O.count out.new }
 {
     match write_all(out, text.as_bytes()) {
@@ -42,23 +45,33 @@ fn show<O: Sink>(out: &mut O, text: &str) -> Answer
 }
 
 // The name in a word that names a file: verdicts may stand behind their option.
-fn bare(word: &str) -> &str {
+fn bare(word: &str) -> &str
+    ensures { result.now ≡ name_in word.now }
+{
     match word.strip_prefix("--verdicts=") {
         Some(name) => name,
         None => word,
     }
 }
 
-// The name of the file that an answer speaks of.
-fn name_of<'a>(words: &'a [String], answer: &Answer) -> &'a str {
-    let place = match answer {
-        Answer::BadInput { file, .. } => *file,
-        Answer::ReadFault { file } => *file,
-        _ => return "",
-    };
+// The name in the word at a place.
+fn name_at<'a>(words: &'a [String], place: u64) -> &'a str
+    ensures { (word : Text) → slice_get (texts words.entry.now) place ≡ Some word → result.now ≡ name_in word }
+{
     match words.get(place as usize) {
         Some(word) => bare(word.as_str()),
         None => "",
+    }
+}
+
+// The name of the file that an answer speaks of.
+fn name_of<'a>(words: &'a [String], answer: &Answer) -> &'a str
+    ensures { IsNameOf (texts words.entry.now) answer.now result.now }
+{
+    match answer {
+        Answer::BadInput { file, .. } => name_at(words, *file),
+        Answer::ReadFault { file } => name_at(words, *file),
+        _ => "",
     }
 }
 
@@ -77,6 +90,7 @@ fn answer_to<W: Wait, I: Inbox, R: Rack, O: Sink, G: Gate>(
     ensures cause { IsDone (RequestRose request.now (I.count inbox.old) (I.count inbox.new)) (Rose (O.count out.old) (O.count out.new)) result }
     ensures did { IsWell result → Did (I.file inbox.old) R.Disk.content R.Disk.images R.Disk.limit (R.held rack.old) (R.held rack.new) (IsPrinted (O.taken out.old) (O.taken out.new) result) request.now }
     ensures why { IsTold (Why (I.file inbox.old) (I.count inbox.old) (I.count inbox.new) R.Disk.content R.Disk.images R.Disk.limit R.Disk.count (R.held rack.old) (R.held rack.new) (R.count rack.old) (R.count rack.new) request.now) result }
+    ensures silent { IsSilent (O.taken out.old) (O.taken out.new) result }
     ensures written_later { O.count out.old ≤ O.count out.new }
 {
     match request {
@@ -107,6 +121,7 @@ fn answer_words<W: Wait, I: Inbox, R: Rack, O: Sink, G: Gate>(
     ensures told { IsRefused (texts words.now) WordsFault.Bad → (result ≡ Answer.BadWords) ⊎ (result ≡ Answer.Memory) }
     ensures did { IsWell result → (r : Asked) × IsAsked (texts words.now) r × Did (I.file inbox.old) R.Disk.content R.Disk.images R.Disk.limit (R.held rack.old) (R.held rack.new) (IsPrinted (O.taken out.old) (O.taken out.new) result) r }
     ensures why { IsTold (λ a. (r : Asked) × IsAsked (texts words.now) r × Why (I.file inbox.old) (I.count inbox.old) (I.count inbox.new) R.Disk.content R.Disk.images R.Disk.limit R.Disk.count (R.held rack.old) (R.held rack.new) (R.count rack.old) (R.count rack.new) r a) result }
+    ensures silent { IsSilent (O.taken out.old) (O.taken out.new) result }
     ensures written_later { O.count out.old ≤ O.count out.new }
 {
     match parse(alloc, words) {
@@ -136,7 +151,10 @@ pub fn process<W: Wait, I: Inbox, R: Rack, O: Sink, G: Gate>(
     // two outputs share a hash, the headline holds of the journals at exit. What `init` and `status` print is told too.
     ensures did { IsWell result.status → (r : Asked) × IsAsked (texts words.now) r × Did (I.file inbox.old) R.Disk.content R.Disk.images R.Disk.limit (R.held rack) (R.held result.rack) (IsPrinted (O.taken out.old) (O.taken out.new) result.status) r }
 
-    // Else why not: a file that is not read, a ledger that can't be made or opened, or a fault of a lane, and what it leaves. Of an audit
+    // Else the line of the fault is printed and nothing else, or a front of it where the sink's count rose.
+    ensures fault_line { IsFaultPrinted (texts words.now) (O.taken out.old) (O.taken out.new) (Rose (O.count out.old) (O.count out.new)) result.status }
+
+    // And why not: a file that is not read, a ledger that can't be made or opened, or a fault of a lane, and what it leaves. Of an audit
     // it is not told.
     ensures why { IsTold (λ a. (r : Asked) × IsAsked (texts words.now) r × Why (I.file inbox.old) (I.count inbox.old) (I.count inbox.new) R.Disk.content R.Disk.images R.Disk.limit R.Disk.count (R.held rack) (R.held result.rack) (R.count rack) (R.count result.rack) r a) result.status }
 

@@ -6,6 +6,7 @@ use Rattle.commands.specs.Outcomes.{WhyNoInit}
 use Rattle.commands.specs.Texts.{IsPrinted}
 use Rattle.commands.proofs.Did.{did_by}
 use Rattle.commands.proofs.Answers.{told}
+use Rattle.commands.proofs.Faults.{silent_same}
 use Rattle.commands.proofs.initial.init.Goals as goal
 
 pub returns-in-Err-clause-why : goal.returns-in-Err-clause-why
@@ -25,3 +26,6 @@ returns-in-Err-write_init-clause-did g c well =
     (λ text. init_text c.in-Ok.made.coins c.in-Ok.made.total c.in-Ok.made.genesis ≡ text) (IsPrinted (g.O.Sink.taken c.args.out.now) (g.O.Sink.taken c.write_init.new.out) answers.WriteFault)
     (λ text is. subst (IsPrinted (g.O.Sink.taken c.args.out.now) (g.O.Sink.taken c.write_init.new.out) answers.WriteFault) is c.in-Err-write_init.ensures.prints)
     (Init c.args.shape.now c.args.file.now) c.in-Ok.ensures.made
+
+pub returns-in-Err-clause-silent : goal.returns-in-Err-clause-silent
+returns-in-Err-clause-silent g c = silent_same (g.O.Sink.taken c.args.out.now) c.in-Err.fault

@@ -4,6 +4,7 @@ use Rattle.rack_ledgers.specs.Ledgers.{IsUnopened}
 use Rattle.commands.specs.Texts.{IsPrinted, told_lines, status_among}
 use Rattle.commands.proofs.Answers.{told}
 use Rattle.commands.proofs.Ledgers.{few_shards, did_status}
+use Rattle.commands.proofs.Faults.{silent_same}
 use Rattle.commands.proofs.looking.status.Goals as goal
 
 pub returns-in-Err-clause-why : goal.returns-in-Err-clause-why
@@ -33,3 +34,6 @@ returns-clause-did g c well =
     did_status g.R.Disk.Disk.content g.R.Disk.Disk.images g.R.Disk.Disk.limit g.R.Disk.Disk.count held nodes.header nodes.logs.items nodes.shards.items c.in-Ok.ensures.opened
     (g.R.Rack.held c.open_nodes.new.rack) (g.R.Rack.held c.close_nodes.new.rack) c.in-Ok.ensures.others_held c.close_nodes.ensures.closed_logs c.close_nodes.ensures.closed_shards c.close_nodes.ensures.others_held
     printed c.args.hashes.now (subst (λ ss. printed (told_lines c.args.hashes.now ss)) same c.in-Err-write_statuses.ensures.prints)
+
+pub returns-in-Err-clause-silent : goal.returns-in-Err-clause-silent
+returns-in-Err-clause-silent g c = silent_same (g.O.Sink.taken c.args.out.now) c.in-Err.fault

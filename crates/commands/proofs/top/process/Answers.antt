@@ -1,10 +1,12 @@
 use Rattle.std.proofs.Common.{subst, arith}
+use Rattle.std.proofs.lemmas.Result.{on_err_weaker}
 use Rattle.outside.specs.Counts.{Rose}
 use Rattle.command_line.specs.Words.{texts}
 use Rattle.commands.specs.Causes.{IsAnswered}
 use Rattle.commands.specs.Texts.{IsPrinted}
 use Rattle.commands.proofs.Counts.{rose_later}
 use Rattle.commands.proofs.Did.{did_by, printed_still}
+use Rattle.commands.proofs.Faults.{fault_printed}
 use Rattle.commands.proofs.top.process.Goals as goal
 
 pub returns-clause-did : goal.returns-clause-did
@@ -34,3 +36,12 @@ returns-clause-written g c is =
 
 pub returns-clause-told : goal.returns-clause-told
 returns-clause-told g c refused = c.answer_words-status.ensures.told refused
+
+pub returns-clause-fault_line : goal.returns-clause-fault_line
+returns-clause-fault_line g c =
+    let before = g.O.Sink.count c.args.out.now in
+    let mid = g.O.Sink.count c.answer_words-status.new.out in
+    let now = g.O.Sink.count c.write_fault.new.out in
+    fault_printed (texts c.args.words.now) (g.O.Sink.taken c.args.out.now) (g.O.Sink.taken c.answer_words-status.new.out) (g.O.Sink.taken c.write_fault.new.out) c.name_of.result.now (Rose before now) c.write_fault.result c.answer_words-status.result
+    c.answer_words-status.ensures.silent c.name_of.ensures c.write_fault.ensures.prints
+    (on_err_weaker c.write_fault.result (rose_later before mid now now c.answer_words-status.ensures.written_later (omega arith)) c.write_fault.ensures.cause.failed)
