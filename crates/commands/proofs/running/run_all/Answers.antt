@@ -6,7 +6,7 @@ use Rattle.commands.proofs.running.run_all.Goals as goal
 
 pub returns-in-Err-clause-fault : goal.returns-in-Err-clause-fault
 returns-in-Err-clause-fault g c =
-    first_fault (g.I.Inbox.file c.args.inbox.now) (g.I.Inbox.count c.args.inbox.now) (g.I.Inbox.count c.all_clients_in.new.inbox) c.args.clients.now _ (λ place one. inl one) c.in-Err.fault c.in-Err.ensures.fault
+    first_fault (g.I.Inbox.file c.args.inbox.now) (g.I.Inbox.count c.args.inbox.now) (g.I.Inbox.count c.all_clients_in.new.inbox) c.args.clients.now _ _ (λ place one. inl one) (λ place one. inl one) c.in-Err.fault c.in-Err.ensures.fault
 
 pub returns-clause-did : goal.returns-clause-did
 returns-clause-did g c =
