@@ -146,8 +146,9 @@ pub fn process<W: Wait, I: Inbox, R: Rack, O: Sink, G: Gate>(
 ) -> Done<R>
     requires { (n : ℕ) → R.can_take rack n }
     ensures back { (n : ℕ) → R.can_take result.rack n }
-    // What the words ask for was done, whether its lines could be written or not: a ledger was made, files were run over one, or its
-    // open batches were brought to their end; and where no two outputs share a hash, the headline holds of the journals at exit.
+    // What the words ask for was done, whether its lines could be written or not: a ledger was made, files were run over one, its open
+    // batches were brought to their end, or hashes were looked up; and where no two outputs share a hash, the headline holds of the
+    // journals at exit. The lines of `init` and `status` are those of the mint and of the journals at entry, or at WriteFault a front.
     ensures did { IsWell result.status → (r : Asked) × IsAsked (texts words.now) r × Did (I.file inbox.old) R.Disk.content R.Disk.images R.Disk.limit (R.held rack) (R.held result.rack) (IsPrinted (O.taken out.old) (O.taken out.new) result.status) r }
 
     // Else the line of the fault is printed and nothing else, or a front of it where the sink's count rose.
