@@ -8,55 +8,57 @@ use Rattle.command_line.specs.declared.request.FileWord.{FileWord}
 use Rattle.line_text.specs.Lines.{Text}
 use Rattle.input_files.specs.Contents.{IsNotRead, IsNoVerdicts, FirstNotRead, txs_of_file, all_txs}
 use Rattle.commands.proofs.Counts.{rose_later}
-use Rattle.commands.specs.Causes.{IsFault, IsDone, IsTold, IsWell, OneRose}
+use Rattle.commands.specs.Causes.{IsFault, IsDone, IsTold, IsWell, OnePlace, OneRose}
 
-pub fault_done : (read : ℕ → Type 0) (written : Type 0) (a : Answer) → IsFault read a → IsDone read written a
-fault_done read written answers.Ok is = absurd is
-fault_done read written answers.BadWords is = absurd is
-fault_done read written (answers.BadInput file at kind) is = tt
-fault_done read written (answers.TooMuch total) is = tt
-fault_done read written (answers.NotReady k) is = tt
-fault_done read written (answers.Foreign k kept asked) is = tt
-fault_done read written (answers.NotEmpty k) is = tt
-fault_done read written (answers.Full k used need capacity) is = tt
-fault_done read written (answers.Unsound place kind) is = tt
-fault_done read written (answers.ClockEnd k stamp) is = tt
-fault_done read written (answers.Refused k) is = tt
-fault_done read written (answers.Damaged k at) is = tt
-fault_done read written (answers.ReadFault file) is = is
-fault_done read written answers.WriteFault is = absurd is
-fault_done read written (answers.DiskFault k) is = tt
-fault_done read written answers.Memory is = tt
+pub fault_done : (named read : ℕ → Type 0) (written : Type 0) (a : Answer) → IsFault named read a → IsDone named read written a
+fault_done named read written answers.Ok is = absurd is
+fault_done named read written answers.BadWords is = absurd is
+fault_done named read written (answers.BadInput file at kind) is = is
+fault_done named read written (answers.TooMuch total) is = tt
+fault_done named read written (answers.NotReady k) is = tt
+fault_done named read written (answers.Foreign k kept asked) is = tt
+fault_done named read written (answers.NotEmpty k) is = tt
+fault_done named read written (answers.Full k used need capacity) is = tt
+fault_done named read written (answers.Unsound place kind) is = tt
+fault_done named read written (answers.ClockEnd k stamp) is = tt
+fault_done named read written (answers.Refused k) is = tt
+fault_done named read written (answers.Damaged k at) is = tt
+fault_done named read written (answers.ReadFault file) is = is
+fault_done named read written answers.WriteFault is = absurd is
+fault_done named read written (answers.DiskFault k) is = tt
+fault_done named read written answers.Memory is = tt
 
-pub not_read_fault : {X : Type 0} (place : ℕ) (told : Option (List ℕ)) (read : List ℕ → Result X BadFile) (before now : ℕ) (rose : ℕ → Type 0) → ((file : ℕ) → file ≡ place → Rose before now → rose file) → (a : Answer)
-    → IsNotRead place told read before now a → IsFault rose a
-not_read_fault place told read before now rose of answers.Ok is = absurd is
-not_read_fault place told read before now rose of answers.BadWords is = absurd is
-not_read_fault place told read before now rose of (answers.BadInput file at kind) is = tt
-not_read_fault place told read before now rose of (answers.TooMuch total) is = absurd is
-not_read_fault place told read before now rose of (answers.NotReady k) is = absurd is
-not_read_fault place told read before now rose of (answers.Foreign k kept asked) is = absurd is
-not_read_fault place told read before now rose of (answers.NotEmpty k) is = absurd is
-not_read_fault place told read before now rose of (answers.Full k used need capacity) is = absurd is
-not_read_fault place told read before now rose of (answers.Unsound spot kind) is = absurd is
-not_read_fault place told read before now rose of (answers.ClockEnd k stamp) is = absurd is
-not_read_fault place told read before now rose of (answers.Refused k) is = absurd is
-not_read_fault place told read before now rose of (answers.Damaged k at) is = absurd is
-not_read_fault place told read before now rose of (answers.ReadFault file) is = of file is.0 is.1
-not_read_fault place told read before now rose of answers.WriteFault is = absurd is
-not_read_fault place told read before now rose of (answers.DiskFault k) is = absurd is
-not_read_fault place told read before now rose of answers.Memory is = tt
+pub not_read_fault : {X : Type 0} (place : ℕ) (told : Option (List ℕ)) (read : List ℕ → Result X BadFile) (before now : ℕ) (named rose : ℕ → Type 0) → ((file : ℕ) → file ≡ place → named file) → ((file : ℕ) → file ≡ place → Rose before now → rose file) → (a : Answer)
+    → IsNotRead place told read before now a → IsFault named rose a
+not_read_fault place told read before now named rose has of answers.Ok is = absurd is
+not_read_fault place told read before now named rose has of answers.BadWords is = absurd is
+not_read_fault place told read before now named rose has of (answers.BadInput file at kind) is = has file is.0
+not_read_fault place told read before now named rose has of (answers.TooMuch total) is = absurd is
+not_read_fault place told read before now named rose has of (answers.NotReady k) is = absurd is
+not_read_fault place told read before now named rose has of (answers.Foreign k kept asked) is = absurd is
+not_read_fault place told read before now named rose has of (answers.NotEmpty k) is = absurd is
+not_read_fault place told read before now named rose has of (answers.Full k used need capacity) is = absurd is
+not_read_fault place told read before now named rose has of (answers.Unsound spot kind) is = absurd is
+not_read_fault place told read before now named rose has of (answers.ClockEnd k stamp) is = absurd is
+not_read_fault place told read before now named rose has of (answers.Refused k) is = absurd is
+not_read_fault place told read before now named rose has of (answers.Damaged k at) is = absurd is
+not_read_fault place told read before now named rose has of (answers.ReadFault file) is = of file is.0 is.1
+not_read_fault place told read before now named rose has of answers.WriteFault is = absurd is
+not_read_fault place told read before now named rose has of (answers.DiskFault k) is = absurd is
+not_read_fault place told read before now named rose has of answers.Memory is = tt
 
 there : {A : Type 0} (xs ys : List A) (y : A) → slice_get (xs ++ y ∷ ys) (length xs) ≡ Some y
 there [] ys y = refl
 there (x ∷ xs) ys y = there xs ys y
 
 -- the first of some files that is not read
-pub first_fault : (held : Text → Option (List ℕ)) (before now : Text → ℕ) (files : List FileWord) (rose : ℕ → Type 0) → ((place : ℕ) → OneRose before now files place → rose place) → (a : Answer)
-    → FirstNotRead held before now files a → IsFault rose a
-first_fault held before now files rose of a is =
-    not_read_fault is.file.place (held is.file.name.now) (txs_of_file (all_txs is.read)) (before is.file.name.now) (now is.file.name.now) rose
-    (λ place at risen. of place (length is.ahead, is.file, subst (λ fs. slice_get fs (length is.ahead) ≡ Some is.file) (sym is.parts) (there is.ahead is.behind is.file), (at, risen))) a is.is_not
+pub first_fault : (held : Text → Option (List ℕ)) (before now : Text → ℕ) (files : List FileWord) (named rose : ℕ → Type 0) → ((place : ℕ) → OnePlace files place → named place) → ((place : ℕ) → OneRose before now files place → rose place)
+    → (a : Answer) → FirstNotRead held before now files a → IsFault named rose a
+first_fault held before now files named rose has of a is =
+    let at_place : slice_get files (length is.ahead) ≡ Some is.file = subst (λ fs. slice_get fs (length is.ahead) ≡ Some is.file) (sym is.parts) (there is.ahead is.behind is.file) in
+    not_read_fault is.file.place (held is.file.name.now) (txs_of_file (all_txs is.read)) (before is.file.name.now) (now is.file.name.now) named rose
+    (λ place at. has place (length is.ahead, is.file, at_place, at))
+    (λ place at risen. of place (length is.ahead, is.file, at_place, (at, risen))) a is.is_not
 
 -- a count that rose behind another time rose
 pub one_later : (before mid now : Text → ℕ) (files : List FileWord) (place : ℕ) → ((name : Text) → before name ≤ mid name) → OneRose mid now files place → OneRose before now files place

@@ -1,5 +1,5 @@
 -- What is printed of a fault.
-use Rattle.std.proofs.Common.{◌≡◌, ◌⊎◌, inl, inr, ◌≤◌, ◌<◌, ◌++◌, ◌∙◌, ℕ, Bool, true, false, if◌then◌else◌, List, length, take, drop, Option, Some, None, Result, Ok, Err, refl, sym, ap, codes, arith}
+use Rattle.std.proofs.Common.{◌≡◌, ◌⊎◌, ⊎_elim, inl, inr, ◌≤◌, ◌<◌, ◌++◌, ◌∷◌, ◌∙◌, ℕ, Bool, true, false, if◌then◌else◌, List, length, take, drop, Option, Some, None, Result, Ok, Err, refl, sym, ap, codes, arith}
 use Rattle.std.specs.Prelude.{OnErr, slice_get, slice_index_or, string_bytes}
 use Rattle.std.specs.Option.{option_map}
 use Rattle.std.specs.Str.{bytes_eq}
@@ -15,7 +15,8 @@ use Rattle.cbdc_types.specs.declared.answer.Answer.TheVariants as answers
 use Rattle.command_line.specs.Words.{texts}
 use Rattle.line_text.specs.Faults.{fault_text}
 use Rattle.line_text.specs.Lines.{Text, Prints}
-use Rattle.printed_lines.specs.Reports.{name_in}
+use Rattle.printed_lines.specs.Reports.{name_in, Names}
+use Rattle.commands.specs.Causes.{IsAnswered}
 use Rattle.commands.specs.Texts.{IsSilent, IsNameOf, IsFaultPrinted}
 
 -- what was not touched is as it was
@@ -37,28 +38,47 @@ silent_same t answers.WriteFault = tt
 silent_same t (answers.DiskFault k) = refl
 silent_same t answers.Memory = refl
 
+-- the file that is spoken of stands among the words, so this is its name
+pub names_there : (words : List Text) (before now : Text → ℕ) (written : Type 0) (name : Text) (a : Answer) → IsAnswered words before now written a → IsNameOf words a name → Names words a name
+names_there words before now written name answers.Ok is named = tt
+names_there words before now written name answers.BadWords is named = tt
+names_there words before now written name (answers.BadInput file at kind) is named = (is.0, is.1, named is.0 is.1)
+names_there words before now written name (answers.TooMuch total) is named = tt
+names_there words before now written name (answers.NotReady k) is named = tt
+names_there words before now written name (answers.Foreign k kept asked) is named = tt
+names_there words before now written name (answers.NotEmpty k) is named = tt
+names_there words before now written name (answers.Full k used need capacity) is named = tt
+names_there words before now written name (answers.Unsound spot kind) is named = tt
+names_there words before now written name (answers.ClockEnd k stamp) is named = tt
+names_there words before now written name (answers.Refused k) is named = tt
+names_there words before now written name (answers.Damaged k at) is named = tt
+names_there words before now written name (answers.ReadFault file) is named = ⊎_elim (λ own. (is.0, own, named is.0 own)) (λ joined. (codes "--verdicts" ++ 61 ∷ is.0, joined, named (codes "--verdicts" ++ 61 ∷ is.0) joined)) is.1
+names_there words before now written name answers.WriteFault is named = tt
+names_there words before now written name (answers.DiskFault k) is named = tt
+names_there words before now written name answers.Memory is named = tt
+
 -- a text that was printed, or a front of it where the sink failed
 text_printed : {E : Type 0} (old mid new : Option Text) (text : Text) (failed : Type 0) (r : Result (Unit {0}) E) → mid ≡ old → Prints mid new text r → OnErr r failed → Tells old (λ t. (new ≡ Some (t ++ text)) ⊎ (failed × ((n : ℕ) × (new ≡ Some (t ++ take n text)))))
 text_printed old mid new text failed (Ok done) same prints cause = λ t is. inl (prints t (same ∙ is))
 text_printed old mid new text failed (Err e) same prints cause = λ t is. inr (cause, prints t (same ∙ is))
 
-pub fault_printed : {E : Type 0} (words : List Text) (old mid new : Option Text) (name : Text) (failed : Type 0) (r : Result (Unit {0}) E) (a : Answer) → IsSilent old mid a → IsNameOf words a name → Prints mid new (fault_text a name) r → OnErr r failed → IsFaultPrinted words old new failed a
+pub fault_printed : {E : Type 0} (words : List Text) (old mid new : Option Text) (name : Text) (failed : Type 0) (r : Result (Unit {0}) E) (a : Answer) → IsSilent old mid a → Names words a name → Prints mid new (fault_text a name) r → OnErr r failed → IsFaultPrinted words old new failed a
 fault_printed words old mid new name failed r answers.Ok silent named prints cause = tt
-fault_printed words old mid new name failed r answers.BadWords silent named prints cause = (name, named, text_printed old mid new (fault_text answers.BadWords name) failed r silent prints cause)
-fault_printed words old mid new name failed r (answers.BadInput file at kind) silent named prints cause = (name, named, text_printed old mid new (fault_text (answers.BadInput file at kind) name) failed r silent prints cause)
-fault_printed words old mid new name failed r (answers.TooMuch total) silent named prints cause = (name, named, text_printed old mid new (fault_text (answers.TooMuch total) name) failed r silent prints cause)
-fault_printed words old mid new name failed r (answers.NotReady k) silent named prints cause = (name, named, text_printed old mid new (fault_text (answers.NotReady k) name) failed r silent prints cause)
-fault_printed words old mid new name failed r (answers.Foreign k kept asked) silent named prints cause = (name, named, text_printed old mid new (fault_text (answers.Foreign k kept asked) name) failed r silent prints cause)
-fault_printed words old mid new name failed r (answers.NotEmpty k) silent named prints cause = (name, named, text_printed old mid new (fault_text (answers.NotEmpty k) name) failed r silent prints cause)
-fault_printed words old mid new name failed r (answers.Full k used need capacity) silent named prints cause = (name, named, text_printed old mid new (fault_text (answers.Full k used need capacity) name) failed r silent prints cause)
-fault_printed words old mid new name failed r (answers.Unsound spot kind) silent named prints cause = (name, named, text_printed old mid new (fault_text (answers.Unsound spot kind) name) failed r silent prints cause)
-fault_printed words old mid new name failed r (answers.ClockEnd k stamp) silent named prints cause = (name, named, text_printed old mid new (fault_text (answers.ClockEnd k stamp) name) failed r silent prints cause)
-fault_printed words old mid new name failed r (answers.Refused k) silent named prints cause = (name, named, text_printed old mid new (fault_text (answers.Refused k) name) failed r silent prints cause)
-fault_printed words old mid new name failed r (answers.Damaged k at) silent named prints cause = (name, named, text_printed old mid new (fault_text (answers.Damaged k at) name) failed r silent prints cause)
-fault_printed words old mid new name failed r (answers.ReadFault file) silent named prints cause = (name, named, text_printed old mid new (fault_text (answers.ReadFault file) name) failed r silent prints cause)
+fault_printed words old mid new name failed r answers.BadWords silent named prints cause = (fault_text answers.BadWords name, (name, named, refl), text_printed old mid new (fault_text answers.BadWords name) failed r silent prints cause)
+fault_printed words old mid new name failed r (answers.BadInput file at kind) silent named prints cause = (fault_text (answers.BadInput file at kind) name, (name, named, refl), text_printed old mid new (fault_text (answers.BadInput file at kind) name) failed r silent prints cause)
+fault_printed words old mid new name failed r (answers.TooMuch total) silent named prints cause = (fault_text (answers.TooMuch total) name, (name, named, refl), text_printed old mid new (fault_text (answers.TooMuch total) name) failed r silent prints cause)
+fault_printed words old mid new name failed r (answers.NotReady k) silent named prints cause = (fault_text (answers.NotReady k) name, (name, named, refl), text_printed old mid new (fault_text (answers.NotReady k) name) failed r silent prints cause)
+fault_printed words old mid new name failed r (answers.Foreign k kept asked) silent named prints cause = (fault_text (answers.Foreign k kept asked) name, (name, named, refl), text_printed old mid new (fault_text (answers.Foreign k kept asked) name) failed r silent prints cause)
+fault_printed words old mid new name failed r (answers.NotEmpty k) silent named prints cause = (fault_text (answers.NotEmpty k) name, (name, named, refl), text_printed old mid new (fault_text (answers.NotEmpty k) name) failed r silent prints cause)
+fault_printed words old mid new name failed r (answers.Full k used need capacity) silent named prints cause = (fault_text (answers.Full k used need capacity) name, (name, named, refl), text_printed old mid new (fault_text (answers.Full k used need capacity) name) failed r silent prints cause)
+fault_printed words old mid new name failed r (answers.Unsound spot kind) silent named prints cause = (fault_text (answers.Unsound spot kind) name, (name, named, refl), text_printed old mid new (fault_text (answers.Unsound spot kind) name) failed r silent prints cause)
+fault_printed words old mid new name failed r (answers.ClockEnd k stamp) silent named prints cause = (fault_text (answers.ClockEnd k stamp) name, (name, named, refl), text_printed old mid new (fault_text (answers.ClockEnd k stamp) name) failed r silent prints cause)
+fault_printed words old mid new name failed r (answers.Refused k) silent named prints cause = (fault_text (answers.Refused k) name, (name, named, refl), text_printed old mid new (fault_text (answers.Refused k) name) failed r silent prints cause)
+fault_printed words old mid new name failed r (answers.Damaged k at) silent named prints cause = (fault_text (answers.Damaged k at) name, (name, named, refl), text_printed old mid new (fault_text (answers.Damaged k at) name) failed r silent prints cause)
+fault_printed words old mid new name failed r (answers.ReadFault file) silent named prints cause = (fault_text (answers.ReadFault file) name, (name, named, refl), text_printed old mid new (fault_text (answers.ReadFault file) name) failed r silent prints cause)
 fault_printed words old mid new name failed r answers.WriteFault silent named prints cause = tt
-fault_printed words old mid new name failed r (answers.DiskFault k) silent named prints cause = (name, named, text_printed old mid new (fault_text (answers.DiskFault k) name) failed r silent prints cause)
-fault_printed words old mid new name failed r answers.Memory silent named prints cause = (name, named, text_printed old mid new (fault_text answers.Memory name) failed r silent prints cause)
+fault_printed words old mid new name failed r (answers.DiskFault k) silent named prints cause = (fault_text (answers.DiskFault k) name, (name, named, refl), text_printed old mid new (fault_text (answers.DiskFault k) name) failed r silent prints cause)
+fault_printed words old mid new name failed r answers.Memory silent named prints cause = (fault_text answers.Memory name, (name, named, refl), text_printed old mid new (fault_text answers.Memory name) failed r silent prints cause)
 
 module _ (word : Text) where
   named : (b : _) → bytes_eq (take 11 word) (codes "--verdicts=") ≡ b → name_in word ≡ (if b then drop 11 word else word)

@@ -8,7 +8,7 @@ use Rattle.command_line.specs.Words.{StandsThere, IsGivenThere}
 use Rattle.command_line.specs.declared.request.FileWord.{FileWord}
 use Rattle.command_line.specs.declared.request.Request.{Request}
 use Rattle.command_line.specs.declared.request.Request.TheVariants.{Init, Run, Recover, Status, Audit, Show}
-use Rattle.commands.specs.Causes.{FileRose, RequestRose, NamedRose, IsDone, IsAnswered}
+use Rattle.commands.specs.Causes.{FileRose, RequestPlace, RequestRose, NamedRose, IsDone, IsAnswered}
 use Rattle.commands.proofs.Stands.{stands_at}
 
 given_named : (words : List Text) (b n : Text → ℕ) (file : FileWord) (place : ℕ) → IsGivenThere (codes "--verdicts") words file → FileRose b n file place → NamedRose words b n place
@@ -33,10 +33,33 @@ request_named words b n (Audit mint clients) place asked rose =
     (λ one. stands_named words b n one.1 place (stands_at words clients.items one.0 one.1 asked.1.3.there one.2) one.3) rose
 request_named words b n (Show text) place asked rose = absurd rose
 
-pub answered : (words : List Text) (b n : Text → ℕ) (r : Request) (written : Type 0) (a : Answer) → IsAsked words r → IsDone (RequestRose r b n) written a → IsAnswered words b n written a
+-- the word at the place of a file that is asked for
+stands_placed : (words : List Text) (file : FileWord) (place : ℕ) → StandsThere words file → place ≡ file.place → (word : Text) × (slice_get words place ≡ Some word)
+stands_placed words file place stands at = (file.name.now, subst (λ p. slice_get words p ≡ Some file.name.now) (sym at) stands)
+
+given_placed : (words : List Text) (file : FileWord) (place : ℕ) → IsGivenThere (codes "--verdicts") words file → place ≡ file.place → (word : Text) × (slice_get words place ≡ Some word)
+given_placed words file place given at =
+    ⊎_elim (λ own. (file.name.now, subst (λ p. slice_get words p ≡ Some file.name.now) (sym at) own))
+    (λ joined. (codes "--verdicts" ++ 61 ∷ file.name.now, subst (λ p. slice_get words p ≡ Some (codes "--verdicts" ++ 61 ∷ file.name.now)) (sym at) joined)) given
+
+pub request_placed : (words : List Text) (r : Request) (place : ℕ) → IsAsked words r → RequestPlace r place → (word : Text) × (slice_get words place ≡ Some word)
+request_placed words (Init shape mint) place asked at = stands_placed words mint place asked.1.3 at
+request_placed words (Run verdicts clients) place asked at =
+    ⊎_elim
+    (λ one. stands_placed words one.1 place (stands_at words clients.items one.0 one.1 asked.1.3.2.there one.2) one.3)
+    (λ own. given_placed words verdicts place asked.1.2 own) at
+request_placed words Recover place asked at = absurd at
+request_placed words (Status hashes) place asked at = absurd at
+request_placed words (Audit mint clients) place asked at =
+    ⊎_elim
+    (λ own. stands_placed words mint place asked.1.2 own)
+    (λ one. stands_placed words one.1 place (stands_at words clients.items one.0 one.1 asked.1.3.there one.2) one.3) at
+request_placed words (Show text) place asked at = absurd at
+
+pub answered : (words : List Text) (b n : Text → ℕ) (r : Request) (written : Type 0) (a : Answer) → IsAsked words r → IsDone (RequestPlace r) (RequestRose r b n) written a → IsAnswered words b n written a
 answered words b n r written answers.Ok asked is = tt
 answered words b n r written answers.BadWords asked is = absurd is
-answered words b n r written (answers.BadInput file at kind) asked is = tt
+answered words b n r written (answers.BadInput file at kind) asked is = request_placed words r file asked is
 answered words b n r written (answers.TooMuch total) asked is = tt
 answered words b n r written (answers.NotReady k) asked is = tt
 answered words b n r written (answers.Foreign k kept told) asked is = tt

@@ -25,13 +25,25 @@ RequestRose (Run verdicts clients) before now place = OneRose before now clients
 RequestRose (Audit mint clients) before now place = FileRose before now mint place ⊎ OneRose before now clients.items place
 RequestRose other before now place = ⊥
 
--- reading and the work at the nodes: neither words nor the output are at fault, and a fault of reading has its cause
-abbrev pub IsFault : (ℕ → Type 0) → Answer → Type 0
-IsFault read answers.Ok = ⊥
-IsFault read answers.BadWords = ⊥
-IsFault read answers.WriteFault = ⊥
-IsFault read (answers.ReadFault file) = read file
-IsFault read other = Unit {0}
+-- one of these files has this place
+abbrev pub OnePlace : List FileWord → ℕ → Type 0
+OnePlace files place = (k : ℕ) × (file : FileWord) × (slice_get files k ≡ Some file) × (place ≡ file.place)
+
+-- one of the files that are asked for has this place
+abbrev pub RequestPlace : Request → ℕ → Type 0
+RequestPlace (Init shape mint) place = place ≡ mint.place
+RequestPlace (Run verdicts clients) place = OnePlace clients.items place ⊎ (place ≡ verdicts.place)
+RequestPlace (Audit mint clients) place = (place ≡ mint.place) ⊎ OnePlace clients.items place
+RequestPlace other place = ⊥
+
+-- reading and the work at the nodes: neither words nor the output are at fault, a bad file has a place, and a fault of reading has its cause
+abbrev pub IsFault : (ℕ → Type 0) → (ℕ → Type 0) → Answer → Type 0
+IsFault place read answers.Ok = ⊥
+IsFault place read answers.BadWords = ⊥
+IsFault place read answers.WriteFault = ⊥
+IsFault place read (answers.BadInput file at kind) = place file
+IsFault place read (answers.ReadFault file) = read file
+IsFault place read other = Unit {0}
 
 -- all was done, whether its lines could be written or not
 abbrev pub IsWell : Answer → Type 0
@@ -47,12 +59,13 @@ IsTold cause answers.BadWords = Unit {0}
 IsTold cause answers.Memory = Unit {0}
 IsTold cause other = cause other
 
--- doing what is asked: a fault of reading or writing has its cause
-abbrev pub IsDone : (ℕ → Type 0) → Type 0 → Answer → Type 0
-IsDone read written answers.BadWords = ⊥
-IsDone read written (answers.ReadFault file) = read file
-IsDone read written answers.WriteFault = written
-IsDone read written other = Unit {0}
+-- doing what is asked: a bad file has a place, and a fault of reading or writing has its cause
+abbrev pub IsDone : (ℕ → Type 0) → (ℕ → Type 0) → Type 0 → Answer → Type 0
+IsDone place read written answers.BadWords = ⊥
+IsDone place read written (answers.BadInput file at kind) = place file
+IsDone place read written (answers.ReadFault file) = read file
+IsDone place read written answers.WriteFault = written
+IsDone place read written other = Unit {0}
 
 -- the word at this place names a file, whose count of faults rose; verdicts may stand behind their option
 abbrev pub NamedRose : List Text → (Text → ℕ) → (Text → ℕ) → ℕ → Type 0
@@ -60,9 +73,10 @@ NamedRose words before now place =
     (name : Text) × ((slice_get words place ≡ Some name) ⊎ (slice_get words place ≡ Some (codes "--verdicts" ++ 61 ∷ name)))
     × Rose (before name) (now name)
 
--- doing what the words ask for: words that are refused, and a fault of reading or writing, have their cause
+-- doing what the words ask for: a bad file stands among them; words that are refused, and a fault of reading or writing, have their cause
 abbrev pub IsAnswered : List Text → (Text → ℕ) → (Text → ℕ) → Type 0 → Answer → Type 0
 IsAnswered words before now written answers.BadWords = IsRefused words Bad
+IsAnswered words before now written (answers.BadInput file at kind) = (word : Text) × (slice_get words file ≡ Some word)
 IsAnswered words before now written (answers.ReadFault file) = NamedRose words before now file
 IsAnswered words before now written answers.WriteFault = written
 IsAnswered words before now written other = Unit {0}

@@ -87,13 +87,14 @@ WhyNoTurns content images limit count disks now disks_before disks_now handed an
     (IsUnresumed content images limit count disks disks_before disks_now answer × ((n : ℕ) → IsBack images limit (disks n) (now n)))
     ⊎ (IsLaneAnswer answer × OfShown content disks (IsCutShort images now handed))
 
--- a client file is the first that is not read, or the verdicts are not; or they were read and could not be run
+-- a client file is the first that is not read; or all client files were read, and the verdicts are not; or all were read and could not be run
 abbrev pub WhyNoRun : {D : Type 0} → (Text → Option (List ℕ)) → (Text → ℕ) → (Text → ℕ) → (D → Option (List ℕ)) → (D → List ℕ → Type 0) → (D → ℕ) → (D → ℕ) → (ℕ → Option D) → (ℕ → Option D) → (ℕ → ℕ) → (ℕ → ℕ)
     → FileWord → List FileWord → Answer → Type 0
 WhyNoRun files files_before files_now content images limit count disks now disks_before disks_now verdicts clients answer =
     FirstNotRead files files_before files_now clients answer
-    ⊎ (IsNoVerdicts verdicts.place (files verdicts.name.now) (files_before verdicts.name.now) (files_now verdicts.name.now) answer
-    ⊎ ((handed : List (List FullTx)) × AreRead files 0 clients handed × WhyNoTurns content images limit count disks now disks_before disks_now handed answer))
+    ⊎ ((handed : List (List FullTx)) × AreRead files 0 clients handed
+    × (IsNoVerdicts verdicts.place (files verdicts.name.now) (files_before verdicts.name.now) (files_now verdicts.name.now) answer
+    ⊎ ((known : VerdictFile) × AreVerdicts (files verdicts.name.now) known × WhyNoTurns content images limit count disks now disks_before disks_now handed answer)))
 
 -- why what was asked for was not done; of an audit it is not told
 abbrev pub Why : {D : Type 0} → (Text → Option (List ℕ)) → (Text → ℕ) → (Text → ℕ) → (D → Option (List ℕ)) → (D → List ℕ → Type 0) → (D → ℕ) → (D → ℕ) → (ℕ → Option D) → (ℕ → Option D) → (ℕ → ℕ) → (ℕ → ℕ) → Request → Answer → Type 0

@@ -6,10 +6,9 @@ use Rattle.cbdc_types.specs.declared.answer.Answer.TheVariants as answers
 use Rattle.cbdc_model.specs.Records.{Digest, Shape, Record}
 use Rattle.cbdc_model.specs.Ranges.{shard_of}
 use Rattle.cbdc_model.specs.Status.{Status, status}
-use Rattle.line_text.specs.Faults.{fault_text}
 use Rattle.line_text.specs.Lines.{Text}
 use Rattle.line_text.specs.Reports.{status_line}
-use Rattle.printed_lines.specs.Reports.{name_in}
+use Rattle.printed_lines.specs.Reports.{name_in, IsFaultLine}
 use Rattle.coord_log.specs.Logs.{LogOf}
 use Rattle.shard_node.specs.Shards.{ShardOf}
 
@@ -35,8 +34,8 @@ IsNameOf words other name = Unit {0}
 abbrev pub IsFaultPrinted : List Text → Option Text → Option Text → Type 0 → Answer → Type 0
 IsFaultPrinted words before now failed answers.Ok = Unit {0}
 IsFaultPrinted words before now failed answers.WriteFault = Unit {0}
-IsFaultPrinted words before now failed other = (name : Text) × IsNameOf words other name
-    × Tells before (λ t. (now ≡ Some (t ++ fault_text other name)) ⊎ (failed × ((n : ℕ) × (now ≡ Some (t ++ take n (fault_text other name))))))
+IsFaultPrinted words before now failed other = (text : Text) × IsFaultLine words other text
+    × Tells before (λ t. (now ≡ Some (t ++ text)) ⊎ (failed × ((n : ℕ) × (now ≡ Some (t ++ take n text)))))
 
 -- a line for each hash, as long as there are statuses
 abbrev pub told_lines : List Digest → List Status → Text

@@ -1,7 +1,7 @@
 // `audit`: the journals against a mint and the transactions that were handed in.
 ghost use Rattle.std.specs.Prelude.{◌≡◌, ◌⊎◌, ◌+◌, ◌≤◌, ◌<◌, ◌^◌, ℕ, length, IfOk, IfErr};
 ghost use Rattle.outside.specs.Counts.{Rose};
-ghost use Rattle.commands.specs.Causes.{IsFault, IsDone, OneRose, FileRose};
+ghost use Rattle.commands.specs.Causes.{IsFault, IsDone, OnePlace, OneRose, FileRose};
 ghost use Rattle.commands.specs.Texts.{IsSilent};
 
 use audit::{Totals, Verdict};
@@ -34,7 +34,7 @@ fn lent<'a, D: Disk>(alloc: Global, nodes: &'a Nodes<D>) -> Result<Vec<&'a [Reco
 // Whether node 0 was made by a mint with this id. It is put back.
 fn check_mint<R: Rack>(alloc: Global, rack: &mut R, id: &Hash) -> Result<(), Answer>
     requires { (n : ℕ) → R.can_take rack.old n }
-    ensures fault { IfErr result (IsFault (λ place. ⊥)) }
+    ensures fault { IfErr result (IsFault (λ place. ⊥) (λ place. ⊥)) }
     ensures back { (n : ℕ) → R.can_take rack.new n }
 {
     let lead: CoordLog<R::Disk> = match open_one(alloc, rack, NodeId(0), None) {
@@ -106,7 +106,7 @@ fn verdict_on<R: Rack>(
     handed: &[FullTx],
 ) -> Result<Verdict, Answer>
     requires { (n : ℕ) → R.can_take rack.old n }
-    ensures fault { IfErr result (IsFault (λ place. ⊥)) }
+    ensures fault { IfErr result (IsFault (λ place. ⊥) (λ place. ⊥)) }
     ensures back { (n : ℕ) → R.can_take rack.new n }
 {
     let nodes = match open_nodes(alloc, rack) {
@@ -123,7 +123,7 @@ fn verdict_on<R: Rack>(
 
 // Prints what a sound ledger comes to.
 fn print<O: Sink>(out: &mut O, totals: &Totals) -> Answer
-    ensures cause { IsDone (λ file. ⊥) (Rose (O.count out.old) (O.count out.new)) result }
+    ensures cause { IsDone (λ file. ⊥) (λ file. ⊥) (Rose (O.count out.old) (O.count out.new)) result }
     ensures silent { IsSilent (O.taken out.old) (O.taken out.new) result }
     ensures later { O.count out.old ≤ O.count out.new }
 {
@@ -149,7 +149,7 @@ pub(crate) fn audit<I: Inbox, R: Rack, O: Sink>(
     out: &mut O,
 ) -> Answer
     requires { (n : ℕ) → R.can_take rack.old n }
-    ensures cause { IsDone (λ place. FileRose (I.count inbox.old) (I.count inbox.new) mint.now place ⊎ OneRose (I.count inbox.old) (I.count inbox.new) clients.now place)
+    ensures cause { IsDone (λ place. (place ≡ mint.now.place) ⊎ OnePlace clients.now place) (λ place. FileRose (I.count inbox.old) (I.count inbox.new) mint.now place ⊎ OneRose (I.count inbox.old) (I.count inbox.new) clients.now place)
         (Rose (O.count out.old) (O.count out.new)) result }
     ensures silent { IsSilent (O.taken out.old) (O.taken out.new) result }
     ensures written_later { O.count out.old ≤ O.count out.new }

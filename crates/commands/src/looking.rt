@@ -64,7 +64,7 @@ pub(crate) fn status<R: Rack, O: Sink>(
     out: &mut O,
 ) -> Answer
     requires { (n : ℕ) → R.can_take rack.old n }
-    ensures cause { IsDone (λ file. ⊥) (Rose (O.count out.old) (O.count out.new)) result }
+    ensures cause { IsDone (λ file. ⊥) (λ file. ⊥) (Rose (O.count out.old) (O.count out.new)) result }
     ensures did { IsWell result → DidStatus R.Disk.content R.Disk.images R.Disk.limit (R.held rack.old) (R.held rack.new) (IsPrinted (O.taken out.old) (O.taken out.new) result) hashes.now }
     ensures why { IsTold (IsUnopened R.Disk.content R.Disk.images R.Disk.limit R.Disk.count (R.held rack.old) (R.count rack.old) (R.count rack.new)) result }
     ensures silent { IsSilent (O.taken out.old) (O.taken out.new) result }

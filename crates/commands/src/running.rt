@@ -1,7 +1,7 @@
 // `run`: the transactions of client files, file by file.
-ghost use Rattle.std.specs.Prelude.{◌≤◌, ◌⊎◌, ℕ, OnOk, IfErr};
+ghost use Rattle.std.specs.Prelude.{◌≡◌, ◌≤◌, ◌⊎◌, ℕ, OnOk, IfErr};
 ghost use Rattle.outside.specs.Counts.{Rose};
-ghost use Rattle.commands.specs.Causes.{IsFault, IsDone, IsTold, IsWell, OneRose, FileRose};
+ghost use Rattle.commands.specs.Causes.{IsFault, IsDone, IsTold, IsWell, OnePlace, OneRose, FileRose};
 ghost use Rattle.commands.specs.Outcomes.{DidRun, WhyNoRun};
 ghost use Rattle.commands.specs.Texts.{IsSilent};
 
@@ -27,7 +27,7 @@ fn run_all<W: Wait, I: Inbox, R: Rack, G: Gate>(
     requires { (n : ℕ) → R.can_take rack.old n }
     ensures did { OnOk result (DidRun (I.file inbox.old) R.Disk.content R.Disk.images (R.held rack.old) (R.held rack.new) verdicts.now clients.now) }
     ensures why { IfErr result (WhyNoRun (I.file inbox.old) (I.count inbox.old) (I.count inbox.new) R.Disk.content R.Disk.images R.Disk.limit R.Disk.count (R.held rack.old) (R.held rack.new) (R.count rack.old) (R.count rack.new) verdicts.now clients.now) }
-    ensures fault { IfErr result (IsFault (λ place. OneRose (I.count inbox.old) (I.count inbox.new) clients.now place ⊎ FileRose (I.count inbox.old) (I.count inbox.new) verdicts.now place)) }
+    ensures fault { IfErr result (IsFault (λ place. OnePlace clients.now place ⊎ (place ≡ verdicts.now.place)) (λ place. OneRose (I.count inbox.old) (I.count inbox.new) clients.now place ⊎ FileRose (I.count inbox.old) (I.count inbox.new) verdicts.now place)) }
     ensures back { (n : ℕ) → R.can_take rack.new n }
 {
     let files = match all_clients_in(alloc, inbox, clients) {
@@ -54,7 +54,7 @@ pub(crate) fn run<W: Wait, I: Inbox, R: Rack, O: Sink, G: Gate>(
     gate: &G,
 ) -> Answer
     requires { (n : ℕ) → R.can_take rack.old n }
-    ensures cause { IsDone (λ place. OneRose (I.count inbox.old) (I.count inbox.new) clients.now place ⊎ FileRose (I.count inbox.old) (I.count inbox.new) verdicts.now place)
+    ensures cause { IsDone (λ place. OnePlace clients.now place ⊎ (place ≡ verdicts.now.place)) (λ place. OneRose (I.count inbox.old) (I.count inbox.new) clients.now place ⊎ FileRose (I.count inbox.old) (I.count inbox.new) verdicts.now place)
         (Rose (O.count out.old) (O.count out.new)) result }
     ensures did { IsWell result → DidRun (I.file inbox.old) R.Disk.content R.Disk.images (R.held rack.old) (R.held rack.new) verdicts.now clients.now }
     ensures why { IsTold (WhyNoRun (I.file inbox.old) (I.count inbox.old) (I.count inbox.new) R.Disk.content R.Disk.images R.Disk.limit R.Disk.count (R.held rack.old) (R.held rack.new) (R.count rack.old) (R.count rack.new) verdicts.now clients.now) result }

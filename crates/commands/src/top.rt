@@ -5,7 +5,7 @@ ghost use Rattle.command_line.specs.Asked.{IsRefused};
 ghost use Rattle.command_line.specs.Words.{texts};
 ghost use Rattle.command_line.specs.Asked.{IsAsked};
 ghost use Rattle.command_line.specs.declared.request.Request.{Request as Asked};
-ghost use Rattle.commands.specs.Causes.{IsAnswered, IsDone, IsTold, IsWell, NamedRose, RequestRose};
+ghost use Rattle.commands.specs.Causes.{IsAnswered, IsDone, IsTold, IsWell, NamedRose, RequestPlace, RequestRose};
 ghost use Rattle.commands.specs.Outcomes.{Did, Why};
 ghost use Rattle.line_text.specs.Lines.{Text};
 ghost use Rattle.outside.specs.Counts.{Rose};
@@ -32,7 +32,7 @@ pub struct Done<R> {
 
 // Prints a text that the words ask for.
 fn show<O: Sink>(out: &mut O, text: &str) -> Answer
-    ensures cause { IsDone (λ file. ⊥) (Rose (O.count out.old) (O.count out.new)) result }
+    ensures cause { IsDone (λ file. ⊥) (λ file. ⊥) (Rose (O.count out.old) (O.count out.new)) result }
     ensures shown { IsWell result }
     ensures prints { IsPrinted (O.taken out.old) (O.taken out.new) result text.now }
     ensures silent { IsSilent (O.taken out.old) (O.taken out.new) result }
@@ -87,7 +87,7 @@ fn answer_to<W: Wait, I: Inbox, R: Rack, O: Sink, G: Gate>(
 ) -> Answer
     requires { (n : ℕ) → R.can_take rack.old n }
     ensures back { (n : ℕ) → R.can_take rack.new n }
-    ensures cause { IsDone (RequestRose request.now (I.count inbox.old) (I.count inbox.new)) (Rose (O.count out.old) (O.count out.new)) result }
+    ensures cause { IsDone (RequestPlace request.now) (RequestRose request.now (I.count inbox.old) (I.count inbox.new)) (Rose (O.count out.old) (O.count out.new)) result }
     ensures did { IsWell result → Did (I.file inbox.old) R.Disk.content R.Disk.images R.Disk.limit (R.held rack.old) (R.held rack.new) (IsPrinted (O.taken out.old) (O.taken out.new) result) request.now }
     ensures why { IsTold (Why (I.file inbox.old) (I.count inbox.old) (I.count inbox.new) R.Disk.content R.Disk.images R.Disk.limit R.Disk.count (R.held rack.old) (R.held rack.new) (R.count rack.old) (R.count rack.new) request.now) result }
     ensures silent { IsSilent (O.taken out.old) (O.taken out.new) result }
@@ -146,9 +146,10 @@ pub fn process<W: Wait, I: Inbox, R: Rack, O: Sink, G: Gate>(
 ) -> Done<R>
     requires { (n : ℕ) → R.can_take rack n }
     ensures back { (n : ℕ) → R.can_take result.rack n }
-    // What the words ask for was done, whether its lines could be written or not: a ledger was made, files were run over one, or its
-    // open batches were brought to their end. Whatever a crash leaves of a disk then opens to exactly its node's journal, and where no
-    // two outputs share a hash, the headline holds of the journals at exit. What `init` and `status` print is told too.
+    // What the words ask for was done, whether its lines could be written or not: a ledger was made, files were run over one, its open
+    // batches were brought to their end, or hashes were looked up. Whatever a crash leaves of a disk then opens to exactly its node's
+    // journal, and where no two outputs share a hash, the headline holds of the journals at exit. The lines of `init` and `status` are
+    // those of the mint and of the journals at entry, or at WriteFault a front.
     ensures did { IsWell result.status → (r : Asked) × IsAsked (texts words.now) r × Did (I.file inbox.old) R.Disk.content R.Disk.images R.Disk.limit (R.held rack) (R.held result.rack) (IsPrinted (O.taken out.old) (O.taken out.new) result.status) r }
 
     // Else the line of the fault is printed and nothing else, or a front of it where the sink's count rose.

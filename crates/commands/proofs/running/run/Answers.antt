@@ -1,6 +1,6 @@
-use Rattle.std.proofs.Common.{◌⊎◌}
+use Rattle.std.proofs.Common.{◌≡◌, ◌⊎◌}
 use Rattle.outside.specs.Counts.{Rose}
-use Rattle.commands.specs.Causes.{OneRose, FileRose}
+use Rattle.commands.specs.Causes.{OnePlace, OneRose, FileRose}
 use Rattle.commands.specs.Outcomes.{WhyNoRun}
 use Rattle.commands.proofs.Answers.{told, fault_done}
 use Rattle.commands.proofs.Faults.{silent_same}
@@ -12,7 +12,8 @@ returns-in-Err-clause-why g c =
 
 pub returns-in-Err-clause-cause : goal.returns-in-Err-clause-cause
 returns-in-Err-clause-cause g c =
-    fault_done (λ place. OneRose (g.I.Inbox.count c.args.inbox.now) (g.I.Inbox.count c.run_all.new.inbox) c.args.clients.now place ⊎ FileRose (g.I.Inbox.count c.args.inbox.now) (g.I.Inbox.count c.run_all.new.inbox) c.args.verdicts.now place)
+    fault_done (λ place. OnePlace c.args.clients.now place ⊎ (place ≡ c.args.verdicts.now.place))
+    (λ place. OneRose (g.I.Inbox.count c.args.inbox.now) (g.I.Inbox.count c.run_all.new.inbox) c.args.clients.now place ⊎ FileRose (g.I.Inbox.count c.args.inbox.now) (g.I.Inbox.count c.run_all.new.inbox) c.args.verdicts.now place)
     (Rose (g.O.Sink.count c.args.out.now) (g.O.Sink.count c.args.out.now)) c.in-Err.fault c.in-Err.ensures.fault
 
 pub returns-in-Err-clause-silent : goal.returns-in-Err-clause-silent

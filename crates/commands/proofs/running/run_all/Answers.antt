@@ -6,7 +6,7 @@ use Rattle.commands.proofs.running.run_all.Goals as goal
 
 pub returns-in-Err-clause-fault : goal.returns-in-Err-clause-fault
 returns-in-Err-clause-fault g c =
-    first_fault (g.I.Inbox.file c.args.inbox.now) (g.I.Inbox.count c.args.inbox.now) (g.I.Inbox.count c.all_clients_in.new.inbox) c.args.clients.now _ (λ place one. inl one) c.in-Err.fault c.in-Err.ensures.fault
+    first_fault (g.I.Inbox.file c.args.inbox.now) (g.I.Inbox.count c.args.inbox.now) (g.I.Inbox.count c.all_clients_in.new.inbox) c.args.clients.now _ _ (λ place one. inl one) (λ place one. inl one) c.in-Err.fault c.in-Err.ensures.fault
 
 pub returns-clause-did : goal.returns-clause-did
 returns-clause-did g c =
@@ -26,12 +26,20 @@ returns-in-Err-clause-why g c = inl c.in-Err.ensures.fault
 pub returns-in-Err-verdicts_in-clause-why : goal.returns-in-Err-verdicts_in-clause-why
 returns-in-Err-verdicts_in-clause-why g c =
     let name = c.args.verdicts.now.name.now in
-    inr (inl (no_verdicts_later c.args.verdicts.now.place (g.I.Inbox.file c.args.inbox.now name) (g.I.Inbox.count c.args.inbox.now name) (g.I.Inbox.count c.all_clients_in.new.inbox name) (g.I.Inbox.count c.verdicts_in.new.inbox name)
-    c.in-Err-verdicts_in.fault (c.in-Ok.ensures.later name)
-    (subst (λ t. IsNoVerdicts c.args.verdicts.now.place t (g.I.Inbox.count c.all_clients_in.new.inbox name) (g.I.Inbox.count c.verdicts_in.new.inbox name) c.in-Err-verdicts_in.fault) (c.in-Ok.ensures.same name) c.in-Err-verdicts_in.ensures.fault)))
+    inr (
+      _,
+      c.in-Ok.ensures.read,
+      inl (no_verdicts_later c.args.verdicts.now.place (g.I.Inbox.file c.args.inbox.now name) (g.I.Inbox.count c.args.inbox.now name) (g.I.Inbox.count c.all_clients_in.new.inbox name) (g.I.Inbox.count c.verdicts_in.new.inbox name)
+          c.in-Err-verdicts_in.fault (c.in-Ok.ensures.later name)
+          (subst (λ t. IsNoVerdicts c.args.verdicts.now.place t (g.I.Inbox.count c.all_clients_in.new.inbox name) (g.I.Inbox.count c.verdicts_in.new.inbox name) c.in-Err-verdicts_in.fault) (c.in-Ok.ensures.same name) c.in-Err-verdicts_in.ensures.fault)),
+    )
 
 pub returns-clause-why : goal.returns-clause-why
 returns-clause-why g c =
     if_err_by _ _ c.run_on.result
-    (λ e why. inr (inr (c.deref.result.now, subst (λ txs. AreRead (g.I.Inbox.file c.args.inbox.now) 0 c.args.clients.now txs) (sym c.deref.ensures.value) c.in-Ok.ensures.read, why)))
+    (λ e why. inr (
+      c.deref.result.now,
+      subst (λ txs. AreRead (g.I.Inbox.file c.args.inbox.now) 0 c.args.clients.now txs) (sym c.deref.ensures.value) c.in-Ok.ensures.read,
+      inr (c.in-Ok-verdicts_in.verdicts, subst (λ t. AreVerdicts t c.in-Ok-verdicts_in.verdicts) (c.in-Ok.ensures.same c.args.verdicts.now.name.now) c.in-Ok-verdicts_in.ensures.read, why),
+    ))
     c.run_on.ensures.stopped

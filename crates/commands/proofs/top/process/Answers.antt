@@ -6,7 +6,7 @@ use Rattle.commands.specs.Causes.{IsAnswered}
 use Rattle.commands.specs.Texts.{IsPrinted}
 use Rattle.commands.proofs.Counts.{rose_later}
 use Rattle.commands.proofs.Did.{did_by, printed_still}
-use Rattle.commands.proofs.Faults.{fault_printed}
+use Rattle.commands.proofs.Faults.{fault_printed, names_there}
 use Rattle.commands.proofs.top.process.Goals as goal
 
 pub returns-clause-did : goal.returns-clause-did
@@ -43,5 +43,8 @@ returns-clause-fault_line g c =
     let mid = g.O.Sink.count c.answer_words-status.new.out in
     let now = g.O.Sink.count c.write_fault.new.out in
     fault_printed (texts c.args.words.now) (g.O.Sink.taken c.args.out.now) (g.O.Sink.taken c.answer_words-status.new.out) (g.O.Sink.taken c.write_fault.new.out) c.name_of.result.now (Rose before now) c.write_fault.result c.answer_words-status.result
-    c.answer_words-status.ensures.silent c.name_of.ensures c.write_fault.ensures.prints
+    c.answer_words-status.ensures.silent
+    (names_there (texts c.args.words.now) (g.I.Inbox.count c.args.inbox.now) (g.I.Inbox.count c.answer_words-status.new.inbox) (Rose (g.O.Sink.count c.args.out.now) (g.O.Sink.count c.answer_words-status.new.out)) c.name_of.result.now c.answer_words-status.result
+    c.answer_words-status.ensures.cause c.name_of.ensures)
+    c.write_fault.ensures.prints
     (on_err_weaker c.write_fault.result (rose_later before mid now now c.answer_words-status.ensures.written_later (omega arith)) c.write_fault.ensures.cause.failed)
