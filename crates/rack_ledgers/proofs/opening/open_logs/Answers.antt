@@ -1,4 +1,5 @@
 use Rattle.std.proofs.Common.{◌≡◌, ◌≤◌, ◌+◌, ℕ, List, length, ◌∙◌, sym, subst, ap, arith, inl, inr}
+use Rattle.std.specs.Option.{option_copied}
 use Rattle.cbdc_model.specs.Records.{Header}
 use Rattle.coord_log.specs.Logs.{LogOf}
 use Rattle.rack_nodes.specs.Places.{EachFrom}
@@ -69,4 +70,4 @@ returns-in-Err-open_all-clause-held g c =
     (λ n ge above. c.in-Err-open_all.ensures.others_held n (inr (omega (arith, above))))
 
 pub returns-in-Ok-open_all-clause-minted : goal.returns-in-Ok-open_all-clause-minted
-returns-in-Ok-open_all-clause-minted g c = subst (λ (k : Header). IsMintOf _ k) (sym c.header.ensures.header) c.in-Ok.ensures.minted
+returns-in-Ok-open_all-clause-minted g c = subst (λ (k : Header). IsMintOf (option_copied c.args.id) k) (sym c.header.ensures.header) c.in-Ok.ensures.minted
