@@ -1,5 +1,6 @@
 -- What an audit was of: files that were read behind another, and what is told of its verdict.
-use Rattle.std.proofs.Common.{◌≡◌, ◌≤◌, ℕ, List, [], ◌∷◌, Option, Result, subst, ◌∙◌, arith}
+use Rattle.std.proofs.Common.{◌≡◌, ◌≤◌, ℕ, List, [], ◌∷◌, Option, Result, Ok, Err, subst, ◌∙◌, arith}
+use Rattle.std.specs.Prelude.{IfOk}
 use Rattle.outside.specs.Counts.{Rose}
 use Rattle.cbdc_types.specs.declared.answer.Answer.{Answer}
 use Rattle.cbdc_types.specs.declared.answer.Answer.TheVariants as answers
@@ -11,6 +12,10 @@ use Rattle.input_files.specs.Contents.{AreRead, IsNotRead, FirstNotRead, all_txs
 use Rattle.rack_nodes.specs.Refused.{IsNodeRefusal}
 use Rattle.commands.specs.Causes.{IsFault}
 use Rattle.commands.proofs.Counts.{rose_later}
+
+pub if_ok_by : {B F : Type 0} (P Q : B → Type 0) (o : Result B F) → ((b : B) → P b → Q b) → IfOk o P → IfOk o Q
+if_ok_by P Q (Ok b) f so = f b so
+if_ok_by P Q (Err e) f so = tt
 
 -- what a node can't be opened for is a fault
 pub refusal_fault : (place read : ℕ → Type 0) (a : Answer) → IsNodeRefusal a → IsFault place read a
