@@ -22,7 +22,7 @@ use Rattle.audited_ledgers.specs.Audited.{HasVerdict, IsToldHistory, IsAudited}
 use Rattle.audited_ledgers.proofs.Lists.{front_item, back_item, map_item, map_past}
 
 module _ {D : Type 0} (logs : List (LogOf D)) (shards : List (ShardOf D)) (rows : List Row) (merged : AreMerged (journals_of logs shards) rows) where
-  shard_journals : List (List Record)
+  abbrev shard_journals : List (List Record)
   shard_journals = map (λ (s : ShardOf D). reverse s.journal) shards
 
   log_journal : (n : ℕ) (l : LogOf D) → slice_get logs n ≡ Some l → l.journal ≡ journal n (reverse rows)
@@ -46,15 +46,15 @@ module _ {D : Type 0} (logs : List (LogOf D)) (shards : List (ShardOf D)) (rows 
 
 module _ {D : Type 0} (content : D → Option (List ℕ)) (images : D → List ℕ → Type 0) (limit count : D → ℕ) (held : ℕ → Option D) (h : Header) (logs : List (LogOf D)) (shards : List (ShardOf D))
     (are : AreOpened content images limit count held h logs shards) (mint : List Output) (minted : h.genesis ≡ genesis_id mint) (rows : List Row) (merged : AreMerged (journals_of logs shards) rows) where
-  Opens : ℕ → Type 0
+  abbrev Opens : ℕ → Type 0
   Opens n = OfTold (held n) (λ was. Tells (content was) (IsNodeJournal (header_of h.shape (genesis_id mint) n) (journal n (reverse rows))))
 
   -- of the header and the journal that it has as it was opened
   opens_by : (n : ℕ) (k : Header) (J : List Record) → k ≡ header_of h.shape h.genesis n → J ≡ journal n (reverse rows)
       → OfTold (held n) (λ was. Tells (content was) (IsNodeJournal k J)) → Opens n
-  opens_by n k J header own is =
+  opens_by n k past header own is =
       subst (λ (x : List Record). OfTold (held n) (λ was. Tells (content was) (IsNodeJournal (header_of h.shape (genesis_id mint) n) x))) own
-      (subst (λ (x : Header). OfTold (held n) (λ was. Tells (content was) (IsNodeJournal x J))) (header ∙ ap (λ (g : Digest). header_of h.shape g n) minted) is)
+      (subst (λ (x : Header). OfTold (held n) (λ was. Tells (content was) (IsNodeJournal x past))) (header ∙ ap (λ (g : Digest). header_of h.shape g n) minted) is)
 
   log_opens : (n : ℕ) (l : LogOf D) → slice_get logs n ≡ Some l → Opens n
   log_opens n l at =

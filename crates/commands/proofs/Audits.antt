@@ -1,7 +1,9 @@
 -- What an audit was of: files that were read behind another, and what is told of its verdict.
-use Rattle.std.proofs.Common.{◌≡◌, ◌≤◌, ℕ, List, [], ◌∷◌, Option, Result, Ok, Err, subst, ◌∙◌, arith}
+use Rattle.std.proofs.Common.{◌≡◌, ◌≤◌, ◌+◌, ◌++◌, ℕ, List, [], ◌∷◌, length, Option, Result, Ok, Err, sym, ap, append_assoc, subst, ◌∙◌, arith}
 use Rattle.std.specs.Prelude.{IfOk}
+use Rattle.std.proofs.lemmas.List.{append-nil}
 use Rattle.outside.specs.Counts.{Rose}
+use Rattle.file_runs.specs.Runs.{joined}
 use Rattle.cbdc_types.specs.declared.answer.Answer.{Answer}
 use Rattle.cbdc_types.specs.declared.answer.Answer.TheVariants as answers
 use Rattle.cbdc_model.specs.Coins.{FullTx}
@@ -12,6 +14,11 @@ use Rattle.input_files.specs.Contents.{AreRead, IsNotRead, FirstNotRead, all_txs
 use Rattle.rack_nodes.specs.Refused.{IsNodeRefusal}
 use Rattle.commands.specs.Causes.{IsFault}
 use Rattle.commands.proofs.Counts.{rose_later}
+
+-- one list more
+pub joined_more : {A : Type 0} (lists : List (List A)) (x : List A) → joined lists ++ x ≡ joined (lists ++ x ∷ [])
+joined_more [] x = sym (append-nil x)
+joined_more {A} (y ∷ lists) x = append_assoc y (joined lists) x ∙ ap (λ (l : List A). y ++ l) (joined_more lists x)
 
 pub if_ok_by : {B F : Type 0} (P Q : B → Type 0) (o : Result B F) → ((b : B) → P b → Q b) → IfOk o P → IfOk o Q
 if_ok_by P Q (Ok b) f so = f b so
@@ -57,11 +64,11 @@ not_read_later place held read before mid now answers.Memory later is = is
 
 module _ (mid old : Text → Option (List ℕ)) (same : (name : Text) → mid name ≡ old name) where
   -- files that were read, by what they held before
-  pub are_read_same : (n : ℕ) (files : List FileWord) (txs : List (List FullTx)) → AreRead mid n files txs → AreRead old n files txs
-  are_read_same n [] [] are = tt
-  are_read_same n [] (t ∷ txs) are = absurd are
-  are_read_same n (file ∷ files) [] are = absurd are
-  are_read_same n (file ∷ files) (t ∷ txs) are = (λ c told. are.0 c (same file.name.now ∙ told), are_read_same _ files txs are.1)
+  pub are_read_same : (files : List FileWord) (txs : List (List FullTx)) (n : ℕ) → AreRead mid n files txs → AreRead old n files txs
+  are_read_same [] [] n are = tt
+  are_read_same [] (t ∷ txs) n are = absurd are
+  are_read_same (file ∷ files) [] n are = absurd are
+  are_read_same (file ∷ files) (t ∷ txs) n are = (λ c told. are.0 c (same file.name.now ∙ told), are_read_same files txs (n + length t) are.1)
 
   pub first_later : (before between now : Text → ℕ) (files : List FileWord) (a : Answer) → ((name : Text) → before name ≤ between name) → FirstNotRead mid between now files a → FirstNotRead old before now files a
   first_later before between now files a later first =
@@ -72,7 +79,7 @@ module _ (mid old : Text → Option (List ℕ)) (same : (name : Text) → mid na
         behind = first.behind;
         read = first.read;
         parts = first.parts;
-        are_read = are_read_same 0 first.ahead first.read first.are_read;
+        are_read = are_read_same first.ahead first.read 0 first.are_read;
         is_not = not_read_later first.file.place (old name) (txs_of_file (all_txs first.read)) (before name) (between name) (now name) a (later name)
             (subst (λ t. IsNotRead first.file.place t (txs_of_file (all_txs first.read)) (between name) (now name) a) (same name) first.is_not);
       }

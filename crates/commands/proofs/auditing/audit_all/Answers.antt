@@ -52,7 +52,7 @@ returns-clause-did g c =
       mint = c.in-Ok.mint;
       handed = c.in-Ok-all_clients_in.files.items;
       read = c.in-Ok.ensures.read;
-      clients_read = are_read_same (g.I.Inbox.file c.mint_in.new.inbox) (g.I.Inbox.file c.args.inbox.now) c.mint_in.ensures.same 0 c.args.clients.now c.in-Ok-all_clients_in.files.items c.in-Ok-all_clients_in.ensures.read;
+      clients_read = are_read_same (g.I.Inbox.file c.mint_in.new.inbox) (g.I.Inbox.file c.args.inbox.now) c.mint_in.ensures.same c.args.clients.now c.in-Ok-all_clients_in.files.items 0 c.in-Ok-all_clients_in.ensures.read;
       audited = subst (λ m. IsAudited g.R.Disk.Disk.content (g.R.Rack.held c.args.rack.now) m (joined c.in-Ok-all_clients_in.files.items) v) c.as_slice.ensures
           (subst (λ h. IsAudited g.R.Disk.Disk.content (g.R.Rack.held c.args.rack.now) c.as_slice.result.now h v) all is);
     })
@@ -66,7 +66,7 @@ returns-clause-why g c =
       c.in-Ok.ensures.read,
       inr (
         c.in-Ok-all_clients_in.files.items,
-        are_read_same (g.I.Inbox.file c.mint_in.new.inbox) (g.I.Inbox.file c.args.inbox.now) c.mint_in.ensures.same 0 c.args.clients.now c.in-Ok-all_clients_in.files.items c.in-Ok-all_clients_in.ensures.read,
+        are_read_same (g.I.Inbox.file c.mint_in.new.inbox) (g.I.Inbox.file c.args.inbox.now) c.mint_in.ensures.same c.args.clients.now c.in-Ok-all_clients_in.files.items 0 c.in-Ok-all_clients_in.ensures.read,
         subst (λ m. WhyUnopened g.R.Disk.Disk.content g.R.Disk.Disk.images g.R.Disk.Disk.limit g.R.Disk.Disk.count (g.R.Rack.held c.args.rack.now) (g.R.Rack.count c.args.rack.now) (g.R.Rack.count c.audit_on.new.rack) m e) c.as_slice.ensures why,
       ),
     ))
