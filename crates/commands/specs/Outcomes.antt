@@ -71,7 +71,7 @@ Did files content images limit before now printed (Run verdicts clients) = DidRu
 Did files content images limit before now printed Recover = DidRecover content images before now
 Did files content images limit before now printed (Status hashes) = DidStatus content images limit before now printed hashes.items
 Did files content images limit before now printed (Audit mint clients) = Unit {0}
-Did files content images limit before now printed (Gen shape seed count) = (n : ℕ) → now n ≡ before n
+Did files content images limit before now printed (Gen shape seed size) = (n : ℕ) → now n ≡ before n
 Did files content images limit before now printed (Show text) = printed (string_bytes text)
 
 -- ---- why it was not done, by the counts of faults of files and disks before and now
@@ -107,6 +107,6 @@ Why files files_before files_now content images limit count disks now disks_befo
     WhyNoTurns content images limit count disks now disks_before disks_now [] answer
 Why files files_before files_now content images limit count disks now disks_before disks_now (Status hashes) answer =
     IsUnopened content images limit count disks disks_before disks_now answer
-Why files files_before files_now content images limit count disks now disks_before disks_now (Gen shape seed count) answer = (n : ℕ) → now n ≡ disks n
+Why files files_before files_now content images limit count disks now disks_before disks_now (Gen shape seed size) answer = (n : ℕ) → now n ≡ disks n
 Why files files_before files_now content images limit count disks now disks_before disks_now (Show text) answer = ⊥
 Why files files_before files_now content images limit count disks now disks_before disks_now (Audit mint clients) answer = Unit {0}

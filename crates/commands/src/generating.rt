@@ -11,7 +11,7 @@ use crate::auditing::{joined, verdict_on};
 use crate::report::write_generated;
 use audit::{Totals, Verdict};
 use cbdc_types::{Answer, FullTx, List, Mint, Output, Shape};
-use ledger_init::make_ledger;
+use ledger_init::{Made, make_ledger};
 use mem_devices::{MemRack, PlainDisk};
 use outside::{Gate, Sink};
 use rack_runs::{Ran, run_on};
@@ -21,7 +21,7 @@ use verifier_port::AllGood;
 use workload::{Workload, generate};
 
 // What the run and the audit of a workload come to.
-struct Generated {
+struct Came {
     ran: Ran,
     totals: Totals,
 }
@@ -86,10 +86,14 @@ fn run_files<W: Wait, G: Gate>(
     ensures fault { IfErr result (IsFault (λ place. ⊥) (λ place. ⊥)) }
     ensures back { AllIn rack.new }
 {
-    match make_ledger(alloc, rack, shape, mint) {
-        Ok(_) => {}
+    let Made {
+        coins: _,
+        total: _,
+        genesis: _,
+    } = match make_ledger(alloc, rack, shape, mint) {
+        Ok(made) => made,
         Err(fault) => return Err(fault),
-    }
+    };
     run_on(rt, alloc, rack, clients, &AllGood, gate)
 }
 
@@ -121,7 +125,7 @@ fn run_workload<W: Wait, G: Gate>(
     seed: u64,
     count: u32,
     gate: &G,
-) -> Result<Generated, Answer>
+) -> Result<Came, Answer>
     requires { count ≤ 10000 }
     ensures fault { IfErr result (IsFault (λ place. ⊥) (λ place. ⊥)) }
 {
@@ -139,7 +143,7 @@ fn run_workload<W: Wait, G: Gate>(
         Err(fault) => return Err(fault),
     };
     match check_files(alloc, kept.as_slice(), clients, &mut rack) {
-        Ok(totals) => Ok(Generated { ran, totals }),
+        Ok(totals) => Ok(Came { ran, totals }),
         Err(fault) => Err(fault),
     }
 }
@@ -160,7 +164,7 @@ pub(crate) fn generated<W: Wait, O: Sink, G: Gate>(
     ensures silent { IsSilent (O.taken out.old) (O.taken out.new) result }
     ensures written_later { O.count out.old ≤ O.count out.new }
 {
-    let Generated { ran, totals } = match run_workload(rt, alloc, shape, seed, count, gate) {
+    let Came { ran, totals } = match run_workload(rt, alloc, shape, seed, count, gate) {
         Ok(generated) => generated,
         Err(fault) => return fault,
     };

@@ -6,7 +6,7 @@ ghost use Rattle.command_line.specs.Words.{texts};
 ghost use Rattle.command_line.specs.Asked.{IsAsked};
 ghost use Rattle.command_line.specs.declared.request.Request.{Request as Asked};
 ghost use Rattle.commands.specs.Causes.{IsAnswered, IsDone, IsTold, IsWell, NamedRose, RequestPlace, RequestRose};
-ghost use Rattle.commands.proofs.Sizes.{IsSized};
+ghost use Rattle.commands.specs.Sizes.{IsSized};
 ghost use Rattle.commands.specs.Outcomes.{Did, Why};
 ghost use Rattle.line_text.specs.Lines.{Text};
 ghost use Rattle.outside.specs.Counts.{Rose};
