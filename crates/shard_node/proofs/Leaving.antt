@@ -1,5 +1,5 @@
 -- What a crash leaves while a shard is called.
-use Rattle.std.proofs.Common.{◌≡◌, inl, inr, ⊎_elim, ℕ, Bool, List, [], ◌∷◌, ◌++◌, reverse, Option, Some, None, refl, sym, ◌∙◌, ap, subst}
+use Rattle.std.proofs.Common.{◌≡◌, inl, inr, ⊎_elim, ℕ, Bool, List, [], ◌∷◌, ◌++◌, reverse, Option, Some, None, sym, ◌∙◌, ap, subst}
 use Rattle.std.specs.Prelude.{IsTrue}
 use Rattle.std.specs.Global.{Vec}
 use Rattle.std.proofs.lemmas.List.{reverse-reverse, map-append}
@@ -22,13 +22,13 @@ held : (flight : Option Record) (content : Option (List ℕ)) (images : List ℕ
 held None content images gate J stands c image = subst (λ (b : List ℕ). OpensTo (reverse J) b) (sym (stands.durable c image)) stands.opens
 held (Some r) content images gate J holds c image = holds c image
 
-module _ {D : Type 0} {G : Ghosts D} where
-  -- a call that writes nothing
-  pub still : (s : ShardOf D) → ((c : List ℕ) → IsTrue (G.tells_past s.disk) → G.images_since s.disk (G.moment s.disk) c → G.images s.disk c)
-      → HoldsJournal G.content G.images s → LeavesBetween G.tells_past G.moment G.images_since G.images s s
-  still s only_now holds =
-      started G.tells_past G.moment G.images_since G.images s.disk (IsLeftBetween s s) only_now (λ c image. inl (held s.flight (G.content s.disk) (G.images s.disk) s.gate s.journal holds c image))
+-- a call that writes nothing
+pub still : {D : Type 0} (G : Ghosts D) (s : ShardOf D) → ((c : List ℕ) → IsTrue (G.tells_past s.disk) → G.images_since s.disk (G.moment s.disk) c → G.images s.disk c)
+    → HoldsJournal G.content G.images s → LeavesBetween G.tells_past G.moment G.images_since G.images s s
+still G s only_now holds =
+    started G.tells_past G.moment G.images_since G.images s.disk (IsLeftBetween s s) only_now (λ c image. inl (held s.flight (G.content s.disk) (G.images s.disk) s.gate s.journal holds c image))
 
+module _ {D : Type 0} {G : Ghosts D} where
   -- memory that was taken is not seen
   pub same_view : (p : Parts D G) (log : RecordLog D G) (memory : Vec (Vec Bool)) → IsUntouched p.log log → log.records.items ≡ p.log.records.items → log.header ≡ p.log.header → view_of (record p { log = log; decisions = memory }) ≡ view_of p
   same_view p log memory untouched records header =

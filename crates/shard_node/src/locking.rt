@@ -73,7 +73,6 @@ fn take_memory<D: Disk>(
 }
 
 // Locks a part that may be locked.
-#[tactic(auto, using(crate::proofs::Leaving::still))]
 fn append_lock<D: Disk>(
     alloc: Global,
     parts: &mut Parts<D>,

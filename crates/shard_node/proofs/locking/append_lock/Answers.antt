@@ -102,10 +102,10 @@ pub returns-in-Err-clause-leaves : goal.returns-in-Err-clause-leaves
 returns-in-Err-clause-leaves g c = λ holds.
     let seen = same_view c.args.parts.now c.take_memory.new.log c.take_memory.new.memory c.take_memory.ensures.untouched c.take_memory.ensures.records c.take_memory.ensures.header in
     subst (λ v. LeavesBetween g.D.Disk.tells_past g.D.Disk.moment g.D.Disk.images_since g.D.Disk.images (view_of c.args.parts.now) v) (sym seen)
-    (still (view_of c.args.parts.now) (g.met.D.Disk.only_now c.args.parts.now.log.journal.disk) holds)
+    (still g.D.Disk (view_of c.args.parts.now) (g.met.D.Disk.only_now c.args.parts.now.log.journal.disk) holds)
 
 pub returns-then-stamp-gt-LAST_LOCK-clause-leaves : goal.returns-then-stamp-gt-LAST_LOCK-clause-leaves
-returns-then-stamp-gt-LAST_LOCK-clause-leaves g c = still (view_of c.args.parts.now) (g.met.D.Disk.only_now c.args.parts.now.log.journal.disk)
+returns-then-stamp-gt-LAST_LOCK-clause-leaves g c = still g.D.Disk (view_of c.args.parts.now) (g.met.D.Disk.only_now c.args.parts.now.log.journal.disk)
 
 pub returns-then-need-capacity-clause-leaves : goal.returns-then-need-capacity-clause-leaves
-returns-then-need-capacity-clause-leaves g c = still (view_of c.args.parts.now) (g.met.D.Disk.only_now c.args.parts.now.log.journal.disk)
+returns-then-need-capacity-clause-leaves g c = still g.D.Disk (view_of c.args.parts.now) (g.met.D.Disk.only_now c.args.parts.now.log.journal.disk)

@@ -34,7 +34,7 @@ returns-in-Err-clause-meets g c =
     finish_failed c.args.parts.now c.args.call.now c.args.stamp c.requires.shard c.requires.call c.requires.whole c.requires.next (omega arith) c.take_decisions-decisions.new.memory c.write.new.parts c.in-Err.fault c.in-Err.ensures.fault (rw same at c.in-Err.ensures.failed)
 
 pub returns-then-stamp-gt-LAST_STAMP-clause-leaves : goal.returns-then-stamp-gt-LAST_STAMP-clause-leaves
-returns-then-stamp-gt-LAST_STAMP-clause-leaves g c = still (view_of c.args.parts.now) (g.met.D.Disk.only_now c.args.parts.now.log.journal.disk)
+returns-then-stamp-gt-LAST_STAMP-clause-leaves g c = still g.D.Disk (view_of c.args.parts.now) (g.met.D.Disk.only_now c.args.parts.now.log.journal.disk)
 
 pub returns-in-Ok-clause-leaves : goal.returns-in-Ok-clause-leaves
 returns-in-Ok-clause-leaves g c = c.write.ensures.leaves
