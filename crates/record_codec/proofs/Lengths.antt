@@ -30,7 +30,7 @@ flat_hashes (h ∷ hs) all = omega (arith, length-append h (flat_map (λ h. h) h
 hashes_length : (hs : List (List ℕ)) → AllByRecursion FitsHash hs → length (hashes hs) ≡ 8 + 32 * length hs
 hashes_length hs all = simp (length-append, length-number) (omega (arith, flat_hashes hs all))
 
-batch_length : (b : Batch) → length (batch b) ≡ 16
+pub batch_length : (b : Batch) → length (batch b) ≡ 16
 batch_length b = simp (length-append, length-number) (omega arith)
 
 compact_length : (t : Compact) → FitsCompact t → length (compact t) ≡ compact_size t
@@ -74,7 +74,7 @@ flat_decisions (d ∷ ds) = omega (arith, length-append (decision d) (flat_map d
 header_length : (h : Header) → FitsHeader h → length (header h) ≡ 80
 header_length h fits = simp (length-append, length-number) (omega (arith, fits.genesis))
 
-batch_head : (kind stamp : ℕ) (b : Batch) → length (head kind stamp ++ batch b) ≡ 25
+pub batch_head : (kind stamp : ℕ) (b : Batch) → length (head kind stamp ++ batch b) ≡ 25
 batch_head kind stamp b = omega (arith, length-append (head kind stamp) (batch b), length-number stamp, batch_length b)
 
 pub body_length : (r : Record) → FitsRecord r → 9 + length (body_of r) ≡ size_of r
