@@ -4,15 +4,13 @@ use Rattle.std.specs.Prelude.{sum_by}
 use Rattle.std.specs.List.{flat_map, AllByRecursion}
 use Rattle.std.proofs.lemmas.List.{length-append}
 use Rattle.std.proofs.lemmas.List.Sums.{sum_by-cons}
-use Rattle.cbdc_types.specs.Limits.{IsWithinLimits}
 use Rattle.cbdc_model.specs.Records.{Header, Batch, Compact, Reply, Outcome, Answered, Record, Held, Missing, Taken, Won, Lacks, Blocked, Genesis, Lock, Finish, Forget, Start, Prepare, Commit, Discard, Done}
-use Rattle.cbdc_model.specs.Grammar.{IsInGrammar}
 use Rattle.cbdc_model.specs.Room.{size_of, reply_size, outcome_size, compact_size, answered_size}
 use Rattle.byte_fields.specs.Spelling.{number, counted, FitsHash}
 use Rattle.byte_fields.specs.Records.{hashes, batch, compact, entry, reply, answered, outcome, decision}
 use Rattle.byte_fields.proofs.Lengths.{length-number}
-use Rattle.byte_fields.proofs.Parts.{FitsHashes, FitsCompact, FitsReply, FitsAnswered, FitsOutcome, FitsDecision}
-use Rattle.record_codec.specs.Bodies.{magic, header, head, body_of}
+use Rattle.byte_fields.proofs.Parts.{FitsCompact, FitsReply, FitsAnswered, FitsOutcome}
+use Rattle.record_codec.specs.Bodies.{header, head, body_of}
 use Rattle.record_codec.proofs.Records.{FitsHeader, FitsRecord}
 
 module _ {X : Type 0} (item : X → List ℕ) (size : X → ℕ) (Fits : X → Type 0) (one : (x : X) → Fits x → length (item x) ≡ size x) where

@@ -1,10 +1,10 @@
 -- How long spellings are, whatever the lengths of the hashes in them.
-use Rattle.std.proofs.Common.{◌≡◌, ℕ, ◌+◌, List, ◌++◌, length, refl, arith}
+use Rattle.std.proofs.Common.{◌≡◌, ℕ, ◌+◌, List, ◌++◌, length, arith}
 use Rattle.std.specs.List.{flat_map}
 use Rattle.std.proofs.lemmas.List.{length-append}
-use Rattle.cbdc_model.specs.Records.{Header, Batch, Compact, Reply, Outcome, Answered, Record, Held, Missing, Taken, Won, Lacks, Blocked, Genesis, Lock, Finish, Forget, Start, Prepare, Commit, Discard, Done}
+use Rattle.cbdc_model.specs.Records.{Header, Batch, Compact, Answered, Taken, Lacks, Blocked, Genesis, Start}
 use Rattle.byte_fields.specs.Spelling.{number, counted}
-use Rattle.byte_fields.specs.Records.{hashes, batch, compact, entry, reply, answered, outcome, decision}
+use Rattle.byte_fields.specs.Records.{hashes, batch, compact, entry, reply, answered, outcome}
 use Rattle.byte_fields.proofs.Lengths.{length-number}
 use Rattle.record_codec.specs.Bodies.{header, head, body_of}
 use Rattle.record_codec.proofs.Lengths.{batch_length, batch_head}

@@ -1,4 +1,4 @@
-use Rattle.std.proofs.Common.{◌≡◌, arith}
+use Rattle.std.proofs.Common.{arith}
 use Rattle.byte_fields.specs.Records.{compact, answered, outcome, decision}
 use Rattle.record_codec.proofs.Lengths.{batch_head}
 use Rattle.record_codec.proofs.Measures.{listed_long, genesis_long, start_long}

@@ -1,4 +1,4 @@
-use Rattle.std.proofs.Common.{◌≡◌, arith}
+use Rattle.std.proofs.Common.{arith}
 use Rattle.record_codec.proofs.Measures.{counted_long}
 use Rattle.record_codec.proofs.measure.length_of_list.Goals as goal
 

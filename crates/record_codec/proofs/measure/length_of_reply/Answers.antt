@@ -1,4 +1,4 @@
-use Rattle.std.proofs.Common.{◌≡◌, arith}
+use Rattle.std.proofs.Common.{arith}
 use Rattle.record_codec.proofs.Measures.{taken_long}
 use Rattle.record_codec.proofs.measure.length_of_reply.Goals as goal
 

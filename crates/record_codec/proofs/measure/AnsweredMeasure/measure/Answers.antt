@@ -1,4 +1,4 @@
-use Rattle.std.proofs.Common.{◌≡◌, arith}
+use Rattle.std.proofs.Common.{arith}
 use Rattle.record_codec.proofs.Measures.{answered_long}
 use Rattle.record_codec.proofs.measure.AnsweredMeasure.measure.Goals as goal
 

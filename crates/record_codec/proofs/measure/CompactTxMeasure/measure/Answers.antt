@@ -1,4 +1,4 @@
-use Rattle.std.proofs.Common.{◌≡◌, arith}
+use Rattle.std.proofs.Common.{arith}
 use Rattle.record_codec.proofs.Measures.{compact_long}
 use Rattle.record_codec.proofs.measure.CompactTxMeasure.measure.Goals as goal
 

@@ -1,4 +1,4 @@
-use Rattle.std.proofs.Common.{◌≡◌, arith}
+use Rattle.std.proofs.Common.{arith}
 use Rattle.record_codec.proofs.Measures.{lacks_long, blocked_long}
 use Rattle.record_codec.proofs.measure.OutcomeMeasure.measure.Goals as goal
 
