@@ -73,30 +73,30 @@ module _ (K : Shape) (b : Batch) where
 
   -- as the driver's words say it
   said : (log : Sight) (shards : ℕ → Sight) → home_of K b.lane < K.coordinators → log.header.shape ≡ K → (slot log.seen b.lane).number ≡ b.number
-      → (p : Phase) → OpenIn p log.seen (λ s. (shards s).seen) → IsOpenBy p K b log shards
-  said log shards home shape number Idle o = tt
-  said log shards home shape number InLock o = o
-  said log shards home shape number InFinish o = o
-  said log shards home shape number InPrepare o = (o.0.fit, record { home = home; shape = shape; prepare = o.1; number = number; others = o.0.others })
-  said log shards home shape number InCommit o = (
+      → (p : Phase) → (slot log.seen b.lane).phase ≡ p → OpenIn p log.seen (λ s. (shards s).seen) → IsOpenBy p K b log shards
+  said log shards home shape number Idle e o = tt
+  said log shards home shape number InLock e o = o
+  said log shards home shape number InFinish e o = o
+  said log shards home shape number InPrepare e o = (o.0.fit, record { home = home; shape = shape; prepare = o.1; number = number; phase = e; others = o.0.others })
+  said log shards home shape number InCommit e o = (
     o.0.fit,
     o.1,
     (
       o.2.0,
       record {
-        is_open = record { home = home; shape = shape; prepare = o.2.1; number = number; others = o.0.others };
+        is_open = record { home = home; shape = shape; prepare = o.2.1; number = number; phase = e; others = o.0.others };
         commit = o.3;
         locks = o.4;
       },
     ),
   )
-  said log shards home shape number InDiscard o = (
+  said log shards home shape number InDiscard e o = (
     o.0.fit,
     o.1,
     (
       o.2.0,
       record {
-        is_open = record { home = home; shape = shape; prepare = o.2.1; number = number; others = o.0.others };
+        is_open = record { home = home; shape = shape; prepare = o.2.1; number = number; phase = e; others = o.0.others };
         discard = o.3;
         forgot = o.4;
       },
@@ -240,7 +240,7 @@ module _ (K : Shape) (minting : Minted) (P : Compact → Type 0) (some : 0 < K.s
 
 pub resume_law : ResumeLaw
 resume_law K mint submissions lane logs shards some home shape kept =
-    said K b (logs (home_of K lane)) shards home shape refl (slot (logs (home_of K lane)).seen lane).phase
+    said K b (logs (home_of K lane)) shards home shape refl (slot (logs (home_of K lane)).seen lane).phase refl
     (subst (λ T. OpenIn K b (slot (logs (home_of K lane)).seen lane).phase (logs (home_of K lane)).seen T) at_shards
     (subst (λ L. (slot L lane).number ≡ b.number → (p : Phase) → (slot L lane).phase ≡ p → OpenIn K b p L (λ s. journal (shard_node K s) (kept.later ++ first_rows K (minted mint)))) at_home
     (open_in K (minted mint) (IsProperCompact submissions) some kept.later (steady K (minted mint) (IsProperCompact submissions) kept.later kept.kept) b home)
