@@ -14,3 +14,4 @@ pub mod BatchTurns
 pub mod WaveTurns
 pub mod Members
 pub mod Flights
+pub mod Granting

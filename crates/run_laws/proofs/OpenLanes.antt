@@ -165,11 +165,11 @@ module _ (K : Shape) (minting : Minted) (P : Compact → Type 0) (some : 0 < K.s
         has_all : HasAll b H
         has_all = ap length (standing K minting P some later kept (home_of K b.lane) 7 b (Commit commit.0 b (outcomes_of H b)) commit.1).2 ∙ outcomes_length _ K.shards 0 (txs_of H b)
 
-        locks : (s : ℕ) → is_concerned K (txs_of H b) s ≡ true → entries (lock_of (S s) b) ≡ part K.shards s 0 (txs_of H b)
+        pub locks : (s : ℕ) → is_concerned K (txs_of H b) s ≡ true → entries (lock_of (S s) b) ≡ part K.shards s 0 (txs_of H b)
         locks s c = (all_structure K minting P some later kept).lock_part s b
             (((in_order K minting P some later kept b).commit committed).1 s (concerned s K.shards (is_no_part (part K.shards s 0 (txs_of H b))) c)).0
 
-      forgot : (s : ℕ) → is_concerned K (txs_of H b) s ≡ true → (slot (S s) b.lane).number ≡ b.number → (slot (S s) b.lane).phase ≡ Idle
+      pub forgot : (s : ℕ) → is_concerned K (txs_of H b) s ≡ true → (slot (S s) b.lane).number ≡ b.number → (slot (S s) b.lane).phase ≡ Idle
           → (is_some (record_of 4 (S s) b) ≡ true) × (stamp_in (record_of 4 (S s) b) ≡ slot_stamp (S s) b.lane)
       forgot s c n i = elim (last_of (S s) b.lane) as (λ o. last_of (S s) b.lane ≡ o → (is_some (record_of 4 (S s) b) ≡ true) × (stamp_in (record_of 4 (S s) b) ≡ slot_stamp (S s) b.lane)) [
         | None ↦ λ e. absurd (let z : (slot (S s) b.lane).number ≡ 0 = ap (λ q. q.number) (slot_is (S s) b.lane ∙ ap slot_by e) in omega (arith, z, n, prepare_grammar.1.1))

@@ -1,6 +1,7 @@
 //! Laws that take what lanes say of their turns to the journals of the whole ledger. They have no body that runs.
 #![tactic(auto)]
 
+ghost use Rattle.run_laws.specs.Faults.{GrantLaw};
 ghost use Rattle.run_laws.specs.Flights.{FlownLaw, FlushLaw};
 ghost use Rattle.run_laws.specs.Members.{CompactLaw, MemberLaw};
 ghost use Rattle.run_laws.specs.Open.{ResumeLaw};
@@ -52,6 +53,11 @@ pub fn part_law()
 /// transactions within the limits, and behind it what the lane's phase says.
 pub fn resume_law()
     ensures { ResumeLaw }
+{}
+
+/// In kept journals no shard refuses a call of a lane's open batch.
+pub fn grant_law()
+    ensures { GrantLaw }
 {}
 
 /// What a lane's driver, or the resuming of its batch, leaves is a turn of the lane, whatever it came to.
