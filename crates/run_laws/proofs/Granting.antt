@@ -153,7 +153,7 @@ lock_refuses K capacity J c (Append q) why e = absurd (two (nat_lt last_early q.
 
 -- ---- in kept journals
 
-concerned : (K : Shape) (txs : List Compact) (s : ℕ) → is_concerned K txs s ≡ true → Concerned K txs s
+pub concerned : (K : Shape) (txs : List Compact) (s : ℕ) → is_concerned K txs s ≡ true → Concerned K txs s
 concerned K txs s c = numbers s K.shards (is_no_part (part K.shards s 0 txs)) c
   where
     numbers : (s n : ℕ) (a : Bool) → (nat_lt s n && not a) ≡ true → (s < n) × (a ≡ false)

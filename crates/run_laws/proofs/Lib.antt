@@ -15,3 +15,4 @@ pub mod WaveTurns
 pub mod Members
 pub mod Flights
 pub mod Granting
+pub mod Stopping
