@@ -1,0 +1,21 @@
+-- The laws, each as one statement.
+use Rattle.std.specs.Prelude.{ℕ, ◌+◌, ◌*◌, ◌^◌, ◌<◌, ◌≤◌, List}
+use Rattle.cbdc_types.specs.Limits.{IsWithinLimits}
+use Rattle.cbdc_model.specs.Records.{Shape, Record, stamp_of, last_stamp}
+use Rattle.cbdc_model.specs.Causes.{IsCaused}
+use Rattle.cbdc_model.specs.Coins.{Output, FullTx}
+use Rattle.cbdc_model.specs.World.{KeptJournals}
+
+-- a stamp for each record of one batch a lane that comes behind the Locks: a Finish and a Forget of each shard, a Commit, a Discard, a Done
+abbrev pub late_records : Shape → ℕ
+late_records K = K.coordinators * K.lanes * (2 * K.shards + 3)
+
+-- no stamp of kept journals is above 2^62 by more than these
+abbrev pub FewLateLaw : Type 0
+FewLateLaw = (K : Shape) (mint : List Output) (submissions : List FullTx) (J : ℕ → List Record) (n : ℕ) → 0 < K.shards
+    → KeptJournals K mint submissions J → last_stamp (J n) ≤ 2 ^ 62 + late_records K
+
+-- no record that is caused by kept journals needs a stamp above 2^62 + 2^20
+abbrev pub NoneRefusedLaw : Type 0
+NoneRefusedLaw = (K : Shape) (mint : List Output) (submissions : List FullTx) (J : ℕ → List Record) (n : ℕ) (r : Record) → IsWithinLimits K
+    → KeptJournals K mint submissions J → IsCaused K J n r → stamp_of r ≤ 2 ^ 62 + 2 ^ 20

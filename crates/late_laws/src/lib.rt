@@ -1,0 +1,16 @@
+//! Laws about late stamps, those above 2^62: there are few of them, so that none is ever refused, and what is left open can be
+//! brought to its end. Functions with an empty body, whose contracts are the theorems. Nothing of them runs.
+#![tactic(auto)]
+
+ghost use Rattle.late_laws.specs.Laws.{FewLateLaw, NoneRefusedLaw};
+
+/// No stamp of kept journals is above 2^62 by more than the later records of one batch a lane.
+pub fn few_late_law()
+    ensures { FewLateLaw }
+{}
+
+/// No record that is caused by kept journals has a stamp above 2^62 + 2^20. So what comes behind the Locks of a batch is never
+/// refused for its stamp.
+pub fn none_refused_law()
+    ensures { NoneRefusedLaw }
+{}
