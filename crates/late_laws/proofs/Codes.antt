@@ -1,5 +1,5 @@
 -- A number for each record of a lane's batch that comes behind its Locks.
-use Rattle.std.proofs.Common.{◌≡◌, ◌⊎◌, inl, inr, ℕ, ◌+◌, ◌-◌, ◌*◌, ◌<◌, ◌≤◌, ◌/◌, Bool, true, false, ◌==◌, nat_lt, if◌then◌else◌, List, [], ◌∷◌, length, refl, sym, ap, ◌∙◌, subst, arith}
+use Rattle.std.proofs.Common.{◌≡◌, ◌⊎◌, inl, inr, ℕ, ◌+◌, ◌-◌, ◌*◌, ◌<◌, ◌≤◌, ◌/◌, ◌==◌, if◌then◌else◌, sym, ap, ◌∙◌, subst, arith}
 use Rattle.std.proofs.Math.Nat.{mul-le-mul_right}
 use Rattle.std.proofs.lemmas.Nat.{div-mul-add}
 use Rattle.cbdc_model.specs.Records.{Shape}
@@ -80,11 +80,11 @@ pub code_tells : (K : Shape) (lane node kind other n k : ℕ) → IsPlaced K lan
     → SamePlace lane node kind other n k
 code_tells K lane node kind other n k p q e =
     let l = code_tells_lane (2 * K.shards + 3) lane other (place_of K node kind) (place_of K n k)
-        (place_below K.coordinators K.shards (lane / K.lanes) node kind (placed K lane node kind p))
-        (place_below K.coordinators K.shards (other / K.lanes) n k (placed K other n k q)) e in
+    (place_below K.coordinators K.shards (lane / K.lanes) node kind (placed K lane node kind p))
+    (place_below K.coordinators K.shards (other / K.lanes) n k (placed K other n k q)) e in
     let home : other / K.lanes ≡ lane / K.lanes = ap (λ x. x / K.lanes) (sym l.0) in
     let t = place_tells K.coordinators K.shards (lane / K.lanes) node kind n k (placed K lane node kind p)
-        (subst (λ h. Placed K.coordinators K.shards h n k) home (placed K other n k q)) l.1 in
+    (subst (λ h. Placed K.coordinators K.shards h n k) home (placed K other n k q)) l.1 in
     record { lanes = l.0; nodes = t.0; kinds = t.1 }
 
 -- and is below the number of lanes times the records of a batch

@@ -1,21 +1,19 @@
 -- The records with stamps above 2^62 have codes of their own, so they are few.
-use Rattle.std.proofs.Common.{◌≡◌, ◌⊎◌, inl, inr, ℕ, suc, ◌+◌, ◌*◌, ◌^◌, ◌<◌, ◌≤◌, ◌/◌, Bool, true, false, ◌&&◌, ◌||◌, ◌==◌, nat_lt, if◌then◌else◌, List, [], ◌∷◌, ◌++◌, length, Some, None, is_some, refl, sym, ap, ◌∙◌, subst, arith}
+use Rattle.std.proofs.Common.{◌≡◌, inl, inr, ℕ, suc, ◌+◌, ◌*◌, ◌^◌, ◌<◌, ◌≤◌, Bool, true, false, ◌&&◌, ◌||◌, ◌==◌, if◌then◌else◌, List, [], ◌∷◌, ◌++◌, length, Some, None, is_some, refl, sym, ap, ◌∙◌, subst, arith}
 use Rattle.std.proofs.Math.Dec.{eqb}
 use Rattle.std.specs.List.{IsDistinct, AllByRecursion, list_any}
-use Rattle.std.proofs.lemmas.Bool.{eqb-true, eq-eqb}
+use Rattle.std.proofs.lemmas.Bool.{eqb-true}
 use Rattle.std.proofs.lemmas.Map.Steps.{length-le_from_distinct_below}
-use Rattle.std.proofs.Math.Nat.{mul-le-mul, mul-le-mul_left}
+use Rattle.std.proofs.Math.Nat.{mul-le-mul}
 use Rattle.cbdc_types.specs.Limits.{IsWithinLimits}
 use Rattle.cbdc_model.specs.Records.{Shape, Batch, Compact, Record, Row, journal, record_of, stamp_of, stamp_in, last_stamp, kind_of, is_of, Genesis, Lock, Finish, Forget, Start, Prepare, Commit, Discard, Done}
 use Rattle.cbdc_model.specs.Causes.{IsCaused}
 use Rattle.cbdc_model.specs.Clean.{IsProperCompact}
 use Rattle.cbdc_model.specs.Grammar.{IsInGrammar}
 use Rattle.cbdc_model.specs.History.{Minted, minted, header_of, first_rows}
-use Rattle.cbdc_model.specs.World.{KeptJournals}
 use Rattle.ledger_laws.proofs.Next.{Next, Steady}
 use Rattle.ledger_laws.proofs.Rows.{at, away, at_node, head_at, head_away}
 use Rattle.ledger_laws.proofs.Slots.{same_batch_self}
-use Rattle.ledger_laws.proofs.Lookups.{true_false}
 use Rattle.ledger_laws.proofs.Moves.{once, test_step, all_structure, all_more}
 use Rattle.ledger_laws.proofs.Found.{found_new}
 use Rattle.ledger_laws.proofs.Late.{one_late}
@@ -111,22 +109,22 @@ module _ (K : Shape) (minting : Minted) (P : Compact → Type 0) (shards : 0 < K
   late_at [] kept code h = absurd (let z : false ≡ true = h in cc)
   late_at (row ∷ later) kept code h =
       elim (is_late row.what) as (λ t. is_late row.what ≡ t
-          → list_any (eqb code) (if t then code_of K (lane_in row.what) row.node (kind_of row.what) ∷ late_codes K later else late_codes K later) ≡ true → LateAt (row ∷ later) code) [
+      → list_any (eqb code) (if t then code_of K (lane_in row.what) row.node (kind_of row.what) ∷ late_codes K later else late_codes K later) ≡ true → LateAt (row ∷ later) code) [
         | true ↦ λ t h. elim (eqb code (code_of K (lane_in row.what) row.node (kind_of row.what))) as (λ c. eqb code (code_of K (lane_in row.what) row.node (kind_of row.what)) ≡ c
             → (c || list_any (eqb code) (late_codes K later)) ≡ true → LateAt (row ∷ later) code) [
-          | true ↦ λ e h.
-              let p = row_placed row later kept t in
-              record {
-                node = row.node;
-                kind = kind_of row.what;
-                batch = p.batch;
-                below = p.below;
-                place = p.place;
-                is = eqb-true code (code_of K (lane_in row.what) row.node (kind_of row.what)) e ∙ same_code row later p;
-                late = row_late row later t p;
-              }
-          | false ↦ λ e h. lift row later kept code (late_at later kept.3 code h)
-        ] refl h
+              | true ↦ λ e h.
+                  let p = row_placed row later kept t in
+                  record {
+                    node = row.node;
+                    kind = kind_of row.what;
+                    batch = p.batch;
+                    below = p.below;
+                    place = p.place;
+                    is = eqb-true code (code_of K (lane_in row.what) row.node (kind_of row.what)) e ∙ same_code row later p;
+                    late = row_late row later t p;
+                  }
+              | false ↦ λ e h. lift row later kept code (late_at later kept.3 code h)
+            ] refl h
         | false ↦ λ t h. lift row later kept code (late_at later kept.3 code h)
       ] refl h
 
@@ -139,7 +137,7 @@ module _ (K : Shape) (minting : Minted) (P : Compact → Type 0) (shards : 0 < K
           let s : SamePlace p.batch.lane row.node (kind_of row.what) l.batch.lane l.node l.kind
           = code_tells K p.batch.lane row.node (kind_of row.what) l.batch.lane l.node l.kind p.place l.place (sym (same_code row later p) ∙ l.is) in
           let one : p.batch ≡ l.batch = one_late K minting P shards (row ∷ later) kept p.batch l.batch (row.node, kind_of row.what, row_late row later t p)
-              (l.node, l.kind, later_late row later kept l.node l.kind l.batch l.late) s.lanes in
+          (l.node, l.kind, later_late row later kept l.node l.kind l.batch l.late) s.lanes in
           let found : is_some (record_of l.kind (whole later l.node) l.batch) ≡ true = some_late (whole later) l.kind l.node l.batch l.late in
           let here : is_some (record_of (kind_of row.what) (whole later row.node) l.batch) ≡ true
           = subst (λ k. is_some (record_of k (whole later row.node) l.batch) ≡ true) (sym s.kinds) (subst (λ n. is_some (record_of l.kind (whole later n) l.batch) ≡ true) (sym s.nodes) found) in
