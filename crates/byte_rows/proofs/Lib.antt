@@ -1,1 +1,2 @@
+mod EachBody
 mod FileBytes

@@ -11,11 +11,7 @@ use std::alloc::Global;
 
 // Their number, which with those before is at most 1,000,000, and then so many of them.
 #[tactic(auto, unfolding(crate::specs::Files::counted_behind))]
-fn counted(
-    alloc: Global,
-    before: u64,
-    bytes: &[u8],
-) -> Result<(List<FullTx>, &[u8]), ReadError>
+fn counted(alloc: Global, before: u64, bytes: &[u8]) -> Result<(List<FullTx>, &[u8]), ReadError>
     ensures { Gives (λ x. (x.0, x.1.now)) result (counted_behind before bytes.now) }
 {
     let (count, rest) = number(bytes)?;

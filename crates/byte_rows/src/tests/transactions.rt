@@ -27,8 +27,23 @@ pub(crate) const SMALL: [(u8, usize); 18] = [
     (0, 64),
 ];
 
-// Where its fields begin: a count, the input, a count, the output, a count, a length and the witness.
-const FIELDS: [usize; 7] = [0, 8, 88, 96, 136, 144, 152];
+// Fronts of it and where they are cut: at a count, the input, a count, the output, a count, a length and the witness.
+const FRONTS: [(usize, usize); 14] = [
+    (0, 0),
+    (7, 0),
+    (8, 8),
+    (87, 8),
+    (88, 88),
+    (95, 88),
+    (96, 96),
+    (135, 96),
+    (136, 136),
+    (143, 136),
+    (144, 144),
+    (151, 144),
+    (152, 152),
+    (215, 152),
+];
 
 const OUTPUT: Output = Output {
     program: Hash([7; 32]),
@@ -75,24 +90,25 @@ fn the_bytes_of_a_transaction_behind_others(rt: HostRuntime) -> Result<(), Fail>
     Ok(())
 }
 
-// The front of so many bytes is cut at the field in which it ends.
+// Whether the front of so many bytes is cut at this place.
+fn is_cut(alloc: Global, bytes: &[u8], len: usize, at: usize) -> bool {
+    let bad = BadTx {
+        at,
+        kind: InputKind::Cut,
+    };
+    match bytes.get(..len) {
+        Some(front) => read_tx(alloc, front, 0) == Err(ReadFault::Bad(bad)),
+        None => false,
+    }
+}
+
 #[test]
 fn each_front_is_cut_at_its_field(rt: HostRuntime) -> Result<(), Fail> {
     let alloc = rt.alloc();
     let bytes = bytes_of(alloc, &SMALL)?;
     assert_eq!(rt; bytes.len(), 216);
-    for len in 0..216usize {
-        let Some(front) = bytes.as_slice().get(..len) else {
-            return Err(Fail::new("the front is too long"));
-        };
-        let Some(at) = FIELDS.iter().rev().find(|field| **field <= len) else {
-            return Err(Fail::new("no field"));
-        };
-        let cut = BadTx {
-            at: *at,
-            kind: InputKind::Cut,
-        };
-        assert!(rt; read_tx(alloc, front, 0) == Err(ReadFault::Bad(cut)));
+    for (len, at) in FRONTS.as_slice() {
+        assert!(rt; is_cut(alloc, bytes.as_slice(), *len, *at));
     }
     Ok(())
 }
@@ -111,25 +127,34 @@ fn lists_at_their_limits(rt: HostRuntime) -> Result<(), Fail> {
     Ok(())
 }
 
-// Counts of 256, a witness of 4,097 bytes, and larger ones: each is told at its number, before what it counts.
+// Whether so many zeros, then a length of 1 where this is said, and then this number are told at the number.
+fn is_past(alloc: Global, zeros: usize, one: usize, n: u64, kind: InputKind) -> Result<bool, Fail> {
+    let mut bytes = bytes_of(
+        alloc,
+        &[
+            (0, zeros),
+            (1, one),
+            (0, one),
+            (0, one),
+            (0, one),
+            (0, one),
+            (0, one),
+            (0, one),
+            (0, one),
+        ],
+    )?;
+    let at = bytes.len();
+    bytes.extend_from_slice(&n.to_le_bytes())?;
+    Ok(read_tx(alloc, bytes.as_slice(), 0) == Err(ReadFault::Bad(BadTx { at, kind })))
+}
+
+// Counts of 256 and a witness of 4,097 bytes: each is told at its number, before what it counts.
 #[test]
 fn lists_past_their_limits(rt: HostRuntime) -> Result<(), Fail> {
     let alloc = rt.alloc();
-    for (places, kind) in [
-        (0usize, InputKind::TooMany),
-        (8, InputKind::TooMany),
-        (16, InputKind::TooMany),
-        (24, InputKind::TooLong),
-    ] {
-        let mut bytes = bytes_of(alloc, &[(0, places)])?;
-        if kind == InputKind::TooLong {
-            bytes = bytes_of(alloc, &[(0, 16), (1, 1), (0, 7)])?;
-            bytes.extend_from_slice(&4097u64.to_le_bytes())?;
-        } else {
-            bytes.extend_from_slice(&256u64.to_le_bytes())?;
-        }
-        let bad = BadTx { at: places, kind };
-        assert!(rt; read_tx(alloc, bytes.as_slice(), 0) == Err(ReadFault::Bad(bad)));
-    }
+    assert!(rt; is_past(alloc, 0, 0, 256, InputKind::TooMany)?);
+    assert!(rt; is_past(alloc, 8, 0, 256, InputKind::TooMany)?);
+    assert!(rt; is_past(alloc, 16, 0, 256, InputKind::TooMany)?);
+    assert!(rt; is_past(alloc, 16, 1, 4097, InputKind::TooLong)?);
     Ok(())
 }
