@@ -1,0 +1,9 @@
+pub mod Codes
+pub mod Stamps
+pub mod Few
+pub mod Opening
+pub mod LockWrites
+pub mod OneLock
+pub mod LocksFirst
+pub mod Fits
+pub mod Recovering
