@@ -1,8 +1,8 @@
 -- What is committed, and the sets that make up the book's hashes.
-use Rattle.std.proofs.Common.{◌≡◌, inl, inr, ℕ, ◌+◌, ◌<◌, ◌≤◌, ◌/◌, ◌*◌, true, false, List, ◌++◌, Contains, is_some, refl, sym, ap, ◌∙◌, subst, arith}
+use Rattle.std.proofs.Common.{◌≡◌, inl, inr, ℕ, ◌<◌, ◌/◌, List, subst, arith}
 use Rattle.std.proofs.Math.Nat.{div-lt_iff_lt-mul}
-use Rattle.cbdc_model.specs.Records.{Digest, Shape, Row, journal, lock_of, record_of, outcomes_of}
-use Rattle.cbdc_model.specs.Status.{status, Unspent, Locked, held_inputs}
+use Rattle.cbdc_model.specs.Records.{Digest, Shape, Row, journal}
+use Rattle.cbdc_model.specs.Status.{status, Unspent}
 use Rattle.cbdc_model.specs.Slots.{slot, Idle}
 use Rattle.cbdc_model.specs.Ranges.{journal_at}
 use Rattle.cbdc_model.specs.Clean.{Clean, IsProperCompact}
@@ -16,7 +16,6 @@ use Rattle.ledger_laws.proofs.Ledger.{steady}
 use Rattle.ledger_laws.proofs.Counts.{count}
 use Rattle.ledger_laws.proofs.View.{Inv}
 use Rattle.ledger_laws.proofs.Rows.{view}
-use Rattle.ledger_laws.proofs.CommitStep.{Apart}
 use Rattle.ledger_laws.proofs.Theory.{kept_inv}
 use Rattle.ledger_laws.proofs.Members.{in_contains, in_count, apart}
 use Rattle.ledger_laws.proofs.Folding.{FullForms, full_forms, kept_each}
