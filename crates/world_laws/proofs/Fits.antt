@@ -6,8 +6,8 @@ use Rattle.cbdc_model.specs.Due.{open_batch}
 use Rattle.cbdc_model.specs.History.{Minted}
 use Rattle.cbdc_model.specs.World.{World, journals}
 use Rattle.ledger_laws.proofs.Rows.{at, away, at_node}
-use Rattle.late_laws.specs.LocksDue.{lacks_lock, locks_due, lock_cause, before_lock, LocksFit, IsStuck}
-use Rattle.late_laws.proofs.OneLock.{LockStep, same_home, fewer, one_less, other_shard}
+use Rattle.world_laws.specs.LocksDue.{lacks_lock, locks_due, lock_cause, before_lock, LocksFit, IsStuck}
+use Rattle.world_laws.proofs.OneLock.{LockStep, same_home, fewer, one_less, other_shard}
 
 -- counts of lanes
 module _ (K : Shape) (I J : ℕ → List Record) (s : ℕ) where

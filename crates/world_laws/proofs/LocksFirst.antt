@@ -7,9 +7,9 @@ use Rattle.cbdc_model.specs.World.{World, Event, Begin, End, journals, Run}
 use Rattle.ledger_laws.proofs.Rows.{at, away, at_node}
 use Rattle.ledger_laws.proofs.Lookups.{not_true, true_false}
 use Rattle.ledger_laws.proofs.Reaching.{run-append}
-use Rattle.late_laws.specs.LocksDue.{lacks_lock, before_lock, IsStuck, BeginLocks}
-use Rattle.late_laws.proofs.Opening.{IsQuiet}
-use Rattle.late_laws.proofs.OneLock.{LockStep, write_lock, fewer, one_less}
+use Rattle.world_laws.specs.LocksDue.{lacks_lock, before_lock, IsStuck, BeginLocks}
+use Rattle.world_laws.proofs.Opening.{IsQuiet}
+use Rattle.world_laws.proofs.OneLock.{LockStep, write_lock, fewer, one_less}
 
 locks-append : (es fs : List Event) → BeginLocks es → BeginLocks fs → BeginLocks (es ++ fs)
 locks-append [] fs h g = g

@@ -12,9 +12,9 @@ use Rattle.ledger_laws.proofs.Ledger.{after_of}
 use Rattle.ledger_laws.proofs.Worlds.{run_keeps}
 use Rattle.ledger_laws.proofs.Reaching.{ended, ended_at, ended_away, ended_length, written}
 use Rattle.ledger_laws.proofs.Found.{found_new}
-use Rattle.late_laws.specs.LocksDue.{lacks_lock_by, lacks_lock, lock_cause, before_lock, IsLock}
-use Rattle.late_laws.proofs.Opening.{IsQuiet}
-use Rattle.late_laws.proofs.LockWrites.{LockFor, HasPrepare, has_prepare, lock_for}
+use Rattle.world_laws.specs.LocksDue.{lacks_lock_by, lacks_lock, lock_cause, before_lock, IsLock}
+use Rattle.world_laws.proofs.Opening.{IsQuiet}
+use Rattle.world_laws.proofs.LockWrites.{LockFor, HasPrepare, has_prepare, lock_for}
 
 both_false : (a b : Bool) → (not a && not b) ≡ true → (a ≡ false) × (b ≡ false)
 both_false true b h = absurd (let z : false ≡ true = h in cc)

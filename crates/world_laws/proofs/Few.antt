@@ -18,9 +18,9 @@ use Rattle.ledger_laws.proofs.Moves.{once, test_step, all_structure, all_more}
 use Rattle.ledger_laws.proofs.Found.{found_new}
 use Rattle.ledger_laws.proofs.Late.{one_late}
 use Rattle.ledger_laws.proofs.Ledger.{steady}
-use Rattle.late_laws.specs.Laws.{late_records, FewLateLaw, NoneRefusedLaw}
-use Rattle.late_laws.proofs.Codes.{code_of, IsPlaced, at_shard, at_home, SamePlace, code_tells, code_below}
-use Rattle.late_laws.proofs.Stamps.{caused_le, found_le, lane_in, is_late, late_above, late_codes, stamps_le}
+use Rattle.world_laws.specs.Laws.{late_records, FewLateLaw, NoneRefusedLaw}
+use Rattle.world_laws.proofs.Codes.{code_of, IsPlaced, at_shard, at_home, SamePlace, code_tells, code_below}
+use Rattle.world_laws.proofs.Stamps.{caused_le, found_le, lane_in, is_late, late_above, late_codes, stamps_le}
 
 -- a record of a batch, with its place in the lane
 pub record Placed (K : Shape) (node : ℕ) (r : Record) : Type 0 where

@@ -21,15 +21,15 @@ use Rattle.ledger_laws.proofs.Phases.{in_order}
 use Rattle.ledger_laws.proofs.Found.{found_grammar}
 use Rattle.ledger_laws.proofs.Writing.{AllLocked, Open, begin-append}
 use Rattle.ledger_laws.proofs.LanePhases.{Rests, lanes_rest}
-use Rattle.late_laws.specs.Laws.{late_records, RecoveryLaw, StuckLaw}
-use Rattle.late_laws.specs.LocksDue.{opened, lacks_lock, LocksFit, IsStuck, IsLock, BeginsLock, BeginLocks, Sticks}
-use Rattle.late_laws.proofs.Few.{low, few_enough}
-use Rattle.late_laws.proofs.Opening.{IsQuiet, Opened, open_all}
-use Rattle.late_laws.proofs.LockWrites.{HasPrepare}
-use Rattle.late_laws.proofs.LockWrites as locks
-use Rattle.late_laws.proofs.OneLock.{LockStep}
-use Rattle.late_laws.proofs.LocksFirst.{Going, Comes, arrives, sticks, lanes_of}
-use Rattle.late_laws.proofs.Fits.{fits_stay, fits_not_stuck}
+use Rattle.world_laws.specs.Laws.{late_records, RecoveryLaw, StuckLaw}
+use Rattle.world_laws.specs.LocksDue.{opened, lacks_lock, LocksFit, IsStuck, IsLock, BeginsLock, BeginLocks, Sticks}
+use Rattle.world_laws.proofs.Few.{low, few_enough}
+use Rattle.world_laws.proofs.Opening.{IsQuiet, Opened, open_all}
+use Rattle.world_laws.proofs.LockWrites.{HasPrepare}
+use Rattle.world_laws.proofs.LockWrites as locks
+use Rattle.world_laws.proofs.OneLock.{LockStep}
+use Rattle.world_laws.proofs.LocksFirst.{Going, Comes, arrives, sticks, lanes_of}
+use Rattle.world_laws.proofs.Fits.{fits_stay, fits_not_stuck}
 
 not_lacking : (a b : Bool) → (not a && not b) ≡ false → a ≡ false → b ≡ true
 not_lacking a b h e = grind arith

@@ -19,7 +19,7 @@ use Rattle.ledger_laws.proofs.Settling.{shard_number}
 use Rattle.ledger_laws.proofs.Planned.{entries_answered, newer}
 use Rattle.ledger_laws.proofs.Found.{found_grammar, forgot_here, finished_here, locked_here, holders}
 use Rattle.ledger_laws.proofs.Fitting.{Fits, part_fits}
-use Rattle.late_laws.specs.LocksDue.{IsLock}
+use Rattle.world_laws.specs.LocksDue.{IsLock}
 
 -- a Lock of a batch that may be written at a node, with the stamp behind this one
 pub record LockFor (K : Shape) (id : Digest) (J : ℕ → List Record) (n : ℕ) (b : Batch) (before : ℕ) : Type 0 where

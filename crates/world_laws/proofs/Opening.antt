@@ -9,7 +9,7 @@ use Rattle.ledger_laws.proofs.Rows.{at, away, at_node}
 use Rattle.ledger_laws.proofs.Ledger.{SteadyWorld}
 use Rattle.ledger_laws.proofs.Worlds.{set_same, set_other, run_keeps}
 use Rattle.ledger_laws.proofs.Reaching.{run-append}
-use Rattle.late_laws.specs.LocksDue.{opened}
+use Rattle.world_laws.specs.LocksDue.{opened}
 
 up_or_down : (a : Bool) → a ≡ true → a ≡ false → ⊥
 up_or_down a h g = let z : true ≡ false = sym h ∙ g in cc
