@@ -9,3 +9,5 @@ pub mod Did
 pub mod Making
 pub mod Faults
 pub mod Audits
+pub mod Sizes
+pub mod Workloads

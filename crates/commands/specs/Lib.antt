@@ -2,3 +2,4 @@ pub mod Causes
 pub mod Texts
 pub mod Audits
 pub mod Outcomes
+pub mod Sizes

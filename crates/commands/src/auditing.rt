@@ -18,7 +18,7 @@ use outside::{Inbox, Rack, Sink};
 use std::alloc::{AllocError, Global};
 
 // The transactions of files in one list.
-fn joined(alloc: Global, files: Vec<List<FullTx>>) -> Result<Vec<FullTx>, AllocError>
+pub(crate) fn joined(alloc: Global, files: Vec<List<FullTx>>) -> Result<Vec<FullTx>, AllocError>
     ensures { IfOk result (λ v. v.items ≡ all_joined files.items) }
 {
     let mut all = Vec::new(alloc);
