@@ -1,6 +1,6 @@
 -- The history of a ledger's nodes, and what their disks told.
-use Rattle.std.proofs.Common.{◌≡◌, ◌<◌, ◌≤◌, ◌+◌, ◌-◌, ◌++◌, [], ℕ, List, length, map, reverse, Option, Some, Result, Ok, Err, inl, inr, refl, sym, ◌∙◌, ap, subst, arith}
-use Rattle.std.specs.Prelude.{All, IfOk, slice_get}
+use Rattle.std.proofs.Common.{◌≡◌, ◌<◌, ◌≤◌, ◌+◌, ◌-◌, [], ℕ, List, length, map, reverse, Option, Some, Result, Ok, Err, inl, inr, refl, sym, ◌∙◌, ap, subst, arith}
+use Rattle.std.specs.Prelude.{IfOk, slice_get}
 use Rattle.std.proofs.lemmas.Bool.{cases_lt}
 use Rattle.std.proofs.lemmas.List.{reverse-reverse}
 use Rattle.std.proofs.lemmas.Option.{slice_get_cases}
@@ -11,7 +11,7 @@ use Rattle.cbdc_model.specs.History.{header_of}
 use Rattle.coord_log.specs.Logs.{LogOf}
 use Rattle.shard_node.specs.Shards.{ShardOf}
 use Rattle.history.specs.declared.place.Place.{Place}
-use Rattle.history.specs.Rows.{journal_in, rows_at}
+use Rattle.history.specs.Rows.{rows_at}
 use Rattle.audit.specs.declared.verdict.Verdict.{Verdict}
 use Rattle.audit.specs.Verdicts.{IsVerdict}
 use Rattle.rack_nodes.specs.Racked.{OfTold}
@@ -33,8 +33,8 @@ module _ {D : Type 0} (logs : List (LogOf D)) (shards : List (ShardOf D)) (rows 
   shard_journal n s at =
       sym (
       merged.newest_first (length logs + n)
-          ∙ ap reverse (back_item (λ (x : LogOf D). reverse x.journal) shard_journals [] logs (length logs + n) n refl ∙ map_item (λ (x : ShardOf D). reverse x.journal) [] shards n s at)
-          ∙ reverse-reverse s.journal
+      ∙ ap reverse (back_item (λ (x : LogOf D). reverse x.journal) shard_journals [] logs (length logs + n) n refl ∙ map_item (λ (x : ShardOf D). reverse x.journal) [] shards n s at)
+      ∙ reverse-reverse s.journal
       )
 
   no_journal : (n : ℕ) → length logs + length shards ≤ n → journal n (reverse rows) ≡ []
