@@ -8,3 +8,5 @@ pub mod Ledgers
 pub mod Did
 pub mod Making
 pub mod Faults
+pub mod Sizes
+pub mod Workloads

@@ -11,7 +11,7 @@ use Rattle.cbdc_model.specs.World.{KeptJournals}
 use Rattle.record_log.specs.Held.{OpensTo}
 use Rattle.command_line.specs.declared.request.FileWord.{FileWord}
 use Rattle.command_line.specs.declared.request.Request.{Request}
-use Rattle.command_line.specs.declared.request.Request.TheVariants.{Init, Run, Recover, Status, Audit, Show}
+use Rattle.command_line.specs.declared.request.Request.TheVariants.{Init, Run, Recover, Status, Audit, Gen, Show}
 use Rattle.input_files.specs.Contents.{mint_of_file, AreRead, AreVerdicts, IsNotRead, FirstNotRead, IsNoVerdicts}
 use Rattle.verifier_port.specs.Files.{told}
 use Rattle.verifier_port.specs.declared.file.VerdictFile.{VerdictFile}
@@ -71,6 +71,7 @@ Did files content images limit before now printed (Run verdicts clients) = DidRu
 Did files content images limit before now printed Recover = DidRecover content images before now
 Did files content images limit before now printed (Status hashes) = DidStatus content images limit before now printed hashes.items
 Did files content images limit before now printed (Audit mint clients) = Unit {0}
+Did files content images limit before now printed (Gen shape seed size) = (n : ℕ) → now n ≡ before n
 Did files content images limit before now printed (Show text) = printed (string_bytes text)
 
 -- ---- why it was not done, by the counts of faults of files and disks before and now
@@ -106,5 +107,6 @@ Why files files_before files_now content images limit count disks now disks_befo
     WhyNoTurns content images limit count disks now disks_before disks_now [] answer
 Why files files_before files_now content images limit count disks now disks_before disks_now (Status hashes) answer =
     IsUnopened content images limit count disks disks_before disks_now answer
+Why files files_before files_now content images limit count disks now disks_before disks_now (Gen shape seed size) answer = (n : ℕ) → now n ≡ disks n
 Why files files_before files_now content images limit count disks now disks_before disks_now (Show text) answer = ⊥
 Why files files_before files_now content images limit count disks now disks_before disks_now (Audit mint clients) answer = Unit {0}

@@ -58,7 +58,7 @@ fn check_mint<R: Rack>(alloc: Global, rack: &mut R, id: &Hash) -> Result<(), Ans
 }
 
 // The transactions of files in one list.
-fn joined(alloc: Global, files: Vec<List<FullTx>>) -> Result<Vec<FullTx>, AllocError> {
+pub(crate) fn joined(alloc: Global, files: Vec<List<FullTx>>) -> Result<Vec<FullTx>, AllocError> {
     let mut all = Vec::new(alloc);
     'files: for file in files {
         'txs: for tx in file.into_vec() {
@@ -99,7 +99,7 @@ fn verdict_of<D: Disk>(
 }
 
 // What an audit of the rack finds.
-fn verdict_on<R: Rack>(
+pub(crate) fn verdict_on<R: Rack>(
     alloc: Global,
     rack: &mut R,
     mint: &[Output],

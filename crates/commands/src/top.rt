@@ -6,12 +6,14 @@ ghost use Rattle.command_line.specs.Words.{texts};
 ghost use Rattle.command_line.specs.Asked.{IsAsked};
 ghost use Rattle.command_line.specs.declared.request.Request.{Request as Asked};
 ghost use Rattle.commands.specs.Causes.{IsAnswered, IsDone, IsTold, IsWell, NamedRose, RequestPlace, RequestRose};
+ghost use Rattle.commands.specs.Sizes.{IsSized};
 ghost use Rattle.commands.specs.Outcomes.{Did, Why};
 ghost use Rattle.line_text.specs.Lines.{Text};
 ghost use Rattle.outside.specs.Counts.{Rose};
 ghost use Rattle.printed_lines.specs.Reports.{name_in};
 
 use crate::auditing::audit;
+use crate::generating::generated;
 use crate::initial::init;
 use crate::looking::status;
 use crate::recovering::recover;
@@ -85,7 +87,8 @@ fn answer_to<W: Wait, I: Inbox, R: Rack, O: Sink, G: Gate>(
     out: &mut O,
     gate: &G,
 ) -> Answer
-    requires { (n : ℕ) → R.can_take rack.old n }
+    requires all { (n : ℕ) → R.can_take rack.old n }
+    requires sized { IsSized request.now }
     ensures back { (n : ℕ) → R.can_take rack.new n }
     ensures cause { IsDone (RequestPlace request.now) (RequestRose request.now (I.count inbox.old) (I.count inbox.new)) (Rose (O.count out.old) (O.count out.new)) result }
     ensures did { IsWell result → Did (I.file inbox.old) R.Disk.content R.Disk.images R.Disk.limit (R.held rack.old) (R.held rack.new) (IsPrinted (O.taken out.old) (O.taken out.new) result) request.now }
@@ -101,6 +104,9 @@ fn answer_to<W: Wait, I: Inbox, R: Rack, O: Sink, G: Gate>(
         Request::Recover => recover(rt, alloc, rack, out, gate),
         Request::Status { hashes } => status(alloc, hashes, rack, out),
         Request::Audit { mint, clients } => audit(alloc, mint, clients, inbox, rack, out),
+        Request::Gen { shape, seed, count } => {
+            generated(rt, alloc, shape, *seed, *count, out, gate)
+        }
         Request::Show(text) => show(out, text.as_str()),
     }
 }
