@@ -8,5 +8,6 @@ pub mod Ledgers
 pub mod Did
 pub mod Making
 pub mod Faults
+pub mod Audits
 pub mod Sizes
 pub mod Workloads

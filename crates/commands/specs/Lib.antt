@@ -1,4 +1,5 @@
 pub mod Causes
 pub mod Texts
+pub mod Audits
 pub mod Outcomes
 pub mod Sizes

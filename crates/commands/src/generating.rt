@@ -7,9 +7,10 @@ ghost use Rattle.input_files.specs.Limits.{IsShort};
 ghost use Rattle.mem_devices.specs.Racks.{AllIn};
 ghost use Rattle.workload.specs.Generator.{workload_of};
 
-use crate::auditing::{joined, verdict_on};
+use crate::auditing::joined;
 use crate::report::write_generated;
 use audit::{Totals, Verdict};
+use audited_ledgers::audit_on;
 use cbdc_types::{Answer, FullTx, List, Mint, Output, Shape};
 use ledger_init::{Made, make_ledger};
 use mem_devices::{MemRack, PlainDisk};
@@ -110,7 +111,7 @@ fn check_files(
     let Ok(handed) = joined(alloc, clients) else {
         return Err(Answer::Memory);
     };
-    match verdict_on(alloc, rack, mint, &handed) {
+    match audit_on(alloc, rack, mint, &handed) {
         Ok(Verdict::Sound(totals)) => Ok(totals),
         Ok(Verdict::Unsound { place, kind }) => Err(Answer::Unsound { place, kind }),
         Err(fault) => Err(fault),
