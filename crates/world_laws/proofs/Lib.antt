@@ -9,3 +9,4 @@ pub mod OneLock
 pub mod LocksFirst
 pub mod Fits
 pub mod Recovering
+pub mod Passing

@@ -9,7 +9,8 @@ use Rattle.cbdc_model.specs.Coins.{Output, FullTx}
 use Rattle.cbdc_model.specs.Headline.{NoneTwice, NoIdTwice}
 use Rattle.cbdc_model.specs.History.{minted, header_of, TxsPass, IsKept, history_of, committed, all_inputs, AreCommitted}
 use Rattle.cbdc_model.specs.Lanes.{IsEnd, Seen}
-use Rattle.cbdc_model.specs.World.{World, AreIdle, KeptJournals, KeptWorld}
+use Rattle.cbdc_model.specs.World.{World, EventsPass, AreIdle, KeptJournals, KeptWorld}
+use Rattle.ledger_laws.specs.Reach.{events_of}
 use Rattle.ledger_laws.specs.Resumed.{Recovers}
 use Rattle.ledger_laws.specs.Sets.{IsPlaced, IsWaiting, IsComing}
 use Rattle.world_laws.specs.LocksDue.{opened, LocksFit, Sticks}
@@ -43,6 +44,11 @@ GrowLaw = (K : Shape) (mint : List Output) (submissions : List FullTx) (J X : �
 abbrev pub CountedLaw : Type 0
 CountedLaw = (K : Shape) (mint : List Output) (submissions : List FullTx) (w : World) (counts : ℕ → Bool) → 0 < K.shards
     → KeptWorld K mint submissions w → KeptJournals K mint submissions (counted counts w)
+
+-- the events that write a kept history begin no Prepare but with compact forms of proper submissions: so what is kept is what runs of such events reach
+abbrev pub PassLaw : Type 0
+PassLaw = (K : Shape) (mint : List Output) (submissions : List FullTx) (later : List Row) → IsKept K mint submissions later
+    → EventsPass (IsProperCompact submissions) (events_of later)
 
 -- a stamp for each record of one batch a lane that comes behind the Locks: a Finish and a Forget of each shard, a Commit, a Discard, a Done
 abbrev pub late_records : Shape → ℕ

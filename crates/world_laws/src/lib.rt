@@ -2,7 +2,7 @@
 //! 2^62 are few, and recovery. Functions with an empty body, whose contracts are the theorems. Nothing of them runs.
 #![tactic(auto)]
 
-ghost use Rattle.world_laws.specs.Laws.{CountedLaw, FewLateLaw, GrowLaw, NoneOpenLaw, NoneRefusedLaw, OnceLaw, RecoveryLaw, StuckLaw, TakenLaw};
+ghost use Rattle.world_laws.specs.Laws.{CountedLaw, FewLateLaw, GrowLaw, NoneOpenLaw, NoneRefusedLaw, OnceLaw, PassLaw, RecoveryLaw, StuckLaw, TakenLaw};
 
 /// Of what is committed in a kept history no two inputs name one outpoint, in one transaction or in two, and no id is committed twice.
 /// This holds at every moment, and not in recovered worlds alone.
@@ -30,6 +30,12 @@ pub fn grow_law()
 /// The journals of a kept world are kept, whichever of the records in flight are counted.
 pub fn counted_law()
     ensures { CountedLaw }
+{}
+
+/// The events that write a kept history in its order, with which it is reached from the first world, begin no Prepare but with
+/// compact forms of proper submissions. So what is kept is exactly what runs of such events reach.
+pub fn pass_law()
+    ensures { PassLaw }
 {}
 
 /// No stamp of kept journals is above 2^62 by more than the later records of one batch a lane.
