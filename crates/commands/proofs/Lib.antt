@@ -8,3 +8,4 @@ pub mod Ledgers
 pub mod Did
 pub mod Making
 pub mod Faults
+pub mod Untouched

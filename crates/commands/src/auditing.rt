@@ -3,6 +3,7 @@ ghost use Rattle.std.specs.Prelude.{◌≡◌, ◌⊎◌, ◌+◌, ◌≤◌, �
 ghost use Rattle.outside.specs.Counts.{Rose};
 ghost use Rattle.commands.specs.Causes.{IsFault, IsDone, OnePlace, OneRose, FileRose};
 ghost use Rattle.commands.specs.Texts.{IsSilent};
+ghost use Rattle.commands.specs.Left.{IsBeforeDisks};
 
 use audit::{Totals, Verdict};
 use cbdc_types::{Answer, FullTx, Hash, Header, List, Mint, NodeId, Output, Record};
@@ -35,6 +36,7 @@ fn lent<'a, D: Disk>(alloc: Global, nodes: &'a Nodes<D>) -> Result<Vec<&'a [Reco
 fn check_mint<R: Rack>(alloc: Global, rack: &mut R, id: &Hash) -> Result<(), Answer>
     requires { (n : ℕ) → R.can_take rack.old n }
     ensures fault { IfErr result (IsFault (λ place. ⊥) (λ place. ⊥)) }
+    ensures behind { IfErr result (λ e. IsBeforeDisks e → ⊥) }
     ensures back { (n : ℕ) → R.can_take rack.new n }
 {
     let lead: CoordLog<R::Disk> = match open_one(alloc, rack, NodeId(0), None) {
@@ -107,6 +109,7 @@ fn verdict_on<R: Rack>(
 ) -> Result<Verdict, Answer>
     requires { (n : ℕ) → R.can_take rack.old n }
     ensures fault { IfErr result (IsFault (λ place. ⊥) (λ place. ⊥)) }
+    ensures behind { IfErr result (λ e. IsBeforeDisks e → ⊥) }
     ensures back { (n : ℕ) → R.can_take rack.new n }
 {
     let nodes = match open_nodes(alloc, rack) {
@@ -125,6 +128,7 @@ fn verdict_on<R: Rack>(
 fn print<O: Sink>(out: &mut O, totals: &Totals) -> Answer
     ensures cause { IsDone (λ file. ⊥) (λ file. ⊥) (Rose (O.count out.old) (O.count out.new)) result }
     ensures silent { IsSilent (O.taken out.old) (O.taken out.new) result }
+    ensures behind { IsBeforeDisks result → ⊥ }
     ensures later { O.count out.old ≤ O.count out.new }
 {
     let summary = AuditSummary {
@@ -153,6 +157,7 @@ pub(crate) fn audit<I: Inbox, R: Rack, O: Sink>(
         (Rose (O.count out.old) (O.count out.new)) result }
     ensures silent { IsSilent (O.taken out.old) (O.taken out.new) result }
     ensures written_later { O.count out.old ≤ O.count out.new }
+    ensures untouched { IsBeforeDisks result → rack.new ≡ rack.old }
     ensures back { (n : ℕ) → R.can_take rack.new n }
 {
     let mint = match mint_in(alloc, inbox, mint) {
