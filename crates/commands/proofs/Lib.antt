@@ -9,3 +9,6 @@ pub mod Did
 pub mod Making
 pub mod Faults
 pub mod Untouched
+pub mod Audits
+pub mod Sizes
+pub mod Workloads

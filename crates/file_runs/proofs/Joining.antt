@@ -52,7 +52,7 @@ keeps_all K done more I J keeps mint submissions kept =
     subst (λ l. StaysKept K I J mint l) (append_assoc submissions (joined done) (joined more) ∙ ap (λ l. submissions ++ l) (sym (joined_append done more)))
     (let b : StaysKept K I J mint ((submissions ++ joined done) ++ joined more) = record { grows = a.grows; kept = kept_more K mint (submissions ++ joined done) (joined more) J a.kept } in b)
 
-so_far : (files : List (List FullTx)) (i : ℕ) (file : List FullTx) → i < length files → file ≡ get_or files i file → take i files ++ file ∷ [] ≡ take (i + 1) files
+pub so_far : (files : List (List FullTx)) (i : ℕ) (file : List FullTx) → i < length files → file ≡ get_or files i file → take i files ++ file ∷ [] ≡ take (i + 1) files
 so_far files i file low is = ap (λ f. take i files ++ f ∷ []) is ∙ sym (take_more files i file low)
 
 -- the fault of a file's run, or one behind it

@@ -1,5 +1,5 @@
 // Client files, one after another.
-ghost use Rattle.std.specs.Prelude.{◌≡◌, ◌≤◌, ◌++◌, ℕ, Bool, List, All, OnOk};
+ghost use Rattle.std.specs.Prelude.{◌≡◌, ◌≤◌, ◌++◌, ℕ, Bool, List, All, IfOk, OnOk};
 ghost use Rattle.cbdc_model.specs.Records.{Record};
 ghost use Rattle.cbdc_model.specs.Coins.{FullTx as TxOf};
 ghost use Rattle.cbdc_model.specs.World.{AreIdle};
@@ -8,6 +8,7 @@ ghost use Rattle.input_files.specs.Limits.{IsShort};
 ghost use Rattle.submissions.specs.Checks.{TellsSound};
 ghost use Rattle.ledger_runs.specs.Turning.{OfKept, StaysKept};
 ghost use Rattle.file_runs.specs.Runs.{joined};
+ghost use Rattle.file_runs.specs.Telling.{TellFiles};
 
 use crate::waves::{Wave, run_file};
 use cbdc_types::{FullTx, List};
@@ -37,6 +38,9 @@ pub fn run_files<L: Turns, V: Verifier, G: Gate>(
     // Without a fault, where the journals are those at entry with their open batches brought to their end, the files' waves follow.
     ensures waves { OnOk result (OfKept (L.shape ledger.old) (L.journals ledger.old) (λ _ _. (sound : TxOf → Bool) (E : ℕ → List Record)
         → TellsSound (V.verdict_of verifier.now) sound → IsResumed (L.shape ledger.old) E (L.journals ledger.old) → Waves (L.shape ledger.old) sound files.now E (L.journals ledger.new))) }
+
+    // And what each wave tells of its submissions.
+    ensures told { IfOk result (λ ws. OfKept (L.shape ledger.old) (L.journals ledger.old) (λ _ _. TellFiles (L.shape ledger.old) (V.verdict_of verifier.now) files.now (L.journals ledger.old) (L.journals ledger.new) ws.items)) }
 
     ensures quiet { OnOk result (OfKept (L.shape ledger.old) (L.journals ledger.old) (λ _ _. L.quiet ledger.old → L.quiet ledger.new)) }
     ensures holds { L.holds ledger.old → L.holds ledger.new }

@@ -7,6 +7,7 @@ ghost use Rattle.input_files.specs.Limits.{IsShort};
 ghost use Rattle.submissions.specs.Checks.{TellsSound, AreChecked};
 ghost use Rattle.ledger_runs.specs.Turning.{OfKept, StaysKept};
 ghost use Rattle.file_runs.specs.Runs.{AreLanesOf};
+ghost use Rattle.file_runs.specs.Telling.{TellsFile};
 
 use cbdc_types::{CompactTx, FullTx};
 use lane_driver::{LaneFault, no_memory};
@@ -57,6 +58,9 @@ pub fn run_file<L: Turns, V: Verifier, G: Gate>(
         → IsFileRun (L.shape ledger.old) (sent_to (L.shape ledger.old) sound txs.now) (L.journals ledger.old) (L.journals ledger.new))) }
     ensures quiet { OnOk result (OfKept (L.shape ledger.old) (L.journals ledger.old) (λ _ _. L.quiet ledger.old → L.quiet ledger.new)) }
     ensures checked { IfOk result (λ w. AreChecked (L.shape ledger.old) (V.verdict_of verifier.now) txs.now w.checked.items) }
+
+    // And what was decided of each that was sent to its lane.
+    ensures told { IfOk result (λ w. OfKept (L.shape ledger.old) (L.journals ledger.old) (λ _ _. TellsFile (L.shape ledger.old) (V.verdict_of verifier.now) txs.now (L.journals ledger.old) (L.journals ledger.new) w)) }
 
     ensures holds { L.holds ledger.old → L.holds ledger.new }
     ensures later { (n : ℕ) → L.faults ledger.old n ≤ L.faults ledger.new n }

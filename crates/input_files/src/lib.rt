@@ -5,7 +5,7 @@ ghost use Rattle.std.specs.Prelude.{◌≡◌, ◌-◌, ◌≤◌, length, All, 
 ghost use Rattle.outside.specs.Images.{Tells};
 ghost use Rattle.clap.specs.Words.{Text};
 ghost use Rattle.input_files.specs.Limits.{IsShort};
-ghost use Rattle.input_files.specs.Contents.{front, goes_on, txs_of_file, mint_of_file, IsNotRead, AreRead, FirstNotRead, AreVerdicts, IsNoVerdicts, IsUnfetched, IsFaultOf, IsVerdictFaultOf};
+ghost use Rattle.input_files.specs.Contents.{front, goes_on, txs_of_file, mint_of_file, IsNotRead, AreRead, FirstNotRead, AreVerdicts, IsNoVerdicts, IsUnfetched, IsFaultOf, IsVerdictFaultOf, all_txs};
 
 use cbdc_types::{Answer, FullTx, InputKind, List, Mint};
 use client_files::{FetchFault, FileFault, fetch, read_clients, read_mint};
@@ -133,6 +133,7 @@ pub fn all_clients_in<I: Inbox>(
     files: &[FileWord],
 ) -> Result<Vec<List<FullTx>>, Answer>
     ensures read { IfOk result (λ v. AreRead (I.file inbox.old) 0 files.now v.items) }
+    ensures few { IfOk result (λ v. all_txs v.items ≤ 1000000) }
     ensures short { IfOk result (λ v. All (λ txs. All IsShort txs) v.items) }
     ensures fault { IfErr result (FirstNotRead (I.file inbox.old) (I.count inbox.old) (I.count inbox.new) files.now) }
     ensures same { (other : Text) → I.file inbox.new other ≡ I.file inbox.old other }

@@ -6,7 +6,10 @@ use Rattle.cbdc_model.specs.Slots.{slot, Idle}
 use Rattle.cbdc_model.specs.Ranges.{home_of}
 use Rattle.cbdc_model.specs.Sights.{Sight}
 use Rattle.coord_log.specs.Logs.{LogOf, sight}
-use Rattle.coord_log.specs.OpenLanes.{open_lane}
+use Rattle.std.specs.Prelude.{option_map}
+use Rattle.cbdc_types.specs.declared.batch.Phase.{Phase as OpenPhase}
+use Rattle.cbdc_model.specs.Due.{open_batch}
+use Rattle.coord_log.specs.OpenLanes.{open_lane, open_phase, batch_in}
 use Rattle.coord_core.specs.Lanes.{IsOwn}
 use Rattle.shard_node.specs.Shards.{ShardOf, sight_of}
 use Rattle.node_ports.specs.Nodes.{sight_at}
@@ -47,6 +50,14 @@ read_at [] n x lt e = absurd (let z : n < 0 = lt in omega (arith, z))
 read_at (l ∷ logs) zero x lt e = ap sight (sym e)
 read_at (l ∷ logs) (suc n) x lt e = read_at logs n x (omega (arith, lt)) e
 
+-- the one report of a batch has an outcome for each transaction
+pub came_full : (lane : ℕ) (txs : List Compact) (reports : List BatchReport) (report : BatchReport) → reports ≡ report ∷ [] → AreReports lane reports (txs ∷ []) → length report.outcomes ≡ length txs
+came_full lane txs reports report is named = (subst (λ xs. AreReports lane xs (txs ∷ [])) is named).0.1
+
+batch_of : (J : List Record) (lane : ℕ) (phase : Option OpenPhase) (o : OpenLane) → option_map (batch_in J lane) phase ≡ Some o → o.batch ≡ open_batch J lane
+batch_of J lane None o told = absurd (let z : None ≡ Some o = told in cc)
+batch_of J lane (Some p) o told = let same : o ≡ batch_in J lane p = cc in ap (λ l. l.batch) same
+
 module _ {D : Type 0} (count limit : D → ℕ) (content : D → Option (List ℕ)) (images : D → List ℕ → Type 0) (h : Header) (lane : ℕ) (logs : List (LogOf D)) (shards : List (ShardOf D))
     (ledger : IsLedger h logs shards) (lt : IsLaneOf h.shape lane) where
   abbrev K : Shape
@@ -81,6 +92,10 @@ module _ {D : Type 0} (count limit : D → ℕ) (content : D → Option (List �
       ∙ is_idle (L (home_of K lane)).header (L (home_of K lane)).seen (log_is logs ledger.log_journals (home_of K lane) (subst (λ m. home_of K lane < m) (sym ledger.coordinators) home)) lane
       (is_lane count limit h logs shards lane (home_of K lane) ledger lt refl)
       (subst (λ k. k.node < k.shape.coordinators) (sym (ledger.log_headers (home_of K lane) home)) home) told
+
+  -- a batch that was resumed is the one that is open there
+  pub is_opened : (o : OpenLane) → open_lane (L (home_of K lane)).seen lane ≡ Some o → (r : ResumedBatch) → IsResumed o r → r.batch ≡ open_batch (I (home_of K lane)) lane
+  is_opened o told r resumed = resumed.batch ∙ batch_of (L (home_of K lane)).seen lane (open_phase (slot (L (home_of K lane)).seen lane).phase) o told ∙ ap (λ J. open_batch J lane) (sym at_log)
 
   module _ (at : ℕ) (x : LogOf D) (at_is : at ≡ home_of K lane) (is : x ≡ get_or logs at x) where
     here : L (home_of K lane) ≡ sight x

@@ -1,3 +1,6 @@
 pub mod Keeping
 pub mod Finding
 pub mod WaveKeeping
+pub mod Sizes
+pub mod Stays
+pub mod WaveTelling

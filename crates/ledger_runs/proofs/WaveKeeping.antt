@@ -92,7 +92,7 @@ turns_begin K start I lanes ready limits = record {
 }
 
 -- what holds of the lane at a place and of the others
-each_by : (P : ℕ → Lane → Type 0) (at : ℕ) (old new : List Lane) → ((lane : ℕ) → lane ≢ at → slice_get new lane ≡ slice_get old lane)
+pub each_by : (P : ℕ → Lane → Type 0) (at : ℕ) (old new : List Lane) → ((lane : ℕ) → lane ≢ at → slice_get new lane ≡ slice_get old lane)
     → ((lane : ℕ) (x : Lane) → lane ≢ at → slice_get old lane ≡ Some x → P lane x) → ((x : Lane) → slice_get new at ≡ Some x → P at x) → EachLane P new
 each_by P at old new same rest here lane x there = go (eqb_tells lane at)
   where
@@ -100,7 +100,7 @@ each_by P at old new same rest here lane x there = go (eqb_tells lane at)
     go (inl (b, e)) = subst (λ m. P m x) (sym e) (here x (subst (λ m. slice_get new m ≡ Some x) e there))
     go (inr (b, other)) = rest lane x other (sym (same lane other) ∙ there)
 
-at_place : (lanes : List Lane) (at : ℕ) → at < length lanes → (x : Lane) × (slice_get lanes at ≡ Some x)
+pub at_place : (lanes : List Lane) (at : ℕ) → at < length lanes → (x : Lane) × (slice_get lanes at ≡ Some x)
 at_place lanes at inside = go (slice_get_cases lanes at).1
   where
     go : ((x : Lane) × (at < length lanes) × (slice_get lanes at ≡ Some x) × (get_or lanes at x ≡ x)) ⊎ ((length lanes ≤ at) × (slice_get lanes at ≡ None)) → (x : Lane) × (slice_get lanes at ≡ Some x)
@@ -140,7 +140,7 @@ took_wave K sent start lane E I J some (inr (inside, (b, does))) so =
     some_of K txs start h some = subst (λ n. 0 < n) (sym (length-take K.batch (drop start txs) ∙ ap (λ n. min K.batch n) (length-drop start txs))) (omega (arith, h, some))
 
 -- no lane stopped in the turn, so none had before
-none_before : (turn : ℕ) (now next : List Lane) → turn < length now → TurnsAt turn now next → NoFault next → NoFault now
+pub none_before : (turn : ℕ) (now next : List Lane) → turn < length now → TurnsAt turn now next → NoFault next → NoFault now
 none_before turn now next inside turned none l x there = go (eqb_tells l turn)
   where
     after : (y : Lane) × (slice_get next turn ≡ Some y)

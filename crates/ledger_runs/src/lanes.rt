@@ -1,5 +1,6 @@
 // The lanes of a wave.
-ghost use Rattle.std.specs.Prelude.{◌≡◌, None, IfOk, IsOk};
+ghost use Rattle.std.specs.Prelude.{◌≡◌, ◌++◌, [], None, IfOk, IsOk, OnOk};
+ghost use Rattle.ledger_runs.specs.Telling.{decided_in, kept_by, TakesIn};
 ghost use Rattle.ledger_runs.specs.Waving.{FirstFaultIs};
 
 use cbdc_types::{BatchId, CompactTx, Outcome};
@@ -28,6 +29,7 @@ impl Lane {
     pub fn new(alloc: Global, txs: Vec<CompactTx>) -> Result<Lane, AllocError>
         ensures txs { IfOk result (λ l. l.txs ≡ txs) }
         ensures fault { IfOk result (λ l. l.fault ≡ None) }
+        ensures fresh { IfOk result (λ l. (l.decided.items ≡ []) × (l.batches ≡ 0)) }
     {
         let decided = Vec::with_capacity(alloc, txs.len())?;
         Ok(Lane {
@@ -42,6 +44,7 @@ impl Lane {
     pub(crate) fn take_in(&mut self, came: Result<BatchReport, LaneFault>)
         ensures txs { self.new.txs ≡ self.old.txs }
         ensures fault { self.new.fault ≡ None → (self.old.fault ≡ None) × IsOk came }
+        ensures told { self.new.fault ≡ None → IfOk came (TakesIn self.old self.new) }
     {
         match came {
             Ok(report) => {
@@ -57,6 +60,7 @@ impl Lane {
     fn keep(&mut self, report: &BatchReport) -> Result<(), AllocError>
         ensures txs { self.new.txs ≡ self.old.txs }
         ensures fault { self.new.fault ≡ self.old.fault }
+        ensures told { OnOk result (TakesIn self.old self.new report.now) }
     {
         self.batches = self.batches.saturating_add(1);
         keep_outcomes(&mut self.decided, &report.batch, report.outcomes.as_slice())
@@ -68,8 +72,10 @@ fn keep_outcomes(
     decided: &mut Vec<Decided>,
     batch: &BatchId,
     outcomes: &[Outcome],
-) -> Result<(), AllocError> {
-    for outcome in outcomes {
+) -> Result<(), AllocError>
+    ensures { OnOk result (kept_by decided.new.items ≡ kept_by decided.old.items ++ decided_in batch.now outcomes.now) }
+{
+    'outcomes: for outcome in outcomes {
         decided.push(Decided {
             batch: *batch,
             outcome: *outcome,

@@ -1,9 +1,10 @@
 // Batches that an earlier run left open.
-ghost use Rattle.std.specs.Prelude.{◌≡◌, ◌≤◌, ℕ, ◌++◌, OnOk};
+ghost use Rattle.std.specs.Prelude.{◌≡◌, ◌≤◌, ◌*◌, ℕ, ◌++◌, IfOk, OnOk};
 ghost use Rattle.cbdc_model.specs.World.{AreIdle};
 ghost use Rattle.cbdc_model.specs.Waves.{IsResumed};
 ghost use Rattle.cbdc_model.specs.Slots.{Idle};
 ghost use Rattle.ledger_runs.specs.Turning.{phase_at, IsLaneOf, KeepsLanes, OfKept, StaysKept, listed, TookUpOne};
+ghost use Rattle.ledger_runs.specs.Telling.{TakesUp, TellResumed, SamePrepared};
 
 use crate::Turns;
 use cbdc_types::LaneId;
@@ -40,6 +41,8 @@ fn resume_next<L: Turns, G: Gate>(
     ensures keeps { OfKept (L.shape ledger.old) (L.journals ledger.old) (StaysKept (L.shape ledger.old) (L.journals ledger.old) (L.journals ledger.new)) }
     ensures took { OnOk result (OfKept (L.shape ledger.old) (L.journals ledger.old)
         (λ _ _. TookUpOne (L.shape ledger.old) lane (L.journals ledger.old) (L.journals ledger.new) batches.old.items batches.new.items)) }
+    ensures told { OnOk result (OfKept (L.shape ledger.old) (L.journals ledger.old)
+        (λ _ _. TakesUp (L.shape ledger.old) lane (L.journals ledger.old) (L.journals ledger.new) batches.old.items batches.new.items)) }
     ensures quiet { OnOk result (OfKept (L.shape ledger.old) (L.journals ledger.old) (λ _ _. L.quiet ledger.old → L.quiet ledger.new)) }
     ensures holds { L.holds ledger.old → L.holds ledger.new }
     ensures later { (n : ℕ) → L.faults ledger.old n ≤ L.faults ledger.new n }
@@ -60,6 +63,11 @@ pub fn resume_all<L: Turns, G: Gate>(
     ensures idle { OnOk result (AreIdle (L.shape ledger.old) (L.journals ledger.new)) }
     ensures keeps { OfKept (L.shape ledger.old) (L.journals ledger.old) (StaysKept (L.shape ledger.old) (L.journals ledger.old) (L.journals ledger.new)) }
     ensures resumed { OnOk result (OfKept (L.shape ledger.old) (L.journals ledger.old) (λ _ _. IsResumed (L.shape ledger.old) (L.journals ledger.old) (L.journals ledger.new))) }
+
+    // The batches that were open, in order, each with the phase in which it stood and what is decided of it; and none was prepared.
+    ensures told { IfOk result (λ rs. OfKept (L.shape ledger.old) (L.journals ledger.old)
+        (λ _ _. TellResumed (L.shape ledger.old) (L.journals ledger.old) (L.journals ledger.new) ((L.shape ledger.old).coordinators * (L.shape ledger.old).lanes) rs.items)) }
+    ensures prepares { OnOk result (OfKept (L.shape ledger.old) (L.journals ledger.old) (λ _ _. SamePrepared (L.shape ledger.old) (L.journals ledger.old) (L.journals ledger.new))) }
     ensures quiet { OnOk result (OfKept (L.shape ledger.old) (L.journals ledger.old) (λ _ _. L.quiet ledger.old → L.quiet ledger.new)) }
     ensures holds { L.holds ledger.old → L.holds ledger.new }
     ensures later { (n : ℕ) → L.faults ledger.old n ≤ L.faults ledger.new n }

@@ -1,9 +1,10 @@
 // What a run asks of the nodes of a ledger.
-ghost use Rattle.std.specs.Prelude.{◌≡◌, ◌≤◌, ℕ, List, All, IfOk, OnOk};
+ghost use Rattle.std.specs.Prelude.{◌≡◌, ◌≤◌, ℕ, List, length, All, IfOk, OnOk};
 ghost use Rattle.cbdc_model.specs.Records.{Shape as ShapeOf, Record};
 ghost use Rattle.cbdc_model.specs.Slots.{Idle};
 ghost use Rattle.cbdc_model.specs.Grammar.{HasSize, IsCompact};
 ghost use Rattle.ledger_runs.specs.Turning.{phase_at, IsLaneOf, KeepsLanes, OfKept, StaysKept, StaysKeptBy, DidBatch, TookUp};
+ghost use Rattle.ledger_runs.specs.Telling.{IsOpened};
 
 use cbdc_types::{CompactTx, LaneId, Shape};
 use lane_driver::{BatchReport, LaneFault};
@@ -49,6 +50,7 @@ pub trait Turns {
         ensures others { KeepsLanes (shape self.old) lane (journals self.old) (journals self.new) }
         ensures keeps { OfKept (shape self.old) (journals self.old) (StaysKeptBy (shape self.old) txs.now (journals self.old) (journals self.new)) }
         ensures does { IfOk result (λ r. OfKept (shape self.old) (journals self.old) (λ _ _. DidBatch (shape self.old) lane txs.now (journals self.old) (journals self.new) r)) }
+        ensures full { IfOk result (λ r. length r.outcomes ≡ length txs.now) }
         ensures quiet { OnOk result (OfKept (shape self.old) (journals self.old) (λ _ _. quiet self.old → quiet self.new)) }
         ensures holds { holds self.old → holds self.new }
         ensures later { (n : ℕ) → faults self.old n ≤ faults self.new n };
@@ -66,6 +68,7 @@ pub trait Turns {
         ensures others { KeepsLanes (shape self.old) lane (journals self.old) (journals self.new) }
         ensures keeps { OfKept (shape self.old) (journals self.old) (StaysKept (shape self.old) (journals self.old) (journals self.new)) }
         ensures took { IfOk result (λ found. OfKept (shape self.old) (journals self.old) (λ _ _. TookUp (shape self.old) lane (journals self.old) (journals self.new) found)) }
+        ensures opened { IfOk result (IsOpened (shape self.old) lane (journals self.old)) }
         ensures quiet { OnOk result (OfKept (shape self.old) (journals self.old) (λ _ _. quiet self.old → quiet self.new)) }
         ensures holds { holds self.old → holds self.new }
         ensures later { (n : ℕ) → faults self.old n ≤ faults self.new n };

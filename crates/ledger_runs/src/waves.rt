@@ -1,12 +1,13 @@
 // Waves: the lanes take turns, one batch a turn, in rising order.
 ghost use Rattle.std.specs.Prelude.{◌≡◌, ◌≤◌, ◌<◌, ◌+◌, ◌*◌, ℕ, List, length, take, drop, All, None, Some, slice_get};
-ghost use Rattle.cbdc_model.specs.Records.{Compact};
+ghost use Rattle.cbdc_model.specs.Records.{Compact, Record};
 ghost use Rattle.cbdc_model.specs.Slots.{Idle};
 ghost use Rattle.cbdc_model.specs.Grammar.{IsCompact};
 ghost use Rattle.cbdc_model.specs.World.{AreIdle};
 ghost use Rattle.cbdc_model.specs.Waves.{IsFileRun};
 ghost use Rattle.ledger_runs.specs.Turning.{phase_at, IsLaneOf, KeepsLanes, OfKept, StaysKeptBy};
 ghost use Rattle.ledger_runs.specs.Waving.{HaveSent, AreWithin, NoFault, AreReady, AllProper, TookTurn, KeepsSent, OfSent, GoesOn, AreShorter, TurnsAt};
+ghost use Rattle.ledger_runs.specs.Telling.{TellsTurn, TellSince, AllTell, AreFresh};
 ghost use Rattle.ledger_runs.specs.declared.lanes.Lane.{Lane as LaneOf};
 
 use crate::{Lane, Turns};
@@ -43,6 +44,8 @@ fn turn<L: Turns, G: Gate>(
     ensures keeps { OfKept (L.shape ledger.old) (L.journals ledger.old) (StaysKeptBy (L.shape ledger.old) lane.old.txs.items (L.journals ledger.old) (L.journals ledger.new)) }
     ensures took { lane.new.fault ≡ None → OfKept (L.shape ledger.old) (L.journals ledger.old)
         (λ _ _. TookTurn (L.shape ledger.old) number start lane.old.txs.items (L.journals ledger.old) (L.journals ledger.new)) }
+    ensures told { lane.new.fault ≡ None → OfKept (L.shape ledger.old) (L.journals ledger.old)
+        (λ _ _. TellsTurn (L.shape ledger.old) number lane.old lane.new (L.journals ledger.old) (L.journals ledger.new)) }
     ensures quiet { lane.new.fault ≡ None → OfKept (L.shape ledger.old) (L.journals ledger.old) (λ _ _. L.quiet ledger.old → L.quiet ledger.new) }
     ensures holds { L.holds ledger.old → L.holds ledger.new }
     ensures later { (n : ℕ) → L.faults ledger.old n ≤ L.faults ledger.new n }
@@ -76,6 +79,8 @@ fn turn_at<L: Turns, G: Gate>(
         → OfKept (L.shape ledger.old) (L.journals ledger.old) (StaysKeptBy (L.shape ledger.old) x.txs.items (L.journals ledger.old) (L.journals ledger.new)) }
     ensures took { (x y : LaneOf) → slice_get lanes.old.items number ≡ Some x → slice_get lanes.new.items number ≡ Some y → y.fault ≡ None
         → OfKept (L.shape ledger.old) (L.journals ledger.old) (λ _ _. TookTurn (L.shape ledger.old) number start x.txs.items (L.journals ledger.old) (L.journals ledger.new)) }
+    ensures told { (x y : LaneOf) → slice_get lanes.old.items number ≡ Some x → slice_get lanes.new.items number ≡ Some y → y.fault ≡ None
+        → OfKept (L.shape ledger.old) (L.journals ledger.old) (λ _ _. TellsTurn (L.shape ledger.old) number x y (L.journals ledger.old) (L.journals ledger.new)) }
     ensures quiet { (y : LaneOf) → slice_get lanes.new.items number ≡ Some y → y.fault ≡ None
         → OfKept (L.shape ledger.old) (L.journals ledger.old) (λ _ _. L.quiet ledger.old → L.quiet ledger.new) }
     ensures holds { L.holds ledger.old → L.holds ledger.new }
@@ -113,6 +118,8 @@ fn turns<L: Turns, G: Gate>(
     ensures goes_on { (sent : ℕ → List Compact) → HaveSent sent lanes.old.items → NoFault lanes.new.items
         → OfKept (L.shape ledger.old) (L.journals ledger.old) (λ _ submissions. AllProper (L.shape ledger.old) sent submissions
         → GoesOn (L.shape ledger.old) sent (λ _. start) (λ _. start + (L.shape ledger.old).batch) (L.journals ledger.old) (L.journals ledger.new)) }
+    ensures told { (E : ℕ → List Record) → OfSent (L.shape ledger.old) (L.journals ledger.old) lanes.old.items lanes.new.items
+        (TellSince (L.shape ledger.old) E (L.journals ledger.old) lanes.old.items → TellSince (L.shape ledger.old) E (L.journals ledger.new) lanes.new.items) }
     ensures quiet { OfSent (L.shape ledger.old) (L.journals ledger.old) lanes.old.items lanes.new.items (L.quiet ledger.old → L.quiet ledger.new) }
     ensures holds { L.holds ledger.old → L.holds ledger.new }
     ensures later { (n : ℕ) → L.faults ledger.old n ≤ L.faults ledger.new n }
@@ -149,6 +156,10 @@ pub fn run_wave<L: Turns, G: Gate>(alloc: Global, ledger: &mut L, lanes: &mut Ve
     ensures runs { (sent : ℕ → List Compact) → HaveSent sent lanes.old.items → NoFault lanes.new.items
         → OfKept (L.shape ledger.old) (L.journals ledger.old) (λ _ submissions. AllProper (L.shape ledger.old) sent submissions
         → IsFileRun (L.shape ledger.old) sent (L.journals ledger.old) (L.journals ledger.new)) }
+
+    // Each lane tells what was decided of its transactions, where none had a turn before.
+    ensures told { OfSent (L.shape ledger.old) (L.journals ledger.old) lanes.old.items lanes.new.items
+        (AreFresh lanes.old.items → AllTell (L.shape ledger.old) (L.journals ledger.old) (L.journals ledger.new) lanes.new.items) }
     ensures quiet { OfSent (L.shape ledger.old) (L.journals ledger.old) lanes.old.items lanes.new.items (L.quiet ledger.old → L.quiet ledger.new) }
     ensures holds { L.holds ledger.old → L.holds ledger.new }
     ensures later { (n : ℕ) → L.faults ledger.old n ≤ L.faults ledger.new n }

@@ -27,6 +27,11 @@ use Rattle.sound_laws.specs.SoundTest.{sound_by}
 use Rattle.sound_laws.proofs.Telling.{is_sound_law}
 use Rattle.file_runs.specs.Runs.{joined}
 use Rattle.rack_runs.specs.Runs.{IsGrown, IsRun, IsRecovered, IsCutShort}
+use Rattle.printed_lines.specs.Unspent.{IsUnspentCount}
+use Rattle.rack_runs.specs.declared.over.Ran.{Ran}
+use Rattle.rack_runs.specs.Telling.{CountAll, TellsRun, IsTold}
+use Rattle.rack_runs.proofs.Unspent.{unspent_counted}
+use Rattle.std.specs.Prelude.{map}
 
 -- kept journals have nothing beyond the ledger's nodes
 beyond : (K : Shape) (mint : List Output) (submissions : List FullTx) (E : ℕ → List Record) → KeptJournals K mint submissions E → (n : ℕ) → node_count K ≤ n → E n ≡ []
@@ -41,6 +46,12 @@ module _ {D : Type 0} (content : D → Option (List ℕ)) (images : D → List �
   -- what a run says of its journals, by the shape
   abbrev pub KeepsIt : Shape → Type 0
   KeepsIt S = OfKept S (journals_of count limit S logs shards) (λ mint submissions. StaysKept S (journals_of count limit S logs shards) (journals_of count limit S now after) mint (submissions ++ joined files))
+
+  abbrev pub TellsIt : VerdictsOf → Ran → Shape → Type 0
+  TellsIt verdicts ran S = OfKept S (journals_of count limit S logs shards) (λ _ _. TellsRun S verdicts files (journals_of count limit S logs shards) (journals_of count limit S now after) ran.resumed.items ran.waves.items)
+
+  abbrev pub QuietIt : Shape → Type 0
+  QuietIt S = OfKept S (journals_of count limit S logs shards) (λ _ _. AreQuiet logs shards → AreQuiet now after)
 
   pub record Ends (verdicts : VerdictsOf) (S : Shape) : Type 0 where
     pub idle : AreIdle S (journals_of count limit S now after)
@@ -91,6 +102,17 @@ module _ {D : Type 0} (content : D → Option (List ℕ)) (images : D → List �
           headline = λ clean. idle_law K mint (submissions ++ joined files) (journals_of count limit K now after) within.some_shard within.some_lane clean grown.kept e.idle;
         }
 
+    is_told : (ran : Ran) (verdicts : VerdictsOf) → TellsIt verdicts ran h.shape → CountAll (map (λ s. s.journal) after) ran.unspent → QuietIt h.shape → IsTold images back verdicts files ran K mint submissions E
+    is_told ran verdicts told counted quiet = record {
+      exit = journals_of count limit K now after;
+      disks = disks_hold (subst QuietIt shape_is quiet mint submissions kept_there (are_quiet content images limit count held h logs shards are));
+      tells = subst (λ L. TellsRun K verdicts files L (journals_of count limit K now after) ran.resumed.items ran.waves.items) journals_are (subst (TellsIt verdicts ran) shape_is told mint submissions kept_there);
+      unspent = subst (λ k. IsUnspentCount k (journals_of count limit k now after) ran.unspent) (shape ∙ shape_is) (unspent_counted count limit g now after is ran.unspent counted);
+    }
+
+  pub tells : (verdicts : VerdictsOf) (ran : Ran) → TellsIt verdicts ran h.shape → CountAll (map (λ s. s.journal) after) ran.unspent → QuietIt h.shape → OfShown content held (IsTold images back verdicts files ran)
+  tells verdicts ran told counted quiet K mint submissions E within shows kept = is_told K mint submissions E within shows kept ran verdicts told counted quiet
+
   pub runs : (verdicts : VerdictsOf) → KeepsIt h.shape → AreIdle h.shape (journals_of count limit h.shape now after)
       → OfKept h.shape (journals_of count limit h.shape logs shards) (λ _ _. files ≡ [] → IsResumed h.shape (journals_of count limit h.shape logs shards) (journals_of count limit h.shape now after))
       → OfKept h.shape (journals_of count limit h.shape logs shards) (λ _ _. (sound : FullTx → Bool) → TellsSound verdicts sound → Waves h.shape sound files (journals_of count limit h.shape logs shards) (journals_of count limit h.shape now after))
@@ -119,3 +141,8 @@ recovers content images held back verdicts shown K mint submissions E within sho
       resumed = run.resumed refl;
       headline = λ clean. subst (λ s. Headline K mint s run.exit) none (run.headline (subst (Clean mint) (sym none) clean));
     }
+
+-- which verdicts they are does not matter where there are no files
+pub told_of_none : {D : Type 0} (content : D → Option (List ℕ)) (images : D → List ℕ → Type 0) (held back : ℕ → Option D) (verdicts : VerdictsOf) (ran : Ran)
+    → OfShown content held (IsTold images back verdicts [] ran) → (known : VerdictsOf) × OfShown content held (IsTold images back known [] ran)
+told_of_none content images held back verdicts ran shown = (verdicts, shown)

@@ -1,6 +1,6 @@
 -- A ledger's nodes, lent and taken back.
 use Rattle.std.proofs.Common.{◌≡◌, ℕ, List, Result, Ok, Err, subst}
-use Rattle.std.specs.Prelude.{OnOk, IsOk, IfErr}
+use Rattle.std.specs.Prelude.{OnOk, IfOk, IsOk, IfErr}
 use Rattle.cbdc_model.specs.Records.{Shape, Record}
 use Rattle.ledger_nodes.specs.Ledgers.{LedgerOf, journals_of, faults_of}
 
@@ -21,6 +21,20 @@ on_ok_all (Err e) f x y z v = tt
 pub if_err_by : {B F : Type 0} (P Q : F → Type 0) (o : Result B F) → ((e : F) → P e → Q e) → IfErr o P → IfErr o Q
 if_err_by P Q (Ok b) f so = tt
 if_err_by P Q (Err e) f so = f e so
+
+-- what is said of what a whole run did is so of what is made of it
+pub if_made : {A B E F : Type 0} (P : B → Type 0) (Q : A → Type 0) (S : A → B → Type 0) (r : Result A E) (o : Result B F) → OnOk r (IsOk o) → IfOk r (λ a. IfOk o (S a)) → IfOk o P → ((a : A) (b : B) → S a b → P b → Q a) → IfOk r Q
+if_made P Q S (Ok a) (Ok b) whole same so f = f a b same so
+if_made P Q S (Ok a) (Err e) whole same so f = absurd (cc)
+if_made P Q S (Err e) o whole same so f = tt
+
+pub if_ok_all : {A E X : Type 0} (P Q T : A → Type 0) (r : Result A E) → IfOk r P → IfOk r Q → OnOk r X → ((a : A) → P a → Q a → X → T a) → IfOk r T
+if_ok_all P Q T (Ok a) p q x f = f a p q x
+if_ok_all P Q T (Err e) p q x f = tt
+
+pub if_ok_by : {A E : Type 0} (P Q : A → Type 0) (r : Result A E) → IfOk r P → ((a : A) → P a → Q a) → IfOk r Q
+if_ok_by P Q (Ok a) so f = f a so
+if_ok_by P Q (Err e) so f = tt
 
 module _ {D : Type 0} (count limit : D → ℕ) where
   -- journals of a ledger by its own shape are those by the shape that it has

@@ -1,3 +1,4 @@
 pub mod Resumed
 pub mod Lent
 pub mod Ledgers
+pub mod Unspent

@@ -1,5 +1,5 @@
 -- A run over the nodes of a ledger: what was open, and the files behind it.
-use Rattle.std.proofs.Common.{◌≡◌, ℕ, List, [], ◌∷◌, ◌++◌, length, Bool, refl, sym, subst, arith}
+use Rattle.std.proofs.Common.{◌≡◌, ℕ, ◌*◌, List, [], ◌∷◌, ◌++◌, length, Bool, refl, sym, subst, arith}
 use Rattle.ledger_laws.proofs.Cuts.{end_trans}
 use Rattle.cbdc_model.specs.Records.{Shape, Record}
 use Rattle.cbdc_model.specs.Coins.{FullTx}
@@ -7,6 +7,13 @@ use Rattle.cbdc_model.specs.Waves.{IsResumed, Waves}
 use Rattle.run_laws.proofs.WaveTurns.{waves_begin_law}
 use Rattle.submissions.specs.Checks.{VerdictsOf, TellsSound}
 use Rattle.ledger_runs.specs.Turning.{OfKept, StaysKept}
+use Rattle.recovery.specs.declared.resumed.ResumedBatch.{ResumedBatch}
+use Rattle.ledger_runs.specs.Telling.{TellResumed, SamePrepared}
+use Rattle.file_runs.specs.declared.waves.Wave.{Wave}
+use Rattle.file_runs.specs.Telling.{TellFiles}
+use Rattle.rack_runs.specs.declared.over.Over.{Over}
+use Rattle.rack_runs.specs.declared.over.Ran.{Ran}
+use Rattle.rack_runs.specs.Telling.{TellsRun}
 use Rattle.file_runs.specs.Runs.{joined}
 use Rattle.file_runs.proofs.Filing.{kept_more}
 
@@ -39,3 +46,32 @@ pub over_none : (K : Shape) (verdicts : VerdictsOf) (files : List (List FullTx))
     → OfKept K I (λ _ _. (sound : FullTx → Bool) → TellsSound verdicts sound → Waves K sound files I M)
 over_none K verdicts files I M none resumed mint submissions kept sound tells =
     subst (λ fs. Waves K sound fs I M) (sym none) (waves_begin_law K sound I M (resumed mint submissions kept))
+
+-- what is told of the open batches and of the files behind them
+pub over_told : (K H : Shape) (verdicts : VerdictsOf) (files : List (List FullTx)) (I M J : ℕ → List Record) (resumed : List ResumedBatch) (waves : List Wave) → H ≡ K → OfKept K I (StaysKept K I M)
+    → OfKept K I (λ _ _. TellResumed K I M (K.coordinators * K.lanes) resumed) → OfKept K I (λ _ _. SamePrepared K I M)
+    → OfKept H M (λ _ _. TellFiles H verdicts files M J waves) → OfKept K I (λ _ _. TellsRun K verdicts files I J resumed waves)
+over_told K H verdicts files I M J resumed waves e keeps batches same told mint submissions kept =
+    let mid = keeps mint submissions kept in
+    record {
+      middle = M;
+      grows = mid.grows;
+      batches = batches mint submissions kept;
+      unprepared = same mint submissions kept;
+      told = subst (λ k. OfKept k M (λ _ _. TellFiles k verdicts files M J waves)) e told mint submissions mid.kept;
+    }
+
+pub over_told_none : (K : Shape) (verdicts : VerdictsOf) (files : List (List FullTx)) (I M : ℕ → List Record) (resumed : List ResumedBatch) (waves : List Wave) → files ≡ [] → waves ≡ []
+    → OfKept K I (StaysKept K I M) → OfKept K I (λ _ _. TellResumed K I M (K.coordinators * K.lanes) resumed) → OfKept K I (λ _ _. SamePrepared K I M)
+    → OfKept K I (λ _ _. TellsRun K verdicts files I M resumed waves)
+over_told_none K verdicts files I M resumed waves none nothing keeps batches same mint submissions kept = record {
+  middle = M;
+  grows = (keeps mint submissions kept).grows;
+  batches = batches mint submissions kept;
+  unprepared = same mint submissions kept;
+  told = subst (λ fs. TellFiles K verdicts fs M M waves) (sym none) (nothing, λ n. refl);
+}
+
+-- what is told of what a run did is told of what is made of it
+pub told_made : (R : List ResumedBatch → List Wave → Type 0) (r : Ran) (o : Over) → (r.resumed ≡ o.resumed) × (r.waves ≡ o.waves) → R o.resumed.items o.waves.items → R r.resumed.items r.waves.items
+told_made R r o same so = subst (λ v. R v.items r.waves.items) (sym same.0) (subst (λ v. R o.resumed.items v.items) (sym same.1) so)

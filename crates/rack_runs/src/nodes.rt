@@ -1,5 +1,5 @@
 // A run over open nodes.
-ghost use Rattle.std.specs.Prelude.{◌≡◌, ◌≤◌, ◌++◌, ℕ, Bool, [], All, OnOk, IfErr, IsOk};
+ghost use Rattle.std.specs.Prelude.{◌≡◌, ◌≤◌, ◌++◌, ℕ, Bool, [], map, All, IfOk, IfSome, OnOk, IfErr, IsOk};
 ghost use Rattle.cbdc_model.specs.Coins.{FullTx as TxOf};
 ghost use Rattle.cbdc_model.specs.World.{AreIdle};
 ghost use Rattle.cbdc_model.specs.Waves.{IsResumed, Waves};
@@ -9,6 +9,7 @@ ghost use Rattle.ledger_runs.specs.Turning.{OfKept, StaysKept};
 ghost use Rattle.file_runs.specs.Runs.{joined};
 ghost use Rattle.ledger_nodes.specs.Ledgers.{IsLedger, journals_of, faults_of, AreStored, AreQuiet};
 ghost use Rattle.rack_runs.specs.Kinds.{IsLaneAnswer};
+ghost use Rattle.rack_runs.specs.Telling.{CountAll, TellsRun};
 
 use crate::faults::answer_of;
 use crate::over::{Over, Ran, run_over};
@@ -38,26 +39,36 @@ fn see_counts<D: Disk>(logs: &[CoordLog<D>])
     }
 }
 
-// How many hashes are unspent over all shards.
-fn unspent_of<D: Disk>(shards: &[ShardNode<D>]) -> u64 {
+// How many hashes are unspent over all shards. None where that is no number of 64 bits: memory holds no so many.
+fn unspent_of<D: Disk>(shards: &[ShardNode<D>]) -> Option<u64>
+    ensures { IfSome result (CountAll (map (λ s. s.journal) shards.now)) }
+{
     let mut unspent = 0u64;
-    for shard in shards {
-        unspent = unspent.saturating_add(shard.unspent_len());
+    'shards: for shard in shards {
+        match unspent.checked_add(shard.unspent_len()) {
+            Some(sum) => unspent = sum,
+            None => return None,
+        }
     }
-    unspent
+    Some(unspent)
 }
 
 // What a run came to, behind which the shards are these.
 fn came_of<D: Disk>(over: Result<Over, LaneFault>, shards: &[ShardNode<D>]) -> Result<Ran, Answer>
     ensures kind { IfErr result IsLaneAnswer }
     ensures whole { OnOk result (IsOk over) }
+    ensures same { IfOk result (λ r. IfOk over (λ o. (r.resumed ≡ o.resumed) × (r.waves ≡ o.waves))) }
+    ensures unspent { IfOk result (λ r. CountAll (map (λ s. s.journal) shards.now) r.unspent) }
 {
     match over {
-        Ok(Over { resumed, waves }) => Ok(Ran {
-            resumed,
-            waves,
-            unspent: unspent_of(shards),
-        }),
+        Ok(Over { resumed, waves }) => match unspent_of(shards) {
+            Some(unspent) => Ok(Ran {
+                resumed,
+                waves,
+                unspent,
+            }),
+            None => Err(Answer::Memory),
+        },
         Err(fault) => Err(answer_of(&fault)),
     }
 }
@@ -90,6 +101,10 @@ pub(crate) fn run_nodes<W: Wait, D: Disk, V: Verifier, G: Gate>(
         (journals_of D.count D.limit nodes.header.shape result.nodes.logs.items result.nodes.shards.items))) }
     ensures quiet { OnOk result.came (OfKept nodes.header.shape (journals_of D.count D.limit nodes.header.shape nodes.logs.items nodes.shards.items)
         (λ _ _. AreQuiet nodes.logs.items nodes.shards.items → AreQuiet result.nodes.logs.items result.nodes.shards.items)) }
+    ensures told { IfOk result.came (λ r. OfKept nodes.header.shape (journals_of D.count D.limit nodes.header.shape nodes.logs.items nodes.shards.items)
+        (λ _ _. TellsRun nodes.header.shape (V.verdict_of verifier.now) files.now (journals_of D.count D.limit nodes.header.shape nodes.logs.items nodes.shards.items)
+        (journals_of D.count D.limit nodes.header.shape result.nodes.logs.items result.nodes.shards.items) r.resumed.items r.waves.items)) }
+    ensures unspent { IfOk result.came (λ r. CountAll (map (λ s. s.journal) result.nodes.shards.items) r.unspent) }
     ensures stored { AreStored D.content D.images nodes.logs.items nodes.shards.items → AreStored D.content D.images result.nodes.logs.items result.nodes.shards.items }
     ensures later { (n : ℕ) → faults_of D.count D.limit nodes.header.shape nodes.logs.items nodes.shards.items n
         ≤ faults_of D.count D.limit nodes.header.shape result.nodes.logs.items result.nodes.shards.items n }

@@ -1,5 +1,5 @@
 // A run over the nodes of a ledger.
-ghost use Rattle.std.specs.Prelude.{◌≡◌, ◌≤◌, ◌++◌, ℕ, Bool, [], All, OnOk};
+ghost use Rattle.std.specs.Prelude.{◌≡◌, ◌≤◌, ◌++◌, ℕ, Bool, [], All, IfOk, OnOk};
 ghost use Rattle.cbdc_model.specs.Coins.{FullTx as TxOf};
 ghost use Rattle.cbdc_model.specs.World.{AreIdle};
 ghost use Rattle.cbdc_model.specs.Waves.{IsResumed, Waves};
@@ -7,6 +7,7 @@ ghost use Rattle.input_files.specs.Limits.{IsShort};
 ghost use Rattle.submissions.specs.Checks.{TellsSound};
 ghost use Rattle.ledger_runs.specs.Turning.{OfKept, StaysKept};
 ghost use Rattle.file_runs.specs.Runs.{joined};
+ghost use Rattle.rack_runs.specs.Telling.{TellsRun};
 
 use cbdc_types::{FullTx, List};
 use file_runs::{Wave, run_files};
@@ -48,6 +49,9 @@ pub(crate) fn run_over<L: Turns, V: Verifier, G: Gate>(
     ensures waves { OnOk result (OfKept (L.shape ledger.old) (L.journals ledger.old) (λ _ _. (sound : TxOf → Bool)
         → TellsSound (V.verdict_of verifier.now) sound → Waves (L.shape ledger.old) sound files.now (L.journals ledger.old) (L.journals ledger.new))) }
     ensures resumed { OnOk result (OfKept (L.shape ledger.old) (L.journals ledger.old) (λ _ _. files.now ≡ [] → IsResumed (L.shape ledger.old) (L.journals ledger.old) (L.journals ledger.new))) }
+    // And it tells the batches that were open, and of each file what came of its submissions.
+    ensures told { IfOk result (λ o. OfKept (L.shape ledger.old) (L.journals ledger.old)
+        (λ _ _. TellsRun (L.shape ledger.old) (V.verdict_of verifier.now) files.now (L.journals ledger.old) (L.journals ledger.new) o.resumed.items o.waves.items)) }
     ensures quiet { OnOk result (OfKept (L.shape ledger.old) (L.journals ledger.old) (λ _ _. L.quiet ledger.old → L.quiet ledger.new)) }
     ensures holds { L.holds ledger.old → L.holds ledger.new }
     ensures later { (n : ℕ) → L.faults ledger.old n ≤ L.faults ledger.new n }

@@ -1,11 +1,13 @@
 // Runs over the ledger on a rack.
-ghost use Rattle.std.specs.Prelude.{◌≤◌, ◌⊎◌, ℕ, [], All, OnOk, IfErr};
+ghost use Rattle.std.specs.Prelude.{◌≤◌, ◌⊎◌, ℕ, [], All, IfOk, OnOk, IfErr};
 ghost use Rattle.input_files.specs.Limits.{IsShort};
 ghost use Rattle.rack_nodes.specs.Racked.{IsBack};
 ghost use Rattle.caused_ledgers.specs.Caused.{IsUnresumed};
 ghost use Rattle.rack_laws.specs.Shown.{OfShown};
 ghost use Rattle.rack_runs.specs.Kinds.{IsLaneAnswer};
 ghost use Rattle.rack_runs.specs.Runs.{IsRun, IsRecovered, IsCutShort};
+ghost use Rattle.rack_runs.specs.Telling.{IsTold};
+ghost use Rattle.submissions.specs.Checks.{VerdictsOf};
 
 use crate::nodes::{Behind, run_nodes};
 use crate::over::Ran;
@@ -30,6 +32,9 @@ pub fn run_on<W: Wait, R: Rack, V: Verifier, G: Gate>(
     requires short { All (λ txs. All IsShort txs) files.now }
     // The ledger that the rack showed has its open batches at their end and the files' waves behind them, and each disk holds its journal.
     ensures ran { OnOk result (OfShown R.Disk.content (R.held rack.old) (IsRun R.Disk.images (R.held rack.new) (V.verdict_of verifier.now) files.now)) }
+
+    // And what was done is told: the batches that were open, what came of each submission, and how many hashes are unspent now.
+    ensures told { IfOk result (λ r. OfShown R.Disk.content (R.held rack.old) (IsTold R.Disk.images (R.held rack.new) (V.verdict_of verifier.now) files.now r)) }
 
     // The nodes could not be opened, and the disks are back; or a lane met a fault: journals have grown at their ends, and are kept.
     ensures stopped { IfErr result (λ e. (IsUnresumed R.Disk.content R.Disk.images R.Disk.limit R.Disk.count (R.held rack.old) (R.count rack.old) (R.count rack.new) e
@@ -57,6 +62,7 @@ pub fn recover_on<W: Wait, R: Rack, G: Gate>(
 ) -> Result<Ran, Answer>
     requires all { (n : ℕ) → R.can_take rack.old n }
     ensures recovered { OnOk result (OfShown R.Disk.content (R.held rack.old) (IsRecovered R.Disk.images (R.held rack.new))) }
+    ensures told { IfOk result (λ r. (verdicts : VerdictsOf) × OfShown R.Disk.content (R.held rack.old) (IsTold R.Disk.images (R.held rack.new) verdicts [] r)) }
     ensures stopped { IfErr result (λ e. (IsUnresumed R.Disk.content R.Disk.images R.Disk.limit R.Disk.count (R.held rack.old) (R.count rack.old) (R.count rack.new) e
         × ((n : ℕ) → IsBack R.Disk.images R.Disk.limit (R.held rack.old n) (R.held rack.new n)))
         ⊎ (IsLaneAnswer e × OfShown R.Disk.content (R.held rack.old) (IsCutShort R.Disk.images (R.held rack.new) []))) }

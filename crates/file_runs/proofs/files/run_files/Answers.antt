@@ -1,5 +1,6 @@
 use Rattle.std.proofs.Common.{◌≡◌, ◌∙◌, refl, sym, subst, arith, get_or, take}
 use Rattle.file_runs.proofs.Joining.{files_begin, files_step, files_end, same_file, keeps_none, keeps_fault}
+use Rattle.file_runs.proofs.FileTelling.{told_files, told_all}
 use Rattle.file_runs.proofs.files.run_files.Goals as goal
 
 pub returns-in_default-clause-keeps : goal.returns-in_default-clause-keeps
@@ -19,6 +20,7 @@ pub files-init : goal.files-init
 files-init g c = record {
   shape = refl;
   so = files_begin (g.L.Turns.shape c.args.ledger.now) (g.V.Verifier.verdict_of c.args.verifier.now) (g.L.Turns.journals c.args.ledger.now) c.requires.idle;
+  told = λ _ _ _. (c.in-Ok.ensures.items, λ n. refl);
   quiet = λ _ _ _ was. was;
   holds = λ h. h;
   later = λ n. omega arith;
@@ -33,6 +35,9 @@ files-preserved g c =
       so = files_step (g.L.Turns.shape c.args.ledger.now) (g.L.Turns.shape c.files.ledger) (g.V.Verifier.verdict_of c.args.verifier.now) c.args.files.now c.files.txs-index c.as_slice.result.now
           (g.L.Turns.journals c.args.ledger.now) (g.L.Turns.journals c.files.ledger) (g.L.Turns.journals c.run_file.new.ledger)
           is.shape c.files-test.true (subst (λ f. f ≡ get_or c.args.files.now c.files.txs-index f) (sym c.as_slice.ensures) c.txs-item.is) is.so c.in-Ok-run_file.ensures.idle did.keeps c.in-Ok-run_file.ensures.runs;
+      told = told_files (g.L.Turns.shape c.args.ledger.now) (g.L.Turns.shape c.files.ledger) (g.V.Verifier.verdict_of c.args.verifier.now) c.args.files.now c.files.txs-index c.as_slice.result.now
+          (g.L.Turns.journals c.args.ledger.now) (g.L.Turns.journals c.files.ledger) (g.L.Turns.journals c.run_file.new.ledger) c.files.waves.items c.push.new.self.items c.in-Ok-run_file.wave
+          is.shape c.files-test.true (subst (λ f. f ≡ get_or c.args.files.now c.files.txs-index f) (sym c.as_slice.ensures) c.txs-item.is) is.so.keeps c.in-Ok-push.ensures.items is.told c.in-Ok-run_file.ensures.told;
       quiet = same_file (g.L.Turns.shape c.args.ledger.now) (g.L.Turns.shape c.files.ledger) (take c.files.txs-index c.args.files.now) (g.L.Turns.journals c.args.ledger.now) (g.L.Turns.journals c.files.ledger)
           (g.L.Turns.quiet c.args.ledger.now) (g.L.Turns.quiet c.files.ledger) (g.L.Turns.quiet c.run_file.new.ledger) is.shape is.so.keeps is.quiet c.in-Ok-run_file.ensures.quiet;
       holds = λ h. did.holds (is.holds h);
@@ -51,3 +56,8 @@ returns-clause-waves g c =
 
 pub returns-clause-quiet : goal.returns-clause-quiet
 returns-clause-quiet g c = c.files.invariant.quiet
+
+pub returns-clause-told : goal.returns-clause-told
+returns-clause-told g c =
+    told_all (g.L.Turns.shape c.args.ledger.now) (g.V.Verifier.verdict_of c.args.verifier.now) c.args.files.now c.files.txs-index (g.L.Turns.journals c.args.ledger.now) (g.L.Turns.journals c.files.ledger) c.files.waves.items
+    (omega (arith, c.files-test.false)) c.files.invariant.told

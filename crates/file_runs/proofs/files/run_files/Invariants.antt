@@ -1,5 +1,6 @@
 use Rattle.std.proofs.Common.{◌≡◌, ◌≤◌, ℕ, take}
 use Rattle.ledger_runs.specs.Turning.{OfKept}
+use Rattle.file_runs.specs.Telling.{TellFiles}
 use Rattle.file_runs.proofs.Joining.{FilesSo}
 use Rattle.file_runs.proofs.files.run_files.Given as goal
 
@@ -9,6 +10,7 @@ invariant-files g l =
     record {
       shape : g.L.Turns.shape l.ledger ≡ K;
       so : FilesSo K (g.V.Verifier.verdict_of l.fn.verifier) (take l.txs-index l.files) (g.L.Turns.journals l.fn.ledger) (g.L.Turns.journals l.ledger);
+      told : OfKept K (g.L.Turns.journals l.fn.ledger) (λ _ _. TellFiles K (g.V.Verifier.verdict_of l.fn.verifier) (take l.txs-index l.files) (g.L.Turns.journals l.fn.ledger) (g.L.Turns.journals l.ledger) l.waves.items);
       quiet : OfKept K (g.L.Turns.journals l.fn.ledger) (λ _ _. g.L.Turns.quiet l.fn.ledger → g.L.Turns.quiet l.ledger);
       holds : g.L.Turns.holds l.fn.ledger → g.L.Turns.holds l.ledger;
       later : (n : ℕ) → g.L.Turns.faults l.fn.ledger n ≤ g.L.Turns.faults l.ledger n;

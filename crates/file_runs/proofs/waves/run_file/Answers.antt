@@ -1,5 +1,6 @@
-use Rattle.std.proofs.Common.{◌≡◌, ◌*◌, subst, length}
-use Rattle.submissions.specs.Checks.{AreSent}
+use Rattle.std.proofs.Common.{◌≡◌, ◌*◌, ◌∙◌, subst, length}
+use Rattle.submissions.specs.Checks.{AreSent, AreChecked}
+use Rattle.ledger_runs.specs.Telling.{AreFresh, AllTell}
 use Rattle.ledger_runs.specs.Waving.{NoFault, FirstFaultIs}
 use Rattle.file_runs.proofs.Filing.{stays_more, are_within, keeps_file, of_wave, runs_file}
 use Rattle.file_runs.proofs.waves.run_file.Goals as goal
@@ -37,3 +38,21 @@ returns-in-None-clause-quiet g c =
     let none = subst (λ o. FirstFaultIs c.deref.result.now o) c.in-None.is c.first_fault.ensures in
     of_wave (g.L.Turns.shape c.args.ledger.now) (g.V.Verifier.verdict_of c.args.verifier.now) c.args.txs.now c.in-Ok.field-0.lanes.items c.in-Ok-lanes_of.lanes.items c.run_wave.new.lanes.items
     (g.L.Turns.journals c.args.ledger.now) (g.L.Turns.quiet c.args.ledger.now → g.L.Turns.quiet c.run_wave.new.ledger) c.in-Ok.ensures.sound c.in-Ok-lanes_of.ensures (subst (λ ls. NoFault ls) c.deref.ensures.value none) c.run_wave.ensures.quiet
+
+pub returns-in-None-clause-told : goal.returns-in-None-clause-told
+returns-in-None-clause-told g c mint submissions kept =
+    let K = g.L.Turns.shape c.args.ledger.now in
+    let verdicts = g.V.Verifier.verdict_of c.args.verifier.now in
+    let I = g.L.Turns.journals c.args.ledger.now in
+    let J = g.L.Turns.journals c.run_wave.new.ledger in
+    let sent = subst (λ k. AreSent k verdicts c.args.txs.now c.in-Ok.field-0.lanes.items) c.shape.ensures c.in-Ok.ensures.sent in
+    let count = subst (λ k. length c.in-Ok.field-0.lanes.items ≡ k.coordinators * k.lanes) c.shape.ensures c.in-Ok.ensures.lanes in
+    let none = subst (λ ls. NoFault ls) c.deref.ensures.value (subst (λ o. FirstFaultIs c.deref.result.now o) c.in-None.is c.first_fault.ensures) in
+    let are = c.in-Ok-lanes_of.ensures in
+    record {
+      checked = subst (λ k. AreChecked k verdicts c.args.txs.now c.in-Ok.field-0.checked.items) c.shape.ensures c.in-Ok.ensures.checked;
+      count = c.run_wave.ensures.count ∙ are.count ∙ count;
+      runs = runs_file K verdicts c.args.txs.now c.in-Ok.field-0.lanes.items c.in-Ok-lanes_of.lanes.items c.run_wave.new.lanes.items I J count sent c.in-Ok.ensures.sound are none c.run_wave.ensures.runs mint submissions kept;
+      tell = of_wave K verdicts c.args.txs.now c.in-Ok.field-0.lanes.items c.in-Ok-lanes_of.lanes.items c.run_wave.new.lanes.items I (AreFresh c.in-Ok-lanes_of.lanes.items → AllTell K I J c.run_wave.new.lanes.items)
+          c.in-Ok.ensures.sound are none c.run_wave.ensures.told mint submissions kept are.untold;
+    }

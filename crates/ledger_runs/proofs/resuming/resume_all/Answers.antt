@@ -3,6 +3,8 @@ use Rattle.run_laws.specs.WaveSteps.{ResumedSo, ResumingStepLaw, ResumingSkipLaw
 use Rattle.run_laws.proofs.WaveTurns.{resuming_begins_law, resuming_step_law, resuming_skip_law, resuming_ends_law}
 use Rattle.ledger_runs.specs.Turning.{phase_at, OfKept, StaysKept}
 use Rattle.ledger_runs.proofs.Keeping.{stays, stays_next, same_next, idle_next, so_next}
+use Rattle.ledger_runs.specs.Telling.{TellResumed}
+use Rattle.ledger_runs.proofs.WaveTelling.{resumed_told, resumed_prepares}
 use Rattle.ledger_runs.proofs.resuming.resume_all.Goals as goal
 
 pub returns-in-Err-clause-keeps : goal.returns-in-Err-clause-keeps
@@ -20,6 +22,8 @@ lanes-init g c =
       idle = λ lane low. absurd (omega (arith, low));
       keeps = stays K E;
       so = λ _ _ _. begins K E;
+      told = λ _ _ _. c.in-Ok.ensures.items;
+      prepares = λ _ _ _ _. refl;
       quiet = λ _ _ _ was. was;
       holds = λ h. h;
       later = λ n. omega arith;
@@ -39,6 +43,10 @@ lanes-preserved g c =
       idle = idle_next K (g.L.Turns.shape c.lanes.ledger) c.lanes.lane (g.L.Turns.journals c.lanes.ledger) (g.L.Turns.journals c.resume_next.new.ledger) so.shape (omega (arith, c.lanes-test.true, so.count)) so.idle did.others c.in-Ok-resume_next.ensures.idle;
       keeps = stays_next K _ E _ _ so.shape so.keeps did.keeps;
       so = so_next step skip K _ c.lanes.lane E _ _ _ _ so.shape so.keeps so.so c.in-Ok-resume_next.ensures.took;
+      told = resumed_told K (g.L.Turns.shape c.lanes.ledger) c.lanes.lane E (g.L.Turns.journals c.lanes.ledger) (g.L.Turns.journals c.resume_next.new.ledger) c.lanes.batches.items c.resume_next.new.batches.items
+          so.shape so.keeps so.so so.told c.in-Ok-resume_next.ensures.told;
+      prepares = resumed_prepares K (g.L.Turns.shape c.lanes.ledger) c.lanes.lane E (g.L.Turns.journals c.lanes.ledger) (g.L.Turns.journals c.resume_next.new.ledger) c.lanes.batches.items c.resume_next.new.batches.items
+          so.shape so.keeps so.prepares c.in-Ok-resume_next.ensures.told;
       quiet = same_next K (g.L.Turns.shape c.lanes.ledger) E (g.L.Turns.journals c.lanes.ledger) (g.L.Turns.quiet c.args.ledger.now) (g.L.Turns.quiet c.lanes.ledger) (g.L.Turns.quiet c.resume_next.new.ledger)
           so.shape so.keeps so.quiet c.in-Ok-resume_next.ensures.quiet;
       holds = λ h. did.holds (so.holds h);
@@ -53,3 +61,12 @@ returns-clause-resumed g c =
 
 pub returns-clause-quiet : goal.returns-clause-quiet
 returns-clause-quiet g c = c.lanes.invariant.quiet
+
+pub returns-clause-told : goal.returns-clause-told
+returns-clause-told g c =
+    let K = g.L.Turns.shape c.args.ledger.now in
+    λ mint submissions kept. subst (λ n. TellResumed K (g.L.Turns.journals c.args.ledger.now) (g.L.Turns.journals c.lanes.ledger) n c.lanes.batches.items)
+    (omega (arith, c.lanes.invariant.count, c.lanes-test.false, c.lanes.auto.lane-end)) (c.lanes.invariant.told mint submissions kept)
+
+pub returns-clause-prepares : goal.returns-clause-prepares
+returns-clause-prepares g c = c.lanes.invariant.prepares

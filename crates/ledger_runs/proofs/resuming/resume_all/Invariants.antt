@@ -2,6 +2,7 @@ use Rattle.std.proofs.Common.{◌≡◌, ◌≤◌, ◌<◌, ◌*◌, ℕ}
 use Rattle.cbdc_model.specs.Slots.{Idle}
 use Rattle.run_laws.specs.WaveSteps.{ResumedSo}
 use Rattle.ledger_runs.specs.Turning.{phase_at, OfKept, StaysKept}
+use Rattle.ledger_runs.specs.Telling.{TellResumed, SamePrepared}
 use Rattle.ledger_runs.proofs.resuming.resume_all.Given as goal
 
 abbrev pub invariant-lanes : goal.invariant-lanes
@@ -15,6 +16,8 @@ invariant-lanes g l =
       idle : (lane : ℕ) → lane < l.lane → phase_at K J lane ≡ Idle;
       keeps : OfKept K E (StaysKept K E J);
       so : OfKept K E (λ _ _. ResumedSo K l.lane E J);
+      told : OfKept K E (λ _ _. TellResumed K E J l.lane l.batches.items);
+      prepares : OfKept K E (λ _ _. SamePrepared K E J);
       quiet : OfKept K E (λ _ _. g.L.Turns.quiet l.fn.ledger → g.L.Turns.quiet l.ledger);
       holds : g.L.Turns.holds l.fn.ledger → g.L.Turns.holds l.ledger;
       later : (n : ℕ) → g.L.Turns.faults l.fn.ledger n ≤ g.L.Turns.faults l.ledger n;

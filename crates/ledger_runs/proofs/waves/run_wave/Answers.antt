@@ -1,5 +1,7 @@
 use Rattle.std.proofs.Common.{◌≡◌, ◌≤◌, ◌<◌, ◌*◌, ℕ, length, refl, ap, sym, ◌∙◌, subst, arith}
-use Rattle.ledger_runs.specs.Waving.{AreShorter}
+use Rattle.ledger_runs.specs.Waving.{AreShorter, OfSent}
+use Rattle.ledger_runs.specs.Telling.{TellSince, AreFresh}
+use Rattle.ledger_runs.proofs.WaveTelling.{tells_begin, tells_all}
 use Rattle.ledger_runs.proofs.WaveKeeping.{RoundsSo, rounds_begin, rounds_step, same_round, rounds_end, all_idle, next_start}
 use Rattle.ledger_runs.proofs.waves.run_wave.Goals as goal
 
@@ -7,6 +9,7 @@ pub rounds-init : goal.rounds-init
 rounds-init g c = record {
   shape = refl;
   so = rounds_begin (g.L.Turns.shape c.args.ledger.now) (g.L.Turns.journals c.args.ledger.now) c.args.lanes.now.items c.requires.count c.requires.idle c.requires.limits;
+  told = λ _ _ _ _ _ _ _ fresh. tells_begin (g.L.Turns.shape c.args.ledger.now) (g.L.Turns.journals c.args.ledger.now) c.args.lanes.now.items fresh;
   quiet = λ _ _ _ _ _ _ _ was. was;
   holds = λ h. h;
   later = λ n. omega arith;
@@ -25,6 +28,13 @@ rounds-preserved g c =
           c.args.lanes.now.items c.rounds.lanes.items c.turns.new.lanes.items is.shape c.requires.count short
           (next_start c.rounds.start c.batch-size.result K.batch c.saturating_add-start.result c.longest-most.result size c.saturating_add-start.ensures c.longest-most.type_inv)
           is.so did.count did.sent did.ready did.limits did.stopped did.keeps did.goes_on;
+      told =
+          let E = g.L.Turns.journals c.args.ledger.now in
+          let J = g.L.Turns.journals c.rounds.ledger in
+          let L = g.L.Turns.journals c.turns.new.ledger in
+          same_round K (g.L.Turns.shape c.rounds.ledger) c.rounds.start E J c.args.lanes.now.items c.rounds.lanes.items c.turns.new.lanes.items
+          (AreFresh c.args.lanes.now.items) (TellSince K E J c.rounds.lanes.items) (TellSince K E L c.turns.new.lanes.items) is.shape is.so did.stopped is.told
+          (subst (λ k. OfSent (g.L.Turns.shape c.rounds.ledger) J c.rounds.lanes.items c.turns.new.lanes.items (TellSince k E J c.rounds.lanes.items → TellSince k E L c.turns.new.lanes.items)) is.shape (did.told E));
       quiet = same_round K (g.L.Turns.shape c.rounds.ledger) c.rounds.start (g.L.Turns.journals c.args.ledger.now) (g.L.Turns.journals c.rounds.ledger) c.args.lanes.now.items c.rounds.lanes.items c.turns.new.lanes.items
           (g.L.Turns.quiet c.args.ledger.now) (g.L.Turns.quiet c.rounds.ledger) (g.L.Turns.quiet c.turns.new.ledger) is.shape is.so did.stopped is.quiet did.quiet;
       holds = λ h. did.holds (is.holds h);
@@ -46,3 +56,7 @@ returns-clause-runs g c =
 
 pub returns-clause-quiet : goal.returns-clause-quiet
 returns-clause-quiet g c = c.rounds.invariant.quiet
+
+pub returns-clause-told : goal.returns-clause-told
+returns-clause-told g c sent have none mint submissions kept proper fresh =
+    tells_all (g.L.Turns.shape c.args.ledger.now) (g.L.Turns.journals c.args.ledger.now) (g.L.Turns.journals c.rounds.ledger) c.rounds.lanes.items (c.rounds.invariant.told sent have none mint submissions kept proper fresh)

@@ -1,4 +1,5 @@
-use Rattle.std.proofs.Common.{◌≡◌, ◌∙◌, ap, take, drop, arith}
+use Rattle.std.proofs.Common.{◌≡◌, ◌<◌, ◌∙◌, ap, take, drop, length, length-take, length-drop, arith}
+use Rattle.ledger_runs.proofs.WaveTelling.{tells_turn}
 use Rattle.ledger_runs.proofs.Keeping.{of_ok}
 use Rattle.ledger_runs.proofs.WaveKeeping.{by_piece, took_of}
 use Rattle.ledger_runs.proofs.waves.turn.Goals as goal
@@ -16,3 +17,12 @@ returns-clause-took g c = λ none.
 
 pub returns-clause-quiet : goal.returns-clause-quiet
 returns-clause-quiet g c = λ none. of_ok c.run_batch-came.result _ (c.take_in.ensures.fault none).1 c.run_batch-came.ensures.quiet
+
+pub returns-clause-told : goal.returns-clause-told
+returns-clause-told g c = λ none.
+    let rest = drop c.args.start c.args.lane.now.txs.items in
+    let piece : c.piece.result.now ≡ take c.batch-size.result rest = c.piece.ensures ∙ ap (λ l. take c.batch-size.result (drop c.args.start l)) c.deref.ensures.value in
+    let some : 0 < length c.piece.result.now =
+    omega (arith, ap length piece, length-take c.batch-size.result rest, length-drop c.args.start c.args.lane.now.txs.items, c.batch-size.ensures.value, c.batch-size.ensures.limits, c.if-start-len.false, c.len.ensures) in
+    tells_turn (g.L.Turns.shape c.args.ledger.now) c.args.number c.args.lane.now c.take_in.new.self c.piece.result.now (g.L.Turns.journals c.args.ledger.now) (g.L.Turns.journals c.run_batch-came.new.self)
+    c.run_batch-came.result some (c.take_in.ensures.fault none).1 c.run_batch-came.ensures.does c.run_batch-came.ensures.full (c.take_in.ensures.told none)

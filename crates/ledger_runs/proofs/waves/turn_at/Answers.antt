@@ -4,6 +4,7 @@ use Rattle.std.proofs.lemmas.List.{get_or-set_same}
 use Rattle.std.proofs.lemmas.Option.{get_or_from_slice_get}
 use Rattle.ledger_runs.specs.Turning.{OfKept, StaysKeptBy}
 use Rattle.ledger_runs.specs.Waving.{TookTurn}
+use Rattle.ledger_runs.specs.Telling.{TellsTurn}
 use Rattle.ledger_runs.proofs.waves.turn_at.Goals as goal
 
 pub returns-clause-keeps : goal.returns-clause-keeps
@@ -26,3 +27,14 @@ returns-clause-quiet g c y after =
     let items = c.args.lanes.now.items in
     let now : c.turn.new.lane ≡ y = sym (get_or-set_same items c.args.number c.turn.new.lane y c.requires.inside) ∙ get_or_from_slice_get (slice_set items c.args.number c.turn.new.lane) c.args.number y y after in
     λ none. c.turn.ensures.quiet (ap (λ z. z.fault) now ∙ none)
+
+pub returns-clause-told : goal.returns-clause-told
+returns-clause-told g c x y there after =
+    let items = c.args.lanes.now.items in
+    let e = c.index_mut.ensures.value ∙ get_or_from_slice_get items c.args.number x c.index_mut.result.now there in
+    let K = g.L.Turns.shape c.args.ledger.now in
+    let I = g.L.Turns.journals c.args.ledger.now in
+    let J = g.L.Turns.journals c.turn.new.ledger in
+    let now : c.turn.new.lane ≡ y = sym (get_or-set_same items c.args.number c.turn.new.lane y c.requires.inside) ∙ get_or_from_slice_get (slice_set items c.args.number c.turn.new.lane) c.args.number y y after in
+    λ none. subst (λ z. OfKept K I (λ _ _. TellsTurn K c.args.number z y I J)) e
+    (subst (λ z. OfKept K I (λ _ _. TellsTurn K c.args.number c.index_mut.result.now z I J)) now (c.turn.ensures.told (ap (λ z. z.fault) now ∙ none)))

@@ -1,6 +1,8 @@
 use Rattle.std.proofs.Common.{◌≡◌, ◌≤◌, ◌<◌, ◌*◌, ℕ, length, refl, ap, sym, ◌∙◌, subst, arith}
 use Rattle.std.specs.Prelude.{All}
 use Rattle.ledger_runs.proofs.WaveKeeping.{TurnsSo, turns_begin, turns_step, same_turn, turns_end}
+use Rattle.ledger_runs.specs.Telling.{TellSince}
+use Rattle.ledger_runs.proofs.WaveTelling.{tells_step}
 use Rattle.ledger_runs.proofs.waves.turns.Goals as goal
 
 pub lanes-init : goal.lanes-init
@@ -10,6 +12,7 @@ lanes-init g c =
       shape = refl;
       count = c.lane_count-count.ensures.value ∙ ap (λ s. s.coordinators * s.lanes) c.shape.ensures;
       so = turns_begin K c.args.start (g.L.Turns.journals c.args.ledger.now) c.args.lanes.now.items c.requires.ready c.requires.limits;
+      told = λ _ _ _ _ _ _ _ _ was. was;
       quiet = λ _ _ _ _ _ _ _ was. was;
       holds = λ h. h;
       later = λ n. omega arith;
@@ -27,6 +30,14 @@ lanes-preserved g c =
       so = turns_step K (g.L.Turns.shape c.lanes.ledger) c.args.start c.lanes.number (g.L.Turns.journals c.args.ledger.now) (g.L.Turns.journals c.lanes.ledger) (g.L.Turns.journals c.turn_at.new.ledger)
           c.args.lanes.now.items c.lanes.lanes.items c.turn_at.new.lanes.items is.shape (subst (λ s. 0 < s.batch) c.shape-2.ensures (omega (arith, c.batch-limit.ensures.limits))) (omega (arith, c.lanes-test.true, is.count)) (omega (arith, c.lanes-test.true, is.count, many)) many
           is.so did.turned did.idle did.others did.keeps did.took;
+      told = λ E.
+          let I = g.L.Turns.journals c.args.ledger.now in
+          let J = g.L.Turns.journals c.lanes.ledger in
+          let L = g.L.Turns.journals c.turn_at.new.ledger in
+          let inside : c.lanes.number < length c.lanes.lanes.items = omega (arith, c.lanes-test.true, is.count, many) in
+          same_turn K (g.L.Turns.shape c.lanes.ledger) c.args.start c.lanes.number I J c.args.lanes.now.items c.lanes.lanes.items c.turn_at.new.lanes.items
+          (TellSince K E I c.args.lanes.now.items) (TellSince K E J c.lanes.lanes.items) (TellSince K E L c.turn_at.new.lanes.items) is.shape inside is.so did.turned (is.told E)
+          (tells_step K (g.L.Turns.shape c.lanes.ledger) E J L c.lanes.number c.lanes.lanes.items c.turn_at.new.lanes.items is.shape inside did.turned did.told);
       quiet = same_turn K (g.L.Turns.shape c.lanes.ledger) c.args.start c.lanes.number (g.L.Turns.journals c.args.ledger.now) (g.L.Turns.journals c.lanes.ledger) c.args.lanes.now.items c.lanes.lanes.items c.turn_at.new.lanes.items
           (g.L.Turns.quiet c.args.ledger.now) (g.L.Turns.quiet c.lanes.ledger) (g.L.Turns.quiet c.turn_at.new.ledger) is.shape (omega (arith, c.lanes-test.true, is.count, many)) is.so did.turned is.quiet did.quiet;
       holds = λ h. did.holds (is.holds h);
@@ -44,3 +55,6 @@ returns-clause-goes_on g c =
 
 pub returns-clause-quiet : goal.returns-clause-quiet
 returns-clause-quiet g c = c.lanes.invariant.quiet
+
+pub returns-clause-told : goal.returns-clause-told
+returns-clause-told g c = c.lanes.invariant.told

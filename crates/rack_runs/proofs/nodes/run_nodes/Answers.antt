@@ -1,5 +1,5 @@
 use Rattle.std.proofs.Common.{◌≡◌, ◌∙◌, ◌≤◌, ◌++◌, ℕ, Bool, [], subst, sym, ap}
-use Rattle.std.specs.Prelude.{All}
+use Rattle.std.specs.Prelude.{All, IfOk, map}
 use Rattle.cbdc_model.specs.Coins.{FullTx as TxOf}
 use Rattle.cbdc_model.specs.World.{AreIdle}
 use Rattle.cbdc_model.specs.Waves.{IsResumed, Waves}
@@ -7,7 +7,9 @@ use Rattle.submissions.specs.Checks.{TellsSound}
 use Rattle.ledger_runs.specs.Turning.{OfKept, StaysKept}
 use Rattle.file_runs.specs.Runs.{joined}
 use Rattle.ledger_nodes.specs.Ledgers.{journals_of, faults_of, AreStored, AreQuiet}
-use Rattle.rack_runs.proofs.Lent.{on_ok, lent_journals, lent_faults, on_ok_by}
+use Rattle.rack_runs.specs.Telling.{CountAll, TellsRun}
+use Rattle.rack_runs.proofs.Resumed.{told_made}
+use Rattle.rack_runs.proofs.Lent.{if_made, on_ok, lent_journals, lent_faults, on_ok_by}
 use Rattle.rack_runs.proofs.nodes.run_nodes.Goals as goal
 
 pub returns-clause-counts : goal.returns-clause-counts
@@ -97,3 +99,23 @@ returns-clause-quiet g c =
     (on_ok_by c.run_over-over.result
     (subst (λ l. OfKept c.args.nodes.header.shape (journals_of g.D.Disk.count g.D.Disk.limit c.args.nodes.header.shape c.args.nodes.logs.items c.args.nodes.shards.items)
     (λ _ _. AreQuiet c.args.nodes.logs.items c.args.nodes.shards.items → AreQuiet l.logs l.shards)) back) own)
+
+pub returns-clause-told : goal.returns-clause-told
+returns-clause-told g c =
+    let back : c.run_over-over.new.ledger ≡ record { header = c.header.inside.header; logs = c.header.inside.logs.items; shards = c.header.inside.shards.items } = cc in
+    let lent : c.lend-lent.result ≡ record { header = c.args.nodes.header; logs = c.args.nodes.logs.items; shards = c.args.nodes.shards.items } = c.lend-lent.ensures in
+    let shape : c.run_over-over.new.ledger.header.shape ≡ c.args.nodes.header.shape = c.run_over-over.ensures.shape ∙ ap (λ l. l.header.shape) lent in
+    let K = c.args.nodes.header.shape in
+    let E = journals_of g.D.Disk.count g.D.Disk.limit c.args.nodes.header.shape c.args.nodes.logs.items c.args.nodes.shards.items in
+    let now = c.run_over-over.new.ledger in
+    let N = journals_of g.D.Disk.count g.D.Disk.limit c.run_over-over.new.ledger.header.shape c.run_over-over.new.ledger.logs c.run_over-over.new.ledger.shards in
+    let v = g.V.Verifier.verdict_of c.args.verifier.now in
+    if_made _ _ _ c.came_of-came.result c.run_over-over.result c.came_of-came.ensures.whole c.came_of-came.ensures.same c.run_over-over.ensures.told
+    (λ r o same told.
+    lent_journals g.D.Disk.count g.D.Disk.limit (λ L. OfKept K E (λ _ _. TellsRun K v c.args.files.now E L r.resumed.items r.waves.items)) K now _ back shape
+    (told_made (λ rs ws. OfKept K E (λ _ _. TellsRun K v c.args.files.now E N rs ws)) r o same
+    (subst (λ l. OfKept l.header.shape (journals_of g.D.Disk.count g.D.Disk.limit l.header.shape l.logs l.shards)
+    (λ _ _. TellsRun l.header.shape v c.args.files.now (journals_of g.D.Disk.count g.D.Disk.limit l.header.shape l.logs l.shards) N o.resumed.items o.waves.items)) lent told)))
+
+pub returns-clause-unspent : goal.returns-clause-unspent
+returns-clause-unspent g c = subst (λ xs. IfOk c.came_of-came.result (λ r. CountAll (map (λ s. s.journal) xs) r.unspent)) c.deref-2.ensures.value c.came_of-came.ensures.unspent

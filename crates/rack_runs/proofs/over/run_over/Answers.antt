@@ -1,7 +1,7 @@
 use Rattle.std.proofs.Common.{length, sym, ◌∙◌}
 use Rattle.std.proofs.lemmas.Bool.{eqb-true}
 use Rattle.ledger_runs.proofs.Keeping.{same_next}
-use Rattle.rack_runs.proofs.Resumed.{over_cut, over_keeps, over_waves, over_none, none_of}
+use Rattle.rack_runs.proofs.Resumed.{over_cut, over_keeps, over_waves, over_none, none_of, over_told, over_told_none}
 use Rattle.rack_runs.proofs.over.run_over.Goals as goal
 
 pub returns-in-Err-clause-keeps : goal.returns-in-Err-clause-keeps
@@ -42,3 +42,14 @@ returns-in-Ok-run_files-clause-quiet g c =
     same_next (g.L.Turns.shape c.args.ledger.now) (g.L.Turns.shape c.resume_all.new.ledger) (g.L.Turns.journals c.args.ledger.now) (g.L.Turns.journals c.resume_all.new.ledger)
     (g.L.Turns.quiet c.args.ledger.now) (g.L.Turns.quiet c.resume_all.new.ledger) (g.L.Turns.quiet c.run_files.new.ledger)
     c.resume_all.ensures.shape c.resume_all.ensures.keeps c.in-Ok.ensures.quiet c.in-Ok-run_files.ensures.quiet
+
+pub returns-then-is_empty-clause-told : goal.returns-then-is_empty-clause-told
+returns-then-is_empty-clause-told g c =
+    over_told_none (g.L.Turns.shape c.args.ledger.now) (g.V.Verifier.verdict_of c.args.verifier.now) c.args.files.now (g.L.Turns.journals c.args.ledger.now) (g.L.Turns.journals c.resume_all.new.ledger) c.in-Ok.resumed.items _
+    (none_of c.args.files.now (eqb-true (length c.args.files.now) 0 (sym c.is_empty.ensures ∙ c.if-is_empty.true))) c.new.ensures.items
+    c.resume_all.ensures.keeps c.in-Ok.ensures.told c.in-Ok.ensures.prepares
+
+pub returns-in-Ok-run_files-clause-told : goal.returns-in-Ok-run_files-clause-told
+returns-in-Ok-run_files-clause-told g c =
+    over_told (g.L.Turns.shape c.args.ledger.now) (g.L.Turns.shape c.resume_all.new.ledger) (g.V.Verifier.verdict_of c.args.verifier.now) c.args.files.now (g.L.Turns.journals c.args.ledger.now) (g.L.Turns.journals c.resume_all.new.ledger) (g.L.Turns.journals c.run_files.new.ledger)
+    c.in-Ok.resumed.items c.in-Ok-run_files.waves.items c.resume_all.ensures.shape c.resume_all.ensures.keeps c.in-Ok.ensures.told c.in-Ok.ensures.prepares c.in-Ok-run_files.ensures.told

@@ -1,8 +1,8 @@
-use Rattle.std.proofs.Common.{◌≡◌, sym, subst}
+use Rattle.std.proofs.Common.{◌≡◌, length, sym, subst}
 use Rattle.cbdc_model.specs.Slots.{Idle}
 use Rattle.ledger_runs.specs.Turning.{phase_at, IsLaneOf, OfKept, DidBatch}
 use Rattle.ledger_nodes.specs.Ledgers.{journals_of, AreQuiet}
-use Rattle.ledger_nodes.proofs.Turns.{on_ok, on_err, if_ok, if_err, came_keeps, came_quiet, came_does}
+use Rattle.ledger_nodes.proofs.Turns.{on_ok, on_err, if_ok, if_err, came_keeps, came_quiet, came_does, came_full}
 use Rattle.ledger_nodes.proofs.lent.LentLedgerTurns.run_batch.Goals.{in-Ok, in-Err}
 use Rattle.ledger_nodes.proofs.lent.LentLedgerTurns.run_batch.Goals as goal
 
@@ -41,3 +41,10 @@ returns-clause-quiet g c = rw (← c.self.view_is) (elim c.match-drive_batch.bra
       (subst (λ v. phase_at v.header.shape (journals_of g.D.Disk.count g.D.Disk.limit v.header.shape v.logs v.shards) c.args.lane ≡ Idle) (sym c.self.view_is) c.requires.idle) c.args.txs.now w.in-Ok.report.batches w.in-Ok.ensures.done)
   | in-Err w ↦ on_err c.match-drive_batch.result w.in-Err.fault (OfKept c.self.inside.header.shape (journals_of g.D.Disk.count g.D.Disk.limit c.self.inside.header.shape c.self.inside.ports.log.logs.items c.self.inside.ports.shards.nodes.items) (λ _ _. AreQuiet c.self.inside.ports.log.logs.items c.self.inside.ports.shards.nodes.items → AreQuiet c.drive_batch.new.ports.log.logs.items c.drive_batch.new.ports.shards.nodes.items)) w.result-is
 ])
+
+pub returns-clause-full : goal.returns-clause-full
+returns-clause-full g c = elim c.match-drive_batch.branch [
+  | in-Ok w ↦ if_ok c.match-drive_batch.result w.only.result (λ r. length r.outcomes ≡ length c.args.txs.now) w.result-is
+      (came_full c.args.lane c.args.txs.now w.in-Ok.report.batches w.only.result w.only.ensures w.in-Ok.ensures.named)
+  | in-Err w ↦ if_err c.match-drive_batch.result w.in-Err.fault (λ r. length r.outcomes ≡ length c.args.txs.now) w.result-is
+]

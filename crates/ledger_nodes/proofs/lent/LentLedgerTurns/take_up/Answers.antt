@@ -1,6 +1,6 @@
 use Rattle.std.proofs.Common.{Some, None, refl, sym, subst}
 use Rattle.ledger_runs.specs.Turning.{IsLaneOf}
-use Rattle.ledger_nodes.proofs.Turns.{none_open, own_there, told_there, resumed_keeps, resumed_quiet, resumed_took}
+use Rattle.ledger_nodes.proofs.Turns.{none_open, own_there, told_there, resumed_keeps, resumed_quiet, resumed_took, is_opened}
 use Rattle.ledger_nodes.proofs.lent.LentLedgerTurns.take_up.Goals as goal
 
 pub open_lane-requires : goal.open_lane-requires
@@ -59,3 +59,9 @@ returns-in-Ok-drive_resume-clause-quiet g c = rw (← c.self.view_is)
     (resumed_quiet g.D.Disk.count g.D.Disk.limit g.D.Disk.content g.D.Disk.images c.self.inside.header c.args.lane c.self.inside.ports.log.logs.items c.self.inside.ports.shards.nodes.items c.self.invariant (subst (λ v. IsLaneOf v.header.shape c.args.lane) (sym c.self.view_is) c.requires.lane)
     c.drive_resume.new.ports.log.logs.items c.drive_resume.new.ports.shards.nodes.items c.drive_resume.ensures.step c.in-Some.unfinished
     (told_there g.D.Disk.count g.D.Disk.limit g.D.Disk.content g.D.Disk.images c.self.inside.header c.args.lane c.self.inside.ports.log.logs.items c.self.inside.ports.shards.nodes.items c.self.invariant (subst (λ v. IsLaneOf v.header.shape c.args.lane) (sym c.self.view_is) c.requires.lane) c.home-at.result c.index.result.now c.home-at.ensures.place c.index.ensures c.in-Ok.found (Some c.in-Some.unfinished) c.in-Ok.ensures c.in-Some.is) c.in-Ok-drive_resume.ensures.taken)
+
+pub returns-in-Ok-drive_resume-clause-opened : goal.returns-in-Ok-drive_resume-clause-opened
+returns-in-Ok-drive_resume-clause-opened g c = rw (← c.self.view_is)
+    (is_opened g.D.Disk.count g.D.Disk.limit g.D.Disk.content g.D.Disk.images c.self.inside.header c.args.lane c.self.inside.ports.log.logs.items c.self.inside.ports.shards.nodes.items c.self.invariant (subst (λ v. IsLaneOf v.header.shape c.args.lane) (sym c.self.view_is) c.requires.lane)
+    c.in-Some.unfinished (told_there g.D.Disk.count g.D.Disk.limit g.D.Disk.content g.D.Disk.images c.self.inside.header c.args.lane c.self.inside.ports.log.logs.items c.self.inside.ports.shards.nodes.items c.self.invariant (subst (λ v. IsLaneOf v.header.shape c.args.lane) (sym c.self.view_is) c.requires.lane) c.home-at.result c.index.result.now c.home-at.ensures.place c.index.ensures c.in-Ok.found (Some c.in-Some.unfinished) c.in-Ok.ensures c.in-Some.is)
+    c.in-Ok-drive_resume.batch c.in-Ok-drive_resume.ensures.resumed)

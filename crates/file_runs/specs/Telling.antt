@@ -1,0 +1,21 @@
+-- What the waves of files tell of their submissions.
+use Rattle.std.specs.Prelude.{◌≡◌, ℕ, ◌*◌, Bool, List, [], ◌∷◌, length}
+use Rattle.cbdc_model.specs.Records.{Shape, Record}
+use Rattle.cbdc_model.specs.Coins.{FullTx}
+use Rattle.cbdc_model.specs.Waves.{IsFileRun, sent_to}
+use Rattle.submissions.specs.Checks.{VerdictsOf, TellsSound, AreChecked}
+use Rattle.ledger_runs.specs.Telling.{AllTell}
+use Rattle.file_runs.specs.declared.waves.Wave.{Wave}
+
+-- of a file that was run from journals I to J: what a sentinel said of each submission, and what was decided of those that its lanes got
+pub record TellsFile (K : Shape) (verdicts : VerdictsOf) (file : List FullTx) (I J : ℕ → List Record) (w : Wave) : Type 0 where
+  pub checked : AreChecked K verdicts file w.checked.items
+  pub count : length w.lanes.items ≡ K.coordinators * K.lanes
+  pub runs : (sound : FullTx → Bool) → TellsSound verdicts sound → IsFileRun K (sent_to K sound file) I J
+  pub tell : AllTell K I J w.lanes.items
+
+-- of files that were run one after another
+abbrev pub TellFiles : Shape → VerdictsOf → List (List FullTx) → (ℕ → List Record) → (ℕ → List Record) → List Wave → Type 0
+TellFiles K verdicts [] I J ws = (ws ≡ []) × ((n : ℕ) → J n ≡ I n)
+TellFiles K verdicts (file ∷ files) I J ws =
+    (M : ℕ → List Record) × (w : Wave) × (more : List Wave) × (ws ≡ w ∷ more) × TellsFile K verdicts file I M w × TellFiles K verdicts files M J more

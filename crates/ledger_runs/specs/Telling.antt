@@ -1,0 +1,101 @@
+-- What lanes tell of their batches: what was decided of each transaction, by what their coordinators wrote down.
+use Rattle.std.specs.Prelude.{◌≡◌, ◌⊎◌, ℕ, zero, suc, ◌+◌, ◌*◌, ◌<◌, List, [], ◌∷◌, ◌++◌, map, min, length, Option, Some, None}
+use Rattle.cbdc_model.specs.Records.{Shape, Batch, Compact, Outcome, Record, outcomes_of}
+use Rattle.cbdc_model.specs.Slots.{Idle}
+use Rattle.cbdc_model.specs.Ranges.{home_of}
+use Rattle.cbdc_model.specs.Due.{open_batch}
+use Rattle.cbdc_model.specs.Waves.{prepared}
+use Rattle.cbdc_model.specs.Places.{Sized, sized_onto}
+use Rattle.lane_driver.specs.declared.fault.BatchReport.{BatchReport}
+use Rattle.recovery.specs.declared.resumed.ResumedBatch.{ResumedBatch}
+use Rattle.recovery.specs.Open.{phase_of}
+use Rattle.ledger_runs.specs.Turning.{phase_at, listed, DidBatch, TookUp}
+use Rattle.ledger_runs.specs.Waving.{EachLane}
+use Rattle.ledger_runs.specs.declared.lanes.Decided.{Decided}
+use Rattle.ledger_runs.specs.declared.lanes.Lane.{Lane}
+
+-- ---- batches that were open
+
+-- the batch is the lane's open one
+abbrev pub IsOpened : Shape → ℕ → (ℕ → List Record) → Option ResumedBatch → Type 0
+IsOpened K lane I None = Unit {0}
+IsOpened K lane I (Some r) = r.batch ≡ open_batch (I (home_of K lane)) lane
+
+-- a lane's batch that was open in journals E: which it is, the phase in which it stood, and what is decided of it in journals X
+pub record TellsResumed (K : Shape) (lane : ℕ) (E X : ℕ → List Record) (r : ResumedBatch) : Type 0 where
+  pub batch_is : r.batch ≡ open_batch (E (home_of K lane)) lane
+  pub phase_is : phase_of r.phase ≡ phase_at K E lane
+  pub outcomes_are : r.outcomes ≡ outcomes_of (X (home_of K lane)) r.batch
+
+abbrev pub IsResumedAt : Shape → ℕ → (ℕ → List Record) → (ℕ → List Record) → Option ResumedBatch → Type 0
+IsResumedAt K lane E X None = phase_at K E lane ≡ Idle
+IsResumedAt K lane E X (Some r) = TellsResumed K lane E X r
+
+-- one of each lane below n that was open, in rising order
+abbrev pub TellResumed : Shape → (ℕ → List Record) → (ℕ → List Record) → ℕ → List ResumedBatch → Type 0
+TellResumed K E X zero rs = rs ≡ []
+TellResumed K E X (suc lane) rs = (before : List ResumedBatch) × (found : Option ResumedBatch) × TellResumed K E X lane before × IsResumedAt K lane E X found × (rs ≡ before ++ listed found)
+
+-- what came of a lane's open batch is kept behind what came of others
+abbrev pub TakesUp : Shape → ℕ → (ℕ → List Record) → (ℕ → List Record) → List ResumedBatch → List ResumedBatch → Type 0
+TakesUp K lane I J before after = (found : Option ResumedBatch) × TookUp K lane I J found × IsOpened K lane I found × (after ≡ before ++ listed found)
+
+-- no lane has a new Prepare
+abbrev pub SamePrepared : Shape → (ℕ → List Record) → (ℕ → List Record) → Type 0
+SamePrepared K I J = (lane : ℕ) → prepared lane (J (home_of K lane)) ≡ prepared lane (I (home_of K lane))
+
+-- ---- what is decided of transactions
+
+-- the outcomes of a batch, each with the batch
+abbrev pub decided_in : Batch → List Outcome → List (Batch × Outcome)
+decided_in b os = map (λ o. (b, o)) os
+
+-- what a journal J decides of the transactions of batches, in order
+abbrev pub decided_of : List Record → List Sized → List (Batch × Outcome)
+decided_of J [] = []
+decided_of J (s ∷ more) = decided_in s.batch (outcomes_of J s.batch) ++ decided_of J more
+
+-- each batch has a transaction, and an outcome for each
+abbrev pub AreDecided : List Record → List Sized → Type 0
+AreDecided J [] = Unit {0}
+AreDecided J (s ∷ more) = (0 < s.size) × (length (outcomes_of J s.batch) ≡ s.size) × AreDecided J more
+
+-- what is kept of these batches: what was decided of each of their transactions, in order, and how many batches they are, as far as 64 bits count
+pub record KeepsDecided (J : List Record) (S : List Sized) (kept : List (Batch × Outcome)) (count : ℕ) : Type 0 where
+  pub decided : kept ≡ decided_of J S
+  pub each : AreDecided J S
+  pub count_is : count ≡ min (length S) 18446744073709551615
+
+-- what a lane keeps, each with its batch
+abbrev pub kept_by : List Decided → List (Batch × Outcome)
+kept_by ds = map (λ d. (d.batch, d.outcome)) ds
+
+-- a lane took in what came of a batch
+abbrev pub TakesIn : Lane → Lane → BatchReport → Type 0
+TakesIn old new r = (kept_by new.decided.items ≡ kept_by old.decided.items ++ decided_in r.batch r.outcomes) × (new.batches ≡ min (old.batches + 1) 18446744073709551615)
+
+-- in its turn a lane did nothing; or it did a batch and took in what came of it
+abbrev pub TellsTurn : Shape → ℕ → Lane → Lane → (ℕ → List Record) → (ℕ → List Record) → Type 0
+TellsTurn K lane old new I J =
+    (((n : ℕ) → J n ≡ I n) × (new.decided.items ≡ old.decided.items) × (new.batches ≡ old.batches))
+    ⊎ ((txs : List Compact) × (r : BatchReport) × DidBatch K lane txs I J r × (0 < length txs) × (length r.outcomes ≡ length txs) × TakesIn old new r)
+
+-- a lane has kept what is decided of each transaction that it prepared newly, from journals E to I
+abbrev pub TellsSince : Shape → (ℕ → List Record) → (ℕ → List Record) → ℕ → Lane → Type 0
+TellsSince K E I lane x = (more : List Record) × (I (home_of K lane) ≡ more ++ E (home_of K lane))
+    × KeepsDecided (I (home_of K lane)) (sized_onto lane more []) (kept_by x.decided.items) x.batches
+
+abbrev pub TellSince : Shape → (ℕ → List Record) → (ℕ → List Record) → List Lane → Type 0
+TellSince K E I lanes = EachLane (TellsSince K E I) lanes
+
+-- the same of all records that came
+abbrev pub TellsNew : Shape → (ℕ → List Record) → (ℕ → List Record) → ℕ → Lane → Type 0
+TellsNew K I J lane x = (more : List Record) → J (home_of K lane) ≡ more ++ I (home_of K lane)
+    → KeepsDecided (J (home_of K lane)) (sized_onto lane more []) (kept_by x.decided.items) x.batches
+
+abbrev pub AllTell : Shape → (ℕ → List Record) → (ℕ → List Record) → List Lane → Type 0
+AllTell K I J lanes = EachLane (TellsNew K I J) lanes
+
+-- no lane has had a turn
+abbrev pub AreFresh : List Lane → Type 0
+AreFresh lanes = EachLane (λ lane x. (x.decided.items ≡ []) × (x.batches ≡ 0)) lanes
