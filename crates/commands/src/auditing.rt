@@ -7,6 +7,7 @@ ghost use Rattle.printed_lines.specs.Reports.{audit_lines};
 ghost use Rattle.commands.specs.Causes.{IsFault, IsDone, IsTold, IsWell, OnePlace, OneRose, FileRose};
 ghost use Rattle.commands.specs.Audits.{WasAudited, DidAudit, WhyUnaudited, WhyNoAudit};
 ghost use Rattle.commands.specs.Texts.{IsPrinted, IsSilent};
+ghost use Rattle.commands.specs.Left.{IsBeforeDisks};
 
 use audit::{Totals, Verdict};
 use audited_ledgers::audit_on;
@@ -42,6 +43,7 @@ fn audit_all<I: Inbox, R: Rack>(
     ensures why { IfErr result (WhyUnaudited (I.file inbox.old) (I.count inbox.old) (I.count inbox.new) R.Disk.content R.Disk.images R.Disk.limit R.Disk.count (R.held rack.old) (R.count rack.old) (R.count rack.new) mint.now clients.now) }
     ensures held { (n : ℕ) → IsBack R.Disk.images R.Disk.limit (R.held rack.old n) (R.held rack.new n) }
     ensures fault { IfErr result (IsFault (λ place. (place ≡ mint.now.place) ⊎ OnePlace clients.now place) (λ place. FileRose (I.count inbox.old) (I.count inbox.new) mint.now place ⊎ OneRose (I.count inbox.old) (I.count inbox.new) clients.now place)) }
+    ensures untouched { IfErr result (λ e. IsBeforeDisks e → rack.new ≡ rack.old) }
     ensures back { (n : ℕ) → R.can_take rack.new n }
 {
     let mint = match mint_in(alloc, inbox, mint) {
@@ -64,6 +66,7 @@ fn print<O: Sink>(out: &mut O, totals: &Totals) -> Answer
     ensures shown { IsWell result }
     ensures prints { IsPrinted (O.taken out.old) (O.taken out.new) result (audit_lines totals.now) }
     ensures silent { IsSilent (O.taken out.old) (O.taken out.new) result }
+    ensures behind { IsBeforeDisks result → ⊥ }
     ensures later { O.count out.old ≤ O.count out.new }
 {
     let summary = AuditSummary {
@@ -94,6 +97,7 @@ pub(crate) fn audit<I: Inbox, R: Rack, O: Sink>(
     ensures why { IsTold (WhyNoAudit (I.file inbox.old) (I.count inbox.old) (I.count inbox.new) R.Disk.content R.Disk.images R.Disk.limit R.Disk.count (R.held rack.old) (R.held rack.new) (R.count rack.old) (R.count rack.new) mint.now clients.now) result }
     ensures silent { IsSilent (O.taken out.old) (O.taken out.new) result }
     ensures written_later { O.count out.old ≤ O.count out.new }
+    ensures untouched { IsBeforeDisks result → rack.new ≡ rack.old }
     ensures back { (n : ℕ) → R.can_take rack.new n }
 {
     match audit_all(alloc, mint, clients, inbox, rack) {

@@ -8,6 +8,7 @@ ghost use Rattle.command_line.specs.declared.request.Request.{Request as Asked};
 ghost use Rattle.commands.specs.Causes.{IsAnswered, IsDone, IsTold, IsWell, NamedRose, RequestPlace, RequestRose};
 ghost use Rattle.commands.specs.Sizes.{IsSized};
 ghost use Rattle.commands.specs.Outcomes.{Did, Why};
+ghost use Rattle.commands.specs.Left.{IsBeforeDisks, Leaves};
 ghost use Rattle.line_text.specs.Lines.{Text};
 ghost use Rattle.outside.specs.Counts.{Rose};
 ghost use Rattle.printed_lines.specs.Reports.{name_in};
@@ -93,6 +94,8 @@ fn answer_to<W: Wait, I: Inbox, R: Rack, O: Sink, G: Gate>(
     ensures cause { IsDone (RequestPlace request.now) (RequestRose request.now (I.count inbox.old) (I.count inbox.new)) (Rose (O.count out.old) (O.count out.new)) result }
     ensures did { IsWell result → Did (I.file inbox.old) R.Disk.content R.Disk.images R.Disk.limit (R.held rack.old) (R.held rack.new) (IsPrinted (O.taken out.old) (O.taken out.new) result) request.now }
     ensures why { IsTold (Why (I.file inbox.old) (I.count inbox.old) (I.count inbox.new) R.Disk.content R.Disk.images R.Disk.limit R.Disk.count (R.held rack.old) (R.held rack.new) (R.count rack.old) (R.count rack.new) request.now) result }
+    ensures untouched { IsBeforeDisks result → rack.new ≡ rack.old }
+    ensures left { (IsWell result → ⊥) → (rack.new ≡ rack.old) ⊎ Leaves (I.file inbox.old) R.Disk.content R.Disk.images R.Disk.limit (R.held rack.old) (R.held rack.new) request.now result }
     ensures silent { IsSilent (O.taken out.old) (O.taken out.new) result }
     ensures written_later { O.count out.old ≤ O.count out.new }
 {
@@ -127,6 +130,8 @@ fn answer_words<W: Wait, I: Inbox, R: Rack, O: Sink, G: Gate>(
     ensures told { IsRefused (texts words.now) WordsFault.Bad → (result ≡ Answer.BadWords) ⊎ (result ≡ Answer.Memory) }
     ensures did { IsWell result → (r : Asked) × IsAsked (texts words.now) r × Did (I.file inbox.old) R.Disk.content R.Disk.images R.Disk.limit (R.held rack.old) (R.held rack.new) (IsPrinted (O.taken out.old) (O.taken out.new) result) r }
     ensures why { IsTold (λ a. (r : Asked) × IsAsked (texts words.now) r × Why (I.file inbox.old) (I.count inbox.old) (I.count inbox.new) R.Disk.content R.Disk.images R.Disk.limit R.Disk.count (R.held rack.old) (R.held rack.new) (R.count rack.old) (R.count rack.new) r a) result }
+    ensures untouched { IsBeforeDisks result → rack.new ≡ rack.old }
+    ensures left { (IsWell result → ⊥) → (rack.new ≡ rack.old) ⊎ ((r : Asked) × IsAsked (texts words.now) r × Leaves (I.file inbox.old) R.Disk.content R.Disk.images R.Disk.limit (R.held rack.old) (R.held rack.new) r result) }
     ensures silent { IsSilent (O.taken out.old) (O.taken out.new) result }
     ensures written_later { O.count out.old ≤ O.count out.new }
 {
@@ -164,6 +169,14 @@ pub fn process<W: Wait, I: Inbox, R: Rack, O: Sink, G: Gate>(
     // And why not: a file that is not read, a ledger that can't be made or opened, a fault of a lane and what it leaves, or the first place
     // at which an audit finds something wrong, and what it is.
     ensures why { IsTold (λ a. (r : Asked) × IsAsked (texts words.now) r × Why (I.file inbox.old) (I.count inbox.old) (I.count inbox.new) R.Disk.content R.Disk.images R.Disk.limit R.Disk.count (R.held rack) (R.held result.rack) (R.count rack) (R.count result.rack) r a) result.status }
+
+    // Where words are bad, a file is not read or a mint is too much, the rack is as it was.
+    ensures untouched { IsBeforeDisks result.status → result.rack ≡ rack }
+
+    // Where a ledger was not made, all disks are as they were or as they were read; or the writing of first records stopped at a node that
+    // has no room or whose disk failed: those below it are as they were read, those above it hold their first records, and a crash leaves of
+    // its own no first record, or what it might have left before, or, where the disk failed, the new one alone.
+    ensures left { (IsWell result.status → ⊥) → (result.rack ≡ rack) ⊎ ((r : Asked) × IsAsked (texts words.now) r × Leaves (I.file inbox.old) R.Disk.content R.Disk.images R.Disk.limit (R.held rack) (R.held result.rack) r result.status) }
 
     ensures bad_words { result.status ≡ Answer.BadWords → IsRefused (texts words.now) WordsFault.Bad }
     ensures told { IsRefused (texts words.now) WordsFault.Bad → (result.status ≡ Answer.BadWords) ⊎ (result.status ≡ Answer.Memory) }

@@ -1,3 +1,4 @@
+use Rattle.commands.proofs.Untouched.{not_refused}
 use Rattle.std.proofs.Common.{◌∙◌, inl, inr, subst, refl}
 use Rattle.input_files.specs.Contents.{mint_of_file}
 use Rattle.file_runs.specs.Runs.{joined}
@@ -74,3 +75,6 @@ returns-clause-why g c =
 
 pub returns-clause-fault : goal.returns-clause-fault
 returns-clause-fault g c = if_err_by _ _ c.audit_on.result (λ e kind. refusal_fault _ _ e kind) c.audit_on.ensures.kind
+
+pub returns-clause-untouched : goal.returns-clause-untouched
+returns-clause-untouched g c = if_err_by _ _ c.audit_on.result (λ e kind before. absurd (not_refused e kind before)) c.audit_on.ensures.kind
