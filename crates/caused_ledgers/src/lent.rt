@@ -9,7 +9,7 @@ use shard_node::ShardNode;
 use std::alloc::AllocError;
 
 /// Puts the journals of coordinators behind others, the oldest record first.
-pub(crate) fn lend_logs<'a, D: Disk>(
+pub fn lend_logs<'a, D: Disk>(
     logs: &'a [CoordLog<D>],
     all: &mut Vec<&'a [Record]>,
 ) -> Result<(), AllocError>
@@ -22,7 +22,7 @@ pub(crate) fn lend_logs<'a, D: Disk>(
 }
 
 /// Puts the journals of shards behind others, the oldest record first.
-pub(crate) fn lend_shards<'a, D: Disk>(
+pub fn lend_shards<'a, D: Disk>(
     shards: &'a [ShardNode<D>],
     all: &mut Vec<&'a [Record]>,
 ) -> Result<(), AllocError>

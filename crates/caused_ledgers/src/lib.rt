@@ -5,3 +5,4 @@ mod caused;
 mod lent;
 
 pub use caused::open_caused;
+pub use lent::{lend_logs, lend_shards};

@@ -1,12 +1,12 @@
 -- What client files and mint files hold, and the first fault of one.
-use Rattle.std.specs.Prelude.{◌≡◌, ℕ, ◌+◌, ◌-◌, ◌==◌, List, [], ◌∷◌, length, Bool, true, false, Option, Some, None, Result, Ok, Err, if◌then◌else◌}
+use Rattle.std.specs.Prelude.{◌≡◌, ℕ, ◌+◌, ◌-◌, ◌==◌, List, [], ◌∷◌, length, Bool, true, false, Option, Some, None, Result, Ok, Err, nat_lt, if◌then◌else◌}
 use Rattle.cbdc_types.specs.declared.answer.InputKind.{InputKind}
 use Rattle.cbdc_types.specs.declared.answer.InputKind.TheVariants.{Cut, TooMany, TooLong, Zero, Extra, Large, Form, Repeated}
 use Rattle.cbdc_types.specs.declared.tx.Output.{Output}
 use Rattle.cbdc_types.specs.declared.tx.FullTx.{FullTx}
 use Rattle.byte_fields.specs.declared.fault.Fault.{Fault}
 use Rattle.byte_fields.specs.Faults.{◌>>=◌, fault}
-use Rattle.byte_fields.specs.Reading.{list_at}
+use Rattle.byte_fields.specs.Reading.{number_at, items_at, list_at}
 use Rattle.byte_fields.specs.Transactions.{output_at, transaction_at}
 use Rattle.client_files.specs.declared.fault.BadFile.{BadFile}
 use Rattle.client_files.specs.declared.fault.FileFault.{FileFault}
@@ -35,9 +35,15 @@ ended_by items (Some f) = Err f
 abbrev pub ended : {X : Type 0} → Bool → X × List ℕ → Result X Fault
 ended more read = ended_by read.0 (extra more read.1)
 
+-- so many transactions as a number says: with those of the files before it at most 1,000,000
+unfoldable pub counted_behind : ℕ → List ℕ → Result (List FullTx × List ℕ) Fault
+counted_behind before bytes = do
+  n ← number_at bytes
+  if nat_lt 1000000 (before + n.0) then Err (fault TooMany bytes) else items_at transaction_at n.0 n.1
+
 -- the transactions of a client file, where so many stand in the files before it
 abbrev pub clients_in : ℕ → Bool → List ℕ → Result (List FullTx) BadFile
-clients_in before more bytes = placed (length bytes) more (list_at (1000000 - before) transaction_at bytes >>= ended more)
+clients_in before more bytes = placed (length bytes) more (counted_behind before bytes >>= ended more)
 
 -- an output of value at least 1
 abbrev pub minted_at : List ℕ → Result (Output × List ℕ) Fault

@@ -2,7 +2,7 @@
 use Rattle.std.proofs.Common.{rules, ◌≡◌, ◌∙◌, List, [], ◌∷◌, Option, Some, inl, inr, refl, sym, ap, subst, codes}
 use Rattle.clap.specs.Words.{Row, Text, Kinds, all_of, fault_of, first_of, subcommand_of}
 use Rattle.clap.specs.Kinds.{or_else}
-use Rattle.command_line.specs.Asked.{HasMistake, HasNoHashes, HasNoShape, HasWish, IsRefused, Meets, faults_of, help_words, topic_faults}
+use Rattle.command_line.specs.Asked.{HasMistake, HasNoHashes, HasNoShape, HasNoWorkload, HasWish, IsRefused, Meets, faults_of, help_words, topic_faults}
 use Rattle.command_line.specs.Command.{hamilton}
 use Rattle.command_line.specs.declared.request.WordsFault.{WordsFault}
 use Rattle.command_line.specs.declared.request.WordsFault.TheVariants.{Bad, Memory}
@@ -23,5 +23,9 @@ refused_shape words rows Memory m none = tt
 
 pub refused_hashes : (words given : List Text) (rows : List Row) (e : WordsFault) → Meets words (codes "status") rows → all_of (codes "hash") rows ≡ Some given
     → (e ≡ Bad → HasNoHashes given) → IsRefused words e
-refused_hashes words given rows Bad m all none = inr (inr (rows, given, m, all, none refl))
+refused_hashes words given rows Bad m all none = inr (inr (inl (rows, given, m, all, none refl)))
 refused_hashes words given rows Memory m all none = tt
+
+pub refused_workload : (words : List Text) (rows : List Row) (e : WordsFault) → Meets words (codes "gen") rows → (e ≡ Bad → HasNoWorkload rows) → IsRefused words e
+refused_workload words rows Bad m none = inr (inr (inr (rows, m, none refl)))
+refused_workload words rows Memory m none = tt

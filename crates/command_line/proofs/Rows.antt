@@ -9,7 +9,7 @@ use Rattle.clap.specs.declared.error.kind.ErrorKind.{ErrorKind}
 use Rattle.clap.specs.declared.error.kind.ErrorKind.TheVariants.{OutOfMemory}
 use Rattle.command_line.specs.Asked.{is_mistake, is_wish, HasMistake, HasWish, IsAsked, IsRefused, IsShow, faults_of}
 use Rattle.command_line.specs.declared.request.Request.{Request}
-use Rattle.command_line.specs.declared.request.Request.TheVariants.{Init, Run, Recover, Status, Audit, Show}
+use Rattle.command_line.specs.declared.request.Request.TheVariants.{Init, Run, Recover, Status, Audit, Gen, Show}
 use Rattle.command_line.specs.declared.request.WordsFault.{WordsFault}
 use Rattle.command_line.specs.declared.request.WordsFault.TheVariants.{Bad, Memory}
 
@@ -44,6 +44,7 @@ asked_by_wish words (Ok (Run verdicts clients)) shows wish = absurd shows
 asked_by_wish words (Ok Recover) shows wish = absurd shows
 asked_by_wish words (Ok (Audit mint clients)) shows wish = absurd shows
 asked_by_wish words (Ok (Status hashes)) shows wish = absurd shows
+asked_by_wish words (Ok (Gen shape seed count)) shows wish = absurd shows
 asked_by_wish words (Err e) shows wish = tt
 
 -- bad words are refused by a mistake

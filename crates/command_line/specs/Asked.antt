@@ -8,11 +8,11 @@ use Rattle.clap.specs.Kinds.{or_else}
 use Rattle.clap.specs.declared.error.kind.ErrorKind.{ErrorKind}
 use Rattle.clap.specs.declared.error.kind.ErrorKind.TheVariants.{DisplayHelp, DisplayVersion, OutOfMemory}
 use Rattle.command_line.specs.Command.{hamilton}
-use Rattle.command_line.specs.Values.{IsHashText, IsNumber}
+use Rattle.command_line.specs.Values.{IsHashText, IsNumber, IsWhole}
 use Rattle.command_line.specs.Words.{AreFiles, IsGivenThere, StandsThere}
 use Rattle.command_line.specs.declared.request.FileWord.{FileWord}
 use Rattle.command_line.specs.declared.request.Request.{Request}
-use Rattle.command_line.specs.declared.request.Request.TheVariants.{Init, Run, Recover, Status, Audit, Show}
+use Rattle.command_line.specs.declared.request.Request.TheVariants.{Init, Run, Recover, Status, Audit, Gen, Show}
 use Rattle.command_line.specs.declared.request.WordsFault.{WordsFault}
 use Rattle.command_line.specs.declared.request.WordsFault.TheVariants.{Bad, Memory}
 
@@ -80,6 +80,17 @@ HasNoShape rows =
     HasNoNumber rows (codes "shards") 64
     ⊎ (HasNoNumber rows (codes "coordinators") 16 ⊎ (HasNoNumber rows (codes "lanes") 16 ⊎ HasNoNumber rows (codes "batch") 1024))
 
+-- the workload's seed is this number, or is none
+abbrev pub HasSeed : List Row → ℕ → Type 0
+HasSeed rows seed = (text : Text) × (first_of (codes "seed") rows ≡ Some text) × IsWhole text seed
+
+abbrev pub HasNoSeed : List Row → Type 0
+HasNoSeed rows = (text : Text) × (first_of (codes "seed") rows ≡ Some text) × ((n : ℕ) → ¬ (IsWhole text n))
+
+-- a number of `gen` is out of form
+abbrev pub HasNoWorkload : List Row → Type 0
+HasNoWorkload rows = HasNoShape rows ⊎ (HasNoSeed rows ⊎ HasNoNumber rows (codes "count") 10000)
+
 -- a text that is no hash is among these
 abbrev pub HasNoHashes : List Text → Type 0
 HasNoHashes given = (text : Text) × Contains given text × (¬ (IsHashText text))
@@ -115,19 +126,24 @@ IsAudit words rows mint clients =
     Meets words (codes "audit") rows × (first_of (codes "mint") rows ≡ Some mint.name.now) × StandsThere words mint
     × AreFiles words (listed (all_of (codes "client") rows)) clients
 
+abbrev pub IsGen : List Text → List Row → ShapeOf → ℕ → ℕ → Type 0
+IsGen words rows shape seed count = Meets words (codes "gen") rows × HasShape rows shape × HasSeed rows seed × HasNumber rows (codes "count") 10000 count
+
 abbrev pub IsAsked : List Text → Request → Type 0
 IsAsked words (Init shape mint) = (rows : List Row) × IsInit words rows shape mint
 IsAsked words (Run verdicts clients) = (rows : List Row) × IsRun words rows verdicts clients.items
 IsAsked words Recover = (rows : List Row) × Meets words (codes "recover") rows
 IsAsked words (Status hashes) = (rows : List Row) × IsStatus words rows hashes.items
 IsAsked words (Audit mint clients) = (rows : List Row) × IsAudit words rows mint clients.items
+IsAsked words (Gen shape seed count) = (rows : List Row) × IsGen words rows shape seed count
 IsAsked words (Show text) = HasWish (faults_of words)
 
--- a value is out of form: a number of `init`, or a hash of `status`
+-- a value is out of form: a number of `init` or of `gen`, or a hash of `status`
 abbrev pub HasBadValue : List Text → Type 0
 HasBadValue words =
     ((rows : List Row) × Meets words (codes "init") rows × HasNoShape rows)
-    ⊎ ((rows : List Row) × (given : List Text) × Meets words (codes "status") rows × (all_of (codes "hash") rows ≡ Some given) × HasNoHashes given)
+    ⊎ (((rows : List Row) × (given : List Text) × Meets words (codes "status") rows × (all_of (codes "hash") rows ≡ Some given) × HasNoHashes given)
+    ⊎ ((rows : List Row) × Meets words (codes "gen") rows × HasNoWorkload rows))
 
 abbrev pub IsRefused : List Text → WordsFault → Type 0
 IsRefused words Bad = HasMistake (faults_of words) ⊎ HasBadValue words

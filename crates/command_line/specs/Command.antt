@@ -21,17 +21,17 @@ some id = record (required id) { range = Some (record { start_inclusive = 1; end
 abbrev pub option : Text → Text → Rule
 option id default = record (new_rule id) { long = Some id; value_names = 1; defaults = default ∷ [] }
 
-abbrev pub shards_rule : Rule
-shards_rule = option (codes "shards") (codes "1")
+abbrev pub shards_rule : Text → Rule
+shards_rule = option (codes "shards")
 
-abbrev pub coordinators_rule : Rule
-coordinators_rule = option (codes "coordinators") (codes "1")
+abbrev pub coordinators_rule : Text → Rule
+coordinators_rule = option (codes "coordinators")
 
-abbrev pub lanes_rule : Rule
-lanes_rule = option (codes "lanes") (codes "1")
+abbrev pub lanes_rule : Text → Rule
+lanes_rule = option (codes "lanes")
 
-abbrev pub batch_rule : Rule
-batch_rule = option (codes "batch") (codes "16")
+abbrev pub batch_rule : Text → Rule
+batch_rule = option (codes "batch")
 
 abbrev pub mint_rule : Rule
 mint_rule = required (codes "mint")
@@ -49,6 +49,12 @@ rest_rule = record (some (codes "client")) { required = false }
 abbrev pub hash_rule : Rule
 hash_rule = some (codes "hash")
 
+abbrev pub seed_rule : Rule
+seed_rule = required (codes "seed")
+
+abbrev pub count_rule : Rule
+count_rule = required (codes "count")
+
 -- a word that may be left out
 abbrev pub topic_rule : Rule
 topic_rule = record (new_rule (codes "command")) { value_names = 1 }
@@ -59,15 +65,21 @@ topic_rule = record (new_rule (codes "command")) { value_names = 1 }
 abbrev pub with_arg : Shape → Rule → Shape
 with_arg s r = record s { rules = s.rules ++ r ∷ [] }
 
--- `init` with its first two options, with all four, and with its word
-abbrev pub nodes_shape : Shape
-nodes_shape = with_arg (with_arg (new_app (codes "init")).top shards_rule) coordinators_rule
+-- a command of this name with the first two options of a ledger's shape, and with all four, by what they are where they are left out
+abbrev pub nodes_shape : Text → Text → Text → Shape
+nodes_shape name shards coordinators = with_arg (with_arg (new_app name).top (shards_rule shards)) (coordinators_rule coordinators)
 
-abbrev pub sized_shape : Shape
-sized_shape = with_arg (with_arg nodes_shape lanes_rule) batch_rule
+abbrev pub sized_shape : Shape → Text → Text → Shape
+sized_shape s lanes batch = with_arg (with_arg s (lanes_rule lanes)) (batch_rule batch)
 
 abbrev pub init_shape : Shape
-init_shape = with_arg sized_shape mint_rule
+init_shape = with_arg (sized_shape (nodes_shape (codes "init") (codes "1") (codes "1")) (codes "1") (codes "16")) mint_rule
+
+abbrev pub gen_sizes : Shape
+gen_sizes = sized_shape (nodes_shape (codes "gen") (codes "4") (codes "2")) (codes "2") (codes "16")
+
+abbrev pub gen_shape : Shape
+gen_shape = with_arg (with_arg gen_sizes seed_rule) count_rule
 
 abbrev pub run_shape : Shape
 run_shape = (with_rule (with_rule (new_app (codes "run")) verdicts_rule) client_rule).top
@@ -103,8 +115,12 @@ main = with_subcommand (with_subcommand (with_settings (new_app (codes "hamilton
 abbrev pub looks : App
 looks = with_subcommand (with_subcommand main recover_shape) status_shape
 
+-- the first six
+abbrev pub checks : App
+checks = with_subcommand (with_subcommand looks audit_shape) gen_shape
+
 abbrev pub hamilton : App
-hamilton = with_subcommand (with_subcommand looks audit_shape) help_shape
+hamilton = with_subcommand checks help_shape
 
 -- an argument with this rule, of one level
 pub record IsArg (a : Arg) (r : Rule) : Type 0 where

@@ -1,5 +1,5 @@
 -- What texts among the words spell.
-use Rattle.std.specs.Prelude.{◌≡◌, ◌≤◌, ℕ, length, decimal}
+use Rattle.std.specs.Prelude.{◌≡◌, ◌≤◌, ◌<◌, ◌^◌, ℕ, length, decimal}
 use Rattle.std.specs.List.{AllPass}
 use Rattle.hex.specs.Hex.{is_hex_digit}
 use Rattle.clap.specs.Words.{Text}
@@ -9,6 +9,11 @@ pub record IsNumber (most : ℕ) (text : Text) (n : ℕ) : Type 0 where
   pub spelled : text ≡ decimal n
   pub some : 1 ≤ n
   pub bound : n ≤ most
+
+-- the text spells the number in decimal digits, and 64 bits hold it
+pub record IsWhole (text : Text) (n : ℕ) : Type 0 where
+  pub spelled : text ≡ decimal n
+  pub bound : n < 2 ^ 64
 
 -- 64 hexadecimal digits, in either case
 pub record IsHashText (text : Text) : Type 0 where

@@ -1,48 +1,48 @@
 // The command as clap reads it. Each function states what the definitions say of its part.
 ghost use Rattle.std.specs.Prelude.{◌≡◌, codes, IfOk};
 ghost use Rattle.clap.specs.Words.{app_of, new_app};
-ghost use Rattle.command_line.specs.Command.{IsArg, IsLeaf, IsTop, with_settings, shards_rule, coordinators_rule, lanes_rule, batch_rule, mint_rule, verdicts_rule, client_rule, rest_rule, hash_rule, topic_rule, nodes_shape, sized_shape, init_shape, run_shape, recover_shape, status_shape, audit_shape, help_shape, main, looks, hamilton};
+ghost use Rattle.command_line.specs.Command.{IsArg, IsLeaf, IsTop, with_settings, shards_rule, coordinators_rule, lanes_rule, batch_rule, mint_rule, verdicts_rule, client_rule, rest_rule, hash_rule, topic_rule, seed_rule, count_rule, nodes_shape, sized_shape, init_shape, run_shape, recover_shape, status_shape, audit_shape, gen_sizes, gen_shape, help_shape, main, looks, checks, hamilton};
 
 use clap::{Arg, Command};
 use std::alloc::{AllocError, Global};
 
-fn shards_arg<'a>(alloc: Global) -> Arg<'a>
-    ensures { IsArg result shards_rule }
+fn shards_arg<'a>(alloc: Global, default: &'a str) -> Arg<'a>
+    ensures { IsArg result (shards_rule default.now) }
 {
     Arg::new(alloc, "shards")
         .long("shards")
         .value_name("N")
-        .default_value("1")
+        .default_value(default)
         .help("How many shards, 1 to 64")
 }
 
-fn coordinators_arg<'a>(alloc: Global) -> Arg<'a>
-    ensures { IsArg result coordinators_rule }
+fn coordinators_arg<'a>(alloc: Global, default: &'a str) -> Arg<'a>
+    ensures { IsArg result (coordinators_rule default.now) }
 {
     Arg::new(alloc, "coordinators")
         .long("coordinators")
         .value_name("N")
-        .default_value("1")
+        .default_value(default)
         .help("How many coordinators, 1 to 16")
 }
 
-fn lanes_arg<'a>(alloc: Global) -> Arg<'a>
-    ensures { IsArg result lanes_rule }
+fn lanes_arg<'a>(alloc: Global, default: &'a str) -> Arg<'a>
+    ensures { IsArg result (lanes_rule default.now) }
 {
     Arg::new(alloc, "lanes")
         .long("lanes")
         .value_name("N")
-        .default_value("1")
+        .default_value(default)
         .help("How many lanes each coordinator has, 1 to 16")
 }
 
-fn batch_arg<'a>(alloc: Global) -> Arg<'a>
-    ensures { IsArg result batch_rule }
+fn batch_arg<'a>(alloc: Global, default: &'a str) -> Arg<'a>
+    ensures { IsArg result (batch_rule default.now) }
 {
     Arg::new(alloc, "batch")
         .long("batch")
         .value_name("N")
-        .default_value("16")
+        .default_value(default)
         .help("How many transactions a batch has at most, 1 to 1024")
 }
 
@@ -94,6 +94,24 @@ fn hash_arg<'a>(alloc: Global) -> Arg<'a>
         .help("The hashes to look up, each of 64 hexadecimal digits")
 }
 
+fn seed_arg<'a>(alloc: Global) -> Arg<'a>
+    ensures { IsArg result seed_rule }
+{
+    Arg::new(alloc, "seed")
+        .required(true)
+        .value_name("SEED")
+        .help("The number that the workload is made from, 0 to 18446744073709551615")
+}
+
+fn count_arg<'a>(alloc: Global) -> Arg<'a>
+    ensures { IsArg result count_rule }
+{
+    Arg::new(alloc, "count")
+        .required(true)
+        .value_name("N")
+        .help("How many transactions the workload has, 1 to 10000")
+}
+
 fn topic_arg<'a>(alloc: Global) -> Arg<'a>
     ensures { IsArg result topic_rule }
 {
@@ -102,29 +120,81 @@ fn topic_arg<'a>(alloc: Global) -> Arg<'a>
         .help("The command to print the help of")
 }
 
-// `init` with the numbers of its nodes.
-fn init_with_nodes<'a>(alloc: Global) -> Result<Command<'a>, AllocError>
-    ensures { IfOk result (λ c. IsLeaf c nodes_shape) }
-{
-    Command::new(alloc, "init")
-        .about("Writes the first record of each node")
-        .arg(shards_arg(alloc))?
-        .arg(coordinators_arg(alloc))
+// What the options of a ledger's shape are where they are left out.
+#[derive(Clone, Copy)]
+struct Sizes<'a> {
+    shards: &'a str,
+    coordinators: &'a str,
+    lanes: &'a str,
+    batch: &'a str,
 }
 
-// `init` with all its options.
-fn init_with_sizes<'a>(alloc: Global) -> Result<Command<'a>, AllocError>
-    ensures { IfOk result (λ c. IsLeaf c sized_shape) }
+// A command with the numbers of a ledger's nodes.
+fn with_nodes<'a>(
+    alloc: Global,
+    name: &'a str,
+    about: &'a str,
+    sizes: Sizes<'a>,
+) -> Result<Command<'a>, AllocError>
+    ensures { IfOk result (λ c. IsLeaf c (nodes_shape name.now sizes.entry.shards.now sizes.entry.coordinators.now)) }
 {
-    let init = init_with_nodes(alloc)?;
-    init.arg(lanes_arg(alloc))?.arg(batch_arg(alloc))
+    Command::new(alloc, name)
+        .about(about)
+        .arg(shards_arg(alloc, sizes.shards))?
+        .arg(coordinators_arg(alloc, sizes.coordinators))
+}
+
+// A command with all options of a ledger's shape.
+fn with_sizes<'a>(
+    alloc: Global,
+    name: &'a str,
+    about: &'a str,
+    sizes: Sizes<'a>,
+) -> Result<Command<'a>, AllocError>
+    ensures { IfOk result (λ c. IsLeaf c (sized_shape (nodes_shape name.now sizes.entry.shards.now sizes.entry.coordinators.now) sizes.entry.lanes.now sizes.entry.batch.now)) }
+{
+    let command = with_nodes(alloc, name, about, sizes)?;
+    command
+        .arg(lanes_arg(alloc, sizes.lanes))?
+        .arg(batch_arg(alloc, sizes.batch))
 }
 
 fn init_command<'a>(alloc: Global) -> Result<Command<'a>, AllocError>
     ensures { IfOk result (λ c. IsLeaf c init_shape) }
 {
-    let init = init_with_sizes(alloc)?;
+    let sizes = Sizes {
+        shards: "1",
+        coordinators: "1",
+        lanes: "1",
+        batch: "16",
+    };
+    let init = with_sizes(alloc, "init", "Writes the first record of each node", sizes)?;
     init.arg(mint_arg(alloc))
+}
+
+// `gen` with its options.
+fn gen_with_sizes<'a>(alloc: Global) -> Result<Command<'a>, AllocError>
+    ensures { IfOk result (λ c. IsLeaf c gen_sizes) }
+{
+    let sizes = Sizes {
+        shards: "4",
+        coordinators: "2",
+        lanes: "2",
+        batch: "16",
+    };
+    with_sizes(
+        alloc,
+        "gen",
+        "Makes a workload from a number, and runs and checks it in memory",
+        sizes,
+    )
+}
+
+fn gen_command<'a>(alloc: Global) -> Result<Command<'a>, AllocError>
+    ensures { IfOk result (λ c. IsLeaf c gen_shape) }
+{
+    let sized = gen_with_sizes(alloc)?;
+    sized.arg(seed_arg(alloc))?.arg(count_arg(alloc))
 }
 
 fn run_command<'a>(alloc: Global) -> Result<Command<'a>, AllocError>
@@ -197,12 +267,21 @@ fn with_looks<'a>(alloc: Global) -> Result<Command<'a>, AllocError>
     main.subcommand(recover_command(alloc))?.subcommand(status)
 }
 
+// The command with those below it that check a ledger, too.
+fn with_checks<'a>(alloc: Global) -> Result<Command<'a>, AllocError>
+    ensures { IfOk result (λ c. IsTop c checks) }
+{
+    let audit = audit_command(alloc)?;
+    let generate = gen_command(alloc)?;
+    let looks = with_looks(alloc)?;
+    looks.subcommand(audit)?.subcommand(generate)
+}
+
 /// The program's command.
 pub(crate) fn program<'a>(alloc: Global) -> Result<Command<'a>, AllocError>
     ensures { IfOk result (λ c. app_of c ≡ hamilton) }
 {
-    let audit = audit_command(alloc)?;
     let help = help_command(alloc)?;
-    let looks = with_looks(alloc)?;
-    looks.subcommand(audit)?.subcommand(help)
+    let checks = with_checks(alloc)?;
+    checks.subcommand(help)
 }

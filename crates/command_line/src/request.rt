@@ -2,13 +2,13 @@
 ghost use Rattle.std.specs.Prelude.{◌≡◌, ◌≤◌, ◌<◌, [], codes, length, map, IsTrue, IfSome, IfOk, IfErr, IsErrOf, IsOk, Some, None, Ok};
 ghost use Rattle.hex.specs.Hex.{decode_of};
 ghost use Rattle.clap.specs.Words.{all_of, fault_of, first_of, found_of, kind_of, rows_of, subcommand_of, subcommand_rows_of};
-ghost use Rattle.command_line.specs.Asked.{IsAsked, IsRefused, IsShow, HasMistake, HasWish, HasNumber, HasNoNumber, HasShape, HasNoShape, HasNoHashes, Meets, is_mistake, is_wish, help_words, listed};
+ghost use Rattle.command_line.specs.Asked.{IsAsked, IsRefused, IsShow, HasMistake, HasWish, HasNumber, HasNoNumber, HasShape, HasNoShape, HasNoHashes, HasSeed, HasNoSeed, HasNoWorkload, Meets, is_mistake, is_wish, help_words, listed};
 ghost use Rattle.command_line.specs.Command.{hamilton};
 ghost use Rattle.command_line.specs.Words.{AreFiles, IsGivenThere, StandsThere, texts};
 
 use crate::command::program;
 use crate::places::{Place, next_value, value_place};
-use crate::values::{hash_in, number_in};
+use crate::values::{hash_in, number_in, whole_in};
 use cbdc_types::{Hash, Shape};
 use clap::error::ErrorKind;
 use clap::{ArgMatches, Error};
@@ -52,6 +52,12 @@ pub enum Request<'a> {
     Audit {
         mint: FileWord<'a>,
         clients: Vec<FileWord<'a>>,
+    },
+    /// Make the workload of this seed and so many transactions, and run and check it over nodes in memory.
+    Gen {
+        shape: Shape,
+        seed: u64,
+        count: u32,
     },
     /// Print this text to the standard output, and do nothing else.
     Show(String),
@@ -136,7 +142,7 @@ fn help_asked<'a, 'b>(
 // The number of an option, from 1 to a limit.
 #[tactic(auto, using(crate::proofs::Rows::rows))]
 fn number<'a>(inner: &ArgMatches<'a>, option: &str, most: u32) -> Result<u32, WordsFault>
-    requires { most ≤ 1024 }
+    requires { most ≤ 10000 }
     ensures number { IfOk result (λ n. HasNumber (rows_of (found_of inner.now)) option.now most n) }
     ensures none { IsErrOf result WordsFault.Bad → HasNoNumber (rows_of (found_of inner.now)) option.now most }
 {
@@ -149,7 +155,7 @@ fn number<'a>(inner: &ArgMatches<'a>, option: &str, most: u32) -> Result<u32, Wo
     }
 }
 
-// The shape that the options of `init` give.
+// The shape that the options of a command give.
 fn shape_of<'a>(inner: &ArgMatches<'a>) -> Result<Shape, WordsFault>
     ensures shape { IfOk result (λ s. HasShape (rows_of (found_of inner.now)) s) }
     ensures none { IsErrOf result WordsFault.Bad → HasNoShape (rows_of (found_of inner.now)) }
@@ -389,6 +395,58 @@ fn status_request<'a, 'b>(
     }
 }
 
+// The seed of a workload.
+#[tactic(auto, using(crate::proofs::Rows::rows))]
+fn seed_of<'a>(inner: &ArgMatches<'a>) -> Result<u64, WordsFault>
+    ensures seed { IfOk result (λ n. HasSeed (rows_of (found_of inner.now)) n) }
+    ensures none { IsErrOf result WordsFault.Bad → HasNoSeed (rows_of (found_of inner.now)) }
+{
+    let Some(text) = inner.get_str("seed") else {
+        return Err(WordsFault::Memory);
+    };
+    match whole_in(text) {
+        Some(n) => Ok(n),
+        None => Err(WordsFault::Bad),
+    }
+}
+
+// What the matches of `gen` ask for, by its shape.
+#[tactic(auto, using(crate::proofs::Rows::rows))]
+fn workload_of<'a, 'b>(
+    words: &'b [String],
+    inner: &ArgMatches<'b>,
+    shape: Shape,
+) -> Result<Request<'a>, WordsFault>
+    requires met { Meets (texts words.now) (codes "gen") (rows_of (found_of inner.now)) }
+    requires shape { HasShape (rows_of (found_of inner.now)) shape }
+    ensures asked { IfOk result (λ r. IsAsked (texts words.entry.now) r) }
+    ensures refused { IfErr result (λ e. IsRefused (texts words.entry.now) e) }
+{
+    let seed = match seed_of(inner) {
+        Ok(seed) => seed,
+        Err(fault) => return Err(fault),
+    };
+    match number(inner, "count", 10_000) {
+        Ok(count) => Ok(Request::Gen { shape, seed, count }),
+        Err(fault) => Err(fault),
+    }
+}
+
+// What the matches of `gen` ask for.
+fn gen_request<'a, 'b>(
+    words: &'b [String],
+    inner: &ArgMatches<'b>,
+) -> Result<Request<'a>, WordsFault>
+    requires { Meets (texts words.now) (codes "gen") (rows_of (found_of inner.now)) }
+    ensures asked { IfOk result (λ r. IsAsked (texts words.entry.now) r) }
+    ensures refused { IfErr result (λ e. IsRefused (texts words.entry.now) e) }
+{
+    match shape_of(inner) {
+        Ok(shape) => workload_of(words, inner, shape),
+        Err(fault) => Err(fault),
+    }
+}
+
 // What the matches ask for.
 fn asked_of<'a>(
     alloc: Global,
@@ -417,6 +475,9 @@ fn asked_of<'a>(
     }
     if name == "audit" {
         return audit_request(alloc, words, inner).ok_or(WordsFault::Memory);
+    }
+    if name == "gen" {
+        return gen_request(words, inner);
     }
     if name == "help" {
         return help_asked(alloc, words, inner);

@@ -45,6 +45,13 @@ fn told_status(alloc: Global, hashes: &[Hash]) -> Result<String, AllocError> {
     Ok(text)
 }
 
+// A workload's shape, seed and size, in one line.
+fn told_gen(alloc: Global, shape: &Shape, seed: u64, count: u32) -> Result<String, AllocError> {
+    let (shards, coordinators) = (shape.shards(), shape.coordinators());
+    let (lanes, batch) = (shape.lanes(), shape.batch());
+    format!(in alloc; "gen {shards} {coordinators} {lanes} {batch} {seed} {count}")
+}
+
 // What a request is, in one line.
 fn told_request(alloc: Global, request: &Request) -> Result<String, AllocError> {
     match request {
@@ -53,6 +60,7 @@ fn told_request(alloc: Global, request: &Request) -> Result<String, AllocError> 
         Request::Recover => format!(in alloc; "recover"),
         Request::Status { hashes } => told_status(alloc, hashes.as_slice()),
         Request::Audit { mint, clients } => told_audit(alloc, mint, clients.as_slice()),
+        Request::Gen { shape, seed, count } => told_gen(alloc, shape, *seed, *count),
         Request::Show(text) => text.clone(),
     }
 }
@@ -100,6 +108,12 @@ fn words_ask_for_commands(rt: HostRuntime) -> Result<(), Fail> {
         ("hamilton audit m", "audit m 2"),
         ("hamilton audit m c d", "audit m 2 c 3 d 4"),
         ("hamilton audit -- -m m", "audit -m 3 m 4"),
+        ("hamilton gen 7 1000", "gen 4 2 2 16 7 1000"),
+        (
+            "hamilton gen --shards 64 18446744073709551615 --batch=1 10000",
+            "gen 64 2 2 1 18446744073709551615 10000",
+        ),
+        ("hamilton gen 0 1", "gen 4 2 2 16 0 1"),
     ] {
         assert_eq!(rt; told(alloc, words)?.as_str(), want, "at {words:?}");
     }
@@ -150,6 +164,7 @@ fn help_and_the_version_are_shown(rt: HostRuntime) -> Result<(), Fail> {
         ("recover", "Usage: hamilton recover\n"),
         ("status", "Usage: hamilton status <HASH>...\n"),
         ("audit", "Usage: hamilton audit <MINT> [CLIENT]...\n"),
+        ("gen", "Usage: hamilton gen [OPTIONS] <SEED> <N>\n"),
     ] {
         let behind = format!(in alloc; "hamilton help {command}")?;
         let of_command = told(alloc, behind.as_str())?;
@@ -171,7 +186,14 @@ fn other_words_are_bad(rt: HostRuntime) -> Result<(), Fail> {
         "hamilton walk",
         "hamilton audit",
         "hamilton audit --fast m",
-        "hamilton gen 7 1000",
+        "hamilton gen",
+        "hamilton gen 7",
+        "hamilton gen 7 0",
+        "hamilton gen 7 10001",
+        "hamilton gen 07 1",
+        "hamilton gen 18446744073709551616 1",
+        "hamilton gen 7 1 --lanes 0",
+        "hamilton gen 7 1 1",
         "hamilton help walk",
         "hamilton init",
         "hamilton init m n",

@@ -1,7 +1,7 @@
 // What texts among the words spell.
 ghost use Rattle.std.specs.Prelude.{◌≡◌, ◌≤◌, ℕ, map, decimal, MatchOption, IfOk, IsErrOf, Ok};
 ghost use Rattle.hex.specs.Hex.{decode_of};
-ghost use Rattle.command_line.specs.Values.{IsHashText, IsNumber};
+ghost use Rattle.command_line.specs.Values.{IsHashText, IsNumber, IsWhole};
 
 use cbdc_types::Hash;
 use hex::FromHex;
@@ -9,7 +9,7 @@ use itoa::Buffer;
 
 /// The number from 1 to a limit that a text spells in decimal digits, without a sign or a leading zero.
 pub(crate) fn number_in(text: &str, most: u32) -> Option<u32>
-    requires { most ≤ 1024 }
+    requires { most ≤ 10000 }
     ensures { MatchOption result ((n : ℕ) → ¬ (IsNumber most text.now n)) (λ n. IsNumber most text.now n) }
 {
     let Ok(n) = text.parse::<u32>() else {
@@ -21,6 +21,20 @@ pub(crate) fn number_in(text: &str, most: u32) -> Option<u32>
     if n > most {
         return None;
     }
+    let mut digits = Buffer::new();
+    if digits.format(n) == text {
+        return Some(n);
+    }
+    None
+}
+
+/// The number that a text spells in decimal digits, without a sign or a leading zero, where 64 bits hold it.
+pub(crate) fn whole_in(text: &str) -> Option<u64>
+    ensures { MatchOption result ((n : ℕ) → ¬ (IsWhole text.now n)) (λ n. IsWhole text.now n) }
+{
+    let Ok(n) = text.parse::<u64>() else {
+        return None;
+    };
     let mut digits = Buffer::new();
     if digits.format(n) == text {
         return Some(n);

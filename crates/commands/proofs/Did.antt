@@ -5,7 +5,7 @@ use Rattle.std.proofs.lemmas.List.{append-nil}
 use Rattle.cbdc_types.specs.declared.answer.Answer.{Answer}
 use Rattle.cbdc_types.specs.declared.answer.Answer.TheVariants as answers
 use Rattle.command_line.specs.declared.request.Request.{Request}
-use Rattle.command_line.specs.declared.request.Request.TheVariants.{Init, Run, Recover, Status, Audit, Show}
+use Rattle.command_line.specs.declared.request.Request.TheVariants.{Init, Run, Recover, Status, Audit, Gen, Show}
 use Rattle.line_text.specs.Lines.{Text, Prints}
 use Rattle.line_text.specs.Faults.{fault_text}
 use Rattle.commands.specs.Outcomes.{Did}
@@ -18,7 +18,8 @@ module _ {D : Type 0} (files : Text → Option (List ℕ)) (content : D → Opti
   did_by Recover is = is
   did_by (Status hashes) is =
       record { shape = is.shape; genesis = is.genesis; journals = is.journals; limits = is.limits; opened = is.opened; back = is.back; prints = by _ is.prints }
-  did_by (Audit mint clients) is = tt
+  did_by (Audit mint clients) is = record { totals = is.totals; was = is.was; back = is.back; prints = by _ is.prints }
+  did_by (Gen shape seed count) is = is
   did_by (Show text) is = by _ is
 
 -- nothing more was printed

@@ -8,3 +8,7 @@ pub mod Ledgers
 pub mod Did
 pub mod Making
 pub mod Faults
+pub mod Untouched
+pub mod Audits
+pub mod Sizes
+pub mod Workloads

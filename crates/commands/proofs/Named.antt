@@ -7,7 +7,7 @@ use Rattle.command_line.specs.Asked.{IsAsked}
 use Rattle.command_line.specs.Words.{StandsThere, IsGivenThere}
 use Rattle.command_line.specs.declared.request.FileWord.{FileWord}
 use Rattle.command_line.specs.declared.request.Request.{Request}
-use Rattle.command_line.specs.declared.request.Request.TheVariants.{Init, Run, Recover, Status, Audit, Show}
+use Rattle.command_line.specs.declared.request.Request.TheVariants.{Init, Run, Recover, Status, Audit, Gen, Show}
 use Rattle.commands.specs.Causes.{FileRose, RequestPlace, RequestRose, NamedRose, IsDone, IsAnswered}
 use Rattle.commands.proofs.Stands.{stands_at}
 
@@ -31,6 +31,7 @@ request_named words b n (Audit mint clients) place asked rose =
     ⊎_elim
     (λ own. stands_named words b n mint place asked.1.2 own)
     (λ one. stands_named words b n one.1 place (stands_at words clients.items one.0 one.1 asked.1.3.there one.2) one.3) rose
+request_named words b n (Gen shape seed count) place asked rose = absurd rose
 request_named words b n (Show text) place asked rose = absurd rose
 
 -- the word at the place of a file that is asked for
@@ -54,6 +55,7 @@ request_placed words (Audit mint clients) place asked at =
     ⊎_elim
     (λ own. stands_placed words mint place asked.1.2 own)
     (λ one. stands_placed words one.1 place (stands_at words clients.items one.0 one.1 asked.1.3.there one.2) one.3) at
+request_placed words (Gen shape seed count) place asked at = absurd at
 request_placed words (Show text) place asked at = absurd at
 
 pub answered : (words : List Text) (b n : Text → ℕ) (r : Request) (written : Type 0) (a : Answer) → IsAsked words r → IsDone (RequestPlace r) (RequestRose r b n) written a → IsAnswered words b n written a

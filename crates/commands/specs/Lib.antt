@@ -1,3 +1,6 @@
 pub mod Causes
 pub mod Texts
+pub mod Audits
 pub mod Outcomes
+pub mod Left
+pub mod Sizes

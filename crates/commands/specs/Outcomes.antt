@@ -11,7 +11,7 @@ use Rattle.cbdc_model.specs.World.{KeptJournals}
 use Rattle.record_log.specs.Held.{OpensTo}
 use Rattle.command_line.specs.declared.request.FileWord.{FileWord}
 use Rattle.command_line.specs.declared.request.Request.{Request}
-use Rattle.command_line.specs.declared.request.Request.TheVariants.{Init, Run, Recover, Status, Audit, Show}
+use Rattle.command_line.specs.declared.request.Request.TheVariants.{Init, Run, Recover, Status, Audit, Gen, Show}
 use Rattle.input_files.specs.Contents.{mint_of_file, AreRead, AreVerdicts, IsNotRead, FirstNotRead, IsNoVerdicts}
 use Rattle.verifier_port.specs.Files.{told}
 use Rattle.verifier_port.specs.declared.file.VerdictFile.{VerdictFile}
@@ -24,6 +24,7 @@ use Rattle.caused_ledgers.specs.Caused.{IsUnresumed}
 use Rattle.rack_laws.specs.Shown.{OfShown}
 use Rattle.rack_runs.specs.Kinds.{IsLaneAnswer}
 use Rattle.rack_runs.specs.Runs.{IsRun, IsRecovered, IsCutShort}
+use Rattle.commands.specs.Audits.{DidAudit, WhyNoAudit}
 
 -- a first record at each node of the ledger that a mint begins
 abbrev pub first_journals : Shape → List Output → ℕ → List Record
@@ -64,13 +65,14 @@ pub record DidStatus {D : Type 0} (content : D → Option (List ℕ)) (images : 
   pub back : (n : ℕ) → IsBack images limit (before n) (now n)
   pub prints : printed (status_lines shape journals hashes)
 
--- what was asked for was done, and this was printed; of a run, a recovery and an audit the text is not told
+-- what was asked for was done, and this was printed; of a run, a recovery and a workload the text is not told
 abbrev pub Did : {D : Type 0} → (Text → Option (List ℕ)) → (D → Option (List ℕ)) → (D → List ℕ → Type 0) → (D → ℕ) → (ℕ → Option D) → (ℕ → Option D) → (Text → Type 0) → Request → Type 0
 Did files content images limit before now printed (Init shape mint) = DidInit files content images before now printed shape mint
 Did files content images limit before now printed (Run verdicts clients) = DidRun files content images before now verdicts clients.items
 Did files content images limit before now printed Recover = DidRecover content images before now
 Did files content images limit before now printed (Status hashes) = DidStatus content images limit before now printed hashes.items
-Did files content images limit before now printed (Audit mint clients) = Unit {0}
+Did files content images limit before now printed (Audit mint clients) = DidAudit files content images limit before now printed mint clients.items
+Did files content images limit before now printed (Gen shape seed size) = (n : ℕ) → now n ≡ before n
 Did files content images limit before now printed (Show text) = printed (string_bytes text)
 
 -- ---- why it was not done, by the counts of faults of files and disks before and now
@@ -96,7 +98,7 @@ WhyNoRun files files_before files_now content images limit count disks now disks
     × (IsNoVerdicts verdicts.place (files verdicts.name.now) (files_before verdicts.name.now) (files_now verdicts.name.now) answer
     ⊎ ((known : VerdictFile) × AreVerdicts (files verdicts.name.now) known × WhyNoTurns content images limit count disks now disks_before disks_now handed answer)))
 
--- why what was asked for was not done; of an audit it is not told
+-- why what was asked for was not done
 abbrev pub Why : {D : Type 0} → (Text → Option (List ℕ)) → (Text → ℕ) → (Text → ℕ) → (D → Option (List ℕ)) → (D → List ℕ → Type 0) → (D → ℕ) → (D → ℕ) → (ℕ → Option D) → (ℕ → Option D) → (ℕ → ℕ) → (ℕ → ℕ) → Request → Answer → Type 0
 Why files files_before files_now content images limit count disks now disks_before disks_now (Init shape mint) answer =
     WhyNoInit files files_before files_now content limit disks disks_before disks_now shape mint answer
@@ -106,5 +108,7 @@ Why files files_before files_now content images limit count disks now disks_befo
     WhyNoTurns content images limit count disks now disks_before disks_now [] answer
 Why files files_before files_now content images limit count disks now disks_before disks_now (Status hashes) answer =
     IsUnopened content images limit count disks disks_before disks_now answer
+Why files files_before files_now content images limit count disks now disks_before disks_now (Gen shape seed size) answer = (n : ℕ) → now n ≡ disks n
 Why files files_before files_now content images limit count disks now disks_before disks_now (Show text) answer = ⊥
-Why files files_before files_now content images limit count disks now disks_before disks_now (Audit mint clients) answer = Unit {0}
+Why files files_before files_now content images limit count disks now disks_before disks_now (Audit mint clients) answer =
+    WhyNoAudit files files_before files_now content images limit count disks now disks_before disks_now mint clients.items answer

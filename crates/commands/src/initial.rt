@@ -1,9 +1,10 @@
 // `init`: the first records of a ledger.
-ghost use Rattle.std.specs.Prelude.{◌≡◌, ◌≤◌, ℕ, IfOk, IfErr};
+ghost use Rattle.std.specs.Prelude.{◌≡◌, ◌≤◌, ◌⊎◌, ℕ, IfOk, IfErr};
 ghost use Rattle.outside.specs.Counts.{Rose};
 ghost use Rattle.commands.specs.Causes.{IsFault, IsDone, IsTold, IsWell, FileRose};
 ghost use Rattle.commands.specs.Outcomes.{DidInit, WhyNoInit};
 ghost use Rattle.commands.specs.Texts.{IsPrinted, IsSilent};
+ghost use Rattle.commands.specs.Left.{IsBeforeDisks, InitLeaves};
 ghost use Rattle.line_text.specs.Lines.{init_text};
 
 use cbdc_types::{Answer, Shape};
@@ -26,6 +27,8 @@ fn make<I: Inbox, R: Rack>(
     ensures made { IfOk result (λ m. DidInit (I.file inbox.old) R.Disk.content R.Disk.images (R.held rack.old) (R.held rack.new) (λ text. init_text m.coins m.total m.genesis ≡ text) shape.now file.now) }
     ensures why { IfErr result (WhyNoInit (I.file inbox.old) (I.count inbox.old) (I.count inbox.new) R.Disk.content R.Disk.limit (R.held rack.old) (R.count rack.old) (R.count rack.new) shape.now file.now) }
     ensures fault { IfErr result (IsFault (λ place. place ≡ file.now.place) (FileRose (I.count inbox.old) (I.count inbox.new) file.now)) }
+    ensures untouched { IfErr result (λ e. IsBeforeDisks e → rack.new ≡ rack.old) }
+    ensures left { IfErr result (λ e. (rack.new ≡ rack.old) ⊎ InitLeaves (I.file inbox.old) R.Disk.content R.Disk.images R.Disk.limit (R.held rack.old) (R.held rack.new) shape.now file.now e) }
     ensures back { (n : ℕ) → R.can_take rack.new n }
 {
     match mint_in(alloc, inbox, file) {
@@ -49,6 +52,8 @@ pub(crate) fn init<I: Inbox, R: Rack, O: Sink>(
     ensures why { IsTold (WhyNoInit (I.file inbox.old) (I.count inbox.old) (I.count inbox.new) R.Disk.content R.Disk.limit (R.held rack.old) (R.count rack.old) (R.count rack.new) shape.now file.now) result }
     ensures silent { IsSilent (O.taken out.old) (O.taken out.new) result }
     ensures written_later { O.count out.old ≤ O.count out.new }
+    ensures untouched { IsBeforeDisks result → rack.new ≡ rack.old }
+    ensures left { (IsWell result → ⊥) → (rack.new ≡ rack.old) ⊎ InitLeaves (I.file inbox.old) R.Disk.content R.Disk.images R.Disk.limit (R.held rack.old) (R.held rack.new) shape.now file.now result }
     ensures back { (n : ℕ) → R.can_take rack.new n }
 {
     let Made {

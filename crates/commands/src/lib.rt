@@ -2,6 +2,7 @@
 #![tactic(auto)]
 
 mod auditing;
+mod generating;
 mod initial;
 mod looking;
 mod recovering;

@@ -6,6 +6,7 @@ ghost use Rattle.rack_ledgers.specs.Ledgers.{IsUnopened};
 ghost use Rattle.commands.specs.Causes.{IsDone, IsTold, IsWell};
 ghost use Rattle.commands.specs.Outcomes.{DidStatus};
 ghost use Rattle.commands.specs.Texts.{IsPrinted, IsSilent, told_lines, status_among};
+ghost use Rattle.commands.specs.Left.{IsBeforeDisks};
 
 use cbdc_types::{Answer, Hash, Status};
 use line_text::{WriteFault, write_status};
@@ -69,6 +70,7 @@ pub(crate) fn status<R: Rack, O: Sink>(
     ensures why { IsTold (IsUnopened R.Disk.content R.Disk.images R.Disk.limit R.Disk.count (R.held rack.old) (R.count rack.old) (R.count rack.new)) result }
     ensures silent { IsSilent (O.taken out.old) (O.taken out.new) result }
     ensures written_later { O.count out.old ≤ O.count out.new }
+    ensures untouched { IsBeforeDisks result → rack.new ≡ rack.old }
     ensures back { (n : ℕ) → R.can_take rack.new n }
 {
     let nodes = match open_nodes(alloc, rack) {

@@ -1,9 +1,10 @@
 // `recover`: open batches are taken to their end.
-ghost use Rattle.std.specs.Prelude.{◌≤◌, ℕ, []};
+ghost use Rattle.std.specs.Prelude.{◌≡◌, ◌≤◌, ℕ, []};
 ghost use Rattle.outside.specs.Counts.{Rose, HasCause};
 ghost use Rattle.commands.specs.Causes.{IsDone, IsTold, IsWell};
 ghost use Rattle.commands.specs.Outcomes.{DidRecover, WhyNoTurns};
 ghost use Rattle.commands.specs.Texts.{IsSilent};
+ghost use Rattle.commands.specs.Left.{IsBeforeDisks};
 
 use cbdc_types::{Answer, Outcome};
 use line_text::{WriteFault, write_recovery, write_resumed};
@@ -59,6 +60,7 @@ pub(crate) fn recover<W: Wait, R: Rack, O: Sink, G: Gate>(
     ensures why { IsTold (WhyNoTurns R.Disk.content R.Disk.images R.Disk.limit R.Disk.count (R.held rack.old) (R.held rack.new) (R.count rack.old) (R.count rack.new) []) result }
     ensures silent { IsSilent (O.taken out.old) (O.taken out.new) result }
     ensures written_later { O.count out.old ≤ O.count out.new }
+    ensures untouched { IsBeforeDisks result → rack.new ≡ rack.old }
     ensures back { (n : ℕ) → R.can_take rack.new n }
 {
     let recovered = match recover_on(rt, alloc, rack, gate) {

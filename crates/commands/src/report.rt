@@ -2,11 +2,13 @@
 ghost use Rattle.std.specs.Prelude.{◌≤◌};
 ghost use Rattle.outside.specs.Counts.{HasCause};
 
+use audit::Totals;
 use cbdc_types::Outcome;
 use file_runs::Wave;
 use ledger_runs::Decided;
 use line_text::{
-    Summary, WriteFault, write_confirmed, write_refused, write_rejected, write_summary,
+    AuditSummary, Summary, WriteFault, write_audit, write_confirmed, write_refused, write_rejected,
+    write_summary,
 };
 use outside::Sink;
 use rack_runs::Ran;
@@ -126,4 +128,22 @@ pub(crate) fn write_report<O: Sink>(out: &mut O, ran: &Ran) -> Result<(), WriteF
         file = file.saturating_add(1);
     }
     write_summary(out, &summary_of(ran))
+}
+
+/// Writes the numbers that end the text of a run, and those of an audit behind it.
+pub(crate) fn write_generated<O: Sink>(
+    out: &mut O,
+    ran: &Ran,
+    totals: &Totals,
+) -> Result<(), WriteFault>
+    ensures cause { HasCause (O.count out.old) (O.count out.new) result }
+{
+    write_summary(out, &summary_of(ran))?;
+    let audited = AuditSummary {
+        coins: totals.coins,
+        value: totals.value,
+        minted: totals.minted,
+        committed: totals.committed,
+    };
+    write_audit(out, &audited)
 }

@@ -4,6 +4,7 @@ ghost use Rattle.outside.specs.Counts.{Rose};
 ghost use Rattle.commands.specs.Causes.{IsFault, IsDone, IsTold, IsWell, OnePlace, OneRose, FileRose};
 ghost use Rattle.commands.specs.Outcomes.{DidRun, WhyNoRun};
 ghost use Rattle.commands.specs.Texts.{IsSilent};
+ghost use Rattle.commands.specs.Left.{IsBeforeDisks};
 
 use crate::report::write_report;
 use cbdc_types::Answer;
@@ -28,6 +29,7 @@ fn run_all<W: Wait, I: Inbox, R: Rack, G: Gate>(
     ensures did { OnOk result (DidRun (I.file inbox.old) R.Disk.content R.Disk.images (R.held rack.old) (R.held rack.new) verdicts.now clients.now) }
     ensures why { IfErr result (WhyNoRun (I.file inbox.old) (I.count inbox.old) (I.count inbox.new) R.Disk.content R.Disk.images R.Disk.limit R.Disk.count (R.held rack.old) (R.held rack.new) (R.count rack.old) (R.count rack.new) verdicts.now clients.now) }
     ensures fault { IfErr result (IsFault (λ place. OnePlace clients.now place ⊎ (place ≡ verdicts.now.place)) (λ place. OneRose (I.count inbox.old) (I.count inbox.new) clients.now place ⊎ FileRose (I.count inbox.old) (I.count inbox.new) verdicts.now place)) }
+    ensures untouched { IfErr result (λ e. IsBeforeDisks e → rack.new ≡ rack.old) }
     ensures back { (n : ℕ) → R.can_take rack.new n }
 {
     let files = match all_clients_in(alloc, inbox, clients) {
@@ -60,6 +62,7 @@ pub(crate) fn run<W: Wait, I: Inbox, R: Rack, O: Sink, G: Gate>(
     ensures why { IsTold (WhyNoRun (I.file inbox.old) (I.count inbox.old) (I.count inbox.new) R.Disk.content R.Disk.images R.Disk.limit R.Disk.count (R.held rack.old) (R.held rack.new) (R.count rack.old) (R.count rack.new) verdicts.now clients.now) result }
     ensures silent { IsSilent (O.taken out.old) (O.taken out.new) result }
     ensures written_later { O.count out.old ≤ O.count out.new }
+    ensures untouched { IsBeforeDisks result → rack.new ≡ rack.old }
     ensures back { (n : ℕ) → R.can_take rack.new n }
 {
     let ran = match run_all(rt, alloc, clients, verdicts, inbox, rack, gate) {

@@ -6,12 +6,15 @@ ghost use Rattle.command_line.specs.Words.{texts};
 ghost use Rattle.command_line.specs.Asked.{IsAsked};
 ghost use Rattle.command_line.specs.declared.request.Request.{Request as Asked};
 ghost use Rattle.commands.specs.Causes.{IsAnswered, IsDone, IsTold, IsWell, NamedRose, RequestPlace, RequestRose};
+ghost use Rattle.commands.specs.Sizes.{IsSized};
 ghost use Rattle.commands.specs.Outcomes.{Did, Why};
+ghost use Rattle.commands.specs.Left.{IsBeforeDisks, Leaves};
 ghost use Rattle.line_text.specs.Lines.{Text};
 ghost use Rattle.outside.specs.Counts.{Rose};
 ghost use Rattle.printed_lines.specs.Reports.{name_in};
 
 use crate::auditing::audit;
+use crate::generating::generated;
 use crate::initial::init;
 use crate::looking::status;
 use crate::recovering::recover;
@@ -85,11 +88,14 @@ fn answer_to<W: Wait, I: Inbox, R: Rack, O: Sink, G: Gate>(
     out: &mut O,
     gate: &G,
 ) -> Answer
-    requires { (n : ℕ) → R.can_take rack.old n }
+    requires all { (n : ℕ) → R.can_take rack.old n }
+    requires sized { IsSized request.now }
     ensures back { (n : ℕ) → R.can_take rack.new n }
     ensures cause { IsDone (RequestPlace request.now) (RequestRose request.now (I.count inbox.old) (I.count inbox.new)) (Rose (O.count out.old) (O.count out.new)) result }
     ensures did { IsWell result → Did (I.file inbox.old) R.Disk.content R.Disk.images R.Disk.limit (R.held rack.old) (R.held rack.new) (IsPrinted (O.taken out.old) (O.taken out.new) result) request.now }
     ensures why { IsTold (Why (I.file inbox.old) (I.count inbox.old) (I.count inbox.new) R.Disk.content R.Disk.images R.Disk.limit R.Disk.count (R.held rack.old) (R.held rack.new) (R.count rack.old) (R.count rack.new) request.now) result }
+    ensures untouched { IsBeforeDisks result → rack.new ≡ rack.old }
+    ensures left { (IsWell result → ⊥) → (rack.new ≡ rack.old) ⊎ Leaves (I.file inbox.old) R.Disk.content R.Disk.images R.Disk.limit (R.held rack.old) (R.held rack.new) request.now result }
     ensures silent { IsSilent (O.taken out.old) (O.taken out.new) result }
     ensures written_later { O.count out.old ≤ O.count out.new }
 {
@@ -101,6 +107,9 @@ fn answer_to<W: Wait, I: Inbox, R: Rack, O: Sink, G: Gate>(
         Request::Recover => recover(rt, alloc, rack, out, gate),
         Request::Status { hashes } => status(alloc, hashes, rack, out),
         Request::Audit { mint, clients } => audit(alloc, mint, clients, inbox, rack, out),
+        Request::Gen { shape, seed, count } => {
+            generated(rt, alloc, shape, *seed, *count, out, gate)
+        }
         Request::Show(text) => show(out, text.as_str()),
     }
 }
@@ -121,6 +130,8 @@ fn answer_words<W: Wait, I: Inbox, R: Rack, O: Sink, G: Gate>(
     ensures told { IsRefused (texts words.now) WordsFault.Bad → (result ≡ Answer.BadWords) ⊎ (result ≡ Answer.Memory) }
     ensures did { IsWell result → (r : Asked) × IsAsked (texts words.now) r × Did (I.file inbox.old) R.Disk.content R.Disk.images R.Disk.limit (R.held rack.old) (R.held rack.new) (IsPrinted (O.taken out.old) (O.taken out.new) result) r }
     ensures why { IsTold (λ a. (r : Asked) × IsAsked (texts words.now) r × Why (I.file inbox.old) (I.count inbox.old) (I.count inbox.new) R.Disk.content R.Disk.images R.Disk.limit R.Disk.count (R.held rack.old) (R.held rack.new) (R.count rack.old) (R.count rack.new) r a) result }
+    ensures untouched { IsBeforeDisks result → rack.new ≡ rack.old }
+    ensures left { (IsWell result → ⊥) → (rack.new ≡ rack.old) ⊎ ((r : Asked) × IsAsked (texts words.now) r × Leaves (I.file inbox.old) R.Disk.content R.Disk.images R.Disk.limit (R.held rack.old) (R.held rack.new) r result) }
     ensures silent { IsSilent (O.taken out.old) (O.taken out.new) result }
     ensures written_later { O.count out.old ≤ O.count out.new }
 {
@@ -147,17 +158,25 @@ pub fn process<W: Wait, I: Inbox, R: Rack, O: Sink, G: Gate>(
     requires { (n : ℕ) → R.can_take rack n }
     ensures back { (n : ℕ) → R.can_take result.rack n }
     // What the words ask for was done, whether its lines could be written or not: a ledger was made, files were run over one, its open
-    // batches were brought to their end, or hashes were looked up. Whatever a crash leaves of a disk then opens to exactly its node's
-    // journal, and where no two outputs share a hash, the headline holds of the journals at exit. The lines of `init` and `status` are
-    // those of the mint and of the journals at entry, or at WriteFault a front.
+    // batches were brought to their end, hashes were looked up, or its journals were audited and are sound. Whatever a crash leaves of a
+    // disk then opens to exactly its node's journal, and where no two outputs share a hash, the headline holds of the journals at exit. The
+    // lines of `init`, `status` and `audit` are those of the mint and of the journals at entry, or at WriteFault a front.
     ensures did { IsWell result.status → (r : Asked) × IsAsked (texts words.now) r × Did (I.file inbox.old) R.Disk.content R.Disk.images R.Disk.limit (R.held rack) (R.held result.rack) (IsPrinted (O.taken out.old) (O.taken out.new) result.status) r }
 
     // Else the line of the fault is printed and nothing else, or a front of it where the sink's count rose.
     ensures fault_line { IsFaultPrinted (texts words.now) (O.taken out.old) (O.taken out.new) (Rose (O.count out.old) (O.count out.new)) result.status }
 
-    // And why not: a file that is not read, a ledger that can't be made or opened, or a fault of a lane, and what it leaves. Of an audit
-    // it is not told.
+    // And why not: a file that is not read, a ledger that can't be made or opened, a fault of a lane and what it leaves, or the first place
+    // at which an audit finds something wrong, and what it is.
     ensures why { IsTold (λ a. (r : Asked) × IsAsked (texts words.now) r × Why (I.file inbox.old) (I.count inbox.old) (I.count inbox.new) R.Disk.content R.Disk.images R.Disk.limit R.Disk.count (R.held rack) (R.held result.rack) (R.count rack) (R.count result.rack) r a) result.status }
+
+    // Where words are bad, a file is not read or a mint is too much, the rack is as it was.
+    ensures untouched { IsBeforeDisks result.status → result.rack ≡ rack }
+
+    // Where a ledger was not made, all disks are as they were or as they were read; or the writing of first records stopped at a node that
+    // has no room or whose disk failed: those below it are as they were read, those above it hold their first records, and a crash leaves of
+    // its own no first record, or what it might have left before, or, where the disk failed, the new one alone.
+    ensures left { (IsWell result.status → ⊥) → (result.rack ≡ rack) ⊎ ((r : Asked) × IsAsked (texts words.now) r × Leaves (I.file inbox.old) R.Disk.content R.Disk.images R.Disk.limit (R.held rack) (R.held result.rack) r result.status) }
 
     ensures bad_words { result.status ≡ Answer.BadWords → IsRefused (texts words.now) WordsFault.Bad }
     ensures told { IsRefused (texts words.now) WordsFault.Bad → (result.status ≡ Answer.BadWords) ⊎ (result.status ≡ Answer.Memory) }

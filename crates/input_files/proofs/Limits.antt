@@ -1,5 +1,5 @@
 -- What is read of a client file is within the limits.
-use Rattle.std.proofs.Common.{◌≡◌, ℕ, zero, suc, ◌-◌, ◌≤◌, nat_lt, Bool, true, false, List, [], ◌∷◌, length, if◌then◌else◌, Option, Some, None, Result, Ok, Err, refl, sym, ap, ◌∙◌, subst}
+use Rattle.std.proofs.Common.{◌≡◌, ℕ, zero, suc, ◌+◌, ◌-◌, ◌≤◌, nat_lt, arith, Bool, true, false, List, [], ◌∷◌, length, if◌then◌else◌, Option, Some, None, Result, Ok, Err, refl, sym, ap, ◌∙◌, subst}
 use Rattle.std.specs.Prelude.{All}
 use Rattle.std.proofs.lemmas.Bool.{ltb-false}
 use Rattle.std.proofs.lemmas.List.Elements.{All-nil, All-cons}
@@ -10,7 +10,7 @@ use Rattle.cbdc_types.specs.declared.answer.InputKind.TheVariants.{TooMany}
 use Rattle.byte_fields.specs.Faults.{◌>>=◌, fault}
 use Rattle.byte_fields.specs.Reading.{number_at, items_at, list_at}
 use Rattle.byte_fields.specs.Transactions.{input_at, output_at, witness_at, transaction_at}
-use Rattle.client_files.specs.Files.{clients_in, mint_in, minted_at, placed, ended, ended_by, extra}
+use Rattle.client_files.specs.Files.{clients_in, counted_behind, mint_in, minted_at, placed, ended, ended_by, extra}
 use Rattle.input_files.specs.Limits.{IsShort}
 
 -- a reading that went well went well at each step
@@ -59,14 +59,26 @@ listed limit item bytes r e =
     go x true t h = absurd (cc)
     go x false t h = record { n = x.0; rest = x.1; few = ltb-false limit x.0 t; items = h }
 
-list_short : {X : Type 0} (limit : ℕ) (item : List ℕ → Result (X × List ℕ) Fault) (bytes : List ℕ) (r : List X × List ℕ) → list_at limit item bytes ≡ Ok r → length r.0 ≤ limit
-list_short limit item bytes r e =
-    let l = listed limit item bytes r e in
-    subst (λ n. n ≤ limit) (sym (items_size item l.n l.rest r l.items)) l.few
+-- so many transactions as a client file's number says
+behind_listed : (before : ℕ) (bytes : List ℕ) (r : List FullTx × List ℕ) → counted_behind before bytes ≡ Ok r → Listed (1000000 - before) transaction_at r
+unfolding counted_behind
+behind_listed before bytes r e =
+    let w = went (number_at bytes) _ r e in
+    go w.x (nat_lt 1000000 (before + w.x.0)) refl w.then_
+  where
+    go : (x : ℕ × List ℕ) (b : Bool) → nat_lt 1000000 (before + x.0) ≡ b → (if b then Err (fault TooMany bytes) else items_at transaction_at x.0 x.1) ≡ Ok r → Listed (1000000 - before) transaction_at r
+    go x true t h = absurd (cc)
+    go x false t h = record { n = x.0; rest = x.1; few = omega (arith, ltb-false 1000000 (before + x.0) t); items = h }
 
-list_each : {X : Type 0} (P : X → Type 0) (limit : ℕ) (item : List ℕ → Result (X × List ℕ) Fault) → ((bytes : List ℕ) (r : X × List ℕ) → item bytes ≡ Ok r → P r.0)
-    → (bytes : List ℕ) (r : List X × List ℕ) → list_at limit item bytes ≡ Ok r → All P r.0
-list_each P limit item each bytes r e = let l = listed limit item bytes r e in items_each P item each l.n l.rest r l.items
+listed_short : {X : Type 0} (limit : ℕ) (item : List ℕ → Result (X × List ℕ) Fault) (r : List X × List ℕ) → Listed limit item r → length r.0 ≤ limit
+listed_short limit item r l = subst (λ n. n ≤ limit) (sym (items_size item l.n l.rest r l.items)) l.few
+
+list_short : {X : Type 0} (limit : ℕ) (item : List ℕ → Result (X × List ℕ) Fault) (bytes : List ℕ) (r : List X × List ℕ) → list_at limit item bytes ≡ Ok r → length r.0 ≤ limit
+list_short limit item bytes r e = listed_short limit item r (listed limit item bytes r e)
+
+listed_each : {X : Type 0} (P : X → Type 0) (limit : ℕ) (item : List ℕ → Result (X × List ℕ) Fault) → ((bytes : List ℕ) (r : X × List ℕ) → item bytes ≡ Ok r → P r.0)
+    → (r : List X × List ℕ) → Listed limit item r → All P r.0
+listed_each P limit item each r l = items_each P item each l.n l.rest r l.items
 
 tx_short : (bytes : List ℕ) (r : FullTx × List ℕ) → transaction_at bytes ≡ Ok r → IsShort r.0
 unfolding transaction_at
@@ -93,18 +105,18 @@ placed_ok : {X : Type 0} (len : ℕ) (more : Bool) (r : Result X Fault) (x : X) 
 placed_ok len more (Ok y) x e = let h : y ≡ x = cc in ap (λ z. Ok z) h
 placed_ok len more (Err f) x e = absurd (cc)
 
-file_read : (before : ℕ) (more : Bool) (bytes : List ℕ) (txs : List FullTx) → clients_in before more bytes ≡ Ok txs → Went (list_at (1000000 - before) transaction_at bytes) (ended more) txs
-file_read before more bytes txs e = went (list_at (1000000 - before) transaction_at bytes) (ended more) txs (placed_ok (length bytes) more _ txs e)
+file_read : (before : ℕ) (more : Bool) (bytes : List ℕ) (txs : List FullTx) → clients_in before more bytes ≡ Ok txs → Went (counted_behind before bytes) (ended more) txs
+file_read before more bytes txs e = went (counted_behind before bytes) (ended more) txs (placed_ok (length bytes) more _ txs e)
 
 pub file_short : (before : ℕ) (more : Bool) (bytes : List ℕ) (txs : List FullTx) → clients_in before more bytes ≡ Ok txs → All IsShort txs
 file_short before more bytes txs e =
     let w = file_read before more bytes txs e in
-    subst (λ ts. All IsShort ts) (ended_ok more w.x txs w.then_) (list_each IsShort (1000000 - before) transaction_at tx_short bytes w.x w.first)
+    subst (λ ts. All IsShort ts) (ended_ok more w.x txs w.then_) (listed_each IsShort (1000000 - before) transaction_at tx_short w.x (behind_listed before bytes w.x w.first))
 
 pub file_few : (before : ℕ) (more : Bool) (bytes : List ℕ) (txs : List FullTx) → clients_in before more bytes ≡ Ok txs → length txs ≤ 1000000 - before
 file_few before more bytes txs e =
     let w = file_read before more bytes txs e in
-    subst (λ ts. length ts ≤ 1000000 - before) (ended_ok more w.x txs w.then_) (list_short (1000000 - before) transaction_at bytes w.x w.first)
+    subst (λ ts. length ts ≤ 1000000 - before) (ended_ok more w.x txs w.then_) (listed_short (1000000 - before) transaction_at w.x (behind_listed before bytes w.x w.first))
 
 pub mint_few : (more : Bool) (bytes : List ℕ) (m : List Output) → mint_in more bytes ≡ Ok m → length m ≤ 1000000
 mint_few more bytes m e =

@@ -1,5 +1,5 @@
 -- The calls at a lane's coordinator: what each leaves there.
-use Rattle.std.proofs.Common.{◌≡◌, ◌⊎◌, inl, inr, ℕ, suc, ◌<◌, ◌≤◌, max, Bool, true, false, ◌&&◌, ◌==◌, not, nat_lt, List, ◌∷◌, length, Some, is_some, Result, Ok, Err, refl, sym, ap, ◌∙◌, subst, arith}
+use Rattle.std.proofs.Common.{◌≡◌, ◌⊎◌, inl, inr, ℕ, suc, ◌<◌, ◌≤◌, max, Bool, true, false, ◌&&◌, ◌==◌, not, nat_lt, List, ◌∷◌, length, Some, None, is_some, Result, Ok, Err, refl, sym, ap, ◌∙◌, subst, arith}
 use Rattle.cbdc_types.specs.declared.calls.NodeFault.{NodeFault}
 use Rattle.cbdc_types.specs.declared.calls.NodeFault.TheVariants.{Broken, Refused as Refuses, ClockEnd, Full, DiskFault, Memory}
 use Rattle.cbdc_types.specs.declared.batch.ShardReplies.{ShardReplies}
@@ -19,12 +19,13 @@ use Rattle.ledger_laws.proofs.Slots.{same_batch_self}
 use Rattle.ledger_laws.proofs.Finds.{replaced_at, replaced_away}
 use Rattle.lane_laws.specs.Batches.{own, view, IsRisen, TakesRoom}
 use Rattle.lane_laws.specs.Calls.{is_concerned}
+use Rattle.lane_laws.specs.Faults.{IsAnswered}
 use Rattle.lane_laws.specs.Answers.{DecideAnswer, AreRepliedTo}
 use Rattle.lane_laws.proofs.Own.{own_in, record_own, finds_own, finds_slot, finds_record}
 use Rattle.lane_laws.proofs.Steps.{StepAt}
 use Rattle.lane_laws.proofs.Views.{Moved, Fell, view_home, view_shard, apart_home, log_moved, log_fell}
 use Rattle.lane_laws.proofs.Dues.{past, late_wrote, late_stored, late_unbroken, late_full, late_end}
-use Rattle.lane_laws.proofs.Tellings.{Wrote, Stood, Stopped, FaultBy, told_ok, told_err}
+use Rattle.lane_laws.proofs.Tellings.{Wrote, Stood, Stopped, FaultBy, told_ok, told_err, answered}
 use Rattle.lane_laws.proofs.Asked.{call_step}
 
 pub concerned_is : (K : Shape) (txs : List Compact) (s : ℕ) → Concerned K txs s → is_concerned K txs s ≡ true
@@ -96,9 +97,10 @@ module _ (K : Shape) (pieces : List (List Compact)) (alone : Bool) (lane : ℕ) 
           wrote_step alone lane by log log' a (named a) m w (e.1 ∙ is w.found w.finds ∙ ap named (sym e.0)) (lane_is a) (stamp_is a ∙ e.0)
 
   pub late_err : (f : NodeFault) → Told alone lane false (λ broken J. unless_broken broken (by J)) log log' (Err f) → Fell K pieces alone lane log shards log' shards × LogFailed lane log log' f × (TakesRoom f → ⊥)
+      × IsAnswered false (by log'.seen) log' f
   late_err f told =
       let s = told_err alone lane false by log log' f (λ L n e. late_unbroken (next_stamp L m) (next_stamp L m) (next L) n e) told in
-      (log_fell K lane home pieces alone true log log' shards (step true (Err f) (inl refl) told), stopped_same alone lane false by log log' f s, roomless f s.found s.why)
+      (log_fell K lane home pieces alone true log log' shards (step true (Err f) (inl refl) told), stopped_same alone lane false by log log' f s, roomless f s.found s.why, answered alone lane false by log log' f s)
     where
       roomless : (f : NodeFault) (found : List Record) → FaultBy false (by found) f → TakesRoom f → ⊥
       roomless (Broken since) found w t = t
@@ -199,8 +201,8 @@ module _ (K : Shape) (pieces : List (List Compact)) (alone : Bool) (lane number 
     pub step : LogStep lane log log' r
     pub stays : Open K lane number txs log' t
 
-  abbrev pub LogFell : Sight → Sight → (ℕ → Sight) → NodeFault → Type 0
-  LogFell log log' shards f = Fell K pieces alone lane log shards log' shards × LogFailed lane log log' f × (TakesRoom f → ⊥)
+  abbrev pub LogFell : (List Record → Due ℕ) → Sight → Sight → (ℕ → Sight) → NodeFault → Type 0
+  LogFell due log log' shards f = Fell K pieces alone lane log shards log' shards × LogFailed lane log log' f × (TakesRoom f → ⊥) × IsAnswered false (due log'.seen) log' f
 
   module _ (log log' : Sight) (shards : ℕ → Sight) (t : ℕ) (o : Open K lane number txs log t) where
     -- Commit
@@ -225,7 +227,7 @@ module _ (K : Shape) (pieces : List (List Compact)) (alone : Bool) (lane number 
             ap (λ L. record_of 7 L B) d.1.seen_is ∙ (let z : same_batch B B ≡ true = self in rw z),
           )
 
-      pub commit_err : (f : NodeFault) → DecideAnswer alone lane rs log log' (Err f) → LogFell log log' shards f
+      pub commit_err : (f : NodeFault) → DecideAnswer alone lane rs log log' (Err f) → LogFell (λ L. decide_due K lane rs None L) log log' shards f
       commit_err f told = late_err K pieces alone lane home log log' shards (reply_cause K rs) (λ L. commit_record K lane rs L) (λ n. Commit n B (decided K txs rs)) (λ found f. commit_named log shards t o found f rs) (λ n. same_number lane) (λ n. refl) (λ n. tt)
           (λ found f. commit_caused log shards t o found f rs looks) f (decide_told (Err f) told)
 
@@ -242,7 +244,7 @@ module _ (K : Shape) (pieces : List (List Compact)) (alone : Bool) (lane number 
             ap (λ L. record_of 8 L B) d.1.seen_is ∙ (let z : same_batch B B ≡ true = self in rw z),
           )
 
-      pub discard_err : (f : NodeFault) → Told alone lane false (discard_due lane m) log log' (Err f) → LogFell log log' shards f
+      pub discard_err : (f : NodeFault) → Told alone lane false (discard_due lane m) log log' (Err f) → LogFell (λ L. discard_due lane m None L) log log' shards f
       discard_err f told = late_err K pieces alone lane home log log' shards m (λ L. discard_record lane m L) (λ n. Discard n B) discard_named (λ n. same_number lane) (λ n. refl) (λ n. tt)
           (λ found f. (have log shards t o found f 3 stamps looks, stamped log shards t o found f 3 m stamps looks greatest_is)) f told
 
@@ -255,7 +257,7 @@ module _ (K : Shape) (pieces : List (List Compact)) (alone : Bool) (lane number 
       done_ok te told = late_ok K pieces alone lane home log log' shards m (λ L. done_record lane m L) (λ n. Done n B) done_named (λ n. same_number lane) (λ n. refl) (λ n. tt)
           (λ found f. (have log shards t o found f 4 stamps looks, stamped log shards t o found f 4 m stamps looks greatest_is)) te told
 
-      pub done_err : (f : NodeFault) → Told alone lane false (done_due lane m) log log' (Err f) → LogFell log log' shards f
+      pub done_err : (f : NodeFault) → Told alone lane false (done_due lane m) log log' (Err f) → LogFell (λ L. done_due lane m None L) log log' shards f
       done_err f told = late_err K pieces alone lane home log log' shards m (λ L. done_record lane m L) (λ n. Done n B) done_named (λ n. same_number lane) (λ n. refl) (λ n. tt)
           (λ found f. (have log shards t o found f 4 stamps looks, stamped log shards t o found f 4 m stamps looks greatest_is)) f told
 

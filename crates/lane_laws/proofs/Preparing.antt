@@ -1,5 +1,5 @@
 -- Prepare: a new batch of an idle lane.
-use Rattle.std.proofs.Common.{◌≡◌, ◌⊎◌, inl, inr, ℕ, suc, ◌+◌, ◌<◌, max, Bool, true, false, ◌==◌, nat_lt, if◌then◌else◌, List, [], ◌∷◌, Result, Ok, Err, refl, sym, ap, ◌∙◌, arith}
+use Rattle.std.proofs.Common.{◌≡◌, ◌⊎◌, inl, inr, ℕ, suc, ◌+◌, ◌<◌, max, Bool, true, false, ◌==◌, nat_lt, if◌then◌else◌, List, [], ◌∷◌, None, Result, Ok, Err, refl, sym, ap, ◌∙◌, subst, arith}
 use Rattle.std.specs.Prelude.{Contains}
 use Rattle.cbdc_types.specs.declared.calls.NodeFault.{NodeFault}
 use Rattle.cbdc_types.specs.declared.calls.NodeFault.TheVariants.{Broken, ClockEnd, Full}
@@ -12,11 +12,12 @@ use Rattle.cbdc_model.specs.Room.{need_of}
 use Rattle.cbdc_model.specs.Sights.{Sight, Told}
 use Rattle.ledger_laws.proofs.Finds.{replaced_at}
 use Rattle.lane_laws.specs.Batches.{view}
+use Rattle.lane_laws.specs.Faults.{IsAnswered}
 use Rattle.lane_laws.proofs.Own.{finds_slot}
 use Rattle.lane_laws.proofs.Steps.{StepAt}
 use Rattle.lane_laws.proofs.Views.{Moved, Fell, view_home, log_moved, log_fell}
 use Rattle.lane_laws.proofs.Dues.{err, ok, past, past_ok, writes_same}
-use Rattle.lane_laws.proofs.Tellings.{Wrote, Stood, told_ok, told_err}
+use Rattle.lane_laws.proofs.Tellings.{Wrote, Stood, told_ok, told_err, answered}
 use Rattle.lane_laws.proofs.Asked.{call_step}
 use Rattle.lane_laws.proofs.LogCalls.{LogStep, LogFailed, wrote_step, stopped_same}
 
@@ -86,7 +87,12 @@ module _ (K : Shape) (alone : Bool) (lane k : ℕ) (home : home_of K lane < K.co
           )
 
   pub prepare_err : (f : NodeFault) → Told alone lane true (prepare_due log.header.shape log.capacity lane txs) log log' (Err f) → Fell K (txs ∷ []) alone lane log shards log' shards × LogFailed lane log log' f
-  prepare_err f told = (
-    log_fell K lane home (txs ∷ []) alone true log log' shards (step true (Err f) (inl refl) told),
-    stopped_same alone lane true (by log.header.shape log.capacity lane txs) log log' f (told_err alone lane true (by log.header.shape log.capacity lane txs) log log' f (unbroken log.header.shape log.capacity lane txs) told),
-  )
+      × IsAnswered true (prepare_due log'.header.shape log'.capacity lane txs None log'.seen) log' f
+  prepare_err f told =
+      let s = told_err alone lane true (by log.header.shape log.capacity lane txs) log log' f (unbroken log.header.shape log.capacity lane txs) told in (
+        log_fell K lane home (txs ∷ []) alone true log log' shards (step true (Err f) (inl refl) told),
+        stopped_same alone lane true (by log.header.shape log.capacity lane txs) log log' f s,
+        subst (λ h. IsAnswered true (prepare_due h.shape log'.capacity lane txs None log'.seen) log' f) (sym s.node.header)
+            (subst (λ m. IsAnswered true (prepare_due log.header.shape m lane txs None log'.seen) log' f) (sym s.node.capacity)
+            (answered alone lane true (by log.header.shape log.capacity lane txs) log log' f s)),
+      )

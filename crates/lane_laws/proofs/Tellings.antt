@@ -7,6 +7,7 @@ use Rattle.cbdc_model.specs.Slots.{slot_stamp}
 use Rattle.cbdc_model.specs.Due.{Due, Answers, Writes, unless_broken}
 use Rattle.cbdc_model.specs.Sights.{Sight, HasRisen, IsSameNode, Stays, MeetsFault, Finds, IsBrokenSince, Told}
 use Rattle.lane_laws.specs.Batches.{IsRisen}
+use Rattle.lane_laws.specs.Faults.{IsAnswered}
 use Rattle.lane_laws.proofs.Dues.{err, not_broken, not_broken_ok}
 
 -- the call's record was written
@@ -114,3 +115,12 @@ told_err {A = A} alone lane memory by old new f never t = go f t.meets
     go (Refuses why) h = stays (Refuses why) h.1 tt (unbroken t.broken (by t.found) (Refuses why) (λ s e. cc) h.0)
     go (ClockEnd stamp) h = stays (ClockEnd stamp) h.1 tt (unbroken t.broken (by t.found) (ClockEnd stamp) (λ s e. cc) h.0)
     go (Full used need capacity) h = stays (Full used need capacity) h.1 tt (unbroken t.broken (by t.found) (Full used need capacity) (λ s e. cc) h.0)
+
+-- what it owed on the journal that is seen at last
+pub answered : {A : Type 0} (alone : Bool) (lane : ℕ) (memory : Bool) (by : List Record → Due A) (old new : Sight) (f : NodeFault) → Stopped alone lane memory by old new f → IsAnswered memory (by new.seen) new f
+answered alone lane memory by old new (Broken since) s = s.risen
+answered alone lane memory by old new (Refuses why) s = subst (λ L. by L ≡ Answers (Err (Refuses why))) (sym s.seen) s.why
+answered alone lane memory by old new (ClockEnd stamp) s = subst (λ L. by L ≡ Answers (Err (ClockEnd stamp))) (sym s.seen) s.why
+answered alone lane memory by old new (Full used need capacity) s = subst (λ L. by L ≡ Answers (Err (Full used need capacity))) (sym s.seen) s.why
+answered alone lane memory by old new DiskFault s = s.risen
+answered alone lane memory by old new Memory s = s.why

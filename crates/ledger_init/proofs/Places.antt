@@ -1,6 +1,7 @@
 -- What is on each node's disk behind the opening and the writing.
 use Rattle.std.proofs.Common.{◌≡◌, ◌≢◌, ◌⊎◌, inl, inr, ⊎_elim, ℕ, zero, suc, ◌+◌, ◌^◌, ◌≤◌, ◌<◌, List, [], ◌∷◌, ◌++◌, length, Option, Some, refl, sym, ◌∙◌, ap, ap₂, subst, arith, length-append}
 use Rattle.std.specs.Prelude.{IsSome}
+use Rattle.std.proofs.lemmas.Bool.{cases_lt}
 use Rattle.outside.specs.Counts.{Rose}
 use Rattle.outside.specs.Images.{Tells}
 use Rattle.cbdc_types.specs.Limits.{IsWithinLimits}
@@ -19,7 +20,8 @@ use Rattle.rack_nodes.specs.Blank.{IsUnused, IsNoBlank, IsBlankRefusal}
 use Rattle.rack_nodes.specs.First.{IsBegun, IsUnwritten, first_need}
 use Rattle.rack_nodes.proofs.Each.{each_two, each_weaker, each_split}
 use Rattle.rack_nodes.proofs.Range.{opening_later}
-use Rattle.ledger_init.specs.Made.{node_count, first_of, HoldsFirst, LeavesBut, ToldUnused, MayBeMade, IsFirstInUse, HasPlaceFor, IsLastFull, IsUnmade}
+use Rattle.rack_nodes.proofs.Told.{back_same}
+use Rattle.ledger_init.specs.Made.{node_count, first_of, HoldsFirst, LeavesBut, ToldUnused, MayBeMade, IsFirstInUse, HasPlaceFor, IsLastFull, IsUnmade, IsOfNode, StoppedAt}
 use Rattle.ledger_init.specs.Places.{minted_by, HoldsOf, LeavesOf, IsDone, IsStopped, StopsAt}
 use Rattle.ledger_init.proofs.Sizes.{first_size}
 
@@ -36,6 +38,33 @@ emptied_weaker a b c weaker is = ⊎_elim (λ none. inl none) (λ was. inr (weak
 each_join : {X : Type 0} (P : ℕ → X → Type 0) (i : ℕ) (xs ys : List X) → EachFrom P i xs → EachFrom P (i + length xs) ys → EachFrom P i (xs ++ ys)
 each_join P i [] ys one other = subst (λ (k : ℕ). EachFrom P k ys) (omega arith) other
 each_join P i (x ∷ xs) ys one other = (one.0, each_join P (suc i) xs ys one.1 (subst (λ (k : ℕ). EachFrom P k ys) (omega arith) other))
+
+-- all disks are back, those of some nodes and those that were not touched
+pub back_all : {D : Type 0} (images : D → List ℕ → Type 0) (limit : D → ℕ) (old new : ℕ → Option D) (end : ℕ) → ((n : ℕ) → n < end → IsBack images limit (old n) (new n))
+    → ((n : ℕ) → end ≤ n → new n ≡ old n) → (n : ℕ) → IsBack images limit (old n) (new n)
+back_all images limit old new end inside outside n = elim (cases_lt n end) [
+  | inl small ↦ inside n small
+  | inr large ↦ back_same images limit (old n) (new n) (outside n large)
+]
+
+-- a first record is not written for a reason that speaks of its node
+of_node : (k room : ℕ) (first : Record) (a : Answer) → IsUnwritten k room first a → IsOfNode k a
+of_node k room first (answers.Full n used need capacity) un = un.0
+of_node k room first (answers.DiskFault n) un = un.0
+of_node k room first answers.Memory un = tt
+of_node k room first answers.Ok un = absurd un
+of_node k room first answers.BadWords un = absurd un
+of_node k room first (answers.BadInput file at kind) un = absurd un
+of_node k room first (answers.TooMuch total) un = absurd un
+of_node k room first (answers.NotReady n) un = absurd un
+of_node k room first (answers.Foreign n kept asked) un = absurd un
+of_node k room first (answers.NotEmpty n) un = absurd un
+of_node k room first (answers.Unsound place kind) un = absurd un
+of_node k room first (answers.ClockEnd n stamp) un = absurd un
+of_node k room first (answers.Refused n) un = absurd un
+of_node k room first (answers.Damaged n at) un = absurd un
+of_node k room first (answers.ReadFault file) un = absurd un
+of_node k room first answers.WriteFault un = absurd un
 
 module _ {D B : Type 0} (content : D → Option (List ℕ)) (images : D → List ℕ → Type 0) (limit count : D → ℕ) (disk_of : B → D) (node_of : B → ℕ) (K : Shape) (mint : List Output) (old new : ℕ → Option D) (before now : ℕ → ℕ) where
   -- a blank of the disk that was told
@@ -124,6 +153,24 @@ module _ {D B : Type 0} (content : D → Option (List ℕ)) (images : D → List
 
       here_inside : length stopped.front < node_count K
       here_inside = omega (arith, long, all)
+
+      back_there : (n : ℕ) (b : B) → IsBlankAt n b → OfTold (new n) (λ d. d ≡ disk_of b) → IsBack images limit (old n) (new n)
+      back_there n b blank same = λ was is d is_now. subst (λ (x : D). IsRead images limit was x) (sym (same d is_now)) (blank.1 was is).read
+
+      front_parts : EachFrom IsBlankAt 0 stopped.front
+      front_parts = (each_split IsBlankAt 0 stopped.front (stopped.x ∷ stopped.done) (subst (λ (l : List B). EachFrom IsBlankAt 0 l) stopped.parts opened)).0
+
+      -- the node at which the writing stopped
+      pub stopped_at : ((n : ℕ) → node_count K ≤ n → new n ≡ old n) → StoppedAt K mint content images limit old new answer (length stopped.front)
+      stopped_at others = record {
+        inside = here_inside;
+        told = of_node (length stopped.front) (limit (disk_of stopped.x)) (first_of K mint (length stopped.front)) answer stopped.fails.refusal;
+        below = λ n lt. each_two IsBlankAt (λ k b. OfTold (new k) (λ d. d ≡ disk_of b)) (λ k. IsBack images limit (old k) (new k)) 0 stopped.front back_there front_parts stopped.waiting n (omega arith) (omega (arith, lt));
+        begun = left_at (length stopped.front) stopped.x opened_parts.0 (λ d is_now. (stopped.fails.safe d is_now).begun);
+        emptied = λ other. emptied_at (length stopped.front) stopped.x opened_parts.0 (λ d is_now. (stopped.fails.safe d is_now).emptied other);
+        above = λ n gt lt. each_two IsBlankAt (λ k b. IsDone content images limit (first_of K mint k) (disk_of b) (new k)) (λ k. HoldsFirst content images (first_of K mint k) (old k) (new k)) (suc (length stopped.front)) stopped.done holds_at opened_parts.1 stopped.behind n (omega (arith, gt)) (omega (arith, long, all, lt));
+        outside = others;
+      }
 
   refused_of : (a : Answer) (node : ℕ) (x : B) → node < node_count K → IsBlankAt node x → MayBeMade K mint content old → IsWithinLimits K → length mint ≤ 1000000 → ((n : ℕ) → node < n → n < node_count K → HasPlaceFor K mint limit old n)
       → IsUnwritten node (limit (disk_of x)) (first_of K mint node) a → IsOpening node (count (disk_of x)) (now node) a → IsUnmade K mint content limit old before now a

@@ -1,5 +1,5 @@
 -- What is on the disks of a ledger that was made, and why one was not.
-use Rattle.std.specs.Prelude.{◌≡◌, ◌+◌, ◌^◌, ◌≤◌, ◌<◌, ℕ, List, [], ◌∷◌, length, Option, IsSome}
+use Rattle.std.specs.Prelude.{◌≡◌, ◌≢◌, ◌⊎◌, ◌+◌, ◌^◌, ◌≤◌, ◌<◌, ℕ, List, [], ◌∷◌, length, Option, IsSome}
 use Rattle.outside.specs.Counts.{Rose}
 use Rattle.outside.specs.Images.{Tells}
 use Rattle.cbdc_types.specs.declared.answer.Answer.{Answer}
@@ -12,8 +12,10 @@ use Rattle.cbdc_model.specs.World.{first_record}
 use Rattle.cbdc_model.specs.Room.{size_of}
 use Rattle.record_codec.specs.Bodies.{body_of}
 use Rattle.record_log.specs.Held.{Holds}
-use Rattle.rack_nodes.specs.Racked.{OfTold}
+use Rattle.gate_journal.specs.Formatting.{IsEmptied}
+use Rattle.rack_nodes.specs.Racked.{OfTold, IsBack}
 use Rattle.rack_nodes.specs.Blank.{IsInUse, IsUnused}
+use Rattle.rack_nodes.specs.First.{IsBegun}
 
 -- the number of a ledger's nodes
 abbrev pub node_count : Shape → ℕ
@@ -70,3 +72,28 @@ IsUnmade K mint content limit held before now (answers.Full n used need capacity
 IsUnmade K mint content limit held before now (answers.DiskFault n) = (value_out mint < 2 ^ 64) × (n < node_count K) × Rose (before n) (now n)
 IsUnmade K mint content limit held before now answers.Memory = Unit {0}
 IsUnmade K mint content limit held before now other = ⊥
+
+-- ---- what is left of the disks of a ledger that was not made
+
+-- the answer speaks of this node: its disk has no room, or failed; want of memory may come at any node
+abbrev pub IsOfNode : ℕ → Answer → Type 0
+IsOfNode k (answers.Full n used need capacity) = n ≡ k
+IsOfNode k (answers.DiskFault n) = n ≡ k
+IsOfNode k answers.Memory = Unit {0}
+IsOfNode k other = ⊥
+
+-- The writing, from the highest node down, stopped at this one. The disks of those below it are as they were read. A crash leaves of its own no
+-- first record, or what it might have left before, or, where the disk failed, its first record alone. Those above it hold their first records.
+pub record StoppedAt {D : Type 0} (K : Shape) (mint : List Output) (content : D → Option (List ℕ)) (images : D → List ℕ → Type 0) (limit : D → ℕ) (before now : ℕ → Option D) (answer : Answer) (k : ℕ) : Type 0 where
+  pub inside : k < node_count K
+  pub told : IsOfNode k answer
+  pub below : (n : ℕ) → n < k → IsBack images limit (before n) (now n)
+  pub begun : LeavesBut content images (λ was. IsBegun was (first_of K mint k)) (before k) (now k)
+  pub emptied : answer ≢ answers.DiskFault k → LeavesBut content images IsEmptied (before k) (now k)
+  pub above : (n : ℕ) → k < n → n < node_count K → HoldsFirst content images (first_of K mint n) (before n) (now n)
+  pub outside : (n : ℕ) → node_count K ≤ n → now n ≡ before n
+
+-- all disks are as they were read, or the writing stopped at a node
+abbrev pub IsLeft : {D : Type 0} → Shape → List Output → (D → Option (List ℕ)) → (D → List ℕ → Type 0) → (D → ℕ) → (ℕ → Option D) → (ℕ → Option D) → Answer → Type 0
+IsLeft K mint content images limit before now answer =
+    ((n : ℕ) → IsBack images limit (before n) (now n)) ⊎ ((k : ℕ) × StoppedAt K mint content images limit before now answer k)

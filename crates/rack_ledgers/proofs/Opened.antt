@@ -50,9 +50,6 @@ module _ {D : Type 0} (content : D → Option (List ℕ)) (images : D → List �
   lead_at held h l same fits opened =
       log_at held h 0 l (fits.0 ∙ ap (λ (k : Header). record { node = 0; shape = k.shape; genesis = k.genesis }) (sym same), fits.1, fits.2, fits.3, fits.4, fits.5, fits.6) opened
 
-  pub lead_first : (h : Header) (l : LogOf D) → h ≡ l.header → FitsLog 0 None l → h.node ≡ 0
-  lead_first h l same fits = ap (λ (k : Header). k.node) same ∙ ap (λ (k : Header). k.node) fits.0
-
   -- node 0 and those behind it
   pub led_at : (held mid : ℕ → Option D) (before : ℕ → ℕ) (h : Header) (lead : LogOf D) (more : List (LogOf D)) → ((n : ℕ) → 1 ≤ n → mid n ≡ held n)
       → IsLogAt content images limit count held h 0 lead

@@ -1,9 +1,10 @@
 -- The nodes of a ledger as a rack keeps them.
-use Rattle.std.specs.Prelude.{◌≡◌, ◌⊎◌, ◌+◌, ◌≤◌, ◌<◌, ℕ, List, length, Option, Some, None, slice_get}
+use Rattle.std.specs.Prelude.{◌≡◌, ◌≢◌, ◌⊎◌, ◌+◌, ◌≤◌, ◌<◌, ℕ, List, length, Option, Some, None, slice_get}
 use Rattle.outside.specs.Images.{Tells}
 use Rattle.cbdc_types.specs.Limits.{IsWithinLimits}
 use Rattle.cbdc_types.specs.declared.answer.Answer.{Answer}
-use Rattle.cbdc_model.specs.Records.{Header}
+use Rattle.cbdc_types.specs.declared.answer.Answer.TheVariants as answers
+use Rattle.cbdc_model.specs.Records.{Digest, Header}
 use Rattle.cbdc_model.specs.After.{IsJournal}
 use Rattle.cbdc_model.specs.History.{header_of}
 use Rattle.coord_log.specs.Logs.{LogOf, HoldsJournal as HoldsLog}
@@ -84,3 +85,29 @@ IsUnled content images limit count held before now answer =
 abbrev pub IsUnopened : {D : Type 0} → (D → Option (List ℕ)) → (D → List ℕ → Type 0) → (D → ℕ) → (D → ℕ) → (ℕ → Option D) → (ℕ → ℕ) → (ℕ → ℕ) → Answer → Type 0
 IsUnopened content images limit count held before now answer =
     IsUnled content images limit count held before now answer ⊎ LacksShard content images limit count held before now answer
+
+-- the mint with this id, where one is given, began the ledger with this header
+abbrev pub IsMintOf : Option Digest → Header → Type 0
+IsMintOf None h = Unit {0}
+IsMintOf (Some id) h = h.genesis ≡ id
+
+-- another mint than the one with this id began the ledger of node 0, which has this header; and this is the answer
+abbrev pub IsOtherMint : Option Digest → Header → Answer → Type 0
+IsOtherMint None h answer = ⊥
+IsOtherMint (Some id) h answer = (h.genesis ≢ id) × (answer ≡ answers.Foreign 0 h (record { node = 0; shape = h.shape; genesis = id }))
+
+-- node 0 is opened, and another mint than the one with this id began its ledger
+pub record HasOtherMint {D : Type 0} (content : D → Option (List ℕ)) (images : D → List ℕ → Type 0) (limit count : D → ℕ) (held : ℕ → Option D) (id : Option Digest) (answer : Answer) : Type 0 where
+  pub lead : LogOf D
+  pub first : lead.header.node ≡ 0
+  pub lead_at : IsLogAt content images limit count held lead.header 0 lead
+  pub other : IsOtherMint id lead.header answer
+
+-- why the first node that can't be opened is not, where the mint with this id, if one is given, should have begun the ledger
+abbrev pub IsUnledBy : {D : Type 0} → (D → Option (List ℕ)) → (D → List ℕ → Type 0) → (D → ℕ) → (D → ℕ) → (ℕ → Option D) → (ℕ → ℕ) → (ℕ → ℕ) → Option Digest → Answer → Type 0
+IsUnledBy content images limit count held before now id answer =
+    IsUnled content images limit count held before now answer ⊎ HasOtherMint content images limit count held id answer
+
+abbrev pub IsUnopenedBy : {D : Type 0} → (D → Option (List ℕ)) → (D → List ℕ → Type 0) → (D → ℕ) → (D → ℕ) → (ℕ → Option D) → (ℕ → ℕ) → (ℕ → ℕ) → Option Digest → Answer → Type 0
+IsUnopenedBy content images limit count held before now id answer =
+    IsUnopened content images limit count held before now answer ⊎ HasOtherMint content images limit count held id answer

@@ -5,4 +5,4 @@ mod nodes;
 mod opening;
 
 pub use nodes::{Nodes, close_nodes};
-pub use opening::open_nodes;
+pub use opening::{open_minted, open_nodes};

@@ -1,17 +1,69 @@
 // Opening all nodes of a ledger.
-ghost use Rattle.std.specs.Prelude.{◌≡◌, ◌∷◌, [], ◌+◌, ◌≤◌, ◌<◌, ◌^◌, ℕ, length, IfOk, IfErr, OnErr};
+ghost use Rattle.std.specs.Prelude.{◌≡◌, ◌≢◌, ◌∷◌, [], ◌+◌, ◌≤◌, ◌<◌, ◌^◌, ℕ, length, Some, IfOk, IfErr, OnErr, MatchOption};
+ghost use Rattle.std.specs.Option.{option_copied};
 ghost use Rattle.cbdc_types.specs.Limits.{IsWithinLimits};
 ghost use Rattle.rack_nodes.specs.Places.{EachFrom, MayReturn};
 ghost use Rattle.rack_nodes.specs.Racked.{OfTold, IsBack};
 ghost use Rattle.rack_nodes.specs.Refused.{IsNodeRefusal};
-ghost use Rattle.rack_ledgers.specs.Ledgers.{ByPlace, IsLogAt, AreOpened, IsUnled, IsUnopened};
+ghost use Rattle.rack_ledgers.specs.Ledgers.{ByPlace, IsLogAt, AreOpened, IsMintOf, IsOtherMint, IsUnledBy, IsUnopened, IsUnopenedBy};
 
 use crate::Nodes;
-use cbdc_types::{Answer, Header, NodeId};
+use cbdc_types::{Answer, Hash, Header, NodeId};
 use coord_log::CoordLog;
 use outside::Rack;
 use rack_nodes::{close_all, open_all, open_one};
 use std::alloc::Global;
+
+// What is answered where another mint than the one with this id began the ledger with this header.
+fn other_mint(kept: &Header, id: Option<&Hash>) -> Option<Answer>
+    requires { kept.now.node ≡ 0 }
+    ensures { MatchOption result (IsMintOf (option_copied id.entry) kept.now) (IsOtherMint (option_copied id.entry) kept.now) }
+{
+    let id = id?;
+    if kept.genesis == *id {
+        return None;
+    }
+    Some(Answer::Foreign {
+        node: NodeId(0),
+        kept: *kept,
+        asked: Header {
+            node: NodeId(0),
+            shape: kept.shape,
+            genesis: *id,
+        },
+    })
+}
+
+// The first coordinator, where the mint with this id began its ledger. After a fault its disk is back.
+fn open_lead<R: Rack>(
+    alloc: Global,
+    rack: &mut R,
+    id: Option<&Hash>,
+) -> Result<CoordLog<R::Disk>, Answer>
+    requires { R.can_take rack.old 0 }
+    ensures opened { IfOk result (λ l. (l.header.node ≡ 0) × IsLogAt R.Disk.content R.Disk.images R.Disk.limit R.Disk.count (R.held rack.old) l.header 0 l) }
+    ensures minted { IfOk result (λ l. IsMintOf (option_copied id.entry) l.header) }
+    ensures refusal { IfErr result (IsUnledBy R.Disk.content R.Disk.images R.Disk.limit R.Disk.count (R.held rack.old) (R.count rack.old) (R.count rack.new) (option_copied id.entry)) }
+    ensures kind { IfErr result IsNodeRefusal }
+    ensures held { OnErr result (IsBack R.Disk.images R.Disk.limit (R.held rack.old 0) (R.held rack.new 0)) }
+    ensures others_held { (n : ℕ) → n ≢ 0 → R.held rack.new n ≡ R.held rack.old n }
+    ensures out { IfOk result (MayReturn (λ x. R.Disk.count x.disk) (R.can_put rack.new) 0) }
+    ensures back { OnErr result (R.can_take rack.new 0) }
+    ensures others_in { (n : ℕ) → n ≢ 0 → R.can_take rack.old n → R.can_take rack.new n }
+    ensures later { (n : ℕ) → R.count rack.old n ≤ R.count rack.new n }
+{
+    let lead: CoordLog<R::Disk> = match open_one(alloc, rack, NodeId(0), None) {
+        Ok(lead) => lead,
+        Err(fault) => return Err(fault),
+    };
+    match other_mint(lead.header(), id) {
+        None => Ok(lead),
+        Some(fault) => {
+            rack.put(NodeId(0), lead.into_disk());
+            Err(fault)
+        }
+    }
+}
 
 // The first coordinator in a list of its own.
 fn lead_alone<R: Rack>(
@@ -44,11 +96,13 @@ fn lead_alone<R: Rack>(
 fn open_logs<R: Rack>(
     alloc: Global,
     rack: &mut R,
+    id: Option<&Hash>,
 ) -> Result<(Header, Vec<CoordLog<R::Disk>>), Answer>
     requires { (n : ℕ) → R.can_take rack.old n }
     ensures first { IfOk result (λ l. (l.0.node ≡ 0) × IsWithinLimits l.0.shape) }
     ensures opened { IfOk result (λ l. ByPlace (IsLogAt R.Disk.content R.Disk.images R.Disk.limit R.Disk.count (R.held rack.old) l.0) l.1.items) }
-    ensures refusal { IfErr result (IsUnled R.Disk.content R.Disk.images R.Disk.limit R.Disk.count (R.held rack.old) (R.count rack.old) (R.count rack.new)) }
+    ensures minted { IfOk result (λ l. IsMintOf (option_copied id.entry) l.0) }
+    ensures refusal { IfErr result (IsUnledBy R.Disk.content R.Disk.images R.Disk.limit R.Disk.count (R.held rack.old) (R.count rack.old) (R.count rack.new) (option_copied id.entry)) }
     ensures kind { IfErr result IsNodeRefusal }
     ensures held { OnErr result ((n : ℕ) → IsBack R.Disk.images R.Disk.limit (R.held rack.old n) (R.held rack.new n)) }
     ensures others_held { IfOk result (λ l. (n : ℕ) → l.0.shape.coordinators ≤ n → R.held rack.new n ≡ R.held rack.old n) }
@@ -58,7 +112,7 @@ fn open_logs<R: Rack>(
     ensures back { OnErr result ((n : ℕ) → R.can_take rack.new n) }
     ensures later { (n : ℕ) → R.count rack.old n ≤ R.count rack.new n }
 {
-    let lead: CoordLog<R::Disk> = match open_one(alloc, rack, NodeId(0), None) {
+    let lead = match open_lead(alloc, rack, id) {
         Ok(lead) => lead,
         Err(fault) => return Err(fault),
     };
@@ -72,6 +126,45 @@ fn open_logs<R: Rack>(
     match open_all(alloc, rack, Some(&header), 0, count, alone) {
         Ok(logs) => Ok((header, logs)),
         Err(fault) => Err(fault),
+    }
+}
+
+// Opens all nodes of the ledger whose first node is node 0, and which the mint with this id began, if one is given.
+fn open_ledger<R: Rack>(
+    alloc: Global,
+    rack: &mut R,
+    id: Option<&Hash>,
+) -> Result<Nodes<R::Disk>, Answer>
+    requires { (n : ℕ) → R.can_take rack.old n }
+    ensures opened { IfOk result (λ l. AreOpened R.Disk.content R.Disk.images R.Disk.limit R.Disk.count (R.held rack.old) l.header l.logs.items l.shards.items) }
+    ensures minted { IfOk result (λ l. IsMintOf (option_copied id.entry) l.header) }
+    ensures refusal { IfErr result (IsUnopenedBy R.Disk.content R.Disk.images R.Disk.limit R.Disk.count (R.held rack.old) (R.count rack.old) (R.count rack.new) (option_copied id.entry)) }
+    ensures kind { IfErr result IsNodeRefusal }
+    ensures held { OnErr result ((n : ℕ) → IsBack R.Disk.images R.Disk.limit (R.held rack.old n) (R.held rack.new n)) }
+    ensures others_held { IfOk result (λ l. (n : ℕ) → length l.logs.items + length l.shards.items ≤ n → R.held rack.new n ≡ R.held rack.old n) }
+    ensures few { IfOk result (λ l. length l.logs.items + length l.shards.items < 2 ^ 32) }
+    ensures logs { IfOk result (λ l. EachFrom (MayReturn (λ x. R.Disk.count x.disk) (R.can_put rack.new)) 0 l.logs.items) }
+    ensures shards { IfOk result (λ l. EachFrom (MayReturn (λ x. R.Disk.count x.disk) (R.can_put rack.new)) (length l.logs.items) l.shards.items) }
+    ensures others_in { IfOk result (λ l. (n : ℕ) → length l.logs.items + length l.shards.items ≤ n → R.can_take rack.new n) }
+    ensures back { OnErr result ((n : ℕ) → R.can_take rack.new n) }
+    ensures later { (n : ℕ) → R.count rack.old n ≤ R.count rack.new n }
+{
+    let (header, logs) = match open_logs(alloc, rack, id) {
+        Ok(opened) => opened,
+        Err(fault) => return Err(fault),
+    };
+    let first = header.shape.coordinators();
+    let count = header.shape.shards();
+    match open_all(alloc, rack, Some(&header), first, count, Vec::new(alloc)) {
+        Ok(shards) => Ok(Nodes {
+            header,
+            logs,
+            shards,
+        }),
+        Err(fault) => {
+            close_all(rack, 0, logs);
+            Err(fault)
+        }
     }
 }
 
@@ -94,21 +187,33 @@ pub fn open_nodes<R: Rack>(alloc: Global, rack: &mut R) -> Result<Nodes<R::Disk>
     ensures back { OnErr result ((n : ℕ) → R.can_take rack.new n) }
     ensures later { (n : ℕ) → R.count rack.old n ≤ R.count rack.new n }
 {
-    let (header, logs) = match open_logs(alloc, rack) {
-        Ok(opened) => opened,
-        Err(fault) => return Err(fault),
-    };
-    let first = header.shape.coordinators();
-    let count = header.shape.shards();
-    match open_all(alloc, rack, Some(&header), first, count, Vec::new(alloc)) {
-        Ok(shards) => Ok(Nodes {
-            header,
-            logs,
-            shards,
-        }),
-        Err(fault) => {
-            close_all(rack, 0, logs);
-            Err(fault)
-        }
-    }
+    open_ledger(alloc, rack, None)
+}
+
+/// Opens all nodes of the ledger whose first node is node 0 and which the mint with this id began, one after another. Node 0 is foreign
+/// where another mint did. After a fault all disks are back.
+pub fn open_minted<R: Rack>(
+    alloc: Global,
+    rack: &mut R,
+    id: &Hash,
+) -> Result<Nodes<R::Disk>, Answer>
+    requires { (n : ℕ) → R.can_take rack.old n }
+    // They are all nodes of the ledger, which this mint began, and each stands for what was told of its disk.
+    ensures minted { IfOk result (λ l. l.header.genesis ≡ id.now) }
+    ensures opened { IfOk result (λ l. AreOpened R.Disk.content R.Disk.images R.Disk.limit R.Disk.count (R.held rack.old) l.header l.logs.items l.shards.items) }
+
+    // Why the first that can't be opened is not, and the disks are back.
+    ensures refusal { IfErr result (IsUnopenedBy R.Disk.content R.Disk.images R.Disk.limit R.Disk.count (R.held rack.old) (R.count rack.old) (R.count rack.new) (Some id.now)) }
+    ensures kind { IfErr result IsNodeRefusal }
+    ensures held { OnErr result ((n : ℕ) → IsBack R.Disk.images R.Disk.limit (R.held rack.old n) (R.held rack.new n)) }
+    ensures others_held { IfOk result (λ l. (n : ℕ) → length l.logs.items + length l.shards.items ≤ n → R.held rack.new n ≡ R.held rack.old n) }
+
+    ensures few { IfOk result (λ l. length l.logs.items + length l.shards.items < 2 ^ 32) }
+    ensures logs { IfOk result (λ l. EachFrom (MayReturn (λ x. R.Disk.count x.disk) (R.can_put rack.new)) 0 l.logs.items) }
+    ensures shards { IfOk result (λ l. EachFrom (MayReturn (λ x. R.Disk.count x.disk) (R.can_put rack.new)) (length l.logs.items) l.shards.items) }
+    ensures others_in { IfOk result (λ l. (n : ℕ) → length l.logs.items + length l.shards.items ≤ n → R.can_take rack.new n) }
+    ensures back { OnErr result ((n : ℕ) → R.can_take rack.new n) }
+    ensures later { (n : ℕ) → R.count rack.old n ≤ R.count rack.new n }
+{
+    open_ledger(alloc, rack, Some(id))
 }

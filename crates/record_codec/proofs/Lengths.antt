@@ -4,15 +4,13 @@ use Rattle.std.specs.Prelude.{sum_by}
 use Rattle.std.specs.List.{flat_map, AllByRecursion}
 use Rattle.std.proofs.lemmas.List.{length-append}
 use Rattle.std.proofs.lemmas.List.Sums.{sum_by-cons}
-use Rattle.cbdc_types.specs.Limits.{IsWithinLimits}
 use Rattle.cbdc_model.specs.Records.{Header, Batch, Compact, Reply, Outcome, Answered, Record, Held, Missing, Taken, Won, Lacks, Blocked, Genesis, Lock, Finish, Forget, Start, Prepare, Commit, Discard, Done}
-use Rattle.cbdc_model.specs.Grammar.{IsInGrammar}
 use Rattle.cbdc_model.specs.Room.{size_of, reply_size, outcome_size, compact_size, answered_size}
 use Rattle.byte_fields.specs.Spelling.{number, counted, FitsHash}
 use Rattle.byte_fields.specs.Records.{hashes, batch, compact, entry, reply, answered, outcome, decision}
 use Rattle.byte_fields.proofs.Lengths.{length-number}
-use Rattle.byte_fields.proofs.Parts.{FitsHashes, FitsCompact, FitsReply, FitsAnswered, FitsOutcome, FitsDecision}
-use Rattle.record_codec.specs.Bodies.{magic, header, head, body_of}
+use Rattle.byte_fields.proofs.Parts.{FitsCompact, FitsReply, FitsAnswered, FitsOutcome}
+use Rattle.record_codec.specs.Bodies.{header, head, body_of}
 use Rattle.record_codec.proofs.Records.{FitsHeader, FitsRecord}
 
 module _ {X : Type 0} (item : X → List ℕ) (size : X → ℕ) (Fits : X → Type 0) (one : (x : X) → Fits x → length (item x) ≡ size x) where
@@ -30,7 +28,7 @@ flat_hashes (h ∷ hs) all = omega (arith, length-append h (flat_map (λ h. h) h
 hashes_length : (hs : List (List ℕ)) → AllByRecursion FitsHash hs → length (hashes hs) ≡ 8 + 32 * length hs
 hashes_length hs all = simp (length-append, length-number) (omega (arith, flat_hashes hs all))
 
-batch_length : (b : Batch) → length (batch b) ≡ 16
+pub batch_length : (b : Batch) → length (batch b) ≡ 16
 batch_length b = simp (length-append, length-number) (omega arith)
 
 compact_length : (t : Compact) → FitsCompact t → length (compact t) ≡ compact_size t
@@ -74,7 +72,7 @@ flat_decisions (d ∷ ds) = omega (arith, length-append (decision d) (flat_map d
 header_length : (h : Header) → FitsHeader h → length (header h) ≡ 80
 header_length h fits = simp (length-append, length-number) (omega (arith, fits.genesis))
 
-batch_head : (kind stamp : ℕ) (b : Batch) → length (head kind stamp ++ batch b) ≡ 25
+pub batch_head : (kind stamp : ℕ) (b : Batch) → length (head kind stamp ++ batch b) ≡ 25
 batch_head kind stamp b = omega (arith, length-append (head kind stamp) (batch b), length-number stamp, batch_length b)
 
 pub body_length : (r : Record) → FitsRecord r → 9 + length (body_of r) ≡ size_of r

@@ -1,4 +1,5 @@
 pub mod Grammar
 pub mod Lengths
+pub mod Measures
 pub mod Records
 mod Walks

@@ -3,6 +3,7 @@
 
 mod fault;
 mod laws;
+mod measure;
 mod reading;
 mod sizes;
 mod standing;

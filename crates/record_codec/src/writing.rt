@@ -4,6 +4,7 @@ ghost use Rattle.std.specs.Vec.{vec_len, vec_capacity};
 ghost use Rattle.byte_fields.specs.Records.{batch};
 ghost use Rattle.record_codec.specs.Bodies.{magic, header, head, body_of};
 
+use crate::measure::length_of_body;
 use byte_fields::{Spell, put_byte, put_hash, put_list, put_number};
 use cbdc_types::{BatchId, Header, Record};
 use std::alloc::AllocError;
@@ -54,13 +55,12 @@ fn put_batch(out: &mut Vec<u8>, kind: u8, stamp: u64, b: &BatchId) -> Result<(),
     b.put(out)
 }
 
-/// Puts a record's body at the end. Memory runs out only where the vector's free capacity is less than the body.
-pub fn write_record(record: &Record, header: &Header, out: &mut Vec<u8>) -> Result<(), AllocError>
+// The body, behind what the vector holds.
+fn put_body(record: &Record, out: &mut Vec<u8>) -> Result<(), AllocError>
     ensures ok { OnOk result (out.new.items ≡ out.old.items ++ body_of record.now) }
     ensures full { OnErr result (vec_capacity out.old < vec_len out.old + length (body_of record.now)) }
     ensures capacity { vec_capacity out.old ≤ vec_capacity out.new }
 {
-    let _ = header;
     match record {
         Record::Genesis { header, hashes } => {
             put_head(out, 1, 0)?;
@@ -103,4 +103,17 @@ pub fn write_record(record: &Record, header: &Header, out: &mut Vec<u8>) -> Resu
         Record::Discard { stamp, batch } => put_batch(out, 8, stamp.0, batch),
         Record::Done { stamp, batch } => put_batch(out, 9, stamp.0, batch),
     }
+}
+
+/// Puts a record's body at the end. Memory runs out only where the vector's free capacity is less than the body, and the
+/// vector is then as before: the room for the whole body is taken first.
+pub fn write_record(record: &Record, header: &Header, out: &mut Vec<u8>) -> Result<(), AllocError>
+    ensures ok { OnOk result (out.new.items ≡ out.old.items ++ body_of record.now) }
+    ensures err { OnErr result (out.new.items ≡ out.old.items) }
+    ensures full { OnErr result (vec_capacity out.old < vec_len out.old + length (body_of record.now)) }
+    ensures capacity { vec_capacity out.old ≤ vec_capacity out.new }
+{
+    let _ = header;
+    out.reserve(length_of_body(record) as usize)?;
+    put_body(record, out)
 }

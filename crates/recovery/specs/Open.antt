@@ -59,7 +59,7 @@ AreResumed os rs = AllZip IsResumed os rs
 
 -- the journals have of the open batch what is told of it
 abbrev pub IsUnfinished : OpenPhase → Shape → OpenLane → Sight → (ℕ → Sight) → Type 0
-IsUnfinished Prepared K o log shards = IsOpenAt K o.batch o.txs o.stamp log shards
+IsUnfinished Prepared K o log shards = IsOpenAt InPrepare K o.batch o.txs o.stamp log shards
 IsUnfinished Committed K o log shards = (prepared : ℕ) × IsCommittedAt K o.batch o.txs prepared o.stamp o.outcomes log shards
 IsUnfinished Discarded K o log shards = (prepared : ℕ) × IsDiscardedAt K o.batch o.txs prepared o.stamp log shards
 

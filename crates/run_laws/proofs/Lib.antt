@@ -14,3 +14,5 @@ pub mod BatchTurns
 pub mod WaveTurns
 pub mod Members
 pub mod Flights
+pub mod Granting
+pub mod Stopping

@@ -73,30 +73,30 @@ module _ (K : Shape) (b : Batch) where
 
   -- as the driver's words say it
   said : (log : Sight) (shards : ℕ → Sight) → home_of K b.lane < K.coordinators → log.header.shape ≡ K → (slot log.seen b.lane).number ≡ b.number
-      → (p : Phase) → OpenIn p log.seen (λ s. (shards s).seen) → IsOpenBy p K b log shards
-  said log shards home shape number Idle o = tt
-  said log shards home shape number InLock o = o
-  said log shards home shape number InFinish o = o
-  said log shards home shape number InPrepare o = (o.0.fit, record { home = home; shape = shape; prepare = o.1; number = number; others = o.0.others })
-  said log shards home shape number InCommit o = (
+      → (p : Phase) → (slot log.seen b.lane).phase ≡ p → OpenIn p log.seen (λ s. (shards s).seen) → IsOpenBy p K b log shards
+  said log shards home shape number Idle e o = tt
+  said log shards home shape number InLock e o = o
+  said log shards home shape number InFinish e o = o
+  said log shards home shape number InPrepare e o = (o.0.fit, record { home = home; shape = shape; prepare = o.1; number = number; phase = e; others = o.0.others })
+  said log shards home shape number InCommit e o = (
     o.0.fit,
     o.1,
     (
       o.2.0,
       record {
-        is_open = record { home = home; shape = shape; prepare = o.2.1; number = number; others = o.0.others };
+        is_open = record { home = home; shape = shape; prepare = o.2.1; number = number; phase = e; others = o.0.others };
         commit = o.3;
         locks = o.4;
       },
     ),
   )
-  said log shards home shape number InDiscard o = (
+  said log shards home shape number InDiscard e o = (
     o.0.fit,
     o.1,
     (
       o.2.0,
       record {
-        is_open = record { home = home; shape = shape; prepare = o.2.1; number = number; others = o.0.others };
+        is_open = record { home = home; shape = shape; prepare = o.2.1; number = number; phase = e; others = o.0.others };
         discard = o.3;
         forgot = o.4;
       },
@@ -165,11 +165,11 @@ module _ (K : Shape) (minting : Minted) (P : Compact → Type 0) (some : 0 < K.s
         has_all : HasAll b H
         has_all = ap length (standing K minting P some later kept (home_of K b.lane) 7 b (Commit commit.0 b (outcomes_of H b)) commit.1).2 ∙ outcomes_length _ K.shards 0 (txs_of H b)
 
-        locks : (s : ℕ) → is_concerned K (txs_of H b) s ≡ true → entries (lock_of (S s) b) ≡ part K.shards s 0 (txs_of H b)
+        pub locks : (s : ℕ) → is_concerned K (txs_of H b) s ≡ true → entries (lock_of (S s) b) ≡ part K.shards s 0 (txs_of H b)
         locks s c = (all_structure K minting P some later kept).lock_part s b
             (((in_order K minting P some later kept b).commit committed).1 s (concerned s K.shards (is_no_part (part K.shards s 0 (txs_of H b))) c)).0
 
-      forgot : (s : ℕ) → is_concerned K (txs_of H b) s ≡ true → (slot (S s) b.lane).number ≡ b.number → (slot (S s) b.lane).phase ≡ Idle
+      pub forgot : (s : ℕ) → is_concerned K (txs_of H b) s ≡ true → (slot (S s) b.lane).number ≡ b.number → (slot (S s) b.lane).phase ≡ Idle
           → (is_some (record_of 4 (S s) b) ≡ true) × (stamp_in (record_of 4 (S s) b) ≡ slot_stamp (S s) b.lane)
       forgot s c n i = elim (last_of (S s) b.lane) as (λ o. last_of (S s) b.lane ≡ o → (is_some (record_of 4 (S s) b) ≡ true) × (stamp_in (record_of 4 (S s) b) ≡ slot_stamp (S s) b.lane)) [
         | None ↦ λ e. absurd (let z : (slot (S s) b.lane).number ≡ 0 = ap (λ q. q.number) (slot_is (S s) b.lane ∙ ap slot_by e) in omega (arith, z, n, prepare_grammar.1.1))
@@ -240,7 +240,7 @@ module _ (K : Shape) (minting : Minted) (P : Compact → Type 0) (some : 0 < K.s
 
 pub resume_law : ResumeLaw
 resume_law K mint submissions lane logs shards some home shape kept =
-    said K b (logs (home_of K lane)) shards home shape refl (slot (logs (home_of K lane)).seen lane).phase
+    said K b (logs (home_of K lane)) shards home shape refl (slot (logs (home_of K lane)).seen lane).phase refl
     (subst (λ T. OpenIn K b (slot (logs (home_of K lane)).seen lane).phase (logs (home_of K lane)).seen T) at_shards
     (subst (λ L. (slot L lane).number ≡ b.number → (p : Phase) → (slot L lane).phase ≡ p → OpenIn K b p L (λ s. journal (shard_node K s) (kept.later ++ first_rows K (minted mint)))) at_home
     (open_in K (minted mint) (IsProperCompact submissions) some kept.later (steady K (minted mint) (IsProperCompact submissions) kept.later kept.kept) b home)

@@ -26,7 +26,7 @@ abbrev pub IsOpenBy : Phase → Shape → Batch → Sight → (ℕ → Sight) �
 IsOpenBy Idle K b log shards = Unit {0}
 IsOpenBy InLock K b log shards = ⊥
 IsOpenBy InFinish K b log shards = ⊥
-IsOpenBy InPrepare K b log shards = IsFit K b log.seen × IsOpenAt K b (txs_of log.seen b) (slot_stamp log.seen b.lane) log shards
+IsOpenBy InPrepare K b log shards = IsFit K b log.seen × IsOpenAt InPrepare K b (txs_of log.seen b) (slot_stamp log.seen b.lane) log shards
 IsOpenBy InCommit K b log shards =
     IsFit K b log.seen × HasAll b log.seen
     × ((prepared : ℕ) × IsCommittedAt K b (txs_of log.seen b) prepared (slot_stamp log.seen b.lane) (outcomes_of log.seen b) log shards)

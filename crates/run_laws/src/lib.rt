@@ -1,6 +1,7 @@
 //! Laws that take what lanes say of their turns to the journals of the whole ledger. They have no body that runs.
 #![tactic(auto)]
 
+ghost use Rattle.run_laws.specs.Faults.{GrantLaw, StopLaw};
 ghost use Rattle.run_laws.specs.Flights.{FlownLaw, FlushLaw};
 ghost use Rattle.run_laws.specs.Members.{CompactLaw, MemberLaw};
 ghost use Rattle.run_laws.specs.Open.{ResumeLaw};
@@ -52,6 +53,17 @@ pub fn part_law()
 /// transactions within the limits, and behind it what the lane's phase says.
 pub fn resume_law()
     ensures { ResumeLaw }
+{}
+
+/// In kept journals no shard refuses a call of a lane's open batch.
+pub fn grant_law()
+    ensures { GrantLaw }
+{}
+
+/// In kept journals a lane stops with Full or ClockEnd only at the record that it needs next, by its numbers there, or with
+/// ClockEnd past the last stamp of all; and never because a shard refuses.
+pub fn stop_law()
+    ensures { StopLaw }
 {}
 
 /// What a lane's driver, or the resuming of its batch, leaves is a turn of the lane, whatever it came to.

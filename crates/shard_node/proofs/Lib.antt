@@ -9,3 +9,4 @@ pub mod Going
 pub mod Opens
 pub mod Later
 pub mod Stops
+pub mod Leaving

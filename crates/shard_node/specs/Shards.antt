@@ -1,12 +1,13 @@
 -- What contracts see of a shard on its disk.
-use Rattle.std.specs.Prelude.{ℕ, List, reverse, Option, Some, None, Result, Err}
+use Rattle.std.specs.Prelude.{◌⊎◌, ℕ, Bool, List, reverse, Option, Some, None, Result, Err}
 use Rattle.cbdc_types.specs.declared.calls.NodeFault.{NodeFault}
 use Rattle.cbdc_types.specs.declared.calls.NodeFault.TheVariants.{DiskFault}
 use Rattle.cbdc_model.specs.Records.{Header, Record}
 use Rattle.cbdc_model.specs.Sights.{Sight}
+use Rattle.outside.specs.Images.{Leaves}
 use Rattle.gate_journal.specs.Rows.{OpensWithOrWithout}
 use Rattle.record_codec.specs.Bodies.{body_of}
-use Rattle.record_log.specs.Held.{bodies_of, Holds}
+use Rattle.record_log.specs.Held.{bodies_of, Holds, OpensToEither}
 
 -- its header, its journal, newest first, a record that a failed call may have left on its disk or not, how often the disk had failed when it
 -- was opened, how often behind an append that has failed since, the place of the journal's closing gate, and the disk
@@ -32,6 +33,18 @@ HoldsWith (Some r) content images gate J = (c : List ℕ) → images c → Opens
 -- the shard's disk holds its journal, and what is in flight
 abbrev pub HoldsJournal : {D : Type 0} → (D → Option (List ℕ)) → (D → List ℕ → Type 0) → ShardOf D → Type 0
 HoldsJournal content images s = HoldsWith s.flight (content s.disk) (images s.disk) s.gate s.journal
+
+-- these bytes open to the journal that is seen, with what is in flight or without
+abbrev pub OpensToSeen : {D : Type 0} → ShardOf D → List ℕ → Type 0
+OpensToSeen s bytes = OpensToEither (reverse s.journal) s.flight bytes
+
+-- a crash during a call leaves the journal from before it or the one behind it, each with what is in flight or without
+abbrev pub IsLeftBetween : {D : Type 0} → ShardOf D → ShardOf D → List ℕ → Type 0
+IsLeftBetween old new bytes = OpensToSeen old bytes ⊎ OpensToSeen new bytes
+
+-- so it is at the end of the call, and at each moment of it where the disk tells its past
+abbrev pub LeavesBetween : {D : Type 0} → (D → Bool) → (D → ℕ) → (D → ℕ → List ℕ → Type 0) → (D → List ℕ → Type 0) → ShardOf D → ShardOf D → Type 0
+LeavesBetween tells moment since images old new = Leaves tells moment since images old.disk new.disk (IsLeftBetween old new)
 
 -- broken behind a call: at a fault of the disk by the count that stands then, else as before
 abbrev pub broken_behind : {A : Type 0} → Result A NodeFault → ℕ → Option ℕ → Option ℕ

@@ -9,7 +9,7 @@ ghost use Rattle.record_log.specs.Logs.{HasRoom, KeepsRoom, IsUntouched};
 ghost use Rattle.shard_core.specs.Plans.{replies_at};
 ghost use Rattle.shard_core.specs.Stands.{IsReady, IsFree};
 ghost use Rattle.cbdc_model.specs.Calls.{IsLockCall};
-ghost use Rattle.shard_node.specs.Shards.{HoldsJournal, sight_of, broken_behind};
+ghost use Rattle.shard_node.specs.Shards.{HoldsJournal, LeavesBetween, sight_of, broken_behind};
 ghost use Rattle.shard_node.specs.Parts.{IsShardOf, IsLockOf, journal_of, view_of};
 
 use crate::parts::Parts;
@@ -90,6 +90,8 @@ fn append_lock<D: Disk>(
         (sight_of D.count D.limit (view_of parts.old)) (sight_of D.count D.limit (view_of parts.new)) (journal_of parts.old) result }
     ensures broken { broken_of parts.new.log.journal ≡ broken_behind result (D.count (disk_of parts.new.log.journal)) None }
     ensures holds { HoldsJournal D.content D.images (view_of parts.old) → HoldsJournal D.content D.images (view_of parts.new) }
+    ensures leaves { HoldsJournal D.content D.images (view_of parts.old)
+        → LeavesBetween D.tells_past D.moment D.images_since D.images (view_of parts.old) (view_of parts.new) }
 {
     let stamp = replied.stamp;
     if stamp.0 > LAST_LOCK {
@@ -141,6 +143,8 @@ pub(crate) fn lock_parts<D: Disk>(
         (sight_of D.count D.limit (view_of parts.old)) (sight_of D.count D.limit (view_of parts.new)) (journal_of parts.old) result }
     ensures broken { broken_of parts.new.log.journal ≡ broken_behind result (D.count (disk_of parts.new.log.journal)) (broken_of parts.old.log.journal) }
     ensures holds { HoldsJournal D.content D.images (view_of parts.old) → HoldsJournal D.content D.images (view_of parts.new) }
+    ensures leaves { HoldsJournal D.content D.images (view_of parts.old)
+        → LeavesBetween D.tells_past D.moment D.images_since D.images (view_of parts.old) (view_of parts.new) }
 {
     if let Some(since) = parts.log.is_broken() {
         return Err(NodeFault::Broken { since });

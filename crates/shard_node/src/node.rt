@@ -9,7 +9,7 @@ ghost use Rattle.cbdc_model.specs.Fates.{fate};
 ghost use Rattle.shard_core.specs.Counts.{Counts};
 ghost use Rattle.shard_core.specs.Remembers.{told};
 ghost use Rattle.cbdc_model.specs.Calls.{IsLockCall, IsFinishCall, IsForgetCall};
-ghost use Rattle.shard_node.specs.Shards.{HoldsJournal, sight_of, broken_behind};
+ghost use Rattle.shard_node.specs.Shards.{HoldsJournal, LeavesBetween, sight_of, broken_behind};
 
 use crate::locking::lock_parts;
 use crate::parts::Parts;
@@ -63,6 +63,9 @@ impl<D: Disk> ShardNode<D> {
         ensures header { self.new.header ≡ self.old.header }
         ensures journal { IsJournal self.new.header self.new.journal }
         ensures holds { HoldsJournal D.content D.images self.old → HoldsJournal D.content D.images self.new }
+
+        // A crash at any moment of the call leaves the journal from before it or the one behind it.
+        ensures leaves { HoldsJournal D.content D.images self.old → LeavesBetween D.tells_past D.moment D.images_since D.images self.old self.new }
     {
         lock_parts(self.alloc, &mut self.parts, call)
     }
@@ -77,6 +80,9 @@ impl<D: Disk> ShardNode<D> {
         ensures header { self.new.header ≡ self.old.header }
         ensures journal { IsJournal self.new.header self.new.journal }
         ensures holds { HoldsJournal D.content D.images self.old → HoldsJournal D.content D.images self.new }
+
+        // A crash at any moment of the call leaves the journal from before it or the one behind it.
+        ensures leaves { HoldsJournal D.content D.images self.old → LeavesBetween D.tells_past D.moment D.images_since D.images self.old self.new }
     {
         finish_parts(self.alloc, &mut self.parts, call)
     }
@@ -91,6 +97,9 @@ impl<D: Disk> ShardNode<D> {
         ensures header { self.new.header ≡ self.old.header }
         ensures journal { IsJournal self.new.header self.new.journal }
         ensures holds { HoldsJournal D.content D.images self.old → HoldsJournal D.content D.images self.new }
+
+        // A crash at any moment of the call leaves the journal from before it or the one behind it.
+        ensures leaves { HoldsJournal D.content D.images self.old → LeavesBetween D.tells_past D.moment D.images_since D.images self.old self.new }
     {
         forget_parts(&mut self.parts, call)
     }

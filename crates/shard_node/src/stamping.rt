@@ -8,7 +8,7 @@ ghost use Rattle.cbdc_model.specs.Sights.{Meets};
 ghost use Rattle.shard_core.specs.Admitted.{IsFinishable};
 ghost use Rattle.shard_core.specs.Stands.{IsDone};
 ghost use Rattle.cbdc_model.specs.Calls.{IsFinishCall, IsForgetCall};
-ghost use Rattle.shard_node.specs.Shards.{HoldsJournal, sight_of, broken_behind};
+ghost use Rattle.shard_node.specs.Shards.{HoldsJournal, LeavesBetween, sight_of, broken_behind};
 ghost use Rattle.shard_node.specs.Parts.{IsShardOf, journal_of, view_of};
 
 use crate::parts::Parts;
@@ -58,6 +58,8 @@ fn append_finish<D: Disk>(
         (sight_of D.count D.limit (view_of parts.old)) (sight_of D.count D.limit (view_of parts.new)) (journal_of parts.old) result }
     ensures broken { broken_of parts.new.log.journal ≡ broken_behind result (D.count (disk_of parts.new.log.journal)) None }
     ensures holds { HoldsJournal D.content D.images (view_of parts.old) → HoldsJournal D.content D.images (view_of parts.new) }
+    ensures leaves { HoldsJournal D.content D.images (view_of parts.old)
+        → LeavesBetween D.tells_past D.moment D.images_since D.images (view_of parts.old) (view_of parts.new) }
 {
     if stamp.0 > LAST_STAMP {
         return Err(NodeFault::ClockEnd { stamp });
@@ -95,6 +97,8 @@ fn append_forget<D: Disk>(
         (sight_of D.count D.limit (view_of parts.old)) (sight_of D.count D.limit (view_of parts.new)) (journal_of parts.old) result }
     ensures broken { broken_of parts.new.log.journal ≡ broken_behind result (D.count (disk_of parts.new.log.journal)) None }
     ensures holds { HoldsJournal D.content D.images (view_of parts.old) → HoldsJournal D.content D.images (view_of parts.new) }
+    ensures leaves { HoldsJournal D.content D.images (view_of parts.old)
+        → LeavesBetween D.tells_past D.moment D.images_since D.images (view_of parts.old) (view_of parts.new) }
 {
     if stamp.0 > LAST_STAMP {
         return Err(NodeFault::ClockEnd { stamp });
@@ -122,6 +126,8 @@ pub(crate) fn finish_parts<D: Disk>(
         (sight_of D.count D.limit (view_of parts.old)) (sight_of D.count D.limit (view_of parts.new)) (journal_of parts.old) result }
     ensures broken { broken_of parts.new.log.journal ≡ broken_behind result (D.count (disk_of parts.new.log.journal)) (broken_of parts.old.log.journal) }
     ensures holds { HoldsJournal D.content D.images (view_of parts.old) → HoldsJournal D.content D.images (view_of parts.new) }
+    ensures leaves { HoldsJournal D.content D.images (view_of parts.old)
+        → LeavesBetween D.tells_past D.moment D.images_since D.images (view_of parts.old) (view_of parts.new) }
 {
     if let Some(since) = parts.log.is_broken() {
         return Err(NodeFault::Broken { since });
@@ -145,6 +151,8 @@ pub(crate) fn forget_parts<D: Disk>(
         (sight_of D.count D.limit (view_of parts.old)) (sight_of D.count D.limit (view_of parts.new)) (journal_of parts.old) result }
     ensures broken { broken_of parts.new.log.journal ≡ broken_behind result (D.count (disk_of parts.new.log.journal)) (broken_of parts.old.log.journal) }
     ensures holds { HoldsJournal D.content D.images (view_of parts.old) → HoldsJournal D.content D.images (view_of parts.new) }
+    ensures leaves { HoldsJournal D.content D.images (view_of parts.old)
+        → LeavesBetween D.tells_past D.moment D.images_since D.images (view_of parts.old) (view_of parts.new) }
 {
     if let Some(since) = parts.log.is_broken() {
         return Err(NodeFault::Broken { since });

@@ -6,7 +6,7 @@ ghost use Rattle.record_codec.specs.Bodies.{body_of};
 ghost use Rattle.record_log.specs.Logs.{HasRoom};
 ghost use Rattle.shard_core.specs.Admitted.{IsAdmitted};
 ghost use Rattle.shard_core.specs.Stands.{Stands};
-ghost use Rattle.shard_node.specs.Shards.{HoldsJournal};
+ghost use Rattle.shard_node.specs.Shards.{HoldsJournal, LeavesBetween};
 ghost use Rattle.shard_node.specs.Parts.{HasWritten, HasFailed, view_of};
 
 use crate::parts::Parts;
@@ -40,6 +40,8 @@ pub(crate) fn write<D: Disk>(parts: &mut Parts<D>, next: Record) -> Result<(), N
     ensures failed { OnErr result (HasFailed parts.old parts.new next) }
     ensures fault { IfErr result (λ e. e ≡ NodeFault.DiskFault) }
     ensures holds { HoldsJournal D.content D.images (view_of parts.old) → HoldsJournal D.content D.images (view_of parts.new) }
+    ensures leaves { HoldsJournal D.content D.images (view_of parts.old)
+        → LeavesBetween D.tells_past D.moment D.images_since D.images (view_of parts.old) (view_of parts.new) }
 {
     match parts.log.write(&next) {
         Ok(()) => {

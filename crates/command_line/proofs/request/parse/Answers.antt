@@ -1,6 +1,7 @@
-use Rattle.std.proofs.Common.{rules, ◌≡◌, true, refl, []}
+use Rattle.std.proofs.Common.{rules, ◌≡◌, true, refl, sym, []}
 use Rattle.std.proofs.Common.{subst}
 use Rattle.clap.specs.Words.{App, HasKind, fault_of, is_simple_and_free}
+use Rattle.clap.specs.Simple.{HasMatchesOf}
 use Rattle.command_line.specs.Command.{hamilton}
 use Rattle.command_line.specs.Words.{texts}
 use Rattle.command_line.proofs.Rows.{asked_by_wish, refused_by_mistake, wish_of, mistake_of, first_wish, first_mistake}
@@ -25,3 +26,7 @@ returns-in-Err-clause-refused c =
 pub asked_of-requires-clause-sound : goal.asked_of-requires-clause-sound
 asked_of-requires-clause-sound c =
     subst (λ (a : App). is_simple_and_free a ≡ true → fault_of a (texts c.args.words.now) ≡ []) c.in-Ok.ensures c.in-Ok-try_get_matches_from.ensures.kinds refl
+
+pub asked_of-requires-clause-met : goal.asked_of-requires-clause-met
+asked_of-requires-clause-met c =
+    sym (subst (λ (a : App). HasMatchesOf a (texts c.args.words.now) c.in-Ok-try_get_matches_from.matches) c.in-Ok.ensures c.in-Ok-try_get_matches_from.ensures.matches refl).1

@@ -1,23 +1,42 @@
-use Rattle.std.proofs.Common.{inr}
-use Rattle.commands.proofs.Answers.{fault_done, first_fault, one_later}
+use Rattle.std.proofs.Common.{◌≡◌, ◌⊎◌, inl, inr, subst}
+use Rattle.outside.specs.Counts.{Rose}
+use Rattle.commands.specs.Audits.{WasAudited, WhyNoAudit}
+use Rattle.commands.specs.Causes.{OnePlace, OneRose, FileRose}
+use Rattle.commands.proofs.Answers.{told, well_told, fault_done}
 use Rattle.commands.proofs.Faults.{silent_same}
 use Rattle.commands.proofs.auditing.audit.Goals as goal
 
-pub returns-in-Err-all_clients_in-clause-cause : goal.returns-in-Err-all_clients_in-clause-cause
-returns-in-Err-all_clients_in-clause-cause g c =
-    fault_done _ _ _ c.in-Err-all_clients_in.fault
-    (first_fault (g.I.Inbox.file c.mint_in.new.inbox) (g.I.Inbox.count c.mint_in.new.inbox) (g.I.Inbox.count c.all_clients_in.new.inbox) c.args.clients.now _ _ (λ place one. inr one)
-    (λ place one. inr (one_later (g.I.Inbox.count c.args.inbox.now) (g.I.Inbox.count c.mint_in.new.inbox) (g.I.Inbox.count c.all_clients_in.new.inbox) c.args.clients.now place c.mint_in.ensures.later one))
-    c.in-Err-all_clients_in.fault c.in-Err-all_clients_in.ensures.fault)
+pub returns-in-Err-clause-why : goal.returns-in-Err-clause-why
+returns-in-Err-clause-why g c =
+    told (WhyNoAudit (g.I.Inbox.file c.args.inbox.now) (g.I.Inbox.count c.args.inbox.now) (g.I.Inbox.count c.audit_all.new.inbox) g.R.Disk.Disk.content g.R.Disk.Disk.images g.R.Disk.Disk.limit g.R.Disk.Disk.count (g.R.Rack.held c.args.rack.now) (g.R.Rack.held c.audit_all.new.rack)
+    (g.R.Rack.count c.args.rack.now) (g.R.Rack.count c.audit_all.new.rack) c.args.mint.now c.args.clients.now)
+    c.in-Err.fault (c.audit_all.ensures.held, inr c.in-Err.ensures.why)
+
+pub returns-in-Err-clause-cause : goal.returns-in-Err-clause-cause
+returns-in-Err-clause-cause g c =
+    fault_done (λ place. (place ≡ c.args.mint.now.place) ⊎ OnePlace c.args.clients.now place)
+    (λ place. FileRose (g.I.Inbox.count c.args.inbox.now) (g.I.Inbox.count c.audit_all.new.inbox) c.args.mint.now place ⊎ OneRose (g.I.Inbox.count c.args.inbox.now) (g.I.Inbox.count c.audit_all.new.inbox) c.args.clients.now place)
+    (Rose (g.O.Sink.count c.args.out.now) (g.O.Sink.count c.args.out.now)) c.in-Err.fault c.in-Err.ensures.fault
 
 pub returns-in-Err-clause-silent : goal.returns-in-Err-clause-silent
 returns-in-Err-clause-silent g c = silent_same (g.O.Sink.taken c.args.out.now) c.in-Err.fault
 
-pub returns-in-Err-all_clients_in-clause-silent : goal.returns-in-Err-all_clients_in-clause-silent
-returns-in-Err-all_clients_in-clause-silent g c = silent_same (g.O.Sink.taken c.args.out.now) c.in-Err-all_clients_in.fault
+pub returns-in-Ok-Sound-clause-did : goal.returns-in-Ok-Sound-clause-did
+returns-in-Ok-Sound-clause-did g c = λ well. record {
+  totals = c.in-Ok-Sound.totals;
+  was = subst (λ v. WasAudited (g.I.Inbox.file c.args.inbox.now) g.R.Disk.Disk.content (g.R.Rack.held c.args.rack.now) c.args.mint.now c.args.clients.now v) c.in-Ok-Sound.field-0-is c.in-Ok-Sound.ensures.did;
+  back = c.audit_all.ensures.held;
+  prints = c.print.ensures.prints;
+}
 
-pub returns-in-Err-check_mint-clause-silent : goal.returns-in-Err-check_mint-clause-silent
-returns-in-Err-check_mint-clause-silent g c = silent_same (g.O.Sink.taken c.args.out.now) c.in-Err-check_mint.fault
+pub returns-in-Ok-Sound-clause-why : goal.returns-in-Ok-Sound-clause-why
+returns-in-Ok-Sound-clause-why g c =
+    well_told (WhyNoAudit (g.I.Inbox.file c.args.inbox.now) (g.I.Inbox.count c.args.inbox.now) (g.I.Inbox.count c.audit_all.new.inbox) g.R.Disk.Disk.content g.R.Disk.Disk.images g.R.Disk.Disk.limit g.R.Disk.Disk.count (g.R.Rack.held c.args.rack.now) (g.R.Rack.held c.audit_all.new.rack)
+    (g.R.Rack.count c.args.rack.now) (g.R.Rack.count c.audit_all.new.rack) c.args.mint.now c.args.clients.now)
+    c.print.result c.print.ensures.shown
 
-pub returns-clause-silent : goal.returns-clause-silent
-returns-clause-silent g c = silent_same (g.O.Sink.taken c.args.out.now) c.in-Err-verdict_on.fault
+pub returns-in-Ok-Unsound-clause-why : goal.returns-in-Ok-Unsound-clause-why
+returns-in-Ok-Unsound-clause-why g c = (
+  c.audit_all.ensures.held,
+  inl (subst (λ v. WasAudited (g.I.Inbox.file c.args.inbox.now) g.R.Disk.Disk.content (g.R.Rack.held c.args.rack.now) c.args.mint.now c.args.clients.now v) c.in-Ok-Unsound.field-0-is c.in-Ok-Unsound.ensures.did),
+)

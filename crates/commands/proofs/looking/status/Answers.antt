@@ -1,3 +1,4 @@
+use Rattle.commands.proofs.Untouched.{not_refused}
 use Rattle.std.proofs.Common.{◌≡◌, ◌≤◌, ◌∙◌, length, map, subst}
 use Rattle.cbdc_types.specs.declared.answer.Answer.TheVariants as answers
 use Rattle.rack_ledgers.specs.Ledgers.{IsUnopened}
@@ -37,3 +38,6 @@ returns-clause-did g c well =
 
 pub returns-in-Err-clause-silent : goal.returns-in-Err-clause-silent
 returns-in-Err-clause-silent g c = silent_same (g.O.Sink.taken c.args.out.now) c.in-Err.fault
+
+pub returns-in-Err-clause-untouched : goal.returns-in-Err-clause-untouched
+returns-in-Err-clause-untouched g c before = absurd (not_refused c.in-Err.fault c.in-Err.ensures.kind before)

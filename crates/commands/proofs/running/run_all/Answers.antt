@@ -1,3 +1,4 @@
+use Rattle.commands.proofs.Untouched.{not_turned}
 use Rattle.std.proofs.Common.{inl, inr, sym, subst}
 use Rattle.input_files.specs.Contents.{AreRead, AreVerdicts, IsNoVerdicts}
 use Rattle.rack_runs.proofs.Lent.{on_ok_by, if_err_by}
@@ -42,4 +43,10 @@ returns-clause-why g c =
       subst (λ txs. AreRead (g.I.Inbox.file c.args.inbox.now) 0 c.args.clients.now txs) (sym c.deref.ensures.value) c.in-Ok.ensures.read,
       inr (c.in-Ok-verdicts_in.verdicts, subst (λ t. AreVerdicts t c.in-Ok-verdicts_in.verdicts) (c.in-Ok.ensures.same c.args.verdicts.now.name.now) c.in-Ok-verdicts_in.ensures.read, why),
     ))
+    c.run_on.ensures.stopped
+
+pub returns-clause-untouched : goal.returns-clause-untouched
+returns-clause-untouched g c =
+    if_err_by _ _ c.run_on.result
+    (λ e why before. absurd (not_turned g.R.Disk.Disk.content g.R.Disk.Disk.images g.R.Disk.Disk.limit g.R.Disk.Disk.count (g.R.Rack.held c.args.rack.now) (g.R.Rack.held c.run_on.new.rack) (g.R.Rack.count c.args.rack.now) (g.R.Rack.count c.run_on.new.rack) c.deref.result.now e why before))
     c.run_on.ensures.stopped

@@ -1,3 +1,4 @@
+use Rattle.std.proofs.Common.{inl, inr, ⊎_elim}
 use Rattle.cbdc_types.specs.declared.answer.Answer.{Answer}
 use Rattle.command_line.specs.Asked.{IsAsked}
 use Rattle.command_line.specs.Words.{texts}
@@ -21,3 +22,6 @@ returns-in-Ok-clause-why g c =
 
 pub returns-in-Ok-clause-told : goal.returns-in-Ok-clause-told
 returns-in-Ok-clause-told g c refused = absurd (asked_law (texts c.args.words.now) c.in-Ok.request c.see_request.ensures c.in-Ok.ensures.asked refused)
+
+pub returns-in-Ok-clause-left : goal.returns-in-Ok-clause-left
+returns-in-Ok-clause-left g c not_well = ⊎_elim (λ same. inl same) (λ left. inr (c.in-Ok.request, c.in-Ok.ensures.asked, left)) (c.answer_to.ensures.left not_well)

@@ -1,4 +1,4 @@
-use Rattle.std.proofs.Common.{◌≡◌, ◌+◌, ◌≤◌, ◌<◌, ℕ, length, subst, arith, ap}
+use Rattle.std.proofs.Common.{◌≡◌, ◌∙◌, ◌+◌, ◌≤◌, ◌<◌, ℕ, length, subst, arith, ap, inl, inr}
 use Rattle.cbdc_model.specs.History.{Minted}
 use Rattle.cbdc_model.specs.World.{first_record}
 use Rattle.rack_nodes.specs.Places.{EachFrom}
@@ -8,7 +8,7 @@ use Rattle.rack_nodes.proofs.Closing.{closed_whole}
 use Rattle.rack_nodes.specs.declared.blank.Blank.{Blank}
 use Rattle.ledger_init.specs.Made.{node_count}
 use Rattle.ledger_init.specs.Places.{IsDone, IsStopped, StopsAt}
-use Rattle.ledger_init.proofs.Places.{minted_is, may_be_made, all_hold, all_left, stopped_left, stopped_lead, stopped_unmade, opening_unmade, back_begun, back_emptied}
+use Rattle.ledger_init.proofs.Places.{minted_is, may_be_made, all_hold, all_left, stopped_left, stopped_lead, stopped_unmade, opening_unmade, back_begun, back_emptied, back_all, stopped_at}
 use Rattle.ledger_init.proofs.making.make_nodes.Goals as goal
 
 pub returns-in-Err-clause-refusal : goal.returns-in-Err-clause-refusal
@@ -81,3 +81,24 @@ returns-clause-lead g c =
     (λ n (b : Blank g.row.R-Disk.Denot). IsDone g.R.Disk.Disk.content g.R.Disk.Disk.images g.R.Disk.Disk.limit (first_record c.args.shape.now m n) b.disk (g.R.Rack.held c.write_firsts.new.rack n)) blanks)
     (minted_is c.in-Ok.genesis c.args.mint c.in-Ok.ensures.0 c.in-Ok.ensures.1) c.in-Err-write_firsts.ensures.stopped in
     stopped_lead g.R.Disk.Disk.content g.R.Disk.Disk.images g.R.Disk.Disk.limit g.R.Disk.Disk.count (λ (b : Blank g.row.R-Disk.Denot). b.disk) (λ (b : Blank g.row.R-Disk.Denot). b.node) c.args.shape.now c.args.mint (λ n. g.R.Rack.held c.args.rack.now n) (λ n. g.R.Rack.held c.write_firsts.new.rack n) (λ n. g.R.Rack.count c.args.rack.now n) (λ n. g.R.Rack.count c.write_firsts.new.rack n) blanks all opened c.in-Err-write_firsts.fault stopped
+
+pub returns-in-Err-clause-stops : goal.returns-in-Err-clause-stops
+returns-in-Err-clause-stops g c =
+    inl (back_all g.R.Disk.Disk.images g.R.Disk.Disk.limit (λ n. g.R.Rack.held c.args.rack.now n) (λ n. g.R.Rack.held c.open_all.new.rack n) (node_count c.args.shape.now)
+    (λ n lt. c.in-Err.ensures.held n (omega (arith, ap length c.new.ensures.items)) (omega (arith, lt, c.coordinators.ensures.value, c.shards.ensures.value)))
+    (λ n ge. c.open_all.ensures.others_held n (inr (omega (arith, ge, c.coordinators.ensures.value, c.shards.ensures.value)))))
+
+pub returns-clause-stops : goal.returns-clause-stops
+returns-clause-stops g c =
+    let blanks = c.in-Ok-open_all.blanks.items in
+    let all : length blanks ≡ node_count c.args.shape.now = omega (arith, c.in-Ok-open_all.ensures.all, c.coordinators.ensures.value, c.shards.ensures.value) in
+    let opened = closed_whole _ 0 c.new.result.items blanks c.new.ensures.items c.in-Ok-open_all.ensures.opened in
+    let stopped = subst (λ (m : Minted). StopsAt (λ n (b : Blank g.row.R-Disk.Denot). OfTold (g.R.Rack.held c.write_firsts.new.rack n) (λ d. d ≡ b.disk))
+    (λ n (b : Blank g.row.R-Disk.Denot). IsStopped g.R.Disk.Disk.content g.R.Disk.Disk.images g.R.Disk.Disk.limit g.R.Disk.Disk.count n (first_record c.args.shape.now m n) c.in-Err-write_firsts.fault (g.R.Rack.count c.write_firsts.new.rack n) b.disk (g.R.Rack.held c.write_firsts.new.rack n))
+    (λ n (b : Blank g.row.R-Disk.Denot). IsDone g.R.Disk.Disk.content g.R.Disk.Disk.images g.R.Disk.Disk.limit (first_record c.args.shape.now m n) b.disk (g.R.Rack.held c.write_firsts.new.rack n)) blanks)
+    (minted_is c.in-Ok.genesis c.args.mint c.in-Ok.ensures.0 c.in-Ok.ensures.1) c.in-Err-write_firsts.ensures.stopped in
+    inr (
+      length stopped.front,
+      stopped_at g.R.Disk.Disk.content g.R.Disk.Disk.images g.R.Disk.Disk.limit g.R.Disk.Disk.count (λ (b : Blank g.row.R-Disk.Denot). b.disk) (λ (b : Blank g.row.R-Disk.Denot). b.node) c.args.shape.now c.args.mint (λ n. g.R.Rack.held c.args.rack.now n) (λ n. g.R.Rack.held c.write_firsts.new.rack n) (λ n. g.R.Rack.count c.args.rack.now n) (λ n. g.R.Rack.count c.write_firsts.new.rack n) blanks all opened c.in-Err-write_firsts.fault stopped
+          (λ n ge. c.write_firsts.ensures.others_held n (omega (arith, ge, all)) ∙ c.open_all.ensures.others_held n (inr (omega (arith, ge, c.coordinators.ensures.value, c.shards.ensures.value)))),
+    )

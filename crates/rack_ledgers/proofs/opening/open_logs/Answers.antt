@@ -1,17 +1,17 @@
-use Rattle.std.proofs.Common.{◌≡◌, ◌≤◌, ◌+◌, ℕ, List, length, ◌∙◌, subst, ap, arith, inl, inr}
+use Rattle.std.proofs.Common.{◌≡◌, ◌≤◌, ◌+◌, ℕ, List, length, ◌∙◌, sym, subst, ap, arith, inl, inr}
+use Rattle.std.specs.Option.{option_copied}
+use Rattle.cbdc_model.specs.Records.{Header}
 use Rattle.coord_log.specs.Logs.{LogOf}
 use Rattle.rack_nodes.specs.Places.{EachFrom}
 use Rattle.rack_nodes.specs.Racked.{OfTold, IsBack}
-use Rattle.rack_ledgers.proofs.Opened.{lead_at, lead_first, led_whole, log_back}
+use Rattle.rack_ledgers.specs.Ledgers.{IsLogAt, IsMintOf}
+use Rattle.rack_ledgers.proofs.Opened.{led_whole, log_back}
 use Rattle.rack_ledgers.proofs.Backs.{back_one, back_parts}
 use Rattle.rack_ledgers.proofs.Lacks.{lacks_log}
 use Rattle.rack_ledgers.proofs.opening.open_logs.Goals as goal
 
-pub returns-in-Err-clause-refusal : goal.returns-in-Err-clause-refusal
-returns-in-Err-clause-refusal g c = inl (record { kind = c.in-Err.ensures.kind; fault = c.in-Err.ensures.fault; cause = c.in-Err.ensures.refusal })
-
 pub returns-in-Err-clause-held : goal.returns-in-Err-clause-held
-returns-in-Err-clause-held g c = back_one g.R.Disk.Disk.images g.R.Disk.Disk.limit (λ n. g.R.Rack.held c.args.rack.now n) (λ n. g.R.Rack.held c.open_one.new.rack n) c.in-Err.ensures.held c.in-Err.ensures.others_held
+returns-in-Err-clause-held g c = back_one g.R.Disk.Disk.images g.R.Disk.Disk.limit (λ n. g.R.Rack.held c.args.rack.now n) (λ n. g.R.Rack.held c.open_lead.new.rack n) c.in-Err.ensures.held c.in-Err.ensures.others_held
 
 pub open_all-requires-clause-waiting : goal.open_all-requires-clause-waiting
 open_all-requires-clause-waiting g c = λ n ge lt.
@@ -28,14 +28,14 @@ returns-in-Ok-open_all-clause-later g c = λ n. omega (arith, c.in-Ok.ensures.la
 
 pub returns-in-Ok-open_all-clause-first : goal.returns-in-Ok-open_all-clause-first
 returns-in-Ok-open_all-clause-first g c =
-    (lead_first g.R.Disk.Disk.content g.R.Disk.Disk.images g.R.Disk.Disk.limit g.R.Disk.Disk.count c.header.result.now c.in-Ok.lead c.header.ensures.header c.in-Ok.ensures.fits, c.coordinators-count.ensures.limits)
+    (ap (λ (k : Header). k.node) c.header.ensures.header ∙ c.in-Ok.ensures.opened.0, c.coordinators-count.ensures.limits)
 
 pub returns-in-Ok-open_all-clause-opened : goal.returns-in-Ok-open_all-clause-opened
 returns-in-Ok-open_all-clause-opened g c =
     led_whole g.R.Disk.Disk.content g.R.Disk.Disk.images g.R.Disk.Disk.limit g.R.Disk.Disk.count (g.R.Rack.held c.args.rack.now) (g.R.Rack.held c.lead_alone.new.rack) (g.R.Rack.count c.lead_alone.new.rack)
     c.header.result.now c.in-Ok.lead c.in-Ok-lead_alone.alone.items c.in-Ok-open_all.logs.items c.in-Ok-lead_alone.ensures.alone
     (λ n some. c.in-Ok-lead_alone.ensures.others_held n some ∙ c.in-Ok.ensures.others_held n (omega (arith, some)))
-    (lead_at g.R.Disk.Disk.content g.R.Disk.Disk.images g.R.Disk.Disk.limit g.R.Disk.Disk.count (g.R.Rack.held c.args.rack.now) c.header.result.now c.in-Ok.lead c.header.ensures.header c.in-Ok.ensures.fits c.in-Ok.ensures.opened)
+    (subst (λ (k : Header). IsLogAt g.R.Disk.Disk.content g.R.Disk.Disk.images g.R.Disk.Disk.limit g.R.Disk.Disk.count (g.R.Rack.held c.args.rack.now) k 0 c.in-Ok.lead) (sym c.header.ensures.header) c.in-Ok.ensures.opened.1)
     c.in-Ok-open_all.ensures.opened
 
 pub returns-in-Ok-open_all-clause-others_held : goal.returns-in-Ok-open_all-clause-others_held
@@ -45,19 +45,19 @@ returns-in-Ok-open_all-clause-others_held g c = λ n ge.
 
 pub returns-in-Err-open_all-clause-refusal : goal.returns-in-Err-open_all-clause-refusal
 returns-in-Err-open_all-clause-refusal g c =
-    inr (lacks_log g.R.Disk.Disk.content g.R.Disk.Disk.images g.R.Disk.Disk.limit g.R.Disk.Disk.count (g.R.Rack.held c.args.rack.now) (g.R.Rack.held c.lead_alone.new.rack)
+    inl (inr (lacks_log g.R.Disk.Disk.content g.R.Disk.Disk.images g.R.Disk.Disk.limit g.R.Disk.Disk.count (g.R.Rack.held c.args.rack.now) (g.R.Rack.held c.lead_alone.new.rack)
     (g.R.Rack.count c.args.rack.now) (g.R.Rack.count c.lead_alone.new.rack) (g.R.Rack.count c.open_all.new.rack) (g.R.Rack.count c.open_all.new.rack)
     c.header.result.now c.in-Ok.lead (0 + length c.in-Ok-lead_alone.alone.items) (0 + c.coordinators-count.result) c.in-Err-open_all.fault
     (omega (arith, ap length c.in-Ok-lead_alone.ensures.alone)) (omega (arith, c.coordinators-count.ensures.value))
     (λ n some. c.in-Ok-lead_alone.ensures.others_held n some ∙ c.in-Ok.ensures.others_held n (omega (arith, some)))
     (λ n. omega (arith, c.in-Ok.ensures.later n, c.in-Ok-lead_alone.ensures.later n)) (λ n. omega arith)
-    (lead_first g.R.Disk.Disk.content g.R.Disk.Disk.images g.R.Disk.Disk.limit g.R.Disk.Disk.count c.header.result.now c.in-Ok.lead c.header.ensures.header c.in-Ok.ensures.fits)
-    (lead_at g.R.Disk.Disk.content g.R.Disk.Disk.images g.R.Disk.Disk.limit g.R.Disk.Disk.count (g.R.Rack.held c.args.rack.now) c.header.result.now c.in-Ok.lead c.header.ensures.header c.in-Ok.ensures.fits c.in-Ok.ensures.opened)
-    c.in-Err-open_all.ensures.refusal)
+    (ap (λ (k : Header). k.node) c.header.ensures.header ∙ c.in-Ok.ensures.opened.0)
+    (subst (λ (k : Header). IsLogAt g.R.Disk.Disk.content g.R.Disk.Disk.images g.R.Disk.Disk.limit g.R.Disk.Disk.count (g.R.Rack.held c.args.rack.now) k 0 c.in-Ok.lead) (sym c.header.ensures.header) c.in-Ok.ensures.opened.1)
+    c.in-Err-open_all.ensures.refusal))
 
 pub returns-in-Err-open_all-clause-held : goal.returns-in-Err-open_all-clause-held
 returns-in-Err-open_all-clause-held g c =
-    let lead = lead_at g.R.Disk.Disk.content g.R.Disk.Disk.images g.R.Disk.Disk.limit g.R.Disk.Disk.count (g.R.Rack.held c.args.rack.now) c.header.result.now c.in-Ok.lead c.header.ensures.header c.in-Ok.ensures.fits c.in-Ok.ensures.opened in
+    let lead = subst (λ (k : Header). IsLogAt g.R.Disk.Disk.content g.R.Disk.Disk.images g.R.Disk.Disk.limit g.R.Disk.Disk.count (g.R.Rack.held c.args.rack.now) k 0 c.in-Ok.lead) (sym c.header.ensures.header) c.in-Ok.ensures.opened.1 in
     let Q : ℕ → LogOf g.row.R-Disk.Denot → Type 0 = λ n x. OfTold (g.R.Rack.held c.open_all.new.rack n) (λ now. now ≡ x.disk) in
     let put : OfTold (g.R.Rack.held c.open_all.new.rack 0) (λ now. now ≡ c.in-Ok.lead.disk) =
     (subst (λ (l : List (LogOf g.row.R-Disk.Denot)). EachFrom Q 0 l) c.in-Ok-lead_alone.ensures.alone c.in-Err-open_all.ensures.closed).0 in
@@ -68,3 +68,6 @@ returns-in-Err-open_all-clause-held g c =
     (λ n small. let none : 0 ≡ n = omega (arith, small) in subst (λ (k : ℕ). IsBack g.R.Disk.Disk.images g.R.Disk.Disk.limit (g.R.Rack.held c.args.rack.now k) (g.R.Rack.held c.open_all.new.rack k)) none here)
     (λ n ge lt. c.in-Err-open_all.ensures.held n (omega (arith, ge, ap length c.in-Ok-lead_alone.ensures.alone)) (omega (arith, lt)))
     (λ n ge above. c.in-Err-open_all.ensures.others_held n (inr (omega (arith, above))))
+
+pub returns-in-Ok-open_all-clause-minted : goal.returns-in-Ok-open_all-clause-minted
+returns-in-Ok-open_all-clause-minted g c = subst (λ (k : Header). IsMintOf (option_copied c.args.id) k) (sym c.header.ensures.header) c.in-Ok.ensures.minted

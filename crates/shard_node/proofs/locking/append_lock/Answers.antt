@@ -1,6 +1,9 @@
-use Rattle.std.proofs.Common.{arith}
+use Rattle.std.proofs.Common.{arith, sym, subst}
 use Rattle.shard_node.proofs.Keeps.{stays}
 use Rattle.shard_node.proofs.Locks.{HasTaken, size_exact, kept_exact, lock_full_is, taken_shard, lock_memory, lock_room, lock_wrote, lock_done, lock_failed}
+use Rattle.shard_node.specs.Shards.{HoldsJournal, LeavesBetween}
+use Rattle.shard_node.specs.Parts.{view_of}
+use Rattle.shard_node.proofs.Leaving.{same_view, still}
 use Rattle.shard_node.proofs.locking.append_lock.Goals as goal
 
 pub overflow_add-later-2 : goal.overflow_add-later-2
@@ -84,3 +87,25 @@ returns-in-Err-write-clause-meets g c =
     lock_failed c.args.parts.now c.args.call.now c.args.replied c.requires.shard c.requires.call c.requires.whole c.requires.next (omega arith) c.in-Ok.next c.in-Ok.ensures
     c.size_of_record-size.result c.len.result c.kept_room.result size.0 c.len.ensures kept.0 c.used-used.result c.capacity-capacity.result c.used-used.ensures c.capacity-capacity.ensures c.if-need-capacity.false
     c.take_memory.new.log c.take_memory.new.memory taken c.max.result (omega arith) (omega arith) c.in-Ok-take_memory.ensures.room (λ m get. omega (arith, c.in-Ok-take_memory.ensures.decisions m get, c.len-2.ensures, c.len.ensures)) c.write.new.parts c.in-Err-write.fault c.in-Err-write.ensures.fault c.in-Err-write.ensures.failed
+
+pub returns-in-Ok-write-clause-leaves : goal.returns-in-Ok-write-clause-leaves
+returns-in-Ok-write-clause-leaves g c =
+    let seen = same_view c.args.parts.now c.take_memory.new.log c.take_memory.new.memory c.take_memory.ensures.untouched c.take_memory.ensures.records c.take_memory.ensures.header in
+    subst (λ v. HoldsJournal g.D.Disk.content g.D.Disk.images v → LeavesBetween g.D.Disk.tells_past g.D.Disk.moment g.D.Disk.images_since g.D.Disk.images v (view_of c.write.new.parts)) seen c.write.ensures.leaves
+
+pub returns-in-Err-write-clause-leaves : goal.returns-in-Err-write-clause-leaves
+returns-in-Err-write-clause-leaves g c =
+    let seen = same_view c.args.parts.now c.take_memory.new.log c.take_memory.new.memory c.take_memory.ensures.untouched c.take_memory.ensures.records c.take_memory.ensures.header in
+    subst (λ v. HoldsJournal g.D.Disk.content g.D.Disk.images v → LeavesBetween g.D.Disk.tells_past g.D.Disk.moment g.D.Disk.images_since g.D.Disk.images v (view_of c.write.new.parts)) seen c.write.ensures.leaves
+
+pub returns-in-Err-clause-leaves : goal.returns-in-Err-clause-leaves
+returns-in-Err-clause-leaves g c = λ holds.
+    let seen = same_view c.args.parts.now c.take_memory.new.log c.take_memory.new.memory c.take_memory.ensures.untouched c.take_memory.ensures.records c.take_memory.ensures.header in
+    subst (λ v. LeavesBetween g.D.Disk.tells_past g.D.Disk.moment g.D.Disk.images_since g.D.Disk.images (view_of c.args.parts.now) v) (sym seen)
+    (still g.D.Disk (view_of c.args.parts.now) (g.met.D.Disk.only_now c.args.parts.now.log.journal.disk) holds)
+
+pub returns-then-stamp-gt-LAST_LOCK-clause-leaves : goal.returns-then-stamp-gt-LAST_LOCK-clause-leaves
+returns-then-stamp-gt-LAST_LOCK-clause-leaves g c = still g.D.Disk (view_of c.args.parts.now) (g.met.D.Disk.only_now c.args.parts.now.log.journal.disk)
+
+pub returns-then-need-capacity-clause-leaves : goal.returns-then-need-capacity-clause-leaves
+returns-then-need-capacity-clause-leaves g c = still g.D.Disk (view_of c.args.parts.now) (g.met.D.Disk.only_now c.args.parts.now.log.journal.disk)

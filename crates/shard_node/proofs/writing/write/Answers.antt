@@ -1,6 +1,7 @@
-use Rattle.std.proofs.Common.{◌+◌, ◌∷◌, ◌++◌, [], List, refl, ap, ◌∙◌}
+use Rattle.std.proofs.Common.{◌+◌, ◌∷◌, ◌++◌, [], List, Some, refl, ap, ◌∙◌}
 use Rattle.gate_journal.specs.Shown.{gate_of, broken_of}
 use Rattle.cbdc_model.specs.Records.{Record}
+use Rattle.shard_node.proofs.Leaving.{all_held, written_between, failed_between}
 use Rattle.shard_node.proofs.writing.write.Goals as goal
 
 pub returns-in-Ok-clause-written : goal.returns-in-Ok-clause-written
@@ -18,3 +19,14 @@ returns-in-Ok-clause-written g c = record {
   later = rw c.keep.ensures.journal c.write.ensures.later;
   room = λ count bytes has. c.keep.ensures.room count bytes (c.write.ensures.keeps (count + 1) bytes has);
 }
+
+pub returns-in-Ok-clause-leaves : goal.returns-in-Ok-clause-leaves
+returns-in-Ok-clause-leaves g c = λ holds.
+    let left = c.write.ensures.leaves c.args.parts.now.log.records.items (all_held c.args.parts.now c.requires.landed holds) in
+    written_between c.args.parts.now (record c.args.parts.now { log = c.keep.new.self; core = c.apply.new.core }) c.args.next c.requires.landed (c.keep.ensures.kept ∙ ap (λ (l : List Record). l ++ c.args.next ∷ []) c.write.ensures.records) refl
+    (rw c.keep.ensures.journal left)
+
+pub returns-in-Err-DiskFault-clause-leaves : goal.returns-in-Err-DiskFault-clause-leaves
+returns-in-Err-DiskFault-clause-leaves g c = λ holds.
+    let left = c.write.ensures.leaves c.args.parts.now.log.records.items (all_held c.args.parts.now c.requires.landed holds) in
+    failed_between c.args.parts.now (record c.args.parts.now { log = c.write.new.self; flight = Some c.args.next }) c.args.next c.write.ensures.records refl left

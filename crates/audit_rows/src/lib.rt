@@ -1,0 +1,6 @@
+//! Audits, and journals that do not fit together. There are tests alone here. Ids in expected lines were computed by another
+//! program (SHA-256 of Python's hashlib).
+#![tactic(auto)]
+
+#[cfg(test)]
+mod tests;

@@ -1,0 +1,42 @@
+use Rattle.std.proofs.Common.{◌+◌, ◌∙◌, length, arith, inr, refl}
+use Rattle.rack_ledgers.proofs.Backs.{back_parts}
+use Rattle.caused_ledgers.proofs.Closed.{nodes_back}
+use Rattle.audited_ledgers.proofs.Histories.{is_audited}
+use Rattle.audited_ledgers.proofs.audited.audit_on.Goals as goal
+
+pub returns-in_default-clause-refusal : goal.returns-in_default-clause-refusal
+returns-in_default-clause-refusal g c = inr refl
+
+pub verdict_of-verdict-requires-clause-logs : goal.verdict_of-verdict-requires-clause-logs
+verdict_of-verdict-requires-clause-logs g c n x is = (c.in-Ok-open_minted.ensures.opened.logs_at n x is).journal
+
+pub verdict_of-verdict-requires-clause-shards : goal.verdict_of-verdict-requires-clause-shards
+verdict_of-verdict-requires-clause-shards g c n x is = (c.in-Ok-open_minted.ensures.opened.shards_at n x is).journal
+
+pub returns-in-Ok-verdict-clause-audited : goal.returns-in-Ok-verdict-clause-audited
+returns-in-Ok-verdict-clause-audited g c =
+    is_audited g.R.Disk.Disk.content g.R.Disk.Disk.images g.R.Disk.Disk.limit g.R.Disk.Disk.count (g.R.Rack.held c.args.rack.now) c.in-Ok-open_minted.nodes.header c.in-Ok-open_minted.nodes.logs.items c.in-Ok-open_minted.nodes.shards.items
+    c.in-Ok-open_minted.ensures.opened c.args.mint.now (c.in-Ok-open_minted.ensures.minted ∙ c.in-Ok.ensures) c.args.handed.now c.in-Ok-verdict.verdict c.in-Ok-verdict.ensures
+
+pub returns-in-Ok-verdict-clause-held : goal.returns-in-Ok-verdict-clause-held
+returns-in-Ok-verdict-clause-held g c =
+    let whole = length c.in-Ok-open_minted.nodes.logs.items + length c.in-Ok-open_minted.nodes.shards.items in
+    back_parts g.R.Disk.Disk.images g.R.Disk.Disk.limit (g.R.Rack.held c.args.rack.now) (g.R.Rack.held c.open_minted.new.rack) (g.R.Rack.held c.close_nodes.new.rack) whole whole
+    c.in-Ok-open_minted.ensures.others_held
+    (nodes_back g.R.Disk.Disk.content g.R.Disk.Disk.images g.R.Disk.Disk.limit g.R.Disk.Disk.count (g.R.Rack.held c.args.rack.now) (g.R.Rack.held c.close_nodes.new.rack) c.in-Ok-open_minted.nodes.header
+    c.in-Ok-open_minted.nodes.logs.items c.in-Ok-open_minted.nodes.shards.items c.in-Ok-open_minted.ensures.opened c.close_nodes.ensures.closed_logs c.close_nodes.ensures.closed_shards)
+    (λ n ge lt. absurd (omega (arith, ge, lt)))
+    (λ n ge above. c.close_nodes.ensures.others_held n ge)
+
+pub returns-in-Err-verdict-clause-refusal : goal.returns-in-Err-verdict-clause-refusal
+returns-in-Err-verdict-clause-refusal g c = inr refl
+
+pub returns-in-Err-verdict-clause-held : goal.returns-in-Err-verdict-clause-held
+returns-in-Err-verdict-clause-held g c =
+    let whole = length c.in-Ok-open_minted.nodes.logs.items + length c.in-Ok-open_minted.nodes.shards.items in
+    back_parts g.R.Disk.Disk.images g.R.Disk.Disk.limit (g.R.Rack.held c.args.rack.now) (g.R.Rack.held c.open_minted.new.rack) (g.R.Rack.held c.close_nodes.new.rack) whole whole
+    c.in-Ok-open_minted.ensures.others_held
+    (nodes_back g.R.Disk.Disk.content g.R.Disk.Disk.images g.R.Disk.Disk.limit g.R.Disk.Disk.count (g.R.Rack.held c.args.rack.now) (g.R.Rack.held c.close_nodes.new.rack) c.in-Ok-open_minted.nodes.header
+    c.in-Ok-open_minted.nodes.logs.items c.in-Ok-open_minted.nodes.shards.items c.in-Ok-open_minted.ensures.opened c.close_nodes.ensures.closed_logs c.close_nodes.ensures.closed_shards)
+    (λ n ge lt. absurd (omega (arith, ge, lt)))
+    (λ n ge above. c.close_nodes.ensures.others_held n ge)

@@ -1,0 +1,78 @@
+// The audit of the ledger on a rack.
+ghost use Rattle.std.specs.Prelude.{◌≡◌, ◌⊎◌, ◌+◌, ◌≤◌, ◌<◌, ◌^◌, ℕ, length, Some, IfOk, IfErr};
+ghost use Rattle.cbdc_model.specs.After.{IsJournal};
+ghost use Rattle.cbdc_model.specs.Coins.{genesis_id as mint_id};
+ghost use Rattle.rack_nodes.specs.Racked.{IsBack};
+ghost use Rattle.rack_nodes.specs.Refused.{IsNodeRefusal};
+ghost use Rattle.rack_ledgers.specs.Ledgers.{ByPlace, IsUnopenedBy};
+ghost use Rattle.caused_ledgers.specs.Caused.{journals_of};
+ghost use Rattle.audited_ledgers.specs.Audited.{HasVerdict, IsAudited};
+
+use audit::{Verdict, audit};
+use caused_ledgers::{lend_logs, lend_shards};
+use cbdc_types::{Answer, FullTx, Output};
+use history::merge;
+use model_check::genesis_id;
+use outside::{Disk, Rack};
+use rack_ledgers::{Nodes, close_nodes, open_minted};
+use std::alloc::{AllocError, Global};
+
+// The verdict on the history of open nodes.
+fn verdict_of<D: Disk>(
+    alloc: Global,
+    nodes: &Nodes<D>,
+    mint: &[Output],
+    handed: &[FullTx],
+) -> Result<Verdict, AllocError>
+    requires few { length nodes.now.logs.items + length nodes.now.shards.items < 2 ^ 32 }
+    requires logs { ByPlace (λ n l. IsJournal l.header l.journal) nodes.now.logs.items }
+    requires shards { ByPlace (λ n s. IsJournal s.header s.journal) nodes.now.shards.items }
+    ensures { IfOk result (HasVerdict nodes.now.header.shape (journals_of nodes.now.logs.items nodes.now.shards.items) mint.now handed.now) }
+{
+    let mut all = Vec::new(alloc);
+    lend_logs(nodes.logs.as_slice(), &mut all)?;
+    lend_shards(nodes.shards.as_slice(), &mut all)?;
+    let history = merge(alloc, &all)?;
+    audit(
+        alloc,
+        &nodes.header.shape,
+        &all,
+        history.as_slice(),
+        mint,
+        handed,
+    )
+}
+
+/// Audits the ledger on a rack, which should be that of a mint, with transactions that were handed in. All disks are back, and no journal
+/// has changed.
+pub fn audit_on<R: Rack>(
+    alloc: Global,
+    rack: &mut R,
+    mint: &[Output],
+    handed: &[FullTx],
+) -> Result<Verdict, Answer>
+    requires { (n : ℕ) → R.can_take rack.old n }
+    ensures audited { IfOk result (IsAudited R.Disk.content (R.held rack.old) mint.now handed.now) }
+
+    // Why there is no verdict.
+    ensures refusal { IfErr result (λ a. IsUnopenedBy R.Disk.content R.Disk.images R.Disk.limit R.Disk.count (R.held rack.old) (R.count rack.old) (R.count rack.new) (Some (mint_id mint.now)) a
+        ⊎ (a ≡ Answer.Memory)) }
+    ensures kind { IfErr result IsNodeRefusal }
+    ensures held { (n : ℕ) → IsBack R.Disk.images R.Disk.limit (R.held rack.old n) (R.held rack.new n) }
+    ensures back { (n : ℕ) → R.can_take rack.new n }
+    ensures later { (n : ℕ) → R.count rack.old n ≤ R.count rack.new n }
+{
+    let Ok(id) = genesis_id(alloc, mint) else {
+        return Err(Answer::Memory);
+    };
+    let nodes = match open_minted(alloc, rack, &id) {
+        Ok(nodes) => nodes,
+        Err(fault) => return Err(fault),
+    };
+    let verdict = verdict_of(alloc, &nodes, mint, handed);
+    close_nodes(rack, nodes);
+    match verdict {
+        Ok(verdict) => Ok(verdict),
+        Err(_) => Err(Answer::Memory),
+    }
+}

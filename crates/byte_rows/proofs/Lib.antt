@@ -1,0 +1,2 @@
+mod EachBody
+mod FileBytes

@@ -1,0 +1,96 @@
+-- The disks were not touched, or what is left of them.
+use Rattle.std.proofs.Common.{◌≡◌, ◌⊎◌, ⊎_elim, inr, ℕ, List, Option, Result, Ok, Err, refl, sym, subst}
+use Rattle.std.specs.Prelude.{IfErr}
+use Rattle.outside.specs.Images.{Tells}
+use Rattle.line_text.specs.Lines.{Text}
+use Rattle.cbdc_types.specs.declared.answer.Answer.{Answer}
+use Rattle.cbdc_types.specs.declared.answer.Answer.TheVariants as answers
+use Rattle.cbdc_model.specs.Records.{Shape}
+use Rattle.cbdc_model.specs.Coins.{Output, FullTx}
+use Rattle.command_line.specs.declared.request.FileWord.{FileWord}
+use Rattle.input_files.specs.Contents.{mint_of_file}
+use Rattle.rack_nodes.specs.Refused.{IsNodeRefusal}
+use Rattle.rack_ledgers.specs.Ledgers.{IsUnopened}
+use Rattle.rack_runs.specs.Kinds.{IsLaneAnswer}
+use Rattle.ledger_init.specs.Made.{IsUnmade, IsLeft}
+use Rattle.commands.specs.Outcomes.{WhyNoTurns}
+use Rattle.commands.specs.Left.{IsBeforeDisks, InitLeaves}
+
+-- a node that is not opened was taken
+pub not_refused : (a : Answer) → IsNodeRefusal a → IsBeforeDisks a → ⊥
+not_refused answers.Ok is before = is
+not_refused answers.BadWords is before = is
+not_refused (answers.BadInput file at kind) is before = is
+not_refused (answers.TooMuch total) is before = is
+not_refused (answers.NotReady k) is before = before
+not_refused (answers.Foreign k kept asked) is before = before
+not_refused (answers.NotEmpty k) is before = before
+not_refused (answers.Full k used need capacity) is before = before
+not_refused (answers.Unsound place kind) is before = before
+not_refused (answers.ClockEnd k stamp) is before = before
+not_refused (answers.Refused k) is before = before
+not_refused (answers.Damaged k at) is before = before
+not_refused (answers.ReadFault file) is before = is
+not_refused answers.WriteFault is before = before
+not_refused (answers.DiskFault k) is before = before
+not_refused answers.Memory is before = before
+
+-- so were the nodes of a lane
+not_by_lane : (a : Answer) → IsLaneAnswer a → IsBeforeDisks a → ⊥
+not_by_lane answers.Ok is before = is
+not_by_lane answers.BadWords is before = is
+not_by_lane (answers.BadInput file at kind) is before = is
+not_by_lane (answers.TooMuch total) is before = is
+not_by_lane (answers.NotReady k) is before = before
+not_by_lane (answers.Foreign k kept asked) is before = before
+not_by_lane (answers.NotEmpty k) is before = before
+not_by_lane (answers.Full k used need capacity) is before = before
+not_by_lane (answers.Unsound place kind) is before = before
+not_by_lane (answers.ClockEnd k stamp) is before = before
+not_by_lane (answers.Refused k) is before = before
+not_by_lane (answers.Damaged k at) is before = before
+not_by_lane (answers.ReadFault file) is before = is
+not_by_lane answers.WriteFault is before = before
+not_by_lane (answers.DiskFault k) is before = before
+not_by_lane answers.Memory is before = before
+
+module _ {D : Type 0} (content : D → Option (List ℕ)) (images : D → List ℕ → Type 0) (limit count : D → ℕ) where
+  pub not_unopened : (held : ℕ → Option D) (before now : ℕ → ℕ) (a : Answer) → IsUnopened content images limit count held before now a → IsBeforeDisks a → ⊥
+  not_unopened held before now a is = not_refused a (⊎_elim (λ unled. ⊎_elim (λ first. first.kind) (λ lacks. lacks.refused.kind) unled) (λ lacks. lacks.refused.kind) is)
+
+  pub not_turned : (held new : ℕ → Option D) (before now : ℕ → ℕ) (handed : List (List FullTx)) (a : Answer) → WhyNoTurns content images limit count held new before now handed a → IsBeforeDisks a → ⊥
+  not_turned held new before now handed a is =
+      ⊎_elim
+      (λ unopened. ⊎_elim (λ closed. not_unopened held before now a closed)
+      (λ other. ⊎_elim (λ unsound. subst (λ b. IsBeforeDisks b → ⊥) (sym unsound.told) (λ none. none)) (λ memory. subst (λ b. IsBeforeDisks b → ⊥) (sym memory) (λ none. none)) other) unopened.0)
+      (λ lane. not_by_lane a lane.0) is
+
+-- of these answers a ledger that is not made gives one alone
+too_much_alone : {D : Type 0} (K : Shape) (mint : List Output) (content : D → Option (List ℕ)) (limit : D → ℕ) (held : ℕ → Option D) (before now : ℕ → ℕ) (P : Type 0) (a : Answer)
+    → IsUnmade K mint content limit held before now a → ((total : ℕ) → a ≡ answers.TooMuch total → P) → IsBeforeDisks a → P
+too_much_alone K mint content limit held before now P answers.Ok un same is = absurd is
+too_much_alone K mint content limit held before now P answers.BadWords un same is = absurd un
+too_much_alone K mint content limit held before now P (answers.BadInput file at kind) un same is = absurd un
+too_much_alone K mint content limit held before now P (answers.TooMuch total) un same is = same total refl
+too_much_alone K mint content limit held before now P (answers.NotReady k) un same is = absurd is
+too_much_alone K mint content limit held before now P (answers.Foreign k kept asked) un same is = absurd is
+too_much_alone K mint content limit held before now P (answers.NotEmpty k) un same is = absurd is
+too_much_alone K mint content limit held before now P (answers.Full k used need capacity) un same is = absurd is
+too_much_alone K mint content limit held before now P (answers.Unsound place kind) un same is = absurd is
+too_much_alone K mint content limit held before now P (answers.ClockEnd k stamp) un same is = absurd is
+too_much_alone K mint content limit held before now P (answers.Refused k) un same is = absurd is
+too_much_alone K mint content limit held before now P (answers.Damaged k at) un same is = absurd is
+too_much_alone K mint content limit held before now P (answers.ReadFault file) un same is = absurd un
+too_much_alone K mint content limit held before now P answers.WriteFault un same is = absurd is
+too_much_alone K mint content limit held before now P (answers.DiskFault k) un same is = absurd is
+too_much_alone K mint content limit held before now P answers.Memory un same is = absurd is
+
+pub unmade_same : {D T : Type 0} (K : Shape) (mint : List Output) (content : D → Option (List ℕ)) (limit : D → ℕ) (held : ℕ → Option D) (before now : ℕ → ℕ) (P : Type 0) (r : Result T Answer)
+    → IfErr r (IsUnmade K mint content limit held before now) → IfErr r (λ e. (total : ℕ) → e ≡ answers.TooMuch total → P) → IfErr r (λ e. IsBeforeDisks e → P)
+unmade_same K mint content limit held before now P (Ok made) un same = tt
+unmade_same K mint content limit held before now P (Err e) un same = too_much_alone K mint content limit held before now P e un same
+
+pub unmade_left : {D T : Type 0} (files : Text → Option (List ℕ)) (content : D → Option (List ℕ)) (images : D → List ℕ → Type 0) (limit : D → ℕ) (before now : ℕ → Option D) (shape : Shape) (file : FileWord) (mint : List Output) (P : Type 0) (r : Result T Answer)
+    → Tells (files file.name.now) (λ c. mint_of_file c ≡ Ok mint) → IfErr r (IsLeft shape mint content images limit before now) → IfErr r (λ e. P ⊎ InitLeaves files content images limit before now shape file e)
+unmade_left files content images limit before now shape file mint P (Ok made) read left = tt
+unmade_left files content images limit before now shape file mint P (Err e) read left = inr (mint, read, left)

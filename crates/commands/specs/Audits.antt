@@ -1,0 +1,59 @@
+-- What an audit was of, and why there was none.
+use Rattle.std.specs.Prelude.{◌≡◌, ◌⊎◌, ℕ, List, Option, Some, Ok}
+use Rattle.outside.specs.Images.{Tells}
+use Rattle.line_text.specs.Lines.{Text}
+use Rattle.cbdc_types.specs.declared.answer.Answer.{Answer}
+use Rattle.cbdc_types.specs.declared.answer.Answer.TheVariants as answers
+use Rattle.cbdc_model.specs.Coins.{Output, FullTx, genesis_id}
+use Rattle.command_line.specs.declared.request.FileWord.{FileWord}
+use Rattle.input_files.specs.Contents.{mint_of_file, AreRead, IsNotRead, FirstNotRead}
+use Rattle.audit.specs.declared.verdict.Totals.{Totals}
+use Rattle.audit.specs.declared.verdict.Verdict.{Verdict}
+use Rattle.audit.specs.declared.verdict.Verdict.TheVariants.{Sound, Unsound}
+use Rattle.audited_ledgers.specs.Audited.{IsAudited}
+use Rattle.file_runs.specs.Runs.{joined}
+use Rattle.printed_lines.specs.Reports.{audit_lines}
+use Rattle.rack_nodes.specs.Racked.{IsBack}
+use Rattle.rack_ledgers.specs.Ledgers.{IsUnopenedBy}
+
+-- the files held this mint and these transactions, with which an audit of the ledger that the disks tell has this verdict
+pub record WasAudited {D : Type 0} (files : Text → Option (List ℕ)) (content : D → Option (List ℕ)) (disks : ℕ → Option D) (file : FileWord) (clients : List FileWord) (verdict : Verdict) : Type 0 where
+  pub mint : List Output
+  pub handed : List (List FullTx)
+  pub read : Tells (files file.name.now) (λ c. mint_of_file c ≡ Ok mint)
+  pub clients_read : AreRead files 0 clients handed
+  pub audited : IsAudited content disks mint (joined handed) verdict
+
+-- the verdict is that all is sound, what it comes to was printed, and the disks are back as they were read
+pub record DidAudit {D : Type 0} (files : Text → Option (List ℕ)) (content : D → Option (List ℕ)) (images : D → List ℕ → Type 0) (limit : D → ℕ) (before now : ℕ → Option D) (printed : Text → Type 0) (file : FileWord) (clients : List FileWord) : Type 0 where
+  pub totals : Totals
+  pub was : WasAudited files content before file clients (Sound totals)
+  pub back : (n : ℕ) → IsBack images limit (before n) (now n)
+  pub prints : printed (audit_lines totals)
+
+-- the ledger of this mint could not be opened: the first node that can't be, or node 0 where another mint began it; or memory ran out
+abbrev pub WhyUnopened : {D : Type 0} → (D → Option (List ℕ)) → (D → List ℕ → Type 0) → (D → ℕ) → (D → ℕ) → (ℕ → Option D) → (ℕ → ℕ) → (ℕ → ℕ) → List Output → Answer → Type 0
+WhyUnopened content images limit count disks disks_before disks_now mint answer =
+    IsUnopenedBy content images limit count disks disks_before disks_now (Some (genesis_id mint)) answer ⊎ (answer ≡ answers.Memory)
+
+-- there is no verdict: the mint is not read; or it is, and a client file is the first that is not; or all files were read, and the ledger could not be opened
+abbrev pub WhyUnaudited : {D : Type 0} → (Text → Option (List ℕ)) → (Text → ℕ) → (Text → ℕ) → (D → Option (List ℕ)) → (D → List ℕ → Type 0) → (D → ℕ) → (D → ℕ) → (ℕ → Option D) → (ℕ → ℕ) → (ℕ → ℕ)
+    → FileWord → List FileWord → Answer → Type 0
+WhyUnaudited files files_before files_now content images limit count disks disks_before disks_now file clients answer =
+    IsNotRead file.place (files file.name.now) mint_of_file (files_before file.name.now) (files_now file.name.now) answer
+    ⊎ ((mint : List Output) × Tells (files file.name.now) (λ c. mint_of_file c ≡ Ok mint)
+    × (FirstNotRead files files_before files_now clients answer
+    ⊎ ((handed : List (List FullTx)) × AreRead files 0 clients handed × WhyUnopened content images limit count disks disks_before disks_now mint answer)))
+
+-- the verdict is that this is unsound, at this place
+abbrev pub IsUnsoundBy : (Verdict → Type 0) → Answer → Type 0
+IsUnsoundBy was (answers.Unsound place kind) = was (Unsound place kind)
+IsUnsoundBy was other = ⊥
+
+-- something is unsound, or there is no verdict; and the disks are back as they were read
+abbrev pub WhyNoAudit : {D : Type 0} → (Text → Option (List ℕ)) → (Text → ℕ) → (Text → ℕ) → (D → Option (List ℕ)) → (D → List ℕ → Type 0) → (D → ℕ) → (D → ℕ) → (ℕ → Option D) → (ℕ → Option D) → (ℕ → ℕ) → (ℕ → ℕ)
+    → FileWord → List FileWord → Answer → Type 0
+WhyNoAudit files files_before files_now content images limit count disks now disks_before disks_now file clients answer =
+    ((n : ℕ) → IsBack images limit (disks n) (now n))
+    × (IsUnsoundBy (WasAudited files content disks file clients) answer
+    ⊎ WhyUnaudited files files_before files_now content images limit count disks disks_before disks_now file clients answer)

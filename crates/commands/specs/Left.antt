@@ -1,0 +1,31 @@
+-- What is left of the disks where what was asked for was not done.
+use Rattle.std.specs.Prelude.{◌≡◌, ℕ, List, Option, Ok}
+use Rattle.outside.specs.Images.{Tells}
+use Rattle.line_text.specs.Lines.{Text}
+use Rattle.cbdc_types.specs.declared.answer.Answer.{Answer}
+use Rattle.cbdc_types.specs.declared.answer.Answer.TheVariants as answers
+use Rattle.cbdc_model.specs.Records.{Shape}
+use Rattle.cbdc_model.specs.Coins.{Output}
+use Rattle.command_line.specs.declared.request.FileWord.{FileWord}
+use Rattle.command_line.specs.declared.request.Request.{Request}
+use Rattle.command_line.specs.declared.request.Request.TheVariants.{Init}
+use Rattle.input_files.specs.Contents.{mint_of_file}
+use Rattle.ledger_init.specs.Made.{IsLeft}
+
+-- the answers that come before any disk is taken: bad words, a file that is not read, and a mint of too much
+abbrev pub IsBeforeDisks : Answer → Type 0
+IsBeforeDisks answers.BadWords = Unit {0}
+IsBeforeDisks (answers.BadInput file at kind) = Unit {0}
+IsBeforeDisks (answers.TooMuch total) = Unit {0}
+IsBeforeDisks (answers.ReadFault file) = Unit {0}
+IsBeforeDisks other = ⊥
+
+-- the file holds a mint, whose ledger was not made: all disks are as they were read, or the writing of first records stopped at a node
+abbrev pub InitLeaves : {D : Type 0} → (Text → Option (List ℕ)) → (D → Option (List ℕ)) → (D → List ℕ → Type 0) → (D → ℕ) → (ℕ → Option D) → (ℕ → Option D) → Shape → FileWord → Answer → Type 0
+InitLeaves files content images limit before now shape file answer =
+    (mint : List Output) × Tells (files file.name.now) (λ c. mint_of_file c ≡ Ok mint) × IsLeft shape mint content images limit before now answer
+
+-- what is left by what was asked for; it is told of `init` alone
+abbrev pub Leaves : {D : Type 0} → (Text → Option (List ℕ)) → (D → Option (List ℕ)) → (D → List ℕ → Type 0) → (D → ℕ) → (ℕ → Option D) → (ℕ → Option D) → Request → Answer → Type 0
+Leaves files content images limit before now (Init shape mint) answer = InitLeaves files content images limit before now shape mint answer
+Leaves files content images limit before now other answer = Unit {0}

@@ -1,0 +1,12 @@
+pub mod Sets
+pub mod Codes
+pub mod Stamps
+pub mod Few
+pub mod Opening
+pub mod Growing
+pub mod LockWrites
+pub mod OneLock
+pub mod LocksFirst
+pub mod Fits
+pub mod Recovering
+pub mod Passing

@@ -1,0 +1,3 @@
+pub mod Laws
+pub mod LocksDue
+pub mod Worlds

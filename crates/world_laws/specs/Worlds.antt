@@ -1,0 +1,8 @@
+-- What is counted of what is in flight.
+use Rattle.std.specs.Prelude.{ℕ, Bool, List, if◌then◌else◌}
+use Rattle.cbdc_model.specs.Records.{Record}
+use Rattle.cbdc_model.specs.World.{World, node_at, journals, flushed}
+
+-- the journals, with those records in flight that are counted
+abbrev pub counted : (ℕ → Bool) → World → ℕ → List Record
+counted counts w n = if counts n then flushed (node_at w n).flight (journals w n) else journals w n
