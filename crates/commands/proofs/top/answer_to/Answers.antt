@@ -1,4 +1,6 @@
-use Rattle.commands.specs.Outcomes.{Why}
+use Rattle.std.proofs.Common.{subst, sym}
+use Rattle.commands.specs.Outcomes.{Did, Why}
+use Rattle.commands.specs.Texts.{IsPrinted}
 use Rattle.commands.proofs.Answers.{well_told}
 use Rattle.commands.proofs.top.answer_to.Goals as goal
 
@@ -6,3 +8,8 @@ pub returns-in-Show-clause-why : goal.returns-in-Show-clause-why
 returns-in-Show-clause-why g c =
     well_told (Why (g.I.Inbox.file c.args.inbox.now) (g.I.Inbox.count c.args.inbox.now) (g.I.Inbox.count c.args.inbox.now) g.R.Disk.Disk.content g.R.Disk.Disk.images g.R.Disk.Disk.limit g.R.Disk.Disk.count (g.R.Rack.held c.args.rack.now) (g.R.Rack.held c.args.rack.now)
     (g.R.Rack.count c.args.rack.now) (g.R.Rack.count c.args.rack.now) c.args.request.now) c.show.result c.show.ensures.shown
+
+pub returns-in-Recover-clause-did : goal.returns-in-Recover-clause-did
+returns-in-Recover-clause-did g c well =
+    subst (λ r. Did (g.I.Inbox.file c.args.inbox.now) g.R.Disk.Disk.content g.R.Disk.Disk.images g.R.Disk.Disk.limit (g.R.Rack.held c.args.rack.now) (g.R.Rack.held c.recover.new.rack) (IsPrinted (g.O.Sink.taken c.args.out.now) (g.O.Sink.taken c.recover.new.out) c.recover.result) r)
+    (sym c.in-Recover.is) (c.recover.ensures.did well, c.recover.ensures.prints well)
