@@ -12,3 +12,5 @@ pub mod Untouched
 pub mod Audits
 pub mod Sizes
 pub mod Workloads
+pub mod Parts
+pub mod Recovered
