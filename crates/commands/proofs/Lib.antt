@@ -13,3 +13,9 @@ pub mod Audits
 pub mod Workloads
 pub mod Parts
 pub mod Recovered
+pub mod Sums
+pub mod Decisions
+pub mod Reports
+pub mod RunLines
+pub mod Batched
+pub mod Printed

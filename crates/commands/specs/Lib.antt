@@ -1,5 +1,6 @@
 pub mod Causes
 pub mod Texts
+pub mod Told
 pub mod Audits
 pub mod Outcomes
 pub mod Left

@@ -18,11 +18,13 @@ use Rattle.verifier_port.specs.declared.file.VerdictFile.{VerdictFile}
 use Rattle.ledger_init.specs.Made.{MayBeMade, HoldsFirst, first_of, node_count, IsUnmade}
 use Rattle.printed_lines.specs.Reports.{init_lines, status_lines}
 use Rattle.printed_lines.specs.Recoveries.{IsRecoverText}
+use Rattle.printed_lines.specs.Runs.{IsRunLines}
 use Rattle.rack_nodes.specs.Racked.{OfTold, IsBack}
 use Rattle.rack_nodes.specs.Refused.{IsNodeJournal}
 use Rattle.rack_ledgers.specs.Ledgers.{IsUnopened}
 use Rattle.caused_ledgers.specs.Caused.{IsUnresumed}
 use Rattle.rack_laws.specs.Shown.{OfShown, HoldsEach}
+use Rattle.submissions.specs.Checks.{VerdictsOf}
 use Rattle.rack_runs.specs.Kinds.{IsLaneAnswer}
 use Rattle.rack_runs.specs.Runs.{IsRun, IsRecovered, IsCutShort}
 use Rattle.commands.specs.Audits.{DidAudit, WhyNoAudit}
@@ -43,13 +45,20 @@ pub record DidInit {D : Type 0} (files : Text → Option (List ℕ)) (content : 
   pub kept : KeptJournals shape mint [] (first_journals shape mint)
   pub prints : printed (init_lines mint)
 
--- the files held these transactions and verdicts, which were run over the ledger that the disks told; each disk holds exactly its journal
-pub record DidRun {D : Type 0} (files : Text → Option (List ℕ)) (content : D → Option (List ℕ)) (images : D → List ℕ → Type 0) (before now : ℕ → Option D) (verdicts : FileWord) (clients : List FileWord) : Type 0 where
+-- of the kept ledger that the disks told, this was printed: the lines of a run of these transactions from its journals to those that the disks hold now
+abbrev pub PrintsRun : {D : Type 0} → (D → Option (List ℕ)) → (D → List ℕ → Type 0) → (ℕ → Option D) → (ℕ → Option D) → (Text → Type 0) → VerdictsOf → List (List FullTx) → Type 0
+PrintsRun content images before now printed verdicts handed =
+    OfShown content before (λ K mint submissions E. (X : ℕ → List Record) × HoldsEach images now K X × ((text : Text) × IsRunLines K verdicts handed E X text × printed text))
+
+-- the files held these transactions and verdicts, which were run over the ledger that the disks told; each disk holds exactly its journal, and this
+-- was printed
+pub record DidRun {D : Type 0} (files : Text → Option (List ℕ)) (content : D → Option (List ℕ)) (images : D → List ℕ → Type 0) (before now : ℕ → Option D) (printed : Text → Type 0) (verdicts : FileWord) (clients : List FileWord) : Type 0 where
   pub handed : List (List FullTx)
   pub known : VerdictFile
   pub read : AreRead files 0 clients handed
   pub verdicts_read : AreVerdicts (files verdicts.name.now) known
   pub ran : OfShown content before (IsRun images now (told known) handed)
+  pub prints : PrintsRun content images before now printed (told known) handed
 
 -- the open batches of the ledger that the disks told were brought to their end; each disk holds exactly its journal
 abbrev pub DidRecover : {D : Type 0} → (D → Option (List ℕ)) → (D → List ℕ → Type 0) → (ℕ → Option D) → (ℕ → Option D) → Type 0
@@ -71,10 +80,10 @@ pub record DidStatus {D : Type 0} (content : D → Option (List ℕ)) (images : 
   pub back : (n : ℕ) → IsBack images limit (before n) (now n)
   pub prints : printed (status_lines shape journals hashes)
 
--- what was asked for was done, and this was printed; of a run and a workload the text is not told
+-- what was asked for was done, and this was printed; of a workload the text is not told
 abbrev pub Did : {D : Type 0} → (Text → Option (List ℕ)) → (D → Option (List ℕ)) → (D → List ℕ → Type 0) → (D → ℕ) → (ℕ → Option D) → (ℕ → Option D) → (Text → Type 0) → Request → Type 0
 Did files content images limit before now printed (Init shape mint) = DidInit files content images before now printed shape mint
-Did files content images limit before now printed (Run verdicts clients) = DidRun files content images before now verdicts clients.items
+Did files content images limit before now printed (Run verdicts clients) = DidRun files content images before now printed verdicts clients.items
 Did files content images limit before now printed Recover = DidRecover content images before now × PrintsRecovery content images before now printed
 Did files content images limit before now printed (Status hashes) = DidStatus content images limit before now printed hashes.items
 Did files content images limit before now printed (Audit mint clients) = DidAudit files content images limit before now printed mint clients.items

@@ -1,9 +1,13 @@
 // The lines of a run.
-ghost use Rattle.std.specs.Prelude.{◌≤◌};
+ghost use Rattle.std.specs.Prelude.{◌≡◌, ◌≤◌, ◌+◌, ◌++◌, min, not, if◌then◌else◌, Some, slice_get};
 ghost use Rattle.outside.specs.Counts.{HasCause};
+ghost use Rattle.cbdc_model.specs.Records.{is_won};
+ghost use Rattle.line_text.specs.Lines.{Prints};
+ghost use Rattle.printed_lines.specs.Runs.{decided_line, report_line};
+ghost use Rattle.commands.specs.Told.{kept_at, told_of, told_line, told_file, told_files, told_count, told_total, one_if, batches_in, batches_told, Counted, AreCounts, IsCountable, AreNumbers, ran_text};
 
 use audit::Totals;
-use cbdc_types::Outcome;
+use cbdc_types::{BatchId, Hash, Outcome};
 use file_runs::Wave;
 use ledger_runs::Decided;
 use line_text::{
@@ -11,6 +15,7 @@ use line_text::{
     write_summary,
 };
 use outside::Sink;
+use printed_lines::Report;
 use rack_runs::Ran;
 use submissions::{Checked, Judgement};
 
@@ -22,61 +27,148 @@ struct Counts {
     refused: u64,
 }
 
-// What was decided of a submission that was not refused.
-fn decided_of(wave: &Wave, one: &Checked) -> Option<Decided> {
+// What a lane keeps at a place.
+fn kept_at(wave: &Wave, lane: usize, place: usize) -> Option<Decided>
+    ensures { result ≡ kept_at (slice_get wave.now.lanes.items lane) place }
+{
+    match wave.lanes.get(lane) {
+        Some(lane) => lane.decided.get(place).copied(),
+        None => None,
+    }
+}
+
+// What came of a submission.
+fn report_of(wave: &Wave, one: &Checked) -> Option<Report>
+    ensures { result ≡ told_of wave.now.lanes.items one.now.judgement }
+{
     match one.judgement {
-        Judgement::Sound { lane, place } => { wave.lanes.get(lane)?.decided.get(place).copied() }
-        Judgement::Refused(_) => None,
+        Judgement::Refused(why) => Some(Report::Refused(why)),
+        Judgement::Sound { lane, place } => match kept_at(wave, lane, place) {
+            Some(Decided { batch, outcome }) => Some(Report::Decided(batch, outcome)),
+            None => None,
+        },
     }
 }
 
 // How many batches were prepared.
-fn batches_of(wave: &Wave) -> u64 {
+fn batches_of(wave: &Wave) -> u64
+    ensures { Counted result (batches_in wave.now.lanes.items) }
+{
     let mut batches = 0u64;
-    for lane in &wave.lanes {
+    'lanes: for lane in &wave.lanes {
         batches = batches.saturating_add(lane.batches);
     }
     batches
 }
 
 impl Counts {
-    // Counts a submission.
-    fn count_one(&mut self, wave: &Wave, one: &Checked) {
-        match decided_of(wave, one) {
-            Some(
-                Decided {
-                    outcome: Outcome::Held,
-                    ..
-                },
-            ) => self.confirmed = self.confirmed.saturating_add(1),
-            Some(_) => self.rejected = self.rejected.saturating_add(1),
-            None => self.refused = self.refused.saturating_add(1),
+    // Of no submission.
+    fn none() -> Counts
+        ensures confirmed { result.confirmed ≡ 0 }
+        ensures rejected { result.rejected ≡ 0 }
+        ensures refused { result.refused ≡ 0 }
+    {
+        Counts {
+            confirmed: 0,
+            rejected: 0,
+            refused: 0,
         }
     }
 
-    // Counts the submissions of a file.
-    fn count(&mut self, wave: &Wave) {
-        for one in &wave.checked {
-            self.count_one(wave, one);
+    // Of a submission that has this outcome.
+    fn decided(outcome: &Outcome) -> Counts
+        ensures confirmed { result.confirmed ≡ (if is_won outcome.now then 1 else 0) }
+        ensures rejected { result.rejected ≡ (if not (is_won outcome.now) then 1 else 0) }
+        ensures refused { result.refused ≡ 0 }
+    {
+        let mut counts = Counts::none();
+        match outcome {
+            Outcome::Held => counts.confirmed = 1,
+            Outcome::Missing(_, _) => counts.rejected = 1,
+            Outcome::Locked(_, _, _) => counts.rejected = 1,
         }
+        counts
+    }
+
+    // Of a submission of which this came.
+    fn reported(report: &Report) -> Counts
+        ensures { AreCounts result (λ test. one_if test (Some report.now)) }
+    {
+        match report {
+            Report::Refused(_) => Counts {
+                confirmed: 0,
+                rejected: 0,
+                refused: 1,
+            },
+            Report::Decided(_, outcome) => Counts::decided(outcome),
+        }
+    }
+
+    // Of one submission.
+    fn one(report: &Option<Report>) -> Counts
+        ensures { AreCounts result (λ test. one_if test report.now) }
+    {
+        match report {
+            Some(report) => Counts::reported(report),
+            None => Counts::none(),
+        }
+    }
+
+    // Of more submissions.
+    fn more(self, other: Counts) -> Counts
+        ensures confirmed { result.confirmed ≡ min (self.confirmed + other.confirmed) 18446744073709551615 }
+        ensures rejected { result.rejected ≡ min (self.rejected + other.rejected) 18446744073709551615 }
+        ensures refused { result.refused ≡ min (self.refused + other.refused) 18446744073709551615 }
+    {
+        Counts {
+            confirmed: self.confirmed.saturating_add(other.confirmed),
+            rejected: self.rejected.saturating_add(other.rejected),
+            refused: self.refused.saturating_add(other.refused),
+        }
+    }
+
+    // Of the submissions of a file.
+    fn of(wave: &Wave) -> Counts
+        ensures { AreCounts result (λ test. told_count test wave.now.lanes.items wave.now.checked.items) }
+    {
+        let mut counts = Counts::none();
+        'ones: for one in &wave.checked {
+            counts = counts.more(Counts::one(&report_of(wave, one)));
+        }
+        counts
+    }
+
+    // Of the submissions of all files.
+    fn of_all(waves: &[Wave]) -> Counts
+        ensures { AreCounts result (λ test. told_total test waves.now) }
+    {
+        let mut counts = Counts::none();
+        'waves: for wave in waves {
+            counts = counts.more(Counts::of(wave));
+        }
+        counts
     }
 }
 
-// The numbers that end the text.
-fn summary_of(ran: &Ran) -> Summary {
+// How many batches were prepared for all files.
+fn all_batches(waves: &[Wave]) -> u64
+    ensures { Counted result (batches_told waves.now) }
+{
     let mut batches = 0u64;
-    let mut counts = Counts {
-        confirmed: 0,
-        rejected: 0,
-        refused: 0,
-    };
-    for wave in &ran.waves {
+    'waves: for wave in waves {
         batches = batches.saturating_add(batches_of(wave));
-        counts.count(wave);
     }
+    batches
+}
+
+// The numbers that end the text.
+fn summary_of(ran: &Ran) -> Summary
+    ensures { IsCountable ran.now → AreNumbers ran.now result }
+{
+    let counts = Counts::of_all(&ran.waves);
     Summary {
         resumed: ran.resumed.len() as u64,
-        batches,
+        batches: all_batches(&ran.waves),
         confirmed: counts.confirmed,
         rejected: counts.rejected,
         refused: counts.refused,
@@ -84,49 +176,75 @@ fn summary_of(ran: &Ran) -> Summary {
     }
 }
 
+// Writes the line of a submission that was decided.
+fn write_decided<O: Sink>(
+    out: &mut O,
+    file: u64,
+    place: u64,
+    id: &Hash,
+    batch: BatchId,
+    outcome: Outcome,
+) -> Result<(), WriteFault>
+    ensures prints { Prints (O.taken out.old) (O.taken out.new) (decided_line file place id.now batch outcome) result }
+    ensures cause { HasCause (O.count out.old) (O.count out.new) result }
+{
+    match outcome {
+        Outcome::Held => write_confirmed(out, file, place, id, batch),
+        Outcome::Missing(_, _) => write_rejected(out, file, place, id, &outcome, batch),
+        Outcome::Locked(_, _, _) => write_rejected(out, file, place, id, &outcome, batch),
+    }
+}
+
 // Writes the line of one submission.
 fn write_one<O: Sink>(
     out: &mut O,
-    wave: &Wave,
     file: u64,
     place: u64,
-    one: &Checked,
+    id: &Hash,
+    report: Option<Report>,
 ) -> Result<(), WriteFault>
+    ensures prints { Prints (O.taken out.old) (O.taken out.new) (told_line file place id.now report) result }
     ensures cause { HasCause (O.count out.old) (O.count out.new) result }
 {
-    if let Judgement::Refused(why) = &one.judgement {
-        return write_refused(out, file, place, &one.id, why);
-    }
-    let Some(decided) = decided_of(wave, one) else {
-        return Ok(());
-    };
-    match decided.outcome {
-        Outcome::Held => write_confirmed(out, file, place, &one.id, decided.batch),
-        outcome => write_rejected(out, file, place, &one.id, &outcome, decided.batch),
+    match report {
+        Some(Report::Refused(why)) => write_refused(out, file, place, id, &why),
+        Some(Report::Decided(batch, outcome)) => write_decided(out, file, place, id, batch, outcome),
+        None => Ok(()),
     }
 }
 
 // Writes the lines of a file's submissions.
 fn write_wave<O: Sink>(out: &mut O, wave: &Wave, file: u64) -> Result<(), WriteFault>
+    ensures prints { Prints (O.taken out.old) (O.taken out.new) (told_file file 0 wave.now.lanes.items wave.now.checked.items) result }
     ensures cause { HasCause (O.count out.old) (O.count out.new) result }
 {
     let mut place = 0u64;
     'lines: for one in &wave.checked {
-        write_one(out, wave, file, place, one)?;
+        write_one(out, file, place, &one.id, report_of(wave, one))?;
         place = place.saturating_add(1);
+    }
+    Ok(())
+}
+
+// Writes the lines of all files' submissions.
+fn write_waves<O: Sink>(out: &mut O, waves: &[Wave]) -> Result<(), WriteFault>
+    ensures prints { Prints (O.taken out.old) (O.taken out.new) (told_files 1 waves.now) result }
+    ensures cause { HasCause (O.count out.old) (O.count out.new) result }
+{
+    let mut file = 1u64;
+    'waves: for wave in waves {
+        write_wave(out, wave, file)?;
+        file = file.saturating_add(1);
     }
     Ok(())
 }
 
 /// Writes a line for each submission, in order of file and place, and the summary.
 pub(crate) fn write_report<O: Sink>(out: &mut O, ran: &Ran) -> Result<(), WriteFault>
+    ensures prints { IsCountable ran.now → Prints (O.taken out.old) (O.taken out.new) (ran_text ran.now) result }
     ensures cause { HasCause (O.count out.old) (O.count out.new) result }
 {
-    let mut file = 1u64;
-    'waves: for wave in &ran.waves {
-        write_wave(out, wave, file)?;
-        file = file.saturating_add(1);
-    }
+    write_waves(out, &ran.waves)?;
     write_summary(out, &summary_of(ran))
 }
 

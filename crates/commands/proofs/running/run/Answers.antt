@@ -2,6 +2,9 @@ use Rattle.std.proofs.Common.{◌≡◌, ◌⊎◌}
 use Rattle.outside.specs.Counts.{Rose}
 use Rattle.commands.specs.Causes.{OnePlace, OneRose, FileRose}
 use Rattle.commands.specs.Outcomes.{WhyNoRun}
+use Rattle.cbdc_types.specs.declared.answer.Answer.TheVariants as answers
+use Rattle.commands.specs.Texts.{IsPrinted}
+use Rattle.commands.proofs.Printed.{did_run}
 use Rattle.commands.proofs.Answers.{told, fault_done}
 use Rattle.commands.proofs.Faults.{silent_same}
 use Rattle.commands.proofs.running.run.Goals as goal
@@ -18,3 +21,13 @@ returns-in-Err-clause-cause g c =
 
 pub returns-in-Err-clause-silent : goal.returns-in-Err-clause-silent
 returns-in-Err-clause-silent g c = silent_same (g.O.Sink.taken c.args.out.now) c.in-Err.fault
+
+pub returns-in-Ok-write_report-clause-did : goal.returns-in-Ok-write_report-clause-did
+returns-in-Ok-write_report-clause-did g c well =
+    did_run (g.I.Inbox.file c.args.inbox.now) g.R.Disk.Disk.content g.R.Disk.Disk.images (g.R.Rack.held c.args.rack.now) (g.R.Rack.held c.run_all.new.rack) (IsPrinted (g.O.Sink.taken c.args.out.now) (g.O.Sink.taken c.write_report.new.out) answers.Ok)
+    c.args.verdicts.now c.args.clients.now c.in-Ok.ran c.in-Ok.ensures.did c.in-Ok-write_report.ensures.prints
+
+pub returns-clause-did : goal.returns-clause-did
+returns-clause-did g c well =
+    did_run (g.I.Inbox.file c.args.inbox.now) g.R.Disk.Disk.content g.R.Disk.Disk.images (g.R.Rack.held c.args.rack.now) (g.R.Rack.held c.run_all.new.rack) (IsPrinted (g.O.Sink.taken c.args.out.now) (g.O.Sink.taken c.write_report.new.out) answers.WriteFault)
+    c.args.verdicts.now c.args.clients.now c.in-Ok.ran c.in-Ok.ensures.did c.in-Err-write_report.ensures.prints

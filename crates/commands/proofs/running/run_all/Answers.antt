@@ -1,7 +1,7 @@
 use Rattle.commands.proofs.Untouched.{not_turned}
-use Rattle.std.proofs.Common.{inl, inr, sym, subst}
-use Rattle.input_files.specs.Contents.{AreRead, AreVerdicts, IsNoVerdicts}
-use Rattle.rack_runs.proofs.Lent.{on_ok_by, if_err_by}
+use Rattle.std.proofs.Common.{◌≤◌, inl, inr, sym, subst}
+use Rattle.input_files.specs.Contents.{AreRead, AreVerdicts, IsNoVerdicts, all_txs}
+use Rattle.rack_runs.proofs.Lent.{if_ok_all, if_err_by}
 use Rattle.commands.proofs.Answers.{first_fault, no_verdicts_later}
 use Rattle.commands.proofs.running.run_all.Goals as goal
 
@@ -11,15 +11,16 @@ returns-in-Err-clause-fault g c =
 
 pub returns-clause-did : goal.returns-clause-did
 returns-clause-did g c =
-    on_ok_by c.run_on.result
-    (λ shown. record {
+    if_ok_all _ _ _ c.run_on.result c.run_on.ensures.told c.run_on.ensures.told c.run_on.ensures.ran
+    (λ ran tells again shown. record {
       handed = c.deref.result.now;
       known = c.in-Ok-verdicts_in.verdicts;
+      few = subst (λ txs. all_txs txs ≤ 1000000) (sym c.deref.ensures.value) c.in-Ok.ensures.few;
       read = subst (λ txs. AreRead (g.I.Inbox.file c.args.inbox.now) 0 c.args.clients.now txs) (sym c.deref.ensures.value) c.in-Ok.ensures.read;
       verdicts_read = subst (λ t. AreVerdicts t c.in-Ok-verdicts_in.verdicts) (c.in-Ok.ensures.same c.args.verdicts.now.name.now) c.in-Ok-verdicts_in.ensures.read;
-      ran = shown;
+      was = shown;
+      tells = tells;
     })
-    c.run_on.ensures.ran
 
 pub returns-in-Err-clause-why : goal.returns-in-Err-clause-why
 returns-in-Err-clause-why g c = inl c.in-Err.ensures.fault
