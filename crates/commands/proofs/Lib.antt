@@ -10,5 +10,6 @@ pub mod Making
 pub mod Faults
 pub mod Untouched
 pub mod Audits
-pub mod Sizes
 pub mod Workloads
+pub mod Parts
+pub mod Recovered

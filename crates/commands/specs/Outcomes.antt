@@ -17,11 +17,12 @@ use Rattle.verifier_port.specs.Files.{told}
 use Rattle.verifier_port.specs.declared.file.VerdictFile.{VerdictFile}
 use Rattle.ledger_init.specs.Made.{MayBeMade, HoldsFirst, first_of, node_count, IsUnmade}
 use Rattle.printed_lines.specs.Reports.{init_lines, status_lines}
+use Rattle.printed_lines.specs.Recoveries.{IsRecoverText}
 use Rattle.rack_nodes.specs.Racked.{OfTold, IsBack}
 use Rattle.rack_nodes.specs.Refused.{IsNodeJournal}
 use Rattle.rack_ledgers.specs.Ledgers.{IsUnopened}
 use Rattle.caused_ledgers.specs.Caused.{IsUnresumed}
-use Rattle.rack_laws.specs.Shown.{OfShown}
+use Rattle.rack_laws.specs.Shown.{OfShown, HoldsEach}
 use Rattle.rack_runs.specs.Kinds.{IsLaneAnswer}
 use Rattle.rack_runs.specs.Runs.{IsRun, IsRecovered, IsCutShort}
 use Rattle.commands.specs.Audits.{DidAudit, WhyNoAudit}
@@ -54,6 +55,11 @@ pub record DidRun {D : Type 0} (files : Text → Option (List ℕ)) (content : D
 abbrev pub DidRecover : {D : Type 0} → (D → Option (List ℕ)) → (D → List ℕ → Type 0) → (ℕ → Option D) → (ℕ → Option D) → Type 0
 DidRecover content images before now = OfShown content before (IsRecovered images now)
 
+-- of the kept ledger that the disks told, this was printed: the lines of a recovery from its journals to those that the disks hold now
+abbrev pub PrintsRecovery : {D : Type 0} → (D → Option (List ℕ)) → (D → List ℕ → Type 0) → (ℕ → Option D) → (ℕ → Option D) → (Text → Type 0) → Type 0
+PrintsRecovery content images before now printed =
+    OfShown content before (λ K mint submissions E. (X : ℕ → List Record) × HoldsEach images now K X × ((text : Text) × IsRecoverText K E X text × printed text))
+
 -- what the disks told opened to journals of all nodes of a ledger, the disks are back as they were read, and a line was printed for each hash, in
 -- order, with its status in the journal of the shard that holds it
 pub record DidStatus {D : Type 0} (content : D → Option (List ℕ)) (images : D → List ℕ → Type 0) (limit : D → ℕ) (before now : ℕ → Option D) (printed : Text → Type 0) (hashes : List Digest) : Type 0 where
@@ -65,11 +71,11 @@ pub record DidStatus {D : Type 0} (content : D → Option (List ℕ)) (images : 
   pub back : (n : ℕ) → IsBack images limit (before n) (now n)
   pub prints : printed (status_lines shape journals hashes)
 
--- what was asked for was done, and this was printed; of a run, a recovery and a workload the text is not told
+-- what was asked for was done, and this was printed; of a run and a workload the text is not told
 abbrev pub Did : {D : Type 0} → (Text → Option (List ℕ)) → (D → Option (List ℕ)) → (D → List ℕ → Type 0) → (D → ℕ) → (ℕ → Option D) → (ℕ → Option D) → (Text → Type 0) → Request → Type 0
 Did files content images limit before now printed (Init shape mint) = DidInit files content images before now printed shape mint
 Did files content images limit before now printed (Run verdicts clients) = DidRun files content images before now verdicts clients.items
-Did files content images limit before now printed Recover = DidRecover content images before now
+Did files content images limit before now printed Recover = DidRecover content images before now × PrintsRecovery content images before now printed
 Did files content images limit before now printed (Status hashes) = DidStatus content images limit before now printed hashes.items
 Did files content images limit before now printed (Audit mint clients) = DidAudit files content images limit before now printed mint clients.items
 Did files content images limit before now printed (Gen shape seed size) = (n : ℕ) → now n ≡ before n

@@ -7,7 +7,9 @@ use Rattle.cbdc_model.specs.Records.{Digest, Shape, Record}
 use Rattle.cbdc_model.specs.Ranges.{shard_of}
 use Rattle.cbdc_model.specs.Status.{Status, status}
 use Rattle.line_text.specs.Lines.{Text}
-use Rattle.line_text.specs.Reports.{status_line}
+use Rattle.line_text.specs.Reports.{status_line, resumed_line}
+use Rattle.recovery.specs.declared.resumed.ResumedBatch.{ResumedBatch}
+use Rattle.printed_lines.specs.Recoveries.{won_in, lost_in}
 use Rattle.printed_lines.specs.Reports.{name_in, IsFaultLine}
 use Rattle.coord_log.specs.Logs.{LogOf}
 use Rattle.shard_node.specs.Shards.{ShardOf}
@@ -57,3 +59,11 @@ status_among shards x = status (journal_there (λ s. s.journal) shards (shard_of
 abbrev pub journals_at : {D : Type 0} → Shape → List (LogOf D) → List (ShardOf D) → ℕ → List Record
 journals_at K logs shards n =
     if nat_lt n K.coordinators then journal_there (λ l. l.journal) logs n else journal_there (λ s. s.journal) shards (n - K.coordinators)
+
+-- the line of a resumed batch, and those of some
+abbrev pub batch_text : ResumedBatch → Text
+batch_text r = resumed_line r.batch r.phase (won_in r.outcomes) (lost_in r.outcomes)
+
+abbrev pub batch_texts : List ResumedBatch → Text
+batch_texts [] = []
+batch_texts (r ∷ rs) = batch_text r ++ batch_texts rs

@@ -1,9 +1,12 @@
 // `recover`: open batches are taken to their end.
-ghost use Rattle.std.specs.Prelude.{◌≡◌, ◌≤◌, ℕ, []};
+ghost use Rattle.std.specs.Prelude.{◌≡◌, ◌≤◌, ◌++◌, ℕ, [], ◌∷◌, length};
+ghost use Rattle.line_text.specs.Lines.{Prints};
+ghost use Rattle.line_text.specs.Reports.{recovery_text};
+ghost use Rattle.printed_lines.specs.Recoveries.{won_in};
 ghost use Rattle.outside.specs.Counts.{Rose, HasCause};
 ghost use Rattle.commands.specs.Causes.{IsDone, IsTold, IsWell};
-ghost use Rattle.commands.specs.Outcomes.{DidRecover, WhyNoTurns};
-ghost use Rattle.commands.specs.Texts.{IsSilent};
+ghost use Rattle.commands.specs.Outcomes.{DidRecover, PrintsRecovery, WhyNoTurns};
+ghost use Rattle.commands.specs.Texts.{IsPrinted, IsSilent, batch_text, batch_texts};
 ghost use Rattle.commands.specs.Left.{IsBeforeDisks};
 
 use cbdc_types::{Answer, Outcome};
@@ -14,19 +17,31 @@ use recovery::ResumedBatch;
 use std::alloc::Global;
 use std::sync::Wait;
 
+// 1 for an outcome that confirms its transaction.
+fn one_if_held(outcome: &Outcome) -> u64
+    ensures { result ≡ won_in (outcome.now ∷ []) }
+{
+    match outcome {
+        Outcome::Held => 1,
+        Outcome::Missing(_, _) => 0,
+        Outcome::Locked(_, _, _) => 0,
+    }
+}
+
 // How many of the outcomes confirm their transactions.
-fn confirmed_of(outcomes: &[Outcome]) -> u64 {
+fn confirmed_of(outcomes: &[Outcome]) -> u64
+    ensures { result ≡ won_in outcomes.now }
+{
     let mut confirmed = 0u64;
-    for outcome in outcomes {
-        if *outcome == Outcome::Held {
-            confirmed = confirmed.saturating_add(1);
-        }
+    'outcomes: for outcome in outcomes {
+        confirmed = confirmed.saturating_add(one_if_held(outcome));
     }
     confirmed
 }
 
 // Writes the line of a resumed batch.
 fn write_batch<O: Sink>(out: &mut O, resumed: &ResumedBatch) -> Result<(), WriteFault>
+    ensures prints { Prints (O.taken out.old) (O.taken out.new) (batch_text resumed.now) result }
     ensures cause { HasCause (O.count out.old) (O.count out.new) result }
 {
     let outcomes = resumed.outcomes.as_slice();
@@ -37,6 +52,8 @@ fn write_batch<O: Sink>(out: &mut O, resumed: &ResumedBatch) -> Result<(), Write
 
 // Writes the line of each resumed batch, and the numbers behind them.
 fn write_recovered<O: Sink>(out: &mut O, recovered: &Ran) -> Result<(), WriteFault>
+    ensures prints { Prints (O.taken out.old) (O.taken out.new)
+        (batch_texts recovered.now.resumed.items ++ recovery_text (length recovered.now.resumed.items) recovered.now.unspent) result }
     ensures cause { HasCause (O.count out.old) (O.count out.new) result }
 {
     'batches: for resumed in &recovered.resumed {
@@ -57,6 +74,7 @@ pub(crate) fn recover<W: Wait, R: Rack, O: Sink, G: Gate>(
     requires { (n : ℕ) → R.can_take rack.old n }
     ensures cause { IsDone (λ file. ⊥) (λ file. ⊥) (Rose (O.count out.old) (O.count out.new)) result }
     ensures did { IsWell result → DidRecover R.Disk.content R.Disk.images (R.held rack.old) (R.held rack.new) }
+    ensures prints { IsWell result → PrintsRecovery R.Disk.content R.Disk.images (R.held rack.old) (R.held rack.new) (IsPrinted (O.taken out.old) (O.taken out.new) result) }
     ensures why { IsTold (WhyNoTurns R.Disk.content R.Disk.images R.Disk.limit R.Disk.count (R.held rack.old) (R.held rack.new) (R.count rack.old) (R.count rack.new) []) result }
     ensures silent { IsSilent (O.taken out.old) (O.taken out.new) result }
     ensures written_later { O.count out.old ≤ O.count out.new }

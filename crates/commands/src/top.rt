@@ -160,7 +160,7 @@ pub fn process<W: Wait, I: Inbox, R: Rack, O: Sink, G: Gate>(
     // What the words ask for was done, whether its lines could be written or not: a ledger was made, files were run over one, its open
     // batches were brought to their end, hashes were looked up, or its journals were audited and are sound. Whatever a crash leaves of a
     // disk then opens to exactly its node's journal, and where no two outputs share a hash, the headline holds of the journals at exit. The
-    // lines of `init`, `status` and `audit` are those of the mint and of the journals at entry, or at WriteFault a front.
+    // lines of `init`, `status`, `recover` and `audit` are those of the mint and of the journals (of `recover` at exit too), or at WriteFault a front.
     ensures did { IsWell result.status → (r : Asked) × IsAsked (texts words.now) r × Did (I.file inbox.old) R.Disk.content R.Disk.images R.Disk.limit (R.held rack) (R.held result.rack) (IsPrinted (O.taken out.old) (O.taken out.new) result.status) r }
 
     // Else the line of the fault is printed and nothing else, or a front of it where the sink's count rose.

@@ -1,6 +1,9 @@
 use Rattle.commands.proofs.Untouched.{not_turned}
 use Rattle.std.proofs.Common.{[]}
 use Rattle.commands.specs.Outcomes.{WhyNoTurns}
+use Rattle.cbdc_types.specs.declared.answer.Answer.TheVariants as answers
+use Rattle.commands.specs.Texts.{IsPrinted}
+use Rattle.commands.proofs.Recovered.{prints_recovery}
 use Rattle.commands.proofs.Answers.{told}
 use Rattle.commands.proofs.Faults.{silent_same}
 use Rattle.commands.proofs.recovering.recover.Goals as goal
@@ -14,3 +17,13 @@ returns-in-Err-clause-silent g c = silent_same (g.O.Sink.taken c.args.out.now) c
 pub returns-in-Err-clause-untouched : goal.returns-in-Err-clause-untouched
 returns-in-Err-clause-untouched g c before =
     absurd (not_turned g.R.Disk.Disk.content g.R.Disk.Disk.images g.R.Disk.Disk.limit g.R.Disk.Disk.count (g.R.Rack.held c.args.rack.now) (g.R.Rack.held c.recover_on.new.rack) (g.R.Rack.count c.args.rack.now) (g.R.Rack.count c.recover_on.new.rack) [] c.in-Err.fault c.in-Err.ensures.stopped before)
+
+pub returns-in-Ok-write_recovered-clause-prints : goal.returns-in-Ok-write_recovered-clause-prints
+returns-in-Ok-write_recovered-clause-prints g c well =
+    prints_recovery g.R.Disk.Disk.content g.R.Disk.Disk.images (g.R.Rack.held c.args.rack.now) (g.R.Rack.held c.recover_on.new.rack) (IsPrinted (g.O.Sink.taken c.args.out.now) (g.O.Sink.taken c.write_recovered.new.out) answers.Ok)
+    c.in-Ok.recovered c.in-Ok.ensures.told c.in-Ok-write_recovered.ensures.prints
+
+pub returns-clause-prints : goal.returns-clause-prints
+returns-clause-prints g c well =
+    prints_recovery g.R.Disk.Disk.content g.R.Disk.Disk.images (g.R.Rack.held c.args.rack.now) (g.R.Rack.held c.recover_on.new.rack) (IsPrinted (g.O.Sink.taken c.args.out.now) (g.O.Sink.taken c.write_recovered.new.out) answers.WriteFault)
+    c.in-Ok.recovered c.in-Ok.ensures.told c.in-Err-write_recovered.ensures.prints

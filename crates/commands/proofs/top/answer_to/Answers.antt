@@ -2,7 +2,8 @@ use Rattle.std.proofs.Common.{sym, subst}
 use Rattle.command_line.specs.declared.request.Request.TheVariants.{Audit}
 use Rattle.commands.specs.Audits.{WhyNoAudit}
 use Rattle.commands.specs.Causes.{IsTold}
-use Rattle.commands.specs.Outcomes.{Why}
+use Rattle.commands.specs.Outcomes.{Did, Why}
+use Rattle.commands.specs.Texts.{IsPrinted}
 use Rattle.commands.proofs.Answers.{well_told, told_by}
 use Rattle.commands.proofs.top.answer_to.Goals as goal
 
@@ -17,3 +18,8 @@ returns-in-Audit-clause-why g c =
     let There = WhyNoAudit (g.I.Inbox.file c.args.inbox.now) (g.I.Inbox.count c.args.inbox.now) (g.I.Inbox.count c.audit.new.inbox) g.R.Disk.Disk.content g.R.Disk.Disk.images g.R.Disk.Disk.limit g.R.Disk.Disk.count (g.R.Rack.held c.args.rack.now) (g.R.Rack.held c.audit.new.rack) (g.R.Rack.count c.args.rack.now) (g.R.Rack.count c.audit.new.rack) c.in-Audit.mint in
     subst (λ r. IsTold (Here r) c.audit.result) (sym c.in-Audit.is)
     (told_by (There c.in-Audit.clients.items) (Here (Audit c.in-Audit.mint c.in-Audit.clients)) c.audit.result (λ b why. why) (subst (λ files. IsTold (There files) c.audit.result) c.deref-in-Audit.ensures.value c.audit.ensures.why))
+
+pub returns-in-Recover-clause-did : goal.returns-in-Recover-clause-did
+returns-in-Recover-clause-did g c well =
+    subst (λ r. Did (g.I.Inbox.file c.args.inbox.now) g.R.Disk.Disk.content g.R.Disk.Disk.images g.R.Disk.Disk.limit (g.R.Rack.held c.args.rack.now) (g.R.Rack.held c.recover.new.rack) (IsPrinted (g.O.Sink.taken c.args.out.now) (g.O.Sink.taken c.recover.new.out) c.recover.result) r)
+    (sym c.in-Recover.is) (c.recover.ensures.did well, c.recover.ensures.prints well)
