@@ -39,8 +39,7 @@ module _ (K : Shape) (sent : ℕ → List Compact) (I J : ℕ → List Record) (
   none_from : (n : ℕ) (front d : List Record) → J n ≡ front ++ (d ++ I n) → NoneOf c d
   none_from n front [] e = tt
   none_from n front (r ∷ d) e =
-      let k = run.adds.each n front (d ++ I n) r e (d, refl) in
-      (
+      let k = run.adds.each n front (d ++ I n) r e (d, refl) in (
         λ t. true_false (has_prepare K I c) old (subst (λ b. has_prepare K I b ≡ false) (one_batch k.0 c r k.1 t) k.2.0),
         none_from n (front ++ r ∷ []) d (e ∙ sym (append_assoc front (r ∷ []) (d ++ I n))),
       )
@@ -187,8 +186,7 @@ module _ (K : Shape) (verdicts : VerdictsOf) (sound : FullTx → Bool) (tells : 
         ∙ ap (λ T. place_of T (sent_of (take k files) lane + q)) sizes
         ∙ ap (λ n. place_of (sized_onto lane old.more [] ++ (S ++ sized_onto lane late.more [])) (n + q)) (sym old.total_is)
         ∙ place_behind (sized_onto lane old.more []) (S ++ sized_onto lane late.more []) q
-        ∙ place_first S (sized_onto lane late.more []) q (let t = own.total_is in omega (arith, low, t)) in
-        (
+        ∙ place_first S (sized_onto lane late.more []) q (let t = own.total_is in omega (arith, low, t)) in (
           ap (there_decided (X (home_of K lane))) place
               ∙ sym (decided_there (X (home_of K lane)) S q (are_decided_as (a.end (home_of K lane)) (X (home_of K lane)) S stay keeps.each)) ∙ ap (λ l. slice_get l q) (sym decided),
           ap length keeps.decided ∙ decided_total (a.end (home_of K lane)) S keeps.each ∙ own.total_is,

@@ -62,27 +62,32 @@ module _ (K : Shape) (verdicts : VerdictsOf) (files : List (List FullTx)) (few :
   run_text sound tells =
       let ws = ran.waves.items in
       let r = all_reported K verdicts sound tells some_lane E told.middle X told.grows told.unprepared files ws told.told in
-      let resumed = count_below K E told.middle (K.coordinators * K.lanes) ran.resumed.items told.batches in
-      (r.0, (
-        r.1,
-        ap (λ l. l ++ summary_text (length ran.resumed.items) (batches_told ws) (told_total is_confirmed ws) (told_total is_rejected ws) (told_total is_refused ws) ran.unspent) r.2
-            ∙ ap (λ n. files_lines 1 files r.0 ++ summary_text n (batches_told ws) (told_total is_confirmed ws) (told_total is_rejected ws) (told_total is_refused ws) ran.unspent) resumed
-            ∙ ap (λ n. files_lines 1 files r.0 ++ summary_text (resumed_count K E) n (told_total is_confirmed ws) (told_total is_rejected ws) (told_total is_refused ws) ran.unspent) (batches sound tells).0
-            ∙ ap (λ n. files_lines 1 files r.0 ++ summary_text (resumed_count K E) (new_batches K E X) n (told_total is_rejected ws) (told_total is_refused ws) ran.unspent) (sym (r.3 is_confirmed))
-            ∙ ap (λ n. files_lines 1 files r.0 ++ summary_text (resumed_count K E) (new_batches K E X) (count_in is_confirmed r.0) n (told_total is_refused ws) ran.unspent) (sym (r.3 is_rejected))
-            ∙ ap (λ n. files_lines 1 files r.0 ++ summary_text (resumed_count K E) (new_batches K E X) (count_in is_confirmed r.0) (count_in is_rejected r.0) n ran.unspent) (sym (r.3 is_refused)),
-      ))
+      let resumed = count_below K E told.middle (K.coordinators * K.lanes) ran.resumed.items told.batches in (
+        r.0,
+        (
+          r.1,
+          ap (λ l. l ++ summary_text (length ran.resumed.items) (batches_told ws) (told_total is_confirmed ws) (told_total is_rejected ws) (told_total is_refused ws) ran.unspent) r.2
+              ∙ ap (λ n. files_lines 1 files r.0 ++ summary_text n (batches_told ws) (told_total is_confirmed ws) (told_total is_rejected ws) (told_total is_refused ws) ran.unspent) resumed
+              ∙ ap (λ n. files_lines 1 files r.0 ++ summary_text (resumed_count K E) n (told_total is_confirmed ws) (told_total is_rejected ws) (told_total is_refused ws) ran.unspent) (batches sound tells).0
+              ∙ ap (λ n. files_lines 1 files r.0 ++ summary_text (resumed_count K E) (new_batches K E X) n (told_total is_rejected ws) (told_total is_refused ws) ran.unspent) (sym (r.3 is_confirmed))
+              ∙ ap (λ n. files_lines 1 files r.0 ++ summary_text (resumed_count K E) (new_batches K E X) (count_in is_confirmed r.0) n (told_total is_refused ws) ran.unspent) (sym (r.3 is_rejected))
+              ∙ ap (λ n. files_lines 1 files r.0 ++ summary_text (resumed_count K E) (new_batches K E X) (count_in is_confirmed r.0) (count_in is_rejected r.0) n ran.unspent) (sym (r.3 is_refused)),
+        ),
+      )
 
 pub prints_run : {D : Type 0} (content : D → Option (List ℕ)) (images : D → List ℕ → Type 0) (before now : ℕ → Option D) (printed : Text → Type 0) (verdicts : VerdictsOf) (files : List (List FullTx)) (ran : Ran) → all_txs files ≤ 1000000
     → OfShown content before (IsTold images now verdicts files ran) → (IsCountable ran → printed (ran_text ran)) → PrintsRun content images before now printed verdicts files
 prints_run content images before now printed verdicts files ran few shown is K mint submissions E within shows kept =
     let told = shown K mint submissions E within shows kept in
-    let tests = is_sound_law verdicts in
-    (told.exit, told.disks, (
-      ran_text ran,
-      (λ sound tells. (let t = run_text K verdicts files few within E told.exit ran told.tells sound tells in record { all = t.0; are = t.1.0; unspent = ran.unspent; counted = told.unspent; text_is = t.1.1 })),
-      is (countable K verdicts files few within E told.exit ran told.tells (sound_by verdicts) tests),
-    ))
+    let tests = is_sound_law verdicts in (
+      told.exit,
+      told.disks,
+      (
+        ran_text ran,
+        (λ sound tells. (let t = run_text K verdicts files few within E told.exit ran told.tells sound tells in record { all = t.0; are = t.1.0; unspent = ran.unspent; counted = told.unspent; text_is = t.1.1 })),
+        is (countable K verdicts files few within E told.exit ran told.tells (sound_by verdicts) tests),
+      ),
+    )
 
 pub did_run : {D : Type 0} (inbox : Text → Option (List ℕ)) (content : D → Option (List ℕ)) (images : D → List ℕ → Type 0) (before now : ℕ → Option D) (printed : Text → Type 0) (verdicts : FileWord) (clients : List FileWord) (ran : Ran)
     → WasRun inbox content images before now verdicts clients ran → (IsCountable ran → printed (ran_text ran)) → DidRun inbox content images before now printed verdicts clients

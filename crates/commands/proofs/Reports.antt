@@ -126,8 +126,7 @@ module _ (K : Shape) (verdicts : VerdictsOf) (sound : FullTx → Bool) (tells : 
         ap (λ n. n + place) (sym (sent_is (take k files) lane)) ∙ ap (λ n. sent_before K sound (take k files) lane + n) place_is
         ∙ ap (λ l. sent_before K sound (take k files) l + length (sent_to K sound (take j file) l)) lane_is in
         let decided : decided_at K E X (lane_at K j) (turn K sound (take k files) file j) ≡ Some (d.0.batch, d.0.outcome) =
-        ap (λ l. decided_at K E X l (turn K sound (take k files) file j)) (sym lane_is) ∙ ap (decided_at K E X lane) (sym turn_is) ∙ d_is.0 ∙ kept in
-        (
+        ap (λ l. decided_at K E X l (turn K sound (take k files) file j)) (sym lane_is) ∙ ap (decided_at K E X lane) (sym turn_is) ∙ d_is.0 ∙ kept in (
           reports.Decided d.0.batch d.0.outcome,
           ap (λ o. option_map (λ v. reports.Decided v.batch v.outcome) (kept_at o place)) x.1 ∙ ap (option_map (λ v. reports.Decided v.batch v.outcome)) d.1,
           (said.0, decided),
@@ -239,8 +238,12 @@ module _ (K : Shape) (verdicts : VerdictsOf) (sound : FullTx → Bool) (tells : 
   -- what came of all submissions, and their lines
   pub all_reported : (all : List (List Report)) × AreAllReports K verdicts sound E X files all × (told_files 1 ws ≡ files_lines 1 files all) × ((test : Report → Bool) → count_in test all ≡ told_total test ws)
   all_reported =
-      let r = all_from 0 files ws (as_many files M X ws told) (λ i f h. ap (slice_get files) (omega arith) ∙ h) (λ i v h. ap (slice_get ws) (omega arith) ∙ h) in
-      (r.all, record {
-        count = r.many;
-        each = λ k f rs h g. subst (λ n. AreReports K verdicts sound E X (take n files) f rs) (omega arith) (r.each k f rs h g);
-      }, r.lines, r.counts)
+      let r = all_from 0 files ws (as_many files M X ws told) (λ i f h. ap (slice_get files) (omega arith) ∙ h) (λ i v h. ap (slice_get ws) (omega arith) ∙ h) in (
+        r.all,
+        record {
+          count = r.many;
+          each = λ k f rs h g. subst (λ n. AreReports K verdicts sound E X (take n files) f rs) (omega arith) (r.each k f rs h g);
+        },
+        r.lines,
+        r.counts,
+      )

@@ -208,7 +208,9 @@ fn write_one<O: Sink>(
 {
     match report {
         Some(Report::Refused(why)) => write_refused(out, file, place, id, &why),
-        Some(Report::Decided(batch, outcome)) => write_decided(out, file, place, id, batch, outcome),
+        Some(Report::Decided(batch, outcome)) => write_decided(
+            out, file, place, id, batch, outcome,
+        ),
         None => Ok(()),
     }
 }
