@@ -10,3 +10,5 @@ pub mod LocksFirst
 pub mod Fits
 pub mod Recovering
 pub mod Passing
+pub mod Checked
+pub mod ShardKinds

@@ -1,15 +1,18 @@
 -- The laws, each as one statement.
 use Rattle.std.specs.Prelude.{◌≡◌, ◌⊎◌, ℕ, ◌+◌, ◌*◌, ◌^◌, ◌<◌, ◌≤◌, Bool, List, ◌∷◌, ◌++◌, Contains}
 use Rattle.cbdc_types.specs.Limits.{IsWithinLimits}
-use Rattle.cbdc_model.specs.Records.{Digest, Shape, Record, Row, journal, stamp_of, last_stamp}
+use Rattle.cbdc_model.specs.Records.{Digest, Shape, Batch, Record, Row, journal, stamp_of, last_stamp}
 use Rattle.cbdc_model.specs.After.{After}
 use Rattle.cbdc_model.specs.Causes.{IsCaused}
 use Rattle.cbdc_model.specs.Clean.{Clean, IsProperCompact}
 use Rattle.cbdc_model.specs.Coins.{Output, FullTx}
+use Rattle.cbdc_model.specs.Ranges.{shard_node}
 use Rattle.cbdc_model.specs.Headline.{NoneTwice, NoIdTwice}
-use Rattle.cbdc_model.specs.History.{minted, header_of, TxsPass, IsKept, history_of, committed, all_inputs, AreCommitted}
+use Rattle.cbdc_model.specs.History.{Minted, minted, header_of, first_rows, TxsPass, IsSteady, IsKept, history_of, committed, all_inputs, AreCommitted}
 use Rattle.cbdc_model.specs.Lanes.{IsEnd, Seen}
-use Rattle.cbdc_model.specs.World.{World, EventsPass, AreIdle, KeptJournals, KeptWorld}
+use Rattle.cbdc_model.specs.World.{World, EventsPass, AreIdle, KeptJournals, KeptWorld, count_of, ShardCall, batch_of, IsConcerned, CauseStands}
+use Rattle.ledger_laws.specs.Laws.{IsCallGranted}
+use Rattle.ledger_laws.specs.Phases.{IsInPhaseOrder, IsAfterEarlier}
 use Rattle.ledger_laws.specs.Reach.{events_of}
 use Rattle.ledger_laws.specs.Resumed.{Recovers}
 use Rattle.ledger_laws.specs.Sets.{IsPlaced, IsWaiting, IsComing}
@@ -75,3 +78,17 @@ RecoveryLaw = (K : Shape) (mint : List Output) (submissions : List FullTx) (w : 
 abbrev pub StuckLaw : Type 0
 StuckLaw = (K : Shape) (mint : List Output) (submissions : List FullTx) (w : World) (kept_at : ℕ → Bool) → IsWithinLimits K
     → KeptWorld K mint submissions w → Recovers K mint submissions kept_at w ⊎ Sticks K mint submissions kept_at w
+
+-- what a repeated call is answered, and the phase order, rest on what the program itself checks: whatever hashes the first records hold, and
+-- whatever transactions are prepared
+abbrev pub CheckedLaw : Type 0
+CheckedLaw = (K : Shape) (m : Minted) (later : List Row) → 0 < K.shards → IsSteady K m (λ k. Unit {0}) later
+    → ((node : ℕ) (call : ShardCall) → IsConcerned K (λ n. journal n (later ++ first_rows K m)) node (batch_of call)
+    → CauseStands K (λ n. journal n (later ++ first_rows K m)) node call → IsCallGranted (journal node (later ++ first_rows K m)) call)
+    × ((b : Batch) → IsInPhaseOrder K (λ n. journal n (later ++ first_rows K m)) b)
+    × ((c b : Batch) → IsAfterEarlier K (λ n. journal n (later ++ first_rows K m)) c b)
+
+-- a shard has no record of a batch but Locks, Finishes and Forgets
+abbrev pub ShardKindsLaw : Type 0
+ShardKindsLaw = (K : Shape) (mint : List Output) (submissions : List FullTx) (later : List Row) (s kind : ℕ) (b : Batch) → s < K.shards
+    → IsKept K mint submissions later → ((kind ≡ 2) ⊎ (kind ≡ 3) ⊎ (kind ≡ 4) → ⊥) → count_of kind (journal (shard_node K s) (history_of K mint later)) b ≡ 0

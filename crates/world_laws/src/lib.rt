@@ -2,7 +2,7 @@
 //! 2^62 are few, and recovery. Functions with an empty body, whose contracts are the theorems. Nothing of them runs.
 #![tactic(auto)]
 
-ghost use Rattle.world_laws.specs.Laws.{CountedLaw, FewLateLaw, GrowLaw, NoneOpenLaw, NoneRefusedLaw, OnceLaw, PassLaw, RecoveryLaw, StuckLaw, TakenLaw};
+ghost use Rattle.world_laws.specs.Laws.{CheckedLaw, CountedLaw, FewLateLaw, GrowLaw, NoneOpenLaw, NoneRefusedLaw, OnceLaw, PassLaw, RecoveryLaw, ShardKindsLaw, StuckLaw, TakenLaw};
 
 /// Of what is committed in a kept history no two inputs name one outpoint, in one transaction or in two, and no id is committed twice.
 /// This holds at every moment, and not in recovered worlds alone.
@@ -60,4 +60,15 @@ pub fn recovery_law()
 /// come needs a stamp above 2^62. So nothing else ever stands in the way of recovery.
 pub fn stuck_law()
     ensures { StuckLaw }
+{}
+
+/// What a repeated call is answered, and the phase order of records, rest on what the program itself checks: whatever hashes the first
+/// records hold, and whatever transactions are prepared.
+pub fn checked_law()
+    ensures { CheckedLaw }
+{}
+
+/// A shard has no record of a batch but Locks, Finishes and Forgets.
+pub fn shard_kinds_law()
+    ensures { ShardKindsLaw }
 {}

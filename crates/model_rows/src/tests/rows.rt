@@ -3,7 +3,7 @@ use super::ledgers::{
     Tx, commit, confirmed, finish, first_unsound, holds, journals, lock, missing, opened, prepare,
     row, shard_opened, whole_batch,
 };
-use super::making::{batch, hash};
+use super::making::{batch, forget, hash};
 use cbdc_types::{List, Outcome, Record, Reply, Shape, Stamp};
 use model_check::{Row, is_ordered, outcome_of, stamp_of};
 use std::test::Fail;
@@ -215,6 +215,22 @@ fn a_second_spender_that_is_held(rt: HostRuntime) -> Result<(), Fail> {
     Ok(())
 }
 
+// The batch of two shards is brought to its end behind its Finishes.
+fn ended(rows: &mut Vec<Row>) -> Result<(), Fail> {
+    let discard = Record::Discard {
+        stamp: Stamp(5),
+        batch: batch(1),
+    };
+    row(rows, 0, discard)?;
+    row(rows, 1, forget(6, batch(1)))?;
+    row(rows, 2, forget(6, batch(1)))?;
+    let done = Record::Done {
+        stamp: Stamp(7),
+        batch: batch(1),
+    };
+    row(rows, 0, done)
+}
+
 #[test]
 fn inputs_that_are_not_returned(rt: HostRuntime) -> Result<(), Fail> {
     let shape = Shape::new(2, 1, 1, 16)?;
@@ -226,6 +242,8 @@ fn inputs_that_are_not_returned(rt: HostRuntime) -> Result<(), Fail> {
         decisions: List::new(rt.alloc()),
     };
     row(&mut rows, 1, nothing)?;
+    finished(&rt, &mut rows, 2, 4, false)?;
+    ended(&mut rows)?;
     assert!(rt; breaks_at(&rt, &shape, &mut rows, &[1], 7)?);
     Ok(())
 }
