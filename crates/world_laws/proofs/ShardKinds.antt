@@ -18,7 +18,7 @@ false_and : (a c : Bool) → a ≡ false → (a && c) ≡ false
 false_and a c e = subst (λ d. (d && c) ≡ false) (sym e) refl
 
 unlike : (k n : ℕ) → (n ≡ k → ⊥) → (k == n) ≡ false
-unlike k n f = elim (at_node k n) [ | at e ↦ absurd (f (sym e)) | away a ↦ a ]
+unlike k n f = elim (at_node k n) [ at e ↦ absurd (f (sym e)) | away a ↦ a ]
 
 is_same : (k n : ℕ) → (k == n) ≡ true → k ≡ n
 is_same k n e = grind arith
@@ -45,9 +45,9 @@ module _ (K : Shape) (m : Minted) (P : Compact → Type 0) (s kind : ℕ) (b : B
   first : count_of kind (first_record K m (shard_node K s) ∷ []) b ≡ 0
   first = elim (nat_lt (shard_node K s) K.coordinators) as (λ c. count_of kind ((if c then Start (header_of K m.id (shard_node K s))
       else Genesis (header_of K m.id (shard_node K s)) (on_shard K.shards (shard_node K s - K.coordinators) m.hashes)) ∷ []) b ≡ 0) [
-    | true ↦ none_of (5 == kind)
-    | false ↦ none_of (1 == kind)
-  ]
+        | true ↦ none_of (5 == kind)
+        | false ↦ none_of (1 == kind)
+      ]
 
   no_one : (later : List Row) → IsSteady K m P later → count_of kind (journal (shard_node K s) (later ++ first_rows K m)) b ≡ 0
   no_one [] h = subst (λ J. count_of kind J b ≡ 0) (sym (first_is K m (shard_node K s) (omega arith))) first
