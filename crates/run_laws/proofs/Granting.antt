@@ -225,13 +225,13 @@ refused : (K : Shape) (b : Batch) (txs : List Compact) (log : Sight) (shards : �
     → IsCallFault K b txs log shards node (Refuses why) → ⊥
 refused K b txs log shards node why g (to_lock s t is c phase stands e) =
     g.lock s t why c phase stands (lock_refuses (shards s).header.shape (shards s).capacity (shards s).seen (record { batch = b; part = part K.shards s 0 txs; cause = t }) (next_lock (shards s).seen b (part K.shards s 0 txs) t) why e)
-refused K b txs log shards node why g (to_decide replies is e) = late_refuses _ _ _ why e
+refused K b txs log shards node why g (to_decide replies is at e) = late_refuses _ _ _ why e
 refused K b txs log shards node why g (to_finish s t os is c phase stands e) =
     g.finish s t os why c phase stands (stamp_refuses (next_finish (shards s).seen b (decisions os (part K.shards s 0 txs)) t) (Finish (next_stamp (shards s).seen t) b (decisions os (part K.shards s 0 txs))) why e)
-refused K b txs log shards node why g (to_discard cause is e) = late_refuses _ _ _ why e
+refused K b txs log shards node why g (to_discard cause is at e) = late_refuses _ _ _ why e
 refused K b txs log shards node why g (to_forget s t is c stands e) =
     g.forget s t why c stands (stamp_refuses (next_forget (shards s).seen b t) (Forget (next_stamp (shards s).seen t) b) why e)
-refused K b txs log shards node why g (to_done cause is e) = late_refuses _ _ _ why e
+refused K b txs log shards node why g (to_done cause is at e) = late_refuses _ _ _ why e
 
 pub grant_law : GrantLaw
 grant_law K mint submissions logs shards b txs node why some home kept fault =

@@ -194,12 +194,12 @@ module _ (K : Shape) (mint : List Output) (submissions : List FullTx) (logs shar
             (subst (λ L. IsAnswered true (lock_due K (capacity_by K logs shards (shard_node K s)) (part_call K b txs s t) None L) (shards s) f) (sym (seen_shard K logs shards s))
             (subst (λ m. IsAnswered true (lock_due K m (part_call K b txs s t) None (shards s).seen) (shards s) f) (sym (shard_limit s))
             (subst (λ k. IsAnswered true (lock_due k (shards s).capacity (part_call K b txs s t) None (shards s).seen) (shards s) f) (shard_shapes s (below K txs s c)) h))))
-        go (to_decide replies is h) = late K b.lane J (capacity_by K logs shards node) node log (next_stamp log.seen (reply_cause K replies)) (commit_record K b.lane replies log.seen) f never h
+        go (to_decide replies is at h) = late K b.lane J (capacity_by K logs shards node) node log (next_stamp log.seen (reply_cause K replies)) (commit_record K b.lane replies log.seen) f never h
         go (to_finish s t os is c phase stands h) = stamped K b.lane J (capacity_by K logs shards node) node (shards s) (next_finish (shards s).seen b (decisions os (part K.shards s 0 txs)) t)
             (Finish (next_stamp (shards s).seen t) b (decisions os (part K.shards s 0 txs))) f never h
-        go (to_discard cause is h) = late K b.lane J (capacity_by K logs shards node) node log (next_stamp log.seen cause) (discard_record b.lane cause log.seen) f never h
+        go (to_discard cause is at h) = late K b.lane J (capacity_by K logs shards node) node log (next_stamp log.seen cause) (discard_record b.lane cause log.seen) f never h
         go (to_forget s t is c stands h) = stamped K b.lane J (capacity_by K logs shards node) node (shards s) (next_forget (shards s).seen b t) (Forget (next_stamp (shards s).seen t) b) f never h
-        go (to_done cause is h) = late K b.lane J (capacity_by K logs shards node) node log (next_stamp log.seen cause) (done_record b.lane cause log.seen) f never h
+        go (to_done cause is at h) = late K b.lane J (capacity_by K logs shards node) node log (next_stamp log.seen cause) (done_record b.lane cause log.seen) f never h
 
   open_by : (lane : ℕ) (b : Batch) → b.lane ≡ lane → home_of K lane < K.coordinators → (txs : List Compact) (node : ℕ) (f : NodeFault) → IsOpenFault K b txs (logs (home_of K lane)) shards node f
       → IsStopBy K lane J (capacity_by K logs shards node) node f
