@@ -1,12 +1,16 @@
 -- Why a lane stopped, by kept journals.
-use Rattle.std.proofs.Common.{◌≡◌, ◌⊎◌, inl, inr, ℕ, ◌+◌, ◌-◌, ◌^◌, ◌<◌, Bool, true, false, ◌&&◌, ◌||◌, not, ◌==◌, nat_lt, if◌then◌else◌, List, [], Option, Some, None, Ok, Err, refl, sym, ap, ◌∙◌, subst, arith}
+use Rattle.std.proofs.Common.{◌≡◌, ◌⊎◌, inl, inr, ℕ, zero, suc, ◌+◌, ◌-◌, ◌^◌, ◌<◌, ◌≤◌, max, Bool, true, false, ◌&&◌, ◌||◌, not, ◌==◌, nat_lt, if◌then◌else◌, List, [], Option, Some, None, Ok, Err, refl, sym, ap, ◌∙◌, subst, arith}
+use Rattle.cbdc_types.specs.Limits.{IsWithinLimits}
 use Rattle.cbdc_types.specs.declared.calls.LockCall.{LockCall}
 use Rattle.cbdc_types.specs.declared.calls.Refused.{Refused}
 use Rattle.cbdc_types.specs.declared.calls.Refused.TheVariants.{Stale, LaneOpen, EarlyStamp}
 use Rattle.cbdc_types.specs.declared.calls.Replied.{Replied}
 use Rattle.cbdc_types.specs.declared.calls.NodeFault.{NodeFault}
 use Rattle.cbdc_types.specs.declared.calls.NodeFault.TheVariants.{Broken, Refused as Refuses, ClockEnd, Full, DiskFault, Memory}
-use Rattle.cbdc_model.specs.Records.{Shape, Batch, Compact, Entry, Record, record_of, lock_of, stamp_of, Finish, Forget, Prepare}
+use Rattle.cbdc_model.specs.Records.{Shape, Batch, Compact, Entry, Record, record_of, lock_of, stamp_of, stamp_in, last_stamp, Finish, Forget, Prepare, Commit, Discard}
+use Rattle.cbdc_model.specs.Causes.{greatest}
+use Rattle.cbdc_model.specs.Clean.{IsProperCompact}
+use Rattle.cbdc_model.specs.History.{minted}
 use Rattle.cbdc_model.specs.Slots.{slot, slot_stamp, Idle, InPrepare}
 use Rattle.cbdc_model.specs.Replies.{answered, entries, replies}
 use Rattle.cbdc_model.specs.Outcomes.{decisions}
@@ -14,13 +18,17 @@ use Rattle.cbdc_model.specs.Deciding.{reply_cause}
 use Rattle.cbdc_model.specs.Ranges.{home_of, shard_node, part}
 use Rattle.cbdc_model.specs.Next.{Plan, RepliesAt, Kept, Append, Refuse, next_stamp, next_lock as planned, lock_again, difference, same_entry, next_finish, next_forget, is_idle}
 use Rattle.cbdc_model.specs.Room.{need_of}
-use Rattle.cbdc_model.specs.Due.{Due, Answers, Writes, last_early, if_early, if_room, used_of, lock_record, replied_of, lock_by, lock_due, stamp_by, prepare_record, new_batch, prepare_due, commit_record, discard_record, done_record}
+use Rattle.cbdc_model.specs.Due.{Due, Answers, Writes, last_early, last_late, if_early, if_room, used_of, lock_record, replied_of, lock_by, lock_due, stamp_by, prepare_record, new_batch, prepare_due, commit_record, discard_record, done_record}
 use Rattle.cbdc_model.specs.Coins.{Output, FullTx}
 use Rattle.cbdc_model.specs.World.{KeptJournals}
 use Rattle.cbdc_model.specs.Sights.{Sight}
 use Rattle.lane_laws.specs.Calls.{is_concerned}
-use Rattle.lane_laws.specs.Faults.{IsAnswered, IsCallFault, to_lock, to_decide, to_finish, to_discard, to_forget, to_done, IsOpenFault, IsBatchFault}
-use Rattle.lane_laws.proofs.Dues.{ok, err, late_full, late_end, stamp_full, stamp_end, lock_new}
+use Rattle.lane_laws.specs.Faults.{IsAnswered, IsCallFault, to_lock, to_decide, to_finish, to_discard, to_forget, to_done, newest, IsOpenFault, IsBatchFault}
+use Rattle.ledger_laws.proofs.Repeats.{all_order}
+use Rattle.ledger_laws.proofs.Ledger.{steady}
+use Rattle.late_laws.specs.Laws.{late_records}
+use Rattle.late_laws.proofs.Few.{few_late_law, few_enough}
+use Rattle.lane_laws.proofs.Dues.{ok, err, late_full, late_end, stamp_full, stamp_end, lock_new, finish_new, forget_new}
 use Rattle.run_laws.specs.Runs.{seen_by}
 use Rattle.run_laws.specs.Faults.{IsNext, next_prepare, next_lock, HasNoRoom, HasNoStamp, IsStopBy, capacity_by, StopLaw}
 use Rattle.run_laws.proofs.Seen.{seen_log, seen_shard}
@@ -90,6 +98,29 @@ lock_behind L b p cause q e = behind b.number (slot L b.lane).number ((b.number 
 abbrev part_call : Shape → Batch → List Compact → ℕ → ℕ → LockCall
 part_call K b txs s t = record { batch = b; part = part K.shards s 0 txs; cause = t }
 
+-- a later record whose stamp is wanting would be new
+late_is : {A : Type 0} (stamp : ℕ) (a : A) (r : Record) (end : ℕ) → if_early last_late stamp (Writes a r) ≡ Answers (Err (ClockEnd end)) → stamp ≡ end
+late_is {A = A} stamp a r end e = one (nat_lt last_late stamp) e
+  where
+    one : (x : Bool) → (if x then Answers (Err (ClockEnd stamp)) else Writes a r) ≡ Answers (Err (ClockEnd end)) → stamp ≡ end
+    one true e = let z : err {A = A} (ClockEnd stamp) ≡ err (ClockEnd end) = e in cc
+    one false e = absurd (let z : Writes a r ≡ err (ClockEnd end) = e in cc)
+
+ends_append : (p : Plan ℕ) (r : Record) (end : ℕ) → stamp_by p r ≡ Answers (Err (ClockEnd end)) → p ≡ Append end
+ends_append (Kept t) r end e = absurd (let z : ok t ≡ err (ClockEnd end) = e in cc)
+ends_append (Refuse w) r end e = absurd (let z : err {A = ℕ} (Refuses w) ≡ err (ClockEnd end) = e in cc)
+ends_append (Append t) r end e = ap (λ n. Append n) (late_is t t r end e)
+
+greatest_le : (f : ℕ → ℕ) (top n : ℕ) → ((s : ℕ) → f s ≤ top) → greatest f n ≤ top
+greatest_le f top zero h = omega arith
+greatest_le f top (suc n) h = omega (arith, greatest_le f top n h, h n)
+
+next_low : (L : List Record) (cause few : ℕ) → last_stamp L ≤ 2 ^ 62 + few → cause ≤ 2 ^ 62 + few → few ≤ 33536 → next_stamp L cause ≤ 2 ^ 62 + 2 ^ 20
+next_low L cause few a b c = numbers (last_stamp L) cause few a b c
+  where
+    numbers : (l m few : ℕ) → l ≤ 2 ^ 62 + few → m ≤ 2 ^ 62 + few → few ≤ 33536 → suc (max l m) ≤ 2 ^ 62 + 2 ^ 20
+    numbers l m few a b c = grind (arith, a, b, c)
+
 -- ---- each call
 
 module _ (K : Shape) (lane : ℕ) (J : ℕ → List Record) (limit node : ℕ) where
@@ -99,7 +130,7 @@ module _ (K : Shape) (lane : ℕ) (J : ℕ → List Record) (limit node : ℕ) w
   stops now stamp used need a r next stamp_is used_is need_is (Broken since) h = tt
   stops now stamp used need a r next stamp_is used_is need_is (Refuses why) h = roomy_grants stamp used need limit a r why h
   stops now stamp used need a r next stamp_is used_is need_is (ClockEnd end) h =
-      let e = roomy_end stamp used need limit a r end h in inl (record { wanted = r; is_next = next; stamp_is = e.0 ∙ stamp_is; above = e.1 })
+      let e = roomy_end stamp used need limit a r end h in record { wanted = r; is_next = next; stamp_is = e.0 ∙ stamp_is; above = e.1 }
   stops now stamp used need a r next stamp_is used_is need_is (Full u n c) h =
       let e = roomy_full stamp used need limit a r u n c h in
       record { wanted = r; is_next = next; limit_is = e.0; used_is = e.1 ∙ used_is; need_is = e.2 ∙ need_is; above = more c limit u used n need e.0 e.1 e.2 e.3 }
@@ -109,17 +140,18 @@ module _ (K : Shape) (lane : ℕ) (J : ℕ → List Record) (limit node : ℕ) w
   stops now stamp used need a r next stamp_is used_is need_is DiskFault h = tt
   stops now stamp used need a r next stamp_is used_is need_is Memory h = tt
 
-  -- a record for which room was kept
-  stamped : (now : Sight) (p : Plan ℕ) (r : Record) (f : NodeFault) → ((why : Refused) → Refuses why ≡ f → ⊥) → IsAnswered false (stamp_by p r) now f → IsStopBy K lane J limit node f
-  stamped now p r (Broken since) never h = tt
-  stamped now p r (Refuses why) never h = never why refl
-  stamped now p r (ClockEnd end) never h = inr (stamp_end p r end h)
-  stamped now p r (Full u n c) never h = absurd (stamp_full p r u n c h)
-  stamped now p r DiskFault never h = tt
-  stamped now p r Memory never h = tt
+  -- a record for which room was kept, whose stamp is never past the last of all
+  stamped : (now : Sight) (p : Plan ℕ) (r : Record) (f : NodeFault) → ((t : ℕ) → p ≡ Append t → t ≤ 2 ^ 62 + 2 ^ 20) → ((why : Refused) → Refuses why ≡ f → ⊥) → IsAnswered false (stamp_by p r) now f
+      → IsStopBy K lane J limit node f
+  stamped now p r (Broken since) bound never h = tt
+  stamped now p r (Refuses why) bound never h = never why refl
+  stamped now p r (ClockEnd end) bound never h = absurd (let g = stamp_end p r end h in let l = bound end (ends_append p r end h) in omega (arith, g, l))
+  stamped now p r (Full u n c) bound never h = absurd (stamp_full p r u n c h)
+  stamped now p r DiskFault bound never h = tt
+  stamped now p r Memory bound never h = tt
 
-  late : (now : Sight) (stamp : ℕ) (r : Record) (f : NodeFault) → ((why : Refused) → Refuses why ≡ f → ⊥) → IsAnswered false (stamp_by (Append stamp) r) now f → IsStopBy K lane J limit node f
-  late now stamp r f never h = stamped now (Append stamp) r f never h
+  late : (now : Sight) (stamp : ℕ) (r : Record) (f : NodeFault) → stamp ≤ 2 ^ 62 + 2 ^ 20 → ((why : Refused) → Refuses why ≡ f → ⊥) → IsAnswered false (stamp_by (Append stamp) r) now f → IsStopBy K lane J limit node f
+  late now stamp r f le never h = stamped now (Append stamp) r f (λ t e. (let z : stamp ≡ t = cc in subst (λ n. n ≤ 2 ^ 62 + 2 ^ 20) z le)) never h
 
   prepares : (now : Sight) (txs : List Compact) → node ≡ home_of K lane → (slot (J node) lane).phase ≡ Idle → (f : NodeFault) → IsAnswered true (prepare_due K limit lane txs None (J node)) now f
       → IsStopBy K lane J limit node f
@@ -153,10 +185,33 @@ module _ (K : Shape) (lane : ℕ) (J : ℕ → List Record) (limit node : ℕ) w
 below : (K : Shape) (txs : List Compact) (s : ℕ) → is_concerned K txs s ≡ true → s < K.shards
 below K txs s c = (concerned K txs s c).0
 
-module _ (K : Shape) (mint : List Output) (submissions : List FullTx) (logs shards : ℕ → Sight) (some : 0 < K.shards) (shard_shapes : (s : ℕ) → s < K.shards → (shards s).header.shape ≡ K)
+module _ (K : Shape) (mint : List Output) (submissions : List FullTx) (logs shards : ℕ → Sight) (limits : IsWithinLimits K) (shard_shapes : (s : ℕ) → s < K.shards → (shards s).header.shape ≡ K)
     (kept : KeptJournals K mint submissions (seen_by K logs shards)) where
   abbrev J : ℕ → List Record
   J = seen_by K logs shards
+
+  some : 0 < K.shards
+  some = limits.some_shard
+
+  -- no stamp is far above 2^62
+  low : (n : ℕ) → last_stamp (J n) ≤ 2 ^ 62 + late_records K
+  low n = few_late_law K mint submissions J n some kept
+
+  found_low : (kind n : ℕ) (b : Batch) → stamp_in (record_of kind (J n) b) ≤ 2 ^ 62 + late_records K
+  found_low kind n b =
+      let l : stamp_in (record_of kind (J n) b) ≤ last_stamp (J n) = subst (λ L. stamp_in (record_of kind L b) ≤ last_stamp L) (kept.history.journals_are n)
+      ((all_order K (minted mint) (IsProperCompact submissions) some kept.later (steady K (minted mint) (IsProperCompact submissions) kept.later kept.kept) n).stamps_le kind b) in
+      omega (arith, l, low n)
+
+  few : late_records K ≤ 33536
+  few = few_enough K limits
+
+  shard_low : (s : ℕ) → last_stamp (shards s).seen ≤ 2 ^ 62 + late_records K
+  shard_low s = subst (λ L. last_stamp L ≤ 2 ^ 62 + late_records K) (seen_shard K logs shards s) (low (shard_node K s))
+
+  newest_low : (kind : ℕ) (b : Batch) → newest kind K b shards ≤ 2 ^ 62 + late_records K
+  newest_low kind b = greatest_le (λ s. stamp_in (record_of kind (shards s).seen b)) (2 ^ 62 + late_records K) K.shards
+      (λ s. subst (λ L. stamp_in (record_of kind L b) ≤ 2 ^ 62 + late_records K) (seen_shard K logs shards s) (found_low kind (shard_node K s) b))
 
   -- the disks of a coordinator and of a shard
   log_limit : (n : ℕ) → n < K.coordinators → capacity_by K logs shards n ≡ (logs n).capacity
@@ -181,6 +236,12 @@ module _ (K : Shape) (mint : List Output) (submissions : List FullTx) (logs shar
     at_home : J (home_of K b.lane) ≡ log.seen
     at_home = seen_log K logs shards (home_of K b.lane) home
 
+    log_low : last_stamp log.seen ≤ 2 ^ 62 + late_records K
+    log_low = subst (λ L. last_stamp L ≤ 2 ^ 62 + late_records K) at_home (low (home_of K b.lane))
+
+    found_at : (kind : ℕ) (r : Record) → record_of kind log.seen b ≡ Some r → stamp_of r ≤ 2 ^ 62 + late_records K
+    found_at kind r e = subst (λ o. stamp_in o ≤ 2 ^ 62 + late_records K) e (subst (λ L. stamp_in (record_of kind L b) ≤ 2 ^ 62 + late_records K) at_home (found_low kind (home_of K b.lane) b))
+
     open_stops : IsOpenFault K b txs log shards node f → IsStopBy K b.lane J (capacity_by K logs shards node) node f
     open_stops fault = go fault.call
       where
@@ -194,12 +255,17 @@ module _ (K : Shape) (mint : List Output) (submissions : List FullTx) (logs shar
             (subst (λ L. IsAnswered true (lock_due K (capacity_by K logs shards (shard_node K s)) (part_call K b txs s t) None L) (shards s) f) (sym (seen_shard K logs shards s))
             (subst (λ m. IsAnswered true (lock_due K m (part_call K b txs s t) None (shards s).seen) (shards s) f) (sym (shard_limit s))
             (subst (λ k. IsAnswered true (lock_due k (shards s).capacity (part_call K b txs s t) None (shards s).seen) (shards s) f) (shard_shapes s (below K txs s c)) h))))
-        go (to_decide replies is at h) = late K b.lane J (capacity_by K logs shards node) node log (next_stamp log.seen (reply_cause K replies)) (commit_record K b.lane replies log.seen) f never h
+        go (to_decide replies is at h) = late K b.lane J (capacity_by K logs shards node) node log (next_stamp log.seen (reply_cause K replies)) (commit_record K b.lane replies log.seen) f
+            (next_low log.seen (reply_cause K replies) (late_records K) log_low (subst (λ m. m ≤ 2 ^ 62 + late_records K) (sym at) (newest_low 2 b)) few) never h
         go (to_finish s t os is c phase stands h) = stamped K b.lane J (capacity_by K logs shards node) node (shards s) (next_finish (shards s).seen b (decisions os (part K.shards s 0 txs)) t)
-            (Finish (next_stamp (shards s).seen t) b (decisions os (part K.shards s 0 txs))) f never h
-        go (to_discard cause is at h) = late K b.lane J (capacity_by K logs shards node) node log (next_stamp log.seen cause) (discard_record b.lane cause log.seen) f never h
-        go (to_forget s t is c stands h) = stamped K b.lane J (capacity_by K logs shards node) node (shards s) (next_forget (shards s).seen b t) (Forget (next_stamp (shards s).seen t) b) f never h
-        go (to_done cause is at h) = late K b.lane J (capacity_by K logs shards node) node log (next_stamp log.seen cause) (done_record b.lane cause log.seen) f never h
+            (Finish (next_stamp (shards s).seen t) b (decisions os (part K.shards s 0 txs))) f
+            (λ q e. subst (λ m. m ≤ 2 ^ 62 + 2 ^ 20) (sym (finish_new (shards s).seen b (decisions os (part K.shards s 0 txs)) t q e).1) (next_low (shards s).seen t (late_records K) (shard_low s) (found_at 7 (Commit t b os) stands) few)) never h
+        go (to_discard cause is at h) = late K b.lane J (capacity_by K logs shards node) node log (next_stamp log.seen cause) (discard_record b.lane cause log.seen) f
+            (next_low log.seen cause (late_records K) log_low (subst (λ m. m ≤ 2 ^ 62 + late_records K) (sym at) (newest_low 3 b)) few) never h
+        go (to_forget s t is c stands h) = stamped K b.lane J (capacity_by K logs shards node) node (shards s) (next_forget (shards s).seen b t) (Forget (next_stamp (shards s).seen t) b) f
+            (λ q e. subst (λ m. m ≤ 2 ^ 62 + 2 ^ 20) (sym (forget_new (shards s).seen b t q e).1) (next_low (shards s).seen t (late_records K) (shard_low s) (found_at 8 (Discard t b) stands) few)) never h
+        go (to_done cause is at h) = late K b.lane J (capacity_by K logs shards node) node log (next_stamp log.seen cause) (done_record b.lane cause log.seen) f
+            (next_low log.seen cause (late_records K) log_low (subst (λ m. m ≤ 2 ^ 62 + late_records K) (sym at) (newest_low 4 b)) few) never h
 
   open_by : (lane : ℕ) (b : Batch) → b.lane ≡ lane → home_of K lane < K.coordinators → (txs : List Compact) (node : ℕ) (f : NodeFault) → IsOpenFault K b txs (logs (home_of K lane)) shards node f
       → IsStopBy K lane J (capacity_by K logs shards node) node f
@@ -218,7 +284,7 @@ module _ (K : Shape) (mint : List Output) (submissions : List FullTx) (logs shar
       (subst (λ k. IsAnswered true (prepare_due k (logs (home_of K lane)).capacity lane txs None (logs (home_of K lane)).seen) (logs (home_of K lane)) f) shape h))))
 
 pub stop_law : StopLaw
-stop_law K mint submissions lane logs shards txs node f some home shape shard_shapes kept = (
-  λ fault. batch_by K mint submissions logs shards some shard_shapes kept lane home shape txs node f fault,
-  λ b is fault. open_by K mint submissions logs shards some shard_shapes kept lane b is home txs node f fault,
+stop_law K mint submissions lane logs shards txs node f limits home shape shard_shapes kept = (
+  λ fault. batch_by K mint submissions logs shards limits shard_shapes kept lane home shape txs node f fault,
+  λ b is fault. open_by K mint submissions logs shards limits shard_shapes kept lane b is home txs node f fault,
 )

@@ -1,5 +1,6 @@
 -- What kept journals say of a lane's fault.
-use Rattle.std.specs.Prelude.{◌≡◌, ◌⊎◌, ℕ, ◌+◌, ◌-◌, ◌^◌, ◌<◌, true, nat_lt, if◌then◌else◌, List, Some}
+use Rattle.std.specs.Prelude.{◌≡◌, ℕ, ◌+◌, ◌-◌, ◌^◌, ◌<◌, true, nat_lt, if◌then◌else◌, List, Some}
+use Rattle.cbdc_types.specs.Limits.{IsWithinLimits}
 use Rattle.cbdc_types.specs.declared.calls.Refused.{Refused}
 use Rattle.cbdc_types.specs.declared.calls.NodeFault.{NodeFault}
 use Rattle.cbdc_types.specs.declared.calls.NodeFault.TheVariants.{Broken, Refused as Refuses, ClockEnd, Full, DiskFault, Memory}
@@ -45,12 +46,11 @@ pub record HasNoStamp (K : Shape) (lane : ℕ) (J : ℕ → List Record) (node s
   pub stamp_is : stamp ≡ stamp_of wanted
   pub above : 2 ^ 62 < stamp
 
--- why a lane stopped, by the journals at its stop: Full and ClockEnd at the record that it needs next, ClockEnd at a later one only past the
--- last stamp of all; nothing is refused
+-- why a lane stopped, by the journals at its stop: Full and ClockEnd at the record that it needs next; nothing is refused
 abbrev pub IsStopBy : Shape → ℕ → (ℕ → List Record) → ℕ → ℕ → NodeFault → Type 0
 IsStopBy K lane J limit node (Broken since) = Unit {0}
 IsStopBy K lane J limit node (Refuses why) = ⊥
-IsStopBy K lane J limit node (ClockEnd stamp) = HasNoStamp K lane J node stamp ⊎ (2 ^ 62 + 2 ^ 20 < stamp)
+IsStopBy K lane J limit node (ClockEnd stamp) = HasNoStamp K lane J node stamp
 IsStopBy K lane J limit node (Full used need capacity) = HasNoRoom K lane J limit node used need capacity
 IsStopBy K lane J limit node DiskFault = Unit {0}
 IsStopBy K lane J limit node Memory = Unit {0}
@@ -62,7 +62,7 @@ capacity_by K logs shards n = if nat_lt n K.coordinators then (logs n).capacity 
 -- in kept journals a fault of a new batch, and one of an open batch, is one of these
 abbrev pub StopLaw : Type 0
 StopLaw = (K : Shape) (mint : List Output) (submissions : List FullTx) (lane : ℕ) (logs shards : ℕ → Sight) (txs : List Compact) (node : ℕ) (f : NodeFault)
-    → 0 < K.shards → home_of K lane < K.coordinators → (logs (home_of K lane)).header.shape ≡ K → ((s : ℕ) → s < K.shards → (shards s).header.shape ≡ K)
+    → IsWithinLimits K → home_of K lane < K.coordinators → (logs (home_of K lane)).header.shape ≡ K → ((s : ℕ) → s < K.shards → (shards s).header.shape ≡ K)
     → KeptJournals K mint submissions (seen_by K logs shards)
     → (IsBatchFault K lane txs (logs (home_of K lane)) shards node f → IsStopBy K lane (seen_by K logs shards) (capacity_by K logs shards node) node f)
     × ((b : Batch) → b.lane ≡ lane → IsOpenFault K b txs (logs (home_of K lane)) shards node f → IsStopBy K lane (seen_by K logs shards) (capacity_by K logs shards node) node f)
