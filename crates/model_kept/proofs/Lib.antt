@@ -1,0 +1,4 @@
+pub mod Members
+pub mod Firsts
+pub mod Distinct
+pub mod Soundness
