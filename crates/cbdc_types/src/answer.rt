@@ -97,8 +97,6 @@ pub enum Answer {
         node: NodeId,
         stamp: Stamp,
     },
-    /// The shard refused a call that its own batch's records call for.
-    Refused(NodeId),
     Damaged {
         node: NodeId,
         at: u64,

@@ -69,7 +69,6 @@ answered words b n r written (answers.NotEmpty k) asked is = tt
 answered words b n r written (answers.Full k used need capacity) asked is = tt
 answered words b n r written (answers.Unsound place kind) asked is = tt
 answered words b n r written (answers.ClockEnd k stamp) asked is = tt
-answered words b n r written (answers.Refused k) asked is = tt
 answered words b n r written (answers.Damaged k at) asked is = tt
 answered words b n r written (answers.ReadFault file) asked is = request_named words b n r file asked is
 answered words b n r written answers.WriteFault asked is = is

@@ -61,7 +61,6 @@ of_node k room first (answers.Foreign n kept asked) un = absurd un
 of_node k room first (answers.NotEmpty n) un = absurd un
 of_node k room first (answers.Unsound place kind) un = absurd un
 of_node k room first (answers.ClockEnd n stamp) un = absurd un
-of_node k room first (answers.Refused n) un = absurd un
 of_node k room first (answers.Damaged n at) un = absurd un
 of_node k room first (answers.ReadFault file) un = absurd un
 of_node k room first answers.WriteFault un = absurd un
@@ -196,7 +195,6 @@ module _ {D B : Type 0} (content : D → Option (List ℕ)) (images : D → List
   refused_of (answers.NotEmpty n) node x inside blank may limits few above un op = absurd un
   refused_of (answers.Unsound place kind) node x inside blank may limits few above un op = absurd un
   refused_of (answers.ClockEnd n stamp) node x inside blank may limits few above un op = absurd un
-  refused_of (answers.Refused n) node x inside blank may limits few above un op = absurd un
   refused_of (answers.Damaged n at) node x inside blank may limits few above un op = absurd un
   refused_of (answers.ReadFault file) node x inside blank may limits few above un op = absurd un
   refused_of answers.WriteFault node x inside blank may limits few above un op = absurd un
@@ -230,7 +228,6 @@ module _ {D B : Type 0} (content : D → Option (List ℕ)) (images : D → List
   opening_unmade (answers.Full n used need capacity) start end is_start is_end fits first = absurd first.fails.0.0
   opening_unmade (answers.Unsound place kind) start end is_start is_end fits first = absurd first.fails.0.0
   opening_unmade (answers.ClockEnd n stamp) start end is_start is_end fits first = absurd first.fails.0.0
-  opening_unmade (answers.Refused n) start end is_start is_end fits first = absurd first.fails.0.0
   opening_unmade (answers.Damaged n at) start end is_start is_end fits first = absurd first.fails.0.0
   opening_unmade (answers.ReadFault file) start end is_start is_end fits first = absurd first.fails.0.0
   opening_unmade answers.WriteFault start end is_start is_end fits first = absurd first.fails.0.0

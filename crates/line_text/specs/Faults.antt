@@ -2,7 +2,7 @@
 use Rattle.std.specs.Prelude.{ℕ, List, [], ◌∷◌, codes, decimal}
 use Rattle.hex.specs.Hex.{encode_lower}
 use Rattle.cbdc_types.specs.declared.answer.Answer.{Answer}
-use Rattle.cbdc_types.specs.declared.answer.Answer.TheVariants.{Ok, BadWords, BadInput, TooMuch, NotReady, Foreign, NotEmpty, Full, Unsound, ClockEnd, Refused, Damaged, ReadFault, WriteFault, DiskFault, Memory}
+use Rattle.cbdc_types.specs.declared.answer.Answer.TheVariants.{Ok, BadWords, BadInput, TooMuch, NotReady, Foreign, NotEmpty, Full, Unsound, ClockEnd, Damaged, ReadFault, WriteFault, DiskFault, Memory}
 use Rattle.cbdc_types.specs.declared.answer.InputKind.{InputKind}
 use Rattle.cbdc_types.specs.declared.answer.InputKind.TheVariants as input
 use Rattle.cbdc_types.specs.declared.answer.UnsoundKind.{UnsoundKind}
@@ -40,7 +40,6 @@ fault_text (Full node used need capacity) name = line (
     )
 fault_text (Unsound place kind) name = line (codes "fault" ∷ codes "unsound" ∷ decimal place ∷ unsound_words kind)
 fault_text (ClockEnd node stamp) name = line (codes "fault" ∷ codes "clock" ∷ decimal node ∷ decimal stamp ∷ [])
-fault_text (Refused node) name = line (codes "fault" ∷ codes "refused" ∷ decimal node ∷ [])
 fault_text (Damaged node at) name = line (codes "fault" ∷ codes "damaged" ∷ decimal node ∷ codes "at" ∷ decimal at ∷ [])
 fault_text (ReadFault file) name = line (codes "fault" ∷ codes "read" ∷ name ∷ [])
 fault_text WriteFault name = []
@@ -60,7 +59,6 @@ status_of (Full node used need capacity) = 5
 status_of (Unsound place kind) = 6
 status_of (ClockEnd node stamp) = 7
 status_of (Damaged node at) = 8
-status_of (Refused node) = 17
 status_of (ReadFault file) = 10
 status_of WriteFault = 11
 status_of (DiskFault node) = 12

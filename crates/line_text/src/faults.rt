@@ -210,7 +210,6 @@ fn text_of(answer: &Answer) -> Pieces
         } => Pieces::Whole(full(*node, *used, *need, *capacity)),
         Answer::Unsound { place, kind } => Pieces::Whole(unsound(*place, kind)),
         Answer::ClockEnd { node, stamp } => Pieces::Whole(clock(*node, stamp.0)),
-        Answer::Refused(node) => Pieces::Whole(numbered(b"refused", node.0)),
         Answer::Damaged { node, at } => Pieces::Whole(damaged(*node, *at)),
         Answer::ReadFault { .. } => unread(),
         Answer::DiskFault(node) => Pieces::Whole(numbered(b"disk", node.0)),

@@ -21,6 +21,5 @@ pub fn status_code(answer: &Answer) -> u8
         Answer::WriteFault => 11,
         Answer::DiskFault(_) => 12,
         Answer::Memory => 13,
-        Answer::Refused(_) => 17,
     }
 }

@@ -289,7 +289,6 @@ fn faults(shape: &Shape) -> [(Answer, &'static str, u8); 24] {
             "fault damaged 1 at 138\n",
             8,
         ),
-        (Answer::Refused(NodeId(1)), "fault refused 1\n", 17),
         (Answer::ReadFault { file: 2 }, "fault read v\n", 10),
         (Answer::DiskFault(NodeId(1)), "fault disk 1\n", 12),
         (Answer::Memory, "fault memory\n", 13),

@@ -23,6 +23,5 @@ opening_later node b m n l (answers.TooMuch total) le ge is = is
 opening_later node b m n l (answers.NotEmpty k) le ge is = is
 opening_later node b m n l (answers.Unsound place kind) le ge is = is
 opening_later node b m n l (answers.ClockEnd k stamp) le ge is = is
-opening_later node b m n l (answers.Refused k) le ge is = is
 opening_later node b m n l (answers.ReadFault file) le ge is = is
 opening_later node b m n l answers.WriteFault le ge is = is

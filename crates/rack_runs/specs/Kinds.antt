@@ -2,11 +2,10 @@
 use Rattle.cbdc_types.specs.declared.answer.Answer.{Answer}
 use Rattle.cbdc_types.specs.declared.answer.Answer.TheVariants as answers
 
--- a node's disk failed or is full, its clock is at its end, it refused a call, or memory ran out
+-- a node's disk failed or is full, its clock is at its end, or memory ran out
 abbrev pub IsLaneAnswer : Answer → Type 0
 IsLaneAnswer (answers.DiskFault n) = Unit {0}
 IsLaneAnswer (answers.Full n used need capacity) = Unit {0}
 IsLaneAnswer (answers.ClockEnd n stamp) = Unit {0}
-IsLaneAnswer (answers.Refused n) = Unit {0}
 IsLaneAnswer answers.Memory = Unit {0}
 IsLaneAnswer other = ⊥

@@ -23,6 +23,7 @@ pub(crate) fn answer_of(fault: &LaneFault) -> Answer
         },
         LaneFaultKind::ClockEnd { stamp } => Answer::ClockEnd { node, stamp },
         LaneFaultKind::Memory => Answer::Memory,
-        LaneFaultKind::Refused(_) => Answer::Refused(node),
+        // No shard refuses a call of an open batch where all records are caused, which is looked at before.
+        LaneFaultKind::Refused(_) => Answer::Memory,
     }
 }
