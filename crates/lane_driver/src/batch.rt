@@ -5,7 +5,7 @@ ghost use Rattle.cbdc_model.specs.Slots.{Idle, InPrepare, InCommit, InDiscard};
 ghost use Rattle.cbdc_model.specs.Ranges.{home_of};
 ghost use Rattle.cbdc_model.specs.Grammar.{HasSize, IsBatchOf, IsCompact};
 ghost use Rattle.lane_driver.specs.Calls.{shard, forget_of};
-ghost use Rattle.lane_driver.specs.Told.{IsLane, KeepsOthers, KeepHeaders, AreShardsOf, AreLockCalls, AreFitParts, IsStamp, AreShards};
+ghost use Rattle.lane_driver.specs.Told.{IsLane, KeepsOthers, KeepNodes, AreShardsOf, AreLockCalls, AreFitParts, IsStamp, AreShards};
 ghost use Rattle.lane_driver.specs.Rooms.{IsBatchRoom, IsLaterRoom};
 ghost use Rattle.lane_driver.specs.Reports.{AreReports};
 ghost use Rattle.lane_driver.specs.Causes.{IsCausedFault};
@@ -71,7 +71,8 @@ pub fn from_discarded<S: PortSet, L: LogPort, G: Gate>(
     ensures shard_later { (n : ℕ) → S.faults ports.old.shards n ≤ S.faults ports.new.shards n }
     ensures log_later { (n : ℕ) → L.faults ports.old.log n ≤ L.faults ports.new.log n }
     ensures elsewhere { (n : ℕ) → n ≢ L.at ports.old.log → L.sights ports.new.log n ≡ L.sights ports.old.log n }
-    ensures headers { KeepHeaders (S.sights ports.old.shards) (S.sights ports.new.shards) }
+    ensures nodes { KeepNodes (S.sights ports.old.shards) (S.sights ports.new.shards) }
+    ensures log_nodes { KeepNodes (L.sights ports.old.log) (L.sights ports.new.log) }
     ensures log_holds { L.holds ports.old.log → L.holds ports.new.log }
     ensures shard_holds { S.holds ports.old.shards → S.holds ports.new.shards }
     ensures calls { forgets.new.items ≡ map (forget_of batch.now cause) locks.now }
@@ -128,7 +129,8 @@ pub fn from_committed<S: PortSet, L: LogPort, G: Gate>(
     ensures shard_later { (n : ℕ) → S.faults ports.old.shards n ≤ S.faults ports.new.shards n }
     ensures log_later { (n : ℕ) → L.faults ports.old.log n ≤ L.faults ports.new.log n }
     ensures elsewhere { (n : ℕ) → n ≢ L.at ports.old.log → L.sights ports.new.log n ≡ L.sights ports.old.log n }
-    ensures headers { KeepHeaders (S.sights ports.old.shards) (S.sights ports.new.shards) }
+    ensures nodes { KeepNodes (S.sights ports.old.shards) (S.sights ports.new.shards) }
+    ensures log_nodes { KeepNodes (L.sights ports.old.log) (L.sights ports.new.log) }
     ensures log_holds { L.holds ports.old.log → L.holds ports.new.log }
     ensures shard_holds { S.holds ports.old.shards → S.holds ports.new.shards }
 {
@@ -202,7 +204,8 @@ pub fn from_prepared<S: PortSet, L: LogPort, G: Gate>(
     ensures shard_later { (n : ℕ) → S.faults ports.old.shards n ≤ S.faults ports.new.shards n }
     ensures log_later { (n : ℕ) → L.faults ports.old.log n ≤ L.faults ports.new.log n }
     ensures elsewhere { (n : ℕ) → n ≢ L.at ports.old.log → L.sights ports.new.log n ≡ L.sights ports.old.log n }
-    ensures headers { KeepHeaders (S.sights ports.old.shards) (S.sights ports.new.shards) }
+    ensures nodes { KeepNodes (S.sights ports.old.shards) (S.sights ports.new.shards) }
+    ensures log_nodes { KeepNodes (L.sights ports.old.log) (L.sights ports.new.log) }
     ensures log_holds { L.holds ports.old.log → L.holds ports.new.log }
     ensures shard_holds { S.holds ports.old.shards → S.holds ports.new.shards }
     ensures outcomes { IfOk result (λ os. length os ≡ length (L.open_txs ports.old.log batch.now.lane)) }
@@ -265,7 +268,8 @@ pub(crate) fn one_batch<S: PortSet, L: LogPort, G: Gate>(
     ensures shard_later { (n : ℕ) → S.faults ports.old.shards n ≤ S.faults ports.new.shards n }
     ensures log_later { (n : ℕ) → L.faults ports.old.log n ≤ L.faults ports.new.log n }
     ensures elsewhere { (n : ℕ) → n ≢ L.at ports.old.log → L.sights ports.new.log n ≡ L.sights ports.old.log n }
-    ensures headers { KeepHeaders (S.sights ports.old.shards) (S.sights ports.new.shards) }
+    ensures nodes { KeepNodes (S.sights ports.old.shards) (S.sights ports.new.shards) }
+    ensures log_nodes { KeepNodes (L.sights ports.old.log) (L.sights ports.new.log) }
     ensures log_holds { L.holds ports.old.log → L.holds ports.new.log }
     ensures shard_holds { S.holds ports.old.shards → S.holds ports.new.shards }
     ensures report { IfOk result (λ r. (r.batch.lane ≡ lane) × (length r.outcomes ≡ length txs.now)) }
@@ -317,7 +321,8 @@ pub fn run_batch<S: PortSet, L: LogPort, G: Gate>(
     ensures shard_later { (n : ℕ) → S.faults ports.old.shards n ≤ S.faults ports.new.shards n }
     ensures log_later { (n : ℕ) → L.faults ports.old.log n ≤ L.faults ports.new.log n }
     ensures elsewhere { (n : ℕ) → n ≢ L.at ports.old.log → L.sights ports.new.log n ≡ L.sights ports.old.log n }
-    ensures headers { KeepHeaders (S.sights ports.old.shards) (S.sights ports.new.shards) }
+    ensures nodes { KeepNodes (S.sights ports.old.shards) (S.sights ports.new.shards) }
+    ensures log_nodes { KeepNodes (L.sights ports.old.log) (L.sights ports.new.log) }
     ensures log_holds { L.holds ports.old.log → L.holds ports.new.log }
     ensures shard_holds { S.holds ports.old.shards → S.holds ports.new.shards }
     ensures report { IfOk result (λ r. AreReports lane r.batches (txs.now ∷ [])) }

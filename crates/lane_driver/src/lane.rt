@@ -8,7 +8,7 @@ ghost use Rattle.cbdc_model.specs.Ranges.{home_of};
 ghost use Rattle.lane_laws.specs.Batches.{Settled, LaneSo};
 ghost use Rattle.lane_driver.specs.Causes.{IsCausedFault};
 ghost use Rattle.lane_driver.specs.Stops.{IsLaneStopped};
-ghost use Rattle.lane_driver.specs.Told.{IsLane, KeepsOthers, AreShardsOf, KeepHeaders};
+ghost use Rattle.lane_driver.specs.Told.{IsLane, KeepsOthers, AreShardsOf, KeepNodes};
 ghost use Rattle.lane_driver.specs.Reports.{IsReported, AreDone};
 
 use crate::batch::one_batch;
@@ -50,7 +50,8 @@ pub fn run_lane<S: PortSet, L: LogPort, G: Gate>(
     ensures shard_later { (n : ℕ) → S.faults ports.old.shards n ≤ S.faults ports.new.shards n }
     ensures log_later { (n : ℕ) → L.faults ports.old.log n ≤ L.faults ports.new.log n }
     ensures elsewhere { (n : ℕ) → n ≢ L.at ports.old.log → L.sights ports.new.log n ≡ L.sights ports.old.log n }
-    ensures headers { KeepHeaders (S.sights ports.old.shards) (S.sights ports.new.shards) }
+    ensures nodes { KeepNodes (S.sights ports.old.shards) (S.sights ports.new.shards) }
+    ensures log_nodes { KeepNodes (L.sights ports.old.log) (L.sights ports.new.log) }
     ensures log_holds { L.holds ports.old.log → L.holds ports.new.log }
     ensures shard_holds { S.holds ports.old.shards → S.holds ports.new.shards }
     ensures report { IfOk result (λ r. IsReported lane shape.now.batch txs.now [] r.batches) }

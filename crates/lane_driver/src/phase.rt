@@ -6,7 +6,7 @@ ghost use Rattle.cbdc_model.specs.Ranges.{shard_node};
 ghost use Rattle.lane_laws.specs.Answers.{LockAnswer, FinishAnswer, ForgetAnswer, AskedTimes, Locked, Stamped};
 ghost use Rattle.lane_driver.specs.Causes.{IsShardFault};
 ghost use Rattle.lane_driver.specs.Stops.{IsFaultOf, IsStoppedAt};
-ghost use Rattle.lane_driver.specs.Told.{AreShardsOf, KeepHeaders, AreLockCalls, AreFinishCalls, AreForgetCalls, AreShards, AreReplies, IsStamp};
+ghost use Rattle.lane_driver.specs.Told.{AreShardsOf, KeepNodes, AreLockCalls, AreFinishCalls, AreForgetCalls, AreShards, AreReplies, IsStamp};
 
 use crate::answer::{ShardFault, gather, latest};
 use crate::fault::{LaneFault, fault_at};
@@ -38,7 +38,7 @@ pub fn lock_again<S: PortSet, G: Gate>(
     requires room { length calls.now ≤ vec_capacity answers.old }
     ensures capacity { vec_capacity answers.new ≡ vec_capacity answers.old }
     ensures count { S.count shards.new ≡ S.count shards.old }
-    ensures headers { KeepHeaders (S.sights shards.old) (S.sights shards.new) }
+    ensures nodes { KeepNodes (S.sights shards.old) (S.sights shards.new) }
     ensures later { (n : ℕ) → S.faults shards.old n ≤ S.faults shards.new n }
     ensures holds { S.holds shards.old → S.holds shards.new }
     ensures told { AskedTimes (LockAnswer S.alone) calls.now repeats (S.sights shards.old) (S.sights shards.new) }
@@ -62,7 +62,7 @@ pub fn finish_again<S: PortSet, G: Gate>(
     requires room { length calls.now ≤ vec_capacity answers.old }
     ensures capacity { vec_capacity answers.new ≡ vec_capacity answers.old }
     ensures count { S.count shards.new ≡ S.count shards.old }
-    ensures headers { KeepHeaders (S.sights shards.old) (S.sights shards.new) }
+    ensures nodes { KeepNodes (S.sights shards.old) (S.sights shards.new) }
     ensures later { (n : ℕ) → S.faults shards.old n ≤ S.faults shards.new n }
     ensures holds { S.holds shards.old → S.holds shards.new }
     ensures told { AskedTimes (FinishAnswer S.alone) calls.now repeats (S.sights shards.old) (S.sights shards.new) }
@@ -86,7 +86,7 @@ pub fn forget_again<S: PortSet, G: Gate>(
     requires room { length calls.now ≤ vec_capacity answers.old }
     ensures capacity { vec_capacity answers.new ≡ vec_capacity answers.old }
     ensures count { S.count shards.new ≡ S.count shards.old }
-    ensures headers { KeepHeaders (S.sights shards.old) (S.sights shards.new) }
+    ensures nodes { KeepNodes (S.sights shards.old) (S.sights shards.new) }
     ensures later { (n : ℕ) → S.faults shards.old n ≤ S.faults shards.new n }
     ensures holds { S.holds shards.old → S.holds shards.new }
     ensures told { AskedTimes (ForgetAnswer S.alone) calls.now repeats (S.sights shards.old) (S.sights shards.new) }
@@ -115,7 +115,7 @@ pub fn lock_phase<S: PortSet, G: Gate>(
     requires no_replies { replies.items ≡ [] }
     requires replies_room { length calls.now ≤ vec_capacity replies }
     ensures count { S.count shards.new ≡ S.count shards.old }
-    ensures headers { KeepHeaders (S.sights shards.old) (S.sights shards.new) }
+    ensures nodes { KeepNodes (S.sights shards.old) (S.sights shards.new) }
     ensures later { (n : ℕ) → S.faults shards.old n ≤ S.faults shards.new n }
     ensures holds { S.holds shards.old → S.holds shards.new }
     ensures told { IfOk result (Locked S.alone calls.now (S.sights shards.old) (S.sights shards.new)) }
@@ -144,7 +144,7 @@ pub fn finish_phase<S: PortSet, G: Gate>(
     requires room { length calls.now ≤ vec_capacity answers.old }
     ensures capacity { vec_capacity answers.new ≡ vec_capacity answers.old }
     ensures count { S.count shards.new ≡ S.count shards.old }
-    ensures headers { KeepHeaders (S.sights shards.old) (S.sights shards.new) }
+    ensures nodes { KeepNodes (S.sights shards.old) (S.sights shards.new) }
     ensures later { (n : ℕ) → S.faults shards.old n ≤ S.faults shards.new n }
     ensures holds { S.holds shards.old → S.holds shards.new }
     ensures told { IfOk result (Stamped (FinishAnswer S.alone) calls.now (S.sights shards.old) (S.sights shards.new)) }
@@ -174,7 +174,7 @@ pub fn forget_phase<S: PortSet, G: Gate>(
     requires room { length calls.now ≤ vec_capacity answers.old }
     ensures capacity { vec_capacity answers.new ≡ vec_capacity answers.old }
     ensures count { S.count shards.new ≡ S.count shards.old }
-    ensures headers { KeepHeaders (S.sights shards.old) (S.sights shards.new) }
+    ensures nodes { KeepNodes (S.sights shards.old) (S.sights shards.new) }
     ensures later { (n : ℕ) → S.faults shards.old n ≤ S.faults shards.new n }
     ensures holds { S.holds shards.old → S.holds shards.new }
     ensures told { IfOk result (Stamped (ForgetAnswer S.alone) calls.now (S.sights shards.old) (S.sights shards.new)) }

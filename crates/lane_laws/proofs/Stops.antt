@@ -10,6 +10,7 @@ use Rattle.cbdc_model.specs.Slots.{slot, Idle, InPrepare, InCommit}
 use Rattle.cbdc_model.specs.Replies.{entries}
 use Rattle.cbdc_model.specs.Outcomes.{decisions}
 use Rattle.cbdc_model.specs.Ranges.{home_of, part}
+use Rattle.cbdc_model.specs.Causes.{greatest}
 use Rattle.cbdc_model.specs.Deciding.{decided}
 use Rattle.cbdc_model.specs.Next.{Plan, next_lock, next_finish, next_forget, next_stamp}
 use Rattle.cbdc_model.specs.Due.{Due, lock_by, stamp_by, lock_due, decide_due, discard_due, done_due}
@@ -118,7 +119,7 @@ module _ (K : Shape) (pieces : List (List Compact)) (alone : Bool) (lane number 
   discarded_stopped log log' I J t u td repeats locks node f o discard none forgot are (at_done forgotten after phase again told node_is) =
       let r = forgets_run K pieces alone lane number home txs log I after J u td forgotten repeats locks discard none forgot are phase again in
       stopped_on log log log' I J J node f r.moved refl
-      (log_stopped (λ L. done_due lane forgotten None L) log log' J t node f o node_is (to_done forgotten node_is) (done_err K pieces alone lane number home txs log log' J t o forgotten (stamp_at shard (map (forget_of B td) locks) phase.asked.answers) r.looks r.greatest_is f told))
+      (log_stopped (λ L. done_due lane forgotten None L) log log' J t node f o node_is (to_done forgotten node_is (r.greatest_is ∙ (λ i. greatest (λ s. sym (r.looks.stamp s) i) K.shards))) (done_err K pieces alone lane number home txs log log' J t o forgotten (stamp_at shard (map (forget_of B td) locks) phase.asked.answers) r.looks r.greatest_is f told))
 
   pub committed_stopped : (log log' : Sight) (I J : ℕ → Sight) (t u tc : ℕ) (os : List Outcome) (repeats : ℕ) (locks : List (ℕ × LockCall)) (node : ℕ) (f : NodeFault) → Open K lane number txs log t
       → record_of 7 log.seen B ≡ Some (Commit tc B os) → (slot log.seen lane).phase ≡ InCommit → ((s : ℕ) → is_concerned K txs s ≡ true → entries (lock_in (I s).seen B) ≡ part K.shards s 0 txs)
@@ -151,7 +152,7 @@ module _ (K : Shape) (pieces : List (List Compact)) (alone : Bool) (lane number 
   committed_stopped log log' I J t u tc os repeats locks node f o commit phase_is part_is none are (at_discard finished after phase again told node_is) =
       let r = finishes_run K pieces alone lane number home txs log I after J u tc finished os repeats locks commit part_is (λ s c. none s 3 (inl refl) c) are phase again in
       stopped_on log log log' I J J node f r.moved refl
-      (log_stopped (λ L. discard_due lane finished None L) log log' J t node f o node_is (to_discard finished node_is) (discard_err K pieces alone lane number home txs log log' J t o finished (stamp_at shard (map (finish_of B tc os) locks) phase.asked.answers) r.looks r.greatest_is f told))
+      (log_stopped (λ L. discard_due lane finished None L) log log' J t node f o node_is (to_discard finished node_is (r.greatest_is ∙ (λ i. greatest (λ s. sym (r.looks.stamp s) i) K.shards))) (discard_err K pieces alone lane number home txs log log' J t o finished (stamp_at shard (map (finish_of B tc os) locks) phase.asked.answers) r.looks r.greatest_is f told))
   committed_stopped log log' I J t u tc os repeats locks node f o commit phase_is part_is none are (behind_discard finished after phase before again log1 td told stop) =
       let r = finishes_run K pieces alone lane number home txs log I after before u tc finished os repeats locks commit part_is (λ s c. none s 3 (inl refl) c) are phase again in
       let d = discard_ok K pieces alone lane number home txs log log1 before t o finished (stamp_at shard (map (finish_of B tc os) locks) phase.asked.answers) r.looks r.greatest_is td told in
@@ -210,7 +211,7 @@ module _ (K : Shape) (pieces : List (List Compact)) (alone : Bool) (lane number 
   prepared_stopped log log' I J t repeats parts node f o phase_is none are (at_decide rs after l again told node_is) =
       let r = locks_run K pieces alone lane number home txs log I after J t repeats parts rs o (λ s c. none s 2 (inl refl) c) are l again in
       prepared_on log log log' I J J node f r.moved refl
-      (log_stopped (λ L. decide_due K lane rs None L) log log' J t node f o node_is (to_decide rs node_is) (commit_err K pieces alone lane number home txs log log' J t o rs (λ s. (r.shards s).looks) f told))
+      (log_stopped (λ L. decide_due K lane rs None L) log log' J t node f o node_is (to_decide rs node_is (λ i. greatest (λ s. sym (r.shards s).looks.stamp_is i) K.shards)) (commit_err K pieces alone lane number home txs log log' J t o rs (λ s. (r.shards s).looks) f told))
   prepared_stopped log log' I J t repeats parts node f o phase_is none are (behind_commit rs after l before again log1 tc told os os_is stop) =
       let r = locks_run K pieces alone lane number home txs log I after before t repeats parts rs o (λ s c. none s 2 (inl refl) c) are l again in
       let d = commit_ok K pieces alone lane number home txs log log1 before t o rs (λ s. (r.shards s).looks) tc told in

@@ -1,11 +1,11 @@
--- In kept journals no shard refuses a call of a lane's open batch.
+-- In checked journals no shard refuses a call of a lane's open batch.
 use Rattle.std.proofs.Common.{◌≡◌, ◌⊎◌, inl, inr, ℕ, ◌<◌, ◌≤◌, Bool, true, false, ◌&&◌, ◌||◌, not, ◌==◌, nat_lt, if◌then◌else◌, List, ◌++◌, Option, Some, None, is_some, Ok, Err, ◌+◌, refl, sym, ap, ◌∙◌, subst, arith}
 use Rattle.cbdc_types.specs.declared.calls.LockCall.{LockCall}
 use Rattle.cbdc_types.specs.declared.calls.Refused.{Refused}
 use Rattle.cbdc_types.specs.declared.calls.Refused.TheVariants.{Stale, LaneOpen, NotLocked, NotFinished, OtherPart, OtherOutcome, EarlyStamp}
 use Rattle.cbdc_types.specs.declared.calls.Replied.{Replied}
 use Rattle.cbdc_types.specs.declared.calls.NodeFault.{NodeFault}
-use Rattle.cbdc_types.specs.declared.calls.NodeFault.TheVariants.{Broken, Refused as Refuses, ClockEnd, Full}
+use Rattle.cbdc_types.specs.declared.calls.NodeFault.TheVariants.{Refused as Refuses, ClockEnd, Full}
 use Rattle.cbdc_model.specs.Records.{Shape, Batch, Compact, Entry, Outcome, Record, Row, journal, record_of, lock_of, decisions_in, txs_of, txs_in, Finish, Forget, Prepare, Commit, Discard}
 use Rattle.cbdc_model.specs.Slots.{Phase, slot, slot_stamp, Idle, InLock, InFinish, InPrepare, InCommit, InDiscard}
 use Rattle.cbdc_model.specs.Replies.{entries}
@@ -13,9 +13,8 @@ use Rattle.cbdc_model.specs.Outcomes.{decisions}
 use Rattle.cbdc_model.specs.Ranges.{home_of, shard_node, part, is_no_part, Concerned}
 use Rattle.cbdc_model.specs.Next.{Plan, RepliesAt, Kept, Append, Refuse, next_stamp, next_lock, lock_again, next_finish, finish_in, finish_now, finish_again, next_forget, forget_in, is_idle, difference, same_entry, same_decision, misfit}
 use Rattle.cbdc_model.specs.Room.{need_of}
-use Rattle.cbdc_model.specs.Due.{Due, Answers, Writes, last_early, last_late, if_early, if_room, used_of, lock_record, replied_of, lock_by, stamp_by, decide_due, discard_due, done_due}
-use Rattle.cbdc_model.specs.Clean.{IsProperCompact}
-use Rattle.cbdc_model.specs.History.{Minted, minted, first_rows}
+use Rattle.cbdc_model.specs.Due.{Due, Answers, Writes, last_early, last_late, if_early, used_of, lock_record, replied_of, lock_by, stamp_by}
+use Rattle.cbdc_model.specs.History.{Minted, first_rows}
 use Rattle.cbdc_model.specs.Sights.{Sight}
 use Rattle.lane_laws.specs.Calls.{is_concerned}
 use Rattle.lane_laws.specs.Faults.{IsCallFault, to_lock, to_decide, to_finish, to_discard, to_forget, to_done}
@@ -25,11 +24,12 @@ use Rattle.ledger_laws.proofs.Granted.{lock_granted, finish_granted, forget_gran
 use Rattle.ledger_laws.proofs.Repeats.{lock_answered, finish_answered, forget_answered}
 use Rattle.ledger_laws.proofs.Next.{has_discard, Steady}
 use Rattle.ledger_laws.proofs.Lookups.{true_false}
-use Rattle.ledger_laws.proofs.Moves.{all_structure, all_more}
+use Rattle.ledger_laws.proofs.Moves.{all_more}
 use Rattle.ledger_laws.proofs.Phases.{in_order}
 use Rattle.ledger_laws.proofs.Settling.{shard_number}
-use Rattle.ledger_laws.proofs.Ledger.{steady}
 use Rattle.run_laws.specs.Faults.{GrantLaw}
+use Rattle.run_laws.specs.Runs.{seen_by}
+use Rattle.run_laws.proofs.Checked.{Any, rows_of}
 use Rattle.run_laws.proofs.Seen.{seen_log, seen_shard}
 use Rattle.run_laws.proofs.OpenLanes.{forgot, locks}
 
@@ -129,7 +129,7 @@ err f = Answers (Err f)
 refuses_same : {A : Type 0} (a b : Refused) → err {A = A} (Refuses a) ≡ err (Refuses b) → a ≡ b
 refuses_same a b e = cc
 
-late_refuses : {A : Type 0} (stamp : ℕ) (a : A) (r : Record) (why : Refused) → if_early last_late stamp (Writes a r) ≡ Answers (Err (Refuses why)) → ⊥
+pub late_refuses : {A : Type 0} (stamp : ℕ) (a : A) (r : Record) (why : Refused) → if_early last_late stamp (Writes a r) ≡ Answers (Err (Refuses why)) → ⊥
 late_refuses {A = A} stamp a r why e = one (nat_lt last_late stamp) e
   where
     one : (x : Bool) → (if x then Answers (Err (ClockEnd stamp)) else Writes a r) ≡ Answers (Err (Refuses why)) → ⊥
@@ -151,7 +151,7 @@ lock_refuses K capacity J c (Append q) why e = absurd (two (nat_lt last_early q.
     two false true e = let z : err {A = Replied} (Full (used_of J) (need_of K J (lock_record J c)) capacity) ≡ err (Refuses why) = e in cc
     two false false e = let z : Writes (replied_of q) (lock_record J c) ≡ err (Refuses why) = e in cc
 
--- ---- in kept journals
+-- ---- in checked journals
 
 pub concerned : (K : Shape) (txs : List Compact) (s : ℕ) → is_concerned K txs s ≡ true → Concerned K txs s
 concerned K txs s c = numbers s K.shards (is_no_part (part K.shards s 0 txs)) c
@@ -225,31 +225,31 @@ refused : (K : Shape) (b : Batch) (txs : List Compact) (log : Sight) (shards : �
     → IsCallFault K b txs log shards node (Refuses why) → ⊥
 refused K b txs log shards node why g (to_lock s t is c phase stands e) =
     g.lock s t why c phase stands (lock_refuses (shards s).header.shape (shards s).capacity (shards s).seen (record { batch = b; part = part K.shards s 0 txs; cause = t }) (next_lock (shards s).seen b (part K.shards s 0 txs) t) why e)
-refused K b txs log shards node why g (to_decide replies is e) = late_refuses _ _ _ why e
+refused K b txs log shards node why g (to_decide replies is cause e) = late_refuses _ _ _ why e
 refused K b txs log shards node why g (to_finish s t os is c phase stands e) =
     g.finish s t os why c phase stands (stamp_refuses (next_finish (shards s).seen b (decisions os (part K.shards s 0 txs)) t) (Finish (next_stamp (shards s).seen t) b (decisions os (part K.shards s 0 txs))) why e)
-refused K b txs log shards node why g (to_discard cause is e) = late_refuses _ _ _ why e
+refused K b txs log shards node why g (to_discard cause is latest e) = late_refuses _ _ _ why e
 refused K b txs log shards node why g (to_forget s t is c stands e) =
     g.forget s t why c stands (stamp_refuses (next_forget (shards s).seen b t) (Forget (next_stamp (shards s).seen t) b) why e)
-refused K b txs log shards node why g (to_done cause is e) = late_refuses _ _ _ why e
+refused K b txs log shards node why g (to_done cause is latest e) = late_refuses _ _ _ why e
 
 pub grant_law : GrantLaw
-grant_law K mint submissions logs shards b txs node why some home kept fault =
+grant_law K m logs shards b txs node why some home checked fault =
     refused K b txs (logs (home_of K b.lane)) shards node why
     (subst (λ T. Grants K b txs (logs (home_of K b.lane)).seen T) at_shards
     (subst (λ L. Grants K b txs L shards_of) at_home
-    (grants K (minted mint) (IsProperCompact submissions) some kept.later (steady K (minted mint) (IsProperCompact submissions) kept.later kept.kept) b txs home fault.stamp
+    (grants K m Any some checked.later (rows_of K m (seen_by K logs shards) checked) b txs home fault.stamp
     (subst (λ L. record_of 6 L b ≡ Some (Prepare fault.stamp b txs)) (sym at_home) fault.prepare) (subst (λ L. (slot L b.lane).number ≡ b.number) (sym at_home) fault.number))))
     fault.call
   where
-    at_home : journal (home_of K b.lane) (kept.later ++ first_rows K (minted mint)) ≡ (logs (home_of K b.lane)).seen
-    at_home = kept.history.journals_are (home_of K b.lane) ∙ seen_log K logs shards (home_of K b.lane) home
+    at_home : journal (home_of K b.lane) (checked.later ++ first_rows K m) ≡ (logs (home_of K b.lane)).seen
+    at_home = checked.history.journals_are (home_of K b.lane) ∙ seen_log K logs shards (home_of K b.lane) home
 
     shards_of : ℕ → List Record
-    shards_of s = journal (shard_node K s) (kept.later ++ first_rows K (minted mint))
+    shards_of s = journal (shard_node K s) (checked.later ++ first_rows K m)
 
     shards_are : ℕ → List Record
     shards_are s = (shards s).seen
 
     at_shards : shards_of ≡ shards_are
-    at_shards = λ i s. (kept.history.journals_are (shard_node K s) ∙ seen_shard K logs shards s) i
+    at_shards = λ i s. (checked.history.journals_are (shard_node K s) ∙ seen_shard K logs shards s) i

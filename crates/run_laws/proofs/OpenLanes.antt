@@ -20,7 +20,9 @@ use Rattle.ledger_laws.proofs.Last.{last_of, slot_by, slot_is, last_found, last_
 use Rattle.ledger_laws.proofs.Phases.{in_order}
 use Rattle.ledger_laws.proofs.Found.{found_grammar, finished_here, locked_here}
 use Rattle.ledger_laws.proofs.Ledger.{steady}
-use Rattle.run_laws.specs.Open.{IsFit, HasAll, IsOpenBy, ResumeLaw}
+use Rattle.run_laws.specs.Open.{IsFit, HasAll, IsOpenBy, ResumeLaw, CheckedResumeLaw}
+use Rattle.run_laws.specs.Runs.{seen_by}
+use Rattle.run_laws.proofs.Checked.{Any, rows_of}
 use Rattle.run_laws.proofs.Rests.{none_beyond}
 use Rattle.run_laws.proofs.Seen.{seen_log, seen_shard}
 use Rattle.run_laws.proofs.LastRecords.{LastStands, last_stands, last_stamped, IsShardPhase, of_shard, stamp_fits, prepare_stands, commit_stands, discard_stands}
@@ -238,25 +240,35 @@ module _ (K : Shape) (minting : Minted) (P : Compact → Type 0) (some : 0 < K.s
         forgot n busy has.0,
       )
 
+module _ (K : Shape) (minting : Minted) (P : Compact → Type 0) (some : 0 < K.shards) (later : List Row) (kept : Steady K minting P later) (lane : ℕ) (logs shards : ℕ → Sight)
+    (home : home_of K lane < K.coordinators) (shape : (logs (home_of K lane)).header.shape ≡ K) (are : (n : ℕ) → journal n (later ++ first_rows K minting) ≡ seen_by K logs shards n) where
+  resumes : IsOpenBy (slot (logs (home_of K lane)).seen lane).phase K (open_batch (logs (home_of K lane)).seen lane) (logs (home_of K lane)) shards
+  resumes =
+      said K b (logs (home_of K lane)) shards home shape refl (slot (logs (home_of K lane)).seen lane).phase refl
+      (subst (λ T. OpenIn K b (slot (logs (home_of K lane)).seen lane).phase (logs (home_of K lane)).seen T) at_shards
+      (subst (λ L. (slot L lane).number ≡ b.number → (p : Phase) → (slot L lane).phase ≡ p → OpenIn K b p L (λ s. journal (shard_node K s) (later ++ first_rows K minting))) at_home
+      (open_in K minting P some later kept b home)
+      refl (slot (logs (home_of K lane)).seen lane).phase refl))
+    where
+      b : Batch
+      b = open_batch (logs (home_of K lane)).seen lane
+
+      at_home : journal (home_of K lane) (later ++ first_rows K minting) ≡ (logs (home_of K lane)).seen
+      at_home = are (home_of K lane) ∙ seen_log K logs shards (home_of K lane) home
+
+      shards_of : ℕ → List Record
+      shards_of s = journal (shard_node K s) (later ++ first_rows K minting)
+
+      shards_are : ℕ → List Record
+      shards_are s = (shards s).seen
+
+      at_shards : shards_of ≡ shards_are
+      at_shards = λ i s. (are (shard_node K s) ∙ seen_shard K logs shards s) i
+
 pub resume_law : ResumeLaw
 resume_law K mint submissions lane logs shards some home shape kept =
-    said K b (logs (home_of K lane)) shards home shape refl (slot (logs (home_of K lane)).seen lane).phase refl
-    (subst (λ T. OpenIn K b (slot (logs (home_of K lane)).seen lane).phase (logs (home_of K lane)).seen T) at_shards
-    (subst (λ L. (slot L lane).number ≡ b.number → (p : Phase) → (slot L lane).phase ≡ p → OpenIn K b p L (λ s. journal (shard_node K s) (kept.later ++ first_rows K (minted mint)))) at_home
-    (open_in K (minted mint) (IsProperCompact submissions) some kept.later (steady K (minted mint) (IsProperCompact submissions) kept.later kept.kept) b home)
-    refl (slot (logs (home_of K lane)).seen lane).phase refl))
-  where
-    b : Batch
-    b = open_batch (logs (home_of K lane)).seen lane
+    resumes K (minted mint) (IsProperCompact submissions) some kept.later (steady K (minted mint) (IsProperCompact submissions) kept.later kept.kept) lane logs shards home shape kept.history.journals_are
 
-    at_home : journal (home_of K lane) (kept.later ++ first_rows K (minted mint)) ≡ (logs (home_of K lane)).seen
-    at_home = kept.history.journals_are (home_of K lane) ∙ seen_log K logs shards (home_of K lane) home
-
-    shards_of : ℕ → List Record
-    shards_of s = journal (shard_node K s) (kept.later ++ first_rows K (minted mint))
-
-    shards_are : ℕ → List Record
-    shards_are s = (shards s).seen
-
-    at_shards : shards_of ≡ shards_are
-    at_shards = λ i s. (kept.history.journals_are (shard_node K s) ∙ seen_shard K logs shards s) i
+pub checked_resume_law : CheckedResumeLaw
+checked_resume_law K m lane logs shards some home shape checked =
+    resumes K m Any some checked.later (rows_of K m (seen_by K logs shards) checked) lane logs shards home shape checked.history.journals_are

@@ -1,7 +1,7 @@
 use Rattle.std.proofs.Common.{◌≡◌, ◌≢◌, ◌≤◌, ℕ, length, take, drop}
 use Rattle.std.specs.List.{All}
 use Rattle.std.specs.Vec.{vec_capacity, vec_len}
-use Rattle.lane_driver.specs.Told.{KeepHeaders}
+use Rattle.lane_driver.specs.Told.{KeepNodes}
 use Rattle.recovery.specs.Open.{IsOpen, LanesRise, AreResumed}
 use Rattle.recovery.proofs.resuming.resume.Given as goal
 
@@ -13,7 +13,8 @@ invariant-loop-unfinished g l = record {
   shard_later : (n : ℕ) → g.S.PortSet.faults l.initial.ports.shards n ≤ g.S.PortSet.faults l.ports.shards n;
   log_later : (n : ℕ) → g.L.LogPort.faults l.initial.ports.log n ≤ g.L.LogPort.faults l.ports.log n;
   elsewhere : (n : ℕ) → n ≢ g.L.LogPort.at l.initial.ports.log → g.L.LogPort.sights l.ports.log n ≡ g.L.LogPort.sights l.initial.ports.log n;
-  headers : KeepHeaders (g.S.PortSet.sights l.initial.ports.shards) (g.S.PortSet.sights l.ports.shards);
+  nodes : KeepNodes (g.S.PortSet.sights l.initial.ports.shards) (g.S.PortSet.sights l.ports.shards);
+  log_nodes : KeepNodes (g.L.LogPort.sights l.initial.ports.log) (g.L.LogPort.sights l.ports.log);
   log_holds : g.L.LogPort.holds l.initial.ports.log → g.L.LogPort.holds l.ports.log;
   shard_holds : g.S.PortSet.holds l.initial.ports.shards → g.S.PortSet.holds l.ports.shards;
   count : g.S.PortSet.count l.ports.shards ≡ g.S.PortSet.count l.initial.ports.shards;
