@@ -114,9 +114,9 @@ stamp_within (Kept t) what end le e = let z : ok t ≡ err (ClockEnd end) = e in
 stamp_within (Refuse why) what end le e = let z : err {A = ℕ} (Refuses why) ≡ err (ClockEnd end) = e in cc
 stamp_within (Append t) what end le e = late_within t t what end (le t refl) e
 
-module _ (K : Shape) (lane : ℕ) (J : ℕ → List Record) (opened faults capacity : ℕ → ℕ) (node : ℕ) (node_is : node < K.coordinators + K.shards) where
+module _ (K : Shape) (lane : ℕ) (next : List Compact → Type 0) (J : ℕ → List Record) (opened faults capacity : ℕ → ℕ) (node : ℕ) (node_is : node < K.coordinators + K.shards) where
   abbrev Stop : NodeFault → Type 0
-  Stop f = IsStopBy K lane J opened faults capacity node f
+  Stop f = IsStopBy K lane next J opened faults capacity node f
 
   abbrev SameCounts : Sight → Type 0
   SameCounts now = (opened node ≡ now.opened) × (faults node ≡ now.faults)
@@ -125,20 +125,20 @@ module _ (K : Shape) (lane : ℕ) (J : ℕ → List Record) (opened faults capac
   failed now same h = record { node_is = node_is; rose = subst (λ o. HasRisen o (faults node)) (sym same.0) (subst (λ f. HasRisen now.opened f) (sym same.1) h) }
 
   -- a record that is next, and has no stamp or no room
-  stops : {A : Type 0} (now : Sight) → SameCounts now → (stamp used need : ℕ) (a : A) (r : Record) → IsNext K lane J node r → stamp ≡ stamp_of r → used ≡ used_of (J node) → need ≡ need_of K (J node) r
+  stops : {A : Type 0} (now : Sight) → SameCounts now → (stamp used need : ℕ) (a : A) (r : Record) → IsNext K lane next J node r → stamp ≡ stamp_of r → used ≡ used_of (J node) → need ≡ need_of K (J node) r
       → (f : NodeFault) → IsAnswered true (if_early last_early stamp (if_room used need (capacity node) (Writes a r))) now f → Stop f
-  stops now same stamp used need a r next stamp_is used_is need_is (Broken since) h = failed now same h
-  stops now same stamp used need a r next stamp_is used_is need_is (Refuses why) h = roomy_grants stamp used need (capacity node) a r why h
-  stops now same stamp used need a r next stamp_is used_is need_is (ClockEnd end) h =
-      let e = roomy_end stamp used need (capacity node) a r end h in record { wanted = r; is_next = next; stamp_is = e.0 ∙ stamp_is; above = e.1 }
-  stops now same stamp used need a r next stamp_is used_is need_is (Full u n c) h =
+  stops now same stamp used need a r is stamp_is used_is need_is (Broken since) h = failed now same h
+  stops now same stamp used need a r is stamp_is used_is need_is (Refuses why) h = roomy_grants stamp used need (capacity node) a r why h
+  stops now same stamp used need a r is stamp_is used_is need_is (ClockEnd end) h =
+      let e = roomy_end stamp used need (capacity node) a r end h in record { wanted = r; is_next = is; stamp_is = e.0 ∙ stamp_is; above = e.1 }
+  stops now same stamp used need a r is stamp_is used_is need_is (Full u n c) h =
       let e = roomy_full stamp used need (capacity node) a r u n c h in
-      record { wanted = r; is_next = next; limit_is = e.0; used_is = e.1 ∙ used_is; need_is = e.2 ∙ need_is; above = more c (capacity node) u used n need e.0 e.1 e.2 e.3 }
+      record { wanted = r; is_next = is; limit_is = e.0; used_is = e.1 ∙ used_is; need_is = e.2 ∙ need_is; above = more c (capacity node) u used n need e.0 e.1 e.2 e.3 }
     where
       more : (c d u v n m : ℕ) → c ≡ d → u ≡ v → n ≡ m → d < v + m → c < u + n
       more c d u v n m p q r h = omega (arith, p, q, r, h)
-  stops now same stamp used need a r next stamp_is used_is need_is DiskFault h = failed now same h
-  stops now same stamp used need a r next stamp_is used_is need_is Memory h = tt
+  stops now same stamp used need a r is stamp_is used_is need_is DiskFault h = failed now same h
+  stops now same stamp used need a r is stamp_is used_is need_is Memory h = tt
 
   -- a record for which room was kept, and whose stamp is within its bound
   late : (now : Sight) → SameCounts now → (stamp : ℕ) (r : Record) → stamp ≤ 2 ^ 62 + 2 ^ 20 → (f : NodeFault) → IsAnswered false (if_early last_late stamp (Writes stamp r)) now f → Stop f
@@ -159,10 +159,10 @@ module _ (K : Shape) (lane : ℕ) (J : ℕ → List Record) (opened faults capac
   planned_late now same p r le DiskFault never h = failed now same h
   planned_late now same p r le Memory never h = tt
 
-  prepares : (now : Sight) → SameCounts now → (txs : List Compact) → node ≡ home_of K lane → (slot (J node) lane).phase ≡ Idle → (f : NodeFault)
+  prepares : (now : Sight) → SameCounts now → (txs : List Compact) → next txs → node ≡ home_of K lane → (slot (J node) lane).phase ≡ Idle → (f : NodeFault)
       → IsAnswered true (prepare_due K (capacity node) lane txs None (J node)) now f → Stop f
-  prepares now same txs home idle f h = stops now same (next_stamp (J node) 0) (used_of (J node)) (need_of K (J node) (prepare_record (J node) lane txs)) (new_batch (J node) lane, next_stamp (J node) 0) (prepare_record (J node) lane txs)
-      (next_prepare txs home idle refl) refl refl refl f h
+  prepares now same txs due home idle f h = stops now same (next_stamp (J node) 0) (used_of (J node)) (need_of K (J node) (prepare_record (J node) lane txs)) (new_batch (J node) lane, next_stamp (J node) 0) (prepare_record (J node) lane txs)
+      (next_prepare txs due home idle refl) refl refl refl f h
 
   module _ (now : Sight) (same : SameCounts now) (b : Batch) (t : ℕ) (txs : List Compact) (s : ℕ) (lane_is : b.lane ≡ lane) (at : node ≡ shard_node K s) (concerned : is_concerned K txs s ≡ true)
       (phase : (slot (J (home_of K b.lane)) b.lane).phase ≡ InPrepare) (stands : record_of 6 (J (home_of K b.lane)) b ≡ Some (Prepare t b txs)) where
@@ -252,12 +252,12 @@ module _ (K : Shape) (m : Minted) (logs shards : ℕ → Sight) (limits : IsWith
   latest_low kind b = greatest_le (λ s. stamp_in (record_of kind (shards s).seen b)) top K.shards
       (λ s. subst (λ L. stamp_in (record_of kind L b) ≤ top) (seen_shard K logs shards s) (found_at kind (shard_node K s) b))
 
-  module _ (b : Batch) (home : home_of K b.lane < K.coordinators) (txs : List Compact) (node : ℕ) (f : NodeFault) where
+  module _ (next : List Compact → Type 0) (b : Batch) (home : home_of K b.lane < K.coordinators) (txs : List Compact) (node : ℕ) (f : NodeFault) where
     abbrev log : Sight
     log = logs (home_of K b.lane)
 
     abbrev StopAt : ℕ → Type 0
-    StopAt n = IsStopBy K b.lane J opened faults capacity n f
+    StopAt n = IsStopBy K b.lane next J opened faults capacity n f
 
     at_home : J (home_of K b.lane) ≡ log.seen
     at_home = seen_log K logs shards (home_of K b.lane) home
@@ -280,7 +280,7 @@ module _ (K : Shape) (m : Minted) (logs shards : ℕ → Sight) (limits : IsWith
 
     -- at the coordinator, behind causes that the shards have
     at_log : (cause : ℕ) (r : Record) → cause ≤ top → IsAnswered false (if_early last_late (next_stamp log.seen cause) (Writes (next_stamp log.seen cause) r)) log f → StopAt (home_of K b.lane)
-    at_log cause r le h = late K b.lane J opened faults capacity (home_of K b.lane) (log_node (home_of K b.lane) home) log same_log (next_stamp log.seen cause) r
+    at_log cause r le h = late K b.lane next J opened faults capacity (home_of K b.lane) (log_node (home_of K b.lane) home) log same_log (next_stamp log.seen cause) r
         (within (next_stamp log.seen cause) (next_within log.seen cause top log_low le)) f h
 
     open_stops : IsOpenFault K b txs log shards node f → StopAt node
@@ -292,13 +292,13 @@ module _ (K : Shape) (m : Minted) (logs shards : ℕ → Sight) (limits : IsWith
         -- at a shard, behind a cause that the coordinator has
         at_shard : (s cause : ℕ) (p : Plan ℕ) (r : Record) → is_concerned K txs s ≡ true → cause ≤ top → ((t : ℕ) → p ≡ Append t → t ≡ next_stamp (shards s).seen cause)
             → IsAnswered false (stamp_by p r) (shards s) f → StopAt (shard_node K s)
-        at_shard s cause p r c le is h = planned_late K b.lane J opened faults capacity (shard_node K s) (shard_there s (below K txs s c)) (shards s) (same_shard s) p r
+        at_shard s cause p r c le is h = planned_late K b.lane next J opened faults capacity (shard_node K s) (shard_there s (below K txs s c)) (shards s) (same_shard s) p r
             (λ t e. subst (λ x. x ≤ 2 ^ 62 + 2 ^ 20) (sym (is t e)) (within (next_stamp (shards s).seen cause) (next_within (shards s).seen cause top (shard_low s) le))) f never h
 
         go : IsCallFault K b txs log shards node f → StopAt node
         go (to_lock s t is c phase stands h) =
             subst StopAt (sym is)
-            (locks K b.lane J opened faults capacity (shard_node K s) (shard_there s (below K txs s c)) (shards s) (same_shard s) b t txs s refl refl c (ap (λ L. (slot L b.lane).phase) at_home ∙ phase) (ap (λ L. record_of 6 L b) at_home ∙ stands) f never
+            (locks K b.lane next J opened faults capacity (shard_node K s) (shard_there s (below K txs s c)) (shards s) (same_shard s) b t txs s refl refl c (ap (λ L. (slot L b.lane).phase) at_home ∙ phase) (ap (λ L. record_of 6 L b) at_home ∙ stands) f never
             (subst (λ L. IsAnswered true (lock_due K (capacity (shard_node K s)) (part_call K b txs s t) None L) (shards s) f) (sym (seen_shard K logs shards s))
             (subst (λ limit. IsAnswered true (lock_due K limit (part_call K b txs s t) None (shards s).seen) (shards s) f) (sym (shard_by (λ x. x.capacity) s))
             (subst (λ k. IsAnswered true (lock_due k (shards s).capacity (part_call K b txs s t) None (shards s).seen) (shards s) f) (shard_shapes s (below K txs s c)) h))))
@@ -311,20 +311,20 @@ module _ (K : Shape) (m : Minted) (logs shards : ℕ → Sight) (limits : IsWith
             (λ u e. (forget_new (shards s).seen b t u e).1) h)
         go (to_done cause is latest h) = subst StopAt (sym is) (at_log cause (done_record b.lane cause log.seen) (subst (λ x. x ≤ top) (sym latest) (latest_low 4 b)) h)
 
-  open_by : (lane : ℕ) (b : Batch) → b.lane ≡ lane → home_of K lane < K.coordinators → (txs : List Compact) (node : ℕ) (f : NodeFault) → IsOpenFault K b txs (logs (home_of K lane)) shards node f
-      → IsStopBy K lane J opened faults capacity node f
-  open_by lane b is home txs node f fault =
-      subst (λ l. IsStopBy K l J opened faults capacity node f) is
-      (open_stops b (subst (λ l. home_of K l < K.coordinators) (sym is) home) txs node f (subst (λ l. IsOpenFault K b txs (logs (home_of K l)) shards node f) (sym is) fault))
+  open_by : (next : List Compact → Type 0) (lane : ℕ) (b : Batch) → b.lane ≡ lane → home_of K lane < K.coordinators → (txs : List Compact) (node : ℕ) (f : NodeFault) → IsOpenFault K b txs (logs (home_of K lane)) shards node f
+      → IsStopBy K lane next J opened faults capacity node f
+  open_by next lane b is home txs node f fault =
+      subst (λ l. IsStopBy K l next J opened faults capacity node f) is
+      (open_stops next b (subst (λ l. home_of K l < K.coordinators) (sym is) home) txs node f (subst (λ l. IsOpenFault K b txs (logs (home_of K l)) shards node f) (sym is) fault))
 
   batch_by : (lane : ℕ) → home_of K lane < K.coordinators → (logs (home_of K lane)).header.shape ≡ K → (txs : List Compact) (node : ℕ) (f : NodeFault) → IsBatchFault K lane txs (logs (home_of K lane)) shards node f
-      → IsStopBy K lane J opened faults capacity node f
-  batch_by lane home shape txs node f (inr (b, is, fault)) = open_by lane b is home txs node f fault
+      → IsStopBy K lane (λ t. t ≡ txs) J opened faults capacity node f
+  batch_by lane home shape txs node f (inr (b, is, fault)) = open_by (λ t. t ≡ txs) lane b is home txs node f fault
   batch_by lane home shape txs node f (inl (at, idle, h)) =
-      subst (λ n. IsStopBy K lane J opened faults capacity n f) (sym at)
-      (prepares K lane J opened faults capacity (home_of K lane) (log_node (home_of K lane) home) (logs (home_of K lane))
+      subst (λ n. IsStopBy K lane (λ t. t ≡ txs) J opened faults capacity n f) (sym at)
+      (prepares K lane (λ t. t ≡ txs) J opened faults capacity (home_of K lane) (log_node (home_of K lane) home) (logs (home_of K lane))
       (log_by (λ x. x.opened) (home_of K lane) home, log_by (λ x. x.faults) (home_of K lane) home)
-      txs refl (ap (λ L. (slot L lane).phase) (seen_log K logs shards (home_of K lane) home) ∙ idle) f
+      txs refl refl (ap (λ L. (slot L lane).phase) (seen_log K logs shards (home_of K lane) home) ∙ idle) f
       (subst (λ L. IsAnswered true (prepare_due K (capacity (home_of K lane)) lane txs None L) (logs (home_of K lane)) f) (sym (seen_log K logs shards (home_of K lane) home))
       (subst (λ limit. IsAnswered true (prepare_due K limit lane txs None (logs (home_of K lane)).seen) (logs (home_of K lane)) f) (sym (log_by (λ x. x.capacity) (home_of K lane) home))
       (subst (λ k. IsAnswered true (prepare_due k (logs (home_of K lane)).capacity lane txs None (logs (home_of K lane)).seen) (logs (home_of K lane)) f) shape h))))
@@ -332,5 +332,5 @@ module _ (K : Shape) (m : Minted) (logs shards : ℕ → Sight) (limits : IsWith
 pub stop_law : StopLaw
 stop_law K m lane logs shards txs node f limits home shape shard_shapes checked = (
   λ fault. batch_by K m logs shards limits shard_shapes checked lane home shape txs node f fault,
-  λ b is fault. open_by K m logs shards limits shard_shapes checked lane b is home txs node f fault,
+  λ b is fault. open_by K m logs shards limits shard_shapes checked (λ t. ⊥) lane b is home txs node f fault,
 )
