@@ -50,7 +50,7 @@ pub fn run_files<L: Turns, V: Verifier, G: Gate>(
     ensures later { (n : ℕ) → L.faults ledger.old n ≤ L.faults ledger.new n }
     ensures opened_same { (n : ℕ) → L.opened ledger.new n ≡ L.opened ledger.old n }
     ensures capacity_same { (n : ℕ) → L.capacity ledger.new n ≡ L.capacity ledger.old n }
-    ensures checked { L.checked ledger.new }
+    ensures still { L.checked ledger.new }
     ensures grows { (n : ℕ) → IsEnd (L.journals ledger.old n) (L.journals ledger.new n) }
 
     // A fault has its cause.

@@ -2,6 +2,7 @@ use Rattle.std.proofs.Common.{◌≡◌, ◌∙◌, refl, sym, subst, arith, get
 use Rattle.file_runs.proofs.Joining.{files_begin, files_step, files_end, same_file, keeps_none, keeps_fault}
 use Rattle.file_runs.proofs.FileTelling.{told_files, told_all}
 use Rattle.ledger_laws.proofs.Cuts.{end_self, end_trans}
+use Rattle.ledger_runs.specs.Faults.{HaveFailed, MayHold}
 use Rattle.file_runs.proofs.Causing.{files_cause}
 use Rattle.file_runs.proofs.files.run_files.Goals as goal
 
@@ -50,7 +51,7 @@ files-preserved g c =
       later = λ n. omega (arith, did.later n, is.later n);
       opened = λ n. did.opened_same n ∙ is.opened n;
       capacity = λ n. did.capacity_same n ∙ is.capacity n;
-      checked = did.checked;
+      checked = did.still;
       grows = λ n. end_trans (g.L.Turns.journals c.args.ledger.now n) (g.L.Turns.journals c.files.ledger n) (g.L.Turns.journals c.run_file.new.ledger n) (is.grows n) (did.grows n);
     }
 
@@ -81,5 +82,6 @@ returns-in-Err-push-clause-grows g c n = end_trans (g.L.Turns.journals c.args.le
 pub returns-in-Err-clause-fault : goal.returns-in-Err-clause-fault
 returns-in-Err-clause-fault g c =
     files_cause (g.L.Turns.shape c.args.ledger.now) (g.L.Turns.shape c.files.ledger) (g.V.Verifier.verdict_of c.args.verifier.now) c.args.files.now c.files.txs-index c.as_slice.result.now
-    (g.L.Turns.journals c.args.ledger.now) (g.L.Turns.journals c.files.ledger) (g.L.Turns.journals c.run_file.new.ledger) _ _
+    (g.L.Turns.journals c.args.ledger.now) (g.L.Turns.journals c.files.ledger) (g.L.Turns.journals c.run_file.new.ledger)
+    (HaveFailed (g.L.Turns.opened c.run_file.new.ledger) (g.L.Turns.faults c.run_file.new.ledger)) (MayHold (g.L.Turns.capacity c.run_file.new.ledger))
     c.files.invariant.shape c.files-test.true (subst (λ f. f ≡ get_or c.args.files.now c.files.txs-index f) (sym c.as_slice.ensures) c.txs-item.is) c.files.invariant.grows c.in-Err.fault c.in-Err.ensures.fault
