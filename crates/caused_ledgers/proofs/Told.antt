@@ -19,11 +19,11 @@ module _ {D : Type 0} (logs : List (LogOf D)) (shards : List (ShardOf D)) (rows 
   abbrev shard_journals : List (List Record)
   shard_journals = map (λ (s : ShardOf D). reverse s.journal) shards
 
-  log_journal : (n : ℕ) (l : LogOf D) → slice_get logs n ≡ Some l → l.journal ≡ journal n (reverse rows)
+  pub log_journal : (n : ℕ) (l : LogOf D) → slice_get logs n ≡ Some l → l.journal ≡ journal n (reverse rows)
   log_journal n l at =
       sym (merged.newest_first n ∙ ap reverse (front_item (λ (x : LogOf D). reverse x.journal) shard_journals [] logs n l at) ∙ reverse-reverse l.journal)
 
-  shard_journal : (n : ℕ) (s : ShardOf D) → slice_get shards n ≡ Some s → s.journal ≡ journal (length logs + n) (reverse rows)
+  pub shard_journal : (n : ℕ) (s : ShardOf D) → slice_get shards n ≡ Some s → s.journal ≡ journal (length logs + n) (reverse rows)
   shard_journal n s at =
       sym (
       merged.newest_first (length logs + n)
@@ -31,7 +31,7 @@ module _ {D : Type 0} (logs : List (LogOf D)) (shards : List (ShardOf D)) (rows 
       ∙ reverse-reverse s.journal
       )
 
-  no_journal : (n : ℕ) → length logs + length shards ≤ n → journal n (reverse rows) ≡ []
+  pub no_journal : (n : ℕ) → length logs + length shards ≤ n → journal n (reverse rows) ≡ []
   no_journal n past =
       let k : ℕ = n - length logs in
       let place : n ≡ length logs + k = omega (arith, past) in

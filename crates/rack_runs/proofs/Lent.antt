@@ -51,3 +51,9 @@ module _ {D : Type 0} (count limit : D → ℕ) where
       → P (faults_of count limit b.header.shape b.logs b.shards) → P (faults_of count limit S back.logs back.shards)
   lent_faults P S b back same shape so =
       subst (λ l. P (faults_of count limit S l.logs l.shards)) same (subst (λ k. P (faults_of count limit k b.logs b.shards)) shape so)
+
+  pub lent_both : (P : (ℕ → List Record) → (ℕ → ℕ) → Type 0) (S : Shape) (b back : LedgerOf D) → b ≡ back → b.header.shape ≡ S
+      → P (journals_of count limit b.header.shape b.logs b.shards) (faults_of count limit b.header.shape b.logs b.shards) → P (journals_of count limit S back.logs back.shards) (faults_of count limit S back.logs back.shards)
+  lent_both P S b back same shape so =
+      subst (λ l. P (journals_of count limit S l.logs l.shards) (faults_of count limit S l.logs l.shards)) same
+      (subst (λ k. P (journals_of count limit k b.logs b.shards) (faults_of count limit k b.logs b.shards)) shape so)
