@@ -115,6 +115,11 @@ WhyNoRun files files_before files_now content images limit count disks now disks
     × (IsNoVerdicts verdicts.place (files verdicts.name.now) (files_before verdicts.name.now) (files_now verdicts.name.now) answer
     ⊎ ((known : VerdictFile) × AreVerdicts (files verdicts.name.now) known × WhyNoTurns content images limit count disks now disks_before disks_now handed answer)))
 
+-- the ledger could not be opened, and the disks are back as they were read
+abbrev pub WhyNoStatus : {D : Type 0} → (D → Option (List ℕ)) → (D → List ℕ → Type 0) → (D → ℕ) → (D → ℕ) → (ℕ → Option D) → (ℕ → Option D) → (ℕ → ℕ) → (ℕ → ℕ) → Answer → Type 0
+WhyNoStatus content images limit count disks now disks_before disks_now answer =
+    IsUnopened content images limit count disks disks_before disks_now answer × ((n : ℕ) → IsBack images limit (disks n) (now n))
+
 -- why what was asked for was not done
 abbrev pub Why : {D : Type 0} → (Text → Option (List ℕ)) → (Text → ℕ) → (Text → ℕ) → (D → Option (List ℕ)) → (D → List ℕ → Type 0) → (D → ℕ) → (D → ℕ) → (ℕ → Option D) → (ℕ → Option D) → (ℕ → ℕ) → (ℕ → ℕ) → Request → Answer → Type 0
 Why files files_before files_now content images limit count disks now disks_before disks_now (Init shape mint) answer =
@@ -124,7 +129,7 @@ Why files files_before files_now content images limit count disks now disks_befo
 Why files files_before files_now content images limit count disks now disks_before disks_now Recover answer =
     WhyNoTurns content images limit count disks now disks_before disks_now [] answer
 Why files files_before files_now content images limit count disks now disks_before disks_now (Status hashes) answer =
-    IsUnopened content images limit count disks disks_before disks_now answer
+    WhyNoStatus content images limit count disks now disks_before disks_now answer
 Why files files_before files_now content images limit count disks now disks_before disks_now (Gen shape seed size) answer = (n : ℕ) → now n ≡ disks n
 Why files files_before files_now content images limit count disks now disks_before disks_now (Show text) answer = ⊥
 Why files files_before files_now content images limit count disks now disks_before disks_now (Audit mint clients) answer =
