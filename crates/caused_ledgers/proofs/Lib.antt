@@ -4,3 +4,4 @@ pub mod Histories
 pub mod Closed
 pub mod Lists
 pub mod Told
+pub mod Once
