@@ -4,7 +4,7 @@ use Rattle.outside.specs.Images.{Tells}
 use Rattle.line_text.specs.Lines.{Text}
 use Rattle.cbdc_types.specs.declared.answer.Answer.{Answer}
 use Rattle.cbdc_types.specs.Limits.{IsWithinLimits}
-use Rattle.cbdc_model.specs.Records.{Digest, Shape, Record, journal}
+use Rattle.cbdc_model.specs.Records.{Digest, Shape, Compact, Record, journal}
 use Rattle.cbdc_model.specs.Coins.{Output, FullTx}
 use Rattle.cbdc_model.specs.History.{header_of, first_rows, minted}
 use Rattle.cbdc_model.specs.World.{KeptJournals}
@@ -25,8 +25,7 @@ use Rattle.rack_ledgers.specs.Ledgers.{IsUnopened}
 use Rattle.caused_ledgers.specs.Caused.{IsCausedLedger, IsUnresumed}
 use Rattle.rack_laws.specs.Shown.{OfShown, HoldsEach}
 use Rattle.submissions.specs.Checks.{VerdictsOf}
-use Rattle.rack_runs.specs.Kinds.{IsLaneAnswer}
-use Rattle.rack_runs.specs.Runs.{IsRun, IsRecovered, IsCutShort}
+use Rattle.rack_runs.specs.Runs.{IsRun, IsRecovered, IsCutShort, IsLaneFault, NothingNext, PieceNext}
 use Rattle.commands.specs.Audits.{DidAudit, WhyNoAudit}
 
 -- a first record at each node of the ledger that a mint begins
@@ -99,12 +98,13 @@ WhyNoInit files files_before files_now content limit disks disks_before disks_no
     IsNotRead file.place (files file.name.now) mint_of_file (files_before file.name.now) (files_now file.name.now) answer
     ⊎ ((mint : List Output) × Tells (files file.name.now) (λ c. mint_of_file c ≡ Ok mint) × IsUnmade shape mint content limit disks disks_before disks_now answer)
 
--- the ledger could not be opened, or a record of it was not caused, and the disks are back as they were read; or the disks told a ledger in which
--- each record was caused, and a lane met a fault: its journals have grown at their ends and are kept, each by its disk, with one record more or without
-abbrev pub WhyNoTurns : {D : Type 0} → (D → Option (List ℕ)) → (D → List ℕ → Type 0) → (D → ℕ) → (D → ℕ) → (ℕ → Option D) → (ℕ → Option D) → (ℕ → ℕ) → (ℕ → ℕ) → List (List FullTx) → Answer → Type 0
-WhyNoTurns content images limit count disks now disks_before disks_now handed answer =
+-- the ledger could not be opened, or a record of it was not caused, and the disks are back as they were read; or over a ledger whose records were
+-- all caused a lane met a fault, and its answer has its cause: its journals have grown at their ends, and are kept, each by its disk, with one record
+-- more or without
+abbrev pub WhyNoTurns : {D : Type 0} → (D → Option (List ℕ)) → (D → List ℕ → Type 0) → (D → ℕ) → (D → ℕ) → (ℕ → Option D) → (ℕ → Option D) → (ℕ → ℕ) → (ℕ → ℕ) → (Shape → ℕ → List Compact → Type 0) → List (List FullTx) → Answer → Type 0
+WhyNoTurns content images limit count disks now disks_before disks_now next handed answer =
     (IsUnresumed content images limit count disks disks_before disks_now answer × ((n : ℕ) → IsBack images limit (disks n) (now n)))
-    ⊎ (IsLaneAnswer answer × IsCausedLedger content disks × OfShown content disks (IsCutShort images now handed))
+    ⊎ (IsLaneFault content images limit disks now disks_before disks_now next answer × OfShown content disks (IsCutShort images now handed))
 
 -- a client file is the first that is not read; or all client files were read, and the verdicts are not; or all were read and could not be run
 abbrev pub WhyNoRun : {D : Type 0} → (Text → Option (List ℕ)) → (Text → ℕ) → (Text → ℕ) → (D → Option (List ℕ)) → (D → List ℕ → Type 0) → (D → ℕ) → (D → ℕ) → (ℕ → Option D) → (ℕ → Option D) → (ℕ → ℕ) → (ℕ → ℕ)
@@ -113,7 +113,7 @@ WhyNoRun files files_before files_now content images limit count disks now disks
     FirstNotRead files files_before files_now clients answer
     ⊎ ((handed : List (List FullTx)) × AreRead files 0 clients handed
     × (IsNoVerdicts verdicts.place (files verdicts.name.now) (files_before verdicts.name.now) (files_now verdicts.name.now) answer
-    ⊎ ((known : VerdictFile) × AreVerdicts (files verdicts.name.now) known × WhyNoTurns content images limit count disks now disks_before disks_now handed answer)))
+    ⊎ ((known : VerdictFile) × AreVerdicts (files verdicts.name.now) known × WhyNoTurns content images limit count disks now disks_before disks_now (PieceNext (told known) handed) handed answer)))
 
 -- the ledger could not be opened, and the disks are back as they were read
 abbrev pub WhyNoStatus : {D : Type 0} → (D → Option (List ℕ)) → (D → List ℕ → Type 0) → (D → ℕ) → (D → ℕ) → (ℕ → Option D) → (ℕ → Option D) → (ℕ → ℕ) → (ℕ → ℕ) → Answer → Type 0
@@ -127,7 +127,7 @@ Why files files_before files_now content images limit count disks now disks_befo
 Why files files_before files_now content images limit count disks now disks_before disks_now (Run verdicts clients) answer =
     WhyNoRun files files_before files_now content images limit count disks now disks_before disks_now verdicts clients.items answer
 Why files files_before files_now content images limit count disks now disks_before disks_now Recover answer =
-    WhyNoTurns content images limit count disks now disks_before disks_now [] answer
+    WhyNoTurns content images limit count disks now disks_before disks_now NothingNext [] answer
 Why files files_before files_now content images limit count disks now disks_before disks_now (Status hashes) answer =
     WhyNoStatus content images limit count disks now disks_before disks_now answer
 Why files files_before files_now content images limit count disks now disks_before disks_now (Gen shape seed size) answer = (n : ℕ) → now n ≡ disks n

@@ -15,7 +15,7 @@ use Rattle.node_ports.specs.Nodes.{sight_at}
 use Rattle.rack_nodes.specs.Places.{EachFrom, MayReturn}
 use Rattle.rack_nodes.specs.Racked.{OfTold}
 use Rattle.rack_ledgers.specs.Ledgers.{ByPlace, AreOpened}
-use Rattle.rack_laws.specs.Shown.{TellsAll, KeepsEach, HoldsEach, node_count}
+use Rattle.rack_laws.specs.Shown.{KeepsEach, HoldsEach, node_count}
 use Rattle.rack_laws.proofs.Opened.{at_place, sight_there, all_by}
 use Rattle.ledger_nodes.specs.Ledgers.{IsLedger, journals_of, faults_of, opened_of, capacity_of, AreStored, AreQuiet}
 
@@ -223,7 +223,8 @@ module _ {D : Type 0} (content : D → Option (List ℕ)) (images : D → List �
       subst (λ o. OpensToEither (reverse (journals_of count limit h.shape logs shards n)) o c) (k.none quiet) (k.images_are d told c image)
 
   -- what all disks told is stored
-  pub told_stored : (held : ℕ → Option D) (h : Header) (logs : List (LogOf D)) (shards : List (ShardOf D)) → AreOpened content images limit count held h logs shards → TellsAll content held h.shape → AreStored content images logs shards
+  pub told_stored : (held : ℕ → Option D) (h : Header) (logs : List (LogOf D)) (shards : List (ShardOf D)) → AreOpened content images limit count held h logs shards
+      → ((n : ℕ) → n < node_count h.shape → (d : D) × (held n ≡ Some d) × ((c : List ℕ) × (content d ≡ Some c))) → AreStored content images logs shards
   told_stored held h logs shards are tells = record {
     logs_are = all_by (HoldsLog content images) logs (λ n l there.
         let t = tells n (omega (arith, slice_get_within logs n l there, are.coordinators)) in

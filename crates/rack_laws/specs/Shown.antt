@@ -17,10 +17,6 @@ abbrev pub Shows : {D : Type 0} → (D → Option (List ℕ)) → (ℕ → Optio
 Shows {D} content held K genesis J = (n : ℕ) → n < node_count K
     → (d : D) × (held n ≡ Some d) × ((c : List ℕ) × (content d ≡ Some c) × IsNodeJournal (header_of K genesis n) (J n) c)
 
--- the rack tells each node's disk, and its content
-abbrev pub TellsAll : {D : Type 0} → (D → Option (List ℕ)) → (ℕ → Option D) → Shape → Type 0
-TellsAll {D} content held K = (n : ℕ) → n < node_count K → (d : D) × (held n ≡ Some d) × ((c : List ℕ) × (content d ≡ Some c))
-
 -- whatever a crash may leave of a node's disk that is told opens to this journal of the ledger
 abbrev pub Stores : {D : Type 0} → (D → List ℕ → Type 0) → (ℕ → Option D) → Shape → Digest → (ℕ → List Record) → Type 0
 Stores images held K genesis J = (n : ℕ) → n < node_count K → OfTold (held n) (λ d. (c : List ℕ) → images d c → IsNodeJournal (header_of K genesis n) (J n) c)

@@ -9,11 +9,12 @@ use Rattle.cbdc_model.specs.Lanes.{IsEnd}
 use Rattle.cbdc_model.specs.World.{KeptJournals}
 use Rattle.cbdc_model.specs.Headline.{Headline}
 use Rattle.cbdc_model.specs.Waves.{IsResumed, Waves}
-use Rattle.rack_laws.specs.Shown.{TellsAll, KeepsEach, HoldsEach}
+use Rattle.rack_laws.specs.Shown.{KeepsEach, HoldsEach}
 use Rattle.submissions.specs.Checks.{VerdictsOf}
 use Rattle.sound_laws.specs.SoundTest.{sound_by}
 use Rattle.rack_nodes.specs.Racked.{OfTold}
 use Rattle.caused_ledgers.specs.Caused.{IsCausedLedger}
+use Rattle.caused_ledgers.specs.Laws.{AllTell}
 use Rattle.file_runs.specs.Runs.{joined, IsFilesPiece}
 use Rattle.rack_runs.specs.Kinds.{IsLaneAnswer}
 
@@ -54,7 +55,7 @@ pub record IsLaneFault {D : Type 0} (content : D → Option (List ℕ)) (images 
   pub ledger : IsCausedLedger content held
   pub exit : ℕ → List Record
   pub grows : (n : ℕ) → IsEnd (journal n (reverse ledger.rows)) (exit n)
-  pub disks : TellsAll content held ledger.shape → KeepsEach images back ledger.shape exit
+  pub disks : AllTell content held ledger.shape → KeepsEach images back ledger.shape exit
   pub cause : IsLaneAnswer ledger.shape (next ledger.shape) (λ n. journal n (reverse ledger.rows)) exit (λ n. Rose (before n) (now n)) (λ n c. OfTold (held n) (λ d. c ≡ limit d)) answer
 
 -- nothing is next for any lane
