@@ -158,19 +158,16 @@ module _ {D : Type 0} (content : D → Option (List ℕ)) (images : D → List �
         (λ n c inside may. may_hold content images limit count held h logs shards are n c inside may) a cause);
   }
 
--- a recovery prepares nothing
-no_piece : (K : Shape) (verdicts : VerdictsOf) (lane : ℕ) (txs : List Compact) → IsFilesPiece K verdicts [] lane txs → ⊥
-no_piece K verdicts lane txs piece = let low : piece.1.0 < 0 = piece.1.1 in omega (arith, low)
-
-pub of_no_files : {D : Type 0} (content : D → Option (List ℕ)) (images : D → List ℕ → Type 0) (limit : D → ℕ) (held back : ℕ → Option D) (before now : ℕ → ℕ) (verdicts : VerdictsOf) (a : Answer)
-    → IsLaneFault content images limit held back before now (PieceNext verdicts []) a → IsLaneFault content images limit held back before now NothingNext a
-of_no_files content images limit held back before now verdicts a f = record {
+-- where nothing is next for any lane
+pub of_nothing : {D : Type 0} (content : D → Option (List ℕ)) (images : D → List ℕ → Type 0) (limit : D → ℕ) (held back : ℕ → Option D) (before now : ℕ → ℕ) (next : Shape → ℕ → List Compact → Type 0) (a : Answer)
+    → IsLaneFault content images limit held back before now next a → ((K : Shape) (lane : ℕ) (txs : List Compact) → next K lane txs → ⊥) → IsLaneFault content images limit held back before now NothingNext a
+of_nothing content images limit held back before now next a f none = record {
   ledger = f.ledger;
   exit = f.exit;
   grows = f.grows;
   disks = f.disks;
-  cause = answer_moves f.ledger.shape (IsFilesPiece f.ledger.shape verdicts []) (NothingNext f.ledger.shape) (λ n. journal n (reverse f.ledger.rows)) f.exit (λ n. Rose (before n) (now n)) (λ n. Rose (before n) (now n))
-      (λ n c. OfTold (held n) (λ d. c ≡ limit d)) (λ n c. OfTold (held n) (λ d. c ≡ limit d)) (no_piece f.ledger.shape verdicts) (λ n inside did. did) (λ n c inside may. may) a f.cause;
+  cause = answer_moves f.ledger.shape (next f.ledger.shape) (NothingNext f.ledger.shape) (λ n. journal n (reverse f.ledger.rows)) f.exit (λ n. Rose (before n) (now n)) (λ n. Rose (before n) (now n))
+      (λ n c. OfTold (held n) (λ d. c ≡ limit d)) (λ n c. OfTold (held n) (λ d. c ≡ limit d)) (none f.ledger.shape) (λ n inside did. did) (λ n c inside may. may) a f.cause;
 }
 
 -- ---- a run over open nodes

@@ -27,7 +27,6 @@ use Rattle.ledger_nodes.specs.Ledgers.{journals_of, AreChecked}
 use Rattle.ledger_laws.proofs.Cuts.{end_self, end_trans}
 use Rattle.ledger_laws.proofs.FirstJournals.{first_is, first_beyond}
 use Rattle.ledger_laws.proofs.Ledger.{steady_lists}
-use Rattle.ledger_laws.proofs.Together.{itself}
 use Rattle.run_laws.specs.Checked.{CheckedJournals}
 use Rattle.run_laws.proofs.Checked.{Any, any_txs, to_checked}
 use Rattle.run_laws.proofs.Nodes.{after_in}
@@ -91,16 +90,16 @@ module _ (K : Shape) (X : ℕ → List Record) (here : (s : ℕ) → s < K.shard
 
   all_below : (s n : ℕ) → s < n → n ≤ K.shards → on_shard K.shards s (hashes_below K X n) ≡ first_hashes (X (shard_node K s))
   all_below s zero lt low = absurd (omega (arith, lt))
-  all_below s (suc n) lt low = on_both K.shards s (hashes_below K X n) (first_hashes (X (shard_node K n))) ∙ go (eqb_tells s n)
+  all_below s (suc n) lt low = on_both K.shards s (hashes_below K X n) (first_hashes (X (shard_node K n))) ∙ go (all_below s n) (eqb_tells s n)
     where
-      go : (((s == n) ≡ true) × (s ≡ n)) ⊎ (((s == n) ≡ false) × (s ≢ n)) → on_shard K.shards s (hashes_below K X n) ++ on_shard K.shards s (first_hashes (X (shard_node K n))) ≡ first_hashes (X (shard_node K s))
-      go (inl (b, e)) =
+      go : (s < n → n ≤ K.shards → on_shard K.shards s (hashes_below K X n) ≡ first_hashes (X (shard_node K s))) → (((s == n) ≡ true) × (s ≡ n)) ⊎ (((s == n) ≡ false) × (s ≢ n)) → on_shard K.shards s (hashes_below K X n) ++ on_shard K.shards s (first_hashes (X (shard_node K n))) ≡ first_hashes (X (shard_node K s))
+      go below (inl (b, e)) =
           subst (λ m. on_shard K.shards m (hashes_below K X n) ++ on_shard K.shards m (first_hashes (X (shard_node K n))) ≡ first_hashes (X (shard_node K m))) (sym e)
           (ap (λ l. l ++ on_shard K.shards n (first_hashes (X (shard_node K n)))) (none_below n n (omega arith) (omega (arith, low)))
           ∙ all_here K n (first_hashes (X (shard_node K n))) (here n (omega (arith, low))))
-      go (inr (b, other)) =
+      go below (inr (b, other)) =
           ap (λ l. on_shard K.shards s (hashes_below K X n) ++ l) (none_here K s n (first_hashes (X (shard_node K n))) (λ e. other (sym e)) (here n (omega (arith, low))))
-          ∙ append-nil (on_shard K.shards s (hashes_below K X n)) ∙ all_below s n (omega (arith, lt, other)) (omega (arith, low))
+          ∙ append-nil (on_shard K.shards s (hashes_below K X n)) ∙ below (omega (arith, lt, other)) (omega (arith, low))
 
 -- ---- the first record of a journal
 
@@ -164,12 +163,19 @@ off_row row past n d = passed (row.node == n) (row.what ∷ journal n past) (jou
     not_so : row.node ≢ n → (row.node == n) ≡ false
     not_so h = grind (arith, h)
 
+itself : (J : ℕ → List Record) (n : ℕ) (own : List Record) → own ≡ J n → (m : ℕ) → replaced J n own m ≡ J m
+itself J n own e m = go (eqb_tells n m)
+  where
+    go : (((n == m) ≡ true) × (n ≡ m)) ⊎ (((n == m) ≡ false) × (n ≢ m)) → replaced J n own m ≡ J m
+    go (inl (b, same)) = taken (n == m) own (J m) b ∙ e ∙ ap J same
+    go (inr (b, other)) = passed (n == m) own (J m) b
+
 seen_more : (K : Shape) (I J : ℕ → List Record) (n : ℕ) (rest : List Record) (r : Record) → ((k : ℕ) → IsEnd (I k) (J k)) → Seen K I n rest r → Seen K J n rest r
 seen_more K I J n rest r grown s = record { lists = s.lists; ends = λ k. end_trans (s.lists k) (I k) (J k) (s.ends k) (grown k); caused = s.caused }
 
 all_seen : (K : Shape) (H : List Row) → AllCaused K H → (n : ℕ) (newer rest : List Record) (r : Record) → journal n H ≡ newer ++ r ∷ rest → Seen K (λ k. journal k H) n rest r
 all_seen K [] caused n newer rest r e = absurd (nothing_there newer rest r e)
-all_seen K (row ∷ past) caused n newer rest r e = go (eqb_tells row.node n)
+all_seen K (row ∷ past) caused n newer rest r e = go (λ more is. all_seen K past caused.1 n more rest r is) (eqb_tells row.node n)
   where
     grown : (k : ℕ) → IsEnd (journal k past) (journal k (row ∷ past))
     grown k = elim (eqb_tells row.node k) [
@@ -177,12 +183,12 @@ all_seen K (row ∷ past) caused n newer rest r e = go (eqb_tells row.node n)
       | inr (b, off) ↦ ([], off_row row past k off)
     ]
 
-    older : (newer : List Record) → journal n past ≡ newer ++ r ∷ rest → Seen K (λ k. journal k (row ∷ past)) n rest r
-    older newer e = seen_more K (λ k. journal k past) (λ k. journal k (row ∷ past)) n rest r grown (all_seen K past caused.1 n newer rest r e)
+    older : ((more : List Record) → journal n past ≡ more ++ r ∷ rest → Seen K (λ k. journal k past) n rest r) → (newer : List Record) → journal n past ≡ newer ++ r ∷ rest → Seen K (λ k. journal k (row ∷ past)) n rest r
+    older below newer e = seen_more K (λ k. journal k past) (λ k. journal k (row ∷ past)) n rest r grown (below newer e)
 
-    here : (newer : List Record) → row.what ∷ journal n past ≡ newer ++ r ∷ rest → row.node ≡ n → Seen K (λ k. journal k (row ∷ past)) n rest r
-    here (q ∷ newer) e at = older newer (cons_same row.what q (journal n past) (newer ++ r ∷ rest) e).1
-    here [] e at =
+    here : ((more : List Record) → journal n past ≡ more ++ r ∷ rest → Seen K (λ k. journal k past) n rest r) → (newer : List Record) → row.what ∷ journal n past ≡ newer ++ r ∷ rest → row.node ≡ n → Seen K (λ k. journal k (row ∷ past)) n rest r
+    here below (q ∷ newer) e at = older below newer (cons_same row.what q (journal n past) (newer ++ r ∷ rest) e).1
+    here below [] e at =
         let s : (row.what ≡ r) × (journal n past ≡ rest) = cons_same row.what r (journal n past) rest e in
         let own : IsCaused K (λ k. journal k past) n row.what = subst (λ m. IsCaused K (λ k. journal k past) m row.what) at caused.0 in
         record {
@@ -192,9 +198,9 @@ all_seen K (row ∷ past) caused n newer rest r e = go (eqb_tells row.node n)
               (subst (λ J. IsCaused K J n row.what) (λ i m. sym (itself (λ k. journal k past) n rest (sym s.1) m) i) own);
         }
 
-    go : (((row.node == n) ≡ true) × (row.node ≡ n)) ⊎ (((row.node == n) ≡ false) × (row.node ≢ n)) → Seen K (λ k. journal k (row ∷ past)) n rest r
-    go (inl (b, at)) = here newer (sym (at_row row past n at) ∙ e) at
-    go (inr (b, off)) = older newer (sym (off_row row past n off) ∙ e)
+    go : ((more : List Record) → journal n past ≡ more ++ r ∷ rest → Seen K (λ k. journal k past) n rest r) → (((row.node == n) ≡ true) × (row.node ≡ n)) ⊎ (((row.node == n) ≡ false) × (row.node ≢ n)) → Seen K (λ k. journal k (row ∷ past)) n rest r
+    go below (inl (b, at)) = here below newer (sym (at_row row past n at) ∙ e) at
+    go below (inr (b, off)) = older below newer (sym (off_row row past n off) ∙ e)
 
 -- any transactions pass
 any_pass : (r : Record) → TxsPass Any r
