@@ -16,6 +16,7 @@ use Rattle.rack_ledgers.specs.Ledgers.{IsUnopened}
 use Rattle.rack_runs.specs.Kinds.{IsLaneAnswer}
 use Rattle.ledger_init.specs.Made.{IsUnmade, IsLeft}
 use Rattle.commands.specs.Outcomes.{WhyNoTurns}
+use Rattle.commands.specs.Causes.{IsWell}
 use Rattle.commands.specs.Left.{IsBeforeDisks, InitLeaves}
 
 -- a node that is not opened was taken
@@ -54,6 +55,17 @@ not_by_lane K next E X failed holds answers.WriteFault is before = before
 not_by_lane K next E X failed holds (answers.DiskFault k) is before = before
 not_by_lane K next E X failed holds answers.Memory is before = before
 
+-- nor is all done where a node is not opened, or a lane met a fault
+refused_alone : (a : Answer) → IsNodeRefusal a → IsWell a → ⊥
+refused_alone answers.Ok is well = is
+refused_alone answers.WriteFault is well = is
+refused_alone other is well = well
+
+lane_alone : (K : Shape) (next : ℕ → List Compact → Type 0) (E X : ℕ → List Record) (failed : ℕ → Type 0) (holds : ℕ → ℕ → Type 0) (a : Answer) → IsLaneAnswer K next E X failed holds a → IsWell a → ⊥
+lane_alone K next E X failed holds answers.Ok is well = is
+lane_alone K next E X failed holds answers.WriteFault is well = is
+lane_alone K next E X failed holds other is well = well
+
 module _ {D : Type 0} (content : D → Option (List ℕ)) (images : D → List ℕ → Type 0) (limit count : D → ℕ) where
   pub not_unopened : (held : ℕ → Option D) (before now : ℕ → ℕ) (a : Answer) → IsUnopened content images limit count held before now a → IsBeforeDisks a → ⊥
   not_unopened held before now a is = not_refused a (⊎_elim (λ unled. ⊎_elim (λ first. first.kind) (λ lacks. lacks.refused.kind) unled) (λ lacks. lacks.refused.kind) is)
@@ -64,6 +76,14 @@ module _ {D : Type 0} (content : D → Option (List ℕ)) (images : D → List �
       (λ unopened. ⊎_elim (λ closed. not_unopened held before now a closed)
       (λ other. ⊎_elim (λ unsound. subst (λ b. IsBeforeDisks b → ⊥) (sym unsound.told) (λ none. none)) (λ memory. subst (λ b. IsBeforeDisks b → ⊥) (sym memory) (λ none. none)) other) unopened.0)
       (λ lane. not_by_lane lane.0.ledger.shape (next lane.0.ledger.shape) (λ n. journal n (reverse lane.0.ledger.rows)) lane.0.exit (λ n. Rose (before n) (now n)) (λ n c. OfTold (held n) (λ d. c ≡ limit d)) a lane.0.cause) is
+
+  -- where a run or a recovery did not come through, all was not done
+  pub not_done : (held new : ℕ → Option D) (before now : ℕ → ℕ) (next : Shape → ℕ → List Compact → Type 0) (handed : List (List FullTx)) (a : Answer) → WhyNoTurns content images limit count held new before now next handed a → IsWell a → ⊥
+  not_done held new before now next handed a is =
+      ⊎_elim
+      (λ unopened. ⊎_elim (λ closed. refused_alone a (⊎_elim (λ unled. ⊎_elim (λ first. first.kind) (λ lacks. lacks.refused.kind) unled) (λ lacks. lacks.refused.kind) closed))
+      (λ other. ⊎_elim (λ unsound. subst (λ b. IsWell b → ⊥) (sym unsound.told) (λ none. none)) (λ memory. subst (λ b. IsWell b → ⊥) (sym memory) (λ none. none)) other) unopened.0)
+      (λ lane. lane_alone lane.0.ledger.shape (next lane.0.ledger.shape) (λ n. journal n (reverse lane.0.ledger.rows)) lane.0.exit (λ n. Rose (before n) (now n)) (λ n c. OfTold (held n) (λ d. c ≡ limit d)) a lane.0.cause) is
 
 -- of these answers a ledger that is not made gives one alone
 too_much_alone : {D : Type 0} (K : Shape) (mint : List Output) (content : D → Option (List ℕ)) (limit : D → ℕ) (held : ℕ → Option D) (before now : ℕ → ℕ) (P : Type 0) (a : Answer)

@@ -1,6 +1,6 @@
 -- The cause of a fault that ends a file's wave, or the files.
-use Rattle.std.proofs.Common.{◌≡◌, ℕ, ◌*◌, ◌+◌, ◌<◌, List, length, get_or, Bool, sym, subst, arith, Some}
-use Rattle.std.specs.Prelude.{slice_get, Contains}
+use Rattle.std.proofs.Common.{◌≡◌, ℕ, ◌*◌, ◌<◌, List, length, get_or, sym, subst, arith, Some}
+use Rattle.std.specs.Prelude.{Contains}
 use Rattle.std.specs.Global.{Vec}
 use Rattle.std.proofs.lemmas.List.Elements.{Contains-get_or}
 use Rattle.std.proofs.lemmas.Option.{slice_get_within}
@@ -10,10 +10,10 @@ use Rattle.cbdc_model.specs.Coins.{FullTx}
 use Rattle.cbdc_model.specs.Waves.{sent_to}
 use Rattle.cbdc_model.specs.Lanes.{IsEnd}
 use Rattle.ledger_laws.proofs.Cuts.{end_self}
-use Rattle.submissions.specs.Checks.{VerdictsOf, TellsSound, AreSent}
+use Rattle.submissions.specs.Checks.{VerdictsOf, AreSent}
 use Rattle.lane_driver.specs.declared.fault.LaneFault.{LaneFault}
 use Rattle.ledger_runs.specs.Waving.{HaveSent, FirstFaultIs}
-use Rattle.ledger_runs.specs.Faults.{IsLaneCause, IsRunCause, IsPiece, HaveCauses}
+use Rattle.ledger_runs.specs.Faults.{IsRunCause, IsPiece, HaveCauses}
 use Rattle.ledger_runs.specs.declared.lanes.Lane.{Lane}
 use Rattle.ledger_runs.proofs.Faulting.{cause_since, cause_any, run_moves}
 use Rattle.file_runs.specs.Runs.{AreLanesOf, IsSentPiece, IsFilesPiece}

@@ -1,7 +1,6 @@
 -- The cause of a lane's fault stays while other lanes go on.
-use Rattle.std.proofs.Common.{◌≡◌, ◌≢◌, ◌⊎◌, inl, inr, Bool, true, false, ◌==◌, ℕ, ◌+◌, ◌*◌, ◌<◌, ◌≤◌, ◌^◌, min, le_trans, List, [], ◌∷◌, ◌++◌, length, refl, sym, ap, ◌∙◌, subst, arith, Some, None}
+use Rattle.std.proofs.Common.{◌≡◌, ◌≢◌, ◌⊎◌, inl, inr, Bool, true, false, ◌==◌, ℕ, ◌<◌, ◌≤◌, le_trans, List, [], ◌∷◌, ◌++◌, refl, sym, ap, ◌∙◌, subst, arith, Some, None}
 use Rattle.std.specs.Prelude.{slice_get, is_some, Option, Result, Ok, Err, IfErr}
-use Rattle.std.proofs.lemmas.Bool.Decides.{eqb_tells}
 use Rattle.cbdc_model.specs.Records.{Shape, Batch, Compact, Record, record_of, is_in_lane, Genesis, Lock, Finish, Forget, Start, Prepare, Commit, Discard, Done}
 use Rattle.cbdc_model.specs.Slots.{slot}
 use Rattle.cbdc_model.specs.Ranges.{home_of}
@@ -13,11 +12,11 @@ use Rattle.lane_laws.proofs.Own.{own_out, record_own, slot_own}
 use Rattle.lane_driver.specs.declared.fault.LaneFault.{LaneFault}
 use Rattle.lane_driver.specs.declared.fault.LaneFaultKind.{LaneFaultKind}
 use Rattle.lane_driver.specs.declared.fault.LaneFaultKind.TheVariants.{DiskFault as DiskStopped, Full as NoRoom, ClockEnd as NoStamp, Memory as NoMemory, Refused as WasRefused}
-use Rattle.ledger_runs.specs.Turning.{phase_at, IsLaneOf}
-use Rattle.ledger_runs.specs.Waving.{EachLane, NoFault, TurnsAt}
-use Rattle.ledger_runs.specs.Faults.{AreOfLane, GrowBy, IsWanted, wants_prepare, wants_lock, HasNoRoomFor, HasNoStampFor, IsCauseOf, IsLaneCause, IsSomeCauseOf, IsRunCause, HaveFailed, MayHold, Nothing, IsThese, IsPiece, HaveCauses, IsTurnCause}
+use Rattle.ledger_runs.specs.Turning.{IsLaneOf}
+use Rattle.ledger_runs.specs.Waving.{NoFault, TurnsAt}
+use Rattle.ledger_runs.specs.Faults.{AreOfLane, GrowBy, IsWanted, wants_prepare, wants_lock, IsCauseOf, IsLaneCause, IsSomeCauseOf, IsRunCause, HaveFailed, MayHold, Nothing, IsThese, IsPiece, HaveCauses, IsTurnCause}
 use Rattle.ledger_runs.specs.declared.lanes.Lane.{Lane}
-use Rattle.ledger_runs.proofs.WaveKeeping.{each_by, at_place, was_there}
+use Rattle.ledger_runs.proofs.WaveKeeping.{each_by, was_there}
 
 -- ---- records of another lane
 

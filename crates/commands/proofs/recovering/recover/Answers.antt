@@ -1,4 +1,4 @@
-use Rattle.commands.proofs.Untouched.{not_turned}
+use Rattle.commands.proofs.Untouched.{not_turned, not_done}
 use Rattle.std.proofs.Common.{[]}
 use Rattle.commands.specs.Outcomes.{WhyNoTurns}
 use Rattle.rack_runs.specs.Runs.{NothingNext}
@@ -34,3 +34,9 @@ pub returns-clause-prints : goal.returns-clause-prints
 returns-clause-prints g c well =
     prints_recovery g.R.Disk.Disk.content g.R.Disk.Disk.images (g.R.Rack.held c.args.rack.now) (g.R.Rack.held c.recover_on.new.rack) (IsPrinted (g.O.Sink.taken c.args.out.now) (g.O.Sink.taken c.write_recovered.new.out) answers.WriteFault)
     c.in-Ok.recovered c.in-Ok.ensures.told c.in-Err-write_recovered.ensures.prints
+
+pub returns-in-Err-clause-did : goal.returns-in-Err-clause-did
+returns-in-Err-clause-did g c well = absurd (not_done g.R.Disk.Disk.content g.R.Disk.Disk.images g.R.Disk.Disk.limit g.R.Disk.Disk.count (g.R.Rack.held c.args.rack.now) (g.R.Rack.held c.recover_on.new.rack) (g.R.Rack.count c.args.rack.now) (g.R.Rack.count c.recover_on.new.rack) NothingNext [] c.in-Err.fault c.in-Err.ensures.stopped well)
+
+pub returns-in-Err-clause-prints : goal.returns-in-Err-clause-prints
+returns-in-Err-clause-prints g c well = absurd (not_done g.R.Disk.Disk.content g.R.Disk.Disk.images g.R.Disk.Disk.limit g.R.Disk.Disk.count (g.R.Rack.held c.args.rack.now) (g.R.Rack.held c.recover_on.new.rack) (g.R.Rack.count c.args.rack.now) (g.R.Rack.count c.recover_on.new.rack) NothingNext [] c.in-Err.fault c.in-Err.ensures.stopped well)

@@ -1,11 +1,11 @@
-use Rattle.std.proofs.Common.{◌≡◌, ◌≤◌, ◌<◌, ◌*◌, ℕ, length, refl, ap, sym, ◌∙◌, subst, arith}
+use Rattle.std.proofs.Common.{◌≡◌, refl, ap, ◌∙◌, subst, arith}
 use Rattle.ledger_runs.specs.Waving.{AreShorter, OfSent}
 use Rattle.ledger_runs.specs.Telling.{TellSince, AreFresh}
 use Rattle.ledger_runs.specs.Faults.{HaveFailed, MayHold, HaveCauses}
 use Rattle.ledger_laws.proofs.Cuts.{end_self, end_trans}
 use Rattle.ledger_runs.proofs.Faulting.{causes_begin}
 use Rattle.ledger_runs.proofs.WaveTelling.{tells_begin, tells_all}
-use Rattle.ledger_runs.proofs.WaveKeeping.{RoundsSo, rounds_begin, rounds_step, same_round, rounds_end, all_idle, next_start}
+use Rattle.ledger_runs.proofs.WaveKeeping.{rounds_begin, rounds_step, same_round, rounds_end, all_idle, next_start}
 use Rattle.ledger_runs.proofs.waves.run_wave.Goals as goal
 
 pub rounds-init : goal.rounds-init

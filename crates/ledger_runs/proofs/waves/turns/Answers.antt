@@ -1,6 +1,5 @@
-use Rattle.std.proofs.Common.{◌≡◌, ◌≤◌, ◌<◌, ◌*◌, ℕ, length, refl, ap, sym, ◌∙◌, subst, arith}
-use Rattle.std.specs.Prelude.{All}
-use Rattle.ledger_runs.proofs.WaveKeeping.{TurnsSo, turns_begin, turns_step, same_turn, turns_end}
+use Rattle.std.proofs.Common.{◌≡◌, ◌<◌, ◌*◌, length, refl, ap, ◌∙◌, subst, arith}
+use Rattle.ledger_runs.proofs.WaveKeeping.{turns_begin, turns_step, same_turn, turns_end}
 use Rattle.ledger_runs.specs.Telling.{TellSince}
 use Rattle.ledger_runs.specs.Faults.{HaveFailed, MayHold}
 use Rattle.ledger_laws.proofs.Cuts.{end_self, end_trans}
