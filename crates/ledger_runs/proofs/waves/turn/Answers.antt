@@ -33,6 +33,9 @@ pub returns-clause-cause : goal.returns-clause-cause
 returns-clause-cause g c =
     turn_cause (g.L.Turns.shape c.args.ledger.now) c.args.number c.args.lane.now c.take_in.new.self c.piece.result.now (g.L.Turns.journals c.args.ledger.now) (g.L.Turns.journals c.run_batch-came.new.self)
     (HaveFailed (g.L.Turns.opened c.run_batch-came.new.self) (g.L.Turns.faults c.run_batch-came.new.self)) (MayHold (g.L.Turns.capacity c.run_batch-came.new.self))
-    c.run_batch-came.result (none_by c.args.lane.now.fault c.is_some.result c.is_some.ensures c.if-is_some.false)
-    (c.args.start, omega (arith, c.if-start-len.false, c.len.ensures), c.piece.ensures ∙ ap (λ l. take c.batch-size.result (drop c.args.start l)) c.deref.ensures.value
-    ∙ ap (λ n. take n (drop c.args.start c.args.lane.now.txs.items)) (c.batch-size.ensures.value ∙ ap (λ s. s.batch) c.shape.ensures)) c.take_in.ensures.cause c.run_batch-came.ensures.fault
+    c.run_batch-came.result (none_by c.args.lane.now.fault c.is_some.result c.is_some.ensures c.if-is_some.false) (
+      c.args.start,
+      omega (arith, c.if-start-len.false, c.len.ensures),
+      c.piece.ensures ∙ ap (λ l. take c.batch-size.result (drop c.args.start l)) c.deref.ensures.value
+          ∙ ap (λ n. take n (drop c.args.start c.args.lane.now.txs.items)) (c.batch-size.ensures.value ∙ ap (λ s. s.batch) c.shape.ensures),
+    ) c.take_in.ensures.cause c.run_batch-came.ensures.fault

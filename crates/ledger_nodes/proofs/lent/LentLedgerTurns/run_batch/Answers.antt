@@ -60,10 +60,12 @@ returns-clause-capacity_same g c = rw (← c.self.view_is) (capacity_same g.D.Di
 
 pub returns-clause-checked : goal.returns-clause-checked
 returns-clause-checked g c =
-    let was = (subst (λ v. AreChecked g.D.Disk.count g.D.Disk.limit v.header.shape v.logs v.shards) (sym c.self.view_is) c.requires.checked) in
-    (was.0, (came_checked g.D.Disk.count g.D.Disk.limit g.D.Disk.content g.D.Disk.images c.self.inside.header c.args.lane c.self.inside.ports.log.logs.items c.self.inside.ports.shards.nodes.items c.self.invariant (subst (λ v. IsLaneOf v.header.shape c.args.lane) (sym c.self.view_is) c.requires.lane)
-    c.drive_batch.new.ports.log.logs.items c.drive_batch.new.ports.shards.nodes.items c.drive_batch.ensures.step
-    (subst (λ v. phase_at v.header.shape (journals_of g.D.Disk.count g.D.Disk.limit v.header.shape v.logs v.shards) c.args.lane ≡ Idle) (sym c.self.view_is) c.requires.idle) c.args.txs.now c.drive_batch.result c.drive_batch.ensures.done c.drive_batch.ensures.stopped was).checked)
+    let was = (subst (λ v. AreChecked g.D.Disk.count g.D.Disk.limit v.header.shape v.logs v.shards) (sym c.self.view_is) c.requires.checked) in (
+      was.0,
+      (came_checked g.D.Disk.count g.D.Disk.limit g.D.Disk.content g.D.Disk.images c.self.inside.header c.args.lane c.self.inside.ports.log.logs.items c.self.inside.ports.shards.nodes.items c.self.invariant (subst (λ v. IsLaneOf v.header.shape c.args.lane) (sym c.self.view_is) c.requires.lane)
+          c.drive_batch.new.ports.log.logs.items c.drive_batch.new.ports.shards.nodes.items c.drive_batch.ensures.step
+          (subst (λ v. phase_at v.header.shape (journals_of g.D.Disk.count g.D.Disk.limit v.header.shape v.logs v.shards) c.args.lane ≡ Idle) (sym c.self.view_is) c.requires.idle) c.args.txs.now c.drive_batch.result c.drive_batch.ensures.done c.drive_batch.ensures.stopped was).checked,
+    )
 
 pub returns-clause-grows : goal.returns-clause-grows
 returns-clause-grows g c = rw (← c.self.view_is)
@@ -82,6 +84,6 @@ returns-clause-fault g c = rw (← c.self.view_is) (elim c.match-drive_batch.bra
       (HaveFailed (opened_of g.D.Disk.count g.D.Disk.limit c.self.inside.header.shape c.drive_batch.new.ports.log.logs.items c.drive_batch.new.ports.shards.nodes.items) (faults_of g.D.Disk.count g.D.Disk.limit c.self.inside.header.shape c.drive_batch.new.ports.log.logs.items c.drive_batch.new.ports.shards.nodes.items))
       (MayHold (capacity_of g.D.Disk.count g.D.Disk.limit c.self.inside.header.shape c.drive_batch.new.ports.log.logs.items c.drive_batch.new.ports.shards.nodes.items))) w.result-is
       (came_cause g.D.Disk.count g.D.Disk.limit g.D.Disk.content g.D.Disk.images c.self.inside.header c.args.lane c.self.inside.ports.log.logs.items c.self.inside.ports.shards.nodes.items c.self.invariant (subst (λ v. IsLaneOf v.header.shape c.args.lane) (sym c.self.view_is) c.requires.lane)
-    c.drive_batch.new.ports.log.logs.items c.drive_batch.new.ports.shards.nodes.items c.drive_batch.ensures.step
+      c.drive_batch.new.ports.log.logs.items c.drive_batch.new.ports.shards.nodes.items c.drive_batch.ensures.step
       (subst (λ v. phase_at v.header.shape (journals_of g.D.Disk.count g.D.Disk.limit v.header.shape v.logs v.shards) c.args.lane ≡ Idle) (sym c.self.view_is) c.requires.idle) c.args.txs.now w.in-Err.fault w.in-Err.ensures.stopped (subst (λ v. AreChecked g.D.Disk.count g.D.Disk.limit v.header.shape v.logs v.shards) (sym c.self.view_is) c.requires.checked))
 ])

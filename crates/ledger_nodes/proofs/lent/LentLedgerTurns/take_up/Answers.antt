@@ -77,10 +77,12 @@ returns-in-Ok-drive_resume-clause-capacity_same g c = rw (← c.self.view_is) (c
 
 pub returns-in-Ok-drive_resume-clause-checked : goal.returns-in-Ok-drive_resume-clause-checked
 returns-in-Ok-drive_resume-clause-checked g c =
-    let was = (subst (λ v. AreChecked g.D.Disk.count g.D.Disk.limit v.header.shape v.logs v.shards) (sym c.self.view_is) c.requires.checked) in
-    (was.0, (resumed_checked g.D.Disk.count g.D.Disk.limit g.D.Disk.content g.D.Disk.images c.self.inside.header c.args.lane c.self.inside.ports.log.logs.items c.self.inside.ports.shards.nodes.items c.self.invariant (subst (λ v. IsLaneOf v.header.shape c.args.lane) (sym c.self.view_is) c.requires.lane)
-    c.drive_resume.new.ports.log.logs.items c.drive_resume.new.ports.shards.nodes.items c.drive_resume.ensures.step c.in-Some.unfinished
-    (told_there g.D.Disk.count g.D.Disk.limit g.D.Disk.content g.D.Disk.images c.self.inside.header c.args.lane c.self.inside.ports.log.logs.items c.self.inside.ports.shards.nodes.items c.self.invariant (subst (λ v. IsLaneOf v.header.shape c.args.lane) (sym c.self.view_is) c.requires.lane) c.home-at.result c.index.result.now c.home-at.ensures.place c.index.ensures c.in-Ok.found (Some c.in-Some.unfinished) c.in-Ok.ensures c.in-Some.is) c.drive_resume.result c.drive_resume.ensures.taken c.drive_resume.ensures.left was).checked)
+    let was = (subst (λ v. AreChecked g.D.Disk.count g.D.Disk.limit v.header.shape v.logs v.shards) (sym c.self.view_is) c.requires.checked) in (
+      was.0,
+      (resumed_checked g.D.Disk.count g.D.Disk.limit g.D.Disk.content g.D.Disk.images c.self.inside.header c.args.lane c.self.inside.ports.log.logs.items c.self.inside.ports.shards.nodes.items c.self.invariant (subst (λ v. IsLaneOf v.header.shape c.args.lane) (sym c.self.view_is) c.requires.lane)
+          c.drive_resume.new.ports.log.logs.items c.drive_resume.new.ports.shards.nodes.items c.drive_resume.ensures.step c.in-Some.unfinished
+          (told_there g.D.Disk.count g.D.Disk.limit g.D.Disk.content g.D.Disk.images c.self.inside.header c.args.lane c.self.inside.ports.log.logs.items c.self.inside.ports.shards.nodes.items c.self.invariant (subst (λ v. IsLaneOf v.header.shape c.args.lane) (sym c.self.view_is) c.requires.lane) c.home-at.result c.index.result.now c.home-at.ensures.place c.index.ensures c.in-Ok.found (Some c.in-Some.unfinished) c.in-Ok.ensures c.in-Some.is) c.drive_resume.result c.drive_resume.ensures.taken c.drive_resume.ensures.left was).checked,
+    )
 
 pub returns-in-Ok-drive_resume-clause-grows : goal.returns-in-Ok-drive_resume-clause-grows
 returns-in-Ok-drive_resume-clause-grows g c = rw (← c.self.view_is)
@@ -98,10 +100,12 @@ returns-clause-capacity_same g c = rw (← c.self.view_is) (capacity_same g.D.Di
 
 pub returns-clause-checked : goal.returns-clause-checked
 returns-clause-checked g c =
-    let was = (subst (λ v. AreChecked g.D.Disk.count g.D.Disk.limit v.header.shape v.logs v.shards) (sym c.self.view_is) c.requires.checked) in
-    (was.0, (resumed_checked g.D.Disk.count g.D.Disk.limit g.D.Disk.content g.D.Disk.images c.self.inside.header c.args.lane c.self.inside.ports.log.logs.items c.self.inside.ports.shards.nodes.items c.self.invariant (subst (λ v. IsLaneOf v.header.shape c.args.lane) (sym c.self.view_is) c.requires.lane)
-    c.drive_resume.new.ports.log.logs.items c.drive_resume.new.ports.shards.nodes.items c.drive_resume.ensures.step c.in-Some.unfinished
-    (told_there g.D.Disk.count g.D.Disk.limit g.D.Disk.content g.D.Disk.images c.self.inside.header c.args.lane c.self.inside.ports.log.logs.items c.self.inside.ports.shards.nodes.items c.self.invariant (subst (λ v. IsLaneOf v.header.shape c.args.lane) (sym c.self.view_is) c.requires.lane) c.home-at.result c.index.result.now c.home-at.ensures.place c.index.ensures c.in-Ok.found (Some c.in-Some.unfinished) c.in-Ok.ensures c.in-Some.is) c.drive_resume.result c.drive_resume.ensures.taken c.drive_resume.ensures.left was).checked)
+    let was = (subst (λ v. AreChecked g.D.Disk.count g.D.Disk.limit v.header.shape v.logs v.shards) (sym c.self.view_is) c.requires.checked) in (
+      was.0,
+      (resumed_checked g.D.Disk.count g.D.Disk.limit g.D.Disk.content g.D.Disk.images c.self.inside.header c.args.lane c.self.inside.ports.log.logs.items c.self.inside.ports.shards.nodes.items c.self.invariant (subst (λ v. IsLaneOf v.header.shape c.args.lane) (sym c.self.view_is) c.requires.lane)
+          c.drive_resume.new.ports.log.logs.items c.drive_resume.new.ports.shards.nodes.items c.drive_resume.ensures.step c.in-Some.unfinished
+          (told_there g.D.Disk.count g.D.Disk.limit g.D.Disk.content g.D.Disk.images c.self.inside.header c.args.lane c.self.inside.ports.log.logs.items c.self.inside.ports.shards.nodes.items c.self.invariant (subst (λ v. IsLaneOf v.header.shape c.args.lane) (sym c.self.view_is) c.requires.lane) c.home-at.result c.index.result.now c.home-at.ensures.place c.index.ensures c.in-Ok.found (Some c.in-Some.unfinished) c.in-Ok.ensures c.in-Some.is) c.drive_resume.result c.drive_resume.ensures.taken c.drive_resume.ensures.left was).checked,
+    )
 
 pub returns-clause-grows : goal.returns-clause-grows
 returns-clause-grows g c = rw (← c.self.view_is)
