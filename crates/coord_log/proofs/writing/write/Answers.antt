@@ -4,6 +4,7 @@ use Rattle.record_codec.specs.Bodies.{body_of}
 use Rattle.record_log.proofs.Sizes.{size_is}
 use Rattle.record_log.specs.declared.log.LogFault.TheVariants.{DiskFault}
 use Rattle.coord_log.proofs.Written.{only_disk, own_room, sound_after, sound_broken, to_journal, from_journal, to_broken}
+use Rattle.coord_log.proofs.Leaving.{written_between, failed_between}
 use Rattle.coord_log.proofs.writing.write.Given as given
 use Rattle.coord_log.proofs.writing.write.Goals as goal
 
@@ -74,3 +75,15 @@ returns-in-Err-clause-holds g c = λ opened old.
     let before = from_journal c.args.log.now opened c.args.flight.now c.requires.whole old in
     to_broken c.write.new.self c.args.log.now.records.items opened c.args.next c.write.ensures.records (c.write.ensures.broken (c.in-Err.is ∙ ap Err (the_fault g c)))
     (c.write.ensures.leaves c.args.log.now.records.items before).now
+
+pub returns-in-Ok-clause-leaves : goal.returns-in-Ok-clause-leaves
+returns-in-Ok-clause-leaves g c = λ opened old.
+    let before = from_journal c.args.log.now opened c.args.flight.now c.requires.whole old in
+    let left = c.write.ensures.leaves c.args.log.now.records.items before in
+    written_between c.args.log.now c.keep.new.self opened c.args.flight.now c.args.next c.requires.none_left (c.keep.ensures.kept ∙ ap (λ x. x ++ c.args.next ∷ []) c.write.ensures.records)
+    (rw c.keep.ensures.journal left)
+
+pub returns-in-Err-clause-leaves : goal.returns-in-Err-clause-leaves
+returns-in-Err-clause-leaves g c = λ opened old.
+    let before = from_journal c.args.log.now opened c.args.flight.now c.requires.whole old in
+    failed_between c.args.log.now c.write.new.self opened c.args.flight.now c.args.next c.write.ensures.records (c.write.ensures.leaves c.args.log.now.records.items before)
