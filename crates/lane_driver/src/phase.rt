@@ -4,12 +4,12 @@ ghost use Rattle.std.specs.Vec.{vec_capacity};
 ghost use Rattle.lane_driver.specs.Calls.{shard};
 ghost use Rattle.cbdc_model.specs.Ranges.{shard_node};
 ghost use Rattle.lane_laws.specs.Answers.{LockAnswer, FinishAnswer, ForgetAnswer, AskedTimes, Locked, Stamped};
-ghost use Rattle.lane_driver.specs.Causes.{IsShardFault};
-ghost use Rattle.lane_driver.specs.Stops.{IsFaultOf, IsStoppedAt};
+ghost use Rattle.lane_driver.specs.Causes.{IsShardCause};
+ghost use Rattle.lane_driver.specs.Stops.{IsStopOf, IsStoppedAt};
 ghost use Rattle.lane_driver.specs.Told.{AreShardsOf, KeepNodes, AreLockCalls, AreFinishCalls, AreForgetCalls, AreShards, AreReplies, IsStamp};
 
 use crate::answer::{ShardFault, gather, latest};
-use crate::fault::{LaneFault, fault_at};
+use crate::fault::Stop;
 use crate::port::PortSet;
 use cbdc_types::{
     FinishCall, ForgetCall, LockCall, NodeFault, NodeId, Replied, Replies, Shape, ShardReplies,
@@ -17,12 +17,15 @@ use cbdc_types::{
 };
 use outside::Gate;
 
-// The fault of the lane, where a shard's was the first.
-fn of_shard(shape: &Shape, fault: ShardFault) -> LaneFault
+// Where the batch stopped, if this shard's fault was the first.
+fn of_shard(shape: &Shape, fault: ShardFault) -> Stop
     requires { fault.shard < shape.now.shards }
-    ensures { IsFaultOf result (shard_node shape.now fault.shard) fault.fault }
+    ensures { IsStopOf result (shard_node shape.now fault.shard) fault.fault }
 {
-    fault_at(NodeId(shape.coordinators() + fault.shard), fault.fault)
+    Stop {
+        node: NodeId(shape.coordinators() + fault.shard),
+        fault: fault.fault,
+    }
 }
 
 /// Makes the lock calls again, so many times, and drops the answers.
@@ -105,7 +108,7 @@ pub fn lock_phase<S: PortSet, G: Gate>(
     mut answers: Vec<Result<Replied, NodeFault>>,
     replies: Vec<ShardReplies>,
     gate: &G,
-) -> Result<Replies, LaneFault>
+) -> Result<Replies, Stop>
     requires count { S.count shards.old ≡ shape.now.shards }
     requires ledger { AreShardsOf shape.now (S.sights shards.old) }
     requires shards { AreShards shard shape.now.shards calls.now }
@@ -120,7 +123,7 @@ pub fn lock_phase<S: PortSet, G: Gate>(
     ensures holds { S.holds shards.old → S.holds shards.new }
     ensures told { IfOk result (Locked S.alone calls.now (S.sights shards.old) (S.sights shards.new)) }
     ensures stopped { IfErr result (IsStoppedAt shape.now (LockAnswer S.alone) calls.now (S.sights shards.old) (S.sights shards.new)) }
-    ensures fault { IfErr result (IsShardFault shape.now (S.sights shards.new)) }
+    ensures fault { IfErr result (λ e. IsShardCause shape.now (S.sights shards.new) e.node e.fault) }
     ensures replies { IfOk result (AreReplies shape.now) }
 {
     shards.lock(calls, &mut answers, gate);
@@ -137,7 +140,7 @@ pub fn finish_phase<S: PortSet, G: Gate>(
     calls: &[(u32, FinishCall)],
     answers: &mut Vec<Result<Stamp, NodeFault>>,
     gate: &G,
-) -> Result<Stamp, LaneFault>
+) -> Result<Stamp, Stop>
     requires count { S.count shards.old ≡ shape.now.shards }
     requires shards { AreShards shard shape.now.shards calls.now }
     requires calls { AreFinishCalls (S.sights shards.old) calls.now }
@@ -149,7 +152,7 @@ pub fn finish_phase<S: PortSet, G: Gate>(
     ensures holds { S.holds shards.old → S.holds shards.new }
     ensures told { IfOk result (Stamped (FinishAnswer S.alone) calls.now (S.sights shards.old) (S.sights shards.new)) }
     ensures stopped { IfErr result (IsStoppedAt shape.now (FinishAnswer S.alone) calls.now (S.sights shards.old) (S.sights shards.new)) }
-    ensures fault { IfErr result (IsShardFault shape.now (S.sights shards.new)) }
+    ensures fault { IfErr result (λ e. IsShardCause shape.now (S.sights shards.new) e.node e.fault) }
     ensures stamp { IfOk result IsStamp }
 {
     answers.clear();
@@ -167,7 +170,7 @@ pub fn forget_phase<S: PortSet, G: Gate>(
     calls: &[(u32, ForgetCall)],
     answers: &mut Vec<Result<Stamp, NodeFault>>,
     gate: &G,
-) -> Result<Stamp, LaneFault>
+) -> Result<Stamp, Stop>
     requires count { S.count shards.old ≡ shape.now.shards }
     requires shards { AreShards shard shape.now.shards calls.now }
     requires calls { AreForgetCalls (S.sights shards.old) calls.now }
@@ -179,7 +182,7 @@ pub fn forget_phase<S: PortSet, G: Gate>(
     ensures holds { S.holds shards.old → S.holds shards.new }
     ensures told { IfOk result (Stamped (ForgetAnswer S.alone) calls.now (S.sights shards.old) (S.sights shards.new)) }
     ensures stopped { IfErr result (IsStoppedAt shape.now (ForgetAnswer S.alone) calls.now (S.sights shards.old) (S.sights shards.new)) }
-    ensures fault { IfErr result (IsShardFault shape.now (S.sights shards.new)) }
+    ensures fault { IfErr result (λ e. IsShardCause shape.now (S.sights shards.new) e.node e.fault) }
     ensures stamp { IfOk result IsStamp }
 {
     answers.clear();

@@ -5,7 +5,6 @@ ghost use Rattle.cbdc_model.specs.Records.{Header, Compact};
 ghost use Rattle.cbdc_model.specs.Slots.{Phase, Idle, InPrepare, InCommit, InDiscard};
 ghost use Rattle.cbdc_model.specs.Grammar.{HasSize, IsCompact};
 ghost use Rattle.lane_driver.specs.Told.{IsLane, KeepsOthers, KeepNodes, AreLockCalls, AreFinishCalls, AreForgetCalls, AreShards, EachAnswer, LockTold, StampTold, AreReplies, IsPrepared, IsStamp};
-ghost use Rattle.lane_driver.specs.Faults.{kind_of};
 ghost use Rattle.lane_driver.specs.Causes.{IsLogCause};
 ghost use Rattle.lane_driver.specs.Calls.{shard};
 ghost use Rattle.cbdc_model.specs.Records.{outcomes_of};
@@ -91,7 +90,7 @@ pub trait LogPort {
         ensures others { KeepsOthers (header self.old) lane (phase self.old) (phase self.new) (open_txs self.old) (open_txs self.new) }
         ensures header { header self.new ≡ header self.old }
         ensures count { count self.new ≡ count self.old }
-        ensures fault { IfErr result (λ f. IsLogCause (kind_of f) (sights self.new (at self.new))) }
+        ensures fault { IfErr result (λ f. IsLogCause f (sights self.new (at self.new))) }
         ensures told { DecideAnswer alone lane replies.now (sights self.old (at self.old)) (sights self.new (at self.new)) result }
         ensures written { OnOk result (out.new.items ≡ outcomes_of (sights self.new (at self.new)).seen (open_batch (sights self.new (at self.new)).seen lane)) }
         ensures at_same { at self.new ≡ at self.old }

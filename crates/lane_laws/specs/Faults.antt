@@ -23,6 +23,15 @@ IsAnswered memory due now (Full used need capacity) = due ≡ Answers (Err (Full
 IsAnswered memory due now DiskFault = HasRisen now.opened now.faults
 IsAnswered memory due now Memory = memory ≡ true
 
+-- no shard refused the call
+abbrev pub IsNoRefusal : NodeFault → Type 0
+IsNoRefusal (Broken since) = Unit {0}
+IsNoRefusal (Refuses why) = ⊥
+IsNoRefusal (ClockEnd stamp) = Unit {0}
+IsNoRefusal (Full used need capacity) = Unit {0}
+IsNoRefusal DiskFault = Unit {0}
+IsNoRefusal Memory = Unit {0}
+
 -- the greatest stamp that the shards have of a kind of a batch
 abbrev pub latest_at : Shape → (ℕ → Sight) → ℕ → Batch → ℕ
 latest_at K shards kind b = greatest (λ s. stamp_in (record_of kind (shards s).seen b)) K.shards

@@ -11,7 +11,7 @@ use Rattle.lane_laws.specs.Batches.{own}
 use Rattle.lane_laws.proofs.Own.{own_out, record_own, slot_own}
 use Rattle.lane_driver.specs.declared.fault.LaneFault.{LaneFault}
 use Rattle.lane_driver.specs.declared.fault.LaneFaultKind.{LaneFaultKind}
-use Rattle.lane_driver.specs.declared.fault.LaneFaultKind.TheVariants.{DiskFault as DiskStopped, Full as NoRoom, ClockEnd as NoStamp, Memory as NoMemory, Refused as WasRefused}
+use Rattle.lane_driver.specs.declared.fault.LaneFaultKind.TheVariants.{DiskFault as DiskStopped, Full as NoRoom, ClockEnd as NoStamp, Memory as NoMemory}
 use Rattle.ledger_runs.specs.Turning.{IsLaneOf}
 use Rattle.ledger_runs.specs.Waving.{NoFault, TurnsAt}
 use Rattle.ledger_runs.specs.Faults.{AreOfLane, GrowBy, IsWanted, wants_prepare, wants_lock, IsCauseOf, IsLaneCause, IsSomeCauseOf, IsRunCause, HaveFailed, MayHold, Nothing, IsThese, IsPiece, HaveCauses, IsTurnCause}
@@ -85,7 +85,6 @@ module _ (K : Shape) (lane : ℕ) (next due : List Compact → Type 0) (E F J X 
     above = h.above;
   }
   cause_moves node NoMemory h = tt
-  cause_moves node (WasRefused why) h = absurd h
 
 wanted_by : (K : Shape) (lane : ℕ) (next due : List Compact → Type 0) (X : ℕ → List Record) → ((txs : List Compact) → next txs → due txs) → (node : ℕ) (front : List Record) (r : Record)
     → IsWanted K lane next X node front r → IsWanted K lane due X node front r
@@ -115,7 +114,6 @@ cause_any K lane next E X failed holds inside e h = go e.fault h
     go (NoRoom used need capacity) cause = (lane, inside, cause)
     go (NoStamp stamp) cause = (lane, inside, cause)
     go NoMemory cause = tt
-    go (WasRefused why) cause = cause
 
 -- a run's fault, from an earlier entry and by later counts
 pub run_moves : (K : Shape) (next due : ℕ → List Compact → Type 0) (E F X : ℕ → List Record) (failed fails : ℕ → Type 0) (holds held : ℕ → ℕ → Type 0) → ((n : ℕ) → IsEnd (F n) (E n))
@@ -131,7 +129,6 @@ run_moves K next due E F X failed fails holds held before on failed_on held_on e
     go (NoRoom used need capacity) (lane, inside, cause) = (lane, inside, moves lane (NoRoom used need capacity) cause)
     go (NoStamp stamp) (lane, inside, cause) = (lane, inside, moves lane (NoStamp stamp) cause)
     go NoMemory cause = tt
-    go (WasRefused why) cause = cause
 
 -- want of memory is free
 pub of_memory : (K : Shape) (lane : ℕ) (next : List Compact → Type 0) (E X : ℕ → List Record) (failed : ℕ → Type 0) (holds : ℕ → ℕ → Type 0) (e : LaneFault) → e.fault ≡ NoMemory

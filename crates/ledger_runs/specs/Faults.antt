@@ -10,7 +10,7 @@ use Rattle.cbdc_model.specs.Sights.{HasRisen}
 use Rattle.lane_laws.specs.Calls.{is_concerned}
 use Rattle.lane_driver.specs.declared.fault.LaneFault.{LaneFault}
 use Rattle.lane_driver.specs.declared.fault.LaneFaultKind.{LaneFaultKind}
-use Rattle.lane_driver.specs.declared.fault.LaneFaultKind.TheVariants.{DiskFault as DiskStopped, Full as NoRoom, ClockEnd as NoStamp, Memory as NoMemory, Refused as WasRefused}
+use Rattle.lane_driver.specs.declared.fault.LaneFaultKind.TheVariants.{DiskFault as DiskStopped, Full as NoRoom, ClockEnd as NoStamp, Memory as NoMemory}
 use Rattle.ledger_runs.specs.Turning.{phase_at, IsLaneOf}
 use Rattle.ledger_runs.specs.Waving.{EachLane}
 use Rattle.ledger_runs.specs.declared.lanes.Lane.{Lane}
@@ -55,13 +55,12 @@ pub record HasNoStampFor (K : Shape) (lane : ℕ) (next : List Compact → Type 
   pub above : 2 ^ 62 < stamp
 
 -- the cause of a lane's fault of this node and kind, from journals E to X, by the nodes whose disks have failed and what disks may hold: a node of
--- the ledger has a disk that failed; or no room or no stamp for what the lane wants; want of memory is free; and no shard refuses a call
+-- the ledger has a disk that failed; or no room or no stamp for what the lane wants; want of memory is free
 abbrev pub IsCauseOf : Shape → ℕ → (List Compact → Type 0) → (ℕ → List Record) → (ℕ → List Record) → (ℕ → Type 0) → (ℕ → ℕ → Type 0) → ℕ → LaneFaultKind → Type 0
 IsCauseOf K lane next E X failed may_hold node DiskStopped = (node < K.coordinators + K.shards) × failed node
 IsCauseOf K lane next E X failed may_hold node (NoRoom used need capacity) = HasNoRoomFor K lane next E X may_hold node used need capacity
 IsCauseOf K lane next E X failed may_hold node (NoStamp stamp) = HasNoStampFor K lane next E X node stamp
 IsCauseOf K lane next E X failed may_hold node NoMemory = Unit {0}
-IsCauseOf K lane next E X failed may_hold node (WasRefused why) = ⊥
 
 abbrev pub IsLaneCause : Shape → ℕ → (List Compact → Type 0) → (ℕ → List Record) → (ℕ → List Record) → (ℕ → Type 0) → (ℕ → ℕ → Type 0) → LaneFault → Type 0
 IsLaneCause K lane next E X failed may_hold e = IsCauseOf K lane next E X failed may_hold e.node e.fault
@@ -72,7 +71,6 @@ IsSomeCauseOf K next E X failed may_hold node DiskStopped = (node < K.coordinato
 IsSomeCauseOf K next E X failed may_hold node (NoRoom used need capacity) = (lane : ℕ) × IsLaneOf K lane × HasNoRoomFor K lane (next lane) E X may_hold node used need capacity
 IsSomeCauseOf K next E X failed may_hold node (NoStamp stamp) = (lane : ℕ) × IsLaneOf K lane × HasNoStampFor K lane (next lane) E X node stamp
 IsSomeCauseOf K next E X failed may_hold node NoMemory = Unit {0}
-IsSomeCauseOf K next E X failed may_hold node (WasRefused why) = ⊥
 
 abbrev pub IsRunCause : Shape → (ℕ → List Compact → Type 0) → (ℕ → List Record) → (ℕ → List Record) → (ℕ → Type 0) → (ℕ → ℕ → Type 0) → LaneFault → Type 0
 IsRunCause K next E X failed may_hold e = IsSomeCauseOf K next E X failed may_hold e.node e.fault

@@ -7,7 +7,6 @@ ghost use Rattle.cbdc_model.specs.Slots.{slot, Idle, InPrepare, InCommit, InDisc
 ghost use Rattle.cbdc_model.specs.Sights.{Told, IsSameNode};
 ghost use Rattle.lane_laws.specs.Answers.{DecideAnswer};
 ghost use Rattle.lane_driver.specs.Told.{IsLane, IsPrepared, IsStamp, AreReplies};
-ghost use Rattle.lane_driver.specs.Faults.{kind_of};
 ghost use Rattle.lane_driver.specs.Causes.{IsLogCause};
 ghost use Rattle.coord_log.specs.Logs.{sight};
 ghost use Rattle.node_ports.specs.Nodes.{sight_at, KeepsRest, IsLogHeld, AreLogsHeld};
@@ -87,7 +86,7 @@ fn decide_at<D: Disk>(
     requires empty { out.old.items ≡ [] }
     requires room { length (txs_of log.old.journal (open_batch log.old.journal lane)) ≤ vec_capacity out.old }
     ensures told { DecideAnswer true lane replies.now (sight log.old) (sight log.new) result }
-    ensures fault { IfErr result (λ f. IsLogCause (kind_of f) (sight log.new)) }
+    ensures fault { IfErr result (λ f. IsLogCause f (sight log.new)) }
     ensures stamp { IfOk result IsStamp }
     ensures phase { OnOk result ((slot log.new.journal lane).phase ≡ InCommit) }
     ensures outcomes { OnOk result (length out.new.items ≡ length (txs_of log.old.journal (open_batch log.old.journal lane))) }

@@ -13,7 +13,7 @@ use Rattle.ledger_laws.proofs.Cuts.{end_self}
 use Rattle.lane_laws.specs.Calls.{is_concerned}
 use Rattle.lane_driver.specs.declared.fault.LaneFault.{LaneFault}
 use Rattle.lane_driver.specs.declared.fault.LaneFaultKind.{LaneFaultKind}
-use Rattle.lane_driver.specs.declared.fault.LaneFaultKind.TheVariants.{DiskFault as DiskStopped, Full as NoRoom, ClockEnd as NoStamp, Memory as NoMemory, Refused as WasRefused}
+use Rattle.lane_driver.specs.declared.fault.LaneFaultKind.TheVariants.{DiskFault as DiskStopped, Full as NoRoom, ClockEnd as NoStamp, Memory as NoMemory}
 use Rattle.coord_log.specs.Logs.{LogOf}
 use Rattle.shard_node.specs.Shards.{ShardOf}
 use Rattle.rack_nodes.specs.Racked.{OfTold}
@@ -44,7 +44,6 @@ answered K next E X failed holds e h = go e.fault h
     go (NoRoom used need capacity) h = h
     go (NoStamp stamp) h = h
     go NoMemory h = tt
-    go (WasRefused why) h = absurd h
 
 pub came_cause : (K : Shape) (next : ℕ → List Compact → Type 0) (E X : ℕ → List Record) (failed : ℕ → Type 0) (holds : ℕ → ℕ → Type 0) (came : Result Ran Answer) (over : Result Over LaneFault)
     → IfErr came (λ a. (a ≡ answers.Memory) ⊎ ((e : LaneFault) × (over ≡ Err e) × (a ≡ answer_to e))) → IfErr over (IsRunCause K next E X failed holds) → IfErr came (IsLaneAnswer K next E X failed holds)

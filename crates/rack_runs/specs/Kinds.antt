@@ -5,7 +5,7 @@ use Rattle.cbdc_types.specs.declared.answer.Answer.TheVariants as answers
 use Rattle.cbdc_model.specs.Records.{Shape, Compact, Record}
 use Rattle.lane_driver.specs.declared.fault.LaneFault.{LaneFault}
 use Rattle.lane_driver.specs.declared.fault.LaneFaultKind.{LaneFaultKind}
-use Rattle.lane_driver.specs.declared.fault.LaneFaultKind.TheVariants.{DiskFault as DiskStopped, Full as NoRoom, ClockEnd as NoStamp, Memory as NoMemory, Refused as WasRefused}
+use Rattle.lane_driver.specs.declared.fault.LaneFaultKind.TheVariants.{DiskFault as DiskStopped, Full as NoRoom, ClockEnd as NoStamp, Memory as NoMemory}
 use Rattle.ledger_runs.specs.Turning.{IsLaneOf}
 use Rattle.ledger_runs.specs.Faults.{HasNoRoomFor, HasNoStampFor}
 
@@ -15,7 +15,6 @@ answer_at node DiskStopped = answers.DiskFault node
 answer_at node (NoRoom used need capacity) = answers.Full node used need capacity
 answer_at node (NoStamp stamp) = answers.ClockEnd node stamp
 answer_at node NoMemory = answers.Memory
-answer_at node (WasRefused why) = answers.Memory
 
 abbrev pub answer_to : LaneFault → Answer
 answer_to e = answer_at e.node e.fault

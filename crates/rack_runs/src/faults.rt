@@ -24,7 +24,5 @@ pub(crate) fn answer_of(fault: &LaneFault) -> Answer
         },
         LaneFaultKind::ClockEnd { stamp } => Answer::ClockEnd { node, stamp },
         LaneFaultKind::Memory => Answer::Memory,
-        // No shard refuses a call of an open batch where all records are caused, which is looked at before.
-        LaneFaultKind::Refused(_) => Answer::Memory,
     }
 }

@@ -1,18 +1,18 @@
 // Open batches are taken to their end.
-ghost use Rattle.std.specs.Prelude.{◌≡◌, ◌≢◌, ◌≤◌, ◌<◌, ℕ, [], length, IfOk, IfErr, OnOk, All};
+ghost use Rattle.std.specs.Prelude.{◌≡◌, ◌≢◌, ◌≤◌, ◌<◌, ℕ, true, [], length, IfOk, IfErr, OnOk, All};
 ghost use Rattle.std.specs.Vec.{vec_capacity};
 ghost use Rattle.cbdc_model.specs.Slots.{Idle};
 ghost use Rattle.cbdc_types.specs.declared.batch.Phase.TheVariants.{Prepared, Committed, Discarded};
 ghost use Rattle.lane_laws.specs.Resuming.{IsTakenUp};
 ghost use Rattle.lane_driver.specs.Told.{KeepsOthers, AreShardsOf, KeepNodes};
 ghost use Rattle.lane_driver.specs.Causes.{IsCausedFault};
-ghost use Rattle.recovery.specs.Open.{IsOpen, LanesRise, IsResumed, AreResumed, IsUnfinished, HasItsOutcomes, IsResumeStopped};
+ghost use Rattle.recovery.specs.Open.{IsOpen, LanesRise, IsResumed, AreResumed, IsUnfinished, AreUnfinished, HasItsOutcomes, IsResumeStopped};
 
 use crate::resumed::{Resumed, ResumedBatch};
 use cbdc_types::{List, OpenLane, Outcome, Outcomes, Phase, Shape};
 use lane_driver::{
     BatchRoom, LaneFault, LaterRoom, LogPort, PortSet, Ports, from_committed, from_discarded,
-    from_prepared, lock_calls, no_memory,
+    from_prepared, lane_fault, lock_calls, no_memory,
 };
 use outside::Gate;
 use std::alloc::{AllocError, Global};
@@ -36,6 +36,7 @@ fn resume_prepared<S: PortSet, L: LogPort, G: Gate>(
     requires same { S.alone ≡ L.alone }
     requires at { L.at ports.old.log ≡ (L.header ports.old.log).node }
     requires is_open { IsOpen (L.header ports.old.log) (L.phase ports.old.log) (L.open_txs ports.old.log) unfinished.now }
+    requires stands { IsUnfinished unfinished.now.phase shape.now unfinished.now (L.sights ports.old.log (L.at ports.old.log)) (S.sights ports.old.shards) }
     requires shape { (L.header ports.old.log).shape ≡ shape.now }
     requires count { S.count ports.old.shards ≡ shape.now.shards }
     requires ledger { AreShardsOf shape.now (S.sights ports.old.shards) }
@@ -77,7 +78,7 @@ fn resume_prepared<S: PortSet, L: LogPort, G: Gate>(
             phase: Phase::Prepared,
             outcomes,
         }),
-        Err(fault) => Err(fault),
+        Err(stop) => Err(lane_fault(stop)),
     }
 }
 
@@ -93,6 +94,7 @@ fn resume_committed<S: PortSet, L: LogPort, G: Gate>(
     requires same { S.alone ≡ L.alone }
     requires at { L.at ports.old.log ≡ (L.header ports.old.log).node }
     requires is_open { IsOpen (L.header ports.old.log) (L.phase ports.old.log) (L.open_txs ports.old.log) unfinished.now }
+    requires stands { IsUnfinished unfinished.now.phase shape.now unfinished.now (L.sights ports.old.log (L.at ports.old.log)) (S.sights ports.old.shards) }
     requires shape { (L.header ports.old.log).shape ≡ shape.now }
     requires count { S.count ports.old.shards ≡ shape.now.shards }
     requires ledger { AreShardsOf shape.now (S.sights ports.old.shards) }
@@ -151,7 +153,7 @@ fn resume_committed<S: PortSet, L: LogPort, G: Gate>(
             phase: Phase::Committed,
             outcomes,
         }),
-        Err(fault) => Err(fault),
+        Err(stop) => Err(lane_fault(stop)),
     }
 }
 
@@ -167,6 +169,7 @@ fn resume_discarded<S: PortSet, L: LogPort, G: Gate>(
     requires same { S.alone ≡ L.alone }
     requires at { L.at ports.old.log ≡ (L.header ports.old.log).node }
     requires is_open { IsOpen (L.header ports.old.log) (L.phase ports.old.log) (L.open_txs ports.old.log) unfinished.now }
+    requires stands { IsUnfinished unfinished.now.phase shape.now unfinished.now (L.sights ports.old.log (L.at ports.old.log)) (S.sights ports.old.shards) }
     requires shape { (L.header ports.old.log).shape ≡ shape.now }
     requires count { S.count ports.old.shards ≡ shape.now.shards }
     requires ledger { AreShardsOf shape.now (S.sights ports.old.shards) }
@@ -230,7 +233,7 @@ fn resume_discarded<S: PortSet, L: LogPort, G: Gate>(
             phase: Phase::Discarded,
             outcomes,
         }),
-        Err(fault) => Err(fault),
+        Err(stop) => Err(lane_fault(stop)),
     }
 }
 
@@ -245,6 +248,7 @@ pub fn resume_lane<S: PortSet, L: LogPort, G: Gate>(
     requires same { S.alone ≡ L.alone }
     requires at { L.at ports.old.log ≡ (L.header ports.old.log).node }
     requires is_open { IsOpen (L.header ports.old.log) (L.phase ports.old.log) (L.open_txs ports.old.log) unfinished.now }
+    requires stands { IsUnfinished unfinished.now.phase shape.now unfinished.now (L.sights ports.old.log (L.at ports.old.log)) (S.sights ports.old.shards) }
     requires shape { (L.header ports.old.log).shape ≡ shape.now }
     requires count { S.count ports.old.shards ≡ shape.now.shards }
     requires ledger { AreShardsOf shape.now (S.sights ports.old.shards) }
@@ -276,7 +280,7 @@ pub fn resume_lane<S: PortSet, L: LogPort, G: Gate>(
 
 /// Takes each open batch of a coordinator's lanes to its end, in the list's order: a prepared batch asks Lock again at
 /// each concerned shard and goes on, a committed one asks Finish, a discarded one Forget. The list has each lane that is
-/// not idle once, in rising order.
+/// not idle once, in rising order. Where it has more than one, no other lane writes meanwhile.
 pub fn resume<S: PortSet, L: LogPort, G: Gate>(
     alloc: Global,
     shape: &Shape,
@@ -286,7 +290,9 @@ pub fn resume<S: PortSet, L: LogPort, G: Gate>(
 ) -> Result<Resumed, LaneFault>
     requires same { S.alone ≡ L.alone }
     requires at { L.at ports.old.log ≡ (L.header ports.old.log).node }
+    requires alone { 1 < length lanes.now → S.alone ≡ true }
     requires is_open { All (IsOpen (L.header ports.old.log) (L.phase ports.old.log) (L.open_txs ports.old.log)) lanes.now }
+    requires stand { AreUnfinished shape.now lanes.now (L.sights ports.old.log (L.at ports.old.log)) (S.sights ports.old.shards) }
     requires rise { LanesRise lanes.now }
     requires shape { (L.header ports.old.log).shape ≡ shape.now }
     requires count { S.count ports.old.shards ≡ shape.now.shards }

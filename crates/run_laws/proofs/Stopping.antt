@@ -30,7 +30,8 @@ use Rattle.run_laws.specs.Runs.{seen_by}
 use Rattle.run_laws.specs.Faults.{IsNext, next_prepare, next_lock, HasFailed, IsStopBy, opened_by, faults_by, capacity_by, StopLaw}
 use Rattle.run_laws.proofs.Seen.{seen_log, seen_shard}
 use Rattle.run_laws.proofs.Checked.{Any, rows_of}
-use Rattle.run_laws.proofs.Granting.{concerned, late_refuses, grant_law}
+use Rattle.lane_laws.proofs.Grants.{late_refuses}
+use Rattle.run_laws.proofs.Granting.{concerned, grant_law}
 
 -- ---- a call that takes room
 

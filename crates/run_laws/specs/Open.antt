@@ -8,7 +8,7 @@ use Rattle.cbdc_model.specs.Due.{open_batch}
 use Rattle.cbdc_model.specs.Coins.{Output, FullTx}
 use Rattle.cbdc_model.specs.World.{KeptJournals}
 use Rattle.cbdc_model.specs.Sights.{Sight}
-use Rattle.lane_laws.specs.Resuming.{IsOpenAt, IsCommittedAt, IsDiscardedAt}
+use Rattle.lane_laws.specs.Resuming.{IsPreparedAt, IsCommittedAt, IsDiscardedAt}
 use Rattle.cbdc_model.specs.History.{Minted}
 use Rattle.run_laws.specs.Checked.{CheckedJournals}
 use Rattle.run_laws.specs.Runs.{seen_by}
@@ -28,7 +28,7 @@ abbrev pub IsOpenBy : Phase → Shape → Batch → Sight → (ℕ → Sight) �
 IsOpenBy Idle K b log shards = Unit {0}
 IsOpenBy InLock K b log shards = ⊥
 IsOpenBy InFinish K b log shards = ⊥
-IsOpenBy InPrepare K b log shards = IsFit K b log.seen × IsOpenAt InPrepare K b (txs_of log.seen b) (slot_stamp log.seen b.lane) log shards
+IsOpenBy InPrepare K b log shards = IsFit K b log.seen × IsPreparedAt K b (txs_of log.seen b) (slot_stamp log.seen b.lane) log shards
 IsOpenBy InCommit K b log shards =
     IsFit K b log.seen × HasAll b log.seen
     × ((prepared : ℕ) × IsCommittedAt K b (txs_of log.seen b) prepared (slot_stamp log.seen b.lane) (outcomes_of log.seen b) log shards)

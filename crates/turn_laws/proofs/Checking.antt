@@ -15,23 +15,23 @@ use Rattle.lane_laws.specs.Batches.{Settled}
 use Rattle.lane_laws.specs.Resuming.{IsTakenUp}
 use Rattle.lane_driver.specs.declared.fault.LaneFault.{LaneFault}
 use Rattle.lane_driver.specs.declared.fault.BatchReport.{BatchReport}
-use Rattle.lane_driver.specs.declared.fault.LaneFaultKind.TheVariants.{Memory as NoMemory}
-use Rattle.lane_driver.specs.Faults.{kind_of}
+use Rattle.lane_driver.specs.declared.fault.LaneFaultKind.TheVariants.{DiskFault as DiskStopped, Full as NoRoom, ClockEnd as NoStamp, Memory as NoMemory}
+use Rattle.lane_driver.specs.Faults.{IsFaultOf}
 use Rattle.lane_driver.specs.Told.{KeepNodes}
-use Rattle.lane_driver.specs.Stops.{IsFaultOf, IsBatchStopped, IsOneBatch}
+use Rattle.lane_driver.specs.Stops.{IsBatchStopped, IsOneBatch}
 use Rattle.coord_log.specs.OpenLanes.{open_lane}
 use Rattle.recovery.specs.Open.{IsUnfinished, IsResumeStopped}
 use Rattle.run_laws.specs.Runs.{seen_by, IsTurn}
 use Rattle.run_laws.specs.Turns.{Elsewhere}
 use Rattle.run_laws.specs.Checked.{CheckedJournals}
-use Rattle.run_laws.specs.Faults.{IsNext, next_prepare, next_lock, IsStopBy, opened_by, faults_by, capacity_by}
+use Rattle.run_laws.specs.Faults.{IsNext, next_prepare, next_lock, HasNoRoom, HasNoStamp, HasFailed, IsStopBy, opened_by, faults_by, capacity_by}
 use Rattle.run_laws.proofs.TurnStep.{lifted, checked_turn_law}
 use Rattle.run_laws.proofs.Rests.{checked_rest_law}
 use Rattle.run_laws.proofs.OpenLanes.{checked_resume_law}
 use Rattle.run_laws.proofs.Nodes.{nodes_law}
 use Rattle.run_laws.proofs.TurnKinds.{taken_law}
 use Rattle.run_laws.proofs.Stopping.{stop_law}
-use Rattle.ledger_runs.specs.Faults.{AreOfLane, GrowBy, IsWanted, wants_prepare, wants_lock, IsCauseOf, IsLaneCause, HaveFailed, MayHold, Nothing, IsThese}
+use Rattle.ledger_runs.specs.Faults.{AreOfLane, GrowBy, IsWanted, wants_prepare, wants_lock, IsLaneCause, HaveFailed, MayHold, Nothing, IsThese}
 use Rattle.turn_laws.specs.Nodes.{AreNodes}
 use Rattle.turn_laws.proofs.Headers.{are_journals}
 use Rattle.turn_laws.proofs.OpenThere.{told_lane, unfinished}
@@ -64,37 +64,44 @@ wanted_of K lane next J node r (next_lock b t txs s is at concerned phase stands
     wants_lock b t txs s is at concerned (subst (λ l. (slot (J (home_of K l)) l).phase ≡ InPrepare) is phase) (subst (λ l. record_of 6 (J (home_of K l)) b ≡ Some (Prepare t b txs)) is stands)
     (subst (λ l. (slot (J node) l).number < b.number) is behind) e
 
-kind_cause : (K : Shape) (lane : ℕ) (next : List Compact → Type 0) (I J : ℕ → List Record) (opened faults capacity : ℕ → ℕ) → GrowBy lane I J → (node : ℕ) (f : NodeFault)
-    → IsStopBy K lane next J opened faults capacity node f → IsCauseOf K lane next I J (HaveFailed opened faults) (MayHold capacity) node (kind_of f)
-kind_cause K lane next I J opened faults capacity grown node (Broken since) h = (h.node_is, h.rose)
-kind_cause K lane next I J opened faults capacity grown node (Refuses why) h = absurd h
-kind_cause K lane next I J opened faults capacity grown node (ClockEnd stamp) h = record {
-  front = J node;
-  since = ((grown node).0, (grown node).1);
-  within = end_self (J node);
-  wanted = h.wanted;
-  is_wanted = wanted_of K lane next J node h.wanted h.is_next;
-  stamp_is = h.stamp_is;
-  above = h.above;
-}
-kind_cause K lane next I J opened faults capacity grown node (Full used need limit) h = record {
-  front = J node;
-  since = ((grown node).0, (grown node).1);
-  within = end_self (J node);
-  wanted = h.wanted;
-  is_wanted = wanted_of K lane next J node h.wanted h.is_next;
-  capacity_is = h.limit_is;
-  used_is = h.used_is;
-  need_is = h.need_is;
-  above = h.above;
-}
-kind_cause K lane next I J opened faults capacity grown node DiskFault h = (h.node_is, h.rose)
-kind_cause K lane next I J opened faults capacity grown node Memory h = tt
+module _ (K : Shape) (lane : ℕ) (next : List Compact → Type 0) (I J : ℕ → List Record) (opened faults capacity : ℕ → ℕ) (grown : GrowBy lane I J) where
+  abbrev Causes : LaneFault → Type 0
+  Causes e = IsLaneCause K lane next I J (HaveFailed opened faults) (MayHold capacity) e
 
-fault_cause : (K : Shape) (lane : ℕ) (next : List Compact → Type 0) (I J : ℕ → List Record) (opened faults capacity : ℕ → ℕ) → GrowBy lane I J → (e : LaneFault) (node : ℕ) (f : NodeFault) → IsFaultOf e node f
-    → IsStopBy K lane next J opened faults capacity node f → IsLaneCause K lane next I J (HaveFailed opened faults) (MayHold capacity) e
-fault_cause K lane next I J opened faults capacity grown e node f is stop =
-    subst (λ x. IsLaneCause K lane next I J (HaveFailed opened faults) (MayHold capacity) x) (sym is) (kind_cause K lane next I J opened faults capacity grown node f stop)
+  failed : (e : LaneFault) (node : ℕ) → e ≡ record { node = node; fault = DiskStopped } → HasFailed K opened faults node → Causes e
+  failed e node is h = subst Causes (sym is) (h.node_is, h.rose)
+
+  no_stamp : (e : LaneFault) (node stamp : ℕ) → e ≡ record { node = node; fault = NoStamp stamp } → HasNoStamp K lane next J node stamp → Causes e
+  no_stamp e node stamp is h = subst Causes (sym is) (record {
+    front = J node;
+    since = ((grown node).0, (grown node).1);
+    within = end_self (J node);
+    wanted = h.wanted;
+    is_wanted = wanted_of K lane next J node h.wanted h.is_next;
+    stamp_is = h.stamp_is;
+    above = h.above;
+  })
+
+  no_room : (e : LaneFault) (node used need limit : ℕ) → e ≡ record { node = node; fault = NoRoom used need limit } → HasNoRoom K lane next J (capacity node) node used need limit → Causes e
+  no_room e node used need limit is h = subst Causes (sym is) (record {
+    front = J node;
+    since = ((grown node).0, (grown node).1);
+    within = end_self (J node);
+    wanted = h.wanted;
+    is_wanted = wanted_of K lane next J node h.wanted h.is_next;
+    capacity_is = h.limit_is;
+    used_is = h.used_is;
+    need_is = h.need_is;
+    above = h.above;
+  })
+
+  fault_cause : (e : LaneFault) (node : ℕ) (f : NodeFault) → IsFaultOf e node f → IsStopBy K lane next J opened faults capacity node f → Causes e
+  fault_cause e node (Broken since) is h = failed e node is h
+  fault_cause e node (Refuses why) is h = absurd h
+  fault_cause e node (ClockEnd stamp) is h = no_stamp e node stamp is h
+  fault_cause e node (Full used need limit) is h = no_room e node used need limit is h
+  fault_cause e node DiskFault is h = failed e node is h
+  fault_cause e node Memory is h = subst Causes (sym is) tt
 
 -- ---- turns
 

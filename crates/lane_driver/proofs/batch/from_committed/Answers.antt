@@ -2,7 +2,7 @@ use Rattle.std.proofs.Common.{◌∙◌, refl, map}
 use Rattle.cbdc_model.specs.Ranges.{home_of}
 use Rattle.lane_laws.specs.Calls.{finish_of, forget_of}
 use Rattle.lane_laws.specs.Answers.{LockAnswer, FinishAnswer, ForgetAnswer}
-use Rattle.lane_driver.proofs.Turning.{turn_stamped, turn_times, finish_stops, discard_stops, later_stops, home_fault}
+use Rattle.lane_driver.proofs.Turning.{turn_stamped, turn_times, finish_stops, discard_stops, later_stops, home_stop}
 use Rattle.cbdc_model.specs.Calls.{IsLockCall, IsFinishCall, IsForgetCall}
 use Rattle.lane_driver.proofs.Ready.{finish_shards, forget_shards}
 use Rattle.lane_driver.proofs.Fitting.{finishes_ready, forgets_ready, calls_kept, ledger_kept, nodes_same, nodes_on}
@@ -69,7 +69,7 @@ returns-in-Err-clause-stopped g c = finish_stops c.args.shape.now g.S.PortSet.al
 pub returns-in-Err-discard-clause-stopped : goal.returns-in-Err-discard-clause-stopped
 returns-in-Err-discard-clause-stopped g c = discard_stops c.args.shape.now g.S.PortSet.alone g.L.LogPort.alone c.args.batch.now c.args.cause c.args.outcomes.now c.args.repeats c.in-Ok.stamp c.args.locks.now c.deref.result.now c.deref-2.result.now (g.L.LogPort.sights c.args.ports.now.log (g.L.LogPort.at c.args.ports.now.log)) (g.L.LogPort.sights c.discard.new.self (g.L.LogPort.at c.discard.new.self))
     (g.S.PortSet.sights c.args.ports.now.shards) (g.S.PortSet.sights c.finish_phase.new.shards) (g.S.PortSet.sights c.finish_again.new.shards) c.requires.same (c.deref.ensures.value ∙ c.finish_calls.ensures) (c.deref-2.ensures.value ∙ c.finish_calls.ensures) c.in-Ok.ensures.told c.finish_again.ensures.told
-    c.in-Err-discard.fault c.fault_at.result (home_fault c.fault_at.result c.home.result (home_of c.args.shape.now c.args.batch.now.lane) c.in-Err-discard.fault c.fault_at.ensures c.home.ensures) c.in-Err-discard.ensures.told
+    c.in-Err-discard.fault (record { node = c.home.result; fault = c.in-Err-discard.fault }) (home_stop c.home.result (home_of c.args.shape.now c.args.batch.now.lane) c.in-Err-discard.fault c.home.ensures) c.in-Err-discard.ensures.told
 
 pub returns-in-Err-from_discarded-clause-stopped : goal.returns-in-Err-from_discarded-clause-stopped
 returns-in-Err-from_discarded-clause-stopped g c = later_stops c.args.shape.now g.S.PortSet.alone g.L.LogPort.alone c.args.batch.now c.args.cause c.args.outcomes.now c.args.repeats c.in-Ok.stamp c.args.locks.now c.deref.result.now c.deref-2.result.now (g.L.LogPort.sights c.args.ports.now.log (g.L.LogPort.at c.args.ports.now.log)) (g.L.LogPort.sights c.discard.new.self (g.L.LogPort.at c.discard.new.self))
@@ -86,8 +86,8 @@ pub returns-in-Err-clause-fault : goal.returns-in-Err-clause-fault
 returns-in-Err-clause-fault g c = inr (inr c.in-Err.ensures.fault)
 
 pub returns-in-Err-discard-clause-fault : goal.returns-in-Err-discard-clause-fault
-returns-in-Err-discard-clause-fault g c = log_fault c.args.shape.now c.args.batch.now.lane (g.L.LogPort.at c.discard.new.self) (g.L.LogPort.sights c.discard.new.self) (g.S.PortSet.sights c.finish_again.new.shards) c.in-Err-discard.fault c.fault_at.result c.requires.batch.0 (c.in-Err-discard.ensures.at_same ∙ c.requires.at)
-    (home_fault c.fault_at.result c.home.result (home_of c.args.shape.now c.args.batch.now.lane) c.in-Err-discard.fault c.fault_at.ensures c.home.ensures)
+returns-in-Err-discard-clause-fault g c = log_fault c.args.shape.now c.args.batch.now.lane (g.L.LogPort.at c.discard.new.self) (g.L.LogPort.sights c.discard.new.self) (g.S.PortSet.sights c.finish_again.new.shards) c.in-Err-discard.fault (record { node = c.home.result; fault = c.in-Err-discard.fault }) c.requires.batch.0 (c.in-Err-discard.ensures.at_same ∙ c.requires.at)
+    (home_stop c.home.result (home_of c.args.shape.now c.args.batch.now.lane) c.in-Err-discard.fault c.home.ensures)
     (discard_caused g.L.LogPort.alone c.args.batch.now.lane c.in-Ok.stamp (g.L.LogPort.sights c.args.ports.now.log (g.L.LogPort.at c.args.ports.now.log)) (g.L.LogPort.sights c.discard.new.self (g.L.LogPort.at c.discard.new.self)) c.in-Err-discard.fault c.in-Err-discard.ensures.told)
 
 pub returns-clause-nodes : goal.returns-clause-nodes

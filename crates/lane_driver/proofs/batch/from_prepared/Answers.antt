@@ -2,7 +2,7 @@ use Rattle.std.proofs.Common.{◌∙◌, refl, sym, ap, length, map}
 use Rattle.cbdc_model.specs.Ranges.{home_of}
 use Rattle.lane_laws.specs.Calls.{lock_of}
 use Rattle.lane_laws.specs.Answers.{LockAnswer}
-use Rattle.lane_driver.proofs.Turning.{turn_locked, turn_times, turn_committed, lock_stops, decide_stops, commit_stops, home_fault}
+use Rattle.lane_driver.proofs.Turning.{turn_locked, turn_times, turn_committed, lock_stops, decide_stops, commit_stops, home_stop}
 use Rattle.std.proofs.lemmas.List.{length-map}
 use Rattle.lane_driver.proofs.Ready.{lock_shards, lock_sizes, later_room}
 use Rattle.cbdc_model.specs.Calls.{IsLockCall}
@@ -68,7 +68,7 @@ returns-in-Err-clause-stopped g c = lock_stops c.args.shape.now g.S.PortSet.alon
 pub returns-in-Err-decide-clause-stopped : goal.returns-in-Err-decide-clause-stopped
 returns-in-Err-decide-clause-stopped g c = decide_stops c.args.shape.now g.S.PortSet.alone g.L.LogPort.alone c.args.batch.now c.args.cause c.args.repeats c.in-Ok.replies c.args.room.parts c.deref.result.now c.deref-2.result.now (g.L.LogPort.sights c.args.ports.now.log (g.L.LogPort.at c.args.ports.now.log)) (g.L.LogPort.sights c.decide.new.self (g.L.LogPort.at c.decide.new.self))
     (g.S.PortSet.sights c.args.ports.now.shards) (g.S.PortSet.sights c.lock_phase.new.shards) (g.S.PortSet.sights c.lock_again.new.shards) c.requires.same (c.deref.ensures.value ∙ c.lock_calls.ensures) (c.deref-2.ensures.value ∙ c.lock_calls.ensures) c.in-Ok.ensures.told c.lock_again.ensures.told
-    c.in-Err-decide.fault c.fault_at.result (home_fault c.fault_at.result c.home.result (home_of c.args.shape.now c.args.batch.now.lane) c.in-Err-decide.fault c.fault_at.ensures c.home.ensures) c.in-Err-decide.ensures.told
+    c.in-Err-decide.fault (record { node = c.home.result; fault = c.in-Err-decide.fault }) (home_stop c.home.result (home_of c.args.shape.now c.args.batch.now.lane) c.in-Err-decide.fault c.home.ensures) c.in-Err-decide.ensures.told
 
 pub returns-clause-stopped : goal.returns-clause-stopped
 returns-clause-stopped g c = commit_stops c.args.shape.now g.S.PortSet.alone g.L.LogPort.alone c.args.batch.now c.args.cause c.args.repeats c.in-Ok.replies c.args.room.parts c.deref.result.now c.deref-2.result.now (g.L.LogPort.sights c.args.ports.now.log (g.L.LogPort.at c.args.ports.now.log)) (g.L.LogPort.sights c.decide.new.self (g.L.LogPort.at c.decide.new.self))
@@ -84,8 +84,8 @@ pub returns-in-Err-clause-fault : goal.returns-in-Err-clause-fault
 returns-in-Err-clause-fault g c = inr (inr c.in-Err.ensures.fault)
 
 pub returns-in-Err-decide-clause-fault : goal.returns-in-Err-decide-clause-fault
-returns-in-Err-decide-clause-fault g c = log_fault c.args.shape.now c.args.batch.now.lane (g.L.LogPort.at c.decide.new.self) (g.L.LogPort.sights c.decide.new.self) (g.S.PortSet.sights c.lock_again.new.shards) c.in-Err-decide.fault c.fault_at.result c.requires.batch.0 (c.in-Err-decide.ensures.at_same ∙ c.requires.at)
-    (home_fault c.fault_at.result c.home.result (home_of c.args.shape.now c.args.batch.now.lane) c.in-Err-decide.fault c.fault_at.ensures c.home.ensures)
+returns-in-Err-decide-clause-fault g c = log_fault c.args.shape.now c.args.batch.now.lane (g.L.LogPort.at c.decide.new.self) (g.L.LogPort.sights c.decide.new.self) (g.S.PortSet.sights c.lock_again.new.shards) c.in-Err-decide.fault (record { node = c.home.result; fault = c.in-Err-decide.fault }) c.requires.batch.0 (c.in-Err-decide.ensures.at_same ∙ c.requires.at)
+    (home_stop c.home.result (home_of c.args.shape.now c.args.batch.now.lane) c.in-Err-decide.fault c.home.ensures)
     (c.in-Err-decide.ensures.fault)
 
 pub returns-in-Ok-from_committed-clause-nodes : goal.returns-in-Ok-from_committed-clause-nodes

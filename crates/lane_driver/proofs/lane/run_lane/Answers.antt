@@ -6,7 +6,9 @@ use Rattle.cbdc_model.specs.Grammar.{IsCompact}
 use Rattle.lane_driver.proofs.Fitting.{elsewhere_on, others_on, nodes_same, nodes_on, ledger_kept}
 use Rattle.lane_laws.specs.Batches.{LaneSo}
 use Rattle.lane_laws.proofs.Laning.{lane_begins}
-use Rattle.lane_driver.proofs.Batching.{lane_on, done_on, lane_off, none_left}
+use Rattle.cbdc_types.specs.declared.calls.NodeFault.TheVariants.{Memory}
+use Rattle.cbdc_model.specs.Slots.{slot}
+use Rattle.lane_driver.proofs.Batching.{one_granted, one_stops, lane_on, done_on, lane_off, none_left}
 use Rattle.lane_driver.specs.Reports.{IsReported, AreDone}
 use Rattle.lane_driver.proofs.Cutting.{room_after, reported_more}
 use Rattle.lane_driver.proofs.lane.run_lane.Goals as goal
@@ -45,7 +47,7 @@ pieces-preserved g c =
 
 pub returns-in-Err-one_batch-clause-stopped : goal.returns-in-Err-one_batch-clause-stopped
 returns-in-Err-one_batch-clause-stopped g c k st = lane_off c.args.shape.now g.L.LogPort.alone c.args.lane c.args.txs.now c.pieces.rest.now c.split_at.result.0.now (g.L.LogPort.sights c.args.ports.now.log (g.L.LogPort.at c.args.ports.now.log)) (g.L.LogPort.sights c.pieces.ports.log (g.L.LogPort.at c.pieces.ports.log)) (g.L.LogPort.sights c.one_batch.new.ports.log (g.L.LogPort.at c.one_batch.new.ports.log)) (g.S.PortSet.sights c.args.ports.now.shards) (g.S.PortSet.sights c.pieces.ports.shards) (g.S.PortSet.sights c.one_batch.new.ports.shards) (c.pieces.invariant.so k st) (c.split_at.ensures.front ∙ ap (λ n. take n c.pieces.rest.now) (c.min.ensures ∙ ap (λ n. min n (length c.pieces.rest.now)) c.batch-size.ensures.value))
-    c.in-Err-one_batch.fault c.in-Err-one_batch.ensures.stopped
+    c.lane_fault.result (one_stops c.args.shape.now g.L.LogPort.alone c.args.lane c.split_at.result.0.now (g.L.LogPort.sights c.pieces.ports.log (g.L.LogPort.at c.pieces.ports.log)) (g.L.LogPort.sights c.one_batch.new.ports.log (g.L.LogPort.at c.one_batch.new.ports.log)) (g.S.PortSet.sights c.pieces.ports.shards) (g.S.PortSet.sights c.one_batch.new.ports.shards) c.in-Err-one_batch.stop c.in-Err-one_batch.ensures.stopped c.lane_fault.result c.lane_fault.ensures)
 
 pub returns-in-Err-clause-stopped : goal.returns-in-Err-clause-stopped
 returns-in-Err-clause-stopped g c k st = inl (c.no_memory.ensures, (c.args.txs.now, lane_begins c.args.shape.now g.L.LogPort.alone c.args.lane k c.args.txs.now (g.L.LogPort.sights c.args.ports.now.log (g.L.LogPort.at c.args.ports.now.log)) (g.S.PortSet.sights c.args.ports.now.shards) st))
@@ -129,4 +131,13 @@ pub returns-clause-others : goal.returns-clause-others
 returns-clause-others g c = c.pieces.invariant.others
 
 pub returns-in-Err-clause-fault : goal.returns-in-Err-clause-fault
-returns-in-Err-clause-fault g c = inl c.no_memory.ensures
+returns-in-Err-clause-fault g c = (0, Memory, c.no_memory.ensures, inl (refl, refl))
+
+pub lane_fault-requires : goal.lane_fault-requires
+lane_fault-requires g c =
+    let st = (c.pieces.invariant.so c.requires.settled.0 c.requires.settled.1).settled in
+    one_granted c.args.shape.now g.L.LogPort.alone c.args.lane c.split_at.result.0.now (g.L.LogPort.sights c.pieces.ports.log (g.L.LogPort.at c.pieces.ports.log)) (g.L.LogPort.sights c.one_batch.new.ports.log (g.L.LogPort.at c.one_batch.new.ports.log)) (g.S.PortSet.sights c.pieces.ports.shards) (g.S.PortSet.sights c.one_batch.new.ports.shards) c.in-Err-one_batch.stop c.in-Err-one_batch.ensures.stopped
+    (slot (g.L.LogPort.sights c.pieces.ports.log (g.L.LogPort.at c.pieces.ports.log)).seen c.args.lane).number st
+
+pub returns-in-Err-one_batch-clause-fault : goal.returns-in-Err-one_batch-clause-fault
+returns-in-Err-one_batch-clause-fault g c = (c.in-Err-one_batch.stop.node, c.in-Err-one_batch.stop.fault, c.lane_fault.ensures, c.in-Err-one_batch.ensures.fault)

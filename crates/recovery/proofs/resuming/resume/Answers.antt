@@ -1,6 +1,8 @@
 use Rattle.std.proofs.Common.{◌∙◌, ◌+◌, sym, ap, subst, take, arith}
 use Rattle.recovery.specs.Open.{AreResumed}
 use Rattle.lane_driver.proofs.Fitting.{elsewhere_on, nodes_on, ledger_kept}
+use Rattle.lane_laws.specs.Resuming.{IsTakenUp}
+use Rattle.recovery.proofs.Untouched.{stands_here, stand_rest, home_there, still_shape}
 use Rattle.recovery.proofs.Rest.{open_here, rise_rest, open_rest, resumed_more}
 use Rattle.recovery.proofs.resuming.resume.Goals as goal
 
@@ -13,6 +15,7 @@ loop-unfinished-preserved g c =
     let inv = c.loop-unfinished.invariant in
     let i = c.loop-unfinished.unfinished-index in
     let told = c.in-Ok-resume_lane.ensures in
+    let here = stands_here c.args.shape.now (g.L.LogPort.sights c.loop-unfinished.ports.log (g.L.LogPort.at c.loop-unfinished.ports.log)) (g.S.PortSet.sights c.loop-unfinished.ports.shards) c.args.lanes.now i c.unfinished-item.result c.loop-unfinished-test.true c.unfinished-item.is inv.stand in
     record {
       at_same = told.at_same ∙ inv.at_same;
       header = told.header ∙ inv.header;
@@ -26,6 +29,10 @@ loop-unfinished-preserved g c =
       log_holds = λ h. told.log_holds (inv.log_holds h);
       shard_holds = λ h. told.shard_holds (inv.shard_holds h);
       open_rest = open_rest _ _ _ _ _ _ c.args.lanes.now i c.unfinished-item.result c.loop-unfinished-test.true c.unfinished-item.is inv.rise inv.open_rest told.header told.others;
+      stand = stand_rest c.args.shape.now g.S.PortSet.alone (g.L.LogPort.sights c.loop-unfinished.ports.log (g.L.LogPort.at c.loop-unfinished.ports.log)) (g.L.LogPort.sights c.resume_lane.new.ports.log (g.L.LogPort.at c.resume_lane.new.ports.log)) (g.S.PortSet.sights c.loop-unfinished.ports.shards) (g.S.PortSet.sights c.resume_lane.new.ports.shards) c.args.lanes.now i c.unfinished-item.result c.requires.alone c.loop-unfinished-test.true c.unfinished-item.is inv.rise
+          (home_there c.args.shape.now c.unfinished-item.result (g.L.LogPort.sights c.loop-unfinished.ports.log (g.L.LogPort.at c.loop-unfinished.ports.log)) (g.S.PortSet.sights c.loop-unfinished.ports.shards) c.unfinished-item.result.phase here)
+          (still_shape (g.L.LogPort.sights c.loop-unfinished.ports.log) (g.L.LogPort.sights c.resume_lane.new.ports.log) (g.L.LogPort.at c.loop-unfinished.ports.log) (g.L.LogPort.at c.resume_lane.new.ports.log) told.at_same told.log_nodes)
+          (subst (λ a. IsTakenUp c.args.shape.now a c.unfinished-item.result.batch (g.L.LogPort.sights c.loop-unfinished.ports.log (g.L.LogPort.at c.loop-unfinished.ports.log)) (g.S.PortSet.sights c.loop-unfinished.ports.shards) (g.L.LogPort.sights c.resume_lane.new.ports.log (g.L.LogPort.at c.resume_lane.new.ports.log)) (g.S.PortSet.sights c.resume_lane.new.ports.shards)) (sym c.requires.same) (told.taken here)) inv.stand;
       rise = rise_rest c.args.lanes.now i c.unfinished-item.result c.loop-unfinished-test.true c.unfinished-item.is inv.rise;
       resumed = subst (λ batches. AreResumed (take (i + 1) c.args.lanes.now) batches) (sym c.push_reserved.ensures.items)
           (resumed_more c.args.lanes.now c.loop-unfinished.batches.items i c.unfinished-item.result c.in-Ok-resume_lane.batch c.loop-unfinished-test.true c.unfinished-item.is inv.resumed told.resumed);
@@ -74,3 +81,7 @@ returns-clause-log_holds g c = c.loop-unfinished.invariant.log_holds
 
 pub returns-clause-shard_holds : goal.returns-clause-shard_holds
 returns-clause-shard_holds g c = c.loop-unfinished.invariant.shard_holds
+
+pub resume_lane-requires-clause-stands : goal.resume_lane-requires-clause-stands
+resume_lane-requires-clause-stands g c =
+    stands_here c.args.shape.now (g.L.LogPort.sights c.loop-unfinished.ports.log (g.L.LogPort.at c.loop-unfinished.ports.log)) (g.S.PortSet.sights c.loop-unfinished.ports.shards) c.args.lanes.now c.loop-unfinished.unfinished-index _ c.loop-unfinished-test.true c.unfinished-item.is c.loop-unfinished.invariant.stand

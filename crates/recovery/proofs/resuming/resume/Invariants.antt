@@ -2,7 +2,7 @@ use Rattle.std.proofs.Common.{◌≡◌, ◌≢◌, ◌≤◌, ℕ, length, take
 use Rattle.std.specs.List.{All}
 use Rattle.std.specs.Vec.{vec_capacity, vec_len}
 use Rattle.lane_driver.specs.Told.{KeepNodes}
-use Rattle.recovery.specs.Open.{IsOpen, LanesRise, AreResumed}
+use Rattle.recovery.specs.Open.{IsOpen, LanesRise, AreResumed, AreUnfinished}
 use Rattle.recovery.proofs.resuming.resume.Given as goal
 
 abbrev pub invariant-loop-unfinished : goal.invariant-loop-unfinished
@@ -19,6 +19,7 @@ invariant-loop-unfinished g l = record {
   shard_holds : g.S.PortSet.holds l.initial.ports.shards → g.S.PortSet.holds l.ports.shards;
   count : g.S.PortSet.count l.ports.shards ≡ g.S.PortSet.count l.initial.ports.shards;
   open_rest : All (IsOpen (g.L.LogPort.header l.ports.log) (g.L.LogPort.phase l.ports.log) (g.L.LogPort.open_txs l.ports.log)) (drop l.unfinished-index l.lanes);
+  stand : AreUnfinished l.shape (drop l.unfinished-index l.lanes) (g.L.LogPort.sights l.ports.log (g.L.LogPort.at l.ports.log)) (g.S.PortSet.sights l.ports.shards);
   rise : LanesRise (drop l.unfinished-index l.lanes);
   resumed : AreResumed (take l.unfinished-index l.lanes) l.batches.items;
   len : vec_len l.batches ≡ l.unfinished-index;
