@@ -18,13 +18,15 @@ use Rattle.lane_laws.specs.Resuming.{IsTakenUp}
 use Rattle.lane_driver.specs.declared.fault.LaneFault.{LaneFault}
 use Rattle.lane_driver.specs.declared.fault.BatchReport.{BatchReport}
 use Rattle.lane_driver.specs.declared.fault.LaneReport.{LaneReport}
-use Rattle.lane_driver.specs.Stops.{IsBatchStopped, IsOneBatch}
+use Rattle.lane_driver.specs.Stops.{IsSettled, IsBatchStopped, IsOneBatch}
 use Rattle.lane_driver.specs.Reports.{AreReports}
 use Rattle.recovery.specs.declared.resumed.ResumedBatch.{ResumedBatch}
 use Rattle.recovery.specs.Open.{IsResumed, IsUnfinished, HasItsOutcomes, IsResumeStopped}
 use Rattle.run_laws.proofs.Seen.{seen_log}
 use Rattle.ledger_runs.specs.Turning.{phase_at, IsLaneOf, OfKept, StaysKept, StaysKeptBy, DidBatch, TookUp}
-use Rattle.turn_laws.proofs.OpenThere.{is_idle}
+use Rattle.run_laws.proofs.Rests.{checked_rest_law}
+use Rattle.run_laws.proofs.OpenLanes.{checked_resume_law}
+use Rattle.turn_laws.proofs.OpenThere.{is_idle, unfinished}
 use Rattle.turn_laws.specs.Nodes.{SameFlights}
 use Rattle.turn_laws.proofs.Checking.{IsCheckedTurn, batch_checked, stopped_checked, stopped_cause, taken_checked, left_checked, left_cause}
 use Rattle.turn_laws.proofs.Turned.{batch_keeps, batch_same, stopped_keeps, batch_does, resume_keeps, resume_same, left_keeps, resume_took}
@@ -100,6 +102,15 @@ module _ {D : Type 0} (count limit : D → ℕ) (content : D → Option (List �
       ∙ is_idle (L (home_of K lane)).header (L (home_of K lane)).seen (log_is logs ledger.log_journals (home_of K lane) (subst (λ m. home_of K lane < m) (sym ledger.coordinators) home)) lane
       (is_lane count limit h logs shards lane (home_of K lane) ledger lt refl)
       (subst (λ k. k.node < k.shape.coordinators) (sym (ledger.log_headers (home_of K lane) home)) home) told
+
+  -- what the driver wants of checked journals: the lane is settled where it is idle, and else each shard has come as far as its phase lets it
+  pub is_settled : phase_at K I lane ≡ Idle → AreChecked count limit K logs shards → (at : ℕ) → at ≡ home_of K lane → IsSettled K lane (sight_at sight logs at) S
+  is_settled idle c at e = subst (λ n. IsSettled K lane (sight_at sight logs n) S) (sym e)
+      ((slot (L (home_of K lane)).seen lane).number, checked_rest_law K c.0 lane L S some home shape c.1 (ap (λ J. (slot J lane).phase) (sym at_log) ∙ idle))
+
+  pub is_unfinished : (o : OpenLane) → open_lane (L (home_of K lane)).seen lane ≡ Some o → AreChecked count limit K logs shards → (at : ℕ) → at ≡ home_of K lane → IsUnfinished o.phase K o (sight_at sight logs at) S
+  is_unfinished o told c at e = subst (λ n. IsUnfinished o.phase K o (sight_at sight logs n) S) (sym e)
+      (unfinished K lane (L (home_of K lane)) S o told (checked_resume_law K c.0 lane L S some home shape c.1))
 
   -- a batch that was resumed is the one that is open there
   pub is_opened : (o : OpenLane) → open_lane (L (home_of K lane)).seen lane ≡ Some o → (r : ResumedBatch) → IsResumed o r → r.batch ≡ open_batch (I (home_of K lane)) lane

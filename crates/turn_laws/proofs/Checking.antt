@@ -126,8 +126,8 @@ module _ (K : Shape) (lane : ℕ) (logs shards logs' shards' : ℕ → Sight) (l
   abbrev log' : Sight
   log' = logs' (home_of K lane)
 
-  abbrev Causes : (List Compact → Type 0) → LaneFault → Type 0
-  Causes next e = IsLaneCause K lane next I J (HaveFailed (opened_by K logs' shards') (faults_by K logs' shards')) (MayHold (capacity_by K logs' shards')) e
+  abbrev ItsCause : (List Compact → Type 0) → LaneFault → Type 0
+  ItsCause next e = IsLaneCause K lane next I J (HaveFailed (opened_by K logs' shards') (faults_by K logs' shards')) (MayHold (capacity_by K logs' shards')) e
 
   turned : (pieces : List (List Compact)) → IsTurn K pieces lane logs shards logs' shards' → IsCheckedTurn K m lane I J
   turned pieces turn = record {
@@ -142,8 +142,8 @@ module _ (K : Shape) (lane : ℕ) (logs shards logs' shards' : ℕ → Sight) (l
   shape_still : log'.header.shape ≡ K
   shape_still = ap (λ h. h.shape) (log_nodes (home_of K lane)).header ∙ shape
 
-  memory_cause : (next : List Compact → Type 0) (e : LaneFault) → e ≡ record { node = 0; fault = NoMemory } → Causes next e
-  memory_cause next e is = subst (λ x. Causes next x) (sym is) tt
+  memory_cause : (next : List Compact → Type 0) (e : LaneFault) → e ≡ record { node = 0; fault = NoMemory } → ItsCause next e
+  memory_cause next e is = subst (λ x. ItsCause next x) (sym is) tt
 
   module _ (idle : (slot log.seen lane).phase ≡ Idle) (txs : List Compact) where
     settled : Settled K lane (slot log.seen lane).number log shards
@@ -159,7 +159,7 @@ module _ (K : Shape) (lane : ℕ) (logs shards logs' shards' : ℕ → Sight) (l
         let s = stop (slot log.seen lane).number settled in
         turned (txs ∷ []) ((taken_law K lane logs shards logs' shards' elsewhere).1 txs s.0 s.1 s.3)
 
-    pub stopped_cause : (e : LaneFault) → IsBatchStopped K true lane txs log shards log' shards' e → Causes (IsThese txs) e
+    pub stopped_cause : (e : LaneFault) → IsBatchStopped K true lane txs log shards log' shards' e → ItsCause (IsThese txs) e
     stopped_cause e (inl none) = memory_cause (IsThese txs) e none.0
     stopped_cause e (inr stop) =
         let s = stop (slot log.seen lane).number settled in
@@ -183,7 +183,7 @@ module _ (K : Shape) (lane : ℕ) (logs shards logs' shards' : ℕ → Sight) (l
         let s = stop still in
         turned [] ((taken_law K lane logs shards logs' shards' elsewhere).3 o.batch s.0 s.1 lane_is s.3)
 
-    pub left_cause : (e : LaneFault) → IsResumeStopped K true o log shards log' shards' e → Causes Nothing e
+    pub left_cause : (e : LaneFault) → IsResumeStopped K true o log shards log' shards' e → ItsCause Nothing e
     left_cause e (inl none) = memory_cause Nothing e none.0
     left_cause e (inr stop) =
         let s = stop still in

@@ -87,3 +87,6 @@ returns-clause-fault g c = rw (← c.self.view_is) (elim c.match-drive_batch.bra
       c.drive_batch.new.ports.log.logs.items c.drive_batch.new.ports.shards.nodes.items c.drive_batch.ensures.step
       (subst (λ v. phase_at v.header.shape (journals_of g.D.Disk.count g.D.Disk.limit v.header.shape v.logs v.shards) c.args.lane ≡ Idle) (sym c.self.view_is) c.requires.idle) c.args.txs.now w.in-Err.fault w.in-Err.ensures.stopped (subst (λ v. AreChecked g.D.Disk.count g.D.Disk.limit v.header.shape v.logs v.shards) (sym c.self.view_is) c.requires.checked))
 ])
+
+pub drive_batch-requires-clause-checked : goal.drive_batch-requires-clause-checked
+drive_batch-requires-clause-checked g c = (subst (λ v. AreChecked g.D.Disk.count g.D.Disk.limit v.header.shape v.logs v.shards) (sym c.self.view_is) c.requires.checked)

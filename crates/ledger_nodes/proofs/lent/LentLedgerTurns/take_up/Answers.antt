@@ -118,3 +118,6 @@ returns-clause-fault g c = rw (← c.self.view_is)
     (resumed_cause g.D.Disk.count g.D.Disk.limit g.D.Disk.content g.D.Disk.images c.self.inside.header c.args.lane c.self.inside.ports.log.logs.items c.self.inside.ports.shards.nodes.items c.self.invariant (subst (λ v. IsLaneOf v.header.shape c.args.lane) (sym c.self.view_is) c.requires.lane)
     c.drive_resume.new.ports.log.logs.items c.drive_resume.new.ports.shards.nodes.items c.drive_resume.ensures.step c.in-Some.unfinished
     (told_there g.D.Disk.count g.D.Disk.limit g.D.Disk.content g.D.Disk.images c.self.inside.header c.args.lane c.self.inside.ports.log.logs.items c.self.inside.ports.shards.nodes.items c.self.invariant (subst (λ v. IsLaneOf v.header.shape c.args.lane) (sym c.self.view_is) c.requires.lane) c.home-at.result c.index.result.now c.home-at.ensures.place c.index.ensures c.in-Ok.found (Some c.in-Some.unfinished) c.in-Ok.ensures c.in-Some.is) c.in-Err.fault c.in-Err.ensures.left (subst (λ v. AreChecked g.D.Disk.count g.D.Disk.limit v.header.shape v.logs v.shards) (sym c.self.view_is) c.requires.checked))
+
+pub drive_resume-requires-clause-checked : goal.drive_resume-requires-clause-checked
+drive_resume-requires-clause-checked g c = (subst (λ v. AreChecked g.D.Disk.count g.D.Disk.limit v.header.shape v.logs v.shards) (sym c.self.view_is) c.requires.checked)
