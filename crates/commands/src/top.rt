@@ -168,7 +168,7 @@ pub fn process<W: Wait, I: Inbox, R: Rack, O: Sink, G: Gate>(
     ensures fault_line { IsFaultPrinted (texts words.now) (O.taken out.old) (O.taken out.new) (Rose (O.count out.old) (O.count out.new)) result.status }
 
     // And why not: a file that is not read, a ledger that can't be made or opened, a record that is not caused, a fault of a lane of a ledger in
-    // which each is, and what it leaves, or the first place at which an audit finds something wrong, and what it is.
+    // which each is, with its cause and what it leaves, or the first place at which an audit finds something wrong, and what it is.
     ensures why { IsTold (λ a. (r : Asked) × IsAsked (texts words.now) r × Why (I.file inbox.old) (I.count inbox.old) (I.count inbox.new) R.Disk.content R.Disk.images R.Disk.limit R.Disk.count (R.held rack) (R.held result.rack) (R.count rack) (R.count result.rack) r a) result.status }
 
     // Where words are bad, a file is not read or a mint is too much, the rack is as it was.

@@ -1,12 +1,12 @@
 -- What a lane's fault answers has its cause.
-use Rattle.std.proofs.Common.{◌≡◌, ◌⊎◌, inl, inr, ℕ, zero, suc, ◌+◌, ◌-◌, ◌*◌, ◌/◌, ◌<◌, ◌≤◌, true, List, [], length, reverse, Option, refl, sym, ap, ◌∙◌, subst, arith}
-use Rattle.std.specs.Prelude.{Result, Ok, Err, IfErr, All, Contains}
+use Rattle.std.proofs.Common.{◌≡◌, ◌⊎◌, inl, inr, ℕ, zero, suc, ◌+◌, ◌*◌, ◌/◌, ◌<◌, ◌≤◌, true, List, length, reverse, Option, sym, subst, arith}
+use Rattle.std.specs.Prelude.{Result, Ok, Err, IfErr, All}
 use Rattle.std.proofs.lemmas.Nat.{div_below}
 use Rattle.outside.specs.Counts.{Rose}
 use Rattle.cbdc_types.specs.declared.answer.Answer.{Answer}
 use Rattle.cbdc_types.specs.declared.answer.Answer.TheVariants as answers
 use Rattle.cbdc_model.specs.Records.{Shape, Header, Compact, Record, Row, journal}
-use Rattle.cbdc_model.specs.Ranges.{home_of, shard_node}
+use Rattle.cbdc_model.specs.Ranges.{home_of}
 use Rattle.cbdc_model.specs.Lanes.{IsEnd}
 use Rattle.cbdc_model.specs.Coins.{FullTx}
 use Rattle.ledger_laws.proofs.Cuts.{end_self}
@@ -22,7 +22,7 @@ use Rattle.caused_ledgers.specs.Caused.{journals_of as lent_journals, AreCaused}
 use Rattle.caused_ledgers.proofs.Told.{told_history}
 use Rattle.submissions.specs.Checks.{VerdictsOf}
 use Rattle.ledger_runs.specs.Turning.{IsLaneOf}
-use Rattle.ledger_runs.specs.Faults.{IsWanted, wants_prepare, wants_lock, HasNoRoomFor, HasNoStampFor, IsSomeCauseOf, IsRunCause, HaveFailed, MayHold, Nothing}
+use Rattle.ledger_runs.specs.Faults.{IsWanted, wants_prepare, wants_lock, IsSomeCauseOf, IsRunCause, HaveFailed, MayHold, Nothing}
 use Rattle.ledger_runs.proofs.Faulting.{run_moves}
 use Rattle.file_runs.specs.Runs.{IsFilesPiece}
 use Rattle.ledger_nodes.specs.Ledgers.{IsLedger, journals_of, faults_of, opened_of, capacity_of, AreStored}

@@ -1,17 +1,15 @@
 -- Opened nodes whose history is caused are checked.
-use Rattle.std.proofs.Common.{◌≡◌, ◌≢◌, ◌⊎◌, inl, inr, ℕ, zero, suc, ◌+◌, ◌-◌, ◌<◌, ◌≤◌, Bool, true, false, ◌==◌, nat_lt, if◌then◌else◌, List, [], ◌∷◌, ◌++◌, length, reverse, refl, sym, ap, ◌∙◌, subst, arith, Option, Some, append-nil}
-use Rattle.std.specs.Prelude.{slice_get, All}
-use Rattle.std.proofs.lemmas.List.Elements.{All-head, All-tail, All-nil}
+use Rattle.std.proofs.Common.{◌≡◌, ◌≢◌, ◌⊎◌, inl, inr, ℕ, zero, suc, ◌+◌, ◌-◌, ◌<◌, ◌≤◌, Bool, true, false, ◌==◌, nat_lt, if◌then◌else◌, List, [], ◌∷◌, ◌++◌, length, reverse, refl, sym, ap, ◌∙◌, subst, arith, Option, append-nil}
+use Rattle.std.proofs.lemmas.List.Elements.{All-head, All-tail}
 use Rattle.std.proofs.lemmas.Bool.Decides.{eqb_tells}
 use Rattle.std.proofs.lemmas.Bool.{cases_lt}
-use Rattle.std.proofs.lemmas.Option.{slice_get_cases}
 use Rattle.cbdc_model.specs.Records.{Digest, Shape, Header, Record, Row, journal, Genesis, Lock, Finish, Forget, Start, Prepare, Commit, Discard, Done}
 use Rattle.cbdc_model.specs.Ranges.{shard_of, shard_node, on_shard}
 use Rattle.cbdc_model.specs.Grammar.{IsShard, AreHere}
 use Rattle.cbdc_model.specs.After.{After, IsFirst, IsJournal}
 use Rattle.cbdc_model.specs.Causes.{IsCaused}
-use Rattle.cbdc_model.specs.History.{Minted, header_of, first_rows, TxsPass}
-use Rattle.cbdc_model.specs.World.{first_record, replaced}
+use Rattle.cbdc_model.specs.History.{Minted, header_of, TxsPass}
+use Rattle.cbdc_model.specs.World.{replaced}
 use Rattle.cbdc_model.specs.Lanes.{IsEnd, Seen, first_of, KeptLists}
 use Rattle.cbdc_model.specs.Sights.{Sight}
 use Rattle.audit.specs.Walks.{AllCaused}
@@ -24,7 +22,7 @@ use Rattle.rack_laws.proofs.Behind.{log_journal as log_seen, shard_journal as sh
 use Rattle.caused_ledgers.specs.Caused.{journals_of as lent_journals, AreCaused}
 use Rattle.caused_ledgers.proofs.Told.{log_journal as log_told, shard_journal as shard_told, no_journal as none_told}
 use Rattle.ledger_nodes.specs.Ledgers.{journals_of, AreChecked}
-use Rattle.ledger_laws.proofs.Cuts.{end_self, end_trans}
+use Rattle.ledger_laws.proofs.Cuts.{end_trans}
 use Rattle.ledger_laws.proofs.FirstJournals.{first_is, first_beyond}
 use Rattle.ledger_laws.proofs.Ledger.{steady_lists}
 use Rattle.run_laws.specs.Checked.{CheckedJournals}
