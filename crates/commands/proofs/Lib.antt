@@ -19,3 +19,5 @@ pub mod Reports
 pub mod RunLines
 pub mod Batched
 pub mod Printed
+pub mod FirstShown
+pub mod Generated

@@ -1,0 +1,105 @@
+-- What `gen` comes to: a ledger of the workload's mint is made in nodes of its own, the workload's files are run over it, and it is audited.
+use Rattle.std.specs.Prelude.{◌≡◌, ◌++◌, ℕ, List, [], ◌∷◌, reverse}
+use Rattle.line_text.specs.Lines.{Text, summary_text}
+use Rattle.cbdc_types.specs.declared.answer.Answer.{Answer}
+use Rattle.cbdc_types.specs.declared.answer.Answer.TheVariants as answers
+use Rattle.cbdc_types.specs.declared.answer.UnsoundKind.{UnsoundKind}
+use Rattle.cbdc_model.specs.Records.{Shape, Record, Row, journal}
+use Rattle.cbdc_model.specs.Coins.{Output, FullTx}
+use Rattle.cbdc_model.specs.Clean.{Clean}
+use Rattle.cbdc_model.specs.History.{IsOrdered, first_rows, minted}
+use Rattle.cbdc_model.specs.Lanes.{IsEnd}
+use Rattle.cbdc_model.specs.World.{KeptJournals}
+use Rattle.cbdc_model.specs.Waves.{Waves}
+use Rattle.verifier_port.specs.declared.Verdict.TheVariants.{Good}
+use Rattle.submissions.specs.Checks.{VerdictsOf}
+use Rattle.sound_laws.specs.SoundTest.{sound_by}
+use Rattle.file_runs.specs.Runs.{joined}
+use Rattle.audit.specs.declared.verdict.Totals.{Totals}
+use Rattle.audit.specs.declared.verdict.Verdict.{Verdict}
+use Rattle.audit.specs.declared.verdict.Verdict.TheVariants.{Sound, Unsound}
+use Rattle.audit.specs.Verdicts.{IsVerdict}
+use Rattle.printed_lines.specs.declared.report.Report.{Report}
+use Rattle.printed_lines.specs.Decided.{new_batches}
+use Rattle.printed_lines.specs.Recoveries.{resumed_count}
+use Rattle.printed_lines.specs.Reports.{audit_lines}
+use Rattle.printed_lines.specs.Runs.{AreAllReports, is_confirmed, is_rejected, is_refused, count_in}
+use Rattle.printed_lines.specs.Unspent.{IsUnspentCount}
+use Rattle.workload.specs.Generator.{mint_of, splits_of, joins_of}
+
+-- every witness is good
+abbrev pub all_good : VerdictsOf
+all_good id index = Good
+
+-- the client files of a workload, and all their transactions
+abbrev pub files_of : ℕ → ℕ → List (List FullTx)
+files_of seed n = splits_of seed n ∷ joins_of seed n ∷ []
+
+abbrev pub all_of : ℕ → ℕ → List FullTx
+all_of seed n = joined (files_of seed n)
+
+-- a first record at each node of the ledger that a mint begins, and that of a workload
+abbrev pub first_journals : Shape → List Output → ℕ → List Record
+first_journals K mint node = journal node (first_rows K (minted mint))
+
+abbrev pub made_for : Shape → ℕ → ℕ → ℕ → List Record
+made_for K seed n = first_journals K (mint_of seed n)
+
+-- the workload's files were run from those journals to journals X, which are kept
+pub record IsWorkloadRun (K : Shape) (seed n : ℕ) (X : ℕ → List Record) : Type 0 where
+  pub kept : KeptJournals K (mint_of seed n) (all_of seed n) X
+  pub waves : Waves K (sound_by all_good) (files_of seed n) (made_for K seed n) X
+
+-- of the history of journals X an audit with a mint and these transactions has this verdict
+pub record HasVerdictOf (K : Shape) (mint : List Output) (handed : List FullTx) (X : ℕ → List Record) (verdict : Verdict) : Type 0 where
+  pub rows : List Row
+  pub journals_are : (node : ℕ) → journal node (reverse rows) ≡ X node
+  pub ordered : IsOrdered (reverse rows)
+  pub is : IsVerdict K mint handed rows verdict
+
+-- the numbers that end the text of a run of files from journals E to journals X
+pub record EndsRun (K : Shape) (verdicts : VerdictsOf) (files : List (List FullTx)) (E X : ℕ → List Record) (text : Text) : Type 0 where
+  pub all : List (List Report)
+  pub are : AreAllReports K verdicts (sound_by verdicts) E X files all
+  pub unspent : ℕ
+  pub counted : IsUnspentCount K X unspent
+  pub text_is : text ≡ summary_text (resumed_count K E) (new_batches K E X) (count_in is_confirmed all) (count_in is_rejected all) (count_in is_refused all) unspent
+
+-- the text of a workload: the numbers that end a run of it, and those of an audit behind it, which is sound
+pub record IsWorkloadText (K : Shape) (seed n : ℕ) (text : Text) : Type 0 where
+  pub exit : ℕ → List Record
+  pub run : IsWorkloadRun K seed n exit
+  pub summary : Text
+  pub ends : EndsRun K all_good (files_of seed n) (made_for K seed n) exit summary
+  pub totals : Totals
+  pub audited : HasVerdictOf K (mint_of seed n) (all_of seed n) exit (Sound totals)
+  pub text_is : text ≡ summary ++ audit_lines totals
+
+-- the text of a workload was printed
+abbrev pub PrintsWorkload : (Text → Type 0) → Shape → ℕ → ℕ → Type 0
+PrintsWorkload printed K seed n = (text : Text) × IsWorkloadText K seed n text × printed text
+
+-- ---- why a workload was not done
+
+-- a run of the workload was cut short: the journals have grown at their ends, and are kept
+pub record IsCutWorkload (K : Shape) (seed n : ℕ) : Type 0 where
+  pub exit : ℕ → List Record
+  pub grows : (node : ℕ) → IsEnd (made_for K seed n node) (exit node)
+  pub kept : KeptJournals K (mint_of seed n) (all_of seed n) exit
+
+-- an audit found this behind a run, which it does only where two outputs of the workload share a hash, or two transactions an id
+pub record IsUnsoundWorkload (K : Shape) (seed n place : ℕ) (kind : UnsoundKind) : Type 0 where
+  pub exit : ℕ → List Record
+  pub run : IsWorkloadRun K seed n exit
+  pub audited : HasVerdictOf K (mint_of seed n) (all_of seed n) exit (Unsound place kind)
+  pub unclean : Clean (mint_of seed n) (all_of seed n) → ⊥
+
+-- why a workload was not done: its audit found something wrong, or a lane of its run met a fault
+abbrev pub WhyNoWorkload : Shape → ℕ → ℕ → Answer → Type 0
+WhyNoWorkload K seed n (answers.Unsound place kind) = IsUnsoundWorkload K seed n place kind
+WhyNoWorkload K seed n (answers.DiskFault node) = IsCutWorkload K seed n
+WhyNoWorkload K seed n (answers.Full node used need capacity) = IsCutWorkload K seed n
+WhyNoWorkload K seed n (answers.ClockEnd node stamp) = IsCutWorkload K seed n
+WhyNoWorkload K seed n (answers.Refused node) = IsCutWorkload K seed n
+WhyNoWorkload K seed n answers.Memory = Unit {0}
+WhyNoWorkload K seed n other = ⊥
