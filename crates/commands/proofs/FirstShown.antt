@@ -23,7 +23,7 @@ use Rattle.commands.specs.Outcomes.{first_journals}
 
 -- ---- first records are of the grammar
 
-on_length : (shards s : ℕ) (xs : List Digest) → length (on_shard shards s xs) ≤ length xs
+pub on_length : (shards s : ℕ) (xs : List Digest) → length (on_shard shards s xs) ≤ length xs
 on_length shards s [] = omega arith
 on_length shards s (x ∷ xs) = elim (shard_of shards x == s) as (λ c. length (if c then x ∷ on_shard shards s xs else on_shard shards s xs) ≤ length (x ∷ xs)) [
   | true ↦ omega (arith, on_length shards s xs)
@@ -38,7 +38,7 @@ id_is_hash : (mint : List Output) → IsHash (genesis_id mint)
 unfolding id_of
 id_is_hash mint = length-sha256 _
 
-made_length : (id : Digest) (k : ℕ) (os : List Output) → length (map coin_hash (made_coins id k os)) ≡ length os
+pub made_length : (id : Digest) (k : ℕ) (os : List Output) → length (map coin_hash (made_coins id k os)) ≡ length os
 made_length id k [] = refl
 made_length id k (o ∷ os) = omega (arith, made_length id (suc k) os)
 

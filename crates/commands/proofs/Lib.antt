@@ -20,4 +20,6 @@ pub mod RunLines
 pub mod Batched
 pub mod Printed
 pub mod FirstShown
+pub mod Memory
+pub mod Sound
 pub mod Generated

@@ -1,16 +1,21 @@
 -- What `gen` comes to: a ledger of the workload's mint is made in nodes of its own, the workload's files are run over it, and it is audited.
-use Rattle.std.specs.Prelude.{◌≡◌, ◌++◌, ℕ, List, [], ◌∷◌, reverse}
+use Rattle.std.specs.Prelude.{◌≡◌, ◌⊎◌, ◌++◌, ℕ, List, [], ◌∷◌, reverse, Some}
 use Rattle.line_text.specs.Lines.{Text, summary_text}
 use Rattle.cbdc_types.specs.declared.answer.Answer.{Answer}
 use Rattle.cbdc_types.specs.declared.answer.Answer.TheVariants as answers
 use Rattle.cbdc_types.specs.declared.answer.UnsoundKind.{UnsoundKind}
 use Rattle.cbdc_model.specs.Records.{Shape, Record, Row, journal}
-use Rattle.cbdc_model.specs.Coins.{Output, FullTx}
+use Rattle.cbdc_model.specs.Coins.{Output, FullTx, genesis_id}
 use Rattle.cbdc_model.specs.Clean.{Clean}
 use Rattle.cbdc_model.specs.History.{IsOrdered, first_rows, minted}
 use Rattle.cbdc_model.specs.Lanes.{IsEnd}
 use Rattle.cbdc_model.specs.World.{KeptJournals}
 use Rattle.cbdc_model.specs.Waves.{Waves}
+use Rattle.plain_rack.specs.declared.plain_rack.PlainRack.{PlainRack}
+use Rattle.plain_rack.specs.Places.{faults_at}
+use Rattle.plain_rack.specs.Racks.{disk_at, bytes_told, bytes_left, room_of, faults_of}
+use Rattle.rack_laws.specs.Shown.{Shows}
+use Rattle.rack_ledgers.specs.Ledgers.{IsUnopenedBy}
 use Rattle.verifier_port.specs.declared.Verdict.TheVariants.{Good}
 use Rattle.submissions.specs.Checks.{VerdictsOf}
 use Rattle.sound_laws.specs.SoundTest.{sound_by}
@@ -81,6 +86,15 @@ PrintsWorkload printed K seed n = (text : Text) × IsWorkloadText K seed n text 
 
 -- ---- why a workload was not done
 
+-- the ledger of a mint stands on disks in memory with these journals, and could not be opened
+pub record IsUnopenedThere (K : Shape) (mint : List Output) (submissions : List FullTx) (answer : Answer) : Type 0 where
+  pub old : PlainRack
+  pub new : PlainRack
+  pub journals : ℕ → List Record
+  pub kept : KeptJournals K mint submissions journals
+  pub shows : Shows bytes_told (disk_at old) K (genesis_id mint) journals
+  pub why : IsUnopenedBy bytes_told bytes_left room_of faults_of (disk_at old) (faults_at old.misses) (faults_at new.misses) (Some (genesis_id mint)) answer
+
 -- a run of the workload was cut short: the journals have grown at their ends, and are kept
 pub record IsCutWorkload (K : Shape) (seed n : ℕ) : Type 0 where
   pub exit : ℕ → List Record
@@ -94,12 +108,18 @@ pub record IsUnsoundWorkload (K : Shape) (seed n place : ℕ) (kind : UnsoundKin
   pub audited : HasVerdictOf K (mint_of seed n) (all_of seed n) exit (Unsound place kind)
   pub unclean : Clean (mint_of seed n) (all_of seed n) → ⊥
 
--- why a workload was not done: its audit found something wrong, or a lane of its run met a fault
+-- why a workload was not done: the nodes could not be opened, a lane of its run met a fault, or its audit found something wrong
+abbrev pub IsStoppedWorkload : Shape → ℕ → ℕ → Answer → Type 0
+IsStoppedWorkload K seed n answer = IsUnopenedThere K (mint_of seed n) (all_of seed n) answer ⊎ IsCutWorkload K seed n
+
 abbrev pub WhyNoWorkload : Shape → ℕ → ℕ → Answer → Type 0
-WhyNoWorkload K seed n (answers.Unsound place kind) = IsUnsoundWorkload K seed n place kind
-WhyNoWorkload K seed n (answers.DiskFault node) = IsCutWorkload K seed n
-WhyNoWorkload K seed n (answers.Full node used need capacity) = IsCutWorkload K seed n
+WhyNoWorkload K seed n (answers.NotReady node) = IsUnopenedThere K (mint_of seed n) (all_of seed n) (answers.NotReady node)
+WhyNoWorkload K seed n (answers.Foreign node kept asked) = IsUnopenedThere K (mint_of seed n) (all_of seed n) (answers.Foreign node kept asked)
+WhyNoWorkload K seed n (answers.Damaged node at) = IsUnopenedThere K (mint_of seed n) (all_of seed n) (answers.Damaged node at)
+WhyNoWorkload K seed n (answers.Full node used need capacity) = IsStoppedWorkload K seed n (answers.Full node used need capacity)
+WhyNoWorkload K seed n (answers.DiskFault node) = IsStoppedWorkload K seed n (answers.DiskFault node)
 WhyNoWorkload K seed n (answers.ClockEnd node stamp) = IsCutWorkload K seed n
 WhyNoWorkload K seed n (answers.Refused node) = IsCutWorkload K seed n
+WhyNoWorkload K seed n (answers.Unsound place kind) = IsUnsoundWorkload K seed n place kind
 WhyNoWorkload K seed n answers.Memory = Unit {0}
 WhyNoWorkload K seed n other = ⊥

@@ -1,5 +1,6 @@
 -- The parts of `gen`'s work over nodes in memory.
 use Rattle.std.specs.Prelude.{◌≡◌, ◌⊎◌, ◌+◌, ◌^◌, ◌<◌, ◌≤◌, ℕ, List, [], length, Some}
+use Rattle.cbdc_types.specs.Limits.{IsWithinLimits}
 use Rattle.cbdc_types.specs.declared.answer.Answer.{Answer}
 use Rattle.cbdc_types.specs.declared.answer.Answer.TheVariants as answers
 use Rattle.cbdc_model.specs.Records.{Shape, Record}
@@ -23,10 +24,11 @@ use Rattle.printed_lines.specs.Runs.{is_confirmed, is_rejected, is_refused}
 use Rattle.workload.specs.Generator.{mint_of}
 use Rattle.commands.specs.Audits.{IsUnsoundBy, WhyUnopened}
 use Rattle.commands.specs.Told.{told_total, batches_told, IsCountable}
-use Rattle.commands.specs.Generated.{all_good, files_of, all_of, first_journals, made_for, IsWorkloadRun, HasVerdictOf, EndsRun}
+use Rattle.commands.specs.Generated.{all_good, files_of, all_of, first_journals, made_for, IsWorkloadRun, HasVerdictOf, EndsRun, IsUnopenedThere}
 
 -- empty disks, each with room for the first record of its node
 pub record AreReady (K : Shape) (mint : List Output) (rack : PlainRack) : Type 0 where
+  pub limits : IsWithinLimits K
   pub fits : value_out mint < 2 ^ 64
   pub empty : (node : ℕ) → node < node_count K → (d : PlainDisk) × (disk_at rack node ≡ Some d) × (d.bytes.items ≡ []) × (size_of (first_of K mint node) + 1 ≤ d.capacity)
 
@@ -34,9 +36,10 @@ pub record AreReady (K : Shape) (mint : List Output) (rack : PlainRack) : Type 0
 abbrev pub TellsRunOf : Shape → List Output → List (List FullTx) → PlainRack → Ran → Type 0
 TellsRunOf K mint files rack ran = IsTold bytes_left (disk_at rack) all_good files ran K mint [] (first_journals K mint)
 
--- files were not run: memory ran out, or a lane met a fault
+-- files were not run: memory ran out, or the nodes could not be opened, or a lane met a fault
 abbrev pub IsUnrun : Shape → List Output → List (List FullTx) → PlainRack → Answer → Type 0
-IsUnrun K mint files rack answer = (answer ≡ answers.Memory) ⊎ (IsLaneAnswer answer × IsCutShort bytes_left (disk_at rack) files K mint [] (first_journals K mint))
+IsUnrun K mint files rack answer =
+    (answer ≡ answers.Memory) ⊎ (IsUnopenedThere K mint [] answer ⊎ (IsLaneAnswer answer × IsCutShort bytes_left (disk_at rack) files K mint [] (first_journals K mint)))
 
 -- the numbers that end the text of a run
 abbrev pub numbers_of : Ran → Text

@@ -1,6 +1,7 @@
 // `gen`: a workload from a number, run and checked over nodes in memory.
 ghost use Rattle.std.specs.Prelude.{◌≡◌, ◌≤◌, ◌+◌, ◌*◌, ◌<◌, ℕ, length, All, IfOk, IfErr};
 ghost use Rattle.outside.specs.Counts.{Rose};
+ghost use Rattle.cbdc_types.specs.Limits.{IsWithinLimits};
 ghost use Rattle.commands.specs.Causes.{IsDone, IsTold, IsWell};
 ghost use Rattle.commands.specs.Generated.{files_of as files_from, PrintsWorkload, WhyNoWorkload};
 ghost use Rattle.commands.specs.InMemory.{AreReady, TellsRunOf, IsUnrun, IsCheckedSound, IsUnchecked, CameTo};
@@ -61,10 +62,12 @@ fn files_of(alloc: Global, seed: u64, count: u32) -> Result<Files, AllocError>
 // The empty nodes in memory of a ledger, with room for a workload of so many transactions.
 fn rack_of(alloc: Global, shape: &Shape, count: u32) -> Result<PlainRack, AllocError>
     requires { count ≤ 10000 }
+    ensures limits { IsWithinLimits shape.now }
     ensures all { IfOk result AllIn }
     ensures empty { IfOk result (λ r. (n : ℕ) → n < node_count shape.now → IsEmptyAt r (4096 + 400 * count) n) }
 {
-    PlainRack::new(alloc, shape.node_count(), 4096 + 400 * count as usize)
+    let nodes = shape.coordinators() + shape.shards();
+    PlainRack::new(alloc, nodes, 4096 + 400 * count as usize)
 }
 
 // Makes the ledger of a mint on empty disks, and runs client files over it.
