@@ -56,13 +56,13 @@ module _ (shards s : ℕ) where
 
   on_here : (K : Shape) → K.shards ≡ shards → (xs : List Digest) → AreHere K (K.coordinators + s) (on_shard shards s xs)
   on_here K is [] = All-nil (λ x. shard_node K (shard_of K.shards x) ≡ K.coordinators + s)
-  on_here K is (x ∷ xs) = go (shard_of shards x == s) refl
+  on_here K is (x ∷ xs) = go (shard_of shards x == s) refl (on_here K is xs)
     where
-      go : (b : Bool) → (shard_of shards x == s) ≡ b → All (λ x. shard_node K (shard_of K.shards x) ≡ K.coordinators + s) (if b then x ∷ on_shard shards s xs else on_shard shards s xs)
-      go true t =
+      go : (b : Bool) → (shard_of shards x == s) ≡ b → AreHere K (K.coordinators + s) (on_shard shards s xs) → All (λ x. shard_node K (shard_of K.shards x) ≡ K.coordinators + s) (if b then x ∷ on_shard shards s xs else on_shard shards s xs)
+      go true t rest =
           let same : shard_of shards x ≡ s = grind (arith, t) in
-          All-cons (λ x. shard_node K (shard_of K.shards x) ≡ K.coordinators + s) x (on_shard shards s xs) (ap (λ m. K.coordinators + shard_of m x) is ∙ ap (λ m. K.coordinators + m) same) (on_here K is xs)
-      go false t = on_here K is xs
+          All-cons (λ x. shard_node K (shard_of K.shards x) ≡ K.coordinators + s) x (on_shard shards s xs) (ap (λ m. K.coordinators + shard_of m x) is ∙ ap (λ m. K.coordinators + m) same) rest
+      go false t rest = rest
 
 module _ (K : Shape) (mint : List Output) (within : IsWithinLimits K) (few : length mint ≤ 1000000) where
   -- a first record is a node's journal
@@ -96,15 +96,15 @@ module _ (K : Shape) (mint : List Output) (within : IsWithinLimits K) (few : len
   module _ (submissions : List FullTx) where
     rows_journal : (later : List Row) → IsSteady K (minted mint) (IsProperCompact submissions) later → (n : ℕ) → n < node_count K → IsJournal (header_of K (genesis_id mint) n) (journal n (later ++ first_rows K (minted mint)))
     rows_journal [] kept n inside = subst (IsJournal (header_of K (genesis_id mint) n)) (sym (first_is K (minted mint) n inside)) (first_journal n inside)
-    rows_journal (row ∷ later) kept n inside = go (row.node == n) refl
+    rows_journal (row ∷ later) kept n inside = go (row.node == n) refl (rows_journal later kept.3 n inside)
       where
-        go : (b : Bool) → (row.node == n) ≡ b
+        go : (b : Bool) → (row.node == n) ≡ b → IsJournal (header_of K (genesis_id mint) n) (journal n (later ++ first_rows K (minted mint)))
             → IsJournal (header_of K (genesis_id mint) n) (if b then row.what ∷ journal n (later ++ first_rows K (minted mint)) else journal n (later ++ first_rows K (minted mint)))
-        go true t =
+        go true t rest =
             let same : row.node ≡ n = grind (arith, t) in
             one_more (header_of K (genesis_id mint) n) (journal n (later ++ first_rows K (minted mint))) row.what (never_empty K (minted mint) later n inside)
-            (subst (λ m. After (header_of K (genesis_id mint) m) (journal m (later ++ first_rows K (minted mint))) row.what) same kept.0) (rows_journal later kept.3 n inside)
-        go false t = rows_journal later kept.3 n inside
+            (subst (λ m. After (header_of K (genesis_id mint) m) (journal m (later ++ first_rows K (minted mint))) row.what) same kept.0) rest
+        go false t rest = rest
 
     -- each node's journal is one of that node
     pub kept_journal : (X : ℕ → List Record) → KeptJournals K mint submissions X → (n : ℕ) → n < node_count K → IsJournal (header_of K (genesis_id mint) n) (X n)

@@ -132,7 +132,7 @@ module _ (K : Shape) (mint : List Output) (few_coins : length mint ≤ 1000000) 
   pub made_shown : (old mid : PlainRack) → AreReady K mint old → AllIn mid → ((n : ℕ) → n < node_count K → HoldsFirst bytes_told bytes_left (first_of K mint n) (disk_at old n) (disk_at mid n))
       → Shows bytes_told (disk_at mid) K (genesis_id mint) (first_journals K mint)
   made_shown old mid ready all holds =
-      first_shown K mint limits few_coins bytes_told bytes_left (disk_at old) (disk_at mid) (λ n inside. (let e = ready.empty n inside in (e.0, e.1, tt))) (λ n inside. (let d = told_there mid all n inside in (d.0, d.1))) holds
+      first_shown K mint limits few_coins bytes_told bytes_left (disk_at old) (disk_at mid) (λ n inside. (let e = ready.empty n inside in (e.0, e.1, refl))) (λ n inside. (let d = told_there mid all n inside in (d.0, d.1))) holds
 
   module _ (files : List (List FullTx)) (mid new : PlainRack) (shows : Shows bytes_told (disk_at mid) K (genesis_id mint) (first_journals K mint)) where
     pub unrun : (a : Answer)
@@ -166,7 +166,6 @@ module _ (K : Shape) (seed n : ℕ) where
   unopened_why (answers.Full k used need capacity) kind is = inl is
   unopened_why (answers.Unsound place what) kind is = absurd kind
   unopened_why (answers.ClockEnd k stamp) kind is = absurd kind
-  unopened_why (answers.Refused k) kind is = absurd kind
   unopened_why (answers.Damaged k at) kind is = is
   unopened_why (answers.ReadFault file) kind is = absurd kind
   unopened_why answers.WriteFault kind is = absurd kind
@@ -184,7 +183,6 @@ module _ (K : Shape) (seed n : ℕ) where
   lane_why (answers.Full k used need capacity) kind is = inr is
   lane_why (answers.Unsound place what) kind is = absurd kind
   lane_why (answers.ClockEnd k stamp) kind is = is
-  lane_why (answers.Refused k) kind is = is
   lane_why (answers.Damaged k at) kind is = absurd kind
   lane_why (answers.ReadFault file) kind is = absurd kind
   lane_why answers.WriteFault kind is = absurd kind
@@ -211,8 +209,7 @@ module _ (K : Shape) (seed n : ℕ) where
 
     idle : AreIdle K told.exit
     idle lane low =
-        let files = told.waves.2 in
-        let last = files.2.2 in
+        let last = told.waves.2.2 in
         ap (λ J. (slot J lane).phase) (last.2 (home_of K lane)) ∙ last.1.idle lane low
 
     pub came_to : (totals : Totals) → IsCheckedSound rack (mint_of seed n) (all_of seed n) totals → CameTo K seed n ran totals
@@ -247,7 +244,6 @@ module _ (K : Shape) (seed n : ℕ) where
     wrong_why (answers.Full k used need capacity) is = absurd is
     wrong_why (answers.Unsound place what) is = unsound_why place what is
     wrong_why (answers.ClockEnd k stamp) is = absurd is
-    wrong_why (answers.Refused k) is = absurd is
     wrong_why (answers.Damaged k at) is = absurd is
     wrong_why (answers.ReadFault file) is = absurd is
     wrong_why answers.WriteFault is = absurd is
@@ -273,7 +269,6 @@ module _ (K : Shape) (seed n : ℕ) where
   why_done written (answers.Full k used need capacity) is = tt
   why_done written (answers.Unsound place what) is = tt
   why_done written (answers.ClockEnd k stamp) is = tt
-  why_done written (answers.Refused k) is = tt
   why_done written (answers.Damaged k at) is = tt
   why_done written (answers.ReadFault file) is = absurd is
   why_done written answers.WriteFault is = absurd is

@@ -1,5 +1,5 @@
 -- Nodes in memory: their disks never fail, and have room for a workload's first records.
-use Rattle.std.proofs.Common.{◌≡◌, ◌⊎◌, inl, inr, ◌+◌, ◌-◌, ◌*◌, ◌^◌, ◌<◌, ◌≤◌, ℕ, zero, suc, Bool, true, false, nat_lt, if◌then◌else◌, List, [], ◌∷◌, ◌++◌, length, map, Option, Some, None, refl, sym, ap, ◌∙◌, subst, arith}
+use Rattle.std.proofs.Common.{◌≡◌, ◌⊎◌, inl, inr, ◌+◌, ◌-◌, ◌*◌, ◌^◌, ◌<◌, ◌≤◌, ℕ, zero, suc, Bool, true, false, nat_lt, if◌then◌else◌, List, [], ◌∷◌, ◌++◌, length, map, get_or, Option, Some, None, refl, sym, ap, ◌∙◌, subst, arith}
 use Rattle.std.specs.Prelude.{slice_get, sum_by}
 use Rattle.std.specs.List.{range_with_len, All}
 use Rattle.std.proofs.lemmas.Bool.{ltb-true, ltb-false}
@@ -40,7 +40,7 @@ there rack all n low = go ((slice_get_cases rack.places.items n).1)
     in_place None is = absurd (subst IsIn is (all n))
     in_place (Some d) is = (d, ap disk_in is)
 
-    go : ((x : Option PlainDisk) × (n < length rack.places.items) × (slice_get rack.places.items n ≡ Some x) × _) ⊎ ((length rack.places.items ≤ n) × (slice_get rack.places.items n ≡ None)) → (d : PlainDisk) × (disk_at rack n ≡ Some d)
+    go : ((x : Option PlainDisk) × (n < length rack.places.items) × (slice_get rack.places.items n ≡ Some x) × (get_or rack.places.items n x ≡ x)) ⊎ ((length rack.places.items ≤ n) × (slice_get rack.places.items n ≡ None)) → (d : PlainDisk) × (disk_at rack n ≡ Some d)
     go (inl (x, inside, is, same)) = in_place x is
     go (inr (past, is)) = absurd (let whole = rack.whole in omega (arith, low, past, whole))
 
@@ -87,7 +87,6 @@ module _ (K : Shape) (mint : List Output) (rack : PlainRack) (ready : AreReady K
       absurd (omega (arith, need_is, capacity_is, passes, room))
   unmade_memory (answers.Unsound place kind) why = absurd why
   unmade_memory (answers.ClockEnd k stamp) why = absurd why
-  unmade_memory (answers.Refused k) why = absurd why
   unmade_memory (answers.Damaged k at) why = absurd why
   unmade_memory (answers.ReadFault file) why = absurd why
   unmade_memory answers.WriteFault why = absurd why

@@ -119,7 +119,6 @@ WhyNoWorkload K seed n (answers.Damaged node at) = IsUnopenedThere K (mint_of se
 WhyNoWorkload K seed n (answers.Full node used need capacity) = IsStoppedWorkload K seed n (answers.Full node used need capacity)
 WhyNoWorkload K seed n (answers.DiskFault node) = IsStoppedWorkload K seed n (answers.DiskFault node)
 WhyNoWorkload K seed n (answers.ClockEnd node stamp) = IsCutWorkload K seed n
-WhyNoWorkload K seed n (answers.Refused node) = IsCutWorkload K seed n
 WhyNoWorkload K seed n (answers.Unsound place kind) = IsUnsoundWorkload K seed n place kind
 WhyNoWorkload K seed n answers.Memory = Unit {0}
 WhyNoWorkload K seed n other = ⊥

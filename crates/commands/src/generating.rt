@@ -27,6 +27,7 @@ use verifier_port::AllGood;
 use workload::{Workload, generate};
 
 // What the run and the audit of a workload come to.
+#[derive(Drop)]
 struct Came {
     ran: Ran,
     totals: Totals,
@@ -120,6 +121,13 @@ fn check_files(
     }
 }
 
+// A mint once more.
+fn copied(mint: &Mint) -> Result<Mint, AllocError>
+    ensures { IfOk result (λ m. m ≡ mint.now) }
+{
+    mint.clone()
+}
+
 // Makes the workload, runs it over nodes in memory and checks what came of it.
 fn run_workload<W: Wait, G: Gate>(
     rt: &W,
@@ -139,7 +147,7 @@ fn run_workload<W: Wait, G: Gate>(
     let Ok(mut rack) = rack_of(alloc, shape, count) else {
         return Err(Answer::Memory);
     };
-    let Ok(kept) = mint.clone() else {
+    let Ok(kept) = copied(&mint) else {
         return Err(Answer::Memory);
     };
     let ran = match run_files(rt, alloc, shape, mint, &clients, &mut rack, gate) {
@@ -170,11 +178,11 @@ pub(crate) fn generated<W: Wait, O: Sink, G: Gate>(
     ensures silent { IsSilent (O.taken out.old) (O.taken out.new) result }
     ensures written_later { O.count out.old ≤ O.count out.new }
 {
-    let Came { ran, totals } = match run_workload(rt, alloc, shape, seed, count, gate) {
-        Ok(generated) => generated,
+    let came = match run_workload(rt, alloc, shape, seed, count, gate) {
+        Ok(came) => came,
         Err(fault) => return fault,
     };
-    match write_generated(out, &ran, &totals) {
+    match write_generated(out, &came.ran, &came.totals) {
         Ok(()) => Answer::Ok,
         Err(_) => Answer::WriteFault,
     }

@@ -56,7 +56,7 @@ returns-clause-stopped g c =
 pub returns-clause-told : goal.returns-clause-told
 returns-clause-told g c =
     let ran = c.run_nodes-nodes.ensures in
-    if_ok_all _ _ _ c.run_nodes-nodes.result.came ran.told ran.unspent (on_ok_both c.run_nodes-nodes.result.came ran.waves ran.quiet)
+    if_ok_all _ _ _ c.run_nodes-nodes.result.came ran.told ran.unspent (on_ok_both _ _ c.run_nodes-nodes.result.came ran.waves ran.quiet)
     (λ r told unspent both.
     tells g.R.Disk.Disk.content g.R.Disk.Disk.images g.R.Disk.Disk.limit g.R.Disk.Disk.count (g.R.Rack.held c.args.rack.now) (g.R.Rack.held c.close_nodes.new.rack) c.in-Ok.nodes.header c.run_nodes-nodes.result.nodes.header
     c.in-Ok.nodes.logs.items c.run_nodes-nodes.result.nodes.logs.items c.in-Ok.nodes.shards.items c.run_nodes-nodes.result.nodes.shards.items c.args.files.now c.in-Ok.ensures.opened ran.ledger ran.shape
