@@ -76,18 +76,20 @@ module _ (K : Shape) (mint : List Output) (within : IsWithinLimits K) (few : len
           let high : K.coordinators ≤ n = ltb-false n K.coordinators t in
           let place : K.coordinators + (n - K.coordinators) ≡ n = omega (arith, high) in
           let long = made_length (genesis_id mint) 0 mint in
-          let short = on_length K.shards (n - K.coordinators) (genesis_hashes mint) in
-          (tt, (
+          let short = on_length K.shards (n - K.coordinators) (genesis_hashes mint) in (
+            tt,
             (
+              (
+                refl,
+                id_is_hash mint,
+                (high, omega (arith, inside)),
+                omega (arith, long, short, few),
+                on_all K.shards (n - K.coordinators) IsHash (genesis_hashes mint) (made_hashes (genesis_id mint) 0 mint),
+                subst (λ m. AreHere K m (on_shard K.shards (n - K.coordinators) (genesis_hashes mint))) place (on_here K.shards (n - K.coordinators) K refl (genesis_hashes mint)),
+              ),
               refl,
-              id_is_hash mint,
-              (high, omega (arith, inside)),
-              omega (arith, long, short, few),
-              on_all K.shards (n - K.coordinators) IsHash (genesis_hashes mint) (made_hashes (genesis_id mint) 0 mint),
-              subst (λ m. AreHere K m (on_shard K.shards (n - K.coordinators) (genesis_hashes mint))) place (on_here K.shards (n - K.coordinators) K refl (genesis_hashes mint)),
             ),
-            refl,
-          ))
+          )
 
   one_more : (h : Header) (J : List Record) (r : Record) → (J ≡ [] → ⊥) → After h J r → IsJournal h J → IsJournal h (r ∷ J)
   one_more h [] r some after is = absurd (some refl)

@@ -1,5 +1,5 @@
 -- What a run prints, by what its waves tell.
-use Rattle.std.proofs.Common.{◌≡◌, ℕ, zero, suc, ◌+◌, ◌*◌, ◌<◌, ◌≤◌, Bool, List, [], ◌∷◌, ◌++◌, length, Option, refl, sym, ap, ◌∙◌, subst, arith}
+use Rattle.std.proofs.Common.{◌≡◌, ℕ, zero, suc, ◌*◌, ◌<◌, ◌≤◌, Bool, List, [], ◌∷◌, ◌++◌, Option, sym, ap, ◌∙◌, subst, arith}
 use Rattle.cbdc_types.specs.Limits.{IsWithinLimits}
 use Rattle.cbdc_model.specs.Records.{Shape, Record}
 use Rattle.cbdc_model.specs.Coins.{FullTx}
@@ -17,8 +17,8 @@ use Rattle.file_runs.specs.declared.waves.Wave.{Wave}
 use Rattle.printed_lines.specs.declared.report.Report.{Report}
 use Rattle.printed_lines.specs.Recoveries.{resumed_count}
 use Rattle.printed_lines.specs.Decided.{new_batches}
-use Rattle.printed_lines.specs.Runs.{is_confirmed, is_rejected, is_refused, count_in, files_lines, run_lines, AreAllReports, IsRunText}
-use Rattle.rack_laws.specs.Shown.{OfShown, HoldsEach}
+use Rattle.printed_lines.specs.Runs.{is_confirmed, is_rejected, is_refused, count_in, files_lines, run_lines, AreAllReports}
+use Rattle.rack_laws.specs.Shown.{OfShown}
 use Rattle.rack_runs.specs.declared.over.Ran.{Ran}
 use Rattle.rack_runs.specs.Telling.{TellsRun, IsTold}
 use Rattle.commands.specs.Outcomes.{DidRun, PrintsRun}

@@ -1,15 +1,14 @@
 -- Kept journals with every lane idle are found sound by an audit, where no hashes clash.
-use Rattle.std.proofs.Common.{◌≡◌, inl, inr, ◌*◌, ◌<◌, ◌≤◌, ℕ, zero, suc, Bool, true, false, ◌&&◌, ◌==◌, if◌then◌else◌, List, [], ◌∷◌, ◌++◌, length, reverse, Option, Some, refl, sym, ap, ◌∙◌, subst, arith}
-use Rattle.std.specs.Prelude.{slice_get, is_some, find, All}
+use Rattle.std.proofs.Common.{◌≡◌, inl, inr, ◌*◌, ◌<◌, ◌≤◌, ℕ, zero, suc, true, false, ◌&&◌, ◌==◌, if◌then◌else◌, List, [], ◌∷◌, ◌++◌, length, reverse, Some, refl, sym, ap, ◌∙◌, subst, arith}
+use Rattle.std.specs.Prelude.{slice_get, is_some, find}
 use Rattle.std.specs.FinMap.{len}
 use Rattle.std.proofs.lemmas.Bool.{cases_lt}
-use Rattle.std.proofs.lemmas.List.{reverse-append, reverse-reverse, append_assoc}
+use Rattle.std.proofs.lemmas.List.{reverse-append, append_assoc}
 use Rattle.cbdc_types.specs.Limits.{IsWithinLimits}
 use Rattle.cbdc_types.specs.declared.answer.UnsoundKind.{UnsoundKind}
-use Rattle.cbdc_types.specs.declared.answer.UnsoundKind.TheVariants.{Cause, Unknown, Unfunded, Unfinished}
 use Rattle.cbdc_model.specs.Records.{Shape, Batch, Compact, Record, Row, journal, record_of, kind_of, is_of, Genesis, Lock, Finish, Forget, Start, Prepare, Commit, Discard, Done}
 use Rattle.cbdc_model.specs.Coins.{Output, FullTx, genesis_id}
-use Rattle.cbdc_model.specs.After.{After, IsJournal}
+use Rattle.cbdc_model.specs.After.{IsJournal}
 use Rattle.cbdc_model.specs.Book.{value}
 use Rattle.cbdc_model.specs.Clean.{IsProperCompact, value_out}
 use Rattle.cbdc_model.specs.Headline.{Headline}
@@ -24,9 +23,8 @@ use Rattle.ledger_laws.proofs.Recovered.{all_dones}
 use Rattle.run_laws.proofs.Nodes.{after_in}
 use Rattle.rack_laws.proofs.Opened.{all_by}
 use Rattle.audit.specs.declared.verdict.Totals.{Totals}
-use Rattle.audit.specs.declared.verdict.Verdict.{Verdict}
 use Rattle.audit.specs.declared.verdict.Verdict.TheVariants.{Sound, Unsound}
-use Rattle.audit.specs.Walks.{AllCaused, AllDone, IsDone, IsCausedBy, IsFirstUncaused}
+use Rattle.audit.specs.Walks.{AllCaused, AllDone, IsDone, IsFirstUncaused}
 use Rattle.audit.specs.Laws.{AllAfter}
 use Rattle.audit.specs.Verdicts.{IsSound, IsVerdict, journals_of}
 use Rattle.audit.proofs.Ordered.{ordered_rows}

@@ -1,8 +1,7 @@
-use Rattle.std.proofs.Common.{◌≡◌, ◌∙◌, ℕ, List, sym, ap, subst}
-use Rattle.cbdc_model.specs.Coins.{Output, FullTx}
+use Rattle.std.proofs.Common.{◌∙◌, sym, subst}
 use Rattle.file_runs.specs.Runs.{joined}
 use Rattle.workload.specs.Generator.{mint_of}
-use Rattle.commands.specs.Generated.{files_of, all_of}
+use Rattle.commands.specs.Generated.{all_of}
 use Rattle.commands.specs.InMemory.{AreReady, TellsRunOf, IsUnrun, IsCheckedSound, IsUnchecked}
 use Rattle.commands.proofs.Memory.{are_ready}
 use Rattle.commands.proofs.Generated.{unrun_why, came_to, unchecked_why}
@@ -26,10 +25,10 @@ returns-in-Ok-check_files-clause-did g c =
     let ran = c.in-Ok-run_files.ran in
     let files = c.deref.ensures.value ∙ c.in-Ok.ensures.clients in
     let told = subst (λ fs. TellsRunOf c.args.shape.now (mint_of c.args.seed c.args.count) fs rack ran) files
-        (subst (λ m. TellsRunOf c.args.shape.now m c.deref.result.now rack ran) c.in-Ok.ensures.mint c.in-Ok-run_files.ensures.did) in
+    (subst (λ m. TellsRunOf c.args.shape.now m c.deref.result.now rack ran) c.in-Ok.ensures.mint c.in-Ok-run_files.ensures.did) in
     let mint = c.as_slice.ensures ∙ c.in-Ok-copied.ensures ∙ c.in-Ok.ensures.mint in
     let sound = subst (λ m. IsCheckedSound rack m (all_of c.args.seed c.args.count) c.in-Ok-check_files.totals) mint
-        (subst (λ fs. IsCheckedSound rack c.as_slice.result.now (joined fs) c.in-Ok-check_files.totals) c.in-Ok.ensures.clients c.in-Ok-check_files.ensures.did) in
+    (subst (λ fs. IsCheckedSound rack c.as_slice.result.now (joined fs) c.in-Ok-check_files.totals) c.in-Ok.ensures.clients c.in-Ok-check_files.ensures.did) in
     came_to c.args.shape.now c.args.seed c.args.count c.requires c.in-Ok-rack_of.ensures.limits rack c.run_files.ensures.back ran told c.in-Ok-check_files.totals sound
 
 pub returns-clause-why : goal.returns-clause-why
@@ -39,8 +38,8 @@ returns-clause-why g c =
     let fault = c.in-Err-check_files.fault in
     let files = c.deref.ensures.value ∙ c.in-Ok.ensures.clients in
     let told = subst (λ fs. TellsRunOf c.args.shape.now (mint_of c.args.seed c.args.count) fs rack ran) files
-        (subst (λ m. TellsRunOf c.args.shape.now m c.deref.result.now rack ran) c.in-Ok.ensures.mint c.in-Ok-run_files.ensures.did) in
+    (subst (λ m. TellsRunOf c.args.shape.now m c.deref.result.now rack ran) c.in-Ok.ensures.mint c.in-Ok-run_files.ensures.did) in
     let mint = c.as_slice.ensures ∙ c.in-Ok-copied.ensures ∙ c.in-Ok.ensures.mint in
     let wrong = subst (λ m. IsUnchecked rack c.check_files.new.rack m (all_of c.args.seed c.args.count) fault) mint
-        (subst (λ fs. IsUnchecked rack c.check_files.new.rack c.as_slice.result.now (joined fs) fault) c.in-Ok.ensures.clients c.in-Err-check_files.ensures.why) in
+    (subst (λ fs. IsUnchecked rack c.check_files.new.rack c.as_slice.result.now (joined fs) fault) c.in-Ok.ensures.clients c.in-Err-check_files.ensures.why) in
     unchecked_why c.args.shape.now c.args.seed c.args.count c.requires c.in-Ok-rack_of.ensures.limits rack c.run_files.ensures.back ran told c.check_files.new.rack fault wrong
