@@ -41,18 +41,22 @@ use Rattle.rack_runs.specs.Kinds.{IsLaneAnswer}
 use Rattle.rack_runs.specs.Runs.{IsCutShort}
 use Rattle.rack_runs.specs.declared.over.Ran.{Ran}
 use Rattle.rack_runs.specs.Telling.{TellsRun}
+use Rattle.line_text.specs.Lines.{summary_text}
+use Rattle.printed_lines.specs.Decided.{new_batches}
 use Rattle.printed_lines.specs.Reports.{audit_lines}
+use Rattle.printed_lines.specs.Runs.{is_confirmed, is_rejected, is_refused, count_in}
 use Rattle.printed_lines.specs.Unspent.{IsUnspentCount}
 use Rattle.workload.specs.Generator.{mint_of, minted_of, joined_of, split_of, join_of}
 use Rattle.commands.specs.Audits.{IsUnsoundBy}
 use Rattle.commands.specs.Causes.{IsDone}
 use Rattle.commands.specs.Told.{IsCountable}
-use Rattle.commands.specs.Generated.{all_good, files_of, all_of, first_journals, made_for, IsWorkloadRun, HasVerdictOf, EndsRun, IsWorkloadText, IsUnopenedThere, IsCutWorkload, IsUnsoundWorkload, WhyNoWorkload}
+use Rattle.commands.specs.Generated.{all_good, files_of, all_of, first_journals, made_for, IsWorkloadRun, HasVerdictOf, EndsWorkload, IsWorkloadText, IsUnopenedThere, IsCutWorkload, IsUnsoundWorkload, WhyNoWorkload}
 use Rattle.commands.specs.InMemory.{AreReady, TellsRunOf, IsUnrun, numbers_of, CameTo, IsCheckedSound, IsUnchecked}
 use Rattle.commands.proofs.FirstShown.{kept_journal, kept_beyond, first_kept, first_shown}
 use Rattle.commands.proofs.Memory.{there}
 use Rattle.commands.proofs.Sound.{none_uncaused, never_unsound}
 use Rattle.commands.proofs.Printed.{run_numbers, countable}
+use Rattle.commands.proofs.Refused.{none_open, none_refused, all_decided}
 use Rattle.commands.proofs.Workloads.{few}
 
 -- a workload has so many transactions
@@ -114,10 +118,19 @@ module _ (K : Shape) (seed n : ℕ) (within : IsWithinLimits K) (small : n ≤ 1
   pub is_countable : IsCountable ran
   is_countable = countable K all_good (files_of seed n) (all_few seed n small) within (made_for K seed n) X ran told (sound_by all_good) tests
 
-  pub ends_run : IsUnspentCount K X ran.unspent → EndsRun K all_good (files_of seed n) (made_for K seed n) X (numbers_of ran)
+  pub ends_run : IsUnspentCount K X ran.unspent → EndsWorkload K seed n X (numbers_of ran)
   ends_run counted =
+      let E = made_for K seed n in
       let r = run_numbers K all_good (files_of seed n) (all_few seed n small) within (made_for K seed n) X ran told (sound_by all_good) tests in
-      record { all = r.0; are = r.1; unspent = ran.unspent; counted = counted; text_is = r.2 }
+      record {
+        all = r.0;
+        are = r.1;
+        decided = all_decided K seed n (made_for K seed n) X r.0 r.1;
+        unspent = ran.unspent;
+        counted = counted;
+        text_is = r.2 ∙ ap (λ m. summary_text m (new_batches K E X) (count_in is_confirmed r.0) (count_in is_rejected r.0) (count_in is_refused r.0) ran.unspent) (none_open K seed n (omega (arith, within.some_shard)))
+            ∙ ap (λ m. summary_text 0 (new_batches K E X) (count_in is_confirmed r.0) (count_in is_rejected r.0) m ran.unspent) (none_refused K seed n (made_for K seed n) X r.0 r.1);
+      }
 
 -- ---- over a rack in memory
 

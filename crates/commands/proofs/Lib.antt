@@ -22,4 +22,5 @@ pub mod Printed
 pub mod FirstShown
 pub mod Memory
 pub mod Sound
+pub mod Refused
 pub mod Generated

@@ -1,5 +1,5 @@
 -- What `gen` comes to: a ledger of the workload's mint is made in nodes of its own, the workload's files are run over it, and it is audited.
-use Rattle.std.specs.Prelude.{◌≡◌, ◌⊎◌, ◌++◌, ℕ, List, [], ◌∷◌, reverse, Some}
+use Rattle.std.specs.Prelude.{◌≡◌, ◌⊎◌, ◌+◌, ◌++◌, ℕ, List, [], ◌∷◌, reverse, Some}
 use Rattle.line_text.specs.Lines.{Text, summary_text}
 use Rattle.cbdc_types.specs.declared.answer.Answer.{Answer}
 use Rattle.cbdc_types.specs.declared.answer.Answer.TheVariants as answers
@@ -26,9 +26,8 @@ use Rattle.audit.specs.declared.verdict.Verdict.TheVariants.{Sound, Unsound}
 use Rattle.audit.specs.Verdicts.{IsVerdict}
 use Rattle.printed_lines.specs.declared.report.Report.{Report}
 use Rattle.printed_lines.specs.Decided.{new_batches}
-use Rattle.printed_lines.specs.Recoveries.{resumed_count}
 use Rattle.printed_lines.specs.Reports.{audit_lines}
-use Rattle.printed_lines.specs.Runs.{AreAllReports, is_confirmed, is_rejected, is_refused, count_in}
+use Rattle.printed_lines.specs.Runs.{AreAllReports, is_confirmed, is_rejected, count_in}
 use Rattle.printed_lines.specs.Unspent.{IsUnspentCount}
 use Rattle.workload.specs.Generator.{mint_of, splits_of, joins_of}
 
@@ -62,20 +61,21 @@ pub record HasVerdictOf (K : Shape) (mint : List Output) (handed : List FullTx) 
   pub ordered : IsOrdered (reverse rows)
   pub is : IsVerdict K mint handed rows verdict
 
--- the numbers that end the text of a run of files from journals E to journals X
-pub record EndsRun (K : Shape) (verdicts : VerdictsOf) (files : List (List FullTx)) (E X : ℕ → List Record) (text : Text) : Type 0 where
+-- the numbers that end the text of a run of the workload to journals X: nothing was open before, and each of the n submissions is confirmed or rejected
+pub record EndsWorkload (K : Shape) (seed n : ℕ) (X : ℕ → List Record) (text : Text) : Type 0 where
   pub all : List (List Report)
-  pub are : AreAllReports K verdicts (sound_by verdicts) E X files all
+  pub are : AreAllReports K all_good (sound_by all_good) (made_for K seed n) X (files_of seed n) all
+  pub decided : count_in is_confirmed all + count_in is_rejected all ≡ n
   pub unspent : ℕ
   pub counted : IsUnspentCount K X unspent
-  pub text_is : text ≡ summary_text (resumed_count K E) (new_batches K E X) (count_in is_confirmed all) (count_in is_rejected all) (count_in is_refused all) unspent
+  pub text_is : text ≡ summary_text 0 (new_batches K (made_for K seed n) X) (count_in is_confirmed all) (count_in is_rejected all) 0 unspent
 
 -- the text of a workload: the numbers that end a run of it, and those of an audit behind it, which is sound
 pub record IsWorkloadText (K : Shape) (seed n : ℕ) (text : Text) : Type 0 where
   pub exit : ℕ → List Record
   pub run : IsWorkloadRun K seed n exit
   pub summary : Text
-  pub ends : EndsRun K all_good (files_of seed n) (made_for K seed n) exit summary
+  pub ends : EndsWorkload K seed n exit summary
   pub totals : Totals
   pub audited : HasVerdictOf K (mint_of seed n) (all_of seed n) exit (Sound totals)
   pub text_is : text ≡ summary ++ audit_lines totals

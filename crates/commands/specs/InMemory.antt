@@ -24,7 +24,7 @@ use Rattle.printed_lines.specs.Runs.{is_confirmed, is_rejected, is_refused}
 use Rattle.workload.specs.Generator.{mint_of}
 use Rattle.commands.specs.Audits.{IsUnsoundBy, WhyUnopened}
 use Rattle.commands.specs.Told.{told_total, batches_told, IsCountable}
-use Rattle.commands.specs.Generated.{all_good, files_of, all_of, first_journals, made_for, IsWorkloadRun, HasVerdictOf, EndsRun, IsUnopenedThere}
+use Rattle.commands.specs.Generated.{all_good, files_of, all_of, first_journals, made_for, IsWorkloadRun, HasVerdictOf, EndsWorkload, IsUnopenedThere}
 
 -- empty disks, each with room for the first record of its node
 pub record AreReady (K : Shape) (mint : List Output) (rack : PlainRack) : Type 0 where
@@ -52,7 +52,7 @@ pub record CameTo (K : Shape) (seed n : ℕ) (ran : Ran) (totals : Totals) : Typ
   pub exit : ℕ → List Record
   pub run : IsWorkloadRun K seed n exit
   pub countable : IsCountable ran
-  pub ends : EndsRun K all_good (files_of seed n) (made_for K seed n) exit (numbers_of ran)
+  pub ends : EndsWorkload K seed n exit (numbers_of ran)
   pub audited : HasVerdictOf K (mint_of seed n) (all_of seed n) exit (Sound totals)
 
 -- the ledger of a mint was audited with the transactions that were handed in, and is sound with these totals
