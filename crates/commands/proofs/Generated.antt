@@ -9,6 +9,7 @@ use Rattle.cbdc_types.specs.declared.answer.UnsoundKind.{UnsoundKind}
 use Rattle.cbdc_model.specs.Records.{Digest, Shape, Record, Row, journal}
 use Rattle.cbdc_model.specs.Coins.{Output, FullTx, genesis_id}
 use Rattle.cbdc_model.specs.History.{header_of}
+use Rattle.cbdc_model.specs.Lanes.{IsEnd}
 use Rattle.cbdc_model.specs.Ranges.{home_of}
 use Rattle.cbdc_model.specs.Slots.{slot}
 use Rattle.cbdc_model.specs.World.{KeptJournals, AreIdle}
@@ -50,12 +51,13 @@ use Rattle.workload.specs.Generator.{mint_of, minted_of, joined_of, split_of, jo
 use Rattle.commands.specs.Audits.{IsUnsoundBy}
 use Rattle.commands.specs.Causes.{IsDone}
 use Rattle.commands.specs.Told.{IsCountable}
-use Rattle.commands.specs.Generated.{all_good, files_of, all_of, first_journals, made_for, IsWorkloadRun, HasVerdictOf, EndsWorkload, IsWorkloadText, IsUnopenedThere, IsCutWorkload, IsUnsoundWorkload, WhyNoWorkload}
+use Rattle.commands.specs.Generated.{all_good, files_of, all_of, first_journals, made_for, IsWorkloadRun, HasVerdictOf, EndsWorkload, batches_for, IsWorkloadText, IsUnopenedThere, IsCutWorkload, IsUnsoundWorkload, WhyNoWorkload}
 use Rattle.commands.specs.InMemory.{AreReady, TellsRunOf, IsUnrun, numbers_of, CameTo, IsCheckedSound, IsUnchecked}
 use Rattle.commands.proofs.FirstShown.{kept_journal, kept_beyond, first_kept, first_shown}
 use Rattle.commands.proofs.Memory.{there}
 use Rattle.commands.proofs.Sound.{none_uncaused, never_unsound}
 use Rattle.commands.proofs.Printed.{run_numbers, countable}
+use Rattle.commands.proofs.Cut.{batches_are_cut}
 use Rattle.commands.proofs.Refused.{none_open, none_refused, all_decided}
 use Rattle.commands.proofs.Workloads.{few}
 
@@ -118,8 +120,8 @@ module _ (K : Shape) (seed n : ℕ) (within : IsWithinLimits K) (small : n ≤ 1
   pub is_countable : IsCountable ran
   is_countable = countable K all_good (files_of seed n) (all_few seed n small) within (made_for K seed n) X ran told (sound_by all_good) tests
 
-  pub ends_run : IsUnspentCount K X ran.unspent → EndsWorkload K seed n X (numbers_of ran)
-  ends_run counted =
+  pub ends_run : ((node : ℕ) → IsEnd (made_for K seed n node) (X node)) → IsUnspentCount K X ran.unspent → EndsWorkload K seed n X (numbers_of ran)
+  ends_run grows counted =
       let E = made_for K seed n in
       let r = run_numbers K all_good (files_of seed n) (all_few seed n small) within (made_for K seed n) X ran told (sound_by all_good) tests in
       record {
@@ -129,7 +131,8 @@ module _ (K : Shape) (seed n : ℕ) (within : IsWithinLimits K) (small : n ≤ 1
         unspent = ran.unspent;
         counted = counted;
         text_is = r.2 ∙ ap (λ m. summary_text m (new_batches K E X) (count_in is_confirmed r.0) (count_in is_rejected r.0) (count_in is_refused r.0) ran.unspent) (none_open K seed n (omega (arith, within.some_shard)))
-            ∙ ap (λ m. summary_text 0 (new_batches K E X) (count_in is_confirmed r.0) (count_in is_rejected r.0) m ran.unspent) (none_refused K seed n (made_for K seed n) X r.0 r.1);
+            ∙ ap (λ m. summary_text 0 m (count_in is_confirmed r.0) (count_in is_rejected r.0) (count_in is_refused r.0) ran.unspent) (batches_are_cut K seed n within X ran grows told)
+            ∙ ap (λ m. summary_text 0 (batches_for K n) (count_in is_confirmed r.0) (count_in is_rejected r.0) m ran.unspent) (none_refused K seed n (made_for K seed n) X r.0 r.1);
       }
 
 -- ---- over a rack in memory
@@ -230,7 +233,7 @@ module _ (K : Shape) (seed n : ℕ) where
       exit = told.exit;
       run = is_run;
       countable = is_countable K seed n limits small told.exit ran told.tells;
-      ends = ends_run K seed n limits small told.exit ran told.tells told.unspent;
+      ends = ends_run K seed n limits small told.exit ran told.tells told.grown.grows told.unspent;
       audited = has_verdict (Sound totals) audited;
     }
 

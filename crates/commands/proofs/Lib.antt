@@ -23,4 +23,5 @@ pub mod FirstShown
 pub mod Memory
 pub mod Sound
 pub mod Refused
+pub mod Cut
 pub mod Generated

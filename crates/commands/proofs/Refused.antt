@@ -159,13 +159,13 @@ module _ (seed n i : ℕ) where
   join_sound split (BadWitness k) least = let bad = least.holds.1 in cc
   join_sound split (Unverified k) least = let absent = least.holds.1 in cc
 
-abbrev IsGood : FullTx → Type 0
+abbrev pub IsGood : FullTx → Type 0
 IsGood t = IsSound t (all_good (tx_id t))
 
-splits_sound : (seed n : ℕ) → All IsGood (splits_of seed n)
+pub splits_sound : (seed n : ℕ) → All IsGood (splits_of seed n)
 splits_sound seed n = All-map IsGood (split_of seed n (genesis_id (mint_of seed n))) (range_with_len 0 (minted_of n)) (λ k d lt. split_sound seed n _ (genesis_id (mint_of seed n)))
 
-joins_sound : (seed n : ℕ) → All IsGood (joins_of seed n)
+pub joins_sound : (seed n : ℕ) → All IsGood (joins_of seed n)
 joins_sound seed n = All-map IsGood (join_of seed n (genesis_id (mint_of seed n))) (range_with_len 0 (joined_of n)) (λ k d lt. join_sound seed n _ _)
 
 -- ---- none is refused
@@ -182,7 +182,7 @@ each_one (Refused why ∷ rs) = let rest = each_one rs in omega (arith, rest)
 each_one (Decided batch outcome ∷ rs) =
     let rest = each_one rs in
     elim (is_won outcome) as (λ b. length (if b then Decided batch outcome ∷ filter is_confirmed rs else filter is_confirmed rs) + length (if not b then Decided batch outcome ∷ filter is_rejected rs else filter is_rejected rs)
-        + length (filter is_refused rs) ≡ suc (length rs)) [
+    + length (filter is_refused rs) ≡ suc (length rs)) [
       | true ↦ omega (arith, rest)
       | false ↦ omega (arith, rest)
     ]

@@ -1,5 +1,6 @@
 -- What `gen` comes to: a ledger of the workload's mint is made in nodes of its own, the workload's files are run over it, and it is audited.
-use Rattle.std.specs.Prelude.{◌≡◌, ◌⊎◌, ◌+◌, ◌++◌, ℕ, List, [], ◌∷◌, reverse, Some}
+use Rattle.std.specs.List.{range_with_len}
+use Rattle.std.specs.Prelude.{◌≡◌, ◌⊎◌, ◌+◌, ◌-◌, ◌*◌, ◌/◌, ◌++◌, ℕ, zero, suc, length, List, [], ◌∷◌, reverse, Some}
 use Rattle.line_text.specs.Lines.{Text, summary_text}
 use Rattle.cbdc_types.specs.declared.answer.Answer.{Answer}
 use Rattle.cbdc_types.specs.declared.answer.Answer.TheVariants as answers
@@ -10,7 +11,7 @@ use Rattle.cbdc_model.specs.Clean.{Clean}
 use Rattle.cbdc_model.specs.History.{IsOrdered, first_rows, minted}
 use Rattle.cbdc_model.specs.Lanes.{IsEnd}
 use Rattle.cbdc_model.specs.World.{KeptJournals}
-use Rattle.cbdc_model.specs.Waves.{Waves}
+use Rattle.cbdc_model.specs.Waves.{Waves, share}
 use Rattle.plain_rack.specs.declared.plain_rack.PlainRack.{PlainRack}
 use Rattle.plain_rack.specs.Places.{faults_at}
 use Rattle.plain_rack.specs.Racks.{disk_at, bytes_told, bytes_left, room_of, faults_of}
@@ -25,11 +26,10 @@ use Rattle.audit.specs.declared.verdict.Verdict.{Verdict}
 use Rattle.audit.specs.declared.verdict.Verdict.TheVariants.{Sound, Unsound}
 use Rattle.audit.specs.Verdicts.{IsVerdict}
 use Rattle.printed_lines.specs.declared.report.Report.{Report}
-use Rattle.printed_lines.specs.Decided.{new_batches}
 use Rattle.printed_lines.specs.Reports.{audit_lines}
 use Rattle.printed_lines.specs.Runs.{AreAllReports, is_confirmed, is_rejected, count_in}
 use Rattle.printed_lines.specs.Unspent.{IsUnspentCount}
-use Rattle.workload.specs.Generator.{mint_of, splits_of, joins_of}
+use Rattle.workload.specs.Generator.{mint_of, minted_of, joined_of, splits_of, joins_of}
 
 -- every witness is good
 abbrev pub all_good : VerdictsOf
@@ -61,6 +61,22 @@ pub record HasVerdictOf (K : Shape) (mint : List Output) (handed : List FullTx) 
   pub ordered : IsOrdered (reverse rows)
   pub is : IsVerdict K mint handed rows verdict
 
+-- how many pieces of n a list of m is cut into, the last maybe shorter
+abbrev pub rounded_up : ℕ → ℕ → ℕ
+rounded_up m n = (m + n - 1) / n
+
+-- how many of the first m places go to a lane
+abbrev pub sent_of : Shape → ℕ → ℕ → ℕ
+sent_of K m lane = length (share (K.coordinators * K.lanes) lane 0 (range_with_len 0 m))
+
+-- the batches that the lanes below a number cut the two files into, and those of all lanes
+abbrev pub cut_below : Shape → ℕ → ℕ → ℕ
+cut_below K n zero = 0
+cut_below K n (suc lane) = cut_below K n lane + (rounded_up (sent_of K (minted_of n) lane) K.batch + rounded_up (sent_of K (joined_of n) lane) K.batch)
+
+abbrev pub batches_for : Shape → ℕ → ℕ
+batches_for K n = cut_below K n (K.coordinators * K.lanes)
+
 -- the numbers that end the text of a run of the workload to journals X: nothing was open before, and each of the n submissions is confirmed or rejected
 pub record EndsWorkload (K : Shape) (seed n : ℕ) (X : ℕ → List Record) (text : Text) : Type 0 where
   pub all : List (List Report)
@@ -68,7 +84,7 @@ pub record EndsWorkload (K : Shape) (seed n : ℕ) (X : ℕ → List Record) (te
   pub decided : count_in is_confirmed all + count_in is_rejected all ≡ n
   pub unspent : ℕ
   pub counted : IsUnspentCount K X unspent
-  pub text_is : text ≡ summary_text 0 (new_batches K (made_for K seed n) X) (count_in is_confirmed all) (count_in is_rejected all) 0 unspent
+  pub text_is : text ≡ summary_text 0 (batches_for K n) (count_in is_confirmed all) (count_in is_rejected all) 0 unspent
 
 -- the text of a workload: the numbers that end a run of it, and those of an audit behind it, which is sound
 pub record IsWorkloadText (K : Shape) (seed n : ℕ) (text : Text) : Type 0 where
