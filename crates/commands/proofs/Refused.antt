@@ -1,27 +1,26 @@
 -- Of a workload nothing was open before, and no transaction is refused.
-use Rattle.std.proofs.Common.{◌≡◌, ◌≢◌, ◌⊎◌, inl, inr, ◌+◌, ◌-◌, ◌*◌, ◌/◌, ◌^◌, ◌<◌, ◌≤◌, ℕ, zero, suc, Bool, true, false, if◌then◌else◌, List, [], ◌∷◌, ◌++◌, length, map, get_or, Option, Some, None, refl, sym, ap, ◌∙◌, subst, arith}
+use Rattle.std.proofs.Common.{◌≡◌, ◌⊎◌, inl, inr, ◌+◌, ◌-◌, ◌*◌, ◌/◌, ◌<◌, ◌≤◌, ℕ, zero, suc, Bool, true, false, if◌then◌else◌, List, [], ◌∷◌, length, Some, refl, ap, ◌∙◌, subst, arith}
 use Rattle.std.specs.Prelude.{slice_get, sum_by, is_some, not, All}
 use Rattle.std.specs.List.{filter, range_with_len}
 use Rattle.std.proofs.lemmas.List.Elements.{All-map}
 use Rattle.std.proofs.lemmas.List.Sums.{sum_by-cons}
 use Rattle.std.proofs.lemmas.List.FromFn.{length-map-range_with_len}
 use Rattle.std.proofs.lemmas.Option.{slice_get_within, get_or_from_slice_get}
-use Rattle.cbdc_types.specs.declared.answer.Refusal.{Refusal}
 use Rattle.cbdc_types.specs.declared.answer.Refusal.TheVariants.{NoInputs, NoOutputs, WitnessCount, RepeatedInput, ZeroInput, ZeroOutput, InputOverflow, OutputOverflow, Unbalanced, BadWitness, Unverified}
-use Rattle.cbdc_model.specs.Records.{Digest, Shape, Compact, Record, journal, is_won}
+use Rattle.cbdc_model.specs.Records.{Digest, Shape, Compact, Record, is_won}
 use Rattle.cbdc_model.specs.Coins.{Input, Output, FullTx, tx_id, genesis_id}
 use Rattle.cbdc_model.specs.History.{minted, first_rows}
 use Rattle.cbdc_model.specs.Ranges.{home_of}
 use Rattle.cbdc_model.specs.Slots.{Phase, slot}
 use Rattle.ledger_laws.proofs.First.{nothing, journal_first, all_first}
-use Rattle.verifier_port.specs.declared.Verdict.TheVariants.{Good, Bad, Absent}
-use Rattle.sentinel.specs.FirstRefusal.{IsSound, input_sum, output_sum, Applies}
+use Rattle.verifier_port.specs.declared.Verdict.TheVariants.{Good}
+use Rattle.sentinel.specs.FirstRefusal.{IsSound}
 use Rattle.sound_laws.specs.SoundTest.{sound_by}
 use Rattle.rack_laws.proofs.Opened.{at_place}
 use Rattle.printed_lines.specs.declared.report.Report.{Report}
 use Rattle.printed_lines.specs.declared.report.Report.TheVariants.{Refused, Decided}
 use Rattle.printed_lines.specs.Recoveries.{open_phase, open_below, resumed_count}
-use Rattle.printed_lines.specs.Runs.{AreReports, AreAllReports, IsReport, is_confirmed, is_rejected, is_refused, count_in}
+use Rattle.printed_lines.specs.Runs.{AreReports, AreAllReports, is_confirmed, is_rejected, is_refused, count_in}
 use Rattle.workload.specs.Generator.{coin, coin_value, low_half, high_half, program, mint_of, minted_of, joined_of, splits_of, joins_of, split_of, join_of, join_by}
 use Rattle.commands.specs.Generated.{all_good, files_of, made_for}
 

@@ -24,7 +24,7 @@ use Rattle.printed_lines.specs.Runs.{is_confirmed, is_rejected, is_refused}
 use Rattle.workload.specs.Generator.{mint_of}
 use Rattle.commands.specs.Audits.{IsUnsoundBy, WhyUnopened}
 use Rattle.commands.specs.Told.{told_total, batches_told, IsCountable}
-use Rattle.commands.specs.Generated.{all_good, files_of, all_of, first_journals, made_for, IsWorkloadRun, HasVerdictOf, EndsWorkload, IsUnopenedThere}
+use Rattle.commands.specs.Generated.{all_good, all_of, first_journals, IsWorkloadRun, HasVerdictOf, EndsWorkload, IsUnopenedThere}
 
 -- empty disks, each with room for the first record of its node
 pub record AreReady (K : Shape) (mint : List Output) (rack : PlainRack) : Type 0 where
