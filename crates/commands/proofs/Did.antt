@@ -19,6 +19,7 @@ module _ {D : Type 0} (files : Text → Option (List ℕ)) (content : D → Opti
     known = is.known;
     read = is.read;
     verdicts_read = is.verdicts_read;
+    caused = is.caused;
     ran = is.ran;
     prints = λ K mint submissions E within shows kept. let told = is.prints K mint submissions E within shows kept in (told.0, told.1, (told.2.0, told.2.1, by told.2.0 told.2.2));
   }

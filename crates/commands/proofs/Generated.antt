@@ -30,9 +30,9 @@ use Rattle.audit.specs.declared.verdict.Totals.{Totals}
 use Rattle.audit.specs.declared.verdict.Verdict.{Verdict}
 use Rattle.audit.specs.declared.verdict.Verdict.TheVariants.{Sound, Unsound}
 use Rattle.audit.specs.Verdicts.{IsVerdict}
-use Rattle.caused_ledgers.specs.Caused.{IsUnsound, IsUnresumed}
-use Rattle.audited_ledgers.specs.Audited.{IsAudited, IsToldHistory}
-use Rattle.audited_ledgers.proofs.Histories.{told_history}
+use Rattle.caused_ledgers.specs.Caused.{IsToldHistory, IsCausedLedger, IsUnsound, IsUnresumed}
+use Rattle.caused_ledgers.proofs.Told.{told_history}
+use Rattle.audited_ledgers.specs.Audited.{IsAudited}
 use Rattle.rack_laws.specs.Shown.{Shows, OfShown, HoldsEach, node_count}
 use Rattle.rack_laws.proofs.Opened.{same_genesis}
 use Rattle.rack_ledgers.specs.Ledgers.{IsUnopenedBy}
@@ -77,7 +77,7 @@ module _ {D : Type 0} (content : D → Option (List ℕ)) (images : D → List �
       (t.0, t.1, (t.2.0, t.2.1, record { opens = disks n inside t.0 t.1 t.2.0 t.2.2; journal = kept_journal K mint within minted_few submissions X kept n inside }))
 
   -- the history that was told is that of its journals
-  module _ (shows : Shows content held K (genesis_id mint) X) (shape : Shape) (rows : List Row) (history : IsToldHistory content held shape mint rows) where
+  module _ (shows : Shows content held K (genesis_id mint) X) (shape : Shape) (rows : List Row) (history : IsToldHistory content held shape (genesis_id mint) rows) where
     same_at : (n : ℕ) → n < node_count K → n < node_count shape → (header_of shape (genesis_id mint) n ≡ header_of K (genesis_id mint) n) × (journal n (reverse rows) ≡ X n)
     same_at n inside there =
         let s = shows n inside in
@@ -108,7 +108,8 @@ module _ {D : Type 0} (content : D → Option (List ℕ)) (images : D → List �
   none_unsound limit count a shows unsound =
       let K' = unsound.header.shape in
       let minted = same_genesis content images limit count held unsound.header unsound.logs unsound.shards unsound.opened K (genesis_id mint) X within shows in
-      let history = told_history content images limit count held unsound.header unsound.logs unsound.shards unsound.opened mint minted unsound.uncaused.rows unsound.uncaused.merged in
+      let history = subst (λ (g : Digest). IsToldHistory content held unsound.header.shape g unsound.uncaused.rows) minted
+      (told_history content images limit count held unsound.header unsound.logs unsound.shards unsound.opened unsound.uncaused.rows unsound.uncaused.merged) in
       let rows = unsound.uncaused.rows in
       none_uncaused K mint submissions X within minted_few kept rows (journals_are shows K' rows history) history.ordered unsound.place
       (subst (λ k. IsFirstUncaused k rows unsound.place) (shape_is shows K' rows history) unsound.uncaused.first)
@@ -153,13 +154,13 @@ module _ (K : Shape) (mint : List Output) (few_coins : length mint ≤ 1000000) 
   module _ (files : List (List FullTx)) (mid new : PlainRack) (shows : Shows bytes_told (disk_at mid) K (genesis_id mint) (first_journals K mint)) where
     pub unrun : (a : Answer)
         → (IsUnresumed bytes_told bytes_left room_of faults_of (disk_at mid) (faults_at mid.misses) (faults_at new.misses) a × ((n : ℕ) → IsBack bytes_left room_of (disk_at mid n) (disk_at new n)))
-        ⊎ (IsLaneAnswer a × OfShown bytes_told (disk_at mid) (IsCutShort bytes_left (disk_at new) files))
+        ⊎ (IsLaneAnswer a × IsCausedLedger bytes_told (disk_at mid) × OfShown bytes_told (disk_at mid) (IsCutShort bytes_left (disk_at new) files))
         → IsUnrun K mint files new a
     unrun a (inl (inl unopened, back)) = inr (inl (record { old = mid; new = new; journals = first_journals K mint; kept = first_kept K mint limits few_coins; shows = shows; why = inl unopened }))
     unrun a (inl (inr (inl unsound), back)) =
         absurd (none_unsound bytes_told bytes_left (disk_at mid) K mint [] (first_journals K mint) limits few_coins (first_kept K mint limits few_coins) room_of faults_of a shows unsound)
     unrun a (inl (inr (inr memory), back)) = inl memory
-    unrun a (inr (kind, cut)) = inr (inr (kind, cut K mint [] (first_journals K mint) limits shows (first_kept K mint limits few_coins)))
+    unrun a (inr (kind, caused, cut)) = inr (inr (kind, cut K mint [] (first_journals K mint) limits shows (first_kept K mint limits few_coins)))
 
 -- ---- a workload's run and audit
 

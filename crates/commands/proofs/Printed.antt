@@ -111,6 +111,7 @@ did_run inbox content images before now printed verdicts clients ran was is = re
   known = was.known;
   read = was.read;
   verdicts_read = was.verdicts_read;
+  caused = was.caused;
   ran = was.was;
   prints = prints_run content images before now printed (of_file was.known) was.handed ran was.few was.tells is;
 }

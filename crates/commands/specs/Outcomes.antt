@@ -22,7 +22,7 @@ use Rattle.printed_lines.specs.Runs.{IsRunLines}
 use Rattle.rack_nodes.specs.Racked.{OfTold, IsBack}
 use Rattle.rack_nodes.specs.Refused.{IsNodeJournal}
 use Rattle.rack_ledgers.specs.Ledgers.{IsUnopened}
-use Rattle.caused_ledgers.specs.Caused.{IsUnresumed}
+use Rattle.caused_ledgers.specs.Caused.{IsCausedLedger, IsUnresumed}
 use Rattle.rack_laws.specs.Shown.{OfShown, HoldsEach}
 use Rattle.submissions.specs.Checks.{VerdictsOf}
 use Rattle.rack_runs.specs.Kinds.{IsLaneAnswer}
@@ -48,19 +48,20 @@ abbrev pub PrintsRun : {D : Type 0} → (D → Option (List ℕ)) → (D → Lis
 PrintsRun content images before now printed verdicts handed =
     OfShown content before (λ K mint submissions E. (X : ℕ → List Record) × HoldsEach images now K X × ((text : Text) × IsRunLines K verdicts handed E X text × printed text))
 
--- the files held these transactions and verdicts, which were run over the ledger that the disks told; each disk holds exactly its journal, and this
--- was printed
+-- the files held these transactions and verdicts, which were run over the ledger that the disks told, in which each record was caused; each disk
+-- holds exactly its journal, and this was printed
 pub record DidRun {D : Type 0} (files : Text → Option (List ℕ)) (content : D → Option (List ℕ)) (images : D → List ℕ → Type 0) (before now : ℕ → Option D) (printed : Text → Type 0) (verdicts : FileWord) (clients : List FileWord) : Type 0 where
   pub handed : List (List FullTx)
   pub known : VerdictFile
   pub read : AreRead files 0 clients handed
   pub verdicts_read : AreVerdicts (files verdicts.name.now) known
+  pub caused : IsCausedLedger content before
   pub ran : OfShown content before (IsRun images now (told known) handed)
   pub prints : PrintsRun content images before now printed (told known) handed
 
--- the open batches of the ledger that the disks told were brought to their end; each disk holds exactly its journal
+-- the disks told a ledger in which each record was caused, and its open batches were brought to their end; each disk holds exactly its journal
 abbrev pub DidRecover : {D : Type 0} → (D → Option (List ℕ)) → (D → List ℕ → Type 0) → (ℕ → Option D) → (ℕ → Option D) → Type 0
-DidRecover content images before now = OfShown content before (IsRecovered images now)
+DidRecover content images before now = IsCausedLedger content before × OfShown content before (IsRecovered images now)
 
 -- of the kept ledger that the disks told, this was printed: the lines of a recovery from its journals to those that the disks hold now
 abbrev pub PrintsRecovery : {D : Type 0} → (D → Option (List ℕ)) → (D → List ℕ → Type 0) → (ℕ → Option D) → (ℕ → Option D) → (Text → Type 0) → Type 0
@@ -96,11 +97,12 @@ WhyNoInit files files_before files_now content limit disks disks_before disks_no
     IsNotRead file.place (files file.name.now) mint_of_file (files_before file.name.now) (files_now file.name.now) answer
     ⊎ ((mint : List Output) × Tells (files file.name.now) (λ c. mint_of_file c ≡ Ok mint) × IsUnmade shape mint content limit disks disks_before disks_now answer)
 
--- the ledger could not be opened, and the disks are back as they were read; or a lane met a fault, and its journals have grown at their ends and are kept, each by its disk, with one record more or without
+-- the ledger could not be opened, or a record of it was not caused, and the disks are back as they were read; or the disks told a ledger in which
+-- each record was caused, and a lane met a fault: its journals have grown at their ends and are kept, each by its disk, with one record more or without
 abbrev pub WhyNoTurns : {D : Type 0} → (D → Option (List ℕ)) → (D → List ℕ → Type 0) → (D → ℕ) → (D → ℕ) → (ℕ → Option D) → (ℕ → Option D) → (ℕ → ℕ) → (ℕ → ℕ) → List (List FullTx) → Answer → Type 0
 WhyNoTurns content images limit count disks now disks_before disks_now handed answer =
     (IsUnresumed content images limit count disks disks_before disks_now answer × ((n : ℕ) → IsBack images limit (disks n) (now n)))
-    ⊎ (IsLaneAnswer answer × OfShown content disks (IsCutShort images now handed))
+    ⊎ (IsLaneAnswer answer × IsCausedLedger content disks × OfShown content disks (IsCutShort images now handed))
 
 -- a client file is the first that is not read; or all client files were read, and the verdicts are not; or all were read and could not be run
 abbrev pub WhyNoRun : {D : Type 0} → (Text → Option (List ℕ)) → (Text → ℕ) → (Text → ℕ) → (D → Option (List ℕ)) → (D → List ℕ → Type 0) → (D → ℕ) → (D → ℕ) → (ℕ → Option D) → (ℕ → Option D) → (ℕ → ℕ) → (ℕ → ℕ)
@@ -111,6 +113,11 @@ WhyNoRun files files_before files_now content images limit count disks now disks
     × (IsNoVerdicts verdicts.place (files verdicts.name.now) (files_before verdicts.name.now) (files_now verdicts.name.now) answer
     ⊎ ((known : VerdictFile) × AreVerdicts (files verdicts.name.now) known × WhyNoTurns content images limit count disks now disks_before disks_now handed answer)))
 
+-- the ledger could not be opened, and the disks are back as they were read
+abbrev pub WhyNoStatus : {D : Type 0} → (D → Option (List ℕ)) → (D → List ℕ → Type 0) → (D → ℕ) → (D → ℕ) → (ℕ → Option D) → (ℕ → Option D) → (ℕ → ℕ) → (ℕ → ℕ) → Answer → Type 0
+WhyNoStatus content images limit count disks now disks_before disks_now answer =
+    IsUnopened content images limit count disks disks_before disks_now answer × ((n : ℕ) → IsBack images limit (disks n) (now n))
+
 -- why what was asked for was not done
 abbrev pub Why : {D : Type 0} → (Text → Option (List ℕ)) → (Text → ℕ) → (Text → ℕ) → (D → Option (List ℕ)) → (D → List ℕ → Type 0) → (D → ℕ) → (D → ℕ) → (ℕ → Option D) → (ℕ → Option D) → (ℕ → ℕ) → (ℕ → ℕ) → Request → Answer → Type 0
 Why files files_before files_now content images limit count disks now disks_before disks_now (Init shape mint) answer =
@@ -120,7 +127,7 @@ Why files files_before files_now content images limit count disks now disks_befo
 Why files files_before files_now content images limit count disks now disks_before disks_now Recover answer =
     WhyNoTurns content images limit count disks now disks_before disks_now [] answer
 Why files files_before files_now content images limit count disks now disks_before disks_now (Status hashes) answer =
-    IsUnopened content images limit count disks disks_before disks_now answer
+    WhyNoStatus content images limit count disks now disks_before disks_now answer
 Why files files_before files_now content images limit count disks now disks_before disks_now (Gen shape seed size) answer = ((n : ℕ) → now n ≡ disks n) × WhyNoWorkload shape seed size answer
 Why files files_before files_now content images limit count disks now disks_before disks_now (Show text) answer = ⊥
 Why files files_before files_now content images limit count disks now disks_before disks_now (Audit mint clients) answer =

@@ -18,6 +18,12 @@ pub returns-in-Err-clause-untouched : goal.returns-in-Err-clause-untouched
 returns-in-Err-clause-untouched g c before =
     absurd (not_turned g.R.Disk.Disk.content g.R.Disk.Disk.images g.R.Disk.Disk.limit g.R.Disk.Disk.count (g.R.Rack.held c.args.rack.now) (g.R.Rack.held c.recover_on.new.rack) (g.R.Rack.count c.args.rack.now) (g.R.Rack.count c.recover_on.new.rack) [] c.in-Err.fault c.in-Err.ensures.stopped before)
 
+pub returns-in-Ok-write_recovered-clause-did : goal.returns-in-Ok-write_recovered-clause-did
+returns-in-Ok-write_recovered-clause-did g c well = (c.in-Ok.ensures.caused, c.in-Ok.ensures.recovered)
+
+pub returns-clause-did : goal.returns-clause-did
+returns-clause-did g c well = (c.in-Ok.ensures.caused, c.in-Ok.ensures.recovered)
+
 pub returns-in-Ok-write_recovered-clause-prints : goal.returns-in-Ok-write_recovered-clause-prints
 returns-in-Ok-write_recovered-clause-prints g c well =
     prints_recovery g.R.Disk.Disk.content g.R.Disk.Disk.images (g.R.Rack.held c.args.rack.now) (g.R.Rack.held c.recover_on.new.rack) (IsPrinted (g.O.Sink.taken c.args.out.now) (g.O.Sink.taken c.write_recovered.new.out) answers.Ok)
