@@ -4,9 +4,9 @@ use Rattle.outside.specs.Images.{Tells}
 use Rattle.line_text.specs.Lines.{Text}
 use Rattle.cbdc_types.specs.declared.answer.Answer.{Answer}
 use Rattle.cbdc_types.specs.Limits.{IsWithinLimits}
-use Rattle.cbdc_model.specs.Records.{Digest, Shape, Compact, Record, journal}
+use Rattle.cbdc_model.specs.Records.{Digest, Shape, Compact, Record}
 use Rattle.cbdc_model.specs.Coins.{Output, FullTx}
-use Rattle.cbdc_model.specs.History.{header_of, first_rows, minted}
+use Rattle.cbdc_model.specs.History.{header_of}
 use Rattle.cbdc_model.specs.World.{KeptJournals}
 use Rattle.record_log.specs.Held.{OpensTo}
 use Rattle.command_line.specs.declared.request.FileWord.{FileWord}
@@ -27,10 +27,8 @@ use Rattle.rack_laws.specs.Shown.{OfShown, HoldsEach}
 use Rattle.submissions.specs.Checks.{VerdictsOf}
 use Rattle.rack_runs.specs.Runs.{IsRun, IsRecovered, IsCutShort, IsLaneFault, NothingNext, PieceNext}
 use Rattle.commands.specs.Audits.{DidAudit, WhyNoAudit}
-
--- a first record at each node of the ledger that a mint begins
-abbrev pub first_journals : Shape → List Output → ℕ → List Record
-first_journals K mint n = journal n (first_rows K (minted mint))
+use Rattle.commands.specs.Generated.{PrintsWorkload, WhyNoWorkload}
+pub use Rattle.commands.specs.Generated.{first_journals}
 
 -- the file held a mint, no node was in use, each node's disk holds its first record alone, and so does whatever a crash leaves of one that told its
 -- content; the first records are a kept ledger of the mint, to which nothing was handed in yet; and this was printed
@@ -80,14 +78,14 @@ pub record DidStatus {D : Type 0} (content : D → Option (List ℕ)) (images : 
   pub back : (n : ℕ) → IsBack images limit (before n) (now n)
   pub prints : printed (status_lines shape journals hashes)
 
--- what was asked for was done, and this was printed; of a workload the text is not told
+-- what was asked for was done, and this was printed
 abbrev pub Did : {D : Type 0} → (Text → Option (List ℕ)) → (D → Option (List ℕ)) → (D → List ℕ → Type 0) → (D → ℕ) → (ℕ → Option D) → (ℕ → Option D) → (Text → Type 0) → Request → Type 0
 Did files content images limit before now printed (Init shape mint) = DidInit files content images before now printed shape mint
 Did files content images limit before now printed (Run verdicts clients) = DidRun files content images before now printed verdicts clients.items
 Did files content images limit before now printed Recover = DidRecover content images before now × PrintsRecovery content images before now printed
 Did files content images limit before now printed (Status hashes) = DidStatus content images limit before now printed hashes.items
 Did files content images limit before now printed (Audit mint clients) = DidAudit files content images limit before now printed mint clients.items
-Did files content images limit before now printed (Gen shape seed size) = (n : ℕ) → now n ≡ before n
+Did files content images limit before now printed (Gen shape seed size) = ((n : ℕ) → now n ≡ before n) × PrintsWorkload printed shape seed size
 Did files content images limit before now printed (Show text) = printed (string_bytes text)
 
 -- ---- why it was not done, by the counts of faults of files and disks before and now
@@ -130,7 +128,7 @@ Why files files_before files_now content images limit count disks now disks_befo
     WhyNoTurns content images limit count disks now disks_before disks_now NothingNext [] answer
 Why files files_before files_now content images limit count disks now disks_before disks_now (Status hashes) answer =
     WhyNoStatus content images limit count disks now disks_before disks_now answer
-Why files files_before files_now content images limit count disks now disks_before disks_now (Gen shape seed size) answer = (n : ℕ) → now n ≡ disks n
+Why files files_before files_now content images limit count disks now disks_before disks_now (Gen shape seed size) answer = ((n : ℕ) → now n ≡ disks n) × WhyNoWorkload shape seed size answer
 Why files files_before files_now content images limit count disks now disks_before disks_now (Show text) answer = ⊥
 Why files files_before files_now content images limit count disks now disks_before disks_now (Audit mint clients) answer =
     WhyNoAudit files files_before files_now content images limit count disks now disks_before disks_now mint clients.items answer

@@ -26,6 +26,10 @@ pub if_err_by : {B F : Type 0} (P Q : F → Type 0) (o : Result B F) → ((e : F
 if_err_by P Q (Ok b) f so = tt
 if_err_by P Q (Err e) f so = f e so
 
+pub on_ok_both : {B F : Type 0} (X Y : Type 0) (o : Result B F) → OnOk o X → OnOk o Y → OnOk o (X × Y)
+on_ok_both X Y (Ok b) x y = (x, y)
+on_ok_both X Y (Err e) x y = tt
+
 -- what is said of what a whole run did is so of what is made of it
 pub if_made : {A B E F : Type 0} (P : B → Type 0) (Q : A → Type 0) (S : A → B → Type 0) (r : Result A E) (o : Result B F) → OnOk r (IsOk o) → IfOk r (λ a. IfOk o (S a)) → IfOk o P → ((a : A) (b : B) → S a b → P b → Q a) → IfOk r Q
 if_made P Q S (Ok a) (Ok b) whole same so f = f a b same so

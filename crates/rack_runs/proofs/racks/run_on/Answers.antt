@@ -3,7 +3,7 @@ use Rattle.caused_ledgers.proofs.Told.{caused_ledger}
 use Rattle.rack_laws.proofs.Behind.{is_ledger, logs_return, shards_return}
 use Rattle.rack_runs.proofs.Checking.{opened_checked}
 use Rattle.rack_runs.proofs.Answering.{lane_fault}
-use Rattle.rack_runs.proofs.Lent.{on_ok_always, on_ok_all, if_err_by, if_ok_all}
+use Rattle.rack_runs.proofs.Lent.{on_ok_always, on_ok_all, on_ok_both, if_err_by, if_ok_all}
 use Rattle.rack_runs.proofs.Ledgers.{runs, cut_short, tells}
 use Rattle.rack_runs.proofs.racks.run_on.Goals as goal
 
@@ -70,8 +70,8 @@ returns-clause-stopped g c =
 pub returns-clause-told : goal.returns-clause-told
 returns-clause-told g c =
     let ran = c.run_nodes-nodes.ensures in
-    if_ok_all _ _ _ c.run_nodes-nodes.result.came ran.told ran.unspent ran.quiet
-    (λ r told unspent quiet.
+    if_ok_all _ _ _ c.run_nodes-nodes.result.came ran.told ran.unspent (on_ok_both _ _ c.run_nodes-nodes.result.came ran.waves ran.quiet)
+    (λ r told unspent both.
     tells g.R.Disk.Disk.content g.R.Disk.Disk.images g.R.Disk.Disk.limit g.R.Disk.Disk.count (g.R.Rack.held c.args.rack.now) (g.R.Rack.held c.close_nodes.new.rack) c.in-Ok.nodes.header c.run_nodes-nodes.result.nodes.header
     c.in-Ok.nodes.logs.items c.run_nodes-nodes.result.nodes.logs.items c.in-Ok.nodes.shards.items c.run_nodes-nodes.result.nodes.shards.items c.args.files.now c.in-Ok.ensures.opened ran.ledger ran.shape
-    c.close_nodes.ensures.closed_logs c.close_nodes.ensures.closed_shards ran.stored (g.V.Verifier.verdict_of c.args.verifier.now) r told unspent quiet)
+    c.close_nodes.ensures.closed_logs c.close_nodes.ensures.closed_shards ran.stored (g.V.Verifier.verdict_of c.args.verifier.now) r ran.keeps both.0 told unspent both.1)
