@@ -80,7 +80,7 @@ module _ {D : Type 0} (content : D → Option (List ℕ)) (images : D → List �
 
   module _ (mid now : ℕ → Option D) (kept : (n : ℕ) → length logs + length shards ≤ n → mid n ≡ held n) (closed_logs : ByPlace (λ n l. OfTold (now n) (λ d. d ≡ l.disk)) logs)
       (closed_shards : ByPlace (λ s x. OfTold (now (length logs + s)) (λ d. d ≡ x.disk)) shards) (others : (n : ℕ) → length logs + length shards ≤ n → now n ≡ mid n) where
-    all_back : (n : ℕ) → IsBack images limit (held n) (now n)
+    pub all_back : (n : ℕ) → IsBack images limit (held n) (now n)
     all_back =
         back_parts images limit held mid now (length logs + length shards) (length logs + length shards) kept (nodes_back content images limit count held now h logs shards are closed_logs closed_shards)
         (λ n ge lt. absurd (omega (arith, ge, lt))) (λ n ge above. others n ge)

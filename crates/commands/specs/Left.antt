@@ -8,8 +8,9 @@ use Rattle.cbdc_model.specs.Records.{Shape}
 use Rattle.cbdc_model.specs.Coins.{Output}
 use Rattle.command_line.specs.declared.request.FileWord.{FileWord}
 use Rattle.command_line.specs.declared.request.Request.{Request}
-use Rattle.command_line.specs.declared.request.Request.TheVariants.{Init}
+use Rattle.command_line.specs.declared.request.Request.TheVariants.{Init, Status, Audit}
 use Rattle.input_files.specs.Contents.{mint_of_file}
+use Rattle.rack_nodes.specs.Racked.{IsBack}
 use Rattle.ledger_init.specs.Made.{IsLeft}
 
 -- the answers that come before any disk is taken: bad words, a file that is not read, and a mint of too much
@@ -25,7 +26,10 @@ abbrev pub InitLeaves : {D : Type 0} → (Text → Option (List ℕ)) → (D →
 InitLeaves files content images limit before now shape file answer =
     (mint : List Output) × Tells (files file.name.now) (λ c. mint_of_file c ≡ Ok mint) × IsLeft shape mint content images limit before now answer
 
--- what is left by what was asked for; it is told of `init` alone
+-- what is left by what was asked for: behind `status` and `audit` all disks are as they were read, whatever was answered; of the others it is told of
+-- `init` alone
 abbrev pub Leaves : {D : Type 0} → (Text → Option (List ℕ)) → (D → Option (List ℕ)) → (D → List ℕ → Type 0) → (D → ℕ) → (ℕ → Option D) → (ℕ → Option D) → Request → Answer → Type 0
 Leaves files content images limit before now (Init shape mint) answer = InitLeaves files content images limit before now shape mint answer
+Leaves files content images limit before now (Status hashes) answer = (n : ℕ) → IsBack images limit (before n) (now n)
+Leaves files content images limit before now (Audit mint clients) answer = (n : ℕ) → IsBack images limit (before n) (now n)
 Leaves files content images limit before now other answer = Unit {0}

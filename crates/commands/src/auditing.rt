@@ -98,6 +98,7 @@ pub(crate) fn audit<I: Inbox, R: Rack, O: Sink>(
     ensures silent { IsSilent (O.taken out.old) (O.taken out.new) result }
     ensures written_later { O.count out.old ≤ O.count out.new }
     ensures untouched { IsBeforeDisks result → rack.new ≡ rack.old }
+    ensures left { (n : ℕ) → IsBack R.Disk.images R.Disk.limit (R.held rack.old n) (R.held rack.new n) }
     ensures back { (n : ℕ) → R.can_take rack.new n }
 {
     match audit_all(alloc, mint, clients, inbox, rack) {

@@ -6,6 +6,7 @@ ghost use Rattle.commands.specs.Causes.{IsDone, IsTold, IsWell};
 ghost use Rattle.commands.specs.Outcomes.{DidStatus, WhyNoStatus};
 ghost use Rattle.commands.specs.Texts.{IsPrinted, IsSilent, told_lines, status_among};
 ghost use Rattle.commands.specs.Left.{IsBeforeDisks};
+ghost use Rattle.rack_nodes.specs.Racked.{IsBack};
 
 use cbdc_types::{Answer, Hash, Status};
 use line_text::{WriteFault, write_status};
@@ -70,6 +71,7 @@ pub(crate) fn status<R: Rack, O: Sink>(
     ensures silent { IsSilent (O.taken out.old) (O.taken out.new) result }
     ensures written_later { O.count out.old ≤ O.count out.new }
     ensures untouched { IsBeforeDisks result → rack.new ≡ rack.old }
+    ensures left { (n : ℕ) → IsBack R.Disk.images R.Disk.limit (R.held rack.old n) (R.held rack.new n) }
     ensures back { (n : ℕ) → R.can_take rack.new n }
 {
     let nodes = match open_nodes(alloc, rack) {

@@ -4,7 +4,7 @@ use Rattle.cbdc_types.specs.declared.answer.Answer.TheVariants as answers
 use Rattle.commands.specs.Outcomes.{WhyNoStatus}
 use Rattle.commands.specs.Texts.{IsPrinted, told_lines, status_among}
 use Rattle.commands.proofs.Answers.{told}
-use Rattle.commands.proofs.Ledgers.{few_shards, did_status}
+use Rattle.commands.proofs.Ledgers.{few_shards, did_status, all_back}
 use Rattle.commands.proofs.Faults.{silent_same}
 use Rattle.commands.proofs.looking.status.Goals as goal
 
@@ -41,3 +41,21 @@ returns-in-Err-clause-silent g c = silent_same (g.O.Sink.taken c.args.out.now) c
 
 pub returns-in-Err-clause-untouched : goal.returns-in-Err-clause-untouched
 returns-in-Err-clause-untouched g c before = absurd (not_refused c.in-Err.fault c.in-Err.ensures.kind before)
+
+pub returns-in_default-clause-left : goal.returns-in_default-clause-left
+returns-in_default-clause-left g c =
+    all_back g.R.Disk.Disk.content g.R.Disk.Disk.images g.R.Disk.Disk.limit g.R.Disk.Disk.count (g.R.Rack.held c.args.rack.now) c.in-Ok.nodes.header c.in-Ok.nodes.logs.items c.in-Ok.nodes.shards.items c.in-Ok.ensures.opened
+    (g.R.Rack.held c.open_nodes.new.rack) (g.R.Rack.held c.close_nodes.new.rack) c.in-Ok.ensures.others_held c.close_nodes.ensures.closed_logs c.close_nodes.ensures.closed_shards c.close_nodes.ensures.others_held
+
+pub returns-in-Ok-write_statuses-clause-left : goal.returns-in-Ok-write_statuses-clause-left
+returns-in-Ok-write_statuses-clause-left g c =
+    all_back g.R.Disk.Disk.content g.R.Disk.Disk.images g.R.Disk.Disk.limit g.R.Disk.Disk.count (g.R.Rack.held c.args.rack.now) c.in-Ok.nodes.header c.in-Ok.nodes.logs.items c.in-Ok.nodes.shards.items c.in-Ok.ensures.opened
+    (g.R.Rack.held c.open_nodes.new.rack) (g.R.Rack.held c.close_nodes.new.rack) c.in-Ok.ensures.others_held c.close_nodes.ensures.closed_logs c.close_nodes.ensures.closed_shards c.close_nodes.ensures.others_held
+
+pub returns-clause-left : goal.returns-clause-left
+returns-clause-left g c =
+    all_back g.R.Disk.Disk.content g.R.Disk.Disk.images g.R.Disk.Disk.limit g.R.Disk.Disk.count (g.R.Rack.held c.args.rack.now) c.in-Ok.nodes.header c.in-Ok.nodes.logs.items c.in-Ok.nodes.shards.items c.in-Ok.ensures.opened
+    (g.R.Rack.held c.open_nodes.new.rack) (g.R.Rack.held c.close_nodes.new.rack) c.in-Ok.ensures.others_held c.close_nodes.ensures.closed_logs c.close_nodes.ensures.closed_shards c.close_nodes.ensures.others_held
+
+pub returns-in-Err-clause-left : goal.returns-in-Err-clause-left
+returns-in-Err-clause-left g c = c.in-Err.ensures.held

@@ -1,8 +1,9 @@
-use Rattle.std.proofs.Common.{refl, sym, subst}
+use Rattle.std.proofs.Common.{inr, refl, sym, subst}
 use Rattle.command_line.specs.declared.request.Request.TheVariants.{Audit, Gen}
 use Rattle.commands.specs.Audits.{WhyNoAudit}
 use Rattle.commands.specs.Causes.{IsTold}
 use Rattle.commands.specs.Generated.{WhyNoWorkload}
+use Rattle.commands.specs.Left.{Leaves}
 use Rattle.commands.specs.Outcomes.{Did, Why}
 use Rattle.commands.specs.Texts.{IsPrinted}
 use Rattle.commands.proofs.Answers.{well_told, told_by}
@@ -35,3 +36,11 @@ returns-in-Gen-clause-why g c =
     let Here = Why (g.I.Inbox.file c.args.inbox.now) (g.I.Inbox.count c.args.inbox.now) (g.I.Inbox.count c.args.inbox.now) g.R.Disk.Disk.content g.R.Disk.Disk.images g.R.Disk.Disk.limit g.R.Disk.Disk.count (g.R.Rack.held c.args.rack.now) (g.R.Rack.held c.args.rack.now) (g.R.Rack.count c.args.rack.now) (g.R.Rack.count c.args.rack.now) in
     subst (λ r. IsTold (Here r) c.generated.result) (sym c.in-Gen.is)
     (told_by (WhyNoWorkload c.in-Gen.shape c.in-Gen.seed c.in-Gen.count) (Here (Gen c.in-Gen.shape c.in-Gen.seed c.in-Gen.count)) c.generated.result (λ b why. ((λ n. refl), why)) c.generated.ensures.why)
+
+pub returns-in-Status-clause-left : goal.returns-in-Status-clause-left
+returns-in-Status-clause-left g c not_well =
+    inr (subst (λ r. Leaves (g.I.Inbox.file c.args.inbox.now) g.R.Disk.Disk.content g.R.Disk.Disk.images g.R.Disk.Disk.limit (g.R.Rack.held c.args.rack.now) (g.R.Rack.held c.status.new.rack) r c.status.result) (sym c.in-Status.is) c.status.ensures.left)
+
+pub returns-in-Audit-clause-left : goal.returns-in-Audit-clause-left
+returns-in-Audit-clause-left g c not_well =
+    inr (subst (λ r. Leaves (g.I.Inbox.file c.args.inbox.now) g.R.Disk.Disk.content g.R.Disk.Disk.images g.R.Disk.Disk.limit (g.R.Rack.held c.args.rack.now) (g.R.Rack.held c.audit.new.rack) r c.audit.result) (sym c.in-Audit.is) c.audit.ensures.left)
