@@ -2,3 +2,6 @@ pub mod Lending
 pub mod Rising
 pub mod Histories
 pub mod Closed
+pub mod Lists
+pub mod Told
+pub mod Once

@@ -1,14 +1,18 @@
 -- The history of a ledger's nodes, and whether each of its records is caused.
-use Rattle.std.specs.Prelude.{◌≡◌, ◌⊎◌, ◌++◌, ℕ, List, map, reverse, Option}
+use Rattle.std.specs.Prelude.{◌≡◌, ◌⊎◌, ◌+◌, ◌++◌, ◌≤◌, ◌<◌, ℕ, List, [], map, reverse, Option}
+use Rattle.outside.specs.Images.{Tells}
+use Rattle.cbdc_types.specs.Limits.{IsWithinLimits}
 use Rattle.cbdc_types.specs.declared.answer.Answer.{Answer}
 use Rattle.cbdc_types.specs.declared.answer.Answer.TheVariants as answers
 use Rattle.cbdc_types.specs.declared.answer.UnsoundKind.TheVariants.{Cause}
-use Rattle.cbdc_model.specs.Records.{Shape, Header, Record, Row, journal}
-use Rattle.cbdc_model.specs.History.{IsOrdered}
+use Rattle.cbdc_model.specs.Records.{Digest, Shape, Header, Record, Row, journal}
+use Rattle.cbdc_model.specs.History.{header_of, IsOrdered}
 use Rattle.history.specs.Rows.{journal_in}
 use Rattle.audit.specs.Walks.{AllCaused, IsFirstUncaused}
 use Rattle.coord_log.specs.Logs.{LogOf}
 use Rattle.shard_node.specs.Shards.{ShardOf}
+use Rattle.rack_nodes.specs.Racked.{OfTold}
+use Rattle.rack_nodes.specs.Refused.{IsNodeJournal}
 use Rattle.rack_ledgers.specs.Ledgers.{AreOpened, IsUnopened}
 
 -- the journals of all nodes, the coordinators first, each with its oldest record first
@@ -32,6 +36,22 @@ pub record HasUncaused (K : Shape) (all : List (List Record)) (place : ℕ) : Ty
   pub rows : List Row
   pub merged : AreMerged all rows
   pub first : IsFirstUncaused K rows place
+
+-- the rows, the oldest first, are the history of the ledger with this shape and genesis that the disks tell: what is told of each node's disk opens to
+-- the node's journal among the rows, no other node has a journal there, and the rows are in order
+pub record IsToldHistory {D : Type 0} (content : D → Option (List ℕ)) (held : ℕ → Option D) (K : Shape) (genesis : Digest) (rows : List Row) : Type 0 where
+  pub limits : IsWithinLimits K
+  pub opened : (n : ℕ) → n < K.coordinators + K.shards → OfTold (held n) (λ was. Tells (content was) (IsNodeJournal (header_of K genesis n) (journal n (reverse rows))))
+  pub others : (n : ℕ) → K.coordinators + K.shards ≤ n → journal n (reverse rows) ≡ []
+  pub ordered : IsOrdered (reverse rows)
+
+-- the disks tell a ledger, and each row of its history is caused by those before it
+pub record IsCausedLedger {D : Type 0} (content : D → Option (List ℕ)) (held : ℕ → Option D) : Type 0 where
+  pub shape : Shape
+  pub genesis : Digest
+  pub rows : List Row
+  pub history : IsToldHistory content held shape genesis rows
+  pub caused : AllCaused shape (reverse rows)
 
 -- all nodes are opened, and the answer is the first place of their history that is not caused
 pub record IsUnsound {D : Type 0} (content : D → Option (List ℕ)) (images : D → List ℕ → Type 0) (limit count : D → ℕ) (held : ℕ → Option D) (answer : Answer) : Type 0 where

@@ -1,1 +1,2 @@
 pub mod Caused
+pub mod Laws

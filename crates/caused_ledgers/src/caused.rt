@@ -35,6 +35,8 @@ pub fn open_caused<R: Rack>(alloc: Global, rack: &mut R) -> Result<Nodes<R::Disk
     requires { (n : ℕ) → R.can_take rack.old n }
     // They are all nodes of the ledger, each stands for what was told of its disk, and their history is caused.
     ensures opened { IfOk result (λ l. AreOpened R.Disk.content R.Disk.images R.Disk.limit R.Disk.count (R.held rack.old) l.header l.logs.items l.shards.items) }
+    ensures logs_since { IfOk result (λ l. ByPlace (λ n x. R.count rack.old n ≤ R.Disk.count x.disk) l.logs.items) }
+    ensures shards_since { IfOk result (λ l. ByPlace (λ s x. R.count rack.old (l.header.shape.coordinators + s) ≤ R.Disk.count x.disk) l.shards.items) }
     ensures caused { IfOk result (λ l. AreCaused l.header.shape (journals_of l.logs.items l.shards.items)) }
 
     // Why they are not, and the disks are back.

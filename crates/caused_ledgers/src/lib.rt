@@ -2,7 +2,9 @@
 #![tactic(auto)]
 
 mod caused;
+mod laws;
 mod lent;
 
 pub use caused::open_caused;
+pub use laws::none_uncaused_law;
 pub use lent::{lend_logs, lend_shards};

@@ -19,6 +19,7 @@ module _ {D : Type 0} (files : Text → Option (List ℕ)) (content : D → Opti
     known = is.known;
     read = is.read;
     verdicts_read = is.verdicts_read;
+    caused = is.caused;
     ran = is.ran;
     prints = λ K mint submissions E within shows kept. let told = is.prints K mint submissions E within shows kept in (told.0, told.1, (told.2.0, told.2.1, by told.2.0 told.2.2));
   }
@@ -26,7 +27,7 @@ module _ {D : Type 0} (files : Text → Option (List ℕ)) (content : D → Opti
   did_by (Status hashes) is =
       record { shape = is.shape; genesis = is.genesis; journals = is.journals; limits = is.limits; opened = is.opened; back = is.back; prints = by _ is.prints }
   did_by (Audit mint clients) is = record { totals = is.totals; was = is.was; back = is.back; prints = by _ is.prints }
-  did_by (Gen shape seed count) is = is
+  did_by (Gen shape seed count) is = (is.0, (is.1.0, is.1.1, by is.1.0 is.1.2))
   did_by (Show text) is = by _ is
 
 -- nothing more was printed

@@ -19,3 +19,9 @@ pub mod Reports
 pub mod RunLines
 pub mod Batched
 pub mod Printed
+pub mod FirstShown
+pub mod Memory
+pub mod Sound
+pub mod Refused
+pub mod Cut
+pub mod Generated

@@ -1,5 +1,5 @@
 -- What a run prints, by what its waves tell.
-use Rattle.std.proofs.Common.{◌≡◌, ℕ, zero, suc, ◌+◌, ◌*◌, ◌<◌, ◌≤◌, Bool, List, [], ◌∷◌, ◌++◌, length, Option, refl, sym, ap, ◌∙◌, subst, arith}
+use Rattle.std.proofs.Common.{◌≡◌, ℕ, zero, suc, ◌*◌, ◌<◌, ◌≤◌, Bool, List, [], ◌∷◌, ◌++◌, Option, sym, ap, ◌∙◌, subst, arith}
 use Rattle.cbdc_types.specs.Limits.{IsWithinLimits}
 use Rattle.cbdc_model.specs.Records.{Shape, Record}
 use Rattle.cbdc_model.specs.Coins.{FullTx}
@@ -17,13 +17,14 @@ use Rattle.file_runs.specs.declared.waves.Wave.{Wave}
 use Rattle.printed_lines.specs.declared.report.Report.{Report}
 use Rattle.printed_lines.specs.Recoveries.{resumed_count}
 use Rattle.printed_lines.specs.Decided.{new_batches}
-use Rattle.printed_lines.specs.Runs.{is_confirmed, is_rejected, is_refused, count_in, files_lines, run_lines, AreAllReports, IsRunText}
-use Rattle.rack_laws.specs.Shown.{OfShown, HoldsEach}
+use Rattle.printed_lines.specs.Runs.{is_confirmed, is_rejected, is_refused, count_in, files_lines, run_lines, AreAllReports}
+use Rattle.rack_laws.specs.Shown.{OfShown}
 use Rattle.rack_runs.specs.declared.over.Ran.{Ran}
 use Rattle.rack_runs.specs.Telling.{TellsRun, IsTold}
 use Rattle.commands.specs.Outcomes.{DidRun, PrintsRun}
 use Rattle.commands.specs.Told.{told_files, told_total, batches_told, IsCountable, ran_text, WasRun}
 use Rattle.commands.proofs.Recovered.{count_below}
+use Rattle.commands.proofs.Sums.{ran_tail}
 use Rattle.commands.proofs.Reports.{all_reported}
 use Rattle.commands.proofs.Batched.{total_few, batches_are}
 
@@ -58,22 +59,36 @@ module _ (K : Shape) (verdicts : VerdictsOf) (files : List (List FullTx)) (few :
         submissions = λ test. (let s = total_few K verdicts test files told.middle X ran.waves.items told.told in omega (arith, s, few));
       }
 
-  pub run_text : (sound : FullTx → Bool) → TellsSound verdicts sound → (all : List (List Report)) × ((AreAllReports K verdicts sound E X files all) × (ran_text ran ≡ run_lines K E X files all ran.unspent))
-  run_text sound tells =
+  -- what came of the submissions, their lines, and the numbers behind them
+  abbrev pub numbers : List (List Report) → Text
+  numbers all = summary_text (resumed_count K E) (new_batches K E X) (count_in is_confirmed all) (count_in is_rejected all) (count_in is_refused all) ran.unspent
+
+  abbrev Told : (FullTx → Bool) → Type 0
+  Told sound = (all : List (List Report)) × AreAllReports K verdicts sound E X files all × (told_files 1 ran.waves.items ≡ files_lines 1 files all) × (ran_tail ran ≡ numbers all)
+
+  all_told : (sound : FullTx → Bool) → TellsSound verdicts sound → Told sound
+  all_told sound tells =
       let ws = ran.waves.items in
       let r = all_reported K verdicts sound tells some_lane E told.middle X told.grows told.unprepared files ws told.told in
       let resumed = count_below K E told.middle (K.coordinators * K.lanes) ran.resumed.items told.batches in (
         r.0,
-        (
-          r.1,
-          ap (λ l. l ++ summary_text (length ran.resumed.items) (batches_told ws) (told_total is_confirmed ws) (told_total is_rejected ws) (told_total is_refused ws) ran.unspent) r.2
-              ∙ ap (λ n. files_lines 1 files r.0 ++ summary_text n (batches_told ws) (told_total is_confirmed ws) (told_total is_rejected ws) (told_total is_refused ws) ran.unspent) resumed
-              ∙ ap (λ n. files_lines 1 files r.0 ++ summary_text (resumed_count K E) n (told_total is_confirmed ws) (told_total is_rejected ws) (told_total is_refused ws) ran.unspent) (batches sound tells).0
-              ∙ ap (λ n. files_lines 1 files r.0 ++ summary_text (resumed_count K E) (new_batches K E X) n (told_total is_rejected ws) (told_total is_refused ws) ran.unspent) (sym (r.3 is_confirmed))
-              ∙ ap (λ n. files_lines 1 files r.0 ++ summary_text (resumed_count K E) (new_batches K E X) (count_in is_confirmed r.0) n (told_total is_refused ws) ran.unspent) (sym (r.3 is_rejected))
-              ∙ ap (λ n. files_lines 1 files r.0 ++ summary_text (resumed_count K E) (new_batches K E X) (count_in is_confirmed r.0) (count_in is_rejected r.0) n ran.unspent) (sym (r.3 is_refused)),
-        ),
+        r.1,
+        r.2,
+        ap (λ n. summary_text n (batches_told ws) (told_total is_confirmed ws) (told_total is_rejected ws) (told_total is_refused ws) ran.unspent) resumed
+            ∙ ap (λ n. summary_text (resumed_count K E) n (told_total is_confirmed ws) (told_total is_rejected ws) (told_total is_refused ws) ran.unspent) (batches sound tells).0
+            ∙ ap (λ n. summary_text (resumed_count K E) (new_batches K E X) n (told_total is_rejected ws) (told_total is_refused ws) ran.unspent) (sym (r.3 is_confirmed))
+            ∙ ap (λ n. summary_text (resumed_count K E) (new_batches K E X) (count_in is_confirmed r.0) n (told_total is_refused ws) ran.unspent) (sym (r.3 is_rejected))
+            ∙ ap (λ n. summary_text (resumed_count K E) (new_batches K E X) (count_in is_confirmed r.0) (count_in is_rejected r.0) n ran.unspent) (sym (r.3 is_refused)),
       )
+
+  -- the numbers alone
+  pub run_numbers : (sound : FullTx → Bool) → TellsSound verdicts sound → (all : List (List Report)) × AreAllReports K verdicts sound E X files all × (ran_tail ran ≡ numbers all)
+  run_numbers sound tells = let t = all_told sound tells in (t.0, t.1, t.3)
+
+  pub run_text : (sound : FullTx → Bool) → TellsSound verdicts sound → (all : List (List Report)) × ((AreAllReports K verdicts sound E X files all) × (ran_text ran ≡ run_lines K E X files all ran.unspent))
+  run_text sound tells =
+      let t = all_told sound tells in
+      (t.0, (t.1, ap (λ l. l ++ ran_tail ran) t.2 ∙ ap (λ l. files_lines 1 files t.0 ++ l) t.3))
 
 pub prints_run : {D : Type 0} (content : D → Option (List ℕ)) (images : D → List ℕ → Type 0) (before now : ℕ → Option D) (printed : Text → Type 0) (verdicts : VerdictsOf) (files : List (List FullTx)) (ran : Ran) → all_txs files ≤ 1000000
     → OfShown content before (IsTold images now verdicts files ran) → (IsCountable ran → printed (ran_text ran)) → PrintsRun content images before now printed verdicts files
@@ -96,6 +111,7 @@ did_run inbox content images before now printed verdicts clients ran was is = re
   known = was.known;
   read = was.read;
   verdicts_read = was.verdicts_read;
+  caused = was.caused;
   ran = was.was;
   prints = prints_run content images before now printed (of_file was.known) was.handed ran was.few was.tells is;
 }

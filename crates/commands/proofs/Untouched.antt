@@ -1,19 +1,22 @@
 -- The disks were not touched, or what is left of them.
-use Rattle.std.proofs.Common.{◌≡◌, ◌⊎◌, ⊎_elim, inr, ℕ, List, Option, Result, Ok, Err, refl, sym, subst}
+use Rattle.std.proofs.Common.{◌≡◌, ◌⊎◌, ⊎_elim, inr, ℕ, List, reverse, Option, Result, Ok, Err, refl, sym, subst}
 use Rattle.std.specs.Prelude.{IfErr}
+use Rattle.outside.specs.Counts.{Rose}
 use Rattle.outside.specs.Images.{Tells}
 use Rattle.line_text.specs.Lines.{Text}
 use Rattle.cbdc_types.specs.declared.answer.Answer.{Answer}
 use Rattle.cbdc_types.specs.declared.answer.Answer.TheVariants as answers
-use Rattle.cbdc_model.specs.Records.{Shape}
+use Rattle.cbdc_model.specs.Records.{Shape, Compact, Record, journal}
 use Rattle.cbdc_model.specs.Coins.{Output, FullTx}
 use Rattle.command_line.specs.declared.request.FileWord.{FileWord}
 use Rattle.input_files.specs.Contents.{mint_of_file}
 use Rattle.rack_nodes.specs.Refused.{IsNodeRefusal}
+use Rattle.rack_nodes.specs.Racked.{OfTold}
 use Rattle.rack_ledgers.specs.Ledgers.{IsUnopened}
 use Rattle.rack_runs.specs.Kinds.{IsLaneAnswer}
 use Rattle.ledger_init.specs.Made.{IsUnmade, IsLeft}
 use Rattle.commands.specs.Outcomes.{WhyNoTurns}
+use Rattle.commands.specs.Causes.{IsWell}
 use Rattle.commands.specs.Left.{IsBeforeDisks, InitLeaves}
 
 -- a node that is not opened was taken
@@ -35,33 +38,52 @@ not_refused (answers.DiskFault k) is before = before
 not_refused answers.Memory is before = before
 
 -- so were the nodes of a lane
-not_by_lane : (a : Answer) → IsLaneAnswer a → IsBeforeDisks a → ⊥
-not_by_lane answers.Ok is before = is
-not_by_lane answers.BadWords is before = is
-not_by_lane (answers.BadInput file at kind) is before = is
-not_by_lane (answers.TooMuch total) is before = is
-not_by_lane (answers.NotReady k) is before = before
-not_by_lane (answers.Foreign k kept asked) is before = before
-not_by_lane (answers.NotEmpty k) is before = before
-not_by_lane (answers.Full k used need capacity) is before = before
-not_by_lane (answers.Unsound place kind) is before = before
-not_by_lane (answers.ClockEnd k stamp) is before = before
-not_by_lane (answers.Damaged k at) is before = before
-not_by_lane (answers.ReadFault file) is before = is
-not_by_lane answers.WriteFault is before = before
-not_by_lane (answers.DiskFault k) is before = before
-not_by_lane answers.Memory is before = before
+not_by_lane : (K : Shape) (next : ℕ → List Compact → Type 0) (E X : ℕ → List Record) (failed : ℕ → Type 0) (holds : ℕ → ℕ → Type 0) (a : Answer) → IsLaneAnswer K next E X failed holds a → IsBeforeDisks a → ⊥
+not_by_lane K next E X failed holds answers.Ok is before = is
+not_by_lane K next E X failed holds answers.BadWords is before = is
+not_by_lane K next E X failed holds (answers.BadInput file at kind) is before = is
+not_by_lane K next E X failed holds (answers.TooMuch total) is before = is
+not_by_lane K next E X failed holds (answers.NotReady k) is before = before
+not_by_lane K next E X failed holds (answers.Foreign k kept asked) is before = before
+not_by_lane K next E X failed holds (answers.NotEmpty k) is before = before
+not_by_lane K next E X failed holds (answers.Full k used need capacity) is before = before
+not_by_lane K next E X failed holds (answers.Unsound place kind) is before = before
+not_by_lane K next E X failed holds (answers.ClockEnd k stamp) is before = before
+not_by_lane K next E X failed holds (answers.Damaged k at) is before = before
+not_by_lane K next E X failed holds (answers.ReadFault file) is before = is
+not_by_lane K next E X failed holds answers.WriteFault is before = before
+not_by_lane K next E X failed holds (answers.DiskFault k) is before = before
+not_by_lane K next E X failed holds answers.Memory is before = before
+
+-- nor is all done where a node is not opened, or a lane met a fault
+refused_alone : (a : Answer) → IsNodeRefusal a → IsWell a → ⊥
+refused_alone answers.Ok is well = is
+refused_alone answers.WriteFault is well = is
+refused_alone other is well = well
+
+lane_alone : (K : Shape) (next : ℕ → List Compact → Type 0) (E X : ℕ → List Record) (failed : ℕ → Type 0) (holds : ℕ → ℕ → Type 0) (a : Answer) → IsLaneAnswer K next E X failed holds a → IsWell a → ⊥
+lane_alone K next E X failed holds answers.Ok is well = is
+lane_alone K next E X failed holds answers.WriteFault is well = is
+lane_alone K next E X failed holds other is well = well
 
 module _ {D : Type 0} (content : D → Option (List ℕ)) (images : D → List ℕ → Type 0) (limit count : D → ℕ) where
   pub not_unopened : (held : ℕ → Option D) (before now : ℕ → ℕ) (a : Answer) → IsUnopened content images limit count held before now a → IsBeforeDisks a → ⊥
   not_unopened held before now a is = not_refused a (⊎_elim (λ unled. ⊎_elim (λ first. first.kind) (λ lacks. lacks.refused.kind) unled) (λ lacks. lacks.refused.kind) is)
 
-  pub not_turned : (held new : ℕ → Option D) (before now : ℕ → ℕ) (handed : List (List FullTx)) (a : Answer) → WhyNoTurns content images limit count held new before now handed a → IsBeforeDisks a → ⊥
-  not_turned held new before now handed a is =
+  pub not_turned : (held new : ℕ → Option D) (before now : ℕ → ℕ) (next : Shape → ℕ → List Compact → Type 0) (handed : List (List FullTx)) (a : Answer) → WhyNoTurns content images limit count held new before now next handed a → IsBeforeDisks a → ⊥
+  not_turned held new before now next handed a is =
       ⊎_elim
       (λ unopened. ⊎_elim (λ closed. not_unopened held before now a closed)
       (λ other. ⊎_elim (λ unsound. subst (λ b. IsBeforeDisks b → ⊥) (sym unsound.told) (λ none. none)) (λ memory. subst (λ b. IsBeforeDisks b → ⊥) (sym memory) (λ none. none)) other) unopened.0)
-      (λ lane. not_by_lane a lane.0) is
+      (λ lane. not_by_lane lane.0.ledger.shape (next lane.0.ledger.shape) (λ n. journal n (reverse lane.0.ledger.rows)) lane.0.exit (λ n. Rose (before n) (now n)) (λ n c. OfTold (held n) (λ d. c ≡ limit d)) a lane.0.cause) is
+
+  -- where a run or a recovery did not come through, all was not done
+  pub not_done : (held new : ℕ → Option D) (before now : ℕ → ℕ) (next : Shape → ℕ → List Compact → Type 0) (handed : List (List FullTx)) (a : Answer) → WhyNoTurns content images limit count held new before now next handed a → IsWell a → ⊥
+  not_done held new before now next handed a is =
+      ⊎_elim
+      (λ unopened. ⊎_elim (λ closed. refused_alone a (⊎_elim (λ unled. ⊎_elim (λ first. first.kind) (λ lacks. lacks.refused.kind) unled) (λ lacks. lacks.refused.kind) closed))
+      (λ other. ⊎_elim (λ unsound. subst (λ b. IsWell b → ⊥) (sym unsound.told) (λ none. none)) (λ memory. subst (λ b. IsWell b → ⊥) (sym memory) (λ none. none)) other) unopened.0)
+      (λ lane. lane_alone lane.0.ledger.shape (next lane.0.ledger.shape) (λ n. journal n (reverse lane.0.ledger.rows)) lane.0.exit (λ n. Rose (before n) (now n)) (λ n c. OfTold (held n) (λ d. c ≡ limit d)) a lane.0.cause) is
 
 -- of these answers a ledger that is not made gives one alone
 too_much_alone : {D : Type 0} (K : Shape) (mint : List Output) (content : D → Option (List ℕ)) (limit : D → ℕ) (held : ℕ → Option D) (before now : ℕ → ℕ) (P : Type 0) (a : Answer)

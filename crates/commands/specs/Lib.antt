@@ -2,6 +2,8 @@ pub mod Causes
 pub mod Texts
 pub mod Told
 pub mod Audits
+pub mod Generated
+pub mod InMemory
 pub mod Outcomes
 pub mod Left
 pub mod Sizes

@@ -4,9 +4,9 @@ use Rattle.outside.specs.Images.{Tells}
 use Rattle.line_text.specs.Lines.{Text}
 use Rattle.cbdc_types.specs.declared.answer.Answer.{Answer}
 use Rattle.cbdc_types.specs.Limits.{IsWithinLimits}
-use Rattle.cbdc_model.specs.Records.{Digest, Shape, Record, journal}
+use Rattle.cbdc_model.specs.Records.{Digest, Shape, Compact, Record}
 use Rattle.cbdc_model.specs.Coins.{Output, FullTx}
-use Rattle.cbdc_model.specs.History.{header_of, first_rows, minted}
+use Rattle.cbdc_model.specs.History.{header_of}
 use Rattle.cbdc_model.specs.World.{KeptJournals}
 use Rattle.record_log.specs.Held.{OpensTo}
 use Rattle.command_line.specs.declared.request.FileWord.{FileWord}
@@ -22,16 +22,13 @@ use Rattle.printed_lines.specs.Runs.{IsRunLines}
 use Rattle.rack_nodes.specs.Racked.{OfTold, IsBack}
 use Rattle.rack_nodes.specs.Refused.{IsNodeJournal}
 use Rattle.rack_ledgers.specs.Ledgers.{IsUnopened}
-use Rattle.caused_ledgers.specs.Caused.{IsUnresumed}
+use Rattle.caused_ledgers.specs.Caused.{IsCausedLedger, IsUnresumed}
 use Rattle.rack_laws.specs.Shown.{OfShown, HoldsEach}
 use Rattle.submissions.specs.Checks.{VerdictsOf}
-use Rattle.rack_runs.specs.Kinds.{IsLaneAnswer}
-use Rattle.rack_runs.specs.Runs.{IsRun, IsRecovered, IsCutShort}
+use Rattle.rack_runs.specs.Runs.{IsRun, IsRecovered, IsCutShort, IsLaneFault, NothingNext, PieceNext}
 use Rattle.commands.specs.Audits.{DidAudit, WhyNoAudit}
-
--- a first record at each node of the ledger that a mint begins
-abbrev pub first_journals : Shape → List Output → ℕ → List Record
-first_journals K mint n = journal n (first_rows K (minted mint))
+use Rattle.commands.specs.Generated.{PrintsWorkload, WhyNoWorkload}
+pub use Rattle.commands.specs.Generated.{first_journals}
 
 -- the file held a mint, no node was in use, each node's disk holds its first record alone, and so does whatever a crash leaves of one that told its
 -- content; the first records are a kept ledger of the mint, to which nothing was handed in yet; and this was printed
@@ -50,19 +47,20 @@ abbrev pub PrintsRun : {D : Type 0} → (D → Option (List ℕ)) → (D → Lis
 PrintsRun content images before now printed verdicts handed =
     OfShown content before (λ K mint submissions E. (X : ℕ → List Record) × HoldsEach images now K X × ((text : Text) × IsRunLines K verdicts handed E X text × printed text))
 
--- the files held these transactions and verdicts, which were run over the ledger that the disks told; each disk holds exactly its journal, and this
--- was printed
+-- the files held these transactions and verdicts, which were run over the ledger that the disks told, in which each record was caused; each disk
+-- holds exactly its journal, and this was printed
 pub record DidRun {D : Type 0} (files : Text → Option (List ℕ)) (content : D → Option (List ℕ)) (images : D → List ℕ → Type 0) (before now : ℕ → Option D) (printed : Text → Type 0) (verdicts : FileWord) (clients : List FileWord) : Type 0 where
   pub handed : List (List FullTx)
   pub known : VerdictFile
   pub read : AreRead files 0 clients handed
   pub verdicts_read : AreVerdicts (files verdicts.name.now) known
+  pub caused : IsCausedLedger content before
   pub ran : OfShown content before (IsRun images now (told known) handed)
   pub prints : PrintsRun content images before now printed (told known) handed
 
--- the open batches of the ledger that the disks told were brought to their end; each disk holds exactly its journal
+-- the disks told a ledger in which each record was caused, and its open batches were brought to their end; each disk holds exactly its journal
 abbrev pub DidRecover : {D : Type 0} → (D → Option (List ℕ)) → (D → List ℕ → Type 0) → (ℕ → Option D) → (ℕ → Option D) → Type 0
-DidRecover content images before now = OfShown content before (IsRecovered images now)
+DidRecover content images before now = IsCausedLedger content before × OfShown content before (IsRecovered images now)
 
 -- of the kept ledger that the disks told, this was printed: the lines of a recovery from its journals to those that the disks hold now
 abbrev pub PrintsRecovery : {D : Type 0} → (D → Option (List ℕ)) → (D → List ℕ → Type 0) → (ℕ → Option D) → (ℕ → Option D) → (Text → Type 0) → Type 0
@@ -80,14 +78,14 @@ pub record DidStatus {D : Type 0} (content : D → Option (List ℕ)) (images : 
   pub back : (n : ℕ) → IsBack images limit (before n) (now n)
   pub prints : printed (status_lines shape journals hashes)
 
--- what was asked for was done, and this was printed; of a workload the text is not told
+-- what was asked for was done, and this was printed
 abbrev pub Did : {D : Type 0} → (Text → Option (List ℕ)) → (D → Option (List ℕ)) → (D → List ℕ → Type 0) → (D → ℕ) → (ℕ → Option D) → (ℕ → Option D) → (Text → Type 0) → Request → Type 0
 Did files content images limit before now printed (Init shape mint) = DidInit files content images before now printed shape mint
 Did files content images limit before now printed (Run verdicts clients) = DidRun files content images before now printed verdicts clients.items
 Did files content images limit before now printed Recover = DidRecover content images before now × PrintsRecovery content images before now printed
 Did files content images limit before now printed (Status hashes) = DidStatus content images limit before now printed hashes.items
 Did files content images limit before now printed (Audit mint clients) = DidAudit files content images limit before now printed mint clients.items
-Did files content images limit before now printed (Gen shape seed size) = (n : ℕ) → now n ≡ before n
+Did files content images limit before now printed (Gen shape seed size) = ((n : ℕ) → now n ≡ before n) × PrintsWorkload printed shape seed size
 Did files content images limit before now printed (Show text) = printed (string_bytes text)
 
 -- ---- why it was not done, by the counts of faults of files and disks before and now
@@ -98,11 +96,13 @@ WhyNoInit files files_before files_now content limit disks disks_before disks_no
     IsNotRead file.place (files file.name.now) mint_of_file (files_before file.name.now) (files_now file.name.now) answer
     ⊎ ((mint : List Output) × Tells (files file.name.now) (λ c. mint_of_file c ≡ Ok mint) × IsUnmade shape mint content limit disks disks_before disks_now answer)
 
--- the ledger could not be opened, and the disks are back as they were read; or a lane met a fault, and its journals have grown at their ends and are kept, each by its disk, with one record more or without
-abbrev pub WhyNoTurns : {D : Type 0} → (D → Option (List ℕ)) → (D → List ℕ → Type 0) → (D → ℕ) → (D → ℕ) → (ℕ → Option D) → (ℕ → Option D) → (ℕ → ℕ) → (ℕ → ℕ) → List (List FullTx) → Answer → Type 0
-WhyNoTurns content images limit count disks now disks_before disks_now handed answer =
+-- the ledger could not be opened, or a record of it was not caused, and the disks are back as they were read; or over a ledger whose records were
+-- all caused a lane met a fault, and its answer has its cause: its journals have grown at their ends, and are kept, each by its disk, with one record
+-- more or without
+abbrev pub WhyNoTurns : {D : Type 0} → (D → Option (List ℕ)) → (D → List ℕ → Type 0) → (D → ℕ) → (D → ℕ) → (ℕ → Option D) → (ℕ → Option D) → (ℕ → ℕ) → (ℕ → ℕ) → (Shape → ℕ → List Compact → Type 0) → List (List FullTx) → Answer → Type 0
+WhyNoTurns content images limit count disks now disks_before disks_now next handed answer =
     (IsUnresumed content images limit count disks disks_before disks_now answer × ((n : ℕ) → IsBack images limit (disks n) (now n)))
-    ⊎ (IsLaneAnswer answer × OfShown content disks (IsCutShort images now handed))
+    ⊎ (IsLaneFault content images limit disks now disks_before disks_now next answer × OfShown content disks (IsCutShort images now handed))
 
 -- a client file is the first that is not read; or all client files were read, and the verdicts are not; or all were read and could not be run
 abbrev pub WhyNoRun : {D : Type 0} → (Text → Option (List ℕ)) → (Text → ℕ) → (Text → ℕ) → (D → Option (List ℕ)) → (D → List ℕ → Type 0) → (D → ℕ) → (D → ℕ) → (ℕ → Option D) → (ℕ → Option D) → (ℕ → ℕ) → (ℕ → ℕ)
@@ -111,7 +111,12 @@ WhyNoRun files files_before files_now content images limit count disks now disks
     FirstNotRead files files_before files_now clients answer
     ⊎ ((handed : List (List FullTx)) × AreRead files 0 clients handed
     × (IsNoVerdicts verdicts.place (files verdicts.name.now) (files_before verdicts.name.now) (files_now verdicts.name.now) answer
-    ⊎ ((known : VerdictFile) × AreVerdicts (files verdicts.name.now) known × WhyNoTurns content images limit count disks now disks_before disks_now handed answer)))
+    ⊎ ((known : VerdictFile) × AreVerdicts (files verdicts.name.now) known × WhyNoTurns content images limit count disks now disks_before disks_now (PieceNext (told known) handed) handed answer)))
+
+-- the ledger could not be opened, and the disks are back as they were read
+abbrev pub WhyNoStatus : {D : Type 0} → (D → Option (List ℕ)) → (D → List ℕ → Type 0) → (D → ℕ) → (D → ℕ) → (ℕ → Option D) → (ℕ → Option D) → (ℕ → ℕ) → (ℕ → ℕ) → Answer → Type 0
+WhyNoStatus content images limit count disks now disks_before disks_now answer =
+    IsUnopened content images limit count disks disks_before disks_now answer × ((n : ℕ) → IsBack images limit (disks n) (now n))
 
 -- why what was asked for was not done
 abbrev pub Why : {D : Type 0} → (Text → Option (List ℕ)) → (Text → ℕ) → (Text → ℕ) → (D → Option (List ℕ)) → (D → List ℕ → Type 0) → (D → ℕ) → (D → ℕ) → (ℕ → Option D) → (ℕ → Option D) → (ℕ → ℕ) → (ℕ → ℕ) → Request → Answer → Type 0
@@ -120,10 +125,10 @@ Why files files_before files_now content images limit count disks now disks_befo
 Why files files_before files_now content images limit count disks now disks_before disks_now (Run verdicts clients) answer =
     WhyNoRun files files_before files_now content images limit count disks now disks_before disks_now verdicts clients.items answer
 Why files files_before files_now content images limit count disks now disks_before disks_now Recover answer =
-    WhyNoTurns content images limit count disks now disks_before disks_now [] answer
+    WhyNoTurns content images limit count disks now disks_before disks_now NothingNext [] answer
 Why files files_before files_now content images limit count disks now disks_before disks_now (Status hashes) answer =
-    IsUnopened content images limit count disks disks_before disks_now answer
-Why files files_before files_now content images limit count disks now disks_before disks_now (Gen shape seed size) answer = (n : ℕ) → now n ≡ disks n
+    WhyNoStatus content images limit count disks now disks_before disks_now answer
+Why files files_before files_now content images limit count disks now disks_before disks_now (Gen shape seed size) answer = ((n : ℕ) → now n ≡ disks n) × WhyNoWorkload shape seed size answer
 Why files files_before files_now content images limit count disks now disks_before disks_now (Show text) answer = ⊥
 Why files files_before files_now content images limit count disks now disks_before disks_now (Audit mint clients) answer =
     WhyNoAudit files files_before files_now content images limit count disks now disks_before disks_now mint clients.items answer

@@ -1,11 +1,16 @@
 // `gen`: a workload from a number, run and checked over nodes in memory.
-ghost use Rattle.std.specs.Prelude.{◌≡◌, ◌≤◌, ℕ, length, All, IfOk, IfErr};
+ghost use Rattle.std.specs.Prelude.{◌≡◌, ◌≤◌, ◌+◌, ◌*◌, ◌<◌, ℕ, length, All, IfOk, IfErr};
 ghost use Rattle.outside.specs.Counts.{Rose};
-ghost use Rattle.commands.specs.Causes.{IsFault, IsDone};
-ghost use Rattle.commands.specs.Texts.{IsSilent};
+ghost use Rattle.cbdc_types.specs.Limits.{IsWithinLimits};
+ghost use Rattle.commands.specs.Causes.{IsDone, IsTold, IsWell};
+ghost use Rattle.commands.specs.Generated.{files_of as files_from, PrintsWorkload, WhyNoWorkload};
+ghost use Rattle.commands.specs.InMemory.{AreReady, TellsRunOf, IsUnrun, IsCheckedSound, IsUnchecked, CameTo};
+ghost use Rattle.commands.specs.Texts.{IsPrinted, IsSilent};
+ghost use Rattle.file_runs.specs.Runs.{joined as all_joined};
 ghost use Rattle.input_files.specs.Limits.{IsShort};
-ghost use Rattle.mem_devices.specs.Racks.{AllIn};
-ghost use Rattle.workload.specs.Generator.{workload_of};
+ghost use Rattle.ledger_init.specs.Made.{node_count};
+ghost use Rattle.plain_rack.specs.Racks.{AllIn, IsEmptyAt};
+ghost use Rattle.workload.specs.Generator.{mint_of};
 
 use crate::auditing::joined;
 use crate::report::write_generated;
@@ -13,8 +18,8 @@ use audit::{Totals, Verdict};
 use audited_ledgers::audit_on;
 use cbdc_types::{Answer, FullTx, List, Mint, Output, Shape};
 use ledger_init::{Made, make_ledger};
-use mem_devices::{MemRack, PlainDisk};
 use outside::{Gate, Sink};
+use plain_rack::PlainRack;
 use rack_runs::{Ran, run_on};
 use std::alloc::{AllocError, Global};
 use std::sync::Wait;
@@ -22,6 +27,7 @@ use verifier_port::AllGood;
 use workload::{Workload, generate};
 
 // What the run and the audit of a workload come to.
+#[derive(Drop)]
 struct Came {
     ran: Ran,
     totals: Totals,
@@ -37,6 +43,8 @@ struct Files {
 // The files of the workload of so many transactions from a seed. Each input's witness is good in it.
 fn files_of(alloc: Global, seed: u64, count: u32) -> Result<Files, AllocError>
     requires { count ≤ 10000 }
+    ensures mint { IfOk result (λ f. f.mint ≡ mint_of seed count) }
+    ensures clients { IfOk result (λ f. f.clients.items ≡ files_from seed count) }
     ensures few { IfOk result (λ f. length f.mint ≤ 1000000) }
     ensures short { IfOk result (λ f. All (λ txs. All IsShort txs) f.clients.items) }
 {
@@ -52,39 +60,33 @@ fn files_of(alloc: Global, seed: u64, count: u32) -> Result<Files, AllocError>
     Ok(Files { mint, clients })
 }
 
-// Empty disks in memory, each of so many bytes.
-fn disks_of(alloc: Global, nodes: u32, capacity: usize) -> Result<Vec<PlainDisk>, AllocError> {
-    let mut disks = Vec::new(alloc);
-    'nodes: for _ in 0..nodes {
-        disks.push(PlainDisk::new(alloc, capacity)?)?;
-    }
-    Ok(disks)
-}
-
-// The nodes in memory of a ledger, with room for a workload of so many transactions.
-fn rack_of(alloc: Global, shape: &Shape, count: u32) -> Result<MemRack<PlainDisk>, AllocError>
+// The empty nodes in memory of a ledger, with room for a workload of so many transactions.
+fn rack_of(alloc: Global, shape: &Shape, count: u32) -> Result<PlainRack, AllocError>
     requires { count ≤ 10000 }
-    ensures { IfOk result (λ r. AllIn r) }
+    ensures limits { IsWithinLimits shape.now }
+    ensures all { IfOk result AllIn }
+    ensures empty { IfOk result (λ r. (n : ℕ) → n < node_count shape.now → IsEmptyAt r (4096 + 400 * count) n) }
 {
-    let capacity = 4096 + 400 * count as usize;
-    let disks = disks_of(alloc, shape.node_count(), capacity)?;
-    MemRack::new(alloc, disks)
+    let nodes = shape.coordinators() + shape.shards();
+    PlainRack::new(alloc, nodes, 4096 + 400 * count as usize)
 }
 
-// Makes the ledger of a mint, and runs client files over it.
+// Makes the ledger of a mint on empty disks, and runs client files over it.
 fn run_files<W: Wait, G: Gate>(
     rt: &W,
     alloc: Global,
     shape: &Shape,
     mint: Mint,
     clients: &[List<FullTx>],
-    rack: &mut MemRack<PlainDisk>,
+    rack: &mut PlainRack,
     gate: &G,
 ) -> Result<Ran, Answer>
     requires all { AllIn rack.old }
     requires few { length mint ≤ 1000000 }
     requires short { All (λ txs. All IsShort txs) clients.now }
-    ensures fault { IfErr result (IsFault (λ place. ⊥) (λ place. ⊥)) }
+    requires ready { AreReady shape.now mint rack.old }
+    ensures did { IfOk result (TellsRunOf shape.now mint clients.now rack.new) }
+    ensures why { IfErr result (IsUnrun shape.now mint clients.now rack.new) }
     ensures back { AllIn rack.new }
 {
     let Made {
@@ -103,10 +105,11 @@ fn check_files(
     alloc: Global,
     mint: &[Output],
     clients: Vec<List<FullTx>>,
-    rack: &mut MemRack<PlainDisk>,
+    rack: &mut PlainRack,
 ) -> Result<Totals, Answer>
     requires all { AllIn rack.old }
-    ensures fault { IfErr result (IsFault (λ place. ⊥) (λ place. ⊥)) }
+    ensures did { IfOk result (IsCheckedSound rack.old mint.now (all_joined clients.items)) }
+    ensures why { IfErr result (IsUnchecked rack.old rack.new mint.now (all_joined clients.items)) }
 {
     let Ok(handed) = joined(alloc, clients) else {
         return Err(Answer::Memory);
@@ -116,6 +119,13 @@ fn check_files(
         Ok(Verdict::Unsound { place, kind }) => Err(Answer::Unsound { place, kind }),
         Err(fault) => Err(fault),
     }
+}
+
+// A mint once more.
+fn copied(mint: &Mint) -> Result<Mint, AllocError>
+    ensures { IfOk result (λ m. m ≡ mint.now) }
+{
+    mint.clone()
 }
 
 // Makes the workload, runs it over nodes in memory and checks what came of it.
@@ -128,7 +138,8 @@ fn run_workload<W: Wait, G: Gate>(
     gate: &G,
 ) -> Result<Came, Answer>
     requires { count ≤ 10000 }
-    ensures fault { IfErr result (IsFault (λ place. ⊥) (λ place. ⊥)) }
+    ensures did { IfOk result (λ c. CameTo shape.now seed count c.ran c.totals) }
+    ensures why { IfErr result (WhyNoWorkload shape.now seed count) }
 {
     let Ok(Files { mint, clients }) = files_of(alloc, seed, count) else {
         return Err(Answer::Memory);
@@ -136,7 +147,7 @@ fn run_workload<W: Wait, G: Gate>(
     let Ok(mut rack) = rack_of(alloc, shape, count) else {
         return Err(Answer::Memory);
     };
-    let Ok(kept) = mint.clone() else {
+    let Ok(kept) = copied(&mint) else {
         return Err(Answer::Memory);
     };
     let ran = match run_files(rt, alloc, shape, mint, &clients, &mut rack, gate) {
@@ -162,14 +173,16 @@ pub(crate) fn generated<W: Wait, O: Sink, G: Gate>(
 ) -> Answer
     requires { count ≤ 10000 }
     ensures cause { IsDone (λ file. ⊥) (λ file. ⊥) (Rose (O.count out.old) (O.count out.new)) result }
+    ensures did { IsWell result → PrintsWorkload (IsPrinted (O.taken out.old) (O.taken out.new) result) shape.now seed count }
+    ensures why { IsTold (WhyNoWorkload shape.now seed count) result }
     ensures silent { IsSilent (O.taken out.old) (O.taken out.new) result }
     ensures written_later { O.count out.old ≤ O.count out.new }
 {
-    let Came { ran, totals } = match run_workload(rt, alloc, shape, seed, count, gate) {
-        Ok(generated) => generated,
+    let came = match run_workload(rt, alloc, shape, seed, count, gate) {
+        Ok(came) => came,
         Err(fault) => return fault,
     };
-    match write_generated(out, &ran, &totals) {
+    match write_generated(out, &came.ran, &came.totals) {
         Ok(()) => Answer::Ok,
         Err(_) => Answer::WriteFault,
     }

@@ -2,9 +2,8 @@
 ghost use Rattle.std.specs.Prelude.{◌≡◌, ◌≤◌, ℕ, length, map, IfOk};
 ghost use Rattle.outside.specs.Counts.{Rose, HasCause};
 ghost use Rattle.line_text.specs.Lines.{Prints};
-ghost use Rattle.rack_ledgers.specs.Ledgers.{IsUnopened};
 ghost use Rattle.commands.specs.Causes.{IsDone, IsTold, IsWell};
-ghost use Rattle.commands.specs.Outcomes.{DidStatus};
+ghost use Rattle.commands.specs.Outcomes.{DidStatus, WhyNoStatus};
 ghost use Rattle.commands.specs.Texts.{IsPrinted, IsSilent, told_lines, status_among};
 ghost use Rattle.commands.specs.Left.{IsBeforeDisks};
 
@@ -67,7 +66,7 @@ pub(crate) fn status<R: Rack, O: Sink>(
     requires { (n : ℕ) → R.can_take rack.old n }
     ensures cause { IsDone (λ file. ⊥) (λ file. ⊥) (Rose (O.count out.old) (O.count out.new)) result }
     ensures did { IsWell result → DidStatus R.Disk.content R.Disk.images R.Disk.limit (R.held rack.old) (R.held rack.new) (IsPrinted (O.taken out.old) (O.taken out.new) result) hashes.now }
-    ensures why { IsTold (IsUnopened R.Disk.content R.Disk.images R.Disk.limit R.Disk.count (R.held rack.old) (R.count rack.old) (R.count rack.new)) result }
+    ensures why { IsTold (WhyNoStatus R.Disk.content R.Disk.images R.Disk.limit R.Disk.count (R.held rack.old) (R.held rack.new) (R.count rack.old) (R.count rack.new)) result }
     ensures silent { IsSilent (O.taken out.old) (O.taken out.new) result }
     ensures written_later { O.count out.old ≤ O.count out.new }
     ensures untouched { IsBeforeDisks result → rack.new ≡ rack.old }

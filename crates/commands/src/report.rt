@@ -3,7 +3,9 @@ ghost use Rattle.std.specs.Prelude.{◌≡◌, ◌≤◌, ◌+◌, ◌++◌, min
 ghost use Rattle.outside.specs.Counts.{HasCause};
 ghost use Rattle.cbdc_model.specs.Records.{is_won};
 ghost use Rattle.line_text.specs.Lines.{Prints};
+ghost use Rattle.printed_lines.specs.Reports.{audit_lines};
 ghost use Rattle.printed_lines.specs.Runs.{decided_line, report_line};
+ghost use Rattle.commands.specs.InMemory.{numbers_of};
 ghost use Rattle.commands.specs.Told.{kept_at, told_of, told_line, told_file, told_files, told_count, told_total, one_if, batches_in, batches_told, Counted, AreCounts, IsCountable, AreNumbers, ran_text};
 
 use audit::Totals;
@@ -256,6 +258,7 @@ pub(crate) fn write_generated<O: Sink>(
     ran: &Ran,
     totals: &Totals,
 ) -> Result<(), WriteFault>
+    ensures prints { IsCountable ran.now → Prints (O.taken out.old) (O.taken out.new) (numbers_of ran.now ++ audit_lines totals.now) result }
     ensures cause { HasCause (O.count out.old) (O.count out.new) result }
 {
     write_summary(out, &summary_of(ran))?;

@@ -158,16 +158,19 @@ pub fn process<W: Wait, I: Inbox, R: Rack, O: Sink, G: Gate>(
     requires { (n : ℕ) → R.can_take rack n }
     ensures back { (n : ℕ) → R.can_take result.rack n }
     // What the words ask for was done, whether its lines could be written or not: a ledger was made, files were run over one, its open
-    // batches were brought to their end, hashes were looked up, or its journals were audited and are sound. Whatever a crash leaves of a
+    // batches were brought to their end, hashes were looked up, or its journals were audited and are sound. What was run over or brought to
+    // an end was a ledger that the disks told, each record of which was caused by what stood before it. Whatever a crash leaves of a
     // disk then opens to exactly its node's journal, and where no two outputs share a hash, the headline holds of the journals at exit. The
-    // lines of `init`, `status`, `recover` and `audit` are those of the mint and of the journals (of `recover` at exit too), or at WriteFault a front.
+    // lines of each command are those of the mint and of the journals (of `run` and `recover` at exit too; of `gen` those of a run of its workload in
+    // memory and of the audit behind it), or at WriteFault a front.
     ensures did { IsWell result.status → (r : Asked) × IsAsked (texts words.now) r × Did (I.file inbox.old) R.Disk.content R.Disk.images R.Disk.limit (R.held rack) (R.held result.rack) (IsPrinted (O.taken out.old) (O.taken out.new) result.status) r }
 
     // Else the line of the fault is printed and nothing else, or a front of it where the sink's count rose.
     ensures fault_line { IsFaultPrinted (texts words.now) (O.taken out.old) (O.taken out.new) (Rose (O.count out.old) (O.count out.new)) result.status }
 
-    // And why not: a file that is not read, a ledger that can't be made or opened, a fault of a lane and what it leaves, or the first place
-    // at which an audit finds something wrong, and what it is.
+    // And why not: a file that is not read, a ledger that can't be made or opened, a record that is not caused, a fault of a lane of a ledger in
+    // which each is, with its cause and what it leaves, or the first place at which an audit finds something wrong, and what it is; of a
+    // workload only where two of its outputs share a hash, or two transactions an id.
     ensures why { IsTold (λ a. (r : Asked) × IsAsked (texts words.now) r × Why (I.file inbox.old) (I.count inbox.old) (I.count inbox.new) R.Disk.content R.Disk.images R.Disk.limit R.Disk.count (R.held rack) (R.held result.rack) (R.count rack) (R.count result.rack) r a) result.status }
 
     // Where words are bad, a file is not read or a mint is too much, the rack is as it was.

@@ -73,15 +73,21 @@ admitted_follows c J (Done stamp b) whole stands begun grammar follows =
     let s : (lane_at c b.lane).slot ≡ slot J b.lane = stands.slots b.lane own in
     ((own, (omega (arith, stands.last, follows.0)), grammar.0.1), s ∙ slot_is (slot J b.lane) b.number InDiscard (sym follows.3) follows.2)
 
--- the test of what is next tells what may come
-tells_after : (c : CoordOf) (r : Record) (b : Bool) → IsWhole c → (IsTrue b ↔ IsAdmitted c r)
-    → IsInGrammar c.header r → (J : List Record) → StandsFor c J → J ≢ [] → (IsTrue b ↔ After c.header J r)
-tells_after c r b whole tells grammar J stands begun = (
+-- behind the test of the grammar, that of the lanes tells what is next
+pub next_in_grammar : {E : Type 0} (c : CoordOf) (r : Record) (result : Result Bool E) → IsInGrammar c.header r → IfOk result (λ b. IsTrue b ↔ IsAdmitted c r)
+    → IfOk result (λ b. IsTrue b ↔ (IsInGrammar c.header r × IsAdmitted c r))
+next_in_grammar c r (Ok b) grammar tells = ((λ t. (grammar, tells.0 t)), (λ both. tells.1 both.1))
+next_in_grammar c r (Err e) grammar tells = tt
+
+-- and so what may come
+tells_after : (c : CoordOf) (r : Record) (b : Bool) → IsWhole c → IsInGrammar c.header r → (IsTrue b ↔ IsAdmitted c r)
+    → (J : List Record) → StandsFor c J → J ≢ [] → (IsTrue b ↔ After c.header J r)
+tells_after c r b whole grammar tells J stands begun = (
   (λ t. (grammar, follows_admitted c J r stands (tells.0 t))),
   (λ a. tells.1 (admitted_follows c J r whole stands begun grammar a.1)),
 )
 
-pub told_after : {E : Type 0} (c : CoordOf) (r : Record) (result : Result Bool E) → IsWhole c → IfOk result (λ b. IsTrue b ↔ IsAdmitted c r)
-    → IfOk result (λ b. IsInGrammar c.header r → (J : List Record) → StandsFor c J → J ≢ [] → (IsTrue b ↔ After c.header J r))
-told_after c r (Ok b) whole tells = tells_after c r b whole tells
-told_after c r (Err e) whole tells = tt
+pub told_after : {E : Type 0} (c : CoordOf) (r : Record) (result : Result Bool E) → IsWhole c → IsInGrammar c.header r → IfOk result (λ b. IsTrue b ↔ IsAdmitted c r)
+    → IfOk result (λ b. (J : List Record) → StandsFor c J → J ≢ [] → (IsTrue b ↔ After c.header J r))
+told_after c r (Ok b) whole grammar tells = tells_after c r b whole grammar tells
+told_after c r (Err e) whole grammar tells = tt

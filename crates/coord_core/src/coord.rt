@@ -17,6 +17,7 @@ use crate::copying::copied_txs;
 use crate::lane::Lane;
 use crate::phase::LanePhase;
 use cbdc_types::{BatchId, CompactTx, Header, LaneId, List, Outcomes, Record, Replies, Stamp};
+use record_grammar::is_in_grammar;
 use std::alloc::{AllocError, Global};
 use std::marker::Model;
 
@@ -321,19 +322,22 @@ impl CoordCore {
         self.lanes[place].count()
     }
 
-    /// Whether a record is next: a Prepare on an idle lane with the number one more than the last, a Commit behind
-    /// it with as many outcomes, a Discard behind the Commit, a Done behind the Discard; on lanes of this
-    /// coordinator, with stamps that rise. The memory to take it in is taken then.
+    /// Whether a record is next: in the grammar of this coordinator's journals, and a Prepare on an idle lane with the
+    /// number one more than the last, a Commit behind it with as many outcomes, a Discard behind the Commit, a Done
+    /// behind the Discard; on lanes of this coordinator, with stamps that rise. The memory to take it in is taken then.
     pub fn admit(&mut self, next: &Record) -> Result<bool, AllocError>
-        ensures next { IfOk result (λ b. IsTrue b ↔ IsAdmitted self.old next.now) }
+        ensures next { IfOk result (λ b. IsTrue b ↔ (IsInGrammar self.old.header next.now × IsAdmitted self.old next.now)) }
 
-        // A record of the grammar is next just where it may come behind the journal that the lanes stand for.
-        ensures after { IfOk result (λ b. IsInGrammar self.old.header next.now → (J : List AnyRecord) → StandsFor self.old J → J ≢ [] → (IsTrue b ↔ After self.old.header J next.now)) }
+        // It is next just where it may come behind the journal that the lanes stand for.
+        ensures after { IfOk result (λ b. (J : List AnyRecord) → StandsFor self.old J → J ≢ [] → (IsTrue b ↔ After self.old.header J next.now)) }
         ensures same { IsSameButRoom self.old self.new }
         ensures grown { HasGrown self.old self.new }
         ensures room { IfOk result (λ b. IsTrue b → IsNext self.new next.now) }
     {
         let _ = &self.lanes;
+        if !is_in_grammar(&self.header, next) {
+            return Ok(false);
+        }
         self.admit_next(next)
     }
 

@@ -8,3 +8,4 @@ pub mod Deciding
 pub mod Preparing
 pub mod Opened
 pub mod Stops
+pub mod Leaving

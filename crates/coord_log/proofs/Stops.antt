@@ -64,22 +64,19 @@ begun h [] is e = is
 begun h (r ∷ J) is e = cc
 
 -- a record that was not admitted
-pub stopped : (h : Header) (core : CoordOf) (records : List Record) (at i : ℕ) (r : Record) (given : Bool) → MayHold h records → IsPlayed h core (reverse (take i records)) → IsPlaceOf at (take i records) → i < length records
-    → r ≡ get_or records i r → given ≡ false → (IsInGrammar core.header r → (K : List Record) → StandsFor core K → K ≢ [] → (IsTrue given ↔ After core.header K r)) → IsUnplayed h records (Damaged at)
-stopped h core records at i r given may is place lt here never next = damaged h records at (omega (arith, lt)) (record {
+pub stopped : (h : Header) (core : CoordOf) (records : List Record) (at i : ℕ) (r : Record) (given : Bool) → IsPlayed h core (reverse (take i records)) → IsPlaceOf at (take i records) → i < length records
+    → r ≡ get_or records i r → given ≡ false → ((K : List Record) → StandsFor core K → K ≢ [] → (IsTrue given ↔ After core.header K r)) → IsUnplayed h records (Damaged at)
+stopped h core records at i r given is place lt here never next = damaged h records at (omega (arith, lt)) (record {
   before = take i records;
   next = r;
   rest = drop (suc i) records;
   parts = sym (take-append-drop i records) ∙ ap (λ (l : List Record). take i records ++ l) (drop-cons records i r lt ∙ ap (λ (x : Record). x ∷ drop (suc i) records) (sym here));
   is = is.journal;
   coordinator = is.coordinator;
-  none = λ after. refused ((next grammar (reverse (take i records)) is.stands (begun h (reverse (take i records)) is.journal)).1 (subst (λ (k : Header). After k (reverse (take i records)) r) (sym is.header) after)) never;
+  none = λ after. refused ((next (reverse (take i records)) is.stands (begun h (reverse (take i records)) is.journal)).1 (subst (λ (k : Header). After k (reverse (take i records)) r) (sym is.header) after)) never;
   place = place;
 })
   where
-    grammar : IsInGrammar core.header r
-    grammar = subst (λ (k : Header). IsInGrammar k r) (sym is.header) (subst (IsInGrammar h) (sym here) (grammar_of h records may i r lt))
-
     refused : {b : Bool} → IsTrue b → b ≡ false → ⊥
     refused {b} y n = cc
 

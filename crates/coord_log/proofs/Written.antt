@@ -1,5 +1,5 @@
 -- What a write leaves of a coordinator's parts.
-use Rattle.std.proofs.Common.{◌≡◌, ℕ, ◌+◌, ◌-◌, ◌≤◌, List, [], ◌∷◌, ◌++◌, length, reverse, refl, ap, sym, ◌∙◌, subst, arith, Some, None, Option, Result}
+use Rattle.std.proofs.Common.{◌≡◌, ℕ, ◌+◌, ◌-◌, ◌≤◌, List, [], ◌∷◌, ◌++◌, length, reverse, refl, ap, sym, ◌∙◌, subst, arith, Some, None, Option, Result, Err}
 use Rattle.std.specs.Prelude.{MatchOption, IsOkUnless, sum_by}
 use Rattle.std.proofs.lemmas.Bool.{le-ltb}
 use Rattle.std.proofs.lemmas.List.{reverse-append, reverse-reverse}
@@ -48,6 +48,15 @@ pub own_room : {D : Type 0} {G : Ghosts D} (l : RecordLog D G) (h : Header) (r :
 own_room l h r limits is room =
     let e = size_is h r limits is in
     record { records = room.records; body = omega (arith, room.body, e); row = omega (arith, room.row, e) }
+
+-- where a due record was not written, the disk failed
+pub disk_failed : {D : Type 0} {G : Ghosts D} (l : RecordLog D G) (c : CoordOf) (flight : Option Record) (r : Record) (P : AppendFault → Type 0) (result : Result (Unit {0}) LogFault) (e : LogFault) → IsDue l c flight r → result ≡ Err e
+    → (HasRoom l 1 (length (body_of r)) → MatchOption (refusal (broken_of l.journal) (gate_of l.journal + 1) (9 + length (body_of r)) (G.limit (disk_of l.journal))) (e ≡ DiskFault) P)
+    → result ≡ Err DiskFault
+disk_failed {D} {G} l c flight r P result e due is answer =
+    let size = size_is l.header r due.on.limits due.grammar in
+    let room = own_room l l.header r due.on.limits due.grammar due.size in
+    is ∙ ap Err (only_disk {T = Unit {0}} P (broken_of l.journal) (gate_of l.journal + 1) (9 + length (body_of r)) (G.limit (disk_of l.journal)) (Err e) due.whole (omega (arith, size, due.fits)) (answer room))
 
 -- the record was written
 pub sound_after : {D : Type 0} {G : Ghosts D} (old new : RecordLog D G) (c d : CoordOf) (flight : Option Record) (r : Record) (opened : ℕ)

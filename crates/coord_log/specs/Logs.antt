@@ -1,5 +1,5 @@
 -- What contracts see of a coordinator on its disk.
-use Rattle.std.specs.Prelude.{◌≡◌, ℕ, ◌-◌, ◌≤◌, List, length, reverse, Option, Some, None, Result, Err}
+use Rattle.std.specs.Prelude.{◌≡◌, ◌⊎◌, ℕ, Bool, ◌-◌, ◌≤◌, List, length, reverse, Option, Some, None, Result, Err}
 use Rattle.cbdc_types.specs.declared.calls.NodeFault.{NodeFault}
 use Rattle.cbdc_types.specs.declared.calls.NodeFault.TheVariants.{DiskFault}
 use Rattle.cbdc_types.specs.declared.batch.ShardReplies.{ShardReplies}
@@ -8,6 +8,7 @@ use Rattle.cbdc_model.specs.Next.{next_stamp}
 use Rattle.cbdc_model.specs.Deciding.{reply_cause}
 use Rattle.cbdc_model.specs.Due.{Due, Writes, unless_broken, if_early, last_late}
 use Rattle.cbdc_model.specs.Sights.{Sight}
+use Rattle.outside.specs.Images.{Leaves}
 use Rattle.record_log.specs.Held.{Holds, OpensToEither}
 
 -- its header, its journal, newest first, a record that a failed call may have left on its disk or not, how often its disk has failed,
@@ -31,6 +32,18 @@ sight l = record { header = l.header; seen = l.journal; flight = l.flight; fault
 pub record HoldsJournal {D : Type 0} (content : D → Option (List ℕ)) (images : D → List ℕ → Type 0) (l : LogOf D) : Type 0 where
   pub each : (c : List ℕ) → images l.disk c → OpensToEither (reverse l.journal) l.flight c
   pub reads : l.broken ≡ None → Holds (content l.disk) (images l.disk) (l.used - 1) (reverse l.journal)
+
+-- these bytes open to the journal that is seen, with what is in flight or without
+abbrev pub OpensToSeen : {D : Type 0} → LogOf D → List ℕ → Type 0
+OpensToSeen l bytes = OpensToEither (reverse l.journal) l.flight bytes
+
+-- a crash during a call leaves the journal from before it or the one behind it, each with what is in flight or without
+abbrev pub IsLeftBetween : {D : Type 0} → LogOf D → LogOf D → List ℕ → Type 0
+IsLeftBetween old new bytes = OpensToSeen old bytes ⊎ OpensToSeen new bytes
+
+-- so it is at the end of the call, and at each moment of it where the disk tells its past
+abbrev pub LeavesBetween : {D : Type 0} → (D → Bool) → (D → ℕ) → (D → ℕ → List ℕ → Type 0) → (D → List ℕ → Type 0) → LogOf D → LogOf D → Type 0
+LeavesBetween tells moment since images old new = Leaves tells moment since images old.disk new.disk (IsLeftBetween old new)
 
 -- what a call leaves of the append that failed: the disk's count behind its own, if it was the one to fail
 abbrev pub Breaks : {A : Type 0} → Result A NodeFault → Option ℕ → Option ℕ → ℕ → Type 0

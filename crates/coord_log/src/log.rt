@@ -11,7 +11,7 @@ ghost use Rattle.coord_core.specs.Phases.{slot_of};
 ghost use Rattle.coord_core.specs.Hashes.{AllNameBatches};
 ghost use Rattle.coord_core.specs.Decided.{RisesBelow, AllEarlier, AreRepliesTo};
 ghost use Rattle.coord_core.specs.Lanes.{IsOwn};
-ghost use Rattle.coord_log.specs.Logs.{sight, HoldsJournal, Breaks, IsShort, commit_due};
+ghost use Rattle.coord_log.specs.Logs.{sight, HoldsJournal, LeavesBetween, Breaks, IsShort, commit_due};
 ghost use Rattle.coord_log.specs.OpenLanes.{open_lane};
 
 use crate::copying::{outcomes_of, stamp_of, tell, txs_of};
@@ -65,6 +65,7 @@ impl<D: Disk> CoordLog<D> {
         ensures since_opened { self.now.opened ≤ self.now.faults }
         ensures since_broken { IsBrokenSince self.now.opened self.now.faults self.now.broken }
         ensures count { self.now.faults ≡ D.count self.now.disk }
+        ensures capacity { self.now.capacity ≡ D.limit self.now.disk }
     {
         &self.log.header
     }
@@ -119,6 +120,9 @@ impl<D: Disk> CoordLog<D> {
         ensures header { self.new.header ≡ self.old.header }
         ensures limit { self.new.capacity ≡ self.old.capacity }
         ensures holds { HoldsJournal D.content D.images self.old → HoldsJournal D.content D.images self.new }
+
+        // A crash at any moment of the call leaves the journal from before it or the one behind it.
+        ensures leaves { HoldsJournal D.content D.images self.old → LeavesBetween D.tells_past D.moment D.images_since D.images self.old self.new }
     {
         match self.log.is_broken() {
             Some(since) => return Err(NodeFault::Broken { since }),
@@ -177,6 +181,9 @@ impl<D: Disk> CoordLog<D> {
         ensures header { self.new.header ≡ self.old.header }
         ensures limit { self.new.capacity ≡ self.old.capacity }
         ensures holds { HoldsJournal D.content D.images self.old → HoldsJournal D.content D.images self.new }
+
+        // A crash at any moment of the call leaves the journal from before it or the one behind it.
+        ensures leaves { HoldsJournal D.content D.images self.old → LeavesBetween D.tells_past D.moment D.images_since D.images self.old self.new }
     {
         match self.log.is_broken() {
             Some(since) => return Err(NodeFault::Broken { since }),
@@ -207,6 +214,9 @@ impl<D: Disk> CoordLog<D> {
         ensures header { self.new.header ≡ self.old.header }
         ensures limit { self.new.capacity ≡ self.old.capacity }
         ensures holds { HoldsJournal D.content D.images self.old → HoldsJournal D.content D.images self.new }
+
+        // A crash at any moment of the call leaves the journal from before it or the one behind it.
+        ensures leaves { HoldsJournal D.content D.images self.old → LeavesBetween D.tells_past D.moment D.images_since D.images self.old self.new }
     {
         match self.log.is_broken() {
             Some(since) => return Err(NodeFault::Broken { since }),
@@ -236,6 +246,9 @@ impl<D: Disk> CoordLog<D> {
         ensures header { self.new.header ≡ self.old.header }
         ensures limit { self.new.capacity ≡ self.old.capacity }
         ensures holds { HoldsJournal D.content D.images self.old → HoldsJournal D.content D.images self.new }
+
+        // A crash at any moment of the call leaves the journal from before it or the one behind it.
+        ensures leaves { HoldsJournal D.content D.images self.old → LeavesBetween D.tells_past D.moment D.images_since D.images self.old self.new }
     {
         match self.log.is_broken() {
             Some(since) => return Err(NodeFault::Broken { since }),

@@ -1,12 +1,13 @@
 // Opening a coordinator.
-ghost use Rattle.std.specs.Prelude.{◌≡◌, ◌≢◌, ◌≤◌, ◌<◌, ◌∷◌, [], ℕ, List as Items, None, reverse, sum_by, IfOk, IfErr, MatchResult};
+ghost use Rattle.std.specs.Prelude.{◌≡◌, ◌≢◌, ◌+◌, ◌≤◌, ◌<◌, ◌∷◌, [], ℕ, List as Items, None, reverse, sum_by, IfOk, IfErr, MatchResult};
 ghost use Rattle.cbdc_types.specs.declared.calls.NodeOpenFault.{NodeOpenFault as TheFault};
 ghost use Rattle.outside.specs.Counts.{Rose};
 ghost use Rattle.outside.specs.Images.{Tells, Leaves};
 ghost use Rattle.gate_journal.specs.Shown.{disk_of, gate_of, broken_of};
 ghost use Rattle.cbdc_model.specs.Grammar.{IsInGrammar};
 ghost use Rattle.cbdc_model.specs.After.{IsJournal};
-ghost use Rattle.cbdc_model.specs.Room.{size_of};
+ghost use Rattle.cbdc_model.specs.Room.{size_of, kept_room};
+ghost use Rattle.cbdc_model.specs.Due.{used_of};
 ghost use Rattle.record_log.specs.Held.{MayHold, OpensTo, CutsOff};
 ghost use Rattle.record_log.specs.Reading.{HoldsBefore, IsNoLog};
 ghost use Rattle.record_log.specs.Logs.{IsUntouched};
@@ -70,6 +71,7 @@ fn lanes_of<D: Disk>(alloc: Global, log: &mut RecordLog<D>) -> Result<CoordCore,
     ensures sound { IfOk result (λ c. IsSound log.new c (D.count (disk_of log.new.journal)) None) }
     ensures journal { IfOk result (λ c. IsJournal log.new.header (reverse log.new.records.items)) }
     ensures coordinator { IfOk result (λ c. IsCoord log.new.header) }
+    ensures room { IfOk result (λ c. used_of (reverse log.new.records.items) + kept_room log.new.header.shape (reverse log.new.records.items) ≤ D.limit (disk_of log.new.journal)) }
     ensures refusal { IfErr result (λ e. (c : Items ℕ) → OpensTo log.old.records.items c → IsNoCoord (D.limit (disk_of log.old.journal)) c e) }
     ensures fault { IfErr result (λ e. e ≢ NodeOpenFault.DiskFault) }
     ensures untouched { IsUntouched log.old log.new }
@@ -132,6 +134,9 @@ impl<D: Disk> CoordLog<D> {
         ensures opens { IfOk result (λ l. Tells (D.content disk) (λ c. IsCoordJournal l.header l.journal c × HoldsJournal D.content D.images l)) }
         ensures journal { IfOk result (λ l. IsJournal l.header l.journal) }
         ensures coordinator { IfOk result (λ l. IsCoord l.header) }
+
+        // Its bytes, with those that are kept for its open batches, lie within the capacity.
+        ensures room { IfOk result (λ l. used_of l.journal + kept_room l.header.shape l.journal ≤ l.capacity) }
 
         // Which refusal it is.
         ensures refusal { IfErr result (λ e. Tells (D.content disk) (λ c. IsNoCoord (D.limit disk) c e.1)) }

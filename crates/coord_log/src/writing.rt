@@ -6,7 +6,7 @@ ghost use Rattle.cbdc_model.specs.Room.{room_behind_prepare};
 ghost use Rattle.cbdc_model.specs.Sights.{Appends, Fails};
 ghost use Rattle.coord_core.specs.Lanes.{IsWhole, kept_of, ahead_of};
 ghost use Rattle.record_log.specs.Logs.{HasRoom, KeepsRoom, IsUntouched};
-ghost use Rattle.coord_log.specs.Logs.{sight, HoldsJournal};
+ghost use Rattle.coord_log.specs.Logs.{sight, HoldsJournal, LeavesBetween};
 ghost use Rattle.coord_log.specs.Inside.{shown, largest, IsSound, IsDue, IsNoRoom};
 
 use cbdc_types::{NodeFault, Record};
@@ -37,6 +37,8 @@ pub(crate) fn write<D: Disk>(
     ensures sound { (opened : ℕ) → opened ≤ D.count (disk_of log.old.journal) → IsSound log.new core.new opened flight.new }
     ensures broken { MatchResult result (λ _. broken_of log.new.journal ≡ None) (λ _. broken_of log.new.journal ≡ Option.Some (D.count (disk_of log.new.journal))) }
     ensures holds { (opened : ℕ) → HoldsJournal D.content D.images (shown log.old opened flight.old) → HoldsJournal D.content D.images (shown log.new opened flight.new) }
+    ensures leaves { (opened : ℕ) → HoldsJournal D.content D.images (shown log.old opened flight.old)
+        → LeavesBetween D.tells_past D.moment D.images_since D.images (shown log.old opened flight.old) (shown log.new opened flight.new) }
     ensures journal { IsJournal log.new.header (reverse log.new.records.items) }
     ensures header { log.new.header ≡ log.old.header }
     ensures limit { D.limit (disk_of log.new.journal) ≡ D.limit (disk_of log.old.journal) }

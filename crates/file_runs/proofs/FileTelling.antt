@@ -1,5 +1,5 @@
 -- What the waves of files tell, file after file.
-use Rattle.std.proofs.Common.{◌≡◌, ℕ, ◌+◌, ◌<◌, ◌≤◌, List, [], ◌∷◌, ◌++◌, length, take, get_or, refl, sym, ap, ◌∙◌, subst}
+use Rattle.std.proofs.Common.{◌≡◌, ℕ, ◌+◌, ◌<◌, ◌≤◌, List, [], ◌∷◌, ◌++◌, length, take, get_or, refl, sym, ap, subst}
 use Rattle.std.proofs.lemmas.List.{take_all}
 use Rattle.cbdc_model.specs.Records.{Shape, Record}
 use Rattle.cbdc_model.specs.Coins.{FullTx}

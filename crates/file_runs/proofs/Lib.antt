@@ -1,3 +1,4 @@
 pub mod Filing
 pub mod Joining
 pub mod FileTelling
+pub mod Causing

@@ -1,12 +1,14 @@
 // One client file: its submissions are checked, and the sound ones are a wave.
-ghost use Rattle.std.specs.Prelude.{◌≡◌, ◌≤◌, ◌++◌, ℕ, Bool, All, IfOk, OnOk};
+ghost use Rattle.std.specs.Prelude.{◌≡◌, ◌≤◌, ◌++◌, ℕ, Bool, All, IfOk, IfErr, OnOk};
 ghost use Rattle.cbdc_model.specs.Coins.{FullTx as TxOf};
+ghost use Rattle.cbdc_model.specs.Lanes.{IsEnd};
 ghost use Rattle.cbdc_model.specs.World.{AreIdle};
 ghost use Rattle.cbdc_model.specs.Waves.{IsFileRun, sent_to};
 ghost use Rattle.input_files.specs.Limits.{IsShort};
 ghost use Rattle.submissions.specs.Checks.{TellsSound, AreChecked};
 ghost use Rattle.ledger_runs.specs.Turning.{OfKept, StaysKept};
-ghost use Rattle.file_runs.specs.Runs.{AreLanesOf};
+ghost use Rattle.ledger_runs.specs.Faults.{IsRunCause, HaveFailed, MayHold};
+ghost use Rattle.file_runs.specs.Runs.{AreLanesOf, IsSentPiece};
 ghost use Rattle.file_runs.specs.Telling.{TellsFile};
 
 use cbdc_types::{CompactTx, FullTx};
@@ -46,6 +48,7 @@ pub fn run_file<L: Turns, V: Verifier, G: Gate>(
 ) -> Result<Wave, LaneFault>
     requires idle { AreIdle (L.shape ledger.old) (L.journals ledger.old) }
     requires short { All IsShort txs.now }
+    requires checked { L.checked ledger.old }
     ensures shape { L.shape ledger.new ≡ L.shape ledger.old }
     ensures idle { OnOk result (AreIdle (L.shape ledger.old) (L.journals ledger.new)) }
 
@@ -64,6 +67,14 @@ pub fn run_file<L: Turns, V: Verifier, G: Gate>(
 
     ensures holds { L.holds ledger.old → L.holds ledger.new }
     ensures later { (n : ℕ) → L.faults ledger.old n ≤ L.faults ledger.new n }
+    ensures opened_same { (n : ℕ) → L.opened ledger.new n ≡ L.opened ledger.old n }
+    ensures capacity_same { (n : ℕ) → L.capacity ledger.new n ≡ L.capacity ledger.old n }
+    ensures still { L.checked ledger.new }
+    ensures grows { (n : ℕ) → IsEnd (L.journals ledger.old n) (L.journals ledger.new n) }
+
+    // A fault has its cause.
+    ensures fault { IfErr result (IsRunCause (L.shape ledger.old) (IsSentPiece (L.shape ledger.old) (V.verdict_of verifier.now) txs.now) (L.journals ledger.old) (L.journals ledger.new)
+        (HaveFailed (L.opened ledger.new) (L.faults ledger.new)) (MayHold (L.capacity ledger.new))) }
 {
     let Ok(Submitted { checked, lanes }) = check_all(alloc, txs, ledger.shape(), verifier) else {
         return Err(no_memory());

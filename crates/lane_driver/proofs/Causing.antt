@@ -20,10 +20,9 @@ use Rattle.lane_laws.specs.Answers.{LockAnswer, FinishAnswer, ForgetAnswer}
 use Rattle.lane_laws.proofs.Dues.{ok, err, lock_unbroken, late_unbroken, stamp_unbroken, late_full, stamp_full, late_end, stamp_end}
 use Rattle.lane_laws.proofs.Tellings.{Stopped, told_err}
 use Rattle.lane_laws.proofs.ByShard.{every_any, first_at}
-use Rattle.lane_driver.specs.declared.fault.LaneFault.{LaneFault}
-use Rattle.lane_driver.specs.Faults.{kind_of}
-use Rattle.lane_driver.specs.Stops.{IsFaultOf, IsStoppedAt}
-use Rattle.lane_driver.specs.Causes.{HasNoRoom, IsCause, IsLogCause, IsShardFault, IsCausedFault}
+use Rattle.lane_driver.specs.declared.fault.Stop.{Stop}
+use Rattle.lane_driver.specs.Stops.{IsStopOf, IsStoppedAt}
+use Rattle.lane_driver.specs.Causes.{HasNoRoom, IsCause, IsLogCause, IsShardCause, IsCausedStop}
 use Rattle.lane_driver.specs.Told.{AreShards}
 use Rattle.lane_driver.proofs.Phasing.{fault_inside}
 
@@ -105,7 +104,7 @@ module _ {A : Type 0} (alone : Bool) (lane : ℕ) (memory : Bool) (by : List Rec
       (subst (λ m. HasNoRoom new.header.shape m st.found u n c) (sym st.node.capacity)
       (subst (λ k. HasNoRoom k.shape old.capacity st.found u n c) (sym st.node.header) h))
 
-  because : (f : NodeFault) → Stopped alone lane memory by old new f → IsCause (kind_of f) new
+  because : (f : NodeFault) → Stopped alone lane memory by old new f → IsCause f new
   because (Broken since) st = st.risen
   because (Refuses why) st = tt
   because (ClockEnd stamp) st = owing.ends st.found stamp st.why
@@ -113,11 +112,11 @@ module _ {A : Type 0} (alone : Bool) (lane : ℕ) (memory : Bool) (by : List Rec
   because DiskFault st = st.risen
   because Memory st = tt
 
-  caused : (f : NodeFault) → Told alone lane memory (λ broken J. unless_broken broken (by J)) old new (Err f) → IsCause (kind_of f) new
+  caused : (f : NodeFault) → Told alone lane memory (λ broken J. unless_broken broken (by J)) old new (Err f) → IsCause f new
   caused f t = because f (told_err alone lane memory by old new f owing.unbroken t)
 
   -- at a coordinator, which refuses nothing
-  log_because : ((J : List Record) (why : Refused) → by J ≡ Answers (Err (Refuses why)) → ⊥) → (f : NodeFault) → Stopped alone lane memory by old new f → IsLogCause (kind_of f) new
+  log_because : ((J : List Record) (why : Refused) → by J ≡ Answers (Err (Refuses why)) → ⊥) → (f : NodeFault) → Stopped alone lane memory by old new f → IsLogCause f new
   log_because never (Broken since) st = st.risen
   log_because never (Refuses why) st = never st.found why st.why
   log_because never (ClockEnd stamp) st = owing.ends st.found stamp st.why
@@ -125,12 +124,12 @@ module _ {A : Type 0} (alone : Bool) (lane : ℕ) (memory : Bool) (by : List Rec
   log_because never DiskFault st = st.risen
   log_because never Memory st = tt
 
-  log_caused : ((J : List Record) (why : Refused) → by J ≡ Answers (Err (Refuses why)) → ⊥) → (f : NodeFault) → Told alone lane memory (λ broken J. unless_broken broken (by J)) old new (Err f) → IsLogCause (kind_of f) new
+  log_caused : ((J : List Record) (why : Refused) → by J ≡ Answers (Err (Refuses why)) → ⊥) → (f : NodeFault) → Told alone lane memory (λ broken J. unless_broken broken (by J)) old new (Err f) → IsLogCause f new
   log_caused never f t = log_because never f (told_err alone lane memory by old new f owing.unbroken t)
 
 -- ---- each call
 
-pub lock_caused : (alone : Bool) (c : ℕ × LockCall) (old new : Sight) (f : NodeFault) → LockAnswer alone c old new (Err f) → IsCause (kind_of f) new
+pub lock_caused : (alone : Bool) (c : ℕ × LockCall) (old new : Sight) (f : NodeFault) → LockAnswer alone c old new (Err f) → IsCause f new
 lock_caused alone c old new f t = caused alone c.1.batch.lane true (λ J. lock_by (next_lock J c.1.batch c.1.part c.1.cause) old.header.shape old.capacity J c.1) old new owing f t
   where
     owing : IsOwing old.header.shape old.capacity (λ J. lock_by (next_lock J c.1.batch c.1.part c.1.cause) old.header.shape old.capacity J c.1)
@@ -147,17 +146,17 @@ stamp_owing K limit plan what = record {
   fills = λ J u n m e. absurd (stamp_full (plan J) (what J) u n m e);
 }
 
-pub finish_caused : (alone : Bool) (c : ℕ × FinishCall) (old new : Sight) (f : NodeFault) → FinishAnswer alone c old new (Err f) → IsCause (kind_of f) new
+pub finish_caused : (alone : Bool) (c : ℕ × FinishCall) (old new : Sight) (f : NodeFault) → FinishAnswer alone c old new (Err f) → IsCause f new
 finish_caused alone c old new f t =
     caused alone c.1.batch.lane false (λ J. stamp_by (next_finish J c.1.batch c.1.decisions c.1.cause) (Finish (next_stamp J c.1.cause) c.1.batch c.1.decisions)) old new
     (stamp_owing old.header.shape old.capacity (λ J. next_finish J c.1.batch c.1.decisions c.1.cause) (λ J. Finish (next_stamp J c.1.cause) c.1.batch c.1.decisions)) f t
 
-pub forget_caused : (alone : Bool) (c : ℕ × ForgetCall) (old new : Sight) (f : NodeFault) → ForgetAnswer alone c old new (Err f) → IsCause (kind_of f) new
+pub forget_caused : (alone : Bool) (c : ℕ × ForgetCall) (old new : Sight) (f : NodeFault) → ForgetAnswer alone c old new (Err f) → IsCause f new
 forget_caused alone c old new f t =
     caused alone c.1.batch.lane false (λ J. stamp_by (next_forget J c.1.batch c.1.cause) (Forget (next_stamp J c.1.cause) c.1.batch)) old new
     (stamp_owing old.header.shape old.capacity (λ J. next_forget J c.1.batch c.1.cause) (λ J. Forget (next_stamp J c.1.cause) c.1.batch)) f t
 
-pub prepare_caused : (alone : Bool) (lane : ℕ) (txs : List Compact) (old new : Sight) (f : NodeFault) → Told alone lane true (prepare_due old.header.shape old.capacity lane txs) old new (Err f) → IsLogCause (kind_of f) new
+pub prepare_caused : (alone : Bool) (lane : ℕ) (txs : List Compact) (old new : Sight) (f : NodeFault) → Told alone lane true (prepare_due old.header.shape old.capacity lane txs) old new (Err f) → IsLogCause f new
 prepare_caused alone lane txs old new f t = log_caused alone lane true by old new owing refuses f t
   where
     by : List Record → Due (Batch × ℕ)
@@ -190,22 +189,22 @@ late_grants {A = A} stamp a r why e = one (nat_lt last_late stamp) e
 
 -- a record of a coordinator's open batch: only its stamp can be past its bound
 pub late_caused : (alone : Bool) (lane : ℕ) (stamp : List Record → ℕ) (what : List Record → Record) (old new : Sight) (f : NodeFault)
-    → Told alone lane false (λ broken J. unless_broken broken (if_early last_late (stamp J) (Writes (stamp J) (what J)))) old new (Err f) → IsLogCause (kind_of f) new
+    → Told alone lane false (λ broken J. unless_broken broken (if_early last_late (stamp J) (Writes (stamp J) (what J)))) old new (Err f) → IsLogCause f new
 late_caused alone lane stamp what old new f t =
     log_caused alone lane false (λ J. if_early last_late (stamp J) (Writes (stamp J) (what J))) old new (late_owing old.header.shape old.capacity stamp stamp what)
     (λ J why e. late_grants (stamp J) (stamp J) (what J) why e) f t
 
-pub discard_caused : (alone : Bool) (lane cause : ℕ) (old new : Sight) (f : NodeFault) → Told alone lane false (discard_due lane cause) old new (Err f) → IsLogCause (kind_of f) new
+pub discard_caused : (alone : Bool) (lane cause : ℕ) (old new : Sight) (f : NodeFault) → Told alone lane false (discard_due lane cause) old new (Err f) → IsLogCause f new
 discard_caused alone lane cause old new f t = late_caused alone lane (λ J. next_stamp J cause) (λ J. discard_record lane cause J) old new f t
 
-pub done_caused : (alone : Bool) (lane cause : ℕ) (old new : Sight) (f : NodeFault) → Told alone lane false (done_due lane cause) old new (Err f) → IsLogCause (kind_of f) new
+pub done_caused : (alone : Bool) (lane cause : ℕ) (old new : Sight) (f : NodeFault) → Told alone lane false (done_due lane cause) old new (Err f) → IsLogCause f new
 done_caused alone lane cause old new f t = late_caused alone lane (λ J. next_stamp J cause) (λ J. done_record lane cause J) old new f t
 
 -- ---- the lane's fault
 
 -- a phase that stopped at one of its shards
-pub shard_fault : {C A : Type 0} (K : Shape) (told : ℕ × C → Sight → Sight → Result A NodeFault → Type 0) (cs : List (ℕ × C)) (I J : ℕ → Sight) (e : LaneFault)
-    → ((c : ℕ × C) (old new : Sight) (f : NodeFault) → told c old new (Err f) → IsCause (kind_of f) new) → AreShards shard K.shards cs → IsStoppedAt K told cs I J e → IsShardFault K J e
+pub shard_fault : {C A : Type 0} (K : Shape) (told : ℕ × C → Sight → Sight → Result A NodeFault → Type 0) (cs : List (ℕ × C)) (I J : ℕ → Sight) (e : Stop)
+    → ((c : ℕ × C) (old new : Sight) (f : NodeFault) → told c old new (Err f) → IsCause f new) → AreShards shard K.shards cs → IsStoppedAt K told cs I J e → IsShardCause K J e.node e.fault
 shard_fault {C = C} K told cs I J e cause rise (s, f, at, stop) =
     let c = first_at told (λ (c : ℕ × C). Unit {0}) I J s f cs stop.asked.answers stop.asked.each (every_any (λ (c : ℕ × C). Unit {0}) (λ c. tt) cs) stop.first in
     (s, fault_inside cs stop.asked.answers s K.shards f stop.first rise, ap (λ x. x.node) at, subst (λ x. IsCause x.fault (J s)) (sym at) (cause c.0 (I s) (J s) f c.3))
@@ -214,7 +213,7 @@ home_inside : (K : Shape) (lane : ℕ) → lane < K.coordinators * K.lanes → h
 home_inside K lane lt = (row-Below lane K.lanes K.lanes K.coordinators (grind (arith, lt)) (omega arith)).1
 
 -- a call that its coordinator did not do
-pub log_fault : (K : Shape) (lane at : ℕ) (logs shards : ℕ → Sight) (f : NodeFault) (e : LaneFault) → lane < K.coordinators * K.lanes → at ≡ home_of K lane → IsFaultOf e (home_of K lane) f
-    → IsLogCause (kind_of f) (logs at) → IsCausedFault K logs shards e
+pub log_fault : (K : Shape) (lane at : ℕ) (logs shards : ℕ → Sight) (f : NodeFault) (e : Stop) → lane < K.coordinators * K.lanes → at ≡ home_of K lane → IsStopOf e (home_of K lane) f
+    → IsLogCause f (logs at) → IsCausedStop K logs shards e.node e.fault
 log_fault K lane at logs shards f e lt home is cause =
-    subst (λ x. IsCausedFault K logs shards x) (sym is) (inr (inl (home_inside K lane lt, subst (λ n. IsLogCause (kind_of f) (logs n)) home cause)))
+    subst (λ x. IsCausedStop K logs shards x.node x.fault) (sym is) (inr (inl (home_inside K lane lt, subst (λ n. IsLogCause f (logs n)) home cause)))

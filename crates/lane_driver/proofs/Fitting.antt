@@ -17,21 +17,29 @@ use Rattle.lane_laws.specs.Parts.{IsFitPart}
 use Rattle.lane_laws.proofs.PartCalls.{part_fits}
 use Rattle.lane_driver.specs.Calls.{shard, lock_of, finish_of, forget_of}
 use Rattle.cbdc_model.specs.Slots.{Phase}
-use Rattle.lane_driver.specs.Told.{IsLane, KeepsOthers, AreShards, AreShardsOf, KeepHeaders, AreLockCalls, AreFinishCalls, AreForgetCalls, AreFitParts, IsStamp}
+use Rattle.lane_driver.specs.Told.{IsLane, KeepsOthers, AreShards, AreShardsOf, KeepNodes, AreLockCalls, AreFinishCalls, AreForgetCalls, AreFitParts, IsStamp}
 
 -- ---- what stays
 
 pub elsewhere_on : (at0 at1 : ℕ) (X0 X1 X2 : ℕ → Sight) → at1 ≡ at0 → ((n : ℕ) → n ≢ at0 → X1 n ≡ X0 n) → ((n : ℕ) → n ≢ at1 → X2 n ≡ X1 n) → (n : ℕ) → n ≢ at0 → X2 n ≡ X0 n
 elsewhere_on at0 at1 X0 X1 X2 e a b n ne = b n (subst (λ m. n ≢ m) (sym e) ne) ∙ a n ne
 
-pub headers_on : (I M J : ℕ → Sight) → KeepHeaders I M → KeepHeaders M J → KeepHeaders I J
-headers_on I M J a b = λ s. b s ∙ a s
+pub nodes_same : (I : ℕ → Sight) → KeepNodes I I
+nodes_same I n = record { header = refl; opened = refl; capacity = refl; later = omega arith }
 
-pub ledger_kept : (K : Shape) (I J : ℕ → Sight) → AreShardsOf K I → KeepHeaders I J → AreShardsOf K J
-ledger_kept K I J a k = λ s lt. subst (λ h. (h.shape ≡ K) × (h.node ≡ shard_node K s)) (sym (k s)) (a s lt)
+pub nodes_on : (I M J : ℕ → Sight) → KeepNodes I M → KeepNodes M J → KeepNodes I J
+nodes_on I M J a b n = record {
+  header = (b n).header ∙ (a n).header;
+  opened = (b n).opened ∙ (a n).opened;
+  capacity = (b n).capacity ∙ (a n).capacity;
+  later = omega (arith, (a n).later, (b n).later);
+}
 
-pub calls_kept : {C : Type 0} (P : Header → C → Type 0) (I J : ℕ → Sight) → KeepHeaders I J → (cs : List (ℕ × C)) → All (λ c. P (I c.0).header c.1) cs → All (λ c. P (J c.0).header c.1) cs
-calls_kept P I J k cs all = All-weaker (λ c. P (I c.0).header c.1) (λ c. P (J c.0).header c.1) (λ c h. subst (λ x. P x c.1) (sym (k c.0)) h) cs all
+pub ledger_kept : (K : Shape) (I J : ℕ → Sight) → AreShardsOf K I → KeepNodes I J → AreShardsOf K J
+ledger_kept K I J a k = λ s lt. subst (λ h. (h.shape ≡ K) × (h.node ≡ shard_node K s)) (sym (k s).header) (a s lt)
+
+pub calls_kept : {C : Type 0} (P : Header → C → Type 0) (I J : ℕ → Sight) → KeepNodes I J → (cs : List (ℕ × C)) → All (λ c. P (I c.0).header c.1) cs → All (λ c. P (J c.0).header c.1) cs
+calls_kept P I J k cs all = All-weaker (λ c. P (I c.0).header c.1) (λ c. P (J c.0).header c.1) (λ c h. subst (λ x. P x c.1) (sym (k c.0).header) h) cs all
 
 pub others_on : (h k : Header) (lane : ℕ) (p q r : ℕ → Phase) (t u v : ℕ → List Compact) → k ≡ h → KeepsOthers h lane p q t u → KeepsOthers k lane q r u v → KeepsOthers h lane p r t v
 others_on h k lane p q r t u v e a b l is ne =

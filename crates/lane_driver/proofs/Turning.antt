@@ -12,9 +12,8 @@ use Rattle.cbdc_model.specs.Sights.{Sight, Told}
 use Rattle.lane_laws.specs.Calls.{lock_of, finish_of, forget_of}
 use Rattle.lane_laws.specs.Answers.{DecideAnswer, LockAnswer, FinishAnswer, ForgetAnswer, AskedTimes, Locked, Stamped, StoppedAt}
 use Rattle.lane_laws.specs.Traces.{ToldCommitted, at_forget, at_done, at_finish, at_discard, behind_discard, at_lock, at_decide, behind_commit}
-use Rattle.lane_driver.specs.declared.fault.LaneFault.{LaneFault}
-use Rattle.lane_driver.specs.Faults.{kind_of}
-use Rattle.lane_driver.specs.Stops.{IsFaultOf, IsStoppedAt, IsDiscardedStopped, IsCommittedStopped, IsPreparedStopped}
+use Rattle.lane_driver.specs.declared.fault.Stop.{Stop}
+use Rattle.lane_driver.specs.Stops.{IsStopOf, IsStoppedAt, IsDiscardedStopped, IsCommittedStopped, IsPreparedStopped}
 
 pub turn_stamped : {C : Type 0} (T : Bool → ℕ × C → Sight → Sight → Result ℕ NodeFault → Type 0) (a a' : Bool) (cs cs' : List (ℕ × C)) (I J : ℕ → Sight) (m : ℕ) → a ≡ a' → cs ≡ cs'
     → Stamped (T a) cs I J m → Stamped (T a') cs' I J m
@@ -30,17 +29,17 @@ pub turn_stopped : {C A : Type 0} (T : Bool → ℕ × C → Sight → Sight →
     → StoppedAt (T a) cs I J s f → StoppedAt (T a') cs' I J s f
 turn_stopped T a a' cs cs' I J s f e g h = subst (λ x. StoppedAt (T x) cs' I J s f) e (subst (λ ds. StoppedAt (T a) ds I J s f) g h)
 
--- the fault of a node, where it is the lane's home
-pub home_fault : (e : LaneFault) (node home : ℕ) (f : NodeFault) → e ≡ record { node = node; fault = kind_of f } → node ≡ home → IsFaultOf e home f
-home_fault e node home f is at = subst (λ n. IsFaultOf e n f) at is
+-- an answer of a node, where that is the lane's home
+pub home_stop : (node home : ℕ) (f : NodeFault) → node ≡ home → IsStopOf (record { node = node; fault = f }) home f
+home_stop node home f at = λ i. record { node = at i; fault = f }
 
 -- the ends of a discarded batch that stops
-pub forget_stops : (K : Shape) (a a' : Bool) (b : Batch) (cause n : ℕ) (locks : List (ℕ × LockCall)) (cs : List (ℕ × ForgetCall)) (log : Sight) (I J : ℕ → Sight) (e : LaneFault) → a ≡ a' → cs ≡ map (forget_of b cause) locks
+pub forget_stops : (K : Shape) (a a' : Bool) (b : Batch) (cause n : ℕ) (locks : List (ℕ × LockCall)) (cs : List (ℕ × ForgetCall)) (log : Sight) (I J : ℕ → Sight) (e : Stop) → a ≡ a' → cs ≡ map (forget_of b cause) locks
     → IsStoppedAt K (ForgetAnswer a) cs I J e → IsDiscardedStopped K a' b cause n locks log log I J e
 forget_stops K a a' b cause n locks cs log I J e same is (s, f, at, stop) = (shard_node K s, f, at, at_forget s (turn_stopped ForgetAnswer a a' cs (map (forget_of b cause) locks) I J s f same is stop) refl refl)
 
-pub done_stops : (K : Shape) (a a' : Bool) (b : Batch) (cause n m : ℕ) (locks : List (ℕ × LockCall)) (cs cs2 : List (ℕ × ForgetCall)) (log log' : Sight) (I M J : ℕ → Sight) (f : NodeFault) (e : LaneFault) → a ≡ a'
-    → cs ≡ map (forget_of b cause) locks → cs2 ≡ map (forget_of b cause) locks → IsFaultOf e (home_of K b.lane) f → Stamped (ForgetAnswer a) cs I M m → AskedTimes (ForgetAnswer a) cs2 n M J
+pub done_stops : (K : Shape) (a a' : Bool) (b : Batch) (cause n m : ℕ) (locks : List (ℕ × LockCall)) (cs cs2 : List (ℕ × ForgetCall)) (log log' : Sight) (I M J : ℕ → Sight) (f : NodeFault) (e : Stop) → a ≡ a'
+    → cs ≡ map (forget_of b cause) locks → cs2 ≡ map (forget_of b cause) locks → IsStopOf e (home_of K b.lane) f → Stamped (ForgetAnswer a) cs I M m → AskedTimes (ForgetAnswer a) cs2 n M J
     → Told a' b.lane false (done_due b.lane m) log log' (Err f) → IsDiscardedStopped K a' b cause n locks log log' I J e
 done_stops K a a' b cause n m locks cs cs2 log log' I M J f e same is is2 at phase again told = (
   home_of K b.lane,
@@ -51,13 +50,13 @@ done_stops K a a' b cause n m locks cs cs2 log log' I M J f e same is is2 at pha
 )
 
 -- those of a committed one
-pub finish_stops : (K : Shape) (a a' : Bool) (b : Batch) (cause : ℕ) (os : List Outcome) (n : ℕ) (locks : List (ℕ × LockCall)) (cs : List (ℕ × FinishCall)) (log : Sight) (I J : ℕ → Sight) (e : LaneFault) → a ≡ a' → cs ≡ map (finish_of b cause os) locks
+pub finish_stops : (K : Shape) (a a' : Bool) (b : Batch) (cause : ℕ) (os : List Outcome) (n : ℕ) (locks : List (ℕ × LockCall)) (cs : List (ℕ × FinishCall)) (log : Sight) (I J : ℕ → Sight) (e : Stop) → a ≡ a' → cs ≡ map (finish_of b cause os) locks
     → IsStoppedAt K (FinishAnswer a) cs I J e → IsCommittedStopped K a' b cause os n locks log log I J e
 finish_stops K a a' b cause os n locks cs log I J e same is (s, f, at, stop) = (shard_node K s, f, at, at_finish s (turn_stopped FinishAnswer a a' cs (map (finish_of b cause os) locks) I J s f same is stop) refl refl)
 
 module _ (K : Shape) (a a' : Bool) (b : Batch) (cause : ℕ) (os : List Outcome) (n m : ℕ) (locks : List (ℕ × LockCall)) (cs cs2 : List (ℕ × FinishCall)) (log log1 : Sight) (I M X : ℕ → Sight) (same : a ≡ a')
     (is : cs ≡ map (finish_of b cause os) locks) (is2 : cs2 ≡ map (finish_of b cause os) locks) (phase : Stamped (FinishAnswer a) cs I M m) (again : AskedTimes (FinishAnswer a) cs2 n M X) where
-  pub discard_stops : (f : NodeFault) (e : LaneFault) → IsFaultOf e (home_of K b.lane) f → Told a' b.lane false (discard_due b.lane m) log log1 (Err f) → IsCommittedStopped K a' b cause os n locks log log1 I X e
+  pub discard_stops : (f : NodeFault) (e : Stop) → IsStopOf e (home_of K b.lane) f → Told a' b.lane false (discard_due b.lane m) log log1 (Err f) → IsCommittedStopped K a' b cause os n locks log log1 I X e
   discard_stops f e at told = (
     home_of K b.lane,
     f,
@@ -66,7 +65,7 @@ module _ (K : Shape) (a a' : Bool) (b : Batch) (cause : ℕ) (os : List Outcome)
         (turn_times FinishAnswer a a' cs2 (map (finish_of b cause os) locks) n M X same is2 again) told refl,
   )
 
-  pub later_stops : (td : ℕ) (log' : Sight) (J : ℕ → Sight) (e : LaneFault) → Told a' b.lane false (discard_due b.lane m) log log1 (Ok td) → IsDiscardedStopped K a' b td n locks log1 log' X J e → IsCommittedStopped K a' b cause os n locks log log' I J e
+  pub later_stops : (td : ℕ) (log' : Sight) (J : ℕ → Sight) (e : Stop) → Told a' b.lane false (discard_due b.lane m) log log1 (Ok td) → IsDiscardedStopped K a' b td n locks log1 log' X J e → IsCommittedStopped K a' b cause os n locks log log' I J e
   later_stops td log' J e told (node, f, at, stop) = (
     node,
     f,
@@ -76,13 +75,13 @@ module _ (K : Shape) (a a' : Bool) (b : Batch) (cause : ℕ) (os : List Outcome)
   )
 
 -- those of a prepared one
-pub lock_stops : (K : Shape) (a a' : Bool) (b : Batch) (cause n : ℕ) (parts : List (ℕ × List Entry)) (cs : List (ℕ × LockCall)) (log : Sight) (I J : ℕ → Sight) (e : LaneFault) → a ≡ a' → cs ≡ map (lock_of b cause) parts
+pub lock_stops : (K : Shape) (a a' : Bool) (b : Batch) (cause n : ℕ) (parts : List (ℕ × List Entry)) (cs : List (ℕ × LockCall)) (log : Sight) (I J : ℕ → Sight) (e : Stop) → a ≡ a' → cs ≡ map (lock_of b cause) parts
     → IsStoppedAt K (LockAnswer a) cs I J e → IsPreparedStopped K a' b cause n parts log log I J e
 lock_stops K a a' b cause n parts cs log I J e same is (s, f, at, stop) = (shard_node K s, f, at, at_lock s (turn_stopped LockAnswer a a' cs (map (lock_of b cause) parts) I J s f same is stop) refl refl)
 
 module _ (K : Shape) (a a' : Bool) (b : Batch) (cause n : ℕ) (rs : List ShardReplies) (parts : List (ℕ × List Entry)) (cs cs2 : List (ℕ × LockCall)) (log log1 : Sight) (I M X : ℕ → Sight) (same : a ≡ a')
     (is : cs ≡ map (lock_of b cause) parts) (is2 : cs2 ≡ map (lock_of b cause) parts) (phase : Locked a cs I M rs) (again : AskedTimes (LockAnswer a) cs2 n M X) where
-  pub decide_stops : (f : NodeFault) (e : LaneFault) → IsFaultOf e (home_of K b.lane) f → DecideAnswer a' b.lane rs log log1 (Err f) → IsPreparedStopped K a' b cause n parts log log1 I X e
+  pub decide_stops : (f : NodeFault) (e : Stop) → IsStopOf e (home_of K b.lane) f → DecideAnswer a' b.lane rs log log1 (Err f) → IsPreparedStopped K a' b cause n parts log log1 I X e
   decide_stops f e at told = (
     home_of K b.lane,
     f,
@@ -91,7 +90,7 @@ module _ (K : Shape) (a a' : Bool) (b : Batch) (cause n : ℕ) (rs : List ShardR
         (turn_times LockAnswer a a' cs2 (map (lock_of b cause) parts) n M X same is2 again) told refl,
   )
 
-  pub commit_stops : (tc : ℕ) (os : List Outcome) (log' : Sight) (J : ℕ → Sight) (e : LaneFault) (cs3 : List (ℕ × LockCall)) → cs3 ≡ map (lock_of b cause) parts → DecideAnswer a' b.lane rs log log1 (Ok tc) → os ≡ outcomes_of log1.seen (open_batch log1.seen b.lane)
+  pub commit_stops : (tc : ℕ) (os : List Outcome) (log' : Sight) (J : ℕ → Sight) (e : Stop) (cs3 : List (ℕ × LockCall)) → cs3 ≡ map (lock_of b cause) parts → DecideAnswer a' b.lane rs log log1 (Ok tc) → os ≡ outcomes_of log1.seen (open_batch log1.seen b.lane)
       → IsCommittedStopped K a' b tc os n cs3 log1 log' X J e → IsPreparedStopped K a' b cause n parts log log' I J e
   commit_stops tc os log' J e cs3 is3 told os_is stop = go (subst (λ ds. IsCommittedStopped K a' b tc os n ds log1 log' X J e) is3 stop)
     where

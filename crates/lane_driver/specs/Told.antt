@@ -12,7 +12,7 @@ use Rattle.cbdc_model.specs.Slots.{Phase}
 use Rattle.cbdc_model.specs.Ranges.{home_of, shard_node}
 use Rattle.cbdc_model.specs.Grammar.{IsBatchOf, IsReply}
 use Rattle.cbdc_model.specs.Calls.{IsLockCall, IsFinishCall, IsForgetCall}
-use Rattle.cbdc_model.specs.Sights.{Sight}
+use Rattle.cbdc_model.specs.Sights.{Sight, IsSameNode}
 use Rattle.lane_laws.specs.Parts.{IsFitPart}
 use Rattle.lane_driver.specs.Calls.{IsRising}
 
@@ -37,9 +37,9 @@ pub record IsPrepared (K : Shape) (lane : ℕ) (p : Batch × ℕ) : Type 0 where
 abbrev pub AreShardsOf : Shape → (ℕ → Sight) → Type 0
 AreShardsOf K I = (s : ℕ) → s < K.shards → ((I s).header.shape ≡ K) × ((I s).header.node ≡ shard_node K s)
 
--- no shard's header has changed
-abbrev pub KeepHeaders : (ℕ → Sight) → (ℕ → Sight) → Type 0
-KeepHeaders I J = (s : ℕ) → (J s).header ≡ (I s).header
+-- each node is the same still: its header, how often its disk had failed when it was opened, how much that may hold
+abbrev pub KeepNodes : (ℕ → Sight) → (ℕ → Sight) → Type 0
+KeepNodes I J = (n : ℕ) → IsSameNode (I n) (J n)
 
 -- each call, and each part, is within the limits of the shard that it goes to
 abbrev pub AreLockCalls : (ℕ → Sight) → List (ℕ × LockCall) → Type 0

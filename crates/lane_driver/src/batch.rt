@@ -5,15 +5,15 @@ ghost use Rattle.cbdc_model.specs.Slots.{Idle, InPrepare, InCommit, InDiscard};
 ghost use Rattle.cbdc_model.specs.Ranges.{home_of};
 ghost use Rattle.cbdc_model.specs.Grammar.{HasSize, IsBatchOf, IsCompact};
 ghost use Rattle.lane_driver.specs.Calls.{shard, forget_of};
-ghost use Rattle.lane_driver.specs.Told.{IsLane, KeepsOthers, KeepHeaders, AreShardsOf, AreLockCalls, AreFitParts, IsStamp, AreShards};
+ghost use Rattle.lane_driver.specs.Told.{IsLane, KeepsOthers, KeepNodes, AreShardsOf, AreLockCalls, AreFitParts, IsStamp, AreShards};
 ghost use Rattle.lane_driver.specs.Rooms.{IsBatchRoom, IsLaterRoom};
 ghost use Rattle.lane_driver.specs.Reports.{AreReports};
-ghost use Rattle.lane_driver.specs.Causes.{IsCausedFault};
-ghost use Rattle.lane_driver.specs.Stops.{IsDiscardedStopped, IsCommittedStopped, IsPreparedStopped, IsBatchStopped, IsOneBatch};
+ghost use Rattle.lane_driver.specs.Causes.{IsCausedStop, IsCausedFault};
+ghost use Rattle.lane_driver.specs.Stops.{IsDiscardedStopped, IsCommittedStopped, IsPreparedStopped, IsOneStopped, IsBatchStopped, IsOneBatch, IsSettled};
 ghost use Rattle.lane_laws.specs.Batches.{Settled, BatchDone};
 ghost use Rattle.lane_laws.specs.Traces.{ToldDiscarded, ToldCommitted, ToldPrepared};
 
-use crate::fault::{BatchReport, LaneFault, LaneReport, fault_at, no_memory};
+use crate::fault::{BatchReport, LaneFault, LaneReport, Stop, lane_fault, no_memory};
 use crate::order::{finish_calls, forget_calls, lock_calls};
 use crate::phase::{
     finish_again, finish_phase, forget_again, forget_phase, lock_again, lock_phase,
@@ -46,7 +46,7 @@ pub fn from_discarded<S: PortSet, L: LogPort, G: Gate>(
     ports: &mut Ports<S, L>,
     repeats: u32,
     gate: &G,
-) -> Result<(), LaneFault>
+) -> Result<(), Stop>
     requires same { S.alone ≡ L.alone }
     requires at { L.at ports.old.log ≡ home_of shape.now batch.now.lane }
     requires home { IsLane (L.header ports.old.log) batch.now.lane }
@@ -61,7 +61,7 @@ pub fn from_discarded<S: PortSet, L: LogPort, G: Gate>(
     requires answers { length locks.now ≤ vec_capacity stamped.old }
     ensures told { OnOk result (ToldDiscarded L.alone batch.now cause repeats locks.now (L.sights ports.old.log (L.at ports.old.log)) (L.sights ports.new.log (L.at ports.new.log)) (S.sights ports.old.shards) (S.sights ports.new.shards)) }
     ensures stopped { IfErr result (IsDiscardedStopped shape.now L.alone batch.now cause repeats locks.now (L.sights ports.old.log (L.at ports.old.log)) (L.sights ports.new.log (L.at ports.new.log)) (S.sights ports.old.shards) (S.sights ports.new.shards)) }
-    ensures fault { IfErr result (IsCausedFault shape.now (L.sights ports.new.log) (S.sights ports.new.shards)) }
+    ensures fault { IfErr result (λ e. IsCausedStop shape.now (L.sights ports.new.log) (S.sights ports.new.shards) e.node e.fault) }
     ensures at_same { L.at ports.new.log ≡ L.at ports.old.log }
     ensures phase { OnOk result (L.phase ports.new.log batch.now.lane ≡ Idle) }
     ensures others { KeepsOthers (L.header ports.old.log) batch.now.lane (L.phase ports.old.log) (L.phase ports.new.log) (L.open_txs ports.old.log) (L.open_txs ports.new.log) }
@@ -71,7 +71,8 @@ pub fn from_discarded<S: PortSet, L: LogPort, G: Gate>(
     ensures shard_later { (n : ℕ) → S.faults ports.old.shards n ≤ S.faults ports.new.shards n }
     ensures log_later { (n : ℕ) → L.faults ports.old.log n ≤ L.faults ports.new.log n }
     ensures elsewhere { (n : ℕ) → n ≢ L.at ports.old.log → L.sights ports.new.log n ≡ L.sights ports.old.log n }
-    ensures headers { KeepHeaders (S.sights ports.old.shards) (S.sights ports.new.shards) }
+    ensures nodes { KeepNodes (S.sights ports.old.shards) (S.sights ports.new.shards) }
+    ensures log_nodes { KeepNodes (L.sights ports.old.log) (L.sights ports.new.log) }
     ensures log_holds { L.holds ports.old.log → L.holds ports.new.log }
     ensures shard_holds { S.holds ports.old.shards → S.holds ports.new.shards }
     ensures calls { forgets.new.items ≡ map (forget_of batch.now cause) locks.now }
@@ -85,7 +86,10 @@ pub fn from_discarded<S: PortSet, L: LogPort, G: Gate>(
     forget_again(&mut ports.shards, forgets, stamped, repeats, gate);
     match ports.log.done(batch.lane, forgotten, gate) {
         Ok(_) => Ok(()),
-        Err(fault) => Err(fault_at(home(shape, batch.lane), fault)),
+        Err(fault) => Err(Stop {
+            node: home(shape, batch.lane),
+            fault,
+        }),
     }
 }
 
@@ -102,7 +106,7 @@ pub fn from_committed<S: PortSet, L: LogPort, G: Gate>(
     ports: &mut Ports<S, L>,
     repeats: u32,
     gate: &G,
-) -> Result<(), LaneFault>
+) -> Result<(), Stop>
     requires same { S.alone ≡ L.alone }
     requires at { L.at ports.old.log ≡ home_of shape.now batch.now.lane }
     requires home { IsLane (L.header ports.old.log) batch.now.lane }
@@ -118,7 +122,7 @@ pub fn from_committed<S: PortSet, L: LogPort, G: Gate>(
     requires room { IsLaterRoom (length locks.now) (length outcomes.now) room }
     ensures told { OnOk result (ToldCommitted L.alone batch.now cause outcomes.now repeats locks.now (L.sights ports.old.log (L.at ports.old.log)) (L.sights ports.new.log (L.at ports.new.log)) (S.sights ports.old.shards) (S.sights ports.new.shards)) }
     ensures stopped { IfErr result (IsCommittedStopped shape.now L.alone batch.now cause outcomes.now repeats locks.now (L.sights ports.old.log (L.at ports.old.log)) (L.sights ports.new.log (L.at ports.new.log)) (S.sights ports.old.shards) (S.sights ports.new.shards)) }
-    ensures fault { IfErr result (IsCausedFault shape.now (L.sights ports.new.log) (S.sights ports.new.shards)) }
+    ensures fault { IfErr result (λ e. IsCausedStop shape.now (L.sights ports.new.log) (S.sights ports.new.shards) e.node e.fault) }
     ensures at_same { L.at ports.new.log ≡ L.at ports.old.log }
     ensures phase { OnOk result (L.phase ports.new.log batch.now.lane ≡ Idle) }
     ensures others { KeepsOthers (L.header ports.old.log) batch.now.lane (L.phase ports.old.log) (L.phase ports.new.log) (L.open_txs ports.old.log) (L.open_txs ports.new.log) }
@@ -128,7 +132,8 @@ pub fn from_committed<S: PortSet, L: LogPort, G: Gate>(
     ensures shard_later { (n : ℕ) → S.faults ports.old.shards n ≤ S.faults ports.new.shards n }
     ensures log_later { (n : ℕ) → L.faults ports.old.log n ≤ L.faults ports.new.log n }
     ensures elsewhere { (n : ℕ) → n ≢ L.at ports.old.log → L.sights ports.new.log n ≡ L.sights ports.old.log n }
-    ensures headers { KeepHeaders (S.sights ports.old.shards) (S.sights ports.new.shards) }
+    ensures nodes { KeepNodes (S.sights ports.old.shards) (S.sights ports.new.shards) }
+    ensures log_nodes { KeepNodes (L.sights ports.old.log) (L.sights ports.new.log) }
     ensures log_holds { L.holds ports.old.log → L.holds ports.new.log }
     ensures shard_holds { S.holds ports.old.shards → S.holds ports.new.shards }
 {
@@ -146,7 +151,12 @@ pub fn from_committed<S: PortSet, L: LogPort, G: Gate>(
     finish_again(&mut ports.shards, &finishes, &mut stamped, repeats, gate);
     let discarded = match ports.log.discard(batch.lane, finished, gate) {
         Ok(stamp) => stamp,
-        Err(fault) => return Err(fault_at(home(shape, batch.lane), fault)),
+        Err(fault) => {
+            return Err(Stop {
+                node: home(shape, batch.lane),
+                fault,
+            });
+        }
     };
     match from_discarded(
         shape,
@@ -178,7 +188,7 @@ pub fn from_prepared<S: PortSet, L: LogPort, G: Gate>(
     ports: &mut Ports<S, L>,
     repeats: u32,
     gate: &G,
-) -> Result<Outcomes, LaneFault>
+) -> Result<Outcomes, Stop>
     requires same { S.alone ≡ L.alone }
     requires at { L.at ports.old.log ≡ home_of shape.now batch.now.lane }
     requires home { IsLane (L.header ports.old.log) batch.now.lane }
@@ -192,7 +202,7 @@ pub fn from_prepared<S: PortSet, L: LogPort, G: Gate>(
     requires room { IsBatchRoom shape.now.shards (length (L.open_txs ports.old.log batch.now.lane)) room }
     ensures told { IfOk result (ToldPrepared L.alone batch.now cause repeats room.parts (L.sights ports.old.log (L.at ports.old.log)) (L.sights ports.new.log (L.at ports.new.log)) (S.sights ports.old.shards) (S.sights ports.new.shards)) }
     ensures stopped { IfErr result (IsPreparedStopped shape.now L.alone batch.now cause repeats room.parts (L.sights ports.old.log (L.at ports.old.log)) (L.sights ports.new.log (L.at ports.new.log)) (S.sights ports.old.shards) (S.sights ports.new.shards)) }
-    ensures fault { IfErr result (IsCausedFault shape.now (L.sights ports.new.log) (S.sights ports.new.shards)) }
+    ensures fault { IfErr result (λ e. IsCausedStop shape.now (L.sights ports.new.log) (S.sights ports.new.shards) e.node e.fault) }
     ensures at_same { L.at ports.new.log ≡ L.at ports.old.log }
     ensures phase { OnOk result (L.phase ports.new.log batch.now.lane ≡ Idle) }
     ensures others { KeepsOthers (L.header ports.old.log) batch.now.lane (L.phase ports.old.log) (L.phase ports.new.log) (L.open_txs ports.old.log) (L.open_txs ports.new.log) }
@@ -202,7 +212,8 @@ pub fn from_prepared<S: PortSet, L: LogPort, G: Gate>(
     ensures shard_later { (n : ℕ) → S.faults ports.old.shards n ≤ S.faults ports.new.shards n }
     ensures log_later { (n : ℕ) → L.faults ports.old.log n ≤ L.faults ports.new.log n }
     ensures elsewhere { (n : ℕ) → n ≢ L.at ports.old.log → L.sights ports.new.log n ≡ L.sights ports.old.log n }
-    ensures headers { KeepHeaders (S.sights ports.old.shards) (S.sights ports.new.shards) }
+    ensures nodes { KeepNodes (S.sights ports.old.shards) (S.sights ports.new.shards) }
+    ensures log_nodes { KeepNodes (L.sights ports.old.log) (L.sights ports.new.log) }
     ensures log_holds { L.holds ports.old.log → L.holds ports.new.log }
     ensures shard_holds { S.holds ports.old.shards → S.holds ports.new.shards }
     ensures outcomes { IfOk result (λ os. length os ≡ length (L.open_txs ports.old.log batch.now.lane)) }
@@ -224,7 +235,12 @@ pub fn from_prepared<S: PortSet, L: LogPort, G: Gate>(
     lock_again(&mut ports.shards, &locks, &mut again, repeats, gate);
     let decided = match ports.log.decide(batch.lane, &replies, &mut outcomes, gate) {
         Ok(stamp) => stamp,
-        Err(fault) => return Err(fault_at(home(shape, batch.lane), fault)),
+        Err(fault) => {
+            return Err(Stop {
+                node: home(shape, batch.lane),
+                fault,
+            });
+        }
     };
     match from_committed(
         shape, batch, decided, &locks, &outcomes, &mut again, later, ports, repeats, gate,
@@ -243,7 +259,7 @@ pub(crate) fn one_batch<S: PortSet, L: LogPort, G: Gate>(
     ports: &mut Ports<S, L>,
     repeats: u32,
     gate: &G,
-) -> Result<BatchReport, LaneFault>
+) -> Result<BatchReport, Stop>
     requires same { S.alone ≡ L.alone }
     requires at { L.at ports.old.log ≡ home_of shape.now lane }
     requires home { IsLane (L.header ports.old.log) lane }
@@ -254,8 +270,8 @@ pub(crate) fn one_batch<S: PortSet, L: LogPort, G: Gate>(
     requires size { HasSize shape.now txs.now }
     requires limits { All IsCompact txs.now }
     ensures done { IfOk result (λ r. (k : ℕ) → Settled shape.now lane k (L.sights ports.old.log (L.at ports.old.log)) (S.sights ports.old.shards) → BatchDone shape.now L.alone lane k txs.now (L.sights ports.old.log (L.at ports.old.log)) (S.sights ports.old.shards) (L.sights ports.new.log (L.at ports.new.log)) (S.sights ports.new.shards) r.batch r.outcomes) }
-    ensures stopped { IfErr result (IsBatchStopped shape.now L.alone lane txs.now (L.sights ports.old.log (L.at ports.old.log)) (S.sights ports.old.shards) (L.sights ports.new.log (L.at ports.new.log)) (S.sights ports.new.shards)) }
-    ensures fault { IfErr result (IsCausedFault shape.now (L.sights ports.new.log) (S.sights ports.new.shards)) }
+    ensures stopped { IfErr result (IsOneStopped shape.now L.alone lane txs.now (L.sights ports.old.log (L.at ports.old.log)) (S.sights ports.old.shards) (L.sights ports.new.log (L.at ports.new.log)) (S.sights ports.new.shards)) }
+    ensures fault { IfErr result (λ e. IsCausedStop shape.now (L.sights ports.new.log) (S.sights ports.new.shards) e.node e.fault) }
     ensures at_same { L.at ports.new.log ≡ L.at ports.old.log }
     ensures idle { OnOk result (L.phase ports.new.log lane ≡ Idle) }
     ensures others { KeepsOthers (L.header ports.old.log) lane (L.phase ports.old.log) (L.phase ports.new.log) (L.open_txs ports.old.log) (L.open_txs ports.new.log) }
@@ -265,7 +281,8 @@ pub(crate) fn one_batch<S: PortSet, L: LogPort, G: Gate>(
     ensures shard_later { (n : ℕ) → S.faults ports.old.shards n ≤ S.faults ports.new.shards n }
     ensures log_later { (n : ℕ) → L.faults ports.old.log n ≤ L.faults ports.new.log n }
     ensures elsewhere { (n : ℕ) → n ≢ L.at ports.old.log → L.sights ports.new.log n ≡ L.sights ports.old.log n }
-    ensures headers { KeepHeaders (S.sights ports.old.shards) (S.sights ports.new.shards) }
+    ensures nodes { KeepNodes (S.sights ports.old.shards) (S.sights ports.new.shards) }
+    ensures log_nodes { KeepNodes (L.sights ports.old.log) (L.sights ports.new.log) }
     ensures log_holds { L.holds ports.old.log → L.holds ports.new.log }
     ensures shard_holds { S.holds ports.old.shards → S.holds ports.new.shards }
     ensures report { IfOk result (λ r. (r.batch.lane ≡ lane) × (length r.outcomes ≡ length txs.now)) }
@@ -273,11 +290,21 @@ pub(crate) fn one_batch<S: PortSet, L: LogPort, G: Gate>(
     let _limit = shape.batch();
     let room = match BatchRoom::take(alloc, shape, txs) {
         Ok(room) => room,
-        Err(_) => return Err(no_memory()),
+        Err(_) => {
+            return Err(Stop {
+                node: NodeId(0),
+                fault: NodeFault::Memory,
+            });
+        }
     };
     let (batch, prepared) = match ports.log.prepare(lane, txs, gate) {
         Ok(prepared) => prepared,
-        Err(fault) => return Err(fault_at(home(shape, lane), fault)),
+        Err(fault) => {
+            return Err(Stop {
+                node: home(shape, lane),
+                fault,
+            });
+        }
     };
     match from_prepared(shape, &batch, prepared, room, ports, repeats, gate) {
         Ok(outcomes) => Ok(BatchReport { batch, outcomes }),
@@ -303,6 +330,7 @@ pub fn run_batch<S: PortSet, L: LogPort, G: Gate>(
     requires idle { L.phase ports.old.log lane ≡ Idle }
     requires count { S.count ports.old.shards ≡ shape.now.shards }
     requires ledger { AreShardsOf shape.now (S.sights ports.old.shards) }
+    requires settled { IsSettled shape.now lane (L.sights ports.old.log (L.at ports.old.log)) (S.sights ports.old.shards) }
     requires size { HasSize shape.now txs.now }
     requires limits { All IsCompact txs.now }
     ensures done { IfOk result (λ r. IsOneBatch shape.now L.alone lane txs.now (L.sights ports.old.log (L.at ports.old.log)) (S.sights ports.old.shards) (L.sights ports.new.log (L.at ports.new.log)) (S.sights ports.new.shards) r.batches) }
@@ -317,7 +345,8 @@ pub fn run_batch<S: PortSet, L: LogPort, G: Gate>(
     ensures shard_later { (n : ℕ) → S.faults ports.old.shards n ≤ S.faults ports.new.shards n }
     ensures log_later { (n : ℕ) → L.faults ports.old.log n ≤ L.faults ports.new.log n }
     ensures elsewhere { (n : ℕ) → n ≢ L.at ports.old.log → L.sights ports.new.log n ≡ L.sights ports.old.log n }
-    ensures headers { KeepHeaders (S.sights ports.old.shards) (S.sights ports.new.shards) }
+    ensures nodes { KeepNodes (S.sights ports.old.shards) (S.sights ports.new.shards) }
+    ensures log_nodes { KeepNodes (L.sights ports.old.log) (L.sights ports.new.log) }
     ensures log_holds { L.holds ports.old.log → L.holds ports.new.log }
     ensures shard_holds { S.holds ports.old.shards → S.holds ports.new.shards }
     ensures report { IfOk result (λ r. AreReports lane r.batches (txs.now ∷ [])) }
@@ -333,6 +362,6 @@ pub fn run_batch<S: PortSet, L: LogPort, G: Gate>(
                 batches: List::from_vec(batches),
             })
         }
-        Err(fault) => Err(fault),
+        Err(stop) => Err(lane_fault(stop)),
     }
 }

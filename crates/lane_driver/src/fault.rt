@@ -1,8 +1,9 @@
 // What a lane reports, and why it stopped.
 ghost use Rattle.std.specs.Prelude.{◌≡◌, ◌/◌};
-ghost use Rattle.lane_driver.specs.Faults.{kind_of};
+ghost use Rattle.lane_laws.specs.Faults.{IsNoRefusal};
+ghost use Rattle.lane_driver.specs.Faults.{IsFaultOf};
 
-use cbdc_types::{BatchId, List, NodeFault, NodeId, Outcomes, Refused, Stamp};
+use cbdc_types::{BatchId, List, NodeFault, NodeId, Outcomes, Stamp};
 
 /// A batch that is done, with the outcomes of its transactions.
 #[derive(Clone, Debug, PartialEq, Eq, Drop)]
@@ -27,8 +28,6 @@ pub enum LaneFaultKind {
     ClockEnd { stamp: Stamp },
     /// The node, or the driver itself, got no memory.
     Memory,
-    /// The shard refused the call.
-    Refused(Refused),
 }
 
 /// Where a lane stopped: the node, or 0 at the driver's own want of memory.
@@ -38,13 +37,22 @@ pub struct LaneFault {
     pub fault: LaneFaultKind,
 }
 
-/// The fault of a lane whose call a node did not do. A broken node is one whose disk failed.
-pub(crate) fn fault_at(node: NodeId, fault: NodeFault) -> LaneFault
-    ensures { result ≡ record { node = node; fault = kind_of fault } }
+/// Where a batch stopped: the node, and what it answered; node 0 and Memory at the driver's own want of memory.
+#[derive(Clone, Copy, Debug, PartialEq, Eq)]
+pub struct Stop {
+    pub node: NodeId,
+    pub fault: NodeFault,
+}
+
+/// The lane's fault where its batch stopped so. A broken node is one whose disk failed.
+pub fn lane_fault(stop: Stop) -> LaneFault
+    requires { IsNoRefusal stop.fault }
+    ensures { IsFaultOf result stop.node stop.fault }
 {
+    let Stop { node, fault } = stop;
     let fault = match fault {
         NodeFault::Broken { since: _ } => LaneFaultKind::DiskFault,
-        NodeFault::Refused(why) => LaneFaultKind::Refused(why),
+        NodeFault::Refused(_) => unreachable!(),
         NodeFault::ClockEnd { stamp } => LaneFaultKind::ClockEnd { stamp },
         NodeFault::Full {
             used,

@@ -7,12 +7,12 @@ ghost use Rattle.cbdc_model.specs.Grammar.{IsCompact};
 ghost use Rattle.cbdc_model.specs.Ranges.{home_of};
 ghost use Rattle.lane_laws.specs.Batches.{Settled, LaneSo};
 ghost use Rattle.lane_driver.specs.Causes.{IsCausedFault};
-ghost use Rattle.lane_driver.specs.Stops.{IsLaneStopped};
-ghost use Rattle.lane_driver.specs.Told.{IsLane, KeepsOthers, AreShardsOf, KeepHeaders};
+ghost use Rattle.lane_driver.specs.Stops.{IsLaneStopped, IsSettled};
+ghost use Rattle.lane_driver.specs.Told.{IsLane, KeepsOthers, AreShardsOf, KeepNodes};
 ghost use Rattle.lane_driver.specs.Reports.{IsReported, AreDone};
 
 use crate::batch::one_batch;
-use crate::fault::{LaneFault, LaneReport, no_memory};
+use crate::fault::{LaneFault, LaneReport, lane_fault, no_memory};
 use crate::port::{LogPort, PortSet, Ports};
 use cbdc_types::{CompactTx, LaneId, List, Shape};
 use outside::Gate;
@@ -37,6 +37,7 @@ pub fn run_lane<S: PortSet, L: LogPort, G: Gate>(
     requires idle { L.phase ports.old.log lane ≡ Idle }
     requires count { S.count ports.old.shards ≡ shape.now.shards }
     requires ledger { AreShardsOf shape.now (S.sights ports.old.shards) }
+    requires settled { IsSettled shape.now lane (L.sights ports.old.log (L.at ports.old.log)) (S.sights ports.old.shards) }
     requires limits { All IsCompact txs.now }
     ensures done { OnOk result ((k : ℕ) → Settled shape.now lane k (L.sights ports.old.log (L.at ports.old.log)) (S.sights ports.old.shards) → LaneSo shape.now L.alone lane txs.now [] (L.sights ports.old.log (L.at ports.old.log)) (S.sights ports.old.shards) (L.sights ports.new.log (L.at ports.new.log)) (S.sights ports.new.shards)) }
     ensures stopped { IfErr result (IsLaneStopped shape.now L.alone lane txs.now (L.sights ports.old.log (L.at ports.old.log)) (S.sights ports.old.shards) (L.sights ports.new.log (L.at ports.new.log)) (S.sights ports.new.shards)) }
@@ -50,7 +51,8 @@ pub fn run_lane<S: PortSet, L: LogPort, G: Gate>(
     ensures shard_later { (n : ℕ) → S.faults ports.old.shards n ≤ S.faults ports.new.shards n }
     ensures log_later { (n : ℕ) → L.faults ports.old.log n ≤ L.faults ports.new.log n }
     ensures elsewhere { (n : ℕ) → n ≢ L.at ports.old.log → L.sights ports.new.log n ≡ L.sights ports.old.log n }
-    ensures headers { KeepHeaders (S.sights ports.old.shards) (S.sights ports.new.shards) }
+    ensures nodes { KeepNodes (S.sights ports.old.shards) (S.sights ports.new.shards) }
+    ensures log_nodes { KeepNodes (L.sights ports.old.log) (L.sights ports.new.log) }
     ensures log_holds { L.holds ports.old.log → L.holds ports.new.log }
     ensures shard_holds { S.holds ports.old.shards → S.holds ports.new.shards }
     ensures report { IfOk result (λ r. IsReported lane shape.now.batch txs.now [] r.batches) }
@@ -68,7 +70,7 @@ pub fn run_lane<S: PortSet, L: LogPort, G: Gate>(
         let (piece, more) = rest.split_at(size.min(rest.len()));
         match one_batch(alloc, shape, lane, piece, ports, repeats, gate) {
             Ok(report) => batches.push_reserved(report),
-            Err(fault) => return Err(fault),
+            Err(stop) => return Err(lane_fault(stop)),
         }
         rest = more;
     }

@@ -12,7 +12,7 @@ mod room;
 
 pub use answer::{ShardFault, gather, latest};
 pub use batch::{from_committed, from_discarded, from_prepared, run_batch};
-pub use fault::{BatchReport, LaneFault, LaneFaultKind, LaneReport, no_memory};
+pub use fault::{BatchReport, LaneFault, LaneFaultKind, LaneReport, Stop, lane_fault, no_memory};
 pub use lane::run_lane;
 pub use order::{finish_calls, forget_calls, lock_calls};
 pub use port::{LogPort, PortSet, Ports};

@@ -4,12 +4,12 @@ ghost use Rattle.std.specs.Vec.{vec_capacity};
 ghost use Rattle.lane_driver.specs.Calls.{shard};
 ghost use Rattle.cbdc_model.specs.Ranges.{shard_node};
 ghost use Rattle.lane_laws.specs.Answers.{LockAnswer, FinishAnswer, ForgetAnswer, AskedTimes, Locked, Stamped};
-ghost use Rattle.lane_driver.specs.Causes.{IsShardFault};
-ghost use Rattle.lane_driver.specs.Stops.{IsFaultOf, IsStoppedAt};
-ghost use Rattle.lane_driver.specs.Told.{AreShardsOf, KeepHeaders, AreLockCalls, AreFinishCalls, AreForgetCalls, AreShards, AreReplies, IsStamp};
+ghost use Rattle.lane_driver.specs.Causes.{IsShardCause};
+ghost use Rattle.lane_driver.specs.Stops.{IsStopOf, IsStoppedAt};
+ghost use Rattle.lane_driver.specs.Told.{AreShardsOf, KeepNodes, AreLockCalls, AreFinishCalls, AreForgetCalls, AreShards, AreReplies, IsStamp};
 
 use crate::answer::{ShardFault, gather, latest};
-use crate::fault::{LaneFault, fault_at};
+use crate::fault::Stop;
 use crate::port::PortSet;
 use cbdc_types::{
     FinishCall, ForgetCall, LockCall, NodeFault, NodeId, Replied, Replies, Shape, ShardReplies,
@@ -17,12 +17,15 @@ use cbdc_types::{
 };
 use outside::Gate;
 
-// The fault of the lane, where a shard's was the first.
-fn of_shard(shape: &Shape, fault: ShardFault) -> LaneFault
+// Where the batch stopped, if this shard's fault was the first.
+fn of_shard(shape: &Shape, fault: ShardFault) -> Stop
     requires { fault.shard < shape.now.shards }
-    ensures { IsFaultOf result (shard_node shape.now fault.shard) fault.fault }
+    ensures { IsStopOf result (shard_node shape.now fault.shard) fault.fault }
 {
-    fault_at(NodeId(shape.coordinators() + fault.shard), fault.fault)
+    Stop {
+        node: NodeId(shape.coordinators() + fault.shard),
+        fault: fault.fault,
+    }
 }
 
 /// Makes the lock calls again, so many times, and drops the answers.
@@ -38,7 +41,7 @@ pub fn lock_again<S: PortSet, G: Gate>(
     requires room { length calls.now ≤ vec_capacity answers.old }
     ensures capacity { vec_capacity answers.new ≡ vec_capacity answers.old }
     ensures count { S.count shards.new ≡ S.count shards.old }
-    ensures headers { KeepHeaders (S.sights shards.old) (S.sights shards.new) }
+    ensures nodes { KeepNodes (S.sights shards.old) (S.sights shards.new) }
     ensures later { (n : ℕ) → S.faults shards.old n ≤ S.faults shards.new n }
     ensures holds { S.holds shards.old → S.holds shards.new }
     ensures told { AskedTimes (LockAnswer S.alone) calls.now repeats (S.sights shards.old) (S.sights shards.new) }
@@ -62,7 +65,7 @@ pub fn finish_again<S: PortSet, G: Gate>(
     requires room { length calls.now ≤ vec_capacity answers.old }
     ensures capacity { vec_capacity answers.new ≡ vec_capacity answers.old }
     ensures count { S.count shards.new ≡ S.count shards.old }
-    ensures headers { KeepHeaders (S.sights shards.old) (S.sights shards.new) }
+    ensures nodes { KeepNodes (S.sights shards.old) (S.sights shards.new) }
     ensures later { (n : ℕ) → S.faults shards.old n ≤ S.faults shards.new n }
     ensures holds { S.holds shards.old → S.holds shards.new }
     ensures told { AskedTimes (FinishAnswer S.alone) calls.now repeats (S.sights shards.old) (S.sights shards.new) }
@@ -86,7 +89,7 @@ pub fn forget_again<S: PortSet, G: Gate>(
     requires room { length calls.now ≤ vec_capacity answers.old }
     ensures capacity { vec_capacity answers.new ≡ vec_capacity answers.old }
     ensures count { S.count shards.new ≡ S.count shards.old }
-    ensures headers { KeepHeaders (S.sights shards.old) (S.sights shards.new) }
+    ensures nodes { KeepNodes (S.sights shards.old) (S.sights shards.new) }
     ensures later { (n : ℕ) → S.faults shards.old n ≤ S.faults shards.new n }
     ensures holds { S.holds shards.old → S.holds shards.new }
     ensures told { AskedTimes (ForgetAnswer S.alone) calls.now repeats (S.sights shards.old) (S.sights shards.new) }
@@ -105,7 +108,7 @@ pub fn lock_phase<S: PortSet, G: Gate>(
     mut answers: Vec<Result<Replied, NodeFault>>,
     replies: Vec<ShardReplies>,
     gate: &G,
-) -> Result<Replies, LaneFault>
+) -> Result<Replies, Stop>
     requires count { S.count shards.old ≡ shape.now.shards }
     requires ledger { AreShardsOf shape.now (S.sights shards.old) }
     requires shards { AreShards shard shape.now.shards calls.now }
@@ -115,12 +118,12 @@ pub fn lock_phase<S: PortSet, G: Gate>(
     requires no_replies { replies.items ≡ [] }
     requires replies_room { length calls.now ≤ vec_capacity replies }
     ensures count { S.count shards.new ≡ S.count shards.old }
-    ensures headers { KeepHeaders (S.sights shards.old) (S.sights shards.new) }
+    ensures nodes { KeepNodes (S.sights shards.old) (S.sights shards.new) }
     ensures later { (n : ℕ) → S.faults shards.old n ≤ S.faults shards.new n }
     ensures holds { S.holds shards.old → S.holds shards.new }
     ensures told { IfOk result (Locked S.alone calls.now (S.sights shards.old) (S.sights shards.new)) }
     ensures stopped { IfErr result (IsStoppedAt shape.now (LockAnswer S.alone) calls.now (S.sights shards.old) (S.sights shards.new)) }
-    ensures fault { IfErr result (IsShardFault shape.now (S.sights shards.new)) }
+    ensures fault { IfErr result (λ e. IsShardCause shape.now (S.sights shards.new) e.node e.fault) }
     ensures replies { IfOk result (AreReplies shape.now) }
 {
     shards.lock(calls, &mut answers, gate);
@@ -137,19 +140,19 @@ pub fn finish_phase<S: PortSet, G: Gate>(
     calls: &[(u32, FinishCall)],
     answers: &mut Vec<Result<Stamp, NodeFault>>,
     gate: &G,
-) -> Result<Stamp, LaneFault>
+) -> Result<Stamp, Stop>
     requires count { S.count shards.old ≡ shape.now.shards }
     requires shards { AreShards shard shape.now.shards calls.now }
     requires calls { AreFinishCalls (S.sights shards.old) calls.now }
     requires room { length calls.now ≤ vec_capacity answers.old }
     ensures capacity { vec_capacity answers.new ≡ vec_capacity answers.old }
     ensures count { S.count shards.new ≡ S.count shards.old }
-    ensures headers { KeepHeaders (S.sights shards.old) (S.sights shards.new) }
+    ensures nodes { KeepNodes (S.sights shards.old) (S.sights shards.new) }
     ensures later { (n : ℕ) → S.faults shards.old n ≤ S.faults shards.new n }
     ensures holds { S.holds shards.old → S.holds shards.new }
     ensures told { IfOk result (Stamped (FinishAnswer S.alone) calls.now (S.sights shards.old) (S.sights shards.new)) }
     ensures stopped { IfErr result (IsStoppedAt shape.now (FinishAnswer S.alone) calls.now (S.sights shards.old) (S.sights shards.new)) }
-    ensures fault { IfErr result (IsShardFault shape.now (S.sights shards.new)) }
+    ensures fault { IfErr result (λ e. IsShardCause shape.now (S.sights shards.new) e.node e.fault) }
     ensures stamp { IfOk result IsStamp }
 {
     answers.clear();
@@ -167,19 +170,19 @@ pub fn forget_phase<S: PortSet, G: Gate>(
     calls: &[(u32, ForgetCall)],
     answers: &mut Vec<Result<Stamp, NodeFault>>,
     gate: &G,
-) -> Result<Stamp, LaneFault>
+) -> Result<Stamp, Stop>
     requires count { S.count shards.old ≡ shape.now.shards }
     requires shards { AreShards shard shape.now.shards calls.now }
     requires calls { AreForgetCalls (S.sights shards.old) calls.now }
     requires room { length calls.now ≤ vec_capacity answers.old }
     ensures capacity { vec_capacity answers.new ≡ vec_capacity answers.old }
     ensures count { S.count shards.new ≡ S.count shards.old }
-    ensures headers { KeepHeaders (S.sights shards.old) (S.sights shards.new) }
+    ensures nodes { KeepNodes (S.sights shards.old) (S.sights shards.new) }
     ensures later { (n : ℕ) → S.faults shards.old n ≤ S.faults shards.new n }
     ensures holds { S.holds shards.old → S.holds shards.new }
     ensures told { IfOk result (Stamped (ForgetAnswer S.alone) calls.now (S.sights shards.old) (S.sights shards.new)) }
     ensures stopped { IfErr result (IsStoppedAt shape.now (ForgetAnswer S.alone) calls.now (S.sights shards.old) (S.sights shards.new)) }
-    ensures fault { IfErr result (IsShardFault shape.now (S.sights shards.new)) }
+    ensures fault { IfErr result (λ e. IsShardCause shape.now (S.sights shards.new) e.node e.fault) }
     ensures stamp { IfOk result IsStamp }
 {
     answers.clear();

@@ -4,8 +4,7 @@ ghost use Rattle.std.specs.Vec.{vec_capacity};
 ghost use Rattle.cbdc_model.specs.Records.{Header, Compact};
 ghost use Rattle.cbdc_model.specs.Slots.{Phase, Idle, InPrepare, InCommit, InDiscard};
 ghost use Rattle.cbdc_model.specs.Grammar.{HasSize, IsCompact};
-ghost use Rattle.lane_driver.specs.Told.{IsLane, KeepsOthers, KeepHeaders, AreLockCalls, AreFinishCalls, AreForgetCalls, AreShards, EachAnswer, LockTold, StampTold, AreReplies, IsPrepared, IsStamp};
-ghost use Rattle.lane_driver.specs.Faults.{kind_of};
+ghost use Rattle.lane_driver.specs.Told.{IsLane, KeepsOthers, KeepNodes, AreLockCalls, AreFinishCalls, AreForgetCalls, AreShards, EachAnswer, LockTold, StampTold, AreReplies, IsPrepared, IsStamp};
 ghost use Rattle.lane_driver.specs.Causes.{IsLogCause};
 ghost use Rattle.lane_driver.specs.Calls.{shard};
 ghost use Rattle.cbdc_model.specs.Records.{outcomes_of};
@@ -68,6 +67,7 @@ pub trait LogPort {
         ensures told { Told alone lane true (prepare_due (sights self.old (at self.old)).header.shape (sights self.old (at self.old)).capacity lane txs.now) (sights self.old (at self.old)) (sights self.new (at self.new)) result }
         ensures at_same { at self.new ≡ at self.old }
         ensures elsewhere { (n : ℕ) → n ≢ at self.old → sights self.new n ≡ sights self.old n }
+        ensures nodes { KeepNodes (sights self.old) (sights self.new) }
         ensures later { (n : ℕ) → faults self.old n ≤ faults self.new n }
         ensures holds { holds self.old → holds self.new };
 
@@ -90,11 +90,12 @@ pub trait LogPort {
         ensures others { KeepsOthers (header self.old) lane (phase self.old) (phase self.new) (open_txs self.old) (open_txs self.new) }
         ensures header { header self.new ≡ header self.old }
         ensures count { count self.new ≡ count self.old }
-        ensures fault { IfErr result (λ f. IsLogCause (kind_of f) (sights self.new (at self.new))) }
+        ensures fault { IfErr result (λ f. IsLogCause f (sights self.new (at self.new))) }
         ensures told { DecideAnswer alone lane replies.now (sights self.old (at self.old)) (sights self.new (at self.new)) result }
         ensures written { OnOk result (out.new.items ≡ outcomes_of (sights self.new (at self.new)).seen (open_batch (sights self.new (at self.new)).seen lane)) }
         ensures at_same { at self.new ≡ at self.old }
         ensures elsewhere { (n : ℕ) → n ≢ at self.old → sights self.new n ≡ sights self.old n }
+        ensures nodes { KeepNodes (sights self.old) (sights self.new) }
         ensures later { (n : ℕ) → faults self.old n ≤ faults self.new n }
         ensures holds { holds self.old → holds self.new };
 
@@ -111,6 +112,7 @@ pub trait LogPort {
         ensures told { Told alone lane false (discard_due lane cause) (sights self.old (at self.old)) (sights self.new (at self.new)) result }
         ensures at_same { at self.new ≡ at self.old }
         ensures elsewhere { (n : ℕ) → n ≢ at self.old → sights self.new n ≡ sights self.old n }
+        ensures nodes { KeepNodes (sights self.old) (sights self.new) }
         ensures later { (n : ℕ) → faults self.old n ≤ faults self.new n }
         ensures holds { holds self.old → holds self.new };
 
@@ -127,6 +129,7 @@ pub trait LogPort {
         ensures told { Told alone lane false (done_due lane cause) (sights self.old (at self.old)) (sights self.new (at self.new)) result }
         ensures at_same { at self.new ≡ at self.old }
         ensures elsewhere { (n : ℕ) → n ≢ at self.old → sights self.new n ≡ sights self.old n }
+        ensures nodes { KeepNodes (sights self.old) (sights self.new) }
         ensures later { (n : ℕ) → faults self.old n ≤ faults self.new n }
         ensures holds { holds self.old → holds self.new };
 }
@@ -162,7 +165,7 @@ pub trait PortSet {
         ensures each { EachAnswer (LockTold (sights self.old)) calls.now out.new.items }
         ensures told { EachTold (LockAnswer alone) calls.now out.new.items (sights self.old) (sights self.new) }
         ensures untouched { Others calls.now (sights self.old) (sights self.new) }
-        ensures headers { KeepHeaders (sights self.old) (sights self.new) }
+        ensures nodes { KeepNodes (sights self.old) (sights self.new) }
         ensures capacity { vec_capacity out.new ≡ vec_capacity out.old }
         ensures count { count self.new ≡ count self.old }
         ensures later { (n : ℕ) → faults self.old n ≤ faults self.new n }
@@ -181,7 +184,7 @@ pub trait PortSet {
         ensures each { EachAnswer StampTold calls.now out.new.items }
         ensures told { EachTold (FinishAnswer alone) calls.now out.new.items (sights self.old) (sights self.new) }
         ensures untouched { Others calls.now (sights self.old) (sights self.new) }
-        ensures headers { KeepHeaders (sights self.old) (sights self.new) }
+        ensures nodes { KeepNodes (sights self.old) (sights self.new) }
         ensures capacity { vec_capacity out.new ≡ vec_capacity out.old }
         ensures count { count self.new ≡ count self.old }
         ensures later { (n : ℕ) → faults self.old n ≤ faults self.new n }
@@ -200,7 +203,7 @@ pub trait PortSet {
         ensures each { EachAnswer StampTold calls.now out.new.items }
         ensures told { EachTold (ForgetAnswer alone) calls.now out.new.items (sights self.old) (sights self.new) }
         ensures untouched { Others calls.now (sights self.old) (sights self.new) }
-        ensures headers { KeepHeaders (sights self.old) (sights self.new) }
+        ensures nodes { KeepNodes (sights self.old) (sights self.new) }
         ensures capacity { vec_capacity out.new ≡ vec_capacity out.old }
         ensures count { count self.new ≡ count self.old }
         ensures later { (n : ℕ) → faults self.old n ≤ faults self.new n }

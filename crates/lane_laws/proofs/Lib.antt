@@ -5,6 +5,8 @@ pub mod Dues
 pub mod Tellings
 pub mod ByShard
 pub mod Sameness
+pub mod Grants
+pub mod Fits
 pub mod Asked
 pub mod LogCalls
 pub mod Preparing

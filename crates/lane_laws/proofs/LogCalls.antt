@@ -96,6 +96,17 @@ module _ (K : Shape) (pieces : List (List Compact)) (alone : Bool) (lane : ℕ) 
           let e = late_wrote (next_stamp w.found m) (next_stamp w.found m) a (next w.found) w.what w.writes in
           wrote_step alone lane by log log' a (named a) m w (e.1 ∙ is w.found w.finds ∙ ap named (sym e.0)) (lane_is a) (stamp_is a ∙ e.0)
 
+  -- its stamp is later than its cause
+  pub late_above : (a : ℕ) → Told alone lane false (λ broken J. unless_broken broken (by J)) log log' (Ok a) → m < a
+  late_above a told = go (told_ok alone lane false by log log' a told)
+    where
+      above : (l m n : ℕ) → n ≡ suc (max l m) → m < n
+      above l m n e = grind (arith, e)
+
+      go : Stood alone lane by log log' a ⊎ Wrote alone lane by log log' a → m < a
+      go (inl s) = absurd (late_stored (next_stamp s.found m) (next_stamp s.found m) a (next s.found) s.answers)
+      go (inr w) = above (last_stamp w.found) m a (late_wrote (next_stamp w.found m) (next_stamp w.found m) a (next w.found) w.what w.writes).0
+
   pub late_err : (f : NodeFault) → Told alone lane false (λ broken J. unless_broken broken (by J)) log log' (Err f) → Fell K pieces alone lane log shards log' shards × LogFailed lane log log' f × (TakesRoom f → ⊥)
       × IsAnswered false (by log'.seen) log' f
   late_err f told =
@@ -227,6 +238,10 @@ module _ (K : Shape) (pieces : List (List Compact)) (alone : Bool) (lane number 
             ap (λ L. record_of 7 L B) d.1.seen_is ∙ (let z : same_batch B B ≡ true = self in rw z),
           )
 
+      pub commit_above : (tc : ℕ) → DecideAnswer alone lane rs log log' (Ok tc) → reply_cause K rs < tc
+      commit_above tc told = late_above K pieces alone lane home log log' shards (reply_cause K rs) (λ L. commit_record K lane rs L) (λ n. Commit n B (decided K txs rs)) (λ found f. commit_named log shards t o found f rs) (λ n. same_number lane) (λ n. refl) (λ n. tt)
+          (λ found f. commit_caused log shards t o found f rs looks) tc (decide_told (Ok tc) told)
+
       pub commit_err : (f : NodeFault) → DecideAnswer alone lane rs log log' (Err f) → LogFell (λ L. decide_due K lane rs None L) log log' shards f
       commit_err f told = late_err K pieces alone lane home log log' shards (reply_cause K rs) (λ L. commit_record K lane rs L) (λ n. Commit n B (decided K txs rs)) (λ found f. commit_named log shards t o found f rs) (λ n. same_number lane) (λ n. refl) (λ n. tt)
           (λ found f. commit_caused log shards t o found f rs looks) f (decide_told (Err f) told)
@@ -243,6 +258,10 @@ module _ (K : Shape) (pieces : List (List Compact)) (alone : Bool) (lane number 
             record { moved = d.0; step = d.1; stays = still_open log log' t (Discard td B) o d.1 (λ L. refl) (λ L. let z : (lane == lane) ≡ true = same_number lane in rw z) },
             ap (λ L. record_of 8 L B) d.1.seen_is ∙ (let z : same_batch B B ≡ true = self in rw z),
           )
+
+      pub discard_above : (td : ℕ) → Told alone lane false (discard_due lane m) log log' (Ok td) → m < td
+      discard_above td told = late_above K pieces alone lane home log log' shards m (λ L. discard_record lane m L) (λ n. Discard n B) discard_named (λ n. same_number lane) (λ n. refl) (λ n. tt)
+          (λ found f. (have log shards t o found f 3 stamps looks, stamped log shards t o found f 3 m stamps looks greatest_is)) td told
 
       pub discard_err : (f : NodeFault) → Told alone lane false (discard_due lane m) log log' (Err f) → LogFell (λ L. discard_due lane m None L) log log' shards f
       discard_err f told = late_err K pieces alone lane home log log' shards m (λ L. discard_record lane m L) (λ n. Discard n B) discard_named (λ n. same_number lane) (λ n. refl) (λ n. tt)
@@ -263,12 +282,5 @@ module _ (K : Shape) (pieces : List (List Compact)) (alone : Bool) (lane number 
 
       -- and its stamp is later than the shards' last ones
       pub done_above : (te : ℕ) → Told alone lane false (done_due lane m) log log' (Ok te) → m < te
-      done_above te told = go (told_ok alone lane false (λ L. if_early last_late (next_stamp L m) (Writes (next_stamp L m) (done_record lane m L))) log log' te told)
-        where
-          above : (a m n : ℕ) → n ≡ suc (max a m) → m < n
-          above a m n e = grind (arith, e)
-
-          go : Stood alone lane (λ L. if_early last_late (next_stamp L m) (Writes (next_stamp L m) (done_record lane m L))) log log' te
-              ⊎ Wrote alone lane (λ L. if_early last_late (next_stamp L m) (Writes (next_stamp L m) (done_record lane m L))) log log' te → m < te
-          go (inl s) = absurd (late_stored (next_stamp s.found m) (next_stamp s.found m) te (done_record lane m s.found) s.answers)
-          go (inr w) = above (last_stamp w.found) m te (late_wrote (next_stamp w.found m) (next_stamp w.found m) te (done_record lane m w.found) w.what w.writes).0
+      done_above te told = late_above K pieces alone lane home log log' shards m (λ L. done_record lane m L) (λ n. Done n B) done_named (λ n. same_number lane) (λ n. refl) (λ n. tt)
+          (λ found f. (have log shards t o found f 4 stamps looks, stamped log shards t o found f 4 m stamps looks greatest_is)) te told

@@ -3,12 +3,12 @@ use Rattle.std.proofs.Common.{◌≡◌, inr, ℕ, Bool, List, [], ◌∷◌, �
 use Rattle.cbdc_types.specs.declared.calls.LockCall.{LockCall}
 use Rattle.cbdc_types.specs.declared.calls.NodeFault.{NodeFault}
 use Rattle.cbdc_model.specs.Records.{Shape, Batch, Compact, Entry, Outcome, Record, Done}
-use Rattle.cbdc_model.specs.Slots.{Phase, slot, Idle, InPrepare}
+use Rattle.cbdc_model.specs.Slots.{Phase, slot, Idle}
 use Rattle.cbdc_model.specs.Sights.{Sight}
 use Rattle.lane_laws.specs.Calls.{AreParts, AreLocks}
 use Rattle.lane_laws.specs.Batches.{own}
 use Rattle.lane_laws.specs.Traces.{ToldDiscarded, ToldCommitted, ToldPrepared, DiscardedStopped, CommittedStopped, PreparedStopped}
-use Rattle.lane_laws.specs.Resuming.{IsOpenAt, IsCommittedAt, IsDiscardedAt, IsTakenUp, IsLeft}
+use Rattle.lane_laws.specs.Resuming.{IsOpenAt, IsPreparedAt, IsCommittedAt, IsDiscardedAt, IsTakenUp, IsLeft}
 use Rattle.lane_laws.proofs.Own.{slot_own}
 use Rattle.lane_laws.proofs.Views.{Moved}
 use Rattle.lane_laws.proofs.LogCalls.{Open}
@@ -40,25 +40,25 @@ module _ (K : Shape) (alone : Bool) (b : Batch) (txs : List Compact) (t : ℕ) (
       let r = committed_run K [] alone b.lane b.number d.is_open.home txs log log' I J t u tc os n locks (opening d.is_open) d.commit d.locks (λ s kind h c. d.is_open.others s kind (inr h) c) are told in
       taken r.ended _ r.moved r.log_own
 
-  pub takes_prepared : (n : ℕ) (parts : List (ℕ × List Entry)) (os : List Outcome) → IsOpenAt InPrepare K b txs t log I → AreParts K txs parts → ToldPrepared alone b t n parts log log' I J os → IsTakenUp K alone b log I log' J
+  pub takes_prepared : (n : ℕ) (parts : List (ℕ × List Entry)) (os : List Outcome) → IsPreparedAt K b txs t log I → AreParts K txs parts → ToldPrepared alone b t n parts log log' I J os → IsTakenUp K alone b log I log' J
   takes_prepared n parts os d are told =
-      let r = prepared_run K [] alone b.lane b.number d.home txs log log' I J t n parts os (opening d) d.others are told in
+      let r = prepared_run K [] alone b.lane b.number d.is_open.home txs log log' I J t n parts os (opening d.is_open) d.is_open.others are told in
       taken r.rest.ended _ r.moved r.rest.log_own
 
   pub leaves_discarded : (u td n : ℕ) (locks : List (ℕ × LockCall)) (node : ℕ) (f : NodeFault) → IsDiscardedAt K b txs t td log I → AreLocks K txs b u locks → DiscardedStopped K alone b td n locks log log' I J node f
       → IsLeft K alone b log I log' J node f
   leaves_discarded u td n locks node f d are stop =
-      let r = discarded_stopped K [] alone b.lane b.number d.is_open.home txs log log' I J t u td n locks node f (opening d.is_open) d.discard (λ s c. d.is_open.others s 4 (inr (inr refl)) c) d.forgot are stop in
-      record { made = r.fell.made; flown = r.fell.flown; told = r.told; txs = txs; fault = r.fault }
+      let r = discarded_stopped K [] alone b.lane b.number d.is_open.home txs log log' I J t u td n locks node f (opening d.is_open) d.discard (λ s c. d.is_open.others s 4 (inr (inr refl)) c) d.forgetting d.forgot are stop in
+      record { made = r.fell.made; flown = r.fell.flown; told = r.told; txs = txs; fault = r.fault; granted = r.granted }
 
   pub leaves_committed : (u tc : ℕ) (os : List Outcome) (n : ℕ) (locks : List (ℕ × LockCall)) (node : ℕ) (f : NodeFault) → IsCommittedAt K b txs t tc os log I → AreLocks K txs b u locks
       → CommittedStopped K alone b tc os n locks log log' I J node f → IsLeft K alone b log I log' J node f
   leaves_committed u tc os n locks node f d are stop =
-      let r = committed_stopped K [] alone b.lane b.number d.is_open.home txs log log' I J t u tc os n locks node f (opening d.is_open) d.commit d.is_open.phase d.locks (λ s kind h c. d.is_open.others s kind (inr h) c) are stop in
-      record { made = r.fell.made; flown = r.fell.flown; told = r.told; txs = txs; fault = r.fault }
+      let r = committed_stopped K [] alone b.lane b.number d.is_open.home txs log log' I J t u tc os n locks node f (opening d.is_open) d.commit d.is_open.phase d.locks d.finishing (λ s kind h c. d.is_open.others s kind (inr h) c) are stop in
+      record { made = r.fell.made; flown = r.fell.flown; told = r.told; txs = txs; fault = r.fault; granted = r.granted }
 
-  pub leaves_prepared : (n : ℕ) (parts : List (ℕ × List Entry)) (node : ℕ) (f : NodeFault) → IsOpenAt InPrepare K b txs t log I → AreParts K txs parts → PreparedStopped K alone b t n parts log log' I J node f
+  pub leaves_prepared : (n : ℕ) (parts : List (ℕ × List Entry)) (node : ℕ) (f : NodeFault) → IsPreparedAt K b txs t log I → AreParts K txs parts → PreparedStopped K alone b t n parts log log' I J node f
       → IsLeft K alone b log I log' J node f
   leaves_prepared n parts node f d are stop =
-      let r = prepared_stopped K [] alone b.lane b.number d.home txs log log' I J t n parts node f (opening d) d.phase d.others are stop in
-      record { made = r.fell.made; flown = r.fell.flown; told = r.told; txs = txs; fault = r.fault }
+      let r = prepared_stopped K [] alone b.lane b.number d.is_open.home txs log log' I J t n parts node f (opening d.is_open) d.is_open.phase d.is_open.others d.locking are stop in
+      record { made = r.fell.made; flown = r.fell.flown; told = r.told; txs = txs; fault = r.fault; granted = r.granted }

@@ -142,6 +142,7 @@ module _ (K : Shape) (pieces : List (List Compact)) (alone : Bool) (lane number 
     pub moved : Moved K pieces alone lane log I log J
     pub looks : Looks K lane number txs 3 fins J
     pub greatest_is : m ≡ greatest fins K.shards
+    pub number_is : (s : ℕ) → is_concerned K txs s ≡ true → (slot (J s).seen lane).number ≡ number
     pub finished : (s : ℕ) → is_concerned K txs s ≡ true → (slot (J s).seen lane).phase ≡ InFinish
     pub others : (s : ℕ) → is_concerned K txs s ≡ false → own lane (J s).seen ≡ own lane (I s).seen
     pub adds : (s : ℕ) → is_concerned K txs s ≡ true → (slot (I s).seen lane).phase ≡ InLock → own lane (J s).seen ≡ Finish (fins s) B (decisions os (part K.shards s 0 txs)) ∷ own lane (I s).seen
@@ -162,6 +163,7 @@ module _ (K : Shape) (pieces : List (List Compact)) (alone : Bool) (lane number 
           stamp = λ s. ap stamp_in (same_record 3 lane B (M s).seen (J s).seen refl (q.own_same s)) ∙ (shards s).stamp;
         };
         greatest_is = latest_greatest K txs (IsFinish K txs os B tc) (FinishAnswer alone) (λ c p. p.0) (map (finish_of B tc os) locks) I M m cs f.asked f.latest;
+        number_is = λ s c. ap (λ z. z.number) (same_slot K pieces alone lane number home txs log M J q s) ∙ ((shards s).slot_is c).0;
         finished = λ s c. ap (λ z. z.phase) (same_slot K pieces alone lane number home txs log M J q s) ∙ ((shards s).slot_is c).1;
         others = λ s c. q.own_same s ∙ ap (λ v. own lane v.seen) ((shards s).others c);
         adds = λ s c p. q.own_same s ∙ (elim ((shards s).adds c) [ inl e ↦ e | inr n ↦ no_phase (slot (I s).seen lane).phase n p ]);
@@ -229,6 +231,7 @@ module _ (K : Shape) (pieces : List (List Compact)) (alone : Bool) (lane number 
   pub record LocksShard (rs : List ShardReplies) (I J : ℕ → Sight) (s : ℕ) : Type 0 where
     pub looks : LooksLock K lane number txs rs J s
     pub number_is : is_concerned K txs s ≡ true → (slot (J s).seen lane).number ≡ number
+    pub slot_is : is_concerned K txs s ≡ true → ((slot (J s).seen lane).phase ≡ InLock) ⊎ (slot (J s).seen lane ≡ slot (I s).seen lane)
     pub others : is_concerned K txs s ≡ false → own lane (J s).seen ≡ own lane (I s).seen
     pub adds : is_concerned K txs s ≡ true
         → (own lane (J s).seen ≡ Lock (reply_stamp (replies_at rs s)) B (answered_with (part K.shards s 0 txs) (replies_in (replies_at rs s))) ∷ own lane (I s).seen) ⊎ ((slot (I s).seen lane).number ≡ number)
@@ -243,6 +246,10 @@ module _ (K : Shape) (pieces : List (List Compact)) (alone : Bool) (lane number 
       replied = l.looks.replied;
     };
     number_is = λ c. ap (λ z. z.number) (same_slot K pieces alone lane number home txs log M J q s) ∙ l.number_is c;
+    slot_is = λ c. elim (l.slot_is c) [
+      | inl p ↦ inl (ap (λ z. z.phase) (same_slot K pieces alone lane number home txs log M J q s) ∙ p)
+      | inr e ↦ inr (same_slot K pieces alone lane number home txs log M J q s ∙ e)
+    ];
     others = λ c. q.own_same s ∙ ap (λ v. own lane v.seen) (l.others c);
     adds = λ c. elim (l.adds c) [ inl e ↦ inl (q.own_same s ∙ e) | inr n ↦ inr n ];
   }

@@ -8,7 +8,7 @@ use Rattle.cbdc_types.specs.declared.calls.Replied.{Replied}
 use Rattle.cbdc_types.specs.declared.calls.NodeFault.{NodeFault}
 use Rattle.cbdc_types.specs.declared.batch.ShardReplies.{ShardReplies}
 use Rattle.cbdc_model.specs.Records.{Batch, same_batch, Compact, Answered, Entry, Outcome, Record, Shape, record_of, lock_of, stamp_in, entries_in, decisions_in, Lock, Finish, Forget}
-use Rattle.cbdc_model.specs.Slots.{Phase, slot, slot_stamp, Idle, InFinish}
+use Rattle.cbdc_model.specs.Slots.{Phase, slot, slot_stamp, Idle, InLock, InFinish}
 use Rattle.cbdc_model.specs.Replies.{entries, replies, answered}
 use Rattle.cbdc_model.specs.Outcomes.{decisions}
 use Rattle.cbdc_model.specs.Ranges.{part, is_no_part}
@@ -98,6 +98,7 @@ module _ (K : Shape) (alone : Bool) (lane number : ℕ) (txs : List Compact) whe
   pub record LockedShard (rs : List ShardReplies) (I J : ℕ → Sight) (s : ℕ) : Type 0 where
     pub looks : LooksLock K lane number txs rs J s
     pub number_is : is_concerned K txs s ≡ true → (slot (J s).seen lane).number ≡ number
+    pub slot_is : is_concerned K txs s ≡ true → ((slot (J s).seen lane).phase ≡ InLock) ⊎ (slot (J s).seen lane ≡ slot (I s).seen lane)
     pub others : is_concerned K txs s ≡ false → J s ≡ I s
     pub adds : is_concerned K txs s ≡ true
         → (own lane (J s).seen ≡ Lock (reply_stamp (replies_at rs s)) B (answered_with (part K.shards s 0 txs) (replies_in (replies_at rs s))) ∷ own lane (I s).seen) ⊎ ((slot (I s).seen lane).number ≡ number)
@@ -136,6 +137,7 @@ module _ (K : Shape) (alone : Bool) (lane number : ℕ) (txs : List Compact) whe
               record {
                 looks = looks_by c rep r (answered found B [] (part K.shards s 0 txs)) (ap entries_in one) (ap stamp_in one ∙ sym stamp) parts reps;
                 number_is = λ y. ap (λ L. (slot L lane).number) at_end ∙ (let z : (lane == lane) ≡ true = itself in rw z);
+                slot_is = λ y. inl (ap (λ L. (slot L lane).phase) at_end ∙ (let z : (lane == lane) ≡ true = itself in rw z));
                 others = λ n. no_way s c n;
                 adds = λ y. inl (ap (λ L. own lane L) at_end ∙ own_in lane (Lock (next_stamp found t) B (answered found B [] (part K.shards s 0 txs))) found itself ∙ (λ i. Lock (st i) B (es i) ∷ finds_own alone lane (I s).seen found f i));
               }
@@ -150,6 +152,7 @@ module _ (K : Shape) (alone : Bool) (lane number : ℕ) (txs : List Compact) whe
           record {
             looks = looks_by c rep r (lock_of w.found B) (ap (λ L. lock_of L B) w.seen) (ap (λ L. stamp_in (record_of 2 L B)) w.seen ∙ sym (ap (λ a. a.stamp) e.2 ∙ ap (λ a. a.at) k.3)) parts (ap (λ a. a.replies) e.2 ∙ ap (λ a. a.given) k.3);
             number_is = λ y. ap (λ L. (slot L lane).number) w.seen ∙ n;
+            slot_is = λ y. inr (ap (λ L. slot L lane) w.seen ∙ finds_slot alone lane (I s).seen w.found w.finds);
             others = λ n. no_way s c n;
             adds = λ y. inr (ap (λ q. q.number) (sym (finds_slot alone lane (I s).seen w.found w.finds)) ∙ n);
           }
@@ -172,6 +175,7 @@ module _ (K : Shape) (alone : Bool) (lane number : ℕ) (txs : List Compact) whe
               replied = λ lt. ap (λ o. length (replies_in o)) e ∙ sym (ap length (no_entries K txs s lt (not_true (is_concerned K txs s) (λ c. calls.covers s c n))));
             };
             number_is = λ c. absurd (calls.covers s c n);
+            slot_is = λ c. absurd (calls.covers s c n);
             others = λ c. others s n;
             adds = λ c. absurd (calls.covers s c n);
           }

@@ -8,7 +8,7 @@ use Rattle.cbdc_model.specs.Ranges.{home_of, shard_node}
 use Rattle.cbdc_model.specs.Lanes.{Made, Holds, Seen}
 use Rattle.cbdc_model.specs.Sights.{Sight, HasRisen}
 use Rattle.lane_laws.specs.Calls.{is_concerned}
-use Rattle.lane_laws.specs.Faults.{IsBatchFault}
+use Rattle.lane_laws.specs.Faults.{IsNoRefusal, IsBatchFault}
 
 -- the lane's own records of a journal
 abbrev pub own : ℕ → List Record → List Record
@@ -129,6 +129,7 @@ pub record BatchStopped (K : Shape) (alone : Bool) (lane : ℕ) (txs : List Comp
   pub prepares : (prepared_of lane log'.seen ≡ prepared_of lane log.seen) ⊎ (prepared_of lane log'.seen ≡ txs ∷ prepared_of lane log.seen)
   pub told : IsAnswerOf K lane log' shards' node f
   pub fault : IsBatchFault K lane txs log' shards' node f
+  pub granted : IsNoRefusal f
 
 -- these pieces of at most n, the newest first, were cut from the list, and the rest is left
 abbrev pub CutFrom : ℕ → List Compact → List (List Compact) → List Compact → Type 0

@@ -15,7 +15,7 @@ use Rattle.cbdc_model.specs.Sights.{Sight}
 use Rattle.coord_log.specs.Logs.{LogOf, sight, HoldsJournal as HoldsLog}
 use Rattle.shard_node.specs.Shards.{ShardOf, sight_of, HoldsJournal as HoldsShard}
 use Rattle.node_ports.specs.Nodes.{sight_at, IsLogHeld, IsShardHeld, AreLogsHeld, AreShardsHeld}
-use Rattle.lane_driver.specs.Told.{IsLane, KeepsOthers, KeepHeaders, AreShardsOf}
+use Rattle.lane_driver.specs.Told.{IsLane, KeepsOthers, KeepNodes, AreShardsOf}
 use Rattle.run_laws.specs.Turns.{Elsewhere}
 use Rattle.run_laws.proofs.Seen.{seen_log}
 use Rattle.coord_log.specs.OpenLanes.{open_lane}
@@ -113,8 +113,8 @@ module _ {D : Type 0} where
 
     module _ (content : D → Option (List ℕ)) (images : D → List ℕ → Type 0) (h : Header) (lane at at' : ℕ) (logs : List (LogOf D)) (shards : List (ShardOf D)) (logs' : List (LogOf D)) (shards' : List (ShardOf D))
         (ledger : IsLedger h logs shards) (lt : IsLaneOf h.shape lane) (at_is : at ≡ home_of h.shape lane) (at_same : at' ≡ at)
-        (named : ℕ) (named_is : named ≡ lane) (header : (sight_at sight logs' at').header ≡ (sight_at sight logs at).header) (log_count : length logs' ≡ length logs) (shard_count : length shards' ≡ length shards)
-        (elsewhere : (n : ℕ) → n ≢ at → sight_at sight logs' n ≡ sight_at sight logs n) (shard_headers : KeepHeaders (sight_at (sight_of count limit) shards) (sight_at (sight_of count limit) shards'))
+        (named : ℕ) (named_is : named ≡ lane) (log_count : length logs' ≡ length logs) (shard_count : length shards' ≡ length shards)
+        (elsewhere : (n : ℕ) → n ≢ at → sight_at sight logs' n ≡ sight_at sight logs n) (log_nodes : KeepNodes (sight_at sight logs) (sight_at sight logs')) (shard_nodes : KeepNodes (sight_at (sight_of count limit) shards) (sight_at (sight_of count limit) shards'))
         (others : KeepsOthers (sight_at sight logs at).header named (λ l. (slot (sight_at sight logs at).seen l).phase) (λ l. (slot (sight_at sight logs' at').seen l).phase)
         (λ l. txs_of (sight_at sight logs at).seen (open_batch (sight_at sight logs at).seen l)) (λ l. txs_of (sight_at sight logs' at').seen (open_batch (sight_at sight logs' at').seen l)))
         (log_holds : AreLogsHeld content images logs → AreLogsHeld content images logs') (shard_holds : AreShardsHeld content images shards → AreShardsHeld content images shards')
@@ -128,19 +128,13 @@ module _ {D : Type 0} where
           go (inl (b, same)) = inl same
           go (inr (b, other)) = inr other
 
-      log_headers : KeepHeaders (sight_at sight logs) (sight_at sight logs')
-      log_headers n = elim (here n) [
-        | inl e ↦ subst (λ m. (sight_at sight logs' m).header ≡ (sight_at sight logs m).header) (sym e) (subst (λ m. (sight_at sight logs' m).header ≡ (sight_at sight logs at).header) at_same header)
-        | inr other ↦ ap (λ s. s.header) (elsewhere n other)
-      ]
-
       pub still_ledger : IsLedger h logs' shards'
       still_ledger = record {
         limits = ledger.limits;
         coordinators = log_count ∙ ledger.coordinators;
         shards_are = shard_count ∙ ledger.shards_are;
-        log_headers = λ n lt. log_headers n ∙ ledger.log_headers n lt;
-        shard_headers = λ s lt. sym (same_header shards' s) ∙ shard_headers s ∙ same_header shards s ∙ ledger.shard_headers s lt;
+        log_headers = λ n lt. (log_nodes n).header ∙ ledger.log_headers n lt;
+        shard_headers = λ s lt. sym (same_header shards' s) ∙ (shard_nodes s).header ∙ same_header shards s ∙ ledger.shard_headers s lt;
         log_journals = log_journals;
         shard_journals = shard_journals;
       }
@@ -180,8 +174,8 @@ module _ {D : Type 0} where
       pub is_step : IsStep count limit content images h lane logs shards logs' shards'
       is_step = record {
         ledger = still_ledger;
-        log_headers = log_headers;
-        shard_headers = shard_headers;
+        log_nodes = log_nodes;
+        shard_nodes = shard_nodes;
         elsewhere = away;
         others = other_lanes;
         stored = stored;

@@ -1,5 +1,5 @@
 -- A turn at the nodes of a ledger, and what it comes to for their journals.
-use Rattle.std.proofs.Common.{◌≡◌, ℕ, zero, suc, ◌<◌, true, List, [], ◌∷◌, length, get_or, Option, Some, None, Result, Ok, Err, IfOk, IfErr, OnOk, refl, sym, ap, ◌∙◌, subst, arith}
+use Rattle.std.proofs.Common.{◌≡◌, ℕ, zero, suc, ◌-◌, ◌<◌, nat_lt, if◌then◌else◌, true, false, List, [], ◌∷◌, length, get_or, Option, Some, None, Result, Ok, Err, IfOk, IfErr, OnOk, refl, sym, ap, ◌∙◌, subst, arith}
 use Rattle.cbdc_types.specs.declared.batch.OpenLane.{OpenLane}
 use Rattle.cbdc_model.specs.Records.{Shape, Header, Compact, Record}
 use Rattle.cbdc_model.specs.Slots.{slot, Idle}
@@ -18,18 +18,22 @@ use Rattle.lane_laws.specs.Resuming.{IsTakenUp}
 use Rattle.lane_driver.specs.declared.fault.LaneFault.{LaneFault}
 use Rattle.lane_driver.specs.declared.fault.BatchReport.{BatchReport}
 use Rattle.lane_driver.specs.declared.fault.LaneReport.{LaneReport}
-use Rattle.lane_driver.specs.Stops.{IsBatchStopped, IsOneBatch}
+use Rattle.lane_driver.specs.Stops.{IsSettled, IsBatchStopped, IsOneBatch}
 use Rattle.lane_driver.specs.Reports.{AreReports}
 use Rattle.recovery.specs.declared.resumed.ResumedBatch.{ResumedBatch}
 use Rattle.recovery.specs.Open.{IsResumed, IsUnfinished, HasItsOutcomes, IsResumeStopped}
 use Rattle.run_laws.proofs.Seen.{seen_log}
 use Rattle.ledger_runs.specs.Turning.{phase_at, IsLaneOf, OfKept, StaysKept, StaysKeptBy, DidBatch, TookUp}
-use Rattle.turn_laws.proofs.OpenThere.{is_idle}
+use Rattle.run_laws.proofs.Rests.{checked_rest_law}
+use Rattle.run_laws.proofs.OpenLanes.{checked_resume_law}
+use Rattle.turn_laws.proofs.OpenThere.{is_idle, unfinished}
 use Rattle.turn_laws.specs.Nodes.{SameFlights}
+use Rattle.turn_laws.proofs.Checking.{IsCheckedTurn, batch_checked, stopped_checked, stopped_cause, taken_checked, left_checked, left_cause}
 use Rattle.turn_laws.proofs.Turned.{batch_keeps, batch_same, stopped_keeps, batch_does, resume_keeps, resume_same, left_keeps, resume_took}
-use Rattle.ledger_nodes.specs.Ledgers.{IsLedger, journals_of, AreQuiet}
+use Rattle.ledger_runs.specs.Faults.{IsLaneCause, HaveFailed, MayHold, Nothing, IsThese}
+use Rattle.ledger_nodes.specs.Ledgers.{IsLedger, journals_of, faults_of, opened_of, capacity_of, AreChecked, AreQuiet}
 use Rattle.ledger_nodes.specs.Steps.{IsStep}
-use Rattle.ledger_nodes.proofs.Steps.{home_inside, are_nodes, is_lane, log_is, same_flight}
+use Rattle.ledger_nodes.proofs.Steps.{home_inside, are_nodes, are_shards, is_lane, log_is, same_flight}
 
 -- what came is this
 pub on_ok : {A E : Type 0} (r : Result A E) (x : A) (P : Type 0) → r ≡ Ok x → P → OnOk r P
@@ -43,6 +47,12 @@ if_ok r x P e p = subst (λ q. IfOk q P) (sym e) p
 
 pub if_err : {A E : Type 0} (r : Result A E) (x : E) (P : A → Type 0) → r ≡ Err x → IfOk r P
 if_err r x P e = subst (λ q. IfOk q P) (sym e) tt
+
+pub ok_err : {A E : Type 0} (r : Result A E) (x : A) (P : E → Type 0) → r ≡ Ok x → IfErr r P
+ok_err r x P e = subst (λ q. IfErr q P) (sym e) tt
+
+pub err_by : {A E : Type 0} (r : Result A E) (x : E) (P : E → Type 0) → r ≡ Err x → P x → IfErr r P
+err_by r x P e p = subst (λ q. IfErr q P) (sym e) p
 
 -- the node that was read at a place is what is seen there
 read_at : {D : Type 0} (logs : List (LogOf D)) (n : ℕ) (x : LogOf D) → n < length logs → x ≡ get_or logs n x → sight_at sight logs n ≡ sight x
@@ -93,6 +103,15 @@ module _ {D : Type 0} (count limit : D → ℕ) (content : D → Option (List �
       (is_lane count limit h logs shards lane (home_of K lane) ledger lt refl)
       (subst (λ k. k.node < k.shape.coordinators) (sym (ledger.log_headers (home_of K lane) home)) home) told
 
+  -- what the driver wants of checked journals: the lane is settled where it is idle, and else each shard has come as far as its phase lets it
+  pub is_settled : phase_at K I lane ≡ Idle → AreChecked count limit K logs shards → (at : ℕ) → at ≡ home_of K lane → IsSettled K lane (sight_at sight logs at) S
+  is_settled idle c at e = subst (λ n. IsSettled K lane (sight_at sight logs n) S) (sym e)
+      ((slot (L (home_of K lane)).seen lane).number, checked_rest_law K c.0 lane L S some home shape c.1 (ap (λ J. (slot J lane).phase) (sym at_log) ∙ idle))
+
+  pub is_unfinished : (o : OpenLane) → open_lane (L (home_of K lane)).seen lane ≡ Some o → AreChecked count limit K logs shards → (at : ℕ) → at ≡ home_of K lane → IsUnfinished o.phase K o (sight_at sight logs at) S
+  is_unfinished o told c at e = subst (λ n. IsUnfinished o.phase K o (sight_at sight logs n) S) (sym e)
+      (unfinished K lane (L (home_of K lane)) S o told (checked_resume_law K c.0 lane L S some home shape c.1))
+
   -- a batch that was resumed is the one that is open there
   pub is_opened : (o : OpenLane) → open_lane (L (home_of K lane)).seen lane ≡ Some o → (r : ResumedBatch) → IsResumed o r → r.batch ≡ open_batch (I (home_of K lane)) lane
   is_opened o told r resumed = resumed.batch ∙ batch_of (L (home_of K lane)).seen lane (open_phase (slot (L (home_of K lane)).seen lane).phase) o told ∙ ap (λ J. open_batch J lane) (sym at_log)
@@ -125,6 +144,25 @@ module _ {D : Type 0} (count limit : D → ℕ) (content : D → Option (List �
       shards_are = λ s. sym (same_flight count limit shards' s) ∙ same.shards_same s ∙ same_flight count limit shards s ∙ was.shards_are s;
     }
 
+    -- what no turn changes of the nodes
+    pub opened_same : (n : ℕ) → opened_of count limit K logs' shards' n ≡ opened_of count limit K logs shards n
+    opened_same n = elim (nat_lt n K.coordinators) as (λ c. (if c then (L' n).opened else (S' (n - K.coordinators)).opened) ≡ (if c then (L n).opened else (S (n - K.coordinators)).opened)) [
+      | true ↦ (step.log_nodes n).opened
+      | false ↦ (step.shard_nodes (n - K.coordinators)).opened
+    ]
+
+    pub capacity_same : (n : ℕ) → capacity_of count limit K logs' shards' n ≡ capacity_of count limit K logs shards n
+    capacity_same n = elim (nat_lt n K.coordinators) as (λ c. (if c then (L' n).capacity else (S' (n - K.coordinators)).capacity) ≡ (if c then (L n).capacity else (S (n - K.coordinators)).capacity)) [
+      | true ↦ (step.log_nodes n).capacity
+      | false ↦ (step.shard_nodes (n - K.coordinators)).capacity
+    ]
+
+    shard_shapes : (s : ℕ) → s < K.shards → (S' s).header.shape ≡ K
+    shard_shapes s lt = (are_shards count limit h logs' shards' step.ledger s lt).0
+
+    abbrev Causes : (List Compact → Type 0) → LaneFault → Type 0
+    Causes next e = IsLaneCause K lane next I J (HaveFailed (opened_of count limit K logs' shards') (faults_of count limit K logs' shards')) (MayHold (capacity_of count limit K logs' shards')) e
+
     module _ (idle : phase_at K I lane ≡ Idle) (txs : List Compact) where
       idle_there : (slot (L (home_of K lane)).seen lane).phase ≡ Idle
       idle_there = ap (λ J. (slot J lane).phase) (sym at_log) ∙ idle
@@ -132,20 +170,32 @@ module _ {D : Type 0} (count limit : D → ℕ) (content : D → Option (List �
       pub came_keeps : (came : Result LaneReport LaneFault) → IfOk came (λ r. IsOneBatch K true lane txs (L (home_of K lane)) S (L' (home_of K lane)) S' r.batches)
           → IfErr came (IsBatchStopped K true lane txs (L (home_of K lane)) S (L' (home_of K lane)) S') → OfKept K I (StaysKeptBy K txs I J)
       came_keeps (Ok r) done stop =
-          batch_keeps K lane L S L' S' some home shape step.elsewhere (are_nodes count limit h logs shards ledger) (are_nodes count limit h logs' shards' step.ledger) step.log_headers step.shard_headers idle_there txs r.batches done
+          batch_keeps K lane L S L' S' some home shape step.elsewhere (are_nodes count limit h logs shards ledger) (are_nodes count limit h logs' shards' step.ledger) step.log_nodes step.shard_nodes idle_there txs r.batches done
       came_keeps (Err e) done stop =
-          stopped_keeps K lane L S L' S' some home shape step.elsewhere (are_nodes count limit h logs shards ledger) (are_nodes count limit h logs' shards' step.ledger) step.log_headers step.shard_headers idle_there txs e stop
+          stopped_keeps K lane L S L' S' some home shape step.elsewhere (are_nodes count limit h logs shards ledger) (are_nodes count limit h logs' shards' step.ledger) step.log_nodes step.shard_nodes idle_there txs e stop
+
+      -- checked journals stay checked, and a fault has its cause
+      pub came_checked : (came : Result LaneReport LaneFault) → IfOk came (λ r. IsOneBatch K true lane txs (L (home_of K lane)) S (L' (home_of K lane)) S' r.batches)
+          → IfErr came (IsBatchStopped K true lane txs (L (home_of K lane)) S (L' (home_of K lane)) S') → (c : AreChecked count limit K logs shards) → IsCheckedTurn K c.0 lane I J
+      came_checked (Ok r) done stop c =
+          batch_checked K lane L S L' S' ledger.limits home shape shard_shapes step.elsewhere (are_nodes count limit h logs shards ledger) (are_nodes count limit h logs' shards' step.ledger) step.log_nodes step.shard_nodes c.0 c.1 idle_there txs r.batches done
+      came_checked (Err e) done stop c =
+          stopped_checked K lane L S L' S' ledger.limits home shape shard_shapes step.elsewhere (are_nodes count limit h logs shards ledger) (are_nodes count limit h logs' shards' step.ledger) step.log_nodes step.shard_nodes c.0 c.1 idle_there txs e stop
+
+      pub came_cause : (e : LaneFault) → IsBatchStopped K true lane txs (L (home_of K lane)) S (L' (home_of K lane)) S' e → AreChecked count limit K logs shards → Causes (IsThese txs) e
+      came_cause e stop c =
+          stopped_cause K lane L S L' S' ledger.limits home shape shard_shapes step.elsewhere (are_nodes count limit h logs shards ledger) (are_nodes count limit h logs' shards' step.ledger) step.log_nodes step.shard_nodes c.0 c.1 idle_there txs e stop
 
       pub came_quiet : (reports : List BatchReport) → IsOneBatch K true lane txs (L (home_of K lane)) S (L' (home_of K lane)) S' reports → OfKept K I (λ _ _. AreQuiet logs shards → AreQuiet logs' shards')
       came_quiet reports done mint submissions kept =
-          quiet_on (batch_same K lane L S L' S' some home shape step.elsewhere (are_nodes count limit h logs shards ledger) (are_nodes count limit h logs' shards' step.ledger) step.log_headers step.shard_headers idle_there txs reports done
+          quiet_on (batch_same K lane L S L' S' some home shape step.elsewhere (are_nodes count limit h logs shards ledger) (are_nodes count limit h logs' shards' step.ledger) step.log_nodes step.shard_nodes idle_there txs reports done
           mint submissions kept)
 
       pub came_does : (reports : List BatchReport) (report : BatchReport) → reports ≡ report ∷ [] → IsOneBatch K true lane txs (L (home_of K lane)) S (L' (home_of K lane)) S' reports
           → AreReports lane reports (txs ∷ []) → OfKept K I (λ _ _. DidBatch K lane txs I J report)
       came_does reports report is (q, one, done) named =
           let same : q ≡ report = head_same q report (sym one ∙ is) in
-          batch_does K lane L S L' S' some home shape step.elsewhere (are_nodes count limit h logs shards ledger) (are_nodes count limit h logs' shards' step.ledger) step.log_headers step.shard_headers idle_there txs report
+          batch_does K lane L S L' S' some home shape step.elsewhere (are_nodes count limit h logs shards ledger) (are_nodes count limit h logs' shards' step.ledger) step.log_nodes step.shard_nodes idle_there txs report
           (named_one report (subst (λ xs. AreReports lane xs (txs ∷ [])) is named))
           (subst (λ r. (k : ℕ) → Settled K lane k (L (home_of K lane)) S → BatchDone K true lane k txs (L (home_of K lane)) S (L' (home_of K lane)) S' r.batch r.outcomes) same done)
         where
@@ -159,16 +209,27 @@ module _ {D : Type 0} (count limit : D → ℕ) (content : D → Option (List �
       pub resumed_keeps : (came : Result ResumedBatch LaneFault) → OnOk came (IsUnfinished o.phase K o (L (home_of K lane)) S → IsTakenUp K true o.batch (L (home_of K lane)) S (L' (home_of K lane)) S')
           → IfErr came (IsResumeStopped K true o (L (home_of K lane)) S (L' (home_of K lane)) S') → OfKept K I (StaysKept K I J)
       resumed_keeps (Ok r) taken stop =
-          resume_keeps K lane L S L' S' some home shape step.elsewhere (are_nodes count limit h logs shards ledger) (are_nodes count limit h logs' shards' step.ledger) step.log_headers step.shard_headers o told taken
+          resume_keeps K lane L S L' S' some home shape step.elsewhere (are_nodes count limit h logs shards ledger) (are_nodes count limit h logs' shards' step.ledger) step.log_nodes step.shard_nodes o told taken
       resumed_keeps (Err e) taken stop =
-          left_keeps K lane L S L' S' some home shape step.elsewhere (are_nodes count limit h logs shards ledger) (are_nodes count limit h logs' shards' step.ledger) step.log_headers step.shard_headers o told e stop
+          left_keeps K lane L S L' S' some home shape step.elsewhere (are_nodes count limit h logs shards ledger) (are_nodes count limit h logs' shards' step.ledger) step.log_nodes step.shard_nodes o told e stop
+
+      pub resumed_checked : (came : Result ResumedBatch LaneFault) → OnOk came (IsUnfinished o.phase K o (L (home_of K lane)) S → IsTakenUp K true o.batch (L (home_of K lane)) S (L' (home_of K lane)) S')
+          → IfErr came (IsResumeStopped K true o (L (home_of K lane)) S (L' (home_of K lane)) S') → (c : AreChecked count limit K logs shards) → IsCheckedTurn K c.0 lane I J
+      resumed_checked (Ok r) taken stop c =
+          taken_checked K lane L S L' S' ledger.limits home shape shard_shapes step.elsewhere (are_nodes count limit h logs shards ledger) (are_nodes count limit h logs' shards' step.ledger) step.log_nodes step.shard_nodes c.0 c.1 o told taken
+      resumed_checked (Err e) taken stop c =
+          left_checked K lane L S L' S' ledger.limits home shape shard_shapes step.elsewhere (are_nodes count limit h logs shards ledger) (are_nodes count limit h logs' shards' step.ledger) step.log_nodes step.shard_nodes c.0 c.1 o told e stop
+
+      pub resumed_cause : (e : LaneFault) → IsResumeStopped K true o (L (home_of K lane)) S (L' (home_of K lane)) S' e → AreChecked count limit K logs shards → Causes Nothing e
+      resumed_cause e stop c =
+          left_cause K lane L S L' S' ledger.limits home shape shard_shapes step.elsewhere (are_nodes count limit h logs shards ledger) (are_nodes count limit h logs' shards' step.ledger) step.log_nodes step.shard_nodes c.0 c.1 o told e stop
 
       pub resumed_quiet : (IsUnfinished o.phase K o (L (home_of K lane)) S → IsTakenUp K true o.batch (L (home_of K lane)) S (L' (home_of K lane)) S') → OfKept K I (λ _ _. AreQuiet logs shards → AreQuiet logs' shards')
       resumed_quiet taken mint submissions kept =
-          quiet_on (resume_same K lane L S L' S' some home shape step.elsewhere (are_nodes count limit h logs shards ledger) (are_nodes count limit h logs' shards' step.ledger) step.log_headers step.shard_headers o told taken
+          quiet_on (resume_same K lane L S L' S' some home shape step.elsewhere (are_nodes count limit h logs shards ledger) (are_nodes count limit h logs' shards' step.ledger) step.log_nodes step.shard_nodes o told taken
           mint submissions kept)
 
       pub resumed_took : (r : ResumedBatch) → IsResumed o r → (IsUnfinished o.phase K o (L (home_of K lane)) S → IsTakenUp K true o.batch (L (home_of K lane)) S (L' (home_of K lane)) S')
           → (IsUnfinished o.phase K o (L (home_of K lane)) S → HasItsOutcomes o.phase o (L' (home_of K lane)).seen r) → OfKept K I (λ _ _. TookUp K lane I J (Some r))
       resumed_took r resumed taken has =
-          resume_took K lane L S L' S' some home shape step.elsewhere (are_nodes count limit h logs shards ledger) (are_nodes count limit h logs' shards' step.ledger) step.log_headers step.shard_headers o told r resumed taken has
+          resume_took K lane L S L' S' some home shape step.elsewhere (are_nodes count limit h logs shards ledger) (are_nodes count limit h logs' shards' step.ledger) step.log_nodes step.shard_nodes o told r resumed taken has

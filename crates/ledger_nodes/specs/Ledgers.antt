@@ -4,11 +4,13 @@ use Rattle.cbdc_types.specs.Limits.{IsWithinLimits}
 use Rattle.cbdc_model.specs.Records.{Shape, Header, Record}
 use Rattle.cbdc_model.specs.Ranges.{shard_node}
 use Rattle.cbdc_model.specs.After.{IsJournal}
-use Rattle.cbdc_model.specs.History.{header_of}
+use Rattle.cbdc_model.specs.History.{Minted, header_of}
 use Rattle.coord_log.specs.Logs.{LogOf, sight, HoldsJournal as HoldsLog}
 use Rattle.shard_node.specs.Shards.{ShardOf, sight_of, HoldsJournal as HoldsShard}
 use Rattle.node_ports.specs.Nodes.{sight_at}
 use Rattle.run_laws.specs.Runs.{seen_by}
+use Rattle.run_laws.specs.Checked.{CheckedJournals}
+use Rattle.run_laws.specs.Faults.{opened_by, capacity_by}
 
 -- as many coordinators and shards as the ledger's shape has, each under its own header, with a journal of it
 pub record IsLedger {D : Type 0} (h : Header) (logs : List (LogOf D)) (shards : List (ShardOf D)) : Type 0 where
@@ -34,6 +36,17 @@ journals_of count limit K logs shards = seen_by K (sight_at sight logs) (sight_a
 abbrev pub faults_of : {D : Type 0} → (D → ℕ) → (D → ℕ) → Shape → List (LogOf D) → List (ShardOf D) → ℕ → ℕ
 faults_of count limit K logs shards n =
     if nat_lt n K.coordinators then (sight_at sight logs n).faults else (sight_at (sight_of count limit) shards (n - K.coordinators)).faults
+
+-- how often it had when the node was opened, and how many bytes it may hold
+abbrev pub opened_of : {D : Type 0} → (D → ℕ) → (D → ℕ) → Shape → List (LogOf D) → List (ShardOf D) → ℕ → ℕ
+opened_of count limit K logs shards = opened_by K (sight_at sight logs) (sight_at (sight_of count limit) shards)
+
+abbrev pub capacity_of : {D : Type 0} → (D → ℕ) → (D → ℕ) → Shape → List (LogOf D) → List (ShardOf D) → ℕ → ℕ
+capacity_of count limit K logs shards = capacity_by K (sight_at sight logs) (sight_at (sight_of count limit) shards)
+
+-- each record of the journals is after those before it, and caused
+abbrev pub AreChecked : {D : Type 0} → (D → ℕ) → (D → ℕ) → Shape → List (LogOf D) → List (ShardOf D) → Type 0
+AreChecked count limit K logs shards = (m : Minted) × CheckedJournals K m (journals_of count limit K logs shards)
 
 -- each node's disk holds its journal
 pub record AreStored {D : Type 0} (content : D → Option (List ℕ)) (images : D → List ℕ → Type 0) (logs : List (LogOf D)) (shards : List (ShardOf D)) : Type 0 where

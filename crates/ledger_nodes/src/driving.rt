@@ -13,7 +13,7 @@ ghost use Rattle.lane_driver.specs.Reports.{AreReports};
 ghost use Rattle.lane_laws.specs.Resuming.{IsTakenUp};
 ghost use Rattle.recovery.specs.Open.{IsResumed, IsUnfinished, HasItsOutcomes, IsResumeStopped};
 ghost use Rattle.ledger_runs.specs.Turning.{phase_at, IsLaneOf};
-ghost use Rattle.ledger_nodes.specs.Ledgers.{IsLedger, journals_of};
+ghost use Rattle.ledger_nodes.specs.Ledgers.{IsLedger, journals_of, AreChecked};
 ghost use Rattle.ledger_nodes.specs.Steps.{IsStep};
 
 use cbdc_types::{CompactTx, Header, LaneId, OpenLane, Shape};
@@ -68,6 +68,7 @@ pub(crate) fn drive_batch<W: Wait, D: Disk, G: Gate>(
     requires idle { phase_at header.now.shape (journals_of D.count D.limit header.now.shape ports.old.log.logs.items ports.old.shards.nodes.items) lane ≡ Idle }
     requires size { HasSize header.now.shape txs.now }
     requires limits { All IsCompact txs.now }
+    requires checked { AreChecked D.count D.limit header.now.shape ports.old.log.logs.items ports.old.shards.nodes.items }
     ensures step { IsStep D.count D.limit D.content D.images header.now lane ports.old.log.logs.items ports.old.shards.nodes.items ports.new.log.logs.items ports.new.shards.nodes.items }
     ensures done { IfOk result (λ r. IsOneBatch header.now.shape true lane txs.now
         (sight_at sight ports.old.log.logs.items (home_of header.now.shape lane)) (sight_at (sight_of D.count D.limit) ports.old.shards.nodes.items)
@@ -98,6 +99,7 @@ pub(crate) fn drive_resume<W: Wait, D: Disk, G: Gate>(
     requires ledger { IsLedger header.now ports.old.log.logs.items ports.old.shards.nodes.items }
     requires lane { IsLaneOf header.now.shape lane }
     requires told { open_lane (sight_at sight ports.old.log.logs.items (home_of header.now.shape lane)).seen lane ≡ Some unfinished.now }
+    requires checked { AreChecked D.count D.limit header.now.shape ports.old.log.logs.items ports.old.shards.nodes.items }
     ensures step { IsStep D.count D.limit D.content D.images header.now lane ports.old.log.logs.items ports.old.shards.nodes.items ports.new.log.logs.items ports.new.shards.nodes.items }
     ensures taken { OnOk result (IsUnfinished unfinished.now.phase header.now.shape unfinished.now
         (sight_at sight ports.old.log.logs.items (home_of header.now.shape lane)) (sight_at (sight_of D.count D.limit) ports.old.shards.nodes.items)

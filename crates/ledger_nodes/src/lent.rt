@@ -1,7 +1,7 @@
 // The nodes of a ledger, lent to the ports of its lanes.
 ghost use Rattle.std.specs.Prelude.{◌≡◌, ◌∷◌, []};
 ghost use Rattle.lane_driver.specs.declared.fault.BatchReport.{BatchReport as ReportOf};
-ghost use Rattle.ledger_nodes.specs.Ledgers.{journals_of, faults_of, AreStored, AreQuiet};
+ghost use Rattle.ledger_nodes.specs.Ledgers.{journals_of, faults_of, opened_of, capacity_of, AreChecked, AreStored, AreQuiet};
 
 use crate::driving::{drive_batch, drive_resume, home};
 use crate::ledger::Ledger;
@@ -90,6 +90,12 @@ impl<'r, W: Wait, D: Disk> Turns for LentLedger<'r, W, D> {
     ghost journals = { λ l. journals_of D.count D.limit l.header.shape l.logs l.shards };
 
     ghost faults = { λ l. faults_of D.count D.limit l.header.shape l.logs l.shards };
+
+    ghost opened = { λ l. opened_of D.count D.limit l.header.shape l.logs l.shards };
+
+    ghost capacity = { λ l. capacity_of D.count D.limit l.header.shape l.logs l.shards };
+
+    ghost checked = { λ l. AreChecked D.count D.limit l.header.shape l.logs l.shards };
 
     ghost quiet = { λ l. AreQuiet l.logs l.shards };
 

@@ -1,13 +1,10 @@
 -- Turn after turn: what stays kept, and which open batches are at their end.
-use Rattle.std.proofs.Common.{◌≡◌, ◌≢◌, ◌⊎◌, inl, inr, true, false, ◌==◌, ℕ, suc, ◌+◌, ◌*◌, ◌<◌, ◌≤◌, List, [], ◌∷◌, ◌++◌, refl, sym, ap, ◌∙◌, subst, add-one, arith, Option, Some, None}
+use Rattle.std.proofs.Common.{◌≡◌, ◌≢◌, ◌⊎◌, inl, inr, true, false, ◌==◌, ℕ, suc, ◌+◌, ◌*◌, ◌<◌, List, ◌++◌, sym, ◌∙◌, subst, add-one, arith, Option, Some, None}
 use Rattle.std.proofs.lemmas.Bool.{false≢true}
 use Rattle.std.proofs.lemmas.Bool.Decides.{eqb_tells}
 use Rattle.ledger_laws.proofs.Cuts.{end_self, end_trans}
-use Rattle.cbdc_model.specs.Records.{Shape, Compact, Record}
-use Rattle.cbdc_model.specs.Slots.{slot, Idle}
-use Rattle.cbdc_model.specs.Ranges.{home_of}
-use Rattle.cbdc_model.specs.Coins.{Output, FullTx}
-use Rattle.cbdc_model.specs.World.{KeptJournals}
+use Rattle.cbdc_model.specs.Records.{Shape, Record}
+use Rattle.cbdc_model.specs.Slots.{Idle}
 use Rattle.recovery.specs.declared.resumed.ResumedBatch.{ResumedBatch}
 use Rattle.run_laws.specs.WaveSteps.{ResumedSo, ResumingStepLaw, ResumingSkipLaw}
 use Rattle.ledger_runs.specs.Turning.{phase_at, OfKept, StaysKept, KeepsLanes, listed, TookUp, TookUpOne}

@@ -4,3 +4,4 @@ pub mod WaveKeeping
 pub mod Sizes
 pub mod Stays
 pub mod WaveTelling
+pub mod Faulting

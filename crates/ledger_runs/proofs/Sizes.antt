@@ -1,14 +1,11 @@
 -- Batches of a lane among new records: how many transactions they have, and that what was decided of older ones stays.
-use Rattle.std.proofs.Common.{◌≡◌, ◌⊎◌, inl, inr, ℕ, zero, suc, ◌+◌, ◌-◌, ◌<◌, ◌≤◌, Bool, true, false, ◌&&◌, ◌==◌, nat_lt, if◌then◌else◌, take, drop, length-take, length-drop, List, [], ◌∷◌, ◌++◌, map, reverse, length, sum_by, Option, Some, None, refl, sym, ap, ◌∙◌, subst, arith, append_assoc, append-nil}
-use Rattle.std.specs.Prelude.{slice_get, is_some, option_map}
-use Rattle.std.proofs.lemmas.List.{reverse-append, length-append, length-map}
-use Rattle.std.proofs.lemmas.Bool.{lt-ltb, le-ltb, ltb-true, ltb-false}
-use Rattle.cbdc_model.specs.Records.{Shape, Batch, same_batch, Compact, Outcome, Record, record_of, kind_of, is_of, outcomes_of, outcomes_in, Genesis, Lock, Finish, Forget, Start, Prepare, Commit, Discard, Done}
-use Rattle.cbdc_model.specs.Lanes.{IsEnd}
-use Rattle.cbdc_model.specs.Waves.{Adds, prepared, prepared_before, IsCut}
+use Rattle.std.proofs.Common.{◌≡◌, ℕ, zero, suc, ◌+◌, ◌-◌, ◌<◌, ◌≤◌, Bool, true, false, ◌==◌, nat_lt, if◌then◌else◌, drop, length-take, length-drop, List, [], ◌∷◌, ◌++◌, map, reverse, length, Option, Some, None, refl, sym, ap, ◌∙◌, arith, append_assoc}
+use Rattle.std.specs.Prelude.{slice_get, option_map}
+use Rattle.std.proofs.lemmas.List.{reverse-append, length-append}
+use Rattle.std.proofs.lemmas.Bool.{le-ltb, ltb-true, ltb-false}
+use Rattle.cbdc_model.specs.Records.{Batch, Compact, Outcome, Record, is_of, outcomes_of, Genesis, Lock, Finish, Forget, Start, Prepare, Commit, Discard, Done}
+use Rattle.cbdc_model.specs.Waves.{prepared, IsCut}
 use Rattle.cbdc_model.specs.Places.{PlaceIn, Sized, sized_before, sized_onto, place_of, outcome_at, outcome_in}
-use Rattle.ledger_laws.proofs.Lookups.{true_false, not_true}
-use Rattle.ledger_laws.proofs.Moves.{test_step}
 use Rattle.ledger_laws.proofs.Slots.{same_batch_is}
 use Rattle.ledger_runs.specs.Telling.{decided_in, decided_of, AreDecided}
 

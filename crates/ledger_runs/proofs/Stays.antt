@@ -1,17 +1,16 @@
 -- What lanes keep of their batches stays behind turns that did another batch.
-use Rattle.std.proofs.Common.{◌≡◌, ℕ, zero, suc, ◌+◌, ◌<◌, Bool, true, false, ◌&&◌, ◌==◌, if◌then◌else◌, List, [], ◌∷◌, ◌++◌, map, reverse, length, min, refl, sym, ap, ◌∙◌, subst, arith, append_assoc, append-nil}
+use Rattle.std.proofs.Common.{◌≡◌, ℕ, ◌+◌, ◌<◌, Bool, true, false, ◌&&◌, ◌==◌, if◌then◌else◌, List, [], ◌∷◌, ◌++◌, map, reverse, length, min, refl, sym, ap, ◌∙◌, subst, arith, append_assoc, append-nil}
 use Rattle.std.specs.Prelude.{is_some}
 use Rattle.std.proofs.lemmas.List.{append_cancel_right, length-append}
 use Rattle.cbdc_model.specs.Records.{Shape, Batch, same_batch, Compact, Outcome, Record, record_of, kind_of, is_of, outcomes_of, outcomes_in, Genesis, Lock, Finish, Forget, Start, Prepare, Commit, Discard, Done}
 use Rattle.cbdc_model.specs.Ranges.{home_of}
-use Rattle.cbdc_model.specs.Lanes.{IsEnd}
 use Rattle.cbdc_model.specs.Waves.{Adds, prepared, has_prepare}
 use Rattle.cbdc_model.specs.Places.{Sized, sized_before, sized_onto}
 use Rattle.ledger_laws.proofs.Lookups.{true_false, not_true}
 use Rattle.ledger_laws.proofs.Moves.{test_step}
 use Rattle.run_laws.proofs.NewRecords.{in_journal}
 use Rattle.run_laws.proofs.WaveTurns.{one_batch}
-use Rattle.ledger_runs.specs.Telling.{decided_in, decided_of, AreDecided, KeepsDecided}
+use Rattle.ledger_runs.specs.Telling.{decided_in, decided_of, KeepsDecided}
 use Rattle.ledger_runs.proofs.Sizes.{AllOf, EachSized, sized_more, sized_of, prepared_more, decided_as, are_decided_as, are_decided_both, decided_both}
 
 second : (a c : Bool) → (a && c) ≡ true → c ≡ true

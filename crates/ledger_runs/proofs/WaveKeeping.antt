@@ -1,5 +1,5 @@
 -- A wave's turns, one after another.
-use Rattle.std.proofs.Common.{◌≡◌, ◌≢◌, ◌⊎◌, inl, inr, true, false, ◌==◌, ℕ, suc, ◌+◌, ◌*◌, ◌<◌, ◌≤◌, nat_lt, if◌then◌else◌, Bool, List, [], ◌∷◌, length, take, drop, get_or, refl, sym, ap, ◌∙◌, subst, arith, le_trans, length-take, length-drop, min, Some, None, Option}
+use Rattle.std.proofs.Common.{◌≡◌, ◌≢◌, ◌⊎◌, inl, inr, true, false, ◌==◌, ℕ, ◌+◌, ◌*◌, ◌<◌, ◌≤◌, nat_lt, if◌then◌else◌, Bool, List, [], length, take, drop, get_or, refl, sym, ap, ◌∙◌, subst, arith, le_trans, length-take, length-drop, min, Some, None}
 use Rattle.std.specs.Prelude.{slice_get, All, Result, Ok, Err, IfOk, IsOk}
 use Rattle.std.proofs.lemmas.List.Elements.{All-take, All-drop}
 use Rattle.std.proofs.lemmas.Bool.Decides.{eqb_tells}
@@ -8,18 +8,17 @@ use Rattle.std.proofs.lemmas.Option.{slice_get_cases, slice_get_within}
 use Rattle.cbdc_model.specs.Records.{Shape, Compact, Record}
 use Rattle.cbdc_model.specs.Slots.{Idle}
 use Rattle.cbdc_model.specs.Grammar.{IsCompact}
-use Rattle.cbdc_model.specs.Coins.{Output, FullTx}
 use Rattle.cbdc_model.specs.Clean.{IsProperCompact}
-use Rattle.cbdc_model.specs.World.{KeptJournals, AreIdle}
+use Rattle.cbdc_model.specs.World.{AreIdle}
 use Rattle.cbdc_model.specs.Waves.{IsFileRun}
 use Rattle.lane_driver.specs.declared.fault.BatchReport.{BatchReport}
 use Rattle.lane_driver.specs.declared.fault.LaneFault.{LaneFault}
-use Rattle.run_laws.specs.WaveSteps.{WaveSo, CutsOff, LaneTook}
+use Rattle.run_laws.specs.WaveSteps.{WaveSo, CutsOff}
 use Rattle.run_laws.specs.Turns.{DoesBatch}
 use Rattle.run_laws.proofs.WaveTurns.{takes_law, wave_step_law, wave_ends_law, wave_begins_law}
 use Rattle.ledger_laws.proofs.Cuts.{end_self, end_trans}
 use Rattle.std.proofs.Math.ListN.{drop_of_length-le}
-use Rattle.ledger_runs.specs.Turning.{phase_at, IsLaneOf, KeepsLanes, OfKept, StaysKept, StaysKeptBy, DidBatch}
+use Rattle.ledger_runs.specs.Turning.{phase_at, IsLaneOf, KeepsLanes, OfKept, StaysKeptBy, DidBatch}
 use Rattle.ledger_runs.specs.Waving.{EachLane, HaveSent, AreWithin, NoFault, AreReady, AllProper, TookTurn, taken_by, KeepsSent, OfSent, GoesOn, TurnsAt, AreShorter}
 use Rattle.ledger_runs.specs.declared.lanes.Lane.{Lane}
 

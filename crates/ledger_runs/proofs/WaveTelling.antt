@@ -1,24 +1,22 @@
 -- What lanes tell, turn after turn.
-use Rattle.std.proofs.Common.{◌≡◌, ◌≢◌, ◌⊎◌, inl, inr, true, false, ◌==◌, ℕ, zero, suc, ◌+◌, ◌<◌, ◌≤◌, List, [], ◌∷◌, ◌++◌, length, take, map, min, refl, sym, ap, ◌∙◌, subst, add-one, arith, Some, None, Option}
+use Rattle.std.proofs.Common.{◌≡◌, ◌≢◌, ◌⊎◌, inl, inr, true, false, ◌==◌, ℕ, zero, suc, ◌+◌, ◌<◌, ◌≤◌, List, [], ◌++◌, length, refl, sym, ap, ◌∙◌, subst, add-one, arith, Some, None, Option}
 use Rattle.std.specs.Prelude.{slice_get, Result, Ok, Err, IfOk, OnOk, IsOk}
 use Rattle.std.proofs.lemmas.List.{append_cancel_right}
 use Rattle.std.proofs.lemmas.Bool.{false≢true}
 use Rattle.std.proofs.lemmas.Bool.Decides.{eqb_tells}
-use Rattle.cbdc_model.specs.Records.{Shape, Batch, Compact, Record, outcomes_of}
-use Rattle.cbdc_model.specs.Slots.{slot, Idle}
+use Rattle.cbdc_model.specs.Records.{Shape, Batch, Compact, Record}
+use Rattle.cbdc_model.specs.Slots.{slot}
 use Rattle.cbdc_model.specs.Ranges.{home_of}
-use Rattle.cbdc_model.specs.Due.{open_batch}
 use Rattle.cbdc_model.specs.Waves.{prepared}
 use Rattle.cbdc_model.specs.Places.{sized_onto}
 use Rattle.lane_driver.specs.declared.fault.BatchReport.{BatchReport}
 use Rattle.lane_driver.specs.declared.fault.LaneFault.{LaneFault}
 use Rattle.recovery.specs.declared.resumed.ResumedBatch.{ResumedBatch}
-use Rattle.recovery.specs.Open.{phase_of}
-use Rattle.run_laws.specs.Turns.{DoesBatch, ResumesBatch}
+use Rattle.run_laws.specs.Turns.{ResumesBatch}
 use Rattle.run_laws.specs.WaveSteps.{ResumedSo}
-use Rattle.ledger_runs.specs.Turning.{phase_at, OfKept, StaysKept, DidBatch, TookUp, listed}
-use Rattle.ledger_runs.specs.Waving.{EachLane, TurnsAt}
-use Rattle.ledger_runs.specs.Telling.{IsOpened, TellsResumed, IsResumedAt, TellResumed, TakesUp, SamePrepared, KeepsDecided, kept_by, decided_in, TakesIn, TellsTurn, TellsSince, TellSince, TellsNew, AllTell, AreFresh}
+use Rattle.ledger_runs.specs.Turning.{OfKept, StaysKept, DidBatch, TookUp, listed}
+use Rattle.ledger_runs.specs.Waving.{TurnsAt}
+use Rattle.ledger_runs.specs.Telling.{IsOpened, IsResumedAt, TellResumed, TakesUp, SamePrepared, KeepsDecided, kept_by, TakesIn, TellsTurn, TellsSince, TellSince, AllTell, AreFresh}
 use Rattle.ledger_runs.specs.declared.lanes.Lane.{Lane}
 use Rattle.ledger_runs.proofs.Stays.{same_outcomes, keeps_as_before, keeps_more}
 use Rattle.ledger_runs.proofs.WaveKeeping.{each_by, at_place}

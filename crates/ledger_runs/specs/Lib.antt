@@ -1,3 +1,4 @@
 pub mod Turning
 pub mod Waving
 pub mod Telling
+pub mod Faults

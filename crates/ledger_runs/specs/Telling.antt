@@ -1,5 +1,5 @@
 -- What lanes tell of their batches: what was decided of each transaction, by what their coordinators wrote down.
-use Rattle.std.specs.Prelude.{◌≡◌, ◌⊎◌, ℕ, zero, suc, ◌+◌, ◌*◌, ◌<◌, List, [], ◌∷◌, ◌++◌, map, min, length, Option, Some, None}
+use Rattle.std.specs.Prelude.{◌≡◌, ◌⊎◌, ℕ, zero, suc, ◌+◌, ◌<◌, List, [], ◌∷◌, ◌++◌, map, min, length, Option, Some, None}
 use Rattle.cbdc_model.specs.Records.{Shape, Batch, Compact, Outcome, Record, outcomes_of}
 use Rattle.cbdc_model.specs.Slots.{Idle}
 use Rattle.cbdc_model.specs.Ranges.{home_of}

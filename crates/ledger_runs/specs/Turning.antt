@@ -1,7 +1,6 @@
 -- Lanes that take turns at the nodes of a ledger, by the journals of all nodes.
-use Rattle.std.specs.Prelude.{◌≡◌, ◌≢◌, ◌⊎◌, ℕ, suc, ◌+◌, ◌*◌, ◌<◌, ◌≤◌, List, [], ◌∷◌, ◌++◌, All, Option, Some, None}
-use Rattle.cbdc_types.specs.declared.answer.Answer.{Answer}
-use Rattle.cbdc_model.specs.Records.{Shape, Batch, Compact, Outcome, Record, outcomes_of}
+use Rattle.std.specs.Prelude.{◌≡◌, ◌≢◌, ℕ, ◌*◌, ◌<◌, List, [], ◌∷◌, ◌++◌, All, Option, Some, None}
+use Rattle.cbdc_model.specs.Records.{Shape, Compact, Record, outcomes_of}
 use Rattle.cbdc_model.specs.Slots.{Phase, slot, Idle}
 use Rattle.cbdc_model.specs.Ranges.{home_of}
 use Rattle.cbdc_model.specs.Coins.{Output, FullTx}

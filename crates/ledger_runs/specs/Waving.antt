@@ -1,11 +1,10 @@
 -- The lanes of a wave, and how their turns go on.
-use Rattle.std.specs.Prelude.{◌≡◌, ◌≢◌, ◌⊎◌, ℕ, ◌+◌, ◌*◌, ◌<◌, ◌≤◌, nat_lt, if◌then◌else◌, List, [], ◌∷◌, length, take, drop, All, Option, Some, None, slice_get}
+use Rattle.std.specs.Prelude.{◌≡◌, ◌≢◌, ◌⊎◌, ℕ, ◌+◌, ◌<◌, ◌≤◌, nat_lt, if◌then◌else◌, List, length, take, drop, All, Option, Some, None, slice_get}
 use Rattle.cbdc_model.specs.Records.{Shape, Batch, Compact, Record}
 use Rattle.cbdc_model.specs.Slots.{Idle}
 use Rattle.cbdc_model.specs.Grammar.{IsCompact}
 use Rattle.cbdc_model.specs.Coins.{Output, FullTx}
 use Rattle.cbdc_model.specs.Clean.{IsProperCompact}
-use Rattle.cbdc_model.specs.Waves.{IsFileRun}
 use Rattle.lane_driver.specs.declared.fault.LaneFault.{LaneFault}
 use Rattle.run_laws.specs.Turns.{DoesBatch}
 use Rattle.run_laws.specs.WaveSteps.{WaveSo}

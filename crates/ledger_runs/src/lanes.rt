@@ -1,5 +1,7 @@
 // The lanes of a wave.
-ghost use Rattle.std.specs.Prelude.{◌≡◌, ◌++◌, [], None, IfOk, IsOk, OnOk};
+ghost use Rattle.std.specs.Prelude.{◌≡◌, ◌⊎◌, ◌++◌, [], None, Some, Err, IfOk, IsOk, OnOk};
+ghost use Rattle.lane_driver.specs.declared.fault.LaneFault.{LaneFault as FaultOf};
+ghost use Rattle.lane_driver.specs.declared.fault.LaneFaultKind.TheVariants.{Memory};
 ghost use Rattle.ledger_runs.specs.Telling.{decided_in, kept_by, TakesIn};
 ghost use Rattle.ledger_runs.specs.Waving.{FirstFaultIs};
 
@@ -45,6 +47,7 @@ impl Lane {
         ensures txs { self.new.txs ≡ self.old.txs }
         ensures fault { self.new.fault ≡ None → (self.old.fault ≡ None) × IsOk came }
         ensures told { self.new.fault ≡ None → IfOk came (TakesIn self.old self.new) }
+        ensures cause { (e : FaultOf) → self.new.fault ≡ Some e → (self.old.fault ≡ Some e) ⊎ ((e.fault ≡ Memory) ⊎ (came ≡ Err e)) }
     {
         match came {
             Ok(report) => {

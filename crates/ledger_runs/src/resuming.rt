@@ -1,10 +1,13 @@
 // Batches that an earlier run left open.
-ghost use Rattle.std.specs.Prelude.{◌≡◌, ◌≤◌, ◌*◌, ℕ, ◌++◌, IfOk, OnOk};
+ghost use Rattle.std.specs.Prelude.{◌≡◌, ◌≤◌, ◌*◌, ℕ, ◌++◌, IfOk, IfErr, OnOk};
+ghost use Rattle.cbdc_model.specs.Lanes.{IsEnd};
+ghost use Rattle.lane_driver.specs.declared.fault.LaneFaultKind.TheVariants.{Memory};
 ghost use Rattle.cbdc_model.specs.World.{AreIdle};
 ghost use Rattle.cbdc_model.specs.Waves.{IsResumed};
 ghost use Rattle.cbdc_model.specs.Slots.{Idle};
 ghost use Rattle.ledger_runs.specs.Turning.{phase_at, IsLaneOf, KeepsLanes, OfKept, StaysKept, listed, TookUpOne};
 ghost use Rattle.ledger_runs.specs.Telling.{TakesUp, TellResumed, SamePrepared};
+ghost use Rattle.ledger_runs.specs.Faults.{GrowBy, IsLaneCause, IsRunCause, HaveFailed, MayHold, Nothing};
 
 use crate::Turns;
 use cbdc_types::LaneId;
@@ -15,7 +18,8 @@ use std::alloc::Global;
 
 // Keeps what came of a lane behind what came of others.
 fn keep(batches: &mut Vec<ResumedBatch>, found: Option<ResumedBatch>) -> Result<(), LaneFault>
-    ensures { OnOk result (batches.new.items ≡ batches.old.items ++ listed found) }
+    ensures kept { OnOk result (batches.new.items ≡ batches.old.items ++ listed found) }
+    ensures memory { IfErr result (λ e. e.fault ≡ Memory) }
 {
     let Some(batch) = found else {
         return Ok(());
@@ -34,7 +38,8 @@ fn resume_next<L: Turns, G: Gate>(
     batches: &mut Vec<ResumedBatch>,
     gate: &G,
 ) -> Result<(), LaneFault>
-    requires { IsLaneOf (L.shape ledger.old) lane }
+    requires lane { IsLaneOf (L.shape ledger.old) lane }
+    requires checked { L.checked ledger.old }
     ensures shape { L.shape ledger.new ≡ L.shape ledger.old }
     ensures idle { OnOk result (phase_at (L.shape ledger.old) (L.journals ledger.new) lane ≡ Idle) }
     ensures others { KeepsLanes (L.shape ledger.old) lane (L.journals ledger.old) (L.journals ledger.new) }
@@ -46,6 +51,12 @@ fn resume_next<L: Turns, G: Gate>(
     ensures quiet { OnOk result (OfKept (L.shape ledger.old) (L.journals ledger.old) (λ _ _. L.quiet ledger.old → L.quiet ledger.new)) }
     ensures holds { L.holds ledger.old → L.holds ledger.new }
     ensures later { (n : ℕ) → L.faults ledger.old n ≤ L.faults ledger.new n }
+    ensures opened_same { (n : ℕ) → L.opened ledger.new n ≡ L.opened ledger.old n }
+    ensures capacity_same { (n : ℕ) → L.capacity ledger.new n ≡ L.capacity ledger.old n }
+    ensures checked { L.checked ledger.new }
+    ensures grows { GrowBy lane (L.journals ledger.old) (L.journals ledger.new) }
+    ensures fault { IfErr result (IsLaneCause (L.shape ledger.old) lane Nothing (L.journals ledger.old) (L.journals ledger.new)
+        (HaveFailed (L.opened ledger.new) (L.faults ledger.new)) (MayHold (L.capacity ledger.new))) }
 {
     match ledger.take_up(alloc, lane, gate) {
         Ok(found) => keep(batches, found),
@@ -59,6 +70,7 @@ pub fn resume_all<L: Turns, G: Gate>(
     ledger: &mut L,
     gate: &G,
 ) -> Result<Vec<ResumedBatch>, LaneFault>
+    requires { L.checked ledger.old }
     ensures shape { L.shape ledger.new ≡ L.shape ledger.old }
     ensures idle { OnOk result (AreIdle (L.shape ledger.old) (L.journals ledger.new)) }
     ensures keeps { OfKept (L.shape ledger.old) (L.journals ledger.old) (StaysKept (L.shape ledger.old) (L.journals ledger.old) (L.journals ledger.new)) }
@@ -71,6 +83,14 @@ pub fn resume_all<L: Turns, G: Gate>(
     ensures quiet { OnOk result (OfKept (L.shape ledger.old) (L.journals ledger.old) (λ _ _. L.quiet ledger.old → L.quiet ledger.new)) }
     ensures holds { L.holds ledger.old → L.holds ledger.new }
     ensures later { (n : ℕ) → L.faults ledger.old n ≤ L.faults ledger.new n }
+    ensures opened_same { (n : ℕ) → L.opened ledger.new n ≡ L.opened ledger.old n }
+    ensures capacity_same { (n : ℕ) → L.capacity ledger.new n ≡ L.capacity ledger.old n }
+    ensures checked { L.checked ledger.new }
+    ensures grows { (n : ℕ) → IsEnd (L.journals ledger.old n) (L.journals ledger.new n) }
+
+    // Its fault has its cause.
+    ensures fault { IfErr result (IsRunCause (L.shape ledger.old) (λ _. Nothing) (L.journals ledger.old) (L.journals ledger.new)
+        (HaveFailed (L.opened ledger.new) (L.faults ledger.new)) (MayHold (L.capacity ledger.new))) }
 {
     let count = ledger.shape().lane_count();
     let Ok(mut batches) = Vec::with_capacity(alloc, count as usize) else {

@@ -1,10 +1,11 @@
 // What a run asks of the nodes of a ledger.
-ghost use Rattle.std.specs.Prelude.{◌≡◌, ◌≤◌, ℕ, List, length, All, IfOk, OnOk};
+ghost use Rattle.std.specs.Prelude.{◌≡◌, ◌≤◌, ℕ, List, length, All, IfOk, IfErr, OnOk};
 ghost use Rattle.cbdc_model.specs.Records.{Shape as ShapeOf, Record};
 ghost use Rattle.cbdc_model.specs.Slots.{Idle};
 ghost use Rattle.cbdc_model.specs.Grammar.{HasSize, IsCompact};
 ghost use Rattle.ledger_runs.specs.Turning.{phase_at, IsLaneOf, KeepsLanes, OfKept, StaysKept, StaysKeptBy, DidBatch, TookUp};
 ghost use Rattle.ledger_runs.specs.Telling.{IsOpened};
+ghost use Rattle.ledger_runs.specs.Faults.{GrowBy, IsLaneCause, HaveFailed, MayHold, Nothing, IsThese};
 
 use cbdc_types::{CompactTx, LaneId, Shape};
 use lane_driver::{BatchReport, LaneFault};
@@ -22,6 +23,15 @@ pub trait Turns {
 
     /// How often the disk of each node has failed.
     ghost faults: { Self → ℕ → ℕ };
+
+    /// How often it had when the node was opened.
+    ghost opened: { Self → ℕ → ℕ };
+
+    /// How many bytes the disk of each node may hold.
+    ghost capacity: { Self → ℕ → ℕ };
+
+    /// Each record of the nodes' journals follows those before it, and is caused.
+    ghost checked: { Self → Type 0 };
 
     /// No node has a record in flight: one that a failed call may have left on its disk or not.
     ghost quiet: { Self → Type 0 };
@@ -45,6 +55,7 @@ pub trait Turns {
         requires idle { phase_at (shape self.old) (journals self.old) lane ≡ Idle }
         requires size { HasSize (shape self.old) txs.now }
         requires limits { All IsCompact txs.now }
+        requires checked { checked self.old }
         ensures shape { shape self.new ≡ shape self.old }
         ensures idle { OnOk result (phase_at (shape self.old) (journals self.new) lane ≡ Idle) }
         ensures others { KeepsLanes (shape self.old) lane (journals self.old) (journals self.new) }
@@ -53,7 +64,15 @@ pub trait Turns {
         ensures full { IfOk result (λ r. length r.outcomes ≡ length txs.now) }
         ensures quiet { OnOk result (OfKept (shape self.old) (journals self.old) (λ _ _. quiet self.old → quiet self.new)) }
         ensures holds { holds self.old → holds self.new }
-        ensures later { (n : ℕ) → faults self.old n ≤ faults self.new n };
+        ensures later { (n : ℕ) → faults self.old n ≤ faults self.new n }
+        ensures opened_same { (n : ℕ) → opened self.new n ≡ opened self.old n }
+        ensures capacity_same { (n : ℕ) → capacity self.new n ≡ capacity self.old n }
+        ensures checked { checked self.new }
+        ensures grows { GrowBy lane (journals self.old) (journals self.new) }
+
+        // Its fault has its cause.
+        ensures fault { IfErr result (IsLaneCause (shape self.old) lane (IsThese txs.now) (journals self.old) (journals self.new)
+            (HaveFailed (opened self.new) (faults self.new)) (MayHold (capacity self.new))) };
 
     /// Brings the open batch of a lane to its end, if it has one.
     fn take_up<G: Gate>(
@@ -63,6 +82,7 @@ pub trait Turns {
         gate: &G,
     ) -> Result<Option<ResumedBatch>, LaneFault>
         requires lane { IsLaneOf (shape self.old) lane }
+        requires checked { checked self.old }
         ensures shape { shape self.new ≡ shape self.old }
         ensures idle { OnOk result (phase_at (shape self.old) (journals self.new) lane ≡ Idle) }
         ensures others { KeepsLanes (shape self.old) lane (journals self.old) (journals self.new) }
@@ -71,5 +91,13 @@ pub trait Turns {
         ensures opened { IfOk result (IsOpened (shape self.old) lane (journals self.old)) }
         ensures quiet { OnOk result (OfKept (shape self.old) (journals self.old) (λ _ _. quiet self.old → quiet self.new)) }
         ensures holds { holds self.old → holds self.new }
-        ensures later { (n : ℕ) → faults self.old n ≤ faults self.new n };
+        ensures later { (n : ℕ) → faults self.old n ≤ faults self.new n }
+        ensures opened_same { (n : ℕ) → opened self.new n ≡ opened self.old n }
+        ensures capacity_same { (n : ℕ) → capacity self.new n ≡ capacity self.old n }
+        ensures checked { checked self.new }
+        ensures grows { GrowBy lane (journals self.old) (journals self.new) }
+
+        // Its fault has its cause.
+        ensures fault { IfErr result (IsLaneCause (shape self.old) lane Nothing (journals self.old) (journals self.new)
+            (HaveFailed (opened self.new) (faults self.new)) (MayHold (capacity self.new))) };
 }

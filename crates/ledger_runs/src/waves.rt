@@ -3,10 +3,12 @@ ghost use Rattle.std.specs.Prelude.{◌≡◌, ◌≤◌, ◌<◌, ◌+◌, ◌*
 ghost use Rattle.cbdc_model.specs.Records.{Compact, Record};
 ghost use Rattle.cbdc_model.specs.Slots.{Idle};
 ghost use Rattle.cbdc_model.specs.Grammar.{IsCompact};
+ghost use Rattle.cbdc_model.specs.Lanes.{IsEnd};
 ghost use Rattle.cbdc_model.specs.World.{AreIdle};
 ghost use Rattle.cbdc_model.specs.Waves.{IsFileRun};
 ghost use Rattle.ledger_runs.specs.Turning.{phase_at, IsLaneOf, KeepsLanes, OfKept, StaysKeptBy};
 ghost use Rattle.ledger_runs.specs.Waving.{HaveSent, AreWithin, NoFault, AreReady, AllProper, TookTurn, KeepsSent, OfSent, GoesOn, AreShorter, TurnsAt};
+ghost use Rattle.ledger_runs.specs.Faults.{GrowBy, HaveFailed, MayHold, HaveCauses, IsTurnCause};
 ghost use Rattle.ledger_runs.specs.Telling.{TellsTurn, TellSince, AllTell, AreFresh};
 ghost use Rattle.ledger_runs.specs.declared.lanes.Lane.{Lane as LaneOf};
 
@@ -36,6 +38,7 @@ fn turn<L: Turns, G: Gate>(
     requires lane { IsLaneOf (L.shape ledger.old) number }
     requires idle { lane.old.fault ≡ None → phase_at (L.shape ledger.old) (L.journals ledger.old) number ≡ Idle }
     requires limits { All IsCompact lane.old.txs.items }
+    requires checked { L.checked ledger.old }
     ensures shape { L.shape ledger.new ≡ L.shape ledger.old }
     ensures txs { lane.new.txs ≡ lane.old.txs }
     ensures stopped { lane.new.fault ≡ None → lane.old.fault ≡ None }
@@ -49,6 +52,11 @@ fn turn<L: Turns, G: Gate>(
     ensures quiet { lane.new.fault ≡ None → OfKept (L.shape ledger.old) (L.journals ledger.old) (λ _ _. L.quiet ledger.old → L.quiet ledger.new) }
     ensures holds { L.holds ledger.old → L.holds ledger.new }
     ensures later { (n : ℕ) → L.faults ledger.old n ≤ L.faults ledger.new n }
+    ensures opened_same { (n : ℕ) → L.opened ledger.new n ≡ L.opened ledger.old n }
+    ensures capacity_same { (n : ℕ) → L.capacity ledger.new n ≡ L.capacity ledger.old n }
+    ensures checked { L.checked ledger.new }
+    ensures grows { GrowBy number (L.journals ledger.old) (L.journals ledger.new) }
+    ensures cause { IsTurnCause (L.shape ledger.old) number lane.old lane.new (L.journals ledger.old) (L.journals ledger.new) (HaveFailed (L.opened ledger.new) (L.faults ledger.new)) (MayHold (L.capacity ledger.new)) }
 {
     if lane.fault.is_some() || start >= lane.txs.len() {
         return;
@@ -71,6 +79,7 @@ fn turn_at<L: Turns, G: Gate>(
     requires lane { IsLaneOf (L.shape ledger.old) number }
     requires idle { (x : LaneOf) → slice_get lanes.old.items number ≡ Some x → x.fault ≡ None → phase_at (L.shape ledger.old) (L.journals ledger.old) number ≡ Idle }
     requires limits { (x : LaneOf) → slice_get lanes.old.items number ≡ Some x → All IsCompact x.txs.items }
+    requires checked { L.checked ledger.old }
     ensures shape { L.shape ledger.new ≡ L.shape ledger.old }
     ensures turned { TurnsAt number lanes.old.items lanes.new.items }
     ensures idle { (x : LaneOf) → slice_get lanes.new.items number ≡ Some x → x.fault ≡ None → phase_at (L.shape ledger.old) (L.journals ledger.new) number ≡ Idle }
@@ -85,6 +94,12 @@ fn turn_at<L: Turns, G: Gate>(
         → OfKept (L.shape ledger.old) (L.journals ledger.old) (λ _ _. L.quiet ledger.old → L.quiet ledger.new) }
     ensures holds { L.holds ledger.old → L.holds ledger.new }
     ensures later { (n : ℕ) → L.faults ledger.old n ≤ L.faults ledger.new n }
+    ensures opened_same { (n : ℕ) → L.opened ledger.new n ≡ L.opened ledger.old n }
+    ensures capacity_same { (n : ℕ) → L.capacity ledger.new n ≡ L.capacity ledger.old n }
+    ensures checked { L.checked ledger.new }
+    ensures grows { GrowBy number (L.journals ledger.old) (L.journals ledger.new) }
+    ensures cause { (x y : LaneOf) → slice_get lanes.old.items number ≡ Some x → slice_get lanes.new.items number ≡ Some y
+        → IsTurnCause (L.shape ledger.old) number x y (L.journals ledger.old) (L.journals ledger.new) (HaveFailed (L.opened ledger.new) (L.faults ledger.new)) (MayHold (L.capacity ledger.new)) }
 {
     turn(
         alloc,
@@ -107,6 +122,7 @@ fn turns<L: Turns, G: Gate>(
     requires count { length lanes.old.items ≡ (L.shape ledger.old).coordinators * (L.shape ledger.old).lanes }
     requires ready { AreReady (L.shape ledger.old) (L.journals ledger.old) lanes.old.items }
     requires limits { AreWithin lanes.old.items }
+    requires checked { L.checked ledger.old }
     ensures shape { L.shape ledger.new ≡ L.shape ledger.old }
     ensures count { length lanes.new.items ≡ length lanes.old.items }
     ensures sent { (sent : ℕ → List Compact) → HaveSent sent lanes.old.items → HaveSent sent lanes.new.items }
@@ -123,6 +139,13 @@ fn turns<L: Turns, G: Gate>(
     ensures quiet { OfSent (L.shape ledger.old) (L.journals ledger.old) lanes.old.items lanes.new.items (L.quiet ledger.old → L.quiet ledger.new) }
     ensures holds { L.holds ledger.old → L.holds ledger.new }
     ensures later { (n : ℕ) → L.faults ledger.old n ≤ L.faults ledger.new n }
+    ensures opened_same { (n : ℕ) → L.opened ledger.new n ≡ L.opened ledger.old n }
+    ensures capacity_same { (n : ℕ) → L.capacity ledger.new n ≡ L.capacity ledger.old n }
+    ensures checked { L.checked ledger.new }
+    ensures grows { (n : ℕ) → IsEnd (L.journals ledger.old n) (L.journals ledger.new n) }
+    ensures causes { (E : ℕ → List Record) → ((n : ℕ) → IsEnd (E n) (L.journals ledger.old n))
+        → HaveCauses (L.shape ledger.old) E (L.journals ledger.old) (HaveFailed (L.opened ledger.old) (L.faults ledger.old)) (MayHold (L.capacity ledger.old)) lanes.old.items
+        → HaveCauses (L.shape ledger.old) E (L.journals ledger.new) (HaveFailed (L.opened ledger.new) (L.faults ledger.new)) (MayHold (L.capacity ledger.new)) lanes.new.items }
 {
     let count = ledger.shape().lane_count();
     let _limit = ledger.shape().batch();
@@ -147,6 +170,7 @@ pub fn run_wave<L: Turns, G: Gate>(alloc: Global, ledger: &mut L, lanes: &mut Ve
     requires count { length lanes.old.items ≡ (L.shape ledger.old).coordinators * (L.shape ledger.old).lanes }
     requires idle { AreIdle (L.shape ledger.old) (L.journals ledger.old) }
     requires limits { AreWithin lanes.old.items }
+    requires checked { L.checked ledger.old }
     ensures shape { L.shape ledger.new ≡ L.shape ledger.old }
     ensures count { length lanes.new.items ≡ length lanes.old.items }
     ensures sent { (sent : ℕ → List Compact) → HaveSent sent lanes.old.items → HaveSent sent lanes.new.items }
@@ -163,6 +187,13 @@ pub fn run_wave<L: Turns, G: Gate>(alloc: Global, ledger: &mut L, lanes: &mut Ve
     ensures quiet { OfSent (L.shape ledger.old) (L.journals ledger.old) lanes.old.items lanes.new.items (L.quiet ledger.old → L.quiet ledger.new) }
     ensures holds { L.holds ledger.old → L.holds ledger.new }
     ensures later { (n : ℕ) → L.faults ledger.old n ≤ L.faults ledger.new n }
+    ensures opened_same { (n : ℕ) → L.opened ledger.new n ≡ L.opened ledger.old n }
+    ensures capacity_same { (n : ℕ) → L.capacity ledger.new n ≡ L.capacity ledger.old n }
+    ensures checked { L.checked ledger.new }
+    ensures grows { (n : ℕ) → IsEnd (L.journals ledger.old n) (L.journals ledger.new n) }
+
+    // Each fault has its cause, where none had one before.
+    ensures causes { NoFault lanes.old.items → HaveCauses (L.shape ledger.old) (L.journals ledger.old) (L.journals ledger.new) (HaveFailed (L.opened ledger.new) (L.faults ledger.new)) (MayHold (L.capacity ledger.new)) lanes.new.items }
 {
     let most = longest(lanes);
     let size = ledger.shape().batch() as usize;

@@ -196,7 +196,7 @@ fn header(shape: &Shape) -> Header {
 }
 
 // An answer of each kind that has a line, with the line and the status.
-fn faults(shape: &Shape) -> [(Answer, &'static str, u8); 24] {
+fn faults(shape: &Shape) -> [(Answer, &'static str, u8); 23] {
     let bad = |at: u64, kind: InputKind| Answer::BadInput { file: 2, at, kind };
     let unsound = |place: u64, kind: UnsoundKind| Answer::Unsound { place, kind };
     [

@@ -3,7 +3,9 @@ use Rattle.std.proofs.Common.{inl, inr, ◌≡◌, ◌≢◌, ◌<◌, ◌≤◌
 use Rattle.std.specs.List.{All}
 use Rattle.std.proofs.lemmas.Bool.{cases_eq}
 use Rattle.std.proofs.lemmas.List.Elements.{All-set}
-use Rattle.cbdc_model.specs.Sights.{Sight}
+use Rattle.cbdc_model.specs.Sights.{Sight, IsSameNode}
+use Rattle.lane_driver.specs.Told.{KeepNodes}
+use Rattle.lane_driver.proofs.Fitting.{nodes_same}
 use Rattle.node_ports.specs.Nodes.{sight_at}
 
 -- where a ledger has a lane, there is a node
@@ -50,9 +52,9 @@ module _ {N : Type 0} (f : N → Sight) (xs : List N) (at : ℕ) (x y : N) (with
   turned_faults le = at_or_not (λ n. (sight_at f xs n).faults ≤ (sight_at f (set xs at y) n).faults) (turned (λ a b. a.faults ≤ b.faults) le)
       (λ n ne. let e = ap (λ a. a.faults) (set_elsewhere f xs at y n ne) in omega (arith, e))
 
-  pub turned_headers : (f y).header ≡ (f x).header → (n : ℕ) → (sight_at f (set xs at y) n).header ≡ (sight_at f xs n).header
-  turned_headers same = at_or_not (λ n. (sight_at f (set xs at y) n).header ≡ (sight_at f xs n).header) (turned (λ a b. b.header ≡ a.header) same)
-      (λ n ne. ap (λ a. a.header) (set_elsewhere f xs at y n ne))
+  pub turned_nodes : IsSameNode (f x) (f y) → KeepNodes (sight_at f xs) (sight_at f (set xs at y))
+  turned_nodes same = at_or_not (λ n. IsSameNode (sight_at f xs n) (sight_at f (set xs at y) n)) (turned IsSameNode same)
+      (λ n ne. subst (λ a. IsSameNode (sight_at f xs n) a) (sym (set_elsewhere f xs at y n ne)) (nodes_same (sight_at f xs) n))
 
   pub turned_held : (P : N → Type 0) → (P x → P y) → All P xs → All P (set xs at y)
   turned_held P keeps all = All-set P xs at y (keeps (subst P (sym is) (all at x within))) all

@@ -3,8 +3,8 @@ ghost use Rattle.std.specs.Prelude.{◌≡◌, ◌≢◌, ◌≤◌, ◌<◌, �
 ghost use Rattle.cbdc_model.specs.Calls.{IsLockCall, IsFinishCall, IsForgetCall};
 ghost use Rattle.cbdc_model.specs.Grammar.{IsReply};
 ghost use Rattle.cbdc_model.specs.Due.{lock_due, finish_due, forget_due};
-ghost use Rattle.cbdc_model.specs.Sights.{Told};
-ghost use Rattle.lane_driver.specs.Told.{IsStamp, KeepHeaders};
+ghost use Rattle.cbdc_model.specs.Sights.{Told, IsSameNode};
+ghost use Rattle.lane_driver.specs.Told.{IsStamp, KeepNodes};
 ghost use Rattle.shard_node.specs.Shards.{sight_of};
 ghost use Rattle.node_ports.specs.Nodes.{sight_at, IsShardHeld, AreShardsHeld};
 
@@ -35,7 +35,7 @@ fn lock_at<D: Disk>(node: &mut ShardNode<D>, call: &LockCall) -> Result<Replied,
     requires { IsLockCall node.old.header call.now }
     ensures answer { Told true call.now.batch.lane true (lock_due node.old.header.shape (D.limit node.old.disk) call.now) (sight_of D.count D.limit node.old) (sight_of D.count D.limit node.new) result }
     ensures told { IfOk result (λ a. IsStamp a.stamp × All (IsReply node.old.header.shape) a.replies) }
-    ensures header { node.new.header ≡ node.old.header }
+    ensures node { IsSameNode (sight_of D.count D.limit node.old) (sight_of D.count D.limit node.new) }
     ensures later { D.count node.old.disk ≤ D.count node.new.disk }
     ensures holds { IsShardHeld D.content D.images node.old → IsShardHeld D.content D.images node.new }
 {
@@ -47,7 +47,7 @@ fn finish_at<D: Disk>(node: &mut ShardNode<D>, call: &FinishCall) -> Result<Stam
     requires { IsFinishCall node.old.header call.now }
     ensures answer { Told true call.now.batch.lane false (finish_due call.now) (sight_of D.count D.limit node.old) (sight_of D.count D.limit node.new) result }
     ensures told { IfOk result IsStamp }
-    ensures header { node.new.header ≡ node.old.header }
+    ensures node { IsSameNode (sight_of D.count D.limit node.old) (sight_of D.count D.limit node.new) }
     ensures later { D.count node.old.disk ≤ D.count node.new.disk }
     ensures holds { IsShardHeld D.content D.images node.old → IsShardHeld D.content D.images node.new }
 {
@@ -59,7 +59,7 @@ fn forget_at<D: Disk>(node: &mut ShardNode<D>, call: &ForgetCall) -> Result<Stam
     requires { IsForgetCall node.old.header call.now }
     ensures answer { Told true call.now.batch.lane false (forget_due call.now) (sight_of D.count D.limit node.old) (sight_of D.count D.limit node.new) result }
     ensures told { IfOk result IsStamp }
-    ensures header { node.new.header ≡ node.old.header }
+    ensures node { IsSameNode (sight_of D.count D.limit node.old) (sight_of D.count D.limit node.new) }
     ensures later { D.count node.old.disk ≤ D.count node.new.disk }
     ensures holds { IsShardHeld D.content D.images node.old → IsShardHeld D.content D.images node.new }
 {
@@ -92,7 +92,7 @@ impl<'r, W: Wait, D: Disk> NodeShards<'r, W, D> {
         ensures answer { Told true call.now.batch.lane true (lock_due (sight_at (sight_of D.count D.limit) self.old.nodes.items shard).header.shape (sight_at (sight_of D.count D.limit) self.old.nodes.items shard).capacity call.now) (sight_at (sight_of D.count D.limit) self.old.nodes.items shard) (sight_at (sight_of D.count D.limit) self.new.nodes.items shard) result }
         ensures told { IfOk result (λ a. IsStamp a.stamp × All (IsReply (sight_at (sight_of D.count D.limit) self.old.nodes.items shard).header.shape) a.replies) }
         ensures elsewhere { (n : ℕ) → n ≢ shard → sight_at (sight_of D.count D.limit) self.new.nodes.items n ≡ sight_at (sight_of D.count D.limit) self.old.nodes.items n }
-        ensures headers { KeepHeaders (sight_at (sight_of D.count D.limit) self.old.nodes.items) (sight_at (sight_of D.count D.limit) self.new.nodes.items) }
+        ensures nodes { KeepNodes (sight_at (sight_of D.count D.limit) self.old.nodes.items) (sight_at (sight_of D.count D.limit) self.new.nodes.items) }
         ensures count { length self.new.nodes.items ≡ length self.old.nodes.items }
         ensures later { (n : ℕ) → (sight_at (sight_of D.count D.limit) self.old.nodes.items n).faults ≤ (sight_at (sight_of D.count D.limit) self.new.nodes.items n).faults }
         ensures holds { AreShardsHeld D.content D.images self.old.nodes.items → AreShardsHeld D.content D.images self.new.nodes.items }
@@ -115,7 +115,7 @@ impl<'r, W: Wait, D: Disk> NodeShards<'r, W, D> {
         ensures answer { Told true call.now.batch.lane false (finish_due call.now) (sight_at (sight_of D.count D.limit) self.old.nodes.items shard) (sight_at (sight_of D.count D.limit) self.new.nodes.items shard) result }
         ensures told { IfOk result IsStamp }
         ensures elsewhere { (n : ℕ) → n ≢ shard → sight_at (sight_of D.count D.limit) self.new.nodes.items n ≡ sight_at (sight_of D.count D.limit) self.old.nodes.items n }
-        ensures headers { KeepHeaders (sight_at (sight_of D.count D.limit) self.old.nodes.items) (sight_at (sight_of D.count D.limit) self.new.nodes.items) }
+        ensures nodes { KeepNodes (sight_at (sight_of D.count D.limit) self.old.nodes.items) (sight_at (sight_of D.count D.limit) self.new.nodes.items) }
         ensures count { length self.new.nodes.items ≡ length self.old.nodes.items }
         ensures later { (n : ℕ) → (sight_at (sight_of D.count D.limit) self.old.nodes.items n).faults ≤ (sight_at (sight_of D.count D.limit) self.new.nodes.items n).faults }
         ensures holds { AreShardsHeld D.content D.images self.old.nodes.items → AreShardsHeld D.content D.images self.new.nodes.items }
@@ -138,7 +138,7 @@ impl<'r, W: Wait, D: Disk> NodeShards<'r, W, D> {
         ensures answer { Told true call.now.batch.lane false (forget_due call.now) (sight_at (sight_of D.count D.limit) self.old.nodes.items shard) (sight_at (sight_of D.count D.limit) self.new.nodes.items shard) result }
         ensures told { IfOk result IsStamp }
         ensures elsewhere { (n : ℕ) → n ≢ shard → sight_at (sight_of D.count D.limit) self.new.nodes.items n ≡ sight_at (sight_of D.count D.limit) self.old.nodes.items n }
-        ensures headers { KeepHeaders (sight_at (sight_of D.count D.limit) self.old.nodes.items) (sight_at (sight_of D.count D.limit) self.new.nodes.items) }
+        ensures nodes { KeepNodes (sight_at (sight_of D.count D.limit) self.old.nodes.items) (sight_at (sight_of D.count D.limit) self.new.nodes.items) }
         ensures count { length self.new.nodes.items ≡ length self.old.nodes.items }
         ensures later { (n : ℕ) → (sight_at (sight_of D.count D.limit) self.old.nodes.items n).faults ≤ (sight_at (sight_of D.count D.limit) self.new.nodes.items n).faults }
         ensures holds { AreShardsHeld D.content D.images self.old.nodes.items → AreShardsHeld D.content D.images self.new.nodes.items }

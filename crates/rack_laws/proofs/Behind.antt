@@ -1,21 +1,23 @@
 -- The nodes of a ledger that was opened, and their disks behind a run.
-use Rattle.std.proofs.Common.{◌≡◌, ℕ, zero, suc, ◌+◌, ◌-◌, ◌<◌, ◌≤◌, true, false, nat_lt, if◌then◌else◌, List, [], ◌∷◌, length, get_or, reverse, Option, Some, None, refl, sym, ap, ◌∙◌, subst, arith}
+use Rattle.std.proofs.Common.{◌≡◌, inl, inr, ℕ, zero, suc, ◌+◌, ◌-◌, ◌<◌, ◌≤◌, true, false, nat_lt, if◌then◌else◌, List, [], ◌∷◌, length, get_or, reverse, Option, Some, None, refl, sym, ap, ◌∙◌, subst, arith}
 use Rattle.std.specs.Prelude.{slice_get, All}
 use Rattle.std.proofs.lemmas.Option.{slice_get_within, slice_get-get_or}
-use Rattle.std.proofs.lemmas.Bool.{ltb-true, ltb-false}
+use Rattle.std.proofs.lemmas.Bool.{ltb-true, ltb-false, cases_lt}
+use Rattle.outside.specs.Counts.{Rose}
 use Rattle.cbdc_model.specs.Records.{Shape, Header, Record}
 use Rattle.cbdc_model.specs.After.{IsJournal}
 use Rattle.record_log.specs.Held.{OpensToEither}
 use Rattle.coord_log.specs.Logs.{LogOf, sight, HoldsJournal as HoldsLog}
 use Rattle.shard_node.specs.Shards.{ShardOf, sight_of, HoldsWith, HoldsJournal as HoldsShard}
-use Rattle.cbdc_model.specs.Sights.{Sight}
+use Rattle.cbdc_model.specs.Sights.{Sight, HasRisen}
+use Rattle.ledger_runs.specs.Faults.{HaveFailed}
 use Rattle.node_ports.specs.Nodes.{sight_at}
 use Rattle.rack_nodes.specs.Places.{EachFrom, MayReturn}
 use Rattle.rack_nodes.specs.Racked.{OfTold}
 use Rattle.rack_ledgers.specs.Ledgers.{ByPlace, AreOpened}
 use Rattle.rack_laws.specs.Shown.{KeepsEach, HoldsEach, node_count}
 use Rattle.rack_laws.proofs.Opened.{at_place, sight_there, all_by}
-use Rattle.ledger_nodes.specs.Ledgers.{IsLedger, journals_of, faults_of, AreStored, AreQuiet}
+use Rattle.ledger_nodes.specs.Ledgers.{IsLedger, journals_of, faults_of, opened_of, capacity_of, AreStored, AreQuiet}
 
 -- nodes whose disks' counts have not fallen may be put back where those before might
 pub returns : {N : Type 0} (f : N → ℕ) (can : ℕ → ℕ → Type 0) (i : ℕ) (xs ys : List N) → length ys ≡ length xs
@@ -84,12 +86,34 @@ module _ {D : Type 0} (content : D → Option (List ℕ)) (images : D → List �
       ∙ (ap (λ p. (sight_at (sight_of count limit) shards p).faults) (shard_place K s)
       ∙ ap (λ t. t.faults) (sight_there (sight_of count limit) shards s x there))
 
-  log_journal : (K : Shape) (logs : List (LogOf D)) (shards : List (ShardOf D)) (n : ℕ) (l : LogOf D) → n < K.coordinators → slice_get logs n ≡ Some l → journals_of count limit K logs shards n ≡ l.journal
+  log_opened : (K : Shape) (logs : List (LogOf D)) (shards : List (ShardOf D)) (n : ℕ) (l : LogOf D) → n < K.coordinators → slice_get logs n ≡ Some l → opened_of count limit K logs shards n ≡ l.opened
+  log_opened K logs shards n l low there =
+      ap (λ b. if b then (sight_at sight logs n).opened else (sight_at (sight_of count limit) shards (n - K.coordinators)).opened) (log_low K n low)
+      ∙ ap (λ s. s.opened) (sight_there sight logs n l there)
+
+  shard_opened : (K : Shape) (logs : List (LogOf D)) (shards : List (ShardOf D)) (s : ℕ) (x : ShardOf D) → slice_get shards s ≡ Some x → opened_of count limit K logs shards (K.coordinators + s) ≡ x.opened
+  shard_opened K logs shards s x there =
+      ap (λ b. if b then (sight_at sight logs (K.coordinators + s)).opened else (sight_at (sight_of count limit) shards ((K.coordinators + s) - K.coordinators)).opened) (shard_high K s)
+      ∙ (ap (λ p. (sight_at (sight_of count limit) shards p).opened) (shard_place K s)
+      ∙ ap (λ t. t.opened) (sight_there (sight_of count limit) shards s x there))
+
+  log_capacity : (K : Shape) (logs : List (LogOf D)) (shards : List (ShardOf D)) (n : ℕ) (l : LogOf D) → n < K.coordinators → slice_get logs n ≡ Some l → capacity_of count limit K logs shards n ≡ l.capacity
+  log_capacity K logs shards n l low there =
+      ap (λ b. if b then (sight_at sight logs n).capacity else (sight_at (sight_of count limit) shards (n - K.coordinators)).capacity) (log_low K n low)
+      ∙ ap (λ s. s.capacity) (sight_there sight logs n l there)
+
+  shard_capacity : (K : Shape) (logs : List (LogOf D)) (shards : List (ShardOf D)) (s : ℕ) (x : ShardOf D) → slice_get shards s ≡ Some x → capacity_of count limit K logs shards (K.coordinators + s) ≡ limit x.disk
+  shard_capacity K logs shards s x there =
+      ap (λ b. if b then (sight_at sight logs (K.coordinators + s)).capacity else (sight_at (sight_of count limit) shards ((K.coordinators + s) - K.coordinators)).capacity) (shard_high K s)
+      ∙ (ap (λ p. (sight_at (sight_of count limit) shards p).capacity) (shard_place K s)
+      ∙ ap (λ t. t.capacity) (sight_there (sight_of count limit) shards s x there))
+
+  pub log_journal : (K : Shape) (logs : List (LogOf D)) (shards : List (ShardOf D)) (n : ℕ) (l : LogOf D) → n < K.coordinators → slice_get logs n ≡ Some l → journals_of count limit K logs shards n ≡ l.journal
   log_journal K logs shards n l low there =
       ap (λ b. if b then (sight_at sight logs n).seen else (sight_at (sight_of count limit) shards (n - K.coordinators)).seen) (log_low K n low)
       ∙ ap (λ s. s.seen) (sight_there sight logs n l there)
 
-  shard_journal : (K : Shape) (logs : List (LogOf D)) (shards : List (ShardOf D)) (s : ℕ) (x : ShardOf D) → slice_get shards s ≡ Some x → journals_of count limit K logs shards (K.coordinators + s) ≡ x.journal
+  pub shard_journal : (K : Shape) (logs : List (LogOf D)) (shards : List (ShardOf D)) (s : ℕ) (x : ShardOf D) → slice_get shards s ≡ Some x → journals_of count limit K logs shards (K.coordinators + s) ≡ x.journal
   shard_journal K logs shards s x there =
       ap (λ b. if b then (sight_at sight logs (K.coordinators + s)).seen else (sight_at (sight_of count limit) shards ((K.coordinators + s) - K.coordinators)).seen) (shard_high K s)
       ∙ (ap (λ p. (sight_at (sight_of count limit) shards p).seen) (shard_place K s)
@@ -197,3 +221,82 @@ module _ {D : Type 0} (content : D → Option (List ℕ)) (images : D → List �
   holds_each held h logs shards is stored logs_back shards_back quiet n inside d told c image =
       let k = each_keeps held h logs shards is stored logs_back shards_back n inside in
       subst (λ o. OpensToEither (reverse (journals_of count limit h.shape logs shards n)) o c) (k.none quiet) (k.images_are d told c image)
+
+  -- what all disks told is stored
+  pub told_stored : (held : ℕ → Option D) (h : Header) (logs : List (LogOf D)) (shards : List (ShardOf D)) → AreOpened content images limit count held h logs shards
+      → ((n : ℕ) → n < node_count h.shape → (d : D) × (held n ≡ Some d) × ((c : List ℕ) × (content d ≡ Some c))) → AreStored content images logs shards
+  told_stored held h logs shards are tells = record {
+    logs_are = all_by (HoldsLog content images) logs (λ n l there.
+        let t = tells n (omega (arith, slice_get_within logs n l there, are.coordinators)) in
+        (((are.logs_at n l there).opened t.0 t.1).stands t.2.0 t.2.1).1);
+    shards_are = all_by (HoldsShard content images) shards (λ s x there.
+        let t = tells (h.shape.coordinators + s) (omega (arith, slice_get_within shards s x there, are.shards_are)) in
+        (((are.shards_at s x there).opened t.0 t.1).stands t.2.0 t.2.1).1);
+  }
+
+  -- what a node of the ledger says, by its place
+  by_node : (K : Shape) (P : ℕ → Type 0) → ((n : ℕ) → n < K.coordinators → P n) → ((s : ℕ) → s < K.shards → P (K.coordinators + s)) → (n : ℕ) → n < node_count K → P n
+  by_node K P log shard n inside = elim (cases_lt n K.coordinators) [
+    | inl low ↦ log n low
+    | inr high ↦
+        let place : K.coordinators + (n - K.coordinators) ≡ n = omega (arith, high) in
+        subst P place (shard (n - K.coordinators) (omega (arith, high, inside)))
+  ]
+
+  -- a node may hold what its disk may that was told
+  pub may_hold : (held : ℕ → Option D) (h : Header) (logs : List (LogOf D)) (shards : List (ShardOf D)) → AreOpened content images limit count held h logs shards
+      → (n c : ℕ) → n < node_count h.shape → c ≡ capacity_of count limit h.shape logs shards n → OfTold (held n) (λ d. c ≡ limit d)
+  may_hold held h logs shards are n c inside =
+      by_node h.shape (λ k. c ≡ capacity_of count limit h.shape logs shards k → OfTold (held k) (λ d. c ≡ limit d)) at_log at_shard n inside
+    where
+      at_log : (k : ℕ) → k < h.shape.coordinators → c ≡ capacity_of count limit h.shape logs shards k → OfTold (held k) (λ d. c ≡ limit d)
+      at_log k low is d told =
+          let l = at_place logs k (omega (arith, low, are.coordinators)) in
+          let own = are.logs_at k l.0 l.1 in
+          is ∙ log_capacity h.shape logs shards k l.0 low l.1 ∙ own.capacity ∙ (own.opened d told).read.room
+
+      at_shard : (s : ℕ) → s < h.shape.shards → c ≡ capacity_of count limit h.shape logs shards (h.shape.coordinators + s) → OfTold (held (h.shape.coordinators + s)) (λ d. c ≡ limit d)
+      at_shard s low is d told =
+          let x = at_place shards s (omega (arith, low, are.shards_are)) in
+          is ∙ shard_capacity h.shape logs shards s x.0 x.1 ∙ ((are.shards_at s x.0 x.1).opened d told).read.room
+
+  -- a count that had not fallen before it rose
+  rose_by : (opened faults before behind : ℕ) → HasRisen opened faults → before ≤ opened → faults ≤ behind → Rose before behind
+  rose_by opened faults before behind rose earlier later = omega (arith, rose, earlier, later)
+
+  -- a disk that has failed since its node was opened has failed since the call began
+  pub have_risen : (held : ℕ → Option D) (h : Header) (logs now : List (LogOf D)) (shards after : List (ShardOf D)) → AreOpened content images limit count held h logs shards
+      → (g : Header) → g.shape ≡ h.shape → IsLedger g now after → All (λ l. l.faults ≡ count l.disk) now → (before behind : ℕ → ℕ)
+      → ByPlace (λ n l. before n ≤ count l.disk) logs → ByPlace (λ s x. before (h.shape.coordinators + s) ≤ count x.disk) shards
+      → ByPlace (λ n l. count l.disk ≤ behind n) now → ByPlace (λ s x. count x.disk ≤ behind (length now + s)) after
+      → (n : ℕ) → n < node_count h.shape → HaveFailed (opened_of count limit h.shape logs shards) (faults_of count limit h.shape now after) n → Rose (before n) (behind n)
+  have_risen held h logs now shards after are g shape is counts before behind logs_since shards_since logs_counted shards_counted n inside =
+      by_node h.shape (λ k. HaveFailed (opened_of count limit h.shape logs shards) (faults_of count limit h.shape now after) k → Rose (before k) (behind k)) at_log at_shard n inside
+    where
+      logs_are : length now ≡ h.shape.coordinators
+      logs_are = is.coordinators ∙ ap (λ k. k.coordinators) shape
+
+      shards_are : length after ≡ h.shape.shards
+      shards_are = is.shards_are ∙ ap (λ k. k.shards) shape
+
+      at_log : (k : ℕ) → k < h.shape.coordinators → HaveFailed (opened_of count limit h.shape logs shards) (faults_of count limit h.shape now after) k → Rose (before k) (behind k)
+      at_log k low rose =
+          let l = at_place logs k (omega (arith, low, are.coordinators)) in
+          let y = at_place now k (omega (arith, low, logs_are)) in
+          let own = are.logs_at k l.0 l.1 in
+          let o : opened_of count limit h.shape logs shards k ≡ count l.0.disk = log_opened h.shape logs shards k l.0 low l.1 ∙ own.since ∙ own.faults in
+          let f : faults_of count limit h.shape now after k ≡ count y.0.disk = log_faults h.shape now after k y.0 low y.1 ∙ by_all (λ l. l.faults ≡ count l.disk) now counts k y.0 y.1 in
+          rose_by (opened_of count limit h.shape logs shards k) (faults_of count limit h.shape now after k) (before k) (behind k) rose
+          (subst (λ m. before k ≤ m) (sym o) (logs_since k l.0 l.1)) (subst (λ m. m ≤ behind k) (sym f) (logs_counted k y.0 y.1))
+
+      at_shard : (s : ℕ) → s < h.shape.shards → HaveFailed (opened_of count limit h.shape logs shards) (faults_of count limit h.shape now after) (h.shape.coordinators + s)
+          → Rose (before (h.shape.coordinators + s)) (behind (h.shape.coordinators + s))
+      at_shard s low rose =
+          let x = at_place shards s (omega (arith, low, are.shards_are)) in
+          let y = at_place after s (omega (arith, low, shards_are)) in
+          let k : ℕ = h.shape.coordinators + s in
+          let o : opened_of count limit h.shape logs shards k ≡ count x.0.disk = shard_opened h.shape logs shards s x.0 x.1 ∙ (are.shards_at s x.0 x.1).since in
+          let f : faults_of count limit h.shape now after k ≡ count y.0.disk = shard_faults h.shape now after s y.0 y.1 in
+          let counted : count y.0.disk ≤ behind k = subst (λ c. count y.0.disk ≤ behind (c + s)) logs_are (shards_counted s y.0 y.1) in
+          rose_by (opened_of count limit h.shape logs shards k) (faults_of count limit h.shape now after k) (before k) (behind k) rose
+          (subst (λ m. before k ≤ m) (sym o) (shards_since s x.0 x.1)) (subst (λ m. m ≤ behind k) (sym f) counted)

@@ -1,5 +1,5 @@
 -- Nodes that were opened, one by one.
-use Rattle.std.proofs.Common.{◌≡◌, ◌≤◌, ◌+◌, ◌++◌, ◌∷◌, [], ℕ, List, length, Option, Some, None, sym, ◌∙◌, subst, ap, arith}
+use Rattle.std.proofs.Common.{◌≡◌, ◌≤◌, le_trans, ◌+◌, ◌++◌, ◌∷◌, [], ℕ, List, length, Option, Some, None, sym, ◌∙◌, subst, ap, arith}
 use Rattle.cbdc_model.specs.Records.{Header}
 use Rattle.cbdc_model.specs.After.{IsJournal}
 use Rattle.coord_log.specs.Logs.{LogOf, HoldsJournal as HoldsLog}
@@ -17,7 +17,7 @@ use Rattle.rack_ledgers.proofs.Places.{at_place, by_place}
 module _ {D : Type 0} (content : D → Option (List ℕ)) (images : D → List ℕ → Type 0) (limit count : D → ℕ) where
   -- what is known of a coordinator and of a shard that are opened
   abbrev pub FitsLog : ℕ → Option Header → LogOf D → Type 0
-  FitsLog n ledger l = IsAsked n ledger l.header × IsCoordinator l.header × IsJournal l.header l.journal × (l.flight ≡ None) × (l.broken ≡ None) × (l.opened ≡ l.faults) × (l.faults ≡ count l.disk)
+  FitsLog n ledger l = IsAsked n ledger l.header × IsCoordinator l.header × IsJournal l.header l.journal × (l.flight ≡ None) × (l.broken ≡ None) × (l.opened ≡ l.faults) × (l.faults ≡ count l.disk) × (l.capacity ≡ limit l.disk)
 
   abbrev pub StandsLog : LogOf D → List ℕ → Type 0
   StandsLog l c = IsCoordJournal l.header l.journal c × HoldsLog content images l
@@ -38,7 +38,7 @@ module _ {D : Type 0} (content : D → Option (List ℕ)) (images : D → List �
   -- a coordinator of the ledger
   pub log_at : (held : ℕ → Option D) (h : Header) (n : ℕ) (l : LogOf D) → FitsLog n (Some h) l
       → OfTold (held n) (λ was. IsOpened content images limit (λ x. x.disk) StandsLog was l) → IsLogAt content images limit count held h n l
-  log_at held h n l fits opened = record { header = fits.0; journal = fits.2; flight = fits.3; broken = fits.4; since = fits.5; faults = fits.6; opened = opened }
+  log_at held h n l fits opened = record { header = fits.0; journal = fits.2; flight = fits.3; broken = fits.4; since = fits.5; faults = fits.6; capacity = fits.7; opened = opened }
 
   pub shard_at : (held : ℕ → Option D) (h : Header) (n : ℕ) (s : ShardOf D) → FitsShard n (Some h) s
       → OfTold (held n) (λ was. IsOpened content images limit (λ x. x.disk) StandsShard was s) → IsShardAt content images limit count held h n s
@@ -48,7 +48,7 @@ module _ {D : Type 0} (content : D → Option (List ℕ)) (images : D → List �
   pub lead_at : (held : ℕ → Option D) (h : Header) (l : LogOf D) → h ≡ l.header → FitsLog 0 None l
       → OfTold (held 0) (λ was. IsOpened content images limit (λ x. x.disk) StandsLog was l) → IsLogAt content images limit count held h 0 l
   lead_at held h l same fits opened =
-      log_at held h 0 l (fits.0 ∙ ap (λ (k : Header). record { node = 0; shape = k.shape; genesis = k.genesis }) (sym same), fits.1, fits.2, fits.3, fits.4, fits.5, fits.6) opened
+      log_at held h 0 l (fits.0 ∙ ap (λ (k : Header). record { node = 0; shape = k.shape; genesis = k.genesis }) (sym same), fits.1, fits.2, fits.3, fits.4, fits.5, fits.6, fits.7) opened
 
   -- node 0 and those behind it
   pub led_at : (held mid : ℕ → Option D) (before : ℕ → ℕ) (h : Header) (lead : LogOf D) (more : List (LogOf D)) → ((n : ℕ) → 1 ≤ n → mid n ≡ held n)
@@ -77,6 +77,23 @@ module _ {D : Type 0} (content : D → Option (List ℕ)) (images : D → List �
       at_place (IsShardAt content images limit count held h) first shards
       (each_weaker (OpensShard mid before h) (IsShardAt content images limit count held h) first shards
       (λ k x ge lt is. shard_at held h k x is.0.0 (λ was told. is.1 was (kept k ge ∙ told))) all) s x is
+
+  -- how often the disk of each node had failed before it was opened
+  pub logs_since : (mid : ℕ → Option D) (before between : ℕ → ℕ) (h : Header) (lead : LogOf D) (front whole : List (LogOf D)) → front ≡ lead ∷ [] → ((n : ℕ) → before n ≤ between n)
+      → before 0 ≤ count lead.disk → GoesOn (OpensLog mid between h) 0 front whole → ByPlace (λ n l. before n ≤ count l.disk) whole
+  logs_since mid before between h lead front whole alone later first all =
+      let P : ℕ → LogOf D → Type 0 = λ n l. before n ≤ count l.disk in
+      let same : whole ≡ lead ∷ all.more = all.parts ∙ ap (λ (l : List (LogOf D)). l ++ all.more) alone in
+      let one : 0 + length front ≡ 1 = omega (arith, ap length alone) in
+      let others : EachFrom (OpensLog mid between h) 1 all.more = subst (λ (k : ℕ). EachFrom (OpensLog mid between h) k all.more) one all.each in
+      subst (λ (l : List (LogOf D)). ByPlace P l) (sym same)
+      (by_place P (lead ∷ all.more) (first, each_weaker (OpensLog mid between h) P 1 all.more (λ k x ge lt is. le_trans (later k) is.0.1) others))
+
+  pub shards_since : (mid : ℕ → Option D) (before between : ℕ → ℕ) (h : Header) (first : ℕ) (shards : List (ShardOf D)) → ((n : ℕ) → before n ≤ between n)
+      → EachFrom (OpensShard mid between h) first shards → ByPlace (λ s x. before (first + s) ≤ count x.disk) shards
+  shards_since mid before between h first shards later all s x is =
+      at_place (λ (n : ℕ) (y : ShardOf D). before n ≤ count y.disk) first shards
+      (each_weaker (OpensShard mid between h) (λ (n : ℕ) (y : ShardOf D). before n ≤ count y.disk) first shards (λ k y ge lt is. le_trans (later k) is.0.1) all) s x is
 
   -- the disk of a coordinator that was opened, put back
   pub log_back : (held now : ℕ → Option D) (h : Header) (n : ℕ) (l : LogOf D) → IsLogAt content images limit count held h n l

@@ -28,6 +28,7 @@ pub record IsLogAt {D : Type 0} (content : D → Option (List ℕ)) (images : D 
   pub broken : l.broken ≡ None
   pub since : l.opened ≡ l.faults
   pub faults : l.faults ≡ count l.disk
+  pub capacity : l.capacity ≡ limit l.disk
   pub opened : OfTold (held place) (λ was. IsOpened content images limit (λ x. x.disk) (λ x c. IsCoordJournal x.header x.journal c × HoldsLog content images x) was l)
 
 -- so does a shard

@@ -27,6 +27,8 @@ pub fn close_nodes<R: Rack>(rack: &mut R, nodes: Nodes<R::Disk>)
     // What the rack then tells of each node is its disk.
     ensures closed_logs { ByPlace (λ n l. OfTold (R.held rack.new n) (λ now. now ≡ l.disk)) nodes.logs.items }
     ensures closed_shards { ByPlace (λ s x. OfTold (R.held rack.new (length nodes.logs.items + s)) (λ now. now ≡ x.disk)) nodes.shards.items }
+    ensures counted_logs { ByPlace (λ n l. R.Disk.count l.disk ≤ R.count rack.new n) nodes.logs.items }
+    ensures counted_shards { ByPlace (λ s x. R.Disk.count x.disk ≤ R.count rack.new (length nodes.logs.items + s)) nodes.shards.items }
     ensures others_held { (n : ℕ) → length nodes.logs.items + length nodes.shards.items ≤ n → R.held rack.new n ≡ R.held rack.old n }
 
     ensures back { (n : ℕ) → R.can_take rack.new n }

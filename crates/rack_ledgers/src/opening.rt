@@ -43,6 +43,7 @@ fn open_lead<R: Rack>(
     requires { R.can_take rack.old 0 }
     ensures opened { IfOk result (λ l. (l.header.node ≡ 0) × IsLogAt R.Disk.content R.Disk.images R.Disk.limit R.Disk.count (R.held rack.old) l.header 0 l) }
     ensures minted { IfOk result (λ l. IsMintOf (option_copied id.entry) l.header) }
+    ensures since { IfOk result (λ l. R.count rack.old 0 ≤ R.Disk.count l.disk) }
     ensures refusal { IfErr result (IsUnledBy R.Disk.content R.Disk.images R.Disk.limit R.Disk.count (R.held rack.old) (R.count rack.old) (R.count rack.new) (option_copied id.entry)) }
     ensures kind { IfErr result IsNodeRefusal }
     ensures held { OnErr result (IsBack R.Disk.images R.Disk.limit (R.held rack.old 0) (R.held rack.new 0)) }
@@ -102,6 +103,7 @@ fn open_logs<R: Rack>(
     ensures first { IfOk result (λ l. (l.0.node ≡ 0) × IsWithinLimits l.0.shape) }
     ensures opened { IfOk result (λ l. ByPlace (IsLogAt R.Disk.content R.Disk.images R.Disk.limit R.Disk.count (R.held rack.old) l.0) l.1.items) }
     ensures minted { IfOk result (λ l. IsMintOf (option_copied id.entry) l.0) }
+    ensures since { IfOk result (λ l. ByPlace (λ n x. R.count rack.old n ≤ R.Disk.count x.disk) l.1.items) }
     ensures refusal { IfErr result (IsUnledBy R.Disk.content R.Disk.images R.Disk.limit R.Disk.count (R.held rack.old) (R.count rack.old) (R.count rack.new) (option_copied id.entry)) }
     ensures kind { IfErr result IsNodeRefusal }
     ensures held { OnErr result ((n : ℕ) → IsBack R.Disk.images R.Disk.limit (R.held rack.old n) (R.held rack.new n)) }
@@ -138,6 +140,8 @@ fn open_ledger<R: Rack>(
     requires { (n : ℕ) → R.can_take rack.old n }
     ensures opened { IfOk result (λ l. AreOpened R.Disk.content R.Disk.images R.Disk.limit R.Disk.count (R.held rack.old) l.header l.logs.items l.shards.items) }
     ensures minted { IfOk result (λ l. IsMintOf (option_copied id.entry) l.header) }
+    ensures logs_since { IfOk result (λ l. ByPlace (λ n x. R.count rack.old n ≤ R.Disk.count x.disk) l.logs.items) }
+    ensures shards_since { IfOk result (λ l. ByPlace (λ s x. R.count rack.old (l.header.shape.coordinators + s) ≤ R.Disk.count x.disk) l.shards.items) }
     ensures refusal { IfErr result (IsUnopenedBy R.Disk.content R.Disk.images R.Disk.limit R.Disk.count (R.held rack.old) (R.count rack.old) (R.count rack.new) (option_copied id.entry)) }
     ensures kind { IfErr result IsNodeRefusal }
     ensures held { OnErr result ((n : ℕ) → IsBack R.Disk.images R.Disk.limit (R.held rack.old n) (R.held rack.new n)) }
@@ -173,6 +177,10 @@ pub fn open_nodes<R: Rack>(alloc: Global, rack: &mut R) -> Result<Nodes<R::Disk>
     requires { (n : ℕ) → R.can_take rack.old n }
     // They are all nodes of the ledger, and each stands for what was told of its disk.
     ensures opened { IfOk result (λ l. AreOpened R.Disk.content R.Disk.images R.Disk.limit R.Disk.count (R.held rack.old) l.header l.logs.items l.shards.items) }
+
+    // Its disk had not failed less often by then than before the call.
+    ensures logs_since { IfOk result (λ l. ByPlace (λ n x. R.count rack.old n ≤ R.Disk.count x.disk) l.logs.items) }
+    ensures shards_since { IfOk result (λ l. ByPlace (λ s x. R.count rack.old (l.header.shape.coordinators + s) ≤ R.Disk.count x.disk) l.shards.items) }
 
     // Why the first that can't be opened is not, and the disks are back.
     ensures refusal { IfErr result (IsUnopened R.Disk.content R.Disk.images R.Disk.limit R.Disk.count (R.held rack.old) (R.count rack.old) (R.count rack.new)) }

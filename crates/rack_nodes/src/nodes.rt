@@ -76,7 +76,7 @@ impl<D: Disk> OnDisk<D> for CoordLog<D> {
 
     ghost opens = { λ n c. IsCoordJournal n.header n.journal c × HoldsJournal D.content D.images n };
 
-    ghost fits = { λ node ledger n. IsAsked node ledger n.header × IsCoordinator n.header × IsJournal n.header n.journal × (n.flight ≡ None) × (n.broken ≡ None) × (n.opened ≡ n.faults) × (n.faults ≡ D.count n.disk) };
+    ghost fits = { λ node ledger n. IsAsked node ledger n.header × IsCoordinator n.header × IsJournal n.header n.journal × (n.flight ≡ None) × (n.broken ≡ None) × (n.opened ≡ n.faults) × (n.faults ≡ D.count n.disk) × (n.capacity ≡ D.limit n.disk) };
 
     ghost refused = { λ node ledger limit c e. IsNoNode IsCoordinator node ledger limit c e };
 

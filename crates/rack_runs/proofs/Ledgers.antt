@@ -50,6 +50,9 @@ module _ {D : Type 0} (content : D → Option (List ℕ)) (images : D → List �
   abbrev pub TellsIt : VerdictsOf → Ran → Shape → Type 0
   TellsIt verdicts ran S = OfKept S (journals_of count limit S logs shards) (λ _ _. TellsRun S verdicts files (journals_of count limit S logs shards) (journals_of count limit S now after) ran.resumed.items ran.waves.items)
 
+  abbrev pub WavesIt : VerdictsOf → Shape → Type 0
+  WavesIt verdicts S = OfKept S (journals_of count limit S logs shards) (λ _ _. (sound : FullTx → Bool) → TellsSound verdicts sound → Waves S sound files (journals_of count limit S logs shards) (journals_of count limit S now after))
+
   abbrev pub QuietIt : Shape → Type 0
   QuietIt S = OfKept S (journals_of count limit S logs shards) (λ _ _. AreQuiet logs shards → AreQuiet now after)
 
@@ -102,16 +105,18 @@ module _ {D : Type 0} (content : D → Option (List ℕ)) (images : D → List �
           headline = λ clean. idle_law K mint (submissions ++ joined files) (journals_of count limit K now after) within.some_shard within.some_lane clean grown.kept e.idle;
         }
 
-    is_told : (ran : Ran) (verdicts : VerdictsOf) → TellsIt verdicts ran h.shape → CountAll (map (λ s. s.journal) after) ran.unspent → QuietIt h.shape → IsTold images back verdicts files ran K mint submissions E
-    is_told ran verdicts told counted quiet = record {
+    is_told : (ran : Ran) (verdicts : VerdictsOf) → KeepsIt h.shape → WavesIt verdicts h.shape → TellsIt verdicts ran h.shape → CountAll (map (λ s. s.journal) after) ran.unspent → QuietIt h.shape → IsTold images back verdicts files ran K mint submissions E
+    is_told ran verdicts keeps waves told counted quiet = record {
       exit = journals_of count limit K now after;
+      grown = is_grown keeps;
+      waves = subst (λ L. Waves K (sound_by verdicts) files L (journals_of count limit K now after)) journals_are (subst (WavesIt verdicts) shape_is waves mint submissions kept_there (sound_by verdicts) (is_sound_law verdicts));
       disks = disks_hold (subst QuietIt shape_is quiet mint submissions kept_there (are_quiet content images limit count held h logs shards are));
       tells = subst (λ L. TellsRun K verdicts files L (journals_of count limit K now after) ran.resumed.items ran.waves.items) journals_are (subst (TellsIt verdicts ran) shape_is told mint submissions kept_there);
       unspent = subst (λ k. IsUnspentCount k (journals_of count limit k now after) ran.unspent) (shape ∙ shape_is) (unspent_counted count limit g now after is ran.unspent counted);
     }
 
-  pub tells : (verdicts : VerdictsOf) (ran : Ran) → TellsIt verdicts ran h.shape → CountAll (map (λ s. s.journal) after) ran.unspent → QuietIt h.shape → OfShown content held (IsTold images back verdicts files ran)
-  tells verdicts ran told counted quiet K mint submissions E within shows kept = is_told K mint submissions E within shows kept ran verdicts told counted quiet
+  pub tells : (verdicts : VerdictsOf) (ran : Ran) → KeepsIt h.shape → WavesIt verdicts h.shape → TellsIt verdicts ran h.shape → CountAll (map (λ s. s.journal) after) ran.unspent → QuietIt h.shape → OfShown content held (IsTold images back verdicts files ran)
+  tells verdicts ran keeps waves told counted quiet K mint submissions E within shows kept = is_told K mint submissions E within shows kept ran verdicts keeps waves told counted quiet
 
   pub runs : (verdicts : VerdictsOf) → KeepsIt h.shape → AreIdle h.shape (journals_of count limit h.shape now after)
       → OfKept h.shape (journals_of count limit h.shape logs shards) (λ _ _. files ≡ [] → IsResumed h.shape (journals_of count limit h.shape logs shards) (journals_of count limit h.shape now after))

@@ -14,6 +14,10 @@ pub on_ok_by : {B F : Type 0} {X Y : Type 0} (o : Result B F) → (X → Y) → 
 on_ok_by (Ok b) f so = f so
 on_ok_by (Err e) f so = tt
 
+pub on_ok_always : {B F : Type 0} {X : Type 0} (o : Result B F) → X → OnOk o X
+on_ok_always (Ok b) x = x
+on_ok_always (Err e) x = tt
+
 pub on_ok_all : {B F : Type 0} {X Y Z V W : Type 0} (o : Result B F) → (X → Y → Z → V → W) → OnOk o X → OnOk o Y → OnOk o Z → OnOk o V → OnOk o W
 on_ok_all (Ok b) f x y z v = f x y z v
 on_ok_all (Err e) f x y z v = tt
@@ -21,6 +25,10 @@ on_ok_all (Err e) f x y z v = tt
 pub if_err_by : {B F : Type 0} (P Q : F → Type 0) (o : Result B F) → ((e : F) → P e → Q e) → IfErr o P → IfErr o Q
 if_err_by P Q (Ok b) f so = tt
 if_err_by P Q (Err e) f so = f e so
+
+pub on_ok_both : {B F : Type 0} (X Y : Type 0) (o : Result B F) → OnOk o X → OnOk o Y → OnOk o (X × Y)
+on_ok_both X Y (Ok b) x y = (x, y)
+on_ok_both X Y (Err e) x y = tt
 
 -- what is said of what a whole run did is so of what is made of it
 pub if_made : {A B E F : Type 0} (P : B → Type 0) (Q : A → Type 0) (S : A → B → Type 0) (r : Result A E) (o : Result B F) → OnOk r (IsOk o) → IfOk r (λ a. IfOk o (S a)) → IfOk o P → ((a : A) (b : B) → S a b → P b → Q a) → IfOk r Q
@@ -47,3 +55,9 @@ module _ {D : Type 0} (count limit : D → ℕ) where
       → P (faults_of count limit b.header.shape b.logs b.shards) → P (faults_of count limit S back.logs back.shards)
   lent_faults P S b back same shape so =
       subst (λ l. P (faults_of count limit S l.logs l.shards)) same (subst (λ k. P (faults_of count limit k b.logs b.shards)) shape so)
+
+  pub lent_both : (P : (ℕ → List Record) → (ℕ → ℕ) → Type 0) (S : Shape) (b back : LedgerOf D) → b ≡ back → b.header.shape ≡ S
+      → P (journals_of count limit b.header.shape b.logs b.shards) (faults_of count limit b.header.shape b.logs b.shards) → P (journals_of count limit S back.logs back.shards) (faults_of count limit S back.logs back.shards)
+  lent_both P S b back same shape so =
+      subst (λ l. P (journals_of count limit S l.logs l.shards) (faults_of count limit S l.logs l.shards)) same
+      (subst (λ k. P (journals_of count limit k b.logs b.shards) (faults_of count limit k b.logs b.shards)) shape so)

@@ -2,3 +2,5 @@ pub mod Resumed
 pub mod Lent
 pub mod Ledgers
 pub mod Unspent
+pub mod Checking
+pub mod Answering

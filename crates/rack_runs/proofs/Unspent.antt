@@ -1,16 +1,16 @@
 -- Unspent hashes lie at their own shards, and are counted there.
-use Rattle.std.proofs.Common.{◌≡◌, ◌↔◌, ◌⊎◌, inl, inr, ℕ, zero, suc, ◌+◌, ◌<◌, ◌≤◌, Bool, true, false, ◌&&◌, ◌||◌, ◌==◌, if◌then◌else◌, List, [], ◌∷◌, ◌++◌, length, Some, refl, sym, ap, ◌∙◌, subst, arith}
-use Rattle.std.specs.Prelude.{slice_get, All}
+use Rattle.std.proofs.Common.{◌≡◌, ◌⊎◌, inl, inr, ℕ, suc, ◌+◌, ◌<◌, ◌≤◌, Bool, true, false, ◌&&◌, ◌||◌, ◌==◌, if◌then◌else◌, List, [], ◌∷◌, ◌++◌, length, Some, refl, sym, ap, ◌∙◌, subst, arith}
+use Rattle.std.specs.Prelude.{All}
 use Rattle.std.proofs.lemmas.List.{length-append}
 use Rattle.std.proofs.lemmas.List.Elements.{All-nil, All-head, All-tail}
 use Rattle.cbdc_model.specs.Records.{Digest, same_digest, Shape, Header, Batch, Answered, Record, record_of, kind_of, is_of, is_held, entries_in, lock_of, Genesis, Lock, Finish, Forget, Start, Prepare, Commit, Discard, Done}
 use Rattle.cbdc_model.specs.Ranges.{shard_of, shard_node}
 use Rattle.cbdc_model.specs.Status.{Status, status, has, held_inputs, taken_inputs, made_outputs, returned_inputs, finished_status, Unspent, Locked, Absent}
 use Rattle.cbdc_model.specs.Grammar.{AreHere, IsEntry, IsInGrammar}
-use Rattle.cbdc_model.specs.After.{After, IsFirst, IsJournal}
+use Rattle.cbdc_model.specs.After.{IsJournal}
 use Rattle.cbdc_model.specs.World.{IsUnspent}
 use Rattle.ledger_laws.proofs.Counts.{same_digest_is}
-use Rattle.ledger_laws.proofs.Lookups.{true_false, not_true, shard_of-lt}
+use Rattle.ledger_laws.proofs.Lookups.{not_true, shard_of-lt}
 use Rattle.ledger_laws.proofs.Moves.{test_step}
 use Rattle.shard_table.specs.Members.{IsSet}
 use Rattle.shard_core.specs.Agrees.{is_unspent}

@@ -1,6 +1,8 @@
 -- What runs leave of the ledger that a rack showed.
-use Rattle.std.specs.Prelude.{◌≡◌, ℕ, List, [], ◌++◌, Option}
-use Rattle.cbdc_model.specs.Records.{Shape, Record}
+use Rattle.std.specs.Prelude.{◌≡◌, ℕ, List, [], ◌++◌, reverse, Option}
+use Rattle.outside.specs.Counts.{Rose}
+use Rattle.cbdc_types.specs.declared.answer.Answer.{Answer}
+use Rattle.cbdc_model.specs.Records.{Shape, Compact, Record, journal}
 use Rattle.cbdc_model.specs.Coins.{Output, FullTx}
 use Rattle.cbdc_model.specs.Clean.{Clean}
 use Rattle.cbdc_model.specs.Lanes.{IsEnd}
@@ -10,7 +12,11 @@ use Rattle.cbdc_model.specs.Waves.{IsResumed, Waves}
 use Rattle.rack_laws.specs.Shown.{KeepsEach, HoldsEach}
 use Rattle.submissions.specs.Checks.{VerdictsOf}
 use Rattle.sound_laws.specs.SoundTest.{sound_by}
-use Rattle.file_runs.specs.Runs.{joined}
+use Rattle.rack_nodes.specs.Racked.{OfTold}
+use Rattle.caused_ledgers.specs.Caused.{IsCausedLedger}
+use Rattle.caused_ledgers.specs.Laws.{AllTell}
+use Rattle.file_runs.specs.Runs.{joined, IsFilesPiece}
+use Rattle.rack_runs.specs.Kinds.{IsLaneAnswer}
 
 -- journals that have grown at their ends from those at entry, and are kept
 pub record IsGrown (K : Shape) (mint : List Output) (submissions : List FullTx) (E X : ℕ → List Record) : Type 0 where
@@ -41,3 +47,21 @@ pub record IsCutShort {D : Type 0} (images : D → List ℕ → Type 0) (held : 
   pub exit : ℕ → List Record
   pub grown : IsGrown K mint (submissions ++ joined files) E exit
   pub disks : KeepsEach images held K exit
+
+-- a lane's fault ended a run over the ledger that the disks told, in which each record was caused: its journals have grown at their ends, where the
+-- disks told all each keeps its journal, with one record more or without, and the answer has its cause, by the counts of faults before and now and by
+-- what the disks that were told may hold
+pub record IsLaneFault {D : Type 0} (content : D → Option (List ℕ)) (images : D → List ℕ → Type 0) (limit : D → ℕ) (held back : ℕ → Option D) (before now : ℕ → ℕ) (next : Shape → ℕ → List Compact → Type 0) (answer : Answer) : Type 0 where
+  pub ledger : IsCausedLedger content held
+  pub exit : ℕ → List Record
+  pub grows : (n : ℕ) → IsEnd (journal n (reverse ledger.rows)) (exit n)
+  pub disks : AllTell content held ledger.shape → KeepsEach images back ledger.shape exit
+  pub cause : IsLaneAnswer ledger.shape (next ledger.shape) (λ n. journal n (reverse ledger.rows)) exit (λ n. Rose (before n) (now n)) (λ n c. OfTold (held n) (λ d. c ≡ limit d)) answer
+
+-- nothing is next for any lane
+abbrev pub NothingNext : Shape → ℕ → List Compact → Type 0
+NothingNext K lane txs = ⊥
+
+-- a batch of what a lane gets of one of these files, or what is left
+abbrev pub PieceNext : VerdictsOf → List (List FullTx) → Shape → ℕ → List Compact → Type 0
+PieceNext verdicts files K = IsFilesPiece K verdicts files

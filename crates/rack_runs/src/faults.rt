@@ -1,12 +1,13 @@
 // What the fault of a lane answers.
-ghost use Rattle.rack_runs.specs.Kinds.{IsLaneAnswer};
+ghost use Rattle.std.specs.Prelude.{◌≡◌};
+ghost use Rattle.rack_runs.specs.Kinds.{answer_to};
 
 use cbdc_types::Answer;
 use lane_driver::{LaneFault, LaneFaultKind};
 
 /// What a lane's fault answers.
 pub(crate) fn answer_of(fault: &LaneFault) -> Answer
-    ensures { IsLaneAnswer result }
+    ensures { result ≡ answer_to fault.now }
 {
     let node = fault.node;
     match fault.fault {
@@ -23,7 +24,5 @@ pub(crate) fn answer_of(fault: &LaneFault) -> Answer
         },
         LaneFaultKind::ClockEnd { stamp } => Answer::ClockEnd { node, stamp },
         LaneFaultKind::Memory => Answer::Memory,
-        // No shard refuses a call of an open batch where all records are caused, which is looked at before.
-        LaneFaultKind::Refused(_) => Answer::Memory,
     }
 }

@@ -1,14 +1,17 @@
 // A run over open nodes.
-ghost use Rattle.std.specs.Prelude.{◌≡◌, ◌≤◌, ◌++◌, ℕ, Bool, [], map, All, IfOk, IfSome, OnOk, IfErr, IsOk};
+ghost use Rattle.std.specs.Prelude.{◌≡◌, ◌⊎◌, Err, ◌≤◌, ◌++◌, ℕ, Bool, [], map, All, IfOk, IfSome, OnOk, IfErr, IsOk};
 ghost use Rattle.cbdc_model.specs.Coins.{FullTx as TxOf};
+ghost use Rattle.cbdc_model.specs.Lanes.{IsEnd};
 ghost use Rattle.cbdc_model.specs.World.{AreIdle};
 ghost use Rattle.cbdc_model.specs.Waves.{IsResumed, Waves};
 ghost use Rattle.input_files.specs.Limits.{IsShort};
 ghost use Rattle.submissions.specs.Checks.{TellsSound};
 ghost use Rattle.ledger_runs.specs.Turning.{OfKept, StaysKept};
-ghost use Rattle.file_runs.specs.Runs.{joined};
-ghost use Rattle.ledger_nodes.specs.Ledgers.{IsLedger, journals_of, faults_of, AreStored, AreQuiet};
-ghost use Rattle.rack_runs.specs.Kinds.{IsLaneAnswer};
+ghost use Rattle.ledger_runs.specs.Faults.{HaveFailed, MayHold};
+ghost use Rattle.file_runs.specs.Runs.{joined, IsFilesPiece};
+ghost use Rattle.ledger_nodes.specs.Ledgers.{IsLedger, journals_of, faults_of, opened_of, capacity_of, AreChecked, AreStored, AreQuiet};
+ghost use Rattle.rack_runs.specs.Kinds.{answer_to, IsLaneAnswer};
+ghost use Rattle.lane_driver.specs.declared.fault.LaneFault.{LaneFault as FaultOf};
 ghost use Rattle.rack_runs.specs.Telling.{CountAll, TellsRun};
 
 use crate::faults::answer_of;
@@ -55,7 +58,7 @@ fn unspent_of<D: Disk>(shards: &[ShardNode<D>]) -> Option<u64>
 
 // What a run came to, behind which the shards are these.
 fn came_of<D: Disk>(over: Result<Over, LaneFault>, shards: &[ShardNode<D>]) -> Result<Ran, Answer>
-    ensures kind { IfErr result IsLaneAnswer }
+    ensures fault { IfErr result (λ a. (a ≡ Answer.Memory) ⊎ ((e : FaultOf) × (over ≡ Err e) × (a ≡ answer_to e))) }
     ensures whole { OnOk result (IsOk over) }
     ensures same { IfOk result (λ r. IfOk over (λ o. (r.resumed ≡ o.resumed) × (r.waves ≡ o.waves))) }
     ensures unspent { IfOk result (λ r. CountAll (map (λ s. s.journal) shards.now) r.unspent) }
@@ -84,10 +87,10 @@ pub(crate) fn run_nodes<W: Wait, D: Disk, V: Verifier, G: Gate>(
 ) -> Behind<D>
     requires ledger { IsLedger nodes.header nodes.logs.items nodes.shards.items }
     requires short { All (λ txs. All IsShort txs) files.now }
+    requires checked { AreChecked D.count D.limit nodes.header.shape nodes.logs.items nodes.shards.items }
     ensures ledger { IsLedger result.nodes.header result.nodes.logs.items result.nodes.shards.items }
     ensures shape { result.nodes.header.shape ≡ nodes.header.shape }
     ensures counts { All (λ l. l.faults ≡ D.count l.disk) result.nodes.logs.items }
-    ensures kind { IfErr result.came IsLaneAnswer }
     ensures idle { OnOk result.came (AreIdle nodes.header.shape (journals_of D.count D.limit nodes.header.shape result.nodes.logs.items result.nodes.shards.items)) }
     ensures keeps { OfKept nodes.header.shape (journals_of D.count D.limit nodes.header.shape nodes.logs.items nodes.shards.items)
         (λ mint submissions. StaysKept nodes.header.shape (journals_of D.count D.limit nodes.header.shape nodes.logs.items nodes.shards.items)
@@ -108,6 +111,14 @@ pub(crate) fn run_nodes<W: Wait, D: Disk, V: Verifier, G: Gate>(
     ensures stored { AreStored D.content D.images nodes.logs.items nodes.shards.items → AreStored D.content D.images result.nodes.logs.items result.nodes.shards.items }
     ensures later { (n : ℕ) → faults_of D.count D.limit nodes.header.shape nodes.logs.items nodes.shards.items n
         ≤ faults_of D.count D.limit nodes.header.shape result.nodes.logs.items result.nodes.shards.items n }
+    ensures grows { (n : ℕ) → IsEnd (journals_of D.count D.limit nodes.header.shape nodes.logs.items nodes.shards.items n)
+        (journals_of D.count D.limit nodes.header.shape result.nodes.logs.items result.nodes.shards.items n) }
+
+    // What a fault answers has its cause.
+    ensures fault { IfErr result.came (IsLaneAnswer nodes.header.shape (IsFilesPiece nodes.header.shape (V.verdict_of verifier.now) files.now)
+        (journals_of D.count D.limit nodes.header.shape nodes.logs.items nodes.shards.items) (journals_of D.count D.limit nodes.header.shape result.nodes.logs.items result.nodes.shards.items)
+        (HaveFailed (opened_of D.count D.limit nodes.header.shape nodes.logs.items nodes.shards.items) (faults_of D.count D.limit nodes.header.shape result.nodes.logs.items result.nodes.shards.items))
+        (MayHold (capacity_of D.count D.limit nodes.header.shape nodes.logs.items nodes.shards.items))) }
 {
     let Nodes {
         header,

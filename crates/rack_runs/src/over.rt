@@ -1,12 +1,14 @@
 // A run over the nodes of a ledger.
-ghost use Rattle.std.specs.Prelude.{◌≡◌, ◌≤◌, ◌++◌, ℕ, Bool, [], All, IfOk, OnOk};
+ghost use Rattle.std.specs.Prelude.{◌≡◌, ◌≤◌, ◌++◌, ℕ, Bool, [], All, IfOk, IfErr, OnOk};
 ghost use Rattle.cbdc_model.specs.Coins.{FullTx as TxOf};
+ghost use Rattle.cbdc_model.specs.Lanes.{IsEnd};
 ghost use Rattle.cbdc_model.specs.World.{AreIdle};
 ghost use Rattle.cbdc_model.specs.Waves.{IsResumed, Waves};
 ghost use Rattle.input_files.specs.Limits.{IsShort};
 ghost use Rattle.submissions.specs.Checks.{TellsSound};
 ghost use Rattle.ledger_runs.specs.Turning.{OfKept, StaysKept};
-ghost use Rattle.file_runs.specs.Runs.{joined};
+ghost use Rattle.ledger_runs.specs.Faults.{IsRunCause, HaveFailed, MayHold};
+ghost use Rattle.file_runs.specs.Runs.{joined, IsFilesPiece};
 ghost use Rattle.rack_runs.specs.Telling.{TellsRun};
 
 use cbdc_types::{FullTx, List};
@@ -42,6 +44,7 @@ pub(crate) fn run_over<L: Turns, V: Verifier, G: Gate>(
     gate: &G,
 ) -> Result<Over, LaneFault>
     requires short { All (λ txs. All IsShort txs) files.now }
+    requires checked { L.checked ledger.old }
     ensures shape { L.shape ledger.new ≡ L.shape ledger.old }
     ensures idle { OnOk result (AreIdle (L.shape ledger.old) (L.journals ledger.new)) }
     ensures keeps { OfKept (L.shape ledger.old) (L.journals ledger.old)
@@ -55,6 +58,13 @@ pub(crate) fn run_over<L: Turns, V: Verifier, G: Gate>(
     ensures quiet { OnOk result (OfKept (L.shape ledger.old) (L.journals ledger.old) (λ _ _. L.quiet ledger.old → L.quiet ledger.new)) }
     ensures holds { L.holds ledger.old → L.holds ledger.new }
     ensures later { (n : ℕ) → L.faults ledger.old n ≤ L.faults ledger.new n }
+    ensures opened_same { (n : ℕ) → L.opened ledger.new n ≡ L.opened ledger.old n }
+    ensures capacity_same { (n : ℕ) → L.capacity ledger.new n ≡ L.capacity ledger.old n }
+    ensures grows { (n : ℕ) → IsEnd (L.journals ledger.old n) (L.journals ledger.new n) }
+
+    // A fault has its cause.
+    ensures fault { IfErr result (IsRunCause (L.shape ledger.old) (IsFilesPiece (L.shape ledger.old) (V.verdict_of verifier.now) files.now) (L.journals ledger.old) (L.journals ledger.new)
+        (HaveFailed (L.opened ledger.new) (L.faults ledger.new)) (MayHold (L.capacity ledger.new))) }
 {
     let resumed = match resume_all(alloc, ledger, gate) {
         Ok(resumed) => resumed,

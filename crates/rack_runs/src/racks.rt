@@ -2,10 +2,9 @@
 ghost use Rattle.std.specs.Prelude.{◌≤◌, ◌⊎◌, ℕ, [], All, IfOk, OnOk, IfErr};
 ghost use Rattle.input_files.specs.Limits.{IsShort};
 ghost use Rattle.rack_nodes.specs.Racked.{IsBack};
-ghost use Rattle.caused_ledgers.specs.Caused.{IsUnresumed};
+ghost use Rattle.caused_ledgers.specs.Caused.{IsCausedLedger, IsUnresumed};
 ghost use Rattle.rack_laws.specs.Shown.{OfShown};
-ghost use Rattle.rack_runs.specs.Kinds.{IsLaneAnswer};
-ghost use Rattle.rack_runs.specs.Runs.{IsRun, IsRecovered, IsCutShort};
+ghost use Rattle.rack_runs.specs.Runs.{IsRun, IsRecovered, IsCutShort, IsLaneFault, NothingNext, PieceNext};
 ghost use Rattle.rack_runs.specs.Telling.{IsTold};
 ghost use Rattle.submissions.specs.Checks.{VerdictsOf};
 
@@ -30,16 +29,21 @@ pub fn run_on<W: Wait, R: Rack, V: Verifier, G: Gate>(
 ) -> Result<Ran, Answer>
     requires all { (n : ℕ) → R.can_take rack.old n }
     requires short { All (λ txs. All IsShort txs) files.now }
+    // The rack showed a ledger, and each record of its history is caused by what stands before it.
+    ensures caused { OnOk result (IsCausedLedger R.Disk.content (R.held rack.old)) }
+
     // The ledger that the rack showed has its open batches at their end and the files' waves behind them, and each disk holds its journal.
     ensures ran { OnOk result (OfShown R.Disk.content (R.held rack.old) (IsRun R.Disk.images (R.held rack.new) (V.verdict_of verifier.now) files.now)) }
 
     // And what was done is told: the batches that were open, what came of each submission, and how many hashes are unspent now.
     ensures told { IfOk result (λ r. OfShown R.Disk.content (R.held rack.old) (IsTold R.Disk.images (R.held rack.new) (V.verdict_of verifier.now) files.now r)) }
 
-    // The nodes could not be opened, and the disks are back; or a lane met a fault: journals have grown at their ends, and are kept.
+    // The nodes could not be opened, or a record is not caused, and the disks are back; or the rack showed such a ledger and a lane met a
+    // fault, which has its cause: journals have grown at their ends, and are kept.
     ensures stopped { IfErr result (λ e. (IsUnresumed R.Disk.content R.Disk.images R.Disk.limit R.Disk.count (R.held rack.old) (R.count rack.old) (R.count rack.new) e
         × ((n : ℕ) → IsBack R.Disk.images R.Disk.limit (R.held rack.old n) (R.held rack.new n)))
-        ⊎ (IsLaneAnswer e × OfShown R.Disk.content (R.held rack.old) (IsCutShort R.Disk.images (R.held rack.new) files.now))) }
+        ⊎ (IsLaneFault R.Disk.content R.Disk.images R.Disk.limit (R.held rack.old) (R.held rack.new) (R.count rack.old) (R.count rack.new) (PieceNext (V.verdict_of verifier.now) files.now) e
+        × OfShown R.Disk.content (R.held rack.old) (IsCutShort R.Disk.images (R.held rack.new) files.now))) }
 
     ensures back { (n : ℕ) → R.can_take rack.new n }
     ensures later { (n : ℕ) → R.count rack.old n ≤ R.count rack.new n }
@@ -61,11 +65,13 @@ pub fn recover_on<W: Wait, R: Rack, G: Gate>(
     gate: &G,
 ) -> Result<Ran, Answer>
     requires all { (n : ℕ) → R.can_take rack.old n }
+    ensures caused { OnOk result (IsCausedLedger R.Disk.content (R.held rack.old)) }
     ensures recovered { OnOk result (OfShown R.Disk.content (R.held rack.old) (IsRecovered R.Disk.images (R.held rack.new))) }
     ensures told { IfOk result (λ r. (verdicts : VerdictsOf) × OfShown R.Disk.content (R.held rack.old) (IsTold R.Disk.images (R.held rack.new) verdicts [] r)) }
     ensures stopped { IfErr result (λ e. (IsUnresumed R.Disk.content R.Disk.images R.Disk.limit R.Disk.count (R.held rack.old) (R.count rack.old) (R.count rack.new) e
         × ((n : ℕ) → IsBack R.Disk.images R.Disk.limit (R.held rack.old n) (R.held rack.new n)))
-        ⊎ (IsLaneAnswer e × OfShown R.Disk.content (R.held rack.old) (IsCutShort R.Disk.images (R.held rack.new) []))) }
+        ⊎ (IsLaneFault R.Disk.content R.Disk.images R.Disk.limit (R.held rack.old) (R.held rack.new) (R.count rack.old) (R.count rack.new) NothingNext e
+        × OfShown R.Disk.content (R.held rack.old) (IsCutShort R.Disk.images (R.held rack.new) []))) }
     ensures back { (n : ℕ) → R.can_take rack.new n }
     ensures later { (n : ℕ) → R.count rack.old n ≤ R.count rack.new n }
 {

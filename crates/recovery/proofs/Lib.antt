@@ -1,2 +1,3 @@
 pub mod Rest
 mod Taking
+mod Untouched

@@ -32,7 +32,7 @@ all_still_open h k n p q t u (o ∷ os) e keeps above all =
     All-cons (IsOpen k q u) o os (still_open h k n p q t u o e keeps above.0 (All-head (IsOpen h p t) o os all))
     (all_still_open h k n p q t u os e keeps above.1 (All-tail (IsOpen h p t) o os all))
 
-split_rest : (os : List OpenLane) (i : ℕ) (o : OpenLane) → i < length os → o ≡ get_or os i o → drop i os ≡ o ∷ drop (i + 1) os
+pub split_rest : (os : List OpenLane) (i : ℕ) (o : OpenLane) → i < length os → o ≡ get_or os i o → drop i os ≡ o ∷ drop (i + 1) os
 split_rest os i o lt e = rw add-one (drop-cons os i o lt ∙ ap (λ x. x ∷ drop (suc i) os) (sym e))
 
 pub open_here : (h : Header) (p : ℕ → Phase) (t : ℕ → List Compact) (os : List OpenLane) (i : ℕ) (o : OpenLane) → i < length os → o ≡ get_or os i o

@@ -9,13 +9,15 @@ use Rattle.cbdc_model.specs.Sights.{Sight}
 use Rattle.lane_laws.specs.Calls.{AreParts, AreLocks, lock_of}
 use Rattle.lane_laws.specs.Traces.{ToldDiscarded, ToldCommitted, ToldPrepared}
 use Rattle.lane_laws.specs.Batches.{own}
-use Rattle.lane_laws.specs.Resuming.{IsTakenUp}
+use Rattle.lane_laws.specs.Resuming.{IsTakenUp, IsLeft}
+use Rattle.lane_laws.specs.Faults.{IsNoRefusal}
 use Rattle.lane_laws.proofs.Calls.{are_locks}
 use Rattle.lane_laws.proofs.Own.{record_own}
 use Rattle.lane_laws.proofs.Runs.{prepared_run}
 use Rattle.lane_laws.proofs.Resumes.{takes_discarded, takes_committed, takes_prepared, leaves_discarded, leaves_committed, leaves_prepared}
 use Rattle.lane_driver.specs.declared.fault.LaneFault.{LaneFault}
-use Rattle.lane_driver.specs.Stops.{IsDiscardedStopped, IsCommittedStopped, IsPreparedStopped}
+use Rattle.lane_driver.specs.declared.fault.Stop.{Stop}
+use Rattle.lane_driver.specs.Stops.{IsFaultOf, IsDiscardedStopped, IsCommittedStopped, IsPreparedStopped}
 use Rattle.recovery.specs.Open.{IsUnfinished, IsResumeStopped}
 
 -- a batch's Commit under its Done and its Discard
@@ -39,13 +41,18 @@ module _ (K : Shape) (alone : Bool) (o : OpenLane) (log log' : Sight) (I J : ℕ
   pub prepared_outcomes : (n : ℕ) (os : List Outcome) → o.phase ≡ Prepared → ToldPrepared alone o.batch o.stamp n parts log log' I J os → IsUnfinished o.phase K o log I → os ≡ outcomes_of log'.seen o.batch
   prepared_outcomes n os e told h =
       let d = at_phase Prepared e h in
-      let r = prepared_run K [] alone o.batch.lane o.batch.number d.home o.txs log log' I J o.stamp n parts os (record { prepare = d.prepare; open_number = d.number; shape = d.shape }) d.others own_parts told in
+      let r = prepared_run K [] alone o.batch.lane o.batch.number d.is_open.home o.txs log log' I J o.stamp n parts os (record { prepare = d.is_open.prepare; open_number = d.is_open.number; shape = d.is_open.shape }) d.is_open.others own_parts told in
       sym (ap outcomes_in (record_own 7 o.batch log'.seen
       ∙ ap (λ L. record_of 7 L o.batch) (r.rest.log_own ∙ ap (λ L. Done r.rest.ended o.batch ∷ Discard r.rest.discarded o.batch ∷ L) r.commit.own_is)
       ∙ commit_below o.batch r.rest.ended r.rest.discarded r.committed os (own o.batch.lane log.seen)))
 
-  pub prepared_left : (n : ℕ) (fault : LaneFault) → o.phase ≡ Prepared → IsPreparedStopped K alone o.batch o.stamp n parts log log' I J fault → IsResumeStopped K alone o log I log' J fault
-  prepared_left n fault e (node, f, at, stop) = inr (λ h. (node, f, at, leaves_prepared K alone o.batch o.txs o.stamp log log' I J n parts node f (at_phase Prepared e h) own_parts stop))
+  -- where it stopped no shard refused, and its lane stopped so
+  module _ (n : ℕ) (e : Stop) (phase : o.phase ≡ Prepared) (stop : IsPreparedStopped K alone o.batch o.stamp n parts log log' I J e) where
+    pub prepared_granted : IsUnfinished o.phase K o log I → IsNoRefusal e.fault
+    prepared_granted h = subst (λ x. IsNoRefusal x.fault) (sym stop.2) (leaves_prepared K alone o.batch o.txs o.stamp log log' I J n parts stop.0 stop.1 (at_phase Prepared phase h) own_parts stop.3).granted
+
+    pub prepared_left : (fault : LaneFault) → IsFaultOf fault e.node e.fault → IsResumeStopped K alone o log I log' J fault
+    prepared_left fault is = inr (λ h. (stop.0, stop.1, subst (λ x. IsFaultOf fault x.node x.fault) stop.2 is, leaves_prepared K alone o.batch o.txs o.stamp log log' I J n parts stop.0 stop.1 (at_phase Prepared phase h) own_parts stop.3))
 
   module _ (locks : List (ℕ × LockCall)) (locks_are : locks ≡ map (lock_of o.batch o.stamp) parts) where
     own_locks : AreLocks K o.txs o.batch o.stamp locks
@@ -56,16 +63,28 @@ module _ (K : Shape) (alone : Bool) (o : OpenLane) (log log' : Sight) (I J : ℕ
         let d = at_phase Committed e h in
         takes_committed K alone o.batch o.txs d.0 log log' I J o.stamp o.stamp o.outcomes n locks d.1 own_locks (subst (λ qs. ToldCommitted alone o.batch o.stamp qs n locks log log' I J) os_are told)
 
-    pub committed_left : (n : ℕ) (os : List Outcome) (fault : LaneFault) → os ≡ o.outcomes → o.phase ≡ Committed → IsCommittedStopped K alone o.batch o.stamp os n locks log log' I J fault → IsResumeStopped K alone o log I log' J fault
-    committed_left n os fault os_are e stop' = go (subst (λ qs. IsCommittedStopped K alone o.batch o.stamp qs n locks log log' I J fault) os_are stop')
-      where
-        go : IsCommittedStopped K alone o.batch o.stamp o.outcomes n locks log log' I J fault → IsResumeStopped K alone o log I log' J fault
-        go (node, f, at, stop) = inr (λ h. (let d = at_phase Committed e h in
-            (node, f, at, leaves_committed K alone o.batch o.txs d.0 log log' I J o.stamp o.stamp o.outcomes n locks node f d.1 own_locks stop)))
+    module _ (n : ℕ) (os : List Outcome) (e : Stop) (os_are : os ≡ o.outcomes) (phase : o.phase ≡ Committed) (stop' : IsCommittedStopped K alone o.batch o.stamp os n locks log log' I J e) where
+      stop : IsCommittedStopped K alone o.batch o.stamp o.outcomes n locks log log' I J e
+      stop = subst (λ qs. IsCommittedStopped K alone o.batch o.stamp qs n locks log log' I J e) os_are stop'
+
+      left : (h : IsUnfinished o.phase K o log I) → IsLeft K alone o.batch log I log' J stop.0 stop.1
+      left h = let d = at_phase Committed phase h in leaves_committed K alone o.batch o.txs d.0 log log' I J o.stamp o.stamp o.outcomes n locks stop.0 stop.1 d.1 own_locks stop.3
+
+      pub committed_granted : IsUnfinished o.phase K o log I → IsNoRefusal e.fault
+      committed_granted h = subst (λ x. IsNoRefusal x.fault) (sym stop.2) (left h).granted
+
+      pub committed_left : (fault : LaneFault) → IsFaultOf fault e.node e.fault → IsResumeStopped K alone o log I log' J fault
+      committed_left fault is = inr (λ h. (stop.0, stop.1, subst (λ x. IsFaultOf fault x.node x.fault) stop.2 is, left h))
 
     pub discarded_taken : o.phase ≡ Discarded → ToldDiscarded alone o.batch o.stamp 0 locks log log' I J → IsUnfinished o.phase K o log I → IsTakenUp K alone o.batch log I log' J
     discarded_taken e told h = let d = at_phase Discarded e h in takes_discarded K alone o.batch o.txs d.0 log log' I J o.stamp o.stamp 0 locks d.1 own_locks told
 
-    pub discarded_left : (fault : LaneFault) → o.phase ≡ Discarded → IsDiscardedStopped K alone o.batch o.stamp 0 locks log log' I J fault → IsResumeStopped K alone o log I log' J fault
-    discarded_left fault e (node, f, at, stop) = inr (λ h. (let d = at_phase Discarded e h in
-        (node, f, at, leaves_discarded K alone o.batch o.txs d.0 log log' I J o.stamp o.stamp 0 locks node f d.1 own_locks stop)))
+    module _ (e : Stop) (phase : o.phase ≡ Discarded) (stop : IsDiscardedStopped K alone o.batch o.stamp 0 locks log log' I J e) where
+      gone : (h : IsUnfinished o.phase K o log I) → IsLeft K alone o.batch log I log' J stop.0 stop.1
+      gone h = let d = at_phase Discarded phase h in leaves_discarded K alone o.batch o.txs d.0 log log' I J o.stamp o.stamp 0 locks stop.0 stop.1 d.1 own_locks stop.3
+
+      pub discarded_granted : IsUnfinished o.phase K o log I → IsNoRefusal e.fault
+      discarded_granted h = subst (λ x. IsNoRefusal x.fault) (sym stop.2) (gone h).granted
+
+      pub discarded_left : (fault : LaneFault) → IsFaultOf fault e.node e.fault → IsResumeStopped K alone o log I log' J fault
+      discarded_left fault is = inr (λ h. (stop.0, stop.1, subst (λ x. IsFaultOf fault x.node x.fault) stop.2 is, gone h))

@@ -10,7 +10,7 @@ use Rattle.cbdc_model.specs.Grammar.{HasSize, IsBatchOf, IsCompact}
 use Rattle.cbdc_model.specs.Records.{Shape, Record, outcomes_of}
 use Rattle.cbdc_model.specs.Sights.{Sight}
 use Rattle.cbdc_types.specs.declared.calls.NodeFault.{NodeFault}
-use Rattle.lane_laws.specs.Resuming.{IsOpenAt, IsCommittedAt, IsDiscardedAt, IsLeft}
+use Rattle.lane_laws.specs.Resuming.{IsPreparedAt, IsCommittedAt, IsDiscardedAt, IsLeft}
 use Rattle.lane_driver.specs.declared.fault.LaneFault.{LaneFault}
 use Rattle.lane_driver.specs.Stops.{IsFaultOf, HasNoMemory}
 use Rattle.lane_driver.specs.Told.{IsLane, IsStamp}
@@ -57,11 +57,15 @@ pub record IsResumed (o : OpenLane) (r : ResumedBatch) : Type 0 where
 abbrev pub AreResumed : List OpenLane → List ResumedBatch → Type 0
 AreResumed os rs = AllZip IsResumed os rs
 
--- the journals have of the open batch what is told of it
+-- the journals have of the open batch what is told of it, and each shard has come as far with it as its phase lets it
 abbrev pub IsUnfinished : OpenPhase → Shape → OpenLane → Sight → (ℕ → Sight) → Type 0
-IsUnfinished Prepared K o log shards = IsOpenAt InPrepare K o.batch o.txs o.stamp log shards
+IsUnfinished Prepared K o log shards = IsPreparedAt K o.batch o.txs o.stamp log shards
 IsUnfinished Committed K o log shards = (prepared : ℕ) × IsCommittedAt K o.batch o.txs prepared o.stamp o.outcomes log shards
 IsUnfinished Discarded K o log shards = (prepared : ℕ) × IsDiscardedAt K o.batch o.txs prepared o.stamp log shards
+
+-- the same of all of them
+abbrev pub AreUnfinished : Shape → List OpenLane → Sight → (ℕ → Sight) → Type 0
+AreUnfinished K os log shards = All (λ o. IsUnfinished o.phase K o log shards) os
 
 -- the outcomes of the batch are those of the Commit that was written now, or those that it had
 abbrev pub HasItsOutcomes : OpenPhase → OpenLane → List Record → ResumedBatch → Type 0

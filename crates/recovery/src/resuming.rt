@@ -1,18 +1,18 @@
 // Open batches are taken to their end.
-ghost use Rattle.std.specs.Prelude.{◌≡◌, ◌≢◌, ◌≤◌, ◌<◌, ℕ, [], length, IfOk, IfErr, OnOk, All};
+ghost use Rattle.std.specs.Prelude.{◌≡◌, ◌≢◌, ◌≤◌, ◌<◌, ℕ, true, [], length, IfOk, IfErr, OnOk, All};
 ghost use Rattle.std.specs.Vec.{vec_capacity};
 ghost use Rattle.cbdc_model.specs.Slots.{Idle};
 ghost use Rattle.cbdc_types.specs.declared.batch.Phase.TheVariants.{Prepared, Committed, Discarded};
 ghost use Rattle.lane_laws.specs.Resuming.{IsTakenUp};
-ghost use Rattle.lane_driver.specs.Told.{KeepsOthers, AreShardsOf, KeepHeaders};
+ghost use Rattle.lane_driver.specs.Told.{KeepsOthers, AreShardsOf, KeepNodes};
 ghost use Rattle.lane_driver.specs.Causes.{IsCausedFault};
-ghost use Rattle.recovery.specs.Open.{IsOpen, LanesRise, IsResumed, AreResumed, IsUnfinished, HasItsOutcomes, IsResumeStopped};
+ghost use Rattle.recovery.specs.Open.{IsOpen, LanesRise, IsResumed, AreResumed, IsUnfinished, AreUnfinished, HasItsOutcomes, IsResumeStopped};
 
 use crate::resumed::{Resumed, ResumedBatch};
 use cbdc_types::{List, OpenLane, Outcome, Outcomes, Phase, Shape};
 use lane_driver::{
     BatchRoom, LaneFault, LaterRoom, LogPort, PortSet, Ports, from_committed, from_discarded,
-    from_prepared, lock_calls, no_memory,
+    from_prepared, lane_fault, lock_calls, no_memory,
 };
 use outside::Gate;
 use std::alloc::{AllocError, Global};
@@ -36,6 +36,7 @@ fn resume_prepared<S: PortSet, L: LogPort, G: Gate>(
     requires same { S.alone ≡ L.alone }
     requires at { L.at ports.old.log ≡ (L.header ports.old.log).node }
     requires is_open { IsOpen (L.header ports.old.log) (L.phase ports.old.log) (L.open_txs ports.old.log) unfinished.now }
+    requires stands { IsUnfinished unfinished.now.phase shape.now unfinished.now (L.sights ports.old.log (L.at ports.old.log)) (S.sights ports.old.shards) }
     requires shape { (L.header ports.old.log).shape ≡ shape.now }
     requires count { S.count ports.old.shards ≡ shape.now.shards }
     requires ledger { AreShardsOf shape.now (S.sights ports.old.shards) }
@@ -52,7 +53,8 @@ fn resume_prepared<S: PortSet, L: LogPort, G: Gate>(
     ensures shard_later { (n : ℕ) → S.faults ports.old.shards n ≤ S.faults ports.new.shards n }
     ensures log_later { (n : ℕ) → L.faults ports.old.log n ≤ L.faults ports.new.log n }
     ensures elsewhere { (n : ℕ) → n ≢ L.at ports.old.log → L.sights ports.new.log n ≡ L.sights ports.old.log n }
-    ensures headers { KeepHeaders (S.sights ports.old.shards) (S.sights ports.new.shards) }
+    ensures nodes { KeepNodes (S.sights ports.old.shards) (S.sights ports.new.shards) }
+    ensures log_nodes { KeepNodes (L.sights ports.old.log) (L.sights ports.new.log) }
     ensures log_holds { L.holds ports.old.log → L.holds ports.new.log }
     ensures shard_holds { S.holds ports.old.shards → S.holds ports.new.shards }
     ensures resumed { IfOk result (IsResumed unfinished.now) }
@@ -76,7 +78,7 @@ fn resume_prepared<S: PortSet, L: LogPort, G: Gate>(
             phase: Phase::Prepared,
             outcomes,
         }),
-        Err(fault) => Err(fault),
+        Err(stop) => Err(lane_fault(stop)),
     }
 }
 
@@ -92,6 +94,7 @@ fn resume_committed<S: PortSet, L: LogPort, G: Gate>(
     requires same { S.alone ≡ L.alone }
     requires at { L.at ports.old.log ≡ (L.header ports.old.log).node }
     requires is_open { IsOpen (L.header ports.old.log) (L.phase ports.old.log) (L.open_txs ports.old.log) unfinished.now }
+    requires stands { IsUnfinished unfinished.now.phase shape.now unfinished.now (L.sights ports.old.log (L.at ports.old.log)) (S.sights ports.old.shards) }
     requires shape { (L.header ports.old.log).shape ≡ shape.now }
     requires count { S.count ports.old.shards ≡ shape.now.shards }
     requires ledger { AreShardsOf shape.now (S.sights ports.old.shards) }
@@ -108,7 +111,8 @@ fn resume_committed<S: PortSet, L: LogPort, G: Gate>(
     ensures shard_later { (n : ℕ) → S.faults ports.old.shards n ≤ S.faults ports.new.shards n }
     ensures log_later { (n : ℕ) → L.faults ports.old.log n ≤ L.faults ports.new.log n }
     ensures elsewhere { (n : ℕ) → n ≢ L.at ports.old.log → L.sights ports.new.log n ≡ L.sights ports.old.log n }
-    ensures headers { KeepHeaders (S.sights ports.old.shards) (S.sights ports.new.shards) }
+    ensures nodes { KeepNodes (S.sights ports.old.shards) (S.sights ports.new.shards) }
+    ensures log_nodes { KeepNodes (L.sights ports.old.log) (L.sights ports.new.log) }
     ensures log_holds { L.holds ports.old.log → L.holds ports.new.log }
     ensures shard_holds { S.holds ports.old.shards → S.holds ports.new.shards }
     ensures resumed { IfOk result (IsResumed unfinished.now) }
@@ -149,7 +153,7 @@ fn resume_committed<S: PortSet, L: LogPort, G: Gate>(
             phase: Phase::Committed,
             outcomes,
         }),
-        Err(fault) => Err(fault),
+        Err(stop) => Err(lane_fault(stop)),
     }
 }
 
@@ -165,6 +169,7 @@ fn resume_discarded<S: PortSet, L: LogPort, G: Gate>(
     requires same { S.alone ≡ L.alone }
     requires at { L.at ports.old.log ≡ (L.header ports.old.log).node }
     requires is_open { IsOpen (L.header ports.old.log) (L.phase ports.old.log) (L.open_txs ports.old.log) unfinished.now }
+    requires stands { IsUnfinished unfinished.now.phase shape.now unfinished.now (L.sights ports.old.log (L.at ports.old.log)) (S.sights ports.old.shards) }
     requires shape { (L.header ports.old.log).shape ≡ shape.now }
     requires count { S.count ports.old.shards ≡ shape.now.shards }
     requires ledger { AreShardsOf shape.now (S.sights ports.old.shards) }
@@ -181,7 +186,8 @@ fn resume_discarded<S: PortSet, L: LogPort, G: Gate>(
     ensures shard_later { (n : ℕ) → S.faults ports.old.shards n ≤ S.faults ports.new.shards n }
     ensures log_later { (n : ℕ) → L.faults ports.old.log n ≤ L.faults ports.new.log n }
     ensures elsewhere { (n : ℕ) → n ≢ L.at ports.old.log → L.sights ports.new.log n ≡ L.sights ports.old.log n }
-    ensures headers { KeepHeaders (S.sights ports.old.shards) (S.sights ports.new.shards) }
+    ensures nodes { KeepNodes (S.sights ports.old.shards) (S.sights ports.new.shards) }
+    ensures log_nodes { KeepNodes (L.sights ports.old.log) (L.sights ports.new.log) }
     ensures log_holds { L.holds ports.old.log → L.holds ports.new.log }
     ensures shard_holds { S.holds ports.old.shards → S.holds ports.new.shards }
     ensures resumed { IfOk result (IsResumed unfinished.now) }
@@ -227,7 +233,7 @@ fn resume_discarded<S: PortSet, L: LogPort, G: Gate>(
             phase: Phase::Discarded,
             outcomes,
         }),
-        Err(fault) => Err(fault),
+        Err(stop) => Err(lane_fault(stop)),
     }
 }
 
@@ -242,6 +248,7 @@ pub fn resume_lane<S: PortSet, L: LogPort, G: Gate>(
     requires same { S.alone ≡ L.alone }
     requires at { L.at ports.old.log ≡ (L.header ports.old.log).node }
     requires is_open { IsOpen (L.header ports.old.log) (L.phase ports.old.log) (L.open_txs ports.old.log) unfinished.now }
+    requires stands { IsUnfinished unfinished.now.phase shape.now unfinished.now (L.sights ports.old.log (L.at ports.old.log)) (S.sights ports.old.shards) }
     requires shape { (L.header ports.old.log).shape ≡ shape.now }
     requires count { S.count ports.old.shards ≡ shape.now.shards }
     requires ledger { AreShardsOf shape.now (S.sights ports.old.shards) }
@@ -258,7 +265,8 @@ pub fn resume_lane<S: PortSet, L: LogPort, G: Gate>(
     ensures shard_later { (n : ℕ) → S.faults ports.old.shards n ≤ S.faults ports.new.shards n }
     ensures log_later { (n : ℕ) → L.faults ports.old.log n ≤ L.faults ports.new.log n }
     ensures elsewhere { (n : ℕ) → n ≢ L.at ports.old.log → L.sights ports.new.log n ≡ L.sights ports.old.log n }
-    ensures headers { KeepHeaders (S.sights ports.old.shards) (S.sights ports.new.shards) }
+    ensures nodes { KeepNodes (S.sights ports.old.shards) (S.sights ports.new.shards) }
+    ensures log_nodes { KeepNodes (L.sights ports.old.log) (L.sights ports.new.log) }
     ensures log_holds { L.holds ports.old.log → L.holds ports.new.log }
     ensures shard_holds { S.holds ports.old.shards → S.holds ports.new.shards }
     ensures resumed { IfOk result (IsResumed unfinished.now) }
@@ -272,7 +280,7 @@ pub fn resume_lane<S: PortSet, L: LogPort, G: Gate>(
 
 /// Takes each open batch of a coordinator's lanes to its end, in the list's order: a prepared batch asks Lock again at
 /// each concerned shard and goes on, a committed one asks Finish, a discarded one Forget. The list has each lane that is
-/// not idle once, in rising order.
+/// not idle once, in rising order. Where it has more than one, no other lane writes meanwhile.
 pub fn resume<S: PortSet, L: LogPort, G: Gate>(
     alloc: Global,
     shape: &Shape,
@@ -282,7 +290,9 @@ pub fn resume<S: PortSet, L: LogPort, G: Gate>(
 ) -> Result<Resumed, LaneFault>
     requires same { S.alone ≡ L.alone }
     requires at { L.at ports.old.log ≡ (L.header ports.old.log).node }
+    requires alone { 1 < length lanes.now → S.alone ≡ true }
     requires is_open { All (IsOpen (L.header ports.old.log) (L.phase ports.old.log) (L.open_txs ports.old.log)) lanes.now }
+    requires stand { AreUnfinished shape.now lanes.now (L.sights ports.old.log (L.at ports.old.log)) (S.sights ports.old.shards) }
     requires rise { LanesRise lanes.now }
     requires shape { (L.header ports.old.log).shape ≡ shape.now }
     requires count { S.count ports.old.shards ≡ shape.now.shards }
@@ -295,7 +305,8 @@ pub fn resume<S: PortSet, L: LogPort, G: Gate>(
     ensures shard_later { (n : ℕ) → S.faults ports.old.shards n ≤ S.faults ports.new.shards n }
     ensures log_later { (n : ℕ) → L.faults ports.old.log n ≤ L.faults ports.new.log n }
     ensures elsewhere { (n : ℕ) → n ≢ L.at ports.old.log → L.sights ports.new.log n ≡ L.sights ports.old.log n }
-    ensures headers { KeepHeaders (S.sights ports.old.shards) (S.sights ports.new.shards) }
+    ensures nodes { KeepNodes (S.sights ports.old.shards) (S.sights ports.new.shards) }
+    ensures log_nodes { KeepNodes (L.sights ports.old.log) (L.sights ports.new.log) }
     ensures log_holds { L.holds ports.old.log → L.holds ports.new.log }
     ensures shard_holds { S.holds ports.old.shards → S.holds ports.new.shards }
     ensures resumed { IfOk result (λ r. AreResumed lanes.now r.batches) }

@@ -1,3 +1,4 @@
+pub mod Checked
 pub mod TurnStep
 pub mod Rests
 pub mod OtherLanes

@@ -14,7 +14,8 @@ use Rattle.ledger_laws.proofs.Moves.{split_test, all_structure, all_more}
 use Rattle.ledger_laws.proofs.FirstJournals.{first_beyond}
 use Rattle.ledger_laws.proofs.Ledger.{steady}
 use Rattle.ledger_laws.proofs.Settling.{shard_idle, shard_number, shard_stamp}
-use Rattle.run_laws.specs.Runs.{seen_by, RestLaw}
+use Rattle.run_laws.specs.Runs.{seen_by, RestLaw, CheckedRestLaw}
+use Rattle.run_laws.proofs.Checked.{Any, rows_of}
 
 -- a record that was found is of that kind and batch
 found : (kind : ℕ) (J : List Record) (b : Batch) (r : Record) → record_of kind J b ≡ Some r → ((kind_of r == kind) && is_of b r) ≡ true
@@ -160,3 +161,7 @@ pub rest_law : RestLaw
 rest_law K mint submissions lane logs shards some home shape kept idle =
     rests K (minted mint) (IsProperCompact submissions) some kept.later (steady K (minted mint) (IsProperCompact submissions) kept.later kept.kept)
     lane home logs shards kept.history.journals_are idle shape
+
+pub checked_rest_law : CheckedRestLaw
+checked_rest_law K m lane logs shards some home shape checked idle =
+    rests K m Any some checked.later (rows_of K m (seen_by K logs shards) checked) lane home logs shards checked.history.journals_are idle shape

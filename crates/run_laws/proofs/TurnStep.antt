@@ -8,7 +8,9 @@ use Rattle.cbdc_model.specs.Sights.{Sight}
 use Rattle.lane_laws.specs.Batches.{view}
 use Rattle.ledger_laws.proofs.Turns.{made_lift, turns_begin, turns_next, turns_wave}
 use Rattle.ledger_laws.proofs.LaneLaws.{wave_law}
-use Rattle.run_laws.specs.Runs.{seen_by, IsTurn, TurnLaw}
+use Rattle.ledger_laws.proofs.Together.{wave_keeps}
+use Rattle.run_laws.specs.Runs.{seen_by, IsTurn, TurnLaw, CheckedTurnLaw}
+use Rattle.run_laws.proofs.Checked.{Any, any_txs, to_lists, to_checked}
 
 -- the lane sees its coordinator and the shards
 abbrev pub sees : Shape → ℕ → ℕ → Bool
@@ -71,3 +73,9 @@ pub turn_law : TurnLaw
 turn_law K mint submissions pieces lane logs shards logs' shards' some home pass kept turn next =
     wave_law K mint submissions (λ l. pieces) (seen_by K logs shards) (seen_by K logs' shards') some (λ l. pass) kept
     (one_wave K pieces lane logs shards logs' shards' home turn (minted mint) next)
+
+pub checked_turn_law : CheckedTurnLaw
+checked_turn_law K m pieces lane logs shards logs' shards' some home checked turn next =
+    to_checked K m (seen_by K logs' shards') some
+    (wave_keeps K m Any some (λ l. pieces) (λ l txs h. any_txs txs) (seen_by K logs shards) (seen_by K logs' shards')
+    (to_lists K m (seen_by K logs shards) some checked) (one_wave K pieces lane logs shards logs' shards' home turn m next))

@@ -1,5 +1,5 @@
--- What kept journals say of a lane's fault.
-use Rattle.std.specs.Prelude.{◌≡◌, ◌⊎◌, ℕ, ◌+◌, ◌-◌, ◌^◌, ◌<◌, true, nat_lt, if◌then◌else◌, List, Some}
+-- What checked journals say of a lane's fault.
+use Rattle.std.specs.Prelude.{◌≡◌, ℕ, ◌+◌, ◌-◌, ◌^◌, ◌<◌, true, nat_lt, if◌then◌else◌, List, Some}
 use Rattle.cbdc_types.specs.declared.calls.Refused.{Refused}
 use Rattle.cbdc_types.specs.declared.calls.NodeFault.{NodeFault}
 use Rattle.cbdc_types.specs.declared.calls.NodeFault.TheVariants.{Broken, Refused as Refuses, ClockEnd, Full, DiskFault, Memory}
@@ -8,61 +8,75 @@ use Rattle.cbdc_model.specs.Slots.{slot, Idle, InPrepare}
 use Rattle.cbdc_model.specs.Ranges.{home_of, shard_node, part}
 use Rattle.cbdc_model.specs.Room.{need_of}
 use Rattle.cbdc_model.specs.Due.{used_of, prepare_record, lock_record}
-use Rattle.cbdc_model.specs.Coins.{Output, FullTx}
-use Rattle.cbdc_model.specs.World.{KeptJournals}
-use Rattle.cbdc_model.specs.Sights.{Sight}
+use Rattle.cbdc_types.specs.Limits.{IsWithinLimits}
+use Rattle.cbdc_model.specs.History.{Minted}
+use Rattle.cbdc_model.specs.Sights.{Sight, HasRisen}
 use Rattle.lane_laws.specs.Calls.{is_concerned}
 use Rattle.lane_laws.specs.Faults.{IsOpenFault, IsBatchFault}
+use Rattle.run_laws.specs.Checked.{CheckedJournals}
 use Rattle.run_laws.specs.Runs.{seen_by}
 
--- in kept journals no shard refuses a call of a lane's open batch
+-- in checked journals no shard refuses a call of a lane's open batch
 abbrev pub GrantLaw : Type 0
-GrantLaw = (K : Shape) (mint : List Output) (submissions : List FullTx) (logs shards : ℕ → Sight) (b : Batch) (txs : List Compact) (node : ℕ) (why : Refused)
-    → 0 < K.shards → home_of K b.lane < K.coordinators → KeptJournals K mint submissions (seen_by K logs shards)
+GrantLaw = (K : Shape) (m : Minted) (logs shards : ℕ → Sight) (b : Batch) (txs : List Compact) (node : ℕ) (why : Refused)
+    → 0 < K.shards → home_of K b.lane < K.coordinators → CheckedJournals K m (seen_by K logs shards)
     → IsOpenFault K b txs (logs (home_of K b.lane)) shards node (Refuses why) → ⊥
 
--- the record that the lane needs next at this node: where it is idle, its next Prepare at its coordinator; where its batch is prepared, the
--- Lock of a concerned shard that has not come to this batch
-pub data IsNext (K : Shape) (lane : ℕ) (J : ℕ → List Record) (node : ℕ) (r : Record) : Type 0 where
-  next_prepare : (txs : List Compact) → node ≡ home_of K lane → (slot (J node) lane).phase ≡ Idle → r ≡ prepare_record (J node) lane txs → IsNext K lane J node r
+-- the record that the lane needs next at this node: where it is idle, its next Prepare at its coordinator, of transactions that are next; where its
+-- batch is prepared, the Lock of a concerned shard that has not come to this batch
+pub data IsNext (K : Shape) (lane : ℕ) (next : List Compact → Type 0) (J : ℕ → List Record) (node : ℕ) (r : Record) : Type 0 where
+  next_prepare : (txs : List Compact) → next txs → node ≡ home_of K lane → (slot (J node) lane).phase ≡ Idle → r ≡ prepare_record (J node) lane txs → IsNext K lane next J node r
   next_lock : (b : Batch) (t : ℕ) (txs : List Compact) (s : ℕ) → b.lane ≡ lane → node ≡ shard_node K s → is_concerned K txs s ≡ true → (slot (J (home_of K b.lane)) b.lane).phase ≡ InPrepare
       → record_of 6 (J (home_of K b.lane)) b ≡ Some (Prepare t b txs) → (slot (J node) b.lane).number < b.number
-      → r ≡ lock_record (J node) (record { batch = b; part = part K.shards s 0 txs; cause = t }) → IsNext K lane J node r
+      → r ≡ lock_record (J node) (record { batch = b; part = part K.shards s 0 txs; cause = t }) → IsNext K lane next J node r
 
 -- the node, on a disk of so many bytes, has no room for what that record needs
-pub record HasNoRoom (K : Shape) (lane : ℕ) (J : ℕ → List Record) (limit node used need capacity : ℕ) : Type 0 where
+pub record HasNoRoom (K : Shape) (lane : ℕ) (next : List Compact → Type 0) (J : ℕ → List Record) (limit node used need capacity : ℕ) : Type 0 where
   pub wanted : Record
-  pub is_next : IsNext K lane J node wanted
+  pub is_next : IsNext K lane next J node wanted
   pub limit_is : capacity ≡ limit
   pub used_is : used ≡ used_of (J node)
   pub need_is : need ≡ need_of K (J node) wanted
   pub above : capacity < used + need
 
 -- or no stamp for it
-pub record HasNoStamp (K : Shape) (lane : ℕ) (J : ℕ → List Record) (node stamp : ℕ) : Type 0 where
+pub record HasNoStamp (K : Shape) (lane : ℕ) (next : List Compact → Type 0) (J : ℕ → List Record) (node stamp : ℕ) : Type 0 where
   pub wanted : Record
-  pub is_next : IsNext K lane J node wanted
+  pub is_next : IsNext K lane next J node wanted
   pub stamp_is : stamp ≡ stamp_of wanted
   pub above : 2 ^ 62 < stamp
 
--- why a lane stopped, by the journals at its stop: Full and ClockEnd at the record that it needs next, ClockEnd at a later one only past the
--- last stamp of all; nothing is refused
-abbrev pub IsStopBy : Shape → ℕ → (ℕ → List Record) → ℕ → ℕ → NodeFault → Type 0
-IsStopBy K lane J limit node (Broken since) = Unit {0}
-IsStopBy K lane J limit node (Refuses why) = ⊥
-IsStopBy K lane J limit node (ClockEnd stamp) = HasNoStamp K lane J node stamp ⊎ (2 ^ 62 + 2 ^ 20 < stamp)
-IsStopBy K lane J limit node (Full used need capacity) = HasNoRoom K lane J limit node used need capacity
-IsStopBy K lane J limit node DiskFault = Unit {0}
-IsStopBy K lane J limit node Memory = Unit {0}
+-- it is a node of the ledger whose disk has failed since it was opened
+pub record HasFailed (K : Shape) (opened faults : ℕ → ℕ) (node : ℕ) : Type 0 where
+  pub node_is : node < K.coordinators + K.shards
+  pub rose : HasRisen (opened node) (faults node)
 
--- how many bytes the disk of each node may hold
+-- why a lane stopped at a node, by the journals at its stop and what each node is: the node's disk has failed since it was opened; Full and
+-- ClockEnd are those of the record that the lane needs next there; nothing is refused
+abbrev pub IsStopBy : Shape → ℕ → (List Compact → Type 0) → (ℕ → List Record) → (ℕ → ℕ) → (ℕ → ℕ) → (ℕ → ℕ) → ℕ → NodeFault → Type 0
+IsStopBy K lane next J opened faults capacity node (Broken since) = HasFailed K opened faults node
+IsStopBy K lane next J opened faults capacity node (Refuses why) = ⊥
+IsStopBy K lane next J opened faults capacity node (ClockEnd stamp) = HasNoStamp K lane next J node stamp
+IsStopBy K lane next J opened faults capacity node (Full used need limit) = HasNoRoom K lane next J (capacity node) node used need limit
+IsStopBy K lane next J opened faults capacity node DiskFault = HasFailed K opened faults node
+IsStopBy K lane next J opened faults capacity node Memory = Unit {0}
+
+-- of each node, the coordinators first: how often its disk had failed when it was opened, how often it has by now, and how many bytes it may hold
+abbrev pub opened_by : Shape → (ℕ → Sight) → (ℕ → Sight) → ℕ → ℕ
+opened_by K logs shards n = if nat_lt n K.coordinators then (logs n).opened else (shards (n - K.coordinators)).opened
+
+abbrev pub faults_by : Shape → (ℕ → Sight) → (ℕ → Sight) → ℕ → ℕ
+faults_by K logs shards n = if nat_lt n K.coordinators then (logs n).faults else (shards (n - K.coordinators)).faults
+
 abbrev pub capacity_by : Shape → (ℕ → Sight) → (ℕ → Sight) → ℕ → ℕ
 capacity_by K logs shards n = if nat_lt n K.coordinators then (logs n).capacity else (shards (n - K.coordinators)).capacity
 
--- in kept journals a fault of a new batch, and one of an open batch, is one of these
+-- in checked journals a fault of a new batch, of these transactions, and one of an open batch, is one of these
 abbrev pub StopLaw : Type 0
-StopLaw = (K : Shape) (mint : List Output) (submissions : List FullTx) (lane : ℕ) (logs shards : ℕ → Sight) (txs : List Compact) (node : ℕ) (f : NodeFault)
-    → 0 < K.shards → home_of K lane < K.coordinators → (logs (home_of K lane)).header.shape ≡ K → ((s : ℕ) → s < K.shards → (shards s).header.shape ≡ K)
-    → KeptJournals K mint submissions (seen_by K logs shards)
-    → (IsBatchFault K lane txs (logs (home_of K lane)) shards node f → IsStopBy K lane (seen_by K logs shards) (capacity_by K logs shards node) node f)
-    × ((b : Batch) → b.lane ≡ lane → IsOpenFault K b txs (logs (home_of K lane)) shards node f → IsStopBy K lane (seen_by K logs shards) (capacity_by K logs shards node) node f)
+StopLaw = (K : Shape) (m : Minted) (lane : ℕ) (logs shards : ℕ → Sight) (txs : List Compact) (node : ℕ) (f : NodeFault)
+    → IsWithinLimits K → home_of K lane < K.coordinators → (logs (home_of K lane)).header.shape ≡ K → ((s : ℕ) → s < K.shards → (shards s).header.shape ≡ K)
+    → CheckedJournals K m (seen_by K logs shards)
+    → (IsBatchFault K lane txs (logs (home_of K lane)) shards node f
+    → IsStopBy K lane (λ t. t ≡ txs) (seen_by K logs shards) (opened_by K logs shards) (faults_by K logs shards) (capacity_by K logs shards) node f)
+    × ((b : Batch) → b.lane ≡ lane → IsOpenFault K b txs (logs (home_of K lane)) shards node f
+    → IsStopBy K lane (λ t. ⊥) (seen_by K logs shards) (opened_by K logs shards) (faults_by K logs shards) (capacity_by K logs shards) node f)

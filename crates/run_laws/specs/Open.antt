@@ -8,7 +8,9 @@ use Rattle.cbdc_model.specs.Due.{open_batch}
 use Rattle.cbdc_model.specs.Coins.{Output, FullTx}
 use Rattle.cbdc_model.specs.World.{KeptJournals}
 use Rattle.cbdc_model.specs.Sights.{Sight}
-use Rattle.lane_laws.specs.Resuming.{IsOpenAt, IsCommittedAt, IsDiscardedAt}
+use Rattle.lane_laws.specs.Resuming.{IsPreparedAt, IsCommittedAt, IsDiscardedAt}
+use Rattle.cbdc_model.specs.History.{Minted}
+use Rattle.run_laws.specs.Checked.{CheckedJournals}
 use Rattle.run_laws.specs.Runs.{seen_by}
 
 -- its transactions and its last stamp are within the limits
@@ -26,7 +28,7 @@ abbrev pub IsOpenBy : Phase → Shape → Batch → Sight → (ℕ → Sight) �
 IsOpenBy Idle K b log shards = Unit {0}
 IsOpenBy InLock K b log shards = ⊥
 IsOpenBy InFinish K b log shards = ⊥
-IsOpenBy InPrepare K b log shards = IsFit K b log.seen × IsOpenAt InPrepare K b (txs_of log.seen b) (slot_stamp log.seen b.lane) log shards
+IsOpenBy InPrepare K b log shards = IsFit K b log.seen × IsPreparedAt K b (txs_of log.seen b) (slot_stamp log.seen b.lane) log shards
 IsOpenBy InCommit K b log shards =
     IsFit K b log.seen × HasAll b log.seen
     × ((prepared : ℕ) × IsCommittedAt K b (txs_of log.seen b) prepared (slot_stamp log.seen b.lane) (outcomes_of log.seen b) log shards)
@@ -38,4 +40,10 @@ IsOpenBy InDiscard K b log shards =
 abbrev pub ResumeLaw : Type 0
 ResumeLaw = (K : Shape) (mint : List Output) (submissions : List FullTx) (lane : ℕ) (logs shards : ℕ → Sight)
     → 0 < K.shards → home_of K lane < K.coordinators → (logs (home_of K lane)).header.shape ≡ K → KeptJournals K mint submissions (seen_by K logs shards)
+    → IsOpenBy (slot (logs (home_of K lane)).seen lane).phase K (open_batch (logs (home_of K lane)).seen lane) (logs (home_of K lane)) shards
+
+-- and in checked journals
+abbrev pub CheckedResumeLaw : Type 0
+CheckedResumeLaw = (K : Shape) (m : Minted) (lane : ℕ) (logs shards : ℕ → Sight)
+    → 0 < K.shards → home_of K lane < K.coordinators → (logs (home_of K lane)).header.shape ≡ K → CheckedJournals K m (seen_by K logs shards)
     → IsOpenBy (slot (logs (home_of K lane)).seen lane).phase K (open_batch (logs (home_of K lane)).seen lane) (logs (home_of K lane)) shards

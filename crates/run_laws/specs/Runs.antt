@@ -15,6 +15,7 @@ use Rattle.cbdc_model.specs.Lanes.{Made, AllPass, NextFrom}
 use Rattle.cbdc_model.specs.Waves.{prepared}
 use Rattle.cbdc_model.specs.Sights.{Sight}
 use Rattle.lane_laws.specs.Batches.{view, Settled}
+use Rattle.run_laws.specs.Checked.{CheckedJournals}
 pub use Rattle.lane_laws.specs.Parts.{IsFitPart}
 
 -- the journals of all nodes, the coordinators first, as they are seen
@@ -33,10 +34,23 @@ TurnLaw = (K : Shape) (mint : List Output) (submissions : List FullTx) (pieces :
     → KeptJournals K mint submissions (seen_by K logs shards) → IsTurn K pieces lane logs shards logs' shards'
     → NextFrom K (minted mint) (seen_by K logs shards) (seen_by K logs' shards') → KeptJournals K mint submissions (seen_by K logs' shards')
 
+-- behind a turn checked journals are checked still, whatever it prepared
+abbrev pub CheckedTurnLaw : Type 0
+CheckedTurnLaw = (K : Shape) (m : Minted) (pieces : List (List Compact)) (lane : ℕ) (logs shards logs' shards' : ℕ → Sight)
+    → 0 < K.shards → home_of K lane < K.coordinators
+    → CheckedJournals K m (seen_by K logs shards) → IsTurn K pieces lane logs shards logs' shards'
+    → NextFrom K m (seen_by K logs shards) (seen_by K logs' shards') → CheckedJournals K m (seen_by K logs' shards')
+
 -- in kept journals a lane that is idle at its coordinator is settled at each shard
 abbrev pub RestLaw : Type 0
 RestLaw = (K : Shape) (mint : List Output) (submissions : List FullTx) (lane : ℕ) (logs shards : ℕ → Sight)
     → 0 < K.shards → home_of K lane < K.coordinators → (logs (home_of K lane)).header.shape ≡ K → KeptJournals K mint submissions (seen_by K logs shards)
+    → (slot (logs (home_of K lane)).seen lane).phase ≡ Idle → Settled K lane (slot (logs (home_of K lane)).seen lane).number (logs (home_of K lane)) shards
+
+-- and in checked journals
+abbrev pub CheckedRestLaw : Type 0
+CheckedRestLaw = (K : Shape) (m : Minted) (lane : ℕ) (logs shards : ℕ → Sight)
+    → 0 < K.shards → home_of K lane < K.coordinators → (logs (home_of K lane)).header.shape ≡ K → CheckedJournals K m (seen_by K logs shards)
     → (slot (logs (home_of K lane)).seen lane).phase ≡ Idle → Settled K lane (slot (logs (home_of K lane)).seen lane).number (logs (home_of K lane)) shards
 
 -- what a turn of a lane leaves of the other lanes

@@ -1,11 +1,12 @@
 //! Laws that take what lanes say of their turns to the journals of the whole ledger. They have no body that runs.
 #![tactic(auto)]
 
+ghost use Rattle.run_laws.specs.Checked.{KeptIsCheckedLaw};
 ghost use Rattle.run_laws.specs.Faults.{GrantLaw, StopLaw};
 ghost use Rattle.run_laws.specs.Flights.{FlownLaw, FlushLaw};
 ghost use Rattle.run_laws.specs.Members.{CompactLaw, MemberLaw};
-ghost use Rattle.run_laws.specs.Open.{ResumeLaw};
-ghost use Rattle.run_laws.specs.Runs.{TurnLaw, RestLaw, OthersLaw, NodesLaw, SoundLaw, GrowLaw, EndLaw, PartLaw};
+ghost use Rattle.run_laws.specs.Open.{ResumeLaw, CheckedResumeLaw};
+ghost use Rattle.run_laws.specs.Runs.{TurnLaw, CheckedTurnLaw, RestLaw, CheckedRestLaw, OthersLaw, NodesLaw, SoundLaw, GrowLaw, EndLaw, PartLaw};
 ghost use Rattle.run_laws.specs.Turns.{TakenLaw, SeenLaw, EndsLaw, PreparedLaw, DoneTurnLaw, OpenTurnLaw, ResumedTurnLaw};
 ghost use Rattle.run_laws.specs.WaveSteps.{TakesLaw, WaveBeginsLaw, WaveStepLaw, WaveSkipLaw, WaveEndsLaw, ResumingBeginsLaw, ResumingStepLaw, ResumingSkipLaw, ResumingEndsLaw, WavesBeginLaw, WavesStepLaw};
 
@@ -14,9 +15,24 @@ pub fn turn_law()
     ensures { TurnLaw }
 {}
 
+/// Kept journals are checked: each record is after its journal and caused.
+pub fn kept_is_checked_law()
+    ensures { KeptIsCheckedLaw }
+{}
+
+/// A lane's turn leaves checked journals checked, whatever it prepared and whatever it came to.
+pub fn checked_turn_law()
+    ensures { CheckedTurnLaw }
+{}
+
 /// In kept journals a lane that is idle at its coordinator is settled: the driver's condition for its next batch.
 pub fn rest_law()
     ensures { RestLaw }
+{}
+
+/// So it is in checked journals.
+pub fn checked_rest_law()
+    ensures { CheckedRestLaw }
 {}
 
 /// A lane's turn leaves the slots of the other lanes, and prepares nothing for them.
@@ -55,13 +71,18 @@ pub fn resume_law()
     ensures { ResumeLaw }
 {}
 
-/// In kept journals no shard refuses a call of a lane's open batch.
+/// So it is in checked journals.
+pub fn checked_resume_law()
+    ensures { CheckedResumeLaw }
+{}
+
+/// In checked journals no shard refuses a call of a lane's open batch.
 pub fn grant_law()
     ensures { GrantLaw }
 {}
 
-/// In kept journals a lane stops with Full or ClockEnd only at the record that it needs next, by its numbers there, or with
-/// ClockEnd past the last stamp of all; and never because a shard refuses.
+/// In checked journals a lane stops with Full or ClockEnd only at the record that it needs next, by its numbers there, with a disk's fault
+/// only where that node's disk has failed since it was opened, and never because a shard refuses.
 pub fn stop_law()
     ensures { StopLaw }
 {}

@@ -2,3 +2,4 @@ pub mod OwnJournals
 pub mod OpenThere
 pub mod Headers
 pub mod Turned
+pub mod Checking

@@ -20,7 +20,7 @@ use Rattle.lane_laws.specs.Resuming.{IsTakenUp}
 use Rattle.lane_laws.proofs.Own.{record_own}
 use Rattle.lane_driver.specs.declared.fault.LaneFault.{LaneFault}
 use Rattle.lane_driver.specs.declared.fault.BatchReport.{BatchReport}
-use Rattle.lane_driver.specs.Told.{KeepHeaders}
+use Rattle.lane_driver.specs.Told.{KeepNodes}
 use Rattle.lane_driver.specs.Stops.{IsBatchStopped, IsOneBatch}
 use Rattle.coord_log.specs.OpenLanes.{batch_in, open_lane}
 use Rattle.recovery.specs.declared.resumed.ResumedBatch.{ResumedBatch}
@@ -28,6 +28,7 @@ use Rattle.recovery.specs.Open.{phase_of, IsResumed, IsUnfinished, HasItsOutcome
 use Rattle.ledger_laws.proofs.Slots.{same_batch_self}
 use Rattle.run_laws.specs.Runs.{seen_by, IsTurn}
 use Rattle.run_laws.specs.Turns.{Elsewhere, ResumesBatch}
+use Rattle.run_laws.proofs.Checked.{kept_is_checked_law}
 use Rattle.run_laws.proofs.TurnStep.{turn_law}
 use Rattle.run_laws.proofs.Rests.{rest_law}
 use Rattle.run_laws.proofs.Nodes.{nodes_law}
@@ -62,7 +63,7 @@ commit_found lane a c d stamp os txs b rest J n e =
 
 module _ (K : Shape) (lane : ℕ) (logs shards logs' shards' : ℕ → Sight) (some : 0 < K.shards) (home : home_of K lane < K.coordinators)
     (shape : (logs (home_of K lane)).header.shape ≡ K) (elsewhere : Elsewhere K lane logs logs') (nodes : AreNodes K logs shards) (nodes' : AreNodes K logs' shards')
-    (log_headers : KeepHeaders logs logs') (shard_headers : KeepHeaders shards shards') where
+    (log_nodes : KeepNodes logs logs') (shard_nodes : KeepNodes shards shards') where
   abbrev I : ℕ → List Record
   I = seen_by K logs shards
 
@@ -80,7 +81,7 @@ module _ (K : Shape) (lane : ℕ) (logs shards logs' shards' : ℕ → Sight) (s
   stays pieces mint submissions pass turn kept = record {
     grows = ends_law K pieces lane logs shards logs' shards' home turn;
     kept = turn_law K mint submissions pieces lane logs shards logs' shards' some home pass kept turn
-        (nodes_law K (minted mint) I J (are_journals K logs shards logs' shards' nodes nodes' log_headers shard_headers mint submissions kept));
+        (nodes_law K (minted mint) I J (are_journals K logs shards logs' shards' nodes nodes' log_nodes shard_nodes (minted mint) (kept_is_checked_law K mint submissions I kept)));
   }
 
   -- nothing was done
@@ -161,7 +162,7 @@ module _ (K : Shape) (lane : ℕ) (logs shards logs' shards' : ℕ → Sight) (s
       same_outcomes : IsEnd log.seen log'.seen → is_some (record_of 7 log.seen o.batch) ≡ true → outcomes_of log.seen o.batch ≡ outcomes_of log'.seen o.batch
       same_outcomes (more, grew) commit =
           let j : IsJournal log.header log.seen = nodes.logs_are (home_of K lane) home in
-          let j' : IsJournal log.header (more ++ log.seen) = subst (IsJournal log.header) grew (subst (λ h. IsJournal h log'.seen) (log_headers (home_of K lane)) (nodes'.logs_are (home_of K lane) home)) in
+          let j' : IsJournal log.header (more ++ log.seen) = subst (IsJournal log.header) grew (subst (λ h. IsJournal h log'.seen) (log_nodes (home_of K lane)).header (nodes'.logs_are (home_of K lane) home)) in
           sym (ap outcomes_in (ap (λ L. record_of 7 L o.batch) grew ∙ stands_still log.header more log.seen j j' 7 o.batch commit))
 
       committed : (p : OpenPhase) → (p ≡ Committed) ⊎ (p ≡ Discarded) → (slot log.seen lane).phase ≡ phase_of p → is_some (record_of 7 log.seen (open_batch log.seen lane)) ≡ true

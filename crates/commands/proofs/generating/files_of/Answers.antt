@@ -2,9 +2,25 @@ use Rattle.std.proofs.Common.{◌≡◌, ◌≤◌, ◌∙◌, ◌++◌, ◌∷�
 use Rattle.std.specs.Prelude.{All}
 use Rattle.cbdc_model.specs.Coins.{FullTx, Output}
 use Rattle.input_files.specs.Limits.{IsShort}
+use Rattle.workload.specs.Generator.{mint_of}
 use Rattle.workload.specs.declared.Workload.{Workload}
+use Rattle.commands.specs.Generated.{files_of}
 use Rattle.commands.proofs.Workloads.{few, both}
 use Rattle.commands.proofs.generating.files_of.Goals as goal
+
+pub returns-clause-mint : goal.returns-clause-mint
+returns-clause-mint c =
+    let same : c.from.result ≡ c.args.count = omega (arith, c.from.ensures) in
+    ap (λ (w : Workload). w.mint) c.in_ok-mint.ensures ∙ ap (mint_of c.args.seed) same
+
+pub returns-clause-clients : goal.returns-clause-clients
+returns-clause-clients c =
+    let count : c.from.result ≡ c.args.count = omega (arith, c.from.ensures) in
+    let splits = c.in_ok-mint.field-0.splits in
+    let joins = c.in_ok-mint.field-0.joins in
+    let one : c.push.new.self.items ≡ splits ∷ [] = c.in_ok-push.ensures.items ∙ ap (λ (l : List (List FullTx)). l ++ splits ∷ []) c.in_ok-clients.ensures.items in
+    let two : c.push-2.new.self.items ≡ splits ∷ joins ∷ [] = c.in_ok-push-2.ensures.items ∙ ap (λ (l : List (List FullTx)). l ++ joins ∷ []) one in
+    two ∙ ap (λ (w : Workload). w.splits ∷ w.joins ∷ []) c.in_ok-mint.ensures ∙ ap (files_of c.args.seed) count
 
 pub returns-clause-few : goal.returns-clause-few
 returns-clause-few c =

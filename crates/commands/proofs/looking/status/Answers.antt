@@ -1,7 +1,7 @@
 use Rattle.commands.proofs.Untouched.{not_refused}
 use Rattle.std.proofs.Common.{◌≡◌, ◌≤◌, ◌∙◌, length, map, subst}
 use Rattle.cbdc_types.specs.declared.answer.Answer.TheVariants as answers
-use Rattle.rack_ledgers.specs.Ledgers.{IsUnopened}
+use Rattle.commands.specs.Outcomes.{WhyNoStatus}
 use Rattle.commands.specs.Texts.{IsPrinted, told_lines, status_among}
 use Rattle.commands.proofs.Answers.{told}
 use Rattle.commands.proofs.Ledgers.{few_shards, did_status}
@@ -10,7 +10,7 @@ use Rattle.commands.proofs.looking.status.Goals as goal
 
 pub returns-in-Err-clause-why : goal.returns-in-Err-clause-why
 returns-in-Err-clause-why g c =
-    told (IsUnopened g.R.Disk.Disk.content g.R.Disk.Disk.images g.R.Disk.Disk.limit g.R.Disk.Disk.count (g.R.Rack.held c.args.rack.now) (g.R.Rack.count c.args.rack.now) (g.R.Rack.count c.open_nodes.new.rack)) c.in-Err.fault c.in-Err.ensures.refusal
+    told (WhyNoStatus g.R.Disk.Disk.content g.R.Disk.Disk.images g.R.Disk.Disk.limit g.R.Disk.Disk.count (g.R.Rack.held c.args.rack.now) (g.R.Rack.held c.open_nodes.new.rack) (g.R.Rack.count c.args.rack.now) (g.R.Rack.count c.open_nodes.new.rack)) c.in-Err.fault (c.in-Err.ensures.refusal, c.in-Err.ensures.held)
 
 pub returns-in-Ok-write_statuses-clause-did : goal.returns-in-Ok-write_statuses-clause-did
 returns-in-Ok-write_statuses-clause-did g c well =

@@ -1,6 +1,8 @@
 use Rattle.commands.proofs.Untouched.{not_turned}
 use Rattle.std.proofs.Common.{◌≤◌, inl, inr, sym, subst}
 use Rattle.input_files.specs.Contents.{AreRead, AreVerdicts, IsNoVerdicts, all_txs}
+use Rattle.verifier_port.specs.Files.{told}
+use Rattle.rack_runs.specs.Runs.{PieceNext}
 use Rattle.rack_runs.proofs.Lent.{if_ok_all, if_err_by}
 use Rattle.commands.proofs.Answers.{first_fault, no_verdicts_later}
 use Rattle.commands.proofs.running.run_all.Goals as goal
@@ -11,13 +13,14 @@ returns-in-Err-clause-fault g c =
 
 pub returns-clause-did : goal.returns-clause-did
 returns-clause-did g c =
-    if_ok_all _ _ _ c.run_on.result c.run_on.ensures.told c.run_on.ensures.told c.run_on.ensures.ran
-    (λ ran tells again shown. record {
+    if_ok_all _ _ _ c.run_on.result c.run_on.ensures.told c.run_on.ensures.caused c.run_on.ensures.ran
+    (λ ran tells caused shown. record {
       handed = c.deref.result.now;
       known = c.in-Ok-verdicts_in.verdicts;
       few = subst (λ txs. all_txs txs ≤ 1000000) (sym c.deref.ensures.value) c.in-Ok.ensures.few;
       read = subst (λ txs. AreRead (g.I.Inbox.file c.args.inbox.now) 0 c.args.clients.now txs) (sym c.deref.ensures.value) c.in-Ok.ensures.read;
       verdicts_read = subst (λ t. AreVerdicts t c.in-Ok-verdicts_in.verdicts) (c.in-Ok.ensures.same c.args.verdicts.now.name.now) c.in-Ok-verdicts_in.ensures.read;
+      caused = caused;
       was = shown;
       tells = tells;
     })
@@ -49,5 +52,5 @@ returns-clause-why g c =
 pub returns-clause-untouched : goal.returns-clause-untouched
 returns-clause-untouched g c =
     if_err_by _ _ c.run_on.result
-    (λ e why before. absurd (not_turned g.R.Disk.Disk.content g.R.Disk.Disk.images g.R.Disk.Disk.limit g.R.Disk.Disk.count (g.R.Rack.held c.args.rack.now) (g.R.Rack.held c.run_on.new.rack) (g.R.Rack.count c.args.rack.now) (g.R.Rack.count c.run_on.new.rack) c.deref.result.now e why before))
+    (λ e why before. absurd (not_turned g.R.Disk.Disk.content g.R.Disk.Disk.images g.R.Disk.Disk.limit g.R.Disk.Disk.count (g.R.Rack.held c.args.rack.now) (g.R.Rack.held c.run_on.new.rack) (g.R.Rack.count c.args.rack.now) (g.R.Rack.count c.run_on.new.rack) (PieceNext (told c.in-Ok-verdicts_in.verdicts) c.deref.result.now) c.deref.result.now e why before))
     c.run_on.ensures.stopped

@@ -1,7 +1,8 @@
-use Rattle.std.proofs.Common.{sym, subst}
-use Rattle.command_line.specs.declared.request.Request.TheVariants.{Audit}
+use Rattle.std.proofs.Common.{refl, sym, subst}
+use Rattle.command_line.specs.declared.request.Request.TheVariants.{Audit, Gen}
 use Rattle.commands.specs.Audits.{WhyNoAudit}
 use Rattle.commands.specs.Causes.{IsTold}
+use Rattle.commands.specs.Generated.{WhyNoWorkload}
 use Rattle.commands.specs.Outcomes.{Did, Why}
 use Rattle.commands.specs.Texts.{IsPrinted}
 use Rattle.commands.proofs.Answers.{well_told, told_by}
@@ -23,3 +24,14 @@ pub returns-in-Recover-clause-did : goal.returns-in-Recover-clause-did
 returns-in-Recover-clause-did g c well =
     subst (λ r. Did (g.I.Inbox.file c.args.inbox.now) g.R.Disk.Disk.content g.R.Disk.Disk.images g.R.Disk.Disk.limit (g.R.Rack.held c.args.rack.now) (g.R.Rack.held c.recover.new.rack) (IsPrinted (g.O.Sink.taken c.args.out.now) (g.O.Sink.taken c.recover.new.out) c.recover.result) r)
     (sym c.in-Recover.is) (c.recover.ensures.did well, c.recover.ensures.prints well)
+
+pub returns-in-Gen-clause-did : goal.returns-in-Gen-clause-did
+returns-in-Gen-clause-did g c well =
+    subst (λ r. Did (g.I.Inbox.file c.args.inbox.now) g.R.Disk.Disk.content g.R.Disk.Disk.images g.R.Disk.Disk.limit (g.R.Rack.held c.args.rack.now) (g.R.Rack.held c.args.rack.now) (IsPrinted (g.O.Sink.taken c.args.out.now) (g.O.Sink.taken c.generated.new.out) c.generated.result) r)
+    (sym c.in-Gen.is) ((λ n. refl), c.generated.ensures.did well)
+
+pub returns-in-Gen-clause-why : goal.returns-in-Gen-clause-why
+returns-in-Gen-clause-why g c =
+    let Here = Why (g.I.Inbox.file c.args.inbox.now) (g.I.Inbox.count c.args.inbox.now) (g.I.Inbox.count c.args.inbox.now) g.R.Disk.Disk.content g.R.Disk.Disk.images g.R.Disk.Disk.limit g.R.Disk.Disk.count (g.R.Rack.held c.args.rack.now) (g.R.Rack.held c.args.rack.now) (g.R.Rack.count c.args.rack.now) (g.R.Rack.count c.args.rack.now) in
+    subst (λ r. IsTold (Here r) c.generated.result) (sym c.in-Gen.is)
+    (told_by (WhyNoWorkload c.in-Gen.shape c.in-Gen.seed c.in-Gen.count) (Here (Gen c.in-Gen.shape c.in-Gen.seed c.in-Gen.count)) c.generated.result (λ b why. ((λ n. refl), why)) c.generated.ensures.why)

@@ -1,12 +1,14 @@
 use Rattle.std.proofs.Common.{◌∙◌, ◌+◌, ◌≤◌, reverse, arith, ℕ, List, subst}
 use Rattle.cbdc_model.specs.Records.{Header, Record}
 use Rattle.cbdc_model.specs.After.{IsJournal}
+use Rattle.cbdc_model.specs.Due.{used_of}
+use Rattle.cbdc_model.specs.Room.{kept_room}
 use Rattle.gate_journal.specs.Shown.{disk_of, gate_of}
 use Rattle.record_log.specs.Logs.{HasRoom}
 use Rattle.coord_core.specs.Lanes.{kept_of}
 use Rattle.coord_log.specs.Inside.{largest}
 use Rattle.coord_log.specs.Opening.{IsPlayed}
-use Rattle.coord_log.proofs.Opened.{kept_played, opened_sound}
+use Rattle.coord_log.proofs.Opened.{kept_played, opened_sound, sum_reversed}
 use Rattle.coord_log.proofs.Stops.{open_unplayed, full_is}
 use Rattle.coord_log.proofs.opening.lanes_of.Goals as goal
 
@@ -52,3 +54,13 @@ returns-in-Ok-reserve-clause-coordinator g c =
     let log = c.args.log.now in
     let played : IsPlayed log.header c.in-Ok.core (reverse log.records.items) = rw c.deref.ensures.value at c.in-Ok.ensures.played in
     rw c.reserve.ensures.header played.coordinator
+
+pub returns-in-Ok-reserve-clause-room : goal.returns-in-Ok-reserve-clause-room
+returns-in-Ok-reserve-clause-room g c =
+    let log = c.args.log.now in
+    let within = c.args.log.now.journal.within c.requires.whole in
+    let played : IsPlayed log.header c.in-Ok.core (reverse log.records.items) = rw c.deref.ensures.value at c.in-Ok.ensures.played in
+    let kept = c.kept_room-need.ensures.value ∙ kept_played log.header c.in-Ok.core (reverse log.records.items) c.kept_room-need.ensures.whole played in
+    let space : used_of (reverse log.records.items) + kept_room log.header.shape (reverse log.records.items) ≤ g.D.Disk.limit (disk_of log.journal) =
+    omega (arith, c.used-used.ensures, c.requires.ends, sum_reversed log.records.items, c.capacity-capacity.ensures, kept, c.if-need-capacity.false, within, g.met.D.Disk.fits log.journal.disk) in
+    rw (c.reserve.ensures.header, c.reserve.ensures.records, c.reserve.ensures.untouched.disk) space

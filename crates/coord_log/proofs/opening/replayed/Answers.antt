@@ -26,5 +26,5 @@ records-preserved c =
 
 pub returns-in-Ok-false-clause-unplayed : goal.returns-in-Ok-false-clause-unplayed
 returns-in-Ok-false-clause-unplayed c =
-    stopped c.args.header.now c.records.core c.args.records.now c.records.at c.records.i c.index-records-i.result c.in-Ok-false.field-0 c.requires c.records.invariant.played c.records.invariant.place c.records-test.true c.index-records-i.is
+    stopped c.args.header.now c.records.core c.args.records.now c.records.at c.records.i c.index-records-i.result c.in-Ok-false.field-0 c.records.invariant.played c.records.invariant.place c.records-test.true c.index-records-i.is
     c.in-Ok-false.field-0-test c.in-Ok-false.ensures.after

@@ -1,10 +1,7 @@
-use Rattle.std.proofs.Common.{◌≡◌, ◌+◌, ◌∷◌, [], ◌++◌, length, reverse, refl, ap, ◌∙◌, arith, Err}
-use Rattle.gate_journal.specs.Shown.{disk_of, gate_of, broken_of}
-use Rattle.record_codec.specs.Bodies.{body_of}
-use Rattle.record_log.proofs.Sizes.{size_is}
-use Rattle.record_log.specs.declared.log.LogFault.TheVariants.{DiskFault}
-use Rattle.coord_log.proofs.Written.{only_disk, own_room, sound_after, sound_broken, to_journal, from_journal, to_broken}
-use Rattle.coord_log.proofs.writing.write.Given as given
+use Rattle.std.proofs.Common.{◌+◌, ◌∷◌, [], ◌++◌, reverse, refl, ap, ◌∙◌, arith}
+use Rattle.gate_journal.specs.Shown.{gate_of, broken_of}
+use Rattle.coord_log.proofs.Written.{disk_failed, sound_after, sound_broken, to_journal, from_journal, to_broken}
+use Rattle.coord_log.proofs.Leaving.{written_between, failed_between}
 use Rattle.coord_log.proofs.writing.write.Goals as goal
 
 pub returns-in-Ok-clause-sound : goal.returns-in-Ok-clause-sound
@@ -41,16 +38,9 @@ returns-in-Ok-clause-holds g c = λ opened old.
     let kept = c.keep.ensures.kept ∙ ap (λ x. x ++ c.args.next ∷ []) c.write.ensures.records in
     to_journal c.keep.new.self opened c.args.flight.now c.requires.none_left (rw (c.keep.ensures.journal, kept) written)
 
-the_fault : (g : given.Over) (c : goal.Joined-flight g) → c.in-Err.field-0 ≡ DiskFault
-the_fault g c =
-    let size = size_is c.args.log.now.header c.args.next c.requires.on.limits c.requires.grammar in
-    let room = own_room c.args.log.now c.args.log.now.header c.args.next c.requires.on.limits c.requires.grammar c.requires.size in
-    only_disk {T = Unit {0}} _ (broken_of c.args.log.now.journal) (gate_of c.args.log.now.journal + 1) (9 + length (body_of c.args.next)) (g.D.Disk.limit (disk_of c.args.log.now.journal)) (Err c.in-Err.field-0)
-    c.requires.whole (omega (arith, size, c.requires.fits)) (c.in-Err.ensures.answer room)
-
 pub returns-in-Err-clause-told : goal.returns-in-Err-clause-told
 returns-in-Err-clause-told g c = λ opened.
-    let is = c.in-Err.is ∙ ap Err (the_fault g c) in (
+    let is = disk_failed c.args.log.now c.args.core.now c.args.flight.now c.args.next _ _ c.in-Err.field-0 c.requires c.in-Err.is c.in-Err.ensures.answer in (
       refl,
       record {
         node = record { header = c.write.ensures.header; opened = refl; capacity = c.write.ensures.limit; later = c.write.ensures.later };
@@ -62,15 +52,27 @@ returns-in-Err-clause-told g c = λ opened.
 
 pub returns-in-Err-clause-sound : goal.returns-in-Err-clause-sound
 returns-in-Err-clause-sound g c = λ opened since.
-    let is = c.in-Err.is ∙ ap Err (the_fault g c) in
+    let is = disk_failed c.args.log.now c.args.core.now c.args.flight.now c.args.next _ _ c.in-Err.field-0 c.requires c.in-Err.is c.in-Err.ensures.answer in
     sound_broken c.args.log.now c.write.new.self c.args.core.now c.args.flight.now _ c.args.next opened c.requires since (c.write.ensures.fault is) c.write.ensures.later
     c.write.ensures.records c.write.ensures.header (c.write.ensures.broken is)
 
 pub returns-in-Err-clause-broken : goal.returns-in-Err-clause-broken
-returns-in-Err-clause-broken g c = c.write.ensures.broken (c.in-Err.is ∙ ap Err (the_fault g c))
+returns-in-Err-clause-broken g c = c.write.ensures.broken (disk_failed c.args.log.now c.args.core.now c.args.flight.now c.args.next _ _ c.in-Err.field-0 c.requires c.in-Err.is c.in-Err.ensures.answer)
 
 pub returns-in-Err-clause-holds : goal.returns-in-Err-clause-holds
 returns-in-Err-clause-holds g c = λ opened old.
     let before = from_journal c.args.log.now opened c.args.flight.now c.requires.whole old in
-    to_broken c.write.new.self c.args.log.now.records.items opened c.args.next c.write.ensures.records (c.write.ensures.broken (c.in-Err.is ∙ ap Err (the_fault g c)))
+    to_broken c.write.new.self c.args.log.now.records.items opened c.args.next c.write.ensures.records (c.write.ensures.broken (disk_failed c.args.log.now c.args.core.now c.args.flight.now c.args.next _ _ c.in-Err.field-0 c.requires c.in-Err.is c.in-Err.ensures.answer))
     (c.write.ensures.leaves c.args.log.now.records.items before).now
+
+pub returns-in-Ok-clause-leaves : goal.returns-in-Ok-clause-leaves
+returns-in-Ok-clause-leaves g c = λ opened old.
+    let before = from_journal c.args.log.now opened c.args.flight.now c.requires.whole old in
+    let left = c.write.ensures.leaves c.args.log.now.records.items before in
+    written_between c.args.log.now c.keep.new.self opened c.args.flight.now c.args.next c.requires.none_left (c.keep.ensures.kept ∙ ap (λ x. x ++ c.args.next ∷ []) c.write.ensures.records)
+    (rw c.keep.ensures.journal left)
+
+pub returns-in-Err-clause-leaves : goal.returns-in-Err-clause-leaves
+returns-in-Err-clause-leaves g c = λ opened old.
+    let before = from_journal c.args.log.now opened c.args.flight.now c.requires.whole old in
+    failed_between c.args.log.now c.write.new.self opened c.args.flight.now c.args.next c.write.ensures.records (c.write.ensures.leaves c.args.log.now.records.items before)

@@ -1,6 +1,9 @@
 use Rattle.std.proofs.Common.{◌≡◌, ◌∙◌, refl, sym, subst, arith, get_or, take}
 use Rattle.file_runs.proofs.Joining.{files_begin, files_step, files_end, same_file, keeps_none, keeps_fault}
 use Rattle.file_runs.proofs.FileTelling.{told_files, told_all}
+use Rattle.ledger_laws.proofs.Cuts.{end_self, end_trans}
+use Rattle.ledger_runs.specs.Faults.{HaveFailed, MayHold}
+use Rattle.file_runs.proofs.Causing.{files_cause}
 use Rattle.file_runs.proofs.files.run_files.Goals as goal
 
 pub returns-in_default-clause-keeps : goal.returns-in_default-clause-keeps
@@ -24,6 +27,10 @@ files-init g c = record {
   quiet = λ _ _ _ was. was;
   holds = λ h. h;
   later = λ n. omega arith;
+  opened = λ n. refl;
+  capacity = λ n. refl;
+  checked = c.requires.checked;
+  grows = λ n. end_self (g.L.Turns.journals c.args.ledger.now n);
 }
 
 pub files-preserved : goal.files-preserved
@@ -42,6 +49,10 @@ files-preserved g c =
           (g.L.Turns.quiet c.args.ledger.now) (g.L.Turns.quiet c.files.ledger) (g.L.Turns.quiet c.run_file.new.ledger) is.shape is.so.keeps is.quiet c.in-Ok-run_file.ensures.quiet;
       holds = λ h. did.holds (is.holds h);
       later = λ n. omega (arith, did.later n, is.later n);
+      opened = λ n. did.opened_same n ∙ is.opened n;
+      capacity = λ n. did.capacity_same n ∙ is.capacity n;
+      checked = did.still;
+      grows = λ n. end_trans (g.L.Turns.journals c.args.ledger.now n) (g.L.Turns.journals c.files.ledger n) (g.L.Turns.journals c.run_file.new.ledger n) (is.grows n) (did.grows n);
     }
 
 pub returns-clause-keeps : goal.returns-clause-keeps
@@ -61,3 +72,16 @@ pub returns-clause-told : goal.returns-clause-told
 returns-clause-told g c =
     told_all (g.L.Turns.shape c.args.ledger.now) (g.V.Verifier.verdict_of c.args.verifier.now) c.args.files.now c.files.txs-index (g.L.Turns.journals c.args.ledger.now) (g.L.Turns.journals c.files.ledger) c.files.waves.items
     (omega (arith, c.files-test.false)) c.files.invariant.told
+
+pub returns-in-Err-clause-grows : goal.returns-in-Err-clause-grows
+returns-in-Err-clause-grows g c n = end_trans (g.L.Turns.journals c.args.ledger.now n) (g.L.Turns.journals c.files.ledger n) (g.L.Turns.journals c.run_file.new.ledger n) (c.files.invariant.grows n) (c.run_file.ensures.grows n)
+
+pub returns-in-Err-push-clause-grows : goal.returns-in-Err-push-clause-grows
+returns-in-Err-push-clause-grows g c n = end_trans (g.L.Turns.journals c.args.ledger.now n) (g.L.Turns.journals c.files.ledger n) (g.L.Turns.journals c.run_file.new.ledger n) (c.files.invariant.grows n) (c.run_file.ensures.grows n)
+
+pub returns-in-Err-clause-fault : goal.returns-in-Err-clause-fault
+returns-in-Err-clause-fault g c =
+    files_cause (g.L.Turns.shape c.args.ledger.now) (g.L.Turns.shape c.files.ledger) (g.V.Verifier.verdict_of c.args.verifier.now) c.args.files.now c.files.txs-index c.as_slice.result.now
+    (g.L.Turns.journals c.args.ledger.now) (g.L.Turns.journals c.files.ledger) (g.L.Turns.journals c.run_file.new.ledger)
+    (HaveFailed (g.L.Turns.opened c.run_file.new.ledger) (g.L.Turns.faults c.run_file.new.ledger)) (MayHold (g.L.Turns.capacity c.run_file.new.ledger))
+    c.files.invariant.shape c.files-test.true (subst (λ f. f ≡ get_or c.args.files.now c.files.txs-index f) (sym c.as_slice.ensures) c.txs-item.is) c.files.invariant.grows c.in-Err.fault c.in-Err.ensures.fault

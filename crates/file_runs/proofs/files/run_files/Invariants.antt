@@ -1,4 +1,5 @@
 use Rattle.std.proofs.Common.{◌≡◌, ◌≤◌, ℕ, take}
+use Rattle.cbdc_model.specs.Lanes.{IsEnd}
 use Rattle.ledger_runs.specs.Turning.{OfKept}
 use Rattle.file_runs.specs.Telling.{TellFiles}
 use Rattle.file_runs.proofs.Joining.{FilesSo}
@@ -14,4 +15,8 @@ invariant-files g l =
       quiet : OfKept K (g.L.Turns.journals l.fn.ledger) (λ _ _. g.L.Turns.quiet l.fn.ledger → g.L.Turns.quiet l.ledger);
       holds : g.L.Turns.holds l.fn.ledger → g.L.Turns.holds l.ledger;
       later : (n : ℕ) → g.L.Turns.faults l.fn.ledger n ≤ g.L.Turns.faults l.ledger n;
+      opened : (n : ℕ) → g.L.Turns.opened l.ledger n ≡ g.L.Turns.opened l.fn.ledger n;
+      capacity : (n : ℕ) → g.L.Turns.capacity l.ledger n ≡ g.L.Turns.capacity l.fn.ledger n;
+      checked : g.L.Turns.checked l.ledger;
+      grows : (n : ℕ) → IsEnd (g.L.Turns.journals l.fn.ledger n) (g.L.Turns.journals l.ledger n);
     }

@@ -2,10 +2,10 @@ use Rattle.std.proofs.Common.{◌∙◌, refl, map}
 use Rattle.cbdc_model.specs.Ranges.{home_of}
 use Rattle.lane_laws.specs.Calls.{finish_of, forget_of}
 use Rattle.lane_laws.specs.Answers.{LockAnswer, FinishAnswer, ForgetAnswer}
-use Rattle.lane_driver.proofs.Turning.{turn_stamped, turn_times, finish_stops, discard_stops, later_stops, home_fault}
+use Rattle.lane_driver.proofs.Turning.{turn_stamped, turn_times, finish_stops, discard_stops, later_stops, home_stop}
 use Rattle.cbdc_model.specs.Calls.{IsLockCall, IsFinishCall, IsForgetCall}
 use Rattle.lane_driver.proofs.Ready.{finish_shards, forget_shards}
-use Rattle.lane_driver.proofs.Fitting.{finishes_ready, forgets_ready, calls_kept, ledger_kept, headers_on}
+use Rattle.lane_driver.proofs.Fitting.{finishes_ready, forgets_ready, calls_kept, ledger_kept, nodes_same, nodes_on}
 use Rattle.std.proofs.Common.{inr}
 use Rattle.lane_driver.proofs.Causing.{log_fault, discard_caused}
 use Rattle.lane_driver.proofs.batch.from_committed.Goals as goal
@@ -24,7 +24,7 @@ finish_again-requires-clause-shards g c =
 
 pub finish_again-requires-clause-calls : goal.finish_again-requires-clause-calls
 finish_again-requires-clause-calls g c =
-    calls_kept IsFinishCall (g.S.PortSet.sights c.args.ports.now.shards) (g.S.PortSet.sights c.finish_phase.new.shards) c.in-Ok.ensures.headers c.deref-2.result.now (finishes_ready c.args.shape.now (g.S.PortSet.sights c.args.ports.now.shards) c.requires.ledger c.args.batch.now c.args.cause c.requires.batch c.requires.cause c.args.outcomes.now c.args.locks.now _ (c.deref-2.ensures.value ∙ c.finish_calls.ensures) c.requires.shards c.requires.locks)
+    calls_kept IsFinishCall (g.S.PortSet.sights c.args.ports.now.shards) (g.S.PortSet.sights c.finish_phase.new.shards) c.in-Ok.ensures.nodes c.deref-2.result.now (finishes_ready c.args.shape.now (g.S.PortSet.sights c.args.ports.now.shards) c.requires.ledger c.args.batch.now c.args.cause c.requires.batch c.requires.cause c.args.outcomes.now c.args.locks.now _ (c.deref-2.ensures.value ∙ c.finish_calls.ensures) c.requires.shards c.requires.locks)
 
 pub finish_again-requires-2-clause-shards : goal.finish_again-requires-2-clause-shards
 finish_again-requires-2-clause-shards g c =
@@ -32,7 +32,7 @@ finish_again-requires-2-clause-shards g c =
 
 pub finish_again-requires-2-clause-calls : goal.finish_again-requires-2-clause-calls
 finish_again-requires-2-clause-calls g c =
-    calls_kept IsFinishCall (g.S.PortSet.sights c.args.ports.now.shards) (g.S.PortSet.sights c.lock_again.new.shards) (headers_on (g.S.PortSet.sights c.args.ports.now.shards) (g.S.PortSet.sights c.from_discarded.new.ports.shards) (g.S.PortSet.sights c.lock_again.new.shards) (headers_on (g.S.PortSet.sights c.args.ports.now.shards) (g.S.PortSet.sights c.finish_again.new.shards) (g.S.PortSet.sights c.from_discarded.new.ports.shards) (headers_on (g.S.PortSet.sights c.args.ports.now.shards) (g.S.PortSet.sights c.finish_phase.new.shards) (g.S.PortSet.sights c.finish_again.new.shards) c.in-Ok.ensures.headers c.finish_again.ensures.headers) c.in-Ok-from_discarded.ensures.headers) c.lock_again.ensures.headers) c.deref-3.result.now (finishes_ready c.args.shape.now (g.S.PortSet.sights c.args.ports.now.shards) c.requires.ledger c.args.batch.now c.args.cause c.requires.batch c.requires.cause c.args.outcomes.now c.args.locks.now _ (c.deref-3.ensures.value ∙ c.finish_calls.ensures) c.requires.shards c.requires.locks)
+    calls_kept IsFinishCall (g.S.PortSet.sights c.args.ports.now.shards) (g.S.PortSet.sights c.lock_again.new.shards) (nodes_on (g.S.PortSet.sights c.args.ports.now.shards) (g.S.PortSet.sights c.from_discarded.new.ports.shards) (g.S.PortSet.sights c.lock_again.new.shards) (nodes_on (g.S.PortSet.sights c.args.ports.now.shards) (g.S.PortSet.sights c.finish_again.new.shards) (g.S.PortSet.sights c.from_discarded.new.ports.shards) (nodes_on (g.S.PortSet.sights c.args.ports.now.shards) (g.S.PortSet.sights c.finish_phase.new.shards) (g.S.PortSet.sights c.finish_again.new.shards) c.in-Ok.ensures.nodes c.finish_again.ensures.nodes) c.in-Ok-from_discarded.ensures.nodes) c.lock_again.ensures.nodes) c.deref-3.result.now (finishes_ready c.args.shape.now (g.S.PortSet.sights c.args.ports.now.shards) c.requires.ledger c.args.batch.now c.args.cause c.requires.batch c.requires.cause c.args.outcomes.now c.args.locks.now _ (c.deref-3.ensures.value ∙ c.finish_calls.ensures) c.requires.shards c.requires.locks)
 
 pub forget_again-requires-clause-shards : goal.forget_again-requires-clause-shards
 forget_again-requires-clause-shards g c =
@@ -40,7 +40,7 @@ forget_again-requires-clause-shards g c =
 
 pub forget_again-requires-clause-calls : goal.forget_again-requires-clause-calls
 forget_again-requires-clause-calls g c =
-    calls_kept IsForgetCall (g.S.PortSet.sights c.args.ports.now.shards) (g.S.PortSet.sights c.finish_again-2.new.shards) (headers_on (g.S.PortSet.sights c.args.ports.now.shards) (g.S.PortSet.sights c.lock_again.new.shards) (g.S.PortSet.sights c.finish_again-2.new.shards) (headers_on (g.S.PortSet.sights c.args.ports.now.shards) (g.S.PortSet.sights c.from_discarded.new.ports.shards) (g.S.PortSet.sights c.lock_again.new.shards) (headers_on (g.S.PortSet.sights c.args.ports.now.shards) (g.S.PortSet.sights c.finish_again.new.shards) (g.S.PortSet.sights c.from_discarded.new.ports.shards) (headers_on (g.S.PortSet.sights c.args.ports.now.shards) (g.S.PortSet.sights c.finish_phase.new.shards) (g.S.PortSet.sights c.finish_again.new.shards) c.in-Ok.ensures.headers c.finish_again.ensures.headers) c.in-Ok-from_discarded.ensures.headers) c.lock_again.ensures.headers) c.finish_again-2.ensures.headers) c.deref-4.result.now (forgets_ready c.args.shape.now (g.S.PortSet.sights c.args.ports.now.shards) c.requires.ledger c.args.batch.now c.in-Ok-discard.stamp c.requires.batch c.in-Ok-discard.ensures.stamp c.args.locks.now _ (c.deref-4.ensures.value ∙ c.in-Ok-from_discarded.ensures.calls) c.requires.shards)
+    calls_kept IsForgetCall (g.S.PortSet.sights c.args.ports.now.shards) (g.S.PortSet.sights c.finish_again-2.new.shards) (nodes_on (g.S.PortSet.sights c.args.ports.now.shards) (g.S.PortSet.sights c.lock_again.new.shards) (g.S.PortSet.sights c.finish_again-2.new.shards) (nodes_on (g.S.PortSet.sights c.args.ports.now.shards) (g.S.PortSet.sights c.from_discarded.new.ports.shards) (g.S.PortSet.sights c.lock_again.new.shards) (nodes_on (g.S.PortSet.sights c.args.ports.now.shards) (g.S.PortSet.sights c.finish_again.new.shards) (g.S.PortSet.sights c.from_discarded.new.ports.shards) (nodes_on (g.S.PortSet.sights c.args.ports.now.shards) (g.S.PortSet.sights c.finish_phase.new.shards) (g.S.PortSet.sights c.finish_again.new.shards) c.in-Ok.ensures.nodes c.finish_again.ensures.nodes) c.in-Ok-from_discarded.ensures.nodes) c.lock_again.ensures.nodes) c.finish_again-2.ensures.nodes) c.deref-4.result.now (forgets_ready c.args.shape.now (g.S.PortSet.sights c.args.ports.now.shards) c.requires.ledger c.args.batch.now c.in-Ok-discard.stamp c.requires.batch c.in-Ok-discard.ensures.stamp c.args.locks.now _ (c.deref-4.ensures.value ∙ c.in-Ok-from_discarded.ensures.calls) c.requires.shards)
 
 pub returns-clause-told : goal.returns-clause-told
 returns-clause-told g c = record {
@@ -69,7 +69,7 @@ returns-in-Err-clause-stopped g c = finish_stops c.args.shape.now g.S.PortSet.al
 pub returns-in-Err-discard-clause-stopped : goal.returns-in-Err-discard-clause-stopped
 returns-in-Err-discard-clause-stopped g c = discard_stops c.args.shape.now g.S.PortSet.alone g.L.LogPort.alone c.args.batch.now c.args.cause c.args.outcomes.now c.args.repeats c.in-Ok.stamp c.args.locks.now c.deref.result.now c.deref-2.result.now (g.L.LogPort.sights c.args.ports.now.log (g.L.LogPort.at c.args.ports.now.log)) (g.L.LogPort.sights c.discard.new.self (g.L.LogPort.at c.discard.new.self))
     (g.S.PortSet.sights c.args.ports.now.shards) (g.S.PortSet.sights c.finish_phase.new.shards) (g.S.PortSet.sights c.finish_again.new.shards) c.requires.same (c.deref.ensures.value ∙ c.finish_calls.ensures) (c.deref-2.ensures.value ∙ c.finish_calls.ensures) c.in-Ok.ensures.told c.finish_again.ensures.told
-    c.in-Err-discard.fault c.fault_at.result (home_fault c.fault_at.result c.home.result (home_of c.args.shape.now c.args.batch.now.lane) c.in-Err-discard.fault c.fault_at.ensures c.home.ensures) c.in-Err-discard.ensures.told
+    c.in-Err-discard.fault (record { node = c.home.result; fault = c.in-Err-discard.fault }) (home_stop c.home.result (home_of c.args.shape.now c.args.batch.now.lane) c.in-Err-discard.fault c.home.ensures) c.in-Err-discard.ensures.told
 
 pub returns-in-Err-from_discarded-clause-stopped : goal.returns-in-Err-from_discarded-clause-stopped
 returns-in-Err-from_discarded-clause-stopped g c = later_stops c.args.shape.now g.S.PortSet.alone g.L.LogPort.alone c.args.batch.now c.args.cause c.args.outcomes.now c.args.repeats c.in-Ok.stamp c.args.locks.now c.deref.result.now c.deref-2.result.now (g.L.LogPort.sights c.args.ports.now.log (g.L.LogPort.at c.args.ports.now.log)) (g.L.LogPort.sights c.discard.new.self (g.L.LogPort.at c.discard.new.self))
@@ -77,15 +77,33 @@ returns-in-Err-from_discarded-clause-stopped g c = later_stops c.args.shape.now 
     c.in-Ok-discard.stamp (g.L.LogPort.sights c.from_discarded.new.ports.log (g.L.LogPort.at c.from_discarded.new.ports.log)) (g.S.PortSet.sights c.from_discarded.new.ports.shards) c.in-Err-from_discarded.fault c.in-Ok-discard.ensures.told c.in-Err-from_discarded.ensures.stopped
 
 pub from_discarded-requires-clause-ledger : goal.from_discarded-requires-clause-ledger
-from_discarded-requires-clause-ledger g c = ledger_kept c.args.shape.now (g.S.PortSet.sights c.args.ports.now.shards) (g.S.PortSet.sights c.finish_again.new.shards) c.requires.ledger (headers_on (g.S.PortSet.sights c.args.ports.now.shards) (g.S.PortSet.sights c.finish_phase.new.shards) (g.S.PortSet.sights c.finish_again.new.shards) c.in-Ok.ensures.headers c.finish_again.ensures.headers)
+from_discarded-requires-clause-ledger g c = ledger_kept c.args.shape.now (g.S.PortSet.sights c.args.ports.now.shards) (g.S.PortSet.sights c.finish_again.new.shards) c.requires.ledger (nodes_on (g.S.PortSet.sights c.args.ports.now.shards) (g.S.PortSet.sights c.finish_phase.new.shards) (g.S.PortSet.sights c.finish_again.new.shards) c.in-Ok.ensures.nodes c.finish_again.ensures.nodes)
 
 pub lock_again-requires-clause-calls : goal.lock_again-requires-clause-calls
-lock_again-requires-clause-calls g c = calls_kept IsLockCall (g.S.PortSet.sights c.args.ports.now.shards) (g.S.PortSet.sights c.from_discarded.new.ports.shards) (headers_on (g.S.PortSet.sights c.args.ports.now.shards) (g.S.PortSet.sights c.finish_again.new.shards) (g.S.PortSet.sights c.from_discarded.new.ports.shards) (headers_on (g.S.PortSet.sights c.args.ports.now.shards) (g.S.PortSet.sights c.finish_phase.new.shards) (g.S.PortSet.sights c.finish_again.new.shards) c.in-Ok.ensures.headers c.finish_again.ensures.headers) c.in-Ok-from_discarded.ensures.headers) c.args.locks.now c.requires.locks
+lock_again-requires-clause-calls g c = calls_kept IsLockCall (g.S.PortSet.sights c.args.ports.now.shards) (g.S.PortSet.sights c.from_discarded.new.ports.shards) (nodes_on (g.S.PortSet.sights c.args.ports.now.shards) (g.S.PortSet.sights c.finish_again.new.shards) (g.S.PortSet.sights c.from_discarded.new.ports.shards) (nodes_on (g.S.PortSet.sights c.args.ports.now.shards) (g.S.PortSet.sights c.finish_phase.new.shards) (g.S.PortSet.sights c.finish_again.new.shards) c.in-Ok.ensures.nodes c.finish_again.ensures.nodes) c.in-Ok-from_discarded.ensures.nodes) c.args.locks.now c.requires.locks
 
 pub returns-in-Err-clause-fault : goal.returns-in-Err-clause-fault
 returns-in-Err-clause-fault g c = inr (inr c.in-Err.ensures.fault)
 
 pub returns-in-Err-discard-clause-fault : goal.returns-in-Err-discard-clause-fault
-returns-in-Err-discard-clause-fault g c = log_fault c.args.shape.now c.args.batch.now.lane (g.L.LogPort.at c.discard.new.self) (g.L.LogPort.sights c.discard.new.self) (g.S.PortSet.sights c.finish_again.new.shards) c.in-Err-discard.fault c.fault_at.result c.requires.batch.0 (c.in-Err-discard.ensures.at_same ∙ c.requires.at)
-    (home_fault c.fault_at.result c.home.result (home_of c.args.shape.now c.args.batch.now.lane) c.in-Err-discard.fault c.fault_at.ensures c.home.ensures)
+returns-in-Err-discard-clause-fault g c = log_fault c.args.shape.now c.args.batch.now.lane (g.L.LogPort.at c.discard.new.self) (g.L.LogPort.sights c.discard.new.self) (g.S.PortSet.sights c.finish_again.new.shards) c.in-Err-discard.fault (record { node = c.home.result; fault = c.in-Err-discard.fault }) c.requires.batch.0 (c.in-Err-discard.ensures.at_same ∙ c.requires.at)
+    (home_stop c.home.result (home_of c.args.shape.now c.args.batch.now.lane) c.in-Err-discard.fault c.home.ensures)
     (discard_caused g.L.LogPort.alone c.args.batch.now.lane c.in-Ok.stamp (g.L.LogPort.sights c.args.ports.now.log (g.L.LogPort.at c.args.ports.now.log)) (g.L.LogPort.sights c.discard.new.self (g.L.LogPort.at c.discard.new.self)) c.in-Err-discard.fault c.in-Err-discard.ensures.told)
+
+pub returns-clause-nodes : goal.returns-clause-nodes
+returns-clause-nodes g c = nodes_on (g.S.PortSet.sights c.args.ports.now.shards) (g.S.PortSet.sights c.finish_again-2.new.shards) (g.S.PortSet.sights c.forget_again.new.shards) (nodes_on (g.S.PortSet.sights c.args.ports.now.shards) (g.S.PortSet.sights c.lock_again.new.shards) (g.S.PortSet.sights c.finish_again-2.new.shards) (nodes_on (g.S.PortSet.sights c.args.ports.now.shards) (g.S.PortSet.sights c.from_discarded.new.ports.shards) (g.S.PortSet.sights c.lock_again.new.shards) (nodes_on (g.S.PortSet.sights c.args.ports.now.shards) (g.S.PortSet.sights c.finish_again.new.shards) (g.S.PortSet.sights c.from_discarded.new.ports.shards) (nodes_on (g.S.PortSet.sights c.args.ports.now.shards) (g.S.PortSet.sights c.finish_phase.new.shards) (g.S.PortSet.sights c.finish_again.new.shards) c.in-Ok.ensures.nodes c.finish_again.ensures.nodes) c.in-Ok-from_discarded.ensures.nodes) c.lock_again.ensures.nodes) c.finish_again-2.ensures.nodes) c.forget_again.ensures.nodes
+
+pub returns-in-Err-discard-clause-nodes : goal.returns-in-Err-discard-clause-nodes
+returns-in-Err-discard-clause-nodes g c = nodes_on (g.S.PortSet.sights c.args.ports.now.shards) (g.S.PortSet.sights c.finish_phase.new.shards) (g.S.PortSet.sights c.finish_again.new.shards) c.in-Ok.ensures.nodes c.finish_again.ensures.nodes
+
+pub returns-in-Err-from_discarded-clause-nodes : goal.returns-in-Err-from_discarded-clause-nodes
+returns-in-Err-from_discarded-clause-nodes g c = nodes_on (g.S.PortSet.sights c.args.ports.now.shards) (g.S.PortSet.sights c.finish_again.new.shards) (g.S.PortSet.sights c.from_discarded.new.ports.shards) (nodes_on (g.S.PortSet.sights c.args.ports.now.shards) (g.S.PortSet.sights c.finish_phase.new.shards) (g.S.PortSet.sights c.finish_again.new.shards) c.in-Ok.ensures.nodes c.finish_again.ensures.nodes) c.in-Err-from_discarded.ensures.nodes
+
+pub returns-clause-log_nodes : goal.returns-clause-log_nodes
+returns-clause-log_nodes g c = nodes_on (g.L.LogPort.sights c.args.ports.now.log) (g.L.LogPort.sights c.discard.new.self) (g.L.LogPort.sights c.from_discarded.new.ports.log) c.in-Ok-discard.ensures.nodes c.in-Ok-from_discarded.ensures.log_nodes
+
+pub returns-in-Err-clause-log_nodes : goal.returns-in-Err-clause-log_nodes
+returns-in-Err-clause-log_nodes g c = nodes_same (g.L.LogPort.sights c.args.ports.now.log)
+
+pub returns-in-Err-from_discarded-clause-log_nodes : goal.returns-in-Err-from_discarded-clause-log_nodes
+returns-in-Err-from_discarded-clause-log_nodes g c = nodes_on (g.L.LogPort.sights c.args.ports.now.log) (g.L.LogPort.sights c.discard.new.self) (g.L.LogPort.sights c.from_discarded.new.ports.log) c.in-Ok-discard.ensures.nodes c.in-Err-from_discarded.ensures.log_nodes

@@ -2,9 +2,9 @@ use Rattle.std.proofs.Common.{◌∙◌, refl, map}
 use Rattle.cbdc_model.specs.Ranges.{home_of}
 use Rattle.lane_laws.specs.Calls.{forget_of}
 use Rattle.lane_laws.specs.Answers.{ForgetAnswer}
-use Rattle.lane_driver.proofs.Turning.{turn_stamped, turn_times, forget_stops, done_stops, home_fault}
+use Rattle.lane_driver.proofs.Turning.{turn_stamped, turn_times, forget_stops, done_stops, home_stop}
 use Rattle.lane_driver.proofs.Ready.{forget_shards}
-use Rattle.lane_driver.proofs.Fitting.{forgets_ready, calls_kept}
+use Rattle.lane_driver.proofs.Fitting.{forgets_ready, calls_kept, nodes_same, nodes_on}
 use Rattle.cbdc_model.specs.Calls.{IsForgetCall}
 use Rattle.std.proofs.Common.{inr}
 use Rattle.lane_driver.proofs.Causing.{log_fault, done_caused}
@@ -24,7 +24,7 @@ forget_again-requires-clause-shards g c =
 
 pub forget_again-requires-clause-calls : goal.forget_again-requires-clause-calls
 forget_again-requires-clause-calls g c =
-    calls_kept IsForgetCall (g.S.PortSet.sights c.args.ports.now.shards) (g.S.PortSet.sights c.forget_phase.new.shards) c.in-Ok.ensures.headers c.deref-2.result.now (forgets_ready c.args.shape.now (g.S.PortSet.sights c.args.ports.now.shards) c.requires.ledger c.args.batch.now c.args.cause c.requires.batch c.requires.cause c.args.locks.now _ (c.deref-2.ensures.value ∙ c.forget_calls.ensures) c.requires.shards)
+    calls_kept IsForgetCall (g.S.PortSet.sights c.args.ports.now.shards) (g.S.PortSet.sights c.forget_phase.new.shards) c.in-Ok.ensures.nodes c.deref-2.result.now (forgets_ready c.args.shape.now (g.S.PortSet.sights c.args.ports.now.shards) c.requires.ledger c.args.batch.now c.args.cause c.requires.batch c.requires.cause c.args.locks.now _ (c.deref-2.ensures.value ∙ c.forget_calls.ensures) c.requires.shards)
 
 pub returns-in-Ok-done-clause-told : goal.returns-in-Ok-done-clause-told
 returns-in-Ok-done-clause-told g c = record {
@@ -44,13 +44,22 @@ returns-in-Err-clause-stopped g c = forget_stops c.args.shape.now g.S.PortSet.al
 
 pub returns-in-Err-done-clause-stopped : goal.returns-in-Err-done-clause-stopped
 returns-in-Err-done-clause-stopped g c = done_stops c.args.shape.now g.S.PortSet.alone g.L.LogPort.alone c.args.batch.now c.args.cause c.args.repeats c.in-Ok.stamp c.args.locks.now c.deref.result.now c.deref-2.result.now (g.L.LogPort.sights c.args.ports.now.log (g.L.LogPort.at c.args.ports.now.log))
-    (g.L.LogPort.sights c.done.new.self (g.L.LogPort.at c.done.new.self)) (g.S.PortSet.sights c.args.ports.now.shards) (g.S.PortSet.sights c.forget_phase.new.shards) (g.S.PortSet.sights c.forget_again.new.shards) c.in-Err-done.fault c.fault_at.result c.requires.same (c.deref.ensures.value ∙ c.forget_calls.ensures) (c.deref-2.ensures.value ∙ c.forget_calls.ensures)
-    (home_fault c.fault_at.result c.home.result (home_of c.args.shape.now c.args.batch.now.lane) c.in-Err-done.fault c.fault_at.ensures c.home.ensures) c.in-Ok.ensures.told c.forget_again.ensures.told c.in-Err-done.ensures.told
+    (g.L.LogPort.sights c.done.new.self (g.L.LogPort.at c.done.new.self)) (g.S.PortSet.sights c.args.ports.now.shards) (g.S.PortSet.sights c.forget_phase.new.shards) (g.S.PortSet.sights c.forget_again.new.shards) c.in-Err-done.fault (record { node = c.home.result; fault = c.in-Err-done.fault }) c.requires.same (c.deref.ensures.value ∙ c.forget_calls.ensures) (c.deref-2.ensures.value ∙ c.forget_calls.ensures)
+    (home_stop c.home.result (home_of c.args.shape.now c.args.batch.now.lane) c.in-Err-done.fault c.home.ensures) c.in-Ok.ensures.told c.forget_again.ensures.told c.in-Err-done.ensures.told
 
 pub returns-in-Err-clause-fault : goal.returns-in-Err-clause-fault
 returns-in-Err-clause-fault g c = inr (inr c.in-Err.ensures.fault)
 
 pub returns-in-Err-done-clause-fault : goal.returns-in-Err-done-clause-fault
-returns-in-Err-done-clause-fault g c = log_fault c.args.shape.now c.args.batch.now.lane (g.L.LogPort.at c.done.new.self) (g.L.LogPort.sights c.done.new.self) (g.S.PortSet.sights c.forget_again.new.shards) c.in-Err-done.fault c.fault_at.result c.requires.batch.0 (c.in-Err-done.ensures.at_same ∙ c.requires.at)
-    (home_fault c.fault_at.result c.home.result (home_of c.args.shape.now c.args.batch.now.lane) c.in-Err-done.fault c.fault_at.ensures c.home.ensures)
+returns-in-Err-done-clause-fault g c = log_fault c.args.shape.now c.args.batch.now.lane (g.L.LogPort.at c.done.new.self) (g.L.LogPort.sights c.done.new.self) (g.S.PortSet.sights c.forget_again.new.shards) c.in-Err-done.fault (record { node = c.home.result; fault = c.in-Err-done.fault }) c.requires.batch.0 (c.in-Err-done.ensures.at_same ∙ c.requires.at)
+    (home_stop c.home.result (home_of c.args.shape.now c.args.batch.now.lane) c.in-Err-done.fault c.home.ensures)
     (done_caused g.L.LogPort.alone c.args.batch.now.lane c.in-Ok.stamp (g.L.LogPort.sights c.args.ports.now.log (g.L.LogPort.at c.args.ports.now.log)) (g.L.LogPort.sights c.done.new.self (g.L.LogPort.at c.done.new.self)) c.in-Err-done.fault c.in-Err-done.ensures.told)
+
+pub returns-in-Err-clause-log_nodes : goal.returns-in-Err-clause-log_nodes
+returns-in-Err-clause-log_nodes g c = nodes_same (g.L.LogPort.sights c.args.ports.now.log)
+
+pub returns-in-Ok-done-clause-nodes : goal.returns-in-Ok-done-clause-nodes
+returns-in-Ok-done-clause-nodes g c = nodes_on (g.S.PortSet.sights c.args.ports.now.shards) (g.S.PortSet.sights c.forget_phase.new.shards) (g.S.PortSet.sights c.forget_again.new.shards) c.in-Ok.ensures.nodes c.forget_again.ensures.nodes
+
+pub returns-in-Err-done-clause-nodes : goal.returns-in-Err-done-clause-nodes
+returns-in-Err-done-clause-nodes g c = nodes_on (g.S.PortSet.sights c.args.ports.now.shards) (g.S.PortSet.sights c.forget_phase.new.shards) (g.S.PortSet.sights c.forget_again.new.shards) c.in-Ok.ensures.nodes c.forget_again.ensures.nodes

@@ -2,11 +2,11 @@ use Rattle.std.proofs.Common.{◌∙◌, refl, sym, ap, length, map}
 use Rattle.cbdc_model.specs.Ranges.{home_of}
 use Rattle.lane_laws.specs.Calls.{lock_of}
 use Rattle.lane_laws.specs.Answers.{LockAnswer}
-use Rattle.lane_driver.proofs.Turning.{turn_locked, turn_times, turn_committed, lock_stops, decide_stops, commit_stops, home_fault}
+use Rattle.lane_driver.proofs.Turning.{turn_locked, turn_times, turn_committed, lock_stops, decide_stops, commit_stops, home_stop}
 use Rattle.std.proofs.lemmas.List.{length-map}
 use Rattle.lane_driver.proofs.Ready.{lock_shards, lock_sizes, later_room}
 use Rattle.cbdc_model.specs.Calls.{IsLockCall}
-use Rattle.lane_driver.proofs.Fitting.{locks_ready, calls_kept, ledger_kept, headers_on}
+use Rattle.lane_driver.proofs.Fitting.{locks_ready, calls_kept, ledger_kept, nodes_same, nodes_on}
 use Rattle.std.proofs.Common.{inr}
 use Rattle.lane_driver.proofs.Causing.{log_fault}
 use Rattle.lane_driver.proofs.batch.from_prepared.Goals as goal
@@ -25,7 +25,7 @@ lock_again-requires-clause-shards g c =
 
 pub lock_again-requires-clause-calls : goal.lock_again-requires-clause-calls
 lock_again-requires-clause-calls g c =
-    calls_kept IsLockCall (g.S.PortSet.sights c.args.ports.now.shards) (g.S.PortSet.sights c.lock_phase.new.shards) c.in-Ok.ensures.headers c.deref-2.result.now (locks_ready c.args.shape.now (g.S.PortSet.sights c.args.ports.now.shards) c.requires.ledger c.args.batch.now c.args.cause c.requires.batch c.requires.cause c.args.room.parts _ (c.deref-2.ensures.value ∙ c.lock_calls.ensures) c.requires.room.parts c.requires.parts)
+    calls_kept IsLockCall (g.S.PortSet.sights c.args.ports.now.shards) (g.S.PortSet.sights c.lock_phase.new.shards) c.in-Ok.ensures.nodes c.deref-2.result.now (locks_ready c.args.shape.now (g.S.PortSet.sights c.args.ports.now.shards) c.requires.ledger c.args.batch.now c.args.cause c.requires.batch c.requires.cause c.args.room.parts _ (c.deref-2.ensures.value ∙ c.lock_calls.ensures) c.requires.room.parts c.requires.parts)
 
 pub from_committed-requires-clause-shards : goal.from_committed-requires-clause-shards
 from_committed-requires-clause-shards g c =
@@ -33,7 +33,7 @@ from_committed-requires-clause-shards g c =
 
 pub from_committed-requires-clause-locks : goal.from_committed-requires-clause-locks
 from_committed-requires-clause-locks g c =
-    calls_kept IsLockCall (g.S.PortSet.sights c.args.ports.now.shards) (g.S.PortSet.sights c.lock_again.new.shards) (headers_on (g.S.PortSet.sights c.args.ports.now.shards) (g.S.PortSet.sights c.lock_phase.new.shards) (g.S.PortSet.sights c.lock_again.new.shards) c.in-Ok.ensures.headers c.lock_again.ensures.headers) c.deref-3.result.now (locks_ready c.args.shape.now (g.S.PortSet.sights c.args.ports.now.shards) c.requires.ledger c.args.batch.now c.args.cause c.requires.batch c.requires.cause c.args.room.parts _ (c.deref-3.ensures.value ∙ c.lock_calls.ensures) c.requires.room.parts c.requires.parts)
+    calls_kept IsLockCall (g.S.PortSet.sights c.args.ports.now.shards) (g.S.PortSet.sights c.lock_again.new.shards) (nodes_on (g.S.PortSet.sights c.args.ports.now.shards) (g.S.PortSet.sights c.lock_phase.new.shards) (g.S.PortSet.sights c.lock_again.new.shards) c.in-Ok.ensures.nodes c.lock_again.ensures.nodes) c.deref-3.result.now (locks_ready c.args.shape.now (g.S.PortSet.sights c.args.ports.now.shards) c.requires.ledger c.args.batch.now c.args.cause c.requires.batch c.requires.cause c.args.room.parts _ (c.deref-3.ensures.value ∙ c.lock_calls.ensures) c.requires.room.parts c.requires.parts)
 
 pub from_committed-requires-clause-parts : goal.from_committed-requires-clause-parts
 from_committed-requires-clause-parts g c =
@@ -68,7 +68,7 @@ returns-in-Err-clause-stopped g c = lock_stops c.args.shape.now g.S.PortSet.alon
 pub returns-in-Err-decide-clause-stopped : goal.returns-in-Err-decide-clause-stopped
 returns-in-Err-decide-clause-stopped g c = decide_stops c.args.shape.now g.S.PortSet.alone g.L.LogPort.alone c.args.batch.now c.args.cause c.args.repeats c.in-Ok.replies c.args.room.parts c.deref.result.now c.deref-2.result.now (g.L.LogPort.sights c.args.ports.now.log (g.L.LogPort.at c.args.ports.now.log)) (g.L.LogPort.sights c.decide.new.self (g.L.LogPort.at c.decide.new.self))
     (g.S.PortSet.sights c.args.ports.now.shards) (g.S.PortSet.sights c.lock_phase.new.shards) (g.S.PortSet.sights c.lock_again.new.shards) c.requires.same (c.deref.ensures.value ∙ c.lock_calls.ensures) (c.deref-2.ensures.value ∙ c.lock_calls.ensures) c.in-Ok.ensures.told c.lock_again.ensures.told
-    c.in-Err-decide.fault c.fault_at.result (home_fault c.fault_at.result c.home.result (home_of c.args.shape.now c.args.batch.now.lane) c.in-Err-decide.fault c.fault_at.ensures c.home.ensures) c.in-Err-decide.ensures.told
+    c.in-Err-decide.fault (record { node = c.home.result; fault = c.in-Err-decide.fault }) (home_stop c.home.result (home_of c.args.shape.now c.args.batch.now.lane) c.in-Err-decide.fault c.home.ensures) c.in-Err-decide.ensures.told
 
 pub returns-clause-stopped : goal.returns-clause-stopped
 returns-clause-stopped g c = commit_stops c.args.shape.now g.S.PortSet.alone g.L.LogPort.alone c.args.batch.now c.args.cause c.args.repeats c.in-Ok.replies c.args.room.parts c.deref.result.now c.deref-2.result.now (g.L.LogPort.sights c.args.ports.now.log (g.L.LogPort.at c.args.ports.now.log)) (g.L.LogPort.sights c.decide.new.self (g.L.LogPort.at c.decide.new.self))
@@ -78,12 +78,30 @@ returns-clause-stopped g c = commit_stops c.args.shape.now g.S.PortSet.alone g.L
 
 pub from_committed-requires-clause-ledger : goal.from_committed-requires-clause-ledger
 from_committed-requires-clause-ledger g c =
-    ledger_kept c.args.shape.now (g.S.PortSet.sights c.args.ports.now.shards) (g.S.PortSet.sights c.lock_again.new.shards) c.requires.ledger (headers_on (g.S.PortSet.sights c.args.ports.now.shards) (g.S.PortSet.sights c.lock_phase.new.shards) (g.S.PortSet.sights c.lock_again.new.shards) c.in-Ok.ensures.headers c.lock_again.ensures.headers)
+    ledger_kept c.args.shape.now (g.S.PortSet.sights c.args.ports.now.shards) (g.S.PortSet.sights c.lock_again.new.shards) c.requires.ledger (nodes_on (g.S.PortSet.sights c.args.ports.now.shards) (g.S.PortSet.sights c.lock_phase.new.shards) (g.S.PortSet.sights c.lock_again.new.shards) c.in-Ok.ensures.nodes c.lock_again.ensures.nodes)
 
 pub returns-in-Err-clause-fault : goal.returns-in-Err-clause-fault
 returns-in-Err-clause-fault g c = inr (inr c.in-Err.ensures.fault)
 
 pub returns-in-Err-decide-clause-fault : goal.returns-in-Err-decide-clause-fault
-returns-in-Err-decide-clause-fault g c = log_fault c.args.shape.now c.args.batch.now.lane (g.L.LogPort.at c.decide.new.self) (g.L.LogPort.sights c.decide.new.self) (g.S.PortSet.sights c.lock_again.new.shards) c.in-Err-decide.fault c.fault_at.result c.requires.batch.0 (c.in-Err-decide.ensures.at_same ∙ c.requires.at)
-    (home_fault c.fault_at.result c.home.result (home_of c.args.shape.now c.args.batch.now.lane) c.in-Err-decide.fault c.fault_at.ensures c.home.ensures)
+returns-in-Err-decide-clause-fault g c = log_fault c.args.shape.now c.args.batch.now.lane (g.L.LogPort.at c.decide.new.self) (g.L.LogPort.sights c.decide.new.self) (g.S.PortSet.sights c.lock_again.new.shards) c.in-Err-decide.fault (record { node = c.home.result; fault = c.in-Err-decide.fault }) c.requires.batch.0 (c.in-Err-decide.ensures.at_same ∙ c.requires.at)
+    (home_stop c.home.result (home_of c.args.shape.now c.args.batch.now.lane) c.in-Err-decide.fault c.home.ensures)
     (c.in-Err-decide.ensures.fault)
+
+pub returns-in-Ok-from_committed-clause-nodes : goal.returns-in-Ok-from_committed-clause-nodes
+returns-in-Ok-from_committed-clause-nodes g c = nodes_on (g.S.PortSet.sights c.args.ports.now.shards) (g.S.PortSet.sights c.lock_again.new.shards) (g.S.PortSet.sights c.from_committed.new.ports.shards) (nodes_on (g.S.PortSet.sights c.args.ports.now.shards) (g.S.PortSet.sights c.lock_phase.new.shards) (g.S.PortSet.sights c.lock_again.new.shards) c.in-Ok.ensures.nodes c.lock_again.ensures.nodes) c.in-Ok-from_committed.ensures.nodes
+
+pub returns-in-Err-decide-clause-nodes : goal.returns-in-Err-decide-clause-nodes
+returns-in-Err-decide-clause-nodes g c = nodes_on (g.S.PortSet.sights c.args.ports.now.shards) (g.S.PortSet.sights c.lock_phase.new.shards) (g.S.PortSet.sights c.lock_again.new.shards) c.in-Ok.ensures.nodes c.lock_again.ensures.nodes
+
+pub returns-clause-nodes : goal.returns-clause-nodes
+returns-clause-nodes g c = nodes_on (g.S.PortSet.sights c.args.ports.now.shards) (g.S.PortSet.sights c.lock_again.new.shards) (g.S.PortSet.sights c.from_committed.new.ports.shards) (nodes_on (g.S.PortSet.sights c.args.ports.now.shards) (g.S.PortSet.sights c.lock_phase.new.shards) (g.S.PortSet.sights c.lock_again.new.shards) c.in-Ok.ensures.nodes c.lock_again.ensures.nodes) c.in-Err-from_committed.ensures.nodes
+
+pub returns-in-Ok-from_committed-clause-log_nodes : goal.returns-in-Ok-from_committed-clause-log_nodes
+returns-in-Ok-from_committed-clause-log_nodes g c = nodes_on (g.L.LogPort.sights c.args.ports.now.log) (g.L.LogPort.sights c.decide.new.self) (g.L.LogPort.sights c.from_committed.new.ports.log) c.in-Ok-decide.ensures.nodes c.in-Ok-from_committed.ensures.log_nodes
+
+pub returns-in-Err-clause-log_nodes : goal.returns-in-Err-clause-log_nodes
+returns-in-Err-clause-log_nodes g c = nodes_same (g.L.LogPort.sights c.args.ports.now.log)
+
+pub returns-clause-log_nodes : goal.returns-clause-log_nodes
+returns-clause-log_nodes g c = nodes_on (g.L.LogPort.sights c.args.ports.now.log) (g.L.LogPort.sights c.decide.new.self) (g.L.LogPort.sights c.from_committed.new.ports.log) c.in-Ok-decide.ensures.nodes c.in-Err-from_committed.ensures.log_nodes

@@ -1,15 +1,15 @@
 use Rattle.cbdc_model.specs.Ranges.{home_of}
-use Rattle.lane_driver.proofs.Turning.{home_fault}
+use Rattle.lane_driver.proofs.Turning.{home_stop}
 use Rattle.lane_driver.proofs.Batching.{prepare_stops, prepared_done, prepared_stops}
 use Rattle.lane_driver.proofs.Fitting.{parts_fit}
-use Rattle.std.proofs.Common.{◌∙◌, ◌*◌, ◌<◌, inl, subst}
+use Rattle.std.proofs.Common.{◌∙◌, ◌*◌, ◌<◌, inl, refl, subst}
 use Rattle.cbdc_model.specs.Records.{Shape}
 use Rattle.lane_driver.proofs.Causing.{log_fault, prepare_caused}
 use Rattle.lane_driver.proofs.batch.one_batch.Goals as goal
 
 pub returns-in-Err-prepare-clause-stopped : goal.returns-in-Err-prepare-clause-stopped
 returns-in-Err-prepare-clause-stopped g c = prepare_stops c.args.shape.now g.L.LogPort.alone c.args.lane c.args.txs.now c.args.repeats c.in-Ok.room.parts (g.L.LogPort.sights c.args.ports.now.log (g.L.LogPort.at c.args.ports.now.log)) (g.L.LogPort.sights c.prepare.new.self (g.L.LogPort.at c.prepare.new.self)) (g.S.PortSet.sights c.args.ports.now.shards) c.in-Ok.ensures.parts
-    c.in-Err-prepare.fault c.fault_at.result (home_fault c.fault_at.result c.home.result (home_of c.args.shape.now c.args.lane) c.in-Err-prepare.fault c.fault_at.ensures c.home.ensures) c.in-Err-prepare.ensures.told
+    c.in-Err-prepare.fault (record { node = c.home.result; fault = c.in-Err-prepare.fault }) (home_stop c.home.result (home_of c.args.shape.now c.args.lane) c.in-Err-prepare.fault c.home.ensures) c.in-Err-prepare.ensures.told
 
 pub returns-in-Ok-from_prepared-clause-done : goal.returns-in-Ok-from_prepared-clause-done
 returns-in-Ok-from_prepared-clause-done g c = prepared_done c.args.shape.now g.L.LogPort.alone c.args.lane c.args.txs.now c.args.repeats c.in-Ok.room.parts (g.L.LogPort.sights c.args.ports.now.log (g.L.LogPort.at c.args.ports.now.log)) (g.L.LogPort.sights c.prepare.new.self (g.L.LogPort.at c.prepare.new.self)) (g.S.PortSet.sights c.args.ports.now.shards) c.in-Ok.ensures.parts
@@ -23,9 +23,9 @@ pub from_prepared-requires-clause-parts : goal.from_prepared-requires-clause-par
 from_prepared-requires-clause-parts g c = parts_fit c.args.shape.now (g.S.PortSet.sights c.args.ports.now.shards) c.args.txs.now c.in-Ok.room.parts c.requires.ledger c.requires.size c.requires.limits c.in-Ok.ensures.parts
 
 pub returns-in-Err-clause-fault : goal.returns-in-Err-clause-fault
-returns-in-Err-clause-fault g c = inl c.no_memory.ensures
+returns-in-Err-clause-fault g c = inl (refl, refl)
 
 pub returns-in-Err-prepare-clause-fault : goal.returns-in-Err-prepare-clause-fault
-returns-in-Err-prepare-clause-fault g c = log_fault c.args.shape.now c.args.lane (g.L.LogPort.at c.prepare.new.self) (g.L.LogPort.sights c.prepare.new.self) (g.S.PortSet.sights c.args.ports.now.shards) c.in-Err-prepare.fault c.fault_at.result (subst (λ (K : Shape). c.args.lane < K.coordinators * K.lanes) c.requires.shape c.requires.home.0) (c.in-Err-prepare.ensures.at_same ∙ c.requires.at)
-    (home_fault c.fault_at.result c.home.result (home_of c.args.shape.now c.args.lane) c.in-Err-prepare.fault c.fault_at.ensures c.home.ensures)
+returns-in-Err-prepare-clause-fault g c = log_fault c.args.shape.now c.args.lane (g.L.LogPort.at c.prepare.new.self) (g.L.LogPort.sights c.prepare.new.self) (g.S.PortSet.sights c.args.ports.now.shards) c.in-Err-prepare.fault (record { node = c.home.result; fault = c.in-Err-prepare.fault }) (subst (λ (K : Shape). c.args.lane < K.coordinators * K.lanes) c.requires.shape c.requires.home.0) (c.in-Err-prepare.ensures.at_same ∙ c.requires.at)
+    (home_stop c.home.result (home_of c.args.shape.now c.args.lane) c.in-Err-prepare.fault c.home.ensures)
     (prepare_caused g.L.LogPort.alone c.args.lane c.args.txs.now (g.L.LogPort.sights c.args.ports.now.log (g.L.LogPort.at c.args.ports.now.log)) (g.L.LogPort.sights c.prepare.new.self (g.L.LogPort.at c.prepare.new.self)) c.in-Err-prepare.fault c.in-Err-prepare.ensures.told)

@@ -3,10 +3,12 @@ use Rattle.std.specs.Vec.{vec_len, vec_capacity}
 use Rattle.std.specs.List.{All}
 use Rattle.std.proofs.lemmas.List.Elements.{All-take, All-drop}
 use Rattle.cbdc_model.specs.Grammar.{IsCompact}
-use Rattle.lane_driver.proofs.Fitting.{elsewhere_on, others_on, headers_on, ledger_kept}
+use Rattle.lane_driver.proofs.Fitting.{elsewhere_on, others_on, nodes_same, nodes_on, ledger_kept}
 use Rattle.lane_laws.specs.Batches.{LaneSo}
 use Rattle.lane_laws.proofs.Laning.{lane_begins}
-use Rattle.lane_driver.proofs.Batching.{lane_on, done_on, lane_off, none_left}
+use Rattle.cbdc_types.specs.declared.calls.NodeFault.TheVariants.{Memory}
+use Rattle.cbdc_model.specs.Slots.{slot}
+use Rattle.lane_driver.proofs.Batching.{one_granted, one_stops, lane_on, done_on, lane_off, none_left}
 use Rattle.lane_driver.specs.Reports.{IsReported, AreDone}
 use Rattle.lane_driver.proofs.Cutting.{room_after, reported_more}
 use Rattle.lane_driver.proofs.lane.run_lane.Goals as goal
@@ -29,7 +31,8 @@ pieces-preserved g c =
       shard_later = λ n. omega (arith, c.pieces.invariant.shard_later n, c.in-Ok-one_batch.ensures.shard_later n);
       log_later = λ n. omega (arith, c.pieces.invariant.log_later n, c.in-Ok-one_batch.ensures.log_later n);
       elsewhere = elsewhere_on (g.L.LogPort.at c.args.ports.now.log) (g.L.LogPort.at c.pieces.ports.log) (g.L.LogPort.sights c.args.ports.now.log) (g.L.LogPort.sights c.pieces.ports.log) (g.L.LogPort.sights c.one_batch.new.ports.log) c.pieces.invariant.at_same c.pieces.invariant.elsewhere c.in-Ok-one_batch.ensures.elsewhere;
-      headers = headers_on (g.S.PortSet.sights c.args.ports.now.shards) (g.S.PortSet.sights c.pieces.ports.shards) (g.S.PortSet.sights c.one_batch.new.ports.shards) c.pieces.invariant.headers c.in-Ok-one_batch.ensures.headers;
+      nodes = nodes_on (g.S.PortSet.sights c.args.ports.now.shards) (g.S.PortSet.sights c.pieces.ports.shards) (g.S.PortSet.sights c.one_batch.new.ports.shards) c.pieces.invariant.nodes c.in-Ok-one_batch.ensures.nodes;
+      log_nodes = nodes_on (g.L.LogPort.sights c.args.ports.now.log) (g.L.LogPort.sights c.pieces.ports.log) (g.L.LogPort.sights c.one_batch.new.ports.log) c.pieces.invariant.log_nodes c.in-Ok-one_batch.ensures.log_nodes;
       log_holds = λ h. c.in-Ok-one_batch.ensures.log_holds (c.pieces.invariant.log_holds h);
       shard_holds = λ h. c.in-Ok-one_batch.ensures.shard_holds (c.pieces.invariant.shard_holds h);
       limits = subst (λ xs. All IsCompact xs) (sym (at.back ∙ ap (λ n. drop n c.pieces.rest.now) size)) (All-drop IsCompact (min c.args.shape.now.batch (length c.pieces.rest.now)) c.pieces.rest.now c.pieces.invariant.limits);
@@ -44,7 +47,7 @@ pieces-preserved g c =
 
 pub returns-in-Err-one_batch-clause-stopped : goal.returns-in-Err-one_batch-clause-stopped
 returns-in-Err-one_batch-clause-stopped g c k st = lane_off c.args.shape.now g.L.LogPort.alone c.args.lane c.args.txs.now c.pieces.rest.now c.split_at.result.0.now (g.L.LogPort.sights c.args.ports.now.log (g.L.LogPort.at c.args.ports.now.log)) (g.L.LogPort.sights c.pieces.ports.log (g.L.LogPort.at c.pieces.ports.log)) (g.L.LogPort.sights c.one_batch.new.ports.log (g.L.LogPort.at c.one_batch.new.ports.log)) (g.S.PortSet.sights c.args.ports.now.shards) (g.S.PortSet.sights c.pieces.ports.shards) (g.S.PortSet.sights c.one_batch.new.ports.shards) (c.pieces.invariant.so k st) (c.split_at.ensures.front ∙ ap (λ n. take n c.pieces.rest.now) (c.min.ensures ∙ ap (λ n. min n (length c.pieces.rest.now)) c.batch-size.ensures.value))
-    c.in-Err-one_batch.fault c.in-Err-one_batch.ensures.stopped
+    c.lane_fault.result (one_stops c.args.shape.now g.L.LogPort.alone c.args.lane c.split_at.result.0.now (g.L.LogPort.sights c.pieces.ports.log (g.L.LogPort.at c.pieces.ports.log)) (g.L.LogPort.sights c.one_batch.new.ports.log (g.L.LogPort.at c.one_batch.new.ports.log)) (g.S.PortSet.sights c.pieces.ports.shards) (g.S.PortSet.sights c.one_batch.new.ports.shards) c.in-Err-one_batch.stop c.in-Err-one_batch.ensures.stopped c.lane_fault.result c.lane_fault.ensures)
 
 pub returns-in-Err-clause-stopped : goal.returns-in-Err-clause-stopped
 returns-in-Err-clause-stopped g c k st = inl (c.no_memory.ensures, (c.args.txs.now, lane_begins c.args.shape.now g.L.LogPort.alone c.args.lane k c.args.txs.now (g.L.LogPort.sights c.args.ports.now.log (g.L.LogPort.at c.args.ports.now.log)) (g.S.PortSet.sights c.args.ports.now.shards) st))
@@ -61,7 +64,8 @@ pieces-init g c = record {
   shard_later = λ n. omega arith;
   log_later = λ n. omega arith;
   elsewhere = λ n ne. refl;
-  headers = λ s. refl;
+  nodes = nodes_same (g.S.PortSet.sights c.args.ports.now.shards);
+  log_nodes = nodes_same (g.L.LogPort.sights c.args.ports.now.log);
   log_holds = λ h. h;
   shard_holds = λ h. h;
   limits = c.requires.limits;
@@ -85,7 +89,7 @@ returns-clause-batches g c k st =
     (subst (λ r. AreDone c.args.shape.now g.L.LogPort.alone c.args.lane c.args.txs.now (g.L.LogPort.sights c.args.ports.now.log (g.L.LogPort.at c.args.ports.now.log)) (g.S.PortSet.sights c.args.ports.now.shards) (reverse c.pieces.batches.items) r (g.L.LogPort.sights c.pieces.ports.log (g.L.LogPort.at c.pieces.ports.log)) (g.S.PortSet.sights c.pieces.ports.shards)) e (c.pieces.invariant.batches k st))
 
 pub one_batch-requires-clause-ledger : goal.one_batch-requires-clause-ledger
-one_batch-requires-clause-ledger g c = ledger_kept c.args.shape.now (g.S.PortSet.sights c.args.ports.now.shards) (g.S.PortSet.sights c.pieces.ports.shards) c.requires.ledger c.pieces.invariant.headers
+one_batch-requires-clause-ledger g c = ledger_kept c.args.shape.now (g.S.PortSet.sights c.args.ports.now.shards) (g.S.PortSet.sights c.pieces.ports.shards) c.requires.ledger c.pieces.invariant.nodes
 
 pub one_batch-requires-clause-limits : goal.one_batch-requires-clause-limits
 one_batch-requires-clause-limits g c = subst (λ xs. All IsCompact xs) (sym c.split_at.ensures.front) (All-take IsCompact c.min.result c.pieces.rest.now c.pieces.invariant.limits)
@@ -93,8 +97,11 @@ one_batch-requires-clause-limits g c = subst (λ xs. All IsCompact xs) (sym c.sp
 pub returns-in-Err-one_batch-clause-elsewhere : goal.returns-in-Err-one_batch-clause-elsewhere
 returns-in-Err-one_batch-clause-elsewhere g c = elsewhere_on (g.L.LogPort.at c.args.ports.now.log) (g.L.LogPort.at c.pieces.ports.log) (g.L.LogPort.sights c.args.ports.now.log) (g.L.LogPort.sights c.pieces.ports.log) (g.L.LogPort.sights c.one_batch.new.ports.log) c.pieces.invariant.at_same c.pieces.invariant.elsewhere c.in-Err-one_batch.ensures.elsewhere
 
-pub returns-in-Err-one_batch-clause-headers : goal.returns-in-Err-one_batch-clause-headers
-returns-in-Err-one_batch-clause-headers g c = headers_on (g.S.PortSet.sights c.args.ports.now.shards) (g.S.PortSet.sights c.pieces.ports.shards) (g.S.PortSet.sights c.one_batch.new.ports.shards) c.pieces.invariant.headers c.in-Err-one_batch.ensures.headers
+pub returns-in-Err-one_batch-clause-nodes : goal.returns-in-Err-one_batch-clause-nodes
+returns-in-Err-one_batch-clause-nodes g c = nodes_on (g.S.PortSet.sights c.args.ports.now.shards) (g.S.PortSet.sights c.pieces.ports.shards) (g.S.PortSet.sights c.one_batch.new.ports.shards) c.pieces.invariant.nodes c.in-Err-one_batch.ensures.nodes
+
+pub returns-in-Err-one_batch-clause-log_nodes : goal.returns-in-Err-one_batch-clause-log_nodes
+returns-in-Err-one_batch-clause-log_nodes g c = nodes_on (g.L.LogPort.sights c.args.ports.now.log) (g.L.LogPort.sights c.pieces.ports.log) (g.L.LogPort.sights c.one_batch.new.ports.log) c.pieces.invariant.log_nodes c.in-Err-one_batch.ensures.log_nodes
 
 pub returns-in-Err-one_batch-clause-log_holds : goal.returns-in-Err-one_batch-clause-log_holds
 returns-in-Err-one_batch-clause-log_holds g c h = c.in-Err-one_batch.ensures.log_holds (c.pieces.invariant.log_holds h)
@@ -105,8 +112,11 @@ returns-in-Err-one_batch-clause-shard_holds g c h = c.in-Err-one_batch.ensures.s
 pub returns-clause-elsewhere : goal.returns-clause-elsewhere
 returns-clause-elsewhere g c = c.pieces.invariant.elsewhere
 
-pub returns-clause-headers : goal.returns-clause-headers
-returns-clause-headers g c = c.pieces.invariant.headers
+pub returns-clause-nodes : goal.returns-clause-nodes
+returns-clause-nodes g c = c.pieces.invariant.nodes
+
+pub returns-clause-log_nodes : goal.returns-clause-log_nodes
+returns-clause-log_nodes g c = c.pieces.invariant.log_nodes
 
 pub returns-clause-log_holds : goal.returns-clause-log_holds
 returns-clause-log_holds g c = c.pieces.invariant.log_holds
@@ -121,4 +131,13 @@ pub returns-clause-others : goal.returns-clause-others
 returns-clause-others g c = c.pieces.invariant.others
 
 pub returns-in-Err-clause-fault : goal.returns-in-Err-clause-fault
-returns-in-Err-clause-fault g c = inl c.no_memory.ensures
+returns-in-Err-clause-fault g c = (0, Memory, c.no_memory.ensures, inl (refl, refl))
+
+pub lane_fault-requires : goal.lane_fault-requires
+lane_fault-requires g c =
+    let st = (c.pieces.invariant.so c.requires.settled.0 c.requires.settled.1).settled in
+    one_granted c.args.shape.now g.L.LogPort.alone c.args.lane c.split_at.result.0.now (g.L.LogPort.sights c.pieces.ports.log (g.L.LogPort.at c.pieces.ports.log)) (g.L.LogPort.sights c.one_batch.new.ports.log (g.L.LogPort.at c.one_batch.new.ports.log)) (g.S.PortSet.sights c.pieces.ports.shards) (g.S.PortSet.sights c.one_batch.new.ports.shards) c.in-Err-one_batch.stop c.in-Err-one_batch.ensures.stopped
+    (slot (g.L.LogPort.sights c.pieces.ports.log (g.L.LogPort.at c.pieces.ports.log)).seen c.args.lane).number st
+
+pub returns-in-Err-one_batch-clause-fault : goal.returns-in-Err-one_batch-clause-fault
+returns-in-Err-one_batch-clause-fault g c = (c.in-Err-one_batch.stop.node, c.in-Err-one_batch.stop.fault, c.lane_fault.ensures, c.in-Err-one_batch.ensures.fault)

@@ -4,7 +4,7 @@ use Rattle.std.specs.List.{All}
 use Rattle.cbdc_model.specs.Grammar.{IsCompact}
 use Rattle.cbdc_model.specs.Slots.{Idle}
 use Rattle.lane_laws.specs.Batches.{Settled, LaneSo}
-use Rattle.lane_driver.specs.Told.{KeepsOthers, KeepHeaders}
+use Rattle.lane_driver.specs.Told.{KeepsOthers, KeepNodes}
 use Rattle.lane_driver.specs.Reports.{IsReported, AreDone}
 use Rattle.lane_driver.proofs.lane.run_lane.Given as goal
 
@@ -22,7 +22,8 @@ invariant-pieces g l = record {
   shard_later : (n : ℕ) → g.S.PortSet.faults l.initial.ports.shards n ≤ g.S.PortSet.faults l.ports.shards n;
   log_later : (n : ℕ) → g.L.LogPort.faults l.initial.ports.log n ≤ g.L.LogPort.faults l.ports.log n;
   elsewhere : (n : ℕ) → n ≢ g.L.LogPort.at l.initial.ports.log → g.L.LogPort.sights l.ports.log n ≡ g.L.LogPort.sights l.initial.ports.log n;
-  headers : KeepHeaders (g.S.PortSet.sights l.initial.ports.shards) (g.S.PortSet.sights l.ports.shards);
+  nodes : KeepNodes (g.S.PortSet.sights l.initial.ports.shards) (g.S.PortSet.sights l.ports.shards);
+  log_nodes : KeepNodes (g.L.LogPort.sights l.initial.ports.log) (g.L.LogPort.sights l.ports.log);
   log_holds : g.L.LogPort.holds l.initial.ports.log → g.L.LogPort.holds l.ports.log;
   shard_holds : g.S.PortSet.holds l.initial.ports.shards → g.S.PortSet.holds l.ports.shards;
   limits : All IsCompact l.rest;

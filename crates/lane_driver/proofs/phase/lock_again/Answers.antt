@@ -8,4 +8,4 @@ pub returns-clause-told : goal.returns-clause-told
 returns-clause-told g c = asked_all (LockAnswer g.S.PortSet.alone) c.args.calls.now c.loop-time._time c.args.repeats (g.S.PortSet.sights c.args.shards.now) (g.S.PortSet.sights c.loop-time.shards) c.loop-time.auto._time-end c.loop-time-test.false c.loop-time.invariant.told
 
 pub lock-requires-clause-calls : goal.lock-requires-clause-calls
-lock-requires-clause-calls g c = calls_kept IsLockCall (g.S.PortSet.sights c.args.shards.now) (g.S.PortSet.sights c.loop-time.shards) c.loop-time.invariant.headers c.args.calls.now c.requires.calls
+lock-requires-clause-calls g c = calls_kept IsLockCall (g.S.PortSet.sights c.args.shards.now) (g.S.PortSet.sights c.loop-time.shards) c.loop-time.invariant.nodes c.args.calls.now c.requires.calls

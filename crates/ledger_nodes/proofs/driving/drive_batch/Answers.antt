@@ -9,6 +9,7 @@ use Rattle.node_ports.specs.Nodes.{sight_at}
 use Rattle.run_laws.proofs.Seen.{seen_log}
 use Rattle.lane_driver.specs.Stops.{IsBatchStopped, IsOneBatch}
 use Rattle.ledger_nodes.proofs.Steps.{is_step, are_shards, at_home}
+use Rattle.ledger_nodes.proofs.Turns.{is_settled}
 use Rattle.ledger_nodes.proofs.driving.drive_batch.Goals as goal
 
 pub run_batch-came-requires-clause-ledger : goal.run_batch-came-requires-clause-ledger
@@ -17,7 +18,7 @@ run_batch-came-requires-clause-ledger g c = are_shards g.D.Disk.count g.D.Disk.l
 pub returns-clause-step : goal.returns-clause-step
 returns-clause-step g c = is_step g.D.Disk.count g.D.Disk.limit g.D.Disk.content g.D.Disk.images c.args.header.now c.args.lane c.home-ports.result c.run_batch-came.new.ports.log.at
     c.args.ports.now.log.logs.items c.args.ports.now.shards.nodes.items c.run_batch-came.new.ports.log.logs.items c.run_batch-came.new.ports.shards.nodes.items
-    c.requires.ledger c.requires.lane c.home-ports.ensures.place c.run_batch-came.ensures.at_same c.args.lane refl c.run_batch-came.ensures.header c.run_batch-came.ensures.log_count c.run_batch-came.ensures.count c.run_batch-came.ensures.elsewhere c.run_batch-came.ensures.headers
+    c.requires.ledger c.requires.lane c.home-ports.ensures.place c.run_batch-came.ensures.at_same c.args.lane refl c.run_batch-came.ensures.log_count c.run_batch-came.ensures.count c.run_batch-came.ensures.elsewhere c.run_batch-came.ensures.log_nodes c.run_batch-came.ensures.nodes
     c.run_batch-came.ensures.others c.run_batch-came.ensures.log_holds c.run_batch-came.ensures.shard_holds c.run_batch-came.ensures.log_later c.run_batch-came.ensures.shard_later
     (subst (All (λ l. IsJournal l.header l.journal)) c.as_slice.ensures.value c.see_logs.ensures) (subst (All (λ s. IsJournal s.header s.journal)) c.as_slice-2.ensures.value c.see_shards.ensures)
 
@@ -38,3 +39,6 @@ returns-clause-idle g c = subst (λ L. OnOk c.run_batch-came.result ((slot L c.a
     (at_home (λ x y. OnOk c.run_batch-came.result ((slot y.seen c.args.lane).phase ≡ Idle))
     (λ n. sight_at sight c.args.ports.now.log.logs.items n) (λ n. sight_at sight c.run_batch-came.new.ports.log.logs.items n) c.home-ports.result c.run_batch-came.new.ports.log.at (home_of c.args.header.now.shape c.args.lane)
     c.home-ports.ensures.place c.run_batch-came.ensures.at_same c.run_batch-came.ensures.idle)
+
+pub run_batch-came-requires-clause-settled : goal.run_batch-came-requires-clause-settled
+run_batch-came-requires-clause-settled g c = is_settled g.D.Disk.count g.D.Disk.limit g.D.Disk.content g.D.Disk.images c.args.header.now c.args.lane c.args.ports.now.log.logs.items c.args.ports.now.shards.nodes.items c.requires.ledger c.requires.lane c.requires.idle c.requires.checked c.home-ports.result c.home-ports.ensures.place

@@ -11,6 +11,7 @@ use Rattle.lane_laws.specs.Resuming.{IsTakenUp}
 use Rattle.recovery.specs.Open.{IsUnfinished, HasItsOutcomes, IsResumeStopped}
 use Rattle.turn_laws.proofs.OpenThere.{told_lane}
 use Rattle.ledger_nodes.proofs.Steps.{is_step, are_shards, at_home, open_at}
+use Rattle.ledger_nodes.proofs.Turns.{is_unfinished}
 use Rattle.ledger_nodes.proofs.driving.drive_resume.Goals as goal
 
 pub resume_lane-came-requires-clause-is_open : goal.resume_lane-came-requires-clause-is_open
@@ -22,7 +23,7 @@ resume_lane-came-requires-clause-ledger g c = are_shards g.D.Disk.count g.D.Disk
 pub returns-clause-step : goal.returns-clause-step
 returns-clause-step g c = is_step g.D.Disk.count g.D.Disk.limit g.D.Disk.content g.D.Disk.images c.args.header.now c.args.lane c.home-ports.result c.resume_lane-came.new.ports.log.at
     c.args.ports.now.log.logs.items c.args.ports.now.shards.nodes.items c.resume_lane-came.new.ports.log.logs.items c.resume_lane-came.new.ports.shards.nodes.items
-    c.requires.ledger c.requires.lane c.home-ports.ensures.place c.resume_lane-came.ensures.at_same c.args.unfinished.now.batch.lane (told_lane (sight_at sight c.args.ports.now.log.logs.items (home_of c.args.header.now.shape c.args.lane)).seen c.args.lane c.args.unfinished.now c.requires.told) c.resume_lane-came.ensures.header c.resume_lane-came.ensures.log_count c.resume_lane-came.ensures.count c.resume_lane-came.ensures.elsewhere c.resume_lane-came.ensures.headers
+    c.requires.ledger c.requires.lane c.home-ports.ensures.place c.resume_lane-came.ensures.at_same c.args.unfinished.now.batch.lane (told_lane (sight_at sight c.args.ports.now.log.logs.items (home_of c.args.header.now.shape c.args.lane)).seen c.args.lane c.args.unfinished.now c.requires.told) c.resume_lane-came.ensures.log_count c.resume_lane-came.ensures.count c.resume_lane-came.ensures.elsewhere c.resume_lane-came.ensures.log_nodes c.resume_lane-came.ensures.nodes
     c.resume_lane-came.ensures.others c.resume_lane-came.ensures.log_holds c.resume_lane-came.ensures.shard_holds c.resume_lane-came.ensures.log_later c.resume_lane-came.ensures.shard_later
     (subst (All (λ l. IsJournal l.header l.journal)) c.as_slice.ensures.value c.see_logs.ensures) (subst (All (λ s. IsJournal s.header s.journal)) c.as_slice-2.ensures.value c.see_shards.ensures)
 
@@ -50,3 +51,6 @@ returns-clause-idle g c = subst (λ L. OnOk c.resume_lane-came.result ((slot L c
     c.home-ports.ensures.place c.resume_lane-came.ensures.at_same
     (subst (λ l. OnOk c.resume_lane-came.result ((slot (sight_at sight c.resume_lane-came.new.ports.log.logs.items c.resume_lane-came.new.ports.log.at).seen l).phase ≡ Idle))
     (told_lane (sight_at sight c.args.ports.now.log.logs.items (home_of c.args.header.now.shape c.args.lane)).seen c.args.lane c.args.unfinished.now c.requires.told) c.resume_lane-came.ensures.idle))
+
+pub resume_lane-came-requires-clause-stands : goal.resume_lane-came-requires-clause-stands
+resume_lane-came-requires-clause-stands g c = is_unfinished g.D.Disk.count g.D.Disk.limit g.D.Disk.content g.D.Disk.images c.args.header.now c.args.lane c.args.ports.now.log.logs.items c.args.ports.now.shards.nodes.items c.requires.ledger c.requires.lane c.args.unfinished.now c.requires.told c.requires.checked c.home-ports.result c.home-ports.ensures.place

@@ -1,6 +1,6 @@
-use Rattle.std.proofs.Common.{◌≡◌, ◌<◌, ℕ, Some, None, refl, sym, ◌∙◌, arith}
+use Rattle.std.proofs.Common.{◌≡◌, None, refl, arith}
 use Rattle.std.proofs.lemmas.Option.{slice_get_read, slice_get_within}
-use Rattle.ledger_runs.proofs.Finding.{up_to, none_of}
+use Rattle.ledger_runs.proofs.Finding.{up_to}
 use Rattle.ledger_runs.proofs.lanes.first_fault.Goals as goal
 
 pub returns-in-Some : goal.returns-in-Some

@@ -1,9 +1,11 @@
-use Rattle.std.proofs.Common.{◌≡◌, ◌≤◌, ◌≢◌, ℕ, ◌+◌, ◌*◌, ◌<◌, arith, refl, ap, sym, ◌∙◌, subst}
+use Rattle.std.proofs.Common.{◌*◌, arith, refl, ap, ◌∙◌, subst}
 use Rattle.run_laws.specs.WaveSteps.{ResumedSo, ResumingStepLaw, ResumingSkipLaw, ResumingBeginsLaw, ResumingEndsLaw}
 use Rattle.run_laws.proofs.WaveTurns.{resuming_begins_law, resuming_step_law, resuming_skip_law, resuming_ends_law}
-use Rattle.ledger_runs.specs.Turning.{phase_at, OfKept, StaysKept}
 use Rattle.ledger_runs.proofs.Keeping.{stays, stays_next, same_next, idle_next, so_next}
 use Rattle.ledger_runs.specs.Telling.{TellResumed}
+use Rattle.ledger_laws.proofs.Cuts.{end_self, end_trans}
+use Rattle.ledger_runs.specs.Faults.{HaveFailed, MayHold}
+use Rattle.ledger_runs.proofs.Faulting.{grown_end, resumed_cause}
 use Rattle.ledger_runs.proofs.WaveTelling.{resumed_told, resumed_prepares}
 use Rattle.ledger_runs.proofs.resuming.resume_all.Goals as goal
 
@@ -27,6 +29,10 @@ lanes-init g c =
       quiet = λ _ _ _ was. was;
       holds = λ h. h;
       later = λ n. omega arith;
+      opened = λ n. refl;
+      capacity = λ n. refl;
+      checked = c.requires;
+      grows = λ n. end_self (E n);
     }
 
 pub lanes-preserved : goal.lanes-preserved
@@ -51,6 +57,10 @@ lanes-preserved g c =
           so.shape so.keeps so.quiet c.in-Ok-resume_next.ensures.quiet;
       holds = λ h. did.holds (so.holds h);
       later = λ n. omega (arith, did.later n, so.later n);
+      opened = λ n. did.opened_same n ∙ so.opened n;
+      capacity = λ n. did.capacity_same n ∙ so.capacity n;
+      checked = did.checked;
+      grows = λ n. end_trans (E n) (g.L.Turns.journals c.lanes.ledger n) (g.L.Turns.journals c.resume_next.new.ledger n) (so.grows n) (grown_end c.lanes.lane _ _ did.grows n);
     }
 
 pub returns-clause-resumed : goal.returns-clause-resumed
@@ -70,3 +80,13 @@ returns-clause-told g c =
 
 pub returns-clause-prepares : goal.returns-clause-prepares
 returns-clause-prepares g c = c.lanes.invariant.prepares
+
+pub returns-in-Err-clause-grows : goal.returns-in-Err-clause-grows
+returns-in-Err-clause-grows g c n = end_trans (g.L.Turns.journals c.args.ledger.now n) (g.L.Turns.journals c.lanes.ledger n) (g.L.Turns.journals c.resume_next.new.ledger n)
+    (c.lanes.invariant.grows n) (grown_end c.lanes.lane _ _ c.resume_next.ensures.grows n)
+
+pub returns-in-Err-clause-fault : goal.returns-in-Err-clause-fault
+returns-in-Err-clause-fault g c =
+    resumed_cause (g.L.Turns.shape c.args.ledger.now) (g.L.Turns.shape c.lanes.ledger) c.lanes.lane (g.L.Turns.journals c.args.ledger.now) (g.L.Turns.journals c.lanes.ledger) (g.L.Turns.journals c.resume_next.new.ledger)
+    (HaveFailed (g.L.Turns.opened c.resume_next.new.ledger) (g.L.Turns.faults c.resume_next.new.ledger)) (MayHold (g.L.Turns.capacity c.resume_next.new.ledger))
+    c.lanes.invariant.shape (omega (arith, c.lanes-test.true, c.lanes.invariant.count)) c.lanes.invariant.grows c.in-Err.fault c.in-Err.ensures.fault

@@ -1,5 +1,6 @@
 use Rattle.std.proofs.Common.{◌≡◌, ◌≤◌, ◌<◌, ◌*◌, ℕ}
 use Rattle.cbdc_model.specs.Slots.{Idle}
+use Rattle.cbdc_model.specs.Lanes.{IsEnd}
 use Rattle.run_laws.specs.WaveSteps.{ResumedSo}
 use Rattle.ledger_runs.specs.Turning.{phase_at, OfKept, StaysKept}
 use Rattle.ledger_runs.specs.Telling.{TellResumed, SamePrepared}
@@ -21,4 +22,8 @@ invariant-lanes g l =
       quiet : OfKept K E (λ _ _. g.L.Turns.quiet l.fn.ledger → g.L.Turns.quiet l.ledger);
       holds : g.L.Turns.holds l.fn.ledger → g.L.Turns.holds l.ledger;
       later : (n : ℕ) → g.L.Turns.faults l.fn.ledger n ≤ g.L.Turns.faults l.ledger n;
+      opened : (n : ℕ) → g.L.Turns.opened l.ledger n ≡ g.L.Turns.opened l.fn.ledger n;
+      capacity : (n : ℕ) → g.L.Turns.capacity l.ledger n ≡ g.L.Turns.capacity l.fn.ledger n;
+      checked : g.L.Turns.checked l.ledger;
+      grows : (n : ℕ) → IsEnd (E n) (J n);
     }

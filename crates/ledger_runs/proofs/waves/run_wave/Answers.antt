@@ -1,8 +1,11 @@
-use Rattle.std.proofs.Common.{◌≡◌, ◌≤◌, ◌<◌, ◌*◌, ℕ, length, refl, ap, sym, ◌∙◌, subst, arith}
+use Rattle.std.proofs.Common.{◌≡◌, refl, ap, ◌∙◌, subst, arith}
 use Rattle.ledger_runs.specs.Waving.{AreShorter, OfSent}
 use Rattle.ledger_runs.specs.Telling.{TellSince, AreFresh}
+use Rattle.ledger_runs.specs.Faults.{HaveFailed, MayHold, HaveCauses}
+use Rattle.ledger_laws.proofs.Cuts.{end_self, end_trans}
+use Rattle.ledger_runs.proofs.Faulting.{causes_begin}
 use Rattle.ledger_runs.proofs.WaveTelling.{tells_begin, tells_all}
-use Rattle.ledger_runs.proofs.WaveKeeping.{RoundsSo, rounds_begin, rounds_step, same_round, rounds_end, all_idle, next_start}
+use Rattle.ledger_runs.proofs.WaveKeeping.{rounds_begin, rounds_step, same_round, rounds_end, all_idle, next_start}
 use Rattle.ledger_runs.proofs.waves.run_wave.Goals as goal
 
 pub rounds-init : goal.rounds-init
@@ -13,6 +16,11 @@ rounds-init g c = record {
   quiet = λ _ _ _ _ _ _ _ was. was;
   holds = λ h. h;
   later = λ n. omega arith;
+  opened = λ n. refl;
+  capacity = λ n. refl;
+  checked = c.requires.checked;
+  grows = λ n. end_self (g.L.Turns.journals c.args.ledger.now n);
+  causes = causes_begin (g.L.Turns.shape c.args.ledger.now) (g.L.Turns.journals c.args.ledger.now) (g.L.Turns.journals c.args.ledger.now) (HaveFailed (g.L.Turns.opened c.args.ledger.now) (g.L.Turns.faults c.args.ledger.now)) (MayHold (g.L.Turns.capacity c.args.ledger.now)) c.args.lanes.now.items;
 }
 
 pub rounds-preserved : goal.rounds-preserved
@@ -39,6 +47,17 @@ rounds-preserved g c =
           (g.L.Turns.quiet c.args.ledger.now) (g.L.Turns.quiet c.rounds.ledger) (g.L.Turns.quiet c.turns.new.ledger) is.shape is.so did.stopped is.quiet did.quiet;
       holds = λ h. did.holds (is.holds h);
       later = λ n. omega (arith, did.later n, is.later n);
+      opened = λ n. did.opened_same n ∙ is.opened n;
+      capacity = λ n. did.capacity_same n ∙ is.capacity n;
+      checked = did.checked;
+      grows = λ n. end_trans (g.L.Turns.journals c.args.ledger.now n) (g.L.Turns.journals c.rounds.ledger n) (g.L.Turns.journals c.turns.new.ledger n) (is.grows n) (did.grows n);
+      causes = λ none.
+          let E = g.L.Turns.journals c.args.ledger.now in
+          let J = g.L.Turns.journals c.rounds.ledger in
+          let L = g.L.Turns.journals c.turns.new.ledger in
+          subst (λ k. HaveCauses k E J (HaveFailed (g.L.Turns.opened c.rounds.ledger) (g.L.Turns.faults c.rounds.ledger)) (MayHold (g.L.Turns.capacity c.rounds.ledger)) c.rounds.lanes.items
+          → HaveCauses k E L (HaveFailed (g.L.Turns.opened c.turns.new.ledger) (g.L.Turns.faults c.turns.new.ledger)) (MayHold (g.L.Turns.capacity c.turns.new.ledger)) c.turns.new.lanes.items) is.shape
+          (did.causes E is.grows) (is.causes none);
     }
 
 pub returns-clause-idle : goal.returns-clause-idle

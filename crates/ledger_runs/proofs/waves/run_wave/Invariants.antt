@@ -1,5 +1,7 @@
 use Rattle.std.proofs.Common.{◌≡◌, ◌≤◌, ◌-◌, ℕ}
-use Rattle.ledger_runs.specs.Waving.{OfSent}
+use Rattle.cbdc_model.specs.Lanes.{IsEnd}
+use Rattle.ledger_runs.specs.Waving.{OfSent, NoFault}
+use Rattle.ledger_runs.specs.Faults.{HaveFailed, MayHold, HaveCauses}
 use Rattle.ledger_runs.specs.Telling.{TellSince, AreFresh}
 use Rattle.ledger_runs.proofs.WaveKeeping.{RoundsSo}
 use Rattle.ledger_runs.proofs.waves.run_wave.Given as goal
@@ -14,6 +16,12 @@ invariant-rounds g l =
       quiet : OfSent K (g.L.Turns.journals l.fn.ledger) l.fn.lanes.items l.lanes.items (g.L.Turns.quiet l.fn.ledger → g.L.Turns.quiet l.ledger);
       holds : g.L.Turns.holds l.fn.ledger → g.L.Turns.holds l.ledger;
       later : (n : ℕ) → g.L.Turns.faults l.fn.ledger n ≤ g.L.Turns.faults l.ledger n;
+      opened : (n : ℕ) → g.L.Turns.opened l.ledger n ≡ g.L.Turns.opened l.fn.ledger n;
+      capacity : (n : ℕ) → g.L.Turns.capacity l.ledger n ≡ g.L.Turns.capacity l.fn.ledger n;
+      checked : g.L.Turns.checked l.ledger;
+      grows : (n : ℕ) → IsEnd (g.L.Turns.journals l.fn.ledger n) (g.L.Turns.journals l.ledger n);
+      causes : NoFault l.fn.lanes.items
+          → HaveCauses K (g.L.Turns.journals l.fn.ledger) (g.L.Turns.journals l.ledger) (HaveFailed (g.L.Turns.opened l.ledger) (g.L.Turns.faults l.ledger)) (MayHold (g.L.Turns.capacity l.ledger)) l.lanes.items;
     }
 
 abbrev pub decreases-rounds : goal.decreases-rounds

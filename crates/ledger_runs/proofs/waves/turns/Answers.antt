@@ -1,7 +1,9 @@
-use Rattle.std.proofs.Common.{◌≡◌, ◌≤◌, ◌<◌, ◌*◌, ℕ, length, refl, ap, sym, ◌∙◌, subst, arith}
-use Rattle.std.specs.Prelude.{All}
-use Rattle.ledger_runs.proofs.WaveKeeping.{TurnsSo, turns_begin, turns_step, same_turn, turns_end}
+use Rattle.std.proofs.Common.{◌≡◌, ◌<◌, ◌*◌, length, refl, ap, ◌∙◌, subst, arith}
+use Rattle.ledger_runs.proofs.WaveKeeping.{turns_begin, turns_step, same_turn, turns_end}
 use Rattle.ledger_runs.specs.Telling.{TellSince}
+use Rattle.ledger_runs.specs.Faults.{HaveFailed, MayHold}
+use Rattle.ledger_laws.proofs.Cuts.{end_self, end_trans}
+use Rattle.ledger_runs.proofs.Faulting.{grown_end, causes_step, risen_later, holds_later}
 use Rattle.ledger_runs.proofs.WaveTelling.{tells_step}
 use Rattle.ledger_runs.proofs.waves.turns.Goals as goal
 
@@ -16,6 +18,11 @@ lanes-init g c =
       quiet = λ _ _ _ _ _ _ _ was. was;
       holds = λ h. h;
       later = λ n. omega arith;
+      opened = λ n. refl;
+      capacity = λ n. refl;
+      checked = c.requires.checked;
+      grows = λ n. end_self (g.L.Turns.journals c.args.ledger.now n);
+      causes = λ E since have. have;
     }
 
 pub lanes-preserved : goal.lanes-preserved
@@ -42,6 +49,17 @@ lanes-preserved g c =
           (g.L.Turns.quiet c.args.ledger.now) (g.L.Turns.quiet c.lanes.ledger) (g.L.Turns.quiet c.turn_at.new.ledger) is.shape (omega (arith, c.lanes-test.true, is.count, many)) is.so did.turned is.quiet did.quiet;
       holds = λ h. did.holds (is.holds h);
       later = λ n. omega (arith, did.later n, is.later n);
+      opened = λ n. did.opened_same n ∙ is.opened n;
+      capacity = λ n. did.capacity_same n ∙ is.capacity n;
+      checked = did.checked;
+      grows = λ n. end_trans (g.L.Turns.journals c.args.ledger.now n) (g.L.Turns.journals c.lanes.ledger n) (g.L.Turns.journals c.turn_at.new.ledger n) (is.grows n) (grown_end c.lanes.number _ _ did.grows n);
+      causes = λ E since have.
+          causes_step K (g.L.Turns.shape c.lanes.ledger) E (g.L.Turns.journals c.lanes.ledger) (g.L.Turns.journals c.turn_at.new.ledger) c.lanes.number
+          (HaveFailed (g.L.Turns.opened c.lanes.ledger) (g.L.Turns.faults c.lanes.ledger)) (HaveFailed (g.L.Turns.opened c.turn_at.new.ledger) (g.L.Turns.faults c.turn_at.new.ledger))
+          (MayHold (g.L.Turns.capacity c.lanes.ledger)) (MayHold (g.L.Turns.capacity c.turn_at.new.ledger)) c.lanes.lanes.items c.turn_at.new.lanes.items is.shape did.turned did.grows
+          (λ n. end_trans (E n) (g.L.Turns.journals c.args.ledger.now n) (g.L.Turns.journals c.lanes.ledger n) (since n) (is.grows n))
+          (risen_later (g.L.Turns.opened c.lanes.ledger) (g.L.Turns.faults c.lanes.ledger) (g.L.Turns.opened c.turn_at.new.ledger) (g.L.Turns.faults c.turn_at.new.ledger) did.opened_same did.later)
+          (holds_later (g.L.Turns.capacity c.lanes.ledger) (g.L.Turns.capacity c.turn_at.new.ledger) did.capacity_same) did.cause (is.causes E since have);
     }
 
 pub turn_at-requires-clause-limits : goal.turn_at-requires-clause-limits

@@ -1,5 +1,7 @@
 use Rattle.std.proofs.Common.{◌≡◌, ◌≤◌, ◌*◌, ℕ, List}
 use Rattle.cbdc_model.specs.Records.{Record}
+use Rattle.cbdc_model.specs.Lanes.{IsEnd}
+use Rattle.ledger_runs.specs.Faults.{HaveFailed, MayHold, HaveCauses}
 use Rattle.ledger_runs.specs.Telling.{TellSince}
 use Rattle.ledger_runs.specs.Waving.{OfSent}
 use Rattle.ledger_runs.proofs.WaveKeeping.{TurnsSo}
@@ -17,4 +19,11 @@ invariant-lanes g l =
       quiet : OfSent K (g.L.Turns.journals l.fn.ledger) l.fn.lanes.items l.lanes.items (g.L.Turns.quiet l.fn.ledger → g.L.Turns.quiet l.ledger);
       holds : g.L.Turns.holds l.fn.ledger → g.L.Turns.holds l.ledger;
       later : (n : ℕ) → g.L.Turns.faults l.fn.ledger n ≤ g.L.Turns.faults l.ledger n;
+      opened : (n : ℕ) → g.L.Turns.opened l.ledger n ≡ g.L.Turns.opened l.fn.ledger n;
+      capacity : (n : ℕ) → g.L.Turns.capacity l.ledger n ≡ g.L.Turns.capacity l.fn.ledger n;
+      checked : g.L.Turns.checked l.ledger;
+      grows : (n : ℕ) → IsEnd (g.L.Turns.journals l.fn.ledger n) (g.L.Turns.journals l.ledger n);
+      causes : (E : ℕ → List Record) → ((n : ℕ) → IsEnd (E n) (g.L.Turns.journals l.fn.ledger n))
+          → HaveCauses K E (g.L.Turns.journals l.fn.ledger) (HaveFailed (g.L.Turns.opened l.fn.ledger) (g.L.Turns.faults l.fn.ledger)) (MayHold (g.L.Turns.capacity l.fn.ledger)) l.fn.lanes.items
+          → HaveCauses K E (g.L.Turns.journals l.ledger) (HaveFailed (g.L.Turns.opened l.ledger) (g.L.Turns.faults l.ledger)) (MayHold (g.L.Turns.capacity l.ledger)) l.lanes.items;
     }

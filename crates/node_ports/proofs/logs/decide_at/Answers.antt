@@ -48,9 +48,9 @@ pub returns-clause-others : goal.returns-clause-others
 returns-clause-others g c =
     decide_rest c.args.lane c.decide.new.out.items (sight c.args.log.now) (sight c.decide.new.self) c.decide.result c.decide.ensures.appended c.decide.ensures.as_before
 
-pub returns-clause-header : goal.returns-clause-header
-returns-clause-header g c =
-    c.decide.ensures.header
+pub returns-clause-node : goal.returns-clause-node
+returns-clause-node g c =
+    c.decide.ensures.node
 
 pub returns-clause-later : goal.returns-clause-later
 returns-clause-later g c =

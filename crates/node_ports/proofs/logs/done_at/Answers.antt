@@ -1,6 +1,7 @@
 use Rattle.coord_log.specs.Logs.{sight}
 use Rattle.std.proofs.Common.{false, sym}
 use Rattle.cbdc_model.specs.Due.{done_due}
+use Rattle.node_ports.proofs.Owed.{same_node}
 use Rattle.node_ports.proofs.Coordinators.{told_alone, later_of, done_stamp, ended_phase, ended_rest}
 use Rattle.node_ports.proofs.logs.done_at.Goals as goal
 
@@ -24,9 +25,9 @@ pub returns-clause-others : goal.returns-clause-others
 returns-clause-others g c =
     ended_rest c.args.lane c.args.cause c.args.log.now.broken (sight c.args.log.now) (sight c.done.new.self) c.done.result c.done.ensures.meets
 
-pub returns-clause-header : goal.returns-clause-header
-returns-clause-header g c =
-    c.done.ensures.header
+pub returns-clause-node : goal.returns-clause-node
+returns-clause-node g c =
+    same_node false (done_due c.args.lane c.args.cause c.args.log.now.broken c.args.log.now.journal) (sight c.args.log.now) (sight c.done.new.self) c.args.log.now.journal c.done.result c.done.ensures.meets
 
 pub returns-clause-later : goal.returns-clause-later
 returns-clause-later g c =

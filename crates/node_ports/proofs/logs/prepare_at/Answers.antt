@@ -4,6 +4,7 @@ use Rattle.std.proofs.lemmas.List.Elements.{All-weaker}
 use Rattle.cbdc_model.specs.Grammar.{IsCompact}
 use Rattle.cbdc_model.specs.Due.{prepare_due}
 use Rattle.coord_log.specs.Logs.{IsShort}
+use Rattle.node_ports.proofs.Owed.{same_node}
 use Rattle.node_ports.proofs.Coordinators.{told_alone, later_of, prepare_named, prepare_phase, prepare_txs, prepare_rest}
 use Rattle.node_ports.proofs.logs.prepare_at.Goals as goal
 
@@ -43,9 +44,9 @@ pub returns-clause-others : goal.returns-clause-others
 returns-clause-others g c =
     prepare_rest c.args.lane c.args.txs.now c.args.log.now.broken (sight c.args.log.now) (sight c.prepare.new.self) c.prepare.result c.prepare.ensures.meets
 
-pub returns-clause-header : goal.returns-clause-header
-returns-clause-header g c =
-    c.prepare.ensures.header
+pub returns-clause-node : goal.returns-clause-node
+returns-clause-node g c =
+    same_node true (prepare_due c.args.log.now.header.shape c.args.log.now.capacity c.args.lane c.args.txs.now c.args.log.now.broken c.args.log.now.journal) (sight c.args.log.now) (sight c.prepare.new.self) c.args.log.now.journal c.prepare.result c.prepare.ensures.meets
 
 pub returns-clause-later : goal.returns-clause-later
 returns-clause-later g c =

@@ -1,6 +1,7 @@
 use Rattle.std.proofs.Common.{false}
 use Rattle.cbdc_model.specs.Due.{finish_due}
 use Rattle.shard_node.specs.Shards.{sight_of}
+use Rattle.node_ports.proofs.Owed.{same_node}
 use Rattle.node_ports.proofs.Coordinators.{told_alone}
 use Rattle.node_ports.proofs.Replying.{finish_stamp}
 use Rattle.node_ports.proofs.shards.finish_at.Goals as goal
@@ -13,9 +14,9 @@ pub returns-clause-told : goal.returns-clause-told
 returns-clause-told g c =
     finish_stamp c.args.call.now (sight_of g.D.Disk.count g.D.Disk.limit c.args.node.now) (sight_of g.D.Disk.count g.D.Disk.limit c.finish.new.self) c.finish.result (told_alone c.args.call.now.batch.lane false (finish_due c.args.call.now) c.args.node.now.broken (sight_of g.D.Disk.count g.D.Disk.limit c.args.node.now) (sight_of g.D.Disk.count g.D.Disk.limit c.finish.new.self) c.finish.result c.finish.ensures.meets c.finish.ensures.journal c.header-header.ensures.since_opened c.header-header.ensures.since_broken) c.finish.ensures.journal
 
-pub returns-clause-header : goal.returns-clause-header
-returns-clause-header g c =
-    c.finish.ensures.header
+pub returns-clause-node : goal.returns-clause-node
+returns-clause-node g c =
+    same_node false (finish_due c.args.call.now c.args.node.now.broken c.args.node.now.journal) (sight_of g.D.Disk.count g.D.Disk.limit c.args.node.now) (sight_of g.D.Disk.count g.D.Disk.limit c.finish.new.self) c.args.node.now.journal c.finish.result c.finish.ensures.meets
 
 pub returns-clause-later : goal.returns-clause-later
 returns-clause-later g c =

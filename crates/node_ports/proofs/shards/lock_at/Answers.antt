@@ -1,6 +1,7 @@
 use Rattle.std.proofs.Common.{true}
 use Rattle.cbdc_model.specs.Due.{lock_due}
 use Rattle.shard_node.specs.Shards.{sight_of}
+use Rattle.node_ports.proofs.Owed.{same_node}
 use Rattle.node_ports.proofs.Coordinators.{told_alone}
 use Rattle.node_ports.proofs.Replying.{lock_replies}
 use Rattle.node_ports.proofs.shards.lock_at.Goals as goal
@@ -13,9 +14,9 @@ pub returns-clause-told : goal.returns-clause-told
 returns-clause-told g c =
     lock_replies c.args.call.now (sight_of g.D.Disk.count g.D.Disk.limit c.args.node.now) (sight_of g.D.Disk.count g.D.Disk.limit c.lock.new.self) c.lock.result (told_alone c.args.call.now.batch.lane true (lock_due c.args.node.now.header.shape (g.D.Disk.limit c.args.node.now.disk) c.args.call.now) c.args.node.now.broken (sight_of g.D.Disk.count g.D.Disk.limit c.args.node.now) (sight_of g.D.Disk.count g.D.Disk.limit c.lock.new.self) c.lock.result c.lock.ensures.meets c.lock.ensures.journal c.header-header.ensures.since_opened c.header-header.ensures.since_broken) c.lock.ensures.journal c.lock.ensures.header
 
-pub returns-clause-header : goal.returns-clause-header
-returns-clause-header g c =
-    c.lock.ensures.header
+pub returns-clause-node : goal.returns-clause-node
+returns-clause-node g c =
+    same_node true (lock_due c.args.node.now.header.shape (g.D.Disk.limit c.args.node.now.disk) c.args.call.now c.args.node.now.broken c.args.node.now.journal) (sight_of g.D.Disk.count g.D.Disk.limit c.args.node.now) (sight_of g.D.Disk.count g.D.Disk.limit c.lock.new.self) c.args.node.now.journal c.lock.result c.lock.ensures.meets
 
 pub returns-clause-later : goal.returns-clause-later
 returns-clause-later g c =

@@ -1,4 +1,4 @@
-use Rattle.std.proofs.Common.{◌≡◌, ◌∙◌, ◌+◌, ℕ, length, sym, subst, arith, inl, inr}
+use Rattle.std.proofs.Common.{◌≡◌, ◌≤◌, le_trans, ◌∙◌, ◌+◌, ℕ, length, sym, subst, arith, inl, inr}
 use Rattle.std.proofs.lemmas.Bool.{cases_lt}
 use Rattle.std.proofs.lemmas.Option.{slice_get_within}
 use Rattle.shard_node.specs.Shards.{ShardOf}
@@ -46,3 +46,14 @@ returns-clause-back g c n =
 
 pub returns-clause-later : goal.returns-clause-later
 returns-clause-later g c = λ n. omega (arith, c.close_all.ensures.later n, c.close_all-2.ensures.later n)
+
+pub returns-clause-counted_logs : goal.returns-clause-counted_logs
+returns-clause-counted_logs g c n l is =
+    le_trans (by_place (λ k x. g.R.Disk.Disk.count x.disk ≤ g.R.Rack.count c.close_all.new.rack k) c.args.nodes.logs.items c.close_all.ensures.counted n l is) (c.close_all-2.ensures.later n)
+
+pub returns-clause-counted_shards : goal.returns-clause-counted_shards
+returns-clause-counted_shards g c =
+    let first : c.len-first.result ≡ length c.args.nodes.logs.items = omega (arith, c.len-first.ensures, c.args.nodes.logs.ok) in
+    let Q : ℕ → ShardOf g.row.R-Disk.Denot → Type 0 = λ k x. g.R.Disk.Disk.count x.disk ≤ g.R.Rack.count c.close_all-2.new.rack k in
+    at_place Q (length c.args.nodes.logs.items) c.args.nodes.shards.items
+    (subst (λ (k : ℕ). EachFrom Q k c.args.nodes.shards.items) first c.close_all-2.ensures.counted)

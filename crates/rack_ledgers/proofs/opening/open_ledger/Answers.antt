@@ -6,7 +6,7 @@ use Rattle.rack_nodes.proofs.Each.{each_weaker}
 use Rattle.rack_nodes.proofs.Closing.{closed_whole}
 use Rattle.rack_ledgers.specs.Ledgers.{IsLogAt}
 use Rattle.rack_ledgers.proofs.Places.{by_place, by_two}
-use Rattle.rack_ledgers.proofs.Opened.{OpensShard, shards_at, log_back}
+use Rattle.rack_ledgers.proofs.Opened.{OpensShard, shards_at, shards_since, log_back}
 use Rattle.rack_ledgers.proofs.Backs.{back_parts}
 use Rattle.rack_ledgers.proofs.Lacks.{lacks_shard}
 use Rattle.rack_ledgers.proofs.opening.open_ledger.Goals as goal
@@ -89,3 +89,11 @@ returns-in-Err-clause-refusal g c = ⊎_elim (λ unled. inl (inl unled)) (λ oth
 
 pub returns-in-Ok-open_all-clause-minted : goal.returns-in-Ok-open_all-clause-minted
 returns-in-Ok-open_all-clause-minted g c = c.in-Ok.ensures.minted
+
+pub returns-in-Ok-open_all-clause-shards_since : goal.returns-in-Ok-open_all-clause-shards_since
+returns-in-Ok-open_all-clause-shards_since g c =
+    let P = OpensShard g.R.Disk.Disk.content g.R.Disk.Disk.images g.R.Disk.Disk.limit g.R.Disk.Disk.count (g.R.Rack.held c.open_logs.new.rack) (g.R.Rack.count c.open_logs.new.rack) c.in-Ok.opened.0 in
+    let all : EachFrom P c.coordinators-first.result c.in-Ok-open_all.shards.items = closed_whole P c.coordinators-first.result c.new.result.items c.in-Ok-open_all.shards.items c.new.ensures.items c.in-Ok-open_all.ensures.opened in
+    shards_since g.R.Disk.Disk.content g.R.Disk.Disk.images g.R.Disk.Disk.limit g.R.Disk.Disk.count (g.R.Rack.held c.open_logs.new.rack) (g.R.Rack.count c.args.rack.now) (g.R.Rack.count c.open_logs.new.rack)
+    c.in-Ok.opened.0 c.in-Ok.opened.0.shape.coordinators c.in-Ok-open_all.shards.items c.in-Ok.ensures.later
+    (subst (λ (k : ℕ). EachFrom P k c.in-Ok-open_all.shards.items) c.coordinators-first.ensures.value all)

@@ -5,7 +5,7 @@ use Rattle.coord_log.specs.Logs.{LogOf}
 use Rattle.rack_nodes.specs.Places.{EachFrom}
 use Rattle.rack_nodes.specs.Racked.{OfTold, IsBack}
 use Rattle.rack_ledgers.specs.Ledgers.{IsLogAt, IsMintOf}
-use Rattle.rack_ledgers.proofs.Opened.{led_whole, log_back}
+use Rattle.rack_ledgers.proofs.Opened.{led_whole, logs_since, log_back}
 use Rattle.rack_ledgers.proofs.Backs.{back_one, back_parts}
 use Rattle.rack_ledgers.proofs.Lacks.{lacks_log}
 use Rattle.rack_ledgers.proofs.opening.open_logs.Goals as goal
@@ -71,3 +71,9 @@ returns-in-Err-open_all-clause-held g c =
 
 pub returns-in-Ok-open_all-clause-minted : goal.returns-in-Ok-open_all-clause-minted
 returns-in-Ok-open_all-clause-minted g c = subst (λ (k : Header). IsMintOf (option_copied c.args.id) k) (sym c.header.ensures.header) c.in-Ok.ensures.minted
+
+pub returns-in-Ok-open_all-clause-since : goal.returns-in-Ok-open_all-clause-since
+returns-in-Ok-open_all-clause-since g c =
+    logs_since g.R.Disk.Disk.content g.R.Disk.Disk.images g.R.Disk.Disk.limit g.R.Disk.Disk.count (g.R.Rack.held c.lead_alone.new.rack) (g.R.Rack.count c.args.rack.now) (g.R.Rack.count c.lead_alone.new.rack)
+    c.header.result.now c.in-Ok.lead c.in-Ok-lead_alone.alone.items c.in-Ok-open_all.logs.items c.in-Ok-lead_alone.ensures.alone
+    (λ n. omega (arith, c.in-Ok.ensures.later n, c.in-Ok-lead_alone.ensures.later n)) c.in-Ok.ensures.since c.in-Ok-open_all.ensures.opened

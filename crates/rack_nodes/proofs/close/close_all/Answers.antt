@@ -1,4 +1,4 @@
-use Rattle.std.proofs.Common.{◌≡◌, ◌≢◌, ◌+◌, ◌∷◌, [], ℕ, suc, length, refl, sym, ◌∙◌, ap, subst, arith, ⊎_elim, length-append}
+use Rattle.std.proofs.Common.{◌≡◌, ◌≢◌, ◌≤◌, le_trans, ◌+◌, ◌∷◌, [], ℕ, suc, length, refl, sym, ◌∙◌, ap, subst, arith, ⊎_elim, length-append}
 use Rattle.std.proofs.lemmas.Bool.{cases_eq}
 use Rattle.std.proofs.lemmas.List.{nil_from_length}
 use Rattle.rack_nodes.specs.Places.{EachFrom, MayReturn}
@@ -37,6 +37,12 @@ nodes-preserved g c =
           (λ k d other told now is. told now (sym (c.put.ensures.others k other) ∙ is))
           (λ now is. of_told _ _ c.put.ensures.disk now is ∙ c.give_disk.ensures)
           c.nodes.invariant.closed;
+      counted = closed_more
+          (λ n x. g.R.Disk.Disk.count (g.N.OnDisk.disk_of x) ≤ g.R.Rack.count c.nodes.rack n) (λ n x. g.R.Disk.Disk.count (g.N.OnDisk.disk_of x) ≤ g.R.Rack.count c.put.new.self n)
+          c.args.first c.nodes.nodes.items c.pop.new.self.items _ c.in-Some.node node place c.in-Some.ensures.items
+          (λ k d other le. le_trans le (c.put.ensures.later k))
+          (subst (λ (d : _). g.R.Disk.Disk.count d ≤ g.R.Rack.count c.put.new.self node) c.give_disk.ensures c.put.ensures.count)
+          c.nodes.invariant.counted;
       others_held = λ n outside. let other : n ≢ node = not_outside outside (omega (arith, place)) (omega (arith, place, older, c.nodes.invariant.fewer)) in c.put.ensures.others n other ∙ c.nodes.invariant.others_held n outside;
       back = λ n ge lt. ⊎_elim
           (λ same. subst (λ (k : ℕ). g.R.Rack.can_take c.put.new.self k) (sym same) c.put.ensures.back)
@@ -53,6 +59,7 @@ nodes-init g c = record {
   fewer = omega arith;
   out = c.requires.out;
   closed = closed_none _ c.args.first c.args.nodes.items;
+  counted = closed_none _ c.args.first c.args.nodes.items;
   others_held = λ n outside. refl;
   back = λ n ge lt. absurd (omega (arith, ge, lt));
   others_in = λ n outside can. can;
@@ -62,3 +69,6 @@ nodes-init g c = record {
 
 pub returns-clause-closed : goal.returns-clause-closed
 returns-clause-closed g c = closed_whole _ c.args.first c.nodes.nodes.items c.args.nodes.items (nil_from_length c.nodes.nodes.items (omega (arith, c.in_default.ensures.cases.0, c.nodes.nodes.ok))) c.nodes.invariant.closed
+
+pub returns-clause-counted : goal.returns-clause-counted
+returns-clause-counted g c = closed_whole _ c.args.first c.nodes.nodes.items c.args.nodes.items (nil_from_length c.nodes.nodes.items (omega (arith, c.in_default.ensures.cases.0, c.nodes.nodes.ok))) c.nodes.invariant.counted

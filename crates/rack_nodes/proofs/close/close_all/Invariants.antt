@@ -9,6 +9,7 @@ invariant-nodes g l = record {
   fewer : length l.nodes.items ≤ length l.initial.nodes.items;
   out : EachFrom (MayReturn (λ n. g.R.Disk.Disk.count (g.N.OnDisk.disk_of n)) (g.R.Rack.can_put l.rack)) l.first l.nodes.items;
   closed : GoesOn (λ n x. OfTold (g.R.Rack.held l.rack n) (λ now. now ≡ g.N.OnDisk.disk_of x)) l.first l.nodes.items l.initial.nodes.items;
+  counted : GoesOn (λ n x. g.R.Disk.Disk.count (g.N.OnDisk.disk_of x) ≤ g.R.Rack.count l.rack n) l.first l.nodes.items l.initial.nodes.items;
   others_held : (n : ℕ) → IsOutside l.first (l.first + length l.initial.nodes.items) n → g.R.Rack.held l.rack n ≡ g.R.Rack.held l.initial.rack n;
   back : (n : ℕ) → l.first + length l.nodes.items ≤ n → n < l.first + length l.initial.nodes.items → g.R.Rack.can_take l.rack n;
   others_in : (n : ℕ) → IsOutside l.first (l.first + length l.initial.nodes.items) n → g.R.Rack.can_take l.initial.rack n → g.R.Rack.can_take l.rack n;

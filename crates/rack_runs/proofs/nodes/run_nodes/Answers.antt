@@ -1,15 +1,18 @@
 use Rattle.std.proofs.Common.{◌≡◌, ◌∙◌, ◌≤◌, ◌++◌, ℕ, Bool, [], subst, sym, ap}
-use Rattle.std.specs.Prelude.{All, IfOk, map}
+use Rattle.std.specs.Prelude.{All, IfOk, IfErr, map}
 use Rattle.cbdc_model.specs.Coins.{FullTx as TxOf}
 use Rattle.cbdc_model.specs.World.{AreIdle}
 use Rattle.cbdc_model.specs.Waves.{IsResumed, Waves}
 use Rattle.submissions.specs.Checks.{TellsSound}
 use Rattle.ledger_runs.specs.Turning.{OfKept, StaysKept}
-use Rattle.file_runs.specs.Runs.{joined}
-use Rattle.ledger_nodes.specs.Ledgers.{journals_of, faults_of, AreStored, AreQuiet}
+use Rattle.cbdc_model.specs.Lanes.{IsEnd}
+use Rattle.ledger_runs.specs.Faults.{IsRunCause, HaveFailed, MayHold}
+use Rattle.rack_runs.proofs.Answering.{came_cause, by_entry}
+use Rattle.file_runs.specs.Runs.{joined, IsFilesPiece}
+use Rattle.ledger_nodes.specs.Ledgers.{journals_of, faults_of, opened_of, capacity_of, AreChecked, AreStored, AreQuiet}
 use Rattle.rack_runs.specs.Telling.{CountAll, TellsRun}
 use Rattle.rack_runs.proofs.Resumed.{told_made}
-use Rattle.rack_runs.proofs.Lent.{if_made, on_ok, lent_journals, lent_faults, on_ok_by}
+use Rattle.rack_runs.proofs.Lent.{if_made, on_ok, lent_journals, lent_faults, lent_both, on_ok_by}
 use Rattle.rack_runs.proofs.nodes.run_nodes.Goals as goal
 
 pub returns-clause-counts : goal.returns-clause-counts
@@ -119,3 +122,34 @@ returns-clause-told g c =
 
 pub returns-clause-unspent : goal.returns-clause-unspent
 returns-clause-unspent g c = subst (λ xs. IfOk c.came_of-came.result (λ r. CountAll (map (λ s. s.journal) xs) r.unspent)) c.deref-2.ensures.value c.came_of-came.ensures.unspent
+
+pub run_over-over-requires-clause-checked : goal.run_over-over-requires-clause-checked
+run_over-over-requires-clause-checked g c = subst (λ l. AreChecked g.D.Disk.count g.D.Disk.limit l.header.shape l.logs l.shards) (sym c.lend-lent.ensures) c.requires.checked
+
+pub returns-clause-grows : goal.returns-clause-grows
+returns-clause-grows g c =
+    let back : c.run_over-over.new.ledger ≡ record { header = c.header.inside.header; logs = c.header.inside.logs.items; shards = c.header.inside.shards.items } = cc in
+    let lent : c.lend-lent.result ≡ record { header = c.args.nodes.header; logs = c.args.nodes.logs.items; shards = c.args.nodes.shards.items } = c.lend-lent.ensures in
+    let shape : c.run_over-over.new.ledger.header.shape ≡ c.args.nodes.header.shape = c.run_over-over.ensures.shape ∙ ap (λ l. l.header.shape) lent in
+    lent_journals g.D.Disk.count g.D.Disk.limit (λ L. (n : ℕ) → IsEnd (journals_of g.D.Disk.count g.D.Disk.limit c.args.nodes.header.shape c.args.nodes.logs.items c.args.nodes.shards.items n) (L n)) c.args.nodes.header.shape c.run_over-over.new.ledger _ back shape
+    (subst (λ l. (n : ℕ) → IsEnd (journals_of g.D.Disk.count g.D.Disk.limit l.header.shape l.logs l.shards n) (journals_of g.D.Disk.count g.D.Disk.limit c.run_over-over.new.ledger.header.shape c.run_over-over.new.ledger.logs c.run_over-over.new.ledger.shards n)) lent c.run_over-over.ensures.grows)
+
+pub returns-clause-fault : goal.returns-clause-fault
+returns-clause-fault g c =
+    let back : c.run_over-over.new.ledger ≡ record { header = c.header.inside.header; logs = c.header.inside.logs.items; shards = c.header.inside.shards.items } = cc in
+    let lent : c.lend-lent.result ≡ record { header = c.args.nodes.header; logs = c.args.nodes.logs.items; shards = c.args.nodes.shards.items } = c.lend-lent.ensures in
+    let shape : c.run_over-over.new.ledger.header.shape ≡ c.args.nodes.header.shape = c.run_over-over.ensures.shape ∙ ap (λ l. l.header.shape) lent in
+    let verdicts = g.V.Verifier.verdict_of c.args.verifier.now in
+    let entry = by_entry c.lend-lent.result.header.shape (IsFilesPiece c.lend-lent.result.header.shape verdicts c.args.files.now)
+    (journals_of g.D.Disk.count g.D.Disk.limit c.lend-lent.result.header.shape c.lend-lent.result.logs c.lend-lent.result.shards) (journals_of g.D.Disk.count g.D.Disk.limit c.run_over-over.new.ledger.header.shape c.run_over-over.new.ledger.logs c.run_over-over.new.ledger.shards)
+    (opened_of g.D.Disk.count g.D.Disk.limit c.lend-lent.result.header.shape c.lend-lent.result.logs c.lend-lent.result.shards) (opened_of g.D.Disk.count g.D.Disk.limit c.run_over-over.new.ledger.header.shape c.run_over-over.new.ledger.logs c.run_over-over.new.ledger.shards) (faults_of g.D.Disk.count g.D.Disk.limit c.run_over-over.new.ledger.header.shape c.run_over-over.new.ledger.logs c.run_over-over.new.ledger.shards)
+    (capacity_of g.D.Disk.count g.D.Disk.limit c.lend-lent.result.header.shape c.lend-lent.result.logs c.lend-lent.result.shards) (capacity_of g.D.Disk.count g.D.Disk.limit c.run_over-over.new.ledger.header.shape c.run_over-over.new.ledger.logs c.run_over-over.new.ledger.shards)
+    c.run_over-over.ensures.opened_same c.run_over-over.ensures.capacity_same c.run_over-over.result c.run_over-over.ensures.fault in
+    let own = subst (λ l. IfErr c.run_over-over.result (IsRunCause l.header.shape (IsFilesPiece l.header.shape verdicts c.args.files.now) (journals_of g.D.Disk.count g.D.Disk.limit l.header.shape l.logs l.shards) (journals_of g.D.Disk.count g.D.Disk.limit c.run_over-over.new.ledger.header.shape c.run_over-over.new.ledger.logs c.run_over-over.new.ledger.shards)
+    (HaveFailed (opened_of g.D.Disk.count g.D.Disk.limit l.header.shape l.logs l.shards) (faults_of g.D.Disk.count g.D.Disk.limit c.run_over-over.new.ledger.header.shape c.run_over-over.new.ledger.logs c.run_over-over.new.ledger.shards)) (MayHold (capacity_of g.D.Disk.count g.D.Disk.limit l.header.shape l.logs l.shards)))) lent entry in
+    came_cause c.args.nodes.header.shape (IsFilesPiece c.args.nodes.header.shape verdicts c.args.files.now) (journals_of g.D.Disk.count g.D.Disk.limit c.args.nodes.header.shape c.args.nodes.logs.items c.args.nodes.shards.items)
+    (journals_of g.D.Disk.count g.D.Disk.limit c.args.nodes.header.shape c.header.inside.logs.items c.header.inside.shards.items)
+    (HaveFailed (opened_of g.D.Disk.count g.D.Disk.limit c.args.nodes.header.shape c.args.nodes.logs.items c.args.nodes.shards.items) (faults_of g.D.Disk.count g.D.Disk.limit c.args.nodes.header.shape c.header.inside.logs.items c.header.inside.shards.items)) (MayHold (capacity_of g.D.Disk.count g.D.Disk.limit c.args.nodes.header.shape c.args.nodes.logs.items c.args.nodes.shards.items))
+    c.came_of-came.result c.run_over-over.result c.came_of-came.ensures.fault
+    (lent_both g.D.Disk.count g.D.Disk.limit (λ X F. IfErr c.run_over-over.result (IsRunCause c.args.nodes.header.shape (IsFilesPiece c.args.nodes.header.shape verdicts c.args.files.now) (journals_of g.D.Disk.count g.D.Disk.limit c.args.nodes.header.shape c.args.nodes.logs.items c.args.nodes.shards.items) X
+    (HaveFailed (opened_of g.D.Disk.count g.D.Disk.limit c.args.nodes.header.shape c.args.nodes.logs.items c.args.nodes.shards.items) F) (MayHold (capacity_of g.D.Disk.count g.D.Disk.limit c.args.nodes.header.shape c.args.nodes.logs.items c.args.nodes.shards.items)))) c.args.nodes.header.shape c.run_over-over.new.ledger _ back shape own)

@@ -2,6 +2,9 @@ use Rattle.std.proofs.Common.{length, sym, ◌∙◌}
 use Rattle.std.proofs.lemmas.Bool.{eqb-true}
 use Rattle.ledger_runs.proofs.Keeping.{same_next}
 use Rattle.rack_runs.proofs.Resumed.{over_cut, over_keeps, over_waves, over_none, none_of, over_told, over_told_none}
+use Rattle.ledger_laws.proofs.Cuts.{end_trans}
+use Rattle.ledger_runs.specs.Faults.{HaveFailed, MayHold}
+use Rattle.rack_runs.proofs.Answering.{resumed_fault, filed_fault}
 use Rattle.rack_runs.proofs.over.run_over.Goals as goal
 
 pub returns-in-Err-clause-keeps : goal.returns-in-Err-clause-keeps
@@ -53,3 +56,19 @@ pub returns-in-Ok-run_files-clause-told : goal.returns-in-Ok-run_files-clause-to
 returns-in-Ok-run_files-clause-told g c =
     over_told (g.L.Turns.shape c.args.ledger.now) (g.L.Turns.shape c.resume_all.new.ledger) (g.V.Verifier.verdict_of c.args.verifier.now) c.args.files.now (g.L.Turns.journals c.args.ledger.now) (g.L.Turns.journals c.resume_all.new.ledger) (g.L.Turns.journals c.run_files.new.ledger)
     c.in-Ok.resumed.items c.in-Ok-run_files.waves.items c.resume_all.ensures.shape c.resume_all.ensures.keeps c.in-Ok.ensures.told c.in-Ok.ensures.prepares c.in-Ok-run_files.ensures.told
+
+pub returns-in-Err-clause-fault : goal.returns-in-Err-clause-fault
+returns-in-Err-clause-fault g c =
+    resumed_fault (g.L.Turns.shape c.args.ledger.now) (g.V.Verifier.verdict_of c.args.verifier.now) c.args.files.now (g.L.Turns.journals c.args.ledger.now) (g.L.Turns.journals c.resume_all.new.ledger)
+    (HaveFailed (g.L.Turns.opened c.resume_all.new.ledger) (g.L.Turns.faults c.resume_all.new.ledger)) (MayHold (g.L.Turns.capacity c.resume_all.new.ledger)) c.in-Err.fault c.in-Err.ensures.fault
+
+pub returns-in-Err-run_files-clause-fault : goal.returns-in-Err-run_files-clause-fault
+returns-in-Err-run_files-clause-fault g c =
+    filed_fault (g.L.Turns.shape c.args.ledger.now) (g.L.Turns.shape c.resume_all.new.ledger) (g.V.Verifier.verdict_of c.args.verifier.now) c.args.files.now (g.L.Turns.journals c.args.ledger.now) (g.L.Turns.journals c.resume_all.new.ledger) (g.L.Turns.journals c.run_files.new.ledger)
+    (HaveFailed (g.L.Turns.opened c.run_files.new.ledger) (g.L.Turns.faults c.run_files.new.ledger)) (MayHold (g.L.Turns.capacity c.run_files.new.ledger)) c.resume_all.ensures.shape c.resume_all.ensures.grows c.in-Err-run_files.fault c.in-Err-run_files.ensures.fault
+
+pub returns-in-Ok-run_files-clause-grows : goal.returns-in-Ok-run_files-clause-grows
+returns-in-Ok-run_files-clause-grows g c n = end_trans (g.L.Turns.journals c.args.ledger.now n) (g.L.Turns.journals c.resume_all.new.ledger n) (g.L.Turns.journals c.run_files.new.ledger n) (c.resume_all.ensures.grows n) (c.run_files.ensures.grows n)
+
+pub returns-in-Err-run_files-clause-grows : goal.returns-in-Err-run_files-clause-grows
+returns-in-Err-run_files-clause-grows g c n = end_trans (g.L.Turns.journals c.args.ledger.now n) (g.L.Turns.journals c.resume_all.new.ledger n) (g.L.Turns.journals c.run_files.new.ledger n) (c.resume_all.ensures.grows n) (c.run_files.ensures.grows n)

@@ -1,7 +1,9 @@
 use Rattle.std.proofs.Common.{◌≡◌, ◌∙◌, inl, inr, length, sym, ap, arith}
+use Rattle.caused_ledgers.proofs.Told.{caused_ledger}
 use Rattle.rack_laws.proofs.Behind.{is_ledger, logs_return, shards_return}
-use Rattle.rack_runs.specs.Kinds.{IsLaneAnswer}
-use Rattle.rack_runs.proofs.Lent.{on_ok_all, if_err_by, if_ok_all}
+use Rattle.rack_runs.proofs.Checking.{opened_checked}
+use Rattle.rack_runs.proofs.Answering.{lane_fault}
+use Rattle.rack_runs.proofs.Lent.{on_ok_always, on_ok_all, on_ok_both, if_err_by, if_ok_all}
 use Rattle.rack_runs.proofs.Ledgers.{runs, cut_short, tells}
 use Rattle.rack_runs.proofs.racks.run_on.Goals as goal
 
@@ -32,6 +34,11 @@ close_nodes-requires-clause-others g c n le =
     let shards : length c.run_nodes-nodes.result.nodes.shards.items ≡ length c.in-Ok.nodes.shards.items = ran.ledger.shards_are ∙ (ap (λ k. k.shards) ran.shape ∙ sym are.shards_are) in
     c.in-Ok.ensures.others_in n (omega (arith, le, logs, shards))
 
+pub returns-clause-caused : goal.returns-clause-caused
+returns-clause-caused g c =
+    on_ok_always c.run_nodes-nodes.result.came
+    (caused_ledger g.R.Disk.Disk.content g.R.Disk.Disk.images g.R.Disk.Disk.limit g.R.Disk.Disk.count (g.R.Rack.held c.args.rack.now) c.in-Ok.nodes.header c.in-Ok.nodes.logs.items c.in-Ok.nodes.shards.items c.in-Ok.ensures.opened c.in-Ok.ensures.caused)
+
 pub returns-clause-ran : goal.returns-clause-ran
 returns-clause-ran g c =
     let ran = c.run_nodes-nodes.ensures in
@@ -41,23 +48,30 @@ returns-clause-ran g c =
     c.close_nodes.ensures.closed_logs c.close_nodes.ensures.closed_shards ran.stored (g.V.Verifier.verdict_of c.args.verifier.now) ran.keeps)
     ran.idle ran.resumed ran.waves ran.quiet
 
+pub run_nodes-nodes-requires-clause-checked : goal.run_nodes-nodes-requires-clause-checked
+run_nodes-nodes-requires-clause-checked g c =
+    opened_checked g.R.Disk.Disk.content g.R.Disk.Disk.images g.R.Disk.Disk.limit g.R.Disk.Disk.count (g.R.Rack.held c.args.rack.now) c.in-Ok.nodes.header c.in-Ok.nodes.logs.items c.in-Ok.nodes.shards.items c.in-Ok.ensures.opened c.in-Ok.ensures.caused
+
 pub returns-clause-stopped : goal.returns-clause-stopped
 returns-clause-stopped g c =
     let ran = c.run_nodes-nodes.ensures in
-    if_err_by IsLaneAnswer _ c.run_nodes-nodes.result.came
-    (λ e kind. inr (
-      kind,
+    if_err_by _ _ c.run_nodes-nodes.result.came
+    (λ e cause. inr (
+      lane_fault g.R.Disk.Disk.content g.R.Disk.Disk.images g.R.Disk.Disk.limit g.R.Disk.Disk.count (g.R.Rack.held c.args.rack.now) (g.R.Rack.held c.close_nodes.new.rack) c.in-Ok.nodes.header
+          c.run_nodes-nodes.result.nodes.header c.in-Ok.nodes.logs.items c.run_nodes-nodes.result.nodes.logs.items c.in-Ok.nodes.shards.items c.run_nodes-nodes.result.nodes.shards.items c.in-Ok.ensures.opened c.in-Ok.ensures.caused
+          ran.ledger ran.shape c.close_nodes.ensures.closed_logs c.close_nodes.ensures.closed_shards ran.stored ran.counts (g.R.Rack.count c.args.rack.now) (g.R.Rack.count c.close_nodes.new.rack)
+          c.in-Ok.ensures.logs_since c.in-Ok.ensures.shards_since c.close_nodes.ensures.counted_logs c.close_nodes.ensures.counted_shards (g.V.Verifier.verdict_of c.args.verifier.now) c.args.files.now ran.grows e cause,
       cut_short g.R.Disk.Disk.content g.R.Disk.Disk.images g.R.Disk.Disk.limit g.R.Disk.Disk.count (g.R.Rack.held c.args.rack.now) (g.R.Rack.held c.close_nodes.new.rack) c.in-Ok.nodes.header
           c.run_nodes-nodes.result.nodes.header c.in-Ok.nodes.logs.items c.run_nodes-nodes.result.nodes.logs.items c.in-Ok.nodes.shards.items c.run_nodes-nodes.result.nodes.shards.items c.args.files.now c.in-Ok.ensures.opened
           ran.ledger ran.shape c.close_nodes.ensures.closed_logs c.close_nodes.ensures.closed_shards ran.stored ran.keeps,
     ))
-    ran.kind
+    ran.fault
 
 pub returns-clause-told : goal.returns-clause-told
 returns-clause-told g c =
     let ran = c.run_nodes-nodes.ensures in
-    if_ok_all _ _ _ c.run_nodes-nodes.result.came ran.told ran.unspent ran.quiet
-    (λ r told unspent quiet.
+    if_ok_all _ _ _ c.run_nodes-nodes.result.came ran.told ran.unspent (on_ok_both _ _ c.run_nodes-nodes.result.came ran.waves ran.quiet)
+    (λ r told unspent both.
     tells g.R.Disk.Disk.content g.R.Disk.Disk.images g.R.Disk.Disk.limit g.R.Disk.Disk.count (g.R.Rack.held c.args.rack.now) (g.R.Rack.held c.close_nodes.new.rack) c.in-Ok.nodes.header c.run_nodes-nodes.result.nodes.header
     c.in-Ok.nodes.logs.items c.run_nodes-nodes.result.nodes.logs.items c.in-Ok.nodes.shards.items c.run_nodes-nodes.result.nodes.shards.items c.args.files.now c.in-Ok.ensures.opened ran.ledger ran.shape
-    c.close_nodes.ensures.closed_logs c.close_nodes.ensures.closed_shards ran.stored (g.V.Verifier.verdict_of c.args.verifier.now) r told unspent quiet)
+    c.close_nodes.ensures.closed_logs c.close_nodes.ensures.closed_shards ran.stored (g.V.Verifier.verdict_of c.args.verifier.now) r ran.keeps both.0 told unspent both.1)

@@ -1,8 +1,8 @@
 use Rattle.std.proofs.Common.{◌≡◌, ◌≢◌, ◌≤◌, ℕ, length, take, drop}
 use Rattle.std.specs.List.{All}
 use Rattle.std.specs.Vec.{vec_capacity, vec_len}
-use Rattle.lane_driver.specs.Told.{KeepHeaders}
-use Rattle.recovery.specs.Open.{IsOpen, LanesRise, AreResumed}
+use Rattle.lane_driver.specs.Told.{KeepNodes}
+use Rattle.recovery.specs.Open.{IsOpen, LanesRise, AreResumed, AreUnfinished}
 use Rattle.recovery.proofs.resuming.resume.Given as goal
 
 abbrev pub invariant-loop-unfinished : goal.invariant-loop-unfinished
@@ -13,11 +13,13 @@ invariant-loop-unfinished g l = record {
   shard_later : (n : ℕ) → g.S.PortSet.faults l.initial.ports.shards n ≤ g.S.PortSet.faults l.ports.shards n;
   log_later : (n : ℕ) → g.L.LogPort.faults l.initial.ports.log n ≤ g.L.LogPort.faults l.ports.log n;
   elsewhere : (n : ℕ) → n ≢ g.L.LogPort.at l.initial.ports.log → g.L.LogPort.sights l.ports.log n ≡ g.L.LogPort.sights l.initial.ports.log n;
-  headers : KeepHeaders (g.S.PortSet.sights l.initial.ports.shards) (g.S.PortSet.sights l.ports.shards);
+  nodes : KeepNodes (g.S.PortSet.sights l.initial.ports.shards) (g.S.PortSet.sights l.ports.shards);
+  log_nodes : KeepNodes (g.L.LogPort.sights l.initial.ports.log) (g.L.LogPort.sights l.ports.log);
   log_holds : g.L.LogPort.holds l.initial.ports.log → g.L.LogPort.holds l.ports.log;
   shard_holds : g.S.PortSet.holds l.initial.ports.shards → g.S.PortSet.holds l.ports.shards;
   count : g.S.PortSet.count l.ports.shards ≡ g.S.PortSet.count l.initial.ports.shards;
   open_rest : All (IsOpen (g.L.LogPort.header l.ports.log) (g.L.LogPort.phase l.ports.log) (g.L.LogPort.open_txs l.ports.log)) (drop l.unfinished-index l.lanes);
+  stand : AreUnfinished l.shape (drop l.unfinished-index l.lanes) (g.L.LogPort.sights l.ports.log (g.L.LogPort.at l.ports.log)) (g.S.PortSet.sights l.ports.shards);
   rise : LanesRise (drop l.unfinished-index l.lanes);
   resumed : AreResumed (take l.unfinished-index l.lanes) l.batches.items;
   len : vec_len l.batches ≡ l.unfinished-index;

@@ -13,10 +13,11 @@ use Rattle.coord_core.proofs.Walks.{length-combined}
 use Rattle.coord_core.specs.Decided.{latest, combined, AreRepliesTo}
 use Rattle.coord_core.specs.Hashes.{AllNameBatches}
 use Rattle.coord_core.specs.Lanes.{IsOwn, lane_at, open_batch as core_batch}
-use Rattle.coord_log.specs.Logs.{LogOf, sight, commit_due}
+use Rattle.coord_log.specs.Logs.{LogOf, sight, commit_due, HoldsJournal, LeavesBetween}
 use Rattle.coord_log.specs.Inside.{shown}
 use Rattle.coord_log.proofs.Owed.{told_ok, told_err, breaks_err, own_lane, own_phase, batch_is}
 use Rattle.coord_log.proofs.Deciding.{commit_owed, commit_late, decide_owed, decide_late, decide_ready, told_is}
+use Rattle.coord_log.proofs.Leaving.{still}
 use Rattle.coord_log.proofs.log.CoordLog.decide.Goals as goal
 
 pub write-requires : goal.write-requires
@@ -152,3 +153,21 @@ returns-in-Err-clause-fault g c =
 
 pub returns-in-Err-clause-as_before : goal.returns-in-Err-clause-as_before
 returns-in-Err-clause-as_before g c = (c.in-Err.ensures.told c.self.inside.opened).1.seen ∙ ap (λ x. x.journal) c.self.view_is
+
+pub returns-in-Some-clause-leaves : goal.returns-in-Some-clause-leaves
+returns-in-Some-clause-leaves g c = still g.D.Disk c.args.self.now (g.met.D.Disk.only_now c.args.self.now.disk)
+
+pub returns-then-stamp-gt-LAST_STAMP-clause-leaves : goal.returns-then-stamp-gt-LAST_STAMP-clause-leaves
+returns-then-stamp-gt-LAST_STAMP-clause-leaves g c = still g.D.Disk c.args.self.now (g.met.D.Disk.only_now c.args.self.now.disk)
+
+pub returns-in-Err-clause-leaves : goal.returns-in-Err-clause-leaves
+returns-in-Err-clause-leaves g c =
+    let P : LogOf g.row.D.Denot → Type 0 = λ x. HoldsJournal g.D.Disk.content g.D.Disk.images x
+    → LeavesBetween g.D.Disk.tells_past g.D.Disk.moment g.D.Disk.images_since g.D.Disk.images x (shown c.write.new.log c.self.inside.opened c.write.new.flight) in
+    subst P c.self.view_is (c.write.ensures.leaves c.self.inside.opened)
+
+pub returns-clause-leaves : goal.returns-clause-leaves
+returns-clause-leaves g c =
+    let P : LogOf g.row.D.Denot → Type 0 = λ x. HoldsJournal g.D.Disk.content g.D.Disk.images x
+    → LeavesBetween g.D.Disk.tells_past g.D.Disk.moment g.D.Disk.images_since g.D.Disk.images x (shown c.write.new.log c.self.inside.opened c.write.new.flight) in
+    subst P c.self.view_is (c.write.ensures.leaves c.self.inside.opened)

@@ -3,8 +3,10 @@ use Rattle.gate_journal.specs.Shown.{broken_of}
 use Rattle.cbdc_model.specs.Due.{last_late, discard_due}
 use Rattle.cbdc_model.specs.Slots.{InCommit}
 use Rattle.coord_core.specs.Lanes.{CoordOf, IsNext, IsOwn}
-use Rattle.coord_log.specs.Inside.{IsDue}
+use Rattle.coord_log.specs.Logs.{LogOf, HoldsJournal, LeavesBetween}
+use Rattle.coord_log.specs.Inside.{shown, IsDue}
 use Rattle.coord_log.proofs.Owed.{told_ok, told_err, breaks_err, own_lane, own_phase, discard_owed, discard_ready}
+use Rattle.coord_log.proofs.Leaving.{still}
 use Rattle.coord_log.proofs.log.CoordLog.discard.Goals as goal
 
 pub write-requires : goal.write-requires
@@ -49,3 +51,21 @@ returns-clause-meets g c =
     (discard_owed core _ _ c.args.lane c.args.cause c.after-stamp.result c.discard-next.result c.self.invariant.on.stands own whole c.after-stamp.ensures.value
     (omega (arith, c.stamp.view_is, c.if-stamp-gt-LAST_STAMP.false)) c.discard-next.ensures.«record»)
     (c.in-Ok.ensures.told c.self.inside.opened)
+
+pub returns-in-Some-clause-leaves : goal.returns-in-Some-clause-leaves
+returns-in-Some-clause-leaves g c = still g.D.Disk c.args.self.now (g.met.D.Disk.only_now c.args.self.now.disk)
+
+pub returns-then-stamp-gt-LAST_STAMP-clause-leaves : goal.returns-then-stamp-gt-LAST_STAMP-clause-leaves
+returns-then-stamp-gt-LAST_STAMP-clause-leaves g c = still g.D.Disk c.args.self.now (g.met.D.Disk.only_now c.args.self.now.disk)
+
+pub returns-in-Err-clause-leaves : goal.returns-in-Err-clause-leaves
+returns-in-Err-clause-leaves g c =
+    let P : LogOf g.row.D.Denot → Type 0 = λ x. HoldsJournal g.D.Disk.content g.D.Disk.images x
+    → LeavesBetween g.D.Disk.tells_past g.D.Disk.moment g.D.Disk.images_since g.D.Disk.images x (shown c.write.new.log c.self.inside.opened c.write.new.flight) in
+    subst P c.self.view_is (c.write.ensures.leaves c.self.inside.opened)
+
+pub returns-clause-leaves : goal.returns-clause-leaves
+returns-clause-leaves g c =
+    let P : LogOf g.row.D.Denot → Type 0 = λ x. HoldsJournal g.D.Disk.content g.D.Disk.images x
+    → LeavesBetween g.D.Disk.tells_past g.D.Disk.moment g.D.Disk.images_since g.D.Disk.images x (shown c.write.new.log c.self.inside.opened c.write.new.flight) in
+    subst P c.self.view_is (c.write.ensures.leaves c.self.inside.opened)

@@ -7,10 +7,11 @@ use Rattle.cbdc_types.specs.declared.calls.NodeFault.TheVariants.{Full}
 use Rattle.cbdc_model.specs.Due.{Answers, Writes, last_early, prepare_due}
 use Rattle.cbdc_model.specs.Sights.{Stays}
 use Rattle.coord_core.specs.Lanes.{IsOwn, kept_of, next_batch}
-use Rattle.coord_log.specs.Logs.{LogOf, sight}
+use Rattle.coord_log.specs.Logs.{LogOf, sight, HoldsJournal, LeavesBetween}
 use Rattle.coord_log.specs.Inside.{shown}
 use Rattle.coord_log.proofs.Owed.{told_ok, told_err, breaks_err, own_lane}
 use Rattle.coord_log.proofs.Preparing.{Prepares, sound_kept, shown_same, room_refused, exact_size, prepare_small, prepare_ready, prepare_owed, prepare_full}
+use Rattle.coord_log.proofs.Leaving.{still, still_seen}
 use Rattle.coord_log.proofs.log.CoordLog.prepare.Goals as goal
 
 pub make_room-requires-clause-size : goal.make_room-requires-clause-size
@@ -162,3 +163,31 @@ returns-clause-meets g c =
     let O : LogOf g.row.D.Denot → Type 0 = λ x. prepare_due c.args.self.now.header.shape c.args.self.now.capacity c.args.lane c.args.txs.now x.broken x.journal ≡ Writes (c.in-Prepare.batch, c.in-Prepare.stamp) c.in-Ok.next in
     told_ok true (λ broken J. prepare_due c.args.self.now.header.shape c.args.self.now.capacity c.args.lane c.args.txs.now broken J) c.make_room.new.log c.write.new.log c.self.inside.opened c.self.inside.flight c.write.new.flight
     c.args.self.now (c.in-Prepare.batch, c.in-Prepare.stamp) c.in-Ok.next now (subst O (c.self.view_is ∙ sym now) owed) (c.in-Ok-write.ensures.told c.self.inside.opened)
+
+pub returns-in-Some-clause-leaves : goal.returns-in-Some-clause-leaves
+returns-in-Some-clause-leaves g c = still g.D.Disk c.args.self.now (g.met.D.Disk.only_now c.args.self.now.disk)
+
+pub returns-then-stamp-gt-LAST_PREPARE-clause-leaves : goal.returns-then-stamp-gt-LAST_PREPARE-clause-leaves
+returns-then-stamp-gt-LAST_PREPARE-clause-leaves g c = still_seen g.D.Disk c.args.self.now _ c.self.view_is (g.met.D.Disk.only_now c.args.self.now.disk)
+
+pub returns-in-Err-clause-leaves : goal.returns-in-Err-clause-leaves
+returns-in-Err-clause-leaves g c =
+    let now : shown c.make_room.new.log c.self.inside.opened c.self.inside.flight ≡ c.args.self.now =
+    shown_same c.self.inside.log c.make_room.new.log c.self.inside.opened c.self.inside.flight c.make_room.ensures.untouched c.make_room.ensures.records c.make_room.ensures.header ∙ c.self.view_is in
+    still_seen g.D.Disk c.args.self.now (shown c.make_room.new.log c.self.inside.opened c.self.inside.flight) now (g.met.D.Disk.only_now c.args.self.now.disk)
+
+pub returns-in-Err-write-clause-leaves : goal.returns-in-Err-write-clause-leaves
+returns-in-Err-write-clause-leaves g c =
+    let now : shown c.make_room.new.log c.self.inside.opened c.self.inside.flight ≡ c.args.self.now =
+    shown_same c.self.inside.log c.make_room.new.log c.self.inside.opened c.self.inside.flight c.make_room.ensures.untouched c.make_room.ensures.records c.make_room.ensures.header ∙ c.self.view_is in
+    let P : LogOf g.row.D.Denot → Type 0 = λ x. HoldsJournal g.D.Disk.content g.D.Disk.images x
+    → LeavesBetween g.D.Disk.tells_past g.D.Disk.moment g.D.Disk.images_since g.D.Disk.images x (shown c.write.new.log c.self.inside.opened c.write.new.flight) in
+    subst P now (c.write.ensures.leaves c.self.inside.opened)
+
+pub returns-clause-leaves : goal.returns-clause-leaves
+returns-clause-leaves g c =
+    let now : shown c.make_room.new.log c.self.inside.opened c.self.inside.flight ≡ c.args.self.now =
+    shown_same c.self.inside.log c.make_room.new.log c.self.inside.opened c.self.inside.flight c.make_room.ensures.untouched c.make_room.ensures.records c.make_room.ensures.header ∙ c.self.view_is in
+    let P : LogOf g.row.D.Denot → Type 0 = λ x. HoldsJournal g.D.Disk.content g.D.Disk.images x
+    → LeavesBetween g.D.Disk.tells_past g.D.Disk.moment g.D.Disk.images_since g.D.Disk.images x (shown c.write.new.log c.self.inside.opened c.write.new.flight) in
+    subst P now (c.write.ensures.leaves c.self.inside.opened)

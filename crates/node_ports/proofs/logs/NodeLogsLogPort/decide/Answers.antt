@@ -8,10 +8,9 @@ use Rattle.coord_log.specs.Logs.{sight}
 use Rattle.std.specs.Vec.{vec_capacity}
 use Rattle.lane_laws.specs.Answers.{DecideAnswer}
 use Rattle.lane_driver.specs.Told.{IsLane, AreReplies}
-use Rattle.lane_driver.specs.Faults.{kind_of}
 use Rattle.lane_driver.specs.Causes.{IsLogCause}
 use Rattle.node_ports.specs.Nodes.{KeepsRest, IsLogHeld}
-use Rattle.node_ports.proofs.Places.{inside, old_is, turned, set_elsewhere, turned_faults, turned_held}
+use Rattle.node_ports.proofs.Places.{inside, old_is, turned, set_elsewhere, turned_nodes, turned_faults, turned_held}
 use Rattle.node_ports.proofs.logs.NodeLogsLogPort.decide.Goals as goal
 
 pub index_mut-requires : goal.index_mut-requires
@@ -40,7 +39,7 @@ returns-clause-told g c =
 
 pub returns-clause-fault : goal.returns-clause-fault
 returns-clause-fault g c =
-    turned sight c.args.self.now.logs.items c.args.self.now.at c.index_mut.result.now c.decide_at-answer.new.log (inside sight c.args.self.now.logs.items c.args.self.now.at c.args.lane c.requires.home.0) c.index_mut.ensures.value (λ a b. IfErr c.decide_at-answer.result (λ f. IsLogCause (kind_of f) b)) c.decide_at-answer.ensures.fault
+    turned sight c.args.self.now.logs.items c.args.self.now.at c.index_mut.result.now c.decide_at-answer.new.log (inside sight c.args.self.now.logs.items c.args.self.now.at c.args.lane c.requires.home.0) c.index_mut.ensures.value (λ a b. IfErr c.decide_at-answer.result (λ f. IsLogCause f b)) c.decide_at-answer.ensures.fault
 
 pub returns-clause-phase : goal.returns-clause-phase
 returns-clause-phase g c =
@@ -60,11 +59,15 @@ returns-clause-others g c =
 
 pub returns-clause-header : goal.returns-clause-header
 returns-clause-header g c =
-    turned sight c.args.self.now.logs.items c.args.self.now.at c.index_mut.result.now c.decide_at-answer.new.log (inside sight c.args.self.now.logs.items c.args.self.now.at c.args.lane c.requires.home.0) c.index_mut.ensures.value (λ a b. b.header ≡ a.header) c.decide_at-answer.ensures.header
+    turned sight c.args.self.now.logs.items c.args.self.now.at c.index_mut.result.now c.decide_at-answer.new.log (inside sight c.args.self.now.logs.items c.args.self.now.at c.args.lane c.requires.home.0) c.index_mut.ensures.value (λ a b. b.header ≡ a.header) c.decide_at-answer.ensures.node.header
 
 pub returns-clause-elsewhere : goal.returns-clause-elsewhere
 returns-clause-elsewhere g c =
     λ n ne. set_elsewhere sight c.args.self.now.logs.items c.args.self.now.at c.decide_at-answer.new.log n ne
+
+pub returns-clause-nodes : goal.returns-clause-nodes
+returns-clause-nodes g c =
+    turned_nodes sight c.args.self.now.logs.items c.args.self.now.at c.index_mut.result.now c.decide_at-answer.new.log (inside sight c.args.self.now.logs.items c.args.self.now.at c.args.lane c.requires.home.0) c.index_mut.ensures.value c.decide_at-answer.ensures.node
 
 pub returns-clause-later : goal.returns-clause-later
 returns-clause-later g c =

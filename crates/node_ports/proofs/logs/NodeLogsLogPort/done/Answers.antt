@@ -6,7 +6,7 @@ use Rattle.cbdc_model.specs.Due.{done_due}
 use Rattle.coord_log.specs.Logs.{sight}
 use Rattle.lane_driver.specs.Told.{IsLane}
 use Rattle.node_ports.specs.Nodes.{KeepsRest, IsLogHeld}
-use Rattle.node_ports.proofs.Places.{inside, old_is, turned, set_elsewhere, turned_faults, turned_held}
+use Rattle.node_ports.proofs.Places.{inside, old_is, turned, set_elsewhere, turned_nodes, turned_faults, turned_held}
 use Rattle.node_ports.proofs.logs.NodeLogsLogPort.done.Goals as goal
 
 pub index_mut-requires : goal.index_mut-requires
@@ -35,11 +35,15 @@ returns-clause-others g c =
 
 pub returns-clause-header : goal.returns-clause-header
 returns-clause-header g c =
-    turned sight c.args.self.now.logs.items c.args.self.now.at c.index_mut.result.now c.done_at-answer.new.log (inside sight c.args.self.now.logs.items c.args.self.now.at c.args.lane c.requires.home.0) c.index_mut.ensures.value (λ a b. b.header ≡ a.header) c.done_at-answer.ensures.header
+    turned sight c.args.self.now.logs.items c.args.self.now.at c.index_mut.result.now c.done_at-answer.new.log (inside sight c.args.self.now.logs.items c.args.self.now.at c.args.lane c.requires.home.0) c.index_mut.ensures.value (λ a b. b.header ≡ a.header) c.done_at-answer.ensures.node.header
 
 pub returns-clause-elsewhere : goal.returns-clause-elsewhere
 returns-clause-elsewhere g c =
     λ n ne. set_elsewhere sight c.args.self.now.logs.items c.args.self.now.at c.done_at-answer.new.log n ne
+
+pub returns-clause-nodes : goal.returns-clause-nodes
+returns-clause-nodes g c =
+    turned_nodes sight c.args.self.now.logs.items c.args.self.now.at c.index_mut.result.now c.done_at-answer.new.log (inside sight c.args.self.now.logs.items c.args.self.now.at c.args.lane c.requires.home.0) c.index_mut.ensures.value c.done_at-answer.ensures.node
 
 pub returns-clause-later : goal.returns-clause-later
 returns-clause-later g c =

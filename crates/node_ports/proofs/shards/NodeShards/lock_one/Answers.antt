@@ -8,7 +8,7 @@ use Rattle.cbdc_model.specs.Sights.{Sight, Told}
 use Rattle.lane_driver.specs.Told.{IsStamp}
 use Rattle.shard_node.specs.Shards.{sight_of}
 use Rattle.node_ports.specs.Nodes.{IsShardHeld}
-use Rattle.node_ports.proofs.Places.{old_is, turned, set_elsewhere, turned_headers, turned_faults, turned_held}
+use Rattle.node_ports.proofs.Places.{old_is, turned, set_elsewhere, turned_nodes, turned_faults, turned_held}
 use Rattle.node_ports.proofs.shards.NodeShards.lock_one.Goals as goal
 
 pub lock_at-answer-requires : goal.lock_at-answer-requires
@@ -23,9 +23,9 @@ pub returns-clause-elsewhere : goal.returns-clause-elsewhere
 returns-clause-elsewhere g c =
     λ n ne. set_elsewhere (sight_of g.D.Disk.count g.D.Disk.limit) c.args.self.now.nodes.items c.args.shard c.lock_at-answer.new.node n ne
 
-pub returns-clause-headers : goal.returns-clause-headers
-returns-clause-headers g c =
-    turned_headers (sight_of g.D.Disk.count g.D.Disk.limit) c.args.self.now.nodes.items c.args.shard c.index_mut.result.now c.lock_at-answer.new.node c.requires.place c.index_mut.ensures.value c.lock_at-answer.ensures.header
+pub returns-clause-nodes : goal.returns-clause-nodes
+returns-clause-nodes g c =
+    turned_nodes (sight_of g.D.Disk.count g.D.Disk.limit) c.args.self.now.nodes.items c.args.shard c.index_mut.result.now c.lock_at-answer.new.node c.requires.place c.index_mut.ensures.value c.lock_at-answer.ensures.node
 
 pub returns-clause-later : goal.returns-clause-later
 returns-clause-later g c =

@@ -6,6 +6,7 @@ use Rattle.cbdc_model.specs.Calls.{IsFinishCall}
 use Rattle.cbdc_model.specs.Sights.{Sight}
 use Rattle.lane_laws.specs.Answers.{FinishAnswer, EachTold}
 use Rattle.lane_driver.specs.Told.{StampTold}
+use Rattle.lane_driver.proofs.Fitting.{nodes_same, nodes_on}
 use Rattle.shard_node.specs.Shards.{sight_of}
 use Rattle.node_ports.specs.Nodes.{sight_at}
 use Rattle.node_ports.proofs.Walking.{longer, as_found0, told_more, others_more}
@@ -17,7 +18,7 @@ calls-preserved g c =
       each = subst (λ ys. AllZip (StampTold {C = FinishCall}) ys c.push_reserved.new.self.items) (sym (longer (FinishAnswer true) c.args.calls.now c.calls.shard-index c.calls-item.result c.calls-test.true c.calls-item.is)) (subst (λ ys. AllZip (StampTold {C = FinishCall}) (take c.calls.shard-index c.args.calls.now ++ c.calls-item.result ∷ []) ys) (sym c.push_reserved.ensures.items) (all_zipped_more (StampTold {C = FinishCall}) (take c.calls.shard-index c.args.calls.now) c.calls.out.items c.calls-item.result c.finish_one-answer.result c.calls.invariant.each c.finish_one-answer.ensures.told));
       told = subst (λ ys. EachTold (FinishAnswer true) (take (c.calls.shard-index + 1) c.args.calls.now) ys (sight_at (sight_of g.D.Disk.count g.D.Disk.limit) c.args.self.now.nodes.items) (sight_at (sight_of g.D.Disk.count g.D.Disk.limit) c.finish_one-answer.new.self.nodes.items)) (sym c.push_reserved.ensures.items) (told_more (FinishAnswer true) c.args.calls.now c.calls.shard-index c.calls-item.result c.calls-test.true c.calls-item.is (sight_at (sight_of g.D.Disk.count g.D.Disk.limit) c.args.self.now.nodes.items) (sight_at (sight_of g.D.Disk.count g.D.Disk.limit) c.calls.self.nodes.items) (sight_at (sight_of g.D.Disk.count g.D.Disk.limit) c.finish_one-answer.new.self.nodes.items) c.requires.shards.0 c.finish_one-answer.ensures.elsewhere c.finish_one-answer.result c.calls.out.items c.calls.invariant.told c.calls.invariant.untouched c.finish_one-answer.ensures.answer);
       untouched = others_more (FinishAnswer true) c.args.calls.now c.calls.shard-index c.calls-item.result c.calls-test.true c.calls-item.is (sight_at (sight_of g.D.Disk.count g.D.Disk.limit) c.args.self.now.nodes.items) (sight_at (sight_of g.D.Disk.count g.D.Disk.limit) c.calls.self.nodes.items) (sight_at (sight_of g.D.Disk.count g.D.Disk.limit) c.finish_one-answer.new.self.nodes.items) c.requires.shards.0 c.finish_one-answer.ensures.elsewhere c.calls.invariant.untouched;
-      headers = λ s. c.finish_one-answer.ensures.headers s ∙ c.calls.invariant.headers s;
+      nodes = nodes_on (sight_at (sight_of g.D.Disk.count g.D.Disk.limit) c.args.self.now.nodes.items) (sight_at (sight_of g.D.Disk.count g.D.Disk.limit) c.calls.self.nodes.items) (sight_at (sight_of g.D.Disk.count g.D.Disk.limit) c.finish_one-answer.new.self.nodes.items) c.calls.invariant.nodes c.finish_one-answer.ensures.nodes;
       filled = omega (arith, c.push_reserved.ensures.len, c.calls.invariant.filled);
       capacity = c.push_reserved.ensures.capacity ∙ c.calls.invariant.capacity;
       count = c.finish_one-answer.ensures.count ∙ c.calls.invariant.count;
@@ -39,7 +40,7 @@ calls-init g c =
       each = search rules;
       told = subst (λ answers. EachTold (FinishAnswer true) [] answers (sight_at (sight_of g.D.Disk.count g.D.Disk.limit) c.args.self.now.nodes.items) (sight_at (sight_of g.D.Disk.count g.D.Disk.limit) c.args.self.now.nodes.items)) (sym c.requires.empty) tt;
       untouched = λ s not. refl;
-      headers = λ s. refl;
+      nodes = nodes_same (sight_at (sight_of g.D.Disk.count g.D.Disk.limit) c.args.self.now.nodes.items);
       filled = search rules;
       capacity = refl;
       count = refl;

@@ -2,7 +2,7 @@ use Rattle.std.proofs.Common.{◌≡◌, ◌≤◌, ℕ, true, length, take}
 use Rattle.std.specs.List.{AllZip}
 use Rattle.std.specs.Vec.{vec_capacity, vec_len}
 use Rattle.lane_laws.specs.Answers.{ForgetAnswer, EachTold, Others}
-use Rattle.lane_driver.specs.Told.{StampTold, KeepHeaders}
+use Rattle.lane_driver.specs.Told.{StampTold, KeepNodes}
 use Rattle.shard_node.specs.Shards.{sight_of}
 use Rattle.node_ports.specs.Nodes.{sight_at, AreShardsHeld}
 use Rattle.node_ports.proofs.shards.NodeShardsPortSet.forget.Given as goal
@@ -12,7 +12,7 @@ invariant-calls g l = record {
   each : AllZip (StampTold) (take l.shard-index l.calls) l.out.items;
   told : EachTold (ForgetAnswer true) (take l.shard-index l.calls) l.out.items (sight_at (sight_of g.D.Disk.count g.D.Disk.limit) l.initial.self.nodes.items) (sight_at (sight_of g.D.Disk.count g.D.Disk.limit) l.self.nodes.items);
   untouched : Others (take l.shard-index l.calls) (sight_at (sight_of g.D.Disk.count g.D.Disk.limit) l.initial.self.nodes.items) (sight_at (sight_of g.D.Disk.count g.D.Disk.limit) l.self.nodes.items);
-  headers : KeepHeaders (sight_at (sight_of g.D.Disk.count g.D.Disk.limit) l.initial.self.nodes.items) (sight_at (sight_of g.D.Disk.count g.D.Disk.limit) l.self.nodes.items);
+  nodes : KeepNodes (sight_at (sight_of g.D.Disk.count g.D.Disk.limit) l.initial.self.nodes.items) (sight_at (sight_of g.D.Disk.count g.D.Disk.limit) l.self.nodes.items);
   filled : vec_len l.out ≡ l.shard-index;
   capacity : vec_capacity l.out ≡ vec_capacity l.initial.out;
   count : length l.self.nodes.items ≡ length l.initial.self.nodes.items;

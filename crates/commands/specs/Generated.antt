@@ -1,0 +1,140 @@
+-- What `gen` comes to: a ledger of the workload's mint is made in nodes of its own, the workload's files are run over it, and it is audited.
+use Rattle.std.specs.List.{range_with_len}
+use Rattle.std.specs.Prelude.{◌≡◌, ◌⊎◌, ◌+◌, ◌-◌, ◌*◌, ◌/◌, ◌++◌, ℕ, zero, suc, length, List, [], ◌∷◌, reverse, Some}
+use Rattle.line_text.specs.Lines.{Text, summary_text}
+use Rattle.cbdc_types.specs.declared.answer.Answer.{Answer}
+use Rattle.cbdc_types.specs.declared.answer.Answer.TheVariants as answers
+use Rattle.cbdc_types.specs.declared.answer.UnsoundKind.{UnsoundKind}
+use Rattle.cbdc_model.specs.Records.{Shape, Record, Row, journal}
+use Rattle.cbdc_model.specs.Coins.{Output, FullTx, genesis_id}
+use Rattle.cbdc_model.specs.Clean.{Clean}
+use Rattle.cbdc_model.specs.History.{IsOrdered, first_rows, minted}
+use Rattle.cbdc_model.specs.Lanes.{IsEnd}
+use Rattle.cbdc_model.specs.World.{KeptJournals}
+use Rattle.cbdc_model.specs.Waves.{Waves, share}
+use Rattle.plain_rack.specs.declared.plain_rack.PlainRack.{PlainRack}
+use Rattle.plain_rack.specs.Places.{faults_at}
+use Rattle.plain_rack.specs.Racks.{disk_at, bytes_told, bytes_left, room_of, faults_of}
+use Rattle.rack_laws.specs.Shown.{Shows}
+use Rattle.rack_ledgers.specs.Ledgers.{IsUnopenedBy}
+use Rattle.verifier_port.specs.declared.Verdict.TheVariants.{Good}
+use Rattle.submissions.specs.Checks.{VerdictsOf}
+use Rattle.sound_laws.specs.SoundTest.{sound_by}
+use Rattle.file_runs.specs.Runs.{joined}
+use Rattle.audit.specs.declared.verdict.Totals.{Totals}
+use Rattle.audit.specs.declared.verdict.Verdict.{Verdict}
+use Rattle.audit.specs.declared.verdict.Verdict.TheVariants.{Sound, Unsound}
+use Rattle.audit.specs.Verdicts.{IsVerdict}
+use Rattle.printed_lines.specs.declared.report.Report.{Report}
+use Rattle.printed_lines.specs.Reports.{audit_lines}
+use Rattle.printed_lines.specs.Runs.{AreAllReports, is_confirmed, is_rejected, count_in}
+use Rattle.printed_lines.specs.Unspent.{IsUnspentCount}
+use Rattle.workload.specs.Generator.{mint_of, minted_of, joined_of, splits_of, joins_of}
+
+-- every witness is good
+abbrev pub all_good : VerdictsOf
+all_good id index = Good
+
+-- the client files of a workload, and all their transactions
+abbrev pub files_of : ℕ → ℕ → List (List FullTx)
+files_of seed n = splits_of seed n ∷ joins_of seed n ∷ []
+
+abbrev pub all_of : ℕ → ℕ → List FullTx
+all_of seed n = joined (files_of seed n)
+
+-- a first record at each node of the ledger that a mint begins, and that of a workload
+abbrev pub first_journals : Shape → List Output → ℕ → List Record
+first_journals K mint node = journal node (first_rows K (minted mint))
+
+abbrev pub made_for : Shape → ℕ → ℕ → ℕ → List Record
+made_for K seed n = first_journals K (mint_of seed n)
+
+-- the workload's files were run from those journals to journals X, which are kept
+pub record IsWorkloadRun (K : Shape) (seed n : ℕ) (X : ℕ → List Record) : Type 0 where
+  pub kept : KeptJournals K (mint_of seed n) (all_of seed n) X
+  pub waves : Waves K (sound_by all_good) (files_of seed n) (made_for K seed n) X
+
+-- of the history of journals X an audit with a mint and these transactions has this verdict
+pub record HasVerdictOf (K : Shape) (mint : List Output) (handed : List FullTx) (X : ℕ → List Record) (verdict : Verdict) : Type 0 where
+  pub rows : List Row
+  pub journals_are : (node : ℕ) → journal node (reverse rows) ≡ X node
+  pub ordered : IsOrdered (reverse rows)
+  pub is : IsVerdict K mint handed rows verdict
+
+-- how many pieces of n a list of m is cut into, the last maybe shorter
+abbrev pub rounded_up : ℕ → ℕ → ℕ
+rounded_up m n = (m + n - 1) / n
+
+-- how many of the first m places go to a lane
+abbrev pub sent_of : Shape → ℕ → ℕ → ℕ
+sent_of K m lane = length (share (K.coordinators * K.lanes) lane 0 (range_with_len 0 m))
+
+-- the batches that the lanes below a number cut the two files into, and those of all lanes
+abbrev pub cut_below : Shape → ℕ → ℕ → ℕ
+cut_below K n zero = 0
+cut_below K n (suc lane) = cut_below K n lane + (rounded_up (sent_of K (minted_of n) lane) K.batch + rounded_up (sent_of K (joined_of n) lane) K.batch)
+
+abbrev pub batches_for : Shape → ℕ → ℕ
+batches_for K n = cut_below K n (K.coordinators * K.lanes)
+
+-- the numbers that end the text of a run of the workload to journals X: nothing was open before, and each of the n submissions is confirmed or rejected
+pub record EndsWorkload (K : Shape) (seed n : ℕ) (X : ℕ → List Record) (text : Text) : Type 0 where
+  pub all : List (List Report)
+  pub are : AreAllReports K all_good (sound_by all_good) (made_for K seed n) X (files_of seed n) all
+  pub decided : count_in is_confirmed all + count_in is_rejected all ≡ n
+  pub unspent : ℕ
+  pub counted : IsUnspentCount K X unspent
+  pub text_is : text ≡ summary_text 0 (batches_for K n) (count_in is_confirmed all) (count_in is_rejected all) 0 unspent
+
+-- the text of a workload: the numbers that end a run of it, and those of an audit behind it, which is sound
+pub record IsWorkloadText (K : Shape) (seed n : ℕ) (text : Text) : Type 0 where
+  pub exit : ℕ → List Record
+  pub run : IsWorkloadRun K seed n exit
+  pub summary : Text
+  pub ends : EndsWorkload K seed n exit summary
+  pub totals : Totals
+  pub audited : HasVerdictOf K (mint_of seed n) (all_of seed n) exit (Sound totals)
+  pub text_is : text ≡ summary ++ audit_lines totals
+
+-- the text of a workload was printed
+abbrev pub PrintsWorkload : (Text → Type 0) → Shape → ℕ → ℕ → Type 0
+PrintsWorkload printed K seed n = (text : Text) × IsWorkloadText K seed n text × printed text
+
+-- ---- why a workload was not done
+
+-- the ledger of a mint stands on disks in memory with these journals, and could not be opened
+pub record IsUnopenedThere (K : Shape) (mint : List Output) (submissions : List FullTx) (answer : Answer) : Type 0 where
+  pub old : PlainRack
+  pub new : PlainRack
+  pub journals : ℕ → List Record
+  pub kept : KeptJournals K mint submissions journals
+  pub shows : Shows bytes_told (disk_at old) K (genesis_id mint) journals
+  pub why : IsUnopenedBy bytes_told bytes_left room_of faults_of (disk_at old) (faults_at old.misses) (faults_at new.misses) (Some (genesis_id mint)) answer
+
+-- a run of the workload was cut short: the journals have grown at their ends, and are kept
+pub record IsCutWorkload (K : Shape) (seed n : ℕ) : Type 0 where
+  pub exit : ℕ → List Record
+  pub grows : (node : ℕ) → IsEnd (made_for K seed n node) (exit node)
+  pub kept : KeptJournals K (mint_of seed n) (all_of seed n) exit
+
+-- an audit found this behind a run, which it does only where two outputs of the workload share a hash, or two transactions an id
+pub record IsUnsoundWorkload (K : Shape) (seed n place : ℕ) (kind : UnsoundKind) : Type 0 where
+  pub exit : ℕ → List Record
+  pub run : IsWorkloadRun K seed n exit
+  pub audited : HasVerdictOf K (mint_of seed n) (all_of seed n) exit (Unsound place kind)
+  pub unclean : Clean (mint_of seed n) (all_of seed n) → ⊥
+
+-- why a workload was not done: the nodes could not be opened, a lane of its run met a fault, or its audit found something wrong
+abbrev pub IsStoppedWorkload : Shape → ℕ → ℕ → Answer → Type 0
+IsStoppedWorkload K seed n answer = IsUnopenedThere K (mint_of seed n) (all_of seed n) answer ⊎ IsCutWorkload K seed n
+
+abbrev pub WhyNoWorkload : Shape → ℕ → ℕ → Answer → Type 0
+WhyNoWorkload K seed n (answers.NotReady node) = IsUnopenedThere K (mint_of seed n) (all_of seed n) (answers.NotReady node)
+WhyNoWorkload K seed n (answers.Foreign node kept asked) = IsUnopenedThere K (mint_of seed n) (all_of seed n) (answers.Foreign node kept asked)
+WhyNoWorkload K seed n (answers.Damaged node at) = IsUnopenedThere K (mint_of seed n) (all_of seed n) (answers.Damaged node at)
+WhyNoWorkload K seed n (answers.Full node used need capacity) = IsStoppedWorkload K seed n (answers.Full node used need capacity)
+WhyNoWorkload K seed n (answers.DiskFault node) = IsStoppedWorkload K seed n (answers.DiskFault node)
+WhyNoWorkload K seed n (answers.ClockEnd node stamp) = IsCutWorkload K seed n
+WhyNoWorkload K seed n (answers.Unsound place kind) = IsUnsoundWorkload K seed n place kind
+WhyNoWorkload K seed n answers.Memory = Unit {0}
+WhyNoWorkload K seed n other = ⊥

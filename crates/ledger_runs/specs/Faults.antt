@@ -1,0 +1,103 @@
+-- Why a lane stopped, by the journals then and at any later time.
+use Rattle.std.specs.Prelude.{◌≡◌, ◌⊎◌, ℕ, ◌+◌, ◌^◌, ◌<◌, true, List, [], ◌∷◌, ◌++◌, length, take, drop, Some}
+use Rattle.cbdc_model.specs.Records.{Shape, Batch, Compact, Record, record_of, stamp_of, is_in_lane, Prepare}
+use Rattle.cbdc_model.specs.Slots.{slot, Idle, InPrepare}
+use Rattle.cbdc_model.specs.Ranges.{home_of, shard_node, part}
+use Rattle.cbdc_model.specs.Room.{need_of}
+use Rattle.cbdc_model.specs.Due.{used_of, prepare_record, lock_record}
+use Rattle.cbdc_model.specs.Lanes.{IsEnd}
+use Rattle.cbdc_model.specs.Sights.{HasRisen}
+use Rattle.lane_laws.specs.Calls.{is_concerned}
+use Rattle.lane_driver.specs.declared.fault.LaneFault.{LaneFault}
+use Rattle.lane_driver.specs.declared.fault.LaneFaultKind.{LaneFaultKind}
+use Rattle.lane_driver.specs.declared.fault.LaneFaultKind.TheVariants.{DiskFault as DiskStopped, Full as NoRoom, ClockEnd as NoStamp, Memory as NoMemory}
+use Rattle.ledger_runs.specs.Turning.{phase_at, IsLaneOf}
+use Rattle.ledger_runs.specs.Waving.{EachLane}
+use Rattle.ledger_runs.specs.declared.lanes.Lane.{Lane}
+
+-- all of these records are the lane's
+abbrev pub AreOfLane : ℕ → List Record → Type 0
+AreOfLane lane [] = Unit {0}
+AreOfLane lane (r ∷ more) = (is_in_lane lane r ≡ true) × AreOfLane lane more
+
+-- each journal has grown at its end, by records of the lane alone
+abbrev pub GrowBy : ℕ → (ℕ → List Record) → (ℕ → List Record) → Type 0
+GrowBy lane I J = (n : ℕ) → (more : List Record) × (J n ≡ more ++ I n) × AreOfLane lane more
+
+-- the record that the lane still wants at a node by journals X, as it would stand there behind `front`: where the lane is idle, its next Prepare,
+-- of transactions that are next; where its batch is prepared, the Lock of a concerned shard that has not come to this batch
+pub data IsWanted (K : Shape) (lane : ℕ) (next : List Compact → Type 0) (X : ℕ → List Record) (node : ℕ) (front : List Record) (r : Record) : Type 0 where
+  wants_prepare : (txs : List Compact) → next txs → node ≡ home_of K lane → phase_at K X lane ≡ Idle → r ≡ prepare_record front lane txs → IsWanted K lane next X node front r
+  wants_lock : (b : Batch) (t : ℕ) (txs : List Compact) (s : ℕ) → b.lane ≡ lane → node ≡ shard_node K s → is_concerned K txs s ≡ true → phase_at K X lane ≡ InPrepare
+      → record_of 6 (X (home_of K lane)) b ≡ Some (Prepare t b txs) → (slot (X node) lane).number < b.number
+      → r ≡ lock_record front (record { batch = b; part = part K.shards s 0 txs; cause = t }) → IsWanted K lane next X node front r
+
+-- behind a front of the node's journal, which the journal at entry begins, its disk has no room for what the wanted record needs there
+pub record HasNoRoomFor (K : Shape) (lane : ℕ) (next : List Compact → Type 0) (E X : ℕ → List Record) (may_hold : ℕ → ℕ → Type 0) (node used need capacity : ℕ) : Type 0 where
+  pub front : List Record
+  pub since : IsEnd (E node) front
+  pub within : IsEnd front (X node)
+  pub wanted : Record
+  pub is_wanted : IsWanted K lane next X node front wanted
+  pub capacity_is : may_hold node capacity
+  pub used_is : used ≡ used_of front
+  pub need_is : need ≡ need_of K front wanted
+  pub above : capacity < used + need
+
+-- or the wanted record's stamp there is past the last one of its kind
+pub record HasNoStampFor (K : Shape) (lane : ℕ) (next : List Compact → Type 0) (E X : ℕ → List Record) (node stamp : ℕ) : Type 0 where
+  pub front : List Record
+  pub since : IsEnd (E node) front
+  pub within : IsEnd front (X node)
+  pub wanted : Record
+  pub is_wanted : IsWanted K lane next X node front wanted
+  pub stamp_is : stamp ≡ stamp_of wanted
+  pub above : 2 ^ 62 < stamp
+
+-- the cause of a lane's fault of this node and kind, from journals E to X, by the nodes whose disks have failed and what disks may hold: a node of
+-- the ledger has a disk that failed; or no room or no stamp for what the lane wants; want of memory is free
+abbrev pub IsCauseOf : Shape → ℕ → (List Compact → Type 0) → (ℕ → List Record) → (ℕ → List Record) → (ℕ → Type 0) → (ℕ → ℕ → Type 0) → ℕ → LaneFaultKind → Type 0
+IsCauseOf K lane next E X failed may_hold node DiskStopped = (node < K.coordinators + K.shards) × failed node
+IsCauseOf K lane next E X failed may_hold node (NoRoom used need capacity) = HasNoRoomFor K lane next E X may_hold node used need capacity
+IsCauseOf K lane next E X failed may_hold node (NoStamp stamp) = HasNoStampFor K lane next E X node stamp
+IsCauseOf K lane next E X failed may_hold node NoMemory = Unit {0}
+
+abbrev pub IsLaneCause : Shape → ℕ → (List Compact → Type 0) → (ℕ → List Record) → (ℕ → List Record) → (ℕ → Type 0) → (ℕ → ℕ → Type 0) → LaneFault → Type 0
+IsLaneCause K lane next E X failed may_hold e = IsCauseOf K lane next E X failed may_hold e.node e.fault
+
+-- the same of some lane, each with the transactions that are next for it
+abbrev pub IsSomeCauseOf : Shape → (ℕ → List Compact → Type 0) → (ℕ → List Record) → (ℕ → List Record) → (ℕ → Type 0) → (ℕ → ℕ → Type 0) → ℕ → LaneFaultKind → Type 0
+IsSomeCauseOf K next E X failed may_hold node DiskStopped = (node < K.coordinators + K.shards) × failed node
+IsSomeCauseOf K next E X failed may_hold node (NoRoom used need capacity) = (lane : ℕ) × IsLaneOf K lane × HasNoRoomFor K lane (next lane) E X may_hold node used need capacity
+IsSomeCauseOf K next E X failed may_hold node (NoStamp stamp) = (lane : ℕ) × IsLaneOf K lane × HasNoStampFor K lane (next lane) E X node stamp
+IsSomeCauseOf K next E X failed may_hold node NoMemory = Unit {0}
+
+abbrev pub IsRunCause : Shape → (ℕ → List Compact → Type 0) → (ℕ → List Record) → (ℕ → List Record) → (ℕ → Type 0) → (ℕ → ℕ → Type 0) → LaneFault → Type 0
+IsRunCause K next E X failed may_hold e = IsSomeCauseOf K next E X failed may_hold e.node e.fault
+
+-- the disks whose counts have risen since their nodes were opened, and what each node's disk may hold
+abbrev pub HaveFailed : (ℕ → ℕ) → (ℕ → ℕ) → ℕ → Type 0
+HaveFailed opened faults n = HasRisen (opened n) (faults n)
+
+abbrev pub MayHold : (ℕ → ℕ) → ℕ → ℕ → Type 0
+MayHold capacity n c = c ≡ capacity n
+
+-- none, or these, are next
+abbrev pub Nothing : List Compact → Type 0
+Nothing txs = ⊥
+
+abbrev pub IsThese : List Compact → List Compact → Type 0
+IsThese these txs = txs ≡ these
+
+-- a batch of what the lane gets, or what is left
+abbrev pub IsPiece : Shape → List Compact → List Compact → Type 0
+IsPiece K all txs = (start : ℕ) × (start < length all) × (txs ≡ take K.batch (drop start all))
+
+-- each lane that has stopped has its cause
+abbrev pub HaveCauses : Shape → (ℕ → List Record) → (ℕ → List Record) → (ℕ → Type 0) → (ℕ → ℕ → Type 0) → List Lane → Type 0
+HaveCauses K E X failed may_hold lanes = EachLane (λ lane x. (e : LaneFault) → x.fault ≡ Some e → IsLaneCause K lane (IsPiece K x.txs.items) E X failed may_hold e) lanes
+
+-- what a turn of a lane leaves of its fault: it had it, and nothing was done; or it has its cause
+abbrev pub IsTurnCause : Shape → ℕ → Lane → Lane → (ℕ → List Record) → (ℕ → List Record) → (ℕ → Type 0) → (ℕ → ℕ → Type 0) → Type 0
+IsTurnCause K lane old new I J failed may_hold =
+    (e : LaneFault) → new.fault ≡ Some e → ((old.fault ≡ Some e) × ((n : ℕ) → J n ≡ I n)) ⊎ IsLaneCause K lane (IsPiece K old.txs.items) I J failed may_hold e

@@ -1,0 +1,193 @@
+-- What a lane's fault answers has its cause.
+use Rattle.std.proofs.Common.{◌≡◌, ◌⊎◌, inl, inr, ℕ, zero, suc, ◌+◌, ◌*◌, ◌/◌, ◌<◌, ◌≤◌, true, List, length, reverse, Option, sym, subst, arith}
+use Rattle.std.specs.Prelude.{Result, Ok, Err, IfErr, All}
+use Rattle.std.proofs.lemmas.Nat.{div_below}
+use Rattle.outside.specs.Counts.{Rose}
+use Rattle.cbdc_types.specs.declared.answer.Answer.{Answer}
+use Rattle.cbdc_types.specs.declared.answer.Answer.TheVariants as answers
+use Rattle.cbdc_model.specs.Records.{Shape, Header, Compact, Record, Row, journal}
+use Rattle.cbdc_model.specs.Ranges.{home_of}
+use Rattle.cbdc_model.specs.Lanes.{IsEnd}
+use Rattle.cbdc_model.specs.Coins.{FullTx}
+use Rattle.ledger_laws.proofs.Cuts.{end_self}
+use Rattle.lane_laws.specs.Calls.{is_concerned}
+use Rattle.lane_driver.specs.declared.fault.LaneFault.{LaneFault}
+use Rattle.lane_driver.specs.declared.fault.LaneFaultKind.{LaneFaultKind}
+use Rattle.lane_driver.specs.declared.fault.LaneFaultKind.TheVariants.{DiskFault as DiskStopped, Full as NoRoom, ClockEnd as NoStamp, Memory as NoMemory}
+use Rattle.coord_log.specs.Logs.{LogOf}
+use Rattle.shard_node.specs.Shards.{ShardOf}
+use Rattle.rack_nodes.specs.Racked.{OfTold}
+use Rattle.rack_ledgers.specs.Ledgers.{ByPlace, AreOpened}
+use Rattle.caused_ledgers.specs.Caused.{journals_of as lent_journals, AreCaused}
+use Rattle.caused_ledgers.proofs.Told.{told_history}
+use Rattle.submissions.specs.Checks.{VerdictsOf}
+use Rattle.ledger_runs.specs.Turning.{IsLaneOf}
+use Rattle.ledger_runs.specs.Faults.{IsWanted, wants_prepare, wants_lock, IsSomeCauseOf, IsRunCause, HaveFailed, MayHold, Nothing}
+use Rattle.ledger_runs.proofs.Faulting.{run_moves}
+use Rattle.file_runs.specs.Runs.{IsFilesPiece}
+use Rattle.ledger_nodes.specs.Ledgers.{IsLedger, journals_of, faults_of, opened_of, capacity_of, AreStored}
+use Rattle.rack_laws.specs.Shown.{KeepsEach, node_count}
+use Rattle.rack_laws.proofs.Behind.{keeps_each, told_stored, may_hold, have_risen}
+use Rattle.rack_runs.specs.Kinds.{answer_at, answer_to, IsLaneAnswer}
+use Rattle.rack_runs.specs.Runs.{IsLaneFault, NothingNext, PieceNext}
+use Rattle.rack_runs.specs.declared.over.Over.{Over}
+use Rattle.rack_runs.specs.declared.over.Ran.{Ran}
+use Rattle.rack_runs.proofs.Checking.{same_journals}
+
+-- the cause of a fault is that of its answer
+answered : (K : Shape) (next : ℕ → List Compact → Type 0) (E X : ℕ → List Record) (failed : ℕ → Type 0) (holds : ℕ → ℕ → Type 0) (e : LaneFault) → IsRunCause K next E X failed holds e
+    → IsLaneAnswer K next E X failed holds (answer_to e)
+answered K next E X failed holds e h = go e.fault h
+  where
+    go : (kind : LaneFaultKind) → IsSomeCauseOf K next E X failed holds e.node kind → IsLaneAnswer K next E X failed holds (answer_at e.node kind)
+    go DiskStopped h = h
+    go (NoRoom used need capacity) h = h
+    go (NoStamp stamp) h = h
+    go NoMemory h = tt
+
+pub came_cause : (K : Shape) (next : ℕ → List Compact → Type 0) (E X : ℕ → List Record) (failed : ℕ → Type 0) (holds : ℕ → ℕ → Type 0) (came : Result Ran Answer) (over : Result Over LaneFault)
+    → IfErr came (λ a. (a ≡ answers.Memory) ⊎ ((e : LaneFault) × (over ≡ Err e) × (a ≡ answer_to e))) → IfErr over (IsRunCause K next E X failed holds) → IfErr came (IsLaneAnswer K next E X failed holds)
+came_cause K next E X failed holds (Ok r) over told cause = tt
+came_cause K next E X failed holds (Err a) over (inl memory) cause = subst (λ x. IsLaneAnswer K next E X failed holds x) (sym memory) tt
+came_cause K next E X failed holds (Err a) over (inr (e, err, is)) cause =
+    subst (λ x. IsLaneAnswer K next E X failed holds x) (sym is) (answered K next E X failed holds e (subst (λ o. IfErr o (IsRunCause K next E X failed holds)) err cause))
+
+-- what a lane wants it wants at a node of the ledger
+home_inside : (K : Shape) (lane : ℕ) → IsLaneOf K lane → home_of K lane < K.coordinators
+home_inside K lane lt = go K.lanes lt
+  where
+    go : (lanes : ℕ) → lane < K.coordinators * lanes → lane / lanes < K.coordinators
+    go zero low = absurd (omega (arith, low))
+    go (suc lanes) low = div_below lane (suc lanes) K.coordinators (omega arith) low
+
+concerned_inside : (K : Shape) (txs : List Compact) (s : ℕ) → is_concerned K txs s ≡ true → s < K.shards
+concerned_inside K txs s h = grind (arith, h)
+
+wanted_inside : (K : Shape) (lane : ℕ) (next : List Compact → Type 0) (X : ℕ → List Record) (node : ℕ) (front : List Record) (r : Record) → IsLaneOf K lane → IsWanted K lane next X node front r → node < node_count K
+wanted_inside K lane next X node front r lt (wants_prepare txs due at idle e) = omega (arith, at, home_inside K lane lt)
+wanted_inside K lane next X node front r lt (wants_lock b t txs s is at concerned phase stands behind e) = omega (arith, at, concerned_inside K txs s concerned)
+
+module _ (K : Shape) (next due : ℕ → List Compact → Type 0) (E X : ℕ → List Record) (failed fails : ℕ → Type 0) (holds held : ℕ → ℕ → Type 0)
+    (on : (lane : ℕ) (txs : List Compact) → next lane txs → due lane txs) (failed_on : (n : ℕ) → n < node_count K → failed n → fails n) (held_on : (n c : ℕ) → n < node_count K → holds n c → held n c) where
+  still_wanted : (lane node : ℕ) (front : List Record) (r : Record) → IsWanted K lane (next lane) X node front r → IsWanted K lane (due lane) X node front r
+  still_wanted lane node front r (wants_prepare txs is at idle e) = wants_prepare txs (on lane txs is) at idle e
+  still_wanted lane node front r (wants_lock b t txs s is at concerned phase stands behind e) = wants_lock b t txs s is at concerned phase stands behind e
+
+  -- by what is known of the nodes of the ledger otherwise
+  pub answer_moves : (a : Answer) → IsLaneAnswer K next E X failed holds a → IsLaneAnswer K due E X fails held a
+  answer_moves (answers.DiskFault node) (inside, did) = (inside, failed_on node inside did)
+  answer_moves (answers.Full node used need capacity) (lane, lt, h) = (
+    lane,
+    lt,
+    record {
+      front = h.front;
+      since = h.since;
+      within = h.within;
+      wanted = h.wanted;
+      is_wanted = still_wanted lane node h.front h.wanted h.is_wanted;
+      capacity_is = held_on node capacity (wanted_inside K lane (next lane) X node h.front h.wanted lt h.is_wanted) h.capacity_is;
+      used_is = h.used_is;
+      need_is = h.need_is;
+      above = h.above;
+    },
+  )
+  answer_moves (answers.ClockEnd node stamp) (lane, lt, h) = (
+    lane,
+    lt,
+    record {
+      front = h.front;
+      since = h.since;
+      within = h.within;
+      wanted = h.wanted;
+      is_wanted = still_wanted lane node h.front h.wanted h.is_wanted;
+      stamp_is = h.stamp_is;
+      above = h.above;
+    },
+  )
+  answer_moves answers.Memory h = tt
+  answer_moves answers.Ok h = absurd h
+  answer_moves answers.BadWords h = absurd h
+  answer_moves (answers.BadInput file at kind) h = absurd h
+  answer_moves (answers.TooMuch total) h = absurd h
+  answer_moves (answers.NotReady n) h = absurd h
+  answer_moves (answers.Foreign n kept asked) h = absurd h
+  answer_moves (answers.NotEmpty n) h = absurd h
+  answer_moves (answers.Unsound place kind) h = absurd h
+  answer_moves (answers.Damaged n at) h = absurd h
+  answer_moves (answers.ReadFault file) h = absurd h
+  answer_moves answers.WriteFault h = absurd h
+
+-- ---- on a rack
+
+module _ {D : Type 0} (content : D → Option (List ℕ)) (images : D → List ℕ → Type 0) (limit count : D → ℕ) (held back : ℕ → Option D) (h g : Header)
+    (logs now : List (LogOf D)) (shards after : List (ShardOf D)) (are : AreOpened content images limit count held h logs shards) (caused : AreCaused h.shape (lent_journals logs shards))
+    (is : IsLedger g now after) (shape : g.shape ≡ h.shape)
+    (logs_back : ByPlace (λ n l. OfTold (back n) (λ d. d ≡ l.disk)) now) (shards_back : ByPlace (λ s x. OfTold (back (length now + s)) (λ d. d ≡ x.disk)) after)
+    (stored : AreStored content images logs shards → AreStored content images now after) (counts : All (λ l. l.faults ≡ count l.disk) now) (before behind : ℕ → ℕ)
+    (logs_since : ByPlace (λ n l. before n ≤ count l.disk) logs) (shards_since : ByPlace (λ s x. before (h.shape.coordinators + s) ≤ count x.disk) shards)
+    (logs_counted : ByPlace (λ n l. count l.disk ≤ behind n) now) (shards_counted : ByPlace (λ s x. count x.disk ≤ behind (length now + s)) after) where
+  abbrev History : List Row
+  History = reverse caused.rows
+
+  entry : journals_of count limit h.shape logs shards ≡ (λ n. journal n History)
+  entry = λ i n. same_journals content images limit count held h logs shards are caused n i
+
+  pub lane_fault : (verdicts : VerdictsOf) (files : List (List FullTx)) → ((n : ℕ) → IsEnd (journals_of count limit h.shape logs shards n) (journals_of count limit h.shape now after n)) → (a : Answer)
+      → IsLaneAnswer h.shape (IsFilesPiece h.shape verdicts files) (journals_of count limit h.shape logs shards) (journals_of count limit h.shape now after)
+      (HaveFailed (opened_of count limit h.shape logs shards) (faults_of count limit h.shape now after)) (MayHold (capacity_of count limit h.shape logs shards)) a
+      → IsLaneFault content images limit held back before behind (PieceNext verdicts files) a
+  lane_fault verdicts files grows a cause = record {
+    ledger = record {
+      shape = h.shape;
+      genesis = h.genesis;
+      rows = caused.rows;
+      history = told_history content images limit count held h logs shards are caused.rows caused.merged;
+      caused = caused.caused;
+    };
+    exit = journals_of count limit h.shape now after;
+    grows = subst (λ L. (n : ℕ) → IsEnd (L n) (journals_of count limit h.shape now after n)) entry grows;
+    disks = λ tells.
+        subst (λ k. KeepsEach images back k (journals_of count limit k now after)) shape
+        (keeps_each content images limit count back g now after is (stored (told_stored content images limit count held h logs shards are tells)) logs_back shards_back);
+    cause = subst (λ L. IsLaneAnswer h.shape (IsFilesPiece h.shape verdicts files) L (journals_of count limit h.shape now after) (λ n. Rose (before n) (behind n)) (λ n c. OfTold (held n) (λ d. c ≡ limit d)) a) entry
+        (answer_moves h.shape (IsFilesPiece h.shape verdicts files) (IsFilesPiece h.shape verdicts files) (journals_of count limit h.shape logs shards) (journals_of count limit h.shape now after)
+        (HaveFailed (opened_of count limit h.shape logs shards) (faults_of count limit h.shape now after)) (λ n. Rose (before n) (behind n)) (MayHold (capacity_of count limit h.shape logs shards)) (λ n c. OfTold (held n) (λ d. c ≡ limit d))
+        (λ lane txs piece. piece)
+        (have_risen content images limit count held h logs now shards after are g shape is counts before behind logs_since shards_since logs_counted shards_counted)
+        (λ n c inside may. may_hold content images limit count held h logs shards are n c inside may) a cause);
+  }
+
+-- where nothing is next for any lane
+pub of_nothing : {D : Type 0} (content : D → Option (List ℕ)) (images : D → List ℕ → Type 0) (limit : D → ℕ) (held back : ℕ → Option D) (before now : ℕ → ℕ) (next : Shape → ℕ → List Compact → Type 0) (a : Answer)
+    → IsLaneFault content images limit held back before now next a → ((K : Shape) (lane : ℕ) (txs : List Compact) → next K lane txs → ⊥) → IsLaneFault content images limit held back before now NothingNext a
+of_nothing content images limit held back before now next a f none = record {
+  ledger = f.ledger;
+  exit = f.exit;
+  grows = f.grows;
+  disks = f.disks;
+  cause = answer_moves f.ledger.shape (next f.ledger.shape) (NothingNext f.ledger.shape) (λ n. journal n (reverse f.ledger.rows)) f.exit (λ n. Rose (before n) (now n)) (λ n. Rose (before n) (now n))
+      (λ n c. OfTold (held n) (λ d. c ≡ limit d)) (λ n c. OfTold (held n) (λ d. c ≡ limit d)) (none f.ledger.shape) (λ n inside did. did) (λ n c inside may. may) a f.cause;
+}
+
+-- ---- a run over open nodes
+
+-- a fault that a run meets as it brings open batches to their end
+pub resumed_fault : (K : Shape) (verdicts : VerdictsOf) (files : List (List FullTx)) (E X : ℕ → List Record) (failed : ℕ → Type 0) (holds : ℕ → ℕ → Type 0) (e : LaneFault)
+    → IsRunCause K (λ _. Nothing) E X failed holds e → IsRunCause K (IsFilesPiece K verdicts files) E X failed holds e
+resumed_fault K verdicts files E X failed holds e h =
+    run_moves K (λ _. Nothing) (IsFilesPiece K verdicts files) E E X failed failed holds holds (λ n. end_self (E n)) (λ lane txs none. absurd none) (λ n did. did) (λ n c may. may) e h
+
+-- or in a file behind that
+pub filed_fault : (K H : Shape) (verdicts : VerdictsOf) (files : List (List FullTx)) (E M X : ℕ → List Record) (failed : ℕ → Type 0) (holds : ℕ → ℕ → Type 0) → H ≡ K → ((n : ℕ) → IsEnd (E n) (M n)) → (e : LaneFault)
+    → IsRunCause H (IsFilesPiece H verdicts files) M X failed holds e → IsRunCause K (IsFilesPiece K verdicts files) E X failed holds e
+filed_fault K H verdicts files E M X failed holds same since e h =
+    run_moves K (IsFilesPiece K verdicts files) (IsFilesPiece K verdicts files) M E X failed failed holds holds since (λ lane txs piece. piece) (λ n did. did) (λ n c may. may) e
+    (subst (λ k. IsRunCause k (IsFilesPiece k verdicts files) M X failed holds e) same h)
+
+-- by what was known of the nodes before
+pub by_entry : (K : Shape) (next : ℕ → List Compact → Type 0) (E X : ℕ → List Record) (opened opens faults capacity holds : ℕ → ℕ) → ((n : ℕ) → opens n ≡ opened n) → ((n : ℕ) → holds n ≡ capacity n)
+    → (over : Result Over LaneFault) → IfErr over (IsRunCause K next E X (HaveFailed opens faults) (MayHold holds)) → IfErr over (IsRunCause K next E X (HaveFailed opened faults) (MayHold capacity))
+by_entry K next E X opened opens faults capacity holds same may over h =
+    let o : opens ≡ opened = λ i n. same n i in
+    let c : holds ≡ capacity = λ i n. may n i in
+    subst (λ x. IfErr over (IsRunCause K next E X (HaveFailed x faults) (MayHold capacity))) o (subst (λ x. IfErr over (IsRunCause K next E X (HaveFailed opens faults) (MayHold x))) c h)

@@ -1,0 +1,8 @@
+mod batches;
+mod calls;
+mod grammar;
+mod lanes;
+mod making;
+mod next_records;
+mod parts;
+mod sets;

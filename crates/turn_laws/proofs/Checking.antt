@@ -1,0 +1,192 @@
+-- A turn at checked journals: they are checked still, they have grown by records of the lane alone, and its fault has its cause.
+use Rattle.std.proofs.Common.{◌≡◌, inl, inr, ℕ, ◌<◌, true, List, [], ◌∷◌, ◌++◌, Some, refl, sym, ap, ◌∙◌, subst, append_assoc, arith}
+use Rattle.cbdc_types.specs.Limits.{IsWithinLimits}
+use Rattle.cbdc_types.specs.declared.batch.OpenLane.{OpenLane}
+use Rattle.cbdc_types.specs.declared.calls.NodeFault.{NodeFault}
+use Rattle.cbdc_types.specs.declared.calls.NodeFault.TheVariants.{Broken, Refused as Refuses, ClockEnd, Full, DiskFault, Memory}
+use Rattle.cbdc_model.specs.Records.{Shape, Compact, Record, record_of, is_in_lane, Prepare}
+use Rattle.cbdc_model.specs.Ranges.{home_of}
+use Rattle.cbdc_model.specs.Slots.{slot, Idle, InPrepare}
+use Rattle.cbdc_model.specs.History.{Minted}
+use Rattle.cbdc_model.specs.Lanes.{may_come, Made}
+use Rattle.cbdc_model.specs.Sights.{Sight}
+use Rattle.ledger_laws.proofs.Cuts.{end_self}
+use Rattle.lane_laws.specs.Batches.{Settled}
+use Rattle.lane_laws.specs.Resuming.{IsTakenUp}
+use Rattle.lane_driver.specs.declared.fault.LaneFault.{LaneFault}
+use Rattle.lane_driver.specs.declared.fault.BatchReport.{BatchReport}
+use Rattle.lane_driver.specs.declared.fault.LaneFaultKind.TheVariants.{DiskFault as DiskStopped, Full as NoRoom, ClockEnd as NoStamp, Memory as NoMemory}
+use Rattle.lane_driver.specs.Faults.{IsFaultOf}
+use Rattle.lane_driver.specs.Told.{KeepNodes}
+use Rattle.lane_driver.specs.Stops.{IsBatchStopped, IsOneBatch}
+use Rattle.coord_log.specs.OpenLanes.{open_lane}
+use Rattle.recovery.specs.Open.{IsUnfinished, IsResumeStopped}
+use Rattle.run_laws.specs.Runs.{seen_by, IsTurn}
+use Rattle.run_laws.specs.Turns.{Elsewhere}
+use Rattle.run_laws.specs.Checked.{CheckedJournals}
+use Rattle.run_laws.specs.Faults.{IsNext, next_prepare, next_lock, HasNoRoom, HasNoStamp, HasFailed, IsStopBy, opened_by, faults_by, capacity_by}
+use Rattle.run_laws.proofs.TurnStep.{lifted, checked_turn_law}
+use Rattle.run_laws.proofs.Rests.{checked_rest_law}
+use Rattle.run_laws.proofs.OpenLanes.{checked_resume_law}
+use Rattle.run_laws.proofs.Nodes.{nodes_law}
+use Rattle.run_laws.proofs.TurnKinds.{taken_law}
+use Rattle.run_laws.proofs.Stopping.{stop_law}
+use Rattle.ledger_runs.specs.Faults.{AreOfLane, GrowBy, IsWanted, wants_prepare, wants_lock, IsLaneCause, HaveFailed, MayHold, Nothing, IsThese}
+use Rattle.turn_laws.specs.Nodes.{AreNodes}
+use Rattle.turn_laws.proofs.Headers.{are_journals}
+use Rattle.turn_laws.proofs.OpenThere.{told_lane, unfinished}
+
+-- ---- records of the lane alone
+
+module _ (K : Shape) (pieces : List (List Compact)) (lane : ℕ) (I J : ℕ → List Record) (made : Made K pieces true lane I J) where
+  not_alone : (r : Record) → may_come true lane r ≡ true → ⊥
+  not_alone r h = grind (arith, h)
+
+  its_own : (n : ℕ) (newer more : List Record) (r : Record) → J n ≡ newer ++ r ∷ (more ++ I n) → is_in_lane lane r ≡ true
+  its_own n newer more r e = elim (made.each n newer (more ++ I n) r e (more, refl)) [
+    | inl o ↦ absurd (not_alone r o)
+    | inr s ↦ s.0
+  ]
+
+  all_own : (n : ℕ) (more newer : List Record) → J n ≡ newer ++ (more ++ I n) → AreOfLane lane more
+  all_own n [] newer e = tt
+  all_own n (r ∷ more) newer e = (its_own n newer more r e, all_own n more (newer ++ r ∷ []) (e ∙ sym (append_assoc newer (r ∷ []) (more ++ I n))))
+
+  grow_by : GrowBy lane I J
+  grow_by n = ((made.grows n).0, (made.grows n).1, all_own n (made.grows n).0 [] (made.grows n).1)
+
+-- ---- causes
+
+-- what a lane needs next, by the journals at its stop
+wanted_of : (K : Shape) (lane : ℕ) (next : List Compact → Type 0) (J : ℕ → List Record) (node : ℕ) (r : Record) → IsNext K lane next J node r → IsWanted K lane next J node (J node) r
+wanted_of K lane next J node r (next_prepare txs due at idle e) = wants_prepare txs due at (subst (λ n. (slot (J n) lane).phase ≡ Idle) at idle) e
+wanted_of K lane next J node r (next_lock b t txs s is at concerned phase stands behind e) =
+    wants_lock b t txs s is at concerned (subst (λ l. (slot (J (home_of K l)) l).phase ≡ InPrepare) is phase) (subst (λ l. record_of 6 (J (home_of K l)) b ≡ Some (Prepare t b txs)) is stands)
+    (subst (λ l. (slot (J node) l).number < b.number) is behind) e
+
+module _ (K : Shape) (lane : ℕ) (next : List Compact → Type 0) (I J : ℕ → List Record) (opened faults capacity : ℕ → ℕ) (grown : GrowBy lane I J) where
+  abbrev Causes : LaneFault → Type 0
+  Causes e = IsLaneCause K lane next I J (HaveFailed opened faults) (MayHold capacity) e
+
+  failed : (e : LaneFault) (node : ℕ) → e ≡ record { node = node; fault = DiskStopped } → HasFailed K opened faults node → Causes e
+  failed e node is h = subst Causes (sym is) (h.node_is, h.rose)
+
+  no_stamp : (e : LaneFault) (node stamp : ℕ) → e ≡ record { node = node; fault = NoStamp stamp } → HasNoStamp K lane next J node stamp → Causes e
+  no_stamp e node stamp is h = subst Causes (sym is) (record {
+    front = J node;
+    since = ((grown node).0, (grown node).1);
+    within = end_self (J node);
+    wanted = h.wanted;
+    is_wanted = wanted_of K lane next J node h.wanted h.is_next;
+    stamp_is = h.stamp_is;
+    above = h.above;
+  })
+
+  no_room : (e : LaneFault) (node used need limit : ℕ) → e ≡ record { node = node; fault = NoRoom used need limit } → HasNoRoom K lane next J (capacity node) node used need limit → Causes e
+  no_room e node used need limit is h = subst Causes (sym is) (record {
+    front = J node;
+    since = ((grown node).0, (grown node).1);
+    within = end_self (J node);
+    wanted = h.wanted;
+    is_wanted = wanted_of K lane next J node h.wanted h.is_next;
+    capacity_is = h.limit_is;
+    used_is = h.used_is;
+    need_is = h.need_is;
+    above = h.above;
+  })
+
+  fault_cause : (e : LaneFault) (node : ℕ) (f : NodeFault) → IsFaultOf e node f → IsStopBy K lane next J opened faults capacity node f → Causes e
+  fault_cause e node (Broken since) is h = failed e node is h
+  fault_cause e node (Refuses why) is h = absurd h
+  fault_cause e node (ClockEnd stamp) is h = no_stamp e node stamp is h
+  fault_cause e node (Full used need limit) is h = no_room e node used need limit is h
+  fault_cause e node DiskFault is h = failed e node is h
+  fault_cause e node Memory is h = subst Causes (sym is) tt
+
+-- ---- turns
+
+-- checked journals I have grown to J by records of the lane alone, and are checked still
+pub record IsCheckedTurn (K : Shape) (m : Minted) (lane : ℕ) (I J : ℕ → List Record) : Type 0 where
+  pub checked : CheckedJournals K m J
+  pub grows : GrowBy lane I J
+
+module _ (K : Shape) (lane : ℕ) (logs shards logs' shards' : ℕ → Sight) (limits : IsWithinLimits K) (home : home_of K lane < K.coordinators)
+    (shape : (logs (home_of K lane)).header.shape ≡ K) (shard_shapes : (s : ℕ) → s < K.shards → (shards' s).header.shape ≡ K) (elsewhere : Elsewhere K lane logs logs')
+    (nodes : AreNodes K logs shards) (nodes' : AreNodes K logs' shards') (log_nodes : KeepNodes logs logs') (shard_nodes : KeepNodes shards shards')
+    (m : Minted) (checked : CheckedJournals K m (seen_by K logs shards)) where
+  abbrev I : ℕ → List Record
+  I = seen_by K logs shards
+
+  abbrev J : ℕ → List Record
+  J = seen_by K logs' shards'
+
+  abbrev log : Sight
+  log = logs (home_of K lane)
+
+  abbrev log' : Sight
+  log' = logs' (home_of K lane)
+
+  abbrev ItsCause : (List Compact → Type 0) → LaneFault → Type 0
+  ItsCause next e = IsLaneCause K lane next I J (HaveFailed (opened_by K logs' shards') (faults_by K logs' shards')) (MayHold (capacity_by K logs' shards')) e
+
+  turned : (pieces : List (List Compact)) → IsTurn K pieces lane logs shards logs' shards' → IsCheckedTurn K m lane I J
+  turned pieces turn = record {
+    checked = checked_turn_law K m pieces lane logs shards logs' shards' limits.some_shard home checked turn
+        (nodes_law K m I J (are_journals K logs shards logs' shards' nodes nodes' log_nodes shard_nodes m checked));
+    grows = grow_by K pieces lane I J (lifted K pieces lane logs shards logs' shards' home turn);
+  }
+
+  none_done : log' ≡ log → shards' ≡ shards → IsCheckedTurn K m lane I J
+  none_done e s = turned [] ((taken_law K lane logs shards logs' shards' elsewhere).4 e s)
+
+  shape_still : log'.header.shape ≡ K
+  shape_still = ap (λ h. h.shape) (log_nodes (home_of K lane)).header ∙ shape
+
+  memory_cause : (next : List Compact → Type 0) (e : LaneFault) → e ≡ record { node = 0; fault = NoMemory } → ItsCause next e
+  memory_cause next e is = subst (λ x. ItsCause next x) (sym is) tt
+
+  module _ (idle : (slot log.seen lane).phase ≡ Idle) (txs : List Compact) where
+    settled : Settled K lane (slot log.seen lane).number log shards
+    settled = checked_rest_law K m lane logs shards limits.some_shard home shape checked idle
+
+    pub batch_checked : (reports : List BatchReport) → IsOneBatch K true lane txs log shards log' shards' reports → IsCheckedTurn K m lane I J
+    batch_checked reports (r, is, done) =
+        turned (txs ∷ []) ((taken_law K lane logs shards logs' shards' elsewhere).0 (slot log.seen lane).number txs r.batch r.outcomes (done (slot log.seen lane).number settled))
+
+    pub stopped_checked : (e : LaneFault) → IsBatchStopped K true lane txs log shards log' shards' e → IsCheckedTurn K m lane I J
+    stopped_checked e (inl none) = none_done none.1 none.2
+    stopped_checked e (inr stop) =
+        let s = stop (slot log.seen lane).number settled in
+        turned (txs ∷ []) ((taken_law K lane logs shards logs' shards' elsewhere).1 txs s.0 s.1 s.3)
+
+    pub stopped_cause : (e : LaneFault) → IsBatchStopped K true lane txs log shards log' shards' e → ItsCause (IsThese txs) e
+    stopped_cause e (inl none) = memory_cause (IsThese txs) e none.0
+    stopped_cause e (inr stop) =
+        let s = stop (slot log.seen lane).number settled in
+        let turn = stopped_checked e (inr stop) in
+        fault_cause K lane (IsThese txs) I J (opened_by K logs' shards') (faults_by K logs' shards') (capacity_by K logs' shards') turn.grows e s.0 s.1 s.2
+        ((stop_law K m lane logs' shards' txs s.0 s.1 limits home shape_still shard_shapes turn.checked).0 s.3.fault)
+
+  module _ (o : OpenLane) (told : open_lane log.seen lane ≡ Some o) where
+    lane_is : o.batch.lane ≡ lane
+    lane_is = told_lane log.seen lane o told
+
+    still : IsUnfinished o.phase K o log shards
+    still = unfinished K lane log shards o told (checked_resume_law K m lane logs shards limits.some_shard home shape checked)
+
+    pub taken_checked : (IsUnfinished o.phase K o log shards → IsTakenUp K true o.batch log shards log' shards') → IsCheckedTurn K m lane I J
+    taken_checked taken = turned [] ((taken_law K lane logs shards logs' shards' elsewhere).2 o.batch lane_is (taken still))
+
+    pub left_checked : (e : LaneFault) → IsResumeStopped K true o log shards log' shards' e → IsCheckedTurn K m lane I J
+    left_checked e (inl none) = none_done none.1 none.2
+    left_checked e (inr stop) =
+        let s = stop still in
+        turned [] ((taken_law K lane logs shards logs' shards' elsewhere).3 o.batch s.0 s.1 lane_is s.3)
+
+    pub left_cause : (e : LaneFault) → IsResumeStopped K true o log shards log' shards' e → ItsCause Nothing e
+    left_cause e (inl none) = memory_cause Nothing e none.0
+    left_cause e (inr stop) =
+        let s = stop still in
+        let turn = left_checked e (inr stop) in
+        fault_cause K lane Nothing I J (opened_by K logs' shards') (faults_by K logs' shards') (capacity_by K logs' shards') turn.grows e s.0 s.1 s.2
+        ((stop_law K m lane logs' shards' s.3.txs s.0 s.1 limits home shape_still shard_shapes turn.checked).1 o.batch lane_is s.3.fault)
