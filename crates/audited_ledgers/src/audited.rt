@@ -10,11 +10,11 @@ ghost use Rattle.audited_ledgers.specs.Audited.{HasVerdict, IsAudited};
 
 use audit::{Verdict, audit};
 use caused_ledgers::{lend_logs, lend_shards};
-use cbdc_types::{Answer, FullTx, Output};
+use cbdc_types::{Answer, FullTx, Hash, Header, Output};
 use history::merge;
 use model_check::genesis_id;
 use outside::{Disk, Rack};
-use rack_ledgers::{Nodes, close_nodes, open_minted};
+use rack_ledgers::{Nodes, close_nodes, open_nodes};
 use std::alloc::{AllocError, Global};
 
 // The verdict on the history of open nodes.
@@ -43,6 +43,18 @@ fn verdict_of<D: Disk>(
     )
 }
 
+// Whether the mint began the ledger with this header.
+fn began(header: &Header, id: &Hash) -> Result<(), Answer>
+    ensures same { IfOk result (λ u. header.now.genesis ≡ id.now) }
+    ensures other { IfErr result (λ a. a ≡ Answer.Memory) }
+{
+    if header.genesis == *id {
+        Ok(())
+    } else {
+        Err(Answer::Memory)
+    }
+}
+
 /// Audits the ledger on a rack, which should be that of a mint, with transactions that were handed in. All disks are back, and no journal
 /// has changed.
 pub fn audit_on<R: Rack>(
@@ -65,10 +77,17 @@ pub fn audit_on<R: Rack>(
     let Ok(id) = genesis_id(alloc, mint) else {
         return Err(Answer::Memory);
     };
-    let nodes = match open_minted(alloc, rack, &id) {
+    let nodes = match open_nodes(alloc, rack) {
         Ok(nodes) => nodes,
         Err(fault) => return Err(fault),
     };
+    match began(&nodes.header, &id) {
+        Ok(()) => {}
+        Err(fault) => {
+            close_nodes(rack, nodes);
+            return Err(fault);
+        }
+    }
     let verdict = verdict_of(alloc, &nodes, mint, handed);
     close_nodes(rack, nodes);
     match verdict {

@@ -8,35 +8,45 @@ pub returns-in_default-clause-refusal : goal.returns-in_default-clause-refusal
 returns-in_default-clause-refusal g c = inr refl
 
 pub verdict_of-verdict-requires-clause-logs : goal.verdict_of-verdict-requires-clause-logs
-verdict_of-verdict-requires-clause-logs g c n x is = (c.in-Ok-open_minted.ensures.opened.logs_at n x is).journal
+verdict_of-verdict-requires-clause-logs g c n x is = (c.in-Ok-open_nodes.ensures.opened.logs_at n x is).journal
 
 pub verdict_of-verdict-requires-clause-shards : goal.verdict_of-verdict-requires-clause-shards
-verdict_of-verdict-requires-clause-shards g c n x is = (c.in-Ok-open_minted.ensures.opened.shards_at n x is).journal
+verdict_of-verdict-requires-clause-shards g c n x is = (c.in-Ok-open_nodes.ensures.opened.shards_at n x is).journal
 
 pub returns-in-Ok-verdict-clause-audited : goal.returns-in-Ok-verdict-clause-audited
 returns-in-Ok-verdict-clause-audited g c =
-    is_audited g.R.Disk.Disk.content g.R.Disk.Disk.images g.R.Disk.Disk.limit g.R.Disk.Disk.count (g.R.Rack.held c.args.rack.now) c.in-Ok-open_minted.nodes.header c.in-Ok-open_minted.nodes.logs.items c.in-Ok-open_minted.nodes.shards.items
-    c.in-Ok-open_minted.ensures.opened c.args.mint.now (c.in-Ok-open_minted.ensures.minted ∙ c.in-Ok.ensures) c.args.handed.now c.in-Ok-verdict.verdict c.in-Ok-verdict.ensures
+    is_audited g.R.Disk.Disk.content g.R.Disk.Disk.images g.R.Disk.Disk.limit g.R.Disk.Disk.count (g.R.Rack.held c.args.rack.now) c.in-Ok-open_nodes.nodes.header c.in-Ok-open_nodes.nodes.logs.items c.in-Ok-open_nodes.nodes.shards.items
+    c.in-Ok-open_nodes.ensures.opened c.args.mint.now (c.in-Ok-began.ensures.same ∙ c.in-Ok.ensures) c.args.handed.now c.in-Ok-verdict.verdict c.in-Ok-verdict.ensures
 
 pub returns-in-Ok-verdict-clause-held : goal.returns-in-Ok-verdict-clause-held
 returns-in-Ok-verdict-clause-held g c =
-    let whole = length c.in-Ok-open_minted.nodes.logs.items + length c.in-Ok-open_minted.nodes.shards.items in
-    back_parts g.R.Disk.Disk.images g.R.Disk.Disk.limit (g.R.Rack.held c.args.rack.now) (g.R.Rack.held c.open_minted.new.rack) (g.R.Rack.held c.close_nodes.new.rack) whole whole
-    c.in-Ok-open_minted.ensures.others_held
-    (nodes_back g.R.Disk.Disk.content g.R.Disk.Disk.images g.R.Disk.Disk.limit g.R.Disk.Disk.count (g.R.Rack.held c.args.rack.now) (g.R.Rack.held c.close_nodes.new.rack) c.in-Ok-open_minted.nodes.header
-    c.in-Ok-open_minted.nodes.logs.items c.in-Ok-open_minted.nodes.shards.items c.in-Ok-open_minted.ensures.opened c.close_nodes.ensures.closed_logs c.close_nodes.ensures.closed_shards)
+    let whole = length c.in-Ok-open_nodes.nodes.logs.items + length c.in-Ok-open_nodes.nodes.shards.items in
+    back_parts g.R.Disk.Disk.images g.R.Disk.Disk.limit (g.R.Rack.held c.args.rack.now) (g.R.Rack.held c.open_nodes.new.rack) (g.R.Rack.held c.close_nodes-2.new.rack) whole whole
+    c.in-Ok-open_nodes.ensures.others_held
+    (nodes_back g.R.Disk.Disk.content g.R.Disk.Disk.images g.R.Disk.Disk.limit g.R.Disk.Disk.count (g.R.Rack.held c.args.rack.now) (g.R.Rack.held c.close_nodes-2.new.rack) c.in-Ok-open_nodes.nodes.header
+    c.in-Ok-open_nodes.nodes.logs.items c.in-Ok-open_nodes.nodes.shards.items c.in-Ok-open_nodes.ensures.opened c.close_nodes-2.ensures.closed_logs c.close_nodes-2.ensures.closed_shards)
     (λ n ge lt. absurd (omega (arith, ge, lt)))
-    (λ n ge above. c.close_nodes.ensures.others_held n ge)
+    (λ n ge above. c.close_nodes-2.ensures.others_held n ge)
 
 pub returns-in-Err-verdict-clause-refusal : goal.returns-in-Err-verdict-clause-refusal
 returns-in-Err-verdict-clause-refusal g c = inr refl
 
 pub returns-in-Err-verdict-clause-held : goal.returns-in-Err-verdict-clause-held
 returns-in-Err-verdict-clause-held g c =
-    let whole = length c.in-Ok-open_minted.nodes.logs.items + length c.in-Ok-open_minted.nodes.shards.items in
-    back_parts g.R.Disk.Disk.images g.R.Disk.Disk.limit (g.R.Rack.held c.args.rack.now) (g.R.Rack.held c.open_minted.new.rack) (g.R.Rack.held c.close_nodes.new.rack) whole whole
-    c.in-Ok-open_minted.ensures.others_held
-    (nodes_back g.R.Disk.Disk.content g.R.Disk.Disk.images g.R.Disk.Disk.limit g.R.Disk.Disk.count (g.R.Rack.held c.args.rack.now) (g.R.Rack.held c.close_nodes.new.rack) c.in-Ok-open_minted.nodes.header
-    c.in-Ok-open_minted.nodes.logs.items c.in-Ok-open_minted.nodes.shards.items c.in-Ok-open_minted.ensures.opened c.close_nodes.ensures.closed_logs c.close_nodes.ensures.closed_shards)
+    let whole = length c.in-Ok-open_nodes.nodes.logs.items + length c.in-Ok-open_nodes.nodes.shards.items in
+    back_parts g.R.Disk.Disk.images g.R.Disk.Disk.limit (g.R.Rack.held c.args.rack.now) (g.R.Rack.held c.open_nodes.new.rack) (g.R.Rack.held c.close_nodes-2.new.rack) whole whole
+    c.in-Ok-open_nodes.ensures.others_held
+    (nodes_back g.R.Disk.Disk.content g.R.Disk.Disk.images g.R.Disk.Disk.limit g.R.Disk.Disk.count (g.R.Rack.held c.args.rack.now) (g.R.Rack.held c.close_nodes-2.new.rack) c.in-Ok-open_nodes.nodes.header
+    c.in-Ok-open_nodes.nodes.logs.items c.in-Ok-open_nodes.nodes.shards.items c.in-Ok-open_nodes.ensures.opened c.close_nodes-2.ensures.closed_logs c.close_nodes-2.ensures.closed_shards)
+    (λ n ge lt. absurd (omega (arith, ge, lt)))
+    (λ n ge above. c.close_nodes-2.ensures.others_held n ge)
+
+pub returns-in-Err-began-clause-held : goal.returns-in-Err-began-clause-held
+returns-in-Err-began-clause-held g c =
+    let whole = length c.in-Ok-open_nodes.nodes.logs.items + length c.in-Ok-open_nodes.nodes.shards.items in
+    back_parts g.R.Disk.Disk.images g.R.Disk.Disk.limit (g.R.Rack.held c.args.rack.now) (g.R.Rack.held c.open_nodes.new.rack) (g.R.Rack.held c.close_nodes.new.rack) whole whole
+    c.in-Ok-open_nodes.ensures.others_held
+    (nodes_back g.R.Disk.Disk.content g.R.Disk.Disk.images g.R.Disk.Disk.limit g.R.Disk.Disk.count (g.R.Rack.held c.args.rack.now) (g.R.Rack.held c.close_nodes.new.rack) c.in-Ok-open_nodes.nodes.header
+    c.in-Ok-open_nodes.nodes.logs.items c.in-Ok-open_nodes.nodes.shards.items c.in-Ok-open_nodes.ensures.opened c.close_nodes.ensures.closed_logs c.close_nodes.ensures.closed_shards)
     (λ n ge lt. absurd (omega (arith, ge, lt)))
     (λ n ge above. c.close_nodes.ensures.others_held n ge)
