@@ -10,10 +10,10 @@ is_listed fails call = list_any (λ f. nat_eq f call) fails
 abbrev pub one_more : ℕ → ℕ
 one_more n = min (n + 1) (2 ^ 64 - 1)
 
--- the call fails exactly where it is listed, and only then the count goes up, by one
-abbrev pub FailsListed : {T E : Type 0} → Bool → ℕ → ℕ → Result T E → Type 0
-FailsListed listed before now (Ok x) = (listed ≡ false) × (now ≡ before)
-FailsListed listed before now (Err e) = (listed ≡ true) × (now ≡ one_more before)
+-- the call fails exactly where this is so, and only then the count goes up, by one
+abbrev pub FailsWhere : {T E : Type 0} → Bool → ℕ → ℕ → Result T E → Type 0
+FailsWhere is before now (Ok x) = (is ≡ false) × (now ≡ before)
+FailsWhere is before now (Err e) = (is ≡ true) × (now ≡ one_more before)
 
 -- the call fails where it is listed, where it is one too many, or where memory runs out, and only then the count goes up, by one
 abbrev pub FailsListedOrFull : {T E : Type 0} → Bool → ℕ → ℕ → ℕ → ℕ → Result T E → Type 0

@@ -1,5 +1,6 @@
 // A rack in memory.
-ghost use Rattle.std.specs.Prelude.{◌≡◌, ◌≤◌, ℕ, slice_get, Some, map, option_map, IfOk};
+ghost use Rattle.std.specs.Prelude.{◌≡◌, ◌≤◌, ℕ, slice_get, slice_set, Some, is_none, map, option_map, IfOk, OnErr};
+ghost use Rattle.mem_devices.specs.Faults.{FailsWhere};
 ghost use Rattle.mem_devices.specs.Slots.{held_in, count_in, IsNotOut, IsOutBelow};
 
 use cbdc_types::NodeId;
@@ -78,7 +79,16 @@ impl<D: Disk + Drop> Rack for MemRack<D> {
 
     ghost can_put = { λ r n k. IsOutBelow (slice_get r.slots.items n) k };
 
-    fn take(&mut self, node: NodeId) -> Result<D, Failed> {
+    fn take(&mut self, node: NodeId) -> Result<D, Failed>
+        requires { IsNotOut (slice_get self.old.slots.items node) }
+        ensures taken { IfOk result (λ d. (slice_get self.old.slots.items node ≡ Some (Slot.In d)) × (self.new.slots.items ≡ slice_set self.old.slots.items node (Slot.Out (D.count d)))) }
+        ensures out { IfOk result (λ d. (k : ℕ) → D.count d ≤ k → IsOutBelow (slice_get self.new.slots.items node) k) }
+        ensures same { OnErr result (self.new.slots ≡ self.old.slots) }
+        ensures later { (n : ℕ) → count_in D.count self.old.misses (slice_get self.old.slots.items n) ≤ count_in D.count self.new.misses (slice_get self.new.slots.items n) }
+
+        // It fails exactly where the rack has no place for the node.
+        ensures exact { FailsWhere (is_none (slice_get self.old.slots.items node)) self.old.misses self.new.misses result }
+    {
         let at = node.0 as usize;
         if self.slots.len() <= at {
             self.misses = self.misses.saturating_add(1);
@@ -88,7 +98,11 @@ impl<D: Disk + Drop> Rack for MemRack<D> {
         Ok(take_out(slot))
     }
 
-    fn put(&mut self, node: NodeId, disk: D) {
+    fn put(&mut self, node: NodeId, disk: D)
+        requires { IsOutBelow (slice_get self.old.slots.items node) (D.count disk) }
+        ensures back { self.new.slots.items ≡ slice_set self.old.slots.items node (Slot.In disk) }
+        ensures count { self.new.misses ≡ self.old.misses }
+    {
         let slot = &mut self.slots[node.0 as usize];
         put_in(slot, disk);
     }

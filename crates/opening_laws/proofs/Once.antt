@@ -20,7 +20,7 @@ bodies_reversed (r ∷ J) =
     ∙ sym (reverse-append (body_of r ∷ []) (bodies_of J))
 
 -- two records of the grammar with one body are one
-same_record : (h k : Header) (q r : Record) → IsWithinLimits h.shape → IsWithinLimits k.shape → IsInGrammar h q → IsInGrammar k r → body_of q ≡ body_of r → q ≡ r
+pub same_record : (h k : Header) (q r : Record) → IsWithinLimits h.shape → IsWithinLimits k.shape → IsInGrammar h q → IsInGrammar k r → body_of q ≡ body_of r → q ≡ r
 same_record h k q r low low' one other same =
     ap (λ (x : Record × List ℕ). x.0) (ok_is (q, []) (r, []) (sym (is_read h (body_of q) q low (refl, one)) ∙ ap body_at same ∙ is_read k (body_of r) r low' (refl, other)))
 
@@ -45,7 +45,7 @@ same_journal h k (q ∷ (p ∷ J)) (r ∷ (o ∷ L)) low low' j l e =
     λ i. first i ∷ rest i
 
 -- a journal has one header: that of its first record
-first_header : (h k : Header) (r : Record) → IsFirst r → IsInGrammar h r → IsInGrammar k r → h ≡ k
+pub first_header : (h k : Header) (r : Record) → IsFirst r → IsInGrammar h r → IsInGrammar k r → h ≡ k
 first_header h k (Genesis header hs) first one other = sym one.0 ∙ other.0
 first_header h k (Start header) first one other = sym one.0 ∙ other.0
 first_header h k (Lock stamp b es) first one other = absurd first

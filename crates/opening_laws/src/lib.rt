@@ -2,8 +2,15 @@
 #![tactic(auto)]
 
 ghost use Rattle.opening_laws.specs.Once.{OpensOnceLaw};
+ghost use Rattle.opening_laws.specs.Refusals.{OneRefusalLaw, NoRefusalLaw};
 
 /// A file opens to one journal at most, of one header.
 pub fn opens_once_law()
     ensures { OpensOnceLaw }
+{}
+
+/// A shard's disk is refused in one way at most, and in none where it holds a shard's journal and has the room.
+pub fn one_answer_law()
+    ensures one { OneRefusalLaw }
+    ensures none { NoRefusalLaw }
 {}

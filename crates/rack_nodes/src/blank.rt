@@ -31,7 +31,7 @@ fn is_blank(node: NodeId, records: usize) -> bool
 // How many records a disk has that did not open into a journal, or why that can't be told.
 fn records_of(node: NodeId, refused: NoLog) -> Result<usize, Answer>
     ensures whole { IfOk result (λ n. (c : List ℕ) → IsNoLog c refused → AreWhole n c) }
-    ensures kept { IfOk result (λ _. (refused ≢ NoLog.Fault NodeOpenFault.DiskFault) × (refused ≢ NoLog.Fault NodeOpenFault.Memory)) }
+    ensures kept { IfOk result (λ _. refused ≢ NoLog.Fault NodeOpenFault.DiskFault) }
     ensures fault { IfErr result (λ e. (before now : _) → (refused ≡ NoLog.Fault NodeOpenFault.DiskFault → Rose before now) → IsOpening node before now e) }
     ensures free { IfErr result (λ e. (c : List ℕ) → IsNoBlank node c e) }
     ensures kind { IfErr result IsBlankRefusal }

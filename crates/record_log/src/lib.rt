@@ -3,8 +3,6 @@
 
 mod log;
 mod opening;
-mod replaying;
 
 pub use log::{LogFault, RecordLog};
 pub use opening::{NoLog, open_records};
-pub use replaying::{Replay, take_in_all};

@@ -96,6 +96,7 @@ impl<D: Disk> RecordLog<D> {
         ensures broken { IsErrOf result LogFault.DiskFault → broken_of self.new.journal ≡ Some (D.count (disk_of self.new.journal)) }
         ensures later { D.count (disk_of self.old.journal) ≤ D.count (disk_of self.new.journal) }
         ensures grows { OnOk result ((gate_of self.new.journal ≡ gate_of self.old.journal + 9 + length (body_of next.now)) × (broken_of self.new.journal ≡ None)) }
+        ensures gate { OnErr result (gate_of self.new.journal ≡ gate_of self.old.journal) }
         ensures limit { D.limit (disk_of self.new.journal) ≡ D.limit (disk_of self.old.journal) }
 
         // The disk holds the record behind those that it held before.
@@ -165,6 +166,7 @@ impl<D: Disk> RecordLog<D> {
         ensures broken { IsErrOf result LogFault.DiskFault → broken_of self.new.journal ≡ Some (D.count (disk_of self.new.journal)) }
         ensures later { D.count (disk_of self.old.journal) ≤ D.count (disk_of self.new.journal) }
         ensures grows { OnOk result ((gate_of self.new.journal ≡ gate_of self.old.journal + 9 + length (body_of added)) × (broken_of self.new.journal ≡ None)) }
+        ensures gate { OnErr result (gate_of self.new.journal ≡ gate_of self.old.journal) }
         ensures limit { D.limit (disk_of self.new.journal) ≡ D.limit (disk_of self.old.journal) }
 
         // The disk holds the record behind those that it held before.

@@ -223,9 +223,9 @@ pub fn open_records<D: Disk>(alloc: Global, disk: D) -> Result<RecordLog<D>, (D,
     ensures fault { IfErr result (λ e. e.1 ≡ NoLog.Fault NodeOpenFault.DiskFault → Rose (D.count disk) (D.count e.0)) }
     ensures limit { MatchResult result (λ l. D.limit (disk_of l.journal) ≡ D.limit disk) (λ e. D.limit e.0 ≡ D.limit disk) }
 
-    // What was read is still what is read, and it changes nothing that a crash may leave.
+    // Unless the disk failed, what was read is still what is read, and it changes nothing that a crash may leave.
     ensures same { MatchResult result (λ l. D.content (disk_of l.journal) ≡ D.content disk)
-        (λ e. e.1 ≢ NoLog.Fault NodeOpenFault.DiskFault → e.1 ≢ NoLog.Fault NodeOpenFault.Memory → D.content e.0 ≡ D.content disk) }
+        (λ e. e.1 ≢ NoLog.Fault NodeOpenFault.DiskFault → D.content e.0 ≡ D.content disk) }
     ensures leaves { MatchResult result
         (λ l. Leaves D.tells_past D.moment D.images_since D.images disk (disk_of l.journal) (D.images disk))
         (λ e. Leaves D.tells_past D.moment D.images_since D.images disk e.0 (D.images disk)) }

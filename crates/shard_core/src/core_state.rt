@@ -246,7 +246,8 @@ impl ShardCore {
                     &call.batch,
                 )?;
                 let part = copy_of(self.alloc, entries)?;
-                self.make_room(List::from_vec(part), replies.as_slice())?;
+                let kept = Vec::from_slice(self.alloc, replies.as_slice())?;
+                self.make_room(List::from_vec(part), List::from_vec(kept))?;
                 Ok(LockPlan::Append(Replied {
                     replies: List::from_vec(replies),
                     stamp,
@@ -256,19 +257,18 @@ impl ShardCore {
     }
 
     // Takes the memory for a Lock of this part with these replies, and for its Finish.
-    fn make_room(&mut self, part: Part, replies: &[Reply]) -> Result<(), AllocError>
-        requires { length replies.now ≡ length part }
+    fn make_room(&mut self, part: Part, replies: List<Reply>) -> Result<(), AllocError>
+        requires { length replies ≡ length part }
         ensures same { IsSameState self.old self.new }
-        ensures ready { OnOk result (IsReady self.new part replies.now) }
+        ensures ready { OnOk result (IsReady self.new part replies) }
     {
         let count = hash_count(part.as_slice());
-        let kept = Vec::from_slice(self.alloc, replies)?;
         let decisions = Vec::with_capacity(self.alloc, part.len())?;
         self.locks.reserve(count)?;
         self.unspent.reserve(self.owed.saturating_add(count))?;
         self.ready = Some(Ready {
             part,
-            replies: List::from_vec(kept),
+            replies,
             decisions,
             count,
         });
@@ -349,7 +349,7 @@ impl ShardCore {
         if !same_replies(answered, replies.as_slice()) {
             return Ok(false);
         }
-        self.make_room(List::from_vec(entries), replies.as_slice())?;
+        self.make_room(List::from_vec(entries), List::from_vec(replies))?;
         Ok(true)
     }
 

@@ -88,6 +88,6 @@ module _ {D : Type 0} {G : Ghosts D} where
       subst (λ (l : List Record). Holds (G.content (disk_of p.log.journal)) (G.images (disk_of p.log.journal)) (gate_of p.log.journal) l) (sym back)
       (subst (λ (k : ℕ). Holds (G.content (disk_of p.log.journal)) (G.images (disk_of p.log.journal)) k old.records.items) (sym gate)
       (subst (λ (d : D). Holds (G.content d) (G.images d) (gate_of old.journal) old.records.items) (sym disk) holds)) in (
-        record { opens = subst (λ (l : List Record). OpensTo l bytes) (sym back) opens; journal = is.journal; shard = is.shard },
+        record { opens = subst (λ (l : List Record). OpensTo l bytes) (sym back) opens; limits = is.limits; journal = is.journal; shard = is.shard },
         subst (λ (o : Option Record). HoldsWith o (G.content (disk_of p.log.journal)) (G.images (disk_of p.log.journal)) (gate_of p.log.journal) (journal_of p)) (sym flight) now,
       )

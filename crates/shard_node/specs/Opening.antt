@@ -2,6 +2,7 @@
 use Rattle.std.specs.Prelude.{◌≡◌, ℕ, ◌+◌, ◌-◌, ◌^◌, ◌<◌, min, List, [], ◌∷◌, ◌++◌, reverse, sum_by}
 use Rattle.cbdc_types.specs.declared.calls.NodeOpenFault.{NodeOpenFault}
 use Rattle.cbdc_types.specs.declared.calls.NodeOpenFault.TheVariants.{DiskFault, NotReady, OtherKind, Damaged, Full, Memory}
+use Rattle.cbdc_types.specs.Limits.{IsWithinLimits}
 use Rattle.cbdc_model.specs.Records.{Header, Record, Start}
 use Rattle.cbdc_model.specs.After.{After, IsJournal}
 use Rattle.cbdc_model.specs.Grammar.{IsShard}
@@ -15,6 +16,7 @@ use Rattle.shard_core.specs.Stands.{Stands}
 -- the bytes open to this journal of a shard, the newest record first
 pub record IsShardJournal (h : Header) (J : List Record) (bytes : List ℕ) : Type 0 where
   pub opens : OpensTo (reverse J) bytes
+  pub limits : IsWithinLimits h.shape
   pub journal : IsJournal h J
   pub shard : IsShard h.shape h.node
 
@@ -59,6 +61,7 @@ IsUnplayed h (r ∷ later) other = ⊥
 pub record IsDamagedAt (at : ℕ) (bytes : List ℕ) : Type 0 where
   pub header : Header
   pub journal : List Record
+  pub limits : IsWithinLimits header.shape
   pub is : IsJournal header journal
   pub shard : IsShard header.shape header.node
   pub cut : CutsOff (After header journal) (reverse journal) at bytes

@@ -6,7 +6,8 @@ ghost use Rattle.outside.specs.Images.{Tells, Leaves};
 ghost use Rattle.gate_journal.specs.Shown.{disk_of, gate_of, broken_of};
 ghost use Rattle.cbdc_model.specs.After.{IsJournal};
 ghost use Rattle.cbdc_model.specs.Grammar.{IsInGrammar, IsShard};
-ghost use Rattle.cbdc_model.specs.Room.{size_of};
+ghost use Rattle.cbdc_model.specs.Room.{size_of, kept_room};
+ghost use Rattle.cbdc_model.specs.Due.{used_of};
 ghost use Rattle.record_log.specs.Held.{MayHold, OpensTo, CutsOff};
 ghost use Rattle.record_log.specs.Reading.{HoldsBefore, IsNoLog};
 ghost use Rattle.record_log.specs.Logs.{IsUntouched};
@@ -169,8 +170,11 @@ impl<D: Disk> ShardNode<D> {
         ensures fault { IfErr result (λ e. e.1 ≡ NodeOpenFault.DiskFault → Rose (D.count disk) (D.count e.0)) }
         ensures limit { MatchResult result (λ n. D.limit n.disk ≡ D.limit disk) (λ e. D.limit e.0 ≡ D.limit disk) }
 
-        // A disk of the other kind of node still reads as before, and a crash may leave nothing more than before.
-        ensures same { IfErr result (λ e. e.1 ≡ NodeOpenFault.OtherKind → D.content e.0 ≡ D.content disk) }
+        // It fits on the disk with all that its batches still need.
+        ensures room { IfOk result (λ n. used_of n.journal + kept_room n.header.shape n.journal ≤ D.limit n.disk) }
+
+        // Unless it failed, a disk that is handed back reads as before, and a crash may leave nothing more than before.
+        ensures same { IfErr result (λ e. e.1 ≢ NodeOpenFault.DiskFault → D.content e.0 ≡ D.content disk) }
         ensures leaves { MatchResult result
             (λ n. Leaves D.tells_past D.moment D.images_since D.images disk n.disk (D.images disk))
             (λ e. Leaves D.tells_past D.moment D.images_since D.images disk e.0 (D.images disk)) }

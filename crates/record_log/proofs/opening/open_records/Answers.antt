@@ -43,10 +43,10 @@ returns-clause-refusal g c = λ bytes told. c.refusal_of-refused.ensures.refusal
 pub returns-in-Ok-records_of-clause-same : goal.returns-in-Ok-records_of-clause-same
 returns-in-Ok-records_of-clause-same g c = if_both c.log_of.result _ _ _ _ c.log_of.ensures.log c.log_of.ensures.cut
     (λ l is. ap (λ j. g.D.Disk.content (disk_of j)) is.0 ∙ c.in-Ok.ensures.same)
-    (λ e is. λ fault memory. ap g.D.Disk.content is.0 ∙ c.in-Ok.ensures.same)
+    (λ e is. λ fault. ap g.D.Disk.content is.0 ∙ c.in-Ok.ensures.same)
 
 pub returns-in-Ok-clause-same : goal.returns-in-Ok-clause-same
-returns-in-Ok-clause-same g c = λ fault memory. ap g.D.Disk.content c.into_disk.ensures ∙ c.in-Ok.ensures.same
+returns-in-Ok-clause-same g c = λ fault. ap g.D.Disk.content c.into_disk.ensures ∙ c.in-Ok.ensures.same
 
 pub returns-clause-same : goal.returns-clause-same
-returns-clause-same g c = λ fault memory. c.in-Err.ensures.same (λ is. fault (c.refusal_of-refused.ensures.is_fault is)) (λ is. memory (c.refusal_of-refused.ensures.is_memory is))
+returns-clause-same g c = λ fault. c.in-Err.ensures.same (λ is. fault (c.refusal_of-refused.ensures.is_fault is))

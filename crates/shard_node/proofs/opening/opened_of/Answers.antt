@@ -21,7 +21,7 @@ returns-then-need-capacity-clause-refusal g c = λ bytes opens.
     let log = c.args.log.now in
     let played : IsPlayed log.header c.in-Ok.core (reverse log.records.items) = rw c.deref.ensures.value at c.in-Ok.ensures.played in
     let kept = kept_is log.header c.in-Ok.core (reverse log.records.items) c.kept_room-need.result (limits_of log.header log.records.items c.requires.grammar) played c.kept_room-need.ensures in
-    full_is log.header c.in-Ok.core log.records.items c.used-used.result c.kept_room-need.result c.capacity-capacity.result (g.D.Disk.limit log.journal.disk) bytes played opens
+    full_is log.header c.in-Ok.core log.records.items c.used-used.result c.kept_room-need.result c.capacity-capacity.result (g.D.Disk.limit log.journal.disk) bytes (limits_of log.header log.records.items c.requires.grammar) played opens
     (omega (arith, c.used-used.ensures, c.requires.ends)) kept c.capacity-capacity.ensures (omega (arith, c.if-need-capacity.true))
 
 pub returns-in-Ok-reserve-clause-shard : goal.returns-in-Ok-reserve-clause-shard

@@ -8,7 +8,7 @@ use Rattle.coord_log.specs.Inside.{shown}
 use Rattle.coord_log.specs.Opening.{IsCoordJournal}
 use Rattle.coord_log.proofs.Opened.{holds_same}
 use Rattle.coord_log.proofs.Written.{to_journal}
-use Rattle.cbdc_types.specs.declared.calls.NodeOpenFault.TheVariants.{DiskFault, Memory}
+use Rattle.cbdc_types.specs.declared.calls.NodeOpenFault.TheVariants.{DiskFault}
 use Rattle.coord_log.proofs.log.CoordLog.open.Goals as goal
 
 pub of_parts-requires : goal.of_parts-requires
@@ -35,6 +35,4 @@ pub returns-in-Err-clause-refusal : goal.returns-in-Err-clause-refusal
 returns-in-Err-clause-refusal g c = λ bytes told. c.no_log_fault-fault.ensures.refusal (g.D.Disk.limit c.args.disk) bytes (c.in-Err.ensures.refusal bytes told)
 
 pub returns-in-Err-clause-same : goal.returns-in-Err-clause-same
-returns-in-Err-clause-same g c = λ other. c.in-Err.ensures.same
-    (λ is. let told = c.no_log_fault-fault.ensures.kept DiskFault is in absurd (cc))
-    (λ is. let told = c.no_log_fault-fault.ensures.kept Memory is in absurd (cc))
+returns-in-Err-clause-same g c = λ other. c.in-Err.ensures.same (λ is. let told = c.no_log_fault-fault.ensures.kept DiskFault is in absurd (cc))

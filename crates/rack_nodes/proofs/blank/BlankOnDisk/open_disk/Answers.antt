@@ -27,7 +27,7 @@ returns-in-Ok-records_of-clause-opens g c =
 pub returns-in-Ok-records_of-clause-told : goal.returns-in-Ok-records_of-clause-told
 returns-in-Ok-records_of-clause-told g c =
     blank_told (λ b. b.node) (λ b. b.disk) g.D.Disk.content (g.D.Disk.content c.args.disk) c.in-Err.disk c.args.node
-    c.blank_of-in-Ok-records_of.result (c.in-Err.ensures.same c.in-Ok-records_of.ensures.kept.0 c.in-Ok-records_of.ensures.kept.1) c.blank_of-in-Ok-records_of.ensures.blank
+    c.blank_of-in-Ok-records_of.result (c.in-Err.ensures.same c.in-Ok-records_of.ensures.kept) c.blank_of-in-Ok-records_of.ensures.blank
 
 pub returns-in-Ok-records_of-clause-refusal : goal.returns-in-Ok-records_of-clause-refusal
 returns-in-Ok-records_of-clause-refusal g c =

@@ -1,0 +1,4 @@
+mod devices;
+mod disks;
+mod journals;
+mod shards;

@@ -1,0 +1,117 @@
+//! Opens a journal on a real file, and appends records to another one. It prints to standard error how long that took,
+//! and how long a bare loop of the same writes and syncs took. With a word it does so with many records.
+#![tactic(auto)]
+
+use cbdc_types::NodeId;
+use gate_journal::Journal;
+use host_devices::{FileDisk, FileRack};
+use mem_devices::PlainDisk;
+use outside::{Disk, Rack};
+use std::alloc::Global;
+use std::env;
+use std::fs::{self, File};
+use std::io::{self, ErrorKind};
+use std::os::unix::fs::FileExt;
+use std::time::Instant;
+
+// A body as long as the Lock of one transaction with one input.
+const BODY: [u8; 122] = [7; 122];
+
+// What an append of that body writes behind the closing gate: its length, the body and the next closing gate.
+const FILLING: [u8; 131] = [0; 131];
+
+fn failed() -> io::Error {
+    io::Error::from(ErrorKind::Other)
+}
+
+// Appends that body so many times.
+fn append_each<D: Disk>(journal: &mut Journal<D>, count: u32) -> io::Result<()> {
+    for _ in 0..count {
+        if journal.reserved() < 122 || journal.append(&BODY).is_err() {
+            return Err(failed());
+        }
+    }
+    Ok(())
+}
+
+// A new journal with memory for that body.
+fn formatted<D: Disk + Drop>(alloc: Global, disk: D) -> io::Result<Journal<D>> {
+    match Journal::format(alloc, disk) {
+        Ok(made) => {
+            let mut journal = made;
+            journal.reserve(122)?;
+            Ok(journal)
+        }
+        Err(_) => Err(failed()),
+    }
+}
+
+// The bytes of a journal of so many records.
+fn journal_of(alloc: Global, records: u32) -> io::Result<PlainDisk> {
+    let disk = PlainDisk::new(alloc, records as usize * 131 + 1)?;
+    let mut journal = formatted(alloc, disk)?;
+    append_each(&mut journal, records)?;
+    Ok(journal.into_disk())
+}
+
+fn taken(rt: &HostRuntime, alloc: Global, node: u32) -> io::Result<FileDisk> {
+    let mut rack = FileRack::new(rt, alloc);
+    rack.take(NodeId(node)).map_err(|_| failed())
+}
+
+// Opens a journal of so many records, which lies in the file of node 1.
+fn measure_opening(rt: &HostRuntime, alloc: Global, records: u32) -> io::Result<()> {
+    let made = journal_of(alloc, records)?;
+    fs::create_dir_all(rt, "rack")?;
+    fs::write(rt, "rack/node-001", made.bytes())?;
+    let disk = taken(rt, alloc, 1)?;
+    let start = Instant::now(rt)?;
+    let Ok((_, bodies)) = Journal::open(alloc, disk) else {
+        return Err(failed());
+    };
+    let seconds = start.elapsed(rt)?.as_secs_f64();
+    eprintln!(rt;
+        "opened {} records, {} bytes: {seconds} s",
+        bodies.len(),
+        made.bytes().len()
+    )
+}
+
+// Appends so many records to the file of node 2.
+fn measure_appends(rt: &HostRuntime, alloc: Global, count: u32) -> io::Result<()> {
+    let mut journal = formatted(alloc, taken(rt, alloc, 2)?)?;
+    let start = Instant::now(rt)?;
+    append_each(&mut journal, count)?;
+    let seconds = start.elapsed(rt)?.as_secs_f64();
+    eprintln!(rt; "appended {count} records: {seconds} s")
+}
+
+// The writes and syncs of so many appends, and nothing else.
+fn write_each(file: &File, count: u32) -> io::Result<()> {
+    for i in 0..count {
+        let gate = u64::from(i) * 131;
+        file.write_all_at(&FILLING, gate + 1)?;
+        file.sync_all()?;
+        file.write_all_at(&[1], gate)?;
+        file.sync_all()?;
+    }
+    Ok(())
+}
+
+// Makes the writes and syncs of so many appends to a file of their own.
+fn measure_loop(rt: &HostRuntime, count: u32) -> io::Result<()> {
+    let file = fs::create(rt, "rack/loop")?;
+    let start = Instant::now(rt)?;
+    write_each(&file, count)?;
+    let seconds = start.elapsed(rt)?.as_secs_f64();
+    eprintln!(rt; "bare loop of {count}: {seconds} s")
+}
+
+fn main(rt: HostRuntime) -> io::Result<()> {
+    let alloc = rt.alloc();
+    let many = env::args(&rt)?.count() > 1;
+    let (records, appends) = if many { (100_000, 2_000) } else { (100, 10) };
+    measure_opening(&rt, alloc, records)?;
+    measure_appends(&rt, alloc, appends)?;
+    measure_loop(&rt, appends)
+}
