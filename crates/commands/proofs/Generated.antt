@@ -74,7 +74,7 @@ module _ {D : Type 0} (content : D → Option (List ℕ)) (images : D → List �
   pub shown : HoldsEach images held K X → ((n : ℕ) → n < node_count K → (d : D) × (held n ≡ Some d) × ((c : List ℕ) × (content d ≡ Some c) × images d c)) → Shows content held K (genesis_id mint) X
   shown disks tells n inside =
       let t = tells n inside in
-      (t.0, t.1, (t.2.0, t.2.1, record { opens = disks n inside t.0 t.1 t.2.0 t.2.2; journal = kept_journal K mint within minted_few submissions X kept n inside }))
+      (t.0, t.1, (t.2.0, t.2.1, record { opens = disks n inside t.0 t.1 t.2.0 t.2.2; limits = within; journal = kept_journal K mint within minted_few submissions X kept n inside }))
 
   -- the history that was told is that of its journals
   module _ (shows : Shows content held K (genesis_id mint) X) (shape : Shape) (rows : List Row) (history : IsToldHistory content held shape (genesis_id mint) rows) where
