@@ -12,10 +12,10 @@ use Rattle.input_files.specs.Contents.{txs_of_file, IsNotRead, AreRead, FirstNot
 use Rattle.complete_laws.specs.Files.{HoldsFile, HoldClients}
 
 ok_once : {X : Type 0} (r : Result X BadFile) (x y : X) → r ≡ Ok x → r ≡ Ok y → x ≡ y
-ok_once r x y one other = let both : Ok {E = BadFile} x ≡ Ok y = sym one ∙ other in cc
+ok_once r x y one other = cc (one, other)
 
 not_both : {X : Type 0} (r : Result X BadFile) (x : X) (e : BadFile) → r ≡ Ok x → r ≡ Err e → ⊥
-not_both r x e one other = let both : Ok {E = BadFile} x ≡ Err e = sym one ∙ other in cc
+not_both r x e one other = cc (one, other)
 
 module _ (files : Text → Option (List ℕ)) (before now : Text → ℕ) where
   pub read_once : {X : Type 0} (read : List ℕ → Result X BadFile) (name : Text) (held x : X) → HoldsFile files before now read name held → Tells (files name) (λ c. read c ≡ Ok x) → x ≡ held

@@ -1,2 +1,4 @@
-pub mod Openings
 pub mod Caused
+pub mod Files
+pub mod Making
+pub mod Openings

@@ -1,5 +1,5 @@
 -- The nodes of a ledger that a rack shows open.
-use Rattle.std.proofs.Common.{◌≡◌, ◌≢◌, ◌⊎◌, inl, inr, ℕ, ◌+◌, ◌≤◌, ◌<◌, List, reverse, length, Option, Some, None, slice_get, refl, sym, ap, ap₂, ◌∙◌, subst, arith}
+use Rattle.std.proofs.Common.{◌≡◌, ◌≢◌, ◌⊎◌, inl, inr, ℕ, ◌+◌, ◌≤◌, ◌<◌, List, [], ◌∷◌, reverse, length, Option, Some, None, slice_get, refl, sym, ap, ap₂, ◌∙◌, subst, arith}
 use Rattle.outside.specs.Images.{Tells}
 use Rattle.outside.specs.Counts.{Rose}
 use Rattle.cbdc_types.specs.Limits.{IsWithinLimits}
@@ -28,7 +28,7 @@ use Rattle.complete_laws.specs.Openings.{NodeOpensLaw}
 pub same_node : (h k : Header) (J L : List Record) (bytes : List ℕ) → IsNodeJournal h J bytes → IsNodeJournal k L bytes → (h ≡ k) × (J ≡ L)
 same_node h k J L bytes one other = opens_once_law h k J L bytes one.limits other.limits one.journal other.journal one.opens other.opens
 
-pub node_opens : NodeOpensLaw
+pub node_opens : (Is : Header → Type 0) → NodeOpensLaw Is
 node_opens Is node ledger h J limit bytes (answers.NotReady n) is of asked room refused =
     absurd (refused.1 (has_first h J is.opens.rest bytes (whole_fronts h J bytes is.limits is.journal is.opens)))
 node_opens Is node ledger h J limit bytes (answers.Damaged n at) is of asked room refused =

@@ -9,13 +9,15 @@ ghost use Rattle.cbdc_model.specs.Records.{Record, Shape};
 ghost use Rattle.caused_ledgers.specs.Caused.{IsUnsound};
 ghost use Rattle.complete_laws.specs.Openings.{NodeOpensLaw};
 ghost use Rattle.complete_laws.specs.Ready.{HasKeptRoom, NoneRises, ShowsKept, limit_at};
+ghost use Rattle.rack_nodes.specs.Asked.{IsCoordinator, IsShardNode};
 ghost use Rattle.rack_ledgers.specs.Ledgers.{IsUnopened, IsUnopenedBy};
 
 use outside::Rack;
 
-/// A node's disk that holds its journal, with the room that it needs, is refused for no reason but that it failed, or that memory ran out.
+/// A disk that holds its node's journal, with the room that it needs, is refused for no reason but that it failed, or that memory ran out.
 pub fn node_opens_law()
-    ensures { NodeOpensLaw }
+    ensures coordinator { NodeOpensLaw IsCoordinator }
+    ensures shard { NodeOpensLaw IsShardNode }
 {}
 
 /// The nodes of a kept ledger that a rack showed open, where they have room and no count of theirs rises, unless memory runs out; and each
