@@ -56,7 +56,7 @@ use Rattle.commands.specs.InMemory.{AreReady, TellsRunOf, IsLaneKind, IsUnrun, n
 use Rattle.commands.proofs.Minted.{unopened_of_mint}
 use Rattle.commands.proofs.FirstShown.{kept_journal, kept_beyond, first_kept, first_shown}
 use Rattle.commands.proofs.Memory.{there}
-use Rattle.commands.proofs.Sound.{none_uncaused, never_unsound}
+use Rattle.complete_laws.proofs.Sound.{none_uncaused, never_unsound}
 use Rattle.commands.proofs.Printed.{run_numbers, countable}
 use Rattle.commands.proofs.Cut.{batches_are_cut}
 use Rattle.commands.proofs.Refused.{none_open, none_refused, all_decided}
@@ -112,7 +112,7 @@ module _ {D : Type 0} (content : D → Option (List ℕ)) (images : D → List �
       let history = subst (λ (g : Digest). IsToldHistory content held unsound.header.shape g unsound.uncaused.rows) minted
       (told_history content images limit count held unsound.header unsound.logs unsound.shards unsound.opened unsound.uncaused.rows unsound.uncaused.merged) in
       let rows = unsound.uncaused.rows in
-      none_uncaused K mint submissions X within minted_few kept rows (journals_are shows K' rows history) history.ordered unsound.place
+      none_uncaused K mint submissions X within (kept_journal K mint within minted_few submissions X kept) kept rows (journals_are shows K' rows history) history.ordered unsound.place
       (subst (λ k. IsFirstUncaused k rows unsound.place) (shape_is shows K' rows history) unsound.uncaused.first)
 
 module _ (K : Shape) (seed n : ℕ) (within : IsWithinLimits K) (small : n ≤ 10000) (X : ℕ → List Record) (ran : Ran) (told : TellsRun K all_good (files_of seed n) (made_for K seed n) X ran.resumed.items ran.waves.items) where
@@ -258,7 +258,7 @@ module _ (K : Shape) (seed n : ℕ) where
           run = is_run;
           audited = v;
           unclean = λ clean.
-              never_unsound K (mint_of seed n) (all_of seed n) told.exit limits (few seed n small) told.grown.kept v.rows v.journals_are v.ordered idle
+              never_unsound K (mint_of seed n) (all_of seed n) told.exit limits (kept_journal K (mint_of seed n) limits (few seed n small) (all_of seed n) told.exit told.grown.kept) told.grown.kept v.rows v.journals_are v.ordered idle
               (idle_law K (mint_of seed n) (all_of seed n) told.exit (omega (arith, limits.some_shard)) (omega (arith, limits.some_lane)) clean told.grown.kept idle) place kind v.is;
         }
 

@@ -25,3 +25,4 @@ pub mod Memory
 pub mod Refused
 pub mod Cut
 pub mod Generated
+pub mod Complete

@@ -6,6 +6,7 @@ ghost use Rattle.command_line.specs.Words.{texts};
 ghost use Rattle.command_line.specs.Asked.{IsAsked};
 ghost use Rattle.command_line.specs.declared.request.Request.{Request as Asked};
 ghost use Rattle.commands.specs.Causes.{IsAnswered, IsDone, IsTold, IsWell, NamedRose, RequestPlace, RequestRose};
+ghost use Rattle.commands.specs.Complete.{IsUnhindered};
 ghost use Rattle.commands.specs.Sizes.{IsSized};
 ghost use Rattle.commands.specs.Outcomes.{Did, Why};
 ghost use Rattle.commands.specs.Left.{IsBeforeDisks, Leaves};
@@ -181,6 +182,10 @@ pub fn process<W: Wait, I: Inbox, R: Rack, O: Sink, G: Gate>(
     // has no room or whose disk failed: those below it are as they were read, those above it hold their first records, and a crash leaves of
     // its own no first record, or what it might have left before, or, where the disk failed, the new one alone.
     ensures left { (IsWell result.status → ⊥) → (result.rack ≡ rack) ⊎ ((r : Asked) × IsAsked (texts words.now) r × Leaves (I.file inbox.old) R.Disk.content R.Disk.images R.Disk.limit (R.held rack) (R.held result.rack) r result.status) }
+
+    // Where nothing hinders what was asked, it was done, unless memory ran out.
+    ensures complete { (r : Asked) → IsAsked (texts words.now) r → IsUnhindered (I.file inbox.old) (I.count inbox.old) (I.count inbox.new) R.Disk.content R.Disk.limit (R.held rack) (R.count rack) (R.count result.rack) r
+        → (Rose (O.count out.old) (O.count out.new) → ⊥) → (result.status ≡ Answer.Ok) ⊎ (result.status ≡ Answer.Memory) }
 
     ensures bad_words { result.status ≡ Answer.BadWords → IsRefused (texts words.now) WordsFault.Bad }
     ensures told { IsRefused (texts words.now) WordsFault.Bad → (result.status ≡ Answer.BadWords) ⊎ (result.status ≡ Answer.Memory) }

@@ -4,6 +4,7 @@ use Rattle.outside.specs.Counts.{Rose}
 use Rattle.command_line.specs.Words.{texts}
 use Rattle.commands.specs.Causes.{IsAnswered}
 use Rattle.commands.specs.Texts.{IsPrinted}
+use Rattle.commands.proofs.Complete.{complete}
 use Rattle.commands.proofs.Counts.{rose_later}
 use Rattle.commands.proofs.Did.{did_by, printed_still}
 use Rattle.commands.proofs.Faults.{fault_printed, names_there}
@@ -48,3 +49,15 @@ returns-clause-fault_line g c =
     c.answer_words-status.ensures.cause c.name_of.ensures)
     c.write_fault.ensures.prints
     (on_err_weaker c.write_fault.result (rose_later before mid now now c.answer_words-status.ensures.written_later (omega arith)) c.write_fault.ensures.cause.failed)
+
+pub returns-clause-complete : goal.returns-clause-complete
+returns-clause-complete g c r asked free steady =
+    let status = c.answer_words-status.result in
+    let failed = Rose (g.O.Sink.count c.args.out.now) (g.O.Sink.count c.write_fault.new.out) in
+    complete (g.I.Inbox.file c.args.inbox.now) (g.I.Inbox.count c.args.inbox.now) (g.I.Inbox.count c.answer_words-status.new.inbox) g.R.Disk.Disk.content g.R.Disk.Disk.images g.R.Disk.Disk.limit g.R.Disk.Disk.count
+    (g.R.Rack.held c.args.rack) (g.R.Rack.held c.answer_words-status.new.rack) (g.R.Rack.count c.args.rack) (g.R.Rack.count c.answer_words-status.new.rack)
+    (texts c.args.words.now) r asked free failed status c.answer_words-status.ensures.why
+    (λ is. subst (λ a. IsAnswered (texts c.args.words.now) (g.I.Inbox.count c.args.inbox.now) (g.I.Inbox.count c.answer_words-status.new.inbox) (Rose (g.O.Sink.count c.args.out.now) (g.O.Sink.count c.answer_words-status.new.out)) a) is c.answer_words-status.ensures.cause)
+    (λ is. rose_later (g.O.Sink.count c.args.out.now) (g.O.Sink.count c.args.out.now) (g.O.Sink.count c.answer_words-status.new.out) (g.O.Sink.count c.write_fault.new.out) (omega arith) c.write_fault.ensures.cause.later
+    (subst (λ a. IsAnswered (texts c.args.words.now) (g.I.Inbox.count c.args.inbox.now) (g.I.Inbox.count c.answer_words-status.new.inbox) (Rose (g.O.Sink.count c.args.out.now) (g.O.Sink.count c.answer_words-status.new.out)) a) is c.answer_words-status.ensures.cause))
+    steady
