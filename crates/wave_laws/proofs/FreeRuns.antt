@@ -23,14 +23,10 @@ use Rattle.wave_laws.specs.Free.{lane_behind, sound_behind}
 use Rattle.wave_laws.specs.Placing.{sent_of_all}
 use Rattle.wave_laws.specs.FreeRuns.{FreeRunLaw}
 use Rattle.wave_laws.proofs.Sharing.{joined, Told, told_in, txs_all, size_told, sized_told}
+use Rattle.wave_laws.proofs.Between.{files_grow}
 use Rattle.wave_laws.proofs.NewRecords.{found_at}
 use Rattle.wave_laws.proofs.Placed.{told_joined}
 use Rattle.wave_laws.proofs.Confirmed.{free_law}
-
--- files make journals grow
-files_grow : (K : Shape) (sound : FullTx → Bool) (files : List (List FullTx)) (I J : ℕ → List Record) → AreFilesRun K sound files I J → (n : ℕ) → IsEnd (I n) (J n)
-files_grow K sound [] I J h n = ([], h n)
-files_grow K sound (file ∷ files) I J h n = end_trans (I n) (h.0 n) (J n) (h.1.adds.grows n) (files_grow K sound files h.0 J h.2 n)
 
 -- a record that is found stays the one that is found
 stays_found : (K : Shape) (minting : Minted) (P : Compact → Type 0) (some : 0 < K.shards) (old new : List Row) → Steady K minting P old → Steady K minting P new → (n kind : ℕ) (c : Batch)
