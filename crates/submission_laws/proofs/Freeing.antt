@@ -1,23 +1,21 @@
 -- A sound submission that nothing contends with is confirmed, at its turn among all.
-use Rattle.std.proofs.Common.{◌≡◌, ◌≢◌, ◌⊎◌, inl, inr, ℕ, zero, suc, ◌+◌, ◌*◌, ◌%◌, ◌<◌, ◌≤◌, Bool, true, false, List, [], ◌∷◌, ◌++◌, length, get_or, map, reverse, take, drop, Some, None, refl, sym, ap, ◌∙◌, subst, arith, append_assoc, append-nil}
-use Rattle.std.specs.Prelude.{slice_get, option_map, All}
+use Rattle.std.proofs.Common.{◌≡◌, ◌≢◌, ◌⊎◌, inl, inr, ℕ, zero, suc, ◌+◌, ◌*◌, ◌%◌, ◌<◌, Bool, true, List, [], ◌∷◌, ◌++◌, length, get_or, map, reverse, take, drop, Some, None, refl, sym, ap, ◌∙◌, subst, arith, append_assoc, append-nil}
+use Rattle.std.specs.Prelude.{slice_get, option_map}
 use Rattle.std.specs.List.{filter}
-use Rattle.std.proofs.lemmas.Bool.{cases_lt}
-use Rattle.std.proofs.lemmas.List.{length-map, length-append}
+use Rattle.std.proofs.lemmas.List.{length-map}
 use Rattle.std.proofs.lemmas.Option.{slice_get_within, slice_get-get_or}
-use Rattle.cbdc_model.specs.Records.{Digest, Shape, Batch, Record, Row, journal, Won}
+use Rattle.cbdc_model.specs.Records.{Digest, Shape, Record, Row, journal, Won}
 use Rattle.cbdc_model.specs.Status.{has}
 use Rattle.cbdc_model.specs.Ranges.{home_of}
-use Rattle.cbdc_model.specs.Coins.{Output, FullTx, compact, tx_id}
+use Rattle.cbdc_model.specs.Coins.{Output, FullTx, compact}
 use Rattle.cbdc_model.specs.Clean.{IsProperCompact}
 use Rattle.cbdc_model.specs.History.{minted, first_rows}
 use Rattle.cbdc_model.specs.World.{KeptJournals, IsUnspent}
 use Rattle.cbdc_model.specs.Lanes.{IsEnd}
-use Rattle.cbdc_model.specs.Waves.{share, sent_to, IsResumed, IsFileRun, AreFilesRun}
-use Rattle.cbdc_model.specs.Places.{sized_onto, place_of, outcome_in}
+use Rattle.cbdc_model.specs.Waves.{share, sent_to, IsResumed, IsFileRun}
+use Rattle.cbdc_model.specs.Places.{sized_onto, place_of}
 use Rattle.ledger_laws.proofs.Cuts.{end_trans}
 use Rattle.ledger_laws.proofs.Ledger.{steady}
-use Rattle.sentinel.specs.FirstRefusal.{IsSound}
 use Rattle.submissions.specs.Checks.{VerdictsOf}
 use Rattle.sound_laws.specs.SoundTest.{sound_by}
 use Rattle.sound_laws.proofs.Telling.{is_sound_law}
@@ -31,7 +29,7 @@ use Rattle.wave_laws.proofs.Between.{files_grow, between_law, next_wave}
 use Rattle.wave_laws.proofs.FreeRuns.{free_run_law}
 use Rattle.wave_laws.proofs.Sharing.{told_in, size_told, sized_told}
 use Rattle.submission_laws.specs.Sent.{IsSent}
-use Rattle.submission_laws.specs.Free.{IsUncontended, IsConfirmed, AreFreeConfirmed, FreeConfirmedLaw}
+use Rattle.submission_laws.specs.Free.{IsUncontended, IsConfirmed, FreeConfirmedLaw}
 use Rattle.submission_laws.proofs.Lists.{split_get, before_get, added_is}
 use Rattle.submission_laws.proofs.Turns.{sent_many}
 use Rattle.submission_laws.proofs.NewPlaces.{told_parts}
@@ -43,16 +41,17 @@ front_at [] vs i u e = absurd (let z : None ≡ Some u = e in cc)
 front_at (w ∷ us) vs zero u e = e
 front_at (w ∷ us) vs (suc i) u e = front_at us vs i u e
 
-back_at : (us vs : List FullTx) (i : ℕ) → slice_get (us ++ vs) (length us + i) ≡ slice_get vs i
-back_at [] vs i = refl
-back_at (w ∷ us) vs i = back_at us vs i
+back_at : (us vs : List FullTx) (i m : ℕ) → m ≡ length us + i → slice_get (us ++ vs) m ≡ slice_get vs i
+back_at [] vs i m e = ap (slice_get vs) (omega (arith, e))
+back_at (w ∷ us) vs i zero e = absurd (omega (arith, e))
+back_at (w ∷ us) vs i (suc m) e = back_at us vs i m (omega (arith, e))
 
 one_of_two : (us vs : List FullTx) (i : ℕ) (u : FullTx) → slice_get (us ++ vs) i ≡ Some u → (slice_get us i ≡ Some u) ⊎ ((h : ℕ) × (i ≡ length us + h) × (slice_get vs h ≡ Some u))
-one_of_two [] vs i u e = inr (i, refl, e)
+one_of_two [] vs i u e = inr (i, omega arith, e)
 one_of_two (w ∷ us) vs zero u e = inl e
 one_of_two (w ∷ us) vs (suc i) u e = elim (one_of_two us vs i u e) [
   | inl f ↦ inl f
-  | inr (h, is, f) ↦ inr (h, ap suc is, f)
+  | inr (h, is, f) ↦ inr (h, omega (arith, is), f)
 ]
 
 module _ (verdicts : VerdictsOf) (file : List FullTx) (j : ℕ) (t : FullTx) (here : slice_get file j ≡ Some t) where
@@ -71,7 +70,7 @@ module _ (verdicts : VerdictsOf) (file : List FullTx) (j : ℕ) (t : FullTx) (he
     )
     | inr (h, is, f) ↦ (
       length (take j file) + suc h,
-      subst (λ l. slice_get l (length (take j file) + suc h) ≡ Some u) (sym parts) (back_at (take j file) (t ∷ drop (suc j) file) (suc h) ∙ f),
+      subst (λ l. slice_get l (length (take j file) + suc h) ≡ Some u) (sym parts) (back_at (take j file) (t ∷ drop (suc j) file) (suc h) (length (take j file) + suc h) refl ∙ f),
       λ same. omega (arith, same, low_place),
     )
   ]
@@ -87,15 +86,19 @@ module _ (K : Shape) (mint : List Output) (submissions : List FullTx) (verdicts 
   sound = sound_by verdicts
 
   -- what was open is brought to its end without a new Prepare
-  opened_none : (R : ℕ → List Record) → IsResumed K E R → ((n : ℕ) → IsEnd (R n) (X n)) → (lane : ℕ) (more : List Record) → R (home_of K lane) ≡ more ++ E (home_of K lane) → told_in lane more ≡ []
+  abbrev Opens : (ℕ → List Record) → (ℕ → List Record) → Type 0
+  Opens I Y = (R : ℕ → List Record) → IsResumed K I R → ((n : ℕ) → IsEnd (R n) (Y n)) → (lane : ℕ) (more : List Record) → R (home_of K lane) ≡ more ++ I (home_of K lane) → told_in lane more ≡ []
+
+  abbrev journals_of : List Row → ℕ → List Record
+  journals_of later n = journal n (later ++ first_rows K (minted mint))
+
+  opened_none : Opens E X
   opened_none =
-      subst (λ Y. (R : ℕ → List Record) → IsResumed K E R → ((n : ℕ) → IsEnd (R n) (Y n)) → (lane : ℕ) (more : List Record) → R (home_of K lane) ≡ more ++ E (home_of K lane) → told_in lane more ≡ []) (λ i n. kept'.history.journals_are n i)
-      (subst (λ I. (R : ℕ → List Record) → IsResumed K I R → ((n : ℕ) → IsEnd (R n) (journals_of kept'.later n)) → (lane : ℕ) (more : List Record) → R (home_of K lane) ≡ more ++ I (home_of K lane) → told_in lane more ≡ []) (λ i n. kept.history.journals_are n i)
-      (none_told K (minted mint) (IsProperCompact submissions) some kept.later kept'.later
-      (steady K (minted mint) (IsProperCompact submissions) kept.later kept.kept) (steady K (minted mint) (IsProperCompact submissions) kept'.later kept'.kept)))
-    where
-      journals_of : List Row → ℕ → List Record
-      journals_of later n = journal n (later ++ first_rows K (minted mint))
+      let by_rows : Opens (journals_of kept.later) (journals_of kept'.later)
+      = none_told K (minted mint) (IsProperCompact submissions) some kept.later kept'.later
+      (steady K (minted mint) (IsProperCompact submissions) kept.later kept.kept) (steady K (minted mint) (IsProperCompact submissions) kept'.later kept'.kept) in
+      let by_entry : Opens E (journals_of kept'.later) = subst (λ I. Opens I (journals_of kept'.later)) (λ i n. kept.history.journals_are n i) by_rows in
+      subst (λ Y. Opens E Y) (λ i n. kept'.history.journals_are n i) by_entry
 
   module _ (k j : ℕ) (t : FullTx) (it : IsSent verdicts files k j t) (M : ℕ → List Record) (begins : BeginsWave K (sound_by verdicts) files k E X M)
       (unspent : (x : Digest) → has (compact t).inputs x ≡ true → IsUnspent K M x) (free : IsUncontended verdicts it.file j t) where
@@ -123,7 +126,7 @@ module _ (K : Shape) (mint : List Output) (submissions : List FullTx) (verdicts 
     abbrev H : ℕ
     H = home_of K (lane_behind K (take j it.file))
 
-    mine : List Record
+    abbrev mine : List Record
     mine = (grows (home_of K (lane_behind K (take j it.file)))).0
 
     won : IsWonAt (lane_behind K (take j it.file)) (length (sent_of_all K (sound_by verdicts) (take k files) (lane_behind K (take j it.file))) + sound_behind K (sound_by verdicts) (take j it.file)) mine
@@ -135,7 +138,7 @@ module _ (K : Shape) (mint : List Output) (submissions : List FullTx) (verdicts 
         kept' begins.before (subst (λ f. IsFileRun K (sent_to K (sound_by verdicts) f) M next.0) parted next.1) next.2.behind
         (grows (home_of K (lane_behind K (take j it.file)))).1 ((is_sound_law verdicts t).1 it.sound) unspent (alone verdicts it.file j t it.tx_is free)
 
-    opened : List Record
+    abbrev opened : List Record
     opened = (begins.is_resumed.adds.grows (home_of K (lane_behind K (take j it.file)))).0
 
     whole : X (home_of K (lane_behind K (take j it.file))) ≡ (mine ++ opened) ++ E (home_of K (lane_behind K (take j it.file)))

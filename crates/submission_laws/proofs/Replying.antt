@@ -1,16 +1,16 @@
 -- What the shards replied to a transaction, and the outcome that its coordinator wrote down.
-use Rattle.std.proofs.Common.{◌≡◌, ◌⊎◌, inl, inr, ℕ, zero, suc, ◌+◌, ◌*◌, ◌<◌, ◌≤◌, Bool, true, false, not, ◌&&◌, ◌==◌, if◌then◌else◌, List, [], ◌∷◌, ◌++◌, map, length, Option, Some, None, is_some, refl, sym, ap, ◌∙◌, subst, arith, append_assoc}
+use Rattle.std.proofs.Common.{◌≡◌, inl, inr, ℕ, zero, suc, ◌+◌, ◌<◌, Bool, true, false, not, ◌&&◌, ◌==◌, if◌then◌else◌, List, [], ◌∷◌, ◌++◌, Option, Some, None, is_some, refl, sym, ap, ◌∙◌, subst, arith}
 use Rattle.std.proofs.lemmas.Bool.{cases_lt}
-use Rattle.cbdc_model.specs.Records.{Digest, Shape, Batch, same_batch, Compact, Reply, Outcome, Answered, Record, Row, journal, record_of, kind_of, is_of, is_held, entries_in, txs_in, txs_of, outcomes_of, lock_of, Held, Missing, Taken, Won, Lacks, Blocked, Genesis, Lock, Finish, Forget, Start, Prepare, Commit, Discard, Done}
+use Rattle.cbdc_model.specs.Records.{Digest, Shape, Batch, Compact, Reply, Outcome, Answered, Record, Row, journal, record_of, kind_of, is_of, is_held, entries_in, txs_of, outcomes_of, lock_of, Held, Missing, Taken, Won, Genesis, Lock, Finish, Forget, Start, Prepare, Commit, Discard, Done}
 use Rattle.cbdc_model.specs.Slots.{slot, Idle}
-use Rattle.cbdc_model.specs.Ranges.{home_of, shard_node, on_shard, is_empty, entry_of, part, is_no_part, Concerned}
+use Rattle.cbdc_model.specs.Ranges.{home_of, shard_node, on_shard, is_empty, entry_of, part, is_no_part}
 use Rattle.cbdc_model.specs.Replies.{reply_to, answered, entries}
 use Rattle.cbdc_model.specs.Outcomes.{reply_at, outcome_by, outcome, outcomes}
 use Rattle.cbdc_model.specs.History.{Minted, first_rows}
 use Rattle.cbdc_model.specs.Lanes.{IsEnd, first_of}
 use Rattle.cbdc_model.specs.Places.{PlaceIn, outcome_at, outcome_in}
 use Rattle.ledger_laws.proofs.Next.{Next, Steady, has_lock}
-use Rattle.ledger_laws.proofs.Lookups.{true_false, not_true, no_lock}
+use Rattle.ledger_laws.proofs.Lookups.{true_false, no_lock}
 use Rattle.ledger_laws.proofs.Cuts.{cut}
 use Rattle.ledger_laws.proofs.First.{journal_first, all_first}
 use Rattle.ledger_laws.proofs.Moves.{split_test, none_of, all_structure}
@@ -21,7 +21,7 @@ use Rattle.ledger_laws.proofs.Together.{lists_of}
 use Rattle.run_laws.proofs.LastRecords.{commit_stands}
 use Rattle.run_laws.proofs.NewRecords.{in_journal}
 use Rattle.wave_laws.specs.Placing.{tx_at}
-use Rattle.wave_laws.proofs.FreeReplies.{IsGood, all_good, outcome_of_place}
+use Rattle.wave_laws.proofs.FreeReplies.{IsGood, all_good}
 use Rattle.submission_laws.specs.Replied.{Concerns, reply_of, IsLocked, HeldBelow, IsOutcome, IsReplied}
 
 some_tx : (u t : Compact) → Some u ≡ Some t → u ≡ t
@@ -105,21 +105,19 @@ module _ (K : Shape) (X : ℕ → List Record) (p : PlaceIn) (c : Compact)
     | inr le ↦ let e : s ≡ r = omega (arith, low, le) in subst (λ m. Concerns K c m → reply_of K X p m ≡ Some Held) e own here
   ]
 
+  -- by the reply of shard s, and the outcome of those behind it
+  by_reply : (s : ℕ) (o : Outcome) (r : Option Reply) → s < K.shards → HeldBelow K X p c s → reply_of K X p s ≡ r → (HeldBelow K X p c (suc s) → IsOutcome K X p c o) → IsOutcome K X p c (outcome_by r s o)
+  by_reply s o None low below f next = next (held_next s below (λ here. absurd (true_false (is_some (reply_of K X p s)) (has s low here) (ap is_some f))))
+  by_reply s o (Some Held) low below f next = next (held_next s below (λ here. f))
+  by_reply s o (Some (Missing x)) low below f next = (only s low (ap is_some f), below, f)
+  by_reply s o (Some (Taken x by)) low below f next = (only s low (ap is_some f), below, f)
+
   from_shard : (n s : ℕ) → s + n ≡ K.shards → HeldBelow K X p c s → IsOutcome K X p c (outcome locks p.at s n)
   from_shard zero s e below = subst (λ m. HeldBelow K X p c m) (omega (arith, e)) below
-  from_shard (suc n) s e below =
-      elim (reply_at (locks s) p.at) as (λ r. reply_at (locks s) p.at ≡ r → IsOutcome K X p c (outcome_by r s (outcome locks p.at (suc s) n))) [
-        | None ↦ λ f. from_shard n (suc s) (omega (arith, e)) (held_next s below (λ here. absurd (true_false (is_some (reply_of K X p s)) (has s (omega (arith, e)) here) (ap is_some f))))
-        | Some r ↦ λ f. by_reply r f
-      ] refl
-    where
-      by_reply : (r : Reply) → reply_at (locks s) p.at ≡ Some r → IsOutcome K X p c (outcome_by (Some r) s (outcome locks p.at (suc s) n))
-      by_reply Held f = from_shard n (suc s) (omega (arith, e)) (held_next s below (λ here. f))
-      by_reply (Missing x) f = (only s (omega (arith, e)) (ap is_some f), below, f)
-      by_reply (Taken x by) f = (only s (omega (arith, e)) (ap is_some f), below, f)
+  from_shard (suc n) s e below = by_reply s (outcome locks p.at (suc s) n) (reply_of K X p s) (omega (arith, e)) below refl (λ more. from_shard n (suc s) (omega (arith, e)) more)
 
   pub by_replies : IsOutcome K X p c (outcome locks p.at 0 K.shards)
-  by_replies = from_shard K.shards 0 refl (λ s low here. absurd (omega (arith, low)))
+  by_replies = from_shard K.shards 0 (omega arith) (λ s low here. absurd (omega (arith, low)))
 
   good : HeldBelow K X p c K.shards → (s : ℕ) → s < K.shards → IsGood (reply_at (locks s) p.at)
   good all s low = elim (reply_at (locks s) p.at) as (λ r. reply_at (locks s) p.at ≡ r → IsGood r) [
@@ -199,7 +197,7 @@ module _ (K : Shape) (minting : Minted) (P : Compact → Type 0) (some : 0 < K.s
     -- by the Lock that stands, if one does
     replies : (s : ℕ) → IsLocked K J p.batch s
         → is_some (reply_of K J p s) ≡ not (is_empty (on_shard K.shards s c.inputs) && is_empty (on_shard K.shards s c.outputs))
-    replies s l = ap (λ es. is_some (reply_at es p.at)) l.replies ∙ replied l.past p.batch K.shards s (txs_of (J (home_of K p.batch.lane)) p.batch) [] 0 p.at p.at c holds refl
+    replies s l = ap (λ es. is_some (reply_at es p.at)) l.replies ∙ replied l.past p.batch K.shards s (txs_of (J (home_of K p.batch.lane)) p.batch) [] 0 p.at p.at c holds (omega arith)
 
     has : (s : ℕ) → s < K.shards → Concerns K c s → is_some (reply_of K J p s) ≡ true
     has s low here = replies s (there s here) ∙ ap not here.1
@@ -222,12 +220,12 @@ module _ (K : Shape) (minting : Minted) (P : Compact → Type 0) (some : 0 < K.s
     pub the_outcome : outcome_in (J (home_of K p.batch.lane)) p ≡ Some (outcome (λ s. lock_of (J (shard_node K s)) p.batch) p.at 0 K.shards)
     the_outcome =
         let facts = standing K minting P some later kept (home_of K p.batch.lane) 7 p.batch (Commit commit.0 p.batch (outcomes_of (J (home_of K p.batch.lane)) p.batch)) commit.1 in
-        ap (λ os. outcome_at os p.at) facts.2 ∙ at_place all_locks K.shards 0 (txs_of (J (home_of K p.batch.lane)) p.batch) p.at p.at c holds refl
+        ap (λ os. outcome_at os p.at) facts.2 ∙ at_place all_locks K.shards 0 (txs_of (J (home_of K p.batch.lane)) p.batch) p.at p.at c holds (omega arith)
       where
-        at_place : (locks : ℕ → List Answered) (shards k : ℕ) (ts : List Compact) (m n : ℕ) (c : Compact) → tx_at ts m ≡ Some c → n ≡ k + m → outcome_at (outcomes locks shards k ts) m ≡ Some (outcome locks n 0 shards)
-        at_place locks shards k [] m n c e f = absurd (let z : None ≡ Some c = e in cc)
-        at_place locks shards k (t ∷ ts) zero n c e f = ap (λ j. Some (outcome locks j 0 shards)) (omega (arith, f))
-        at_place locks shards k (t ∷ ts) (suc m) n c e f = at_place locks shards (suc k) ts m n c e (omega (arith, f))
+        at_place : (given : ℕ → List Answered) (shards k : ℕ) (ts : List Compact) (m n : ℕ) (c : Compact) → tx_at ts m ≡ Some c → n ≡ k + m → outcome_at (outcomes given shards k ts) m ≡ Some (outcome given n 0 shards)
+        at_place given shards k [] m n c e f = absurd (let z : None ≡ Some c = e in cc)
+        at_place given shards k (t ∷ ts) zero n c e f = ap (λ j. Some (outcome given j 0 shards)) (omega (arith, f))
+        at_place given shards k (t ∷ ts) (suc m) n c e f = at_place given shards (suc k) ts m n c e (omega (arith, f))
 
     pub is_replied : IsReplied K J p c (outcome (λ s. lock_of (J (shard_node K s)) p.batch) p.at 0 K.shards)
     is_replied = record { locks = there; outcome = by_replies K J p c has only; exactly = all_held K J p c has only }

@@ -1,7 +1,7 @@
 -- Each sound submission of a run has its one place among the transactions of the new Prepares, and an outcome by the shards' replies.
-use Rattle.std.proofs.Common.{◌≡◌, ◌⊎◌, inl, inr, ℕ, ◌+◌, ◌*◌, ◌%◌, ◌<◌, Bool, true, false, ◌&&◌, ◌==◌, if◌then◌else◌, List, [], ◌∷◌, ◌++◌, map, reverse, length, take, Option, Some, None, is_some, refl, sym, ap, ◌∙◌, subst, arith, append_assoc, append-nil, mod-lt}
-use Rattle.std.specs.Prelude.{slice_get, option_map}
-use Rattle.cbdc_model.specs.Records.{Shape, Batch, same_batch, Compact, Outcome, Record, Row, journal, record_of, is_of, txs_of, txs_in, lock_of, Genesis, Lock, Finish, Forget, Start, Prepare, Commit, Discard, Done}
+use Rattle.std.proofs.Common.{◌≡◌, ℕ, ◌*◌, ◌<◌, Bool, true, false, ◌&&◌, ◌==◌, if◌then◌else◌, List, [], ◌∷◌, ◌++◌, map, reverse, take, Option, Some, None, is_some, refl, sym, ap, ◌∙◌, subst, arith, append_assoc, append-nil, mod-lt}
+use Rattle.std.specs.Prelude.{option_map}
+use Rattle.cbdc_model.specs.Records.{Shape, Batch, same_batch, Compact, Outcome, Record, Row, journal, record_of, txs_of, txs_in, lock_of, Genesis, Lock, Finish, Forget, Start, Prepare, Commit, Discard, Done}
 use Rattle.cbdc_model.specs.Slots.{slot, Idle}
 use Rattle.cbdc_model.specs.Ranges.{home_of, shard_node}
 use Rattle.cbdc_model.specs.Coins.{Output, FullTx, compact, tx_id}
@@ -9,13 +9,11 @@ use Rattle.cbdc_model.specs.Clean.{IsProperCompact}
 use Rattle.cbdc_model.specs.History.{Minted, minted, first_rows, IsOrdered, IsKept}
 use Rattle.cbdc_model.specs.World.{KeptJournals, AreIdle}
 use Rattle.cbdc_model.specs.Lanes.{IsEnd}
-use Rattle.cbdc_model.specs.Waves.{has_prepare, sent_to, IsResumed, IsFileRun, AreFilesRun, Waves}
+use Rattle.cbdc_model.specs.Waves.{has_prepare, IsResumed, AreFilesRun, Waves}
 use Rattle.cbdc_model.specs.Places.{PlaceIn, sized_onto, place_of, outcome_in}
 use Rattle.cbdc_model.specs.Outcomes.{outcome}
 use Rattle.ledger_laws.proofs.Next.{Steady}
-use Rattle.ledger_laws.proofs.Lookups.{true_false}
 use Rattle.ledger_laws.proofs.Found.{found_grammar}
-use Rattle.ledger_laws.proofs.Finds.{stands}
 use Rattle.ledger_laws.proofs.Ledger.{steady}
 use Rattle.run_laws.proofs.LastRecords.{prepare_stands}
 use Rattle.run_laws.proofs.NewRecords.{still_found}
@@ -26,18 +24,17 @@ use Rattle.sound_laws.specs.SoundTest.{sound_by}
 use Rattle.sound_laws.proofs.Telling.{is_sound_law}
 use Rattle.printed_lines.specs.declared.report.Report.{Report}
 use Rattle.printed_lines.specs.declared.report.Report.TheVariants.{Refused, Decided}
-use Rattle.printed_lines.specs.Decided.{added, decided_there, decided_at}
+use Rattle.printed_lines.specs.Decided.{decided_there, decided_at}
 use Rattle.printed_lines.specs.Runs.{lane_at, turn, IsReport}
-use Rattle.wave_laws.specs.Between.{BeginsWave}
 use Rattle.wave_laws.specs.Placing.{sent_of_all, tx_at, IsPlaced}
 use Rattle.wave_laws.proofs.Between.{files_grow, between_law}
 use Rattle.wave_laws.proofs.Placed.{place_law, told_joined}
-use Rattle.wave_laws.proofs.Sharing.{joined, Told, told_before, told_in, txs_all, size_told, sized_told}
+use Rattle.wave_laws.proofs.Sharing.{Told, told_before, told_in, size_told, sized_told}
 use Rattle.wave_laws.proofs.NewRecords.{never_twice}
 use Rattle.submission_laws.specs.Sent.{IsSent, new_place, place_at, IsPrepared}
 use Rattle.submission_laws.specs.Replied.{IsReplied}
 use Rattle.submission_laws.specs.Settled.{IsSettled, AreSettled, SettledLaw}
-use Rattle.submission_laws.proofs.Lists.{added_is, tx_low}
+use Rattle.submission_laws.proofs.Lists.{added_is}
 use Rattle.submission_laws.proofs.Turns.{Turn, Found, at_turn, found, one_turn as one_submission}
 use Rattle.submission_laws.proofs.NewPlaces.{Apart, among, one_turn as one_place, told_parts, HasTurn, all_own, all_apart, new_turn}
 use Rattle.submission_laws.proofs.Replying.{the_outcome, is_replied}
@@ -54,14 +51,14 @@ some_place p q e = cc
 some_outcome : (o q : Outcome) → Some o ≡ Some q → o ≡ q
 some_outcome o q e = cc
 
-some_pair : (b c : Batch) (o q : Outcome) → Some (b, o) ≡ Some (c, q) → (b ≡ c) × (o ≡ q)
-some_pair b c o q e = (cc, cc)
+some_pair : (p q : Batch × Outcome) → Some p ≡ Some q → p ≡ q
+some_pair p q e = cc
 
 -- what is told of a sound submission is what is decided at its turn
 pub told_as : (K : Shape) (verdicts : VerdictsOf) (sound : FullTx → Bool) (E X : ℕ → List Record) (earlier : List (List FullTx)) (file : List FullTx) (j : ℕ) (t : FullTx) (b : Batch) (o : Outcome)
     → IsSound t (verdicts (tx_id t)) → decided_at K E X (lane_at K j) (turn K sound earlier file j) ≡ Some (b, o) → (r : Report) → IsReport K verdicts sound E X earlier file j t r → r ≡ Decided b o
 told_as K verdicts sound E X earlier file j t b o is_sound at (Refused why) first = absurd (is_sound why first.applies)
-told_as K verdicts sound E X earlier file j t b o is_sound at (Decided c q) is = let s = some_pair c b q o (sym is.1 ∙ at) in λ i. Decided (s.0 i) (s.1 i)
+told_as K verdicts sound E X earlier file j t b o is_sound at (Decided c q) is = let s = some_pair (c, q) (b, o) (sym is.1 ∙ at) in λ i. Decided (s i).0 (s i).1
 
 -- ---- what was open is brought to its end without a new Prepare
 
@@ -182,10 +179,10 @@ module _ (K : Shape) (mint : List Output) (submissions : List FullTx) (verdicts 
       placed q c e =
           (place_law K mint submissions sound files lane R X mine some lt kept_mid kept_new waves.1.idle waves.2 (grows (home_of K lane)).1).0 q c e
 
-      stands_at : (q : ℕ) (c : Compact) (e : tx_at (sent_of_all K sound files lane) q ≡ Some c) → new_place K E X lane q ≡ Some (placed q c e).place
-      stands_at q c e =
+      stands_at : (q : ℕ) (c : Compact) (it : IsPlaced lane q c mine (X (home_of K lane))) → new_place K E X lane q ≡ Some it.place
+      stands_at q c it =
           let sizes = sized_told lane mine [] ∙ append-nil (map size_told (reverse (told_in lane mine))) in
-          place_is q ∙ ap (λ S. place_of S q) (sym sizes) ∙ (placed q c e).stands
+          place_is q ∙ ap (λ S. place_of S q) (sym sizes) ∙ it.stands
 
       -- what is prepared at a new place has its turn among all that the lane gets
       turn_of : (p : PlaceIn) (c : Compact) → p.batch.lane ≡ lane → IsPrepared K E X p c → (q : ℕ) × (new_place K E X lane q ≡ Some p) × (tx_at (sent_of_all K sound files lane) q ≡ Some c)
@@ -240,7 +237,7 @@ module _ (K : Shape) (mint : List Output) (submissions : List FullTx) (verdicts 
       rest = subst (λ l. (slot (X (home_of K l)) l).phase ≡ Idle) (sym there.lane_is) (idle_at my_lane (lane_low j))
 
       place_there : place_at K verdicts files E X k it.file j ≡ Some p
-      place_there = stands_at my_lane (lane_low j) my_turn (compact t) sent_there
+      place_there = stands_at my_lane (lane_low j) my_turn (compact t) there
 
       decided : decided_at K E X my_lane my_turn ≡ Some (p.batch, there.outcome)
       decided = ap (λ o. decided_there (X (home_of K my_lane)) o) place_there ∙ ap (λ o. option_map (λ q. (p.batch, q)) o) there.decided
@@ -298,12 +295,13 @@ module _ (K : Shape) (mint : List Output) (submissions : List FullTx) (verdicts 
     pub are_settled : AreSettled K verdicts files E X
     are_settled = record { each = settled; one = one; nothing_else = nothing_else }
 
+abbrev journals_of : Shape → List Output → List Row → ℕ → List Record
+journals_of K mint later n = journal n (later ++ first_rows K (minted mint))
+
 pub settled_law : SettledLaw
-settled_law K mint submissions verdicts files E X some some_lane kept kept' waves =
-    subst (λ Y. Waves K (sound_by verdicts) files E Y → AreSettled K verdicts files E Y) (λ i n. kept'.history.journals_are n i)
-    (subst (λ I. Waves K (sound_by verdicts) files I (journals_of kept'.later) → AreSettled K verdicts files I (journals_of kept'.later)) (λ i n. kept.history.journals_are n i)
-    (are_settled K mint submissions verdicts files some some_lane kept.later kept'.later kept.kept kept'.kept kept.history.ordered kept'.history.ordered))
-    waves
-  where
-    journals_of : List Row → ℕ → List Record
-    journals_of later n = journal n (later ++ first_rows K (minted mint))
+settled_law K mint submissions verdicts files E X some some_lane kept kept' =
+    let by_rows : Waves K (sound_by verdicts) files (journals_of K mint kept.later) (journals_of K mint kept'.later) → AreSettled K verdicts files (journals_of K mint kept.later) (journals_of K mint kept'.later)
+    = are_settled K mint submissions verdicts files some some_lane kept.later kept'.later kept.kept kept'.kept kept.history.ordered kept'.history.ordered in
+    let by_entry : Waves K (sound_by verdicts) files E (journals_of K mint kept'.later) → AreSettled K verdicts files E (journals_of K mint kept'.later)
+    = subst (λ I. Waves K (sound_by verdicts) files I (journals_of K mint kept'.later) → AreSettled K verdicts files I (journals_of K mint kept'.later)) (λ i n. kept.history.journals_are n i) by_rows in
+    subst (λ Y. Waves K (sound_by verdicts) files E Y → AreSettled K verdicts files E Y) (λ i n. kept'.history.journals_are n i) by_entry

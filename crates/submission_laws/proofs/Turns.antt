@@ -1,5 +1,5 @@
 -- The turns of sound submissions among those of their lanes.
-use Rattle.std.proofs.Common.{◌≡◌, ◌⊎◌, inl, inr, ℕ, zero, suc, ◌+◌, ◌-◌, ◌*◌, ◌%◌, ◌<◌, ◌≤◌, Bool, true, false, ◌==◌, if◌then◌else◌, List, [], ◌∷◌, ◌++◌, length, take, drop, map, Some, None, refl, sym, ap, ◌∙◌, subst, arith, append_assoc}
+use Rattle.std.proofs.Common.{◌≡◌, inl, inr, ℕ, zero, suc, ◌+◌, ◌-◌, ◌*◌, ◌%◌, ◌<◌, ◌≤◌, Bool, true, false, ◌==◌, if◌then◌else◌, List, [], ◌∷◌, ◌++◌, length, take, drop, map, Some, None, refl, sym, ap, ◌∙◌, subst, arith, append_assoc}
 use Rattle.std.specs.Prelude.{slice_get}
 use Rattle.std.specs.List.{filter}
 use Rattle.std.proofs.lemmas.Bool.{cases_lt}
@@ -13,8 +13,8 @@ use Rattle.wave_laws.specs.Placing.{sent_of_all, tx_at}
 use Rattle.wave_laws.proofs.Sharing.{got, got-append, got_here}
 use Rattle.submission_laws.proofs.Lists.{split_get, before_get, taken_get, taken_twice, tx_behind, tx_front}
 
-at_first : (t : Compact) (ts : List Compact) → tx_at (t ∷ ts) 0 ≡ Some t
-at_first t ts = refl
+from_zero : (n : ℕ) → 0 + n ≡ n
+from_zero n = omega arith
 
 some_lane_is : (l : ℕ) → (l == l) ≡ true
 some_lane_is l = grind arith
@@ -32,7 +32,7 @@ module _ (sound : FullTx → Bool) (n lane : ℕ) where
   pub parted : (file : List FullTx) (j : ℕ) (t : FullTx) → slice_get file j ≡ Some t → sound t ≡ true → j % n ≡ lane
       → got sound n lane 0 file ≡ got sound n lane 0 (take j file) ++ compact t ∷ got sound n lane (suc (0 + length (take j file))) (drop (suc j) file)
   parted file j t e s own =
-      let here : ((0 + length (take j file)) % n == lane) ≡ true = ap (λ k. k % n == lane) (before_get file j t e) ∙ ap (λ k. k == lane) own ∙ some_lane_is lane in
+      let here : ((0 + length (take j file)) % n == lane) ≡ true = ap (λ k. k % n == lane) (from_zero (length (take j file)) ∙ before_get file j t e) ∙ ap (λ k. k == lane) own ∙ some_lane_is lane in
       ap (got sound n lane 0) (split_get file j t e) ∙ got-append sound n lane 0 (take j file) (t ∷ drop (suc j) file)
       ∙ ap (λ l. got sound n lane 0 (take j file) ++ l) (got_here sound n lane (0 + length (take j file)) t (drop (suc j) file) s here)
 
@@ -198,18 +198,18 @@ module _ (K : Shape) (sound : FullTx → Bool) where
             elim (cases_lt j h) [
               | inl low ↦
                   absurd (
-                    let a = fewer_before sound (K.coordinators * K.lanes) lane file j h t low here s own in
-                    let b = ap (λ f. length (sent_to K sound (take h f) lane)) files_same in
-                    let c = ap (λ m. sent_before K sound (take m files) lane) same in
-                    omega (arith, a, b, c, e)
+                  let a = fewer_before sound (K.coordinators * K.lanes) lane file j h t low here s own in
+                  let b = ap (λ f. length (sent_to K sound (take h f) lane)) files_same in
+                  let c = ap (λ m. sent_before K sound (take m files) lane) same in
+                  omega (arith, a, b, c, e)
                   )
               | inr over ↦ elim (cases_lt h j) [
                 | inl low ↦
                     absurd (
-                      let a = fewer_before sound (K.coordinators * K.lanes) lane other h j u low here' s' own' in
-                      let b = ap (λ f. length (sent_to K sound (take j f) lane)) files_same in
-                      let c = ap (λ m. sent_before K sound (take m files) lane) same in
-                      omega (arith, a, b, c, e)
+                    let a = fewer_before sound (K.coordinators * K.lanes) lane other h j u low here' s' own' in
+                    let b = ap (λ f. length (sent_to K sound (take j f) lane)) files_same in
+                    let c = ap (λ m. sent_before K sound (take m files) lane) same in
+                    omega (arith, a, b, c, e)
                     )
                 | inr under ↦ omega (arith, over, under)
               ]
@@ -249,8 +249,8 @@ module _ (K : Shape) (sound : FullTx → Bool) where
           tx = f.tx;
           tx_is = f.tx_is;
           is_sound = f.is_sound;
-          lane_of = ap (λ m. m % (K.coordinators * K.lanes)) (omega arith) ∙ f.lane_of;
-          turn_is = f.turn_is;
+          lane_of = ap (λ m. m % (K.coordinators * K.lanes)) (sym (from_zero f.place)) ∙ f.lane_of;
+          turn_is = f.turn_is ∙ sym (from_zero (length (sent_to K sound (take f.place file) lane)));
           is_compact = f.is_compact;
         }
     | inr past ↦

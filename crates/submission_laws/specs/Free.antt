@@ -1,5 +1,5 @@
 -- A sound submission that nothing contends with is confirmed.
-use Rattle.std.specs.Prelude.{◌≡◌, ◌≢◌, ℕ, ◌<◌, ◌*◌, Bool, true, false, List, Some, take, slice_get}
+use Rattle.std.specs.Prelude.{◌≡◌, ◌≢◌, ℕ, ◌<◌, ◌*◌, true, false, List, Some, take, slice_get}
 use Rattle.cbdc_model.specs.Records.{Digest, Shape, Batch, Record, Won}
 use Rattle.cbdc_model.specs.Status.{has}
 use Rattle.cbdc_model.specs.Coins.{Output, FullTx, compact, tx_id}

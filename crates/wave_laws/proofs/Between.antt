@@ -1,7 +1,7 @@
 -- Journals between those of a run are kept.
-use Rattle.std.proofs.Common.{◌≡◌, ◌⊎◌, inl, inr, ℕ, zero, suc, ◌*◌, ◌<◌, Bool, true, false, ◌&&◌, ◌==◌, List, [], ◌∷◌, ◌++◌, take, drop, Some, None, is_some, refl, sym, ap, ◌∙◌, subst, arith, append_assoc}
+use Rattle.std.proofs.Common.{◌≡◌, ◌⊎◌, inl, inr, ℕ, zero, suc, ◌<◌, Bool, true, false, ◌&&◌, ◌==◌, List, [], ◌∷◌, ◌++◌, take, drop, Some, None, is_some, refl, sym, ap, ◌∙◌, subst, arith, append_assoc}
 use Rattle.std.specs.Prelude.{slice_get}
-use Rattle.cbdc_model.specs.Records.{Shape, Batch, same_batch, Compact, Record, record_of, kind_of, is_of, Genesis, Lock, Finish, Forget, Start, Prepare, Commit, Discard, Done}
+use Rattle.cbdc_model.specs.Records.{Shape, Batch, same_batch, Record, record_of, kind_of, is_of, Genesis, Lock, Finish, Forget, Start, Prepare, Commit, Discard, Done}
 use Rattle.cbdc_model.specs.Ranges.{home_of, shard_node}
 use Rattle.cbdc_model.specs.Coins.{Output, FullTx}
 use Rattle.cbdc_model.specs.Clean.{IsProperCompact}
@@ -9,8 +9,7 @@ use Rattle.cbdc_model.specs.History.{minted, header_of}
 use Rattle.cbdc_model.specs.After.{Follows}
 use Rattle.cbdc_model.specs.World.{KeptJournals, replaced}
 use Rattle.cbdc_model.specs.Lanes.{IsEnd, Seen, KeptLists, first_of}
-use Rattle.cbdc_model.specs.Causes.{IsCaused}
-use Rattle.cbdc_model.specs.Waves.{Adds, has_prepare, has_done, sent_to, IsResumed, IsFileRun, AreFilesRun, Waves}
+use Rattle.cbdc_model.specs.Waves.{Adds, has_prepare, has_done, sent_to, IsFileRun, AreFilesRun}
 use Rattle.ledger_laws.proofs.Lookups.{true_false, not_true}
 use Rattle.ledger_laws.proofs.Cuts.{cut, end_self, end_trans, seen_grows}
 use Rattle.ledger_laws.proofs.Rows.{at, away, at_node}

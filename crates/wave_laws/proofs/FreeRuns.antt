@@ -1,5 +1,5 @@
 -- What a file's wave decided stays decided, at the same place among all.
-use Rattle.std.proofs.Common.{◌≡◌, inl, inr, ℕ, ◌+◌, ◌-◌, ◌*◌, ◌<◌, ◌≤◌, Bool, true, false, nat_lt, if◌then◌else◌, List, [], ◌∷◌, ◌++◌, map, reverse, length, Some, None, is_some, refl, sym, ap, ◌∙◌, subst, arith, append_assoc, append-nil, mod-lt}
+use Rattle.std.proofs.Common.{◌≡◌, inl, inr, ℕ, ◌+◌, ◌-◌, ◌*◌, ◌<◌, ◌≤◌, true, false, nat_lt, if◌then◌else◌, List, [], ◌∷◌, ◌++◌, map, reverse, length, Some, None, is_some, refl, sym, ap, ◌∙◌, subst, arith, append_assoc, append-nil, mod-lt}
 use Rattle.std.proofs.lemmas.List.{append_cancel_right, length-append}
 use Rattle.cbdc_model.specs.Records.{Shape, Batch, Compact, Record, Row, journal, record_of, outcomes_in, Won}
 use Rattle.cbdc_model.specs.Ranges.{home_of}
@@ -8,13 +8,12 @@ use Rattle.cbdc_model.specs.Clean.{IsProperCompact}
 use Rattle.cbdc_model.specs.History.{Minted, minted, first_rows}
 use Rattle.cbdc_model.specs.World.{KeptJournals}
 use Rattle.cbdc_model.specs.Lanes.{IsEnd, first_of}
-use Rattle.cbdc_model.specs.Waves.{AreFilesRun}
 use Rattle.cbdc_model.specs.Places.{PlaceIn, Sized, sized_before, sized_onto, place_of, outcome_at, outcome_in}
 use Rattle.ledger_laws.proofs.Next.{Steady}
 use Rattle.ledger_laws.proofs.Lookups.{true_false, no_commit}
 use Rattle.ledger_laws.proofs.First.{journal_first, all_first}
 use Rattle.ledger_laws.proofs.Moves.{none_of}
-use Rattle.ledger_laws.proofs.Cuts.{cut, end_trans}
+use Rattle.ledger_laws.proofs.Cuts.{cut}
 use Rattle.ledger_laws.proofs.Finds.{stands}
 use Rattle.ledger_laws.proofs.Together.{lists_of}
 use Rattle.ledger_laws.proofs.Ledger.{steady}

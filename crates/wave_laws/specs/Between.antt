@@ -1,5 +1,5 @@
 -- Where the wave of a file begins.
-use Rattle.std.specs.Prelude.{◌≡◌, ℕ, ◌<◌, ◌≤◌, Bool, List, ◌++◌, length, take, drop}
+use Rattle.std.specs.Prelude.{ℕ, ◌<◌, Bool, List, take, drop}
 use Rattle.cbdc_model.specs.Records.{Shape, Record}
 use Rattle.cbdc_model.specs.Coins.{Output, FullTx}
 use Rattle.cbdc_model.specs.World.{KeptJournals}
