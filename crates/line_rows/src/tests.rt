@@ -1,0 +1,4 @@
+mod looks;
+mod making;
+mod recoveries;
+mod runs;
