@@ -1,4 +1,4 @@
 mod looks;
-mod making;
+mod named;
 mod recoveries;
 mod runs;

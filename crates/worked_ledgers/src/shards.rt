@@ -1,6 +1,6 @@
 // Examples on one coordinator and two shards.
 use crate::batches::{
-    Ledger, Turn, commit, confirmed, finish, lock, missing, new_ledger, prepare, whole_batch,
+    Ledger, Turn, commit, confirmed, discard, finish, lock, missing, new_ledger, prepare, whole_batch,
 };
 use crate::coins::{coin, one, output, pays, program, two};
 use crate::rows::{Worked, batch};
@@ -100,6 +100,7 @@ pub enum Stop {
     BehindPrepare,
     BehindFirstLock,
     BehindFirstFinish,
+    BehindDiscard,
 }
 
 // The records of a batch up to a stop.
@@ -119,7 +120,12 @@ fn begin(
     }
     lock(alloc, ledger, 1, batch(1), 2, turns)?;
     commit(alloc, ledger, batch(1), 3, turns)?;
-    finish(alloc, ledger, 0, batch(1), 4, turns)
+    finish(alloc, ledger, 0, batch(1), 4, turns)?;
+    if stop == Stop::BehindFirstFinish {
+        return Ok(());
+    }
+    finish(alloc, ledger, 1, batch(1), 4, turns)?;
+    discard(ledger, batch(1), 5)
 }
 
 /// A transaction of a coin on the first shard to one on the second, whose batch was stopped before entry and is done at exit.

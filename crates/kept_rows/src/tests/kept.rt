@@ -99,3 +99,11 @@ fn a_stop_behind_the_first_finish(rt: HostRuntime) -> Result<(), Fail> {
     assert!(rt; is_recovered(&rt, Stop::BehindFirstFinish)?);
     Ok(())
 }
+
+#[test]
+fn a_stop_behind_the_discard(rt: HostRuntime) -> Result<(), Fail> {
+    let row = stopped(rt.alloc(), two_shards()?, Stop::BehindDiscard)?;
+    assert!(rt; is_right(&rt, &row)?);
+    assert!(rt; is_alike(&rt, &row.entry)?);
+    Ok(())
+}
