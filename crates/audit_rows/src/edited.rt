@@ -27,6 +27,11 @@ fn write_over(bytes: &mut [u8], at: usize, new: &[u8]) {
     }
 }
 
+// Puts bytes behind the journal's end, which mean nothing: room for the records that a batch still lacks.
+fn leave_room(bytes: &mut Vec<u8>) -> Result<(), AllocError> {
+    bytes.extend_from_slice(&[0u8; 1000])
+}
+
 // The ledger behind its transaction, with these bytes at places of the coordinator's disk and of the shard's.
 fn edited<W: Wait>(
     rt: &W,
@@ -45,6 +50,8 @@ fn edited<W: Wait>(
     for (at, byte) in two {
         write_over(&mut shard, *at, &[*byte]);
     }
+    leave_room(&mut log)?;
+    leave_room(&mut shard)?;
     Ok(with_bytes(alloc, log, shard)?)
 }
 
@@ -135,8 +142,9 @@ fn a_commit_with_another_outcome(rt: HostRuntime) -> Result<(), Fail> {
     let mut two = bytes_of(alloc, &rack, 1)?;
     one.truncate(284);
     one.extend_from_slice(&rejecting(alloc)?)?;
-    two.truncate(334);
     write_over(&mut two, 333, &[0]);
+    leave_room(&mut one)?;
+    leave_room(&mut two)?;
     let edited = with_bytes(alloc, one, two)?;
     let run = audited(&rt, alloc, edited, &["audit", "m", "c"])?;
     told(&rt, &run, 6, "fault unsound 4 cause\n");
@@ -167,8 +175,8 @@ fn an_input_that_the_mint_did_not_make(rt: HostRuntime) -> Result<(), Fail> {
     let mut one = bytes_of(alloc, &before, 0)?;
     let mut two = bytes_of(alloc, &before, 1)?;
     write_over(&mut two, 106, &CLAIMED.0);
-    one.extend_from_slice(&[0u8; 1000])?;
-    two.extend_from_slice(&[0u8; 1000])?;
+    leave_room(&mut one)?;
+    leave_room(&mut two)?;
     let tx = claims(alloc, 1000, &[(2, 1000)])?;
     let Ran { rack, status, .. } = paid(&rt, alloc, with_bytes(alloc, one, two)?, &[&tx])?;
     assert_eq!(&rt; status, 0);
