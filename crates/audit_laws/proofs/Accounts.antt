@@ -1,17 +1,17 @@
 -- A sound verdict accounts for all money.
-use Rattle.std.proofs.Common.{◌≡◌, ◌⊎◌, inl, inr, ℕ, zero, suc, ◌+◌, ◌*◌, ◌/◌, ◌<◌, ◌≤◌, true, List, [], ◌∷◌, ◌++◌, map, length, reverse, Some, refl, sym, ap, ◌∙◌, subst, arith}
+use Rattle.std.proofs.Common.{◌≡◌, ℕ, zero, suc, ◌*◌, ◌/◌, ◌<◌, true, List, [], ◌∷◌, ◌++◌, map, length, reverse, refl, sym, ap, ◌∙◌, subst, arith}
 use Rattle.std.specs.List.{IsDistinct, AllByRecursion}
 use Rattle.std.proofs.Math.Nat.{div-lt_iff_lt-mul}
 use Rattle.std.proofs.lemmas.List.{reverse-reverse}
 use Rattle.std.proofs.lemmas.List.Elements.{recursion_from_All}
-use Rattle.cbdc_model.specs.Records.{Digest, same_digest, Shape, Batch, Compact, Record, Row, journal}
+use Rattle.cbdc_model.specs.Records.{Digest, same_digest, Shape, Batch, Record, Row, journal}
 use Rattle.cbdc_model.specs.Ranges.{shard_of, shard_node}
 use Rattle.cbdc_model.specs.Status.{status}
 use Rattle.cbdc_model.specs.Slots.{slot, Idle}
 use Rattle.cbdc_model.specs.Coins.{Output, FullTx, compact}
-use Rattle.cbdc_model.specs.Book.{Book, InBook, fold_txs, genesis_book, value}
+use Rattle.cbdc_model.specs.Book.{InBook}
 use Rattle.cbdc_model.specs.Clean.{Clean}
-use Rattle.cbdc_model.specs.History.{minted, first_rows, history_of, committed, IsOrdered, AreHandedIn}
+use Rattle.cbdc_model.specs.History.{minted, first_rows, history_of, committed, IsOrdered}
 use Rattle.cbdc_model.specs.World.{IsHistory, IsUnspent, AreIdle}
 use Rattle.ledger_laws.proofs.Next.{Steady, has_prepare}
 use Rattle.ledger_laws.proofs.Ledger.{SteadyJournals, steady_lists, after_of}
@@ -19,12 +19,11 @@ use Rattle.ledger_laws.proofs.Together.{steady_journals}
 use Rattle.ledger_laws.proofs.Alikes.{alike}
 use Rattle.ledger_laws.proofs.More.{has_done}
 use Rattle.audit.specs.declared.verdict.Totals.{Totals}
-use Rattle.audit.specs.Walks.{AllCaused}
 use Rattle.audit.specs.Laws.{AllAfter}
 use Rattle.audit.specs.Spending.{AreSpent}
 use Rattle.audit.specs.Verdicts.{Passes, IsSound, journals_of}
 use Rattle.audit.proofs.Once.{SoFar, AreReady, fold_so_far, mint_worth, EachBalanced, fold_worth}
-use Rattle.audit.proofs.Unspent.{EachSpends as Spending, EachDone, done_of, forms_are}
+use Rattle.audit.proofs.Unspent.{done_of, forms_are}
 use Rattle.audit.proofs.Sound.{unspent_is_book, spends_of, all_done}
 use Rattle.audit.proofs.Ordered.{ordered_rows}
 use Rattle.audit_laws.specs.Journals.{AreJournals, BeginAs}

@@ -1,5 +1,5 @@
 -- Where every batch that was prepared is done, every lane is idle at its coordinator.
-use Rattle.std.proofs.Common.{◌≡◌, ◌⊎◌, inl, inr, ℕ, ◌/◌, ◌<◌, true, false, ◌&&◌, ◌==◌, List, ◌++◌, Some, None, is_some, refl, sym, ◌∙◌, subst, arith}
+use Rattle.std.proofs.Common.{◌≡◌, ◌⊎◌, inl, inr, ℕ, ◌/◌, ◌<◌, true, false, ◌&&◌, ◌==◌, List, ◌++◌, Some, None, is_some, refl, arith}
 use Rattle.cbdc_model.specs.Records.{Shape, Batch, Compact, Record, Row, journal, record_of, kind_of, is_of, Genesis, Lock, Finish, Forget, Start, Prepare, Commit, Discard, Done}
 use Rattle.cbdc_model.specs.Slots.{slot, Idle, InLock, InFinish, InPrepare, InCommit, InDiscard}
 use Rattle.cbdc_model.specs.Grammar.{IsInGrammar}
@@ -7,7 +7,7 @@ use Rattle.cbdc_model.specs.History.{Minted, header_of, first_rows}
 use Rattle.ledger_laws.proofs.Next.{Steady, has_prepare}
 use Rattle.ledger_laws.proofs.More.{has_done}
 use Rattle.ledger_laws.proofs.Lookups.{true_false}
-use Rattle.ledger_laws.proofs.Moves.{split_test, all_structure, all_more}
+use Rattle.ledger_laws.proofs.Moves.{all_structure, all_more}
 use Rattle.ledger_laws.proofs.Alikes.{found_passes}
 use Rattle.ledger_laws.proofs.Recovered.{all_dones, all_phases}
 use Rattle.ledger_laws.proofs.Found.{found_grammar}

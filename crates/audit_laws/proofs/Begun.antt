@@ -11,7 +11,7 @@ use Rattle.cbdc_model.specs.After.{After, IsFirst, IsJournal}
 use Rattle.cbdc_model.specs.Causes.{IsCaused}
 use Rattle.cbdc_model.specs.History.{Minted, header_of, TxsPass}
 use Rattle.cbdc_model.specs.World.{replaced}
-use Rattle.cbdc_model.specs.Lanes.{IsEnd, Seen, first_of, KeptLists}
+use Rattle.cbdc_model.specs.Lanes.{IsEnd, Seen}
 use Rattle.audit.specs.Walks.{AllCaused}
 use Rattle.ledger_laws.proofs.Cuts.{end_trans}
 use Rattle.ledger_laws.proofs.FirstJournals.{first_is, first_beyond}

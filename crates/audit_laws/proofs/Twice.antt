@@ -1,17 +1,17 @@
 -- Of transactions that can be spent in turn, each with an input, no two inputs name one outpoint, and no two have one id.
-use Rattle.std.proofs.Common.{◌≡◌, ◌⊎◌, inl, inr, ℕ, ◌+◌, ◌<◌, ◌≤◌, true, false, List, [], ◌∷◌, ◌++◌, map, length, bytes_eq, refl, sym, ap, ◌∙◌, subst, arith}
+use Rattle.std.proofs.Common.{◌≡◌, ◌⊎◌, inl, inr, ◌+◌, ◌<◌, ◌≤◌, true, false, List, [], ◌∷◌, ◌++◌, map, length, bytes_eq, refl, sym, ap, subst, arith}
 use Rattle.std.specs.List.{IsDistinct, AllByRecursion}
 use Rattle.std.proofs.lemmas.Slice.Eq.{bytes_eq-Decides}
-use Rattle.cbdc_model.specs.Records.{Digest, same_digest, Compact}
-use Rattle.cbdc_model.specs.Coins.{Output, Coin, FullTx, coin_hash, tx_id, tx_coins, genesis_tx, genesis_hashes, compact}
+use Rattle.cbdc_model.specs.Records.{Digest, same_digest}
+use Rattle.cbdc_model.specs.Coins.{Output, Coin, FullTx, coin_hash, tx_id, tx_coins, genesis_tx, compact}
 use Rattle.cbdc_model.specs.Book.{Book}
 use Rattle.cbdc_model.specs.Clean.{IsMember, Clean}
 use Rattle.cbdc_model.specs.Headline.{all_spent, NoneTwice}
-use Rattle.cbdc_model.specs.History.{all_inputs, all_outputs}
+use Rattle.cbdc_model.specs.History.{all_inputs}
 use Rattle.ledger_laws.proofs.Counts.{count, count-append, same_digest_is, count_first, count-cons_same}
 use Rattle.ledger_laws.proofs.Lookups.{not_true}
 use Rattle.ledger_laws.proofs.Folds.{EachCoin, point_of, hashes_of}
-use Rattle.ledger_laws.proofs.Members.{In, contains_in, CoinAt, coin_at, Made, made_is, coins_apart, genesis_member}
+use Rattle.ledger_laws.proofs.Members.{In, contains_in, CoinAt, coin_at, made_is, coins_apart, genesis_member}
 use Rattle.audit.proofs.Once.{SoFar, AreReady, Maker, maker_in, spent_of, made_of, minted_of, IsMade}
 
 hashes-append : (x : Digest) (cs ds : List Coin) → count x (hashes_of (cs ++ ds)) ≡ count x (hashes_of cs) + count x (hashes_of ds)
