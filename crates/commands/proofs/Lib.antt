@@ -22,7 +22,6 @@ pub mod Printed
 pub mod FirstShown
 pub mod Minted
 pub mod Memory
-pub mod Sound
 pub mod Refused
 pub mod Cut
 pub mod Generated
