@@ -34,11 +34,11 @@ in_map f x [] h = absurd h
 in_map f x (y ∷ xs) (inl e) = inl (ap f e)
 in_map f x (y ∷ xs) (inr h) = inr (in_map f x xs h)
 
-one_in : (x y : Digest) → In x (y ∷ []) → x ≡ y
+pub one_in : (x y : Digest) → In x (y ∷ []) → x ≡ y
 one_in x y (inl e) = e
 one_in x y (inr h) = absurd h
 
-same_file : (f g : List FullTx) → Some f ≡ Some g → f ≡ g
+pub same_file : (f g : List FullTx) → Some f ≡ Some g → f ≡ g
 same_file f g e = cc
 
 pub sound_at : (xs : List FullTx) (j : ℕ) (t : FullTx) → slice_get xs j ≡ Some t → All IsGood xs → IsSound t (all_good (tx_id t))
@@ -51,7 +51,7 @@ module _ (K : Shape) (seed n : ℕ) (some : 0 < K.shards) (lanes : 0 < K.lanes) 
   pub kept_first : (submissions : List FullTx) → KeptJournals K (mint_of seed n) submissions (made_for K seed n)
   kept_first submissions = record { later = []; history = record { ordered = tt; journals_are = λ node. refl }; kept = tt }
 
-  none_prepared : (b : Batch) → has_prepare K (made_for K seed n) b ≡ false
+  pub none_prepared : (b : Batch) → has_prepare K (made_for K seed n) b ≡ false
   none_prepared b =
       none_of 6 (made_for K seed n (home_of K b.lane))
       (journal_first (home_of K b.lane) (first_rows K (minted (mint_of seed n))) (all_first K (minted (mint_of seed n)) (λ (k : Compact). Unit {0}) some)) b

@@ -5,3 +5,4 @@ pub mod Worlds
 pub mod Sets
 pub mod Committed
 pub mod FirstFile
+pub mod SecondFile
