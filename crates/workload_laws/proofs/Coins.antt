@@ -1,9 +1,9 @@
 -- The coins of a workload, of which no two share a hash where no hashes clash.
-use Rattle.std.proofs.Common.{◌≡◌, ◌⊎◌, inl, inr, ℕ, zero, suc, ◌+◌, ◌*◌, ◌/◌, ◌-◌, ◌<◌, ◌≤◌, List, [], ◌∷◌, ◌++◌, length, map, Contains, refl, sym, ap, ◌∙◌, subst, arith}
+use Rattle.std.proofs.Common.{◌≡◌, inl, inr, ℕ, zero, suc, ◌+◌, ◌*◌, ◌<◌, ◌≤◌, List, [], ◌∷◌, ◌++◌, length, map, refl, ap, ◌∙◌, arith}
 use Rattle.std.specs.List.{range_with_len}
 use Rattle.std.proofs.lemmas.Bool.{cases_lt}
 use Rattle.cbdc_model.specs.Records.{Digest}
-use Rattle.cbdc_model.specs.Coins.{Output, Coin, FullTx, coin_hash, tx_id, tx_coins, made_coins, genesis_tx, genesis_id}
+use Rattle.cbdc_model.specs.Coins.{Coin, FullTx, coin_hash, tx_id, tx_coins, made_coins, genesis_tx, genesis_id}
 use Rattle.cbdc_model.specs.Clean.{IsMember, IsNamed, Clean}
 use Rattle.ledger_laws.proofs.Members.{In, in_contains, contains_in}
 use Rattle.workload.specs.Generator.{coin, coin_value, program, mint_of, minted_of, joined_of, splits_of, joins_of, split_of, join_of, low_half, high_half}
@@ -98,22 +98,22 @@ module _ (seed n : ℕ) where
   -- ---- no two are one
 
   module _ (clean : Clean (mint_of seed n) (all_of seed n)) where
-    split_member : (i : ℕ) → i < minted_of n → IsMember (mint_of seed n) (all_of seed n) (split i)
+    pub split_member : (i : ℕ) → i < minted_of n → IsMember (mint_of seed n) (all_of seed n) (split i)
     split_member i low = inr (contains_in (all_of seed n) (split i) (split_there i low))
 
-    join_member : (i : ℕ) → i < joined_of n → IsMember (mint_of seed n) (all_of seed n) (join i)
+    pub join_member : (i : ℕ) → i < joined_of n → IsMember (mint_of seed n) (all_of seed n) (join i)
     join_member i low = inr (contains_in (all_of seed n) (join i) (join_there i low))
 
-    mint_named : (i : ℕ) → i < minted_of n → IsNamed (mint_of seed n) (all_of seed n) (mint_coin i)
+    pub mint_named : (i : ℕ) → i < minted_of n → IsNamed (mint_of seed n) (all_of seed n) (mint_coin i)
     mint_named i low = (genesis_tx (mint_of seed n), inl refl, inr (contains_in (tx_coins (genesis_tx (mint_of seed n))) (mint_coin i) (in_mint i low)))
 
-    low_named : (i : ℕ) → i < minted_of n → IsNamed (mint_of seed n) (all_of seed n) (low_coin i)
+    pub low_named : (i : ℕ) → i < minted_of n → IsNamed (mint_of seed n) (all_of seed n) (low_coin i)
     low_named i low = (split i, split_member i low, inr (contains_in (tx_coins (split i)) (low_coin i) (inl refl)))
 
-    high_named : (i : ℕ) → i < minted_of n → IsNamed (mint_of seed n) (all_of seed n) (high_coin i)
+    pub high_named : (i : ℕ) → i < minted_of n → IsNamed (mint_of seed n) (all_of seed n) (high_coin i)
     high_named i low = (split i, split_member i low, inr (contains_in (tx_coins (split i)) (high_coin i) (inr (inl refl))))
 
-    join_named : (i : ℕ) → i < joined_of n → IsNamed (mint_of seed n) (all_of seed n) (join_coin i)
+    pub join_named : (i : ℕ) → i < joined_of n → IsNamed (mint_of seed n) (all_of seed n) (join_coin i)
     join_named i low = (join i, join_member i low, inr (contains_in (tx_coins (join i)) (join_coin i) (inl refl)))
 
     no_inputs : (c : Coin) (cs : List Coin) → [] ≡ c ∷ cs → ⊥

@@ -1,14 +1,13 @@
 -- What is told of a submission as confirmed is among the committed transactions of its batch.
-use Rattle.std.proofs.Common.{◌≡◌, ◌++◌, ℕ, List, Some, refl, sym, ap, ◌∙◌, subst}
-use Rattle.cbdc_model.specs.Records.{Shape, Batch, Compact, Outcome, Record, Row, journal, txs_of, outcomes_of, Won}
-use Rattle.cbdc_model.specs.Ranges.{home_of, lane_journal}
+use Rattle.std.proofs.Common.{◌≡◌, ℕ, List, Some, sym, ap, ◌∙◌, subst}
+use Rattle.cbdc_model.specs.Records.{Shape, Batch, Outcome, Record, Row, journal, txs_of, outcomes_of, Won}
+use Rattle.cbdc_model.specs.Ranges.{home_of}
 use Rattle.cbdc_model.specs.Outcomes.{won_txs}
 use Rattle.cbdc_model.specs.Coins.{FullTx, compact}
 use Rattle.cbdc_model.specs.History.{won_of}
-use Rattle.cbdc_model.specs.Places.{outcome_at, outcome_in}
+use Rattle.cbdc_model.specs.Places.{outcome_at}
 use Rattle.ledger_laws.proofs.Members.{In}
 use Rattle.submissions.specs.Checks.{VerdictsOf}
-use Rattle.printed_lines.specs.declared.report.Report.{Report}
 use Rattle.printed_lines.specs.declared.report.Report.TheVariants.{Decided}
 use Rattle.submission_laws.specs.Sent.{IsSent}
 use Rattle.submission_laws.specs.Settled.{IsSettled}

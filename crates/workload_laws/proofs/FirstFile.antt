@@ -1,16 +1,16 @@
 -- The splits are confirmed, as the first file of a run over the ledger that was just made.
-use Rattle.std.proofs.Common.{◌≡◌, ◌≢◌, ◌⊎◌, inl, inr, ℕ, zero, suc, ◌+◌, ◌*◌, ◌<◌, ◌≤◌, Bool, true, false, List, [], ◌∷◌, ◌++◌, map, get_or, Some, None, is_some, refl, sym, ap, ◌∙◌, subst, arith}
+use Rattle.std.proofs.Common.{◌≡◌, inl, inr, ℕ, ◌*◌, ◌<◌, true, false, List, [], ◌∷◌, ◌++◌, map, Some, refl, sym, ap, ◌∙◌, subst, arith}
 use Rattle.std.specs.Prelude.{slice_get, All}
 use Rattle.std.proofs.lemmas.Option.{get_or_from_slice_get, slice_get_within}
-use Rattle.cbdc_model.specs.Records.{Digest, Shape, Batch, Compact, Record, Row, journal, record_of, is_of}
-use Rattle.cbdc_model.specs.Status.{has, status, Unspent}
+use Rattle.cbdc_model.specs.Records.{Digest, Shape, Batch, Compact, Record}
+use Rattle.cbdc_model.specs.Status.{has}
 use Rattle.cbdc_model.specs.Ranges.{home_of}
-use Rattle.cbdc_model.specs.Coins.{Output, Coin, FullTx, coin_hash, tx_id, tx_coins, compact, genesis_tx, genesis_id, genesis_hashes}
+use Rattle.cbdc_model.specs.Coins.{FullTx, coin_hash, tx_id, tx_coins, compact, genesis_tx, genesis_id, genesis_hashes}
 use Rattle.cbdc_model.specs.Clean.{Clean}
-use Rattle.cbdc_model.specs.History.{minted, first_rows, history_of, committed, all_inputs}
+use Rattle.cbdc_model.specs.History.{minted, first_rows, all_inputs}
 use Rattle.cbdc_model.specs.World.{KeptJournals, AreIdle, IsUnspent}
 use Rattle.cbdc_model.specs.Waves.{has_prepare, AreFilesRun, Waves}
-use Rattle.ledger_laws.proofs.First.{AllFirst, no_committed, journal_first, all_first}
+use Rattle.ledger_laws.proofs.First.{no_committed, journal_first, all_first}
 use Rattle.ledger_laws.proofs.Moves.{none_of}
 use Rattle.ledger_laws.proofs.Lookups.{true_false, not_true}
 use Rattle.ledger_laws.proofs.Counts.{count}

@@ -6,3 +6,5 @@ pub mod Sets
 pub mod Committed
 pub mod FirstFile
 pub mod SecondFile
+pub mod Books
+pub mod Whole

@@ -1,26 +1,24 @@
 -- The joins are confirmed, behind the splits.
-use Rattle.std.proofs.Common.{◌≡◌, ◌≢◌, ◌⊎◌, inl, inr, ℕ, zero, suc, ◌+◌, ◌*◌, ◌<◌, ◌≤◌, Bool, true, false, ◌&&◌, ◌==◌, List, [], ◌∷◌, ◌++◌, length, map, Contains, Some, None, is_some, refl, sym, ap, ◌∙◌, subst, arith}
+use Rattle.std.proofs.Common.{◌≡◌, ◌⊎◌, inl, inr, ℕ, zero, suc, ◌*◌, ◌<◌, true, ◌&&◌, ◌==◌, List, [], ◌∷◌, ◌++◌, Some, None, refl, sym, ap, ◌∙◌, subst, arith}
 use Rattle.std.specs.Prelude.{slice_get, All}
-use Rattle.std.specs.List.{AllByRecursion}
 use Rattle.std.proofs.lemmas.List.Elements.{All-cons, All-nil}
 use Rattle.cbdc_model.specs.Records.{Digest, Shape, Batch, same_batch, Compact, Record, Row, journal, record_of, txs_in, txs_of, Genesis, Lock, Finish, Forget, Start, Prepare, Commit, Discard, Done}
-use Rattle.cbdc_model.specs.Status.{has, status, Unspent}
+use Rattle.cbdc_model.specs.Status.{has, status}
 use Rattle.cbdc_model.specs.Ranges.{home_of, shard_of, shard_node}
-use Rattle.cbdc_model.specs.Coins.{Output, Coin, FullTx, coin_hash, tx_id, tx_coins, compact, genesis_id, genesis_hashes}
-use Rattle.cbdc_model.specs.Clean.{Clean, IsProper, IsProperCompact}
+use Rattle.cbdc_model.specs.Coins.{Output, FullTx, coin_hash, tx_id, compact, genesis_id}
+use Rattle.cbdc_model.specs.Clean.{Clean, IsProperCompact}
 use Rattle.cbdc_model.specs.After.{After}
 use Rattle.cbdc_model.specs.History.{minted, header_of, first_rows, history_of, committed, all_inputs, all_outputs, won_of, TxsPass}
 use Rattle.cbdc_model.specs.World.{KeptJournals, AreIdle, IsUnspent}
 use Rattle.cbdc_model.specs.Lanes.{IsEnd, KeptLists, first_of}
-use Rattle.cbdc_model.specs.Waves.{has_prepare, sent_to, IsFileRun, AreFilesRun, Waves}
+use Rattle.cbdc_model.specs.Waves.{Waves}
 use Rattle.ledger_laws.proofs.Next.{Steady}
 use Rattle.ledger_laws.proofs.Counts.{count}
 use Rattle.ledger_laws.proofs.Ledger.{steady}
 use Rattle.ledger_laws.proofs.LaneLaws.{local_law}
 use Rattle.ledger_laws.proofs.Lookups.{not_true}
-use Rattle.ledger_laws.proofs.Members.{In, in_contains, contains_in, in_count}
+use Rattle.ledger_laws.proofs.Members.{In, in_contains, contains_in}
 use Rattle.run_laws.proofs.Proper.{sound_law}
-use Rattle.sentinel.specs.FirstRefusal.{IsSound}
 use Rattle.sound_laws.specs.SoundTest.{sound_by}
 use Rattle.wave_laws.specs.Between.{BeginsWave}
 use Rattle.wave_laws.specs.Placing.{tx_at}
@@ -31,7 +29,7 @@ use Rattle.submission_laws.specs.Settled.{IsSettled, AreSettled}
 use Rattle.submission_laws.specs.Free.{IsUncontended, IsConfirmed}
 use Rattle.submission_laws.proofs.Settling.{settled_law}
 use Rattle.submission_laws.proofs.Freeing.{free_confirmed_law}
-use Rattle.workload.specs.Generator.{mint_of, minted_of, joined_of, splits_of, joins_of, split_of, join_of}
+use Rattle.workload.specs.Generator.{mint_of, minted_of, joined_of, splits_of, joins_of, join_of}
 use Rattle.workload_laws.specs.Files.{all_good, files_of, all_of, made_for}
 use Rattle.workload_laws.proofs.Ranges.{from_zero, get_range, got_range}
 use Rattle.workload_laws.proofs.Sound.{joins_sound}
@@ -39,12 +37,12 @@ use Rattle.workload_laws.proofs.Coins.{split, join, mint_coin, low_coin, high_co
 use Rattle.workload_laws.proofs.Worlds.{OneOf, spender, each_passes, won_makes, is_unspent}
 use Rattle.workload_laws.proofs.Sets.{has_in}
 use Rattle.workload_laws.proofs.Committed.{is_committed}
-use Rattle.workload_laws.proofs.FirstFile.{in_map, one_in, same_file, sound_at, kept_first, none_prepared, is_split, split_confirmed, split_sent}
+use Rattle.workload_laws.proofs.FirstFile.{one_in, same_file, sound_at, kept_first, none_prepared, split_confirmed, split_sent}
 
 itself : (kind : ℕ) (c : Batch) → ((kind == kind) && same_batch c c) ≡ true
 itself kind c = grind arith
 
-two_in : (x y z : Digest) → In x (y ∷ z ∷ []) → (x ≡ y) ⊎ (x ≡ z)
+pub two_in : (x y z : Digest) → In x (y ∷ z ∷ []) → (x ≡ y) ⊎ (x ≡ z)
 two_in x y z (inl e) = inl e
 two_in x y z (inr (inl e)) = inr e
 two_in x y z (inr (inr h)) = absurd h
@@ -63,7 +61,7 @@ in_get (x ∷ xs) (suc j) t e = inr (in_get xs j t e)
 no_file : (f g : List FullTx) (k : ℕ) → slice_get (f ∷ []) (suc k) ≡ Some g → ⊥
 no_file f g k e = let z : None ≡ Some g = e in cc
 
-zero_or : (m : ℕ) → (0 < m → ⊥) → m ≡ 0
+pub zero_or : (m : ℕ) → (0 < m → ⊥) → m ≡ 0
 zero_or zero f = refl
 zero_or (suc m) f = absurd (f (omega arith))
 

@@ -1,10 +1,10 @@
 -- Lists in which nothing stands twice.
-use Rattle.std.proofs.Common.{◌≡◌, ◌⊎◌, inl, inr, ℕ, zero, suc, ◌+◌, ◌<◌, ◌≤◌, Bool, true, false, ◌||◌, List, [], ◌∷◌, ◌++◌, length, map, refl, sym, ap, ◌∙◌, subst, arith}
+use Rattle.std.proofs.Common.{◌≡◌, ◌⊎◌, inl, inr, ℕ, zero, suc, ◌+◌, ◌<◌, ◌≤◌, true, false, List, [], ◌∷◌, ◌++◌, length, map, refl, sym, ap, ◌∙◌, subst, arith}
 use Rattle.std.specs.List.{range_with_len, IsDistinct, AllByRecursion}
 use Rattle.cbdc_model.specs.Records.{Digest, same_digest}
 use Rattle.cbdc_model.specs.Status.{has}
 use Rattle.shard_table.specs.Members.{IsSet}
-use Rattle.ledger_laws.proofs.Counts.{count, has-count, count-has, same_is_true}
+use Rattle.ledger_laws.proofs.Counts.{has-count, count-has, same_is_true}
 use Rattle.ledger_laws.proofs.Lookups.{true_false, not_true}
 use Rattle.ledger_laws.proofs.Members.{In, in_count, count_in}
 use Rattle.workload_laws.proofs.Ranges.{in_both, From, from_range}
@@ -24,11 +24,11 @@ pub once_range : {A : Type 0} (f : ℕ → A) (m k top : ℕ) → k + m ≤ top 
 once_range f zero k top le same = tt
 once_range f (suc m) k top le same = (
   λ h. (
-    let r : From f m (k + 1) (f k) = from_range f m (k + 1) (f k) h in
-    let low = r.low in
-    let high = r.high in
-    let e = same k r.number (omega (arith, le)) (omega (arith, le, high)) r.is in
-    omega (arith, low, e)),
+      let r : From f m (k + 1) (f k) = from_range f m (k + 1) (f k) h in
+      let low = r.low in
+      let high = r.high in
+      let e = same k r.number (omega (arith, le)) (omega (arith, le, high)) r.is in
+      omega (arith, low, e)),
   once_range f m (k + 1) top (omega (arith, le)) same,
 )
 

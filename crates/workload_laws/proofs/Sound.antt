@@ -1,5 +1,5 @@
 -- Each transaction of a workload is sound.
-use Rattle.std.proofs.Common.{◌≡◌, ◌⊎◌, inl, inr, ◌+◌, ◌-◌, ◌*◌, ◌/◌, ◌<◌, ◌≤◌, ℕ, zero, suc, List, [], ◌∷◌, Some, refl, ap, arith}
+use Rattle.std.proofs.Common.{◌≡◌, ◌⊎◌, inl, inr, ◌+◌, ◌-◌, ◌*◌, ◌/◌, ◌≤◌, ℕ, zero, suc, [], ◌∷◌, Some, refl, ap, arith}
 use Rattle.std.specs.Prelude.{slice_get, sum_by, All}
 use Rattle.std.specs.List.{range_with_len}
 use Rattle.std.proofs.lemmas.List.Elements.{All-map}
@@ -134,4 +134,3 @@ splits_sound seed n = All-map IsGood (split_of seed n (genesis_id (mint_of seed 
 
 pub joins_sound : (seed n : ℕ) → All IsGood (joins_of seed n)
 joins_sound seed n = All-map IsGood (join_of seed n (genesis_id (mint_of seed n))) (range_with_len 0 (joined_of n)) (λ k d lt. join_sound seed n _ _)
-

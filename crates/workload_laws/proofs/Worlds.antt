@@ -1,14 +1,14 @@
 -- Which hashes are unspent in kept journals in which every lane is idle, by what is committed.
-use Rattle.std.proofs.Common.{◌≡◌, ◌⊎◌, inl, inr, ℕ, zero, suc, ◌+◌, ◌*◌, ◌/◌, ◌<◌, ◌≤◌, Bool, true, false, if◌then◌else◌, List, [], ◌∷◌, ◌++◌, Some, None, refl, sym, ap, ◌∙◌, subst, arith}
+use Rattle.std.proofs.Common.{◌≡◌, ◌⊎◌, inl, inr, ℕ, zero, suc, ◌+◌, ◌/◌, ◌<◌, true, false, if◌then◌else◌, List, [], ◌∷◌, Some, None, refl, sym, subst, arith}
 use Rattle.std.proofs.Math.Nat.{div-lt_iff_lt-mul}
-use Rattle.cbdc_model.specs.Records.{Digest, Shape, Batch, Compact, Outcome, Record, Row, journal, txs_of, outcomes_of, is_won, Won}
+use Rattle.cbdc_model.specs.Records.{Digest, Shape, Batch, Compact, Outcome, Row, journal, is_won, Won}
 use Rattle.cbdc_model.specs.Status.{Status, status, Unspent, Locked, Absent}
 use Rattle.cbdc_model.specs.Slots.{slot, Idle}
-use Rattle.cbdc_model.specs.Ranges.{shard_of, shard_node, home_of, journal_at}
+use Rattle.cbdc_model.specs.Ranges.{journal_at}
 use Rattle.cbdc_model.specs.Outcomes.{won_txs}
 use Rattle.cbdc_model.specs.Coins.{Output, FullTx, genesis_hashes}
 use Rattle.cbdc_model.specs.Clean.{Clean, IsProperCompact}
-use Rattle.cbdc_model.specs.History.{Minted, minted, first_rows, history_of, committed, won_of, all_inputs, all_outputs}
+use Rattle.cbdc_model.specs.History.{minted, history_of, committed, won_of, all_inputs, all_outputs}
 use Rattle.cbdc_model.specs.World.{AreIdle}
 use Rattle.cbdc_model.specs.Places.{outcome_at}
 use Rattle.ledger_laws.proofs.Next.{Each, Steady}
