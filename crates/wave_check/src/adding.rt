@@ -10,8 +10,8 @@ ghost use Rattle.model_check.specs.Journals.{journals_in};
 ghost use Rattle.wave_check.specs.Adding.{MayAdd, IsNew, Grows};
 
 use cbdc_types::{BatchId, LaneId, List, Record, Shape};
-use kept_check::is_journal;
 use model_check::{home_journal, home_of, is_idle, journal_at, record_of, slot_of};
+use same_records::is_journal;
 
 /// The batch of a record, none of a first record.
 #[tactic(auto, using(crate::proofs::Batches::batch_is))]

@@ -5,8 +5,8 @@ ghost use Rattle.wave_check.specs.Choices.{ends_of, each_before, choices};
 
 use crate::adding::journal_of;
 use cbdc_types::{List, Record};
-use kept_check::is_journal;
 use model_check::copy_of_record;
+use same_records::is_journal;
 use std::alloc::{AllocError, Global};
 
 // A copy of a journal.

@@ -5,8 +5,8 @@ ghost use Rattle.cbdc_model.specs.Waves.{IsCut, prepared};
 ghost use Rattle.wave_check.specs.Adding.{IsPrepared};
 
 use cbdc_types::{CompactTx, LaneId, List, Record, Shape};
-use kept_check::are_compacts;
 use model_check::copy_of_txs;
+use same_records::are_compacts;
 use std::alloc::{AllocError, Global};
 
 // Puts what a lane prepared in a journal behind what there is.
