@@ -182,6 +182,7 @@ fn later_below(
 
 /// Whether journals, of which the newest record is the first, have a kept history: their records by stamp and node, each
 /// behind those of its journal and caused by those before it, and Prepares with forms of proper submissions alone.
+#[tactic(auto, using(crate::proofs::Keeping::kept_history, crate::proofs::Keeping::kept_rows, crate::proofs::Keeping::kept_by))]
 pub fn is_kept_ledger(
     alloc: Global,
     shape: &Shape,
