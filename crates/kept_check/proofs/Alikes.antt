@@ -39,34 +39,39 @@ here : (shards s k : ℕ) (t : Compact) (ts : List Compact) → (is_empty (on_sh
     → part shards s k (t ∷ ts) ≡ entry_of shards s k t ∷ part shards s (suc k) ts
 here shards s k t ts e = rw e refl
 
-pub decides_elsewhere : (shards s : ℕ) (t : Compact) (ts : List Compact) (outcomes back : List Outcome) (ds : List Bool) (yes : Bool)
-    → is_empty (on_shard shards s t.inputs) ≡ true → is_empty (on_shard shards s t.outputs) ≡ true → back ≡ drop 1 outcomes
-    → Decides shards s ts back ds yes → Decides shards s (t ∷ ts) outcomes ds yes
-decides_elsewhere shards s t ts outcomes back ds yes e f b rest all place is =
-    subst (λ es. IsTrue yes ↔ (ds ≡ decisions all es)) (sym (elsewhere shards s place t ts e f)) (rest all (suc place) (b ∙ ap (drop 1) is ∙ drop_next all place))
+pub decides_none : (shards s : ℕ) (txs : List Compact) (outcomes : List Outcome) (ds : List Bool) (yes : Bool) → txs ≡ [] → (IsTrue yes ↔ (ds ≡ [])) → Decides shards s txs outcomes ds yes
+decides_none shards s txs outcomes ds yes e h all place is = subst (λ l. IsTrue yes ↔ (ds ≡ decisions all (part shards s place l))) (sym e) h
 
-pub decides_here : (shards s : ℕ) (t : Compact) (ts : List Compact) (outcomes back : List Outcome) (d : Bool) (ds : List Bool) (yes : Bool)
-    → (is_empty (on_shard shards s t.inputs) && is_empty (on_shard shards s t.outputs)) ≡ false → back ≡ drop 1 outcomes → d ≡ won_at outcomes 0
-    → Decides shards s ts back ds yes → Decides shards s (t ∷ ts) outcomes (d ∷ ds) yes
-decides_here shards s t ts outcomes back d ds yes e b same rest all place is =
+pub decides_elsewhere : (shards s : ℕ) (txs : List Compact) (t : Compact) (ts : List Compact) (outcomes back : List Outcome) (ds : List Bool) (yes : Bool)
+    → txs ≡ t ∷ ts → is_empty (on_shard shards s t.inputs) ≡ true → is_empty (on_shard shards s t.outputs) ≡ true → back ≡ drop 1 outcomes
+    → Decides shards s ts back ds yes → Decides shards s txs outcomes ds yes
+decides_elsewhere shards s txs t ts outcomes back ds yes list e f b rest all place is =
+    subst (λ l. IsTrue yes ↔ (ds ≡ decisions all (part shards s place l))) (sym list) (subst (λ es. IsTrue yes ↔ (ds ≡ decisions all es)) (sym (elsewhere shards s place t ts e f)) (rest all (suc place) (b ∙ ap (drop 1) is ∙ drop_next all place)))
+
+pub decides_here : (shards s : ℕ) (txs : List Compact) (t : Compact) (ts : List Compact) (outcomes back : List Outcome) (all_ds : List Bool) (d : Bool) (ds : List Bool) (yes : Bool)
+    → txs ≡ t ∷ ts → all_ds ≡ d ∷ ds → (is_empty (on_shard shards s t.inputs) && is_empty (on_shard shards s t.outputs)) ≡ false → back ≡ drop 1 outcomes → d ≡ won_at outcomes 0
+    → Decides shards s ts back ds yes → Decides shards s txs outcomes all_ds yes
+decides_here shards s txs t ts outcomes back all_ds d ds yes list list' e b same rest all place is =
     let first : d ≡ won_at all place = same ∙ ap (λ l. won_at l 0) is ∙ won_next all place in
     let later : IsTrue yes ↔ (ds ≡ decisions all (part shards s (suc place) ts)) = rest all (suc place) (b ∙ ap (drop 1) is ∙ drop_next all place) in
-    subst (λ es. IsTrue yes ↔ (d ∷ ds ≡ decisions all es)) (sym (here shards s place t ts e)) (
+    subst (λ l. IsTrue yes ↔ (all_ds ≡ decisions all (part shards s place l))) (sym list)
+    (subst (λ l. IsTrue yes ↔ (l ≡ decisions all (part shards s place (t ∷ ts)))) (sym list')
+    (subst (λ es. IsTrue yes ↔ (d ∷ ds ≡ decisions all es)) (sym (here shards s place t ts e)) (
       λ y. (λ i. first i ∷ later.0 y i),
       λ both. later.1 (tails d ds (won_at all place) (decisions all (part shards s (suc place) ts)) both),
-    )
+    )))
   where
     tails : (a : Bool) (as : List Bool) (b : Bool) (bs : List Bool) → a ∷ as ≡ b ∷ bs → as ≡ bs
     tails a as b bs e = cc
 
-pub decides_not : (shards s : ℕ) (t : Compact) (ts : List Compact) (outcomes : List Outcome) (ds : List Bool)
-    → (is_empty (on_shard shards s t.inputs) && is_empty (on_shard shards s t.outputs)) ≡ false → ((d : Bool) (rest : List Bool) → ds ≡ d ∷ rest → d ≡ won_at outcomes 0 → ⊥)
-    → Decides shards s (t ∷ ts) outcomes ds false
-decides_not shards s t ts outcomes ds e differ all place is =
-    subst (λ es. IsTrue false ↔ (ds ≡ decisions all es)) (sym (here shards s place t ts e)) (
+pub decides_not : (shards s : ℕ) (txs : List Compact) (t : Compact) (ts : List Compact) (outcomes : List Outcome) (ds : List Bool)
+    → txs ≡ t ∷ ts → (is_empty (on_shard shards s t.inputs) && is_empty (on_shard shards s t.outputs)) ≡ false → ((d : Bool) (rest : List Bool) → ds ≡ d ∷ rest → d ≡ won_at outcomes 0 → ⊥)
+    → Decides shards s txs outcomes ds false
+decides_not shards s txs t ts outcomes ds list e differ all place is =
+    subst (λ l. IsTrue false ↔ (ds ≡ decisions all (part shards s place l))) (sym list) (subst (λ es. IsTrue false ↔ (ds ≡ decisions all es)) (sym (here shards s place t ts e)) (
       λ lie. absurd (no_lie lie),
       λ same. absurd (differ (won_at all place) (decisions all (part shards s (suc place) ts)) same (sym (ap (λ l. won_at l 0) is ∙ won_next all place))),
-    )
+    ))
 
 -- a batch that is finished alike, shard by shard
 pub alike_by : (K : Shape) (J : ℕ → List Record) (b : Batch) (yes : Bool) → count_of 7 (J (home_of K b.lane)) b ≡ 1
@@ -110,9 +115,9 @@ found_later r rest b h = grind (arith, common_steps)
 only : (r : Record) (b : Batch) → is_some (record_of 6 (r ∷ []) b) ≡ true → Prepares r b ≡ true
 only r b h = grind (arith, common_steps)
 
-pub prepared_next : (K : Shape) (J : ℕ → List Record) (n : ℕ) (r : Record) (rest : List Record) (yes : Bool) → PreparedAlike K J n (r ∷ [])
-    → (IsTrue yes ↔ PreparedAlike K J n rest) → IsTrue yes ↔ PreparedAlike K J n (r ∷ rest)
-prepared_next K J n r rest yes first later = (
+pub prepared_next : (K : Shape) (J : ℕ → List Record) (n : ℕ) (past : List Record) (r : Record) (rest : List Record) (yes : Bool) → past ≡ r ∷ rest → PreparedAlike K J n (r ∷ [])
+    → (IsTrue yes ↔ PreparedAlike K J n rest) → IsTrue yes ↔ PreparedAlike K J n past
+prepared_next K J n past r rest yes e first later = subst (λ l. IsTrue yes ↔ PreparedAlike K J n l) (sym e) (
   λ y b home is. elim (found r rest b is) [
     | inl f ↦ first b home (found_first r [] b f)
     | inr g ↦ later.0 y b home g
@@ -120,8 +125,8 @@ prepared_next K J n r rest yes first later = (
   λ all. later.1 (λ b home is. all b home (found_later r rest b is)),
 )
 
-pub not_prepared : (K : Shape) (J : ℕ → List Record) (n : ℕ) (r : Record) (rest : List Record) → (PreparedAlike K J n (r ∷ []) → ⊥) → IsTrue false ↔ PreparedAlike K J n (r ∷ rest)
-not_prepared K J n r rest no = (λ lie. absurd (no_lie lie), λ all. absurd (no (λ b home is. all b home (found_first r rest b (only r b is)))))
+pub not_prepared : (K : Shape) (J : ℕ → List Record) (n : ℕ) (past : List Record) (r : Record) (rest : List Record) → past ≡ r ∷ rest → (PreparedAlike K J n (r ∷ []) → ⊥) → IsTrue false ↔ PreparedAlike K J n past
+not_prepared K J n past r rest e no = subst (λ l. IsTrue false ↔ PreparedAlike K J n l) (sym e) (λ lie. absurd (no_lie lie), λ all. absurd (no (λ b home is. all b home (found_first r rest b (only r b is)))))
 
 -- a record that prepares nothing
 pub prepares_none : (K : Shape) (J : ℕ → List Record) (n : ℕ) (r : Record) → (kind_of r == 6) ≡ false → PreparedAlike K J n (r ∷ [])

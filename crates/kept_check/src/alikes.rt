@@ -41,7 +41,7 @@ fn behind(outcomes: &[Outcome]) -> &[Outcome]
 
 // Whether decisions are those of a shard's part of transactions by these outcomes, the first of which is the first
 // transaction's.
-#[tactic(auto, using(crate::proofs::Alikes::decides_elsewhere, crate::proofs::Alikes::decides_here, crate::proofs::Alikes::decides_not))]
+#[tactic(auto, using(crate::proofs::Alikes::decides_none, crate::proofs::Alikes::decides_elsewhere, crate::proofs::Alikes::decides_here, crate::proofs::Alikes::decides_not))]
 fn are_decided(
     shards: u32,
     shard: u32,

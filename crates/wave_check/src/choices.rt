@@ -134,6 +134,7 @@ fn are_same_below(old: &[List<Record>], new: &[List<Record>], n: usize) -> bool
 }
 
 /// Whether all nodes have the same journals.
+#[tactic(auto, using(crate::proofs::Choosing::same_by, crate::proofs::Growing::past_end))]
 pub fn are_same(old: &[List<Record>], new: &[List<Record>]) -> bool
     ensures { IsTrue result ↔ ((n : ℕ) → journals_in new.now n ≡ journals_in old.now n) }
 {
