@@ -2,9 +2,19 @@
 ghost use Rattle.std.specs.Prelude.{◌≡◌, ◌↔◌, IsTrue};
 ghost use Rattle.cbdc_model.specs.Records.{Genesis, Lock, Finish, Forget, Start, Prepare, Commit, Discard, Done};
 
-use crate::proper::is_compact;
 use cbdc_types::{Answered, BatchId, CompactTx, Hash, Header, Outcome, Record, Stamp};
-use model_check::{are_answered, are_decisions, are_hashes, are_outcomes, is_batch, is_header};
+use model_check::{
+    are_answered, are_decisions, are_hashes, are_outcomes, is_batch, is_hash, is_header,
+};
+
+/// Whether two compact transactions are the same.
+pub fn is_compact(a: &CompactTx, b: &CompactTx) -> bool
+    ensures { IsTrue result ↔ (a.now ≡ b.now) }
+{
+    is_hash(&a.id, &b.id)
+        && are_hashes(a.inputs.as_slice(), b.inputs.as_slice())
+        && are_hashes(a.outputs.as_slice(), b.outputs.as_slice())
+}
 
 /// Whether two lists of transactions are the same.
 pub fn are_compacts(ts: &[CompactTx], us: &[CompactTx]) -> bool
