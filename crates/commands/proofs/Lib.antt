@@ -24,4 +24,5 @@ pub mod Minted
 pub mod Memory
 pub mod Refused
 pub mod Cut
+pub mod OneText
 pub mod Generated

@@ -66,8 +66,8 @@ to_named : (mint : List Output) (txs : List FullTx) (c : Coin) → In c (tx_coin
 to_named mint txs c h = elim (in_parts (tx_coins (genesis_tx mint)) (coins_in txs) c h) [
   | inl i ↦ (genesis_tx mint, inl refl, inr (contains_in (tx_coins (genesis_tx mint)) c i))
   | inr later ↦
-    let found : In_coins txs c = from_coins txs c later in
-    (found.0, inr (contains_in txs found.0 found.1), coin_of found.0 c found.2)
+      let found : In_coins txs c = from_coins txs c later in
+      (found.0, inr (contains_in txs found.0 found.1), coin_of found.0 c found.2)
 ]
 
 of_member : (mint : List Output) (txs : List FullTx) (c : Coin) (t : FullTx) → IsMember mint txs t → (In c t.inputs ⊎ In c (tx_coins t)) → In c (tx_coins (genesis_tx mint) ++ coins_in txs)

@@ -63,8 +63,7 @@ fn are_decided(
     match ds.split_first() {
         None => false,
         Some((d, rest)) => {
-            *d == won_at(outcomes, 0)
-                && are_decided(shards, shard, others, behind(outcomes), rest)
+            *d == won_at(outcomes, 0) && are_decided(shards, shard, others, behind(outcomes), rest)
         }
     }
 }
@@ -91,9 +90,7 @@ fn is_finished(journals: &[List<Record>], shape: &Shape, batch: &BatchId, shard:
 fn has_none(past: &[Record], batch: &BatchId) -> bool
     ensures { IsTrue result ↔ HasNone past.now batch.now }
 {
-    count_of(2, past, batch) == 0
-        && count_of(3, past, batch) == 0
-        && count_of(4, past, batch) == 0
+    count_of(2, past, batch) == 0 && count_of(3, past, batch) == 0 && count_of(4, past, batch) == 0
 }
 
 // Whether a shard is finished where the batch concerns it, and has no record of it elsewhere.
@@ -132,12 +129,7 @@ pub fn is_alike(journals: &[List<Record>], shape: &Shape, batch: &BatchId) -> bo
 
 // Whether the batch that a record prepares at its own coordinator is finished alike.
 #[tactic(auto, using(crate::proofs::Alikes::prepares_none, crate::proofs::Alikes::prepares_one))]
-fn is_prepared_alike(
-    journals: &[List<Record>],
-    shape: &Shape,
-    node: usize,
-    r: &Record,
-) -> bool
+fn is_prepared_alike(journals: &[List<Record>], shape: &Shape, node: usize, r: &Record) -> bool
     ensures { IsTrue result ↔ PreparedAlike shape.now (journals_in journals.now) node (r.now ∷ []) }
 {
     match r {

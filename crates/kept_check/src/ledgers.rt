@@ -99,12 +99,7 @@ pub fn is_history(
 }
 
 // Puts rows with one more in its place behind those so far.
-fn add_with(
-    alloc: Global,
-    row: &Row,
-    rows: &[Row],
-    out: &mut Vec<Row>,
-) -> Result<(), AllocError>
+fn add_with(alloc: Global, row: &Row, rows: &[Row], out: &mut Vec<Row>) -> Result<(), AllocError>
     ensures { OnOk result (out.new.items ≡ out.old.items ++ put_row row.now rows.now) }
 {
     let Some((head, later)) = rows.split_first() else {
@@ -164,11 +159,7 @@ fn behind_first<'a>(past: &'a [Record]) -> &'a [Record]
 }
 
 // The records behind the oldest ones of the nodes below n, in the order of a history.
-fn later_below(
-    alloc: Global,
-    journals: &[List<Record>],
-    n: u32,
-) -> Result<List<Row>, AllocError>
+fn later_below(alloc: Global, journals: &[List<Record>], n: u32) -> Result<List<Row>, AllocError>
     ensures { IfOk result (λ l. l ≡ later_below (journals_in journals.now) n) }
 {
     if n == 0 {

@@ -66,5 +66,6 @@ back_is n k txs rest e f = elim (cases_lt n (length txs)) [
   where
     small : n < length txs → min n (length txs) ≡ n
     small lt = omega arith
+
     large : length txs ≤ n → min n (length txs) ≡ length txs
     large le = omega arith

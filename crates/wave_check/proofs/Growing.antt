@@ -18,9 +18,9 @@ pub grown : (of : Batch → Type 0) (newer old : List Record) → AllByRecursion
 grown of newer old all = record {
   grows = (newer, refl);
   each = λ more rest r e h.
-    let same : newer ≡ more ++ r ∷ h.0 =
-        append_cancel_right newer (more ++ r ∷ h.0) old (e ∙ ap (λ L. more ++ r ∷ L) h.1 ∙ sym (append_assoc more (r ∷ h.0) old)) in
-    middle (IsNew of) more h.0 r (subst (AllByRecursion (IsNew of)) same all);
+      let same : newer ≡ more ++ r ∷ h.0 =
+      append_cancel_right newer (more ++ r ∷ h.0) old (e ∙ ap (λ L. more ++ r ∷ L) h.1 ∙ sym (append_assoc more (r ∷ h.0) old)) in
+      middle (IsNew of) more h.0 r (subst (AllByRecursion (IsNew of)) same all);
 }
 
 each_new : (of : Batch → Type 0) (newer old : List Record) → Grows of old (newer ++ old) → AllByRecursion (IsNew of) newer
@@ -65,6 +65,7 @@ cut_at old new newer rest k e f l = record { joined = sym (take-append-drop k ne
   where
     e' : take k new ≡ newer
     e' = sym e
+
     f' : drop k new ≡ rest
     f' = sym f
 

@@ -21,11 +21,7 @@ fn copy_of_journal(alloc: Global, past: &[Record]) -> Result<List<Record>, Alloc
 }
 
 // Puts a journal and what it was before each of its records behind those so far.
-fn add_ends(
-    alloc: Global,
-    past: &[Record],
-    out: &mut Vec<List<Record>>,
-) -> Result<(), AllocError>
+fn add_ends(alloc: Global, past: &[Record], out: &mut Vec<List<Record>>) -> Result<(), AllocError>
     ensures { OnOk result (out.new.items ≡ out.old.items ++ ends_of past.now) }
 {
     out.push(copy_of_journal(alloc, past)?)?;
