@@ -61,6 +61,7 @@ use Rattle.commands.proofs.Printed.{run_numbers, countable}
 use Rattle.commands.proofs.Cut.{batches_are_cut}
 use Rattle.commands.proofs.Refused.{none_open, none_refused, all_decided}
 use Rattle.commands.proofs.Workloads.{few}
+use Rattle.commands.proofs.OneText.{one_text}
 
 -- a workload has so many transactions
 all_few : (seed n : ℕ) → n ≤ 10000 → all_txs (files_of seed n) ≤ 1000000
@@ -243,6 +244,7 @@ module _ (K : Shape) (seed n : ℕ) where
 
     pub came_to : (totals : Totals) → IsCheckedSound rack (mint_of seed n) (all_of seed n) totals → CameTo K seed n ran totals
     came_to totals audited = record {
+      limits = limits;
       exit = told.exit;
       run = is_run;
       countable = is_countable K seed n limits small told.exit ran told.tells;
@@ -306,4 +308,13 @@ module _ (K : Shape) (seed n : ℕ) where
 
   -- the text of a workload
   pub text_of : (ran : Ran) (totals : Totals) → CameTo K seed n ran totals → IsWorkloadText K seed n (numbers_of ran ++ audit_lines totals)
-  text_of ran totals came = record { exit = came.exit; run = came.run; summary = numbers_of ran; ends = came.ends; totals = totals; audited = came.audited; text_is = refl }
+  text_of ran totals came = record {
+    exit = came.exit;
+    run = came.run;
+    summary = numbers_of ran;
+    ends = came.ends;
+    totals = totals;
+    audited = came.audited;
+    text_is = refl;
+    clean = λ clean. (let one = one_text K seed n came.limits clean came.exit came.run.kept came.run.waves in one (numbers_of ran) came.ends totals came.audited);
+  }

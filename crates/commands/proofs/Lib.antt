@@ -24,5 +24,6 @@ pub mod Minted
 pub mod Memory
 pub mod Refused
 pub mod Cut
+pub mod OneText
 pub mod Generated
 pub mod Complete
