@@ -14,13 +14,13 @@ use std::test::Fail;
 const NOT_CAUSED: &str = "fault unsound 3 cause\n";
 
 // Checks the text and the status of a run.
-fn told<W: Abort>(rt: &W, ran: &Ran, status: u8, text: &str) {
+pub(crate) fn told<W: Abort>(rt: &W, ran: &Ran, status: u8, text: &str) {
     assert_eq!(rt; ran.text.as_slice(), text.as_bytes());
     assert_eq!(rt; ran.status, status);
 }
 
 // The ledger of the coin, behind its transaction to 60 and 40.
-fn spent<W: Wait>(rt: &W, alloc: Global) -> Result<MemRack<PlainDisk>, Fail>
+pub(crate) fn spent<W: Wait>(rt: &W, alloc: Global) -> Result<MemRack<PlainDisk>, Fail>
     ensures { IfOk result (λ r. AllIn r) }
 {
     let rack = made(rt, alloc, 10_000, 10_000)?;
@@ -29,7 +29,7 @@ fn spent<W: Wait>(rt: &W, alloc: Global) -> Result<MemRack<PlainDisk>, Fail>
 }
 
 // An audit with these words: `m` is the mint, `o` another, and `c` the client file of the transaction.
-fn audited<W: Wait>(
+pub(crate) fn audited<W: Wait>(
     rt: &W,
     alloc: Global,
     rack: MemRack<PlainDisk>,
@@ -75,6 +75,35 @@ fn a_transaction_that_was_not_handed_in(rt: HostRuntime) -> Result<(), Fail> {
 fn an_audit_by_another_mint(rt: HostRuntime) -> Result<(), Fail> {
     let alloc = rt.alloc();
     let run = audited(&rt, alloc, spent(&rt, alloc)?, &["audit", "o", "c"])?;
+    told(&rt, &run, 4, "fault foreign 0\n");
+    Ok(())
+}
+
+// The ledger behind the coin's transaction, but that the disk of its shard is empty.
+fn without_shard<W: Wait>(rt: &W, alloc: Global) -> Result<MemRack<PlainDisk>, Fail>
+    ensures { IfOk result (λ r. AllIn r) }
+{
+    let rack = spent(rt, alloc)?;
+    let one = bytes_of(alloc, &rack, 0)?;
+    Ok(with_bytes(alloc, one, Vec::new(alloc))?)
+}
+
+/// By its own mint the shard is missed.
+#[test]
+fn an_audit_without_the_shard(rt: HostRuntime) -> Result<(), Fail> {
+    let alloc = rt.alloc();
+    let rack = without_shard(&rt, alloc)?;
+    let run = audited(&rt, alloc, rack, &["audit", "m", "c"])?;
+    told(&rt, &run, 4, "fault not ready 1\n");
+    Ok(())
+}
+
+/// By another mint node 0 is foreign, ahead of the shard that is missing.
+#[test]
+fn another_mint_ahead_of_a_missing_shard(rt: HostRuntime) -> Result<(), Fail> {
+    let alloc = rt.alloc();
+    let rack = without_shard(&rt, alloc)?;
+    let run = audited(&rt, alloc, rack, &["audit", "o", "c"])?;
     told(&rt, &run, 4, "fault foreign 0\n");
     Ok(())
 }

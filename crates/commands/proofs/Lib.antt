@@ -20,8 +20,8 @@ pub mod RunLines
 pub mod Batched
 pub mod Printed
 pub mod FirstShown
+pub mod Minted
 pub mod Memory
-pub mod Sound
 pub mod Refused
 pub mod Cut
 pub mod OneText

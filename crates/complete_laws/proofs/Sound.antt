@@ -1,5 +1,5 @@
 -- Kept journals with every lane idle are found sound by an audit, where no hashes clash.
-use Rattle.std.proofs.Common.{◌≡◌, inl, inr, ◌*◌, ◌<◌, ◌≤◌, ℕ, zero, suc, true, false, ◌&&◌, ◌==◌, if◌then◌else◌, List, [], ◌∷◌, ◌++◌, length, reverse, Some, refl, sym, ap, ◌∙◌, subst, arith}
+use Rattle.std.proofs.Common.{◌≡◌, inl, inr, ◌*◌, ◌<◌, ℕ, zero, suc, true, false, ◌&&◌, ◌==◌, if◌then◌else◌, List, [], ◌∷◌, ◌++◌, length, reverse, Some, refl, sym, ap, ◌∙◌, subst, arith}
 use Rattle.std.specs.Prelude.{slice_get, is_some, find}
 use Rattle.std.specs.FinMap.{len}
 use Rattle.std.proofs.lemmas.Bool.{cases_lt}
@@ -12,7 +12,7 @@ use Rattle.cbdc_model.specs.After.{IsJournal}
 use Rattle.cbdc_model.specs.Book.{value}
 use Rattle.cbdc_model.specs.Clean.{IsProperCompact, value_out}
 use Rattle.cbdc_model.specs.Headline.{Headline}
-use Rattle.cbdc_model.specs.History.{Minted, minted, header_of, starts, geneses, first_rows, history_of, committed, IsSteady, IsOrdered, AreHandedIn}
+use Rattle.cbdc_model.specs.History.{minted, header_of, history_of, committed, IsOrdered, AreHandedIn}
 use Rattle.cbdc_model.specs.Ranges.{home_of}
 use Rattle.cbdc_model.specs.Slots.{slot}
 use Rattle.cbdc_model.specs.World.{KeptJournals, AreIdle}
@@ -25,29 +25,11 @@ use Rattle.rack_laws.proofs.Opened.{all_by}
 use Rattle.audit.specs.declared.verdict.Totals.{Totals}
 use Rattle.audit.specs.declared.verdict.Verdict.TheVariants.{Sound, Unsound}
 use Rattle.audit.specs.Walks.{AllCaused, AllDone, IsDone, IsFirstUncaused}
-use Rattle.audit.specs.Laws.{AllAfter}
 use Rattle.audit.specs.Verdicts.{IsSound, IsVerdict, journals_of}
 use Rattle.audit.proofs.Ordered.{ordered_rows}
 use Rattle.audit.proofs.Single.{one_verdict}
 use Rattle.rack_laws.specs.Shown.{node_count}
-use Rattle.commands.proofs.FirstShown.{kept_journal, kept_beyond}
-
-module _ (K : Shape) (m : Minted) where
-  starts_caused : (n : ℕ) → AllCaused K (starts K m n)
-  starts_caused zero = tt
-  starts_caused (suc n) = (tt, starts_caused n)
-
-  geneses_caused : (s : ℕ) → AllCaused K (geneses K m s ++ starts K m K.coordinators)
-  geneses_caused zero = starts_caused K.coordinators
-  geneses_caused (suc s) = (tt, geneses_caused s)
-
-  steady_caused : (P : Compact → Type 0) (later : List Row) → IsSteady K m P later → AllCaused K (later ++ first_rows K m)
-  steady_caused P [] kept = geneses_caused K.shards
-  steady_caused P (row ∷ later) kept = (kept.1, steady_caused P later kept.3)
-
-  steady_after : (P : Compact → Type 0) (later : List Row) → IsSteady K m P later → AllAfter K m later
-  steady_after P [] kept = tt
-  steady_after P (row ∷ later) kept = (kept.0, steady_after P later kept.3)
+use Rattle.complete_laws.proofs.Caused.{steady_caused, steady_after, kept_beyond}
 
 caused_behind : (K : Shape) (newer past : List Row) → AllCaused K (newer ++ past) → AllCaused K past
 caused_behind K [] past all = all
@@ -74,7 +56,7 @@ found (r ∷ newer) older stamp b txs = elim ((kind_of r == 6) && is_of b r) as 
   | false ↦ found newer older stamp b txs
 ]
 
-module _ (K : Shape) (mint : List Output) (submissions : List FullTx) (X : ℕ → List Record) (within : IsWithinLimits K) (few : length mint ≤ 1000000) (kept : KeptJournals K mint submissions X)
+module _ (K : Shape) (mint : List Output) (submissions : List FullTx) (X : ℕ → List Record) (within : IsWithinLimits K) (nodes : (n : ℕ) → n < node_count K → IsJournal (header_of K (genesis_id mint) n) (X n)) (kept : KeptJournals K mint submissions X)
     (rows : List Row) (journals_are : (n : ℕ) → journal n (reverse rows) ≡ X n) (ordered : IsOrdered (reverse rows)) where
   is_history : reverse rows ≡ history_of K mint kept.later
   is_history = ordered_rows K mint X kept.later (reverse rows) (steady_after K (minted mint) (IsProperCompact submissions) kept.later kept.kept) kept.history ordered journals_are
@@ -91,7 +73,7 @@ module _ (K : Shape) (mint : List Output) (submissions : List FullTx) (X : ℕ �
   module _ (idle : AreIdle K X) where
     prepared_done : (stamp : ℕ) (b : Batch) (txs : List Compact) (n : ℕ) (newer older : List Record) → n < node_count K → X n ≡ newer ++ Prepare stamp b txs ∷ older → is_some (record_of 9 (X (home_of K b.lane)) b) ≡ true
     prepared_done stamp b txs n newer older inside e =
-        let after = after_in (header_of K (genesis_id mint) n) newer older (Prepare stamp b txs) (subst (IsJournal (header_of K (genesis_id mint) n)) e (kept_journal K mint within few submissions X kept n inside)) in
+        let after = after_in (header_of K (genesis_id mint) n) newer older (Prepare stamp b txs) (subst (IsJournal (header_of K (genesis_id mint) n)) e (nodes n inside)) in
         let home : n ≡ home_of K b.lane = after.1.1 in
         let lane : b.lane < K.coordinators * K.lanes = after.0.1.0 in
         let there : is_some (record_of 6 (X (home_of K b.lane)) b) ≡ true = subst (λ J. is_some (record_of 6 J b) ≡ true) (sym e ∙ ap X home) (found newer older stamp b txs) in
@@ -119,7 +101,7 @@ module _ (K : Shape) (mint : List Output) (submissions : List FullTx) (X : ℕ �
         by_kind n (Prepare stamp b txs) newer older e =
             let inside : n < node_count K = elim (cases_lt n (node_count K)) [
               | inl low ↦ low
-              | inr past ↦ absurd (cons_not newer older (Prepare stamp b txs) (sym e ∙ kept_beyond K mint within few submissions X kept n past))
+              | inr past ↦ absurd (cons_not newer older (Prepare stamp b txs) (sym e ∙ kept_beyond K mint submissions X kept n past))
             ] in
             subst (λ J. is_some (record_of 9 J b) ≡ true) (sym (journals_are (home_of K b.lane))) (prepared_done stamp b txs n newer older inside e)
         by_kind n (Genesis header hs) newer older e = tt
