@@ -183,15 +183,15 @@ module _ (mint : List Output) (handed : List FullTx) (clean : Clean mint handed)
       let took_all : Took b t.inputs β l.0 = took t.inputs b l.0 β so.stands (each_named t member t.inputs (λ c i. i)) (λ x. omega (arith, so.once x)) l.1 in
       let put = put_all_stands (coins_apart mint handed clean) (tx_coins t) l.0 (λ x. β x - count x (hashes_of t.inputs)) took_all.stands (each_made t member (tx_coins t) (λ c i. i))
       (λ x. room x (λ y. took_all.enough y)) in (
-      record {
-        stands = subst (λ d. StandsFor d (λ x. (minted_of x + made_of (ts ++ t ∷ []) x) - spent_of (ts ++ t ∷ []) x)) l.2
-            (stands_same (coins_apart mint handed clean) (put_all l.0 (tx_coins t)) _ _
-            (λ x. omega (arith, spent_more ts t x, made_more ts t x, took_all.enough x, so.covered x)) put.0);
-        once = λ x. omega (arith, made_more ts t x, so.once x, new_once x (λ y. took_all.enough y));
-        covered = λ x. omega (arith, spent_more ts t x, made_more ts t x, took_all.enough x, so.covered x);
-        members = λ u i. in_more ts u i so.members;
-      },
-      omega (arith, ap value (sym l.2) ∙ put.1, took_all.worth, made_value (tx_id t) 0 t.outputs),
+        record {
+          stands = subst (λ d. StandsFor d (λ x. (minted_of x + made_of (ts ++ t ∷ []) x) - spent_of (ts ++ t ∷ []) x)) l.2
+              (stands_same (coins_apart mint handed clean) (put_all l.0 (tx_coins t)) _ _
+              (λ x. omega (arith, spent_more ts t x, made_more ts t x, took_all.enough x, so.covered x)) put.0);
+          once = λ x. omega (arith, made_more ts t x, so.once x, new_once x (λ y. took_all.enough y));
+          covered = λ x. omega (arith, spent_more ts t x, made_more ts t x, took_all.enough x, so.covered x);
+          members = λ u i. in_more ts u i so.members;
+        },
+        omega (arith, ap value (sym l.2) ∙ put.1, took_all.worth, made_value (tx_id t) 0 t.outputs),
       )
     where
       new_once : (x : Digest) → ((y : Digest) → count y (hashes_of t.inputs) ≤ (minted_of y + made_of ts y) - spent_of ts y)

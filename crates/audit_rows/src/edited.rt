@@ -227,7 +227,12 @@ fn a_transaction_that_makes_more_than_it_takes(rt: HostRuntime) -> Result<(), Fa
 fn a_rejected_transaction_that_was_not_handed_in(rt: HostRuntime) -> Result<(), Fail> {
     let alloc = rt.alloc();
     let (first, second) = (sixty_forty(alloc)?, claims(alloc, 100, &[(4, 100)])?);
-    let Ran { rack, .. } = paid(&rt, alloc, made(&rt, alloc, 10_000, 10_000)?, &[&first, &second])?;
+    let Ran { rack, .. } = paid(
+        &rt,
+        alloc,
+        made(&rt, alloc, 10_000, 10_000)?,
+        &[&first, &second],
+    )?;
     let run = audited_with(&rt, alloc, rack, &first)?;
     told(
         &rt,

@@ -47,7 +47,13 @@ fn ran<W: Wait>(
     let mut lines = good(alloc, one)?;
     lines.extend_from_slice(&good(alloc, two)?)?;
     let files: [(&str, &[u8]); 3] = [("a", &a), ("b", &b), ("v", &lines)];
-    let Ran { rack, .. } = play(rt, alloc, rack, &["run", "--verdicts", "v", "a", "b"], &files)?;
+    let Ran { rack, .. } = play(
+        rt,
+        alloc,
+        rack,
+        &["run", "--verdicts", "v", "a", "b"],
+        &files,
+    )?;
     Ok(rack)
 }
 
@@ -75,7 +81,14 @@ fn a_batch_of_two_is_audited(rt: HostRuntime) -> Result<(), Fail> {
     let alloc = rt.alloc();
     let (one, two) = (first(alloc)?, second(alloc)?);
     let rack = ran(&rt, alloc, &[&one, &two], &[])?;
-    let run = audited(&rt, alloc, rack, &["audit", "m", "a", "b"], &[&one], &[&two])?;
+    let run = audited(
+        &rt,
+        alloc,
+        rack,
+        &["audit", "m", "a", "b"],
+        &[&one],
+        &[&two],
+    )?;
     told(
         &rt,
         &run,
@@ -117,7 +130,14 @@ fn transactions_that_are_handed_in_in_another_order(rt: HostRuntime) -> Result<(
     let alloc = rt.alloc();
     let (one, next) = (first(alloc)?, third(alloc)?);
     let rack = ran(&rt, alloc, &[&one], &[&next])?;
-    let run = audited(&rt, alloc, rack, &["audit", "m", "b", "a"], &[&one], &[&next])?;
+    let run = audited(
+        &rt,
+        alloc,
+        rack,
+        &["audit", "m", "b", "a"],
+        &[&one],
+        &[&next],
+    )?;
     told(
         &rt,
         &run,
