@@ -11,39 +11,39 @@ use Rattle.commands.proofs.top.process.Goals as goal
 
 pub returns-clause-did : goal.returns-clause-did
 returns-clause-did g c well =
-    let (r, asked, was) = c.answer_words.ensures.did well in (
+    let (r, asked, was) = c.answer_words-status.ensures.did well in (
       r,
       asked,
-      did_by (g.I.Inbox.file c.args.inbox.now) g.R.Disk.Disk.content g.R.Disk.Disk.images g.R.Disk.Disk.limit (g.R.Rack.held c.args.rack) (g.R.Rack.held c.answer_words.new.rack)
-          (IsPrinted (g.O.Sink.taken c.args.out.now) (g.O.Sink.taken c.answer_words.new.out) c.answer_words.result.status)
-          (IsPrinted (g.O.Sink.taken c.args.out.now) (g.O.Sink.taken c.write_fault.new.out) c.answer_words.result.status)
-          (λ text. printed_still (g.O.Sink.taken c.args.out.now) (g.O.Sink.taken c.answer_words.new.out) (g.O.Sink.taken c.write_fault.new.out) c.answer_words.result.name.now text c.write_fault.result c.answer_words.result.status c.write_fault.ensures.prints)
+      did_by (g.I.Inbox.file c.args.inbox.now) g.R.Disk.Disk.content g.R.Disk.Disk.images g.R.Disk.Disk.limit (g.R.Rack.held c.args.rack) (g.R.Rack.held c.answer_words-status.new.rack)
+          (IsPrinted (g.O.Sink.taken c.args.out.now) (g.O.Sink.taken c.answer_words-status.new.out) c.answer_words-status.result.status)
+          (IsPrinted (g.O.Sink.taken c.args.out.now) (g.O.Sink.taken c.write_fault.new.out) c.answer_words-status.result.status)
+          (λ text. printed_still (g.O.Sink.taken c.args.out.now) (g.O.Sink.taken c.answer_words-status.new.out) (g.O.Sink.taken c.write_fault.new.out) c.answer_words-status.result.name.now text c.write_fault.result c.answer_words-status.result.status c.write_fault.ensures.prints)
           r was,
     )
 
 pub returns-clause-bad_words : goal.returns-clause-bad_words
 returns-clause-bad_words g c is =
-    subst (λ a. IsAnswered (texts c.args.words.now) (g.I.Inbox.count c.args.inbox.now) (g.I.Inbox.count c.answer_words.new.inbox) (Rose (g.O.Sink.count c.args.out.now) (g.O.Sink.count c.answer_words.new.out)) a) is c.answer_words.ensures.cause
+    subst (λ a. IsAnswered (texts c.args.words.now) (g.I.Inbox.count c.args.inbox.now) (g.I.Inbox.count c.answer_words-status.new.inbox) (Rose (g.O.Sink.count c.args.out.now) (g.O.Sink.count c.answer_words-status.new.out)) a) is c.answer_words-status.ensures.cause
 
 pub returns-clause-read : goal.returns-clause-read
 returns-clause-read g c file is =
-    subst (λ a. IsAnswered (texts c.args.words.now) (g.I.Inbox.count c.args.inbox.now) (g.I.Inbox.count c.answer_words.new.inbox) (Rose (g.O.Sink.count c.args.out.now) (g.O.Sink.count c.answer_words.new.out)) a) is c.answer_words.ensures.cause
+    subst (λ a. IsAnswered (texts c.args.words.now) (g.I.Inbox.count c.args.inbox.now) (g.I.Inbox.count c.answer_words-status.new.inbox) (Rose (g.O.Sink.count c.args.out.now) (g.O.Sink.count c.answer_words-status.new.out)) a) is c.answer_words-status.ensures.cause
 
 pub returns-clause-written : goal.returns-clause-written
 returns-clause-written g c is =
-    rose_later (g.O.Sink.count c.args.out.now) (g.O.Sink.count c.args.out.now) (g.O.Sink.count c.answer_words.new.out) (g.O.Sink.count c.write_fault.new.out) (omega arith) c.write_fault.ensures.cause.later
-    (subst (λ a. IsAnswered (texts c.args.words.now) (g.I.Inbox.count c.args.inbox.now) (g.I.Inbox.count c.answer_words.new.inbox) (Rose (g.O.Sink.count c.args.out.now) (g.O.Sink.count c.answer_words.new.out)) a) is c.answer_words.ensures.cause)
+    rose_later (g.O.Sink.count c.args.out.now) (g.O.Sink.count c.args.out.now) (g.O.Sink.count c.answer_words-status.new.out) (g.O.Sink.count c.write_fault.new.out) (omega arith) c.write_fault.ensures.cause.later
+    (subst (λ a. IsAnswered (texts c.args.words.now) (g.I.Inbox.count c.args.inbox.now) (g.I.Inbox.count c.answer_words-status.new.inbox) (Rose (g.O.Sink.count c.args.out.now) (g.O.Sink.count c.answer_words-status.new.out)) a) is c.answer_words-status.ensures.cause)
 
 pub returns-clause-told : goal.returns-clause-told
-returns-clause-told g c refused = c.answer_words.ensures.told refused
+returns-clause-told g c refused = c.answer_words-status.ensures.told refused
 
 pub returns-clause-fault_line : goal.returns-clause-fault_line
 returns-clause-fault_line g c =
     let before = g.O.Sink.count c.args.out.now in
-    let mid = g.O.Sink.count c.answer_words.new.out in
+    let mid = g.O.Sink.count c.answer_words-status.new.out in
     let now = g.O.Sink.count c.write_fault.new.out in
-    fault_printed (texts c.args.words.now) (g.O.Sink.taken c.args.out.now) (g.O.Sink.taken c.answer_words.new.out) (g.O.Sink.taken c.write_fault.new.out) c.answer_words.result.name.now (Rose before now) c.write_fault.result c.answer_words.result.status
-    c.answer_words.ensures.silent
-    c.answer_words.ensures.named
+    fault_printed (texts c.args.words.now) (g.O.Sink.taken c.args.out.now) (g.O.Sink.taken c.answer_words-status.new.out) (g.O.Sink.taken c.write_fault.new.out) c.answer_words-status.result.name.now (Rose before now) c.write_fault.result c.answer_words-status.result.status
+    c.answer_words-status.ensures.silent
+    c.answer_words-status.ensures.named
     c.write_fault.ensures.prints
-    (on_err_weaker c.write_fault.result (rose_later before mid now now c.answer_words.ensures.written_later (omega arith)) c.write_fault.ensures.cause.failed)
+    (on_err_weaker c.write_fault.result (rose_later before mid now now c.answer_words-status.ensures.written_later (omega arith)) c.write_fault.ensures.cause.failed)
