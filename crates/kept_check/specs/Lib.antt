@@ -1,4 +1,0 @@
-pub mod Agreeing
-pub mod Alikes
-pub mod Merging
-pub mod Minting

@@ -1,4 +1,0 @@
-mod changed;
-mod judging;
-mod kept;
-mod others;

@@ -1,5 +1,0 @@
-pub mod Batches
-pub mod Growing
-pub mod Cutting
-pub mod Choosing
-pub mod Staging
