@@ -1,4 +1,5 @@
 mod devices;
 mod disks;
 mod journals;
+mod records;
 mod shards;

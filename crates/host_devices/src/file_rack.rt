@@ -37,10 +37,18 @@ fn open_file<R: Files<File = File>>(rt: &R, path: &str, made: bool) -> io::Resul
     options.open(rt, path)
 }
 
-// Makes the file and its folder, so that a crash keeps their names.
+// Makes the file and its folder, where they are not there.
 fn make_file<R: Files<File = File>>(rt: &R, path: &str) -> io::Result<File> {
     fs::create_dir_all(rt, "rack")?;
-    let file = open_file(rt, path, true)?;
+    open_file(rt, path, true)
+}
+
+// The file, and a crash keeps its name: a file that is there may be one whose making was cut short.
+fn named_file<R: Files<File = File>>(rt: &R, path: &str) -> io::Result<File> {
+    let file = match open_file(rt, path, false) {
+        Ok(found) => found,
+        Err(_) => make_file(rt, path)?,
+    };
     fs::open(rt, "rack")?.sync_all()?;
     fs::open(rt, ".")?.sync_all()?;
     Ok(file)
@@ -58,10 +66,7 @@ fn open_node<R: Files<File = File>>(
     let Ok(path) = format!(in alloc; "rack/node-{node:03}") else {
         return None;
     };
-    if let Ok(file) = open_file(rt, path.as_str(), false) {
-        return FileDisk::new(file, faults);
-    }
-    match make_file(rt, path.as_str()) {
+    match named_file(rt, path.as_str()) {
         Ok(file) => FileDisk::new(file, faults),
         Err(_) => None,
     }
