@@ -1,6 +1,6 @@
 use Rattle.std.proofs.Common.{inr, refl, sym, subst}
 use Rattle.command_line.specs.declared.request.Request.TheVariants.{Audit, Gen}
-use Rattle.commands.specs.Audits.{WhyNoAudit}
+use Rattle.commands.specs.Audits.{DidAudit, WhyNoAudit}
 use Rattle.commands.specs.Causes.{IsTold}
 use Rattle.commands.specs.Generated.{WhyNoWorkload}
 use Rattle.commands.specs.Left.{Leaves}
@@ -20,6 +20,13 @@ returns-in-Audit-clause-why g c =
     let There = WhyNoAudit (g.I.Inbox.file c.args.inbox.now) (g.I.Inbox.count c.args.inbox.now) (g.I.Inbox.count c.audit.new.inbox) g.R.Disk.Disk.content g.R.Disk.Disk.images g.R.Disk.Disk.limit g.R.Disk.Disk.count (g.R.Rack.held c.args.rack.now) (g.R.Rack.held c.audit.new.rack) (g.R.Rack.count c.args.rack.now) (g.R.Rack.count c.audit.new.rack) c.in-Audit.mint in
     subst (λ r. IsTold (Here r) c.audit.result) (sym c.in-Audit.is)
     (told_by (There c.in-Audit.clients.items) (Here (Audit c.in-Audit.mint c.in-Audit.clients)) c.audit.result (λ b why. why) (subst (λ files. IsTold (There files) c.audit.result) c.deref-in-Audit.ensures.value c.audit.ensures.why))
+
+pub returns-in-Audit-clause-did : goal.returns-in-Audit-clause-did
+returns-in-Audit-clause-did g c well =
+    let Printed = IsPrinted (g.O.Sink.taken c.args.out.now) (g.O.Sink.taken c.audit.new.out) c.audit.result in
+    let Done = DidAudit (g.I.Inbox.file c.args.inbox.now) g.R.Disk.Disk.content g.R.Disk.Disk.images g.R.Disk.Disk.limit (g.R.Rack.held c.args.rack.now) (g.R.Rack.held c.audit.new.rack) Printed c.in-Audit.mint in
+    subst (λ r. Did (g.I.Inbox.file c.args.inbox.now) g.R.Disk.Disk.content g.R.Disk.Disk.images g.R.Disk.Disk.limit (g.R.Rack.held c.args.rack.now) (g.R.Rack.held c.audit.new.rack) Printed r)
+    (sym c.in-Audit.is) (subst (λ files. Done files) c.deref-in-Audit.ensures.value (c.audit.ensures.did well))
 
 pub returns-in-Recover-clause-did : goal.returns-in-Recover-clause-did
 returns-in-Recover-clause-did g c well =

@@ -51,7 +51,7 @@ returns-clause-fault_line g c =
 
 pub returns-clause-complete : goal.returns-clause-complete
 returns-clause-complete g c r asked free steady =
-    let status = c.answer_words-status.result in
+    let status = c.answer_words-status.result.status in
     let failed = Rose (g.O.Sink.count c.args.out.now) (g.O.Sink.count c.write_fault.new.out) in
     complete (g.I.Inbox.file c.args.inbox.now) (g.I.Inbox.count c.args.inbox.now) (g.I.Inbox.count c.answer_words-status.new.inbox) g.R.Disk.Disk.content g.R.Disk.Disk.images g.R.Disk.Disk.limit g.R.Disk.Disk.count
     (g.R.Rack.held c.args.rack) (g.R.Rack.held c.answer_words-status.new.rack) (g.R.Rack.count c.args.rack) (g.R.Rack.count c.answer_words-status.new.rack)
