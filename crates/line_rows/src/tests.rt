@@ -1,4 +1,0 @@
-mod looks;
-mod named;
-mod recoveries;
-mod runs;
