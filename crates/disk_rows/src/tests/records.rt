@@ -16,7 +16,7 @@ fn header() -> Result<Header, Fail> {
 }
 
 // The disk of a coordinator with its Start alone, which takes 98 bytes.
-fn started(alloc: Global, capacity: u64) -> Result<PlainDisk, Fail> {
+fn started(alloc: Global, capacity: usize) -> Result<PlainDisk, Fail> {
     let Ok(made) = Journal::format(alloc, PlainDisk::new(alloc, capacity)?) else {
         return Err("no journal".into());
     };
