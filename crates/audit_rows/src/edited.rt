@@ -191,8 +191,16 @@ fn an_input_that_the_mint_did_not_make(rt: HostRuntime) -> Result<(), Fail> {
 fn write_tx_over(bytes: &mut [u8], at: usize, tx: &FullTx) {
     let id = tx_id(tx);
     write_over(bytes, at, &id.0);
-    write_over(bytes, at + 80, &uhs_id(&id, 0, &output(2, 60)).0);
-    write_over(bytes, at + 112, &uhs_id(&id, 1, &output(3, 41)).0);
+    write_over(
+        bytes,
+        at.saturating_add(80),
+        &uhs_id(&id, 0, &output(2, 60)).0,
+    );
+    write_over(
+        bytes,
+        at.saturating_add(112),
+        &uhs_id(&id, 1, &output(3, 41)).0,
+    );
 }
 
 fn output(byte: u8, value: u64) -> Output {
