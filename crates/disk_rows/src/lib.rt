@@ -1,4 +1,4 @@
-//! The devices in memory, the journal and the shard on its disk: their public calls, with memory enough. There are tests
+//! The devices in memory and the journal on a disk: their public calls, with memory enough. There are tests
 //! alone here. Sizes were worked out from the formats.
 #![tactic(auto)]
 

@@ -2,4 +2,3 @@ mod devices;
 mod disks;
 mod journals;
 mod records;
-mod shards;
