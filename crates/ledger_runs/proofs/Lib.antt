@@ -4,4 +4,6 @@ pub mod WaveKeeping
 pub mod Sizes
 pub mod Stays
 pub mod WaveTelling
+pub mod Others
+pub mod Preparing
 pub mod Faulting

@@ -1,4 +1,5 @@
 pub mod Turning
 pub mod Waving
 pub mod Telling
+pub mod Pieces
 pub mod Faults

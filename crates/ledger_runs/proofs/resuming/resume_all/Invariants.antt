@@ -18,7 +18,7 @@ invariant-lanes g l =
       keeps : OfKept K E (StaysKept K E J);
       so : OfKept K E (λ _ _. ResumedSo K l.lane E J);
       told : OfKept K E (λ _ _. TellResumed K E J l.lane l.batches.items);
-      prepares : OfKept K E (λ _ _. SamePrepared K E J);
+      prepares : SamePrepared K E J;
       quiet : OfKept K E (λ _ _. g.L.Turns.quiet l.fn.ledger → g.L.Turns.quiet l.ledger);
       holds : g.L.Turns.holds l.fn.ledger → g.L.Turns.holds l.ledger;
       later : (n : ℕ) → g.L.Turns.faults l.fn.ledger n ≤ g.L.Turns.faults l.ledger n;

@@ -1,6 +1,7 @@
 use Rattle.std.proofs.Common.{◌≡◌, ◌≤◌, ◌-◌, ℕ}
 use Rattle.cbdc_model.specs.Lanes.{IsEnd}
 use Rattle.ledger_runs.specs.Waving.{OfSent, NoFault}
+use Rattle.ledger_runs.specs.Pieces.{HaveTaken}
 use Rattle.ledger_runs.specs.Faults.{HaveFailed, MayHold, HaveCauses}
 use Rattle.ledger_runs.specs.Telling.{TellSince, AreFresh}
 use Rattle.ledger_runs.proofs.WaveKeeping.{RoundsSo}
@@ -20,6 +21,7 @@ invariant-rounds g l =
       capacity : (n : ℕ) → g.L.Turns.capacity l.ledger n ≡ g.L.Turns.capacity l.fn.ledger n;
       checked : g.L.Turns.checked l.ledger;
       grows : (n : ℕ) → IsEnd (g.L.Turns.journals l.fn.ledger n) (g.L.Turns.journals l.ledger n);
+      taken : HaveTaken K (g.L.Turns.journals l.fn.ledger) (g.L.Turns.journals l.ledger) (λ _. l.start) l.lanes.items;
       causes : NoFault l.fn.lanes.items
           → HaveCauses K (g.L.Turns.journals l.fn.ledger) (g.L.Turns.journals l.ledger) (HaveFailed (g.L.Turns.opened l.ledger) (g.L.Turns.faults l.ledger)) (MayHold (g.L.Turns.capacity l.ledger)) l.lanes.items;
     }

@@ -3,7 +3,8 @@ use Rattle.cbdc_model.specs.Records.{Record}
 use Rattle.cbdc_model.specs.Lanes.{IsEnd}
 use Rattle.ledger_runs.specs.Faults.{HaveFailed, MayHold, HaveCauses}
 use Rattle.ledger_runs.specs.Telling.{TellSince}
-use Rattle.ledger_runs.specs.Waving.{OfSent}
+use Rattle.ledger_runs.specs.Waving.{OfSent, taken_by}
+use Rattle.ledger_runs.specs.Pieces.{HaveTaken}
 use Rattle.ledger_runs.proofs.WaveKeeping.{TurnsSo}
 use Rattle.ledger_runs.proofs.waves.turns.Given as goal
 
@@ -23,7 +24,8 @@ invariant-lanes g l =
       capacity : (n : ℕ) → g.L.Turns.capacity l.ledger n ≡ g.L.Turns.capacity l.fn.ledger n;
       checked : g.L.Turns.checked l.ledger;
       grows : (n : ℕ) → IsEnd (g.L.Turns.journals l.fn.ledger n) (g.L.Turns.journals l.ledger n);
-      causes : (E : ℕ → List Record) → ((n : ℕ) → IsEnd (E n) (g.L.Turns.journals l.fn.ledger n))
+      taken : (E : ℕ → List Record) → HaveTaken K E (g.L.Turns.journals l.fn.ledger) (λ _. l.start) l.fn.lanes.items → HaveTaken K E (g.L.Turns.journals l.ledger) (taken_by l.start K.batch l.number) l.lanes.items;
+      causes : (E : ℕ → List Record) → ((n : ℕ) → IsEnd (E n) (g.L.Turns.journals l.fn.ledger n)) → HaveTaken K E (g.L.Turns.journals l.fn.ledger) (λ _. l.start) l.fn.lanes.items
           → HaveCauses K E (g.L.Turns.journals l.fn.ledger) (HaveFailed (g.L.Turns.opened l.fn.ledger) (g.L.Turns.faults l.fn.ledger)) (MayHold (g.L.Turns.capacity l.fn.ledger)) l.fn.lanes.items
           → HaveCauses K E (g.L.Turns.journals l.ledger) (HaveFailed (g.L.Turns.opened l.ledger) (g.L.Turns.faults l.ledger)) (MayHold (g.L.Turns.capacity l.ledger)) l.lanes.items;
     }
