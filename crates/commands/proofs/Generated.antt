@@ -35,7 +35,7 @@ use Rattle.caused_ledgers.proofs.Told.{told_history}
 use Rattle.audited_ledgers.specs.Audited.{IsAudited}
 use Rattle.rack_laws.specs.Shown.{Shows, OfShown, HoldsEach, node_count}
 use Rattle.rack_laws.proofs.Opened.{same_genesis}
-use Rattle.rack_ledgers.specs.Ledgers.{IsUnopenedBy}
+use Rattle.rack_ledgers.proofs.Lacks.{unopened_kind}
 use Rattle.rack_nodes.specs.Racked.{IsBack}
 use Rattle.rack_nodes.specs.Refused.{IsNodeRefusal}
 use Rattle.rack_runs.specs.Kinds.{IsLaneAnswer}
@@ -53,6 +53,7 @@ use Rattle.commands.specs.Causes.{IsDone}
 use Rattle.commands.specs.Told.{IsCountable}
 use Rattle.commands.specs.Generated.{all_good, files_of, all_of, first_journals, made_for, IsWorkloadRun, HasVerdictOf, EndsWorkload, batches_for, IsWorkloadText, IsUnopenedThere, IsCutWorkload, IsUnsoundWorkload, WhyNoWorkload}
 use Rattle.commands.specs.InMemory.{AreReady, TellsRunOf, IsLaneKind, IsUnrun, numbers_of, CameTo, IsCheckedSound, IsUnchecked}
+use Rattle.commands.proofs.Minted.{unopened_of_mint}
 use Rattle.commands.proofs.FirstShown.{kept_journal, kept_beyond, first_kept, first_shown}
 use Rattle.commands.proofs.Memory.{there}
 use Rattle.commands.proofs.Sound.{none_uncaused, never_unsound}
@@ -74,7 +75,7 @@ module _ {D : Type 0} (content : D → Option (List ℕ)) (images : D → List �
   pub shown : HoldsEach images held K X → ((n : ℕ) → n < node_count K → (d : D) × (held n ≡ Some d) × ((c : List ℕ) × (content d ≡ Some c) × images d c)) → Shows content held K (genesis_id mint) X
   shown disks tells n inside =
       let t = tells n inside in
-      (t.0, t.1, (t.2.0, t.2.1, record { opens = disks n inside t.0 t.1 t.2.0 t.2.2; journal = kept_journal K mint within minted_few submissions X kept n inside }))
+      (t.0, t.1, (t.2.0, t.2.1, record { opens = disks n inside t.0 t.1 t.2.0 t.2.2; limits = within; journal = kept_journal K mint within minted_few submissions X kept n inside }))
 
   -- the history that was told is that of its journals
   module _ (shows : Shows content held K (genesis_id mint) X) (shape : Shape) (rows : List Row) (history : IsToldHistory content held shape (genesis_id mint) rows) where
@@ -173,7 +174,7 @@ module _ (K : Shape) (mint : List Output) (few_coins : length mint ≤ 1000000) 
         → (IsUnresumed bytes_told bytes_left room_of faults_of (disk_at mid) (faults_at mid.misses) (faults_at new.misses) a × ((n : ℕ) → IsBack bytes_left room_of (disk_at mid n) (disk_at new n)))
         ⊎ (IsLaneFault bytes_told bytes_left room_of (disk_at mid) (disk_at new) (faults_at mid.misses) (faults_at new.misses) next a × OfShown bytes_told (disk_at mid) (IsCutShort bytes_left (disk_at new) files))
         → IsUnrun K mint files new a
-    unrun next a (inl (inl unopened, back)) = inr (inl (record { old = mid; new = new; journals = first_journals K mint; kept = first_kept K mint limits few_coins; shows = shows; why = inl unopened }))
+    unrun next a (inl (inl unopened, back)) = inr (inl (record { old = mid; new = new; journals = first_journals K mint; kept = first_kept K mint limits few_coins; shows = shows; why = unopened_of_mint bytes_told bytes_left room_of faults_of (disk_at mid) K (genesis_id mint) (first_journals K mint) limits shows (faults_at mid.misses) (faults_at new.misses) a unopened }))
     unrun next a (inl (inr (inl unsound), back)) =
         absurd (none_unsound bytes_told bytes_left (disk_at mid) K mint [] (first_journals K mint) limits few_coins (first_kept K mint limits few_coins) room_of faults_of a shows unsound)
     unrun next a (inl (inr (inr memory), back)) = inl memory
@@ -181,13 +182,6 @@ module _ (K : Shape) (mint : List Output) (few_coins : length mint ≤ 1000000) 
         inr (inr (lane_kind fault.ledger.shape (next fault.ledger.shape (λ n. journal n (reverse fault.ledger.rows)) fault.exit) (λ n. journal n (reverse fault.ledger.rows)) fault.exit _ _ a fault.cause, cut K mint [] (first_journals K mint) limits shows (first_kept K mint limits few_coins)))
 
 -- ---- a workload's run and audit
-
-unopened_kind : {D : Type 0} (content : D → Option (List ℕ)) (images : D → List ℕ → Type 0) (limit count : D → ℕ) (held : ℕ → Option D) (before now : ℕ → ℕ) (id : Digest) (a : Answer)
-    → IsUnopenedBy content images limit count held before now (Some id) a → IsNodeRefusal a
-unopened_kind content images limit count held before now id a (inl (inl (inl first))) = first.kind
-unopened_kind content images limit count held before now id a (inl (inl (inr lacks))) = lacks.refused.kind
-unopened_kind content images limit count held before now id a (inl (inr lacks)) = lacks.refused.kind
-unopened_kind content images limit count held before now id a (inr other) = subst IsNodeRefusal (sym other.other.1) tt
 
 module _ (K : Shape) (seed n : ℕ) where
   unopened_why : (a : Answer) → IsNodeRefusal a → IsUnopenedThere K (mint_of seed n) (all_of seed n) a → WhyNoWorkload K seed n a
@@ -227,7 +221,7 @@ module _ (K : Shape) (seed n : ℕ) where
   pub unrun_why : (rack : PlainRack) (a : Answer) → IsUnrun K (mint_of seed n) (files_of seed n) rack a → WhyNoWorkload K seed n a
   unrun_why rack a (inl memory) = subst (WhyNoWorkload K seed n) (sym memory) tt
   unrun_why rack a (inr (inl is)) =
-      unopened_why a (unopened_kind bytes_told bytes_left room_of faults_of (disk_at is.old) (faults_at is.old.misses) (faults_at is.new.misses) (genesis_id (mint_of seed n)) a is.why)
+      unopened_why a (unopened_kind bytes_told bytes_left room_of faults_of (disk_at is.old) (faults_at is.old.misses) (faults_at is.new.misses) (Some (genesis_id (mint_of seed n))) a is.why)
       (record { old = is.old; new = is.new; journals = is.journals; kept = kept_more K (mint_of seed n) [] (all_of seed n) is.journals is.kept; shows = is.shows; why = is.why })
   unrun_why rack a (inr (inr (kind, cut))) = lane_why a kind (record { exit = cut.exit; grows = cut.grown.grows; kept = cut.grown.kept })
 
@@ -288,7 +282,7 @@ module _ (K : Shape) (seed n : ℕ) where
     pub unchecked_why : (new : PlainRack) (a : Answer) → IsUnchecked rack new (mint_of seed n) (all_of seed n) a → WhyNoWorkload K seed n a
     unchecked_why new a (inl wrong) = wrong_why a wrong
     unchecked_why new a (inr (inl unopened)) =
-        unopened_why a (unopened_kind bytes_told bytes_left room_of faults_of (disk_at rack) (faults_at rack.misses) (faults_at new.misses) (genesis_id (mint_of seed n)) a unopened)
+        unopened_why a (unopened_kind bytes_told bytes_left room_of faults_of (disk_at rack) (faults_at rack.misses) (faults_at new.misses) (Some (genesis_id (mint_of seed n))) a unopened)
         (record { old = rack; new = new; journals = told.exit; kept = told.grown.kept; shows = shows; why = unopened })
     unchecked_why new a (inr (inr memory)) = subst (WhyNoWorkload K seed n) (sym memory) tt
 
