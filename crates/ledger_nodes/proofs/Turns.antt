@@ -30,8 +30,10 @@ use Rattle.turn_laws.proofs.OpenThere.{is_idle, unfinished}
 use Rattle.turn_laws.specs.Nodes.{SameFlights}
 use Rattle.turn_laws.proofs.Checking.{IsCheckedTurn, batch_checked, stopped_checked, stopped_cause, taken_checked, left_checked, left_cause}
 use Rattle.turn_laws.proofs.Turned.{batch_keeps, batch_same, stopped_keeps, batch_does, resume_keeps, resume_same, left_keeps, resume_took}
+use Rattle.turn_laws.proofs.Flying.{batch_flies, stopped_flies, resume_flies, left_flies}
+use Rattle.ledger_runs.specs.Flying.{FliesOn, FliesOnBy}
 use Rattle.ledger_runs.specs.Faults.{IsLaneCause, HaveFailed, MayHold, Nothing, IsThese}
-use Rattle.ledger_nodes.specs.Ledgers.{IsLedger, journals_of, faults_of, opened_of, capacity_of, AreChecked, AreQuiet}
+use Rattle.ledger_nodes.specs.Ledgers.{IsLedger, journals_of, flights_of, faults_of, opened_of, capacity_of, AreChecked, AreQuiet}
 use Rattle.ledger_nodes.specs.Steps.{IsStep}
 use Rattle.ledger_nodes.proofs.Steps.{home_inside, are_nodes, are_shards, is_lane, log_is, same_flight}
 
@@ -174,6 +176,14 @@ module _ {D : Type 0} (count limit : D → ℕ) (content : D → Option (List �
       came_keeps (Err e) done stop =
           stopped_keeps K lane L S L' S' some home shape step.elsewhere (are_nodes count limit h logs shards ledger) (are_nodes count limit h logs' shards' step.ledger) step.log_nodes step.shard_nodes idle_there txs e stop
 
+      -- what is in flight may come next
+      pub came_flies : (came : Result LaneReport LaneFault) → IfOk came (λ r. IsOneBatch K true lane txs (L (home_of K lane)) S (L' (home_of K lane)) S' r.batches)
+          → IfErr came (IsBatchStopped K true lane txs (L (home_of K lane)) S (L' (home_of K lane)) S') → OfKept K I (FliesOnBy K txs I J (flights_of count limit K logs shards) (flights_of count limit K logs' shards'))
+      came_flies (Ok r) done stop =
+          batch_flies K lane L S L' S' some home shape step.elsewhere (are_nodes count limit h logs shards ledger) (are_nodes count limit h logs' shards' step.ledger) step.log_nodes step.shard_nodes step.next idle_there txs r.batches done
+      came_flies (Err e) done stop =
+          stopped_flies K lane L S L' S' some home shape step.elsewhere (are_nodes count limit h logs shards ledger) (are_nodes count limit h logs' shards' step.ledger) step.log_nodes step.shard_nodes step.next idle_there txs e stop
+
       -- checked journals stay checked, and a fault has its cause
       pub came_checked : (came : Result LaneReport LaneFault) → IfOk came (λ r. IsOneBatch K true lane txs (L (home_of K lane)) S (L' (home_of K lane)) S' r.batches)
           → IfErr came (IsBatchStopped K true lane txs (L (home_of K lane)) S (L' (home_of K lane)) S') → (c : AreChecked count limit K logs shards) → IsCheckedTurn K c.0 lane I J
@@ -212,6 +222,13 @@ module _ {D : Type 0} (count limit : D → ℕ) (content : D → Option (List �
           resume_keeps K lane L S L' S' some home shape step.elsewhere (are_nodes count limit h logs shards ledger) (are_nodes count limit h logs' shards' step.ledger) step.log_nodes step.shard_nodes o told taken
       resumed_keeps (Err e) taken stop =
           left_keeps K lane L S L' S' some home shape step.elsewhere (are_nodes count limit h logs shards ledger) (are_nodes count limit h logs' shards' step.ledger) step.log_nodes step.shard_nodes o told e stop
+
+      pub resumed_flies : (came : Result ResumedBatch LaneFault) → OnOk came (IsUnfinished o.phase K o (L (home_of K lane)) S → IsTakenUp K true o.batch (L (home_of K lane)) S (L' (home_of K lane)) S')
+          → IfErr came (IsResumeStopped K true o (L (home_of K lane)) S (L' (home_of K lane)) S') → OfKept K I (FliesOn K I J (flights_of count limit K logs shards) (flights_of count limit K logs' shards'))
+      resumed_flies (Ok r) taken stop =
+          resume_flies K lane L S L' S' some home shape step.elsewhere (are_nodes count limit h logs shards ledger) (are_nodes count limit h logs' shards' step.ledger) step.log_nodes step.shard_nodes step.next o told taken
+      resumed_flies (Err e) taken stop =
+          left_flies K lane L S L' S' some home shape step.elsewhere (are_nodes count limit h logs shards ledger) (are_nodes count limit h logs' shards' step.ledger) step.log_nodes step.shard_nodes step.next o told e stop
 
       pub resumed_checked : (came : Result ResumedBatch LaneFault) → OnOk came (IsUnfinished o.phase K o (L (home_of K lane)) S → IsTakenUp K true o.batch (L (home_of K lane)) S (L' (home_of K lane)) S')
           → IfErr came (IsResumeStopped K true o (L (home_of K lane)) S (L' (home_of K lane)) S') → (c : AreChecked count limit K logs shards) → IsCheckedTurn K c.0 lane I J

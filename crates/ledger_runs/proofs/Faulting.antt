@@ -2,7 +2,7 @@
 use Rattle.std.proofs.Common.{◌≡◌, ◌≢◌, ◌⊎◌, inl, inr, Bool, true, false, ◌==◌, ℕ, ◌<◌, ◌≤◌, le_trans, List, [], ◌∷◌, ◌++◌, refl, sym, ap, ◌∙◌, subst, arith, Some, None}
 use Rattle.std.specs.Prelude.{slice_get, is_some, Option, Result, Ok, Err, IfErr}
 use Rattle.cbdc_model.specs.Records.{Shape, Batch, Compact, Record, record_of, is_in_lane, Genesis, Lock, Finish, Forget, Start, Prepare, Commit, Discard, Done}
-use Rattle.cbdc_model.specs.Slots.{slot}
+use Rattle.cbdc_model.specs.Slots.{slot, Idle}
 use Rattle.cbdc_model.specs.Ranges.{home_of}
 use Rattle.cbdc_model.specs.Lanes.{IsEnd}
 use Rattle.cbdc_model.specs.Sights.{HasRisen}
@@ -12,7 +12,8 @@ use Rattle.lane_laws.proofs.Own.{own_out, record_own, slot_own}
 use Rattle.lane_driver.specs.declared.fault.LaneFault.{LaneFault}
 use Rattle.lane_driver.specs.declared.fault.LaneFaultKind.{LaneFaultKind}
 use Rattle.lane_driver.specs.declared.fault.LaneFaultKind.TheVariants.{DiskFault as DiskStopped, Full as NoRoom, ClockEnd as NoStamp, Memory as NoMemory}
-use Rattle.ledger_runs.specs.Turning.{IsLaneOf}
+use Rattle.ledger_runs.specs.Turning.{phase_at, IsLaneOf, KeepsLanes}
+use Rattle.ledger_runs.specs.Least.{IsLeastOpen}
 use Rattle.ledger_runs.specs.Waving.{NoFault, TurnsAt}
 use Rattle.ledger_runs.specs.Faults.{AreOfLane, GrowBy, IsWanted, wants_prepare, wants_lock, IsCauseOf, IsLaneCause, IsSomeCauseOf, IsRunCause, HaveFailed, MayHold, Nothing, IsThese, IsPiece, HaveCauses, IsTurnCause}
 use Rattle.ledger_runs.specs.declared.lanes.Lane.{Lane}
@@ -23,7 +24,7 @@ use Rattle.ledger_runs.proofs.WaveKeeping.{each_by, was_there}
 elsewhere : (l lane other : ℕ) → other ≢ lane → (l == other) ≡ true → (l == lane) ≡ false
 elsewhere l lane other apart h = grind (arith, h, apart)
 
-not_of : (lane other : ℕ) (r : Record) → other ≢ lane → is_in_lane other r ≡ true → is_in_lane lane r ≡ false
+pub not_of : (lane other : ℕ) (r : Record) → other ≢ lane → is_in_lane other r ≡ true → is_in_lane lane r ≡ false
 not_of lane other (Genesis header hs) apart h = refl
 not_of lane other (Start header) apart h = refl
 not_of lane other (Lock stamp b es) apart h = elsewhere b.lane lane other apart h
@@ -149,6 +150,16 @@ pub resumed_cause : (K H : Shape) (lane : ℕ) (E J L : ℕ → List Record) (fa
 resumed_cause K H lane E J L failed holds same inside since e cause =
     cause_any K lane (λ _. Nothing) E L failed holds inside e
     (cause_since K lane Nothing Nothing J E L failed holds since (λ txs n. n) e (subst (λ k. IsLaneCause k lane Nothing J L failed holds e) same cause))
+
+-- the first fault of lanes that were open is the least lane's
+pub least_open : (K H : Shape) (lane : ℕ) (E J L : ℕ → List Record) (failed : ℕ → Type 0) (holds : ℕ → ℕ → Type 0) → H ≡ K → IsLaneOf K lane → ((n : ℕ) → IsEnd (E n) (J n))
+    → ((l : ℕ) → l < lane → phase_at K J l ≡ Idle) → KeepsLanes H lane J L → (e : LaneFault) → IsLaneCause H lane Nothing J L failed holds e → IsLeastOpen K E L failed holds e
+least_open K H lane E J L failed holds same inside since idle others e cause = inr (
+  lane,
+  inside,
+  cause_since K lane Nothing Nothing J E L failed holds since (λ txs n. n) e (subst (λ k. IsLaneCause k lane Nothing J L failed holds e) same cause),
+  λ l low. subst (λ k. KeepsLanes k lane J L) same others l (omega (arith, low, inside)) (λ h. omega (arith, h, low)) ∙ idle l low,
+)
 
 -- ---- the lanes of a wave
 

@@ -5,3 +5,5 @@ pub mod Sizes
 pub mod Stays
 pub mod WaveTelling
 pub mod Faulting
+pub mod Theirs
+pub mod Flying

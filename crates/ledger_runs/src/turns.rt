@@ -1,9 +1,10 @@
 // What a run asks of the nodes of a ledger.
-ghost use Rattle.std.specs.Prelude.{◌≡◌, ◌≤◌, ℕ, List, length, All, IfOk, IfErr, OnOk};
+ghost use Rattle.std.specs.Prelude.{◌≡◌, ◌≤◌, ℕ, List, Option, length, All, IfOk, IfErr, OnOk};
 ghost use Rattle.cbdc_model.specs.Records.{Shape as ShapeOf, Record};
 ghost use Rattle.cbdc_model.specs.Slots.{Idle};
 ghost use Rattle.cbdc_model.specs.Grammar.{HasSize, IsCompact};
 ghost use Rattle.ledger_runs.specs.Turning.{phase_at, IsLaneOf, KeepsLanes, OfKept, StaysKept, StaysKeptBy, DidBatch, TookUp};
+ghost use Rattle.ledger_runs.specs.Flying.{FliesOn, FliesOnBy};
 ghost use Rattle.ledger_runs.specs.Telling.{IsOpened};
 ghost use Rattle.ledger_runs.specs.Faults.{GrowBy, IsLaneCause, HaveFailed, MayHold, Nothing, IsThese};
 
@@ -20,6 +21,9 @@ pub trait Turns {
 
     /// The journal of each node, the newest record first.
     ghost journals: { Self → ℕ → List Record };
+
+    /// The record in flight at each node, if there is one: a failed call may have left it on the node's disk or not.
+    ghost flights: { Self → ℕ → Option Record };
 
     /// How often the disk of each node has failed.
     ghost faults: { Self → ℕ → ℕ };
@@ -63,6 +67,7 @@ pub trait Turns {
         ensures does { IfOk result (λ r. OfKept (shape self.old) (journals self.old) (λ _ _. DidBatch (shape self.old) lane txs.now (journals self.old) (journals self.new) r)) }
         ensures full { IfOk result (λ r. length r.outcomes ≡ length txs.now) }
         ensures quiet { OnOk result (OfKept (shape self.old) (journals self.old) (λ _ _. quiet self.old → quiet self.new)) }
+        ensures flies { OfKept (shape self.old) (journals self.old) (FliesOnBy (shape self.old) txs.now (journals self.old) (journals self.new) (flights self.old) (flights self.new)) }
         ensures holds { holds self.old → holds self.new }
         ensures later { (n : ℕ) → faults self.old n ≤ faults self.new n }
         ensures opened_same { (n : ℕ) → opened self.new n ≡ opened self.old n }
@@ -90,6 +95,7 @@ pub trait Turns {
         ensures took { IfOk result (λ found. OfKept (shape self.old) (journals self.old) (λ _ _. TookUp (shape self.old) lane (journals self.old) (journals self.new) found)) }
         ensures opened { IfOk result (IsOpened (shape self.old) lane (journals self.old)) }
         ensures quiet { OnOk result (OfKept (shape self.old) (journals self.old) (λ _ _. quiet self.old → quiet self.new)) }
+        ensures flies { OfKept (shape self.old) (journals self.old) (FliesOn (shape self.old) (journals self.old) (journals self.new) (flights self.old) (flights self.new)) }
         ensures holds { holds self.old → holds self.new }
         ensures later { (n : ℕ) → faults self.old n ≤ faults self.new n }
         ensures opened_same { (n : ℕ) → opened self.new n ≡ opened self.old n }

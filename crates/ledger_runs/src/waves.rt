@@ -9,6 +9,8 @@ ghost use Rattle.cbdc_model.specs.Waves.{IsFileRun};
 ghost use Rattle.ledger_runs.specs.Turning.{phase_at, IsLaneOf, KeepsLanes, OfKept, StaysKeptBy};
 ghost use Rattle.ledger_runs.specs.Waving.{HaveSent, AreWithin, NoFault, AreReady, AllProper, TookTurn, KeepsSent, OfSent, GoesOn, AreShorter, TurnsAt};
 ghost use Rattle.ledger_runs.specs.Faults.{GrowBy, HaveFailed, MayHold, HaveCauses, IsTurnCause};
+ghost use Rattle.ledger_runs.specs.Flying.{FliesOnBy, FliesSent};
+ghost use Rattle.ledger_runs.specs.Least.{RunTheirs, TookTheirs};
 ghost use Rattle.ledger_runs.specs.Telling.{TellsTurn, TellSince, AllTell, AreFresh};
 ghost use Rattle.ledger_runs.specs.declared.lanes.Lane.{Lane as LaneOf};
 
@@ -50,6 +52,7 @@ fn turn<L: Turns, G: Gate>(
     ensures told { lane.new.fault ≡ None → OfKept (L.shape ledger.old) (L.journals ledger.old)
         (λ _ _. TellsTurn (L.shape ledger.old) number lane.old lane.new (L.journals ledger.old) (L.journals ledger.new)) }
     ensures quiet { lane.new.fault ≡ None → OfKept (L.shape ledger.old) (L.journals ledger.old) (λ _ _. L.quiet ledger.old → L.quiet ledger.new) }
+    ensures flies { OfKept (L.shape ledger.old) (L.journals ledger.old) (FliesOnBy (L.shape ledger.old) lane.old.txs.items (L.journals ledger.old) (L.journals ledger.new) (L.flights ledger.old) (L.flights ledger.new)) }
     ensures holds { L.holds ledger.old → L.holds ledger.new }
     ensures later { (n : ℕ) → L.faults ledger.old n ≤ L.faults ledger.new n }
     ensures opened_same { (n : ℕ) → L.opened ledger.new n ≡ L.opened ledger.old n }
@@ -92,6 +95,8 @@ fn turn_at<L: Turns, G: Gate>(
         → OfKept (L.shape ledger.old) (L.journals ledger.old) (λ _ _. TellsTurn (L.shape ledger.old) number x y (L.journals ledger.old) (L.journals ledger.new)) }
     ensures quiet { (y : LaneOf) → slice_get lanes.new.items number ≡ Some y → y.fault ≡ None
         → OfKept (L.shape ledger.old) (L.journals ledger.old) (λ _ _. L.quiet ledger.old → L.quiet ledger.new) }
+    ensures flies { (x : LaneOf) → slice_get lanes.old.items number ≡ Some x
+        → OfKept (L.shape ledger.old) (L.journals ledger.old) (FliesOnBy (L.shape ledger.old) x.txs.items (L.journals ledger.old) (L.journals ledger.new) (L.flights ledger.old) (L.flights ledger.new)) }
     ensures holds { L.holds ledger.old → L.holds ledger.new }
     ensures later { (n : ℕ) → L.faults ledger.old n ≤ L.faults ledger.new n }
     ensures opened_same { (n : ℕ) → L.opened ledger.new n ≡ L.opened ledger.old n }
@@ -137,6 +142,12 @@ fn turns<L: Turns, G: Gate>(
     ensures told { (E : ℕ → List Record) → OfSent (L.shape ledger.old) (L.journals ledger.old) lanes.old.items lanes.new.items
         (TellSince (L.shape ledger.old) E (L.journals ledger.old) lanes.old.items → TellSince (L.shape ledger.old) E (L.journals ledger.new) lanes.new.items) }
     ensures quiet { OfSent (L.shape ledger.old) (L.journals ledger.old) lanes.old.items lanes.new.items (L.quiet ledger.old → L.quiet ledger.new) }
+    ensures flies { (sent : ℕ → List Compact) → HaveSent sent lanes.old.items
+        → OfKept (L.shape ledger.old) (L.journals ledger.old) (FliesSent (L.shape ledger.old) sent (L.journals ledger.old) (L.journals ledger.new) (L.flights ledger.old) (L.flights ledger.new)) }
+    ensures theirs { (E : ℕ → List Record) (sent : ℕ → List Compact) → HaveSent sent lanes.old.items
+        → OfKept (L.shape ledger.old) (L.journals ledger.old) (λ _ submissions. AllProper (L.shape ledger.old) sent submissions
+        → TookTheirs (L.shape ledger.old) sent (λ _. start) E (L.journals ledger.old) lanes.old.items
+        → TookTheirs (L.shape ledger.old) sent (λ _. start + (L.shape ledger.old).batch) E (L.journals ledger.new) lanes.new.items) }
     ensures holds { L.holds ledger.old → L.holds ledger.new }
     ensures later { (n : ℕ) → L.faults ledger.old n ≤ L.faults ledger.new n }
     ensures opened_same { (n : ℕ) → L.opened ledger.new n ≡ L.opened ledger.old n }
@@ -181,10 +192,17 @@ pub fn run_wave<L: Turns, G: Gate>(alloc: Global, ledger: &mut L, lanes: &mut Ve
         → OfKept (L.shape ledger.old) (L.journals ledger.old) (λ _ submissions. AllProper (L.shape ledger.old) sent submissions
         → IsFileRun (L.shape ledger.old) sent (L.journals ledger.old) (L.journals ledger.new)) }
 
+    // Each lane that met no fault has run all that it got, whatever the others met.
+    ensures theirs { (sent : ℕ → List Compact) → HaveSent sent lanes.old.items
+        → OfKept (L.shape ledger.old) (L.journals ledger.old) (λ _ submissions. AllProper (L.shape ledger.old) sent submissions
+        → RunTheirs (L.shape ledger.old) sent (L.journals ledger.old) (L.journals ledger.new) lanes.new.items) }
+
     // Each lane tells what was decided of its transactions, where none had a turn before.
     ensures told { OfSent (L.shape ledger.old) (L.journals ledger.old) lanes.old.items lanes.new.items
         (AreFresh lanes.old.items → AllTell (L.shape ledger.old) (L.journals ledger.old) (L.journals ledger.new) lanes.new.items) }
     ensures quiet { OfSent (L.shape ledger.old) (L.journals ledger.old) lanes.old.items lanes.new.items (L.quiet ledger.old → L.quiet ledger.new) }
+    ensures flies { (sent : ℕ → List Compact) → HaveSent sent lanes.old.items
+        → OfKept (L.shape ledger.old) (L.journals ledger.old) (FliesSent (L.shape ledger.old) sent (L.journals ledger.old) (L.journals ledger.new) (L.flights ledger.old) (L.flights ledger.new)) }
     ensures holds { L.holds ledger.old → L.holds ledger.new }
     ensures later { (n : ℕ) → L.faults ledger.old n ≤ L.faults ledger.new n }
     ensures opened_same { (n : ℕ) → L.opened ledger.new n ≡ L.opened ledger.old n }

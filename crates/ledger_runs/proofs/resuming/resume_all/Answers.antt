@@ -5,7 +5,8 @@ use Rattle.ledger_runs.proofs.Keeping.{stays, stays_next, same_next, idle_next, 
 use Rattle.ledger_runs.specs.Telling.{TellResumed}
 use Rattle.ledger_laws.proofs.Cuts.{end_self, end_trans}
 use Rattle.ledger_runs.specs.Faults.{HaveFailed, MayHold}
-use Rattle.ledger_runs.proofs.Faulting.{grown_end, resumed_cause}
+use Rattle.ledger_runs.proofs.Faulting.{grown_end, resumed_cause, least_open}
+use Rattle.ledger_runs.proofs.Flying.{flies_next}
 use Rattle.ledger_runs.proofs.WaveTelling.{resumed_told, resumed_prepares}
 use Rattle.ledger_runs.proofs.resuming.resume_all.Goals as goal
 
@@ -27,6 +28,7 @@ lanes-init g c =
       told = λ _ _ _. c.in-Ok.ensures.items;
       prepares = λ _ _ _ _. refl;
       quiet = λ _ _ _ was. was;
+      flies = λ _ _ _ may. may;
       holds = λ h. h;
       later = λ n. omega arith;
       opened = λ n. refl;
@@ -55,6 +57,8 @@ lanes-preserved g c =
           so.shape so.keeps so.prepares c.in-Ok-resume_next.ensures.told;
       quiet = same_next K (g.L.Turns.shape c.lanes.ledger) E (g.L.Turns.journals c.lanes.ledger) (g.L.Turns.quiet c.args.ledger.now) (g.L.Turns.quiet c.lanes.ledger) (g.L.Turns.quiet c.resume_next.new.ledger)
           so.shape so.keeps so.quiet c.in-Ok-resume_next.ensures.quiet;
+      flies = flies_next K (g.L.Turns.shape c.lanes.ledger) E (g.L.Turns.journals c.lanes.ledger) (g.L.Turns.journals c.resume_next.new.ledger) (g.L.Turns.flights c.args.ledger.now) (g.L.Turns.flights c.lanes.ledger) (g.L.Turns.flights c.resume_next.new.ledger)
+          so.shape so.keeps so.flies did.flies;
       holds = λ h. did.holds (so.holds h);
       later = λ n. omega (arith, did.later n, so.later n);
       opened = λ n. did.opened_same n ∙ so.opened n;
@@ -90,3 +94,17 @@ returns-in-Err-clause-fault g c =
     resumed_cause (g.L.Turns.shape c.args.ledger.now) (g.L.Turns.shape c.lanes.ledger) c.lanes.lane (g.L.Turns.journals c.args.ledger.now) (g.L.Turns.journals c.lanes.ledger) (g.L.Turns.journals c.resume_next.new.ledger)
     (HaveFailed (g.L.Turns.opened c.resume_next.new.ledger) (g.L.Turns.faults c.resume_next.new.ledger)) (MayHold (g.L.Turns.capacity c.resume_next.new.ledger))
     c.lanes.invariant.shape (omega (arith, c.lanes-test.true, c.lanes.invariant.count)) c.lanes.invariant.grows c.in-Err.fault c.in-Err.ensures.fault
+
+pub returns-in-Err-clause-least : goal.returns-in-Err-clause-least
+returns-in-Err-clause-least g c =
+    least_open (g.L.Turns.shape c.args.ledger.now) (g.L.Turns.shape c.lanes.ledger) c.lanes.lane (g.L.Turns.journals c.args.ledger.now) (g.L.Turns.journals c.lanes.ledger) (g.L.Turns.journals c.resume_next.new.ledger)
+    (HaveFailed (g.L.Turns.opened c.resume_next.new.ledger) (g.L.Turns.faults c.resume_next.new.ledger)) (MayHold (g.L.Turns.capacity c.resume_next.new.ledger))
+    c.lanes.invariant.shape (omega (arith, c.lanes-test.true, c.lanes.invariant.count)) c.lanes.invariant.grows c.lanes.invariant.idle c.resume_next.ensures.others c.in-Err.fault c.in-Err.ensures.fault
+
+pub returns-in-Err-clause-flies : goal.returns-in-Err-clause-flies
+returns-in-Err-clause-flies g c =
+    flies_next (g.L.Turns.shape c.args.ledger.now) (g.L.Turns.shape c.lanes.ledger) (g.L.Turns.journals c.args.ledger.now) (g.L.Turns.journals c.lanes.ledger) (g.L.Turns.journals c.resume_next.new.ledger)
+    (g.L.Turns.flights c.args.ledger.now) (g.L.Turns.flights c.lanes.ledger) (g.L.Turns.flights c.resume_next.new.ledger) c.lanes.invariant.shape c.lanes.invariant.keeps c.lanes.invariant.flies c.resume_next.ensures.flies
+
+pub returns-clause-flies : goal.returns-clause-flies
+returns-clause-flies g c = c.lanes.invariant.flies

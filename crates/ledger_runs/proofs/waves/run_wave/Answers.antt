@@ -5,6 +5,8 @@ use Rattle.ledger_runs.specs.Faults.{HaveFailed, MayHold, HaveCauses}
 use Rattle.ledger_laws.proofs.Cuts.{end_self, end_trans}
 use Rattle.ledger_runs.proofs.Faulting.{causes_begin}
 use Rattle.ledger_runs.proofs.WaveTelling.{tells_begin, tells_all}
+use Rattle.ledger_runs.proofs.Theirs.{theirs_first, theirs_round, theirs_all}
+use Rattle.ledger_runs.proofs.Flying.{flies_round}
 use Rattle.ledger_runs.proofs.WaveKeeping.{rounds_begin, rounds_step, same_round, rounds_end, all_idle, next_start}
 use Rattle.ledger_runs.proofs.waves.run_wave.Goals as goal
 
@@ -14,6 +16,8 @@ rounds-init g c = record {
   so = rounds_begin (g.L.Turns.shape c.args.ledger.now) (g.L.Turns.journals c.args.ledger.now) c.args.lanes.now.items c.requires.count c.requires.idle c.requires.limits;
   told = λ _ _ _ _ _ _ _ fresh. tells_begin (g.L.Turns.shape c.args.ledger.now) (g.L.Turns.journals c.args.ledger.now) c.args.lanes.now.items fresh;
   quiet = λ _ _ _ _ _ _ _ was. was;
+  flies = λ _ _ _ _ _ _ may. may;
+  theirs = λ sent _ _ _ _ _. theirs_first (g.L.Turns.shape c.args.ledger.now) sent (g.L.Turns.journals c.args.ledger.now) c.args.lanes.now.items;
   holds = λ h. h;
   later = λ n. omega arith;
   opened = λ n. refl;
@@ -45,6 +49,12 @@ rounds-preserved g c =
           (subst (λ k. OfSent (g.L.Turns.shape c.rounds.ledger) J c.rounds.lanes.items c.turns.new.lanes.items (TellSince k E J c.rounds.lanes.items → TellSince k E L c.turns.new.lanes.items)) is.shape (did.told E));
       quiet = same_round K (g.L.Turns.shape c.rounds.ledger) c.rounds.start (g.L.Turns.journals c.args.ledger.now) (g.L.Turns.journals c.rounds.ledger) c.args.lanes.now.items c.rounds.lanes.items c.turns.new.lanes.items
           (g.L.Turns.quiet c.args.ledger.now) (g.L.Turns.quiet c.rounds.ledger) (g.L.Turns.quiet c.turns.new.ledger) is.shape is.so did.stopped is.quiet did.quiet;
+      flies = flies_round K (g.L.Turns.shape c.rounds.ledger) c.rounds.start (g.L.Turns.journals c.args.ledger.now) (g.L.Turns.journals c.rounds.ledger) (g.L.Turns.journals c.turns.new.ledger)
+          (g.L.Turns.flights c.args.ledger.now) (g.L.Turns.flights c.rounds.ledger) (g.L.Turns.flights c.turns.new.ledger) c.args.lanes.now.items c.rounds.lanes.items is.shape is.so is.flies did.flies;
+      theirs = λ sent have.
+          theirs_round K (g.L.Turns.shape c.rounds.ledger) c.rounds.start c.saturating_add-start.result c.longest-most.result (g.L.Turns.journals c.args.ledger.now) (g.L.Turns.journals c.rounds.ledger) (g.L.Turns.journals c.turns.new.ledger)
+          c.args.lanes.now.items c.rounds.lanes.items c.turns.new.lanes.items is.shape c.requires.count did.count short
+          (next_start c.rounds.start c.batch-size.result K.batch c.saturating_add-start.result c.longest-most.result size c.saturating_add-start.ensures c.longest-most.type_inv) is.so did.theirs sent have (is.theirs sent have);
       holds = λ h. did.holds (is.holds h);
       later = λ n. omega (arith, did.later n, is.later n);
       opened = λ n. did.opened_same n ∙ is.opened n;
@@ -79,3 +89,12 @@ returns-clause-quiet g c = c.rounds.invariant.quiet
 pub returns-clause-told : goal.returns-clause-told
 returns-clause-told g c sent have none mint submissions kept proper fresh =
     tells_all (g.L.Turns.shape c.args.ledger.now) (g.L.Turns.journals c.args.ledger.now) (g.L.Turns.journals c.rounds.ledger) c.rounds.lanes.items (c.rounds.invariant.told sent have none mint submissions kept proper fresh)
+
+pub returns-clause-flies : goal.returns-clause-flies
+returns-clause-flies g c = c.rounds.invariant.flies
+
+pub returns-clause-theirs : goal.returns-clause-theirs
+returns-clause-theirs g c sent have =
+    let short = subst (λ ls. AreShorter ls c.longest-most.result) c.deref.ensures.value c.longest-most.ensures in
+    theirs_all (g.L.Turns.shape c.args.ledger.now) c.rounds.start c.longest-most.result (g.L.Turns.journals c.args.ledger.now) (g.L.Turns.journals c.rounds.ledger) c.args.lanes.now.items c.rounds.lanes.items short
+    c.rounds-test.false c.rounds.invariant.so sent have (c.rounds.invariant.theirs sent have)

@@ -2,6 +2,7 @@ use Rattle.std.proofs.Common.{◌≡◌, ◌<◌, ◌∙◌, ap, take, drop, len
 use Rattle.ledger_runs.proofs.WaveTelling.{tells_turn}
 use Rattle.ledger_runs.proofs.Keeping.{of_ok}
 use Rattle.ledger_runs.proofs.WaveKeeping.{by_piece, took_of}
+use Rattle.ledger_runs.proofs.Flying.{flies_piece}
 use Rattle.ledger_runs.specs.Faults.{HaveFailed, MayHold}
 use Rattle.ledger_runs.proofs.Faulting.{turn_cause, none_by}
 use Rattle.ledger_runs.proofs.waves.turn.Goals as goal
@@ -10,6 +11,12 @@ pub returns-clause-keeps : goal.returns-clause-keeps
 returns-clause-keeps g c =
     by_piece (g.L.Turns.shape c.args.ledger.now) c.args.lane.now.txs.items c.piece.result.now c.args.start c.batch-size.result (g.L.Turns.journals c.args.ledger.now) (g.L.Turns.journals c.run_batch-came.new.self)
     (c.piece.ensures ∙ ap (λ l. take c.batch-size.result (drop c.args.start l)) c.deref.ensures.value) c.run_batch-came.ensures.keeps
+
+pub returns-clause-flies : goal.returns-clause-flies
+returns-clause-flies g c =
+    flies_piece (g.L.Turns.shape c.args.ledger.now) c.args.lane.now.txs.items c.piece.result.now c.args.start c.batch-size.result (g.L.Turns.journals c.args.ledger.now) (g.L.Turns.journals c.run_batch-came.new.self)
+    (g.L.Turns.flights c.args.ledger.now) (g.L.Turns.flights c.run_batch-came.new.self)
+    (c.piece.ensures ∙ ap (λ l. take c.batch-size.result (drop c.args.start l)) c.deref.ensures.value) c.run_batch-came.ensures.flies
 
 pub returns-clause-took : goal.returns-clause-took
 returns-clause-took g c = λ none.

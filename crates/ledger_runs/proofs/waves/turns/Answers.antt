@@ -5,6 +5,8 @@ use Rattle.ledger_runs.specs.Faults.{HaveFailed, MayHold}
 use Rattle.ledger_laws.proofs.Cuts.{end_self, end_trans}
 use Rattle.ledger_runs.proofs.Faulting.{grown_end, causes_step, risen_later, holds_later}
 use Rattle.ledger_runs.proofs.WaveTelling.{tells_step}
+use Rattle.ledger_runs.proofs.Theirs.{theirs_begin, theirs_step, theirs_end}
+use Rattle.ledger_runs.proofs.Flying.{flies_turn}
 use Rattle.ledger_runs.proofs.waves.turns.Goals as goal
 
 pub lanes-init : goal.lanes-init
@@ -16,6 +18,8 @@ lanes-init g c =
       so = turns_begin K c.args.start (g.L.Turns.journals c.args.ledger.now) c.args.lanes.now.items c.requires.ready c.requires.limits;
       told = λ _ _ _ _ _ _ _ _ was. was;
       quiet = λ _ _ _ _ _ _ _ was. was;
+      flies = λ _ _ _ _ _ _ may. may;
+      theirs = λ E sent _ _ _ _ _. theirs_begin K sent c.args.start E (g.L.Turns.journals c.args.ledger.now) c.args.lanes.now.items;
       holds = λ h. h;
       later = λ n. omega arith;
       opened = λ n. refl;
@@ -47,6 +51,12 @@ lanes-preserved g c =
           (tells_step K (g.L.Turns.shape c.lanes.ledger) E J L c.lanes.number c.lanes.lanes.items c.turn_at.new.lanes.items is.shape inside did.turned did.told);
       quiet = same_turn K (g.L.Turns.shape c.lanes.ledger) c.args.start c.lanes.number (g.L.Turns.journals c.args.ledger.now) (g.L.Turns.journals c.lanes.ledger) c.args.lanes.now.items c.lanes.lanes.items c.turn_at.new.lanes.items
           (g.L.Turns.quiet c.args.ledger.now) (g.L.Turns.quiet c.lanes.ledger) (g.L.Turns.quiet c.turn_at.new.ledger) is.shape (omega (arith, c.lanes-test.true, is.count, many)) is.so did.turned is.quiet did.quiet;
+      flies = flies_turn K (g.L.Turns.shape c.lanes.ledger) c.args.start c.lanes.number (g.L.Turns.journals c.args.ledger.now) (g.L.Turns.journals c.lanes.ledger) (g.L.Turns.journals c.turn_at.new.ledger)
+          (g.L.Turns.flights c.args.ledger.now) (g.L.Turns.flights c.lanes.ledger) (g.L.Turns.flights c.turn_at.new.ledger) c.args.lanes.now.items c.lanes.lanes.items is.shape (omega (arith, c.lanes-test.true, is.count))
+          (omega (arith, c.lanes-test.true, is.count, many)) is.so is.flies did.flies;
+      theirs = λ E sent have.
+          theirs_step K (g.L.Turns.shape c.lanes.ledger) c.args.start c.lanes.number (g.L.Turns.journals c.args.ledger.now) (g.L.Turns.journals c.lanes.ledger) (g.L.Turns.journals c.turn_at.new.ledger)
+          c.args.lanes.now.items c.lanes.lanes.items c.turn_at.new.lanes.items is.shape (subst (λ s. 0 < s.batch) c.shape-2.ensures (omega (arith, c.batch-limit.ensures.limits))) is.so did.turned did.grows did.took E sent have (is.theirs E sent have);
       holds = λ h. did.holds (is.holds h);
       later = λ n. omega (arith, did.later n, is.later n);
       opened = λ n. did.opened_same n ∙ is.opened n;
@@ -76,3 +86,12 @@ returns-clause-quiet g c = c.lanes.invariant.quiet
 
 pub returns-clause-told : goal.returns-clause-told
 returns-clause-told g c = c.lanes.invariant.told
+
+pub returns-clause-flies : goal.returns-clause-flies
+returns-clause-flies g c = c.lanes.invariant.flies
+
+pub returns-clause-theirs : goal.returns-clause-theirs
+returns-clause-theirs g c E sent have mint submissions kept proper was =
+    let K = g.L.Turns.shape c.args.ledger.now in
+    let is = c.lanes.invariant in
+    theirs_end K sent c.args.start c.lanes.number E (g.L.Turns.journals c.lanes.ledger) c.lanes.lanes.items (omega (arith, is.count, c.lanes-test.false, is.so.as_many, c.requires.count)) (is.theirs E sent have mint submissions kept proper was)

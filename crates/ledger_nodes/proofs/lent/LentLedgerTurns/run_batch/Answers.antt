@@ -3,7 +3,7 @@ use Rattle.cbdc_model.specs.Slots.{Idle}
 use Rattle.ledger_runs.specs.Turning.{phase_at, IsLaneOf, OfKept, DidBatch}
 use Rattle.ledger_runs.specs.Faults.{IsLaneCause, HaveFailed, MayHold, IsThese}
 use Rattle.ledger_nodes.specs.Ledgers.{journals_of, faults_of, opened_of, capacity_of, AreChecked, AreQuiet}
-use Rattle.ledger_nodes.proofs.Turns.{on_ok, on_err, if_ok, if_err, came_keeps, came_quiet, came_does, came_full, came_checked, came_cause, opened_same, capacity_same, ok_err, err_by}
+use Rattle.ledger_nodes.proofs.Turns.{on_ok, on_err, if_ok, if_err, came_keeps, came_flies, came_quiet, came_does, came_full, came_checked, came_cause, opened_same, capacity_same, ok_err, err_by}
 use Rattle.ledger_nodes.proofs.lent.LentLedgerTurns.run_batch.Goals.{in-Ok, in-Err}
 use Rattle.ledger_nodes.proofs.lent.LentLedgerTurns.run_batch.Goals as goal
 
@@ -19,6 +19,12 @@ returns-clause-others g c = rw (← c.self.view_is) c.drive_batch.ensures.step.o
 pub returns-clause-keeps : goal.returns-clause-keeps
 returns-clause-keeps g c = rw (← c.self.view_is)
     (came_keeps g.D.Disk.count g.D.Disk.limit g.D.Disk.content g.D.Disk.images c.self.inside.header c.args.lane c.self.inside.ports.log.logs.items c.self.inside.ports.shards.nodes.items c.self.invariant (subst (λ v. IsLaneOf v.header.shape c.args.lane) (sym c.self.view_is) c.requires.lane)
+    c.drive_batch.new.ports.log.logs.items c.drive_batch.new.ports.shards.nodes.items c.drive_batch.ensures.step
+    (subst (λ v. phase_at v.header.shape (journals_of g.D.Disk.count g.D.Disk.limit v.header.shape v.logs v.shards) c.args.lane ≡ Idle) (sym c.self.view_is) c.requires.idle) c.args.txs.now c.drive_batch.result c.drive_batch.ensures.done c.drive_batch.ensures.stopped)
+
+pub returns-clause-flies : goal.returns-clause-flies
+returns-clause-flies g c = rw (← c.self.view_is)
+    (came_flies g.D.Disk.count g.D.Disk.limit g.D.Disk.content g.D.Disk.images c.self.inside.header c.args.lane c.self.inside.ports.log.logs.items c.self.inside.ports.shards.nodes.items c.self.invariant (subst (λ v. IsLaneOf v.header.shape c.args.lane) (sym c.self.view_is) c.requires.lane)
     c.drive_batch.new.ports.log.logs.items c.drive_batch.new.ports.shards.nodes.items c.drive_batch.ensures.step
     (subst (λ v. phase_at v.header.shape (journals_of g.D.Disk.count g.D.Disk.limit v.header.shape v.logs v.shards) c.args.lane ≡ Idle) (sym c.self.view_is) c.requires.idle) c.args.txs.now c.drive_batch.result c.drive_batch.ensures.done c.drive_batch.ensures.stopped)
 
