@@ -79,6 +79,35 @@ fn an_audit_by_another_mint(rt: HostRuntime) -> Result<(), Fail> {
     Ok(())
 }
 
+// The ledger behind the coin's transaction, but that the disk of its shard is empty.
+fn without_shard<W: Wait>(rt: &W, alloc: Global) -> Result<MemRack<PlainDisk>, Fail>
+    ensures { IfOk result (λ r. AllIn r) }
+{
+    let rack = spent(rt, alloc)?;
+    let one = bytes_of(alloc, &rack, 0)?;
+    Ok(with_bytes(alloc, one, Vec::new(alloc))?)
+}
+
+/// By its own mint the shard is missed.
+#[test]
+fn an_audit_without_the_shard(rt: HostRuntime) -> Result<(), Fail> {
+    let alloc = rt.alloc();
+    let rack = without_shard(&rt, alloc)?;
+    let run = audited(&rt, alloc, rack, &["audit", "m", "c"])?;
+    told(&rt, &run, 4, "fault not ready 1\n");
+    Ok(())
+}
+
+/// By another mint node 0 is foreign, ahead of the shard that is missing.
+#[test]
+fn another_mint_ahead_of_a_missing_shard(rt: HostRuntime) -> Result<(), Fail> {
+    let alloc = rt.alloc();
+    let rack = without_shard(&rt, alloc)?;
+    let run = audited(&rt, alloc, rack, &["audit", "o", "c"])?;
+    told(&rt, &run, 4, "fault foreign 0\n");
+    Ok(())
+}
+
 // The rack whose shard's disk is the one from before the transaction: the coordinator's Commit has no Lock.
 fn with_an_old_shard<W: Wait>(rt: &W, alloc: Global) -> Result<MemRack<PlainDisk>, Fail>
     ensures { IfOk result (λ r. AllIn r) }

@@ -35,7 +35,7 @@ use Rattle.caused_ledgers.proofs.Told.{told_history}
 use Rattle.audited_ledgers.specs.Audited.{IsAudited}
 use Rattle.rack_laws.specs.Shown.{Shows, OfShown, HoldsEach, node_count}
 use Rattle.rack_laws.proofs.Opened.{same_genesis}
-use Rattle.rack_ledgers.specs.Ledgers.{IsUnopenedBy}
+use Rattle.rack_ledgers.proofs.Lacks.{unopened_kind}
 use Rattle.rack_nodes.specs.Racked.{IsBack}
 use Rattle.rack_nodes.specs.Refused.{IsNodeRefusal}
 use Rattle.rack_runs.specs.Kinds.{IsLaneAnswer}
@@ -182,13 +182,6 @@ module _ (K : Shape) (mint : List Output) (few_coins : length mint ≤ 1000000) 
 
 -- ---- a workload's run and audit
 
-unopened_kind : {D : Type 0} (content : D → Option (List ℕ)) (images : D → List ℕ → Type 0) (limit count : D → ℕ) (held : ℕ → Option D) (before now : ℕ → ℕ) (id : Digest) (a : Answer)
-    → IsUnopenedBy content images limit count held before now (Some id) a → IsNodeRefusal a
-unopened_kind content images limit count held before now id a (inl (inl (inl first))) = first.kind
-unopened_kind content images limit count held before now id a (inl (inl (inr lacks))) = lacks.refused.kind
-unopened_kind content images limit count held before now id a (inl (inr lacks)) = lacks.refused.kind
-unopened_kind content images limit count held before now id a (inr other) = subst IsNodeRefusal (sym other.other.1) tt
-
 module _ (K : Shape) (seed n : ℕ) where
   unopened_why : (a : Answer) → IsNodeRefusal a → IsUnopenedThere K (mint_of seed n) (all_of seed n) a → WhyNoWorkload K seed n a
   unopened_why answers.Ok kind is = absurd kind
@@ -227,7 +220,7 @@ module _ (K : Shape) (seed n : ℕ) where
   pub unrun_why : (rack : PlainRack) (a : Answer) → IsUnrun K (mint_of seed n) (files_of seed n) rack a → WhyNoWorkload K seed n a
   unrun_why rack a (inl memory) = subst (WhyNoWorkload K seed n) (sym memory) tt
   unrun_why rack a (inr (inl is)) =
-      unopened_why a (unopened_kind bytes_told bytes_left room_of faults_of (disk_at is.old) (faults_at is.old.misses) (faults_at is.new.misses) (genesis_id (mint_of seed n)) a is.why)
+      unopened_why a (unopened_kind bytes_told bytes_left room_of faults_of (disk_at is.old) (faults_at is.old.misses) (faults_at is.new.misses) (Some (genesis_id (mint_of seed n))) a is.why)
       (record { old = is.old; new = is.new; journals = is.journals; kept = kept_more K (mint_of seed n) [] (all_of seed n) is.journals is.kept; shows = is.shows; why = is.why })
   unrun_why rack a (inr (inr (kind, cut))) = lane_why a kind (record { exit = cut.exit; grows = cut.grown.grows; kept = cut.grown.kept })
 
@@ -288,7 +281,7 @@ module _ (K : Shape) (seed n : ℕ) where
     pub unchecked_why : (new : PlainRack) (a : Answer) → IsUnchecked rack new (mint_of seed n) (all_of seed n) a → WhyNoWorkload K seed n a
     unchecked_why new a (inl wrong) = wrong_why a wrong
     unchecked_why new a (inr (inl unopened)) =
-        unopened_why a (unopened_kind bytes_told bytes_left room_of faults_of (disk_at rack) (faults_at rack.misses) (faults_at new.misses) (genesis_id (mint_of seed n)) a unopened)
+        unopened_why a (unopened_kind bytes_told bytes_left room_of faults_of (disk_at rack) (faults_at rack.misses) (faults_at new.misses) (Some (genesis_id (mint_of seed n))) a unopened)
         (record { old = rack; new = new; journals = told.exit; kept = told.grown.kept; shows = shows; why = unopened })
     unchecked_why new a (inr (inr memory)) = subst (WhyNoWorkload K seed n) (sym memory) tt
 

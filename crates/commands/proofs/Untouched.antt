@@ -1,5 +1,5 @@
 -- The disks were not touched, or what is left of them.
-use Rattle.std.proofs.Common.{◌≡◌, ◌⊎◌, ⊎_elim, inr, ℕ, List, reverse, Option, Result, Ok, Err, refl, sym, subst}
+use Rattle.std.proofs.Common.{◌≡◌, ◌⊎◌, ⊎_elim, inr, ℕ, List, reverse, Option, None, Result, Ok, Err, refl, sym, subst}
 use Rattle.std.specs.Prelude.{IfErr}
 use Rattle.outside.specs.Counts.{Rose}
 use Rattle.outside.specs.Images.{Tells}
@@ -13,6 +13,7 @@ use Rattle.input_files.specs.Contents.{mint_of_file}
 use Rattle.rack_nodes.specs.Refused.{IsNodeRefusal}
 use Rattle.rack_nodes.specs.Racked.{OfTold}
 use Rattle.rack_ledgers.specs.Ledgers.{IsUnopened}
+use Rattle.rack_ledgers.proofs.Lacks.{unopened_kind}
 use Rattle.rack_runs.specs.Kinds.{IsLaneAnswer}
 use Rattle.ledger_init.specs.Made.{IsUnmade, IsLeft}
 use Rattle.commands.specs.Outcomes.{WhyNoTurns}
@@ -68,7 +69,7 @@ lane_alone K next E X failed holds other is well = well
 
 module _ {D : Type 0} (content : D → Option (List ℕ)) (images : D → List ℕ → Type 0) (limit count : D → ℕ) where
   pub not_unopened : (held : ℕ → Option D) (before now : ℕ → ℕ) (a : Answer) → IsUnopened content images limit count held before now a → IsBeforeDisks a → ⊥
-  not_unopened held before now a is = not_refused a (⊎_elim (λ unled. ⊎_elim (λ first. first.kind) (λ lacks. lacks.refused.kind) unled) (λ lacks. lacks.refused.kind) is)
+  not_unopened held before now a is = not_refused a (unopened_kind content images limit count held before now None a is)
 
   pub not_turned : (held new : ℕ → Option D) (before now : ℕ → ℕ) (next : Shape → ℕ → List Compact → Type 0) (handed : List (List FullTx)) (a : Answer) → WhyNoTurns content images limit count held new before now next handed a → IsBeforeDisks a → ⊥
   not_turned held new before now next handed a is =
@@ -81,7 +82,7 @@ module _ {D : Type 0} (content : D → Option (List ℕ)) (images : D → List �
   pub not_done : (held new : ℕ → Option D) (before now : ℕ → ℕ) (next : Shape → ℕ → List Compact → Type 0) (handed : List (List FullTx)) (a : Answer) → WhyNoTurns content images limit count held new before now next handed a → IsWell a → ⊥
   not_done held new before now next handed a is =
       ⊎_elim
-      (λ unopened. ⊎_elim (λ closed. refused_alone a (⊎_elim (λ unled. ⊎_elim (λ first. first.kind) (λ lacks. lacks.refused.kind) unled) (λ lacks. lacks.refused.kind) closed))
+      (λ unopened. ⊎_elim (λ closed. refused_alone a (unopened_kind content images limit count held before now None a closed))
       (λ other. ⊎_elim (λ unsound. subst (λ b. IsWell b → ⊥) (sym unsound.told) (λ none. none)) (λ memory. subst (λ b. IsWell b → ⊥) (sym memory) (λ none. none)) other) unopened.0)
       (λ lane. lane_alone lane.0.ledger.shape (next lane.0.ledger.shape) (λ n. journal n (reverse lane.0.ledger.rows)) lane.0.exit (λ n. Rose (before n) (now n)) (λ n c. OfTold (held n) (λ d. c ≡ limit d)) a lane.0.cause) is
 

@@ -7,6 +7,7 @@ use Rattle.std.proofs.lemmas.List.Concat.{flat_map-append}
 use Rattle.std.proofs.lemmas.List.Sums.{sum_by-append, sum_by-cons}
 use Rattle.cbdc_types.specs.declared.calls.NodeOpenFault.{NodeOpenFault}
 use Rattle.cbdc_types.specs.declared.calls.NodeOpenFault.TheVariants.{DiskFault, NotReady, OtherKind, Damaged, Full, Memory}
+use Rattle.cbdc_types.specs.Limits.{IsWithinLimits}
 use Rattle.cbdc_model.specs.Records.{Header, Record}
 use Rattle.cbdc_model.specs.Grammar.{IsInGrammar}
 use Rattle.cbdc_model.specs.After.{After, IsJournal}
@@ -110,6 +111,7 @@ stops_damage h records at bytes tail may stops parts fits =
     record {
       header = h;
       journal = reverse stops.before;
+      limits = limits;
       is = stops.is;
       coordinator = stops.coordinator;
       cut = subst (λ (l : List Record). CutsOff (After h (reverse stops.before)) l at bytes) (sym back) (record {
@@ -157,10 +159,11 @@ open_some [] is = absurd is
 open_some (gate ∷ rest) is = omega arith
 
 -- records that are all next, and behind them an open gate with no record of the grammar
-pub all_played : (h : Header) (core : CoordOf) (records : List Record) (at : ℕ) (bytes : List ℕ) → IsPlayed h core (reverse records) → CutsOff (IsInGrammar h) records at bytes → IsDamagedAt at bytes
-all_played h core records at bytes is cuts = record {
+pub all_played : (h : Header) (core : CoordOf) (records : List Record) (at : ℕ) (bytes : List ℕ) → IsWithinLimits h.shape → IsPlayed h core (reverse records) → CutsOff (IsInGrammar h) records at bytes → IsDamagedAt at bytes
+all_played h core records at bytes limits is cuts = record {
   header = h;
   journal = reverse records;
+  limits = limits;
   is = is.journal;
   coordinator = is.coordinator;
   cut = subst (λ (l : List Record). CutsOff (After h (reverse records)) l at bytes) (sym (reverse-reverse records)) (record {
@@ -188,14 +191,14 @@ no_log_is limit bytes (Damaged at) is = absurd is
 no_log_is limit bytes (Full used need capacity) is = absurd is
 
 -- a journal for which there is too little room
-pub full_is : (h : Header) (core : CoordOf) (records : List Record) (used need capacity limit : ℕ) (bytes : List ℕ) → IsPlayed h core (reverse records) → OpensTo records bytes → used ≡ sum_by size_of records + 1
+pub full_is : (h : Header) (core : CoordOf) (records : List Record) (used need capacity limit : ℕ) (bytes : List ℕ) → IsWithinLimits h.shape → IsPlayed h core (reverse records) → OpensTo records bytes → used ≡ sum_by size_of records + 1
     → need ≡ kept_room h.shape (reverse records) → capacity ≡ limit → capacity < used + need → IsNoCoord limit bytes (Full used need capacity)
-full_is h core records used need capacity limit bytes is opens used_is need_is limit_is passes = (
+full_is h core records used need capacity limit bytes limits is opens used_is need_is limit_is passes = (
   limit_is,
   record {
     header = h;
     journal = reverse records;
-    is = record { opens = subst (λ (l : List Record). OpensTo l bytes) (sym (reverse-reverse records)) opens; journal = is.journal; coordinator = is.coordinator };
+    is = record { opens = subst (λ (l : List Record). OpensTo l bytes) (sym (reverse-reverse records)) opens; limits = limits; journal = is.journal; coordinator = is.coordinator };
     used_is = omega (arith, used_is, sum_reversed records);
     need_is = need_is;
     passes = passes;

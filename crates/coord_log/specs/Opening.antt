@@ -2,6 +2,7 @@
 use Rattle.std.specs.Prelude.{◌≡◌, ℕ, ◌+◌, ◌-◌, ◌^◌, ◌<◌, min, List, [], ◌∷◌, ◌++◌, reverse, sum_by}
 use Rattle.cbdc_types.specs.declared.calls.NodeOpenFault.{NodeOpenFault}
 use Rattle.cbdc_types.specs.declared.calls.NodeOpenFault.TheVariants.{DiskFault, NotReady, OtherKind, Damaged, Full, Memory}
+use Rattle.cbdc_types.specs.Limits.{IsWithinLimits}
 use Rattle.cbdc_model.specs.Records.{Header, Record, Genesis}
 use Rattle.cbdc_model.specs.After.{After, IsJournal}
 use Rattle.cbdc_model.specs.Room.{size_of, kept_room}
@@ -18,6 +19,7 @@ IsCoord h = h.node < h.shape.coordinators
 -- the bytes open to this journal of a coordinator, the newest record first
 pub record IsCoordJournal (h : Header) (J : List Record) (bytes : List ℕ) : Type 0 where
   pub opens : OpensTo (reverse J) bytes
+  pub limits : IsWithinLimits h.shape
   pub journal : IsJournal h J
   pub coordinator : IsCoord h
 
@@ -63,6 +65,7 @@ IsUnplayed h (r ∷ later) other = ⊥
 pub record IsDamagedAt (at : ℕ) (bytes : List ℕ) : Type 0 where
   pub header : Header
   pub journal : List Record
+  pub limits : IsWithinLimits header.shape
   pub is : IsJournal header journal
   pub coordinator : IsCoord header
   pub cut : CutsOff (After header journal) (reverse journal) at bytes

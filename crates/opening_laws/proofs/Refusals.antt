@@ -1,8 +1,7 @@
 -- Rows of records that follow each other end in one place.
-use Rattle.std.proofs.Common.{◌≡◌, ◌⊎◌, inl, inr, ⊎_elim, ℕ, ◌+◌, ◌≤◌, List, [], ◌∷◌, ◌++◌, length, reverse, refl, sym, ap, ap₂, ◌∙◌, subst, arith, append_assoc, length-append}
+use Rattle.std.proofs.Common.{◌≡◌, ◌⊎◌, inl, inr, ⊎_elim, ℕ, ◌≤◌, List, [], ◌∷◌, ◌++◌, length, reverse, refl, sym, ap, ap₂, ◌∙◌, subst, arith, append_assoc, length-append}
 use Rattle.std.proofs.lemmas.List.{reverse-append, reverse-reverse, append-nil}
 use Rattle.cbdc_types.specs.Limits.{IsWithinLimits}
-use Rattle.cbdc_types.specs.declared.calls.NodeOpenFault.{NodeOpenFault}
 use Rattle.cbdc_types.specs.declared.calls.NodeOpenFault.TheVariants.{DiskFault, NotReady, OtherKind, Damaged, Full, Memory}
 use Rattle.cbdc_model.specs.Records.{Header, Record, Genesis, Lock, Finish, Forget, Start, Prepare, Commit, Discard, Done}
 use Rattle.cbdc_model.specs.Grammar.{IsInGrammar, IsShard}
@@ -13,11 +12,11 @@ use Rattle.record_codec.specs.Bodies.{body_of}
 use Rattle.record_codec.specs.Exact.{IsFirst as BeginsJournal}
 use Rattle.gate_journal.specs.Rows.{filling, row, rows, IsShut}
 use Rattle.gate_journal.proofs.Once.{tail_is, row_once, shut_is_no_row}
-use Rattle.record_log.specs.Held.{bodies_of, IsOpen, HasRow, HasNoRecord}
+use Rattle.record_log.specs.Held.{bodies_of, IsOpen, HasRow}
 use Rattle.record_log.proofs.Sizes.{body_small, first_small}
-use Rattle.shard_node.specs.Opening.{IsStart, IsShardJournal, IsDamagedAt, IsTooFull, IsNoShard}
+use Rattle.shard_node.specs.Opening.{IsStart, IsShardJournal, IsDamagedAt, IsNoShard}
 use Rattle.opening_laws.proofs.Once.{same_record, first_header}
-use Rattle.opening_laws.specs.Refusals.{IsOfBytes, OneRefusalLaw, NoRefusalLaw}
+use Rattle.opening_laws.specs.Refusals.{OneRefusalLaw, NoRefusalLaw}
 
 -- each record is after those before it, of which `past` stand in front, the newest first
 abbrev Follow : Header → List Record → List Record → Type 0

@@ -2,6 +2,8 @@
 use Rattle.std.proofs.Common.{◌≡◌, ◌≤◌, le_trans, ◌+◌, ◌++◌, ◌∷◌, [], ℕ, List, length, Option, Some, None, sym, ◌∙◌, subst, ap, arith}
 use Rattle.cbdc_model.specs.Records.{Header}
 use Rattle.cbdc_model.specs.After.{IsJournal}
+use Rattle.cbdc_model.specs.Room.{kept_room}
+use Rattle.cbdc_model.specs.Due.{used_of}
 use Rattle.coord_log.specs.Logs.{LogOf, HoldsJournal as HoldsLog}
 use Rattle.coord_log.specs.Opening.{IsCoordJournal}
 use Rattle.shard_node.specs.Shards.{ShardOf, HoldsJournal as HoldsShard}
@@ -17,13 +19,13 @@ use Rattle.rack_ledgers.proofs.Places.{at_place, by_place}
 module _ {D : Type 0} (content : D → Option (List ℕ)) (images : D → List ℕ → Type 0) (limit count : D → ℕ) where
   -- what is known of a coordinator and of a shard that are opened
   abbrev pub FitsLog : ℕ → Option Header → LogOf D → Type 0
-  FitsLog n ledger l = IsAsked n ledger l.header × IsCoordinator l.header × IsJournal l.header l.journal × (l.flight ≡ None) × (l.broken ≡ None) × (l.opened ≡ l.faults) × (l.faults ≡ count l.disk) × (l.capacity ≡ limit l.disk)
+  FitsLog n ledger l = IsAsked n ledger l.header × IsCoordinator l.header × IsJournal l.header l.journal × (l.flight ≡ None) × (l.broken ≡ None) × (l.opened ≡ l.faults) × (l.faults ≡ count l.disk) × (l.capacity ≡ limit l.disk) × (used_of l.journal + kept_room l.header.shape l.journal ≤ l.capacity)
 
   abbrev pub StandsLog : LogOf D → List ℕ → Type 0
   StandsLog l c = IsCoordJournal l.header l.journal c × HoldsLog content images l
 
   abbrev pub FitsShard : ℕ → Option Header → ShardOf D → Type 0
-  FitsShard n ledger s = IsAsked n ledger s.header × IsShardNode s.header × IsJournal s.header s.journal × (s.flight ≡ None) × (s.broken ≡ None) × (s.opened ≡ count s.disk)
+  FitsShard n ledger s = IsAsked n ledger s.header × IsShardNode s.header × IsJournal s.header s.journal × (s.flight ≡ None) × (s.broken ≡ None) × (s.opened ≡ count s.disk) × (used_of s.journal + kept_room s.header.shape s.journal ≤ limit s.disk)
 
   abbrev pub StandsShard : ShardOf D → List ℕ → Type 0
   StandsShard s c = IsShardJournal s.header s.journal c × HoldsShard content images s
@@ -38,17 +40,17 @@ module _ {D : Type 0} (content : D → Option (List ℕ)) (images : D → List �
   -- a coordinator of the ledger
   pub log_at : (held : ℕ → Option D) (h : Header) (n : ℕ) (l : LogOf D) → FitsLog n (Some h) l
       → OfTold (held n) (λ was. IsOpened content images limit (λ x. x.disk) StandsLog was l) → IsLogAt content images limit count held h n l
-  log_at held h n l fits opened = record { header = fits.0; journal = fits.2; flight = fits.3; broken = fits.4; since = fits.5; faults = fits.6; capacity = fits.7; opened = opened }
+  log_at held h n l fits opened = record { header = fits.0; journal = fits.2; flight = fits.3; broken = fits.4; since = fits.5; faults = fits.6; capacity = fits.7; room = fits.8; opened = opened }
 
   pub shard_at : (held : ℕ → Option D) (h : Header) (n : ℕ) (s : ShardOf D) → FitsShard n (Some h) s
       → OfTold (held n) (λ was. IsOpened content images limit (λ x. x.disk) StandsShard was s) → IsShardAt content images limit count held h n s
-  shard_at held h n s fits opened = record { header = fits.0; journal = fits.2; flight = fits.3; broken = fits.4; since = fits.5; opened = opened }
+  shard_at held h n s fits opened = record { header = fits.0; journal = fits.2; flight = fits.3; broken = fits.4; since = fits.5; room = fits.6; opened = opened }
 
   -- node 0, whose header is its own
   pub lead_at : (held : ℕ → Option D) (h : Header) (l : LogOf D) → h ≡ l.header → FitsLog 0 None l
       → OfTold (held 0) (λ was. IsOpened content images limit (λ x. x.disk) StandsLog was l) → IsLogAt content images limit count held h 0 l
   lead_at held h l same fits opened =
-      log_at held h 0 l (fits.0 ∙ ap (λ (k : Header). record { node = 0; shape = k.shape; genesis = k.genesis }) (sym same), fits.1, fits.2, fits.3, fits.4, fits.5, fits.6, fits.7) opened
+      log_at held h 0 l (fits.0 ∙ ap (λ (k : Header). record { node = 0; shape = k.shape; genesis = k.genesis }) (sym same), fits.1, fits.2, fits.3, fits.4, fits.5, fits.6, fits.7, fits.8) opened
 
   -- node 0 and those behind it
   pub led_at : (held mid : ℕ → Option D) (before : ℕ → ℕ) (h : Header) (lead : LogOf D) (more : List (LogOf D)) → ((n : ℕ) → 1 ≤ n → mid n ≡ held n)

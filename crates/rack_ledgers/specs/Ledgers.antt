@@ -7,6 +7,8 @@ use Rattle.cbdc_types.specs.declared.answer.Answer.TheVariants as answers
 use Rattle.cbdc_model.specs.Records.{Digest, Header}
 use Rattle.cbdc_model.specs.After.{IsJournal}
 use Rattle.cbdc_model.specs.History.{header_of}
+use Rattle.cbdc_model.specs.Room.{kept_room}
+use Rattle.cbdc_model.specs.Due.{used_of}
 use Rattle.coord_log.specs.Logs.{LogOf, HoldsJournal as HoldsLog}
 use Rattle.coord_log.specs.Opening.{IsCoordJournal}
 use Rattle.shard_node.specs.Shards.{ShardOf, HoldsJournal as HoldsShard}
@@ -29,6 +31,7 @@ pub record IsLogAt {D : Type 0} (content : D → Option (List ℕ)) (images : D 
   pub since : l.opened ≡ l.faults
   pub faults : l.faults ≡ count l.disk
   pub capacity : l.capacity ≡ limit l.disk
+  pub room : used_of l.journal + kept_room l.header.shape l.journal ≤ l.capacity
   pub opened : OfTold (held place) (λ was. IsOpened content images limit (λ x. x.disk) (λ x c. IsCoordJournal x.header x.journal c × HoldsLog content images x) was l)
 
 -- so does a shard
@@ -38,6 +41,7 @@ pub record IsShardAt {D : Type 0} (content : D → Option (List ℕ)) (images : 
   pub flight : s.flight ≡ None
   pub broken : s.broken ≡ None
   pub since : s.opened ≡ count s.disk
+  pub room : used_of s.journal + kept_room s.header.shape s.journal ≤ limit s.disk
   pub opened : OfTold (held place) (λ was. IsOpened content images limit (λ x. x.disk) (λ x c. IsShardJournal x.header x.journal c × HoldsShard content images x) was s)
 
 -- these are all coordinators and all shards of the ledger with this header, which is that of node 0
@@ -54,38 +58,6 @@ pub record IsRefused {D : Type 0} (content : D → Option (List ℕ)) (limit : D
   pub kind : IsNodeRefusal answer
   pub fault : IsOpening place (before place) (now place) answer
   pub cause : OfTold (held place) (λ was. Tells (content was) (λ c. IsNoNode Is place ledger (limit was) c answer))
-
--- the coordinators before this one are opened, of which node 0 has this header, and why this one is not
-pub record LacksLog {D : Type 0} (content : D → Option (List ℕ)) (images : D → List ℕ → Type 0) (limit count : D → ℕ) (held : ℕ → Option D) (before now : ℕ → ℕ) (answer : Answer) : Type 0 where
-  pub header : Header
-  pub logs : List (LogOf D)
-  pub first : header.node ≡ 0
-  pub some : 1 ≤ length logs
-  pub inside : length logs < header.shape.coordinators
-  pub logs_at : ByPlace (IsLogAt content images limit count held header) logs
-  pub refused : IsRefused content limit held before now IsCoordinator (Some header) (length logs) answer
-
--- all coordinators and the shards before this one are opened, and why this one is not
-pub record LacksShard {D : Type 0} (content : D → Option (List ℕ)) (images : D → List ℕ → Type 0) (limit count : D → ℕ) (held : ℕ → Option D) (before now : ℕ → ℕ) (answer : Answer) : Type 0 where
-  pub header : Header
-  pub logs : List (LogOf D)
-  pub shards : List (ShardOf D)
-  pub first : header.node ≡ 0
-  pub coordinators : length logs ≡ header.shape.coordinators
-  pub inside : length shards < header.shape.shards
-  pub logs_at : ByPlace (IsLogAt content images limit count held header) logs
-  pub shards_at : ByPlace (λ s x. IsShardAt content images limit count held header (header.shape.coordinators + s) x) shards
-  pub refused : IsRefused content limit held before now IsShardNode (Some header) (header.shape.coordinators + length shards) answer
-
--- why the first coordinator that can't be opened is not: node 0 by its own header, each other one by node 0's
-abbrev pub IsUnled : {D : Type 0} → (D → Option (List ℕ)) → (D → List ℕ → Type 0) → (D → ℕ) → (D → ℕ) → (ℕ → Option D) → (ℕ → ℕ) → (ℕ → ℕ) → Answer → Type 0
-IsUnled content images limit count held before now answer =
-    IsRefused content limit held before now IsCoordinator None 0 answer ⊎ LacksLog content images limit count held before now answer
-
--- why the first node that can't be opened is not
-abbrev pub IsUnopened : {D : Type 0} → (D → Option (List ℕ)) → (D → List ℕ → Type 0) → (D → ℕ) → (D → ℕ) → (ℕ → Option D) → (ℕ → ℕ) → (ℕ → ℕ) → Answer → Type 0
-IsUnopened content images limit count held before now answer =
-    IsUnled content images limit count held before now answer ⊎ LacksShard content images limit count held before now answer
 
 -- the mint with this id, where one is given, began the ledger with this header
 abbrev pub IsMintOf : Option Digest → Header → Type 0
@@ -104,11 +76,43 @@ pub record HasOtherMint {D : Type 0} (content : D → Option (List ℕ)) (images
   pub lead_at : IsLogAt content images limit count held lead.header 0 lead
   pub other : IsOtherMint id lead.header answer
 
--- why the first node that can't be opened is not, where the mint with this id, if one is given, should have begun the ledger
+-- the coordinators before this one are opened, of which node 0 has this header, of a ledger that the mint with this id began, and why this
+-- one is not
+pub record LacksLog {D : Type 0} (content : D → Option (List ℕ)) (images : D → List ℕ → Type 0) (limit count : D → ℕ) (held : ℕ → Option D) (before now : ℕ → ℕ) (id : Option Digest) (answer : Answer) : Type 0 where
+  pub header : Header
+  pub logs : List (LogOf D)
+  pub first : header.node ≡ 0
+  pub minted : IsMintOf id header
+  pub some : 1 ≤ length logs
+  pub inside : length logs < header.shape.coordinators
+  pub logs_at : ByPlace (IsLogAt content images limit count held header) logs
+  pub refused : IsRefused content limit held before now IsCoordinator (Some header) (length logs) answer
+
+-- all coordinators and the shards before this one are opened, of a ledger that the mint with this id began, and why this one is not
+pub record LacksShard {D : Type 0} (content : D → Option (List ℕ)) (images : D → List ℕ → Type 0) (limit count : D → ℕ) (held : ℕ → Option D) (before now : ℕ → ℕ) (id : Option Digest) (answer : Answer) : Type 0 where
+  pub header : Header
+  pub logs : List (LogOf D)
+  pub shards : List (ShardOf D)
+  pub first : header.node ≡ 0
+  pub minted : IsMintOf id header
+  pub coordinators : length logs ≡ header.shape.coordinators
+  pub inside : length shards < header.shape.shards
+  pub logs_at : ByPlace (IsLogAt content images limit count held header) logs
+  pub shards_at : ByPlace (λ s x. IsShardAt content images limit count held header (header.shape.coordinators + s) x) shards
+  pub refused : IsRefused content limit held before now IsShardNode (Some header) (header.shape.coordinators + length shards) answer
+
+-- why the first coordinator that can't be opened is not: node 0 by its own header, or another mint began its ledger; each other one by node
+-- 0's header, which this mint began
 abbrev pub IsUnledBy : {D : Type 0} → (D → Option (List ℕ)) → (D → List ℕ → Type 0) → (D → ℕ) → (D → ℕ) → (ℕ → Option D) → (ℕ → ℕ) → (ℕ → ℕ) → Option Digest → Answer → Type 0
 IsUnledBy content images limit count held before now id answer =
-    IsUnled content images limit count held before now answer ⊎ HasOtherMint content images limit count held id answer
+    IsRefused content limit held before now IsCoordinator None 0 answer
+    ⊎ (HasOtherMint content images limit count held id answer ⊎ LacksLog content images limit count held before now id answer)
 
+-- why the first node that can't be opened is not, where the mint with this id, if one is given, should have begun the ledger
 abbrev pub IsUnopenedBy : {D : Type 0} → (D → Option (List ℕ)) → (D → List ℕ → Type 0) → (D → ℕ) → (D → ℕ) → (ℕ → Option D) → (ℕ → ℕ) → (ℕ → ℕ) → Option Digest → Answer → Type 0
 IsUnopenedBy content images limit count held before now id answer =
-    IsUnopened content images limit count held before now answer ⊎ HasOtherMint content images limit count held id answer
+    IsUnledBy content images limit count held before now id answer ⊎ LacksShard content images limit count held before now id answer
+
+-- why the first node that can't be opened is not, whatever mint began the ledger
+abbrev pub IsUnopened : {D : Type 0} → (D → Option (List ℕ)) → (D → List ℕ → Type 0) → (D → ℕ) → (D → ℕ) → (ℕ → Option D) → (ℕ → ℕ) → (ℕ → ℕ) → Answer → Type 0
+IsUnopened content images limit count held before now answer = IsUnopenedBy content images limit count held before now None answer

@@ -1,10 +1,12 @@
 -- Refusals of a shard or a coordinator, as those of a node.
-use Rattle.std.proofs.Common.{◌≡◌, ◌≢◌, Bool, false, inl, inr, ℕ, List, ◌++◌, Option, None, refl, sym, ◌∙◌, subst, arith, rules}
+use Rattle.std.proofs.Common.{◌≡◌, ◌≢◌, Bool, false, inl, inr, ℕ, ◌+◌, ◌≤◌, List, ◌++◌, Option, None, refl, sym, ◌∙◌, subst, arith, rules}
 use Rattle.cbdc_types.specs.declared.answer.Answer.{Answer}
 use Rattle.cbdc_types.specs.declared.answer.Answer.TheVariants as answers
 use Rattle.cbdc_types.specs.declared.calls.NodeOpenFault.{NodeOpenFault}
 use Rattle.cbdc_types.specs.declared.calls.NodeOpenFault.TheVariants as faults
 use Rattle.cbdc_model.specs.Records.{Header, Record, Genesis, Lock, Finish, Forget, Start, Prepare, Commit, Discard, Done}
+use Rattle.cbdc_model.specs.Room.{kept_room}
+use Rattle.cbdc_model.specs.Due.{used_of}
 use Rattle.outside.specs.Counts.{Rose}
 use Rattle.record_log.specs.Held.{HasRow}
 use Rattle.record_codec.specs.Bodies.{body_of}
@@ -37,14 +39,14 @@ pub shard_refused : (Is : Header → Type 0) (node : ℕ) (ledger : Option Heade
 shard_refused Is node ledger limit bytes faults.DiskFault other is = refl
 shard_refused Is node ledger limit bytes faults.NotReady other is = (refl, is)
 shard_refused Is node ledger limit bytes faults.OtherKind other is = absurd (other refl)
-shard_refused Is node ledger limit bytes (faults.Damaged at) other is = (refl, record { header = is.header; journal = is.journal; is = is.is; cut = is.cut })
+shard_refused Is node ledger limit bytes (faults.Damaged at) other is = (refl, record { header = is.header; journal = is.journal; limits = is.limits; is = is.is; cut = is.cut })
 shard_refused Is node ledger limit bytes (faults.Full used need capacity) other is = (
   refl,
   is.0,
   record {
     header = is.1.header;
     journal = is.1.journal;
-    is = record { opens = is.1.is.opens; journal = is.1.is.journal };
+    is = record { opens = is.1.is.opens; limits = is.1.is.limits; journal = is.1.is.journal };
     used_is = is.1.used_is;
     need_is = is.1.need_is;
     passes = is.1.passes;
@@ -53,15 +55,15 @@ shard_refused Is node ledger limit bytes (faults.Full used need capacity) other 
 shard_refused Is node ledger limit bytes faults.Memory other is = tt
 
 -- a shard with another header
-pub other_shard : (node : ℕ) (ledger : Option Header) (limit : ℕ) (bytes : List ℕ) (kept : Header) (J : List Record) → IsShardJournal kept J bytes → kept ≢ asked_of node ledger kept
+pub other_shard : (node : ℕ) (ledger : Option Header) (limit : ℕ) (bytes : List ℕ) (kept : Header) (J : List Record) → IsShardJournal kept J bytes → used_of J + kept_room kept.shape J ≤ limit → kept ≢ asked_of node ledger kept
     → IsNoNode IsShardNode node ledger limit bytes (answers.Foreign node kept (asked_of node ledger kept))
-other_shard node ledger limit bytes kept J is differs = (refl, refl, record { journal = J; is = record { opens = is.opens; journal = is.journal }; differs = inl differs })
+other_shard node ledger limit bytes kept J is fits differs = (refl, refl, record { journal = J; is = record { opens = is.opens; limits = is.limits; journal = is.journal }; fits = fits; differs = inl differs })
 
 -- a shard in place of a coordinator
-pub shard_for_coordinator : (node : ℕ) (ledger : Option Header) (limit : ℕ) (bytes : List ℕ) (kept : Header) (J : List Record) → IsShardJournal kept J bytes
+pub shard_for_coordinator : (node : ℕ) (ledger : Option Header) (limit : ℕ) (bytes : List ℕ) (kept : Header) (J : List Record) → IsShardJournal kept J bytes → used_of J + kept_room kept.shape J ≤ limit
     → IsNoNode IsCoordinator node ledger limit bytes (answers.Foreign node kept (asked_of node ledger kept))
-shard_for_coordinator node ledger limit bytes kept J is =
-    (refl, refl, record { journal = J; is = record { opens = is.opens; journal = is.journal }; differs = inr (λ below. absurd (omega (arith, below, is.shard.0))) })
+shard_for_coordinator node ledger limit bytes kept J is fits =
+    (refl, refl, record { journal = J; is = record { opens = is.opens; limits = is.limits; journal = is.journal }; fits = fits; differs = inr (λ below. absurd (omega (arith, below, is.shard.0))) })
 
 -- a shard that was opened tells its content
 pub shard_told : {D : Type 0} (content : D → Option (List ℕ)) (images : D → List ℕ → Type 0) (n : ShardOf D) → n.flight ≡ None → HoldsJournal content images n → IsSome (content n.disk)
@@ -74,14 +76,14 @@ pub coordinator_refused : (Is : Header → Type 0) (node : ℕ) (ledger : Option
 coordinator_refused Is node ledger limit bytes faults.DiskFault other is = refl
 coordinator_refused Is node ledger limit bytes faults.NotReady other is = (refl, is)
 coordinator_refused Is node ledger limit bytes faults.OtherKind other is = absurd (other refl)
-coordinator_refused Is node ledger limit bytes (faults.Damaged at) other is = (refl, record { header = is.header; journal = is.journal; is = is.is; cut = is.cut })
+coordinator_refused Is node ledger limit bytes (faults.Damaged at) other is = (refl, record { header = is.header; journal = is.journal; limits = is.limits; is = is.is; cut = is.cut })
 coordinator_refused Is node ledger limit bytes (faults.Full used need capacity) other is = (
   refl,
   is.0,
   record {
     header = is.1.header;
     journal = is.1.journal;
-    is = record { opens = is.1.is.opens; journal = is.1.is.journal };
+    is = record { opens = is.1.is.opens; limits = is.1.is.limits; journal = is.1.is.journal };
     used_is = is.1.used_is;
     need_is = is.1.need_is;
     passes = is.1.passes;
@@ -90,15 +92,15 @@ coordinator_refused Is node ledger limit bytes (faults.Full used need capacity) 
 coordinator_refused Is node ledger limit bytes faults.Memory other is = tt
 
 -- a coordinator with another header
-pub other_coordinator : (node : ℕ) (ledger : Option Header) (limit : ℕ) (bytes : List ℕ) (kept : Header) (J : List Record) → IsCoordJournal kept J bytes → kept ≢ asked_of node ledger kept
+pub other_coordinator : (node : ℕ) (ledger : Option Header) (limit : ℕ) (bytes : List ℕ) (kept : Header) (J : List Record) → IsCoordJournal kept J bytes → used_of J + kept_room kept.shape J ≤ limit → kept ≢ asked_of node ledger kept
     → IsNoNode IsCoordinator node ledger limit bytes (answers.Foreign node kept (asked_of node ledger kept))
-other_coordinator node ledger limit bytes kept J is differs = (refl, refl, record { journal = J; is = record { opens = is.opens; journal = is.journal }; differs = inl differs })
+other_coordinator node ledger limit bytes kept J is fits differs = (refl, refl, record { journal = J; is = record { opens = is.opens; limits = is.limits; journal = is.journal }; fits = fits; differs = inl differs })
 
 -- a coordinator in place of a shard
-pub coordinator_for_shard : (node : ℕ) (ledger : Option Header) (limit : ℕ) (bytes : List ℕ) (kept : Header) (J : List Record) → IsCoordJournal kept J bytes
+pub coordinator_for_shard : (node : ℕ) (ledger : Option Header) (limit : ℕ) (bytes : List ℕ) (kept : Header) (J : List Record) → IsCoordJournal kept J bytes → used_of J + kept_room kept.shape J ≤ limit
     → IsNoNode IsShardNode node ledger limit bytes (answers.Foreign node kept (asked_of node ledger kept))
-coordinator_for_shard node ledger limit bytes kept J is =
-    (refl, refl, record { journal = J; is = record { opens = is.opens; journal = is.journal }; differs = inr (λ here. absurd (omega (arith, here.0, is.coordinator))) })
+coordinator_for_shard node ledger limit bytes kept J is fits =
+    (refl, refl, record { journal = J; is = record { opens = is.opens; limits = is.limits; journal = is.journal }; fits = fits; differs = inr (λ here. absurd (omega (arith, here.0, is.coordinator))) })
 
 -- a first record is of one kind
 start_first : (r : Record) → IsStart r → IsFirst r

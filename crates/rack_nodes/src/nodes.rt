@@ -68,15 +68,17 @@ impl<D: Disk> OnDisk<D> for CoordLog<D> {
     ghost use Rattle.coord_log.specs.Logs.{HoldsJournal};
     ghost use Rattle.coord_log.specs.Opening.{IsCoordJournal};
     ghost use Rattle.cbdc_model.specs.After.{IsJournal};
+    ghost use Rattle.cbdc_model.specs.Room.{kept_room};
+    ghost use Rattle.cbdc_model.specs.Due.{used_of};
     ghost use Rattle.rack_nodes.specs.Asked.{IsAsked, IsCoordinator};
     ghost use Rattle.rack_nodes.specs.Refused.{IsNoNode, IsNodeRefusal};
-    ghost use Rattle.std.specs.Prelude.{◌≡◌, None, refl};
+    ghost use Rattle.std.specs.Prelude.{◌≡◌, ◌+◌, ◌≤◌, None, refl};
 
     ghost disk_of = { λ n. n.disk };
 
     ghost opens = { λ n c. IsCoordJournal n.header n.journal c × HoldsJournal D.content D.images n };
 
-    ghost fits = { λ node ledger n. IsAsked node ledger n.header × IsCoordinator n.header × IsJournal n.header n.journal × (n.flight ≡ None) × (n.broken ≡ None) × (n.opened ≡ n.faults) × (n.faults ≡ D.count n.disk) × (n.capacity ≡ D.limit n.disk) };
+    ghost fits = { λ node ledger n. IsAsked node ledger n.header × IsCoordinator n.header × IsJournal n.header n.journal × (n.flight ≡ None) × (n.broken ≡ None) × (n.opened ≡ n.faults) × (n.faults ≡ D.count n.disk) × (n.capacity ≡ D.limit n.disk) × (used_of n.journal + kept_room n.header.shape n.journal ≤ n.capacity) };
 
     ghost refused = { λ node ledger limit c e. IsNoNode IsCoordinator node ledger limit c e };
 
@@ -117,15 +119,17 @@ impl<D: Disk> OnDisk<D> for ShardNode<D> {
     ghost use Rattle.shard_node.specs.Shards.{HoldsJournal};
     ghost use Rattle.shard_node.specs.Opening.{IsShardJournal};
     ghost use Rattle.cbdc_model.specs.After.{IsJournal};
+    ghost use Rattle.cbdc_model.specs.Room.{kept_room};
+    ghost use Rattle.cbdc_model.specs.Due.{used_of};
     ghost use Rattle.rack_nodes.specs.Asked.{IsAsked, IsShardNode};
     ghost use Rattle.rack_nodes.specs.Refused.{IsNoNode, IsNodeRefusal};
-    ghost use Rattle.std.specs.Prelude.{◌≡◌, None, refl};
+    ghost use Rattle.std.specs.Prelude.{◌≡◌, ◌+◌, ◌≤◌, None, refl};
 
     ghost disk_of = { λ n. n.disk };
 
     ghost opens = { λ n c. IsShardJournal n.header n.journal c × HoldsJournal D.content D.images n };
 
-    ghost fits = { λ node ledger n. IsAsked node ledger n.header × IsShardNode n.header × IsJournal n.header n.journal × (n.flight ≡ None) × (n.broken ≡ None) × (n.opened ≡ D.count n.disk) };
+    ghost fits = { λ node ledger n. IsAsked node ledger n.header × IsShardNode n.header × IsJournal n.header n.journal × (n.flight ≡ None) × (n.broken ≡ None) × (n.opened ≡ D.count n.disk) × (used_of n.journal + kept_room n.header.shape n.journal ≤ D.limit n.disk) };
 
     ghost refused = { λ node ledger limit c e. IsNoNode IsShardNode node ledger limit c e };
 

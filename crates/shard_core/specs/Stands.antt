@@ -13,7 +13,8 @@ use Rattle.shard_core.specs.declared.plans.LockPlan.{LockPlan}
 use Rattle.shard_core.specs.declared.plans.LockPlan.TheVariants.{Kept as LockKept, Append as LockNext, Refused as LockRefused}
 use Rattle.shard_core.specs.Slots.{SlotStands}
 
--- the slots and the last stamp are what the journal, the newest record first, says of them
+-- the slots, the last stamp, the unspent hashes and the locked ones are what the journal, the newest record first, says
+-- of them
 pub record Stands (core : ShardCore) (J : List Record) : Type 0 where
   pub lanes : (lane : ℕ) (s : LaneSlot) → slice_get core.slots lane ≡ Some s → SlotStands s J lane
   pub last : core.last ≡ last_stamp J

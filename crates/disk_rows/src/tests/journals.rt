@@ -31,8 +31,8 @@ fn appended<D: Disk>(
 // A journal of two bodies, on a disk of 30 bytes.
 fn of_two_bodies(alloc: Global) -> Result<Journal<PlainDisk>, Fail> {
     let mut journal = formatted(alloc, PlainDisk::new(alloc, 30)?)?;
-    let _ = appended(&mut journal, b"abc")?;
-    let _ = appended(&mut journal, b"")?;
+    appended(&mut journal, b"abc")??;
+    appended(&mut journal, b"")??;
     Ok(journal)
 }
 
@@ -70,7 +70,10 @@ fn a_journal_is_read_again(rt: HostRuntime) -> Result<(), Fail> {
     let disk = of_two_bodies(rt.alloc())?.into_disk();
     match Journal::open(rt.alloc(), disk) {
         Ok((journal, bodies)) => {
-            assert_eq!(rt; bodies.len(), 2);
+            let read = bodies.as_slice();
+            assert_eq!(rt; read.len(), 2);
+            assert_eq!(rt; read[0].as_slice(), b"abc".as_slice());
+            assert_eq!(rt; read[1].as_slice(), b"".as_slice());
             assert_eq!(rt; journal.used(), 22);
         }
         Err(_) => return Err("not opened".into()),
@@ -157,7 +160,7 @@ fn an_append_makes_four_calls(rt: HostRuntime) -> Result<(), Fail> {
 // A disk with a journal of one body of 70,000 bytes, which fails at one call.
 fn with_long_body(alloc: Global, failing: u64) -> Result<FaultDisk, Fail> {
     let mut journal = formatted(alloc, PlainDisk::new(alloc, 80_000)?)?;
-    let _ = appended(&mut journal, &vec![in alloc; 5u8; 70_000]?)?;
+    appended(&mut journal, &vec![in alloc; 5u8; 70_000]?)??;
     let made = journal.into_disk();
     if made.bytes().len() > 80_000 {
         return Err("a long journal".into());

@@ -1,7 +1,7 @@
 // A shard on its disk, from lock to forget.
 use cbdc_types::{
-    BatchId, Entry, FinishCall, ForgetCall, Hash, Header, LaneId, List, LockCall, NodeId, Record,
-    Replied, Reply, Shape, Stamp, Status,
+    BatchId, Entry, FinishCall, ForgetCall, Hash, Header, LaneId, List, LockCall, NodeFault,
+    NodeId, Record, Refused, Replied, Reply, Shape, Stamp, Status,
 };
 use gate_journal::Journal;
 use mem_devices::PlainDisk;
@@ -85,7 +85,11 @@ fn locked(alloc: Global, node: &mut ShardNode<PlainDisk>) -> Result<Replied, Fai
     }
 }
 
-fn finished(alloc: Global, node: &mut ShardNode<PlainDisk>) -> Result<Stamp, Fail> {
+// What its Finish is answered, which commits it.
+fn finished(
+    alloc: Global,
+    node: &mut ShardNode<PlainDisk>,
+) -> Result<Result<Stamp, NodeFault>, Fail> {
     let mut decisions = List::new(alloc);
     decisions.push(true)?;
     let call = FinishCall {
@@ -95,7 +99,7 @@ fn finished(alloc: Global, node: &mut ShardNode<PlainDisk>) -> Result<Stamp, Fai
     };
     let may_ask = is_finish_call(node.header(), &call);
     if may_ask {
-        Ok(node.finish(&call)?)
+        Ok(node.finish(&call))
     } else {
         Err("no call".into())
     }
@@ -152,7 +156,7 @@ fn a_lock_is_answered_alike_twice(rt: HostRuntime) -> Result<(), Fail> {
 fn a_finish_makes_the_output(rt: HostRuntime) -> Result<(), Fail> {
     let mut node = started(rt.alloc())?;
     let _ = locked(rt.alloc(), &mut node)?;
-    assert_eq!(rt; finished(rt.alloc(), &mut node)?, Stamp(4));
+    assert_eq!(rt; finished(rt.alloc(), &mut node)??, Stamp(4));
     let committed = Some(Remembered::Committed);
     assert_eq!(rt;
         known(&node),
@@ -165,7 +169,7 @@ fn a_finish_makes_the_output(rt: HostRuntime) -> Result<(), Fail> {
 fn a_batch_is_forgotten(rt: HostRuntime) -> Result<(), Fail> {
     let mut node = started(rt.alloc())?;
     let _ = locked(rt.alloc(), &mut node)?;
-    let _ = finished(rt.alloc(), &mut node)?;
+    let _ = finished(rt.alloc(), &mut node)??;
     assert_eq!(rt; forgotten(&mut node)?, Stamp(6));
     assert_eq!(rt; known(&node), (Status::Absent, Status::Unspent, None, 1));
     // Genesis, Lock, Finish, Forget and the closing gate.
@@ -176,7 +180,8 @@ fn a_batch_is_forgotten(rt: HostRuntime) -> Result<(), Fail> {
 #[test]
 fn a_finish_needs_a_lock(rt: HostRuntime) -> Result<(), Fail> {
     let mut node = started(rt.alloc())?;
-    assert!(rt; finished(rt.alloc(), &mut node).is_err());
+    let none = NodeFault::Refused(Refused::NotLocked { kept: 0 });
+    assert_eq!(rt; finished(rt.alloc(), &mut node)?, Err(none));
     assert_eq!(rt; node.records().len(), 1);
     Ok(())
 }

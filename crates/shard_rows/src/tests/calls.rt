@@ -13,6 +13,9 @@ const ROWS: [Row; 2] = [(9, &[1], &[2]), (8, &[7], &[3])];
 
 const REPLIES: [Reply; 2] = [Reply::Held, Reply::Missing(Hash([7; 32]))];
 
+// An entry that only makes a hash.
+const MAKES: [Row; 1] = [(7, &[], &[5])];
+
 // The last record of the shard: Genesis 0, Lock 2, Finish 4, Forget 6.
 #[derive(Clone, Copy)]
 enum Last {
@@ -221,12 +224,85 @@ fn other_parts(rt: HostRuntime) -> Result<(), Fail> {
     expect_other_part(&rt, alloc, Last::Finish, &FIRST, 0)
 }
 
-/// A first Finish: its stamp is one more than the greatest of the last stamp and the cause's.
+/// A first Finish behind its Lock alone: its stamp is one more than the cause's, which is above the Lock's.
 #[test]
 fn first_finishes(rt: HostRuntime) -> Result<(), Fail> {
     let alloc = rt.alloc();
     expect_finish(&rt, alloc, Last::Lock, 1, &[false, false], 9, append(10))?;
+    expect_finish(&rt, alloc, Last::Lock, 1, &[true, false], 3, append(4))?;
     expect_finish(&rt, alloc, Last::Lock, 1, &[true, false], 2, early(2))
+}
+
+// The shard behind these records of batch 1 of lane 0, and then a Lock of batch 1 of lane 1 with stamp 10.
+fn behind_another(rt: &impl Abort, alloc: Global, last: Last) -> Result<ShardCore, Fail> {
+    let mut core = behind(rt, alloc, last)?;
+    lock_in(
+        rt,
+        alloc,
+        &mut core,
+        10,
+        batch(1, 1),
+        &MAKES,
+        &[Reply::Held],
+    )?;
+    Ok(core)
+}
+
+// Checks what a Lock of batch 1 of lane 2 is answered there: none of its lane stands before it.
+fn expect_lock_behind(
+    rt: &impl Abort,
+    alloc: Global,
+    cause: u64,
+    wanted: StampPlan,
+) -> Result<(), Fail> {
+    let mut core = behind_another(rt, alloc, Last::Genesis)?;
+    let call = lock_call(alloc, batch(2, 1), &ROWS, cause)?;
+    let plan = lock(rt, &mut core, &call)?;
+    assert!(rt; is_plan(&plan, &wanted), "cause {cause}");
+    Ok(())
+}
+
+// Checks what the Finish of batch 1 of lane 0 is answered there, of which the Lock has stamp 2.
+fn expect_finish_behind(
+    rt: &impl Abort,
+    alloc: Global,
+    cause: u64,
+    wanted: StampPlan,
+) -> Result<(), Fail> {
+    let core = behind_another(rt, alloc, Last::Lock)?;
+    let call = finish_call(alloc, batch(0, 1), &[true, false], cause)?;
+    assert_eq!(rt; finish(rt, &core, &call), wanted, "cause {cause}");
+    Ok(())
+}
+
+// Checks what the Forget of batch 1 of lane 0 is answered there, of which the Finish has stamp 4.
+fn expect_forget_behind(
+    rt: &impl Abort,
+    alloc: Global,
+    cause: u64,
+    wanted: StampPlan,
+) -> Result<(), Fail> {
+    let core = behind_another(rt, alloc, Last::Finish)?;
+    assert_eq!(rt;
+        forget(rt, &core, batch(0, 1), cause),
+        wanted,
+        "cause {cause}"
+    );
+    Ok(())
+}
+
+/// Behind another lane's Lock with stamp 10: a cause is too early only where it is not above the last stamp of its own
+/// lane, and the stamp is one more than the greatest of 10 and the cause's.
+#[test]
+fn stamps_behind_another_lane(rt: HostRuntime) -> Result<(), Fail> {
+    let alloc = rt.alloc();
+    expect_lock_behind(&rt, alloc, 1, append(11))?;
+    expect_lock_behind(&rt, alloc, 0, early(0))?;
+    expect_finish_behind(&rt, alloc, 3, append(11))?;
+    expect_finish_behind(&rt, alloc, 2, early(2))?;
+    expect_finish_behind(&rt, alloc, 12, append(13))?;
+    expect_forget_behind(&rt, alloc, 5, append(11))?;
+    expect_forget_behind(&rt, alloc, 4, early(4))
 }
 
 // Checks that a Finish with these decisions is told the place where they do not fit, behind the Lock or the Finish.

@@ -1,8 +1,9 @@
 // Which records may come next at a shard.
 use super::making::{
-    LATEST, Row, batch, finish_in, finished, forget_in, forgotten, hash, lock_in, locked, shard,
+    LATEST, Row, batch, compact, finish_in, finished, forget_in, forgotten, hash, hashes, lock_in,
+    locked, shard,
 };
-use cbdc_types::{BatchId, Hash, LaneId, List, Record, Reply, Stamp};
+use cbdc_types::{BatchId, Hash, LaneId, List, NodeId, Outcome, Record, Reply, Stamp};
 use shard_core::ShardCore;
 use std::alloc::Global;
 use std::process::Abort;
@@ -170,32 +171,77 @@ fn locks_of_too_little_and_too_much(rt: HostRuntime) -> Result<(), Fail> {
     expect_rows(&rt, alloc, Last::Genesis, OWN, &FIVE, false)
 }
 
-// Checks that a Done is not next behind the Genesis.
-fn expect_no_done(rt: &impl Abort, alloc: Global) -> Result<(), Fail> {
-    let done = Record::Done {
+// Checks that a record is not next behind the Genesis.
+fn expect_no(rt: &impl Abort, alloc: Global, r: &Record) -> Result<(), Fail> {
+    expect_next(rt, alloc, Last::Genesis, r, false)
+}
+
+// The records of coordinator 0: its Start, and those of batch 7 of lane 1.
+fn start(alloc: Global) -> Result<Record, Fail> {
+    let mut header = *shard(alloc, &[1])?.header();
+    header.node = NodeId(0);
+    Ok(Record::Start { header })
+}
+
+fn prepare(alloc: Global) -> Result<Record, Fail> {
+    let mut txs = List::new(alloc);
+    txs.push(compact(alloc, 51, &[1], &[2])?)?;
+    Ok(Record::Prepare {
         stamp: Stamp(1),
         batch: OWN,
-    };
-    expect_next(rt, alloc, Last::Genesis, &done, false)
+        txs,
+    })
 }
 
-// Checks that the shard's own Genesis is not next behind it.
-fn expect_no_genesis(rt: &impl Abort, alloc: Global) -> Result<(), Fail> {
-    let mut core = shard(alloc, &[1])?;
-    let header = *core.header();
-    let hashes = List::new(alloc);
-    assert!(rt; !core.admit(&Record::Genesis { header, hashes })?);
-    Ok(())
+fn commit(alloc: Global) -> Result<Record, Fail> {
+    let mut outcomes = List::new(alloc);
+    outcomes.push(Outcome::Held)?;
+    Ok(Record::Commit {
+        stamp: Stamp(1),
+        batch: OWN,
+        outcomes,
+    })
 }
 
-/// No other kind of record is next behind the Genesis.
+fn discard() -> Record {
+    Record::Discard {
+        stamp: Stamp(1),
+        batch: OWN,
+    }
+}
+
+fn done() -> Record {
+    Record::Done {
+        stamp: Stamp(1),
+        batch: OWN,
+    }
+}
+
+// The shard's own Genesis.
+fn genesis(alloc: Global) -> Result<Record, Fail> {
+    let header = *shard(alloc, &[1])?.header();
+    let hashes = hashes(alloc, &[1])?;
+    Ok(Record::Genesis { header, hashes })
+}
+
+/// Behind the Genesis a Lock alone may be next: no other kind of a shard's records.
 #[test]
 fn other_kinds(rt: HostRuntime) -> Result<(), Fail> {
     let alloc = rt.alloc();
+    expect_no(&rt, alloc, &genesis(alloc)?)?;
     expect_finish(&rt, alloc, Last::Genesis, 1, OWN, &[true, false], false)?;
-    expect_forget(&rt, alloc, Last::Genesis, 1, OWN, false)?;
-    expect_no_done(&rt, alloc)?;
-    expect_no_genesis(&rt, alloc)
+    expect_forget(&rt, alloc, Last::Genesis, 1, OWN, false)
+}
+
+/// No record of a coordinator is next at a shard.
+#[test]
+fn kinds_of_a_coordinator(rt: HostRuntime) -> Result<(), Fail> {
+    let alloc = rt.alloc();
+    expect_no(&rt, alloc, &start(alloc)?)?;
+    expect_no(&rt, alloc, &prepare(alloc)?)?;
+    expect_no(&rt, alloc, &commit(alloc)?)?;
+    expect_no(&rt, alloc, &discard())?;
+    expect_no(&rt, alloc, &done())
 }
 
 /// Behind a Lock its Finish is next: as many decisions, and a commit for Held alone.

@@ -163,7 +163,28 @@ fn place(stamp: u64) -> NodeId {
     if stamp % 2 == 0 { NodeId(1) } else { NodeId(0) }
 }
 
+// An event happens.
+fn happens(rt: &HostRuntime, world: &mut World, event: Event) -> Result<(), Fail> {
+    world.step(rt.alloc(), &event)?;
+    Ok(())
+}
+
+// Events happen in turn.
+fn all_happen(rt: &HostRuntime, world: &mut World, events: Vec<Event>) -> Result<(), Fail> {
+    world.run(rt.alloc(), events.as_slice())?;
+    Ok(())
+}
+
 // The records of the row with these stamps begin and end, in turn.
+fn written(rt: &HostRuntime, own: &Ledger, first: u64, last: u64) -> Result<Vec<Event>, Fail> {
+    let mut events = Vec::new(rt.alloc());
+    for stamp in first..=last {
+        events.push(Event::Begin(place(stamp), record(rt, own, stamp)?))?;
+        events.push(Event::End(place(stamp)))?;
+    }
+    Ok(events)
+}
+
 fn write(
     rt: &HostRuntime,
     world: &mut World,
@@ -171,42 +192,58 @@ fn write(
     first: u64,
     last: u64,
 ) -> Result<(), Fail> {
-    let mut events = Vec::new(rt.alloc());
-    for stamp in first..=last {
-        events.push(Event::Begin(place(stamp), record(rt, own, stamp)?))?;
-        events.push(Event::End(place(stamp)))?;
-    }
-    world.run(rt.alloc(), events.as_slice())?;
-    Ok(())
+    all_happen(rt, world, written(rt, own, first, last)?)
 }
 
-// Whether the journals are the row's up to this stamp, the newest record first, all nodes are up and nothing is in flight.
-fn is_row(rt: &HostRuntime, world: &World, own: &Ledger, last: u64) -> Result<bool, Fail> {
-    let mut home = Vec::new(rt.alloc());
-    let mut shard = Vec::new(rt.alloc());
+// The journal of a node in the row up to this stamp, the newest record first: the even stamps are the shard's.
+fn row_of(
+    rt: &HostRuntime,
+    own: &Ledger,
+    is_shard: bool,
+    last: u64,
+    first: Record,
+) -> Result<Vec<Record>, Fail> {
+    let mut journal = Vec::new(rt.alloc());
     for stamp in (1..=last).rev() {
-        if stamp % 2 == 0 {
-            shard.push(record(rt, own, stamp)?)?;
-        } else {
-            home.push(record(rt, own, stamp)?)?;
+        if (stamp % 2 == 0) == is_shard {
+            journal.push(record(rt, own, stamp)?)?;
         }
     }
-    home.push(Record::Start {
+    journal.push(first)?;
+    Ok(journal)
+}
+
+fn home_row(rt: &HostRuntime, own: &Ledger, last: u64) -> Result<Vec<Record>, Fail> {
+    let first = Record::Start {
         header: header(own, 0),
-    })?;
-    shard.push(Record::Genesis {
+    };
+    row_of(rt, own, false, last, first)
+}
+
+fn shard_row(rt: &HostRuntime, own: &Ledger, last: u64) -> Result<Vec<Record>, Fail> {
+    let first = Record::Genesis {
         header: header(own, 1),
         hashes: one(rt, input_hash(&own.coin))?,
-    })?;
+    };
+    row_of(rt, own, true, last, first)
+}
+
+// Whether these are the journals of the two nodes, all are up and nothing is in flight.
+fn are_journals(world: &World, home: &[Record], shard: &[Record]) -> bool {
     let quiet = world.nodes.iter().all(|n| n.up && n.flight.is_none());
     match world.nodes.as_slice() {
-        [first, second] => Ok(
-            quiet
-                && first.journal.as_slice() == home.as_slice()
-                && second.journal.as_slice() == shard.as_slice(),
-        ),
-        _ => Ok(false),
+        [first, second] => {
+            quiet && first.journal.as_slice() == home && second.journal.as_slice() == shard
+        }
+        _ => false,
     }
+}
+
+// Whether the journals are the row's up to this stamp, all nodes are up and nothing is in flight.
+fn is_row(rt: &HostRuntime, world: &World, own: &Ledger, last: u64) -> Result<bool, Fail> {
+    let home = home_row(rt, own, last)?;
+    let shard = shard_row(rt, own, last)?;
+    Ok(are_journals(world, home.as_slice(), shard.as_slice()))
 }
 
 fn header(own: &Ledger, node: u32) -> Header {
@@ -217,7 +254,16 @@ fn header(own: &Ledger, node: u32) -> Header {
     }
 }
 
-// The row's Finish, asked again.
+// The row's Lock and its Finish, asked again.
+fn ask_lock(rt: &HostRuntime, own: &Ledger) -> Result<Event, Fail> {
+    let call = LockCall {
+        batch: first_batch(),
+        part: one(rt, entry(rt, 0, &spend(rt, own, &[60, 40])?)?)?,
+        cause: Stamp(1),
+    };
+    Ok(Event::Repeat(NodeId(1), ShardCall::Lock(call)))
+}
+
 fn ask_finish(rt: &HostRuntime) -> Result<Event, Fail> {
     let call = FinishCall {
         batch: first_batch(),
@@ -233,103 +279,157 @@ fn one_transaction_and_its_lock_again(rt: HostRuntime) -> Result<(), Fail> {
     let mut world = opened(&rt, &own)?;
     write(&rt, &mut world, &own, 1, 7)?;
     assert!(rt; is_row(&rt, &world, &own, 7)?);
-    let call = LockCall {
-        batch: first_batch(),
-        part: one(&rt, entry(&rt, 0, &spend(&rt, &own, &[60, 40])?)?)?,
-        cause: Stamp(1),
-    };
-    let again = Event::Repeat(NodeId(1), ShardCall::Lock(call));
-    world.step(rt.alloc(), &again)?;
+    happens(&rt, &mut world, ask_lock(&rt, &own)?)?;
     assert!(rt; is_row(&rt, &world, &own, 7)?);
     Ok(())
 }
 
-// The shard stops while its Finish is written, and keeps it or not; the Finish is asked again.
-fn stopped(rt: &HostRuntime, kept: bool) -> Result<bool, Fail> {
+// The shard stops while its Finish is written, and keeps it or not; the Finish is asked while it is down.
+fn stop(rt: &HostRuntime, world: &mut World, own: &Ledger, kept: bool) -> Result<(), Fail> {
+    write(rt, world, own, 1, 3)?;
+    happens(rt, world, Event::Begin(NodeId(1), record(rt, own, 4)?))?;
+    happens(rt, world, Event::Crash(NodeId(1), kept))?;
+    happens(rt, world, ask_finish(rt)?)
+}
+
+// The Finish is asked again, and the rest is written.
+fn go_on(rt: &HostRuntime, world: &mut World, own: &Ledger) -> Result<(), Fail> {
+    happens(rt, world, ask_finish(rt)?)?;
+    happens(rt, world, Event::End(NodeId(1)))?;
+    write(rt, world, own, 5, 7)
+}
+
+// Whether the shard is down with nothing in flight, once it has stopped.
+fn is_stopped(world: &World) -> bool {
+    world.nodes.iter().any(|n| !n.up) && world.nodes.iter().all(|n| n.flight.is_none())
+}
+
+fn stopped(rt: &HostRuntime, kept: bool, before: u64) -> Result<bool, Fail> {
     let own = coin_of_100(rt)?;
     let mut world = opened(rt, &own)?;
-    write(rt, &mut world, &own, 1, 3)?;
-    world.step(rt.alloc(), &Event::Begin(NodeId(1), record(rt, &own, 4)?))?;
-    world.step(rt.alloc(), &Event::Crash(NodeId(1), kept))?;
-    let while_down = ask_finish(rt)?;
-    world.step(rt.alloc(), &while_down)?;
-    let down = !world.nodes.iter().all(|n| n.up);
-    world.step(rt.alloc(), &Event::Reopen(NodeId(1)))?;
-    let open = !is_recovered(world.nodes.as_slice(), &own.shape);
-    let before = if kept { 4 } else { 3 };
-    if !down || !open || !is_row(rt, &world, &own, before)? {
-        return Ok(false);
-    }
-    world.step(rt.alloc(), &ask_finish(rt)?)?;
-    world.step(rt.alloc(), &Event::End(NodeId(1)))?;
-    write(rt, &mut world, &own, 5, 7)?;
-    Ok(is_recovered(world.nodes.as_slice(), &own.shape) && is_row(rt, &world, &own, 7)?)
+    stop(rt, &mut world, &own, kept)?;
+    let down = is_stopped(&world);
+    happens(rt, &mut world, Event::Reopen(NodeId(1)))?;
+    let open = !is_recovered(world.nodes.as_slice(), &own.shape)
+        && is_row(rt, &world, &own, before)?;
+    go_on(rt, &mut world, &own)?;
+    let done = is_recovered(world.nodes.as_slice(), &own.shape) && is_row(rt, &world, &own, 7)?;
+    Ok(down && open && done)
 }
 
 #[test]
 fn a_stop_that_loses_the_finish(rt: HostRuntime) -> Result<(), Fail> {
-    assert!(rt; stopped(&rt, false)?);
+    assert!(rt; stopped(&rt, false, 3)?);
     Ok(())
 }
 
 #[test]
 fn a_stop_that_keeps_the_finish(rt: HostRuntime) -> Result<(), Fail> {
-    assert!(rt; stopped(&rt, true)?);
-    Ok(())
-}
-
-// Whether a record may not be begun: the world stays without it.
-fn is_refused(rt: &HostRuntime, world: &mut World, node: u32, r: Record) -> Result<bool, Fail> {
-    world.step(rt.alloc(), &Event::Begin(NodeId(node), r))?;
-    Ok(world.nodes.iter().all(|n| n.flight.is_none()))
-}
-
-fn put(rt: &HostRuntime, world: &mut World, node: u32, r: Record) -> Result<(), Fail> {
-    world.step(rt.alloc(), &Event::Begin(NodeId(node), r))?;
-    world.step(rt.alloc(), &Event::End(NodeId(node)))?;
+    assert!(rt; stopped(&rt, true, 4)?);
     Ok(())
 }
 
 // Two transactions of a batch spend the coin: the second is locked by the batch itself.
-#[test]
-fn what_would_break_the_ledger_is_refused(rt: HostRuntime) -> Result<(), Fail> {
-    let own = coin_of_100(&rt)?;
-    let mut world = opened(&rt, &own)?;
+fn claimed(own: &Ledger) -> Hash {
+    input_hash(&own.coin)
+}
+
+fn prepare_both(rt: &HostRuntime, own: &Ledger) -> Result<Record, Fail> {
     let spends: [&[u64]; 2] = [&[60, 40], &[100]];
-    let claimed = input_hash(&own.coin);
-    let replies = [Reply::Held, Reply::Locked(claimed, first_batch())];
-    let outcomes = [Outcome::Held, Outcome::Locked(0, claimed, first_batch())];
-    put(&rt, &mut world, 0, prepare(&rt, &own, spends.as_slice())?)?;
-    // The second spender is held.
-    let both = lock(&rt, &own, spends.as_slice(), &[Reply::Held, Reply::Held])?;
-    assert!(rt; is_refused(&rt, &mut world, 1, both)?);
-    // The coordinator commits before its shard has replied.
-    assert!(rt; is_refused(&rt, &mut world, 0, commit(&rt, 2, &outcomes)?)?);
-    put(
-        &rt,
-        &mut world,
-        1,
-        lock(&rt, &own, spends.as_slice(), &replies)?,
-    )?;
-    // The shard finishes before the Commit.
+    prepare(rt, own, spends.as_slice())
+}
+
+fn lock_both(rt: &HostRuntime, own: &Ledger, second: Reply) -> Result<Record, Fail> {
+    let spends: [&[u64]; 2] = [&[60, 40], &[100]];
+    lock(rt, own, spends.as_slice(), &[Reply::Held, second])
+}
+
+fn commit_first(rt: &HostRuntime, own: &Ledger, stamp: u64) -> Result<Record, Fail> {
+    let second = Outcome::Locked(0, claimed(own), first_batch());
+    commit(rt, stamp, &[Outcome::Held, second])
+}
+
+// Whether a record may not be begun: the world stays without it.
+fn is_refused(rt: &HostRuntime, world: &mut World, node: u32, r: Record) -> Result<bool, Fail> {
+    happens(rt, world, Event::Begin(NodeId(node), r))?;
+    Ok(world.nodes.iter().all(|n| n.flight.is_none()))
+}
+
+fn put(rt: &HostRuntime, world: &mut World, node: u32, r: Record) -> Result<(), Fail> {
+    happens(rt, world, Event::Begin(NodeId(node), r))?;
+    happens(rt, world, Event::End(NodeId(node)))
+}
+
+// The batch is prepared; and locked; and committed.
+fn prepared(rt: &HostRuntime, own: &Ledger) -> Result<World, Fail> {
+    let mut world = opened(rt, own)?;
+    put(rt, &mut world, 0, prepare_both(rt, own)?)?;
+    Ok(world)
+}
+
+fn locked(rt: &HostRuntime, own: &Ledger) -> Result<World, Fail> {
+    let mut world = prepared(rt, own)?;
+    let second = Reply::Locked(claimed(own), first_batch());
+    put(rt, &mut world, 1, lock_both(rt, own, second)?)?;
+    Ok(world)
+}
+
+fn committed(rt: &HostRuntime, own: &Ledger) -> Result<World, Fail> {
+    let mut world = locked(rt, own)?;
+    put(rt, &mut world, 0, commit_first(rt, own, 3)?)?;
+    Ok(world)
+}
+
+#[test]
+fn a_second_spender_is_not_held(rt: HostRuntime) -> Result<(), Fail> {
+    let own = coin_of_100(&rt)?;
+    let mut world = prepared(&rt, &own)?;
+    assert!(rt; is_refused(&rt, &mut world, 1, lock_both(&rt, &own, Reply::Held)?)?);
+    Ok(())
+}
+
+#[test]
+fn no_commit_before_the_shard_has_replied(rt: HostRuntime) -> Result<(), Fail> {
+    let own = coin_of_100(&rt)?;
+    let mut world = prepared(&rt, &own)?;
+    assert!(rt; is_refused(&rt, &mut world, 0, commit_first(&rt, &own, 2)?)?);
+    Ok(())
+}
+
+#[test]
+fn no_finish_before_the_commit(rt: HostRuntime) -> Result<(), Fail> {
+    let own = coin_of_100(&rt)?;
+    let mut world = locked(&rt, &own)?;
     assert!(rt; is_refused(&rt, &mut world, 1, finish(&rt, 3, &[true, false])?)?);
-    // The coordinator commits what a shard rejects.
-    assert!(rt;
-        is_refused(
-            &rt,
-            &mut world,
-            0,
-            commit(&rt, 3, &[Outcome::Held, Outcome::Held])?
-        )?
-    );
-    put(&rt, &mut world, 0, commit(&rt, 3, &outcomes)?)?;
-    // A recovery rejects what is committed.
-    let rejected = [Outcome::Missing(0, claimed), Outcome::Missing(0, claimed)];
-    assert!(rt; is_refused(&rt, &mut world, 0, commit(&rt, 4, &rejected)?)?);
-    // The Finish makes the outputs of the rejected transaction, and another leaves entries out.
+    Ok(())
+}
+
+#[test]
+fn no_commit_of_what_a_shard_rejects(rt: HostRuntime) -> Result<(), Fail> {
+    let own = coin_of_100(&rt)?;
+    let mut world = locked(&rt, &own)?;
+    let all = commit(&rt, 3, &[Outcome::Held, Outcome::Held])?;
+    assert!(rt; is_refused(&rt, &mut world, 0, all)?);
+    Ok(())
+}
+
+#[test]
+fn no_recovery_that_rejects_what_is_committed(rt: HostRuntime) -> Result<(), Fail> {
+    let own = coin_of_100(&rt)?;
+    let mut world = committed(&rt, &own)?;
+    let missing = Outcome::Missing(0, claimed(&own));
+    let none = commit(&rt, 4, &[missing, missing])?;
+    assert!(rt; is_refused(&rt, &mut world, 0, none)?);
+    Ok(())
+}
+
+// The Finish would make the outputs of the rejected transaction, or leave an entry out.
+#[test]
+fn no_other_finish_than_the_commit_says(rt: HostRuntime) -> Result<(), Fail> {
+    let own = coin_of_100(&rt)?;
+    let mut world = committed(&rt, &own)?;
     assert!(rt; is_refused(&rt, &mut world, 1, finish(&rt, 4, &[true, true])?)?);
     assert!(rt; is_refused(&rt, &mut world, 1, finish(&rt, 4, &[true])?)?);
-    put(&rt, &mut world, 1, finish(&rt, 4, &[true, false])?)?;
-    assert!(rt; world.nodes.iter().all(|n| n.journal.len() == 3));
+    assert!(rt; !is_refused(&rt, &mut world, 1, finish(&rt, 4, &[true, false])?)?);
     Ok(())
 }

@@ -5,6 +5,7 @@ use Rattle.cbdc_model.specs.Due.{used_of}
 use Rattle.cbdc_model.specs.Room.{kept_room}
 use Rattle.gate_journal.specs.Shown.{disk_of, gate_of}
 use Rattle.record_log.specs.Logs.{HasRoom}
+use Rattle.record_log.proofs.Sizes.{limits_of}
 use Rattle.coord_core.specs.Lanes.{kept_of}
 use Rattle.coord_log.specs.Inside.{largest}
 use Rattle.coord_log.specs.Opening.{IsPlayed}
@@ -28,7 +29,7 @@ returns-then-need-capacity-clause-refusal g c = λ bytes opens.
     let log = c.args.log.now in
     let played : IsPlayed log.header c.in-Ok.core (reverse log.records.items) = rw c.deref.ensures.value at c.in-Ok.ensures.played in
     let kept = c.kept_room-need.ensures.value ∙ kept_played log.header c.in-Ok.core (reverse log.records.items) c.kept_room-need.ensures.whole played in
-    full_is log.header c.in-Ok.core log.records.items c.used-used.result c.kept_room-need.result c.capacity-capacity.result (g.D.Disk.limit log.journal.disk) bytes played opens
+    full_is log.header c.in-Ok.core log.records.items c.used-used.result c.kept_room-need.result c.capacity-capacity.result (g.D.Disk.limit log.journal.disk) bytes (limits_of log.header log.records.items c.requires.grammar) played opens
     (omega (arith, c.used-used.ensures, c.requires.ends)) kept c.capacity-capacity.ensures (omega (arith, c.if-need-capacity.true))
 
 pub returns-in-Ok-reserve-clause-sound : goal.returns-in-Ok-reserve-clause-sound

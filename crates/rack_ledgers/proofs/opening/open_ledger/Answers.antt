@@ -1,4 +1,5 @@
-use Rattle.std.proofs.Common.{◌≡◌, ◌∙◌, ◌+◌, ℕ, length, sym, subst, ap, arith, inl, inr, ⊎_elim}
+use Rattle.std.proofs.Common.{◌≡◌, ◌∙◌, ◌+◌, ℕ, length, sym, subst, ap, arith, inl, inr}
+use Rattle.std.specs.Option.{option_copied}
 use Rattle.coord_log.specs.Logs.{LogOf}
 use Rattle.rack_nodes.specs.Places.{EachFrom, MayReturn}
 use Rattle.rack_nodes.specs.Racked.{OfTold, IsBack}
@@ -60,13 +61,13 @@ returns-in-Ok-open_all-clause-opened g c =
 
 pub returns-in-Err-open_all-clause-refusal : goal.returns-in-Err-open_all-clause-refusal
 returns-in-Err-open_all-clause-refusal g c =
-    inl (inr (lacks_shard g.R.Disk.Disk.content g.R.Disk.Disk.images g.R.Disk.Disk.limit g.R.Disk.Disk.count (g.R.Rack.held c.args.rack.now) (g.R.Rack.held c.open_logs.new.rack)
+    inr (lacks_shard g.R.Disk.Disk.content g.R.Disk.Disk.images g.R.Disk.Disk.limit g.R.Disk.Disk.count (g.R.Rack.held c.args.rack.now) (g.R.Rack.held c.open_logs.new.rack)
     (g.R.Rack.count c.args.rack.now) (g.R.Rack.count c.open_logs.new.rack) (g.R.Rack.count c.open_all.new.rack) (g.R.Rack.count c.close_all.new.rack)
-    c.in-Ok.opened.0 c.in-Ok.opened.1.items (c.coordinators-first.result + length c.new.result.items) (c.coordinators-first.result + c.shards-count.result) c.in-Err-open_all.fault
+    c.in-Ok.opened.0 c.in-Ok.opened.1.items (option_copied c.args.id) (c.coordinators-first.result + length c.new.result.items) (c.coordinators-first.result + c.shards-count.result) c.in-Err-open_all.fault
     (omega (arith, ap length c.new.ensures.items, c.coordinators-first.ensures.value)) (omega (arith, c.coordinators-first.ensures.value, c.shards-count.ensures.value))
     c.in-Ok.ensures.others_held (λ n. c.in-Ok.ensures.later n) (λ n. c.close_all.ensures.later n)
-    c.in-Ok.ensures.first.0 c.in-Ok.ensures.logs.0 c.in-Ok.ensures.opened
-    c.in-Err-open_all.ensures.refusal))
+    c.in-Ok.ensures.first.0 c.in-Ok.ensures.minted c.in-Ok.ensures.logs.0 c.in-Ok.ensures.opened
+    c.in-Err-open_all.ensures.refusal)
 
 pub returns-in-Err-open_all-clause-held : goal.returns-in-Err-open_all-clause-held
 returns-in-Err-open_all-clause-held g c =
@@ -85,7 +86,7 @@ returns-in-Err-open_all-clause-held g c =
     (λ n ge above. c.close_all.ensures.others_held n (inr (omega (arith, ge, count))) ∙ c.in-Err-open_all.ensures.others_held n (inr (omega (arith, above))))
 
 pub returns-in-Err-clause-refusal : goal.returns-in-Err-clause-refusal
-returns-in-Err-clause-refusal g c = ⊎_elim (λ unled. inl (inl unled)) (λ other. inr other) c.in-Err.ensures.refusal
+returns-in-Err-clause-refusal g c = inl c.in-Err.ensures.refusal
 
 pub returns-in-Ok-open_all-clause-minted : goal.returns-in-Ok-open_all-clause-minted
 returns-in-Ok-open_all-clause-minted g c = c.in-Ok.ensures.minted

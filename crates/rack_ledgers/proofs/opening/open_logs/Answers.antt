@@ -1,4 +1,4 @@
-use Rattle.std.proofs.Common.{◌≡◌, ◌≤◌, ◌+◌, ℕ, List, length, ◌∙◌, sym, subst, ap, arith, inl, inr}
+use Rattle.std.proofs.Common.{◌≡◌, ◌≤◌, ◌+◌, ℕ, List, length, ◌∙◌, sym, subst, ap, arith, inr}
 use Rattle.std.specs.Option.{option_copied}
 use Rattle.cbdc_model.specs.Records.{Header}
 use Rattle.coord_log.specs.Logs.{LogOf}
@@ -45,13 +45,14 @@ returns-in-Ok-open_all-clause-others_held g c = λ n ge.
 
 pub returns-in-Err-open_all-clause-refusal : goal.returns-in-Err-open_all-clause-refusal
 returns-in-Err-open_all-clause-refusal g c =
-    inl (inr (lacks_log g.R.Disk.Disk.content g.R.Disk.Disk.images g.R.Disk.Disk.limit g.R.Disk.Disk.count (g.R.Rack.held c.args.rack.now) (g.R.Rack.held c.lead_alone.new.rack)
+    inr (inr (lacks_log g.R.Disk.Disk.content g.R.Disk.Disk.images g.R.Disk.Disk.limit g.R.Disk.Disk.count (g.R.Rack.held c.args.rack.now) (g.R.Rack.held c.lead_alone.new.rack)
     (g.R.Rack.count c.args.rack.now) (g.R.Rack.count c.lead_alone.new.rack) (g.R.Rack.count c.open_all.new.rack) (g.R.Rack.count c.open_all.new.rack)
-    c.header.result.now c.in-Ok.lead (0 + length c.in-Ok-lead_alone.alone.items) (0 + c.coordinators-count.result) c.in-Err-open_all.fault
+    c.header.result.now c.in-Ok.lead (option_copied c.args.id) (0 + length c.in-Ok-lead_alone.alone.items) (0 + c.coordinators-count.result) c.in-Err-open_all.fault
     (omega (arith, ap length c.in-Ok-lead_alone.ensures.alone)) (omega (arith, c.coordinators-count.ensures.value))
     (λ n some. c.in-Ok-lead_alone.ensures.others_held n some ∙ c.in-Ok.ensures.others_held n (omega (arith, some)))
     (λ n. omega (arith, c.in-Ok.ensures.later n, c.in-Ok-lead_alone.ensures.later n)) (λ n. omega arith)
     (ap (λ (k : Header). k.node) c.header.ensures.header ∙ c.in-Ok.ensures.opened.0)
+    (subst (λ (k : Header). IsMintOf (option_copied c.args.id) k) (sym c.header.ensures.header) c.in-Ok.ensures.minted)
     (subst (λ (k : Header). IsLogAt g.R.Disk.Disk.content g.R.Disk.Disk.images g.R.Disk.Disk.limit g.R.Disk.Disk.count (g.R.Rack.held c.args.rack.now) k 0 c.in-Ok.lead) (sym c.header.ensures.header) c.in-Ok.ensures.opened.1)
     c.in-Err-open_all.ensures.refusal))
 

@@ -1,4 +1,4 @@
-use Rattle.std.proofs.Common.{sym, subst}
+use Rattle.std.proofs.Common.{sym, subst, arith}
 use Rattle.std.specs.Option.{option_copied}
 use Rattle.cbdc_types.specs.declared.answer.Answer.{Answer}
 use Rattle.cbdc_types.specs.declared.calls.NodeOpenFault.{NodeOpenFault}
@@ -11,7 +11,7 @@ use Rattle.rack_nodes.proofs.nodes.coordinator_instead.Goals as goal
 pub returns-in-Ok-clause-refusal : goal.returns-in-Ok-clause-refusal
 returns-in-Ok-clause-refusal g c = λ bytes told start.
     told_foreign IsShardNode c.args.node (option_copied c.args.ledger) (g.D.Disk.limit c.args.disk) bytes c.header.result.now c.in-Ok.log.header c.foreign-answer.result c.header.ensures.header c.foreign-answer.ensures
-    (coordinator_for_shard c.args.node (option_copied c.args.ledger) (g.D.Disk.limit c.args.disk) bytes c.in-Ok.log.header c.in-Ok.log.journal (c.in-Ok.ensures.opens bytes told).0)
+    (coordinator_for_shard c.args.node (option_copied c.args.ledger) (g.D.Disk.limit c.args.disk) bytes c.in-Ok.log.header c.in-Ok.log.journal (c.in-Ok.ensures.opens bytes told).0 (omega (arith, c.in-Ok.ensures.room, c.in-Ok.ensures.limit)))
 
 pub returns-in-Err-clause-refusal : goal.returns-in-Err-clause-refusal
 returns-in-Err-clause-refusal g c = λ bytes told start.

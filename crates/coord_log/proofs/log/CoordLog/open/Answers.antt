@@ -23,7 +23,7 @@ returns-in-Ok-lanes_of-clause-opens g c = λ bytes told.
     let O : List Record → Type 0 = λ x. OpensTo x bytes in
     let P : LogOf g.row.D.Denot → Type 0 = λ l. IsCoordJournal l.header l.journal bytes × HoldsJournal g.D.Disk.content g.D.Disk.images l in
     let both : P (shown new count None) = (
-      record { opens = subst O (sym records) opens.0; journal = c.in-Ok-lanes_of.ensures.journal; coordinator = c.in-Ok-lanes_of.ensures.coordinator },
+      record { opens = subst O (sym records) opens.0; limits = (c.in-Ok-lanes_of.ensures.sound).on.limits; journal = c.in-Ok-lanes_of.ensures.journal; coordinator = c.in-Ok-lanes_of.ensures.coordinator },
       to_journal new count None refl (holds_same c.in-Ok.found new c.lanes_of.ensures.untouched c.lanes_of.ensures.records opens.1),
     ) in
     subst P (sym c.of_parts.ensures) both
@@ -35,4 +35,4 @@ pub returns-in-Err-clause-refusal : goal.returns-in-Err-clause-refusal
 returns-in-Err-clause-refusal g c = λ bytes told. c.no_log_fault-fault.ensures.refusal (g.D.Disk.limit c.args.disk) bytes (c.in-Err.ensures.refusal bytes told)
 
 pub returns-in-Err-clause-same : goal.returns-in-Err-clause-same
-returns-in-Err-clause-same g c = λ other. c.in-Err.ensures.same (λ is. let told = c.no_log_fault-fault.ensures.kept DiskFault is in absurd (cc))
+returns-in-Err-clause-same g c = λ unfailed. c.in-Err.ensures.same (λ is. unfailed (c.no_log_fault-fault.ensures.kept DiskFault is))
