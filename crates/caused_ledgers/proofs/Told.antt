@@ -54,14 +54,14 @@ module _ {D : Type 0} (content : D → Option (List ℕ)) (images : D → List �
   log_opens n l at =
       let log = are.logs_at n l at in
       opens_by n l.header l.journal log.header (log_journal logs shards rows merged n l at)
-      (λ was is c told. record { opens = ((log.opened was is).stands c told).0.opens; journal = log.journal })
+      (λ was is c told. record { opens = ((log.opened was is).stands c told).0.opens; limits = ((log.opened was is).stands c told).0.limits; journal = log.journal })
 
   shard_opens : (n : ℕ) (s : ShardOf D) → slice_get shards n ≡ Some s → Opens (h.shape.coordinators + n)
   shard_opens n s at =
       let shard = are.shards_at n s at in
       let own = shard_journal logs shards rows merged n s at ∙ ap (λ (k : ℕ). journal (k + n) (reverse rows)) are.coordinators in
       opens_by (h.shape.coordinators + n) s.header s.journal shard.header own
-      (λ was is c told. record { opens = ((shard.opened was is).stands c told).0.opens; journal = shard.journal })
+      (λ was is c told. record { opens = ((shard.opened was is).stands c told).0.opens; limits = ((shard.opened was is).stands c told).0.limits; journal = shard.journal })
 
   each_opens : (n : ℕ) → n < h.shape.coordinators + h.shape.shards → Opens n
   each_opens n inside = elim (cases_lt n h.shape.coordinators) [

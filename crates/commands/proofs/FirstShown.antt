@@ -132,4 +132,4 @@ module _ (K : Shape) (mint : List Output) (within : IsWithinLimits K) (few : len
       let own : first_journals K mint n ≡ first_record K (minted mint) n ∷ [] = first_is K (minted mint) n inside in
       let opens : OpensTo (reverse (first_journals K mint n)) h.bytes = subst (λ J. OpensTo (reverse J) h.bytes) (sym own) h.opens in
       let journal_is : IsJournal (header_of K (genesis_id mint) n) (first_journals K mint n) = kept_journal [] (first_journals K mint) first_kept n inside in
-      (d, here, (h.bytes, h.told, record { opens = opens; journal = journal_is }))
+      (d, here, (h.bytes, h.told, record { opens = opens; limits = within; journal = journal_is }))

@@ -53,6 +53,7 @@ use Rattle.commands.specs.Causes.{IsDone}
 use Rattle.commands.specs.Told.{IsCountable}
 use Rattle.commands.specs.Generated.{all_good, files_of, all_of, first_journals, made_for, IsWorkloadRun, HasVerdictOf, EndsWorkload, batches_for, IsWorkloadText, IsUnopenedThere, IsCutWorkload, IsUnsoundWorkload, WhyNoWorkload}
 use Rattle.commands.specs.InMemory.{AreReady, TellsRunOf, IsLaneKind, IsUnrun, numbers_of, CameTo, IsCheckedSound, IsUnchecked}
+use Rattle.commands.proofs.Minted.{unopened_of_mint}
 use Rattle.commands.proofs.FirstShown.{kept_journal, kept_beyond, first_kept, first_shown}
 use Rattle.commands.proofs.Memory.{there}
 use Rattle.commands.proofs.Sound.{none_uncaused, never_unsound}
@@ -74,7 +75,7 @@ module _ {D : Type 0} (content : D → Option (List ℕ)) (images : D → List �
   pub shown : HoldsEach images held K X → ((n : ℕ) → n < node_count K → (d : D) × (held n ≡ Some d) × ((c : List ℕ) × (content d ≡ Some c) × images d c)) → Shows content held K (genesis_id mint) X
   shown disks tells n inside =
       let t = tells n inside in
-      (t.0, t.1, (t.2.0, t.2.1, record { opens = disks n inside t.0 t.1 t.2.0 t.2.2; journal = kept_journal K mint within minted_few submissions X kept n inside }))
+      (t.0, t.1, (t.2.0, t.2.1, record { opens = disks n inside t.0 t.1 t.2.0 t.2.2; limits = within; journal = kept_journal K mint within minted_few submissions X kept n inside }))
 
   -- the history that was told is that of its journals
   module _ (shows : Shows content held K (genesis_id mint) X) (shape : Shape) (rows : List Row) (history : IsToldHistory content held shape (genesis_id mint) rows) where
@@ -173,7 +174,7 @@ module _ (K : Shape) (mint : List Output) (few_coins : length mint ≤ 1000000) 
         → (IsUnresumed bytes_told bytes_left room_of faults_of (disk_at mid) (faults_at mid.misses) (faults_at new.misses) a × ((n : ℕ) → IsBack bytes_left room_of (disk_at mid n) (disk_at new n)))
         ⊎ (IsLaneFault bytes_told bytes_left room_of (disk_at mid) (disk_at new) (faults_at mid.misses) (faults_at new.misses) next a × OfShown bytes_told (disk_at mid) (IsCutShort bytes_left (disk_at new) files))
         → IsUnrun K mint files new a
-    unrun next a (inl (inl unopened, back)) = inr (inl (record { old = mid; new = new; journals = first_journals K mint; kept = first_kept K mint limits few_coins; shows = shows; why = inl unopened }))
+    unrun next a (inl (inl unopened, back)) = inr (inl (record { old = mid; new = new; journals = first_journals K mint; kept = first_kept K mint limits few_coins; shows = shows; why = unopened_of_mint bytes_told bytes_left room_of faults_of (disk_at mid) K (genesis_id mint) (first_journals K mint) limits shows (faults_at mid.misses) (faults_at new.misses) a unopened }))
     unrun next a (inl (inr (inl unsound), back)) =
         absurd (none_unsound bytes_told bytes_left (disk_at mid) K mint [] (first_journals K mint) limits few_coins (first_kept K mint limits few_coins) room_of faults_of a shows unsound)
     unrun next a (inl (inr (inr memory), back)) = inl memory

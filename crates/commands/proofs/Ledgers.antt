@@ -65,7 +65,7 @@ module _ {D : Type 0} (content : D → Option (List ℕ)) (images : D → List �
           let x = at_place logs n (omega (arith, low, are.coordinators)) in
           let log = are.logs_at n x.0 x.1 in
           let found = (log.opened was is).stands c told in
-          let own : IsNodeJournal x.0.header x.0.journal c = record { opens = found.0.opens; journal = log.journal } in
+          let own : IsNodeJournal x.0.header x.0.journal c = record { opens = found.0.opens; limits = found.0.limits; journal = log.journal } in
           subst (λ (J : List Record). IsNodeJournal (header_of h.shape h.genesis n) J c) (sym (journal_low h.shape logs shards n low ∙ journal_some (λ (l : LogOf D). l.journal) logs n x.0 x.1))
           (subst (λ (k : Header). IsNodeJournal k x.0.journal c) log.header own)
       go false t = λ was is c told.
@@ -74,7 +74,7 @@ module _ {D : Type 0} (content : D → Option (List ℕ)) (images : D → List �
           let x = at_place shards (n - h.shape.coordinators) (omega (arith, high, inside, are.shards_are)) in
           let shard = are.shards_at (n - h.shape.coordinators) x.0 x.1 in
           let found = (shard.opened was (ap held place ∙ is)).stands c told in
-          let own : IsNodeJournal x.0.header x.0.journal c = record { opens = found.0.opens; journal = shard.journal } in
+          let own : IsNodeJournal x.0.header x.0.journal c = record { opens = found.0.opens; limits = found.0.limits; journal = shard.journal } in
           subst (λ (J : List Record). IsNodeJournal (header_of h.shape h.genesis n) J c) (sym (journal_high h.shape logs shards n high ∙ journal_some (λ (s : ShardOf D). s.journal) shards (n - h.shape.coordinators) x.0 x.1))
           (subst (λ (k : Header). IsNodeJournal k x.0.journal c) (shard.header ∙ ap (header_of h.shape h.genesis) place) own)
 

@@ -20,6 +20,7 @@ pub mod RunLines
 pub mod Batched
 pub mod Printed
 pub mod FirstShown
+pub mod Minted
 pub mod Memory
 pub mod Sound
 pub mod Refused

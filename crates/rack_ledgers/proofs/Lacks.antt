@@ -1,6 +1,7 @@
 -- The first node that can't be opened.
 use Rattle.std.proofs.Common.{◌≡◌, ◌≤◌, ◌+◌, ◌∷◌, ℕ, List, length, Option, Some, None, inl, inr, sym, ◌∙◌, subst, arith}
 use Rattle.outside.specs.Images.{Tells}
+use Rattle.cbdc_types.specs.Limits.{IsWithinLimits}
 use Rattle.cbdc_types.specs.declared.answer.Answer.{Answer}
 use Rattle.cbdc_types.specs.declared.answer.Answer.TheVariants as answers
 use Rattle.cbdc_model.specs.Records.{Digest, Header}
@@ -45,18 +46,19 @@ module _ {D : Type 0} (content : D → Option (List ℕ)) (images : D → List �
       })
 
   pub lacks_log : (held mid : ℕ → Option D) (before between now after : ℕ → ℕ) (h : Header) (lead : LogOf D) (id : Option Digest) (from end : ℕ) (e : Answer) → from ≡ 1 → end ≡ h.shape.coordinators
-      → ((n : ℕ) → 1 ≤ n → mid n ≡ held n) → ((n : ℕ) → before n ≤ between n) → ((n : ℕ) → now n ≤ after n) → h.node ≡ 0 → IsMintOf id h → IsLogAt content images limit count held h 0 lead
+      → ((n : ℕ) → 1 ≤ n → mid n ≡ held n) → ((n : ℕ) → before n ≤ between n) → ((n : ℕ) → now n ≤ after n) → h.node ≡ 0 → IsWithinLimits h.shape → IsMintOf id h → IsLogAt content images limit count held h 0 lead
       → FailsFirst
       (OpensLog content images limit count mid between h)
       (λ n a. (IsNodeRefusal a × IsOpening n (between n) (now n) a) × OfTold (mid n) (λ was. Tells (content was) (λ c. IsNoNode IsCoordinator n (Some h) (limit was) c a)))
       from end e
       → LacksLog content images limit count held before after id e
-  lacks_log held mid before between now after h lead id from end e start stop kept later longer first minted at_lead f =
+  lacks_log held mid before between now after h lead id from end e start stop kept later longer first limits minted at_lead f =
       let place : f.node ≡ length (lead ∷ f.before) = omega (arith, f.places, start) in
       record {
         header = h;
         logs = lead ∷ f.before;
         first = first;
+        limits = limits;
         minted = minted;
         some = omega arith;
         inside = omega (arith, f.inside, f.places, start, stop);
@@ -65,20 +67,21 @@ module _ {D : Type 0} (content : D → Option (List ℕ)) (images : D → List �
       }
 
   pub lacks_shard : (held mid : ℕ → Option D) (before between now after : ℕ → ℕ) (h : Header) (logs : List (LogOf D)) (id : Option Digest) (from end : ℕ) (e : Answer) → from ≡ h.shape.coordinators → end ≡ h.shape.coordinators + h.shape.shards
-      → ((n : ℕ) → h.shape.coordinators ≤ n → mid n ≡ held n) → ((n : ℕ) → before n ≤ between n) → ((n : ℕ) → now n ≤ after n) → h.node ≡ 0 → IsMintOf id h → length logs ≡ h.shape.coordinators
+      → ((n : ℕ) → h.shape.coordinators ≤ n → mid n ≡ held n) → ((n : ℕ) → before n ≤ between n) → ((n : ℕ) → now n ≤ after n) → h.node ≡ 0 → IsWithinLimits h.shape → IsMintOf id h → length logs ≡ h.shape.coordinators
       → ByPlace (IsLogAt content images limit count held h) logs
       → FailsFirst
       (OpensShard content images limit count mid between h)
       (λ n a. (IsNodeRefusal a × IsOpening n (between n) (now n) a) × OfTold (mid n) (λ was. Tells (content was) (λ c. IsNoNode IsShardNode n (Some h) (limit was) c a)))
       from end e
       → LacksShard content images limit count held before after id e
-  lacks_shard held mid before between now after h logs id from end e start stop kept later longer first minted all logs_at f =
+  lacks_shard held mid before between now after h logs id from end e start stop kept later longer first limits minted all logs_at f =
       let place : f.node ≡ h.shape.coordinators + length f.before = omega (arith, f.places, start) in
       record {
         header = h;
         logs = logs;
         shards = f.before;
         first = first;
+        limits = limits;
         minted = minted;
         coordinators = all;
         inside = omega (arith, f.inside, f.places, start, stop);

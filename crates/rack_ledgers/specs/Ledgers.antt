@@ -82,6 +82,7 @@ pub record LacksLog {D : Type 0} (content : D → Option (List ℕ)) (images : D
   pub header : Header
   pub logs : List (LogOf D)
   pub first : header.node ≡ 0
+  pub limits : IsWithinLimits header.shape
   pub minted : IsMintOf id header
   pub some : 1 ≤ length logs
   pub inside : length logs < header.shape.coordinators
@@ -94,6 +95,7 @@ pub record LacksShard {D : Type 0} (content : D → Option (List ℕ)) (images :
   pub logs : List (LogOf D)
   pub shards : List (ShardOf D)
   pub first : header.node ≡ 0
+  pub limits : IsWithinLimits header.shape
   pub minted : IsMintOf id header
   pub coordinators : length logs ≡ header.shape.coordinators
   pub inside : length shards < header.shape.shards

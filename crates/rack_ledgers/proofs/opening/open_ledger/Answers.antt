@@ -66,7 +66,7 @@ returns-in-Err-open_all-clause-refusal g c =
     c.in-Ok.opened.0 c.in-Ok.opened.1.items (option_copied c.args.id) (c.coordinators-first.result + length c.new.result.items) (c.coordinators-first.result + c.shards-count.result) c.in-Err-open_all.fault
     (omega (arith, ap length c.new.ensures.items, c.coordinators-first.ensures.value)) (omega (arith, c.coordinators-first.ensures.value, c.shards-count.ensures.value))
     c.in-Ok.ensures.others_held (λ n. c.in-Ok.ensures.later n) (λ n. c.close_all.ensures.later n)
-    c.in-Ok.ensures.first.0 c.in-Ok.ensures.minted c.in-Ok.ensures.logs.0 c.in-Ok.ensures.opened
+    c.in-Ok.ensures.first.0 c.in-Ok.ensures.first.1 c.in-Ok.ensures.minted c.in-Ok.ensures.logs.0 c.in-Ok.ensures.opened
     c.in-Err-open_all.ensures.refusal)
 
 pub returns-in-Err-open_all-clause-held : goal.returns-in-Err-open_all-clause-held

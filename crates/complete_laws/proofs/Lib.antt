@@ -1,0 +1,4 @@
+pub mod Caused
+pub mod Files
+pub mod Making
+pub mod Openings

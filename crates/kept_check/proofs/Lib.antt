@@ -1,0 +1,4 @@
+pub mod Distinct
+pub mod Firsts
+pub mod Members
+pub mod Merging
