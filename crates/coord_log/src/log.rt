@@ -98,9 +98,8 @@ impl<D: Disk> CoordLog<D> {
         log.into_disk()
     }
 
-    /// Where a lane of this coordinator stands. Takes no memory.
+    /// Where a lane stands. One of another coordinator has no batch here. Takes no memory.
     pub fn phase(&self, lane: LaneId) -> LanePhase
-        requires { IsOwn self.now.header lane }
         ensures { slot_of result ≡ slot self.now.journal lane }
     {
         self.core.phase(lane)
@@ -157,7 +156,7 @@ impl<D: Disk> CoordLog<D> {
     }
 
     /// Decides a lane's prepared batch by the replies of each shard that it concerns, as many as its part has
-    /// entries, and puts the outcomes into an empty vector that has room for them. Takes no memory.
+    /// entries, and puts the outcomes in place of what a vector holds that has room for them. Takes no memory.
     pub fn decide(
         &mut self,
         lane: LaneId,
@@ -169,7 +168,6 @@ impl<D: Disk> CoordLog<D> {
         requires rising { RisesBelow 0 self.old.header.shape.shards replies.now }
         requires earlier { AllEarlier (2 ^ 63) replies.now }
         requires named { AllNameBatches self.old.header.shape replies.now }
-        requires empty { out.old.items ≡ [] }
         requires room { length (txs_of self.old.journal (open_batch self.old.journal lane)) ≤ vec_capacity out.old }
 
         // It does what the journal and the replies say, if each shard replied to its part.
@@ -273,12 +271,11 @@ impl<D: Disk> CoordLog<D> {
         Ok(stamp)
     }
 
-    /// A copy of a lane's open batch, as its records hold it. None where the lane is idle.
+    /// A copy of a lane's open batch, as its records hold it. None where the lane is idle, or another coordinator's.
     pub fn open_lane(&self, lane: LaneId) -> Result<Option<OpenLane>, AllocError>
-        requires { IsOwn self.now.header lane }
         ensures { IfOk result (λ o. o ≡ open_lane self.now.journal lane) }
     {
-        let (number, phase) = match self.core.phase(lane) {
+        let (number, phase) = match self.phase(lane) {
             LanePhase::Idle(_) => return Ok(None),
             LanePhase::Prepared(n) => (n, Phase::Prepared),
             LanePhase::Committed(n) => (n, Phase::Committed),

@@ -4,6 +4,8 @@ pub mod WaveKeeping
 pub mod Sizes
 pub mod Stays
 pub mod WaveTelling
+pub mod Others
+pub mod Preparing
 pub mod Faulting
-pub mod Theirs
+pub mod Least
 pub mod Flying

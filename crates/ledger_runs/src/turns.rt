@@ -1,12 +1,13 @@
 // What a run asks of the nodes of a ledger.
-ghost use Rattle.std.specs.Prelude.{◌≡◌, ◌≤◌, ℕ, List, Option, length, All, IfOk, IfErr, OnOk};
+ghost use Rattle.std.specs.Prelude.{◌≡◌, ◌≤◌, ℕ, List, Option, [], ◌∷◌, length, All, IfOk, IfErr, OnOk};
 ghost use Rattle.cbdc_model.specs.Records.{Shape as ShapeOf, Record};
 ghost use Rattle.cbdc_model.specs.Slots.{Idle};
 ghost use Rattle.cbdc_model.specs.Grammar.{HasSize, IsCompact};
 ghost use Rattle.ledger_runs.specs.Turning.{phase_at, IsLaneOf, KeepsLanes, OfKept, StaysKept, StaysKeptBy, DidBatch, TookUp};
 ghost use Rattle.ledger_runs.specs.Flying.{FliesOn, FliesOnBy};
 ghost use Rattle.ledger_runs.specs.Telling.{IsOpened};
-ghost use Rattle.ledger_runs.specs.Faults.{GrowBy, IsLaneCause, HaveFailed, MayHold, Nothing, IsThese};
+ghost use Rattle.ledger_runs.specs.Pieces.{HasPrepared, IsUnprepared};
+ghost use Rattle.ledger_runs.specs.Faults.{GrowBy, IsLaneCause, HaveFailed, MayHold, Nothing};
 
 use cbdc_types::{CompactTx, LaneId, Shape};
 use lane_driver::{BatchReport, LaneFault};
@@ -74,9 +75,10 @@ pub trait Turns {
         ensures capacity_same { (n : ℕ) → capacity self.new n ≡ capacity self.old n }
         ensures checked { checked self.new }
         ensures grows { GrowBy lane (journals self.old) (journals self.new) }
+        ensures prepared { OnOk result (HasPrepared (shape self.old) lane (txs.now ∷ []) (journals self.old) (journals self.new)) }
 
-        // Its fault has its cause.
-        ensures fault { IfErr result (IsLaneCause (shape self.old) lane (IsThese txs.now) (journals self.old) (journals self.new)
+        // Its fault has its cause: what it wants where its batch was not begun is the Prepare of these transactions.
+        ensures fault { IfErr result (IsLaneCause (shape self.old) lane (IsUnprepared (shape self.old) lane txs.now (journals self.old) (journals self.new)) (journals self.old) (journals self.new)
             (HaveFailed (opened self.new) (faults self.new)) (MayHold (capacity self.new))) };
 
     /// Brings the open batch of a lane to its end, if it has one.
@@ -102,6 +104,7 @@ pub trait Turns {
         ensures capacity_same { (n : ℕ) → capacity self.new n ≡ capacity self.old n }
         ensures checked { checked self.new }
         ensures grows { GrowBy lane (journals self.old) (journals self.new) }
+        ensures unprepared { HasPrepared (shape self.old) lane [] (journals self.old) (journals self.new) }
 
         // Its fault has its cause.
         ensures fault { IfErr result (IsLaneCause (shape self.old) lane Nothing (journals self.old) (journals self.new)

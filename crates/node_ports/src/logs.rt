@@ -83,7 +83,6 @@ fn decide_at<D: Disk>(
     requires home { IsLane log.old.header lane }
     requires phase { (slot log.old.journal lane).phase ≡ InPrepare }
     requires replies { AreReplies log.old.header.shape replies.now }
-    requires empty { out.old.items ≡ [] }
     requires room { length (txs_of log.old.journal (open_batch log.old.journal lane)) ≤ vec_capacity out.old }
     ensures told { DecideAnswer true lane replies.now (sight log.old) (sight log.new) result }
     ensures fault { IfErr result (λ f. IsLogCause f (sight log.new)) }

@@ -19,7 +19,7 @@ invariant-lanes g l =
       keeps : OfKept K E (StaysKept K E J);
       so : OfKept K E (λ _ _. ResumedSo K l.lane E J);
       told : OfKept K E (λ _ _. TellResumed K E J l.lane l.batches.items);
-      prepares : OfKept K E (λ _ _. SamePrepared K E J);
+      prepares : SamePrepared K E J;
       quiet : OfKept K E (λ _ _. g.L.Turns.quiet l.fn.ledger → g.L.Turns.quiet l.ledger);
       flies : OfKept K E (FliesOn K E J (g.L.Turns.flights l.fn.ledger) (g.L.Turns.flights l.ledger));
       holds : g.L.Turns.holds l.fn.ledger → g.L.Turns.holds l.ledger;
