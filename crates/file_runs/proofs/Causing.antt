@@ -17,8 +17,15 @@ use Rattle.ledger_runs.specs.Faults.{IsRunCause, HaveCauses}
 use Rattle.ledger_runs.specs.declared.lanes.Lane.{Lane}
 use Rattle.ledger_runs.proofs.WaveKeeping.{at_place}
 use Rattle.ledger_runs.proofs.Faulting.{cause_since, cause_any, run_moves}
-use Rattle.file_runs.specs.Runs.{AreLanesOf, HavePreparedFile, IsSentPiece, IsFilesPiece}
-use Rattle.file_runs.proofs.Pieces.{HavePreparedFiles, files_piece}
+use Rattle.file_runs.specs.Runs.{AreLanesOf, HavePreparedFile, HavePreparedFiles, IsSentPiece, IsFilesPiece}
+use Rattle.file_runs.proofs.Pieces.{files_piece}
+
+-- the next piece of what a lane got is that of what the file sends it
+pub sent_piece : (K : Shape) (verdicts : VerdictsOf) (file : List FullTx) (lists : List (Vec CompactTx)) (lanes after : List Lane) (I J : ℕ → List Record)
+    → AreSent K verdicts file lists → AreLanesOf lists lanes → ((sent : ℕ → List Compact) → HaveSent sent lanes → HaveSent sent after)
+    → (lane : ℕ) (x : Lane) → slice_get after lane ≡ Some x → (txs : List Compact) → IsNextPiece K lane x.txs.items I J txs → IsSentPiece K verdicts file I J lane txs
+sent_piece K verdicts file lists lanes after I J are_sent are keeps lane x there txs piece sound tells =
+    subst (λ all. IsNextPiece K lane all I J txs) (keeps (sent_to K sound file) (λ l y t. are_sent sound tells l y.txs (are.each l y t)) lane x there) piece
 
 -- the least lane with a fault has its cause
 pub file_cause : (K : Shape) (verdicts : VerdictsOf) (file : List FullTx) (lists : List (Vec CompactTx)) (lanes after : List Lane) (I J : ℕ → List Record) (failed : ℕ → Type 0) (holds : ℕ → ℕ → Type 0)
@@ -26,11 +33,8 @@ pub file_cause : (K : Shape) (verdicts : VerdictsOf) (file : List FullTx) (lists
     → HaveCauses K I J failed holds after → (e : LaneFault) → FirstFaultIs after (Some e) → IsRunCause K (IsSentPiece K verdicts file I J) I J failed holds e
 file_cause K verdicts file lists lanes after I J failed holds count are_sent are keeps causes e (lane, x, there, is, least) =
     cause_any K lane (IsSentPiece K verdicts file I J) I J failed holds (omega (arith, slice_get_within after lane x there, count)) e
-    (cause_since K lane (IsNextPiece K lane x.txs.items I J) (IsSentPiece K verdicts file I J lane) I I J failed holds (λ n. end_self (I n)) sent_piece e (causes lane x there e is))
-  where
-    sent_piece : (txs : List Compact) → IsNextPiece K lane x.txs.items I J txs → IsSentPiece K verdicts file I J lane txs
-    sent_piece txs piece sound tells =
-        subst (λ all. IsNextPiece K lane all I J txs) (keeps (sent_to K sound file) (λ l y t. are_sent sound tells l y.txs (are.each l y t)) lane x there) piece
+    (cause_since K lane (IsNextPiece K lane x.txs.items I J) (IsSentPiece K verdicts file I J lane) I I J failed holds (λ n. end_self (I n))
+    (sent_piece K verdicts file lists lanes after I J are_sent are keeps lane x there) e (causes lane x there e is))
 
 -- without a fault each lane has prepared what the file sends it
 pub file_done : (K : Shape) (verdicts : VerdictsOf) (file : List FullTx) (lists : List (Vec CompactTx)) (lanes after : List Lane) (I J : ℕ → List Record)

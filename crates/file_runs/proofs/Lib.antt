@@ -3,3 +3,5 @@ pub mod Joining
 pub mod FileTelling
 pub mod Pieces
 pub mod Causing
+pub mod Flying
+pub mod Ending

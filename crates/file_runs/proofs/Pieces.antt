@@ -10,7 +10,7 @@ use Rattle.submissions.specs.Checks.{VerdictsOf, TellsSound}
 use Rattle.ledger_runs.specs.Turning.{IsLaneOf}
 use Rattle.ledger_runs.specs.Pieces.{HasPrepared, IsNextOf, IsNextPiece}
 use Rattle.ledger_runs.proofs.Preparing.{cut_of}
-use Rattle.file_runs.specs.Runs.{HavePreparedFile, IsSentPiece, AreFilesPieces, IsFilesPiece}
+use Rattle.file_runs.specs.Runs.{HavePreparedFile, HavePreparedFiles, IsSentPiece, AreFilesPieces, IsFilesPiece}
 use Rattle.file_runs.proofs.Joining.{so_far}
 
 -- where something is cut, pieces are of one transaction at least
@@ -44,11 +44,6 @@ module _ (K : Shape) (sound : FullTx → Bool) (lane : ℕ) where
       let own = cut_of K.batch (sent_to K sound file lane) some in
       let more = pieces_of files some in
       (own.0 ++ more.0, (own.0, more.0, own.1, more.1, refl))
-
--- each lane has prepared all that these files send it
-abbrev pub HavePreparedFiles : Shape → VerdictsOf → List (List FullTx) → (ℕ → List Record) → (ℕ → List Record) → Type 0
-HavePreparedFiles K verdicts files I J = (lane : ℕ) → IsLaneOf K lane → (sound : FullTx → Bool) → TellsSound verdicts sound
-    → (pieces : List (List Compact)) × AreFilesPieces K sound lane files pieces × HasPrepared K lane pieces I J
 
 pub none_prepared : (K : Shape) (verdicts : VerdictsOf) (I : ℕ → List Record) → HavePreparedFiles K verdicts [] I I
 none_prepared K verdicts I lane inside sound tells = ([], refl, refl)
