@@ -28,8 +28,8 @@ pub file_ends : (K : Shape) (verdicts : VerdictsOf) (file : List FullTx) (lists 
     → HaveCauses K I J failed holds after → RunTheirs K I J after → (e : LaneFault) → FirstFaultIs after (Some e) → EndsFile K verdicts file I J failed holds e
 file_ends K verdicts file lists lanes after I J failed holds count are_sent are keeps causes theirs e first =
     inr (λ sound tells. least_fault K (sent_to K sound file) (IsSentPiece K verdicts file I J) I J failed holds after count
-      (keeps (sent_to K sound file) (λ l y t. are_sent sound tells l y.txs (are.each l y t)))
-      (λ lane x there txs piece. sent_piece K verdicts file lists lanes after I J are_sent are keeps lane x there txs piece) causes theirs e first)
+    (keeps (sent_to K sound file) (λ l y t. are_sent sound tells l y.txs (are.each l y t)))
+    (λ lane x there txs piece. sent_piece K verdicts file lists lanes after I J are_sent are keeps lane x there txs piece) causes theirs e first)
 
 unbegun_first : (K : Shape) (verdicts : VerdictsOf) (more : List (List FullTx)) (I : ℕ → List Record) (failed : ℕ → Type 0) (holds : ℕ → ℕ → Type 0) (e : LaneFault) → e.fault ≡ NoMemory → EndsFirst K verdicts more I I failed holds e
 unbegun_first K verdicts [] I failed holds e is = (is, λ n. refl)

@@ -31,7 +31,7 @@ passes_more submissions more (Discard stamp b) h = tt
 passes_more submissions more (Done stamp b) h = tt
 
 -- with more submissions
-may_more : (K : Shape) (mint : List Output) (submissions more : List FullTx) (J : ℕ → List Record) (F : ℕ → Option Record) → AllMayCome K mint submissions J F → AllMayCome K mint (submissions ++ more) J F
+pub may_more : (K : Shape) (mint : List Output) (submissions more : List FullTx) (J : ℕ → List Record) (F : ℕ → Option Record) → AllMayCome K mint submissions J F → AllMayCome K mint (submissions ++ more) J F
 may_more K mint submissions more J F may n r is =
     let m : MayCome K mint submissions J n r = may n r is in
     record { after = m.after; seen = m.seen; passes = passes_more submissions more r m.passes }

@@ -34,3 +34,11 @@ KeepsEach images held K X = (n : ℕ) → n < node_count K
 -- whatever a crash may leave of a node's disk that is told opens to exactly this journal
 abbrev pub HoldsEach : {D : Type 0} → (D → List ℕ → Type 0) → (ℕ → Option D) → Shape → (ℕ → List Record) → Type 0
 HoldsEach images held K X = (n : ℕ) → n < node_count K → OfTold (held n) (λ d. (c : List ℕ) → images d c → OpensTo (reverse (X n)) c)
+
+-- one image of each node's disk that is told: what a crash may leave of them
+abbrev pub AreLeft : {D : Type 0} → (D → List ℕ → Type 0) → (ℕ → Option D) → Shape → (ℕ → List ℕ) → Type 0
+AreLeft images held K contents = (n : ℕ) → n < node_count K → OfTold (held n) (λ d. images d (contents n))
+
+-- those open to these journals
+abbrev pub OpenTo : {D : Type 0} → (ℕ → Option D) → Shape → (ℕ → List ℕ) → (ℕ → List Record) → Type 0
+OpenTo held K contents X = (n : ℕ) → n < node_count K → OfTold (held n) (λ d. OpensTo (reverse (X n)) (contents n))

@@ -8,8 +8,9 @@ ghost use Rattle.input_files.specs.Limits.{IsShort};
 ghost use Rattle.submissions.specs.Checks.{TellsSound};
 ghost use Rattle.ledger_runs.specs.Turning.{OfKept, StaysKept};
 ghost use Rattle.ledger_runs.specs.Faults.{HaveFailed, MayHold};
-ghost use Rattle.file_runs.specs.Runs.{joined, IsFilesPiece};
-ghost use Rattle.ledger_nodes.specs.Ledgers.{IsLedger, journals_of, faults_of, opened_of, capacity_of, AreChecked, AreStored, AreQuiet};
+ghost use Rattle.file_runs.specs.Runs.{joined, IsFilesPiece, FliesWith};
+ghost use Rattle.rack_runs.specs.Endings.{EndsRun, IsLeastAnswer};
+ghost use Rattle.ledger_nodes.specs.Ledgers.{IsLedger, journals_of, flights_of, faults_of, opened_of, capacity_of, AreChecked, AreStored, AreQuiet};
 ghost use Rattle.rack_runs.specs.Kinds.{answer_to, IsLaneAnswer};
 ghost use Rattle.lane_driver.specs.declared.fault.LaneFault.{LaneFault as FaultOf};
 ghost use Rattle.rack_runs.specs.Telling.{CountAll, TellsRun};
@@ -114,12 +115,25 @@ pub(crate) fn run_nodes<W: Wait, D: Disk, V: Verifier, G: Gate>(
     ensures grows { (n : ℕ) → IsEnd (journals_of D.count D.limit nodes.header.shape nodes.logs.items nodes.shards.items n)
         (journals_of D.count D.limit nodes.header.shape result.nodes.logs.items result.nodes.shards.items n) }
 
+    // What is in flight may come next at its node, as before.
+    ensures flies { OfKept nodes.header.shape (journals_of D.count D.limit nodes.header.shape nodes.logs.items nodes.shards.items)
+        (FliesWith nodes.header.shape (joined files.now) (journals_of D.count D.limit nodes.header.shape nodes.logs.items nodes.shards.items)
+        (journals_of D.count D.limit nodes.header.shape result.nodes.logs.items result.nodes.shards.items)
+        (flights_of D.count D.limit nodes.header.shape nodes.logs.items nodes.shards.items) (flights_of D.count D.limit nodes.header.shape result.nodes.logs.items result.nodes.shards.items)) }
+
     // What a fault answers has its cause.
     ensures fault { IfErr result.came (IsLaneAnswer nodes.header.shape (IsFilesPiece nodes.header.shape (V.verdict_of verifier.now) files.now
         (journals_of D.count D.limit nodes.header.shape nodes.logs.items nodes.shards.items) (journals_of D.count D.limit nodes.header.shape result.nodes.logs.items result.nodes.shards.items))
         (journals_of D.count D.limit nodes.header.shape nodes.logs.items nodes.shards.items) (journals_of D.count D.limit nodes.header.shape result.nodes.logs.items result.nodes.shards.items)
         (HaveFailed (opened_of D.count D.limit nodes.header.shape nodes.logs.items nodes.shards.items) (faults_of D.count D.limit nodes.header.shape result.nodes.logs.items result.nodes.shards.items))
         (MayHold (capacity_of D.count D.limit nodes.header.shape nodes.logs.items nodes.shards.items))) }
+
+    // And it is the least lane's that met one.
+    ensures least { IfErr result.came (IsLeastAnswer (EndsRun (V.verdict_of verifier.now) files.now nodes.header.shape
+        (journals_of D.count D.limit nodes.header.shape nodes.logs.items nodes.shards.items)
+        (journals_of D.count D.limit nodes.header.shape result.nodes.logs.items result.nodes.shards.items)
+        (HaveFailed (opened_of D.count D.limit nodes.header.shape nodes.logs.items nodes.shards.items) (faults_of D.count D.limit nodes.header.shape result.nodes.logs.items result.nodes.shards.items))
+        (MayHold (capacity_of D.count D.limit nodes.header.shape nodes.logs.items nodes.shards.items)))) }
 {
     let Nodes {
         header,
