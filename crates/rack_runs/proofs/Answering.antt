@@ -225,10 +225,10 @@ module _ {D : Type 0} (content : D → Option (List ℕ)) (images : D → List �
   entry = λ i n. same_journals content images limit count held h logs shards are caused n i
 
   -- what is known at exit of the disks' counts since entry, and of what they may hold
-  Rises : ℕ → Type 0
+  abbrev Rises : ℕ → Type 0
   Rises n = Rose (before n) (behind n)
 
-  Holds : ℕ → ℕ → Type 0
+  abbrev Holds : ℕ → ℕ → Type 0
   Holds n c = OfTold (held n) (λ d. c ≡ limit d)
 
   risen : (n : ℕ) → n < node_count h.shape → HaveFailed (opened_of count limit h.shape logs shards) (faults_of count limit h.shape now after) n → Rises n
