@@ -8,4 +8,4 @@ mod Budgets
 mod Growth
 mod Planned
 mod Stamps
-mod Room
+pub mod Room

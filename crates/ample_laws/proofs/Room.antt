@@ -1,26 +1,27 @@
 -- Room and stamps enough for all that is still to come are enough for each record that comes.
-use Rattle.std.proofs.Common.{◌≡◌, ℕ, zero, suc, ◌+◌, ◌-◌, ◌*◌, ◌^◌, ◌<◌, ◌≤◌, Bool, true, false, cond, ◌==◌, if◌then◌else◌, List, [], ◌∷◌, ◌++◌, length, take, drop, reverse, Some, refl, sym, ap, ◌∙◌, subst, arith}
+use Rattle.std.proofs.Common.{◌≡◌, ℕ, zero, suc, ◌+◌, ◌-◌, ◌*◌, ◌^◌, ◌<◌, ◌≤◌, Bool, true, false, cond, ◌==◌, if◌then◌else◌, List, [], ◌∷◌, ◌++◌, length, take, drop, reverse, not, is_some, Some, refl, sym, ap, ◌∙◌, subst, arith}
 use Rattle.std.specs.List.{filter, flat_map}
 use Rattle.std.proofs.lemmas.List.{length-append, length-reverse}
 use Rattle.cbdc_types.specs.Limits.{IsWithinLimits}
-use Rattle.cbdc_model.specs.Records.{Digest, Shape, Batch, Compact, Entry, Answered, Record, Row, journal, is_held, record_of, stamp_of, stamp_in, last_stamp, Prepare}
-use Rattle.cbdc_model.specs.Slots.{slot}
+use Rattle.cbdc_model.specs.Records.{Digest, Shape, Batch, Compact, Entry, Answered, Record, Row, journal, is_held, record_of, txs_of, stamp_of, stamp_in, last_stamp, Prepare}
+use Rattle.cbdc_model.specs.Slots.{slot, Idle}
 use Rattle.cbdc_model.specs.Replies.{reply_to, answered, entries}
 use Rattle.cbdc_model.specs.Ranges.{home_of, shard_node, part, Concerned}
 use Rattle.cbdc_model.specs.Causes.{greatest}
 use Rattle.cbdc_model.specs.Room.{size_of, lane_room, kept_below, kept_room, need_of}
-use Rattle.cbdc_model.specs.Due.{used_of, prepare_record, lock_record, new_batch}
-use Rattle.cbdc_model.specs.Next.{next_stamp}
+use Rattle.cbdc_model.specs.Due.{used_of, prepare_record, lock_record, new_batch, open_batch}
+use Rattle.cbdc_model.specs.Next.{is_idle, next_stamp}
 use Rattle.cbdc_model.specs.Coins.{FullTx}
 use Rattle.cbdc_model.specs.History.{Minted, first_rows}
 use Rattle.cbdc_model.specs.Lanes.{IsEnd, first_of}
 use Rattle.cbdc_model.specs.Waves.{sent_to, IsCut, prepared}
+use Rattle.cbdc_model.specs.World.{AreIdle}
 use Rattle.ledger_laws.proofs.Next.{Steady}
 use Rattle.ledger_laws.proofs.Moves.{greatest_bound}
 use Rattle.ledger_laws.proofs.Cuts.{end_self, end_trans}
 use Rattle.run_laws.proofs.Checked.{Any, rows_of}
 use Rattle.ample_laws.specs.Ample.{Coming, Ample, AreCut, records_of, unwritten, still_to_come, bytes_at}
-use Rattle.ample_laws.specs.Enough.{HasLeft, HasRoom, PrepareRoomLaw, LockRoomLaw, KeptRoomLaw}
+use Rattle.ample_laws.specs.Enough.{HasLeft, HasRoom, PrepareRoomLaw, LockRoomLaw, KeptRoomLaw, IdleRoomLaw}
 use Rattle.ample_laws.proofs.Sums.{total, total_is, sum_below, sum_le, sum_more, sum_add, one_at, once_below}
 use Rattle.ample_laws.proofs.Scales.{Scale, Fair, bytes, bytes_fair, ones, ones_fair, lock_at, finish_at, forget_at}
 use Rattle.ample_laws.proofs.Numbers.{lists, number_is, number_grows}
@@ -265,6 +266,37 @@ module _ (K : Shape) (m : Minted) (sound : FullTx → Bool) (capacity : ℕ → 
 
         pub lock_core : HasRoom K capacity (shard_node K j) front (lock_record front (record { batch = b; part = part K.shards j 0 txs; cause = t }))
         lock_core = (has_lock_room, lock_stamp)
+
+-- ---- where every lane is idle
+
+module _ (K : Shape) (m : Minted) (limits : IsWithinLimits K) (before : List Row) (old : Steady K m Any before) where
+  abbrev J : ℕ → List Record
+  J n = journal n (before ++ first_rows K m)
+
+  zeros : (n : ℕ) → sum_below (λ lane. 0) n ≡ 0
+  zeros zero = refl
+  zeros (suc n) = let rest : sum_below (λ lane. 0) n ≡ 0 = zeros n in omega (arith, rest)
+
+  none_of : (n lane : ℕ) → (slot (J (home_of K lane)) lane).phase ≡ Idle → all_of K J (λ l. []) bytes n lane ≤ 0
+  none_of n lane idle =
+      let is : is_idle (slot (J (home_of K lane)) lane).phase ≡ true = ap is_idle idle in
+      let none : unwritten K J lane ≡ [] = ap (λ t. if t then [] else filter (λ (c : Coming). not (is_some (record_of c.kind (J c.node) (open_batch (J (home_of K lane)) lane)))) (records_of K lane (txs_of (J (home_of K lane)) (open_batch (J (home_of K lane)) lane)))) is in
+      let nothing : all_of K J (λ l. []) bytes n lane ≡ 0 = ap (λ (cs : List Coming). weight bytes n (cs ++ [])) none in
+      omega (arith, nothing)
+
+  pub idle_core : ((lane : ℕ) → lane < K.coordinators * K.lanes → (slot (J (home_of K lane)) lane).phase ≡ Idle) → (n : ℕ) → n < K.coordinators + K.shards → kept_room K (J n) ≡ 0
+  idle_core idle n inside =
+      let L : ℕ = K.coordinators * K.lanes in
+      let kept : kept_room K (J n) ≡ sum_below (λ lane. kept_for bytes (J n) lane) L = kept_is (J n) L in
+      let cover = kept_covered K m Any (omega (arith, limits.shards)) (omega (arith, limits.lanes)) before old (λ l. []) bytes bytes_fair n inside in
+      let top : sum_below (λ lane. budget K J (λ l. []) bytes n lane (slot (J n) lane).number) L ≤ sum_below (λ lane. all_of K J (λ l. []) bytes n lane) L
+      = sum_le (λ lane. budget K J (λ l. []) bytes n lane (slot (J n) lane).number) (λ lane. all_of K J (λ l. []) bytes n lane) L (λ lane lt. budget_top K J (λ l. []) bytes n lane (slot (J n) lane).number) in
+      let nothing : sum_below (λ lane. all_of K J (λ l. []) bytes n lane) L ≤ sum_below (λ lane. 0) L = sum_le (λ lane. all_of K J (λ l. []) bytes n lane) (λ lane. 0) L (λ lane lt. none_of n lane (idle lane lt)) in
+      omega (arith, kept, cover, top, nothing, zeros L)
+
+pub idle_room_law : IdleRoomLaw
+idle_room_law K m E n limits c idle inside =
+    subst (λ e. AreIdle K e → kept_room K (e n) ≡ 0) (λ i k. c.history.journals_are k i) (λ is. idle_core K m limits c.later (rows_of K m E c) is n inside) idle
 
 pub kept_room_law : KeptRoomLaw
 kept_room_law K m sound capacity files E n limits a c inside =

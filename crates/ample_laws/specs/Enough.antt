@@ -10,6 +10,7 @@ use Rattle.cbdc_model.specs.Coins.{FullTx}
 use Rattle.cbdc_model.specs.History.{Minted}
 use Rattle.cbdc_model.specs.Lanes.{IsEnd}
 use Rattle.cbdc_model.specs.Waves.{prepared}
+use Rattle.cbdc_model.specs.World.{AreIdle}
 use Rattle.run_laws.specs.Checked.{CheckedJournals}
 use Rattle.ample_laws.specs.Ample.{Ample, AreCut}
 
@@ -48,3 +49,7 @@ LockRoomLaw = (K : Shape) (m : Minted) (sound : FullTx → Bool) (capacity : ℕ
 abbrev pub KeptRoomLaw : Type 0
 KeptRoomLaw = (K : Shape) (m : Minted) (sound : FullTx → Bool) (capacity : ℕ → ℕ) (files : List (List FullTx)) (E : ℕ → List Record) (n : ℕ)
     → IsWithinLimits K → Ample K sound capacity files E → CheckedJournals K m E → n < K.coordinators + K.shards → used_of (E n) + kept_room K (E n) ≤ capacity n
+
+-- where every lane is idle, none is kept
+abbrev pub IdleRoomLaw : Type 0
+IdleRoomLaw = (K : Shape) (m : Minted) (E : ℕ → List Record) (n : ℕ) → IsWithinLimits K → CheckedJournals K m E → AreIdle K E → n < K.coordinators + K.shards → kept_room K (E n) ≡ 0

@@ -1,7 +1,7 @@
 //! When a ledger has room and stamps for all that is still to come, and that none is wanting then. There is no code here that runs.
 #![tactic(auto)]
 
-ghost use Rattle.ample_laws.specs.Enough.{KeptRoomLaw, LockRoomLaw, PrepareRoomLaw};
+ghost use Rattle.ample_laws.specs.Enough.{IdleRoomLaw, KeptRoomLaw, LockRoomLaw, PrepareRoomLaw};
 ghost use Rattle.ample_laws.specs.Row.{RowLaw};
 
 /// What one transaction needs on a new ledger of one shard and one coordinator.
@@ -22,4 +22,9 @@ pub fn prepare_room_law()
 /// So there is for each Lock that a prepared batch lacks.
 pub fn lock_room_law()
     ensures { LockRoomLaw }
+{}
+
+/// Where every lane is idle, no room is kept.
+pub fn idle_room_law()
+    ensures { IdleRoomLaw }
 {}

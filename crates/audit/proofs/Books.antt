@@ -120,20 +120,21 @@ take_append None cs ds = refl
 take_append (Some b) [] ds = refl
 take_append (Some b) (c ∷ cs) ds = take_append (take_out b c) cs ds
 
--- an empty map keeps the empty book
+no_entries : (es : List (List ℕ × Output)) → length es ≡ 0 → sum_by (λ (o : Output). o.value) (values_of es) ≡ 0
+no_entries [] h = refl
+no_entries (x ∷ es) h = absurd (omega arith)
+
+-- the empty book has no value
+pub none_worth : value (book.empty {X = Output} {R = key_cmp}) ≡ 0
+none_worth = no_entries (book.entries (book.empty {X = Output} {R = key_cmp})) (sym (book.len-entries (book.empty {X = Output} {R = key_cmp})) ∙ book.len-empty key_cmp Output)
+
+-- an empty map keeps it
 pub empty_kept : (m : Kept) → m.outputs.entries ≡ [] → Keeps m book.empty
 empty_kept m e = record {
   outputs = λ p. ap (λ es. lookup (same_point (p.tx, p.index)) es) e ∙ sym (book.get-empty key_cmp (key p));
   size = ap length e ∙ sym (book.len-empty key_cmp Output);
   worth = ap (λ es. sum_by (λ (o : Output). o.value) (values_of es)) e ∙ sym none_worth;
 }
-  where
-    no_entries : (es : List (List ℕ × Output)) → length es ≡ 0 → sum_by (λ (o : Output). o.value) (values_of es) ≡ 0
-    no_entries [] h = refl
-    no_entries (x ∷ es) h = absurd (omega arith)
-
-    none_worth : value (book.empty {X = Output} {R = key_cmp}) ≡ 0
-    none_worth = no_entries (book.entries (book.empty {X = Output} {R = key_cmp})) (sym (book.len-entries (book.empty {X = Output} {R = key_cmp})) ∙ book.len-empty key_cmp Output)
 
 left_none : (m : Kept) (r : Option Book) → IsLeft true m r → IsLeft true m (model_take r [])
 left_none m None h = h

@@ -1,18 +1,20 @@
 -- Of transactions that can be spent in turn, each with an input, no coin is made twice and none is spent twice.
-use Rattle.std.proofs.Common.{◌≡◌, inl, inr, ℕ, ◌+◌, ◌-◌, ◌<◌, ◌≤◌, true, false, cond, List, [], ◌∷◌, ◌++◌, map, length, Option, Some, None, refl, sym, ap, ◌∙◌, subst, arith}
+use Rattle.std.proofs.Common.{◌≡◌, inl, inr, ℕ, suc, ◌+◌, ◌-◌, ◌<◌, ◌≤◌, true, false, cond, List, [], ◌∷◌, ◌++◌, map, length, Option, Some, None, refl, sym, ap, ◌∙◌, subst, arith}
 use Rattle.std.specs.FinMap as book
 use Rattle.std.specs.Ordering.{nat_cmp}
 use Rattle.std.specs.Cmp.Lexicographic.{slice_cmp}
 use Rattle.std.proofs.lemmas.List.{map-append}
+use Rattle.std.proofs.lemmas.List.Sums.{sum_by-cons}
 use Rattle.cbdc_model.specs.Records.{Digest, same_digest, Compact}
-use Rattle.cbdc_model.specs.Coins.{Output, Coin, FullTx, coin_hash, tx_id, tx_coins, genesis_tx, genesis_hashes, compact}
-use Rattle.cbdc_model.specs.Book.{Book, same_output, taken, take_all, put_all, spend, spend_from, fold_txs, genesis_book}
-use Rattle.cbdc_model.specs.Clean.{IsMember, IsNamed, Clean}
+use Rattle.cbdc_model.specs.Coins.{Output, Coin, FullTx, coin_hash, tx_id, tx_coins, made_coins, genesis_tx, genesis_hashes, compact}
+use Rattle.cbdc_model.specs.Book.{Book, same_output, taken, take_all, put_all, spend, spend_from, fold_txs, genesis_book, value}
+use Rattle.cbdc_model.specs.Clean.{IsMember, IsNamed, Clean, value_in, value_out}
 use Rattle.cbdc_model.specs.History.{all_inputs, all_outputs}
 use Rattle.ledger_laws.proofs.Counts.{count, count-append, same_digest_is, count_first, count-cons_same, count-cons_other, digests}
 use Rattle.ledger_laws.proofs.View.{none, some, none_or_some}
-use Rattle.ledger_laws.proofs.Folds.{Stands, Origin, EachCoin, point_of, hashes_of, take_one, put_all_stands, stands_same}
+use Rattle.ledger_laws.proofs.Folds.{Stands, Origin, EachCoin, point_of, hashes_of, coins_value, take_one, put_all_stands, stands_same}
 use Rattle.ledger_laws.proofs.Members.{In, contains_in, CoinAt, coin_at, Made, made_is, coins_apart, tx_coins_once, genesis_member, made_tx}
+use Rattle.audit.proofs.Books.{none_worth}
 
 abbrev pub spent_of : List FullTx → Digest → ℕ
 spent_of ts x = count x (all_inputs (map compact ts))
@@ -50,6 +52,12 @@ same_coin d c p o =
     let t : d.point.tx ≡ c.point.tx = cc in
     let i : d.point.index ≡ c.point.index = cc in
     λ j. record { point = record { tx = t j; index = i j }; output = o j }
+
+-- the coins of outputs are worth what the outputs are
+made_value : (id : Digest) (k : ℕ) (os : List Output) → coins_value (made_coins id k os) ≡ value_out os
+made_value id k [] = refl
+made_value id k (o ∷ os) =
+    omega (arith, sum_by-cons (λ c. c.output.value) (record { point = record { tx = id; index = k }; output = o }) (made_coins id (suc k) os), sum_by-cons (λ o. o.value) o os, made_value id (suc k) os)
 
 no_book : {A : Type 0} (b : Book) → None ≡ Some b → A
 no_book b e = absurd (let z : None ≡ Some b = e in cc)
@@ -90,6 +98,7 @@ module _ (mint : List Output) (handed : List FullTx) (clean : Clean mint handed)
   record Took (b : Book) (cs : List Coin) (β : Digest → ℕ) (r : Book) : Type 0 where
     enough : (x : Digest) → count x (hashes_of cs) ≤ β x
     stands : StandsFor r (λ x. β x - count x (hashes_of cs))
+    worth : value b ≡ coins_value cs + value r
 
   take_first : (b : Book) (c : Coin) (cs : List Coin) (r : Book) (o : Option Output) → book.get b (point_of c) ≡ o → take_all (taken b c o) cs ≡ Some r
       → (book.get b (point_of c) ≡ Some c.output) × (take_all (Some (book.remove b (point_of c))) cs ≡ Some r)
@@ -101,22 +110,29 @@ module _ (mint : List Output) (handed : List FullTx) (clean : Clean mint handed)
         | false ↦ λ t h. no_book r h
       ] refl h
 
+  no_coins : (b r : Book) → value b ≡ value r → value b ≡ coins_value [] + value r
+  no_coins b r e = omega (arith, e)
+
   took : (cs : List Coin) (b r : Book) (β : Digest → ℕ) → StandsFor b β → EachCoin (IsNamed mint handed) cs → ((x : Digest) → β x ≤ 1) → take_all (Some b) cs ≡ Some r → Took b cs β r
   took [] b r β st each once h =
       let e : b ≡ r = cc in
-      record { enough = λ x. omega arith; stands = subst (λ d. StandsFor d (λ x. β x - 0)) e (stands_same (coins_apart mint handed clean) b β (λ x. β x - 0) (λ x. omega arith) st) }
+      record {
+        enough = λ x. omega arith;
+        stands = subst (λ d. StandsFor d (λ x. β x - 0)) e (stands_same (coins_apart mint handed clean) b β (λ x. β x - 0) (λ x. omega arith) st);
+        worth = no_coins b r (ap value e);
+      }
   took (c ∷ cs) b r β st each once h =
       let first : (book.get b (point_of c) ≡ Some c.output) × (take_all (Some (book.remove b (point_of c))) cs ≡ Some r) = take_first b c cs r (book.get b (point_of c)) refl h in
       let here : 0 < β (coin_hash c) = counted_in b β c st first.0 in
       let γ : Digest → ℕ = λ x. β x - count x (coin_hash c ∷ []) in
       let one : count (coin_hash c) (coin_hash c ∷ []) ≡ 1 = count-cons_same (coin_hash c) (coin_hash c) [] refl in
-      let left : StandsFor (book.remove b (point_of c)) γ
-      = (take_one (coins_apart mint handed clean) b β γ c st each.0 (omega (arith, once (coin_hash c))) (omega (arith, one, once (coin_hash c)))
-      (λ x n. let z : count x (coin_hash c ∷ []) ≡ 0 = count-cons_other x (coin_hash c) [] (λ e. n (sym e)) in omega arith)).1 in
-      let rest : Took (book.remove b (point_of c)) cs γ r = took cs (book.remove b (point_of c)) r γ left each.1 (λ x. omega (arith, once x)) first.1 in
+      let left = take_one (coins_apart mint handed clean) b β γ c st each.0 (omega (arith, once (coin_hash c))) (omega (arith, one, once (coin_hash c)))
+      (λ x n. let z : count x (coin_hash c ∷ []) ≡ 0 = count-cons_other x (coin_hash c) [] (λ e. n (sym e)) in omega arith) in
+      let rest : Took (book.remove b (point_of c)) cs γ r = took cs (book.remove b (point_of c)) r γ left.1 each.1 (λ x. omega (arith, once x)) first.1 in
       record {
         enough = λ x. enough_both x (rest.enough x) here;
         stands = stands_same (coins_apart mint handed clean) r _ _ (λ x. omega arith) rest.stands;
+        worth = omega (arith, left.2, rest.worth, sum_by-cons (λ d. d.output.value) c cs);
       }
     where
       enough_both : (x : Digest) → count x (hashes_of cs) ≤ β x - count x (coin_hash c ∷ []) → 0 < β (coin_hash c) → count x (hashes_of (c ∷ cs)) ≤ β x
@@ -159,22 +175,24 @@ module _ (mint : List Output) (handed : List FullTx) (clean : Clean mint handed)
   none_in : (y : Digest) (cs : List Coin) → cs ≡ [] → 0 < count y (hashes_of cs) → ⊥
   none_in y cs e n = let z : count y (hashes_of cs) ≡ 0 = ap (λ ds. count y (hashes_of ds)) e in omega arith
 
-  next_so_far : (ts : List FullTx) (b e : Book) (t : FullTx) → SoFar ts b → IsMember mint handed t → 0 < length t.inputs → spend b t ≡ Some e → SoFar (ts ++ t ∷ []) e
+  next_so_far : (ts : List FullTx) (b e : Book) (t : FullTx) → SoFar ts b → IsMember mint handed t → 0 < length t.inputs → spend b t ≡ Some e
+      → SoFar (ts ++ t ∷ []) e × (value e + value_in t.inputs ≡ value b + value_out t.outputs)
   next_so_far ts b e t so member some_in h =
       let l : (c : Book) × (take_all (Some b) t.inputs ≡ Some c) × (put_all c (tx_coins t) ≡ e) = left_of (take_all (Some b) t.inputs) t e h in
       let β : Digest → ℕ = λ x. (minted_of x + made_of ts x) - spent_of ts x in
       let took_all : Took b t.inputs β l.0 = took t.inputs b l.0 β so.stands (each_named t member t.inputs (λ c i. i)) (λ x. omega (arith, so.once x)) l.1 in
-      let put : StandsFor (put_all l.0 (tx_coins t)) (λ x. (β x - count x (hashes_of t.inputs)) + count x (hashes_of (tx_coins t)))
-      = (put_all_stands (coins_apart mint handed clean) (tx_coins t) l.0 (λ x. β x - count x (hashes_of t.inputs)) took_all.stands (each_made t member (tx_coins t) (λ c i. i))
-      (λ x. room x (λ y. took_all.enough y))).0 in
-      record {
-        stands = subst (λ d. StandsFor d (λ x. (minted_of x + made_of (ts ++ t ∷ []) x) - spent_of (ts ++ t ∷ []) x)) l.2
-            (stands_same (coins_apart mint handed clean) (put_all l.0 (tx_coins t)) _ _
-            (λ x. omega (arith, spent_more ts t x, made_more ts t x, took_all.enough x, so.covered x)) put);
-        once = λ x. omega (arith, made_more ts t x, so.once x, new_once x (λ y. took_all.enough y));
-        covered = λ x. omega (arith, spent_more ts t x, made_more ts t x, took_all.enough x, so.covered x);
-        members = λ u i. in_more ts u i so.members;
-      }
+      let put = put_all_stands (coins_apart mint handed clean) (tx_coins t) l.0 (λ x. β x - count x (hashes_of t.inputs)) took_all.stands (each_made t member (tx_coins t) (λ c i. i))
+      (λ x. room x (λ y. took_all.enough y)) in (
+        record {
+          stands = subst (λ d. StandsFor d (λ x. (minted_of x + made_of (ts ++ t ∷ []) x) - spent_of (ts ++ t ∷ []) x)) l.2
+              (stands_same (coins_apart mint handed clean) (put_all l.0 (tx_coins t)) _ _
+              (λ x. omega (arith, spent_more ts t x, made_more ts t x, took_all.enough x, so.covered x)) put.0);
+          once = λ x. omega (arith, made_more ts t x, so.once x, new_once x (λ y. took_all.enough y));
+          covered = λ x. omega (arith, spent_more ts t x, made_more ts t x, took_all.enough x, so.covered x);
+          members = λ u i. in_more ts u i so.members;
+        },
+        omega (arith, ap value (sym l.2) ∙ put.1, took_all.worth, made_value (tx_id t) 0 t.outputs),
+      )
     where
       new_once : (x : Digest) → ((y : Digest) → count y (hashes_of t.inputs) ≤ (minted_of y + made_of ts y) - spent_of ts y)
           → (minted_of x + made_of ts x) + count x (hashes_of (tx_coins t)) ≤ 1
@@ -230,7 +248,7 @@ module _ (mint : List Output) (handed : List FullTx) (clean : Clean mint handed)
   all_so_far (u ∷ us) ts b e so ready h =
       let s : (c : Book) × (spend b u ≡ Some c) = step_of (spend b u) us e h in
       subst (λ l. SoFar l e) (append_one ts us u)
-      (all_so_far us (ts ++ u ∷ []) s.0 e (next_so_far ts b s.0 u so ready.0 ready.1 s.1) ready.2 (ap (λ r. fold_txs r us) (sym s.1) ∙ h))
+      (all_so_far us (ts ++ u ∷ []) s.0 e (next_so_far ts b s.0 u so ready.0 ready.1 s.1).0 ready.2 (ap (λ r. fold_txs r us) (sym s.1) ∙ h))
 
   empty_stands : StandsFor book.empty (λ x. 0)
   empty_stands = record {
@@ -239,14 +257,21 @@ module _ (mint : List Output) (handed : List FullTx) (clean : Clean mint handed)
     found = λ c n k. absurd (omega arith);
   }
 
+  mint_stands : StandsFor (genesis_book mint) (λ x. 0 + count x (hashes_of (tx_coins (genesis_tx mint)))) × (value (genesis_book mint) ≡ coins_value (tx_coins (genesis_tx mint)) + value book.empty)
+  mint_stands =
+      let member : IsMember mint handed (genesis_tx mint) = genesis_member mint handed clean in
+      put_all_stands (coins_apart mint handed clean) (tx_coins (genesis_tx mint)) book.empty (λ x. 0) empty_stands
+      (each_made (genesis_tx mint) member (tx_coins (genesis_tx mint)) (λ c i. i)) (λ x. omega (arith, tx_coins_once mint handed clean (genesis_tx mint) member x))
+
+  -- the book that a mint is has its value
+  pub mint_worth : value (genesis_book mint) ≡ value_out mint
+  mint_worth = omega (arith, mint_stands.1, none_worth, made_value (tx_id (genesis_tx mint)) 0 mint)
+
   minted_so_far : SoFar [] (genesis_book mint)
   minted_so_far =
       let member : IsMember mint handed (genesis_tx mint) = genesis_member mint handed clean in
-      let put : StandsFor (genesis_book mint) (λ x. 0 + count x (hashes_of (tx_coins (genesis_tx mint))))
-      = (put_all_stands (coins_apart mint handed clean) (tx_coins (genesis_tx mint)) book.empty (λ x. 0) empty_stands
-      (each_made (genesis_tx mint) member (tx_coins (genesis_tx mint)) (λ c i. i)) (λ x. omega (arith, tx_coins_once mint handed clean (genesis_tx mint) member x))).0 in
       record {
-        stands = stands_same (coins_apart mint handed clean) (genesis_book mint) _ _ (λ x. omega arith) put;
+        stands = stands_same (coins_apart mint handed clean) (genesis_book mint) _ _ (λ x. omega arith) mint_stands.0;
         once = λ x. omega (arith, tx_coins_once mint handed clean (genesis_tx mint) member x);
         covered = λ x. omega arith;
         members = λ t i. absurd i;
@@ -254,3 +279,19 @@ module _ (mint : List Output) (handed : List FullTx) (clean : Clean mint handed)
 
   pub fold_so_far : (ts : List FullTx) (e : Book) → AreReady ts → fold_txs (Some (genesis_book mint)) ts ≡ Some e → SoFar ts e
   fold_so_far ts e ready h = all_so_far ts [] (genesis_book mint) e minted_so_far ready h
+
+  -- where each makes as much as it takes, the value stays
+  abbrev pub EachBalanced : List FullTx → Type 0
+  EachBalanced [] = Unit {0}
+  EachBalanced (t ∷ ts) = (value_in t.inputs ≡ value_out t.outputs) × EachBalanced ts
+
+  all_worth : (us ts : List FullTx) (b e : Book) → SoFar ts b → AreReady us → fold_txs (Some b) us ≡ Some e → EachBalanced us → value e ≡ value b
+  all_worth [] ts b e so ready h balanced = let same : b ≡ e = cc in ap value (sym same)
+  all_worth (u ∷ us) ts b e so ready h balanced =
+      let s : (c : Book) × (spend b u ≡ Some c) = step_of (spend b u) us e h in
+      let n = next_so_far ts b s.0 u so ready.0 ready.1 s.1 in
+      let rest : value e ≡ value s.0 = all_worth us (ts ++ u ∷ []) s.0 e n.0 ready.2 (ap (λ r. fold_txs r us) (sym s.1) ∙ h) balanced.1 in
+      omega (arith, rest, n.1, balanced.0)
+
+  pub fold_worth : (ts : List FullTx) (e : Book) → AreReady ts → fold_txs (Some (genesis_book mint)) ts ≡ Some e → EachBalanced ts → value e ≡ value (genesis_book mint)
+  fold_worth ts e ready h balanced = all_worth ts [] (genesis_book mint) e minted_so_far ready h balanced

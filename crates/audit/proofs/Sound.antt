@@ -11,7 +11,7 @@ use Rattle.audit.specs.Verdicts.{Passes, journals_of}
 use Rattle.audit.specs.Laws.{UnspentLaw}
 use Rattle.audit.proofs.Unspent.{EachSpends, EachDone, all_steady, unspent_law}
 
-spends_of : (ks : List Compact) → AllByRecursion (λ k. 0 < length k.inputs) ks → EachSpends ks
+pub spends_of : (ks : List Compact) → AllByRecursion (λ k. 0 < length k.inputs) ks → EachSpends ks
 spends_of [] h = tt
 spends_of (k ∷ ks) h = (h.0, spends_of ks h.1)
 
@@ -24,7 +24,7 @@ module _ (K : Shape) where
   each_done J [] h = tt
   each_done J (row ∷ past) h = (h.0, each_done J past h.1)
 
-  all_done : (past : List Row) → AllDone K (journals_of (reverse past)) (reverse past) → EachDone K (λ n. journal n past) past
+  pub all_done : (past : List Row) → AllDone K (journals_of (reverse past)) (reverse past) → EachDone K (λ n. journal n past) past
   all_done past done =
       let here : All (λ row. IsDone K (λ n. journal n past) row.what) (reverse past)
       = subst (λ rows. All (λ row. IsDone K (λ n. journal n rows) row.what) (reverse past)) (reverse-reverse past) done in

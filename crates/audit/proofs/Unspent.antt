@@ -104,7 +104,7 @@ length_hashes : (cs : List Coin) → length (hashes_of cs) ≡ length cs
 length_hashes [] = refl
 length_hashes (c ∷ cs) = ap suc (length_hashes cs)
 
-forms_are : (mint : List Output) (handed : List FullTx) (clean : Clean mint handed) (ks : List Compact) (ts : List FullTx) → AreHandedIn handed ks ts → EachSpends ks
+pub forms_are : (mint : List Output) (handed : List FullTx) (clean : Clean mint handed) (ks : List Compact) (ts : List FullTx) → AreHandedIn handed ks ts → EachSpends ks
     → AreReady mint handed clean ts × (map compact ts ≡ ks)
 forms_are mint handed clean [] [] h each = (tt, refl)
 forms_are mint handed clean [] (t ∷ ts) h each = absurd h

@@ -3,4 +3,8 @@
 #![tactic(auto)]
 
 #[cfg(test)]
+mod edited;
+#[cfg(test)]
+mod several;
+#[cfg(test)]
 mod tests;

@@ -14,13 +14,13 @@ use std::test::Fail;
 const NOT_CAUSED: &str = "fault unsound 3 cause\n";
 
 // Checks the text and the status of a run.
-fn told<W: Abort>(rt: &W, ran: &Ran, status: u8, text: &str) {
+pub(crate) fn told<W: Abort>(rt: &W, ran: &Ran, status: u8, text: &str) {
     assert_eq!(rt; ran.text.as_slice(), text.as_bytes());
     assert_eq!(rt; ran.status, status);
 }
 
 // The ledger of the coin, behind its transaction to 60 and 40.
-fn spent<W: Wait>(rt: &W, alloc: Global) -> Result<MemRack<PlainDisk>, Fail>
+pub(crate) fn spent<W: Wait>(rt: &W, alloc: Global) -> Result<MemRack<PlainDisk>, Fail>
     ensures { IfOk result (λ r. AllIn r) }
 {
     let rack = made(rt, alloc, 10_000, 10_000)?;
@@ -29,7 +29,7 @@ fn spent<W: Wait>(rt: &W, alloc: Global) -> Result<MemRack<PlainDisk>, Fail>
 }
 
 // An audit with these words: `m` is the mint, `o` another, and `c` the client file of the transaction.
-fn audited<W: Wait>(
+pub(crate) fn audited<W: Wait>(
     rt: &W,
     alloc: Global,
     rack: MemRack<PlainDisk>,

@@ -1,10 +1,16 @@
 -- What an audit finds of the ledger that a rack's disks tell.
-use Rattle.std.specs.Prelude.{ℕ, List, Option}
+use Rattle.std.specs.Prelude.{ℕ, List, reverse, Option}
 use Rattle.cbdc_model.specs.Records.{Shape, Record, Row}
 use Rattle.cbdc_model.specs.Coins.{Output, FullTx, genesis_id}
+use Rattle.cbdc_model.specs.Clean.{Clean}
+use Rattle.cbdc_model.specs.History.{minted}
 use Rattle.caused_ledgers.specs.Caused.{AreMerged, IsToldHistory}
+use Rattle.audit.specs.declared.verdict.Totals.{Totals}
 use Rattle.audit.specs.declared.verdict.Verdict.{Verdict}
-use Rattle.audit.specs.Verdicts.{IsVerdict}
+use Rattle.audit.specs.declared.verdict.Verdict.TheVariants.{Sound, Unsound}
+use Rattle.audit.specs.Verdicts.{IsVerdict, journals_of}
+use Rattle.audit_laws.specs.Journals.{BeginAs}
+use Rattle.audit_laws.specs.Accounts.{EachSpends, IsAccounted}
 
 -- of the history of these journals an audit has this verdict
 pub record HasVerdict (K : Shape) (all : List (List Record)) (mint : List Output) (handed : List FullTx) (verdict : Verdict) : Type 0 where
@@ -18,3 +24,16 @@ pub record IsAudited {D : Type 0} (content : D → Option (List ℕ)) (held : �
   pub rows : List Row
   pub history : IsToldHistory content held shape (genesis_id mint) rows
   pub is : IsVerdict shape mint handed rows verdict
+
+-- of the ledger that the disks tell, if its first records are those of the mint, no hashes clash and each committed transaction has an input, all
+-- money is accounted for, with these totals
+pub record IsAccountedFor {D : Type 0} (content : D → Option (List ℕ)) (held : ℕ → Option D) (mint : List Output) (handed : List FullTx) (totals : Totals) : Type 0 where
+  pub shape : Shape
+  pub rows : List Row
+  pub history : IsToldHistory content held shape (genesis_id mint) rows
+  pub accounted : BeginAs shape (minted mint) (journals_of rows) → Clean mint handed → EachSpends (reverse rows) → IsAccounted shape mint handed (journals_of rows) totals
+
+-- so it is where the verdict is that all is sound
+abbrev pub Accounts : {D : Type 0} → (D → Option (List ℕ)) → (ℕ → Option D) → List Output → List FullTx → Verdict → Type 0
+Accounts content held mint handed (Sound totals) = IsAccountedFor content held mint handed totals
+Accounts content held mint handed (Unsound place kind) = Unit {0}

@@ -6,7 +6,7 @@ ghost use Rattle.rack_nodes.specs.Racked.{IsBack};
 ghost use Rattle.rack_nodes.specs.Refused.{IsNodeRefusal};
 ghost use Rattle.rack_ledgers.specs.Ledgers.{ByPlace, IsUnopenedBy};
 ghost use Rattle.caused_ledgers.specs.Caused.{journals_of};
-ghost use Rattle.audited_ledgers.specs.Audited.{HasVerdict, IsAudited};
+ghost use Rattle.audited_ledgers.specs.Audited.{HasVerdict, IsAudited, Accounts};
 
 use audit::{Verdict, audit};
 use caused_ledgers::{lend_logs, lend_shards};
@@ -53,6 +53,9 @@ pub fn audit_on<R: Rack>(
 ) -> Result<Verdict, Answer>
     requires { (n : ℕ) → R.can_take rack.old n }
     ensures audited { IfOk result (IsAudited R.Disk.content (R.held rack.old) mint.now handed.now) }
+
+    // Where all is sound, no money was made, lost or spent twice, and the shards hold just what is left: the sentence.
+    ensures sentence { IfOk result (Accounts R.Disk.content (R.held rack.old) mint.now handed.now) }
 
     // Why there is no verdict.
     ensures refusal { IfErr result (λ a. IsUnopenedBy R.Disk.content R.Disk.images R.Disk.limit R.Disk.count (R.held rack.old) (R.count rack.old) (R.count rack.new) (Some (mint_id mint.now)) a

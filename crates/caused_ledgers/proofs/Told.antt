@@ -6,6 +6,7 @@ use Rattle.std.proofs.lemmas.List.{reverse-reverse}
 use Rattle.std.proofs.lemmas.Option.{slice_get_cases}
 use Rattle.outside.specs.Images.{Tells}
 use Rattle.cbdc_model.specs.Records.{Header, Record, Row, journal}
+use Rattle.cbdc_model.specs.After.{IsJournal}
 use Rattle.cbdc_model.specs.History.{header_of}
 use Rattle.coord_log.specs.Logs.{LogOf}
 use Rattle.shard_node.specs.Shards.{ShardOf}
@@ -78,10 +79,41 @@ module _ {D : Type 0} (content : D → Option (List ℕ)) (images : D → List �
         ]
   ]
 
+  -- each node has a journal among the rows
+  abbrev IsOwn : ℕ → Type 0
+  IsOwn n = IsJournal (header_of h.shape h.genesis n) (journal n (reverse rows))
+
+  own_by : (n : ℕ) (k : Header) (J : List Record) → k ≡ header_of h.shape h.genesis n → J ≡ journal n (reverse rows) → IsJournal k J → IsOwn n
+  own_by n k J header own is = subst (λ (x : List Record). IsJournal (header_of h.shape h.genesis n) x) own (subst (λ (x : Header). IsJournal x J) header is)
+
+  log_own : (n : ℕ) (l : LogOf D) → slice_get logs n ≡ Some l → IsOwn n
+  log_own n l at = let log = are.logs_at n l at in own_by n l.header l.journal log.header (log_journal logs shards rows merged n l at) log.journal
+
+  shard_own : (n : ℕ) (s : ShardOf D) → slice_get shards n ≡ Some s → IsOwn (h.shape.coordinators + n)
+  shard_own n s at =
+      let shard = are.shards_at n s at in
+      own_by (h.shape.coordinators + n) s.header s.journal shard.header (shard_journal logs shards rows merged n s at ∙ ap (λ (k : ℕ). journal (k + n) (reverse rows)) are.coordinators) shard.journal
+
+  each_own : (n : ℕ) → n < h.shape.coordinators + h.shape.shards → IsOwn n
+  each_own n inside = elim (cases_lt n h.shape.coordinators) [
+    | inl low ↦ elim ((slice_get_cases logs n).1) [
+      | inl here ↦ log_own n here.0 here.2
+      | inr past ↦ absurd (omega (arith, past.0, low, are.coordinators))
+    ]
+    | inr high ↦
+        let k : ℕ = n - h.shape.coordinators in
+        let place : h.shape.coordinators + k ≡ n = omega (arith, high) in
+        elim ((slice_get_cases shards k).1) [
+          | inl here ↦ subst IsOwn place (shard_own k here.0 here.2)
+          | inr past ↦ absurd (omega (arith, past.0, inside, place, are.shards_are))
+        ]
+  ]
+
   -- the rows are the history of the ledger that the disks told
   pub told_history : IsToldHistory content held h.shape h.genesis rows
   told_history = record {
     limits = are.limits;
+    journals = each_own;
     opened = each_opens;
     others = λ n past. no_journal logs shards rows merged n (omega (arith, past, are.coordinators, are.shards_are));
     ordered = merged.ordered;

@@ -6,6 +6,7 @@ use Rattle.cbdc_types.specs.declared.answer.Answer.{Answer}
 use Rattle.cbdc_types.specs.declared.answer.Answer.TheVariants as answers
 use Rattle.cbdc_types.specs.declared.answer.UnsoundKind.TheVariants.{Cause}
 use Rattle.cbdc_model.specs.Records.{Digest, Shape, Header, Record, Row, journal}
+use Rattle.cbdc_model.specs.After.{IsJournal}
 use Rattle.cbdc_model.specs.History.{header_of, IsOrdered}
 use Rattle.history.specs.Rows.{journal_in}
 use Rattle.audit.specs.Walks.{AllCaused, IsFirstUncaused}
@@ -37,10 +38,11 @@ pub record HasUncaused (K : Shape) (all : List (List Record)) (place : ℕ) : Ty
   pub merged : AreMerged all rows
   pub first : IsFirstUncaused K rows place
 
--- the rows, the oldest first, are the history of the ledger with this shape and genesis that the disks tell: what is told of each node's disk opens to
--- the node's journal among the rows, no other node has a journal there, and the rows are in order
+-- the rows, the oldest first, are the history of the ledger with this shape and genesis that the disks tell: each node has a journal among the rows,
+-- under its header, to which what is told of its disk opens, no other node has a record there, and the rows are in order
 pub record IsToldHistory {D : Type 0} (content : D → Option (List ℕ)) (held : ℕ → Option D) (K : Shape) (genesis : Digest) (rows : List Row) : Type 0 where
   pub limits : IsWithinLimits K
+  pub journals : (n : ℕ) → n < K.coordinators + K.shards → IsJournal (header_of K genesis n) (journal n (reverse rows))
   pub opened : (n : ℕ) → n < K.coordinators + K.shards → OfTold (held n) (λ was. Tells (content was) (IsNodeJournal (header_of K genesis n) (journal n (reverse rows))))
   pub others : (n : ℕ) → K.coordinators + K.shards ≤ n → journal n (reverse rows) ≡ []
   pub ordered : IsOrdered (reverse rows)

@@ -38,7 +38,7 @@ times_few (suc a) b zero y le low = absurd (omega (arith, le))
 times_few (suc a) b (suc x) y le low = let h = times_few a b x y (omega (arith, le)) low in omega (arith, h, low)
 
 -- there is a lane
-lanes_there : (K : Shape) → IsWithinLimits K → 0 < K.coordinators * K.lanes
+pub lanes_there : (K : Shape) → IsWithinLimits K → 0 < K.coordinators * K.lanes
 lanes_there K within = times_few 1 1 K.coordinators K.lanes within.some_coordinator within.some_lane
 
 -- journals grow over the files

@@ -10,7 +10,7 @@ use Rattle.input_files.specs.Contents.{mint_of_file, AreRead, IsNotRead, FirstNo
 use Rattle.audit.specs.declared.verdict.Totals.{Totals}
 use Rattle.audit.specs.declared.verdict.Verdict.{Verdict}
 use Rattle.audit.specs.declared.verdict.Verdict.TheVariants.{Sound, Unsound}
-use Rattle.audited_ledgers.specs.Audited.{IsAudited}
+use Rattle.audited_ledgers.specs.Audited.{IsAudited, IsAccountedFor}
 use Rattle.file_runs.specs.Runs.{joined}
 use Rattle.printed_lines.specs.Reports.{audit_lines}
 use Rattle.rack_nodes.specs.Racked.{IsBack}
@@ -24,10 +24,12 @@ pub record WasAudited {D : Type 0} (files : Text → Option (List ℕ)) (content
   pub clients_read : AreRead files 0 clients handed
   pub audited : IsAudited content disks mint (joined handed) verdict
 
--- the verdict is that all is sound, what it comes to was printed, and the disks are back as they were read
+-- the verdict is that all is sound; the money of the ledger that the disks tell is accounted for, if its first records are those of the mint, no hashes
+-- clash and each committed transaction has an input; what it comes to was printed, and the disks are back as they were read
 pub record DidAudit {D : Type 0} (files : Text → Option (List ℕ)) (content : D → Option (List ℕ)) (images : D → List ℕ → Type 0) (limit : D → ℕ) (before now : ℕ → Option D) (printed : Text → Type 0) (file : FileWord) (clients : List FileWord) : Type 0 where
   pub totals : Totals
   pub was : WasAudited files content before file clients (Sound totals)
+  pub sentence : IsAccountedFor content before was.mint (joined was.handed) totals
   pub back : (n : ℕ) → IsBack images limit (before n) (now n)
   pub prints : printed (audit_lines totals)
 

@@ -1,6 +1,5 @@
 -- Files that hold what is asked of them are read.
-use Rattle.std.proofs.Common.{◌≡◌, ℕ, ◌+◌, List, [], ◌∷◌, ◌++◌, length, Option, Some, Result, Ok, Err, refl, sym, ap, ap₂, ◌∙◌, subst, arith}
-use Rattle.outside.specs.Counts.{Rose}
+use Rattle.std.proofs.Common.{◌≡◌, ℕ, ◌+◌, List, [], ◌∷◌, ◌++◌, length, Option, Result, Ok, Err, refl, ap, ap₂, subst, arith}
 use Rattle.outside.specs.Images.{Tells}
 use Rattle.cbdc_types.specs.declared.answer.Answer.{Answer}
 use Rattle.cbdc_types.specs.declared.answer.Answer.TheVariants as answers
@@ -8,6 +7,7 @@ use Rattle.cbdc_types.specs.declared.tx.FullTx.{FullTx}
 use Rattle.client_files.specs.declared.fault.BadFile.{BadFile}
 use Rattle.clap.specs.Words.{Text}
 use Rattle.command_line.specs.declared.request.FileWord.{FileWord}
+use Rattle.word_laws.specs.Single.{names_of}
 use Rattle.input_files.specs.Contents.{txs_of_file, IsNotRead, AreRead, FirstNotRead, all_txs}
 use Rattle.complete_laws.specs.Files.{HoldsFile, HoldClients}
 
@@ -39,7 +39,7 @@ module _ (files : Text → Option (List ℕ)) (before now : Text → ℕ) where
   not_read_none place read name held answers.WriteFault holds is = absurd is
   not_read_none place read name held (answers.DiskFault n) holds is = absurd is
 
-  pub clients_once : (clients : List FileWord) (count : ℕ) (held read : List (List FullTx)) → HoldClients files before now count clients held → AreRead files count clients read → read ≡ held
+  pub clients_once : (clients : List FileWord) (count : ℕ) (held read : List (List FullTx)) → HoldClients files before now count (names_of clients) held → AreRead files count clients read → read ≡ held
   clients_once [] count [] [] holds are = refl
   clients_once [] count [] (txs ∷ read) holds are = absurd are
   clients_once [] count (txs ∷ held) read holds are = absurd holds
@@ -54,10 +54,10 @@ module _ (files : Text → Option (List ℕ)) (before now : Text → ℕ) where
   record IsAmong (count : ℕ) (ahead : List FileWord) (file : FileWord) : Type 0 where
     front : List (List FullTx)
     txs : List FullTx
-    hold : HoldClients files before now count ahead front
+    hold : HoldClients files before now count (names_of ahead) front
     holds : HoldsFile files before now (txs_of_file (count + all_txs front)) file.name.now txs
 
-  among : (ahead : List FileWord) (file : FileWord) (behind : List FileWord) (count : ℕ) (held : List (List FullTx)) → HoldClients files before now count (ahead ++ file ∷ behind) held → IsAmong count ahead file
+  among : (ahead : List FileWord) (file : FileWord) (behind : List FileWord) (count : ℕ) (held : List (List FullTx)) → HoldClients files before now count (names_of (ahead ++ file ∷ behind)) held → IsAmong count ahead file
   among [] file behind count [] holds = absurd holds
   among [] file behind count (txs ∷ held) holds =
       let here : count ≡ count + all_txs [] = omega arith in
@@ -68,9 +68,9 @@ module _ (files : Text → Option (List ℕ)) (before now : Text → ℕ) where
       let there : (count + length own) + all_txs rest.front ≡ count + all_txs (own ∷ rest.front) = omega arith in
       record { front = own ∷ rest.front; txs = rest.txs; hold = (holds.0, rest.hold); holds = subst (λ (n : ℕ). HoldsFile files before now (txs_of_file n) file.name.now rest.txs) there rest.holds }
 
-  pub clients_none : (clients : List FileWord) (held : List (List FullTx)) (answer : Answer) → HoldClients files before now 0 clients held → FirstNotRead files before now clients answer → answer ≡ answers.Memory
+  pub clients_none : (clients : List FileWord) (held : List (List FullTx)) (answer : Answer) → HoldClients files before now 0 (names_of clients) held → FirstNotRead files before now clients answer → answer ≡ answers.Memory
   clients_none clients held answer holds not =
-      let there : IsAmong 0 not.ahead not.file = among not.ahead not.file not.behind 0 held (subst (λ (cs : List FileWord). HoldClients files before now 0 cs held) not.parts holds) in
+      let there : IsAmong 0 not.ahead not.file = among not.ahead not.file not.behind 0 held (subst (λ (cs : List FileWord). HoldClients files before now 0 (names_of cs) held) not.parts holds) in
       let same : not.read ≡ there.front = clients_once not.ahead 0 there.front not.read there.hold not.are_read in
       let count : 0 + all_txs there.front ≡ all_txs not.read = omega (arith, ap all_txs same) in
       not_read_none not.file.place (txs_of_file (all_txs not.read)) not.file.name.now there.txs answer (subst (λ (n : ℕ). HoldsFile files before now (txs_of_file n) not.file.name.now there.txs) count there.holds) not.is_not

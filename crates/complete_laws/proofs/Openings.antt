@@ -1,26 +1,22 @@
 -- The nodes of a ledger that a rack shows open.
-use Rattle.std.proofs.Common.{◌≡◌, ◌≢◌, ◌⊎◌, inl, inr, ℕ, ◌+◌, ◌≤◌, ◌<◌, List, [], ◌∷◌, reverse, length, Option, Some, None, slice_get, refl, sym, ap, ap₂, ◌∙◌, subst, arith}
+use Rattle.std.proofs.Common.{◌≡◌, inl, inr, ℕ, ◌+◌, ◌≤◌, ◌<◌, List, [], ◌∷◌, length, Option, Some, None, slice_get, refl, sym, ap, ap₂, ◌∙◌, subst, arith}
 use Rattle.outside.specs.Images.{Tells}
-use Rattle.outside.specs.Counts.{Rose}
-use Rattle.cbdc_types.specs.Limits.{IsWithinLimits}
 use Rattle.cbdc_types.specs.declared.answer.Answer.{Answer}
 use Rattle.cbdc_types.specs.declared.answer.Answer.TheVariants as answers
 use Rattle.cbdc_model.specs.Records.{Digest, Shape, Header, Record}
 use Rattle.cbdc_model.specs.Coins.{Output, FullTx, genesis_id}
 use Rattle.cbdc_model.specs.History.{header_of}
-use Rattle.cbdc_model.specs.After.{IsJournal}
 use Rattle.cbdc_model.specs.Room.{kept_room}
 use Rattle.cbdc_model.specs.Due.{used_of}
-use Rattle.record_log.specs.Held.{OpensTo}
 use Rattle.coord_log.specs.Logs.{LogOf}
 use Rattle.opening_laws.proofs.Fronts.{has_first, whole_fronts, whole_or_cut}
 use Rattle.opening_laws.proofs.Once.{opens_once_law}
 use Rattle.rack_nodes.specs.Asked.{asked_of, IsCoordinator, IsShardNode}
 use Rattle.rack_nodes.specs.Places.{IsOpening}
 use Rattle.rack_nodes.specs.Racked.{OfTold}
-use Rattle.rack_nodes.specs.Refused.{IsNodeJournal, IsNoNode}
-use Rattle.rack_ledgers.specs.Ledgers.{IsLogAt, IsRefused, HasOtherMint, LacksLog, LacksShard, IsUnledBy, IsUnopenedBy, IsOtherMint, IsMintOf}
-use Rattle.rack_laws.specs.Shown.{node_count, Shows}
+use Rattle.rack_nodes.specs.Refused.{IsNodeJournal}
+use Rattle.rack_ledgers.specs.Ledgers.{IsLogAt, IsRefused, HasOtherMint, LacksLog, LacksShard, IsUnopenedBy}
+use Rattle.rack_laws.specs.Shown.{node_count}
 use Rattle.complete_laws.specs.Ready.{limit_at, ShowsKept, HasKeptRoom, NoneRises}
 use Rattle.complete_laws.specs.Openings.{NodeOpensLaw}
 
@@ -57,23 +53,27 @@ node_opens Is node ledger h J limit bytes (answers.ClockEnd n stamp) is of asked
 node_opens Is node ledger h J limit bytes (answers.ReadFault file) is of asked room refused = absurd refused
 node_opens Is node ledger h J limit bytes answers.WriteFault is of asked room refused = absurd refused
 
+module _ {D : Type 0} (content : D → Option (List ℕ)) (held : ℕ → Option D) (K : Shape) (mint : List Output) (submissions : List FullTx) (E : ℕ → List Record) (ready : ShowsKept content held K mint submissions E) where
+  -- whatever journal a node's disk opens to is its own
+  pub opens_to : (n : ℕ) (h : Header) (J : List Record) → n < node_count K → OfTold (held n) (λ was. Tells (content was) (IsNodeJournal h J)) → (h ≡ header_of K (genesis_id mint) n) × (J ≡ E n)
+  opens_to n h J inside opened = let s = ready.shown n inside in same_node h (header_of K (genesis_id mint) n) J (E n) s.2.0 (opened s.0 s.1 s.2.0 s.2.1) s.2.2
+
+  some_node : 0 < node_count K
+  some_node = let limits = ready.limits in omega (arith, limits.some_coordinator)
+
 module _ {D : Type 0} (content : D → Option (List ℕ)) (images : D → List ℕ → Type 0) (limit count : D → ℕ) (held : ℕ → Option D) (before now : ℕ → ℕ)
     (K : Shape) (mint : List Output) (submissions : List FullTx) (E : ℕ → List Record)
     (ready : ShowsKept content held K mint submissions E) where
   abbrev H : ℕ → Header
   H n = header_of K (genesis_id mint) n
 
-  -- whatever journal a node's disk opens to is its own
-  pub opens_to : (n : ℕ) (h : Header) (J : List Record) → n < node_count K → OfTold (held n) (λ was. Tells (content was) (IsNodeJournal h J)) → (h ≡ H n) × (J ≡ E n)
-  opens_to n h J inside opened = let s = ready.shown n inside in same_node h (H n) J (E n) s.2.0 (opened s.0 s.1 s.2.0 s.2.1) s.2.2
+  first_node : 0 < node_count K
+  first_node = some_node content held K mint submissions E ready
 
   log_is : (h : Header) (n : ℕ) (l : LogOf D) → n < node_count K → IsLogAt content images limit count held h n l → header_of h.shape h.genesis n ≡ H n
   log_is h n l inside at =
-      sym at.header ∙ (opens_to n l.header l.journal inside
+      sym at.header ∙ (opens_to content held K mint submissions E ready n l.header l.journal inside
       (λ was is c told. (let stands = (at.opened was is).stands c told in record { opens = stands.0.opens; limits = stands.0.limits; journal = at.journal }))).0
-
-  some_node : 0 < node_count K
-  some_node = let limits = ready.limits in omega (arith, limits.some_coordinator)
 
   module _ (rooms : HasKeptRoom K E (λ n. limit_at limit (held n))) (none : NoneRises K before now) where
     -- a node of the ledger is refused for memory alone
@@ -91,7 +91,7 @@ module _ {D : Type 0} (content : D → Option (List ℕ)) (images : D → List �
     lead_is : (h : Header) (logs : List (LogOf D)) → 1 ≤ length logs → ((n : ℕ) (l : LogOf D) → slice_get logs n ≡ Some l → IsLogAt content images limit count held h n l)
         → (h.shape ≡ K) × (h.genesis ≡ genesis_id mint)
     lead_is h [] some at = absurd (omega (arith, some))
-    lead_is h (l ∷ logs) some at = let same = log_is h 0 l some_node (at 0 l refl) in (ap (λ (x : Header). x.shape) same, ap (λ (x : Header). x.genesis) same)
+    lead_is h (l ∷ logs) some at = let same = log_is h 0 l first_node (at 0 l refl) in (ap (λ (x : Header). x.shape) same, ap (λ (x : Header). x.genesis) same)
 
     same_asked : (h : Header) (n : ℕ) → h.shape ≡ K → h.genesis ≡ genesis_id mint → H n ≡ asked_of n (Some h) (H n)
     same_asked h n shape genesis = λ i. record { node = n; shape = sym shape i; genesis = sym genesis i }
@@ -113,7 +113,7 @@ module _ {D : Type 0} (content : D → Option (List ℕ)) (images : D → List �
         (same_asked lacks.header (lacks.header.shape.coordinators + length lacks.shards) lead.0 lead.1) lacks.refused
 
     unled_none : (answer : Answer) → IsRefused content limit held before now IsCoordinator None 0 answer → answer ≡ answers.Memory
-    unled_none answer refused = let limits = ready.limits in refused_none IsCoordinator None 0 answer some_node (omega (arith, limits.some_coordinator)) refl refused
+    unled_none answer refused = let limits = ready.limits in refused_none IsCoordinator None 0 answer first_node (omega (arith, limits.some_coordinator)) refl refused
 
     -- whichever mint was asked for, where it is this one, or none
     abbrev IsThisMint : Option Digest → Type 0
@@ -123,7 +123,7 @@ module _ {D : Type 0} (content : D → Option (List ℕ)) (images : D → List �
     other_none : (id : Option Digest) (answer : Answer) → IsThisMint id → HasOtherMint content images limit count held id answer → answer ≡ answers.Memory
     other_none None answer this other = absurd other.other
     other_none (Some id) answer this other =
-        let same = log_is other.lead.header 0 other.lead some_node other.lead_at in
+        let same = log_is other.lead.header 0 other.lead first_node other.lead_at in
         absurd (other.other.0 (ap (λ (x : Header). x.genesis) same ∙ sym this))
 
     pub unopened_none : (id : Option Digest) (answer : Answer) → IsThisMint id → IsUnopenedBy content images limit count held before now id answer → answer ≡ answers.Memory

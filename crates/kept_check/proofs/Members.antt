@@ -5,25 +5,8 @@ use Rattle.std.proofs.lemmas.List.Elements.{All-cons, All-tail}
 use Rattle.std.specs.List.{AllByRecursion}
 use Rattle.cbdc_model.specs.Clean.{IsMember, IsNamed, Clean}
 use Rattle.cbdc_model.specs.Coins.{Output, Coin, FullTx, tx_id, tx_coins, genesis_tx}
+use Rattle.ledger_laws.proofs.Members.{In, in_contains, contains_in}
 use Rattle.kept_check.specs.Agreeing.{Agree, CoinsAgree, coins_in}
-
--- to stand in a list, by recursion
-abbrev pub In : {A : Type 0} → A → List A → Type 0
-In a [] = ⊥
-In a (b ∷ bs) = (a ≡ b) ⊎ In a bs
-
-in_at : {A : Type 0} (xs : List A) (x : A) (k : ℕ) → k < length xs → slice_index_or xs k x ≡ x → In x xs
-in_at [] x k lt e = absurd (omega arith)
-in_at (y ∷ ys) x zero lt e = inl (sym e)
-in_at (y ∷ ys) x (suc k) lt e = inr (in_at ys x k (omega arith) e)
-
-pub in_contains : {A : Type 0} (xs : List A) (x : A) → Contains xs x → In x xs
-in_contains xs x h = in_at xs x h.0 h.1 h.2
-
-pub contains_in : {A : Type 0} (xs : List A) (x : A) → In x xs → Contains xs x
-contains_in [] x h = absurd h
-contains_in (y ∷ ys) x (inl e) = (0, omega arith, sym e)
-contains_in (y ∷ ys) x (inr h) = let c : Contains ys x = contains_in ys x h in (suc c.0, omega arith, c.2)
 
 in_left : {A : Type 0} (xs ys : List A) (x : A) → In x xs → In x (xs ++ ys)
 in_left [] ys x h = absurd h
@@ -83,8 +66,8 @@ to_named : (mint : List Output) (txs : List FullTx) (c : Coin) → In c (tx_coin
 to_named mint txs c h = elim (in_parts (tx_coins (genesis_tx mint)) (coins_in txs) c h) [
   | inl i ↦ (genesis_tx mint, inl refl, inr (contains_in (tx_coins (genesis_tx mint)) c i))
   | inr later ↦
-    let found : In_coins txs c = from_coins txs c later in
-    (found.0, inr (contains_in txs found.0 found.1), coin_of found.0 c found.2)
+      let found : In_coins txs c = from_coins txs c later in
+      (found.0, inr (contains_in txs found.0 found.1), coin_of found.0 c found.2)
 ]
 
 of_member : (mint : List Output) (txs : List FullTx) (c : Coin) (t : FullTx) → IsMember mint txs t → (In c t.inputs ⊎ In c (tx_coins t)) → In c (tx_coins (genesis_tx mint) ++ coins_in txs)

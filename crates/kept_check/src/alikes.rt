@@ -41,6 +41,7 @@ fn behind(outcomes: &[Outcome]) -> &[Outcome]
 
 // Whether decisions are those of a shard's part of transactions by these outcomes, the first of which is the first
 // transaction's.
+#[tactic(auto, using(crate::proofs::Alikes::decides_none, crate::proofs::Alikes::decides_elsewhere, crate::proofs::Alikes::decides_here, crate::proofs::Alikes::decides_not))]
 fn are_decided(
     shards: u32,
     shard: u32,
@@ -62,8 +63,7 @@ fn are_decided(
     match ds.split_first() {
         None => false,
         Some((d, rest)) => {
-            *d == won_at(outcomes, 0)
-                && are_decided(shards, shard, others, behind(outcomes), rest)
+            *d == won_at(outcomes, 0) && are_decided(shards, shard, others, behind(outcomes), rest)
         }
     }
 }
@@ -90,9 +90,7 @@ fn is_finished(journals: &[List<Record>], shape: &Shape, batch: &BatchId, shard:
 fn has_none(past: &[Record], batch: &BatchId) -> bool
     ensures { IsTrue result ↔ HasNone past.now batch.now }
 {
-    count_of(2, past, batch) == 0
-        && count_of(3, past, batch) == 0
-        && count_of(4, past, batch) == 0
+    count_of(2, past, batch) == 0 && count_of(3, past, batch) == 0 && count_of(4, past, batch) == 0
 }
 
 // Whether a shard is finished where the batch concerns it, and has no record of it elsewhere.
@@ -121,6 +119,7 @@ fn are_alike_below(journals: &[List<Record>], shape: &Shape, batch: &BatchId, n:
 
 /// Whether a batch has one Commit, each concerned shard one Lock and one Finish of it, with the Commit's decisions, and no
 /// other shard any record of it.
+#[tactic(auto, using(crate::proofs::Alikes::alike_by, crate::proofs::Alikes::not_alike))]
 pub fn is_alike(journals: &[List<Record>], shape: &Shape, batch: &BatchId) -> bool
     ensures { IsTrue result ↔ IsAlike shape.now (journals_in journals.now) batch.now }
 {
@@ -129,12 +128,8 @@ pub fn is_alike(journals: &[List<Record>], shape: &Shape, batch: &BatchId) -> bo
 }
 
 // Whether the batch that a record prepares at its own coordinator is finished alike.
-fn is_prepared_alike(
-    journals: &[List<Record>],
-    shape: &Shape,
-    node: usize,
-    r: &Record,
-) -> bool
+#[tactic(auto, using(crate::proofs::Alikes::prepares_none, crate::proofs::Alikes::prepares_one))]
+fn is_prepared_alike(journals: &[List<Record>], shape: &Shape, node: usize, r: &Record) -> bool
     ensures { IsTrue result ↔ PreparedAlike shape.now (journals_in journals.now) node (r.now ∷ []) }
 {
     match r {
@@ -146,6 +141,7 @@ fn is_prepared_alike(
 }
 
 // The same of records.
+#[tactic(auto, using(crate::proofs::Alikes::prepared_next, crate::proofs::Alikes::not_prepared))]
 fn are_prepared_alike(
     journals: &[List<Record>],
     shape: &Shape,
@@ -173,6 +169,7 @@ fn are_all_alike_below(journals: &[List<Record>], shape: &Shape, n: usize) -> bo
 }
 
 /// Whether every batch with a Prepare is finished alike on all its shards.
+#[tactic(auto, using(crate::proofs::Alikes::all_alike))]
 pub fn are_alike(journals: &[List<Record>], shape: &Shape) -> bool
     ensures { IsTrue result ↔ Alike shape.now (journals_in journals.now) }
 {

@@ -7,13 +7,13 @@ ghost use Rattle.model_check.specs.Journals.{journals_in};
 ghost use Rattle.kept_check.specs.Merging.{put_row, put_records, behind_first, later_below};
 ghost use Rattle.kept_check.specs.Minting.{minted_by};
 
-use crate::journals::is_journal;
 use crate::kept::{add_rows, copy_of_row, first_rows, is_kept, rows_on};
 use cbdc_types::{CompactTx, FullTx, List, NodeId, Output, Record, Shape};
 use compact_tx::compact;
 use model_check::{
     Row, copy_of_record, genesis_tx, goes_above, is_ordered, journal_at, journal_of,
 };
+use same_records::is_journal;
 use std::alloc::{AllocError, Global};
 
 // Whether all rows are of the nodes below n: no other node has a journal then.
@@ -99,12 +99,7 @@ pub fn is_history(
 }
 
 // Puts rows with one more in its place behind those so far.
-fn add_with(
-    alloc: Global,
-    row: &Row,
-    rows: &[Row],
-    out: &mut Vec<Row>,
-) -> Result<(), AllocError>
+fn add_with(alloc: Global, row: &Row, rows: &[Row], out: &mut Vec<Row>) -> Result<(), AllocError>
     ensures { OnOk result (out.new.items ≡ out.old.items ++ put_row row.now rows.now) }
 {
     let Some((head, later)) = rows.split_first() else {
@@ -164,11 +159,7 @@ fn behind_first<'a>(past: &'a [Record]) -> &'a [Record]
 }
 
 // The records behind the oldest ones of the nodes below n, in the order of a history.
-fn later_below(
-    alloc: Global,
-    journals: &[List<Record>],
-    n: u32,
-) -> Result<List<Row>, AllocError>
+fn later_below(alloc: Global, journals: &[List<Record>], n: u32) -> Result<List<Row>, AllocError>
     ensures { IfOk result (λ l. l ≡ later_below (journals_in journals.now) n) }
 {
     if n == 0 {
@@ -182,6 +173,7 @@ fn later_below(
 
 /// Whether journals, of which the newest record is the first, have a kept history: their records by stamp and node, each
 /// behind those of its journal and caused by those before it, and Prepares with forms of proper submissions alone.
+#[tactic(auto, using(crate::proofs::Keeping::kept_history, crate::proofs::Keeping::kept_rows, crate::proofs::Keeping::kept_by))]
 pub fn is_kept_ledger(
     alloc: Global,
     shape: &Shape,

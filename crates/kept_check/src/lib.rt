@@ -6,7 +6,6 @@
 mod agreeing;
 mod alikes;
 mod clean;
-mod journals;
 mod kept;
 mod ledgers;
 mod proper;
@@ -16,7 +15,6 @@ mod tests;
 pub use agreeing::{agree, coins_agree};
 pub use alikes::{are_alike, count_of, is_alike};
 pub use clean::is_clean;
-pub use journals::{are_compacts, is_journal, is_record};
 pub use kept::{first_rows, is_kept};
 pub use ledgers::{is_history, is_kept_ledger};
 pub use proper::{is_proper, is_proper_compact};

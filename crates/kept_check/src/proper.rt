@@ -7,7 +7,8 @@ ghost use Rattle.cbdc_model.specs.History.{TxsPass};
 
 use cbdc_types::{CompactTx, FullTx, Input, Output, Record};
 use compact_tx::compact;
-use model_check::{are_hashes, is_hash, is_same_hash};
+use model_check::is_same_hash;
+use same_records::is_compact;
 use std::alloc::{AllocError, Global};
 
 // Whether two coins stand at one outpoint.
@@ -127,15 +128,6 @@ pub fn is_proper_compact(
         return Ok(true);
     }
     is_proper_compact(alloc, rest, k)
-}
-
-/// Whether two compact transactions are the same.
-pub fn is_compact(a: &CompactTx, b: &CompactTx) -> bool
-    ensures { IsTrue result ↔ (a.now ≡ b.now) }
-{
-    is_hash(&a.id, &b.id)
-        && are_hashes(a.inputs.as_slice(), b.inputs.as_slice())
-        && are_hashes(a.outputs.as_slice(), b.outputs.as_slice())
 }
 
 // Whether each of these is the form of a proper submission.

@@ -253,7 +253,9 @@ module _ (K : Shape) (mint : List Output) (submissions : List FullTx) (verdicts 
         place = p;
         outcome = there.outcome;
         place_is = place_there;
+        lane_is = there.lane_is;
         prepared = record { new = (its_batch my_lane (lane_low j) my_turn p place_there).1; holds = holds };
+        written = ap (λ l. outcome_in (X (home_of K l)) p) there.lane_is ∙ there.decided;
         replied = subst (λ o. IsReplied K X p (compact t) o) (sym same_outcome)
             (is_replied K (minted mint) (IsProperCompact submissions) some new steady_new p (compact t) holds prepared_there rest);
         told = told_as K verdicts sound E X (take k files) it.file j t p.batch there.outcome it.sound decided;

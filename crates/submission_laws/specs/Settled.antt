@@ -4,21 +4,25 @@ use Rattle.cbdc_model.specs.Records.{Shape, Compact, Outcome, Record}
 use Rattle.cbdc_model.specs.Coins.{Output, FullTx, compact}
 use Rattle.cbdc_model.specs.World.{KeptJournals}
 use Rattle.cbdc_model.specs.Waves.{Waves}
-use Rattle.cbdc_model.specs.Places.{PlaceIn}
+use Rattle.cbdc_model.specs.Ranges.{home_of}
+use Rattle.cbdc_model.specs.Places.{PlaceIn, outcome_in}
 use Rattle.submissions.specs.Checks.{VerdictsOf}
 use Rattle.sound_laws.specs.SoundTest.{sound_by}
 use Rattle.printed_lines.specs.declared.report.Report.{Report}
 use Rattle.printed_lines.specs.declared.report.Report.TheVariants.{Decided}
-use Rattle.printed_lines.specs.Runs.{IsReport}
+use Rattle.printed_lines.specs.Runs.{lane_at, IsReport}
 use Rattle.submission_laws.specs.Sent.{IsSent, place_at, IsPrepared}
 use Rattle.submission_laws.specs.Replied.{IsReplied}
 
--- a sound submission has its place in a Prepare that came newly, and an outcome by the shards' replies; these are what is told of it
+-- a sound submission has its place in a Prepare of its lane that came newly, and an outcome by the shards' replies, which the lane's coordinator wrote
+-- down; these are what is told of it
 pub record IsSettled (K : Shape) (verdicts : VerdictsOf) (files : List (List FullTx)) (E X : ℕ → List Record) (k : ℕ) (file : List FullTx) (j : ℕ) (t : FullTx) : Type 0 where
   pub place : PlaceIn
   pub outcome : Outcome
   pub place_is : place_at K verdicts files E X k file j ≡ Some place
+  pub lane_is : place.batch.lane ≡ lane_at K j
   pub prepared : IsPrepared K E X place (compact t)
+  pub written : outcome_in (X (home_of K place.batch.lane)) place ≡ Some outcome
   pub replied : IsReplied K X place (compact t) outcome
   pub told : (r : Report) → IsReport K verdicts (sound_by verdicts) E X (take k files) file j t r → r ≡ Decided place.batch outcome
 

@@ -1,5 +1,7 @@
 -- What given journals may have been once is among the choices.
-use Rattle.std.proofs.Common.{◌≡◌, ◌⊎◌, inl, inr, ℕ, zero, suc, ◌<◌, List, [], ◌∷◌, ◌++◌, map, length, slice_index_or, refl, sym, ap, ◌∙◌, subst, arith}
+use Rattle.std.proofs.Common.{◌≡◌, ◌⊎◌, ◌↔◌, inl, inr, ℕ, Bool, ◌≤◌, zero, suc, ◌<◌, List, [], ◌∷◌, ◌++◌, map, length, slice_index_or, refl, sym, ap, ◌∙◌, subst, arith}
+use Rattle.std.specs.Prelude.{IsTrue}
+use Rattle.std.proofs.lemmas.Bool.{cases_lt}
 use Rattle.std.proofs.lemmas.Grind.{common_steps}
 use Rattle.cbdc_model.specs.Records.{Record}
 use Rattle.cbdc_model.specs.Lanes.{IsEnd}
@@ -74,3 +76,14 @@ pub place_among : (all : List (List (List Record))) (w : List (List Record)) →
 place_among [] w h = absurd h
 place_among (v ∷ all) w (inl e) = record { place = 0; inside = omega arith; is = sym e }
 place_among (v ∷ all) w (inr h) = let later : IsAt all w = place_among all w h in record { place = suc later.place; inside = omega (arith, later.inside); is = later.is }
+
+-- all journals are the same where the first n are, and there are no others
+pub same_by : (I J : ℕ → List Record) (n : ℕ) (yes : Bool) → ((k : ℕ) → n ≤ k → I k ≡ []) → ((k : ℕ) → n ≤ k → J k ≡ [])
+    → (IsTrue yes ↔ ((k : ℕ) → k < n → J k ≡ I k)) → IsTrue yes ↔ ((k : ℕ) → J k ≡ I k)
+same_by I J n yes none none' each = (λ y k. everywhere y k, λ all. each.1 (λ k lt. all k))
+  where
+    everywhere : IsTrue yes → (k : ℕ) → J k ≡ I k
+    everywhere y k = elim (cases_lt k n) [
+      | inl lt ↦ each.0 y k lt
+      | inr le ↦ none' k le ∙ sym (none k le)
+    ]

@@ -1,5 +1,5 @@
 -- Stages one after another are the waves of files, and what they lead through is among the choices.
-use Rattle.std.proofs.Common.{◌≡◌, ◌↔◌, ℕ, ◌*◌, ◌<◌, ◌+◌, Bool, List, [], ◌∷◌, ◌++◌, length, slice_index_or, reverse, refl, sym, ap, ◌∙◌, subst, arith}
+use Rattle.std.proofs.Common.{◌≡◌, ◌↔◌, ℕ, ◌*◌, ◌<◌, ◌+◌, Bool, List, [], ◌∷◌, ◌++◌, length, slice_index_or, reverse, refl, sym, ap, ◌∙◌, subst, arith, append-nil, append_assoc}
 use Rattle.cbdc_model.specs.Records.{Shape, Compact, Record}
 use Rattle.cbdc_model.specs.Ranges.{home_of}
 use Rattle.cbdc_model.specs.Coins.{FullTx}
@@ -10,7 +10,8 @@ use Rattle.model_check.specs.Journals.{journals_in}
 use Rattle.wave_check.specs.declared.stages.Stage.{Stage}
 use Rattle.wave_check.specs.declared.stages.Stage.TheVariants.{Resume, File}
 use Rattle.wave_check.specs.Choices.{choices}
-use Rattle.wave_check.specs.Stages.{sent_in, StageRuns, RunsBy, IsFileStage, AreFileStages}
+use Rattle.submissions.specs.Checks.{VerdictsOf, TellsSound}
+use Rattle.wave_check.specs.Stages.{sent_in, StageRuns, RunsBy, IsFileStage, AreFileStages, AddsStages}
 use Rattle.wave_check.proofs.Choosing.{IsChoice, chosen, IsAt, place_among}
 
 -- a file's run reads what the lanes there are got
@@ -40,6 +41,19 @@ files_from K sound [] [] I J are runs = runs
 files_from K sound [] (s ∷ stages) I J are runs = absurd are
 files_from K sound (file ∷ files) [] I J are runs = absurd are
 files_from K sound (file ∷ files) (s ∷ stages) I J are runs = (runs.0, file_from K sound file s I runs.0 are.0 runs.1, files_from K sound files stages runs.0 J are.1 runs.2)
+
+-- one stage after another
+pub no_stages : (K : Shape) (verdicts : VerdictsOf) (files : List (List FullTx)) (old : List Stage) → files ≡ [] → AddsStages K verdicts files old old
+no_stages K verdicts files old e = subst (λ l. AddsStages K verdicts l old old) (sym e) ([], sym (append-nil old), λ sound tells. tt)
+
+pub more_stages : (K : Shape) (verdicts : VerdictsOf) (files : List (List FullTx)) (file : List FullTx) (rest : List (List FullTx)) (s : Stage) (old mid new : List Stage)
+    → files ≡ file ∷ rest → ((sound : FullTx → Bool) → TellsSound verdicts sound → IsFileStage K sound file s) → mid ≡ old ++ s ∷ []
+    → AddsStages K verdicts rest mid new → AddsStages K verdicts files old new
+more_stages K verdicts files file rest s old mid new e is m later = subst (λ l. AddsStages K verdicts l old new) (sym e) (
+  s ∷ later.0,
+  later.1 ∙ ap (λ l. l ++ later.0) m ∙ append_assoc old (s ∷ []) later.0,
+  λ sound tells. (is sound tells, later.2 sound tells),
+)
 
 -- a run's stages are the resuming and those of its files
 pub waves_by : (K : Shape) (sound : FullTx → Bool) (files : List (List FullTx)) (stages : List Stage) (E X : ℕ → List Record) → AreFileStages K sound files stages

@@ -1,10 +1,11 @@
 -- A run as stages, one after another.
-use Rattle.std.specs.Prelude.{◌≡◌, ◌*◌, ◌<◌, ℕ, Bool, List, [], ◌∷◌, Option, Some, None, slice_get}
+use Rattle.std.specs.Prelude.{◌≡◌, ◌*◌, ◌<◌, ℕ, Bool, List, [], ◌∷◌, ◌++◌, Option, Some, None, slice_get}
 use Rattle.std.specs.Global.{Vec}
 use Rattle.cbdc_types.specs.declared.tx.CompactTx.{CompactTx}
 use Rattle.cbdc_model.specs.Records.{Shape, Record}
 use Rattle.cbdc_model.specs.Coins.{FullTx}
 use Rattle.cbdc_model.specs.Waves.{sent_to, IsResumed, IsFileRun}
+use Rattle.submissions.specs.Checks.{VerdictsOf, TellsSound}
 use Rattle.wave_check.specs.declared.stages.Stage.{Stage}
 use Rattle.wave_check.specs.declared.stages.Stage.TheVariants.{Resume, File}
 
@@ -37,3 +38,8 @@ AreFileStages K sound [] [] = Unit {0}
 AreFileStages K sound [] (stage ∷ stages) = ⊥
 AreFileStages K sound (file ∷ files) [] = ⊥
 AreFileStages K sound (file ∷ files) (stage ∷ stages) = IsFileStage K sound file stage × AreFileStages K sound files stages
+
+-- by each test that tells sound submissions, the stages of files stand behind what there was
+abbrev pub AddsStages : Shape → VerdictsOf → List (List FullTx) → List Stage → List Stage → Type 0
+AddsStages K verdicts files old new =
+    (more : List Stage) × (new ≡ old ++ more) × ((sound : FullTx → Bool) → TellsSound verdicts sound → AreFileStages K sound files more)

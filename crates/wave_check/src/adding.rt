@@ -10,8 +10,8 @@ ghost use Rattle.model_check.specs.Journals.{journals_in};
 ghost use Rattle.wave_check.specs.Adding.{MayAdd, IsNew, Grows};
 
 use cbdc_types::{BatchId, LaneId, List, Record, Shape};
-use kept_check::is_journal;
 use model_check::{home_journal, home_of, is_idle, journal_at, record_of, slot_of};
+use same_records::is_journal;
 
 /// The batch of a record, none of a first record.
 #[tactic(auto, using(crate::proofs::Batches::batch_is))]
@@ -57,6 +57,7 @@ fn may_add(
 }
 
 // Whether a record is of a batch of which the stage may write records.
+#[tactic(auto, using(crate::proofs::Batches::new_by, crate::proofs::Batches::not_new))]
 fn is_new(
     resumes: bool,
     shape: &Shape,
@@ -101,6 +102,7 @@ pub fn journal_of<'a>(journals: &'a [List<Record>], node: usize) -> &'a [Record]
 }
 
 /// Whether a node's journal has grown by records that the stage may write.
+#[tactic(auto, using(crate::proofs::Growing::cut_at, crate::proofs::Growing::grows_by, crate::proofs::Growing::grows_not, crate::proofs::Growing::grows_short))]
 pub fn has_grown(
     resumes: bool,
     shape: &Shape,
@@ -136,6 +138,7 @@ fn have_grown_below(
 }
 
 /// Whether all journals have grown by records that the stage may write.
+#[tactic(auto, using(crate::proofs::Growing::adds_by, crate::proofs::Growing::past_end))]
 pub fn adds(resumes: bool, shape: &Shape, old: &[List<Record>], new: &[List<Record>]) -> bool
     ensures { IsTrue result ↔ Adds (MayAdd resumes shape.now (journals_in old.now) (journals_in new.now)) (journals_in old.now) (journals_in new.now) }
 {

@@ -5,8 +5,8 @@ ghost use Rattle.wave_check.specs.Choices.{ends_of, each_before, choices};
 
 use crate::adding::journal_of;
 use cbdc_types::{List, Record};
-use kept_check::is_journal;
 use model_check::copy_of_record;
+use same_records::is_journal;
 use std::alloc::{AllocError, Global};
 
 // A copy of a journal.
@@ -21,11 +21,7 @@ fn copy_of_journal(alloc: Global, past: &[Record]) -> Result<List<Record>, Alloc
 }
 
 // Puts a journal and what it was before each of its records behind those so far.
-fn add_ends(
-    alloc: Global,
-    past: &[Record],
-    out: &mut Vec<List<Record>>,
-) -> Result<(), AllocError>
+fn add_ends(alloc: Global, past: &[Record], out: &mut Vec<List<Record>>) -> Result<(), AllocError>
     ensures { OnOk result (out.new.items ≡ out.old.items ++ ends_of past.now) }
 {
     out.push(copy_of_journal(alloc, past)?)?;
@@ -134,6 +130,7 @@ fn are_same_below(old: &[List<Record>], new: &[List<Record>], n: usize) -> bool
 }
 
 /// Whether all nodes have the same journals.
+#[tactic(auto, using(crate::proofs::Choosing::same_by, crate::proofs::Growing::past_end))]
 pub fn are_same(old: &[List<Record>], new: &[List<Record>]) -> bool
     ensures { IsTrue result ↔ ((n : ℕ) → journals_in new.now n ≡ journals_in old.now n) }
 {

@@ -1,12 +1,11 @@
 // What a lane prepared.
-ghost use Rattle.std.specs.Prelude.{◌≡◌, ◌↔◌, ◌++◌, ◌<◌, List as Items, IsTrue, IfOk, OnOk};
-ghost use Rattle.cbdc_types.specs.declared.tx.CompactTx.{CompactTx as ModelCompact};
+ghost use Rattle.std.specs.Prelude.{◌≡◌, ◌↔◌, ◌++◌, ◌<◌, IsTrue, IfOk, OnOk};
 ghost use Rattle.cbdc_model.specs.Waves.{IsCut, prepared};
-ghost use Rattle.wave_check.specs.Adding.{IsPrepared};
+ghost use Rattle.wave_check.specs.Adding.{IsPrepared, AddsPieces};
 
 use cbdc_types::{CompactTx, LaneId, List, Record, Shape};
-use kept_check::are_compacts;
 use model_check::copy_of_txs;
+use same_records::are_compacts;
 use std::alloc::{AllocError, Global};
 
 // Puts what a lane prepared in a journal behind what there is.
@@ -43,6 +42,7 @@ pub fn prepared_of(
 }
 
 // Puts the pieces of n that transactions are cut into behind those so far.
+#[tactic(auto, using(crate::proofs::Cutting::no_pieces, crate::proofs::Cutting::more_pieces))]
 fn add_pieces(
     alloc: Global,
     n: usize,
@@ -50,7 +50,7 @@ fn add_pieces(
     out: &mut Vec<List<CompactTx>>,
 ) -> Result<(), AllocError>
     requires { 0 < n }
-    ensures { OnOk result ((pieces : Items (Items ModelCompact)) × IsCut n txs.now pieces × (out.new.items ≡ out.old.items ++ pieces)) }
+    ensures { OnOk result (AddsPieces n txs.now out.old.items out.new.items) }
 {
     if txs.is_empty() {
         return Ok(());

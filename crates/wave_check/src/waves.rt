@@ -1,11 +1,10 @@
 // Whether a run takes its files in waves.
-ghost use Rattle.std.specs.Prelude.{◌≡◌, ◌↔◌, ◌++◌, Bool, List as Items, IsTrue, IfOk, OnOk};
+ghost use Rattle.std.specs.Prelude.{◌≡◌, ◌↔◌, Bool, IsTrue, IfOk, OnOk};
 ghost use Rattle.cbdc_model.specs.Coins.{FullTx as ModelTx};
 ghost use Rattle.cbdc_model.specs.Waves.{Waves};
 ghost use Rattle.model_check.specs.Journals.{journals_in};
 ghost use Rattle.submissions.specs.Checks.{TellsSound};
-ghost use Rattle.wave_check.specs.Stages.{IsFileStage, AreFileStages};
-ghost use Rattle.wave_check.specs.declared.stages.Stage.{Stage as ModelStage};
+ghost use Rattle.wave_check.specs.Stages.{IsFileStage, AddsStages};
 
 use crate::choices::choices_of;
 use crate::stages::{Stage, are_stages};
@@ -28,6 +27,7 @@ fn stage_of<V: Verifier>(
 }
 
 // Puts the stages of files behind those so far.
+#[tactic(auto, using(crate::proofs::Staging::no_stages, crate::proofs::Staging::more_stages))]
 fn add_stages<V: Verifier>(
     alloc: Global,
     shape: &Shape,
@@ -35,8 +35,7 @@ fn add_stages<V: Verifier>(
     files: &[List<FullTx>],
     out: &mut Vec<Stage>,
 ) -> Result<(), AllocError>
-    ensures { OnOk result ((more : Items ModelStage) × (out.new.items ≡ out.old.items ++ more)
-        × ((sound : ModelTx → Bool) → TellsSound (V.verdict_of verifier.now) sound → AreFileStages shape.now sound files.now more)) }
+    ensures { OnOk result (AddsStages shape.now (V.verdict_of verifier.now) files.now out.old.items out.new.items) }
 {
     let Some((file, rest)) = files.split_first() else {
         return Ok(());
@@ -46,6 +45,7 @@ fn add_stages<V: Verifier>(
 }
 
 /// Whether the journals at exit are those at entry, resumed, and then these files' waves, one file after another.
+#[tactic(auto, using(crate::proofs::Staging::waves_by))]
 pub fn are_waves<V: Verifier>(
     alloc: Global,
     shape: &Shape,

@@ -5,7 +5,9 @@ use cbdc_types::{
     Shape, Stamp,
 };
 use compact_tx::compact;
-use model_check::{are_elsewhere, copy_of_compact, copy_of_record, entry_at, genesis_tx, hashes_on};
+use model_check::{
+    are_elsewhere, copy_of_compact, copy_of_record, entry_at, genesis_tx, hashes_on,
+};
 use std::alloc::{AllocError, Global};
 
 /// A transaction of a batch: what the first and the second shard reply to its part, and what comes of it.
@@ -236,7 +238,10 @@ pub fn forget(
     turns: &[Turn],
 ) -> Result<(), AllocError> {
     let stamp = Stamp(stamp);
-    if !turns.iter().any(|turn| is_here(&ledger.shape, shard, &turn.tx)) {
+    if !turns
+        .iter()
+        .any(|turn| is_here(&ledger.shape, shard, &turn.tx))
+    {
         return Ok(());
     }
     if shard == 0 {

@@ -143,15 +143,15 @@ fn moved(alloc: Global, index: u64) -> Result<FullTx, AllocError> {
     let id = genesis_id(alloc, three(alloc)?.as_slice())?;
     let number = index.min(2);
     let spent = coin(id, number, output(number + 1, 10));
-    pays(alloc, one(alloc, spent)?, one(alloc, output(number + 4, 10))?)
+    pays(
+        alloc,
+        one(alloc, spent)?,
+        one(alloc, output(number + 4, 10))?,
+    )
 }
 
 // A file of three transactions, each of one of three coins, behind which the ledger has these batches.
-fn three_moved(
-    alloc: Global,
-    shape: Shape,
-    exit: Ledger,
-) -> Result<Worked, AllocError> {
+fn three_moved(alloc: Global, shape: Shape, exit: Ledger) -> Result<Worked, AllocError> {
     let mut file = two(alloc, moved(alloc, 0)?, moved(alloc, 1)?)?;
     file.push(moved(alloc, 2)?)?;
     let mint = three(alloc)?;

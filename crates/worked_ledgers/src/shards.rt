@@ -1,6 +1,7 @@
 // Examples on one coordinator and two shards.
 use crate::batches::{
-    Ledger, Turn, commit, confirmed, discard, finish, lock, missing, new_ledger, prepare, whole_batch,
+    Ledger, Turn, commit, confirmed, discard, finish, lock, missing, new_ledger, prepare,
+    whole_batch,
 };
 use crate::coins::{coin, one, output, pays, program, two};
 use crate::rows::{Worked, batch};
@@ -104,12 +105,7 @@ pub enum Stop {
 }
 
 // The records of a batch up to a stop.
-fn begin(
-    alloc: Global,
-    ledger: &mut Ledger,
-    stop: Stop,
-    turns: &[Turn],
-) -> Result<(), AllocError> {
+fn begin(alloc: Global, ledger: &mut Ledger, stop: Stop, turns: &[Turn]) -> Result<(), AllocError> {
     prepare(alloc, ledger, batch(1), 1, turns)?;
     if stop == Stop::BehindPrepare {
         return Ok(());

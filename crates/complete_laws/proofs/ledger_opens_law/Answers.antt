@@ -16,5 +16,4 @@ returns-clause-minted g c K mint submissions E answer ready rooms none unopened 
 
 pub returns-clause-caused : goal.returns-clause-caused
 returns-clause-caused g c K mint submissions E answer ready unsound =
-    unsound_none g.R.Disk.Disk.content g.R.Disk.Disk.images g.R.Disk.Disk.limit g.R.Disk.Disk.count (g.R.Rack.held c.args.old.now) (g.R.Rack.count c.args.old.now) (g.R.Rack.count c.args.new.now)
-    K mint submissions E ready answer unsound
+    unsound_none g.R.Disk.Disk.content (g.R.Rack.held c.args.old.now) K mint submissions E ready g.R.Disk.Disk.images g.R.Disk.Disk.limit g.R.Disk.Disk.count answer unsound

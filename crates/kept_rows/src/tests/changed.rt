@@ -38,7 +38,9 @@ fn stamped(rt: &HostRuntime, stamp: u64, record: &Record) -> Result<Record, Fail
             entries,
         },
         Record::Finish {
-            batch, decisions, ..
+            batch,
+            decisions,
+            ..
         } => Record::Finish {
             stamp,
             batch,
@@ -47,7 +49,9 @@ fn stamped(rt: &HostRuntime, stamp: u64, record: &Record) -> Result<Record, Fail
         Record::Forget { batch, .. } => Record::Forget { stamp, batch },
         Record::Prepare { batch, txs, .. } => Record::Prepare { stamp, batch, txs },
         Record::Commit {
-            batch, outcomes, ..
+            batch,
+            outcomes,
+            ..
         } => Record::Commit {
             stamp,
             batch,
@@ -121,7 +125,15 @@ fn is_kept_at(rt: &HostRuntime, node: u32, place: usize, stamp: u64) -> Result<b
 
 #[test]
 fn the_stamps_of_the_rules(rt: HostRuntime) -> Result<(), Fail> {
-    for (node, place, stamp) in [(0, 1, 1), (1, 1, 2), (0, 2, 3), (1, 2, 4), (0, 3, 5), (1, 3, 6), (0, 4, 7)] {
+    for (node, place, stamp) in [
+        (0, 1, 1),
+        (1, 1, 2),
+        (0, 2, 3),
+        (1, 2, 4),
+        (0, 3, 5),
+        (1, 3, 6),
+        (0, 4, 7),
+    ] {
         assert!(rt; is_kept_at(&rt, node, place, stamp)?);
     }
     Ok(())
@@ -129,7 +141,15 @@ fn the_stamps_of_the_rules(rt: HostRuntime) -> Result<(), Fail> {
 
 #[test]
 fn stamps_that_are_one_more(rt: HostRuntime) -> Result<(), Fail> {
-    for (node, place, stamp) in [(0, 1, 2), (1, 1, 3), (0, 2, 4), (1, 2, 5), (0, 3, 6), (1, 3, 7), (0, 4, 8)] {
+    for (node, place, stamp) in [
+        (0, 1, 2),
+        (1, 1, 3),
+        (0, 2, 4),
+        (1, 2, 5),
+        (0, 3, 6),
+        (1, 3, 7),
+        (0, 4, 8),
+    ] {
         assert!(rt; !is_kept_at(&rt, node, place, stamp)?);
     }
     Ok(())

@@ -4,8 +4,8 @@ use cbdc_types::Shape;
 use std::test::Fail;
 use worked_ledgers::{
     Stop, an_empty_file, another_value, cut_in_two, lanes_in_turn, one_transaction,
-    refused_between, spent_in_its_batch, stopped, the_same_twice, two_spenders,
-    two_spenders_apart, unknown_input,
+    refused_between, spent_in_its_batch, stopped, the_same_twice, two_spenders, two_spenders_apart,
+    unknown_input,
 };
 
 #[test]

@@ -9,11 +9,7 @@ use worked_ledgers::{
 };
 
 // Whether a row would have taken other files.
-fn took_instead(
-    rt: &HostRuntime,
-    row: Worked,
-    files: List<List<FullTx>>,
-) -> Result<bool, Fail> {
+fn took_instead(rt: &HostRuntime, row: Worked, files: List<List<FullTx>>) -> Result<bool, Fail> {
     let mut row = row;
     row.files = files;
     took(rt, &row)
@@ -87,7 +83,11 @@ fn an_empty_file_more(rt: HostRuntime) -> Result<(), Fail> {
 #[test]
 fn a_refused_one_that_was_prepared(rt: HostRuntime) -> Result<(), Fail> {
     let rt = &rt;
-    let more = claims(rt.alloc(), 100, two(rt.alloc(), output(2, 60), output(3, 41))?)?;
+    let more = claims(
+        rt.alloc(),
+        100,
+        two(rt.alloc(), output(2, 60), output(3, 41))?,
+    )?;
     let mut row = one_transaction(rt.alloc(), plain()?)?;
     let mut exit = new_ledger(rt.alloc(), row.shape, row.mint.as_slice())?;
     let turns = [confirmed(compact(rt.alloc(), &more)?)];

@@ -21,7 +21,12 @@ fn is_text(printed: Option<Vec<u8>>, text: &str) -> bool {
 #[test]
 fn a_new_ledger(rt: HostRuntime) -> Result<(), Fail> {
     let text = format!(in rt.alloc(); "coins 1\nminted 100\ngenesis {GENESIS}\n")?;
-    assert!(rt; is_text(init_text(rt.alloc(), mint(rt.alloc())?.as_slice()), text.as_str()));
+    assert!(rt;
+        is_text(
+            init_text(rt.alloc(), mint(rt.alloc())?.as_slice()),
+            text.as_str()
+        )
+    );
     Ok(())
 }
 
@@ -52,8 +57,7 @@ fn what_is_known_of_hashes(rt: HostRuntime) -> Result<(), Fail> {
     for coin in t.inputs.as_slice() {
         hashes.push(input_hash(coin))?;
     }
-    let text =
-        format!(in rt.alloc(); "{SIXTY} unspent\n{FORTY} unspent\n{COIN} absent\n")?;
+    let text = format!(in rt.alloc(); "{SIXTY} unspent\n{FORTY} unspent\n{COIN} absent\n")?;
     assert!(rt; is_text(looked(&rt, &row.exit, hashes.as_slice())?, text.as_str()));
     Ok(())
 }

@@ -1,7 +1,7 @@
 use Rattle.std.proofs.Common.{◌+◌, ◌∙◌, length, arith, inr, refl}
 use Rattle.rack_ledgers.proofs.Backs.{back_parts}
 use Rattle.caused_ledgers.proofs.Closed.{nodes_back}
-use Rattle.audited_ledgers.proofs.Histories.{is_audited}
+use Rattle.audited_ledgers.proofs.Histories.{is_audited, verdicts_account}
 use Rattle.audited_ledgers.proofs.audited.audit_on.Goals as goal
 
 pub returns-in_default-clause-refusal : goal.returns-in_default-clause-refusal
@@ -17,6 +17,12 @@ pub returns-in-Ok-verdict-clause-audited : goal.returns-in-Ok-verdict-clause-aud
 returns-in-Ok-verdict-clause-audited g c =
     is_audited g.R.Disk.Disk.content g.R.Disk.Disk.images g.R.Disk.Disk.limit g.R.Disk.Disk.count (g.R.Rack.held c.args.rack.now) c.in-Ok-open_minted.nodes.header c.in-Ok-open_minted.nodes.logs.items c.in-Ok-open_minted.nodes.shards.items
     c.in-Ok-open_minted.ensures.opened c.args.mint.now (c.in-Ok-open_minted.ensures.minted ∙ c.in-Ok.ensures) c.args.handed.now c.in-Ok-verdict.verdict c.in-Ok-verdict.ensures
+
+pub returns-in-Ok-verdict-clause-sentence : goal.returns-in-Ok-verdict-clause-sentence
+returns-in-Ok-verdict-clause-sentence g c =
+    verdicts_account g.R.Disk.Disk.content (g.R.Rack.held c.args.rack.now) c.args.mint.now c.args.handed.now c.in-Ok-verdict.verdict
+    (is_audited g.R.Disk.Disk.content g.R.Disk.Disk.images g.R.Disk.Disk.limit g.R.Disk.Disk.count (g.R.Rack.held c.args.rack.now) c.in-Ok-open_minted.nodes.header c.in-Ok-open_minted.nodes.logs.items c.in-Ok-open_minted.nodes.shards.items
+    c.in-Ok-open_minted.ensures.opened c.args.mint.now (c.in-Ok-open_minted.ensures.minted ∙ c.in-Ok.ensures) c.args.handed.now c.in-Ok-verdict.verdict c.in-Ok-verdict.ensures)
 
 pub returns-in-Ok-verdict-clause-held : goal.returns-in-Ok-verdict-clause-held
 returns-in-Ok-verdict-clause-held g c =

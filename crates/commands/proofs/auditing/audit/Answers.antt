@@ -1,5 +1,8 @@
 use Rattle.std.proofs.Common.{◌≡◌, ◌⊎◌, inl, inr, subst}
 use Rattle.outside.specs.Counts.{Rose}
+use Rattle.audit.specs.declared.verdict.Verdict.TheVariants.{Sound}
+use Rattle.file_runs.specs.Runs.{joined}
+use Rattle.audited_ledgers.proofs.Histories.{verdicts_account}
 use Rattle.commands.specs.Audits.{WasAudited, WhyNoAudit}
 use Rattle.commands.specs.Causes.{OnePlace, OneRose, FileRose}
 use Rattle.commands.proofs.Answers.{told, well_told, fault_done}
@@ -22,12 +25,15 @@ pub returns-in-Err-clause-silent : goal.returns-in-Err-clause-silent
 returns-in-Err-clause-silent g c = silent_same (g.O.Sink.taken c.args.out.now) c.in-Err.fault
 
 pub returns-in-Ok-Sound-clause-did : goal.returns-in-Ok-Sound-clause-did
-returns-in-Ok-Sound-clause-did g c = λ well. record {
-  totals = c.in-Ok-Sound.totals;
-  was = subst (λ v. WasAudited (g.I.Inbox.file c.args.inbox.now) g.R.Disk.Disk.content (g.R.Rack.held c.args.rack.now) c.args.mint.now c.args.clients.now v) c.in-Ok-Sound.field-0-is c.in-Ok-Sound.ensures.did;
-  back = c.audit_all.ensures.held;
-  prints = c.print.ensures.prints;
-}
+returns-in-Ok-Sound-clause-did g c = λ well.
+    let was = subst (λ v. WasAudited (g.I.Inbox.file c.args.inbox.now) g.R.Disk.Disk.content (g.R.Rack.held c.args.rack.now) c.args.mint.now c.args.clients.now v) c.in-Ok-Sound.field-0-is c.in-Ok-Sound.ensures.did in
+    record {
+      totals = c.in-Ok-Sound.totals;
+      was = was;
+      sentence = verdicts_account g.R.Disk.Disk.content (g.R.Rack.held c.args.rack.now) was.mint (joined was.handed) (Sound c.in-Ok-Sound.totals) was.audited;
+      back = c.audit_all.ensures.held;
+      prints = c.print.ensures.prints;
+    }
 
 pub returns-in-Ok-Sound-clause-why : goal.returns-in-Ok-Sound-clause-why
 returns-in-Ok-Sound-clause-why g c =

@@ -1,0 +1,4 @@
+pub mod Begun
+pub mod Twice
+pub mod AtRest
+pub mod Accounts
