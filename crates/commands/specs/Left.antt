@@ -29,10 +29,10 @@ InitLeaves files content images limit before now shape file answer =
     (mint : List Output) × Tells (files file.name.now) (λ c. mint_of_file c ≡ Ok mint) × IsLeft shape mint content images limit before now answer
 
 -- transactions over a ledger that did not come through: all disks are as they were read; or journals have grown at their ends, and where the ledger was
--- kept, they are kept, each by its disk, with one record more or without, and whatever a crash leaves of them
+-- kept, they are kept, each by its disk, with one record more or without and with room for the batches that are open, and whatever a crash leaves
 abbrev pub TurnsLeave : {D : Type 0} → (D → Option (List ℕ)) → (D → List ℕ → Type 0) → (D → ℕ) → (ℕ → Option D) → (ℕ → Option D) → List (List FullTx) → Type 0
 TurnsLeave content images limit before now handed =
-    ((n : ℕ) → IsBack images limit (before n) (now n)) ⊎ ((exit : ℕ → List Record) × OfShown content before (IsCutShort images now handed exit))
+    ((n : ℕ) → IsBack images limit (before n) (now n)) ⊎ ((exit : ℕ → List Record) × OfShown content before (IsCutShort images limit now handed exit))
 
 -- the same of those that the files hold
 abbrev pub RunLeaves : {D : Type 0} → (Text → Option (List ℕ)) → (D → Option (List ℕ)) → (D → List ℕ → Type 0) → (D → ℕ) → (ℕ → Option D) → (ℕ → Option D) → List FileWord → Type 0

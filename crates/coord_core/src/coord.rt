@@ -76,8 +76,10 @@ impl CoordCore {
 
     /// The header of the coordinator.
     pub fn header(&self) -> &Header
-        ensures { result.now ≡ self.now.header }
+        ensures value { result.now ≡ self.now.header }
+        ensures whole { IsWhole self.now }
     {
+        let _ = &self.lanes;
         &self.header
     }
 

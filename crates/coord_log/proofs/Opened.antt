@@ -89,6 +89,7 @@ opened_sound {D} {G} old l c may ends untouched records header whole is space me
         };
       };
       flying = tt;
+      free = omega (arith, ends, sums, limit, space);
     }
 
 -- an untouched disk holds what it held

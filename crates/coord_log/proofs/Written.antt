@@ -93,13 +93,15 @@ sound_after {D} {G} old new c d flight r opened due since later records header g
         };
       };
       flying = let P : Option Record → Type 0 = λ f. IfSome f (After new.header (reverse new.records.items)) in subst P (sym due.none_left) tt;
+      free = omega (arith, u, gate, size, place.space, limit);
     }
 
 -- the disk failed at it
 pub sound_broken : {D : Type 0} {G : Ghosts D} (old new : RecordLog D G) (c : CoordOf) (flight : Option Record) (r : Record) (opened : ℕ)
     → IsDue old c flight r → opened ≤ G.count (disk_of old.journal) → Rose (G.count (disk_of old.journal)) (G.count (disk_of new.journal)) → G.count (disk_of old.journal) ≤ G.count (disk_of new.journal)
-    → new.records.items ≡ old.records.items → new.header ≡ old.header → broken_of new.journal ≡ Some (G.count (disk_of new.journal)) → IsSound new c opened (Some r)
-sound_broken {D} {G} old new c flight r opened due since rose later records header broken =
+    → new.records.items ≡ old.records.items → new.header ≡ old.header → broken_of new.journal ≡ Some (G.count (disk_of new.journal))
+    → G.limit (disk_of new.journal) ≡ G.limit (disk_of old.journal) → IsSound new c opened (Some r)
+sound_broken {D} {G} old new c flight r opened due since rose later records header broken limit =
     let risen : HasRisen opened (G.count (disk_of new.journal)) = omega arith in
     let B : Option ℕ → Type 0 = λ b. IsBrokenSince opened (G.count (disk_of new.journal)) b in
     let F : Header → Type 0 = λ h. Follows h (reverse old.records.items) r in
@@ -115,6 +117,7 @@ sound_broken {D} {G} old new c flight r opened due since rose later records head
       broken = subst B (sym broken) (risen, omega arith);
       ready = λ e. cc;
       flying = let P : Header → List Record → Type 0 = λ h x. After h x r in rw (header, records) after;
+      free = omega (arith, ap (λ x. used_of (reverse x)) records, due.used, due.free, limit);
     }
 
 -- a disk that holds the records, and nothing in flight

@@ -60,6 +60,7 @@ pub record IsSound {D : Type 0} {G : Ghosts D} (l : RecordLog D G) (c : CoordOf)
   pub broken : IsBrokenSince opened (G.count (disk_of l.journal)) (broken_of l.journal)
   pub ready : broken_of l.journal ≡ None → IsReady l c flight
   pub flying : IfSome flight (After l.header (reverse l.records.items))
+  pub free : used_of (reverse l.records.items) + kept_of c.lanes ≤ G.limit (disk_of l.journal)
 
 -- the record is next, in the grammar, and has its place
 pub record IsDue {D : Type 0} {G : Ghosts D} (l : RecordLog D G) (c : CoordOf) (flight : Option Record) (r : Record) : Type 0 where
@@ -70,6 +71,7 @@ pub record IsDue {D : Type 0} {G : Ghosts D} (l : RecordLog D G) (c : CoordOf) (
   pub next : IsNext c r
   pub grammar : IsInGrammar l.header r
   pub size : HasRoom l 1 (size_of r)
+  pub free : gate_of l.journal + 1 + kept_of c.lanes ≤ G.limit (disk_of l.journal)
   pub fits : gate_of l.journal + 1 + size_of r ≤ G.limit (disk_of l.journal)
   pub place : (d : CoordOf) → Takes c d r → HasPlace l d (size_of r) 1
 

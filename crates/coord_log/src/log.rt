@@ -5,7 +5,8 @@ ghost use Rattle.gate_journal.specs.Shown.{disk_of, broken_of};
 ghost use Rattle.cbdc_model.specs.Records.{Record, Prepare, Commit, Discard, Done, last_stamp, txs_of};
 ghost use Rattle.cbdc_model.specs.After.{After, IsJournal};
 ghost use Rattle.cbdc_model.specs.Slots.{slot, Idle, InPrepare, InCommit, InDiscard};
-ghost use Rattle.cbdc_model.specs.Due.{open_batch, prepare_due, decide_due, discard_due, done_due};
+ghost use Rattle.cbdc_model.specs.Room.{kept_room};
+ghost use Rattle.cbdc_model.specs.Due.{used_of, open_batch, prepare_due, decide_due, discard_due, done_due};
 ghost use Rattle.cbdc_model.specs.Sights.{Meets, MeetsFault, IsSameNode, IsBrokenSince};
 ghost use Rattle.coord_core.specs.Phases.{slot_of};
 ghost use Rattle.coord_core.specs.Hashes.{AllNameBatches};
@@ -69,7 +70,11 @@ impl<D: Disk> CoordLog<D> {
 
         // A record is in flight only where an append has failed since.
         ensures landed { self.now.broken ≡ None → self.now.flight ≡ None }
+
+        // What its journal takes, with what is kept for its open batches, lies within the capacity.
+        ensures room { used_of self.now.journal + kept_room self.now.header.shape self.now.journal ≤ self.now.capacity }
     {
+        let _core = self.core.header();
         &self.log.header
     }
 

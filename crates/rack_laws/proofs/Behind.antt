@@ -6,6 +6,8 @@ use Rattle.std.proofs.lemmas.Bool.{ltb-true, ltb-false, cases_lt}
 use Rattle.outside.specs.Counts.{Rose}
 use Rattle.cbdc_model.specs.Records.{Shape, Header, Record}
 use Rattle.cbdc_model.specs.After.{IsJournal}
+use Rattle.cbdc_model.specs.Room.{kept_room}
+use Rattle.cbdc_model.specs.Due.{used_of}
 use Rattle.record_log.specs.Held.{OpensToEither}
 use Rattle.coord_log.specs.Logs.{LogOf, sight, HoldsJournal as HoldsLog}
 use Rattle.shard_node.specs.Shards.{ShardOf, sight_of, HoldsWith, HoldsJournal as HoldsShard}
@@ -15,7 +17,7 @@ use Rattle.node_ports.specs.Nodes.{sight_at}
 use Rattle.rack_nodes.specs.Places.{EachFrom, MayReturn}
 use Rattle.rack_nodes.specs.Racked.{OfTold}
 use Rattle.rack_ledgers.specs.Ledgers.{ByPlace, AreOpened}
-use Rattle.rack_laws.specs.Shown.{KeepsEach, HoldsEach, node_count}
+use Rattle.rack_laws.specs.Shown.{KeepsEach, HoldsEach, LogHasRoom, ShardHasRoom, HaveRoom, node_count}
 use Rattle.rack_laws.proofs.Opened.{at_place, sight_there, all_by}
 use Rattle.ledger_nodes.specs.Ledgers.{IsLedger, journals_of, flights_of, faults_of, opened_of, capacity_of, AreStored, AreQuiet}
 use Rattle.ledger_nodes.proofs.Steps.{same_flight}
@@ -276,6 +278,31 @@ module _ {D : Type 0} (content : D → Option (List ℕ)) (images : D → List �
         let place : K.coordinators + (n - K.coordinators) ≡ n = omega (arith, high) in
         subst P place (shard (n - K.coordinators) (omega (arith, high, inside)))
   ]
+
+  -- disks that are back have room for what is kept for their open batches, where their nodes have
+  pub rooms_each : (held : ℕ → Option D) (h : Header) (logs : List (LogOf D)) (shards : List (ShardOf D)) → IsLedger h logs shards → All (LogHasRoom limit) logs → All (ShardHasRoom limit) shards
+      → ByPlace (λ n l. OfTold (held n) (λ d. d ≡ l.disk)) logs → ByPlace (λ s x. OfTold (held (length logs + s)) (λ d. d ≡ x.disk)) shards
+      → HaveRoom limit held h.shape (journals_of count limit h.shape logs shards)
+  rooms_each held h logs shards is log_rooms shard_rooms logs_back shards_back =
+      by_node h.shape (λ n. OfTold (held n) (λ d. Here (journals_of count limit h.shape logs shards n) d)) at_log at_shard
+    where
+      abbrev Here : List Record → D → Type 0
+      Here J d = used_of J + kept_room h.shape J ≤ limit d
+
+      at_log : (n : ℕ) → n < h.shape.coordinators → OfTold (held n) (λ d. Here (journals_of count limit h.shape logs shards n) d)
+      at_log n low d told =
+          let l = at_place logs n (omega (arith, low, is.coordinators)) in
+          let shape : l.0.header.shape ≡ h.shape = ap (λ s. s.header.shape) (sym (sight_there sight logs n l.0 l.1)) ∙ ap (λ x. x.shape) (is.log_headers n low) in
+          let own : Here l.0.journal l.0.disk = subst (λ k. used_of l.0.journal + kept_room k l.0.journal ≤ limit l.0.disk) shape (by_all (LogHasRoom limit) logs log_rooms n l.0 l.1) in
+          subst (λ J. Here J d) (sym (log_journal h.shape logs shards n l.0 low l.1)) (subst (λ x. Here l.0.journal x) (sym (logs_back n l.0 l.1 d told)) own)
+
+      at_shard : (s : ℕ) → s < h.shape.shards → OfTold (held (h.shape.coordinators + s)) (λ d. Here (journals_of count limit h.shape logs shards (h.shape.coordinators + s)) d)
+      at_shard s low d told =
+          let x = at_place shards s (omega (arith, low, is.shards_are)) in
+          let shape : x.0.header.shape ≡ h.shape = ap (λ t. t.header.shape) (sym (sight_there (sight_of (λ d. 0) (λ d. 0)) shards s x.0 x.1)) ∙ ap (λ y. y.shape) (is.shard_headers s low) in
+          let own : Here x.0.journal x.0.disk = subst (λ k. used_of x.0.journal + kept_room k x.0.journal ≤ limit x.0.disk) shape (by_all (ShardHasRoom limit) shards shard_rooms s x.0 x.1) in
+          let back : d ≡ x.0.disk = subst (λ k. OfTold (held (k + s)) (λ d. d ≡ x.0.disk)) is.coordinators (shards_back s x.0 x.1) d told in
+          subst (λ J. Here J d) (sym (shard_journal h.shape logs shards s x.0 x.1)) (subst (λ y. Here x.0.journal y) (sym back) own)
 
   -- a node may hold what its disk may that was told
   pub may_hold : (held : ℕ → Option D) (h : Header) (logs : List (LogOf D)) (shards : List (ShardOf D)) → AreOpened content images limit count held h logs shards

@@ -242,7 +242,7 @@ module _ {D : Type 0} (content : D → Option (List ℕ)) (images : D → List �
       (HaveFailed (opened_of count limit h.shape logs shards) (faults_of count limit h.shape now after)) (MayHold (capacity_of count limit h.shape logs shards)) a
       → IsLeastAnswer (EndsRun verdicts files h.shape (journals_of count limit h.shape logs shards) (journals_of count limit h.shape now after)
       (HaveFailed (opened_of count limit h.shape logs shards) (faults_of count limit h.shape now after)) (MayHold (capacity_of count limit h.shape logs shards))) a
-      → OfShown content held (IsCutShort images back files (journals_of count limit h.shape now after))
+      → OfShown content held (IsCutShort images limit back files (journals_of count limit h.shape now after))
       → IsLaneFault content images limit held back before behind (PieceNext verdicts files) (EndsRun verdicts files) files a
   lane_fault verdicts files grows a cause least kept = record {
     ledger = record {

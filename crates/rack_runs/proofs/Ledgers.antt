@@ -19,9 +19,9 @@ use Rattle.coord_log.specs.Logs.{LogOf}
 use Rattle.shard_node.specs.Shards.{ShardOf}
 use Rattle.rack_ledgers.specs.Ledgers.{ByPlace, AreOpened}
 use Rattle.rack_nodes.specs.Racked.{OfTold}
-use Rattle.rack_laws.specs.Shown.{Shows, OfShown, KeepsEach, HoldsEach, OpenTo, node_count}
+use Rattle.rack_laws.specs.Shown.{Shows, OfShown, KeepsEach, HoldsEach, OpenTo, LogHasRoom, ShardHasRoom, HaveRoom, node_count}
 use Rattle.rack_laws.proofs.Opened.{same_shape, same_journals, logs_held, shards_held}
-use Rattle.rack_laws.proofs.Behind.{are_quiet, none_fly, keeps_each, keeps_flights, holds_each}
+use Rattle.rack_laws.proofs.Behind.{are_quiet, none_fly, keeps_each, keeps_flights, holds_each, rooms_each}
 use Rattle.rack_laws.proofs.Crashed.{crashed}
 use Rattle.ledger_runs.specs.Turning.{OfKept, StaysKept}
 use Rattle.ledger_nodes.specs.Ledgers.{IsLedger, journals_of, flights_of, AreStored, AreQuiet}
@@ -35,7 +35,7 @@ use Rattle.printed_lines.specs.Unspent.{IsUnspentCount}
 use Rattle.rack_runs.specs.declared.over.Ran.{Ran}
 use Rattle.rack_runs.specs.Telling.{CountAll, TellsRun, IsTold}
 use Rattle.rack_runs.proofs.Unspent.{unspent_counted}
-use Rattle.std.specs.Prelude.{map}
+use Rattle.std.specs.Prelude.{map, All}
 
 -- kept journals have nothing beyond the ledger's nodes
 beyond : (K : Shape) (mint : List Output) (submissions : List FullTx) (E : ℕ → List Record) → KeptJournals K mint submissions E → (n : ℕ) → node_count K ≤ n → E n ≡ []
@@ -143,12 +143,14 @@ module _ {D : Type 0} (content : D → Option (List ℕ)) (images : D → List �
   runs verdicts keeps idle resumed waves quiet K mint submissions E within shows kept =
       is_run K mint submissions E within shows kept verdicts keeps (record { idle = idle; resumed = resumed; waves = waves; quiet = quiet })
 
-  pub cut_short : KeepsIt h.shape → FliesIt h.shape → OfShown content held (IsCutShort images back files (journals_of count limit h.shape now after))
-  cut_short keeps flies K mint submissions E within shows kept =
+  pub cut_short : KeepsIt h.shape → FliesIt h.shape → All (LogHasRoom limit) now → All (ShardHasRoom limit) after → OfShown content held (IsCutShort images limit back files (journals_of count limit h.shape now after))
+  cut_short keeps flies log_rooms shard_rooms K mint submissions E within shows kept =
       let grown = is_grown K mint submissions E within shows kept keeps in
-      subst (λ k. IsCutShort images back files (journals_of count limit k now after) K mint submissions E) (sym (shape_is K mint submissions E within shows kept)) (record {
+      subst (λ k. IsCutShort images limit back files (journals_of count limit k now after) K mint submissions E) (sym (shape_is K mint submissions E within shows kept)) (record {
         grown = grown;
         disks = disks_keep K mint submissions E within shows kept;
+        rooms = subst (λ k. HaveRoom limit back k (journals_of count limit k now after)) (shape ∙ shape_is K mint submissions E within shows kept)
+            (rooms_each content images limit count back g now after is log_rooms shard_rooms logs_back shards_back);
         crashes = λ contents left.
             let came : (X : ℕ → List Record) × OpenTo back K contents X × ((n : ℕ) → IsEnd (journals_of count limit K now after n) (X n)) × KeptJournals K mint (submissions ++ joined files) X
               = crashed images back K mint (submissions ++ joined files) (journals_of count limit K now after) (flights_of count limit K now after) (may_come K mint submissions E within shows kept flies)

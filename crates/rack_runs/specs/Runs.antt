@@ -10,7 +10,7 @@ use Rattle.cbdc_model.specs.World.{KeptJournals}
 use Rattle.cbdc_model.specs.Headline.{Headline}
 use Rattle.cbdc_model.specs.Waves.{IsResumed, Waves}
 use Rattle.lane_driver.specs.declared.fault.LaneFault.{LaneFault}
-use Rattle.rack_laws.specs.Shown.{OfShown, KeepsEach, HoldsEach, AreLeft, OpenTo}
+use Rattle.rack_laws.specs.Shown.{OfShown, KeepsEach, HoldsEach, AreLeft, OpenTo, HaveRoom}
 use Rattle.submissions.specs.Checks.{VerdictsOf}
 use Rattle.sound_laws.specs.SoundTest.{sound_by}
 use Rattle.rack_nodes.specs.Racked.{OfTold}
@@ -49,10 +49,12 @@ abbrev pub SurvivesCrashes : {D : Type 0} → (D → List ℕ → Type 0) → (�
 SurvivesCrashes images held K mint submissions E =
     (contents : ℕ → List ℕ) → AreLeft images held K contents → (X : ℕ → List Record) × OpenTo held K contents X × IsGrown K mint submissions E X
 
--- a run that a lane's fault cut short: each disk keeps its journal at exit, with one record more or without, and whatever a crash leaves of them is kept
-pub record IsCutShort {D : Type 0} (images : D → List ℕ → Type 0) (held : ℕ → Option D) (files : List (List FullTx)) (exit : ℕ → List Record) (K : Shape) (mint : List Output) (submissions : List FullTx) (E : ℕ → List Record) : Type 0 where
+-- a run that a lane's fault cut short: each disk keeps its journal at exit, with one record more or without, and has room for it and for what is kept
+-- for the batches that are open there; and whatever a crash leaves of the disks is kept
+pub record IsCutShort {D : Type 0} (images : D → List ℕ → Type 0) (limit : D → ℕ) (held : ℕ → Option D) (files : List (List FullTx)) (exit : ℕ → List Record) (K : Shape) (mint : List Output) (submissions : List FullTx) (E : ℕ → List Record) : Type 0 where
   pub grown : IsGrown K mint (submissions ++ joined files) E exit
   pub disks : KeepsEach images held K exit
+  pub rooms : HaveRoom limit held K exit
   pub crashes : SurvivesCrashes images held K mint (submissions ++ joined files) E
 
 -- a lane's fault ended a run over the ledger that the disks told, in which each record was caused: its journals have grown at their ends, where the
@@ -66,7 +68,7 @@ pub record IsLaneFault {D : Type 0} (content : D → Option (List ℕ)) (images 
   pub disks : AllTell content held ledger.shape → KeepsEach images back ledger.shape exit
   pub cause : IsLaneAnswer ledger.shape (next ledger.shape (λ n. journal n (reverse ledger.rows)) exit) (λ n. journal n (reverse ledger.rows)) exit (λ n. Rose (before n) (now n)) (λ n c. OfTold (held n) (λ d. c ≡ limit d)) answer
   pub least : IsLeastAnswer (ends ledger.shape (λ n. journal n (reverse ledger.rows)) exit (λ n. Rose (before n) (now n)) (λ n c. OfTold (held n) (λ d. c ≡ limit d))) answer
-  pub kept : OfShown content held (IsCutShort images back files exit)
+  pub kept : OfShown content held (IsCutShort images limit back files exit)
 
 -- nothing is next for any lane
 abbrev pub NothingNext : Shape → (ℕ → List Record) → (ℕ → List Record) → ℕ → List Compact → Type 0

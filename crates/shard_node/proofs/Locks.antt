@@ -114,6 +114,7 @@ module _ {D : Type 0} {G : Ghosts D} where
                 landed = old.landed;
               };
           flying = subst (λ (h : Header). IfSome p.flight (After h J)) (sym t.header) (subst (λ (l : List Record). IfSome p.flight (After p.log.header l)) (sym same) is.flying);
+          room = omega (arith, is.room, same_kept log t, ap used_of same, ap G.limit t.untouched.disk);
         }
       where
         same_kept : (log : RecordLog D G) → HasTaken p log memory c.batch.lane → kept_room log.header.shape (reverse log.records.items) ≡ kept_room p.log.header.shape (journal_of p)

@@ -75,6 +75,7 @@ module _ {D : Type 0} {G : Ghosts D} where
           landed = refl;
         };
         flying = tt;
+        room = omega (arith, used, ap used_of same, kept_now, kept_is, fits, untouched.gate, ap G.limit untouched.disk);
       }
 
   -- what its disk holds

@@ -89,7 +89,7 @@ module _ {D : Type 0} {G : Ghosts D} where
         let J = journal_of p in
         let r : Record = Finish t c.batch c.decisions in
         let kept = finish_kept in
-        wrote (record p { decisions = memory }) new r (record { header = is.header; stands = is.stands; journal = is.journal; shard = is.shard; limits = is.limits; lanes = len ∙ is.lanes; opened = is.opened }) w finish_fits sound.used
+        wrote (record p { decisions = memory }) new r (record { header = is.header; stands = is.stands; journal = is.journal; shard = is.shard; limits = is.limits; lanes = len ∙ is.lanes; opened = is.opened; room = is.room }) w finish_fits sound.used
         (omega (arith, sound.free, kept, sum_by-cons size_of r J)) (λ lane m get. elim (same_nat c.batch.lane lane) [
           | Yes e ↦ subst (λ (l : ℕ). IsLockedWith (r ∷ J) l (vec_capacity m)) e (own_finish J t c.batch c.decisions (vec_capacity m))
           | No apart ↦ same_lock J (r ∷ J) lane (vec_capacity m) (past_finish J t c.batch c.decisions lane apart) (sound.decisions lane m (others lane m (λ e. apart (sym e)) get))
@@ -99,7 +99,7 @@ module _ {D : Type 0} {G : Ghosts D} where
     pub finish_left : (memory : Vec (Vec Bool)) (new : Parts D G) → HasFailed (record p { decisions = memory }) new (Finish t c.batch c.decisions) → length memory.items ≡ length p.decisions.items → IsShardOf new
     finish_left memory new f len =
         failed (record p { decisions = memory }) new (Finish t c.batch c.decisions)
-        (record { header = is.header; stands = is.stands; journal = is.journal; shard = is.shard; limits = is.limits; lanes = len ∙ is.lanes; opened = is.opened }) f finish_fits
+        (record { header = is.header; stands = is.stands; journal = is.journal; shard = is.shard; limits = is.limits; lanes = len ∙ is.lanes; opened = is.opened; room = is.room }) f finish_fits
 
     pub finish_done : (memory : Vec (Vec Bool)) (new : Parts D G) → HasWritten (record p { decisions = memory }) new (Finish t c.batch c.decisions)
         → Meets false (finish_due c None (journal_of p)) (sight_of G.count G.limit (view_of p)) (sight_of G.count G.limit (view_of new)) (journal_of p) (Ok t)

@@ -69,6 +69,7 @@ pub record IsShardOf {D : Type 0} {G : Ghosts D} (p : Parts D G) : Type 0 where
   pub since : IsBrokenSince p.opened (G.count (disk_of p.log.journal)) (broken_of p.log.journal)
   pub sound : broken_of p.log.journal ≡ None → IsSound p.log p.log.header (journal_of p) p.decisions.items p.flight
   pub flying : IfSome p.flight (After p.log.header (journal_of p))
+  pub room : used_of (journal_of p) + kept_room p.log.header.shape (journal_of p) ≤ G.limit (disk_of p.log.journal)
 
 -- the record was written and taken in
 pub record HasWritten {D : Type 0} {G : Ghosts D} (old new : Parts D G) (r : Record) : Type 0 where

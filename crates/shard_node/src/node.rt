@@ -1,6 +1,7 @@
 // The calls at a shard.
-ghost use Rattle.std.specs.Prelude.{◌≡◌, ◌≤◌, true, false, None, IfSome, reverse};
-ghost use Rattle.cbdc_model.specs.Due.{lock_due, finish_due, forget_due};
+ghost use Rattle.std.specs.Prelude.{◌≡◌, ◌+◌, ◌≤◌, true, false, None, IfSome, reverse};
+ghost use Rattle.cbdc_model.specs.Due.{used_of, lock_due, finish_due, forget_due};
+ghost use Rattle.cbdc_model.specs.Room.{kept_room};
 ghost use Rattle.cbdc_model.specs.Sights.{Meets, IsBrokenSince};
 ghost use Rattle.cbdc_model.specs.After.{After, IsJournal};
 ghost use Rattle.cbdc_model.specs.Grammar.{IsShard};
@@ -135,6 +136,9 @@ impl<D: Disk> ShardNode<D> {
 
         // A record is in flight only where an append has failed since.
         ensures landed { self.now.broken ≡ None → self.now.flight ≡ None }
+
+        // What its journal takes, with what is kept for its unfinished batches, lies within the capacity.
+        ensures room { used_of self.now.journal + kept_room self.now.header.shape self.now.journal ≤ D.limit self.now.disk }
     {
         &self.parts.log.header
     }

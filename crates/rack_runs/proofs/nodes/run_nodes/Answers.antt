@@ -11,13 +11,20 @@ use Rattle.rack_runs.specs.Endings.{EndsRun}
 use Rattle.rack_runs.proofs.Answering.{came_cause, came_ends, by_entry}
 use Rattle.file_runs.specs.Runs.{joined, IsFilesPiece, FliesWith}
 use Rattle.ledger_nodes.specs.Ledgers.{journals_of, flights_of, faults_of, opened_of, capacity_of, AreChecked, AreStored, AreQuiet}
+use Rattle.rack_laws.specs.Shown.{LogHasRoom, ShardHasRoom}
 use Rattle.rack_runs.specs.Telling.{CountAll, TellsRun}
 use Rattle.rack_runs.proofs.Resumed.{told_made}
 use Rattle.rack_runs.proofs.Lent.{if_made, on_ok, lent_journals, lent_faults, lent_both, lent_flights, on_ok_by}
 use Rattle.rack_runs.proofs.nodes.run_nodes.Goals as goal
 
 pub returns-clause-counts : goal.returns-clause-counts
-returns-clause-counts g c = subst (λ xs. All (λ x. x.faults ≡ g.D.Disk.count x.disk) xs) c.deref.ensures.value c.see_counts.ensures
+returns-clause-counts g c = subst (λ xs. All (λ x. x.faults ≡ g.D.Disk.count x.disk) xs) c.as_slice.ensures.value c.see_logs.ensures.counts
+
+pub returns-clause-log_rooms : goal.returns-clause-log_rooms
+returns-clause-log_rooms g c = subst (λ xs. All (LogHasRoom g.D.Disk.limit) xs) c.as_slice.ensures.value c.see_logs.ensures.rooms
+
+pub returns-clause-shard_rooms : goal.returns-clause-shard_rooms
+returns-clause-shard_rooms g c = subst (λ xs. All (ShardHasRoom g.D.Disk.limit) xs) c.as_slice-2.ensures.value c.see_shards.ensures
 
 pub returns-clause-shape : goal.returns-clause-shape
 returns-clause-shape g c =
@@ -122,7 +129,7 @@ returns-clause-told g c =
     (λ _ _. TellsRun l.header.shape v c.args.files.now (journals_of g.D.Disk.count g.D.Disk.limit l.header.shape l.logs l.shards) N o.resumed.items o.waves.items)) lent told)))
 
 pub returns-clause-unspent : goal.returns-clause-unspent
-returns-clause-unspent g c = subst (λ xs. IfOk c.came_of-came.result (λ r. CountAll (map (λ s. s.journal) xs) r.unspent)) c.deref-2.ensures.value c.came_of-came.ensures.unspent
+returns-clause-unspent g c = subst (λ xs. IfOk c.came_of-came.result (λ r. CountAll (map (λ s. s.journal) xs) r.unspent)) c.as_slice-came.ensures.value c.came_of-came.ensures.unspent
 
 pub run_over-over-requires-clause-checked : goal.run_over-over-requires-clause-checked
 run_over-over-requires-clause-checked g c = subst (λ l. AreChecked g.D.Disk.count g.D.Disk.limit l.header.shape l.logs l.shards) (sym c.lend-lent.ensures) c.requires.checked
