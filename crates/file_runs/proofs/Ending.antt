@@ -1,5 +1,5 @@
 -- Whose fault ended files.
-use Rattle.std.proofs.Common.{◌≡◌, ◌⊎◌, inl, inr, ℕ, ◌*◌, ◌+◌, ◌<◌, Bool, List, [], ◌∷◌, ◌++◌, length, take, drop, get_or, Some, refl, sym, ap, ◌∙◌, subst}
+use Rattle.std.proofs.Common.{◌≡◌, inl, inr, ℕ, ◌*◌, ◌+◌, ◌<◌, List, [], ◌∷◌, ◌++◌, length, take, drop, get_or, Some, refl, sym, ap, ◌∙◌, subst}
 use Rattle.std.specs.Global.{Vec}
 use Rattle.std.proofs.lemmas.List.{append_assoc, take-append-drop}
 use Rattle.cbdc_types.specs.declared.tx.CompactTx.{CompactTx}
@@ -8,15 +8,14 @@ use Rattle.cbdc_model.specs.Coins.{FullTx}
 use Rattle.cbdc_model.specs.World.{AreIdle}
 use Rattle.cbdc_model.specs.Waves.{sent_to}
 use Rattle.cbdc_model.specs.Lanes.{IsEnd}
-use Rattle.submissions.specs.Checks.{VerdictsOf, TellsSound, AreSent}
+use Rattle.submissions.specs.Checks.{VerdictsOf, AreSent}
 use Rattle.lane_driver.specs.declared.fault.LaneFault.{LaneFault}
 use Rattle.lane_driver.specs.declared.fault.LaneFaultKind.TheVariants.{Memory as NoMemory}
 use Rattle.ledger_runs.specs.Waving.{HaveSent, FirstFaultIs}
 use Rattle.ledger_runs.specs.Faults.{HaveCauses}
-use Rattle.ledger_runs.specs.Least.{RunTheirs, IsLeastFault, IsUnbegun}
+use Rattle.ledger_runs.specs.Least.{RunTheirs}
 use Rattle.ledger_runs.specs.declared.lanes.Lane.{Lane}
 use Rattle.ledger_runs.proofs.Least.{least_fault}
-use Rattle.ledger_laws.proofs.Cuts.{end_self}
 use Rattle.file_runs.specs.Runs.{AreLanesOf, HavePreparedFiles, IsSentPiece}
 use Rattle.file_runs.specs.Endings.{EndsFile, EndsFirst, EndsFiles}
 use Rattle.file_runs.proofs.Causing.{sent_piece}

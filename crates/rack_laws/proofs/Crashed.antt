@@ -1,6 +1,6 @@
 -- Whatever a crash leaves of disks that keep kept journals opens to kept journals.
-use Rattle.std.proofs.Common.{◌≡◌, ◌⊎◌, inl, inr, ℕ, ◌<◌, true, false, nat_lt, List, [], ◌∷◌, ◌++◌, reverse, map, Option, Some, None, refl, sym, ap, ◌∙◌, subst}
-use Rattle.std.proofs.lemmas.Bool.{ltb-true}
+use Rattle.std.proofs.Common.{◌≡◌, ◌⊎◌, inl, inr, ℕ, ◌<◌, true, false, nat_lt, List, [], ◌∷◌, ◌++◌, reverse, map, Option, Some, None, refl, sym, ap, ◌∙◌, subst, arith}
+use Rattle.std.proofs.lemmas.Bool.{ltb-true, ltb-false}
 use Rattle.std.proofs.lemmas.Grind.{reverse_onto}
 use Rattle.std.proofs.lemmas.List.{map-append}
 use Rattle.cbdc_model.specs.Records.{Shape, Record}
@@ -45,7 +45,7 @@ module _ {D : Type 0} (images : D → List ℕ → Type 0) (held : ℕ → Optio
   at_node n = go (nat_lt n (node_count K)) refl (held n) refl
     where
       go : (b : _) → nat_lt n (node_count K) ≡ b → (o : Option D) → held n ≡ o → Left n
-      go false high o e = same n (λ inside d told. absurd (cc))
+      go false high o e = same n (λ inside d told. absurd (omega (arith, inside, ltb-false n (node_count K) high)))
       go true low None e = same n (λ inside d told. absurd (let z : None ≡ Some d = sym e ∙ told in cc))
       go true low (Some d) e = either n (flights n) refl (keeps n (ltb-true n (node_count K) low) d e (contents n) (left n (ltb-true n (node_count K) low) d e))
 
