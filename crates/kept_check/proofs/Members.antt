@@ -113,9 +113,3 @@ pub coins_agree : (mint : List Output) (txs : List FullTx) → Clean mint txs
 coins_agree mint txs clean =
     each_all (λ c. AllByRecursion (CoinsAgree c) (tx_coins (genesis_tx mint) ++ coins_in txs)) (tx_coins (genesis_tx mint) ++ coins_in txs)
     (λ c h. each_all (CoinsAgree c) (tx_coins (genesis_tx mint) ++ coins_in txs) (λ d g. clean.hashes c d (to_named mint txs c h) (to_named mint txs d g)))
-
--- what holds of each item of a list, by its first item and its rest
-pub all_then : {X : Type 0} (P : X → Type 0) (xs : List X) (x : X) (rest : List X) (b : Bool) → xs ≡ x ∷ rest → P x
-    → (IsTrue b ↔ All P rest) → (IsTrue b ↔ All P xs)
-all_then P xs x rest b e px h =
-    (λ t. subst (All P) (sym e) (All-cons P x rest px (h.0 t)), λ all. h.1 (All-tail P x rest (subst (All P) e all)))

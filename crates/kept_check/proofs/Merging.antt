@@ -96,7 +96,7 @@ ordered_rising (a ∷ rows) n o =
       | away s ↦ subst Rising (sym (head_away a rows n s)) rest
     ]
 
-behind_last : (xs : List Record) (r : Record) → behind_first (xs ++ r ∷ []) ≡ xs
+pub behind_last : (xs : List Record) (r : Record) → behind_first (xs ++ r ∷ []) ≡ xs
 behind_last [] r = refl
 behind_last (x ∷ []) r = refl
 behind_last (x ∷ (y ∷ xs)) r = ap (λ l. x ∷ l) (behind_last (y ∷ xs) r)

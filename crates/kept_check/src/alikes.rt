@@ -41,7 +41,7 @@ fn behind(outcomes: &[Outcome]) -> &[Outcome]
 
 // Whether decisions are those of a shard's part of transactions by these outcomes, the first of which is the first
 // transaction's.
-#[tactic(auto, using(crate::proofs::Alikes::decides_none, crate::proofs::Alikes::decides_elsewhere, crate::proofs::Alikes::decides_here, crate::proofs::Alikes::decides_not))]
+#[tactic(auto, using(crate::proofs::Finished::decides_none, crate::proofs::Finished::decides_elsewhere, crate::proofs::Finished::decides_here, crate::proofs::Finished::decides_not))]
 fn are_decided(
     shards: u32,
     shard: u32,
@@ -122,7 +122,7 @@ fn are_alike_below(journals: &[List<Record>], shape: &Shape, batch: &BatchId, n:
 
 /// Whether a batch has one Commit, each concerned shard one Lock and one Finish of it, with the Commit's decisions, and no
 /// other shard any record of it.
-#[tactic(auto, using(crate::proofs::Alikes::alike_by, crate::proofs::Alikes::not_alike))]
+#[tactic(auto, using(crate::proofs::Finished::alike_by, crate::proofs::Finished::not_alike))]
 pub fn is_alike(journals: &[List<Record>], shape: &Shape, batch: &BatchId) -> bool
     ensures { IsTrue result ↔ IsAlike shape.now (journals_in journals.now) batch.now }
 {
@@ -131,7 +131,7 @@ pub fn is_alike(journals: &[List<Record>], shape: &Shape, batch: &BatchId) -> bo
 }
 
 // Whether the batch that a record prepares at its own coordinator is finished alike.
-#[tactic(auto, using(crate::proofs::Alikes::prepares_none, crate::proofs::Alikes::prepares_one))]
+#[tactic(auto, using(crate::proofs::Finished::prepares_none, crate::proofs::Finished::prepares_one))]
 fn is_prepared_alike(
     journals: &[List<Record>],
     shape: &Shape,
@@ -149,7 +149,7 @@ fn is_prepared_alike(
 }
 
 // The same of records.
-#[tactic(auto, using(crate::proofs::Alikes::prepared_next, crate::proofs::Alikes::not_prepared))]
+#[tactic(auto, using(crate::proofs::Finished::prepared_next, crate::proofs::Finished::not_prepared))]
 fn are_prepared_alike(
     journals: &[List<Record>],
     shape: &Shape,
@@ -177,7 +177,7 @@ fn are_all_alike_below(journals: &[List<Record>], shape: &Shape, n: usize) -> bo
 }
 
 /// Whether every batch with a Prepare is finished alike on all its shards.
-#[tactic(auto, using(crate::proofs::Alikes::all_alike))]
+#[tactic(auto, using(crate::proofs::Finished::all_alike))]
 pub fn are_alike(journals: &[List<Record>], shape: &Shape) -> bool
     ensures { IsTrue result ↔ Alike shape.now (journals_in journals.now) }
 {

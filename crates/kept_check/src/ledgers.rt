@@ -16,22 +16,32 @@ use model_check::{
 use same_records::is_journal;
 use std::alloc::{AllocError, Global};
 
+// The number of a row's node.
+fn number_of(row: &Row) -> usize
+    ensures value { result ≡ row.now.node }
+    ensures bound { result < 2 ^ 32 }
+{
+    row.node.0 as usize
+}
+
 // Whether all rows are of the nodes below n: no other node has a journal then.
+#[tactic(auto, using(crate::proofs::Belows::below_more, crate::proofs::Belows::below_not))]
 fn are_below(rows: &[Row], n: usize) -> bool
     ensures { IsTrue result ↔ ((k : ℕ) → n ≤ k → journal k rows.now ≡ []) }
 {
     match rows.split_first() {
         None => true,
-        Some((row, past)) => (row.node.0 as usize) < n && are_below(past, n),
+        Some((row, past)) => number_of(row) < n && are_below(past, n),
     }
 }
 
 // No row is of a node past the numbers of 32 bits.
+#[tactic(auto, using(crate::proofs::Belows::numbered_more))]
 fn are_numbered(rows: &[Row])
     ensures { (k : ℕ) → 2 ^ 32 ≤ k → journal k rows.now ≡ [] }
 {
     if let Some((row, past)) = rows.split_first() {
-        let _node = row.node;
+        let _number = number_of(row);
         are_numbered(past);
     }
 }
@@ -154,6 +164,7 @@ fn with_records(
 }
 
 // A journal without its oldest record.
+#[tactic(auto, using(crate::proofs::Belows::front_of))]
 fn behind_first<'a>(past: &'a [Record]) -> &'a [Record]
     ensures { result.now ≡ behind_first past.now }
 {
@@ -164,6 +175,7 @@ fn behind_first<'a>(past: &'a [Record]) -> &'a [Record]
 }
 
 // The records behind the oldest ones of the nodes below n, in the order of a history.
+#[tactic(auto, using(crate::proofs::Belows::below_step))]
 fn later_below(
     alloc: Global,
     journals: &[List<Record>],

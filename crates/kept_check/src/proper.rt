@@ -55,6 +55,7 @@ fn is_worth(o: &Output) -> bool
 }
 
 // Whether each input claims a value.
+#[tactic(auto, using(crate::proofs::Propers::claim_more))]
 fn claim_value(cs: &[Input]) -> bool
     ensures { IsTrue result ↔ All (λ c. 1 ≤ c.output.value) cs.now }
 {
@@ -65,6 +66,7 @@ fn claim_value(cs: &[Input]) -> bool
 }
 
 // Whether each output has a value.
+#[tactic(auto, using(crate::proofs::Propers::worth_more))]
 fn have_value(os: &[Output]) -> bool
     ensures { IsTrue result ↔ All (λ o. 1 ≤ o.value) os.now }
 {
@@ -114,6 +116,7 @@ pub fn is_proper(t: &FullTx) -> bool
 }
 
 /// Whether a compact transaction is the form of a proper submission.
+#[tactic(auto, using(crate::proofs::Propers::proper_none, crate::proofs::Propers::proper_first, crate::proofs::Propers::proper_later))]
 pub fn is_proper_compact(
     alloc: Global,
     submissions: &[FullTx],
@@ -124,13 +127,15 @@ pub fn is_proper_compact(
     let Some((t, rest)) = submissions.split_first() else {
         return Ok(false);
     };
-    if is_proper(t) && is_compact(&compact(alloc, t)?, k) {
+    let own = compact(alloc, t)?;
+    if is_proper(t) && is_compact(&own, k) {
         return Ok(true);
     }
     is_proper_compact(alloc, rest, k)
 }
 
 // Whether each of these is the form of a proper submission.
+#[tactic(auto, using(crate::proofs::Propers::forms_more))]
 fn are_proper_compact(
     alloc: Global,
     submissions: &[FullTx],

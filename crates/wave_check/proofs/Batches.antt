@@ -9,8 +9,8 @@ pub batch_is : (own b : Batch) → (same_batch own b ≡ true) ↔ (own ≡ b)
 batch_is own b = (same_batch_is own b, λ e. subst (λ c. same_batch own c ≡ true) e (same_batch_self own))
 
 -- a record is new where its batch is one of which records may be written
-pub new_by : (of : Batch → Type 0) (r : Record) (own : Batch) (yes : Bool) → ((b : Batch) → (is_of b r ≡ true) ↔ (own ≡ b)) → (IsTrue yes ↔ of own) → IsTrue yes ↔ IsNew of r
-new_by of r own yes is may = (λ t. (own, (is own).1 refl, may.0 t), λ new. may.1 (subst of (sym ((is new.0).0 new.1)) new.2))
+pub new_by : (of : Batch → Type 0) (r : Record) (own : Batch) (told : Bool) → ((b : Batch) → (is_of b r ≡ true) ↔ (own ≡ b)) → (IsTrue told ↔ of own) → IsTrue told ↔ IsNew of r
+new_by of r own told is may = (λ t. (own, (is own).1 refl, may.0 t), λ new. may.1 (subst of (sym ((is new.0).0 new.1)) new.2))
 
 -- a record without a batch never is
 pub not_new : (of : Batch → Type 0) (r : Record) → ((b : Batch) → is_of b r ≡ false) → IsTrue false ↔ IsNew of r

@@ -78,11 +78,11 @@ place_among (v ∷ all) w (inl e) = record { place = 0; inside = omega arith; is
 place_among (v ∷ all) w (inr h) = let later : IsAt all w = place_among all w h in record { place = suc later.place; inside = omega (arith, later.inside); is = later.is }
 
 -- all journals are the same where the first n are, and there are no others
-pub same_by : (I J : ℕ → List Record) (n : ℕ) (yes : Bool) → ((k : ℕ) → n ≤ k → I k ≡ []) → ((k : ℕ) → n ≤ k → J k ≡ [])
-    → (IsTrue yes ↔ ((k : ℕ) → k < n → J k ≡ I k)) → IsTrue yes ↔ ((k : ℕ) → J k ≡ I k)
-same_by I J n yes none none' each = (λ y k. everywhere y k, λ all. each.1 (λ k lt. all k))
+pub same_by : (I J : ℕ → List Record) (n : ℕ) (told : Bool) → ((k : ℕ) → n ≤ k → I k ≡ []) → ((k : ℕ) → n ≤ k → J k ≡ [])
+    → (IsTrue told ↔ ((k : ℕ) → k < n → J k ≡ I k)) → IsTrue told ↔ ((k : ℕ) → J k ≡ I k)
+same_by I J n told none none' each = (λ y k. everywhere y k, λ all. each.1 (λ k lt. all k))
   where
-    everywhere : IsTrue yes → (k : ℕ) → J k ≡ I k
+    everywhere : IsTrue told → (k : ℕ) → J k ≡ I k
     everywhere y k = elim (cases_lt k n) [
       | inl lt ↦ each.0 y k lt
       | inr le ↦ none' k le ∙ sym (none k le)

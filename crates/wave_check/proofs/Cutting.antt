@@ -1,19 +1,20 @@
 -- A list is cut into pieces in one way.
-use Rattle.std.proofs.Common.{◌≡◌, ◌⊎◌, inl, inr, ℕ, ◌<◌, List, [], ◌∷◌, ◌++◌, zero, suc, ◌≤◌, min, take, drop, length, reverse, refl, sym, ap, ◌∙◌, subst, arith, append-nil, append_assoc}
+use Rattle.std.proofs.Common.{◌≡◌, ◌⊎◌, ◌↔◌, Bool, inl, inr, ℕ, ◌<◌, List, [], ◌∷◌, ◌++◌, zero, suc, ◌≤◌, min, take, drop, length, reverse, refl, sym, ap, ◌∙◌, subst, arith, append-nil, append_assoc}
 use Rattle.std.proofs.lemmas.Bool.{cases_lt}
 use Rattle.std.proofs.lemmas.Grind.{common_steps}
 use Rattle.std.proofs.lemmas.List.{take_min}
+use Rattle.std.specs.Prelude.{IsTrue}
 use Rattle.cbdc_model.specs.Records.{Shape, Compact, Record}
 use Rattle.cbdc_model.specs.Waves.{IsCut, prepared}
 use Rattle.wave_check.specs.Adding.{IsPrepared, AddsPieces}
 
+taken_none : {A : Type 0} (n : ℕ) (none : List A) → none ≡ [] → length (take n none) ≡ 0
+taken_none n none e = grind (arith, common_steps, e)
+
 none_taken : {A : Type 0} (n : ℕ) (xs piece : List A) → xs ≡ [] → 0 < length piece → piece ≡ take n xs → ⊥
 none_taken n xs piece e some is =
-    let short : length piece ≡ 0 = ap length is ∙ ap (λ l. length (take n l)) e ∙ empty n in
-    omega arith
-  where
-    empty : (n : ℕ) → length (take n []) ≡ 0
-    empty n = grind (arith, common_steps)
+    let short : length piece ≡ 0 = ap length is ∙ taken_none n xs e in
+    absurd (omega arith)
 
 pub cut_once : {A : Type 0} (n : ℕ) (xs : List A) (ps qs : List (List A)) → IsCut n xs ps → IsCut n xs qs → ps ≡ qs
 cut_once n xs [] [] p q = refl
@@ -25,13 +26,14 @@ cut_once n xs (a ∷ ps) (b ∷ qs) p q =
     λ i. first i ∷ rest i
 
 -- a lane prepared what it got where its Prepares are the pieces behind the older ones
-pub prepared_by : (K : Shape) (lane : ℕ) (sent : List Compact) (old new : List Record) (pieces : List (List Compact)) → IsCut K.batch sent pieces
-    → prepared lane new ≡ reverse pieces ++ prepared lane old → IsPrepared K lane sent old new
-prepared_by K lane sent old new pieces cut is = (pieces, cut, is)
-
-pub is_pieces : (K : Shape) (lane : ℕ) (sent : List Compact) (old new : List Record) (pieces : List (List Compact)) → IsCut K.batch sent pieces
-    → IsPrepared K lane sent old new → prepared lane new ≡ reverse pieces ++ prepared lane old
-is_pieces K lane sent old new pieces cut p = p.2 ∙ ap (λ l. reverse l ++ prepared lane old) (cut_once K.batch sent p.0 pieces p.1 cut)
+pub prepared_by : (K : Shape) (lane n : ℕ) (sent : List Compact) (old new : List Record) (pieces found wanted : List (List Compact)) (told : Bool) → n ≡ K.batch → IsCut n sent pieces
+    → found ≡ prepared lane new → wanted ≡ reverse pieces ++ prepared lane old → (IsTrue told ↔ (found ≡ wanted)) → IsTrue told ↔ IsPrepared K lane sent old new
+prepared_by K lane n sent old new pieces found wanted told size cut f w h =
+    let own : IsCut K.batch sent pieces = subst (λ k. IsCut k sent pieces) size cut in
+    (
+      λ t. (pieces, own, sym f ∙ h.0 t ∙ w),
+      λ p. h.1 (f ∙ p.2 ∙ ap (λ l. reverse l ++ prepared lane old) (cut_once K.batch sent p.0 pieces p.1 own) ∙ sym w),
+    )
 
 -- one piece after another
 pub no_pieces : (n : ℕ) (txs : List Compact) (old : List (List Compact)) → txs ≡ [] → AddsPieces n txs old old
@@ -52,7 +54,7 @@ front_is n k txs piece e f = f ∙ ap (λ i. take i txs) e ∙ take_min n txs
 drop_past : (n : ℕ) (txs : List Compact) → length txs ≤ n → drop n txs ≡ drop (length txs) txs
 drop_past n [] h = nothing n
   where
-    nothing : (n : ℕ) → drop n [] ≡ drop 0 []
+    nothing : (n : ℕ) → drop {A = Compact} n [] ≡ drop {A = Compact} 0 []
     nothing zero = refl
     nothing (suc n) = refl
 drop_past zero (t ∷ txs) h = absurd (omega arith)

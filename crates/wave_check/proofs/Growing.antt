@@ -68,15 +68,21 @@ cut_at old new newer rest k e f l = record { joined = sym (take-append-drop k ne
     f' : drop k new ≡ rest
     f' = sym f
 
-pub grows_by : (of : Batch → Type 0) (old new newer rest : List Record) (yes : Bool) → Cut old new newer rest → rest ≡ old
-    → (IsTrue yes ↔ AllByRecursion (IsNew of) newer) → IsTrue yes ↔ Grows of old new
-grows_by of old new newer rest yes cut same each = (
+pub grows_by : (of : Batch → Type 0) (old new newer rest : List Record) (told : Bool) → Cut old new newer rest → rest ≡ old
+    → (IsTrue told ↔ AllByRecursion (IsNew of) newer) → IsTrue told ↔ Grows of old new
+grows_by of old new newer rest told cut same each = (
   λ y. grown_by of old new newer rest cut.joined same (each.0 y),
   λ g. each.1 (parts of old new newer rest cut.joined cut.length_is g).all,
 )
 
 pub grows_not : (of : Batch → Type 0) (old new newer rest : List Record) → Cut old new newer rest → (rest ≡ old → ⊥) → IsTrue false ↔ Grows of old new
 grows_not of old new newer rest cut other = (λ t. absurd (no_lie t), λ g. absurd (other (parts of old new newer rest cut.joined cut.length_is g).rest_is))
+
+-- the same of journals that are named otherwise
+pub grows_cut : (of : Batch → Type 0) (old new before after newer rest : List Record) (k : ℕ) (told : Bool) → before ≡ old → after ≡ new → newer ≡ take k after → rest ≡ drop k after
+    → length rest ≡ length before → rest ≡ before → (IsTrue told ↔ AllByRecursion (IsNew of) newer) → IsTrue told ↔ Grows of old new
+grows_cut of old new before after newer rest k told o n front back l same each =
+    subst (λ x. IsTrue told ↔ Grows of x new) o (subst (λ y. IsTrue told ↔ Grows of before y) n (grows_by of before after newer rest told (cut_at before after newer rest k front back l) same each))
 
 pub grows_short : (of : Batch → Type 0) (old new : List Record) → length new < length old → IsTrue false ↔ Grows of old new
 grows_short of old new lt = (λ t. absurd (no_lie t), λ g. let le : length old ≤ length new = no_shorter of old new g in absurd (omega arith))
@@ -86,14 +92,14 @@ pub grows_none : (of : Batch → Type 0) (old new : List Record) → old ≡ [] 
 grows_none of old new e f = grown_by of old new [] new refl (f ∙ sym e) tt
 
 -- all journals have grown where each of the first n has, and there are no others
-pub adds_by : (of : Batch → Type 0) (I J : ℕ → List Record) (n : ℕ) (yes : Bool) → ((k : ℕ) → n ≤ k → I k ≡ []) → ((k : ℕ) → n ≤ k → J k ≡ [])
-    → (IsTrue yes ↔ ((k : ℕ) → k < n → Grows of (I k) (J k))) → IsTrue yes ↔ Adds of I J
-adds_by of I J n yes none none' each = (
+pub adds_by : (of : Batch → Type 0) (I J : ℕ → List Record) (n : ℕ) (told : Bool) → ((k : ℕ) → n ≤ k → I k ≡ []) → ((k : ℕ) → n ≤ k → J k ≡ [])
+    → (IsTrue told ↔ ((k : ℕ) → k < n → Grows of (I k) (J k))) → IsTrue told ↔ Adds of I J
+adds_by of I J n told none none' each = (
   λ y. let all : (k : ℕ) → Grows of (I k) (J k) = everywhere y in record { grows = λ k. (all k).grows; each = λ k. (all k).each },
   λ a. each.1 (λ k lt. record { grows = a.grows k; each = a.each k }),
 )
   where
-    everywhere : IsTrue yes → (k : ℕ) → Grows of (I k) (J k)
+    everywhere : IsTrue told → (k : ℕ) → Grows of (I k) (J k)
     everywhere y k = elim (cases_lt k n) [
       | inl lt ↦ each.0 y k lt
       | inr le ↦ grows_none of (I k) (J k) (none k le) (none' k le)

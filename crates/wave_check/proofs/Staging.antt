@@ -1,10 +1,12 @@
 -- Stages one after another are the waves of files, and what they lead through is among the choices.
-use Rattle.std.proofs.Common.{◌≡◌, ◌↔◌, ℕ, ◌*◌, ◌<◌, ◌+◌, Bool, List, [], ◌∷◌, ◌++◌, length, slice_index_or, reverse, refl, sym, ap, ◌∙◌, subst, arith, append-nil, append_assoc}
+use Rattle.std.proofs.Common.{◌≡◌, ◌↔◌, ℕ, ◌*◌, ◌<◌, ◌+◌, Bool, false, List, [], ◌∷◌, ◌++◌, length, slice_index_or, reverse, refl, sym, ap, ◌∙◌, subst, arith, append-nil, append_assoc}
+use Rattle.std.specs.Prelude.{IsTrue}
 use Rattle.cbdc_model.specs.Records.{Shape, Compact, Record}
 use Rattle.cbdc_model.specs.Ranges.{home_of}
 use Rattle.cbdc_model.specs.Coins.{FullTx}
+use Rattle.cbdc_model.specs.World.{AreIdle}
 use Rattle.cbdc_model.specs.Lanes.{IsEnd}
-use Rattle.cbdc_model.specs.Waves.{IsCut, prepared, sent_to, IsResumed, IsFileRun, AreFilesRun, Waves}
+use Rattle.cbdc_model.specs.Waves.{Adds, IsCut, prepared, sent_to, IsResumed, IsFileRun, AreFilesRun, Waves}
 use Rattle.ledger_laws.proofs.Cuts.{end_self, end_trans}
 use Rattle.model_check.specs.Journals.{journals_in}
 use Rattle.wave_check.specs.declared.stages.Stage.{Stage}
@@ -12,7 +14,16 @@ use Rattle.wave_check.specs.declared.stages.Stage.TheVariants.{Resume, File}
 use Rattle.wave_check.specs.Choices.{choices}
 use Rattle.submissions.specs.Checks.{VerdictsOf, TellsSound}
 use Rattle.wave_check.specs.Stages.{sent_in, StageRuns, RunsBy, IsFileStage, AreFileStages, AddsStages}
+use Rattle.wave_check.specs.Adding.{MayAdd, IsPrepared}
 use Rattle.wave_check.proofs.Choosing.{IsChoice, chosen, IsAt, place_among}
+
+-- a file's run is what its records, its Prepares and its lanes at the end say
+pub file_run_by : (K : Shape) (sent : ℕ → List Compact) (I J : ℕ → List Record) (n : ℕ) (told : Bool) → n ≡ K.coordinators * K.lanes → Adds (MayAdd false K I J) I J → AreIdle K J
+    → (IsTrue told ↔ ((lane : ℕ) → lane < n → IsPrepared K lane (sent lane) (I (home_of K lane)) (J (home_of K lane)))) → IsTrue told ↔ IsFileRun K sent I J
+file_run_by K sent I J n told size adds idle h = (
+  λ t. record { adds = adds; cut = λ lane lt. h.0 t lane (subst (λ k. lane < k) (sym size) lt); idle = idle },
+  λ run. h.1 (λ lane lt. run.cut lane (subst (λ k. lane < k) size lt)),
+)
 
 -- a file's run reads what the lanes there are got
 sent_alike : (K : Shape) (a b : ℕ → List Compact) (I J : ℕ → List Record) → ((lane : ℕ) → lane < K.coordinators * K.lanes → a lane ≡ b lane) → IsFileRun K a I J → IsFileRun K b I J

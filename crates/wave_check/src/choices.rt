@@ -9,14 +9,27 @@ use model_check::copy_of_record;
 use same_records::is_journal;
 use std::alloc::{AllocError, Global};
 
+// Puts copies of records behind those so far.
+fn add_records(
+    alloc: Global,
+    past: &[Record],
+    out: &mut Vec<Record>,
+) -> Result<(), AllocError>
+    ensures { OnOk result (out.new.items ≡ out.old.items ++ past.now) }
+{
+    let Some((r, rest)) = past.split_first() else {
+        return Ok(());
+    };
+    out.push(copy_of_record(alloc, r)?)?;
+    add_records(alloc, rest, out)
+}
+
 // A copy of a journal.
 fn copy_of_journal(alloc: Global, past: &[Record]) -> Result<List<Record>, AllocError>
     ensures { IfOk result (λ l. l ≡ past.now) }
 {
-    let mut all = Vec::with_capacity(alloc, past.len())?;
-    for r in past {
-        all.push(copy_of_record(alloc, r)?)?;
-    }
+    let mut all = Vec::new(alloc);
+    add_records(alloc, past, &mut all)?;
     Ok(List::from_vec(all))
 }
 

@@ -1,4 +1,4 @@
-use Rattle.std.proofs.Common.{ℕ, ◌<◌, length, slice_index_or}
+use Rattle.std.proofs.Common.{ℕ, ◌<◌, [], length, slice_index_or}
 use Rattle.model_check.specs.Journals.{journals_in}
 use Rattle.wave_check.proofs.Staging.{Leads}
 use Rattle.wave_check.proofs.stages.+are_stages.Given as goal

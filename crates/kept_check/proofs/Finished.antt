@@ -17,7 +17,7 @@ no_lie t = search rules
 
 -- the decisions of a part, transaction by transaction
 abbrev pub Decides : ℕ → ℕ → List Compact → List Outcome → List Bool → Bool → Type 0
-Decides shards s txs outcomes ds yes = (all : List Outcome) (place : ℕ) → outcomes ≡ drop place all → IsTrue yes ↔ (ds ≡ decisions all (part shards s place txs))
+Decides shards s txs outcomes ds told = (all : List Outcome) (place : ℕ) → outcomes ≡ drop place all → IsTrue told ↔ (ds ≡ decisions all (part shards s place txs))
 
 drop_next : {A : Type 0} (all : List A) (place : ℕ) → drop 1 (drop place all) ≡ drop (suc place) all
 drop_next [] zero = refl
@@ -39,30 +39,30 @@ here : (shards s k : ℕ) (t : Compact) (ts : List Compact) → (is_empty (on_sh
     → part shards s k (t ∷ ts) ≡ entry_of shards s k t ∷ part shards s (suc k) ts
 here shards s k t ts e = rw e refl
 
-pub decides_none : (shards s : ℕ) (txs : List Compact) (outcomes : List Outcome) (ds : List Bool) (yes : Bool) → txs ≡ [] → (IsTrue yes ↔ (ds ≡ [])) → Decides shards s txs outcomes ds yes
-decides_none shards s txs outcomes ds yes e h all place is = subst (λ l. IsTrue yes ↔ (ds ≡ decisions all (part shards s place l))) (sym e) h
+pub decides_none : (shards s : ℕ) (txs : List Compact) (outcomes : List Outcome) (ds : List Bool) (told : Bool) → txs ≡ [] → (IsTrue told ↔ (ds ≡ [])) → Decides shards s txs outcomes ds told
+decides_none shards s txs outcomes ds told e h all place is = subst (λ l. IsTrue told ↔ (ds ≡ decisions all (part shards s place l))) (sym e) h
 
-pub decides_elsewhere : (shards s : ℕ) (txs : List Compact) (t : Compact) (ts : List Compact) (outcomes back : List Outcome) (ds : List Bool) (yes : Bool)
+pub decides_elsewhere : (shards s : ℕ) (txs : List Compact) (t : Compact) (ts : List Compact) (outcomes back : List Outcome) (ds : List Bool) (told : Bool)
     → txs ≡ t ∷ ts → is_empty (on_shard shards s t.inputs) ≡ true → is_empty (on_shard shards s t.outputs) ≡ true → back ≡ drop 1 outcomes
-    → Decides shards s ts back ds yes → Decides shards s txs outcomes ds yes
-decides_elsewhere shards s txs t ts outcomes back ds yes list e f b rest all place is =
-    subst (λ l. IsTrue yes ↔ (ds ≡ decisions all (part shards s place l))) (sym list) (subst (λ es. IsTrue yes ↔ (ds ≡ decisions all es)) (sym (elsewhere shards s place t ts e f)) (rest all (suc place) (b ∙ ap (drop 1) is ∙ drop_next all place)))
+    → Decides shards s ts back ds told → Decides shards s txs outcomes ds told
+decides_elsewhere shards s txs t ts outcomes back ds told list e f b rest all place is =
+    subst (λ l. IsTrue told ↔ (ds ≡ decisions all (part shards s place l))) (sym list) (subst (λ es. IsTrue told ↔ (ds ≡ decisions all es)) (sym (elsewhere shards s place t ts e f)) (rest all (suc place) (b ∙ ap (drop 1) is ∙ drop_next all place)))
 
-pub decides_here : (shards s : ℕ) (txs : List Compact) (t : Compact) (ts : List Compact) (outcomes back : List Outcome) (all_ds : List Bool) (d : Bool) (ds : List Bool) (yes : Bool)
+pub decides_here : (shards s : ℕ) (txs : List Compact) (t : Compact) (ts : List Compact) (outcomes back : List Outcome) (all_ds : List Bool) (d : Bool) (ds : List Bool) (told : Bool)
     → txs ≡ t ∷ ts → all_ds ≡ d ∷ ds → (is_empty (on_shard shards s t.inputs) && is_empty (on_shard shards s t.outputs)) ≡ false → back ≡ drop 1 outcomes → d ≡ won_at outcomes 0
-    → Decides shards s ts back ds yes → Decides shards s txs outcomes all_ds yes
-decides_here shards s txs t ts outcomes back all_ds d ds yes list list' e b same rest all place is =
+    → Decides shards s ts back ds told → Decides shards s txs outcomes all_ds told
+decides_here shards s txs t ts outcomes back all_ds d ds told list list' e b same rest all place is =
     let first : d ≡ won_at all place = same ∙ ap (λ l. won_at l 0) is ∙ won_next all place in
-    let later : IsTrue yes ↔ (ds ≡ decisions all (part shards s (suc place) ts)) = rest all (suc place) (b ∙ ap (drop 1) is ∙ drop_next all place) in
-    subst (λ l. IsTrue yes ↔ (all_ds ≡ decisions all (part shards s place l))) (sym list)
-    (subst (λ l. IsTrue yes ↔ (l ≡ decisions all (part shards s place (t ∷ ts)))) (sym list')
-    (subst (λ es. IsTrue yes ↔ (d ∷ ds ≡ decisions all es)) (sym (here shards s place t ts e)) (
+    let later : IsTrue told ↔ (ds ≡ decisions all (part shards s (suc place) ts)) = rest all (suc place) (b ∙ ap (drop 1) is ∙ drop_next all place) in
+    subst (λ l. IsTrue told ↔ (all_ds ≡ decisions all (part shards s place l))) (sym list)
+    (subst (λ l. IsTrue told ↔ (l ≡ decisions all (part shards s place (t ∷ ts)))) (sym list')
+    (subst (λ es. IsTrue told ↔ (d ∷ ds ≡ decisions all es)) (sym (here shards s place t ts e)) (
       λ y. (λ i. first i ∷ later.0 y i),
       λ both. later.1 (tails d ds (won_at all place) (decisions all (part shards s (suc place) ts)) both),
     )))
   where
-    tails : (a : Bool) (as : List Bool) (b : Bool) (bs : List Bool) → a ∷ as ≡ b ∷ bs → as ≡ bs
-    tails a as b bs e = cc
+    tails : (a : Bool) (rest : List Bool) (b : Bool) (more : List Bool) → a ∷ rest ≡ b ∷ more → rest ≡ more
+    tails a rest b more e = cc
 
 pub decides_not : (shards s : ℕ) (txs : List Compact) (t : Compact) (ts : List Compact) (outcomes : List Outcome) (ds : List Bool)
     → txs ≡ t ∷ ts → (is_empty (on_shard shards s t.inputs) && is_empty (on_shard shards s t.outputs)) ≡ false → ((d : Bool) (rest : List Bool) → ds ≡ d ∷ rest → d ≡ won_at outcomes 0 → ⊥)
@@ -74,9 +74,9 @@ decides_not shards s txs t ts outcomes ds list e differ all place is =
     ))
 
 -- a batch that is finished alike, shard by shard
-pub alike_by : (K : Shape) (J : ℕ → List Record) (b : Batch) (yes : Bool) → count_of 7 (J (home_of K b.lane)) b ≡ 1
-    → (IsTrue yes ↔ ((s : ℕ) → s < K.shards → IsAlikeAt K J b s)) → IsTrue yes ↔ IsAlike K J b
-alike_by K J b yes one each = (
+pub alike_by : (K : Shape) (J : ℕ → List Record) (b : Batch) (told : Bool) → count_of 7 (J (home_of K b.lane)) b ≡ 1
+    → (IsTrue told ↔ ((s : ℕ) → s < K.shards → IsAlikeAt K J b s)) → IsTrue told ↔ IsAlike K J b
+alike_by K J b told one each = (
   λ y. let at : (s : ℕ) → s < K.shards → IsAlikeAt K J b s = each.0 y in
     record {
       one_commit = one;
@@ -115,9 +115,9 @@ found_later r rest b h = grind (arith, common_steps)
 only : (r : Record) (b : Batch) → is_some (record_of 6 (r ∷ []) b) ≡ true → Prepares r b ≡ true
 only r b h = grind (arith, common_steps)
 
-pub prepared_next : (K : Shape) (J : ℕ → List Record) (n : ℕ) (past : List Record) (r : Record) (rest : List Record) (yes : Bool) → past ≡ r ∷ rest → PreparedAlike K J n (r ∷ [])
-    → (IsTrue yes ↔ PreparedAlike K J n rest) → IsTrue yes ↔ PreparedAlike K J n past
-prepared_next K J n past r rest yes e first later = subst (λ l. IsTrue yes ↔ PreparedAlike K J n l) (sym e) (
+pub prepared_next : (K : Shape) (J : ℕ → List Record) (n : ℕ) (past : List Record) (r : Record) (rest : List Record) (told : Bool) → past ≡ r ∷ rest → PreparedAlike K J n (r ∷ [])
+    → (IsTrue told ↔ PreparedAlike K J n rest) → IsTrue told ↔ PreparedAlike K J n past
+prepared_next K J n past r rest told e first later = subst (λ l. IsTrue told ↔ PreparedAlike K J n l) (sym e) (
   λ y b home is. elim (found r rest b is) [
     | inl f ↦ first b home (found_first r [] b f)
     | inr g ↦ later.0 y b home g
@@ -136,11 +136,11 @@ prepares_none K J n r other b home is = absurd (never (kind_of r == 6) (is_of b 
     never p q e h = grind (arith, e, h)
 
 -- and one that prepares a batch
-pub prepares_one : (K : Shape) (J : ℕ → List Record) (n stamp : ℕ) (own : Batch) (txs : List Compact) (yes : Bool)
-    → (IsTrue yes ↔ ((home_of K own.lane ≡ n → IsAlike K J own))) → IsTrue yes ↔ PreparedAlike K J n (Prepare stamp own txs ∷ [])
-prepares_one K J n stamp own txs yes told = (
-  λ y b home is. let same : own ≡ b = same_batch_is own b (of_own b is) in subst (IsAlike K J) same (told.0 y (ap (λ c. home_of K c.lane) same ∙ home)),
-  λ all. told.1 (λ home. all own home (found_own own)),
+pub prepares_one : (K : Shape) (J : ℕ → List Record) (n : ℕ) (r : Record) (stamp : ℕ) (own : Batch) (txs : List Compact) (told : Bool) → r ≡ Prepare stamp own txs
+    → (IsTrue told ↔ (home_of K own.lane ≡ n → IsAlike K J own)) → IsTrue told ↔ PreparedAlike K J n (r ∷ [])
+prepares_one K J n r stamp own txs told e h = subst (λ q. IsTrue told ↔ PreparedAlike K J n (q ∷ [])) (sym e) (
+  λ y b home is. let same : own ≡ b = same_batch_is own b (of_own b is) in subst (IsAlike K J) same (h.0 y (ap (λ c. home_of K c.lane) same ∙ home)),
+  λ all. h.1 (λ home. all own home (found_own own)),
 )
   where
     of_own : (b : Batch) → is_some (record_of 6 (Prepare stamp own txs ∷ []) b) ≡ true → same_batch own b ≡ true
@@ -153,9 +153,9 @@ prepares_one K J n stamp own txs yes told = (
 past_end : (all : List (List Record)) (n : ℕ) → length all ≤ n → journals_in all n ≡ []
 past_end all n le = get_or_past all n [] le
 
-pub all_alike : (K : Shape) (all : List (List Record)) (yes : Bool) → (IsTrue yes ↔ ((k : ℕ) → k < length all → PreparedAlike K (journals_in all) k (journals_in all k)))
-    → IsTrue yes ↔ Alike K (journals_in all)
-all_alike K all yes each = (
+pub all_alike : (K : Shape) (all : List (List Record)) (told : Bool) → (IsTrue told ↔ ((k : ℕ) → k < length all → PreparedAlike K (journals_in all) k (journals_in all k)))
+    → IsTrue told ↔ Alike K (journals_in all)
+all_alike K all told each = (
   λ y b is. each.0 y (home_of K b.lane) (inside b is) b refl is,
   λ alike. each.1 (λ k lt b home is. alike b (subst (λ n. is_some (record_of 6 (journals_in all n) b) ≡ true) (sym home) is)),
 )
