@@ -1,10 +1,12 @@
 -- First rows, node by node, and that rows stand on the nodes of their ledger.
-use Rattle.std.proofs.Common.{◌≡◌, ℕ, zero, suc, ◌+◌, ◌-◌, ◌<◌, ◌≤◌, ◌==◌, List, [], ◌∷◌, ◌++◌, refl, arith}
+use Rattle.std.proofs.Common.{◌≡◌, ◌↔◌, Bool, sym, ap, ◌∙◌, subst, ℕ, zero, suc, ◌+◌, ◌-◌, ◌<◌, ◌≤◌, ◌==◌, List, [], ◌∷◌, ◌++◌, refl, arith}
 use Rattle.std.proofs.lemmas.Grind.{common_steps}
 use Rattle.cbdc_model.specs.Records.{Shape, Compact, Record, Row, journal, Genesis, Lock, Finish, Forget, Start, Prepare, Commit, Discard, Done}
+use Rattle.std.specs.Prelude.{IsTrue}
 use Rattle.cbdc_model.specs.After.{After}
+use Rattle.cbdc_model.specs.Causes.{IsCaused}
 use Rattle.cbdc_model.specs.Ranges.{shard_node, on_shard}
-use Rattle.cbdc_model.specs.History.{Minted, header_of, starts, geneses, first_rows, IsSteady}
+use Rattle.cbdc_model.specs.History.{Minted, header_of, starts, geneses, first_rows, TxsPass, IsSteady}
 
 pub starts_step : (K : Shape) (m : Minted) (n : ℕ) → 0 < n
     → starts K m n ≡ record { node = n - 1; what = Start (header_of K m.id (n - 1)) } ∷ starts K m (n - 1)
@@ -53,3 +55,17 @@ steady_none K m P [] n steady h = first_none K m n h
 steady_none K m P (row ∷ later) n steady h =
     let inside : row.node < K.coordinators + K.shards = on_node K m row.node (journal row.node (later ++ first_rows K m)) row.what steady.0 in
     grind (arith, common_steps, steady_none K m P later n steady.3 h, inside)
+
+-- the same of rows on top of the first ones, and one row more
+pub steady_past : (K : Shape) (m : Minted) (P : Compact → Type 0) (rest first past : List Row) (n : ℕ) → first ≡ first_rows K m → past ≡ rest ++ first → IsSteady K m P rest
+    → K.coordinators + K.shards ≤ n → journal n past ≡ []
+steady_past K m P rest first past n f p steady h = ap (journal n) (p ∙ ap (λ l. rest ++ l) f) ∙ steady_none K m P rest n steady h
+
+pub steady_more : (K : Shape) (m : Minted) (P : Compact → Type 0) (later : List Row) (row : Row) (rest first past : List Row) (told : Bool) → later ≡ row ∷ rest → first ≡ first_rows K m
+    → past ≡ rest ++ first → After (header_of K m.id row.node) (journal row.node past) row.what × TxsPass P row.what → IsSteady K m P rest
+    → (IsTrue told ↔ IsCaused K (λ n. journal n past) row.node row.what) → IsTrue told ↔ IsSteady K m P later
+steady_more K m P later row rest first past told e f p may steady h =
+    let same : past ≡ rest ++ first_rows K m = p ∙ ap (λ l. rest ++ l) f in
+    let comes : After (header_of K m.id row.node) (journal row.node (rest ++ first_rows K m)) row.what = subst (λ l. After (header_of K m.id row.node) (journal row.node l) row.what) same may.0 in
+    let caused : IsTrue told ↔ IsCaused K (λ n. journal n (rest ++ first_rows K m)) row.node row.what = subst (λ l. IsTrue told ↔ IsCaused K (λ n. journal n l) row.node row.what) same h in
+    subst (λ l. IsTrue told ↔ IsSteady K m P l) (sym e) (λ t. (comes, caused.0 t, may.1, steady), λ s. caused.1 s.1)
