@@ -1,5 +1,5 @@
 -- Stages one after another are the waves of files, and what they lead through is among the choices.
-use Rattle.std.proofs.Common.{◌≡◌, ◌↔◌, ℕ, ◌*◌, ◌<◌, ◌+◌, Bool, false, List, [], ◌∷◌, ◌++◌, length, slice_index_or, reverse, refl, sym, ap, ◌∙◌, subst, arith, append-nil, append_assoc}
+use Rattle.std.proofs.Common.{◌≡◌, ◌↔◌, ℕ, ◌*◌, ◌<◌, ◌+◌, Bool, true, false, List, [], ◌∷◌, ◌++◌, length, slice_index_or, reverse, refl, sym, ap, ◌∙◌, subst, arith, rules, append-nil, append_assoc}
 use Rattle.std.specs.Prelude.{IsTrue}
 use Rattle.cbdc_model.specs.Records.{Shape, Compact, Record}
 use Rattle.cbdc_model.specs.Ranges.{home_of}
@@ -105,3 +105,25 @@ through K s stages I all runs =
 
 pub leads_on : (K : Shape) (s : Stage) (stages : List Stage) (I J : ℕ → List Record) (w : List (List Record)) → Leads K s stages I J w → RunsBy K (s ∷ stages) I J
 leads_on K s stages I J w leads = (journals_in w, leads.0, leads.1)
+
+no_lie : IsTrue false → ⊥
+no_lie t = search rules
+
+-- no stage, a choice that was found, and none
+pub runs_none : (K : Shape) (stages : List Stage) (I J : ℕ → List Record) (told : Bool) → stages ≡ [] → (IsTrue told ↔ ((n : ℕ) → J n ≡ I n)) → IsTrue told ↔ RunsBy K stages I J
+runs_none K stages I J told e h = subst (λ l. IsTrue told ↔ RunsBy K l I J) (sym e) h
+
+pub runs_found : (K : Shape) (stages : List Stage) (s : Stage) (rest : List Stage) (I J : ℕ → List Record) (w : List (List Record)) → stages ≡ s ∷ rest → Leads K s rest I J w
+    → IsTrue true ↔ RunsBy K stages I J
+runs_found K stages s rest I J w e leads = subst (λ l. IsTrue true ↔ RunsBy K l I J) (sym e) (λ t. leads_on K s rest I J w leads, λ runs. search rules)
+
+pub runs_not : (K : Shape) (stages : List Stage) (s : Stage) (rest : List Stage) (I : ℕ → List Record) (all : List (List Record)) (worlds : List (List (List Record))) → stages ≡ s ∷ rest
+    → worlds ≡ choices all → ((k : ℕ) → k < length worlds → Leads K s rest I (journals_in all) (slice_index_or worlds k []) → ⊥) → IsTrue false ↔ RunsBy K stages I (journals_in all)
+runs_not K stages s rest I all worlds e f none = subst (λ l. IsTrue false ↔ RunsBy K l I (journals_in all)) (sym e) (
+  λ t. absurd (no_lie t),
+  λ runs.
+    let here : Through K s rest I all = through K s rest I all runs in
+    let never : (k : ℕ) → k < length (choices all) → Leads K s rest I (journals_in all) (slice_index_or (choices all) k []) → ⊥ =
+        subst (λ l. (k : ℕ) → k < length l → Leads K s rest I (journals_in all) (slice_index_or l k []) → ⊥) f none in
+    absurd (never here.place here.inside here.leads),
+)

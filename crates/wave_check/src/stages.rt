@@ -99,6 +99,7 @@ fn stage_runs(
 }
 
 /// Whether stages in turn lead from these journals to those. The choices are those for the last journals.
+#[tactic(auto, using(crate::proofs::Staging::runs_none, crate::proofs::Staging::runs_found, crate::proofs::Staging::runs_not))]
 pub fn are_stages(
     alloc: Global,
     shape: &Shape,
