@@ -1,5 +1,5 @@
 -- The verdict on the history of a ledger's nodes.
-use Rattle.std.proofs.Common.{◌≡◌, ◌∙◌, ℕ, ◌<◌, List, reverse, Option, Result, Ok, Err, sym, ap, subst, arith}
+use Rattle.std.proofs.Common.{◌≡◌, ◌∙◌, ℕ, List, reverse, Option, Result, Ok, Err, sym, ap, subst, arith}
 use Rattle.std.specs.Prelude.{IfOk}
 use Rattle.std.proofs.lemmas.List.{reverse-reverse}
 use Rattle.cbdc_model.specs.Records.{Digest, Shape, Header, Record, Row}
@@ -10,16 +10,14 @@ use Rattle.history.specs.declared.place.Place.{Place}
 use Rattle.history.specs.Rows.{rows_at}
 use Rattle.audit.specs.declared.verdict.Verdict.{Verdict}
 use Rattle.audit.specs.declared.verdict.Verdict.TheVariants.{Sound, Unsound}
-use Rattle.audit.specs.Verdicts.{IsVerdict, journals_of as rows_journals}
+use Rattle.audit.specs.Verdicts.{IsVerdict}
 use Rattle.audit.proofs.Single.{one_verdict}
-use Rattle.audit_laws.specs.Journals.{AreJournals}
 use Rattle.audit_laws.proofs.Accounts.{account}
 use Rattle.rack_ledgers.specs.Ledgers.{AreOpened}
 use Rattle.caused_ledgers.specs.Caused.{journals_of, AreMerged, IsToldHistory}
-use Rattle.caused_ledgers.specs.Laws.{AllTell}
 use Rattle.caused_ledgers.proofs.Told.{told_history}
 use Rattle.caused_ledgers.proofs.Once.{same_shape, same_rows}
-use Rattle.audited_ledgers.specs.Audited.{HasVerdict, IsAudited, Accounts}
+use Rattle.audited_ledgers.specs.Audited.{HasVerdict, IsAudited}
 use Rattle.audited_ledgers.specs.Laws.{HasOneVerdict, VerdictsAccount}
 
 module _ {D : Type 0} (content : D → Option (List ℕ)) (images : D → List ℕ → Type 0) (limit count : D → ℕ) (held : ℕ → Option D) (h : Header) (logs : List (LogOf D)) (shards : List (ShardOf D))

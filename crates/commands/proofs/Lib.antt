@@ -1,6 +1,7 @@
 pub mod Counts
 pub mod Stands
 pub mod Named
+pub mod Naming
 pub mod Answers
 pub mod Items
 pub mod Lines
