@@ -1,8 +1,8 @@
 -- How many batches a run prepared, and how many submissions it had.
-use Rattle.std.proofs.Common.{◌≡◌, ℕ, zero, suc, ◌+◌, ◌-◌, ◌*◌, ◌%◌, ◌<◌, ◌≤◌, Bool, true, false, ◌==◌, List, [], ◌∷◌, ◌++◌, map, length, take, get_or, add-one, if◌then◌else◌, Option, Some, None, refl, sym, ap, ◌∙◌, subst, arith}
-use Rattle.std.specs.Prelude.{slice_get, sum_by}
+use Rattle.std.proofs.Common.{◌≡◌, ℕ, zero, suc, ◌+◌, ◌*◌, ◌%◌, ◌<◌, ◌≤◌, Bool, true, false, ◌==◌, List, [], ◌∷◌, length, take, get_or, add-one, if◌then◌else◌, Option, Some, None, refl, sym, ap, ◌∙◌, subst, arith}
+use Rattle.std.specs.Prelude.{slice_get}
 use Rattle.std.specs.List.{filter}
-use Rattle.std.proofs.lemmas.List.{length-map, length-append, take-append-le, take_all, take_more}
+use Rattle.std.proofs.lemmas.List.{length-map, length-append, take_all}
 use Rattle.std.proofs.lemmas.List.Sums.{sum_by_more, sum_by-cons}
 use Rattle.cbdc_model.specs.Records.{Shape, Record}
 use Rattle.cbdc_model.specs.Ranges.{home_of}
@@ -15,11 +15,11 @@ use Rattle.submissions.specs.declared.Checked.{Checked}
 use Rattle.input_files.specs.Contents.{all_txs}
 use Rattle.ledger_runs.specs.Telling.{SamePrepared}
 use Rattle.ledger_runs.specs.declared.lanes.Lane.{Lane}
-use Rattle.ledger_runs.proofs.Sizes.{prepared_more, total, count_is, fewer}
+use Rattle.ledger_runs.proofs.Sizes.{prepared_more, count_is, fewer}
 use Rattle.file_runs.specs.Telling.{TellsFile, TellFiles}
 use Rattle.file_runs.specs.declared.waves.Wave.{Wave}
 use Rattle.printed_lines.specs.declared.report.Report.{Report}
-use Rattle.printed_lines.specs.Decided.{added, batches_below, new_batches}
+use Rattle.printed_lines.specs.Decided.{batches_below, new_batches}
 use Rattle.commands.specs.Told.{told_of, one_if, told_count, told_total, batches_in, batches_told}
 use Rattle.commands.proofs.Decisions.{Came, by_file, added_is}
 

@@ -26,7 +26,7 @@ use Rattle.printed_lines.specs.Decided.{added, batches_below, new_batches}
 use Rattle.workload.specs.Generator.{mint_of, minted_of, joined_of, splits_of, joins_of, split_of, join_of}
 use Rattle.commands.specs.Generated.{all_good, files_of, made_for, rounded_up, sent_of, cut_below, batches_for}
 use Rattle.commands.proofs.Decisions.{added_is}
-use Rattle.commands.proofs.Refused.{IsGood, splits_sound, joins_sound}
+use Rattle.workload_laws.proofs.Sound.{IsGood, splits_sound, joins_sound}
 
 -- ---- pieces
 

@@ -1,20 +1,20 @@
 -- What the lanes of a file's wave tell of a submission is what the journals at a run's exit decide of it, counted over all files.
-use Rattle.std.proofs.Common.{◌≡◌, ◌⊎◌, inl, inr, ℕ, zero, suc, ◌+◌, ◌-◌, ◌*◌, ◌<◌, ◌≤◌, Bool, true, false, ◌&&◌, ◌==◌, List, [], ◌∷◌, ◌++◌, map, reverse, length, take, Option, Some, None, refl, sym, ap, ◌∙◌, subst, arith, append_assoc, append-nil}
-use Rattle.std.specs.Prelude.{slice_get, is_some, option_map}
+use Rattle.std.proofs.Common.{◌≡◌, ℕ, zero, suc, ◌+◌, ◌-◌, ◌*◌, ◌<◌, Bool, true, false, ◌&&◌, ◌==◌, List, [], ◌∷◌, ◌++◌, reverse, length, take, Some, None, refl, sym, ap, ◌∙◌, subst, arith, append_assoc}
+use Rattle.std.specs.Prelude.{slice_get, is_some}
 use Rattle.std.proofs.lemmas.List.{append_cancel_right, length-append, take-append-le, take_all}
-use Rattle.cbdc_model.specs.Records.{Shape, Batch, Compact, Outcome, Record, record_of, kind_of, is_of, outcomes_of, outcomes_in}
+use Rattle.cbdc_model.specs.Records.{Shape, Batch, Compact, Record, record_of, kind_of, is_of, outcomes_of, outcomes_in}
 use Rattle.cbdc_model.specs.Ranges.{home_of}
 use Rattle.cbdc_model.specs.Coins.{FullTx}
 use Rattle.cbdc_model.specs.Lanes.{IsEnd}
-use Rattle.cbdc_model.specs.Waves.{Adds, prepared, has_prepare, IsCut, IsFileRun, sent_to}
-use Rattle.cbdc_model.specs.Places.{PlaceIn, Sized, sized_onto, place_of, outcome_in}
+use Rattle.cbdc_model.specs.Waves.{prepared, has_prepare, IsFileRun, sent_to}
+use Rattle.cbdc_model.specs.Places.{Sized, sized_onto, place_of}
 use Rattle.ledger_laws.proofs.Lookups.{true_false, not_true}
 use Rattle.ledger_laws.proofs.Moves.{test_step}
 use Rattle.run_laws.proofs.NewRecords.{still_found}
 use Rattle.run_laws.proofs.WaveTurns.{one_batch}
 use Rattle.submissions.specs.Checks.{VerdictsOf, TellsSound}
 use Rattle.printed_lines.specs.Decided.{added, decided_there as there_decided, decided_at}
-use Rattle.ledger_runs.specs.Telling.{SamePrepared, decided_of, AreDecided, KeepsDecided, kept_by, AllTell}
+use Rattle.ledger_runs.specs.Telling.{SamePrepared, decided_of, kept_by}
 use Rattle.ledger_runs.specs.declared.lanes.Lane.{Lane}
 use Rattle.ledger_runs.proofs.Sizes.{sized_more, prepared_more, total, joint, total_more, total_is, joint_turned, cut_total, count_is, decided_total, EachSized, decided_as, decided_there, place_behind, place_first, are_decided_as}
 use Rattle.ledger_runs.proofs.Stays.{IsOwn, all_own}

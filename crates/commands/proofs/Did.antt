@@ -21,7 +21,19 @@ module _ {D : Type 0} (files : Text → Option (List ℕ)) (content : D → Opti
     verdicts_read = is.verdicts_read;
     caused = is.caused;
     ran = is.ran;
-    prints = λ K mint submissions E within shows kept. let told = is.prints K mint submissions E within shows kept in (told.0, told.1, (told.2.0, told.2.1, by told.2.0 told.2.2));
+    prints = λ K mint submissions E within shows kept.
+        let told = is.prints K mint submissions E within shows kept in
+        record {
+          exit = told.exit;
+          disks = told.disks;
+          grown = told.grown;
+          waves = told.waves;
+          text = told.text;
+          lines = told.lines;
+          prints = by told.text told.prints;
+          settled = told.settled;
+          free = told.free;
+        };
   }
   did_by Recover is = (is.0, λ K mint submissions E within shows kept. let told = is.1 K mint submissions E within shows kept in (told.0, told.1, (told.2.0, told.2.1, by told.2.0 told.2.2)))
   did_by (Status hashes) is =

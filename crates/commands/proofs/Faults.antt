@@ -1,23 +1,14 @@
 -- What is printed of a fault.
-use Rattle.std.proofs.Common.{◌≡◌, ◌⊎◌, ⊎_elim, inl, inr, ◌≤◌, ◌<◌, ◌++◌, ◌∷◌, ◌∙◌, ℕ, Bool, true, false, if◌then◌else◌, List, length, take, drop, Option, Some, None, Result, Ok, Err, refl, sym, ap, codes, arith}
-use Rattle.std.specs.Prelude.{OnErr, slice_get, slice_index_or, string_bytes}
-use Rattle.std.specs.Option.{option_map}
-use Rattle.std.specs.Str.{bytes_eq}
-use Rattle.std.specs.Str.Pattern.{FindsTextPrefix, LacksTextAt}
-use Rattle.std.specs.declared.alloc.Global.{Global}
-use Rattle.std.specs.declared.string.String.{String}
-use Rattle.std.proofs.lemmas.List.{length-map, take_at, take-append-drop}
-use Rattle.std.proofs.lemmas.Option.{slice_get-get_or, slice_get-map, slice_get_past}
-use Rattle.std.proofs.lemmas.Slice.Eq.{bytes_eq-Decides}
+use Rattle.std.proofs.Common.{◌≡◌, ◌⊎◌, inl, inr, ◌++◌, ◌∙◌, ℕ, List, take, Option, Some, Result, Ok, Err, refl}
+use Rattle.std.specs.Prelude.{OnErr}
 use Rattle.outside.specs.Images.{Tells}
 use Rattle.cbdc_types.specs.declared.answer.Answer.{Answer}
 use Rattle.cbdc_types.specs.declared.answer.Answer.TheVariants as answers
-use Rattle.command_line.specs.Words.{texts}
 use Rattle.line_text.specs.Faults.{fault_text}
 use Rattle.line_text.specs.Lines.{Text, Prints}
-use Rattle.printed_lines.specs.Reports.{name_in, Names}
-use Rattle.commands.specs.Causes.{IsAnswered}
-use Rattle.commands.specs.Texts.{IsSilent, IsNameOf, IsFaultPrinted}
+use Rattle.printed_lines.specs.Reports.{Names}
+use Rattle.commands.specs.Causes.{AskedName}
+use Rattle.commands.specs.Texts.{IsSilent, IsFaultPrinted}
 
 -- what was not touched is as it was
 pub silent_same : (t : Option Text) (a : Answer) → IsSilent t t a
@@ -37,30 +28,12 @@ silent_same t answers.WriteFault = tt
 silent_same t (answers.DiskFault k) = refl
 silent_same t answers.Memory = refl
 
--- the file that is spoken of stands among the words, so this is its name
-pub names_there : (words : List Text) (before now : Text → ℕ) (written : Type 0) (name : Text) (a : Answer) → IsAnswered words before now written a → IsNameOf words a name → Names words a name
-names_there words before now written name answers.Ok is named = tt
-names_there words before now written name answers.BadWords is named = tt
-names_there words before now written name (answers.BadInput file at kind) is named = (is.0, is.1, named is.0 is.1)
-names_there words before now written name (answers.TooMuch total) is named = tt
-names_there words before now written name (answers.NotReady k) is named = tt
-names_there words before now written name (answers.Foreign k kept asked) is named = tt
-names_there words before now written name (answers.NotEmpty k) is named = tt
-names_there words before now written name (answers.Full k used need capacity) is named = tt
-names_there words before now written name (answers.Unsound spot kind) is named = tt
-names_there words before now written name (answers.ClockEnd k stamp) is named = tt
-names_there words before now written name (answers.Damaged k at) is named = tt
-names_there words before now written name (answers.ReadFault file) is named = ⊎_elim (λ own. (is.0, own, named is.0 own)) (λ joined. (codes "--verdicts" ++ 61 ∷ is.0, joined, named (codes "--verdicts" ++ 61 ∷ is.0) joined)) is.1
-names_there words before now written name answers.WriteFault is named = tt
-names_there words before now written name (answers.DiskFault k) is named = tt
-names_there words before now written name answers.Memory is named = tt
-
 -- a text that was printed, or a front of it where the sink failed
 text_printed : {E : Type 0} (old mid new : Option Text) (text : Text) (failed : Type 0) (r : Result (Unit {0}) E) → mid ≡ old → Prints mid new text r → OnErr r failed → Tells old (λ t. (new ≡ Some (t ++ text)) ⊎ (failed × ((n : ℕ) × (new ≡ Some (t ++ take n text)))))
 text_printed old mid new text failed (Ok done) same prints cause = λ t is. inl (prints t (same ∙ is))
 text_printed old mid new text failed (Err e) same prints cause = λ t is. inr (cause, prints t (same ∙ is))
 
-pub fault_printed : {E : Type 0} (words : List Text) (old mid new : Option Text) (name : Text) (failed : Type 0) (r : Result (Unit {0}) E) (a : Answer) → IsSilent old mid a → Names words a name → Prints mid new (fault_text a name) r → OnErr r failed → IsFaultPrinted words old new failed a
+pub fault_printed : {E : Type 0} (words : List Text) (old mid new : Option Text) (name : Text) (failed : Type 0) (r : Result (Unit {0}) E) (a : Answer) → IsSilent old mid a → Names (AskedName words) a name → Prints mid new (fault_text a name) r → OnErr r failed → IsFaultPrinted words old new failed a
 fault_printed words old mid new name failed r answers.Ok silent named prints cause = tt
 fault_printed words old mid new name failed r answers.BadWords silent named prints cause = (fault_text answers.BadWords name, (name, named, refl), text_printed old mid new (fault_text answers.BadWords name) failed r silent prints cause)
 fault_printed words old mid new name failed r (answers.BadInput file at kind) silent named prints cause = (fault_text (answers.BadInput file at kind) name, (name, named, refl), text_printed old mid new (fault_text (answers.BadInput file at kind) name) failed r silent prints cause)
@@ -76,37 +49,3 @@ fault_printed words old mid new name failed r (answers.ReadFault file) silent na
 fault_printed words old mid new name failed r answers.WriteFault silent named prints cause = tt
 fault_printed words old mid new name failed r (answers.DiskFault k) silent named prints cause = (fault_text (answers.DiskFault k) name, (name, named, refl), text_printed old mid new (fault_text (answers.DiskFault k) name) failed r silent prints cause)
 fault_printed words old mid new name failed r answers.Memory silent named prints cause = (fault_text answers.Memory name, (name, named, refl), text_printed old mid new (fault_text answers.Memory name) failed r silent prints cause)
-
-module _ (word : Text) where
-  named : (b : _) → bytes_eq (take 11 word) (codes "--verdicts=") ≡ b → name_in word ≡ (if b then drop 11 word else word)
-  named b is = ap (λ (t : Bool). if t then drop 11 word else word) is
-
-  -- the name behind the option
-  pub name_behind : (name : Text) (n : ℕ) → FindsTextPrefix (codes "--verdicts=") word (Some n) → name ≡ drop n word → name ≡ name_in word
-  name_behind name n found is =
-      let eleven : n ≡ 11 = found.0 in
-      let front : take 11 word ≡ codes "--verdicts=" = ap (take 11) found.1 ∙ take_at (codes "--verdicts=") (drop n word) 11 refl in
-      is ∙ ap (λ (k : ℕ). drop k word) eleven ∙ sym (named true ((bytes_eq-Decides (take 11 word) (codes "--verdicts=")).1 front))
-
-  -- the whole word
-  pub name_whole : LacksTextAt (codes "--verdicts=") word 0 → word ≡ name_in word
-  name_whole lacks = go (bytes_eq (take 11 word) (codes "--verdicts=")) refl
-    where
-      go : (b : _) → bytes_eq (take 11 word) (codes "--verdicts=") ≡ b → word ≡ name_in word
-      go true t =
-          let front : take 11 word ≡ codes "--verdicts=" = (bytes_eq-Decides (take 11 word) (codes "--verdicts=")).0 t in
-          absurd (lacks (drop 11 word) (sym (take-append-drop 11 word) ∙ ap (λ (l : Text). l ++ drop 11 word) front))
-      go false t = sym (named false t)
-
-module _ (words : List (String Global)) (place : ℕ) (text : Text) (at : slice_get (texts words) place ≡ Some text) where
-  -- the word at a place
-  pub word_there : (word : String Global) → place < length words → word ≡ slice_index_or words place word → string_bytes word ≡ text
-  word_there word inside is =
-      let there : slice_get words place ≡ Some word = slice_get-get_or words place word inside ∙ ap (λ (w : String Global). Some w) (sym is) in
-      let mapped : slice_get (texts words) place ≡ Some (string_bytes word) = slice_get-map string_bytes words place ∙ ap (option_map string_bytes) there in
-      cc
-
-  pub no_word : (A : Type 0) → length words ≤ place → A
-  no_word A past =
-      let none : slice_get (texts words) place ≡ None = slice_get_past (texts words) place (omega (arith, past, length-map words string_bytes)) in
-      absurd (cc)

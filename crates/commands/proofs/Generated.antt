@@ -56,11 +56,12 @@ use Rattle.commands.specs.InMemory.{AreReady, TellsRunOf, IsLaneKind, IsUnrun, n
 use Rattle.commands.proofs.Minted.{unopened_of_mint}
 use Rattle.commands.proofs.FirstShown.{kept_journal, kept_beyond, first_kept, first_shown}
 use Rattle.commands.proofs.Memory.{there}
-use Rattle.commands.proofs.Sound.{none_uncaused, never_unsound}
+use Rattle.complete_laws.proofs.Sound.{none_uncaused, never_unsound}
 use Rattle.commands.proofs.Printed.{run_numbers, countable}
 use Rattle.commands.proofs.Cut.{batches_are_cut}
 use Rattle.commands.proofs.Refused.{none_open, none_refused, all_decided}
 use Rattle.commands.proofs.Workloads.{few}
+use Rattle.commands.proofs.OneText.{one_text}
 
 -- a workload has so many transactions
 all_few : (seed n : ℕ) → n ≤ 10000 → all_txs (files_of seed n) ≤ 1000000
@@ -112,7 +113,7 @@ module _ {D : Type 0} (content : D → Option (List ℕ)) (images : D → List �
       let history = subst (λ (g : Digest). IsToldHistory content held unsound.header.shape g unsound.uncaused.rows) minted
       (told_history content images limit count held unsound.header unsound.logs unsound.shards unsound.opened unsound.uncaused.rows unsound.uncaused.merged) in
       let rows = unsound.uncaused.rows in
-      none_uncaused K mint submissions X within minted_few kept rows (journals_are shows K' rows history) history.ordered unsound.place
+      none_uncaused K mint submissions X within (kept_journal K mint within minted_few submissions X kept) kept rows (journals_are shows K' rows history) history.ordered unsound.place
       (subst (λ k. IsFirstUncaused k rows unsound.place) (shape_is shows K' rows history) unsound.uncaused.first)
 
 module _ (K : Shape) (seed n : ℕ) (within : IsWithinLimits K) (small : n ≤ 10000) (X : ℕ → List Record) (ran : Ran) (told : TellsRun K all_good (files_of seed n) (made_for K seed n) X ran.resumed.items ran.waves.items) where
@@ -243,6 +244,7 @@ module _ (K : Shape) (seed n : ℕ) where
 
     pub came_to : (totals : Totals) → IsCheckedSound rack (mint_of seed n) (all_of seed n) totals → CameTo K seed n ran totals
     came_to totals audited = record {
+      limits = limits;
       exit = told.exit;
       run = is_run;
       countable = is_countable K seed n limits small told.exit ran told.tells;
@@ -258,7 +260,7 @@ module _ (K : Shape) (seed n : ℕ) where
           run = is_run;
           audited = v;
           unclean = λ clean.
-              never_unsound K (mint_of seed n) (all_of seed n) told.exit limits (few seed n small) told.grown.kept v.rows v.journals_are v.ordered idle
+              never_unsound K (mint_of seed n) (all_of seed n) told.exit limits (kept_journal K (mint_of seed n) limits (few seed n small) (all_of seed n) told.exit told.grown.kept) told.grown.kept v.rows v.journals_are v.ordered idle
               (idle_law K (mint_of seed n) (all_of seed n) told.exit (omega (arith, limits.some_shard)) (omega (arith, limits.some_lane)) clean told.grown.kept idle) place kind v.is;
         }
 
@@ -306,4 +308,13 @@ module _ (K : Shape) (seed n : ℕ) where
 
   -- the text of a workload
   pub text_of : (ran : Ran) (totals : Totals) → CameTo K seed n ran totals → IsWorkloadText K seed n (numbers_of ran ++ audit_lines totals)
-  text_of ran totals came = record { exit = came.exit; run = came.run; summary = numbers_of ran; ends = came.ends; totals = totals; audited = came.audited; text_is = refl }
+  text_of ran totals came = record {
+    exit = came.exit;
+    run = came.run;
+    summary = numbers_of ran;
+    ends = came.ends;
+    totals = totals;
+    audited = came.audited;
+    text_is = refl;
+    clean = λ clean. (let one = one_text K seed n came.limits clean came.exit came.run.kept came.run.waves in one (numbers_of ran) came.ends totals came.audited);
+  }

@@ -1,6 +1,7 @@
 pub mod Counts
 pub mod Stands
 pub mod Named
+pub mod Naming
 pub mod Answers
 pub mod Items
 pub mod Lines
@@ -22,7 +23,8 @@ pub mod Printed
 pub mod FirstShown
 pub mod Minted
 pub mod Memory
-pub mod Sound
 pub mod Refused
 pub mod Cut
+pub mod OneText
 pub mod Generated
+pub mod Complete

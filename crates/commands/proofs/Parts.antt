@@ -1,5 +1,5 @@
 -- A text that is written part by part, by what is left to write.
-use Rattle.std.proofs.Common.{◌≡◌, ◌+◌, ◌++◌, ◌∷◌, [], ℕ, List, length, take, Option, Some, Result, Ok, Err, refl, sym, ◌∙◌, ap, append_assoc}
+use Rattle.std.proofs.Common.{◌≡◌, ◌+◌, ◌++◌, [], ℕ, length, take, Option, Some, Result, Ok, Err, refl, sym, ◌∙◌, ap, append_assoc}
 use Rattle.std.proofs.lemmas.List.{append-nil}
 use Rattle.outside.specs.Images.{Tells}
 use Rattle.line_text.specs.Lines.{Text, Prints}

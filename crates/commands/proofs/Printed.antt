@@ -12,7 +12,11 @@ use Rattle.command_line.specs.declared.request.FileWord.{FileWord}
 use Rattle.verifier_port.specs.Files.{told as of_file}
 use Rattle.input_files.specs.Contents.{all_txs}
 use Rattle.line_text.specs.Lines.{Text, summary_text}
+use Rattle.file_runs.specs.Runs.{joined}
 use Rattle.file_runs.specs.Telling.{TellFiles}
+use Rattle.file_runs.proofs.Filing.{kept_more}
+use Rattle.submission_laws.proofs.Settling.{settled_law}
+use Rattle.submission_laws.proofs.Freeing.{free_confirmed_law}
 use Rattle.file_runs.specs.declared.waves.Wave.{Wave}
 use Rattle.printed_lines.specs.declared.report.Report.{Report}
 use Rattle.printed_lines.specs.Recoveries.{resumed_count}
@@ -33,6 +37,10 @@ times_few zero b x y le low = omega arith
 times_few (suc a) b zero y le low = absurd (omega (arith, le))
 times_few (suc a) b (suc x) y le low = let h = times_few a b x y (omega (arith, le)) low in omega (arith, h, low)
 
+-- there is a lane
+pub lanes_there : (K : Shape) → IsWithinLimits K → 0 < K.coordinators * K.lanes
+lanes_there K within = times_few 1 1 K.coordinators K.lanes within.some_coordinator within.some_lane
+
 -- journals grow over the files
 files_grow : (K : Shape) (verdicts : VerdictsOf) (sound : FullTx → Bool) (tells : TellsSound verdicts sound) (files : List (List FullTx)) (I J : ℕ → List Record) (ws : List Wave) → TellFiles K verdicts files I J ws → (n : ℕ) → IsEnd (I n) (J n)
 files_grow K verdicts sound tells [] I J ws told n = subst (λ l. IsEnd (I n) l) (sym (told.1 n)) (end_self (I n))
@@ -44,7 +52,7 @@ module _ (K : Shape) (verdicts : VerdictsOf) (files : List (List FullTx)) (few :
   lanes_few = times_few K.coordinators K.lanes 16 16 within.coordinators within.lanes
 
   some_lane : 0 < K.coordinators * K.lanes
-  some_lane = times_few 1 1 K.coordinators K.lanes within.some_coordinator within.some_lane
+  some_lane = lanes_there K within
 
   batches : (sound : FullTx → Bool) → TellsSound verdicts sound → (batches_told ran.waves.items ≡ new_batches K E X) × (batches_told ran.waves.items ≤ (K.coordinators * K.lanes) * all_txs files)
   batches sound tells =
@@ -94,15 +102,19 @@ pub prints_run : {D : Type 0} (content : D → Option (List ℕ)) (images : D �
     → OfShown content before (IsTold images now verdicts files ran) → (IsCountable ran → printed (ran_text ran)) → PrintsRun content images before now printed verdicts files
 prints_run content images before now printed verdicts files ran few shown is K mint submissions E within shows kept =
     let told = shown K mint submissions E within shows kept in
-    let tests = is_sound_law verdicts in (
-      told.exit,
-      told.disks,
-      (
-        ran_text ran,
-        (λ sound tells. (let t = run_text K verdicts files few within E told.exit ran told.tells sound tells in record { all = t.0; are = t.1.0; unspent = ran.unspent; counted = told.unspent; text_is = t.1.1 })),
-        is (countable K verdicts files few within E told.exit ran told.tells (sound_by verdicts) tests),
-      ),
-    )
+    let tests = is_sound_law verdicts in
+    let more = kept_more K mint submissions (joined files) E kept in
+    record {
+      exit = told.exit;
+      disks = told.disks;
+      grown = told.grown;
+      waves = told.waves;
+      text = ran_text ran;
+      lines = λ sound tells. (let t = run_text K verdicts files few within E told.exit ran told.tells sound tells in record { all = t.0; are = t.1.0; unspent = ran.unspent; counted = told.unspent; text_is = t.1.1 });
+      prints = is (countable K verdicts files few within E told.exit ran told.tells (sound_by verdicts) tests);
+      settled = settled_law K mint (submissions ++ joined files) verdicts files E told.exit within.some_shard (lanes_there K within) more told.grown.kept told.waves;
+      free = free_confirmed_law K mint (submissions ++ joined files) verdicts files E told.exit within.some_shard (lanes_there K within) more told.grown.kept;
+    }
 
 pub did_run : {D : Type 0} (inbox : Text → Option (List ℕ)) (content : D → Option (List ℕ)) (images : D → List ℕ → Type 0) (before now : ℕ → Option D) (printed : Text → Type 0) (verdicts : FileWord) (clients : List FileWord) (ran : Ran)
     → WasRun inbox content images before now verdicts clients ran → (IsCountable ran → printed (ran_text ran)) → DidRun inbox content images before now printed verdicts clients

@@ -1,26 +1,26 @@
 -- The lines of a recovery, by what its batches tell.
-use Rattle.std.proofs.Common.{◌≡◌, ℕ, zero, suc, ◌+◌, ◌*◌, Bool, true, false, if◌then◌else◌, List, [], ◌∷◌, ◌++◌, length, take, drop, drop-cons, add-one, get_or, ◌<◌, ◌≤◌, Option, Some, None, refl, sym, ap, ◌∙◌, subst, arith, append_assoc}
+use Rattle.std.proofs.Common.{◌≡◌, ℕ, zero, suc, ◌+◌, ◌*◌, true, false, if◌then◌else◌, List, [], ◌∷◌, ◌++◌, length, take, drop, drop-cons, add-one, get_or, ◌<◌, ◌≤◌, Option, Some, None, refl, sym, ap, ◌∙◌, subst, arith, append_assoc}
 use Rattle.std.specs.List.{filter}
-use Rattle.std.specs.Prelude.{is_some, not, Result, Ok, Err, IfOk}
+use Rattle.std.specs.Prelude.{is_some, not}
 use Rattle.std.proofs.lemmas.List.{append-nil, length-append, take_more}
 use Rattle.std.proofs.lemmas.List.Elements.{filter-append}
 use Rattle.std.proofs.Math.ListN.{drop_of_length-le}
 use Rattle.cbdc_types.specs.declared.batch.Phase.{Phase as OpenPhase}
 use Rattle.cbdc_types.specs.declared.batch.Phase.TheVariants.{Prepared, Committed, Discarded}
-use Rattle.cbdc_model.specs.Records.{Shape, Batch, Outcome, Record, is_won, outcomes_of, Won, Lacks, Blocked}
+use Rattle.cbdc_model.specs.Records.{Shape, Outcome, Record, is_won, outcomes_of, Won, Lacks, Blocked}
 use Rattle.cbdc_model.specs.Ranges.{home_of}
-use Rattle.cbdc_model.specs.Slots.{slot, Idle}
+use Rattle.cbdc_model.specs.Slots.{slot}
 use Rattle.recovery.specs.declared.resumed.ResumedBatch.{ResumedBatch}
 use Rattle.recovery.specs.Open.{phase_of}
 use Rattle.line_text.specs.Lines.{Text}
 use Rattle.line_text.specs.Reports.{recovery_text, resumed_line}
-use Rattle.printed_lines.specs.Recoveries.{open_phase, won_in, lost_in, batch_line, lane_line, resumed_below, open_below, resumed_lines, resumed_count, recover_lines, IsRecoverText}
-use Rattle.ledger_runs.specs.Turning.{phase_at, listed}
-use Rattle.ledger_runs.specs.Telling.{TellsResumed, IsResumedAt, TellResumed}
+use Rattle.printed_lines.specs.Recoveries.{open_phase, won_in, lost_in, batch_line, lane_line, resumed_below, open_below, resumed_lines, recover_lines}
+use Rattle.ledger_runs.specs.Turning.{listed}
+use Rattle.ledger_runs.specs.Telling.{IsResumedAt, TellResumed}
 use Rattle.submissions.specs.Checks.{VerdictsOf}
 use Rattle.rack_laws.specs.Shown.{OfShown}
 use Rattle.rack_runs.specs.declared.over.Ran.{Ran}
-use Rattle.rack_runs.specs.Telling.{TellsRun, IsTold}
+use Rattle.rack_runs.specs.Telling.{IsTold}
 use Rattle.commands.specs.Outcomes.{PrintsRecovery}
 use Rattle.commands.specs.Texts.{batch_text, batch_texts}
 

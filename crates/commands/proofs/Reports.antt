@@ -1,13 +1,13 @@
 -- What came of each submission of a run, by what its waves tell.
-use Rattle.std.proofs.Common.{◌≡◌, ◌⊎◌, inl, inr, ℕ, zero, suc, ◌+◌, ◌*◌, ◌%◌, ◌<◌, ◌≤◌, Bool, true, false, ◌==◌, List, [], ◌∷◌, ◌++◌, map, length, take, drop, get_or, Option, Some, None, refl, sym, ap, ◌∙◌, subst, add-one, arith, append_assoc, append-nil}
-use Rattle.std.specs.Prelude.{slice_get, option_map, sum_by}
+use Rattle.std.proofs.Common.{◌≡◌, ℕ, zero, suc, ◌+◌, ◌*◌, ◌%◌, ◌<◌, ◌≤◌, Bool, true, false, ◌==◌, List, [], ◌∷◌, ◌++◌, map, length, take, drop, Some, None, refl, sym, ap, ◌∙◌, subst, arith, append_assoc, append-nil}
+use Rattle.std.specs.Prelude.{slice_get, option_map}
 use Rattle.std.proofs.lemmas.List.{length-append, take_more, take-append-drop, length-map}
 use Rattle.std.specs.List.{filter}
 use Rattle.std.specs.Prelude.{if◌then◌else◌}
 use Rattle.std.proofs.lemmas.List.Sums.{sum_by-cons}
-use Rattle.std.proofs.lemmas.Option.{slice_get_cases, slice_get_within, get_or_from_slice_get}
-use Rattle.cbdc_model.specs.Records.{Shape, Batch, Compact, Outcome, Record}
-use Rattle.cbdc_model.specs.Coins.{FullTx, compact, tx_id}
+use Rattle.std.proofs.lemmas.Option.{slice_get_within, get_or_from_slice_get}
+use Rattle.cbdc_model.specs.Records.{Shape, Batch, Outcome, Record}
+use Rattle.cbdc_model.specs.Coins.{FullTx, tx_id}
 use Rattle.cbdc_model.specs.Lanes.{IsEnd}
 use Rattle.cbdc_model.specs.Waves.{sent_to}
 use Rattle.submissions.specs.Checks.{VerdictsOf, TellsSound, IsSaid, AreChecked}
@@ -21,7 +21,6 @@ use Rattle.printed_lines.specs.declared.report.Report.TheVariants as reports
 use Rattle.printed_lines.specs.Runs.{IsReport, AreReports, AreAllReports, lane_at, sent_before, turn, report_line, file_lines, files_lines, count_in}
 use Rattle.ledger_runs.specs.Telling.{SamePrepared, kept_by}
 use Rattle.ledger_runs.specs.declared.lanes.Decided.{Decided}
-use Rattle.ledger_runs.specs.declared.lanes.Lane.{Lane}
 use Rattle.file_runs.specs.Telling.{TellFiles}
 use Rattle.file_runs.specs.declared.waves.Wave.{Wave}
 use Rattle.commands.specs.Told.{kept_at, told_of, told_line, told_file, told_files, one_if, told_count, told_total}

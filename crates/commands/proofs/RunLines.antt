@@ -1,10 +1,9 @@
 -- The lines of submissions, by the one that is next.
-use Rattle.std.proofs.Common.{◌≡◌, ℕ, zero, suc, ◌+◌, ◌<◌, ◌≤◌, List, [], ◌∷◌, ◌++◌, length, drop, drop-cons, add-one, get_or, refl, sym, ap, ◌∙◌, arith}
+use Rattle.std.proofs.Common.{◌≡◌, ℕ, suc, ◌+◌, ◌<◌, ◌≤◌, List, [], ◌∷◌, ◌++◌, length, drop, drop-cons, add-one, get_or, sym, ap, ◌∙◌}
 use Rattle.std.proofs.Math.ListN.{drop_of_length-le}
 use Rattle.submissions.specs.declared.Checked.{Checked}
 use Rattle.ledger_runs.specs.declared.lanes.Lane.{Lane}
 use Rattle.file_runs.specs.declared.waves.Wave.{Wave}
-use Rattle.line_text.specs.Lines.{Text}
 use Rattle.commands.specs.Told.{told_of, told_line, told_file, told_files}
 
 pub next_line : (file i : ℕ) (lanes : List Lane) (cs : List Checked) (c : Checked) → i < length cs → c ≡ get_or cs i c

@@ -4,7 +4,7 @@ use Rattle.line_text.specs.Lines.{Text}
 use Rattle.outside.specs.Counts.{Rose}
 use Rattle.cbdc_types.specs.declared.answer.Answer.{Answer}
 use Rattle.cbdc_types.specs.declared.answer.Answer.TheVariants as answers
-use Rattle.command_line.specs.Asked.{IsRefused}
+use Rattle.command_line.specs.Asked.{IsAsked, IsRefused}
 use Rattle.command_line.specs.declared.request.FileWord.{FileWord}
 use Rattle.command_line.specs.declared.request.Request.{Request}
 use Rattle.command_line.specs.declared.request.Request.TheVariants.{Init, Run, Audit}
@@ -35,6 +35,21 @@ RequestPlace (Init shape mint) place = place ≡ mint.place
 RequestPlace (Run verdicts clients) place = OnePlace clients.items place ⊎ (place ≡ verdicts.place)
 RequestPlace (Audit mint clients) place = (place ≡ mint.place) ⊎ OnePlace clients.items place
 RequestPlace other place = ⊥
+
+-- one of these files has this place and this name
+abbrev pub OneNamed : List FileWord → ℕ → Text → Type 0
+OneNamed files place name = (k : ℕ) × (file : FileWord) × (slice_get files k ≡ Some file) × (place ≡ file.place) × (name ≡ file.name.now)
+
+-- one of the files that are asked for has this place and this name
+abbrev pub RequestNames : Request → ℕ → Text → Type 0
+RequestNames (Init shape mint) place name = (place ≡ mint.place) × (name ≡ mint.name.now)
+RequestNames (Run verdicts clients) place name = OneNamed clients.items place name ⊎ ((place ≡ verdicts.place) × (name ≡ verdicts.name.now))
+RequestNames (Audit mint clients) place name = ((place ≡ mint.place) × (name ≡ mint.name.now)) ⊎ OneNamed clients.items place name
+RequestNames other place name = ⊥
+
+-- the words ask for a file with this place and this name
+abbrev pub AskedName : List Text → ℕ → Text → Type 0
+AskedName words place name = (r : Request) × IsAsked words r × RequestNames r place name
 
 -- reading and the work at the nodes: neither words nor the output are at fault, a bad file has a place, and a fault of reading has its cause
 abbrev pub IsFault : (ℕ → Type 0) → (ℕ → Type 0) → Answer → Type 0

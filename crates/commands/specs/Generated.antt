@@ -1,6 +1,6 @@
 -- What `gen` comes to: a ledger of the workload's mint is made in nodes of its own, the workload's files are run over it, and it is audited.
 use Rattle.std.specs.List.{range_with_len}
-use Rattle.std.specs.Prelude.{◌≡◌, ◌⊎◌, ◌+◌, ◌-◌, ◌*◌, ◌/◌, ◌++◌, ℕ, zero, suc, length, List, [], ◌∷◌, reverse, Some}
+use Rattle.std.specs.Prelude.{◌≡◌, ◌⊎◌, ◌+◌, ◌-◌, ◌*◌, ◌/◌, ◌++◌, ℕ, zero, suc, length, List, reverse, Some}
 use Rattle.line_text.specs.Lines.{Text, summary_text}
 use Rattle.cbdc_types.specs.declared.answer.Answer.{Answer}
 use Rattle.cbdc_types.specs.declared.answer.Answer.TheVariants as answers
@@ -8,7 +8,7 @@ use Rattle.cbdc_types.specs.declared.answer.UnsoundKind.{UnsoundKind}
 use Rattle.cbdc_model.specs.Records.{Shape, Record, Row, journal}
 use Rattle.cbdc_model.specs.Coins.{Output, FullTx, genesis_id}
 use Rattle.cbdc_model.specs.Clean.{Clean}
-use Rattle.cbdc_model.specs.History.{IsOrdered, first_rows, minted}
+use Rattle.cbdc_model.specs.History.{IsOrdered}
 use Rattle.cbdc_model.specs.Lanes.{IsEnd}
 use Rattle.cbdc_model.specs.World.{KeptJournals}
 use Rattle.cbdc_model.specs.Waves.{Waves, share}
@@ -17,10 +17,7 @@ use Rattle.plain_rack.specs.Places.{faults_at}
 use Rattle.plain_rack.specs.Racks.{disk_at, bytes_told, bytes_left, room_of, faults_of}
 use Rattle.rack_laws.specs.Shown.{Shows}
 use Rattle.rack_ledgers.specs.Ledgers.{IsUnopenedBy}
-use Rattle.verifier_port.specs.declared.Verdict.TheVariants.{Good}
-use Rattle.submissions.specs.Checks.{VerdictsOf}
 use Rattle.sound_laws.specs.SoundTest.{sound_by}
-use Rattle.file_runs.specs.Runs.{joined}
 use Rattle.audit.specs.declared.verdict.Totals.{Totals}
 use Rattle.audit.specs.declared.verdict.Verdict.{Verdict}
 use Rattle.audit.specs.declared.verdict.Verdict.TheVariants.{Sound, Unsound}
@@ -29,25 +26,9 @@ use Rattle.printed_lines.specs.declared.report.Report.{Report}
 use Rattle.printed_lines.specs.Reports.{audit_lines}
 use Rattle.printed_lines.specs.Runs.{AreAllReports, is_confirmed, is_rejected, count_in}
 use Rattle.printed_lines.specs.Unspent.{IsUnspentCount}
-use Rattle.workload.specs.Generator.{mint_of, minted_of, joined_of, splits_of, joins_of}
-
--- every witness is good
-abbrev pub all_good : VerdictsOf
-all_good id index = Good
-
--- the client files of a workload, and all their transactions
-abbrev pub files_of : ℕ → ℕ → List (List FullTx)
-files_of seed n = splits_of seed n ∷ joins_of seed n ∷ []
-
-abbrev pub all_of : ℕ → ℕ → List FullTx
-all_of seed n = joined (files_of seed n)
-
--- a first record at each node of the ledger that a mint begins, and that of a workload
-abbrev pub first_journals : Shape → List Output → ℕ → List Record
-first_journals K mint node = journal node (first_rows K (minted mint))
-
-abbrev pub made_for : Shape → ℕ → ℕ → ℕ → List Record
-made_for K seed n = first_journals K (mint_of seed n)
+use Rattle.workload.specs.Generator.{mint_of, minted_of, joined_of}
+use Rattle.workload_laws.specs.Whole.{left_of, totals_of}
+pub use Rattle.workload_laws.specs.Files.{all_good, files_of, all_of, first_journals, made_for}
 
 -- the workload's files were run from those journals to journals X, which are kept
 pub record IsWorkloadRun (K : Shape) (seed n : ℕ) (X : ℕ → List Record) : Type 0 where
@@ -86,7 +67,12 @@ pub record EndsWorkload (K : Shape) (seed n : ℕ) (X : ℕ → List Record) (te
   pub counted : IsUnspentCount K X unspent
   pub text_is : text ≡ summary_text 0 (batches_for K n) (count_in is_confirmed all) (count_in is_rejected all) 0 unspent
 
--- the text of a workload: the numbers that end a run of it, and those of an audit behind it, which is sound
+-- the text of a workload where no hashes of it clash, whatever the order of the lanes' turns: all n transactions are confirmed, so many hashes are left
+-- unspent, and the audit's value is the value minted
+abbrev pub clean_text : Shape → ℕ → ℕ → Text
+clean_text K seed n = summary_text 0 (batches_for K n) n 0 0 (left_of n) ++ audit_lines (totals_of seed n)
+
+-- the text of a workload: the numbers that end a run of it, and those of an audit behind it, which is sound; where no hashes clash it is one text
 pub record IsWorkloadText (K : Shape) (seed n : ℕ) (text : Text) : Type 0 where
   pub exit : ℕ → List Record
   pub run : IsWorkloadRun K seed n exit
@@ -95,6 +81,7 @@ pub record IsWorkloadText (K : Shape) (seed n : ℕ) (text : Text) : Type 0 wher
   pub totals : Totals
   pub audited : HasVerdictOf K (mint_of seed n) (all_of seed n) exit (Sound totals)
   pub text_is : text ≡ summary ++ audit_lines totals
+  pub clean : Clean (mint_of seed n) (all_of seed n) → text ≡ clean_text K seed n
 
 -- the text of a workload was printed
 abbrev pub PrintsWorkload : (Text → Type 0) → Shape → ℕ → ℕ → Type 0

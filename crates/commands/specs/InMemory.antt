@@ -56,6 +56,7 @@ numbers_of ran =
 
 -- what a workload's run and audit tell is so
 pub record CameTo (K : Shape) (seed n : ℕ) (ran : Ran) (totals : Totals) : Type 0 where
+  pub limits : IsWithinLimits K
   pub exit : ℕ → List Record
   pub run : IsWorkloadRun K seed n exit
   pub countable : IsCountable ran

@@ -7,3 +7,4 @@ pub mod InMemory
 pub mod Outcomes
 pub mod Left
 pub mod Sizes
+pub mod Complete

@@ -1,5 +1,5 @@
 -- What was done when all went well, by what the files and the disks told before and tell behind it.
-use Rattle.std.specs.Prelude.{◌≡◌, ◌⊎◌, ℕ, ◌<◌, List, [], reverse, Option, IsSome, Ok, string_bytes}
+use Rattle.std.specs.Prelude.{◌≡◌, ◌⊎◌, ℕ, ◌<◌, List, [], ◌++◌, reverse, Option, IsSome, Ok, string_bytes}
 use Rattle.outside.specs.Images.{Tells}
 use Rattle.line_text.specs.Lines.{Text}
 use Rattle.cbdc_types.specs.declared.answer.Answer.{Answer}
@@ -8,6 +8,7 @@ use Rattle.cbdc_model.specs.Records.{Digest, Shape, Compact, Record}
 use Rattle.cbdc_model.specs.Coins.{Output, FullTx}
 use Rattle.cbdc_model.specs.History.{header_of}
 use Rattle.cbdc_model.specs.World.{KeptJournals}
+use Rattle.cbdc_model.specs.Waves.{Waves}
 use Rattle.record_log.specs.Held.{OpensTo}
 use Rattle.command_line.specs.declared.request.FileWord.{FileWord}
 use Rattle.command_line.specs.declared.request.Request.{Request}
@@ -25,7 +26,11 @@ use Rattle.rack_ledgers.specs.Ledgers.{IsUnopened}
 use Rattle.caused_ledgers.specs.Caused.{IsCausedLedger, IsUnresumed}
 use Rattle.rack_laws.specs.Shown.{OfShown, HoldsEach}
 use Rattle.submissions.specs.Checks.{VerdictsOf}
-use Rattle.rack_runs.specs.Runs.{IsRun, IsRecovered, IsCutShort, IsLaneFault, NothingNext, PieceNext}
+use Rattle.sound_laws.specs.SoundTest.{sound_by}
+use Rattle.submission_laws.specs.Settled.{AreSettled}
+use Rattle.submission_laws.specs.Free.{AreFreeConfirmed}
+use Rattle.file_runs.specs.Runs.{joined}
+use Rattle.rack_runs.specs.Runs.{IsGrown, IsRun, IsRecovered, IsCutShort, IsLaneFault, NothingNext, PieceNext}
 use Rattle.commands.specs.Audits.{DidAudit, WhyNoAudit}
 use Rattle.commands.specs.Generated.{PrintsWorkload, WhyNoWorkload}
 pub use Rattle.commands.specs.Generated.{first_journals}
@@ -42,10 +47,24 @@ pub record DidInit {D : Type 0} (files : Text → Option (List ℕ)) (content : 
   pub kept : KeptJournals shape mint [] (first_journals shape mint)
   pub prints : printed (init_lines mint)
 
--- of the kept ledger that the disks told, this was printed: the lines of a run of these transactions from its journals to those that the disks hold now
+-- a run of these transactions over a kept ledger, which was printed: the journals that the disks hold now have grown from those at entry and are kept,
+-- with the files' waves behind them, and the lines are those of that run; what they tell of each sound submission is what became of it: it has its one
+-- place in one new Prepare, and nothing else has one, and it is confirmed exactly where every shard held it; and it is confirmed where its inputs were
+-- unspent when its file's wave began, and no other sound submission of the file spends one
+pub record IsPrintedRun {D : Type 0} (images : D → List ℕ → Type 0) (now : ℕ → Option D) (printed : Text → Type 0) (verdicts : VerdictsOf) (handed : List (List FullTx)) (K : Shape) (mint : List Output) (submissions : List FullTx) (E : ℕ → List Record) : Type 0 where
+  pub exit : ℕ → List Record
+  pub disks : HoldsEach images now K exit
+  pub grown : IsGrown K mint (submissions ++ joined handed) E exit
+  pub waves : Waves K (sound_by verdicts) handed E exit
+  pub text : Text
+  pub lines : IsRunLines K verdicts handed E exit text
+  pub prints : printed text
+  pub settled : AreSettled K verdicts handed E exit
+  pub free : AreFreeConfirmed K verdicts handed E exit
+
+-- of the kept ledger that the disks told, it was so
 abbrev pub PrintsRun : {D : Type 0} → (D → Option (List ℕ)) → (D → List ℕ → Type 0) → (ℕ → Option D) → (ℕ → Option D) → (Text → Type 0) → VerdictsOf → List (List FullTx) → Type 0
-PrintsRun content images before now printed verdicts handed =
-    OfShown content before (λ K mint submissions E. (X : ℕ → List Record) × HoldsEach images now K X × ((text : Text) × IsRunLines K verdicts handed E X text × printed text))
+PrintsRun content images before now printed verdicts handed = OfShown content before (IsPrintedRun images now printed verdicts handed)
 
 -- the files held these transactions and verdicts, which were run over the ledger that the disks told, in which each record was caused; each disk
 -- holds exactly its journal, and this was printed

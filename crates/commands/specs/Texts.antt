@@ -1,5 +1,5 @@
 -- What is printed, and what journals the nodes of a ledger have.
-use Rattle.std.specs.Prelude.{◌≡◌, ◌⊎◌, ℕ, zero, suc, ◌-◌, ◌++◌, List, [], ◌∷◌, length, take, Option, Some, slice_get, nat_lt, if◌then◌else◌}
+use Rattle.std.specs.Prelude.{◌≡◌, ◌⊎◌, ℕ, zero, suc, ◌-◌, ◌++◌, List, [], ◌∷◌, length, take, Option, Some, nat_lt, if◌then◌else◌}
 use Rattle.outside.specs.Images.{Tells}
 use Rattle.cbdc_types.specs.declared.answer.Answer.{Answer}
 use Rattle.cbdc_types.specs.declared.answer.Answer.TheVariants as answers
@@ -10,9 +10,10 @@ use Rattle.line_text.specs.Lines.{Text}
 use Rattle.line_text.specs.Reports.{status_line, resumed_line}
 use Rattle.recovery.specs.declared.resumed.ResumedBatch.{ResumedBatch}
 use Rattle.printed_lines.specs.Recoveries.{won_in, lost_in}
-use Rattle.printed_lines.specs.Reports.{name_in, IsFaultLine}
+use Rattle.printed_lines.specs.Reports.{IsFaultLine}
 use Rattle.coord_log.specs.Logs.{LogOf}
 use Rattle.shard_node.specs.Shards.{ShardOf}
+use Rattle.commands.specs.Causes.{AskedName}
 
 -- the sink has taken the text, or where the output failed a front of it
 abbrev pub IsPrinted : Option Text → Option Text → Answer → Text → Type 0
@@ -26,17 +27,12 @@ IsSilent before now answers.Ok = Unit {0}
 IsSilent before now answers.WriteFault = Unit {0}
 IsSilent before now other = now ≡ before
 
--- where the answer speaks of a file that has a place among the words, this is the name that stands there
-abbrev pub IsNameOf : List Text → Answer → Text → Type 0
-IsNameOf words (answers.BadInput file at kind) name = (word : Text) → slice_get words file ≡ Some word → name ≡ name_in word
-IsNameOf words (answers.ReadFault file) name = (word : Text) → slice_get words file ≡ Some word → name ≡ name_in word
-IsNameOf words other name = Unit {0}
-
--- where the work was not done, the sink has taken the line of the fault and nothing else, or it failed and has taken a front of it
+-- where the work was not done, the sink has taken the line of the fault and nothing else, or it failed and has taken a front of it; a file that the
+-- line speaks of is one that the words ask for
 abbrev pub IsFaultPrinted : List Text → Option Text → Option Text → Type 0 → Answer → Type 0
 IsFaultPrinted words before now failed answers.Ok = Unit {0}
 IsFaultPrinted words before now failed answers.WriteFault = Unit {0}
-IsFaultPrinted words before now failed other = (text : Text) × IsFaultLine words other text
+IsFaultPrinted words before now failed other = (text : Text) × IsFaultLine (AskedName words) other text
     × Tells before (λ t. (now ≡ Some (t ++ text)) ⊎ (failed × ((n : ℕ) × (now ≡ Some (t ++ take n text)))))
 
 -- a line for each hash, as long as there are statuses

@@ -1,17 +1,17 @@
 // The top call.
-ghost use Rattle.std.specs.Prelude.{◌≡◌, ◌≤◌, ◌⊎◌, ℕ, Some, slice_get};
-ghost use Rattle.commands.specs.Texts.{IsFaultPrinted, IsNameOf, IsPrinted, IsSilent};
+ghost use Rattle.std.specs.Prelude.{◌≡◌, ◌≤◌, ◌⊎◌, ℕ, MatchOption};
+ghost use Rattle.commands.specs.Texts.{IsFaultPrinted, IsPrinted, IsSilent};
 ghost use Rattle.command_line.specs.Asked.{IsRefused};
 ghost use Rattle.command_line.specs.Words.{texts};
 ghost use Rattle.command_line.specs.Asked.{IsAsked};
 ghost use Rattle.command_line.specs.declared.request.Request.{Request as Asked};
-ghost use Rattle.commands.specs.Causes.{IsAnswered, IsDone, IsTold, IsWell, NamedRose, RequestPlace, RequestRose};
+ghost use Rattle.commands.specs.Causes.{IsAnswered, IsDone, IsTold, IsWell, NamedRose, RequestPlace, RequestRose, AskedName, OneNamed, OnePlace, RequestNames};
+ghost use Rattle.commands.specs.Complete.{IsUnhindered};
 ghost use Rattle.commands.specs.Sizes.{IsSized};
 ghost use Rattle.commands.specs.Outcomes.{Did, Why};
 ghost use Rattle.commands.specs.Left.{IsBeforeDisks, Leaves};
-ghost use Rattle.line_text.specs.Lines.{Text};
 ghost use Rattle.outside.specs.Counts.{Rose};
-ghost use Rattle.printed_lines.specs.Reports.{name_in};
+ghost use Rattle.printed_lines.specs.Reports.{Names};
 
 use crate::auditing::audit;
 use crate::generating::generated;
@@ -20,7 +20,7 @@ use crate::looking::status;
 use crate::recovering::recover;
 use crate::running::run;
 use cbdc_types::Answer;
-use command_line::{Request, WordsFault, parse};
+use command_line::{FileWord, Request, WordsFault, parse};
 use line_text::{write_all, write_fault};
 use outside::{Gate, Inbox, Rack, Sink};
 use std::alloc::Global;
@@ -31,6 +31,12 @@ use word_laws::see_request;
 pub struct Done<R> {
     pub status: Answer,
     pub rack: R,
+}
+
+// What came of the words, and the name of the file that the answer speaks of.
+struct Answered<'a> {
+    status: Answer,
+    name: &'a str,
 }
 
 // Prints a text that the words ask for.
@@ -47,33 +53,43 @@ fn show<O: Sink>(out: &mut O, text: &str) -> Answer
     }
 }
 
-// The name in a word that names a file: verdicts may stand behind their option.
-fn bare(word: &str) -> &str
-    ensures { result.now ≡ name_in word.now }
+// The name of a client file that has a place.
+fn client_at<'a>(clients: &[FileWord<'a>], place: u64) -> Option<&'a str>
+    ensures { MatchOption result (OnePlace clients.now place → ⊥) (λ name. OneNamed clients.now place name.now) }
 {
-    match word.strip_prefix("--verdicts=") {
-        Some(name) => name,
-        None => word,
+    'clients: for client in clients {
+        if client.place == place {
+            return Some(client.name);
+        }
     }
+    None
 }
 
-// The name in the word at a place.
-fn name_at<'a>(words: &'a [String], place: u64) -> &'a str
-    ensures { (word : Text) → slice_get (texts words.entry.now) place ≡ Some word → result.now ≡ name_in word }
+// The name of a file that is asked for and has a place.
+fn name_at<'a>(request: &Request<'a>, place: u64) -> &'a str
+    ensures { RequestPlace request.now place → RequestNames request.now place result.now }
 {
-    match words.get(place as usize) {
-        Some(word) => bare(word.as_str()),
-        None => "",
+    match request {
+        Request::Init { mint, .. } => mint.name,
+        Request::Run { verdicts, clients } => match client_at(clients, place) {
+            Some(name) => name,
+            None => verdicts.name,
+        },
+        Request::Audit { mint, clients } => match client_at(clients, place) {
+            Some(name) => name,
+            None => mint.name,
+        },
+        _ => "",
     }
 }
 
 // The name of the file that an answer speaks of.
-fn name_of<'a>(words: &'a [String], answer: &Answer) -> &'a str
-    ensures { IsNameOf (texts words.entry.now) answer.now result.now }
+fn name_of<'a>(request: &Request<'a>, answer: &Answer) -> &'a str
+    ensures { Names (λ file name. RequestPlace request.now file → RequestNames request.now file name) answer.now result.now }
 {
     match answer {
-        Answer::BadInput { file, .. } => name_at(words, *file),
-        Answer::ReadFault { file } => name_at(words, *file),
+        Answer::BadInput { file, .. } => name_at(request, *file),
+        Answer::ReadFault { file } => name_at(request, *file),
         _ => "",
     }
 }
@@ -115,33 +131,42 @@ fn answer_to<W: Wait, I: Inbox, R: Rack, O: Sink, G: Gate>(
 }
 
 // Does what the words ask for.
-fn answer_words<W: Wait, I: Inbox, R: Rack, O: Sink, G: Gate>(
+fn answer_words<'a, W: Wait, I: Inbox, R: Rack, O: Sink, G: Gate>(
     rt: &W,
     alloc: Global,
-    words: &[String],
+    words: &'a [String],
     inbox: &mut I,
     rack: &mut R,
     out: &mut O,
     gate: &G,
-) -> Answer
+) -> Answered<'a>
     requires { (n : ℕ) → R.can_take rack.old n }
     ensures back { (n : ℕ) → R.can_take rack.new n }
-    ensures cause { IsAnswered (texts words.now) (I.count inbox.old) (I.count inbox.new) (Rose (O.count out.old) (O.count out.new)) result }
-    ensures told { IsRefused (texts words.now) WordsFault.Bad → (result ≡ Answer.BadWords) ⊎ (result ≡ Answer.Memory) }
-    ensures did { IsWell result → (r : Asked) × IsAsked (texts words.now) r × Did (I.file inbox.old) R.Disk.content R.Disk.images R.Disk.limit (R.held rack.old) (R.held rack.new) (IsPrinted (O.taken out.old) (O.taken out.new) result) r }
-    ensures why { IsTold (λ a. (r : Asked) × IsAsked (texts words.now) r × Why (I.file inbox.old) (I.count inbox.old) (I.count inbox.new) R.Disk.content R.Disk.images R.Disk.limit R.Disk.count (R.held rack.old) (R.held rack.new) (R.count rack.old) (R.count rack.new) r a) result }
-    ensures untouched { IsBeforeDisks result → rack.new ≡ rack.old }
-    ensures left { (IsWell result → ⊥) → (rack.new ≡ rack.old) ⊎ ((r : Asked) × IsAsked (texts words.now) r × Leaves (I.file inbox.old) R.Disk.content R.Disk.images R.Disk.limit (R.held rack.old) (R.held rack.new) r result) }
-    ensures silent { IsSilent (O.taken out.old) (O.taken out.new) result }
+    ensures cause { IsAnswered (texts words.entry.now) (I.count inbox.old) (I.count inbox.new) (Rose (O.count out.old) (O.count out.new)) result.status }
+    ensures told { IsRefused (texts words.entry.now) WordsFault.Bad → (result.status ≡ Answer.BadWords) ⊎ (result.status ≡ Answer.Memory) }
+    ensures did { IsWell result.status → (r : Asked) × IsAsked (texts words.entry.now) r × Did (I.file inbox.old) R.Disk.content R.Disk.images R.Disk.limit (R.held rack.old) (R.held rack.new) (IsPrinted (O.taken out.old) (O.taken out.new) result.status) r }
+    ensures why { IsTold (λ a. (r : Asked) × IsAsked (texts words.entry.now) r × Why (I.file inbox.old) (I.count inbox.old) (I.count inbox.new) R.Disk.content R.Disk.images R.Disk.limit R.Disk.count (R.held rack.old) (R.held rack.new) (R.count rack.old) (R.count rack.new) r a) result.status }
+    ensures untouched { IsBeforeDisks result.status → rack.new ≡ rack.old }
+    ensures left { (IsWell result.status → ⊥) → (rack.new ≡ rack.old) ⊎ ((r : Asked) × IsAsked (texts words.entry.now) r × Leaves (I.file inbox.old) R.Disk.content R.Disk.images R.Disk.limit (R.held rack.old) (R.held rack.new) r result.status) }
+    ensures named { Names (AskedName (texts words.entry.now)) result.status result.name.now }
+    ensures silent { IsSilent (O.taken out.old) (O.taken out.new) result.status }
     ensures written_later { O.count out.old ≤ O.count out.new }
 {
     match parse(alloc, words) {
         Ok(request) => {
             see_request(&request);
-            answer_to(rt, alloc, &request, inbox, rack, out, gate)
+            let status = answer_to(rt, alloc, &request, inbox, rack, out, gate);
+            let name = name_of(&request, &status);
+            Answered { status, name }
         }
-        Err(WordsFault::Bad) => Answer::BadWords,
-        Err(WordsFault::Memory) => Answer::Memory,
+        Err(WordsFault::Bad) => Answered {
+            status: Answer::BadWords,
+            name: "",
+        },
+        Err(WordsFault::Memory) => Answered {
+            status: Answer::Memory,
+            name: "",
+        },
     }
 }
 
@@ -162,7 +187,9 @@ pub fn process<W: Wait, I: Inbox, R: Rack, O: Sink, G: Gate>(
     // an end was a ledger that the disks told, each record of which was caused by what stood before it. Whatever a crash leaves of a
     // disk then opens to exactly its node's journal, and where no two outputs share a hash, the headline holds of the journals at exit. The
     // lines of each command are those of the mint and of the journals (of `run` and `recover` at exit too; of `gen` those of a run of its workload in
-    // memory and of the audit behind it), or at WriteFault a front.
+    // memory and of the audit behind it), or at WriteFault a front. Each sound submission of a run has its one place in one new Prepare, and
+    // nothing else has one; its line confirms it exactly where every shard held it, and always where its inputs are unspent when its
+    // file's wave begins and no other sound one of the file spends them. The text of a workload is one, where no hashes of it clash.
     ensures did { IsWell result.status → (r : Asked) × IsAsked (texts words.now) r × Did (I.file inbox.old) R.Disk.content R.Disk.images R.Disk.limit (R.held rack) (R.held result.rack) (IsPrinted (O.taken out.old) (O.taken out.new) result.status) r }
 
     // Else the line of the fault is printed and nothing else, or a front of it where the sink's count rose.
@@ -182,13 +209,17 @@ pub fn process<W: Wait, I: Inbox, R: Rack, O: Sink, G: Gate>(
     // its own no first record, or what it might have left before, or, where the disk failed, the new one alone.
     ensures left { (IsWell result.status → ⊥) → (result.rack ≡ rack) ⊎ ((r : Asked) × IsAsked (texts words.now) r × Leaves (I.file inbox.old) R.Disk.content R.Disk.images R.Disk.limit (R.held rack) (R.held result.rack) r result.status) }
 
+    // Where nothing hinders what was asked, it was done, unless memory ran out.
+    ensures complete { (r : Asked) → IsAsked (texts words.now) r → IsUnhindered (I.file inbox.old) (I.count inbox.old) (I.count inbox.new) R.Disk.content R.Disk.limit (R.held rack) (R.count rack) (R.count result.rack) r
+        → (Rose (O.count out.old) (O.count out.new) → ⊥) → (result.status ≡ Answer.Ok) ⊎ (result.status ≡ Answer.Memory) }
+
     ensures bad_words { result.status ≡ Answer.BadWords → IsRefused (texts words.now) WordsFault.Bad }
     ensures told { IsRefused (texts words.now) WordsFault.Bad → (result.status ≡ Answer.BadWords) ⊎ (result.status ≡ Answer.Memory) }
     ensures read { (file : ℕ) → result.status ≡ Answer.ReadFault file → NamedRose (texts words.now) (I.count inbox.old) (I.count inbox.new) file }
     ensures written { result.status ≡ Answer.WriteFault → Rose (O.count out.old) (O.count out.new) }
 {
     let mut rack = rack;
-    let status = answer_words(rt, alloc, words, inbox, &mut rack, out, gate);
-    let _ = write_fault(out, &status, name_of(words, &status));
+    let Answered { status, name } = answer_words(rt, alloc, words, inbox, &mut rack, out, gate);
+    let _ = write_fault(out, &status, name);
     Done { status, rack }
 }

@@ -1,5 +1,5 @@
 -- What `init`, `status` and `audit` print, and what is printed of a fault.
-use Rattle.std.specs.Prelude.{◌≡◌, ◌++◌, ℕ, List, [], ◌∷◌, length, take, drop, Some, slice_get, codes, bytes_eq, if◌then◌else◌}
+use Rattle.std.specs.Prelude.{◌≡◌, ◌++◌, ℕ, List, [], ◌∷◌, length}
 use Rattle.cbdc_types.specs.declared.answer.Answer.{Answer}
 use Rattle.cbdc_types.specs.declared.answer.Answer.TheVariants.{BadInput, ReadFault, Unsound as UnsoundAnswer}
 use Rattle.cbdc_model.specs.Records.{Digest, Shape, Record, Row}
@@ -41,16 +41,12 @@ verdict_lines (Unsound place kind) = fault_text (UnsoundAnswer place kind) []
 abbrev pub IsAuditText : Shape → List Output → List FullTx → List Row → Text → Type 0
 IsAuditText K mint handed rows text = (verdict : Verdict) × IsVerdict K mint handed rows verdict × (text ≡ verdict_lines verdict)
 
--- the name of a file in a word: it may stand behind its option
-abbrev pub name_in : Text → Text
-name_in word = if bytes_eq (take 11 word) (codes "--verdicts=") then drop 11 word else word
-
--- where the answer speaks of a file, this is its name, as it stands in the words
-abbrev pub Names : List Text → Answer → Text → Type 0
-Names words (BadInput file at kind) name = (word : Text) × (slice_get words file ≡ Some word) × (name ≡ name_in word)
-Names words (ReadFault file) name = (word : Text) × (slice_get words file ≡ Some word) × (name ≡ name_in word)
-Names words other name = Unit {0}
+-- where the answer speaks of a file, by its place, this is its name
+abbrev pub Names : (ℕ → Text → Type 0) → Answer → Text → Type 0
+Names has (BadInput file at kind) name = has file name
+Names has (ReadFault file) name = has file name
+Names has other name = Unit {0}
 
 -- of an answer: the line of a fault, nothing where there is none
-abbrev pub IsFaultLine : List Text → Answer → Text → Type 0
-IsFaultLine words answer text = (name : Text) × Names words answer name × (text ≡ fault_text answer name)
+abbrev pub IsFaultLine : (ℕ → Text → Type 0) → Answer → Text → Type 0
+IsFaultLine has answer text = (name : Text) × Names has answer name × (text ≡ fault_text answer name)

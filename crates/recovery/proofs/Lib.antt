@@ -1,3 +1,4 @@
 pub mod Rest
 mod Taking
+mod InOrder
 mod Untouched

@@ -1,5 +1,5 @@
 -- The lanes that are open at a coordinator.
-use Rattle.std.specs.Prelude.{◌≡◌, ◌⊎◌, ℕ, ◌<◌, Bool, List, [], ◌∷◌, length}
+use Rattle.std.specs.Prelude.{◌≡◌, ◌⊎◌, ℕ, ◌<◌, Bool, List, [], ◌∷◌, ◌++◌, length}
 use Rattle.std.specs.List.{All, AllZip}
 use Rattle.cbdc_types.specs.declared.batch.OpenLane.{OpenLane}
 use Rattle.cbdc_types.specs.declared.batch.Phase.{Phase as OpenPhase}
@@ -10,7 +10,7 @@ use Rattle.cbdc_model.specs.Grammar.{HasSize, IsBatchOf, IsCompact}
 use Rattle.cbdc_model.specs.Records.{Shape, Record, outcomes_of}
 use Rattle.cbdc_model.specs.Sights.{Sight}
 use Rattle.cbdc_types.specs.declared.calls.NodeFault.{NodeFault}
-use Rattle.lane_laws.specs.Resuming.{IsPreparedAt, IsCommittedAt, IsDiscardedAt, IsLeft}
+use Rattle.lane_laws.specs.Resuming.{IsPreparedAt, IsCommittedAt, IsDiscardedAt, IsTakenUp, IsLeft}
 use Rattle.lane_driver.specs.declared.fault.LaneFault.{LaneFault}
 use Rattle.lane_driver.specs.Stops.{IsFaultOf, HasNoMemory}
 use Rattle.lane_driver.specs.Told.{IsLane, IsStamp}
@@ -77,3 +77,34 @@ HasItsOutcomes Discarded o J r = r.outcomes ≡ o.outcomes
 abbrev pub IsResumeStopped : Shape → Bool → OpenLane → Sight → (ℕ → Sight) → Sight → (ℕ → Sight) → LaneFault → Type 0
 IsResumeStopped K alone o log I log' J e =
     HasNoMemory e log I log' J ⊎ (IsUnfinished o.phase K o log I → (n : ℕ) × (f : NodeFault) × IsFaultOf e n f × IsLeft K alone o.batch log I log' J n f)
+
+-- the open batch was taken to its end, and it is told with the phase in which it stood and its outcomes
+pub record IsOneTaken (K : Shape) (alone : Bool) (o : OpenLane) (log : Sight) (I : ℕ → Sight) (log' : Sight) (J : ℕ → Sight) (r : ResumedBatch) : Type 0 where
+  pub taken : IsTakenUp K alone o.batch log I log' J
+  pub resumed : IsResumed o r
+  pub outcomes : HasItsOutcomes o.phase o log'.seen r
+
+-- so was each of them, one behind the other
+abbrev pub AreTakenUp : Shape → Bool → List OpenLane → List ResumedBatch → Sight → (ℕ → Sight) → Sight → (ℕ → Sight) → Type 0
+AreTakenUp K alone [] [] log I log' J = (log' ≡ log) × (J ≡ I)
+AreTakenUp K alone [] (r ∷ rs) log I log' J = ⊥
+AreTakenUp K alone (o ∷ os) [] log I log' J = ⊥
+AreTakenUp K alone (o ∷ os) (r ∷ rs) log I log' J =
+    (between : Sight) × (shards_between : ℕ → Sight) × IsOneTaken K alone o log I between shards_between r × AreTakenUp K alone os rs between shards_between log' J
+
+-- one of them stopped; those before it were taken to their end, and those behind it are untouched
+pub record IsStoppedAmong (K : Shape) (alone : Bool) (os : List OpenLane) (log : Sight) (I : ℕ → Sight) (log' : Sight) (J : ℕ → Sight) (e : LaneFault) : Type 0 where
+  pub before : List OpenLane
+  pub stopped_at : OpenLane
+  pub behind : List OpenLane
+  pub are : os ≡ before ++ stopped_at ∷ behind
+  pub batches : List ResumedBatch
+  pub log_there : Sight
+  pub shards_there : ℕ → Sight
+  pub taken : AreTakenUp K alone before batches log I log_there shards_there
+  pub stands : IsUnfinished stopped_at.phase K stopped_at log_there shards_there
+  pub stopped : IsResumeStopped K alone stopped_at log_there shards_there log' J e
+
+-- that, or they were not begun for want of memory
+abbrev pub AreStopped : Shape → Bool → List OpenLane → Sight → (ℕ → Sight) → Sight → (ℕ → Sight) → LaneFault → Type 0
+AreStopped K alone os log I log' J e = HasNoMemory e log I log' J ⊎ IsStoppedAmong K alone os log I log' J e

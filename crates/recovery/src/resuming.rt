@@ -6,7 +6,7 @@ ghost use Rattle.cbdc_types.specs.declared.batch.Phase.TheVariants.{Prepared, Co
 ghost use Rattle.lane_laws.specs.Resuming.{IsTakenUp};
 ghost use Rattle.lane_driver.specs.Told.{KeepsOthers, AreShardsOf, KeepNodes};
 ghost use Rattle.lane_driver.specs.Causes.{IsCausedFault};
-ghost use Rattle.recovery.specs.Open.{IsOpen, LanesRise, IsResumed, AreResumed, IsUnfinished, AreUnfinished, HasItsOutcomes, IsResumeStopped};
+ghost use Rattle.recovery.specs.Open.{IsOpen, LanesRise, IsResumed, AreResumed, IsUnfinished, AreUnfinished, HasItsOutcomes, IsResumeStopped, AreTakenUp, AreStopped};
 
 use crate::resumed::{Resumed, ResumedBatch};
 use cbdc_types::{List, OpenLane, Outcome, Outcomes, Phase, Shape};
@@ -279,8 +279,9 @@ pub fn resume_lane<S: PortSet, L: LogPort, G: Gate>(
 }
 
 /// Takes each open batch of a coordinator's lanes to its end, in the list's order: a prepared batch asks Lock again at
-/// each concerned shard and goes on, a committed one asks Finish, a discarded one Forget. The list has each lane that is
-/// not idle once, in rising order. Where it has more than one, no other lane writes meanwhile.
+/// each concerned shard and goes on, a committed one asks Finish, a discarded one Forget. The list has lanes that are not
+/// idle, each once, in rising order. Where it has more than one, no other lane writes meanwhile: a port tells of the lane that
+/// it is called for and lets records of all others come, those of the list's later lanes too.
 pub fn resume<S: PortSet, L: LogPort, G: Gate>(
     alloc: Global,
     shape: &Shape,
@@ -297,6 +298,13 @@ pub fn resume<S: PortSet, L: LogPort, G: Gate>(
     requires shape { (L.header ports.old.log).shape ≡ shape.now }
     requires count { S.count ports.old.shards ≡ shape.now.shards }
     requires ledger { AreShardsOf shape.now (S.sights ports.old.shards) }
+
+    // Each batch is at its end, and is told with the phase in which it stood and the outcomes of its Commit; each lane is idle.
+    ensures taken { IfOk result (λ r. AreTakenUp shape.now L.alone lanes.now r.batches (L.sights ports.old.log (L.at ports.old.log)) (S.sights ports.old.shards) (L.sights ports.new.log (L.at ports.new.log)) (S.sights ports.new.shards)) }
+    ensures idle { OnOk result (All (λ o. L.phase ports.new.log o.batch.lane ≡ Idle) lanes.now) }
+
+    // Or one stopped, those before it are at their end, and those behind it untouched.
+    ensures left { IfErr result (AreStopped shape.now L.alone lanes.now (L.sights ports.old.log (L.at ports.old.log)) (S.sights ports.old.shards) (L.sights ports.new.log (L.at ports.new.log)) (S.sights ports.new.shards)) }
     ensures fault { IfErr result (IsCausedFault shape.now (L.sights ports.new.log) (S.sights ports.new.shards)) }
     ensures at_same { L.at ports.new.log ≡ L.at ports.old.log }
     ensures header { L.header ports.new.log ≡ L.header ports.old.log }

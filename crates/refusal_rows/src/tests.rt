@@ -2,7 +2,7 @@
 use cbdc_types::{FullTx, Input, List};
 use row_making::{
     Ran, bytes_of, claims, client, genesis, good, made, paid, pays, play, sixty_forty, spends,
-    used, with_bytes,
+    two_disks, used, with_bytes,
 };
 use std::alloc::{AllocError, Global};
 use std::process::Abort;
@@ -161,6 +161,28 @@ fn a_file_that_is_not_there(rt: HostRuntime) -> Result<(), Fail> {
     told(&rt, &run, 10, "fault read c\n");
     assert_eq!(rt; used(&run.rack, 0), 99);
     assert_eq!(rt; used(&run.rack, 1), 139);
+    Ok(())
+}
+
+/// Verdicts that are not there, behind their option in one word: the name is what follows the option.
+#[test]
+fn verdicts_in_one_word_that_are_not_there(rt: HostRuntime) -> Result<(), Fail> {
+    let alloc = rt.alloc();
+    let bytes = client(alloc, &[&sixty_forty(alloc)?])?;
+    let rack = made(&rt, alloc, 10_000, 10_000)?;
+    let words = ["run", "--verdicts=v", "c"];
+    let run = play(&rt, alloc, rack, &words, &[("c", &bytes)])?;
+    told(&rt, &run, 10, "fault read v\n");
+    Ok(())
+}
+
+/// A mint whose name looks like that option: its name is the whole word.
+#[test]
+fn a_mint_named_as_an_option(rt: HostRuntime) -> Result<(), Fail> {
+    let alloc = rt.alloc();
+    let rack = two_disks(alloc, 10_000, 10_000)?;
+    let run = play(&rt, alloc, rack, &["init", "--", "--verdicts=x"], &[])?;
+    told(&rt, &run, 10, "fault read --verdicts=x\n");
     Ok(())
 }
 

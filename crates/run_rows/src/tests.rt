@@ -4,6 +4,7 @@ use identifiers::tx_id;
 use row_making::{Ran, claims, client, good, made, paid, pays, play, sixty_forty, spends, used};
 use std::alloc::{AllocError, Global};
 use std::process::Abort;
+use std::sync::Wait;
 use std::test::Fail;
 
 const PAID: &str =
@@ -86,19 +87,55 @@ fn two_spenders_in_two_runs(rt: HostRuntime) -> Result<(), Fail> {
     Ok(())
 }
 
+// Runs two client files of one transaction each over a new ledger, in one run, with good verdicts on the inputs of these.
+fn in_two_files<W: Wait>(
+    rt: &W,
+    alloc: Global,
+    first: &FullTx,
+    second: &FullTx,
+    known: &[&FullTx],
+) -> Result<Ran, AllocError> {
+    let (one, two) = (client(alloc, &[first])?, client(alloc, &[second])?);
+    let lines = good(alloc, known)?;
+    let rack = made(rt, alloc, 10_000, 10_000)?;
+    let words = ["run", "--verdicts", "v", "c", "d"];
+    let files: [(&str, &[u8]); 3] = [("c", &one), ("d", &two), ("v", &lines)];
+    play(rt, alloc, rack, &words, &files)
+}
+
 /// The same two in two client files of one run: the second file's batch comes later.
 #[test]
 fn two_spenders_in_two_files(rt: HostRuntime) -> Result<(), Fail> {
     let alloc = rt.alloc();
     let (tx, other) = (sixty_forty(alloc)?, whole(alloc)?);
-    let (one, two) = (client(alloc, &[&tx])?, client(alloc, &[&other])?);
-    let lines = good(alloc, &[&tx, &other])?;
-    let rack = made(&rt, alloc, 10_000, 10_000)?;
-    let words = ["run", "--verdicts", "v", "c", "d"];
-    let files: [(&str, &[u8]); 3] = [("c", &one), ("d", &two), ("v", &lines)];
-    let run = play(&rt, alloc, rack, &words, &files)?;
+    let run = in_two_files(&rt, alloc, &tx, &other, &[&tx, &other])?;
     let text =
         "1 0 95dc87bd021f95fe4232b14028e3332879a437b67d6eaaf9a6510670e422cc2f confirmed 0 1\n2 0 18a18a0961b2e87d125720b33669f007226725e25988328f9a9f63772f3ca1c3 rejected missing 866fbe7a1335a2e2e2ec97861a6980fc2f1314dd1bbc6d33f73d184a9e1807bc 0 0 2\nresumed 0\nbatches 2\nconfirmed 1\nrejected 1\nrefused 0\nunspent 2\n";
+    told(&rt, &run, 0, text);
+    Ok(())
+}
+
+/// The same transaction in two client files of one run: confirmed in the first, and its coin is gone in the second.
+#[test]
+fn the_same_transaction_in_two_files(rt: HostRuntime) -> Result<(), Fail> {
+    let alloc = rt.alloc();
+    let tx = sixty_forty(alloc)?;
+    let run = in_two_files(&rt, alloc, &tx, &tx, &[&tx])?;
+    let text =
+        "1 0 95dc87bd021f95fe4232b14028e3332879a437b67d6eaaf9a6510670e422cc2f confirmed 0 1\n2 0 95dc87bd021f95fe4232b14028e3332879a437b67d6eaaf9a6510670e422cc2f rejected missing 866fbe7a1335a2e2e2ec97861a6980fc2f1314dd1bbc6d33f73d184a9e1807bc 0 0 2\nresumed 0\nbatches 2\nconfirmed 1\nrejected 1\nrefused 0\nunspent 2\n";
+    told(&rt, &run, 0, text);
+    Ok(())
+}
+
+/// An output of the first client file's transaction is spent in the second file of the same run.
+#[test]
+fn an_output_spent_in_a_later_file(rt: HostRuntime) -> Result<(), Fail> {
+    let alloc = rt.alloc();
+    let tx = sixty_forty(alloc)?;
+    let next = pays(alloc, &[spends(tx_id(&tx), 0, (2, 60))], &[(5, 60)])?;
+    let run = in_two_files(&rt, alloc, &tx, &next, &[&tx, &next])?;
+    let text =
+        "1 0 95dc87bd021f95fe4232b14028e3332879a437b67d6eaaf9a6510670e422cc2f confirmed 0 1\n2 0 215b40eaed9285d724ea6a36278d5bd86e7c4695764770784946ebccdc7784c8 confirmed 0 2\nresumed 0\nbatches 2\nconfirmed 2\nrejected 0\nrefused 0\nunspent 2\n";
     told(&rt, &run, 0, text);
     Ok(())
 }

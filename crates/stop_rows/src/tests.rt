@@ -1,2 +1,3 @@
+mod lanes;
 mod making;
 mod rows;

@@ -1,5 +1,5 @@
 -- What a file's wave decided stays decided, at the same place among all.
-use Rattle.std.proofs.Common.{◌≡◌, inl, inr, ℕ, ◌+◌, ◌-◌, ◌*◌, ◌<◌, ◌≤◌, Bool, true, false, nat_lt, if◌then◌else◌, List, [], ◌∷◌, ◌++◌, map, reverse, length, Some, None, is_some, refl, sym, ap, ◌∙◌, subst, arith, append_assoc, append-nil, mod-lt}
+use Rattle.std.proofs.Common.{◌≡◌, inl, inr, ℕ, ◌+◌, ◌-◌, ◌*◌, ◌<◌, ◌≤◌, true, false, nat_lt, if◌then◌else◌, List, [], ◌∷◌, ◌++◌, map, reverse, length, Some, None, is_some, refl, sym, ap, ◌∙◌, subst, arith, append_assoc, append-nil, mod-lt}
 use Rattle.std.proofs.lemmas.List.{append_cancel_right, length-append}
 use Rattle.cbdc_model.specs.Records.{Shape, Batch, Compact, Record, Row, journal, record_of, outcomes_in, Won}
 use Rattle.cbdc_model.specs.Ranges.{home_of}
@@ -8,13 +8,12 @@ use Rattle.cbdc_model.specs.Clean.{IsProperCompact}
 use Rattle.cbdc_model.specs.History.{Minted, minted, first_rows}
 use Rattle.cbdc_model.specs.World.{KeptJournals}
 use Rattle.cbdc_model.specs.Lanes.{IsEnd, first_of}
-use Rattle.cbdc_model.specs.Waves.{AreFilesRun}
 use Rattle.cbdc_model.specs.Places.{PlaceIn, Sized, sized_before, sized_onto, place_of, outcome_at, outcome_in}
 use Rattle.ledger_laws.proofs.Next.{Steady}
 use Rattle.ledger_laws.proofs.Lookups.{true_false, no_commit}
 use Rattle.ledger_laws.proofs.First.{journal_first, all_first}
 use Rattle.ledger_laws.proofs.Moves.{none_of}
-use Rattle.ledger_laws.proofs.Cuts.{cut, end_trans}
+use Rattle.ledger_laws.proofs.Cuts.{cut}
 use Rattle.ledger_laws.proofs.Finds.{stands}
 use Rattle.ledger_laws.proofs.Together.{lists_of}
 use Rattle.ledger_laws.proofs.Ledger.{steady}
@@ -23,14 +22,10 @@ use Rattle.wave_laws.specs.Free.{lane_behind, sound_behind}
 use Rattle.wave_laws.specs.Placing.{sent_of_all}
 use Rattle.wave_laws.specs.FreeRuns.{FreeRunLaw}
 use Rattle.wave_laws.proofs.Sharing.{joined, Told, told_in, txs_all, size_told, sized_told}
+use Rattle.wave_laws.proofs.Between.{files_grow}
 use Rattle.wave_laws.proofs.NewRecords.{found_at}
 use Rattle.wave_laws.proofs.Placed.{told_joined}
 use Rattle.wave_laws.proofs.Confirmed.{free_law}
-
--- files make journals grow
-files_grow : (K : Shape) (sound : FullTx → Bool) (files : List (List FullTx)) (I J : ℕ → List Record) → AreFilesRun K sound files I J → (n : ℕ) → IsEnd (I n) (J n)
-files_grow K sound [] I J h n = ([], h n)
-files_grow K sound (file ∷ files) I J h n = end_trans (I n) (h.0 n) (J n) (h.1.adds.grows n) (files_grow K sound files h.0 J h.2 n)
 
 -- a record that is found stays the one that is found
 stays_found : (K : Shape) (minting : Minted) (P : Compact → Type 0) (some : 0 < K.shards) (old new : List Row) → Steady K minting P old → Steady K minting P new → (n kind : ℕ) (c : Batch)

@@ -1,4 +1,5 @@
 pub mod Sharing
+pub mod Between
 pub mod FreeReplies
 pub mod Told
 pub mod NewRecords

@@ -1,3 +1,4 @@
 pub mod Free
 pub mod Placing
 pub mod FreeRuns
+pub mod Between

@@ -1,6 +1,7 @@
 //! Laws of whole waves. They have no body that runs.
 #![tactic(auto)]
 
+ghost use Rattle.wave_laws.specs.Between.{BeginLaw, BetweenLaw};
 ghost use Rattle.wave_laws.specs.Free.{FreeLaw};
 ghost use Rattle.wave_laws.specs.FreeRuns.{FreeRunLaw};
 ghost use Rattle.wave_laws.specs.Placing.{PlaceLaw};
@@ -19,4 +20,14 @@ pub fn place_law()
 /// The same in a whole run: the submission's place counts all sound ones of its lane in the files before, and its outcome stays.
 pub fn free_run_law()
     ensures { FreeRunLaw }
+{}
+
+/// Each file's wave begins at journals between those at a run's entry and exit.
+pub fn begin_law()
+    ensures { BeginLaw }
+{}
+
+/// And these are kept, where those at entry and at exit are.
+pub fn between_law()
+    ensures { BetweenLaw }
 {}

@@ -1,2 +1,3 @@
 pub mod Pure
 pub mod Refused
+pub mod Single

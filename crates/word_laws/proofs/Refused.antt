@@ -40,7 +40,7 @@ no_fault words command rows m other =
 no_mistake : (words : List Text) (command : Text) (rows : List Row) → Meets words command rows → bytes_eq command (codes "help") ≡ false → HasMistake (faults_of words) → ⊥
 no_mistake words command rows m other mistake = absurd (subst (λ (k : Kinds). HasMistake k) (no_fault words command rows m other) mistake).1
 
-no_wish : (words : List Text) (command : Text) (rows : List Row) → Meets words command rows → bytes_eq command (codes "help") ≡ false → HasWish (faults_of words) → ⊥
+pub no_wish : (words : List Text) (command : Text) (rows : List Row) → Meets words command rows → bytes_eq command (codes "help") ≡ false → HasWish (faults_of words) → ⊥
 no_wish words command rows m other wish = absurd (subst (λ (k : Kinds). HasWish k) (no_fault words command rows m other) wish).1
 
 -- ---- the command and its matches
@@ -49,13 +49,13 @@ abbrev met_as : Text → List Row → Option (Text × List Row)
 met_as c rows = Some (c, rows)
 
 -- words meet one command
-one_met : (words : List Text) (c d : Text) (rows others : List Row) → Meets words c rows → Meets words d others → met_as c rows ≡ met_as d others
+pub one_met : (words : List Text) (c d : Text) (rows others : List Row) → Meets words c rows → Meets words d others → met_as c rows ≡ met_as d others
 one_met words c d rows others m n = sym m.met ∙ n.met
 
-same_rows : (c d : Text) (rows others : List Row) → met_as c rows ≡ met_as d others → rows ≡ others
+pub same_rows : (c d : Text) (rows others : List Row) → met_as c rows ≡ met_as d others → rows ≡ others
 same_rows c d rows others e = ap (λ (o : Option (Text × List Row)). option_map_or (λ p. p.1) o []) e
 
-other_command : (c d : Text) (rows others : List Row) → met_as c rows ≡ met_as d others → bytes_eq c c ≡ true → bytes_eq d c ≡ false → ⊥
+pub other_command : (c d : Text) (rows others : List Row) → met_as c rows ≡ met_as d others → bytes_eq c c ≡ true → bytes_eq d c ≡ false → ⊥
 other_command c d rows others e itself apart = true≢false (sym itself ∙ ap (λ (o : Option (Text × List Row)). option_map_or (λ p. bytes_eq p.0 c) o false) e ∙ apart)
 
 no_bad_value : (words : List Text) (c : Text) (rows : List Row) → Meets words c rows → bytes_eq c c ≡ true → bytes_eq (codes "init") c ≡ false → bytes_eq (codes "status") c ≡ false
@@ -66,10 +66,10 @@ no_bad_value words c rows m itself init status gen (inr (inr b)) = other_command
 
 -- ---- values
 
-one_text : (s t : Text) → Some s ≡ Some t → s ≡ t
+pub one_text : (s t : Text) → Some s ≡ Some t → s ≡ t
 one_text s t e = ap (λ (o : Option Text). option_map_or (λ x. x) o []) e
 
-one_list : (s t : List Text) → Some s ≡ Some t → s ≡ t
+pub one_list : (s t : List Text) → Some s ≡ Some t → s ≡ t
 one_list s t e = ap (λ (o : Option (List Text)). option_map_or (λ x. x) o []) e
 
 no_number : (rows : List Row) (name : Text) (most n : ℕ) → HasNumber rows name most n → HasNoNumber rows name most → ⊥

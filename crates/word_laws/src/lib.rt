@@ -3,6 +3,7 @@
 
 ghost use Rattle.std.specs.Prelude.{◌≡◌, length};
 ghost use Rattle.word_laws.specs.Refused.{AreWhole, AskedLaw, HasHashes};
+ghost use Rattle.word_laws.specs.Single.{OneRequestLaw};
 
 use cbdc_types::Hash;
 use command_line::Request;
@@ -10,6 +11,11 @@ use command_line::Request;
 /// Words that are refused ask for nothing.
 pub fn asked_law()
     ensures { AskedLaw }
+{}
+
+/// Words ask for one thing.
+pub fn one_request_law()
+    ensures { OneRequestLaw }
 {}
 
 // A hash has its 32 bytes.

@@ -49,10 +49,10 @@ const STATUS: [&str; 3] = [
 const STATUS_TEXT: &str =
     "0bf0376646e6b4974a5a86c6c59db4396280671b1c89f05dd7d1fa54fe855faa absent\n36926e3bdb7e445b62e286fdea25012838616885144bcfa0ca4fb4dd6a99ec54 unspent\n";
 
-// How many records each node has kept where a run was stopped, and what `recover` then writes.
-struct Stop {
-    kept: [usize; 3],
-    text: &'static str,
+/// How many records each node has kept where a run was stopped, and what `recover` then writes.
+pub(crate) struct Stop {
+    pub kept: [usize; 3],
+    pub text: &'static str,
 }
 
 // A run of one transaction on both shards, stopped behind each of its records.
@@ -120,8 +120,12 @@ fn made<W: Wait + Abort>(
     bytes_of(alloc, &rack)
 }
 
-// The disks with so many records each.
-fn stopped(alloc: Global, whole: &[Vec<u8>], kept: &[usize; 3]) -> Result<Vec<Vec<u8>>, Fail> {
+/// The disks with so many records each.
+pub(crate) fn stopped(
+    alloc: Global,
+    whole: &[Vec<u8>],
+    kept: &[usize; 3],
+) -> Result<Vec<Vec<u8>>, Fail> {
     let mut disks = Vec::new(alloc);
     for (bytes, records) in whole.iter().zip(kept) {
         disks.push(cut(alloc, bytes, *records)?)?;

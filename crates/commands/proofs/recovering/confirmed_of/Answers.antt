@@ -1,4 +1,4 @@
-use Rattle.std.proofs.Common.{◌≡◌, length, arith}
+use Rattle.std.proofs.Common.{arith}
 use Rattle.commands.proofs.Recovered.{won_next, won_one}
 use Rattle.commands.proofs.recovering.confirmed_of.Goals as goal
 

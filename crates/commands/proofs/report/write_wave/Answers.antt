@@ -1,6 +1,5 @@
 use Rattle.std.proofs.Common.{◌≡◌, ◌+◌, ◌<◌, ◌++◌, length, drop, get_or, subst, sym, ap, ◌∙◌, arith}
 use Rattle.std.proofs.lemmas.Result.{err_from_is_err_and}
-use Rattle.line_text.specs.Lines.{Prints}
 use Rattle.commands.specs.Told.{told_of, told_line, told_file}
 use Rattle.commands.proofs.Parts.{Goes, goes_begin, part_more, part_cut, parts_done}
 use Rattle.commands.proofs.RunLines.{next_line, no_line}

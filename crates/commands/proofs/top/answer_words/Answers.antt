@@ -6,22 +6,29 @@ use Rattle.command_line.specs.declared.request.Request.{Request}
 use Rattle.commands.specs.Outcomes.{Why}
 use Rattle.commands.proofs.Answers.{told_by}
 use Rattle.commands.proofs.Named.{answered}
+use Rattle.commands.proofs.Naming.{asked_name}
+use Rattle.outside.specs.Counts.{Rose}
 use Rattle.word_laws.proofs.Refused.{asked_law}
 use Rattle.commands.proofs.top.answer_words.Goals as goal
 
 pub returns-in-Ok-clause-cause : goal.returns-in-Ok-clause-cause
-returns-in-Ok-clause-cause g c = answered _ _ _ c.in-Ok.request _ c.answer_to.result c.in-Ok.ensures.asked c.answer_to.ensures.cause
+returns-in-Ok-clause-cause g c = answered _ _ _ c.in-Ok.request _ c.answer_to-status.result c.in-Ok.ensures.asked c.answer_to-status.ensures.cause
 
 pub returns-in-Ok-clause-did : goal.returns-in-Ok-clause-did
-returns-in-Ok-clause-did g c well = (c.in-Ok.request, c.in-Ok.ensures.asked, c.answer_to.ensures.did well)
+returns-in-Ok-clause-did g c well = (c.in-Ok.request, c.in-Ok.ensures.asked, c.answer_to-status.ensures.did well)
 
 pub returns-in-Ok-clause-why : goal.returns-in-Ok-clause-why
 returns-in-Ok-clause-why g c =
-    let why : Request → Answer → Type 0 = λ r a. Why (g.I.Inbox.file c.args.inbox.now) (g.I.Inbox.count c.args.inbox.now) (g.I.Inbox.count c.answer_to.new.inbox) g.R.Disk.Disk.content g.R.Disk.Disk.images g.R.Disk.Disk.limit g.R.Disk.Disk.count (g.R.Rack.held c.args.rack.now) (g.R.Rack.held c.answer_to.new.rack) (g.R.Rack.count c.args.rack.now) (g.R.Rack.count c.answer_to.new.rack) r a in
-    told_by (why c.in-Ok.request) (λ a. (r : Request) × IsAsked (texts c.args.words.now) r × why r a) c.answer_to.result (λ a so. (c.in-Ok.request, c.in-Ok.ensures.asked, so)) c.answer_to.ensures.why
+    let why : Request → Answer → Type 0 = λ r a. Why (g.I.Inbox.file c.args.inbox.now) (g.I.Inbox.count c.args.inbox.now) (g.I.Inbox.count c.answer_to-status.new.inbox) g.R.Disk.Disk.content g.R.Disk.Disk.images g.R.Disk.Disk.limit g.R.Disk.Disk.count (g.R.Rack.held c.args.rack.now) (g.R.Rack.held c.answer_to-status.new.rack) (g.R.Rack.count c.args.rack.now) (g.R.Rack.count c.answer_to-status.new.rack) r a in
+    told_by (why c.in-Ok.request) (λ a. (r : Request) × IsAsked (texts c.args.words.now) r × why r a) c.answer_to-status.result (λ a so. (c.in-Ok.request, c.in-Ok.ensures.asked, so)) c.answer_to-status.ensures.why
 
 pub returns-in-Ok-clause-told : goal.returns-in-Ok-clause-told
 returns-in-Ok-clause-told g c refused = absurd (asked_law (texts c.args.words.now) c.in-Ok.request c.see_request.ensures c.in-Ok.ensures.asked refused)
 
 pub returns-in-Ok-clause-left : goal.returns-in-Ok-clause-left
-returns-in-Ok-clause-left g c not_well = ⊎_elim (λ same. inl same) (λ left. inr (c.in-Ok.request, c.in-Ok.ensures.asked, left)) (c.answer_to.ensures.left not_well)
+returns-in-Ok-clause-left g c not_well = ⊎_elim (λ same. inl same) (λ left. inr (c.in-Ok.request, c.in-Ok.ensures.asked, left)) (c.answer_to-status.ensures.left not_well)
+
+pub returns-in-Ok-clause-named : goal.returns-in-Ok-clause-named
+returns-in-Ok-clause-named g c =
+    asked_name (texts c.args.words.now) c.in-Ok.request (g.I.Inbox.count c.args.inbox.now) (g.I.Inbox.count c.answer_to-status.new.inbox) (Rose (g.O.Sink.count c.args.out.now) (g.O.Sink.count c.answer_to-status.new.out)) c.name_of-name.result.now c.answer_to-status.result
+    c.in-Ok.ensures.asked c.answer_to-status.ensures.cause c.name_of-name.ensures

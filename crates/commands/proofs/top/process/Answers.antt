@@ -4,9 +4,10 @@ use Rattle.outside.specs.Counts.{Rose}
 use Rattle.command_line.specs.Words.{texts}
 use Rattle.commands.specs.Causes.{IsAnswered}
 use Rattle.commands.specs.Texts.{IsPrinted}
+use Rattle.commands.proofs.Complete.{complete}
 use Rattle.commands.proofs.Counts.{rose_later}
 use Rattle.commands.proofs.Did.{did_by, printed_still}
-use Rattle.commands.proofs.Faults.{fault_printed, names_there}
+use Rattle.commands.proofs.Faults.{fault_printed}
 use Rattle.commands.proofs.top.process.Goals as goal
 
 pub returns-clause-did : goal.returns-clause-did
@@ -15,9 +16,9 @@ returns-clause-did g c well =
       r,
       asked,
       did_by (g.I.Inbox.file c.args.inbox.now) g.R.Disk.Disk.content g.R.Disk.Disk.images g.R.Disk.Disk.limit (g.R.Rack.held c.args.rack) (g.R.Rack.held c.answer_words-status.new.rack)
-          (IsPrinted (g.O.Sink.taken c.args.out.now) (g.O.Sink.taken c.answer_words-status.new.out) c.answer_words-status.result)
-          (IsPrinted (g.O.Sink.taken c.args.out.now) (g.O.Sink.taken c.write_fault.new.out) c.answer_words-status.result)
-          (λ text. printed_still (g.O.Sink.taken c.args.out.now) (g.O.Sink.taken c.answer_words-status.new.out) (g.O.Sink.taken c.write_fault.new.out) c.name_of.result.now text c.write_fault.result c.answer_words-status.result c.write_fault.ensures.prints)
+          (IsPrinted (g.O.Sink.taken c.args.out.now) (g.O.Sink.taken c.answer_words-status.new.out) c.answer_words-status.result.status)
+          (IsPrinted (g.O.Sink.taken c.args.out.now) (g.O.Sink.taken c.write_fault.new.out) c.answer_words-status.result.status)
+          (λ text. printed_still (g.O.Sink.taken c.args.out.now) (g.O.Sink.taken c.answer_words-status.new.out) (g.O.Sink.taken c.write_fault.new.out) c.answer_words-status.result.name.now text c.write_fault.result c.answer_words-status.result.status c.write_fault.ensures.prints)
           r was,
     )
 
@@ -42,9 +43,20 @@ returns-clause-fault_line g c =
     let before = g.O.Sink.count c.args.out.now in
     let mid = g.O.Sink.count c.answer_words-status.new.out in
     let now = g.O.Sink.count c.write_fault.new.out in
-    fault_printed (texts c.args.words.now) (g.O.Sink.taken c.args.out.now) (g.O.Sink.taken c.answer_words-status.new.out) (g.O.Sink.taken c.write_fault.new.out) c.name_of.result.now (Rose before now) c.write_fault.result c.answer_words-status.result
+    fault_printed (texts c.args.words.now) (g.O.Sink.taken c.args.out.now) (g.O.Sink.taken c.answer_words-status.new.out) (g.O.Sink.taken c.write_fault.new.out) c.answer_words-status.result.name.now (Rose before now) c.write_fault.result c.answer_words-status.result.status
     c.answer_words-status.ensures.silent
-    (names_there (texts c.args.words.now) (g.I.Inbox.count c.args.inbox.now) (g.I.Inbox.count c.answer_words-status.new.inbox) (Rose (g.O.Sink.count c.args.out.now) (g.O.Sink.count c.answer_words-status.new.out)) c.name_of.result.now c.answer_words-status.result
-    c.answer_words-status.ensures.cause c.name_of.ensures)
+    c.answer_words-status.ensures.named
     c.write_fault.ensures.prints
     (on_err_weaker c.write_fault.result (rose_later before mid now now c.answer_words-status.ensures.written_later (omega arith)) c.write_fault.ensures.cause.failed)
+
+pub returns-clause-complete : goal.returns-clause-complete
+returns-clause-complete g c r asked free steady =
+    let status = c.answer_words-status.result in
+    let failed = Rose (g.O.Sink.count c.args.out.now) (g.O.Sink.count c.write_fault.new.out) in
+    complete (g.I.Inbox.file c.args.inbox.now) (g.I.Inbox.count c.args.inbox.now) (g.I.Inbox.count c.answer_words-status.new.inbox) g.R.Disk.Disk.content g.R.Disk.Disk.images g.R.Disk.Disk.limit g.R.Disk.Disk.count
+    (g.R.Rack.held c.args.rack) (g.R.Rack.held c.answer_words-status.new.rack) (g.R.Rack.count c.args.rack) (g.R.Rack.count c.answer_words-status.new.rack)
+    (texts c.args.words.now) r asked free failed status c.answer_words-status.ensures.why
+    (λ is. subst (λ a. IsAnswered (texts c.args.words.now) (g.I.Inbox.count c.args.inbox.now) (g.I.Inbox.count c.answer_words-status.new.inbox) (Rose (g.O.Sink.count c.args.out.now) (g.O.Sink.count c.answer_words-status.new.out)) a) is c.answer_words-status.ensures.cause)
+    (λ is. rose_later (g.O.Sink.count c.args.out.now) (g.O.Sink.count c.args.out.now) (g.O.Sink.count c.answer_words-status.new.out) (g.O.Sink.count c.write_fault.new.out) (omega arith) c.write_fault.ensures.cause.later
+    (subst (λ a. IsAnswered (texts c.args.words.now) (g.I.Inbox.count c.args.inbox.now) (g.I.Inbox.count c.answer_words-status.new.inbox) (Rose (g.O.Sink.count c.args.out.now) (g.O.Sink.count c.answer_words-status.new.out)) a) is c.answer_words-status.ensures.cause))
+    steady

@@ -1,9 +1,10 @@
-use Rattle.std.proofs.Common.{◌∙◌, ◌+◌, sym, ap, subst, take, arith}
-use Rattle.recovery.specs.Open.{AreResumed}
+use Rattle.std.proofs.Common.{inr, ◌∙◌, ◌+◌, sym, ap, subst, take, arith}
+use Rattle.recovery.specs.Open.{AreResumed, AreTakenUp}
 use Rattle.lane_driver.proofs.Fitting.{elsewhere_on, nodes_on, ledger_kept}
 use Rattle.lane_laws.specs.Resuming.{IsTakenUp}
 use Rattle.recovery.proofs.Untouched.{stands_here, stand_rest, home_there, still_shape}
 use Rattle.recovery.proofs.Rest.{open_here, rise_rest, open_rest, resumed_more}
+use Rattle.recovery.proofs.InOrder.{taken_more, stopped_here, over_more}
 use Rattle.recovery.proofs.resuming.resume.Goals as goal
 
 pub resume_lane-requires-clause-is_open : goal.resume_lane-requires-clause-is_open
@@ -36,6 +37,14 @@ loop-unfinished-preserved g c =
       rise = rise_rest c.args.lanes.now i c.unfinished-item.result c.loop-unfinished-test.true c.unfinished-item.is inv.rise;
       resumed = subst (λ batches. AreResumed (take (i + 1) c.args.lanes.now) batches) (sym c.push_reserved.ensures.items)
           (resumed_more c.args.lanes.now c.loop-unfinished.batches.items i c.unfinished-item.result c.in-Ok-resume_lane.batch c.loop-unfinished-test.true c.unfinished-item.is inv.resumed told.resumed);
+      taken =
+          subst (λ batches. AreTakenUp c.args.shape.now g.L.LogPort.alone (take (i + 1) c.args.lanes.now) batches (g.L.LogPort.sights c.args.ports.now.log (g.L.LogPort.at c.args.ports.now.log)) (g.S.PortSet.sights c.args.ports.now.shards)
+          (g.L.LogPort.sights c.resume_lane.new.ports.log (g.L.LogPort.at c.resume_lane.new.ports.log)) (g.S.PortSet.sights c.resume_lane.new.ports.shards)) (sym c.push_reserved.ensures.items)
+          (taken_more c.args.lanes.now i c.unfinished-item.result c.loop-unfinished-test.true c.unfinished-item.is c.args.shape.now g.L.LogPort.alone c.loop-unfinished.batches.items c.in-Ok-resume_lane.batch
+          (g.L.LogPort.sights c.args.ports.now.log (g.L.LogPort.at c.args.ports.now.log)) (g.L.LogPort.sights c.loop-unfinished.ports.log (g.L.LogPort.at c.loop-unfinished.ports.log)) (g.L.LogPort.sights c.resume_lane.new.ports.log (g.L.LogPort.at c.resume_lane.new.ports.log))
+          (g.S.PortSet.sights c.args.ports.now.shards) (g.S.PortSet.sights c.loop-unfinished.ports.shards) (g.S.PortSet.sights c.resume_lane.new.ports.shards)
+          inv.taken (record { taken = told.taken here; resumed = told.resumed; outcomes = told.outcomes here }));
+      over = over_more c.args.lanes.now i c.unfinished-item.result c.loop-unfinished-test.true c.unfinished-item.is _ _ _ _ _ _ told.header told.others told.idle inv.rise inv.open_rest inv.over;
       len = c.push_reserved.ensures.len ∙ ap (λ n. n + 1) inv.len;
       room = c.push_reserved.ensures.capacity ∙ inv.room;
     }
@@ -85,3 +94,12 @@ returns-clause-shard_holds g c = c.loop-unfinished.invariant.shard_holds
 pub resume_lane-requires-clause-stands : goal.resume_lane-requires-clause-stands
 resume_lane-requires-clause-stands g c =
     stands_here c.args.shape.now (g.L.LogPort.sights c.loop-unfinished.ports.log (g.L.LogPort.at c.loop-unfinished.ports.log)) (g.S.PortSet.sights c.loop-unfinished.ports.shards) c.args.lanes.now c.loop-unfinished.unfinished-index _ c.loop-unfinished-test.true c.unfinished-item.is c.loop-unfinished.invariant.stand
+
+pub returns-in-Err-resume_lane-clause-left : goal.returns-in-Err-resume_lane-clause-left
+returns-in-Err-resume_lane-clause-left g c =
+    let inv = c.loop-unfinished.invariant in
+    inr (stopped_here c.args.lanes.now c.loop-unfinished.unfinished-index c.unfinished-item.result c.loop-unfinished-test.true c.unfinished-item.is c.args.shape.now g.L.LogPort.alone c.loop-unfinished.batches.items
+    (g.L.LogPort.sights c.args.ports.now.log (g.L.LogPort.at c.args.ports.now.log)) (g.L.LogPort.sights c.loop-unfinished.ports.log (g.L.LogPort.at c.loop-unfinished.ports.log)) (g.L.LogPort.sights c.resume_lane.new.ports.log (g.L.LogPort.at c.resume_lane.new.ports.log))
+    (g.S.PortSet.sights c.args.ports.now.shards) (g.S.PortSet.sights c.loop-unfinished.ports.shards) (g.S.PortSet.sights c.resume_lane.new.ports.shards) c.in-Err-resume_lane.fault inv.taken
+    (stands_here c.args.shape.now (g.L.LogPort.sights c.loop-unfinished.ports.log (g.L.LogPort.at c.loop-unfinished.ports.log)) (g.S.PortSet.sights c.loop-unfinished.ports.shards) c.args.lanes.now c.loop-unfinished.unfinished-index c.unfinished-item.result c.loop-unfinished-test.true c.unfinished-item.is inv.stand)
+    c.in-Err-resume_lane.ensures.left)

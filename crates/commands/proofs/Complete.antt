@@ -1,0 +1,157 @@
+-- Where nothing hinders what is asked, it is done, unless memory runs out.
+use Rattle.std.proofs.Common.{◌≡◌, ◌⊎◌, inl, inr, ℕ, List, [], Option, Some, None, Ok, refl, sym, ap, subst}
+use Rattle.outside.specs.Images.{Tells}
+use Rattle.line_text.specs.Lines.{Text}
+use Rattle.cbdc_types.specs.declared.answer.Answer.{Answer}
+use Rattle.cbdc_types.specs.declared.answer.Answer.TheVariants as answers
+use Rattle.cbdc_types.specs.declared.answer.UnsoundKind.{UnsoundKind}
+use Rattle.cbdc_model.specs.Records.{Shape}
+use Rattle.cbdc_model.specs.Coins.{Output, FullTx, genesis_id}
+use Rattle.command_line.specs.Asked.{IsAsked, IsRefused}
+use Rattle.command_line.specs.declared.request.FileWord.{FileWord}
+use Rattle.command_line.specs.declared.request.Request.{Request}
+use Rattle.command_line.specs.declared.request.Request.TheVariants.{Init, Run, Recover, Status, Audit, Gen, Show}
+use Rattle.command_line.specs.declared.request.WordsFault.TheVariants.{Bad}
+use Rattle.word_laws.specs.Refused.{AreWhole, HasHashes}
+use Rattle.word_laws.specs.Single.{AreAlike, names_of}
+use Rattle.word_laws.proofs.Refused.{asked_law}
+use Rattle.word_laws.proofs.Single.{one_request_law}
+use Rattle.input_files.specs.Contents.{mint_of_file, AreRead}
+use Rattle.file_runs.specs.Runs.{joined}
+use Rattle.audit.specs.declared.verdict.Verdict.TheVariants.{Unsound}
+use Rattle.audited_ledgers.specs.Audited.{IsAudited}
+use Rattle.complete_laws.specs.Making.{CanMake}
+use Rattle.complete_laws.specs.Ready.{IsReady, limit_at}
+use Rattle.complete_laws.proofs.Audited.{audit_sound}
+use Rattle.complete_laws.proofs.Files.{read_once, not_read_none, clients_once, clients_none}
+use Rattle.complete_laws.proofs.Making.{made}
+use Rattle.complete_laws.proofs.Openings.{unopened_none}
+use Rattle.complete_laws.proofs.Rooms.{ample_rooms, idle_rooms}
+use Rattle.commands.specs.Audits.{IsUnsoundBy, WasAudited, WhyUnopened, WhyUnaudited, WhyNoAudit}
+use Rattle.commands.specs.Causes.{IsTold}
+use Rattle.commands.specs.Complete.{CanInit, CanAudit, IsUnhindered, none_sound}
+use Rattle.commands.specs.Outcomes.{WhyNoInit, WhyNoStatus, Why}
+
+module _ {D : Type 0} (files : Text → Option (List ℕ)) (files_before files_now : Text → ℕ) (content : D → Option (List ℕ)) (images : D → List ℕ → Type 0) (limit count : D → ℕ) (held back : ℕ → Option D) (before now : ℕ → ℕ) where
+  init_none : (shape : Shape) (file : FileWord) (answer : Answer) → CanInit files files_before files_now content limit held before now shape file.name.now
+      → WhyNoInit files files_before files_now content limit held before now shape file answer → answer ≡ answers.Memory
+  init_none shape file answer can (inl not_read) = not_read_none files files_before files_now file.place mint_of_file file.name.now can.mint answer can.holds not_read
+  init_none shape file answer can (inr unmade) =
+      let same : unmade.0 ≡ can.mint = read_once files files_before files_now mint_of_file file.name.now can.mint unmade.0 can.holds unmade.1 in
+      made content limit held before now shape unmade.0 answer (subst (λ (m : List Output). CanMake content limit held shape m) (sym same) can.can) can.steady unmade.2
+
+  status_none : (answer : Answer) → IsReady content limit held before now none_sound [] → WhyNoStatus content images limit count held back before now answer → answer ≡ answers.Memory
+  status_none answer ready why =
+      let shows = ready.shows in
+      let rooms = ample_rooms ready.shape ready.mint ready.submissions ready.journals (λ n. limit_at limit (held n)) shows.limits shows.kept none_sound [] ready.ample in
+      unopened_none content images limit count held before now ready.shape ready.mint ready.submissions ready.journals ready.shows rooms ready.steady None answer tt why.0
+
+  module _ (file : FileWord) (clients : List FileWord) (can : CanAudit files files_before files_now content limit held before now file.name.now (names_of clients)) where
+    this_mint : (mint : List Output) → Tells (files file.name.now) (λ c. mint_of_file c ≡ Ok mint) → mint ≡ can.mint
+    this_mint mint tells = read_once files files_before files_now mint_of_file file.name.now can.mint mint can.holds tells
+
+    these_files : (handed : List (List FullTx)) → AreRead files 0 clients handed → handed ≡ can.handed
+    these_files handed read = clients_once files files_before files_now clients 0 can.handed handed can.clients_hold read
+
+    unopened : (mint : List Output) (answer : Answer) → mint ≡ can.mint → WhyUnopened content images limit count held before now mint answer → answer ≡ answers.Memory
+    unopened mint answer same (inr memory) = memory
+    unopened mint answer same (inl why) =
+        let shows = can.shows in
+        let rooms = idle_rooms can.shape can.mint (joined can.handed) can.journals (λ n. limit_at limit (held n)) shows.limits shows.kept can.idle can.fits in
+        unopened_none content images limit count held before now can.shape can.mint (joined can.handed) can.journals can.shows rooms can.steady (Some (genesis_id mint)) answer (ap genesis_id same) why
+
+    unaudited : (answer : Answer) → WhyUnaudited files files_before files_now content images limit count held before now file clients answer → answer ≡ answers.Memory
+    unaudited answer (inl not_read) = not_read_none files files_before files_now file.place mint_of_file file.name.now can.mint answer can.holds not_read
+    unaudited answer (inr (mint, read, inl not_read)) = clients_none files files_before files_now clients can.handed answer can.clients_hold not_read
+    unaudited answer (inr (mint, read, inr (handed, are_read, why))) = unopened mint answer (this_mint mint read) why
+
+    never_wrong : (place : ℕ) (kind : UnsoundKind) → WasAudited files content held file clients (Unsound place kind) → ⊥
+    never_wrong place kind was =
+        audit_sound content held can.shape can.mint (joined can.handed) can.journals can.shows can.idle can.clean place kind
+        (subst (λ (m : List Output). IsAudited content held m (joined can.handed) (Unsound place kind)) (this_mint was.mint was.read)
+        (subst (λ (hs : List (List FullTx)). IsAudited content held was.mint (joined hs) (Unsound place kind)) (these_files was.handed was.clients_read) was.audited))
+
+    unsound : (answer : Answer) → IsUnsoundBy (WasAudited files content held file clients) answer → answer ≡ answers.Memory
+    unsound (answers.Unsound place kind) was = absurd (never_wrong place kind was)
+    unsound answers.Ok was = absurd was
+    unsound answers.BadWords was = absurd was
+    unsound (answers.BadInput file at kind) was = absurd was
+    unsound (answers.TooMuch total) was = absurd was
+    unsound (answers.NotReady n) was = absurd was
+    unsound (answers.Foreign n kept asked) was = absurd was
+    unsound (answers.NotEmpty n) was = absurd was
+    unsound (answers.Full n used need capacity) was = absurd was
+    unsound (answers.ClockEnd n stamp) was = absurd was
+    unsound (answers.Damaged n at) was = absurd was
+    unsound (answers.ReadFault file) was = absurd was
+    unsound answers.WriteFault was = absurd was
+    unsound (answers.DiskFault n) was = absurd was
+    unsound answers.Memory was = absurd was
+
+    audit_none : (answer : Answer) → WhyNoAudit files files_before files_now content images limit count held back before now file clients answer → answer ≡ answers.Memory
+    audit_none answer why = elim why.1 [
+      | inl wrong ↦ unsound answer wrong
+      | inr without ↦ unaudited answer without
+    ]
+
+  abbrev Free : Request → Type 0
+  Free r = IsUnhindered files files_before files_now content limit held before now r
+
+  abbrev Caused : Request → Answer → Type 0
+  Caused r answer = Why files files_before files_now content images limit count held back before now r answer
+
+  -- nothing but want of memory is the cause
+  why_none : (r : Request) (answer : Answer) → Free r → Caused r answer → answer ≡ answers.Memory
+  why_none (Init shape mint) answer free why = init_none shape mint answer free why
+  why_none (Run verdicts clients) answer free why = absurd free
+  why_none Recover answer free why = absurd free
+  why_none (Status hashes) answer free why = status_none answer free.1 why
+  why_none (Audit mint clients) answer free why = audit_none mint clients.items free answer why
+  why_none (Gen shape seed size) answer free why = absurd free
+  why_none (Show text) answer free why = absurd why
+
+  -- the same request is hindered no more
+  free_alike : (r other : Request) → AreAlike r other → Free r → Free other
+  free_alike (Init shape mint) (Init kind file) alike free =
+      subst (λ (s : Shape). CanInit files files_before files_now content limit held before now s file.name.now) alike.0
+      (subst (λ (name : Text). CanInit files files_before files_now content limit held before now shape name) alike.1 free)
+  free_alike (Status hashes) (Status sought) alike free = (subst AreWhole alike free.0, free.1)
+  free_alike (Audit mint clients) (Audit file others) alike free =
+      subst (λ (names : List Text). CanAudit files files_before files_now content limit held before now file.name.now names) alike.1
+      (subst (λ (name : Text). CanAudit files files_before files_now content limit held before now name (names_of clients.items)) alike.0 free)
+  free_alike (Show text) (Show other) alike free = tt
+  free_alike (Run verdicts clients) _ alike free = absurd free
+  free_alike Recover _ alike free = absurd free
+  free_alike (Gen shape seed size) _ alike free = absurd free
+  free_alike _ _ alike free = absurd alike
+
+  has_hashes : (r : Request) → Free r → HasHashes r
+  has_hashes (Status hashes) free = free.0
+  has_hashes (Init shape mint) free = tt
+  has_hashes (Run verdicts clients) free = tt
+  has_hashes Recover free = tt
+  has_hashes (Audit mint clients) free = tt
+  has_hashes (Gen shape seed size) free = tt
+  has_hashes (Show text) free = tt
+
+  module _ (words : List Text) (r : Request) (asked : IsAsked words r) (free : Free r) where
+    told_none : (answer : Answer) → (other : Request) × IsAsked words other × Caused other answer → answer ≡ answers.Memory
+    told_none answer told = why_none told.0 answer (free_alike r told.0 (one_request_law words r told.0 asked told.1) free) told.2
+
+    pub complete : (failed : Type 0) (answer : Answer) → IsTold (λ a. (other : Request) × IsAsked words other × Caused other a) answer → (answer ≡ answers.BadWords → IsRefused words Bad)
+        → (answer ≡ answers.WriteFault → failed) → (failed → ⊥) → (answer ≡ answers.Ok) ⊎ (answer ≡ answers.Memory)
+    complete failed answers.Ok told bad written steady = inl refl
+    complete failed answers.Memory told bad written steady = inr refl
+    complete failed answers.BadWords told bad written steady = absurd (asked_law words r (has_hashes r free) asked (bad refl))
+    complete failed answers.WriteFault told bad written steady = absurd (steady (written refl))
+    complete failed (answers.BadInput file at kind) told bad written steady = inr (told_none (answers.BadInput file at kind) told)
+    complete failed (answers.TooMuch total) told bad written steady = inr (told_none (answers.TooMuch total) told)
+    complete failed (answers.NotReady n) told bad written steady = inr (told_none (answers.NotReady n) told)
+    complete failed (answers.Foreign n kept other) told bad written steady = inr (told_none (answers.Foreign n kept other) told)
+    complete failed (answers.NotEmpty n) told bad written steady = inr (told_none (answers.NotEmpty n) told)
+    complete failed (answers.Full n used need capacity) told bad written steady = inr (told_none (answers.Full n used need capacity) told)
+    complete failed (answers.Unsound place kind) told bad written steady = inr (told_none (answers.Unsound place kind) told)
+    complete failed (answers.ClockEnd n stamp) told bad written steady = inr (told_none (answers.ClockEnd n stamp) told)
+    complete failed (answers.Damaged n at) told bad written steady = inr (told_none (answers.Damaged n at) told)
+    complete failed (answers.ReadFault file) told bad written steady = inr (told_none (answers.ReadFault file) told)
+    complete failed (answers.DiskFault n) told bad written steady = inr (told_none (answers.DiskFault n) told)

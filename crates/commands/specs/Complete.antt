@@ -1,0 +1,53 @@
+-- When nothing hinders what is asked: it is done then, unless memory runs out.
+use Rattle.std.specs.Prelude.{ℕ, ◌≤◌, ◌<◌, List, [], Bool, false, Option}
+use Rattle.line_text.specs.Lines.{Text}
+use Rattle.cbdc_model.specs.Records.{Shape, Record}
+use Rattle.cbdc_model.specs.Coins.{Output, FullTx}
+use Rattle.cbdc_model.specs.Clean.{Clean}
+use Rattle.cbdc_model.specs.Due.{used_of}
+use Rattle.cbdc_model.specs.World.{AreIdle}
+use Rattle.command_line.specs.declared.request.Request.{Request}
+use Rattle.command_line.specs.declared.request.Request.TheVariants.{Init, Status, Audit, Show}
+use Rattle.word_laws.specs.Refused.{AreWhole}
+use Rattle.word_laws.specs.Single.{names_of}
+use Rattle.input_files.specs.Contents.{mint_of_file}
+use Rattle.file_runs.specs.Runs.{joined}
+use Rattle.rack_laws.specs.Shown.{node_count}
+use Rattle.complete_laws.specs.Files.{HoldsFile, HoldClients}
+use Rattle.complete_laws.specs.Making.{CanMake}
+use Rattle.complete_laws.specs.Ready.{IsReady, ShowsKept, NoneRises, limit_at}
+
+-- the file holds a mint of which a ledger can be made, and no disk fails
+pub record CanInit {D : Type 0} (files : Text → Option (List ℕ)) (files_before files_now : Text → ℕ) (content : D → Option (List ℕ)) (limit : D → ℕ) (held : ℕ → Option D) (before now : ℕ → ℕ) (shape : Shape) (name : Text) : Type 0 where
+  pub mint : List Output
+  pub holds : HoldsFile files files_before files_now mint_of_file name mint
+  pub can : CanMake content limit held shape mint
+  pub steady : NoneRises shape before now
+
+-- the files hold the mint of the ledger that the disks show and transactions of which it is kept, all batches of which are at their end; no hashes
+-- clash, what the disks hold is within their limits, and none fails
+pub record CanAudit {D : Type 0} (files : Text → Option (List ℕ)) (files_before files_now : Text → ℕ) (content : D → Option (List ℕ)) (limit : D → ℕ) (held : ℕ → Option D) (before now : ℕ → ℕ) (name : Text) (clients : List Text) : Type 0 where
+  pub mint : List Output
+  pub handed : List (List FullTx)
+  pub holds : HoldsFile files files_before files_now mint_of_file name mint
+  pub clients_hold : HoldClients files files_before files_now 0 clients handed
+  pub clean : Clean mint (joined handed)
+  pub shape : Shape
+  pub journals : ℕ → List Record
+  pub shows : ShowsKept content held shape mint (joined handed) journals
+  pub idle : AreIdle shape journals
+  pub fits : (n : ℕ) → n < node_count shape → used_of (journals n) ≤ limit_at limit (held n)
+  pub steady : NoneRises shape before now
+
+-- no submission is sound where there are none
+abbrev pub none_sound : FullTx → Bool
+none_sound t = false
+
+-- nothing hinders what is asked: its files are read, its disks tell what it is about and have the room for it, and none of them fails
+abbrev pub IsUnhindered : {D : Type 0} → (Text → Option (List ℕ)) → (Text → ℕ) → (Text → ℕ) → (D → Option (List ℕ)) → (D → ℕ) → (ℕ → Option D) → (ℕ → ℕ) → (ℕ → ℕ) → Request → Type 0
+IsUnhindered files files_before files_now content limit held before now (Init shape mint) = CanInit files files_before files_now content limit held before now shape mint.name.now
+IsUnhindered files files_before files_now content limit held before now (Status hashes) = AreWhole hashes.items × IsReady content limit held before now none_sound []
+IsUnhindered files files_before files_now content limit held before now (Audit mint clients) =
+    CanAudit files files_before files_now content limit held before now mint.name.now (names_of clients.items)
+IsUnhindered files files_before files_now content limit held before now (Show text) = Unit {0}
+IsUnhindered files files_before files_now content limit held before now other = ⊥

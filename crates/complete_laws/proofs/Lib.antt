@@ -1,0 +1,9 @@
+pub mod Audited
+pub mod Caused
+pub mod Files
+pub mod Making
+pub mod Openings
+pub mod Rooms
+pub mod Sound
+mod Spelling
+pub mod Verdicts

@@ -1,0 +1,4 @@
+pub mod Files
+pub mod Making
+pub mod Openings
+pub mod Ready

@@ -1,0 +1,4 @@
+pub mod Sent
+pub mod Replied
+pub mod Settled
+pub mod Free

@@ -1,0 +1,17 @@
+//! What becomes of the sound submissions of a run: laws, which have no body that runs.
+#![tactic(auto)]
+
+ghost use Rattle.submission_laws.specs.Free.{FreeConfirmedLaw};
+ghost use Rattle.submission_laws.specs.Settled.{SettledLaw};
+
+/// Each sound submission has its one place in one new Prepare and nothing else has one. It is told as confirmed exactly where
+/// every shard held it, else with the least shard that refused it, and the hash and the cause of that shard's reply.
+pub fn settled_law()
+    ensures { SettledLaw }
+{}
+
+/// A sound submission whose inputs are unspent when its file's wave begins, and which no other sound submission of its file
+/// spends, is confirmed.
+pub fn free_confirmed_law()
+    ensures { FreeConfirmedLaw }
+{}

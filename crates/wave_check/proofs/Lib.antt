@@ -1,0 +1,5 @@
+pub mod Batches
+pub mod Growing
+pub mod Cutting
+pub mod Choosing
+pub mod Staging
