@@ -118,7 +118,7 @@ WhyNoInit files files_before files_now content limit disks disks_before disks_no
 -- the ledger could not be opened, or a record of it was not caused, and the disks are back as they were read; or over a ledger whose records were
 -- all caused a lane met a fault, and its answer has its cause: its journals have grown at their ends, and are kept, each by its disk, with one record
 -- more or without
-abbrev pub WhyNoTurns : {D : Type 0} → (D → Option (List ℕ)) → (D → List ℕ → Type 0) → (D → ℕ) → (D → ℕ) → (ℕ → Option D) → (ℕ → Option D) → (ℕ → ℕ) → (ℕ → ℕ) → (Shape → ℕ → List Compact → Type 0) → List (List FullTx) → Answer → Type 0
+abbrev pub WhyNoTurns : {D : Type 0} → (D → Option (List ℕ)) → (D → List ℕ → Type 0) → (D → ℕ) → (D → ℕ) → (ℕ → Option D) → (ℕ → Option D) → (ℕ → ℕ) → (ℕ → ℕ) → (Shape → (ℕ → List Record) → (ℕ → List Record) → ℕ → List Compact → Type 0) → List (List FullTx) → Answer → Type 0
 WhyNoTurns content images limit count disks now disks_before disks_now next handed answer =
     (IsUnresumed content images limit count disks disks_before disks_now answer × ((n : ℕ) → IsBack images limit (disks n) (now n)))
     ⊎ (IsLaneFault content images limit disks now disks_before disks_now next answer × OfShown content disks (IsCutShort images now handed))

@@ -88,6 +88,7 @@ opened_sound {D} {G} old l c may ends untouched records header whole is space me
           memory = record { records = omega (arith, memory.records); body = memory.body; row = memory.row };
         };
       };
+      flying = tt;
     }
 
 -- an untouched disk holds what it held

@@ -58,6 +58,7 @@ sound_kept {D} {G} old new b c opened flight untouched records header keeps same
           memory = let P : ℕ → Type 0 = λ n. HasRoom new (0 + n) largest in subst P (sym same.ahead) (keeps (0 + ahead_of b.lanes) largest ready.place.memory);
         };
       });
+      flying = rw (header, records) sound.flying;
     }
 
 pub shown_same : {D : Type 0} {G : Ghosts D} (old new : RecordLog D G) (opened : ℕ) (flight : Option Record) → IsUntouched old new → new.records.items ≡ old.records.items → new.header ≡ old.header → shown new opened flight ≡ shown old opened flight

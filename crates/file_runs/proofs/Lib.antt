@@ -1,4 +1,5 @@
 pub mod Filing
 pub mod Joining
 pub mod FileTelling
+pub mod Pieces
 pub mod Causing

@@ -53,8 +53,8 @@ pub fn run_files<L: Turns, V: Verifier, G: Gate>(
     ensures still { L.checked ledger.new }
     ensures grows { (n : ℕ) → IsEnd (L.journals ledger.old n) (L.journals ledger.new n) }
 
-    // A fault has its cause.
-    ensures fault { IfErr result (IsRunCause (L.shape ledger.old) (IsFilesPiece (L.shape ledger.old) (V.verdict_of verifier.now) files.now) (L.journals ledger.old) (L.journals ledger.new)
+    // A fault has its cause: what an idle lane wants is the Prepare of the next piece of what the files send it.
+    ensures fault { IfErr result (IsRunCause (L.shape ledger.old) (IsFilesPiece (L.shape ledger.old) (V.verdict_of verifier.now) files.now (L.journals ledger.old) (L.journals ledger.new)) (L.journals ledger.old) (L.journals ledger.new)
         (HaveFailed (L.opened ledger.new) (L.faults ledger.new)) (MayHold (L.capacity ledger.new))) }
 {
     let Ok(mut waves) = Vec::with_capacity(alloc, files.len()) else {

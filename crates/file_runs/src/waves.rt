@@ -8,7 +8,7 @@ ghost use Rattle.input_files.specs.Limits.{IsShort};
 ghost use Rattle.submissions.specs.Checks.{TellsSound, AreChecked};
 ghost use Rattle.ledger_runs.specs.Turning.{OfKept, StaysKept};
 ghost use Rattle.ledger_runs.specs.Faults.{IsRunCause, HaveFailed, MayHold};
-ghost use Rattle.file_runs.specs.Runs.{AreLanesOf, IsSentPiece};
+ghost use Rattle.file_runs.specs.Runs.{AreLanesOf, HavePreparedFile, IsSentPiece};
 ghost use Rattle.file_runs.specs.Telling.{TellsFile};
 
 use cbdc_types::{CompactTx, FullTx};
@@ -72,8 +72,10 @@ pub fn run_file<L: Turns, V: Verifier, G: Gate>(
     ensures still { L.checked ledger.new }
     ensures grows { (n : ℕ) → IsEnd (L.journals ledger.old n) (L.journals ledger.new n) }
 
-    // A fault has its cause.
-    ensures fault { IfErr result (IsRunCause (L.shape ledger.old) (IsSentPiece (L.shape ledger.old) (V.verdict_of verifier.now) txs.now) (L.journals ledger.old) (L.journals ledger.new)
+    ensures prepared { OnOk result (HavePreparedFile (L.shape ledger.old) (V.verdict_of verifier.now) txs.now (L.journals ledger.old) (L.journals ledger.new)) }
+
+    // A fault has its cause: what an idle lane wants is the Prepare of the next piece of what the file sends it.
+    ensures fault { IfErr result (IsRunCause (L.shape ledger.old) (IsSentPiece (L.shape ledger.old) (V.verdict_of verifier.now) txs.now (L.journals ledger.old) (L.journals ledger.new)) (L.journals ledger.old) (L.journals ledger.new)
         (HaveFailed (L.opened ledger.new) (L.faults ledger.new)) (MayHold (L.capacity ledger.new))) }
 {
     let Ok(Submitted { checked, lanes }) = check_all(alloc, txs, ledger.shape(), verifier) else {

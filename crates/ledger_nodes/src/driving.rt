@@ -13,7 +13,7 @@ ghost use Rattle.lane_driver.specs.Reports.{AreReports};
 ghost use Rattle.lane_laws.specs.Resuming.{IsTakenUp};
 ghost use Rattle.recovery.specs.Open.{IsResumed, IsUnfinished, HasItsOutcomes, IsResumeStopped};
 ghost use Rattle.ledger_runs.specs.Turning.{phase_at, IsLaneOf};
-ghost use Rattle.ledger_nodes.specs.Ledgers.{IsLedger, journals_of, AreChecked};
+ghost use Rattle.ledger_nodes.specs.Ledgers.{IsLedger, IsLogNext, IsShardNext, journals_of, AreChecked};
 ghost use Rattle.ledger_nodes.specs.Steps.{IsStep};
 
 use cbdc_types::{CompactTx, Header, LaneId, OpenLane, Shape};
@@ -36,18 +36,20 @@ pub(crate) fn home(shape: &Shape, lane: LaneId) -> u32
     lane.0 / shape.lanes()
 }
 
-// Each coordinator's journal is one of its header.
+// Each coordinator's journal is one of its header, and a record in flight may come next there.
 fn see_logs<D: Disk>(logs: &[CoordLog<D>])
-    ensures { All (λ l. IsJournal l.header l.journal) logs.now }
+    ensures journals { All (λ l. IsJournal l.header l.journal) logs.now }
+    ensures next { All IsLogNext logs.now }
 {
     'logs: for log in logs {
         let _records = log.records();
     }
 }
 
-// Each shard's journal is one of its header.
+// Each shard's journal is one of its header, and a record in flight may come next there.
 fn see_shards<D: Disk>(shards: &[ShardNode<D>])
-    ensures { All (λ s. IsJournal s.header s.journal) shards.now }
+    ensures journals { All (λ s. IsJournal s.header s.journal) shards.now }
+    ensures next { All IsShardNext shards.now }
 {
     'shards: for shard in shards {
         let _records = shard.records();

@@ -1,5 +1,5 @@
 -- What a lane's fault answers has its cause.
-use Rattle.std.proofs.Common.{◌≡◌, ◌⊎◌, inl, inr, ℕ, zero, suc, ◌+◌, ◌*◌, ◌/◌, ◌<◌, ◌≤◌, true, List, length, reverse, Option, sym, subst, arith}
+use Rattle.std.proofs.Common.{◌≡◌, ◌⊎◌, inl, inr, ℕ, zero, suc, ◌+◌, ◌*◌, ◌/◌, ◌<◌, ◌≤◌, true, List, [], ◌∷◌, ◌++◌, length, reverse, Option, sym, ap, ◌∙◌, subst, arith}
 use Rattle.std.specs.Prelude.{Result, Ok, Err, IfErr, All}
 use Rattle.std.proofs.lemmas.Nat.{div_below}
 use Rattle.outside.specs.Counts.{Rose}
@@ -21,7 +21,11 @@ use Rattle.rack_ledgers.specs.Ledgers.{ByPlace, AreOpened}
 use Rattle.caused_ledgers.specs.Caused.{journals_of as lent_journals, AreCaused}
 use Rattle.caused_ledgers.proofs.Told.{told_history}
 use Rattle.submissions.specs.Checks.{VerdictsOf}
+use Rattle.sound_laws.specs.SoundTest.{sound_by}
+use Rattle.sound_laws.proofs.Telling.{is_sound_law}
 use Rattle.ledger_runs.specs.Turning.{IsLaneOf}
+use Rattle.ledger_runs.specs.Telling.{SamePrepared}
+use Rattle.ledger_runs.specs.Pieces.{IsNextOf}
 use Rattle.ledger_runs.specs.Faults.{IsWanted, wants_prepare, wants_lock, IsSomeCauseOf, IsRunCause, HaveFailed, MayHold, Nothing}
 use Rattle.ledger_runs.proofs.Faulting.{run_moves}
 use Rattle.file_runs.specs.Runs.{IsFilesPiece}
@@ -133,7 +137,7 @@ module _ {D : Type 0} (content : D → Option (List ℕ)) (images : D → List �
   entry = λ i n. same_journals content images limit count held h logs shards are caused n i
 
   pub lane_fault : (verdicts : VerdictsOf) (files : List (List FullTx)) → ((n : ℕ) → IsEnd (journals_of count limit h.shape logs shards n) (journals_of count limit h.shape now after n)) → (a : Answer)
-      → IsLaneAnswer h.shape (IsFilesPiece h.shape verdicts files) (journals_of count limit h.shape logs shards) (journals_of count limit h.shape now after)
+      → IsLaneAnswer h.shape (IsFilesPiece h.shape verdicts files (journals_of count limit h.shape logs shards) (journals_of count limit h.shape now after)) (journals_of count limit h.shape logs shards) (journals_of count limit h.shape now after)
       (HaveFailed (opened_of count limit h.shape logs shards) (faults_of count limit h.shape now after)) (MayHold (capacity_of count limit h.shape logs shards)) a
       → IsLaneFault content images limit held back before behind (PieceNext verdicts files) a
   lane_fault verdicts files grows a cause = record {
@@ -149,8 +153,9 @@ module _ {D : Type 0} (content : D → Option (List ℕ)) (images : D → List �
     disks = λ tells.
         subst (λ k. KeepsEach images back k (journals_of count limit k now after)) shape
         (keeps_each content images limit count back g now after is (stored (told_stored content images limit count held h logs shards are tells)) logs_back shards_back);
-    cause = subst (λ L. IsLaneAnswer h.shape (IsFilesPiece h.shape verdicts files) L (journals_of count limit h.shape now after) (λ n. Rose (before n) (behind n)) (λ n c. OfTold (held n) (λ d. c ≡ limit d)) a) entry
-        (answer_moves h.shape (IsFilesPiece h.shape verdicts files) (IsFilesPiece h.shape verdicts files) (journals_of count limit h.shape logs shards) (journals_of count limit h.shape now after)
+    cause = subst (λ L. IsLaneAnswer h.shape (IsFilesPiece h.shape verdicts files L (journals_of count limit h.shape now after)) L (journals_of count limit h.shape now after) (λ n. Rose (before n) (behind n)) (λ n c. OfTold (held n) (λ d. c ≡ limit d)) a) entry
+        (answer_moves h.shape (IsFilesPiece h.shape verdicts files (journals_of count limit h.shape logs shards) (journals_of count limit h.shape now after))
+        (IsFilesPiece h.shape verdicts files (journals_of count limit h.shape logs shards) (journals_of count limit h.shape now after)) (journals_of count limit h.shape logs shards) (journals_of count limit h.shape now after)
         (HaveFailed (opened_of count limit h.shape logs shards) (faults_of count limit h.shape now after)) (λ n. Rose (before n) (behind n)) (MayHold (capacity_of count limit h.shape logs shards)) (λ n c. OfTold (held n) (λ d. c ≡ limit d))
         (λ lane txs piece. piece)
         (have_risen content images limit count held h logs now shards after are g shape is counts before behind logs_since shards_since logs_counted shards_counted)
@@ -158,31 +163,51 @@ module _ {D : Type 0} (content : D → Option (List ℕ)) (images : D → List �
   }
 
 -- where nothing is next for any lane
-pub of_nothing : {D : Type 0} (content : D → Option (List ℕ)) (images : D → List ℕ → Type 0) (limit : D → ℕ) (held back : ℕ → Option D) (before now : ℕ → ℕ) (next : Shape → ℕ → List Compact → Type 0) (a : Answer)
-    → IsLaneFault content images limit held back before now next a → ((K : Shape) (lane : ℕ) (txs : List Compact) → next K lane txs → ⊥) → IsLaneFault content images limit held back before now NothingNext a
-of_nothing content images limit held back before now next a f none = record {
-  ledger = f.ledger;
-  exit = f.exit;
-  grows = f.grows;
-  disks = f.disks;
-  cause = answer_moves f.ledger.shape (next f.ledger.shape) (NothingNext f.ledger.shape) (λ n. journal n (reverse f.ledger.rows)) f.exit (λ n. Rose (before n) (now n)) (λ n. Rose (before n) (now n))
-      (λ n c. OfTold (held n) (λ d. c ≡ limit d)) (λ n c. OfTold (held n) (λ d. c ≡ limit d)) (none f.ledger.shape) (λ n inside did. did) (λ n c inside may. may) a f.cause;
-}
+pub of_nothing : {D : Type 0} (content : D → Option (List ℕ)) (images : D → List ℕ → Type 0) (limit : D → ℕ) (held back : ℕ → Option D) (before now : ℕ → ℕ)
+    (next : Shape → (ℕ → List Record) → (ℕ → List Record) → ℕ → List Compact → Type 0) (a : Answer)
+    → IsLaneFault content images limit held back before now next a → ((K : Shape) (E X : ℕ → List Record) (lane : ℕ) (txs : List Compact) → next K E X lane txs → ⊥)
+    → IsLaneFault content images limit held back before now NothingNext a
+of_nothing content images limit held back before now next a f none =
+    let E : ℕ → List Record = λ n. journal n (reverse f.ledger.rows) in
+    record {
+      ledger = f.ledger;
+      exit = f.exit;
+      grows = f.grows;
+      disks = f.disks;
+      cause = answer_moves f.ledger.shape (next f.ledger.shape E f.exit) (NothingNext f.ledger.shape E f.exit) E f.exit (λ n. Rose (before n) (now n)) (λ n. Rose (before n) (now n))
+          (λ n c. OfTold (held n) (λ d. c ≡ limit d)) (λ n c. OfTold (held n) (λ d. c ≡ limit d)) (none f.ledger.shape E f.exit) (λ n inside did. did) (λ n c inside may. may) a f.cause;
+    }
+
+-- no files have a piece
+pub no_piece : (verdicts : VerdictsOf) (K : Shape) (E X : ℕ → List Record) (lane : ℕ) (txs : List Compact) → PieceNext verdicts [] K E X lane txs → ⊥
+no_piece verdicts K E X lane txs piece = go (piece (sound_by verdicts) (is_sound_law verdicts))
+  where
+    none_so : (done more : List (List Compact)) → [] ≡ done ++ txs ∷ more → ⊥
+    none_so [] more e = let z : [] ≡ txs ∷ more = e in cc
+    none_so (p ∷ done) more e = let z : [] ≡ p ∷ (done ++ txs ∷ more) = e in cc
+
+    go : (pieces : List (List Compact)) × (pieces ≡ []) × IsNextOf K lane pieces E X txs → ⊥
+    go (pieces, none, next) = none_so next.0 next.1 (sym none ∙ next.2)
 
 -- ---- a run over open nodes
 
 -- a fault that a run meets as it brings open batches to their end
 pub resumed_fault : (K : Shape) (verdicts : VerdictsOf) (files : List (List FullTx)) (E X : ℕ → List Record) (failed : ℕ → Type 0) (holds : ℕ → ℕ → Type 0) (e : LaneFault)
-    → IsRunCause K (λ _. Nothing) E X failed holds e → IsRunCause K (IsFilesPiece K verdicts files) E X failed holds e
+    → IsRunCause K (λ _. Nothing) E X failed holds e → IsRunCause K (IsFilesPiece K verdicts files E X) E X failed holds e
 resumed_fault K verdicts files E X failed holds e h =
-    run_moves K (λ _. Nothing) (IsFilesPiece K verdicts files) E E X failed failed holds holds (λ n. end_self (E n)) (λ lane txs none. absurd none) (λ n did. did) (λ n c may. may) e h
+    run_moves K (λ _. Nothing) (IsFilesPiece K verdicts files E X) E E X failed failed holds holds (λ n. end_self (E n)) (λ lane txs inside none. absurd none) (λ n did. did) (λ n c may. may) e h
 
--- or in a file behind that
-pub filed_fault : (K H : Shape) (verdicts : VerdictsOf) (files : List (List FullTx)) (E M X : ℕ → List Record) (failed : ℕ → Type 0) (holds : ℕ → ℕ → Type 0) → H ≡ K → ((n : ℕ) → IsEnd (E n) (M n)) → (e : LaneFault)
-    → IsRunCause H (IsFilesPiece H verdicts files) M X failed holds e → IsRunCause K (IsFilesPiece K verdicts files) E X failed holds e
-filed_fault K H verdicts files E M X failed holds same since e h =
-    run_moves K (IsFilesPiece K verdicts files) (IsFilesPiece K verdicts files) M E X failed failed holds holds since (λ lane txs piece. piece) (λ n did. did) (λ n c may. may) e
-    (subst (λ k. IsRunCause k (IsFilesPiece k verdicts files) M X failed holds e) same h)
+-- or in a file behind that, by which nothing was prepared
+pub filed_fault : (K H : Shape) (verdicts : VerdictsOf) (files : List (List FullTx)) (E M X : ℕ → List Record) (failed : ℕ → Type 0) (holds : ℕ → ℕ → Type 0) → H ≡ K → ((n : ℕ) → IsEnd (E n) (M n)) → SamePrepared K E M
+    → (e : LaneFault) → IsRunCause H (IsFilesPiece H verdicts files M X) M X failed holds e → IsRunCause K (IsFilesPiece K verdicts files E X) E X failed holds e
+filed_fault K H verdicts files E M X failed holds same since unprepared e h =
+    run_moves K (IsFilesPiece K verdicts files M X) (IsFilesPiece K verdicts files E X) M E X failed failed holds holds since since_entry (λ n did. did) (λ n c may. may) e
+    (subst (λ k. IsRunCause k (IsFilesPiece k verdicts files M X) M X failed holds e) same h)
+  where
+    since_entry : (lane : ℕ) (txs : List Compact) → IsLaneOf K lane → IsFilesPiece K verdicts files M X lane txs → IsFilesPiece K verdicts files E X lane txs
+    since_entry lane txs inside piece sound tells =
+        let p = piece sound tells in
+        (p.0, p.1, (p.2.0, p.2.1, p.2.2, p.2.3 ∙ ap (λ ps. reverse p.2.0 ++ ps) (unprepared lane)))
 
 -- by what was known of the nodes before
 pub by_entry : (K : Shape) (next : ℕ → List Compact → Type 0) (E X : ℕ → List Record) (opened opens faults capacity holds : ℕ → ℕ) → ((n : ℕ) → opens n ≡ opened n) → ((n : ℕ) → holds n ≡ capacity n)

@@ -49,7 +49,7 @@ over_none K verdicts files I M none resumed mint submissions kept sound tells =
 
 -- what is told of the open batches and of the files behind them
 pub over_told : (K H : Shape) (verdicts : VerdictsOf) (files : List (List FullTx)) (I M J : ℕ → List Record) (resumed : List ResumedBatch) (waves : List Wave) → H ≡ K → OfKept K I (StaysKept K I M)
-    → OfKept K I (λ _ _. TellResumed K I M (K.coordinators * K.lanes) resumed) → OfKept K I (λ _ _. SamePrepared K I M)
+    → OfKept K I (λ _ _. TellResumed K I M (K.coordinators * K.lanes) resumed) → SamePrepared K I M
     → OfKept H M (λ _ _. TellFiles H verdicts files M J waves) → OfKept K I (λ _ _. TellsRun K verdicts files I J resumed waves)
 over_told K H verdicts files I M J resumed waves e keeps batches same told mint submissions kept =
     let mid = keeps mint submissions kept in
@@ -57,18 +57,18 @@ over_told K H verdicts files I M J resumed waves e keeps batches same told mint 
       middle = M;
       grows = mid.grows;
       batches = batches mint submissions kept;
-      unprepared = same mint submissions kept;
+      unprepared = same;
       told = subst (λ k. OfKept k M (λ _ _. TellFiles k verdicts files M J waves)) e told mint submissions mid.kept;
     }
 
 pub over_told_none : (K : Shape) (verdicts : VerdictsOf) (files : List (List FullTx)) (I M : ℕ → List Record) (resumed : List ResumedBatch) (waves : List Wave) → files ≡ [] → waves ≡ []
-    → OfKept K I (StaysKept K I M) → OfKept K I (λ _ _. TellResumed K I M (K.coordinators * K.lanes) resumed) → OfKept K I (λ _ _. SamePrepared K I M)
+    → OfKept K I (StaysKept K I M) → OfKept K I (λ _ _. TellResumed K I M (K.coordinators * K.lanes) resumed) → SamePrepared K I M
     → OfKept K I (λ _ _. TellsRun K verdicts files I M resumed waves)
 over_told_none K verdicts files I M resumed waves none nothing keeps batches same mint submissions kept = record {
   middle = M;
   grows = (keeps mint submissions kept).grows;
   batches = batches mint submissions kept;
-  unprepared = same mint submissions kept;
+  unprepared = same;
   told = subst (λ fs. TellFiles K verdicts fs M M waves) (sym none) (nothing, λ n. refl);
 }
 

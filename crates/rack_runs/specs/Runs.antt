@@ -51,17 +51,17 @@ pub record IsCutShort {D : Type 0} (images : D → List ℕ → Type 0) (held : 
 -- a lane's fault ended a run over the ledger that the disks told, in which each record was caused: its journals have grown at their ends, where the
 -- disks told all each keeps its journal, with one record more or without, and the answer has its cause, by the counts of faults before and now and by
 -- what the disks that were told may hold
-pub record IsLaneFault {D : Type 0} (content : D → Option (List ℕ)) (images : D → List ℕ → Type 0) (limit : D → ℕ) (held back : ℕ → Option D) (before now : ℕ → ℕ) (next : Shape → ℕ → List Compact → Type 0) (answer : Answer) : Type 0 where
+pub record IsLaneFault {D : Type 0} (content : D → Option (List ℕ)) (images : D → List ℕ → Type 0) (limit : D → ℕ) (held back : ℕ → Option D) (before now : ℕ → ℕ) (next : Shape → (ℕ → List Record) → (ℕ → List Record) → ℕ → List Compact → Type 0) (answer : Answer) : Type 0 where
   pub ledger : IsCausedLedger content held
   pub exit : ℕ → List Record
   pub grows : (n : ℕ) → IsEnd (journal n (reverse ledger.rows)) (exit n)
   pub disks : AllTell content held ledger.shape → KeepsEach images back ledger.shape exit
-  pub cause : IsLaneAnswer ledger.shape (next ledger.shape) (λ n. journal n (reverse ledger.rows)) exit (λ n. Rose (before n) (now n)) (λ n c. OfTold (held n) (λ d. c ≡ limit d)) answer
+  pub cause : IsLaneAnswer ledger.shape (next ledger.shape (λ n. journal n (reverse ledger.rows)) exit) (λ n. journal n (reverse ledger.rows)) exit (λ n. Rose (before n) (now n)) (λ n c. OfTold (held n) (λ d. c ≡ limit d)) answer
 
 -- nothing is next for any lane
-abbrev pub NothingNext : Shape → ℕ → List Compact → Type 0
-NothingNext K lane txs = ⊥
+abbrev pub NothingNext : Shape → (ℕ → List Record) → (ℕ → List Record) → ℕ → List Compact → Type 0
+NothingNext K E X lane txs = ⊥
 
--- a batch of what a lane gets of one of these files, or what is left
-abbrev pub PieceNext : VerdictsOf → List (List FullTx) → Shape → ℕ → List Compact → Type 0
-PieceNext verdicts files K = IsFilesPiece K verdicts files
+-- the next piece of what these files send to a lane, by what it has prepared from journals E to X
+abbrev pub PieceNext : VerdictsOf → List (List FullTx) → Shape → (ℕ → List Record) → (ℕ → List Record) → ℕ → List Compact → Type 0
+PieceNext verdicts files K E X = IsFilesPiece K verdicts files E X

@@ -1,6 +1,6 @@
 -- A shard's parts stay a shard's behind a record.
 use Rattle.std.proofs.Common.{◌≡◌, ℕ, ◌+◌, ◌*◌, ◌≤◌, List, [], ◌∷◌, length, reverse, Option, Some, None, option_map, refl, sym, ◌∙◌, ap, subst, arith}
-use Rattle.std.specs.Prelude.{slice_get}
+use Rattle.std.specs.Prelude.{slice_get, IfSome}
 use Rattle.std.proofs.lemmas.List.{reverse-append}
 use Rattle.std.proofs.lemmas.List.Sums.{sum_by-cons}
 use Rattle.cbdc_types.specs.Limits.{IsWithinLimits}
@@ -48,6 +48,7 @@ module _ {D : Type 0} {G : Ghosts D} where
     opened = is.opened;
     since = is.since;
     sound = is.sound;
+    flying = is.flying;
   }
 
   -- what holds while a record is on its way
@@ -95,10 +96,11 @@ module _ {D : Type 0} {G : Ghosts D} where
               subst (λ (h : Header). HasRecords new.log (kept_room h.shape (journal_of new))) (sym w.header) (subst (λ (l : List Record). HasRecords new.log (kept_room p.log.header.shape l)) (sym is) now);
           landed = w.flight ∙ landed;
         };
+        flying = subst (λ (o : Option Record). IfSome o (After new.log.header (journal_of new))) (sym (w.flight ∙ landed)) tt;
       }
 
-  pub failed : (p new : Parts D G) (r : Record) → Standing p → HasFailed p new r → IsShardOf new
-  failed p new r s f =
+  pub failed : (p new : Parts D G) (r : Record) → Standing p → HasFailed p new r → After p.log.header (journal_of p) r → IsShardOf new
+  failed p new r s f next =
       let is : journal_of new ≡ journal_of p = ap reverse f.records in
       record {
         header = ap (λ c. c.header) f.core ∙ s.header ∙ sym f.header;
@@ -110,6 +112,8 @@ module _ {D : Type 0} {G : Ghosts D} where
         opened = omega (arith, f.opened, f.later, s.opened);
         since = subst (λ (o : Option ℕ). IsBrokenSince new.opened (G.count (disk_of new.log.journal)) o) (sym f.broken) (omega (arith, f.opened, f.rose, s.opened), omega arith);
         sound = λ none. none_some (G.count (disk_of new.log.journal)) (broken_of new.log.journal) f.broken none;
+        flying = subst (λ (o : Option Record). IfSome o (After new.log.header (journal_of new))) (sym f.flight)
+            (subst (λ (h : Header). After h (journal_of new) r) (sym f.header) (subst (λ (l : List Record). After p.log.header l r) (sym is) next));
       }
 
   -- ---- what a caller sees

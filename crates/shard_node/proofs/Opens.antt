@@ -74,6 +74,7 @@ module _ {D : Type 0} {G : Ghosts D} where
           records = record { count = kept / 34 + 1; room = has; enough = omega (arith, kept_now, kept_is) };
           landed = refl;
         };
+        flying = tt;
       }
 
   -- what its disk holds

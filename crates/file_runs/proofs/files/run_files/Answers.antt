@@ -3,6 +3,7 @@ use Rattle.file_runs.proofs.Joining.{files_begin, files_step, files_end, same_fi
 use Rattle.file_runs.proofs.FileTelling.{told_files, told_all}
 use Rattle.ledger_laws.proofs.Cuts.{end_self, end_trans}
 use Rattle.ledger_runs.specs.Faults.{HaveFailed, MayHold}
+use Rattle.file_runs.proofs.Pieces.{none_prepared, file_prepared}
 use Rattle.file_runs.proofs.Causing.{files_cause}
 use Rattle.file_runs.proofs.files.run_files.Goals as goal
 
@@ -31,6 +32,7 @@ files-init g c = record {
   capacity = λ n. refl;
   checked = c.requires.checked;
   grows = λ n. end_self (g.L.Turns.journals c.args.ledger.now n);
+  prepared = none_prepared (g.L.Turns.shape c.args.ledger.now) (g.V.Verifier.verdict_of c.args.verifier.now) (g.L.Turns.journals c.args.ledger.now);
 }
 
 pub files-preserved : goal.files-preserved
@@ -53,6 +55,9 @@ files-preserved g c =
       capacity = λ n. did.capacity_same n ∙ is.capacity n;
       checked = did.still;
       grows = λ n. end_trans (g.L.Turns.journals c.args.ledger.now n) (g.L.Turns.journals c.files.ledger n) (g.L.Turns.journals c.run_file.new.ledger n) (is.grows n) (did.grows n);
+      prepared = file_prepared (g.L.Turns.shape c.args.ledger.now) (g.L.Turns.shape c.files.ledger) (g.V.Verifier.verdict_of c.args.verifier.now) c.args.files.now c.files.txs-index c.as_slice.result.now
+          (g.L.Turns.journals c.args.ledger.now) (g.L.Turns.journals c.files.ledger) (g.L.Turns.journals c.run_file.new.ledger)
+          is.shape c.files-test.true (subst (λ f. f ≡ get_or c.args.files.now c.files.txs-index f) (sym c.as_slice.ensures) c.txs-item.is) is.prepared c.in-Ok-run_file.ensures.prepared;
     }
 
 pub returns-clause-keeps : goal.returns-clause-keeps
@@ -84,4 +89,4 @@ returns-in-Err-clause-fault g c =
     files_cause (g.L.Turns.shape c.args.ledger.now) (g.L.Turns.shape c.files.ledger) (g.V.Verifier.verdict_of c.args.verifier.now) c.args.files.now c.files.txs-index c.as_slice.result.now
     (g.L.Turns.journals c.args.ledger.now) (g.L.Turns.journals c.files.ledger) (g.L.Turns.journals c.run_file.new.ledger)
     (HaveFailed (g.L.Turns.opened c.run_file.new.ledger) (g.L.Turns.faults c.run_file.new.ledger)) (MayHold (g.L.Turns.capacity c.run_file.new.ledger))
-    c.files.invariant.shape c.files-test.true (subst (λ f. f ≡ get_or c.args.files.now c.files.txs-index f) (sym c.as_slice.ensures) c.txs-item.is) c.files.invariant.grows c.in-Err.fault c.in-Err.ensures.fault
+    c.files.invariant.shape c.files-test.true (subst (λ f. f ≡ get_or c.args.files.now c.files.txs-index f) (sym c.as_slice.ensures) c.txs-item.is) c.files.invariant.grows c.files.invariant.prepared c.in-Err.fault c.in-Err.ensures.fault

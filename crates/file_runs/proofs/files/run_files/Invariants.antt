@@ -3,6 +3,7 @@ use Rattle.cbdc_model.specs.Lanes.{IsEnd}
 use Rattle.ledger_runs.specs.Turning.{OfKept}
 use Rattle.file_runs.specs.Telling.{TellFiles}
 use Rattle.file_runs.proofs.Joining.{FilesSo}
+use Rattle.file_runs.proofs.Pieces.{HavePreparedFiles}
 use Rattle.file_runs.proofs.files.run_files.Given as goal
 
 abbrev pub invariant-files : goal.invariant-files
@@ -19,4 +20,5 @@ invariant-files g l =
       capacity : (n : ℕ) → g.L.Turns.capacity l.ledger n ≡ g.L.Turns.capacity l.fn.ledger n;
       checked : g.L.Turns.checked l.ledger;
       grows : (n : ℕ) → IsEnd (g.L.Turns.journals l.fn.ledger n) (g.L.Turns.journals l.ledger n);
+      prepared : HavePreparedFiles K (g.V.Verifier.verdict_of l.fn.verifier) (take l.txs-index l.files) (g.L.Turns.journals l.fn.ledger) (g.L.Turns.journals l.ledger);
     }

@@ -4,7 +4,7 @@ use Rattle.ledger_runs.specs.Telling.{AreFresh, AllTell}
 use Rattle.ledger_runs.specs.Waving.{NoFault, FirstFaultIs}
 use Rattle.file_runs.proofs.Filing.{stays_more, are_within, keeps_file, of_wave, runs_file}
 use Rattle.ledger_runs.specs.Faults.{HaveFailed, MayHold}
-use Rattle.file_runs.proofs.Causing.{file_cause}
+use Rattle.file_runs.proofs.Causing.{file_cause, file_done}
 use Rattle.file_runs.proofs.waves.run_file.Goals as goal
 
 pub returns-in_default-clause-keeps : goal.returns-in_default-clause-keeps
@@ -58,6 +58,17 @@ returns-in-None-clause-told g c mint submissions kept =
       tell = of_wave K verdicts c.args.txs.now c.in-Ok.field-0.lanes.items c.in-Ok-lanes_of.lanes.items c.run_wave.new.lanes.items I (AreFresh c.in-Ok-lanes_of.lanes.items → AllTell K I J c.run_wave.new.lanes.items)
           c.in-Ok.ensures.sound are none c.run_wave.ensures.told mint submissions kept are.untold;
     }
+
+pub returns-in-None-clause-prepared : goal.returns-in-None-clause-prepared
+returns-in-None-clause-prepared g c =
+    let K = g.L.Turns.shape c.args.ledger.now in
+    let verdicts = g.V.Verifier.verdict_of c.args.verifier.now in
+    let sent = subst (λ k. AreSent k verdicts c.args.txs.now c.in-Ok.field-0.lanes.items) c.shape.ensures c.in-Ok.ensures.sent in
+    let count = subst (λ k. length c.in-Ok.field-0.lanes.items ≡ k.coordinators * k.lanes) c.shape.ensures c.in-Ok.ensures.lanes in
+    let none = subst (λ ls. NoFault ls) c.deref.ensures.value (subst (λ o. FirstFaultIs c.deref.result.now o) c.in-None.is c.first_fault.ensures) in
+    let are = c.in-Ok-lanes_of.ensures in
+    file_done K verdicts c.args.txs.now c.in-Ok.field-0.lanes.items c.in-Ok-lanes_of.lanes.items c.run_wave.new.lanes.items (g.L.Turns.journals c.args.ledger.now) (g.L.Turns.journals c.run_wave.new.ledger)
+    (c.run_wave.ensures.count ∙ are.count ∙ count) sent are c.run_wave.ensures.sent (c.run_wave.ensures.prepared none)
 
 pub returns-in-Some-clause-fault : goal.returns-in-Some-clause-fault
 returns-in-Some-clause-fault g c =

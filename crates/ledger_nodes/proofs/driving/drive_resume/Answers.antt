@@ -10,6 +10,7 @@ use Rattle.run_laws.proofs.Seen.{seen_log}
 use Rattle.lane_laws.specs.Resuming.{IsTakenUp}
 use Rattle.recovery.specs.Open.{IsUnfinished, HasItsOutcomes, IsResumeStopped}
 use Rattle.turn_laws.proofs.OpenThere.{told_lane}
+use Rattle.ledger_nodes.specs.Ledgers.{IsLogNext, IsShardNext}
 use Rattle.ledger_nodes.proofs.Steps.{is_step, are_shards, at_home, open_at}
 use Rattle.ledger_nodes.proofs.Turns.{is_unfinished}
 use Rattle.ledger_nodes.proofs.driving.drive_resume.Goals as goal
@@ -25,7 +26,8 @@ returns-clause-step g c = is_step g.D.Disk.count g.D.Disk.limit g.D.Disk.content
     c.args.ports.now.log.logs.items c.args.ports.now.shards.nodes.items c.resume_lane-came.new.ports.log.logs.items c.resume_lane-came.new.ports.shards.nodes.items
     c.requires.ledger c.requires.lane c.home-ports.ensures.place c.resume_lane-came.ensures.at_same c.args.unfinished.now.batch.lane (told_lane (sight_at sight c.args.ports.now.log.logs.items (home_of c.args.header.now.shape c.args.lane)).seen c.args.lane c.args.unfinished.now c.requires.told) c.resume_lane-came.ensures.log_count c.resume_lane-came.ensures.count c.resume_lane-came.ensures.elsewhere c.resume_lane-came.ensures.log_nodes c.resume_lane-came.ensures.nodes
     c.resume_lane-came.ensures.others c.resume_lane-came.ensures.log_holds c.resume_lane-came.ensures.shard_holds c.resume_lane-came.ensures.log_later c.resume_lane-came.ensures.shard_later
-    (subst (All (λ l. IsJournal l.header l.journal)) c.as_slice.ensures.value c.see_logs.ensures) (subst (All (λ s. IsJournal s.header s.journal)) c.as_slice-2.ensures.value c.see_shards.ensures)
+    (subst (All (λ l. IsJournal l.header l.journal)) c.as_slice.ensures.value c.see_logs.ensures.journals) (subst (All (λ s. IsJournal s.header s.journal)) c.as_slice-2.ensures.value c.see_shards.ensures.journals)
+    (subst (All IsLogNext) c.as_slice.ensures.value c.see_logs.ensures.next) (subst (All IsShardNext) c.as_slice-2.ensures.value c.see_shards.ensures.next)
 
 pub returns-clause-taken : goal.returns-clause-taken
 returns-clause-taken g c = at_home (λ x y. OnOk c.resume_lane-came.result (IsUnfinished c.args.unfinished.now.phase c.args.header.now.shape c.args.unfinished.now x (λ n. sight_at (sight_of g.D.Disk.count g.D.Disk.limit) c.args.ports.now.shards.nodes.items n) → IsTakenUp c.args.header.now.shape true c.args.unfinished.now.batch x (λ n. sight_at (sight_of g.D.Disk.count g.D.Disk.limit) c.args.ports.now.shards.nodes.items n) y (λ n. sight_at (sight_of g.D.Disk.count g.D.Disk.limit) c.resume_lane-came.new.ports.shards.nodes.items n)))

@@ -39,7 +39,7 @@ loop-unfinished-preserved g c =
           (resumed_more c.args.lanes.now c.loop-unfinished.batches.items i c.unfinished-item.result c.in-Ok-resume_lane.batch c.loop-unfinished-test.true c.unfinished-item.is inv.resumed told.resumed);
       taken =
           subst (λ batches. AreTakenUp c.args.shape.now g.L.LogPort.alone (take (i + 1) c.args.lanes.now) batches (g.L.LogPort.sights c.args.ports.now.log (g.L.LogPort.at c.args.ports.now.log)) (g.S.PortSet.sights c.args.ports.now.shards)
-          (g.L.LogPort.sights c.resume_lane.new.ports.log (g.L.LogPort.at c.resume_lane.new.ports.log)) (g.S.PortSet.sights c.resume_lane.new.ports.shards)) (sym c.push_reserved.ensures.items)
+              (g.L.LogPort.sights c.resume_lane.new.ports.log (g.L.LogPort.at c.resume_lane.new.ports.log)) (g.S.PortSet.sights c.resume_lane.new.ports.shards)) (sym c.push_reserved.ensures.items)
           (taken_more c.args.lanes.now i c.unfinished-item.result c.loop-unfinished-test.true c.unfinished-item.is c.args.shape.now g.L.LogPort.alone c.loop-unfinished.batches.items c.in-Ok-resume_lane.batch
           (g.L.LogPort.sights c.args.ports.now.log (g.L.LogPort.at c.args.ports.now.log)) (g.L.LogPort.sights c.loop-unfinished.ports.log (g.L.LogPort.at c.loop-unfinished.ports.log)) (g.L.LogPort.sights c.resume_lane.new.ports.log (g.L.LogPort.at c.resume_lane.new.ports.log))
           (g.S.PortSet.sights c.args.ports.now.shards) (g.S.PortSet.sights c.loop-unfinished.ports.shards) (g.S.PortSet.sights c.resume_lane.new.ports.shards)
