@@ -71,16 +71,16 @@ module _ {D : Type 0} (content : D → Option (List ℕ)) (images : D → List �
   pub not_unopened : (held : ℕ → Option D) (before now : ℕ → ℕ) (a : Answer) → IsUnopened content images limit count held before now a → IsBeforeDisks a → ⊥
   not_unopened held before now a is = not_refused a (unopened_kind content images limit count held before now None a is)
 
-  pub not_turned : (held new : ℕ → Option D) (before now : ℕ → ℕ) (next : Shape → (ℕ → List Record) → (ℕ → List Record) → ℕ → List Compact → Type 0) (handed : List (List FullTx)) (a : Answer) → WhyNoTurns content images limit count held new before now next handed a → IsBeforeDisks a → ⊥
-  not_turned held new before now next handed a is =
+  pub not_turned : (held new : ℕ → Option D) (before now : ℕ → ℕ) (next : Shape → (ℕ → List Record) → (ℕ → List Record) → ℕ → List Compact → Type 0) (begun : Shape → (ℕ → List Record) → (ℕ → List Record) → Type 0) (handed : List (List FullTx)) (a : Answer) → WhyNoTurns content images limit count held new before now next begun handed a → IsBeforeDisks a → ⊥
+  not_turned held new before now next begun handed a is =
       ⊎_elim
       (λ unopened. ⊎_elim (λ closed. not_unopened held before now a closed)
       (λ other. ⊎_elim (λ unsound. subst (λ b. IsBeforeDisks b → ⊥) (sym unsound.told) (λ none. none)) (λ memory. subst (λ b. IsBeforeDisks b → ⊥) (sym memory) (λ none. none)) other) unopened.0)
       (λ lane. not_by_lane lane.0.ledger.shape (next lane.0.ledger.shape) (λ n. journal n (reverse lane.0.ledger.rows)) lane.0.exit (λ n. Rose (before n) (now n)) (λ n c. OfTold (held n) (λ d. c ≡ limit d)) a lane.0.cause) is
 
   -- where a run or a recovery did not come through, all was not done
-  pub not_done : (held new : ℕ → Option D) (before now : ℕ → ℕ) (next : Shape → (ℕ → List Record) → (ℕ → List Record) → ℕ → List Compact → Type 0) (handed : List (List FullTx)) (a : Answer) → WhyNoTurns content images limit count held new before now next handed a → IsWell a → ⊥
-  not_done held new before now next handed a is =
+  pub not_done : (held new : ℕ → Option D) (before now : ℕ → ℕ) (next : Shape → (ℕ → List Record) → (ℕ → List Record) → ℕ → List Compact → Type 0) (begun : Shape → (ℕ → List Record) → (ℕ → List Record) → Type 0) (handed : List (List FullTx)) (a : Answer) → WhyNoTurns content images limit count held new before now next begun handed a → IsWell a → ⊥
+  not_done held new before now next begun handed a is =
       ⊎_elim
       (λ unopened. ⊎_elim (λ closed. refused_alone a (unopened_kind content images limit count held before now None a closed))
       (λ other. ⊎_elim (λ unsound. subst (λ b. IsWell b → ⊥) (sym unsound.told) (λ none. none)) (λ memory. subst (λ b. IsWell b → ⊥) (sym memory) (λ none. none)) other) unopened.0)

@@ -1,4 +1,4 @@
-use Rattle.std.proofs.Common.{◌≡◌, ◌∙◌, ◌≤◌, ◌++◌, ℕ, Bool, [], subst, sym, ap}
+use Rattle.std.proofs.Common.{◌≡◌, ◌∙◌, ◌≤◌, ◌<◌, ◌++◌, ℕ, Bool, [], subst, sym, ap}
 use Rattle.std.specs.Prelude.{All, IfOk, IfErr, map}
 use Rattle.cbdc_model.specs.Coins.{FullTx as TxOf}
 use Rattle.cbdc_model.specs.World.{AreIdle}
@@ -8,7 +8,7 @@ use Rattle.ledger_runs.specs.Turning.{OfKept, StaysKept}
 use Rattle.cbdc_model.specs.Lanes.{IsEnd}
 use Rattle.ledger_runs.specs.Faults.{IsRunCause, HaveFailed, MayHold}
 use Rattle.rack_runs.proofs.Answering.{came_cause, by_entry}
-use Rattle.file_runs.specs.Runs.{joined, IsFilesPiece}
+use Rattle.file_runs.specs.Runs.{joined, HaveBegunFiles, IsFilesPiece}
 use Rattle.ledger_nodes.specs.Ledgers.{journals_of, faults_of, opened_of, capacity_of, AreChecked, AreStored, AreQuiet}
 use Rattle.rack_runs.specs.Telling.{CountAll, TellsRun}
 use Rattle.rack_runs.proofs.Resumed.{told_made}
@@ -153,3 +153,15 @@ returns-clause-fault g c =
     c.came_of-came.result c.run_over-over.result c.came_of-came.ensures.fault
     (lent_both g.D.Disk.count g.D.Disk.limit (λ X F. IfErr c.run_over-over.result (IsRunCause c.args.nodes.header.shape (IsFilesPiece c.args.nodes.header.shape verdicts c.args.files.now (journals_of g.D.Disk.count g.D.Disk.limit c.args.nodes.header.shape c.args.nodes.logs.items c.args.nodes.shards.items) X) (journals_of g.D.Disk.count g.D.Disk.limit c.args.nodes.header.shape c.args.nodes.logs.items c.args.nodes.shards.items) X
     (HaveFailed (opened_of g.D.Disk.count g.D.Disk.limit c.args.nodes.header.shape c.args.nodes.logs.items c.args.nodes.shards.items) F) (MayHold (capacity_of g.D.Disk.count g.D.Disk.limit c.args.nodes.header.shape c.args.nodes.logs.items c.args.nodes.shards.items)))) c.args.nodes.header.shape c.run_over-over.new.ledger _ back shape own)
+
+pub returns-clause-begun : goal.returns-clause-begun
+returns-clause-begun g c =
+    let back : c.run_over-over.new.ledger ≡ record { header = c.header.inside.header; logs = c.header.inside.logs.items; shards = c.header.inside.shards.items } = cc in
+    let lent : c.lend-lent.result ≡ record { header = c.args.nodes.header; logs = c.args.nodes.logs.items; shards = c.args.nodes.shards.items } = c.lend-lent.ensures in
+    let shape : c.run_over-over.new.ledger.header.shape ≡ c.args.nodes.header.shape = c.run_over-over.ensures.shape ∙ ap (λ l. l.header.shape) lent in
+    let verdicts = g.V.Verifier.verdict_of c.args.verifier.now in
+    lent_journals g.D.Disk.count g.D.Disk.limit
+    (λ L. 0 < c.args.nodes.header.shape.batch → HaveBegunFiles c.args.nodes.header.shape verdicts c.args.files.now (journals_of g.D.Disk.count g.D.Disk.limit c.args.nodes.header.shape c.args.nodes.logs.items c.args.nodes.shards.items) L)
+    c.args.nodes.header.shape c.run_over-over.new.ledger _ back shape
+    (subst (λ l. 0 < l.header.shape.batch → HaveBegunFiles l.header.shape verdicts c.args.files.now (journals_of g.D.Disk.count g.D.Disk.limit l.header.shape l.logs l.shards)
+    (journals_of g.D.Disk.count g.D.Disk.limit c.run_over-over.new.ledger.header.shape c.run_over-over.new.ledger.logs c.run_over-over.new.ledger.shards)) lent c.run_over-over.ensures.begun)

@@ -4,7 +4,7 @@ use Rattle.ledger_runs.proofs.Keeping.{same_next}
 use Rattle.rack_runs.proofs.Resumed.{over_cut, over_keeps, over_waves, over_none, none_of, over_told, over_told_none}
 use Rattle.ledger_laws.proofs.Cuts.{end_trans}
 use Rattle.ledger_runs.specs.Faults.{HaveFailed, MayHold}
-use Rattle.rack_runs.proofs.Answering.{resumed_fault, filed_fault}
+use Rattle.rack_runs.proofs.Answering.{resumed_begun, resumed_fault, filed_begun, filed_fault}
 use Rattle.rack_runs.proofs.over.run_over.Goals as goal
 
 pub returns-in-Err-clause-keeps : goal.returns-in-Err-clause-keeps
@@ -72,3 +72,21 @@ returns-in-Ok-run_files-clause-grows g c n = end_trans (g.L.Turns.journals c.arg
 
 pub returns-in-Err-run_files-clause-grows : goal.returns-in-Err-run_files-clause-grows
 returns-in-Err-run_files-clause-grows g c n = end_trans (g.L.Turns.journals c.args.ledger.now n) (g.L.Turns.journals c.resume_all.new.ledger n) (g.L.Turns.journals c.run_files.new.ledger n) (c.resume_all.ensures.grows n) (c.run_files.ensures.grows n)
+
+pub returns-in-Err-clause-begun : goal.returns-in-Err-clause-begun
+returns-in-Err-clause-begun g c =
+    resumed_begun (g.L.Turns.shape c.args.ledger.now) (g.V.Verifier.verdict_of c.args.verifier.now) c.args.files.now (g.L.Turns.journals c.args.ledger.now) (g.L.Turns.journals c.resume_all.new.ledger) c.resume_all.ensures.prepares
+
+pub returns-then-is_empty-clause-begun : goal.returns-then-is_empty-clause-begun
+returns-then-is_empty-clause-begun g c =
+    resumed_begun (g.L.Turns.shape c.args.ledger.now) (g.V.Verifier.verdict_of c.args.verifier.now) c.args.files.now (g.L.Turns.journals c.args.ledger.now) (g.L.Turns.journals c.resume_all.new.ledger) c.resume_all.ensures.prepares
+
+pub returns-in-Ok-run_files-clause-begun : goal.returns-in-Ok-run_files-clause-begun
+returns-in-Ok-run_files-clause-begun g c =
+    filed_begun (g.L.Turns.shape c.args.ledger.now) (g.L.Turns.shape c.resume_all.new.ledger) (g.V.Verifier.verdict_of c.args.verifier.now) c.args.files.now
+    (g.L.Turns.journals c.args.ledger.now) (g.L.Turns.journals c.resume_all.new.ledger) (g.L.Turns.journals c.run_files.new.ledger) c.resume_all.ensures.shape c.resume_all.ensures.prepares c.run_files.ensures.begun
+
+pub returns-in-Err-run_files-clause-begun : goal.returns-in-Err-run_files-clause-begun
+returns-in-Err-run_files-clause-begun g c =
+    filed_begun (g.L.Turns.shape c.args.ledger.now) (g.L.Turns.shape c.resume_all.new.ledger) (g.V.Verifier.verdict_of c.args.verifier.now) c.args.files.now
+    (g.L.Turns.journals c.args.ledger.now) (g.L.Turns.journals c.resume_all.new.ledger) (g.L.Turns.journals c.run_files.new.ledger) c.resume_all.ensures.shape c.resume_all.ensures.prepares c.run_files.ensures.begun

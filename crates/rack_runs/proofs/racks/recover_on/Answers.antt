@@ -1,5 +1,5 @@
 use Rattle.std.proofs.Common.{inl, inr, ⊎_elim}
-use Rattle.rack_runs.proofs.Answering.{of_nothing, no_piece}
+use Rattle.rack_runs.proofs.Answering.{of_nothing, no_piece, no_pieces}
 use Rattle.rack_runs.proofs.Lent.{on_ok_by, if_ok_by, if_err_by}
 use Rattle.rack_runs.proofs.Ledgers.{recovers, told_of_none}
 use Rattle.rack_runs.proofs.racks.recover_on.Goals as goal
@@ -16,5 +16,5 @@ pub returns-clause-stopped : goal.returns-clause-stopped
 returns-clause-stopped g c =
     if_err_by _ _ c.run_on.result
     (λ e is. ⊎_elim (λ refused. inl refused)
-    (λ cut. inr (of_nothing g.R.Disk.Disk.content g.R.Disk.Disk.images g.R.Disk.Disk.limit (g.R.Rack.held c.args.rack.now) (g.R.Rack.held c.run_on.new.rack) (g.R.Rack.count c.args.rack.now) (g.R.Rack.count c.run_on.new.rack) _ e cut.0 (no_piece _), cut.1)) is)
+    (λ cut. inr (of_nothing g.R.Disk.Disk.content g.R.Disk.Disk.images g.R.Disk.Disk.limit (g.R.Rack.held c.args.rack.now) (g.R.Rack.held c.run_on.new.rack) (g.R.Rack.count c.args.rack.now) (g.R.Rack.count c.run_on.new.rack) _ _ _ e cut.0 (no_piece _) (no_pieces _), cut.1)) is)
     c.run_on.ensures.stopped
