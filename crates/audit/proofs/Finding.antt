@@ -1,13 +1,14 @@
 -- What is found in what is known.
 use Rattle.std.proofs.Common.{◌≡◌, ◌<◌, ℕ, Bool, true, false, ◌&&◌, ◌==◌, nat_eq, List, ◌∷◌, length, Option, Some, None, if◌then◌else◌, refl, sym, ap, ◌∙◌, subst, arith, option_map, unwrap_or}
 use Rattle.std.specs.Borrow.{Bor}
-use Rattle.std.specs.Prelude.{MatchOption, IsSomeAnd}
+use Rattle.std.specs.Prelude.{MatchOption, IsSomeAnd, Contains, is_some, option_map_or, Vec}
+use Rattle.std.proofs.lemmas.List.Elements.{Contains-append_left, Contains-push}
 use Rattle.std.specs.HashMap.{get}
 use Rattle.cbdc_model.specs.Records.{Batch, Record, Row, journal, record_of, kind_of, is_of, stamp_of, last_stamp, same_batch}
 use Rattle.history.specs.Rows.{journal_in, record_at}
 use Rattle.history.proofs.Rows.{at, away, at_node, head_at, head_away}
 use Rattle.audit.specs.declared.known.Known.{Known}
-use Rattle.audit.specs.Knowing.{Knows, index_of, same_key}
+use Rattle.audit.specs.Knowing.{Knows, index_of, same_key, holders_of}
 
 pub found_some : (all : List (List Record)) (k : Known) (J : ℕ → List Record) (n kind : ℕ) (b : Batch) (i : ℕ) (r : Option (Bor Record)) → Knows all k J
     → index_of k n kind b ≡ Some i → (i < length (journal_in all n) → IsSomeAnd r (λ x. x.now ≡ record_at all (record { node = n; index = i })))
@@ -24,9 +25,10 @@ found_none all k J n kind b h e = sym (h.newest n kind b) ∙ ap (option_map (λ
 pub noted : (all : List (List Record)) (k m : Known) (node index : ℕ) (r : Record) (past : List Row) → index < length (journal_in all node)
     → record_at all (record { node = node; index = index }) ≡ r
     → ((n kind : ℕ) (b : Batch) → index_of m n kind b ≡ (if (node == n) && ((kind_of r == kind) && is_of b r) then Some index else index_of k n kind b))
+    → ((b : Batch) → holders_of m b ≡ (if is_of b r then holders_of k b ++ node ∷ [] else holders_of k b))
     → ((q : ℕ) → get nat_eq m.stamps q ≡ (if node == q then Some (stamp_of r) else get nat_eq k.stamps q))
     → Knows all k (λ n. journal n past) → Knows all m (λ n. journal n (record { node = node; what = r } ∷ past))
-noted all k m node index r past lt is kept stamps h = record {
+noted all k m node index r past lt is kept holds stamps h = record {
   inside = λ n kind b i e. elim (at_node node n) [
     | at same ↦ here n kind b i same (sym (kept n kind b) ∙ e)
     | away apart ↦ h.inside n kind b i (sym (other n kind b apart) ∙ e)
@@ -34,6 +36,10 @@ noted all k m node index r past lt is kept stamps h = record {
   newest = λ n kind b. elim (at_node node n) [
     | at same ↦ ap (option_map (read_at n)) (kept n kind b) ∙ newest_here n kind b same ∙ ap (λ J. record_of kind J b) (sym (head_at (record { node = node; what = r }) past n same))
     | away apart ↦ ap (option_map (read_at n)) (other n kind b apart) ∙ h.newest n kind b ∙ ap (λ J. record_of kind J b) (sym (head_away (record { node = node; what = r }) past n apart))
+  ];
+  held = λ n kind b f. elim (at_node node n) [
+    | at same ↦ held_here n kind b same (subst (λ J. is_some (record_of kind J b) ≡ true) (head_at (record { node = node; what = r }) past n same) f)
+    | away apart ↦ still b n (h.held n kind b (subst (λ J. is_some (record_of kind J b) ≡ true) (head_away (record { node = node; what = r }) past n apart) f))
   ];
   stamps = λ n. elim (at_node node n) [
     | at same ↦ ap (λ o. unwrap_or o 0) (stamps n) ∙ stamp_here n (get nat_eq k.stamps n) same ∙ ap last_stamp (sym (head_at (record { node = node; what = r }) past n same))
@@ -65,6 +71,27 @@ noted all k m node index r past lt is kept stamps h = record {
           | true ↦ ap (λ x. Some x) (subst (λ q. record_at all (record { node = q; index = index }) ≡ r) same is)
           | false ↦ h.newest n kind b
         ]
+
+    still : (b : Batch) (n : ℕ) → Contains (holders_of k b) n → Contains (holders_of m b) n
+    still b n c = subst (λ l. Contains l n) (sym (holds b)) (elim (is_of b r) as (λ t. Contains (if t then holders_of k b ++ node ∷ [] else holders_of k b) n) [
+      | true ↦ Contains-append_left (holders_of k b) (node ∷ []) n c
+      | false ↦ c
+    ])
+
+    second : (s t : Bool) → (s && t) ≡ true → t ≡ true
+    second s t e = grind arith
+
+    itself : (b : Batch) (n : ℕ) → node ≡ n → is_of b r ≡ true → Contains (holders_of m b) n
+    itself b n same e =
+        subst (λ l. Contains l n) (sym (holds b ∙ ap (λ t. if t then holders_of k b ++ node ∷ [] else holders_of k b) e))
+        (subst (λ q. Contains (holders_of k b ++ node ∷ []) q) same (Contains-push (holders_of k b) node))
+
+    held_here : (n kind : ℕ) (b : Batch) → node ≡ n → is_some (record_of kind (r ∷ journal n past) b) ≡ true → Contains (holders_of m b) n
+    held_here n kind b same f =
+        elim ((kind_of r == kind) && is_of b r) as (λ t. ((kind_of r == kind) && is_of b r) ≡ t → is_some (if t then Some r else record_of kind (journal n past) b) ≡ true → Contains (holders_of m b) n) [
+          | true ↦ λ e g. itself b n same (second (kind_of r == kind) (is_of b r) e)
+          | false ↦ λ e g. still b n (h.held n kind b g)
+        ] refl f
 
     stamp_here : (n : ℕ) (o : Option ℕ) → node ≡ n → unwrap_or (if node == n then Some (stamp_of r) else o) 0 ≡ stamp_of r
     stamp_here n o same = ap (λ c. unwrap_or (if c then Some (stamp_of r) else o) 0) (tested n same)

@@ -1,4 +1,5 @@
 pub mod Finding
+pub mod Sharding
 pub mod Deciding
 pub mod Steps
 pub mod Books

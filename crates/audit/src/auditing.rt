@@ -86,7 +86,7 @@ fn walk(
                 kind,
             });
         }
-        known.note(place.node, place.index, r)?;
+        known.note(alloc, place.node, place.index, r)?;
     }
     Ok(Walked::Whole(known))
 }

@@ -1,15 +1,16 @@
 // Whether a record is caused by what stands before it.
-ghost use Rattle.std.specs.Prelude.{◌≡◌, ◌<◌, ◌≤◌, ◌^◌, ◌↔◌, ℕ, true, is_some, max, suc, List as Items, IsTrue, IfOk};
-ghost use Rattle.cbdc_model.specs.Records.{Record as ModelRecord, stamp_in, txs_of, lock_of, outcomes_of, entries_in, record_of, Lock, Finish, Commit, Forget};
+ghost use Rattle.std.specs.Prelude.{◌≡◌, ◌<◌, ◌≤◌, ◌^◌, ◌↔◌, ℕ, true, is_some, max, suc, option_map, List as Items, length, IsTrue, IfOk};
+ghost use Rattle.cbdc_model.specs.Records.{Batch, Record as ModelRecord, stamp_in, txs_of, lock_of, outcomes_of, entries_in, record_of, Lock, Finish, Commit, Forget};
 ghost use Rattle.cbdc_model.specs.Replies.{entries};
 ghost use Rattle.cbdc_model.specs.Ranges.{home_of, shard_node, part, Concerned};
 ghost use Rattle.cbdc_model.specs.Outcomes.{outcomes};
 ghost use Rattle.cbdc_model.specs.Causes.{greatest, at_shards, AllHave, IsStamped, last_of, IsCaused};
 ghost use Rattle.history.specs.Rows.{read};
-ghost use Rattle.audit.specs.Knowing.{Knows};
+ghost use Rattle.audit.specs.Knowing.{Knows, AreAt, lent_at};
 
 use crate::known::Known;
 use crate::outcomes::{are_decided, outcomes_by_locks};
+use crate::sharded::records_at_shards;
 use cbdc_types::{Answered, BatchId, CompactTx, Outcome, Record, Shape};
 use history::stamp_of;
 use model_check::{are_outcomes, is_concerned, is_part_from};
@@ -74,78 +75,63 @@ fn is_lock_caused(
         && is_part_at(shape, node, es, txs_of(known, journals, home, batch))
 }
 
-// Whether each shard below n that the batch concerns has its record of the kind.
-fn have_below(
-    known: &Known,
-    journals: &[&[Record]],
-    shape: &Shape,
-    kind: u64,
-    batch: &BatchId,
-    txs: &[CompactTx],
-    n: u32,
-) -> bool
-    requires { n ≤ shape.now.shards }
-    ensures { (J : ℕ → Items ModelRecord) → Knows (read journals.now) known.now J
-        → (IsTrue result ↔ ((s : ℕ) → s < n → Concerned shape.now txs.now s → is_some (at_shards shape.now J kind batch.now s) ≡ true)) }
+// Whether each shard below n that the batch concerns has one of these records.
+fn have_below(records: &[Option<&Record>], shape: &Shape, txs: &[CompactTx], n: u32) -> bool
+    requires { n ≤ length records.now }
+    ensures { IsTrue result ↔ ((s : ℕ) → s < n → Concerned shape.now txs.now s → is_some (lent_at records.now s) ≡ true) }
 {
     if n == 0 {
         return true;
     }
     let shard = n - 1;
-    let node = shape.coordinators() + shard;
-    (known.found(journals, node, kind, batch).is_some() || !is_concerned(shape, txs, shard))
-        && have_below(known, journals, shape, kind, batch, txs, shard)
+    (records[shard as usize].is_some() || !is_concerned(shape, txs, shard))
+        && have_below(records, shape, txs, shard)
 }
 
-// Whether each shard that the batch concerns, by its Prepare, has its record of the kind.
+// Whether each shard that the batch concerns, by its Prepare, has its record of the kind, where these are the shards' records.
 fn all_have(
     known: &Known,
     journals: &[&[Record]],
     shape: &Shape,
-    kind: u64,
     batch: &BatchId,
+    records: &[Option<&Record>],
 ) -> bool
-    ensures { (J : ℕ → Items ModelRecord) → Knows (read journals.now) known.now J → (IsTrue result ↔ AllHave shape.now J kind batch.now) }
+    requires { length records.now ≡ shape.now.shards }
+    ensures { (J : ℕ → Items ModelRecord) → Knows (read journals.now) known.now J → (kind : ℕ) → AreAt shape.now J kind batch.now records.now
+        → (IsTrue result ↔ AllHave shape.now J kind batch.now) }
 {
     let txs = txs_of(known, journals, home_of(shape, batch), batch);
-    have_below(known, journals, shape, kind, batch, txs, shape.shards())
+    have_below(records, shape, txs, shape.shards())
 }
 
-// The stamp of a node's record of a kind of a batch, 0 where it has none.
-fn stamp_at(known: &Known, journals: &[&[Record]], node: u32, kind: u64, batch: &BatchId) -> u64
-    ensures { (J : ℕ → Items ModelRecord) → Knows (read journals.now) known.now J → result ≡ stamp_in (record_of kind (J node) batch.now) }
+// The stamp of a record, 0 where there is none.
+fn stamp_in(record: Option<&Record>) -> u64
+    ensures { result ≡ stamp_in (option_map (λ r. r.now) record) }
 {
-    match known.found(journals, node, kind, batch) {
+    match record {
         Some(r) => stamp_of(r),
         None => 0,
     }
 }
 
-// The greatest stamp that the shards below n have of a kind of a batch.
-fn greatest_below(
-    known: &Known,
-    journals: &[&[Record]],
-    shape: &Shape,
-    kind: u64,
-    batch: &BatchId,
-    n: u32,
-) -> u64
-    requires { n ≤ shape.now.shards }
-    ensures { (J : ℕ → Items ModelRecord) → Knows (read journals.now) known.now J → result ≡ greatest (λ s. stamp_in (at_shards shape.now J kind batch.now s)) n }
+// The greatest stamp of the first n of these records.
+fn greatest_below(records: &[Option<&Record>], n: u32) -> u64
+    requires { n ≤ length records.now }
+    ensures { result ≡ greatest (λ s. stamp_in (lent_at records.now s)) n }
 {
     if n == 0 {
         return 0;
     }
     let shard = n - 1;
-    let rest = greatest_below(known, journals, shape, kind, batch, shard);
-    rest.max(stamp_at(known, journals, shape.coordinators() + shard, kind, batch))
+    greatest_below(records, shard).max(stamp_in(records[shard as usize]))
 }
 
-// The greatest stamp that the shards have of a kind of a batch.
-fn last_of(known: &Known, journals: &[&[Record]], shape: &Shape, kind: u64, batch: &BatchId) -> u64
-    ensures { (J : ℕ → Items ModelRecord) → Knows (read journals.now) known.now J → result ≡ last_of shape.now J kind batch.now }
+// The greatest stamp that the shards have of a kind of a batch, where these are their records.
+fn last_of(shape: &Shape, records: &[Option<&Record>]) -> u64
+    requires { length records.now ≡ shape.now.shards }
+    ensures { (J : ℕ → Items ModelRecord) → (kind : ℕ) → (b : Batch) → AreAt shape.now J kind b records.now → result ≡ last_of shape.now J kind b }
 {
-    greatest_below(known, journals, shape, kind, batch, shape.shards())
+    greatest_below(records, shape.shards())
 }
 
 // Whether outcomes are those by the Locks of the batch.
@@ -156,12 +142,14 @@ fn are_by_locks(
     shape: &Shape,
     batch: &BatchId,
     given: &[Outcome],
+    locks: &[Option<&Record>],
 ) -> Result<bool, AllocError>
-    ensures { (J : ℕ → Items ModelRecord) → Knows (read journals.now) known.now J
+    requires { length locks.now ≡ shape.now.shards }
+    ensures { (J : ℕ → Items ModelRecord) → Knows (read journals.now) known.now J → AreAt shape.now J 2 batch.now locks.now
         → IfOk result (λ yes. IsTrue yes ↔ (given.now ≡ outcomes (λ s. entries_in (at_shards shape.now J 2 batch.now s)) shape.now.shards 0 (txs_of (J (home_of shape.now batch.now.lane)) batch.now))) }
 {
     let txs = txs_of(known, journals, home_of(shape, batch), batch);
-    let decided = outcomes_by_locks(alloc, known, journals, shape, batch, txs)?;
+    let decided = outcomes_by_locks(alloc, shape, locks, txs)?;
     Ok(are_outcomes(given, decided.as_slice()))
 }
 
@@ -178,18 +166,14 @@ fn is_commit_caused(
 ) -> Result<bool, AllocError>
     ensures { (J : ℕ → Items ModelRecord) → Knows (read journals.now) known.now J → IfOk result (λ yes. IsTrue yes ↔ IsCaused shape.now J node (Commit stamp batch.now given.now)) }
 {
-    if !all_have(known, journals, shape, 2, batch) {
+    let locks = records_at_shards(alloc, known, journals, shape, 2, batch)?;
+    if !all_have(known, journals, shape, batch, &locks) {
         return Ok(false);
     }
-    if !is_stamped(
-        known,
-        node,
-        stamp,
-        last_of(known, journals, shape, 2, batch),
-    ) {
+    if !is_stamped(known, node, stamp, last_of(shape, &locks)) {
         return Ok(false);
     }
-    are_by_locks(alloc, known, journals, shape, batch, given)
+    are_by_locks(alloc, known, journals, shape, batch, given, &locks)
 }
 
 // The answered entries of a batch's Lock at a node, none where it has no Lock.
@@ -265,6 +249,7 @@ fn is_forget_caused(
 
 // Whether all that the concerned shards had to write stands, and a stamp is behind it.
 fn follows_all(
+    alloc: Global,
     known: &Known,
     journals: &[&[Record]],
     shape: &Shape,
@@ -272,17 +257,13 @@ fn follows_all(
     stamp: u64,
     kind: u64,
     batch: &BatchId,
-) -> bool
+) -> Result<bool, AllocError>
     ensures { (J : ℕ → Items ModelRecord) → Knows (read journals.now) known.now J
-        → (IsTrue result ↔ AllHave shape.now J kind batch.now × IsStamped stamp (J node) (last_of shape.now J kind batch.now)) }
+        → IfOk result (λ yes. IsTrue yes ↔ AllHave shape.now J kind batch.now × IsStamped stamp (J node) (last_of shape.now J kind batch.now)) }
 {
-    all_have(known, journals, shape, kind, batch)
-        && is_stamped(
-            known,
-            node,
-            stamp,
-            last_of(known, journals, shape, kind, batch),
-        )
+    let records = records_at_shards(alloc, known, journals, shape, kind, batch)?;
+    Ok(all_have(known, journals, shape, batch, &records)
+        && is_stamped(known, node, stamp, last_of(shape, &records)))
 }
 
 /// Whether a record of a node is caused by the records that are known.
@@ -341,13 +322,13 @@ pub(crate) fn is_caused(
             decisions.as_slice(),
         )),
         Record::Discard { stamp, batch } => {
-            Ok(follows_all(known, journals, shape, node, stamp.0, 3, batch))
+            follows_all(alloc, known, journals, shape, node, stamp.0, 3, batch)
         }
         Record::Forget { stamp, batch } => {
             Ok(is_forget_caused(known, journals, shape, node, stamp.0, batch))
         }
         Record::Done { stamp, batch } => {
-            Ok(follows_all(known, journals, shape, node, stamp.0, 4, batch))
+            follows_all(alloc, known, journals, shape, node, stamp.0, 4, batch)
         }
     }
 }

@@ -1,5 +1,5 @@
 // What is kept of the journals along a walk over a history.
-ghost use Rattle.std.specs.Prelude.{◌≡◌, ◌<◌, ◌∷◌, ◌==◌, ◌&&◌, if◌then◌else◌, [], false, ℕ, None, Some, List as Items, MatchOption, IsSomeAnd, OnOk, length};
+ghost use Rattle.std.specs.Prelude.{◌≡◌, ◌<◌, ◌∷◌, ◌++◌, ◌==◌, ◌&&◌, if◌then◌else◌, [], false, ℕ, None, Some, List as Items, MatchOption, IsSomeAnd, OnOk, length};
 ghost use Rattle.cbdc_model.specs.Records.{Batch, Record as ModelRecord, Row, journal, record_of, last_stamp, stamp_of, is_of, kind_of, same_batch};
 ghost use Rattle.history.specs.Rows.{read, journal_in, record_at};
 
@@ -8,11 +8,12 @@ use history::stamp_of;
 use std::alloc::{AllocError, Global};
 use std::collections::HashMap;
 
-/// The newest record of each kind of each batch at each node, as its index in the node's journal, and the last stamp of each node. A key
-/// is a node, a kind, a lane and a number.
+/// The newest record of each kind of each batch at each node, as its index in the node's journal; the nodes that have records of each batch;
+/// and the last stamp of each node. A key of a record is a node, a kind, a lane and a number, that of a batch a lane and a number.
 #[derive(Drop)]
 pub(crate) struct Known {
     pub(crate) indices: HashMap<(u32, u64, u32, u64), u64>,
+    pub(crate) holders: HashMap<(u32, u64), Vec<u32>>,
     pub(crate) stamps: HashMap<u32, u64>,
 }
 
@@ -44,7 +45,7 @@ fn record_if_there<'a>(journals: &[&'a [Record]], node: u32, index: u64) -> Opti
 }
 
 impl Known {
-    ghost use Rattle.audit.specs.Knowing.{Knows, index_of};
+    ghost use Rattle.audit.specs.Knowing.{Knows, index_of, holders_of};
 
     /// Nothing, of journals without records.
     pub(crate) fn new(alloc: Global) -> Known
@@ -52,6 +53,7 @@ impl Known {
     {
         Known {
             indices: HashMap::new(alloc),
+            holders: HashMap::new(alloc),
             stamps: HashMap::new(alloc),
         }
     }
@@ -73,6 +75,16 @@ impl Known {
         }
     }
 
+    /// The nodes that have records of a batch, maybe more than once.
+    pub(crate) fn holders<'a>(&'a self, batch: &BatchId) -> &'a [u32]
+        ensures { result.now ≡ holders_of self.now batch.now }
+    {
+        match self.holders.get(&(batch.lane.0, batch.number)) {
+            Some(nodes) => nodes.as_slice(),
+            None => &[],
+        }
+    }
+
     /// The last stamp of a node, 0 where it has no record.
     pub(crate) fn last_stamp(&self, node: u32) -> u64
         ensures { (all : Items (Items ModelRecord)) → (J : ℕ → Items ModelRecord) → Knows all self.now J → result ≡ last_stamp (J node) }
@@ -83,13 +95,41 @@ impl Known {
         }
     }
 
+    // Takes the nodes of a batch out.
+    fn take_holders(&mut self, alloc: Global, batch: &BatchId) -> Vec<u32>
+        ensures taken { result.items ≡ holders_of self.old batch.now }
+        ensures others { (b : Batch) → same_batch batch.now b ≡ false → holders_of self.new b ≡ holders_of self.old b }
+        ensures indices { self.new.indices ≡ self.old.indices }
+        ensures stamps { self.new.stamps ≡ self.old.stamps }
+    {
+        match self.holders.remove(&(batch.lane.0, batch.number)) {
+            Some(nodes) => nodes,
+            None => Vec::new(alloc),
+        }
+    }
+
+    // Counts a node among those that have records of a batch.
+    fn hold(&mut self, alloc: Global, node: u32, batch: &BatchId) -> Result<(), AllocError>
+        ensures held { OnOk result ((b : Batch) → holders_of self.new b ≡ (if same_batch batch.now b then holders_of self.old b ++ node ∷ [] else holders_of self.old b)) }
+        ensures indices { self.new.indices ≡ self.old.indices }
+        ensures stamps { self.new.stamps ≡ self.old.stamps }
+    {
+        let mut nodes = self.take_holders(alloc, batch);
+        nodes.push(node)?;
+        self.holders
+            .insert((batch.lane.0, batch.number), nodes)?;
+        Ok(())
+    }
+
     // Keeps the index of a record of a node, if it is of a batch.
-    fn keep(&mut self, node: u32, index: u64, r: &Record) -> Result<(), AllocError>
+    fn keep(&mut self, alloc: Global, node: u32, index: u64, r: &Record) -> Result<(), AllocError>
         ensures kept { OnOk result ((n kind : ℕ) → (b : Batch) → index_of self.new n kind b ≡ (if (node == n) && ((kind_of r.now == kind) && is_of b r.now) then Some index else index_of self.old n kind b)) }
+        ensures held { OnOk result ((b : Batch) → holders_of self.new b ≡ (if is_of b r.now then holders_of self.old b ++ node ∷ [] else holders_of self.old b)) }
         ensures stamps { self.new.stamps ≡ self.old.stamps }
     {
         match kind_and_batch(r) {
             Some((kind, batch)) => {
+                self.hold(alloc, node, &batch)?;
                 self.indices
                     .insert((node, kind, batch.lane.0, batch.number), index)?;
                 Ok(())
@@ -99,11 +139,17 @@ impl Known {
     }
 
     /// Takes a record of a node in, which stands at this index of its journal.
-    pub(crate) fn note(&mut self, node: u32, index: u64, r: &Record) -> Result<(), AllocError>
+    pub(crate) fn note(
+        &mut self,
+        alloc: Global,
+        node: u32,
+        index: u64,
+        r: &Record,
+    ) -> Result<(), AllocError>
         ensures { OnOk result ((all : Items (Items ModelRecord)) → (past : Items Row) → index < length (journal_in all node) → record_at all (record { node = node; index = index }) ≡ r.now
             → Knows all self.old (λ n. journal n past) → Knows all self.new (λ n. journal n (record { node = node; what = r.now } ∷ past))) }
     {
-        self.keep(node, index, r)?;
+        self.keep(alloc, node, index, r)?;
         self.stamps.insert(node, stamp_of(r))?;
         Ok(())
     }

@@ -9,6 +9,7 @@ mod handed;
 mod known;
 mod laws;
 mod outcomes;
+mod sharded;
 mod verdict;
 mod walking;
 

@@ -1,14 +1,12 @@
 // The outcomes of a batch, by the Locks of its shards.
-ghost use Rattle.std.specs.Prelude.{◌≡◌, ◌<◌, ◌≤◌, ◌+◌, ◌-◌, ◌^◌, ◌↔◌, ℕ, IsTrue, IfOk, IfSome, None, List as Items, length, slice_index_or};
-ghost use Rattle.cbdc_model.specs.Records.{Record as ModelRecord, entries_in, Won};
+ghost use Rattle.std.specs.Prelude.{◌≡◌, ◌<◌, ◌≤◌, ◌+◌, ◌-◌, ◌^◌, ◌↔◌, ℕ, IsTrue, IfOk, IfSome, None, option_map, List as Items, length, slice_index_or};
+ghost use Rattle.cbdc_model.specs.Records.{Batch, Record as ModelRecord, entries_in, Won};
 ghost use Rattle.cbdc_model.specs.Replies.{entries};
 ghost use Rattle.cbdc_model.specs.Outcomes.{reply_at, outcome_by, outcome, outcomes, won_at, decisions};
 ghost use Rattle.cbdc_model.specs.Causes.{at_shards};
-ghost use Rattle.history.specs.Rows.{read};
-ghost use Rattle.audit.specs.Knowing.{Knows, reply_with};
+ghost use Rattle.audit.specs.Knowing.{AreAt, lent_at, reply_with};
 
-use crate::known::Known;
-use cbdc_types::{Answered, BatchId, CompactTx, Outcome, Record, Reply, Shape};
+use cbdc_types::{Answered, CompactTx, Outcome, Record, Reply, Shape};
 use model_check::is_won;
 use std::alloc::{AllocError, Global};
 
@@ -64,43 +62,33 @@ fn decide_by(shard: u32, replies: &[Option<Reply>], outcomes: &mut [Outcome])
     }
 }
 
-// The answered entries of the batch's Lock at a shard, none where it has no Lock.
-fn entries_at<'a>(
-    known: &Known,
-    journals: &[&'a [Record]],
-    shape: &Shape,
-    batch: &BatchId,
-    shard: u32,
-) -> &'a [Answered]
-    requires { shard < shape.now.shards }
-    ensures { (J : ℕ → Items ModelRecord) → Knows (read journals.now) known.now J → result.now ≡ entries_in (at_shards shape.now J 2 batch.now shard) }
+// The answered entries of a shard's Lock, none where it has no Lock.
+fn entries_of<'a>(lock: Option<&'a Record>) -> &'a [Answered]
+    ensures { result.now ≡ entries_in (option_map (λ r. r.now) lock) }
 {
-    match known.found(journals, shape.coordinators() + shard, 2, batch) {
+    match lock {
         Some(Record::Lock { entries, .. }) => entries.as_slice(),
         _ => &[],
     }
 }
 
-// The outcomes of the first n places over so many shards from this one on.
+// The outcomes of the first n places by the Locks of the shards from this one on.
 fn outcomes_from(
     alloc: Global,
-    known: &Known,
-    journals: &[&[Record]],
-    shape: &Shape,
-    batch: &BatchId,
+    locks: &[Option<&Record>],
     n: usize,
     shard: u32,
 ) -> Result<Vec<Outcome>, AllocError>
-    requires { shard ≤ shape.now.shards }
+    requires few { length locks.now < 2 ^ 32 }
+    requires inside { shard ≤ length locks.now }
     ensures len { IfOk result (λ v. length v.items ≡ n) }
-    ensures outcomes { (J : ℕ → Items ModelRecord) → Knows (read journals.now) known.now J
-        → IfOk result (λ v. (k : ℕ) → k < n → slice_index_or v.items k Won ≡ outcome (λ s. entries_in (at_shards shape.now J 2 batch.now s)) k shard (shape.now.shards - shard)) }
+    ensures outcomes { IfOk result (λ v. (k : ℕ) → k < n → slice_index_or v.items k Won ≡ outcome (λ s. entries_in (lent_at locks.now s)) k shard (length locks.now - shard)) }
 {
-    if shard >= shape.shards() {
+    if shard as usize >= locks.len() {
         return vec![in alloc; Outcome::Held; n];
     }
-    let mut outcomes = outcomes_from(alloc, known, journals, shape, batch, n, shard + 1)?;
-    let entries = entries_at(known, journals, shape, batch, shard);
+    let mut outcomes = outcomes_from(alloc, locks, n, shard + 1)?;
+    let entries = entries_of(locks[shard as usize]);
     if entries.is_empty() {
         return Ok(outcomes);
     }
@@ -112,16 +100,15 @@ fn outcomes_from(
 /// The outcomes of a batch's transactions, by the Locks of its shards.
 pub(crate) fn outcomes_by_locks(
     alloc: Global,
-    known: &Known,
-    journals: &[&[Record]],
     shape: &Shape,
-    batch: &BatchId,
+    locks: &[Option<&Record>],
     txs: &[CompactTx],
 ) -> Result<Vec<Outcome>, AllocError>
-    ensures { (J : ℕ → Items ModelRecord) → Knows (read journals.now) known.now J
-        → IfOk result (λ v. v.items ≡ outcomes (λ s. entries_in (at_shards shape.now J 2 batch.now s)) shape.now.shards 0 txs.now) }
+    requires { length locks.now ≡ shape.now.shards }
+    ensures { (J : ℕ → Items ModelRecord) → (b : Batch) → AreAt shape.now J 2 b locks.now
+        → IfOk result (λ v. v.items ≡ outcomes (λ s. entries_in (at_shards shape.now J 2 b s)) shape.now.shards 0 txs.now) }
 {
-    outcomes_from(alloc, known, journals, shape, batch, txs.len(), 0)
+    outcomes_from(alloc, locks, txs.len(), 0)
 }
 
 // Whether the outcome at this place is Held.

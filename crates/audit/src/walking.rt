@@ -27,7 +27,7 @@ pub fn causes(
         if !is_caused(alloc, &known, journals, shape, place.node, r)? {
             return Ok(Some(at as u64));
         }
-        known.note(place.node, place.index, r)?;
+        known.note(alloc, place.node, place.index, r)?;
     }
     Ok(None)
 }
