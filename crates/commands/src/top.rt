@@ -204,6 +204,8 @@ pub fn process<W: Wait, I: Inbox, R: Rack, O: Sink, G: Gate>(
     ensures untouched { IsBeforeDisks result.status → result.rack ≡ rack }
 
     // Behind `status` and `audit` all disks are as they were read, whatever was answered.
+    // Where a run or a recovery did not come through, whatever the answer, want of memory too, all disks are as they were or as they were
+    // read; or the journals of a kept ledger have grown at their ends and are kept, whatever a crash leaves of the disks.
     // Where a ledger was not made, all disks are as they were or as they were read; or the writing of first records stopped at a node that
     // has no room or whose disk failed: those below it are as they were read, those above it hold their first records, and a crash leaves of
     // its own no first record, or what it might have left before, or, where the disk failed, the new one alone.
