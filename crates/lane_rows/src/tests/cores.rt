@@ -184,6 +184,7 @@ fn a_prepare_begins_a_batch(rt: HostRuntime) -> Result<(), Fail> {
     assert_eq!(rt; stands_at(&fresh), Some((LanePhase::Idle(0), 0, 0)));
     let core = with_prepare(rt)?;
     assert_eq!(rt; stands_at(&core), Some((LanePhase::Prepared(1), 167, 3)));
+    assert_eq!(rt; core.phase(LaneId(1)), LanePhase::Idle(0));
     let replies = held(rt, Stamp(2))?;
     assert_eq!(rt;
         stamps(&core, &replies, Stamp(6)),

@@ -1,6 +1,9 @@
 // A ledger of one coordinator and one shard in memory, and a lane run over it.
-ghost use Rattle.std.specs.Prelude.{◌≡◌, ◌∷◌, [], ◌↔◌, IsTrue, IfOk, All};
+ghost use Rattle.std.specs.Prelude.{◌≡◌, ◌≤◌, ◌∷◌, [], ◌↔◌, IsTrue, IfOk, All};
+ghost use Rattle.cbdc_model.specs.After.{IsFirst};
 ghost use Rattle.cbdc_model.specs.Grammar.{IsHash, IsHashList, IsCompact};
+ghost use Rattle.lane_rows.specs.Numbers.{number_in};
+ghost use Rattle.lane_rows.specs.Nodes.{AreSettled};
 
 use super::counting::{Counting, Counts, counted};
 use cbdc_types::{CompactTx, Hash, Header, LaneId, List, NodeId, Record, Shape};
@@ -130,6 +133,47 @@ fn are_compact(txs: &[CompactTx]) -> bool
     txs.iter().all(|t| is_compact(t))
 }
 
+// The number of a record's batch, 0 of a first record.
+fn number_of(r: &Record) -> u64
+    ensures { result ≡ number_in r.now }
+{
+    match r {
+        Record::Genesis { .. } => 0,
+        Record::Start { .. } => 0,
+        Record::Lock { batch, .. } => batch.number,
+        Record::Finish { batch, .. } => batch.number,
+        Record::Forget { batch, .. } => batch.number,
+        Record::Prepare { batch, .. } => batch.number,
+        Record::Commit { batch, .. } => batch.number,
+        Record::Discard { batch, .. } => batch.number,
+        Record::Done { batch, .. } => batch.number,
+    }
+}
+
+// Whether no record is of a batch behind this one.
+fn are_up_to(records: &[Record], last: u64) -> bool
+    ensures { IsTrue result ↔ All (λ r. number_in r ≤ last) records.now }
+{
+    records.iter().all(|r| number_of(r) <= last)
+}
+
+fn is_first(r: &Record) -> bool
+    ensures { IsTrue result ↔ IsFirst r.now }
+{
+    match r {
+        Record::Genesis { .. } => true,
+        Record::Start { .. } => true,
+        _ => false,
+    }
+}
+
+// Whether all are first records.
+fn are_first(records: &[Record]) -> bool
+    ensures { IsTrue result ↔ All IsFirst records.now }
+{
+    records.iter().all(|r| is_first(r))
+}
+
 /// What a lane came to, how often its shard was asked, and the nodes behind it.
 #[derive(Drop)]
 pub(crate) struct Ran {
@@ -148,6 +192,27 @@ fn alone<T: Drop>(alloc: Global, one: T) -> Result<Vec<T>, Fail>
     Ok(all)
 }
 
+// Whether these are the first coordinator and the only shard of a ledger, as they were made or with batches of the
+// coordinator's first lane that are done.
+fn are_settled(log: &CoordLog<PlainDisk>, node: &ShardNode<PlainDisk>) -> bool
+    ensures { IsTrue result → AreSettled log.now node.now }
+{
+    let header = *log.header();
+    let other = *node.header();
+    let shape = header.shape;
+    let ours = 0 < shape.lane_count()
+        && header.node.0 == 0
+        && shape.shards() == 1
+        && other.shape == shape
+        && other.node.0 == shape.coordinators();
+    match log.phase(LANE) {
+        LanePhase::Idle(last) => {
+            ours && are_up_to(log.records(), last) && are_first(node.records())
+        }
+        _ => false,
+    }
+}
+
 /// Runs the lane over these nodes, where it may be run: all its transactions, or one batch of them.
 pub(crate) fn run_over<W: Wait>(
     rt: &W,
@@ -158,25 +223,15 @@ pub(crate) fn run_over<W: Wait>(
     repeats: u32,
     whole: bool,
 ) -> Result<Ran, Fail> {
-    let header = *log.header();
-    let first = *node.header();
-    let shape = header.shape;
-    let ours = LANE.0 < shape.lane_count()
-        && header.node.0 == 0
-        && shape.shards() == 1
-        && first.shape == shape
-        && first.node.0 == shape.coordinators();
-    if !ours || !are_compact(txs) {
+    if !are_settled(&log, &node) || !are_compact(txs) {
         return Err("another ledger".into());
     }
-    let LanePhase::Idle(_) = log.phase(LANE) else {
-        return Err("the lane is busy".into());
-    };
+    let shape = log.header().shape;
     let mut ports = Ports {
         shards: counted(NodeShards {
             rt,
             lane: LANE,
-            first: first.node.0,
+            first: shape.coordinators(),
             nodes: alone(alloc, node)?,
         }),
         log: NodeLogs {
