@@ -87,15 +87,15 @@ fn two_spenders_in_two_runs(rt: HostRuntime) -> Result<(), Fail> {
     Ok(())
 }
 
-// Runs two client files of one transaction each over a new ledger, in one run, with good verdicts on the inputs of these.
+// Runs two client files over a new ledger, in one run, with good verdicts on the inputs of these.
 fn in_two_files<W: Wait>(
     rt: &W,
     alloc: Global,
-    first: &FullTx,
-    second: &FullTx,
+    first: &[&FullTx],
+    second: &[&FullTx],
     known: &[&FullTx],
 ) -> Result<Ran, AllocError> {
-    let (one, two) = (client(alloc, &[first])?, client(alloc, &[second])?);
+    let (one, two) = (client(alloc, first)?, client(alloc, second)?);
     let lines = good(alloc, known)?;
     let rack = made(rt, alloc, 10_000, 10_000)?;
     let words = ["run", "--verdicts", "v", "c", "d"];
@@ -108,7 +108,7 @@ fn in_two_files<W: Wait>(
 fn two_spenders_in_two_files(rt: HostRuntime) -> Result<(), Fail> {
     let alloc = rt.alloc();
     let (tx, other) = (sixty_forty(alloc)?, whole(alloc)?);
-    let run = in_two_files(&rt, alloc, &tx, &other, &[&tx, &other])?;
+    let run = in_two_files(&rt, alloc, &[&tx], &[&other], &[&tx, &other])?;
     let text =
         "1 0 95dc87bd021f95fe4232b14028e3332879a437b67d6eaaf9a6510670e422cc2f confirmed 0 1\n2 0 18a18a0961b2e87d125720b33669f007226725e25988328f9a9f63772f3ca1c3 rejected missing 866fbe7a1335a2e2e2ec97861a6980fc2f1314dd1bbc6d33f73d184a9e1807bc 0 0 2\nresumed 0\nbatches 2\nconfirmed 1\nrejected 1\nrefused 0\nunspent 2\n";
     told(&rt, &run, 0, text);
@@ -120,7 +120,7 @@ fn two_spenders_in_two_files(rt: HostRuntime) -> Result<(), Fail> {
 fn the_same_transaction_in_two_files(rt: HostRuntime) -> Result<(), Fail> {
     let alloc = rt.alloc();
     let tx = sixty_forty(alloc)?;
-    let run = in_two_files(&rt, alloc, &tx, &tx, &[&tx])?;
+    let run = in_two_files(&rt, alloc, &[&tx], &[&tx], &[&tx])?;
     let text =
         "1 0 95dc87bd021f95fe4232b14028e3332879a437b67d6eaaf9a6510670e422cc2f confirmed 0 1\n2 0 95dc87bd021f95fe4232b14028e3332879a437b67d6eaaf9a6510670e422cc2f rejected missing 866fbe7a1335a2e2e2ec97861a6980fc2f1314dd1bbc6d33f73d184a9e1807bc 0 0 2\nresumed 0\nbatches 2\nconfirmed 1\nrejected 1\nrefused 0\nunspent 2\n";
     told(&rt, &run, 0, text);
@@ -133,7 +133,7 @@ fn an_output_spent_in_a_later_file(rt: HostRuntime) -> Result<(), Fail> {
     let alloc = rt.alloc();
     let tx = sixty_forty(alloc)?;
     let next = pays(alloc, &[spends(tx_id(&tx), 0, (2, 60))], &[(5, 60)])?;
-    let run = in_two_files(&rt, alloc, &tx, &next, &[&tx, &next])?;
+    let run = in_two_files(&rt, alloc, &[&tx], &[&next], &[&tx, &next])?;
     let text =
         "1 0 95dc87bd021f95fe4232b14028e3332879a437b67d6eaaf9a6510670e422cc2f confirmed 0 1\n2 0 215b40eaed9285d724ea6a36278d5bd86e7c4695764770784946ebccdc7784c8 confirmed 0 2\nresumed 0\nbatches 2\nconfirmed 2\nrejected 0\nrefused 0\nunspent 2\n";
     told(&rt, &run, 0, text);
@@ -155,6 +155,19 @@ fn an_output_spent_in_its_own_batch(rt: HostRuntime) -> Result<(), Fail> {
     let text =
         "1 0 215b40eaed9285d724ea6a36278d5bd86e7c4695764770784946ebccdc7784c8 confirmed 0 2\nresumed 0\nbatches 1\nconfirmed 1\nrejected 0\nrefused 0\nunspent 2\n";
     told(&rt, &later, 0, text);
+    Ok(())
+}
+
+/// Both in one file, and the later spender alone in a second file of the same run: missing in its own batch, confirmed in the next.
+#[test]
+fn an_output_spent_in_its_own_batch_and_in_the_next_file(rt: HostRuntime) -> Result<(), Fail> {
+    let alloc = rt.alloc();
+    let tx = sixty_forty(alloc)?;
+    let next = pays(alloc, &[spends(tx_id(&tx), 0, (2, 60))], &[(5, 60)])?;
+    let run = in_two_files(&rt, alloc, &[&tx, &next], &[&next], &[&tx, &next])?;
+    let text =
+        "1 0 95dc87bd021f95fe4232b14028e3332879a437b67d6eaaf9a6510670e422cc2f confirmed 0 1\n1 1 215b40eaed9285d724ea6a36278d5bd86e7c4695764770784946ebccdc7784c8 rejected missing c49d41e772da3d66ee9f973c0c26810b7263fab2b96c7a97fdaa8c778bc6a2b7 0 0 1\n2 0 215b40eaed9285d724ea6a36278d5bd86e7c4695764770784946ebccdc7784c8 confirmed 0 2\nresumed 0\nbatches 2\nconfirmed 2\nrejected 1\nrefused 0\nunspent 2\n";
+    told(&rt, &run, 0, text);
     Ok(())
 }
 
