@@ -1,7 +1,10 @@
 // The worked rows of runs: one coordinator, one shard, one lane, batches of 16. The mint is one coin of 100.
 use cbdc_types::FullTx;
 use identifiers::tx_id;
-use row_making::{Ran, claims, client, good, made, paid, pays, play, sixty_forty, spends, used};
+use row_making::{
+    Ran, bytes_of, claims, client, genesis, good, made, mint, paid, pays, play, sixty_forty,
+    spends, two_disks, used,
+};
 use std::alloc::{AllocError, Global};
 use std::process::Abort;
 use std::sync::Wait;
@@ -242,5 +245,66 @@ fn nothing_to_recover(rt: HostRuntime) -> Result<(), Fail> {
     told(&rt, &recovered, 0, "resumed 0\nunspent 2\n");
     assert_eq!(rt; used(&recovered.rack, 0), 396);
     assert_eq!(rt; used(&recovered.rack, 1), 411);
+    Ok(())
+}
+
+// How many bytes the body of the record at this gate has.
+fn length_at(bytes: &[u8], gate: usize) -> usize {
+    let low = bytes.get(gate.saturating_add(1)).copied().unwrap_or(0);
+    let high = bytes.get(gate.saturating_add(2)).copied().unwrap_or(0);
+    usize::from(high) * 256 + usize::from(low)
+}
+
+// Where the gate behind so many records stands, from this gate on.
+fn behind(bytes: &[u8], gate: usize, records: usize) -> usize {
+    let mut at = gate;
+    for _ in 0..records {
+        at = at.saturating_add(9).saturating_add(length_at(bytes, at));
+    }
+    at
+}
+
+// The lanes of the batches in a coordinator's journal, in order, where each batch has its four records one behind the other: the lane's number
+// stands behind gate, length, kind and stamp.
+fn lanes_of(alloc: Global, bytes: &[u8], batches: usize) -> Result<Vec<u8>, AllocError> {
+    let mut lanes = Vec::new(alloc);
+    let mut at = behind(bytes, 0, 1);
+    for _ in 0..batches {
+        lanes.push(bytes.get(at.saturating_add(18)).copied().unwrap_or(255))?;
+        at = behind(bytes, at, 4);
+    }
+    Ok(lanes)
+}
+
+// A transaction for each of four coins of 100.
+fn four_payments(alloc: Global) -> Result<Vec<FullTx>, AllocError> {
+    let id = genesis(alloc, &FOUR)?;
+    let mut all = Vec::new(alloc);
+    for index in 0..4u64 {
+        all.push(pays(alloc, &[spends(id, index, (1, 100))], &[(2, 100)])?)?;
+    }
+    Ok(all)
+}
+
+const FOUR: [(u8, u64); 4] = [(1, 100), (1, 100), (1, 100), (1, 100)];
+
+/// Two lanes with two batches each take turns, a batch a turn: the lesser lane first.
+#[test]
+fn lanes_take_turns(rt: HostRuntime) -> Result<(), Fail> {
+    let alloc = rt.alloc();
+    let bytes = mint(alloc, &FOUR)?;
+    let disks = two_disks(alloc, 10_000, 10_000)?;
+    let words = ["init", "--lanes", "2", "--batch", "1", "m"];
+    let made = play(&rt, alloc, disks, &words, &[("m", &bytes)])?;
+    let txs = four_payments(alloc)?;
+    let mut handed = Vec::new(alloc);
+    for tx in &txs {
+        handed.push(tx)?;
+    }
+    let run = paid(&rt, alloc, made.rack, &handed)?;
+    assert_eq!(rt; run.status, 0);
+    let journal = bytes_of(alloc, &run.rack, 0)?;
+    let lanes = lanes_of(alloc, &journal, 4)?;
+    assert_eq!(rt; lanes.as_slice(), [0u8, 1, 0, 1].as_slice());
     Ok(())
 }
