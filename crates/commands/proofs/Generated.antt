@@ -39,7 +39,8 @@ use Rattle.rack_ledgers.proofs.Lacks.{unopened_kind}
 use Rattle.rack_nodes.specs.Racked.{IsBack}
 use Rattle.rack_nodes.specs.Refused.{IsNodeRefusal}
 use Rattle.rack_runs.specs.Kinds.{IsLaneAnswer}
-use Rattle.rack_runs.specs.Runs.{IsCutShort, IsLaneFault}
+use Rattle.lane_driver.specs.declared.fault.LaneFault.{LaneFault}
+use Rattle.rack_runs.specs.Runs.{IsLaneFault}
 use Rattle.rack_runs.specs.declared.over.Ran.{Ran}
 use Rattle.rack_runs.specs.Telling.{TellsRun}
 use Rattle.line_text.specs.Lines.{summary_text}
@@ -171,16 +172,16 @@ module _ (K : Shape) (mint : List Output) (few_coins : length mint ≤ 1000000) 
       first_shown K mint limits few_coins bytes_told bytes_left (disk_at old) (disk_at mid) (λ n inside. (let e = ready.empty n inside in (e.0, e.1, refl))) (λ n inside. (let d = told_there mid all n inside in (d.0, d.1))) holds
 
   module _ (files : List (List FullTx)) (mid new : PlainRack) (shows : Shows bytes_told (disk_at mid) K (genesis_id mint) (first_journals K mint)) where
-    pub unrun : (next : Shape → ℕ → List Compact → Type 0) (a : Answer)
+    pub unrun : (next : Shape → (ℕ → List Record) → (ℕ → List Record) → ℕ → List Compact → Type 0) (ends : Shape → (ℕ → List Record) → (ℕ → List Record) → (ℕ → Type 0) → (ℕ → ℕ → Type 0) → LaneFault → Type 0) (a : Answer)
         → (IsUnresumed bytes_told bytes_left room_of faults_of (disk_at mid) (faults_at mid.misses) (faults_at new.misses) a × ((n : ℕ) → IsBack bytes_left room_of (disk_at mid n) (disk_at new n)))
-        ⊎ (IsLaneFault bytes_told bytes_left room_of (disk_at mid) (disk_at new) (faults_at mid.misses) (faults_at new.misses) next a × OfShown bytes_told (disk_at mid) (IsCutShort bytes_left (disk_at new) files))
+        ⊎ IsLaneFault bytes_told bytes_left room_of (disk_at mid) (disk_at new) (faults_at mid.misses) (faults_at new.misses) next ends files a
         → IsUnrun K mint files new a
-    unrun next a (inl (inl unopened, back)) = inr (inl (record { old = mid; new = new; journals = first_journals K mint; kept = first_kept K mint limits few_coins; shows = shows; why = unopened_of_mint bytes_told bytes_left room_of faults_of (disk_at mid) K (genesis_id mint) (first_journals K mint) limits shows (faults_at mid.misses) (faults_at new.misses) a unopened }))
-    unrun next a (inl (inr (inl unsound), back)) =
+    unrun next ends a (inl (inl unopened, back)) = inr (inl (record { old = mid; new = new; journals = first_journals K mint; kept = first_kept K mint limits few_coins; shows = shows; why = unopened_of_mint bytes_told bytes_left room_of faults_of (disk_at mid) K (genesis_id mint) (first_journals K mint) limits shows (faults_at mid.misses) (faults_at new.misses) a unopened }))
+    unrun next ends a (inl (inr (inl unsound), back)) =
         absurd (none_unsound bytes_told bytes_left (disk_at mid) K mint [] (first_journals K mint) limits few_coins (first_kept K mint limits few_coins) room_of faults_of a shows unsound)
-    unrun next a (inl (inr (inr memory), back)) = inl memory
-    unrun next a (inr (fault, cut)) =
-        inr (inr (lane_kind fault.ledger.shape (next fault.ledger.shape) (λ n. journal n (reverse fault.ledger.rows)) fault.exit _ _ a fault.cause, cut K mint [] (first_journals K mint) limits shows (first_kept K mint limits few_coins)))
+    unrun next ends a (inl (inr (inr memory), back)) = inl memory
+    unrun next ends a (inr fault) =
+        inr (inr (lane_kind fault.ledger.shape (next fault.ledger.shape (λ n. journal n (reverse fault.ledger.rows)) fault.exit) (λ n. journal n (reverse fault.ledger.rows)) fault.exit _ _ a fault.cause, (fault.exit, fault.kept K mint [] (first_journals K mint) limits shows (first_kept K mint limits few_coins))))
 
 -- ---- a workload's run and audit
 
@@ -224,7 +225,7 @@ module _ (K : Shape) (seed n : ℕ) where
   unrun_why rack a (inr (inl is)) =
       unopened_why a (unopened_kind bytes_told bytes_left room_of faults_of (disk_at is.old) (faults_at is.old.misses) (faults_at is.new.misses) (Some (genesis_id (mint_of seed n))) a is.why)
       (record { old = is.old; new = is.new; journals = is.journals; kept = kept_more K (mint_of seed n) [] (all_of seed n) is.journals is.kept; shows = is.shows; why = is.why })
-  unrun_why rack a (inr (inr (kind, cut))) = lane_why a kind (record { exit = cut.exit; grows = cut.grown.grows; kept = cut.grown.kept })
+  unrun_why rack a (inr (inr (kind, (exit, cut)))) = lane_why a kind (record { exit = exit; grows = cut.grown.grows; kept = cut.grown.kept })
 
   module _ (small : n ≤ 10000) (limits : IsWithinLimits K) (rack : PlainRack) (all : AllIn rack) (ran : Ran) (told : TellsRunOf K (mint_of seed n) (files_of seed n) rack ran) where
     is_run : IsWorkloadRun K seed n told.exit

@@ -1,5 +1,5 @@
 -- The disks were not touched, or what is left of them.
-use Rattle.std.proofs.Common.{◌≡◌, ◌⊎◌, ⊎_elim, inr, ℕ, List, reverse, Option, None, Result, Ok, Err, refl, sym, subst}
+use Rattle.std.proofs.Common.{◌≡◌, ◌⊎◌, ⊎_elim, inl, inr, ℕ, List, reverse, Option, None, Result, Ok, Err, refl, sym, subst}
 use Rattle.std.specs.Prelude.{IfErr}
 use Rattle.outside.specs.Counts.{Rose}
 use Rattle.outside.specs.Images.{Tells}
@@ -8,6 +8,7 @@ use Rattle.cbdc_types.specs.declared.answer.Answer.{Answer}
 use Rattle.cbdc_types.specs.declared.answer.Answer.TheVariants as answers
 use Rattle.cbdc_model.specs.Records.{Shape, Compact, Record, journal}
 use Rattle.cbdc_model.specs.Coins.{Output, FullTx}
+use Rattle.lane_driver.specs.declared.fault.LaneFault.{LaneFault}
 use Rattle.command_line.specs.declared.request.FileWord.{FileWord}
 use Rattle.input_files.specs.Contents.{mint_of_file}
 use Rattle.rack_nodes.specs.Refused.{IsNodeRefusal}
@@ -18,7 +19,7 @@ use Rattle.rack_runs.specs.Kinds.{IsLaneAnswer}
 use Rattle.ledger_init.specs.Made.{IsUnmade, IsLeft}
 use Rattle.commands.specs.Outcomes.{WhyNoTurns}
 use Rattle.commands.specs.Causes.{IsWell}
-use Rattle.commands.specs.Left.{IsBeforeDisks, InitLeaves}
+use Rattle.commands.specs.Left.{IsBeforeDisks, InitLeaves, TurnsLeave}
 
 -- a node that is not opened was taken
 pub not_refused : (a : Answer) → IsNodeRefusal a → IsBeforeDisks a → ⊥
@@ -71,20 +72,29 @@ module _ {D : Type 0} (content : D → Option (List ℕ)) (images : D → List �
   pub not_unopened : (held : ℕ → Option D) (before now : ℕ → ℕ) (a : Answer) → IsUnopened content images limit count held before now a → IsBeforeDisks a → ⊥
   not_unopened held before now a is = not_refused a (unopened_kind content images limit count held before now None a is)
 
-  pub not_turned : (held new : ℕ → Option D) (before now : ℕ → ℕ) (next : Shape → ℕ → List Compact → Type 0) (handed : List (List FullTx)) (a : Answer) → WhyNoTurns content images limit count held new before now next handed a → IsBeforeDisks a → ⊥
-  not_turned held new before now next handed a is =
+  pub not_turned : (held new : ℕ → Option D) (before now : ℕ → ℕ) (next : Shape → (ℕ → List Record) → (ℕ → List Record) → ℕ → List Compact → Type 0)
+      (ends : Shape → (ℕ → List Record) → (ℕ → List Record) → (ℕ → Type 0) → (ℕ → ℕ → Type 0) → LaneFault → Type 0) (handed : List (List FullTx)) (a : Answer) → WhyNoTurns content images limit count held new before now next ends handed a → IsBeforeDisks a → ⊥
+  not_turned held new before now next ends handed a is =
       ⊎_elim
       (λ unopened. ⊎_elim (λ closed. not_unopened held before now a closed)
       (λ other. ⊎_elim (λ unsound. subst (λ b. IsBeforeDisks b → ⊥) (sym unsound.told) (λ none. none)) (λ memory. subst (λ b. IsBeforeDisks b → ⊥) (sym memory) (λ none. none)) other) unopened.0)
-      (λ lane. not_by_lane lane.0.ledger.shape (next lane.0.ledger.shape) (λ n. journal n (reverse lane.0.ledger.rows)) lane.0.exit (λ n. Rose (before n) (now n)) (λ n c. OfTold (held n) (λ d. c ≡ limit d)) a lane.0.cause) is
+      (λ lane. not_by_lane lane.ledger.shape (next lane.ledger.shape (λ n. journal n (reverse lane.ledger.rows)) lane.exit) (λ n. journal n (reverse lane.ledger.rows)) lane.exit (λ n. Rose (before n) (now n)) (λ n c. OfTold (held n) (λ d. c ≡ limit d)) a lane.cause) is
 
   -- where a run or a recovery did not come through, all was not done
-  pub not_done : (held new : ℕ → Option D) (before now : ℕ → ℕ) (next : Shape → ℕ → List Compact → Type 0) (handed : List (List FullTx)) (a : Answer) → WhyNoTurns content images limit count held new before now next handed a → IsWell a → ⊥
-  not_done held new before now next handed a is =
+  pub not_done : (held new : ℕ → Option D) (before now : ℕ → ℕ) (next : Shape → (ℕ → List Record) → (ℕ → List Record) → ℕ → List Compact → Type 0)
+      (ends : Shape → (ℕ → List Record) → (ℕ → List Record) → (ℕ → Type 0) → (ℕ → ℕ → Type 0) → LaneFault → Type 0) (handed : List (List FullTx)) (a : Answer) → WhyNoTurns content images limit count held new before now next ends handed a → IsWell a → ⊥
+  not_done held new before now next ends handed a is =
       ⊎_elim
       (λ unopened. ⊎_elim (λ closed. refused_alone a (unopened_kind content images limit count held before now None a closed))
       (λ other. ⊎_elim (λ unsound. subst (λ b. IsWell b → ⊥) (sym unsound.told) (λ none. none)) (λ memory. subst (λ b. IsWell b → ⊥) (sym memory) (λ none. none)) other) unopened.0)
-      (λ lane. lane_alone lane.0.ledger.shape (next lane.0.ledger.shape) (λ n. journal n (reverse lane.0.ledger.rows)) lane.0.exit (λ n. Rose (before n) (now n)) (λ n c. OfTold (held n) (λ d. c ≡ limit d)) a lane.0.cause) is
+      (λ lane. lane_alone lane.ledger.shape (next lane.ledger.shape (λ n. journal n (reverse lane.ledger.rows)) lane.exit) (λ n. journal n (reverse lane.ledger.rows)) lane.exit (λ n. Rose (before n) (now n)) (λ n c. OfTold (held n) (λ d. c ≡ limit d)) a lane.cause) is
+
+  -- what it leaves
+  pub turns_leave : (held new : ℕ → Option D) (before now : ℕ → ℕ) (next : Shape → (ℕ → List Record) → (ℕ → List Record) → ℕ → List Compact → Type 0)
+      (ends : Shape → (ℕ → List Record) → (ℕ → List Record) → (ℕ → Type 0) → (ℕ → ℕ → Type 0) → LaneFault → Type 0) (handed : List (List FullTx)) (a : Answer) → WhyNoTurns content images limit count held new before now next ends handed a
+      → TurnsLeave content images limit held new handed
+  turns_leave held new before now next ends handed a (inl (why, back)) = inl back
+  turns_leave held new before now next ends handed a (inr fault) = inr (fault.exit, fault.kept)
 
 -- of these answers a ledger that is not made gives one alone
 too_much_alone : {D : Type 0} (K : Shape) (mint : List Output) (content : D → Option (List ℕ)) (limit : D → ℕ) (held : ℕ → Option D) (before now : ℕ → ℕ) (P : Type 0) (a : Answer)

@@ -46,7 +46,7 @@ IsLaneKind other = ⊥
 -- files were not run: memory ran out, or the nodes could not be opened, or a lane met a fault
 abbrev pub IsUnrun : Shape → List Output → List (List FullTx) → PlainRack → Answer → Type 0
 IsUnrun K mint files rack answer =
-    (answer ≡ answers.Memory) ⊎ (IsUnopenedThere K mint [] answer ⊎ (IsLaneKind answer × IsCutShort bytes_left (disk_at rack) files K mint [] (first_journals K mint)))
+    (answer ≡ answers.Memory) ⊎ (IsUnopenedThere K mint [] answer ⊎ (IsLaneKind answer × ((exit : ℕ → List Record) × IsCutShort bytes_left room_of (disk_at rack) files exit K mint [] (first_journals K mint))))
 
 -- the numbers that end the text of a run
 abbrev pub numbers_of : Ran → Text

@@ -1,16 +1,18 @@
 -- What is left of the disks where what was asked for was not done.
-use Rattle.std.specs.Prelude.{◌≡◌, ℕ, List, Option, Ok}
+use Rattle.std.specs.Prelude.{◌≡◌, ◌⊎◌, ℕ, List, [], Option, Ok}
 use Rattle.outside.specs.Images.{Tells}
 use Rattle.line_text.specs.Lines.{Text}
 use Rattle.cbdc_types.specs.declared.answer.Answer.{Answer}
 use Rattle.cbdc_types.specs.declared.answer.Answer.TheVariants as answers
-use Rattle.cbdc_model.specs.Records.{Shape}
-use Rattle.cbdc_model.specs.Coins.{Output}
+use Rattle.cbdc_model.specs.Records.{Shape, Record}
+use Rattle.cbdc_model.specs.Coins.{Output, FullTx}
 use Rattle.command_line.specs.declared.request.FileWord.{FileWord}
 use Rattle.command_line.specs.declared.request.Request.{Request}
-use Rattle.command_line.specs.declared.request.Request.TheVariants.{Init, Status, Audit}
-use Rattle.input_files.specs.Contents.{mint_of_file}
+use Rattle.command_line.specs.declared.request.Request.TheVariants.{Init, Run, Recover, Status, Audit, Gen, Show}
+use Rattle.input_files.specs.Contents.{mint_of_file, AreRead}
 use Rattle.rack_nodes.specs.Racked.{IsBack}
+use Rattle.rack_laws.specs.Shown.{OfShown}
+use Rattle.rack_runs.specs.Runs.{IsCutShort}
 use Rattle.ledger_init.specs.Made.{IsLeft}
 
 -- the answers that come before any disk is taken: bad words, a file that is not read, and a mint of too much
@@ -26,10 +28,27 @@ abbrev pub InitLeaves : {D : Type 0} → (Text → Option (List ℕ)) → (D →
 InitLeaves files content images limit before now shape file answer =
     (mint : List Output) × Tells (files file.name.now) (λ c. mint_of_file c ≡ Ok mint) × IsLeft shape mint content images limit before now answer
 
--- what is left by what was asked for: behind `status` and `audit` all disks are as they were read, whatever was answered; of the others it is told of
--- `init` alone
+-- transactions over a ledger that did not come through: all disks are as they were read; or journals have grown at their ends, and where the ledger was
+-- kept, they are kept, each by its disk, with one record more or without and with room for the batches that are open, and whatever a crash leaves
+abbrev pub TurnsLeave : {D : Type 0} → (D → Option (List ℕ)) → (D → List ℕ → Type 0) → (D → ℕ) → (ℕ → Option D) → (ℕ → Option D) → List (List FullTx) → Type 0
+TurnsLeave content images limit before now handed =
+    ((n : ℕ) → IsBack images limit (before n) (now n)) ⊎ ((exit : ℕ → List Record) × OfShown content before (IsCutShort images limit now handed exit))
+
+-- the same of those that the files hold
+abbrev pub RunLeaves : {D : Type 0} → (Text → Option (List ℕ)) → (D → Option (List ℕ)) → (D → List ℕ → Type 0) → (D → ℕ) → (ℕ → Option D) → (ℕ → Option D) → List FileWord → Type 0
+RunLeaves files content images limit before now clients = (handed : List (List FullTx)) × AreRead files 0 clients handed × TurnsLeave content images limit before now handed
+
+-- what is left by what was asked for: behind `status` and `audit` all disks are as they were read, whatever was answered
 abbrev pub Leaves : {D : Type 0} → (Text → Option (List ℕ)) → (D → Option (List ℕ)) → (D → List ℕ → Type 0) → (D → ℕ) → (ℕ → Option D) → (ℕ → Option D) → Request → Answer → Type 0
 Leaves files content images limit before now (Init shape mint) answer = InitLeaves files content images limit before now shape mint answer
+Leaves files content images limit before now (Run verdicts clients) answer = RunLeaves files content images limit before now clients.items
+Leaves files content images limit before now Recover answer = TurnsLeave content images limit before now []
 Leaves files content images limit before now (Status hashes) answer = (n : ℕ) → IsBack images limit (before n) (now n)
 Leaves files content images limit before now (Audit mint clients) answer = (n : ℕ) → IsBack images limit (before n) (now n)
 Leaves files content images limit before now other answer = Unit {0}
+
+-- what is asked is about no rack: a workload in memory, or a text that is shown
+abbrev pub IsOfNoRack : Request → Type 0
+IsOfNoRack (Gen shape seed size) = Unit {0}
+IsOfNoRack (Show text) = Unit {0}
+IsOfNoRack other = ⊥

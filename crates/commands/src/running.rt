@@ -5,7 +5,7 @@ ghost use Rattle.commands.specs.Causes.{IsFault, IsDone, IsTold, IsWell, OnePlac
 ghost use Rattle.commands.specs.Outcomes.{DidRun, WhyNoRun};
 ghost use Rattle.commands.specs.Texts.{IsPrinted, IsSilent};
 ghost use Rattle.commands.specs.Told.{WasRun};
-ghost use Rattle.commands.specs.Left.{IsBeforeDisks};
+ghost use Rattle.commands.specs.Left.{IsBeforeDisks, RunLeaves};
 
 use crate::report::write_report;
 use cbdc_types::Answer;
@@ -31,6 +31,7 @@ fn run_all<W: Wait, I: Inbox, R: Rack, G: Gate>(
     ensures why { IfErr result (WhyNoRun (I.file inbox.old) (I.count inbox.old) (I.count inbox.new) R.Disk.content R.Disk.images R.Disk.limit R.Disk.count (R.held rack.old) (R.held rack.new) (R.count rack.old) (R.count rack.new) verdicts.now clients.now) }
     ensures fault { IfErr result (IsFault (λ place. OnePlace clients.now place ⊎ (place ≡ verdicts.now.place)) (λ place. OneRose (I.count inbox.old) (I.count inbox.new) clients.now place ⊎ FileRose (I.count inbox.old) (I.count inbox.new) verdicts.now place)) }
     ensures untouched { IfErr result (λ e. IsBeforeDisks e → rack.new ≡ rack.old) }
+    ensures left { IfErr result (λ _. (rack.new ≡ rack.old) ⊎ RunLeaves (I.file inbox.old) R.Disk.content R.Disk.images R.Disk.limit (R.held rack.old) (R.held rack.new) clients.now) }
     ensures back { (n : ℕ) → R.can_take rack.new n }
 {
     let files = match all_clients_in(alloc, inbox, clients) {
@@ -64,6 +65,7 @@ pub(crate) fn run<W: Wait, I: Inbox, R: Rack, O: Sink, G: Gate>(
     ensures silent { IsSilent (O.taken out.old) (O.taken out.new) result }
     ensures written_later { O.count out.old ≤ O.count out.new }
     ensures untouched { IsBeforeDisks result → rack.new ≡ rack.old }
+    ensures left { (IsWell result → ⊥) → (rack.new ≡ rack.old) ⊎ RunLeaves (I.file inbox.old) R.Disk.content R.Disk.images R.Disk.limit (R.held rack.old) (R.held rack.new) clients.now }
     ensures back { (n : ℕ) → R.can_take rack.new n }
 {
     let ran = match run_all(rt, alloc, clients, verdicts, inbox, rack, gate) {

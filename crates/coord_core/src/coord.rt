@@ -10,7 +10,8 @@ ghost use Rattle.coord_core.specs.Hashes.{AreHashed, AllNameBatches};
 ghost use Rattle.coord_core.specs.Decided.{combined, latest, RisesBelow, AllEarlier, AreRepliesTo};
 ghost use Rattle.coord_core.specs.Masks.{masks_of};
 ghost use Rattle.coord_core.specs.Stands.{StandsFor};
-ghost use Rattle.coord_core.specs.Lanes.{IsOwn, lane_at, with_lane, open_batch, next_batch, IsNext, HasRoom, IsSameButRoom, HasGrown, KeepsOthers, ahead_of, turned, begun, Takes, IsFresh, IsIdle, IsLaterAt, IsAdmitted, kept_of, IsPrepareAt, IsCommitAt};
+ghost use Rattle.cbdc_model.specs.Ranges.{home_of};
+ghost use Rattle.coord_core.specs.Lanes.{IsOwn, no_lane, lane_at, with_lane, open_batch, next_batch, IsNext, HasRoom, IsSameButRoom, HasGrown, KeepsOthers, ahead_of, turned, begun, Takes, IsFresh, IsIdle, IsLaterAt, IsAdmitted, kept_of, IsPrepareAt, IsCommitAt};
 
 use crate::combine::latest_stamp;
 use crate::copying::copied_txs;
@@ -75,16 +76,23 @@ impl CoordCore {
 
     /// The header of the coordinator.
     pub fn header(&self) -> &Header
-        ensures { result.now ≡ self.now.header }
+        ensures value { result.now ≡ self.now.header }
+        ensures whole { IsWhole self.now }
     {
+        let _ = &self.lanes;
         &self.header
     }
 
-    /// Where a lane of this coordinator stands.
+    /// Where a lane stands. One of another coordinator has no batch here.
     pub fn phase(&self, lane: LaneId) -> LanePhase
-        requires { IsOwn self.now.header lane }
-        ensures { slot_of result ≡ (lane_at self.now lane).slot }
+        ensures own { IsOwn self.now.header lane → slot_of result ≡ (lane_at self.now lane).slot }
+        ensures other { home_of self.now.header.shape lane ≢ self.now.header.node → slot_of result ≡ no_lane.slot }
+        ensures whole { IsWhole self.now }
     {
+        let _ = &self.lanes;
+        if !self.owns(lane) {
+            return LanePhase::Idle(0);
+        }
         self.lanes[self.place(lane)].phase()
     }
 

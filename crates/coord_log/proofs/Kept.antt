@@ -1,5 +1,5 @@
 -- What lanes keep free is what their journal says.
-use Rattle.std.proofs.Common.{◌≡◌, ℕ, zero, suc, ◌+◌, ◌-◌, ◌*◌, ◌/◌, ◌%◌, ◌<◌, ◌≤◌, List, length, take, get_or, refl, ap, sym, ◌∙◌, arith, inl, inr, mod-lt}
+use Rattle.std.proofs.Common.{◌≡◌, ℕ, zero, suc, ◌+◌, ◌-◌, ◌*◌, ◌/◌, ◌%◌, ◌<◌, ◌≤◌, List, length, take, get_or, reverse, Option, refl, ap, sym, ◌∙◌, subst, arith, inl, inr, mod-lt}
 use Rattle.std.specs.List.{sum_by}
 use Rattle.std.proofs.Math.Nat.{mul-le-mul_right, suc-mul}
 use Rattle.std.proofs.lemmas.Nat.{div-mul-add, mod-mul-add, div-add-mod'}
@@ -13,6 +13,11 @@ use Rattle.cbdc_model.specs.After.{IsJournal}
 use Rattle.coord_core.specs.Masks.{mask_of}
 use Rattle.coord_core.specs.Lanes.{CoordOf, IsOwn, IsWhole, no_lane, lane_at, lane_kept, kept_of}
 use Rattle.coord_core.specs.Stands.{StandsFor}
+use Rattle.outside.specs.declared.disk.Disk.{Ghosts}
+use Rattle.gate_journal.specs.Shown.{disk_of}
+use Rattle.cbdc_model.specs.Due.{used_of}
+use Rattle.record_log.specs.declared.log.RecordLog.{RecordLog}
+use Rattle.coord_log.specs.Inside.{IsSound}
 use Rattle.coord_log.proofs.Journals.{IsCoordPhase, SlotFacts, slot_facts}
 
 coord_room : (p : Phase) (m n k : ℕ) → IsCoordPhase p → (p ≡ InPrepare → n ≡ k) → room_in p m n ≡ room_in p 0 k
@@ -96,3 +101,12 @@ kept_is c J whole stands j =
     let all : (p * L + L) + k ≡ C * L = omega arith in
     let start : 0 + p * L ≡ p * L = omega arith in
     sym (sym (ap (kept_below J) all) ∙ above ∙ own ∙ ap (λ x. x + sum_by lane_kept (take L c.lanes)) (sym (ap (kept_below J) start) ∙ below) ∙ ap (λ x. 0 + sum_by lane_kept x) whole_list ∙ omega arith)
+
+-- what the journal takes, with what is kept for the open batches, lies within the capacity
+pub has_room : {D : Type 0} {G : Ghosts D} (l : RecordLog D G) (c : CoordOf) (opened : ℕ) (flight : Option Record) → IsSound l c opened flight → IsWhole c
+    → used_of (reverse l.records.items) + kept_room l.header.shape (reverse l.records.items) ≤ G.limit (disk_of l.journal)
+has_room {D} {G} l c opened flight is whole =
+    let J : List Record = reverse l.records.items in
+    let j : IsJournal c.header J = let P : Header → Type 0 = λ h. IsJournal h J in subst P (sym is.on.header) is.on.journal in
+    let kept : kept_of c.lanes ≡ kept_room l.header.shape J = kept_is c J whole is.on.stands j ∙ ap (λ h. kept_room h.shape J) is.on.header in
+    omega (arith, is.free, kept)

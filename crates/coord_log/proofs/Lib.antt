@@ -9,3 +9,4 @@ pub mod Preparing
 pub mod Opened
 pub mod Stops
 pub mod Leaving
+pub mod Foreign

@@ -88,6 +88,8 @@ opened_sound {D} {G} old l c may ends untouched records header whole is space me
           memory = record { records = omega (arith, memory.records); body = memory.body; row = memory.row };
         };
       };
+      flying = tt;
+      free = omega (arith, ends, sums, limit, space);
     }
 
 -- an untouched disk holds what it held

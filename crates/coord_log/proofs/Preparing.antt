@@ -58,6 +58,8 @@ sound_kept {D} {G} old new b c opened flight untouched records header keeps same
           memory = let P : ℕ → Type 0 = λ n. HasRoom new (0 + n) largest in subst P (sym same.ahead) (keeps (0 + ahead_of b.lanes) largest ready.place.memory);
         };
       });
+      flying = rw (header, records) sound.flying;
+      free = omega (arith, sound.free, used, same.kept, limit);
     }
 
 pub shown_same : {D : Type 0} {G : Ghosts D} (old new : RecordLog D G) (opened : ℕ) (flight : Option Record) → IsUntouched old new → new.records.items ≡ old.records.items → new.header ≡ old.header → shown new opened flight ≡ shown old opened flight
@@ -139,6 +141,7 @@ prepare_ready {D} {G} old l b c flight lane size txs r whole same grown on sound
       next = next';
       grammar = prepare_grammar l.header c lane txs whole on'.header own' (omega (arith, early, same.last)) some batch_le short hashed;
       size = room';
+      free = omega (arith, untouched.gate, limits, space);
       fits = omega (arith, untouched.gate, limits, space, s);
       place = λ d takes. prepare_place l c d (c.last + 1) (next_batch c lane) txs whole next' takes (rooms_grow b c same grown ready.place.rooms) memory (omega (arith, untouched.gate, limits, space, s));
     })

@@ -1,6 +1,6 @@
 -- What a write leaves of a coordinator's parts.
 use Rattle.std.proofs.Common.{◌≡◌, ℕ, ◌+◌, ◌-◌, ◌≤◌, List, [], ◌∷◌, ◌++◌, length, reverse, refl, ap, sym, ◌∙◌, subst, arith, Some, None, Option, Result, Err}
-use Rattle.std.specs.Prelude.{MatchOption, IsOkUnless, sum_by}
+use Rattle.std.specs.Prelude.{MatchOption, IfSome, IsOkUnless, sum_by}
 use Rattle.std.proofs.lemmas.Bool.{le-ltb}
 use Rattle.std.proofs.lemmas.List.{reverse-append, reverse-reverse}
 use Rattle.std.proofs.lemmas.List.Sums.{sum_by-cons}
@@ -92,15 +92,20 @@ sound_after {D} {G} old new c d flight r opened due since later records header g
           memory = let P : ℕ → Type 0 = λ n. HasRoom new n largest in subst P (omega arith) memory;
         };
       };
+      flying = let P : Option Record → Type 0 = λ f. IfSome f (After new.header (reverse new.records.items)) in subst P (sym due.none_left) tt;
+      free = omega (arith, u, gate, size, place.space, limit);
     }
 
 -- the disk failed at it
-pub sound_broken : {D : Type 0} {G : Ghosts D} (old new : RecordLog D G) (c : CoordOf) (flight left : Option Record) (r : Record) (opened : ℕ)
+pub sound_broken : {D : Type 0} {G : Ghosts D} (old new : RecordLog D G) (c : CoordOf) (flight : Option Record) (r : Record) (opened : ℕ)
     → IsDue old c flight r → opened ≤ G.count (disk_of old.journal) → Rose (G.count (disk_of old.journal)) (G.count (disk_of new.journal)) → G.count (disk_of old.journal) ≤ G.count (disk_of new.journal)
-    → new.records.items ≡ old.records.items → new.header ≡ old.header → broken_of new.journal ≡ Some (G.count (disk_of new.journal)) → IsSound new c opened left
-sound_broken {D} {G} old new c flight left r opened due since rose later records header broken =
+    → new.records.items ≡ old.records.items → new.header ≡ old.header → broken_of new.journal ≡ Some (G.count (disk_of new.journal))
+    → G.limit (disk_of new.journal) ≡ G.limit (disk_of old.journal) → IsSound new c opened (Some r)
+sound_broken {D} {G} old new c flight r opened due since rose later records header broken limit =
     let risen : HasRisen opened (G.count (disk_of new.journal)) = omega arith in
     let B : Option ℕ → Type 0 = λ b. IsBrokenSince opened (G.count (disk_of new.journal)) b in
+    let F : Header → Type 0 = λ h. Follows h (reverse old.records.items) r in
+    let after : After old.header (reverse old.records.items) r = (due.grammar, subst F due.on.header (follows_next c (reverse old.records.items) r due.on.stands due.next)) in
     record {
       on = record {
         header = due.on.header ∙ sym header;
@@ -111,6 +116,8 @@ sound_broken {D} {G} old new c flight left r opened due since rose later records
       since_opened = omega arith;
       broken = subst B (sym broken) (risen, omega arith);
       ready = λ e. cc;
+      flying = let P : Header → List Record → Type 0 = λ h x. After h x r in rw (header, records) after;
+      free = omega (arith, ap (λ x. used_of (reverse x)) records, due.used, due.free, limit);
     }
 
 -- a disk that holds the records, and nothing in flight

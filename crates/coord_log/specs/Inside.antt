@@ -1,5 +1,5 @@
 -- What holds of a coordinator's parts.
-use Rattle.std.specs.Prelude.{◌≡◌, ℕ, ◌+◌, ◌≤◌, ◌<◌, reverse, Option, None}
+use Rattle.std.specs.Prelude.{◌≡◌, ℕ, ◌+◌, ◌≤◌, ◌<◌, reverse, Option, None, IfSome}
 use Rattle.outside.specs.declared.disk.Disk.{Ghosts}
 use Rattle.gate_journal.specs.Shown.{disk_of, gate_of, broken_of}
 use Rattle.cbdc_types.specs.declared.calls.NodeFault.{NodeFault}
@@ -7,7 +7,7 @@ use Rattle.cbdc_types.specs.declared.calls.NodeFault.TheVariants.{Full, Memory}
 use Rattle.cbdc_types.specs.Limits.{IsWithinLimits}
 use Rattle.cbdc_model.specs.Records.{Record}
 use Rattle.cbdc_model.specs.Grammar.{IsInGrammar}
-use Rattle.cbdc_model.specs.After.{IsJournal}
+use Rattle.cbdc_model.specs.After.{After, IsJournal}
 use Rattle.cbdc_model.specs.Due.{used_of}
 use Rattle.cbdc_model.specs.Room.{size_of}
 use Rattle.cbdc_model.specs.Sights.{IsBrokenSince}
@@ -59,6 +59,8 @@ pub record IsSound {D : Type 0} {G : Ghosts D} (l : RecordLog D G) (c : CoordOf)
   pub since_opened : opened ≤ G.count (disk_of l.journal)
   pub broken : IsBrokenSince opened (G.count (disk_of l.journal)) (broken_of l.journal)
   pub ready : broken_of l.journal ≡ None → IsReady l c flight
+  pub flying : IfSome flight (After l.header (reverse l.records.items))
+  pub free : used_of (reverse l.records.items) + kept_of c.lanes ≤ G.limit (disk_of l.journal)
 
 -- the record is next, in the grammar, and has its place
 pub record IsDue {D : Type 0} {G : Ghosts D} (l : RecordLog D G) (c : CoordOf) (flight : Option Record) (r : Record) : Type 0 where
@@ -69,6 +71,7 @@ pub record IsDue {D : Type 0} {G : Ghosts D} (l : RecordLog D G) (c : CoordOf) (
   pub next : IsNext c r
   pub grammar : IsInGrammar l.header r
   pub size : HasRoom l 1 (size_of r)
+  pub free : gate_of l.journal + 1 + kept_of c.lanes ≤ G.limit (disk_of l.journal)
   pub fits : gate_of l.journal + 1 + size_of r ≤ G.limit (disk_of l.journal)
   pub place : (d : CoordOf) → Takes c d r → HasPlace l d (size_of r) 1
 

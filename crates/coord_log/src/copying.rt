@@ -131,12 +131,12 @@ pub(crate) fn outcomes_of(
     Ok(List::new(alloc))
 }
 
-/// Puts the outcomes of a Commit into an empty vector that has room for them.
+/// Puts the outcomes of a Commit in place of what a vector holds that has room for them.
 pub(crate) fn tell(commit: &Record, out: &mut Vec<Outcome>)
-    requires empty { out.old.items ≡ [] }
     requires room { length (outcomes_in (Some commit.now)) ≤ vec_capacity out.old }
     ensures { out.new.items ≡ outcomes_in (Some commit.now) }
 {
+    out.clear();
     if let Record::Commit { outcomes, .. } = commit {
         out.extend_from_slice(outcomes.as_slice()).unwrap();
     }

@@ -1,11 +1,12 @@
 // The calls at a coordinator.
-ghost use Rattle.std.specs.Prelude.{◌≡◌, ◌≢◌, ◌+◌, ◌≤◌, ◌<◌, ◌^◌, ◌∷◌, [], List, ℕ, Option, None, Some, true, false, suc, max, length, reverse, vec_capacity, All, OnOk, OnErr, IfOk, IfErr, IsErrOf};
+ghost use Rattle.std.specs.Prelude.{◌≡◌, ◌≢◌, ◌+◌, ◌≤◌, ◌<◌, ◌^◌, ◌∷◌, [], List, ℕ, Option, None, Some, true, false, suc, max, length, reverse, vec_capacity, All, OnOk, OnErr, IfOk, IfErr, IfSome, IsErrOf};
 ghost use Rattle.outside.specs.Counts.{Rose};
 ghost use Rattle.gate_journal.specs.Shown.{disk_of, broken_of};
 ghost use Rattle.cbdc_model.specs.Records.{Record, Prepare, Commit, Discard, Done, last_stamp, txs_of};
-ghost use Rattle.cbdc_model.specs.After.{IsJournal};
+ghost use Rattle.cbdc_model.specs.After.{After, IsJournal};
 ghost use Rattle.cbdc_model.specs.Slots.{slot, Idle, InPrepare, InCommit, InDiscard};
-ghost use Rattle.cbdc_model.specs.Due.{open_batch, prepare_due, decide_due, discard_due, done_due};
+ghost use Rattle.cbdc_model.specs.Room.{kept_room};
+ghost use Rattle.cbdc_model.specs.Due.{used_of, open_batch, prepare_due, decide_due, discard_due, done_due};
 ghost use Rattle.cbdc_model.specs.Sights.{Meets, MeetsFault, IsSameNode, IsBrokenSince};
 ghost use Rattle.coord_core.specs.Phases.{slot_of};
 ghost use Rattle.coord_core.specs.Hashes.{AllNameBatches};
@@ -66,7 +67,14 @@ impl<D: Disk> CoordLog<D> {
         ensures since_broken { IsBrokenSince self.now.opened self.now.faults self.now.broken }
         ensures count { self.now.faults ≡ D.count self.now.disk }
         ensures capacity { self.now.capacity ≡ D.limit self.now.disk }
+
+        // A record is in flight only where an append has failed since.
+        ensures landed { self.now.broken ≡ None → self.now.flight ≡ None }
+
+        // What its journal takes, with what is kept for its open batches, lies within the capacity.
+        ensures room { used_of self.now.journal + kept_room self.now.header.shape self.now.journal ≤ self.now.capacity }
     {
+        let _core = self.core.header();
         &self.log.header
     }
 
@@ -74,6 +82,9 @@ impl<D: Disk> CoordLog<D> {
     pub fn records(&self) -> &[Record]
         ensures records { reverse result.now ≡ self.now.journal }
         ensures journal { IsJournal self.now.header self.now.journal }
+
+        // A record in flight may come next.
+        ensures flying { IfSome self.now.flight (After self.now.header self.now.journal) }
     {
         self.log.records.as_slice()
     }
@@ -92,9 +103,8 @@ impl<D: Disk> CoordLog<D> {
         log.into_disk()
     }
 
-    /// Where a lane of this coordinator stands. Takes no memory.
+    /// Where a lane stands. One of another coordinator has no batch here. Takes no memory.
     pub fn phase(&self, lane: LaneId) -> LanePhase
-        requires { IsOwn self.now.header lane }
         ensures { slot_of result ≡ slot self.now.journal lane }
     {
         self.core.phase(lane)
@@ -151,7 +161,7 @@ impl<D: Disk> CoordLog<D> {
     }
 
     /// Decides a lane's prepared batch by the replies of each shard that it concerns, as many as its part has
-    /// entries, and puts the outcomes into an empty vector that has room for them. Takes no memory.
+    /// entries, and puts the outcomes in place of what a vector holds that has room for them. Takes no memory.
     pub fn decide(
         &mut self,
         lane: LaneId,
@@ -163,7 +173,6 @@ impl<D: Disk> CoordLog<D> {
         requires rising { RisesBelow 0 self.old.header.shape.shards replies.now }
         requires earlier { AllEarlier (2 ^ 63) replies.now }
         requires named { AllNameBatches self.old.header.shape replies.now }
-        requires empty { out.old.items ≡ [] }
         requires room { length (txs_of self.old.journal (open_batch self.old.journal lane)) ≤ vec_capacity out.old }
 
         // It does what the journal and the replies say, if each shard replied to its part.
@@ -172,6 +181,7 @@ impl<D: Disk> CoordLog<D> {
         // Whatever they replied, a fault is its disk's, or has its cause in the stamp that follows theirs.
         ensures fault { IfErr result (λ f. (r : Record) × MeetsFault false (commit_due self.old.header.shape replies.now r self.old.broken self.old.journal) (sight self.old) (sight self.new) self.old.journal f) }
         ensures as_before { OnErr result (self.new.journal ≡ self.old.journal) }
+        ensures whole { OnOk result (self.old.broken ≡ None) }
         ensures appended { IfOk result (λ t. self.new.journal ≡ Commit t (open_batch self.old.journal lane) out.new.items ∷ self.old.journal) }
         ensures bound { IfOk result (λ t. t ≤ 2 ^ 62 + 2 ^ 20) }
         ensures count { OnOk result (length out.new.items ≡ length (txs_of self.old.journal (open_batch self.old.journal lane))) }
@@ -266,12 +276,11 @@ impl<D: Disk> CoordLog<D> {
         Ok(stamp)
     }
 
-    /// A copy of a lane's open batch, as its records hold it. None where the lane is idle.
+    /// A copy of a lane's open batch, as its records hold it. None where the lane is idle, or another coordinator's.
     pub fn open_lane(&self, lane: LaneId) -> Result<Option<OpenLane>, AllocError>
-        requires { IsOwn self.now.header lane }
         ensures { IfOk result (λ o. o ≡ open_lane self.now.journal lane) }
     {
-        let (number, phase) = match self.core.phase(lane) {
+        let (number, phase) = match self.phase(lane) {
             LanePhase::Idle(_) => return Ok(None),
             LanePhase::Prepared(n) => (n, Phase::Prepared),
             LanePhase::Committed(n) => (n, Phase::Committed),

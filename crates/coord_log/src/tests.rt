@@ -193,7 +193,7 @@ fn decided(
     let Ok(Some(open)) = log.open_lane(LANE) else {
         return Err(NodeFault::Memory);
     };
-    let fits = 1 <= shape.shards() && out.is_empty() && open.txs.len() <= out.capacity();
+    let fits = 1 <= shape.shards() && open.txs.len() <= out.capacity();
     if fits && are_held(replies.as_slice()) {
         log.decide(LANE, replies, out)
     } else {
@@ -228,16 +228,15 @@ fn done(log: &mut CoordLog<PlainDisk>, cause: Stamp) -> Result<Stamp, NodeFault>
 }
 
 // The phase and the stamp of the lane's open batch, and how many transactions and outcomes it has.
-fn stands_at(log: &CoordLog<PlainDisk>) -> Option<(Phase, Stamp, usize, usize)> {
-    let shape = log.header().shape;
-    let node = log.header().node;
-    if LANE.0 / shape.lanes() != node.0 {
-        return None;
-    }
-    match log.open_lane(LANE) {
-        Ok(Some(open)) => Some((open.phase, open.stamp, open.txs.len(), open.outcomes.len())),
-        _ => None,
-    }
+fn stands_at(
+    log: &CoordLog<PlainDisk>,
+    lane: LaneId,
+) -> Result<Option<(Phase, Stamp, usize, usize)>, Fail> {
+    let Some(open) = log.open_lane(lane)? else {
+        return Ok(None);
+    };
+    let stands = (open.phase, open.stamp, open.txs.len(), open.outcomes.len());
+    Ok(Some(stands))
 }
 
 #[test]
@@ -245,16 +244,22 @@ fn a_batch_goes_from_prepare_to_done(rt: HostRuntime) -> Result<(), Fail> {
     let txs = one_tx(&rt, &[Hash([2; 32]), Hash([3; 32])])?;
     let mut log = started(&rt, 1000)?;
     assert_eq!(rt; prepared(&mut log, txs.as_slice()), Ok((BATCH, Stamp(1))));
-    assert_eq!(rt; stands_at(&log), Some((Phase::Prepared, Stamp(1), 1, 0)));
+    let opened = Some((Phase::Prepared, Stamp(1), 1, 0));
+    assert_eq!(rt; stands_at(&log, LANE)?, opened);
+    assert_eq!(rt; log.phase(LaneId(1)), LanePhase::Idle(0));
+    assert_eq!(rt; stands_at(&log, LaneId(1))?, None);
     let mut out = Vec::with_capacity(rt.alloc(), 1)?;
+    out.push(Outcome::Missing(0, Hash([7; 32])))?;
     let replies = held(&rt, Stamp(2))?;
     assert_eq!(rt; decided(&mut log, &replies, &mut out), Ok(Stamp(3)));
     assert_eq!(rt; out.as_slice(), [Outcome::Held].as_slice());
-    assert_eq!(rt; stands_at(&log), Some((Phase::Committed, Stamp(3), 1, 1)));
+    let opened = Some((Phase::Committed, Stamp(3), 1, 1));
+    assert_eq!(rt; stands_at(&log, LANE)?, opened);
     assert_eq!(rt; discarded(&mut log, Stamp(4)), Ok(Stamp(5)));
-    assert_eq!(rt; stands_at(&log), Some((Phase::Discarded, Stamp(5), 1, 1)));
+    let opened = Some((Phase::Discarded, Stamp(5), 1, 1));
+    assert_eq!(rt; stands_at(&log, LANE)?, opened);
     assert_eq!(rt; done(&mut log, Stamp(6)), Ok(Stamp(7)));
-    assert_eq!(rt; stands_at(&log), None);
+    assert_eq!(rt; stands_at(&log, LANE)?, None);
     assert_eq!(rt; log.records().len(), 5);
     let disk = log.into_disk();
     assert_eq!(rt; disk.bytes().len(), 396);

@@ -1,8 +1,7 @@
 -- The cause of a fault that ends a file's wave, or the files.
-use Rattle.std.proofs.Common.{◌≡◌, ℕ, ◌*◌, ◌<◌, List, length, get_or, sym, subst, arith, Some}
-use Rattle.std.specs.Prelude.{Contains}
+use Rattle.std.proofs.Common.{◌≡◌, ℕ, ◌*◌, ◌<◌, List, length, take, get_or, subst, arith, Some}
+use Rattle.std.specs.Prelude.{slice_get}
 use Rattle.std.specs.Global.{Vec}
-use Rattle.std.proofs.lemmas.List.Elements.{Contains-get_or}
 use Rattle.std.proofs.lemmas.Option.{slice_get_within}
 use Rattle.cbdc_types.specs.declared.tx.CompactTx.{CompactTx}
 use Rattle.cbdc_model.specs.Records.{Shape, Compact, Record}
@@ -13,28 +12,43 @@ use Rattle.ledger_laws.proofs.Cuts.{end_self}
 use Rattle.submissions.specs.Checks.{VerdictsOf, AreSent}
 use Rattle.lane_driver.specs.declared.fault.LaneFault.{LaneFault}
 use Rattle.ledger_runs.specs.Waving.{HaveSent, FirstFaultIs}
-use Rattle.ledger_runs.specs.Faults.{IsRunCause, IsPiece, HaveCauses}
+use Rattle.ledger_runs.specs.Pieces.{HasPreparedAll, IsNextPiece, HavePreparedAll}
+use Rattle.ledger_runs.specs.Faults.{IsRunCause, HaveCauses}
 use Rattle.ledger_runs.specs.declared.lanes.Lane.{Lane}
+use Rattle.ledger_runs.proofs.WaveKeeping.{at_place}
 use Rattle.ledger_runs.proofs.Faulting.{cause_since, cause_any, run_moves}
-use Rattle.file_runs.specs.Runs.{AreLanesOf, IsSentPiece, IsFilesPiece}
+use Rattle.file_runs.specs.Runs.{AreLanesOf, HavePreparedFile, HavePreparedFiles, IsSentPiece, IsFilesPiece}
+use Rattle.file_runs.proofs.Pieces.{files_piece}
+
+-- the next piece of what a lane got is that of what the file sends it
+pub sent_piece : (K : Shape) (verdicts : VerdictsOf) (file : List FullTx) (lists : List (Vec CompactTx)) (lanes after : List Lane) (I J : ℕ → List Record)
+    → AreSent K verdicts file lists → AreLanesOf lists lanes → ((sent : ℕ → List Compact) → HaveSent sent lanes → HaveSent sent after)
+    → (lane : ℕ) (x : Lane) → slice_get after lane ≡ Some x → (txs : List Compact) → IsNextPiece K lane x.txs.items I J txs → IsSentPiece K verdicts file I J lane txs
+sent_piece K verdicts file lists lanes after I J are_sent are keeps lane x there txs piece sound tells =
+    subst (λ all. IsNextPiece K lane all I J txs) (keeps (sent_to K sound file) (λ l y t. are_sent sound tells l y.txs (are.each l y t)) lane x there) piece
 
 -- the least lane with a fault has its cause
 pub file_cause : (K : Shape) (verdicts : VerdictsOf) (file : List FullTx) (lists : List (Vec CompactTx)) (lanes after : List Lane) (I J : ℕ → List Record) (failed : ℕ → Type 0) (holds : ℕ → ℕ → Type 0)
     → length after ≡ K.coordinators * K.lanes → AreSent K verdicts file lists → AreLanesOf lists lanes → ((sent : ℕ → List Compact) → HaveSent sent lanes → HaveSent sent after)
-    → HaveCauses K I J failed holds after → (e : LaneFault) → FirstFaultIs after (Some e) → IsRunCause K (IsSentPiece K verdicts file) I J failed holds e
+    → HaveCauses K I J failed holds after → (e : LaneFault) → FirstFaultIs after (Some e) → IsRunCause K (IsSentPiece K verdicts file I J) I J failed holds e
 file_cause K verdicts file lists lanes after I J failed holds count are_sent are keeps causes e (lane, x, there, is, least) =
-    cause_any K lane (IsSentPiece K verdicts file) I J failed holds (omega (arith, slice_get_within after lane x there, count)) e
-    (cause_since K lane (IsPiece K x.txs.items) (IsSentPiece K verdicts file lane) I I J failed holds (λ n. end_self (I n)) sent_piece e (causes lane x there e is))
-  where
-    sent_piece : (txs : List Compact) → IsPiece K x.txs.items txs → IsSentPiece K verdicts file lane txs
-    sent_piece txs piece sound tells =
-        subst (λ all. IsPiece K all txs) (keeps (sent_to K sound file) (λ l y t. are_sent sound tells l y.txs (are.each l y t)) lane x there) piece
+    cause_any K lane (IsSentPiece K verdicts file I J) I J failed holds (omega (arith, slice_get_within after lane x there, count)) e
+    (cause_since K lane (IsNextPiece K lane x.txs.items I J) (IsSentPiece K verdicts file I J lane) I I J failed holds (λ n. end_self (I n))
+    (sent_piece K verdicts file lists lanes after I J are_sent are keeps lane x there) e (causes lane x there e is))
+
+-- without a fault each lane has prepared what the file sends it
+pub file_done : (K : Shape) (verdicts : VerdictsOf) (file : List FullTx) (lists : List (Vec CompactTx)) (lanes after : List Lane) (I J : ℕ → List Record)
+    → length after ≡ K.coordinators * K.lanes → AreSent K verdicts file lists → AreLanesOf lists lanes → ((sent : ℕ → List Compact) → HaveSent sent lanes → HaveSent sent after)
+    → HavePreparedAll K I J after → HavePreparedFile K verdicts file I J
+file_done K verdicts file lists lanes after I J count are_sent are keeps have lane inside sound tells =
+    let x : (x : Lane) × (slice_get after lane ≡ Some x) = at_place after lane (omega (arith, inside, count)) in
+    subst (λ all. HasPreparedAll K lane all I J) (keeps (sent_to K sound file) (λ l y t. are_sent sound tells l y.txs (are.each l y t)) lane x.0 x.1) (have lane x.0 x.1)
 
 -- a fault of one of the files
 pub files_cause : (K H : Shape) (verdicts : VerdictsOf) (files : List (List FullTx)) (i : ℕ) (file : List FullTx) (E J L : ℕ → List Record) (failed : ℕ → Type 0) (holds : ℕ → ℕ → Type 0)
-    → H ≡ K → i < length files → file ≡ get_or files i file → ((n : ℕ) → IsEnd (E n) (J n)) → (e : LaneFault) → IsRunCause H (IsSentPiece H verdicts file) J L failed holds e
-    → IsRunCause K (IsFilesPiece K verdicts files) E L failed holds e
-files_cause K H verdicts files i file E J L failed holds same low is since e cause =
-    run_moves K (IsSentPiece K verdicts file) (IsFilesPiece K verdicts files) J E L failed failed holds holds since
-    (λ lane txs piece. (file, subst (Contains files) (sym is) (Contains-get_or files i file low), piece)) (λ n did. did) (λ n c h. h) e
-    (subst (λ k. IsRunCause k (IsSentPiece k verdicts file) J L failed holds e) same cause)
+    → H ≡ K → i < length files → file ≡ get_or files i file → ((n : ℕ) → IsEnd (E n) (J n)) → HavePreparedFiles K verdicts (take i files) E J
+    → (e : LaneFault) → IsRunCause H (IsSentPiece H verdicts file J L) J L failed holds e → IsRunCause K (IsFilesPiece K verdicts files E L) E L failed holds e
+files_cause K H verdicts files i file E J L failed holds same low is since so e cause =
+    run_moves K (IsSentPiece K verdicts file J L) (IsFilesPiece K verdicts files E L) J E L failed failed holds holds since
+    (λ lane txs inside piece. files_piece K verdicts files i file E J L lane txs low is so inside piece) (λ n did. did) (λ n c h. h) e
+    (subst (λ k. IsRunCause k (IsSentPiece k verdicts file J L) J L failed holds e) same cause)

@@ -42,7 +42,7 @@ proper verdicts file submissions k (t, within, sound, is) =
     subst (λ c. IsProperCompact (submissions ++ file) c) (sym is) (member_law (submissions ++ file) t (verdicts (tx_id t)) (Contains-append_right submissions file t within) sound)
 
 -- all that the lanes get is proper
-each_proper : (verdicts : VerdictsOf) (file submissions : List FullTx) (lists : List (Vec CompactTx)) (lanes : List Lane) → AreSentFrom verdicts file lists → AreLanesOf lists lanes
+pub each_proper : (verdicts : VerdictsOf) (file submissions : List FullTx) (lists : List (Vec CompactTx)) (lanes : List Lane) → AreSentFrom verdicts file lists → AreLanesOf lists lanes
     → EachLane (λ _ x. All (IsProperCompact (submissions ++ file)) x.txs.items) lanes
 each_proper verdicts file submissions lists lanes from are lane x there =
     All-weaker (IsSentFrom verdicts file) (IsProperCompact (submissions ++ file)) (proper verdicts file submissions) x.txs.items (from lane x.txs (are.each lane x there))
@@ -52,13 +52,13 @@ abbrev items_of : Option Lane → List Compact
 items_of None = []
 items_of (Some x) = x.txs.items
 
-abbrev gets : List Lane → ℕ → List Compact
+abbrev pub gets : List Lane → ℕ → List Compact
 gets lanes lane = items_of (slice_get lanes lane)
 
-have_gets : (lanes : List Lane) → HaveSent (gets lanes) lanes
+pub have_gets : (lanes : List Lane) → HaveSent (gets lanes) lanes
 have_gets lanes lane x there = sym (ap items_of there)
 
-gets_all : (P : Compact → Type 0) (lanes : List Lane) → EachLane (λ _ x. All P x.txs.items) lanes → (lane : ℕ) → All P (gets lanes lane)
+pub gets_all : (P : Compact → Type 0) (lanes : List Lane) → EachLane (λ _ x. All P x.txs.items) lanes → (lane : ℕ) → All P (gets lanes lane)
 gets_all P lanes each lane = go (slice_get lanes lane) refl
   where
     go : (o : Option Lane) → slice_get lanes lane ≡ o → All P (gets lanes lane)

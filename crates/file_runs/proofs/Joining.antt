@@ -12,12 +12,12 @@ use Rattle.ledger_runs.specs.Turning.{OfKept, StaysKept}
 use Rattle.file_runs.specs.Runs.{joined}
 use Rattle.file_runs.proofs.Filing.{kept_more, stays_more}
 
-joined_append : {A : Type 0} (xs ys : List (List A)) → joined (xs ++ ys) ≡ joined xs ++ joined ys
+pub joined_append : {A : Type 0} (xs ys : List (List A)) → joined (xs ++ ys) ≡ joined xs ++ joined ys
 joined_append [] ys = refl
 joined_append (x ∷ xs) ys = ap (λ l. x ++ l) (joined_append xs ys) ∙ sym (append_assoc x (joined xs) (joined ys))
 
 -- behind the submissions and the files so far, one file more
-joined_next : (submissions : List FullTx) (files : List (List FullTx)) (file : List FullTx) → (submissions ++ joined files) ++ file ≡ submissions ++ joined (files ++ file ∷ [])
+pub joined_next : (submissions : List FullTx) (files : List (List FullTx)) (file : List FullTx) → (submissions ++ joined files) ++ file ≡ submissions ++ joined (files ++ file ∷ [])
 joined_next submissions files file =
     append_assoc submissions (joined files) file ∙ ap (λ l. submissions ++ l) (ap (λ l. joined files ++ l) (sym (append-nil file)) ∙ sym (joined_append files (file ∷ [])))
 

@@ -1,12 +1,14 @@
 -- Client files that are run one after another.
-use Rattle.std.specs.Prelude.{◌≡◌, ℕ, Bool, List, [], ◌∷◌, ◌++◌, length, None, Some, slice_get, Contains}
+use Rattle.std.specs.Prelude.{◌≡◌, ℕ, Bool, List, [], ◌∷◌, ◌++◌, length, Option, None, Some, slice_get}
 use Rattle.std.specs.Global.{Vec}
 use Rattle.cbdc_types.specs.declared.tx.CompactTx.{CompactTx}
-use Rattle.cbdc_model.specs.Records.{Shape, Compact}
-use Rattle.cbdc_model.specs.Coins.{FullTx}
-use Rattle.cbdc_model.specs.Waves.{sent_to}
+use Rattle.cbdc_model.specs.Records.{Shape, Compact, Record}
+use Rattle.cbdc_model.specs.Coins.{Output, FullTx}
+use Rattle.cbdc_model.specs.Waves.{IsCut, sent_to}
 use Rattle.submissions.specs.Checks.{VerdictsOf, TellsSound}
-use Rattle.ledger_runs.specs.Faults.{IsPiece}
+use Rattle.ledger_runs.specs.Turning.{IsLaneOf}
+use Rattle.ledger_runs.specs.Pieces.{HasPrepared, HasPreparedAll, IsNextOf, IsNextPiece}
+use Rattle.ledger_runs.specs.Flying.{AllMayCome}
 use Rattle.ledger_runs.specs.declared.lanes.Lane.{Lane}
 
 -- all in one list
@@ -14,13 +16,33 @@ abbrev pub joined : {A : Type 0} → List (List A) → List A
 joined [] = []
 joined (xs ∷ more) = xs ++ joined more
 
--- a batch of what a lane gets of a file, or what is left
-abbrev pub IsSentPiece : Shape → VerdictsOf → List FullTx → ℕ → List Compact → Type 0
-IsSentPiece K verdicts file lane txs = (sound : FullTx → Bool) → TellsSound verdicts sound → IsPiece K (sent_to K sound file lane) txs
+-- from journals I to J each lane has prepared all that a file sends it
+abbrev pub HavePreparedFile : Shape → VerdictsOf → List FullTx → (ℕ → List Record) → (ℕ → List Record) → Type 0
+HavePreparedFile K verdicts file I J = (lane : ℕ) → IsLaneOf K lane → (sound : FullTx → Bool) → TellsSound verdicts sound → HasPreparedAll K lane (sent_to K sound file lane) I J
 
--- of one of the files
-abbrev pub IsFilesPiece : Shape → VerdictsOf → List (List FullTx) → ℕ → List Compact → Type 0
-IsFilesPiece K verdicts files lane txs = (file : List FullTx) × Contains files file × IsSentPiece K verdicts file lane txs
+-- the next piece of what a file sends to a lane
+abbrev pub IsSentPiece : Shape → VerdictsOf → List FullTx → (ℕ → List Record) → (ℕ → List Record) → ℕ → List Compact → Type 0
+IsSentPiece K verdicts file I J lane txs = (sound : FullTx → Bool) → TellsSound verdicts sound → IsNextPiece K lane (sent_to K sound file lane) I J txs
+
+-- these are the pieces of what files send to a lane, each file's behind those of the files before it
+abbrev pub AreFilesPieces : Shape → (FullTx → Bool) → ℕ → List (List FullTx) → List (List Compact) → Type 0
+AreFilesPieces K sound lane [] pieces = pieces ≡ []
+AreFilesPieces K sound lane (file ∷ files) pieces =
+    (own : List (List Compact)) × (more : List (List Compact)) × IsCut K.batch (sent_to K sound file lane) own × AreFilesPieces K sound lane files more × (pieces ≡ own ++ more)
+
+-- from journals I to J each lane has prepared all that files send it
+abbrev pub HavePreparedFiles : Shape → VerdictsOf → List (List FullTx) → (ℕ → List Record) → (ℕ → List Record) → Type 0
+HavePreparedFiles K verdicts files I J =
+    (lane : ℕ) → IsLaneOf K lane → (sound : FullTx → Bool) → TellsSound verdicts sound → (pieces : List (List Compact)) × AreFilesPieces K sound lane files pieces × HasPrepared K lane pieces I J
+
+-- the next of them
+abbrev pub IsFilesPiece : Shape → VerdictsOf → List (List FullTx) → (ℕ → List Record) → (ℕ → List Record) → ℕ → List Compact → Type 0
+IsFilesPiece K verdicts files I J lane txs =
+    (sound : FullTx → Bool) → TellsSound verdicts sound → (pieces : List (List Compact)) × AreFilesPieces K sound lane files pieces × IsNextOf K lane pieces I J txs
+
+-- where what is in flight may come next at its node of journals I, so may it at journals J, with more submissions
+abbrev pub FliesWith : Shape → List FullTx → (ℕ → List Record) → (ℕ → List Record) → (ℕ → Option Record) → (ℕ → Option Record) → List Output → List FullTx → Type 0
+FliesWith K more I J before after mint submissions = AllMayCome K mint submissions I before → AllMayCome K mint (submissions ++ more) J after
 
 -- a lane for each list, with its transactions, which has had no turn and has not stopped
 pub record AreLanesOf (lists : List (Vec CompactTx)) (lanes : List Lane) : Type 0 where

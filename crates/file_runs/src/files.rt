@@ -9,7 +9,8 @@ ghost use Rattle.input_files.specs.Limits.{IsShort};
 ghost use Rattle.submissions.specs.Checks.{TellsSound};
 ghost use Rattle.ledger_runs.specs.Turning.{OfKept, StaysKept};
 ghost use Rattle.ledger_runs.specs.Faults.{IsRunCause, HaveFailed, MayHold};
-ghost use Rattle.file_runs.specs.Runs.{joined, IsFilesPiece};
+ghost use Rattle.file_runs.specs.Runs.{joined, IsFilesPiece, FliesWith};
+ghost use Rattle.file_runs.specs.Endings.{EndsFiles};
 ghost use Rattle.file_runs.specs.Telling.{TellFiles};
 
 use crate::waves::{Wave, run_file};
@@ -46,6 +47,9 @@ pub fn run_files<L: Turns, V: Verifier, G: Gate>(
     ensures told { IfOk result (λ ws. OfKept (L.shape ledger.old) (L.journals ledger.old) (λ _ _. TellFiles (L.shape ledger.old) (V.verdict_of verifier.now) files.now (L.journals ledger.old) (L.journals ledger.new) ws.items)) }
 
     ensures quiet { OnOk result (OfKept (L.shape ledger.old) (L.journals ledger.old) (λ _ _. L.quiet ledger.old → L.quiet ledger.new)) }
+    // What is in flight may come next at its node, as before.
+    ensures flies { OfKept (L.shape ledger.old) (L.journals ledger.old) (FliesWith (L.shape ledger.old) (joined files.now) (L.journals ledger.old) (L.journals ledger.new) (L.flights ledger.old) (L.flights ledger.new)) }
+
     ensures holds { L.holds ledger.old → L.holds ledger.new }
     ensures later { (n : ℕ) → L.faults ledger.old n ≤ L.faults ledger.new n }
     ensures opened_same { (n : ℕ) → L.opened ledger.new n ≡ L.opened ledger.old n }
@@ -53,9 +57,12 @@ pub fn run_files<L: Turns, V: Verifier, G: Gate>(
     ensures still { L.checked ledger.new }
     ensures grows { (n : ℕ) → IsEnd (L.journals ledger.old n) (L.journals ledger.new n) }
 
-    // A fault has its cause.
-    ensures fault { IfErr result (IsRunCause (L.shape ledger.old) (IsFilesPiece (L.shape ledger.old) (V.verdict_of verifier.now) files.now) (L.journals ledger.old) (L.journals ledger.new)
+    // A fault has its cause: what an idle lane wants is the Prepare of the next piece of what the files send it.
+    ensures fault { IfErr result (IsRunCause (L.shape ledger.old) (IsFilesPiece (L.shape ledger.old) (V.verdict_of verifier.now) files.now (L.journals ledger.old) (L.journals ledger.new)) (L.journals ledger.old) (L.journals ledger.new)
         (HaveFailed (L.opened ledger.new) (L.faults ledger.new)) (MayHold (L.capacity ledger.new))) }
+
+    // It is that of the least lane that met one, behind files that have been run: each lesser lane has run all that its file sends it.
+    ensures least { IfErr result (EndsFiles (L.shape ledger.old) (V.verdict_of verifier.now) files.now (L.journals ledger.old) (L.journals ledger.new) (HaveFailed (L.opened ledger.new) (L.faults ledger.new)) (MayHold (L.capacity ledger.new))) }
 {
     let Ok(mut waves) = Vec::with_capacity(alloc, files.len()) else {
         return Err(no_memory());

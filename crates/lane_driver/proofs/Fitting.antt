@@ -25,7 +25,7 @@ pub elsewhere_on : (at0 at1 : ℕ) (X0 X1 X2 : ℕ → Sight) → at1 ≡ at0 �
 elsewhere_on at0 at1 X0 X1 X2 e a b n ne = b n (subst (λ m. n ≢ m) (sym e) ne) ∙ a n ne
 
 pub nodes_same : (I : ℕ → Sight) → KeepNodes I I
-nodes_same I n = record { header = refl; opened = refl; capacity = refl; later = omega arith }
+nodes_same I n = record { header = refl; opened = refl; capacity = refl; later = omega arith; flying = λ r is. (is, refl) }
 
 pub nodes_on : (I M J : ℕ → Sight) → KeepNodes I M → KeepNodes M J → KeepNodes I J
 nodes_on I M J a b n = record {
@@ -33,6 +33,10 @@ nodes_on I M J a b n = record {
   opened = (b n).opened ∙ (a n).opened;
   capacity = (b n).capacity ∙ (a n).capacity;
   later = omega (arith, (a n).later, (b n).later);
+  flying = λ r is.
+      let first = (a n).flying r is in
+      let then = (b n).flying r first.0 in
+      (then.0, then.1 ∙ first.1);
 }
 
 pub ledger_kept : (K : Shape) (I J : ℕ → Sight) → AreShardsOf K I → KeepNodes I J → AreShardsOf K J

@@ -28,6 +28,5 @@ pub record IsBatchRoom (shards size : ℕ) (r : BatchRoom) : Type 0 where
   pub again : length r.parts ≤ vec_capacity r.again
   pub no_replies : r.replies.items ≡ []
   pub replies : length r.parts ≤ vec_capacity r.replies
-  pub no_outcomes : r.outcomes.items ≡ []
   pub outcomes : size ≤ vec_capacity r.outcomes
   pub later : IsLaterRoom (length r.parts) size r.later

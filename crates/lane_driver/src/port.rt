@@ -71,7 +71,8 @@ pub trait LogPort {
         ensures later { (n : ℕ) → faults self.old n ≤ faults self.new n }
         ensures holds { holds self.old → holds self.new };
 
-    /// Decides the prepared batch by what its shards replied, and tells the outcomes.
+    /// Decides the prepared batch by what its shards replied, and tells the outcomes in place of what `out` holds, which
+    /// has room for them.
     fn decide<G: Gate>(
         &mut self,
         lane: LaneId,
@@ -82,7 +83,6 @@ pub trait LogPort {
         requires home { IsLane (header self.old) lane }
         requires phase { phase self.old lane ≡ InPrepare }
         requires replies { AreReplies (header self.old).shape replies.now }
-        requires empty { out.old.items ≡ [] }
         requires room { length (open_txs self.old lane) ≤ vec_capacity out.old }
         ensures stamp { IfOk result IsStamp }
         ensures phase { OnOk result (phase self.new lane ≡ InCommit) }

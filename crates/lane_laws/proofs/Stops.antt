@@ -307,6 +307,7 @@ batch_stopped K alone lane k txs repeats parts log log' I J node f st are (at_pr
       prepares = inl (ap prepared h.1.same);
       told = inl (node_is, h.1.risen);
       fault = inl (node_is, idle_still lane log.seen log'.seen h.1.same st.idle, h.2);
+      begun = inl h.1.same;
       granted = answer_unrefused true (prepare_due log'.header.shape log'.capacity lane txs None log'.seen) log' f
           (λ why e. early_refuses (next_stamp log'.seen 0) (used_of log'.seen) (need_of log'.header.shape log'.seen (prepare_record log'.seen lane txs)) log'.capacity (new_batch log'.seen lane, next_stamp log'.seen 0) (prepare_record log'.seen lane txs) why e) h.2;
     })
@@ -323,5 +324,6 @@ batch_stopped K alone lane k txs repeats parts log log' I J node f st are (behin
       prepares = inr (r.prepares ∙ ap prepared p.2.own_is);
       told = r.told;
       fault = inr (batch_of lane k, refl, r.fault);
+      begun = inr (batch_of lane k, refl, r.fault);
       granted = r.granted;
     }

@@ -8,7 +8,7 @@ use Rattle.cbdc_model.specs.Ranges.{home_of, shard_node}
 use Rattle.cbdc_model.specs.Lanes.{Made, Holds, Seen}
 use Rattle.cbdc_model.specs.Sights.{Sight, HasRisen}
 use Rattle.lane_laws.specs.Calls.{is_concerned}
-use Rattle.lane_laws.specs.Faults.{IsNoRefusal, IsBatchFault}
+use Rattle.lane_laws.specs.Faults.{IsNoRefusal, IsOpenFault, IsBatchFault}
 
 -- the lane's own records of a journal
 abbrev pub own : ℕ → List Record → List Record
@@ -121,7 +121,7 @@ pub record Flown (K : Shape) (pieces : List (List Compact)) (lane : ℕ) (log : 
   pub log_flown : IsFlown K pieces lane log.flight (view K lane log' shards') (home_of K lane) log'.flight
   pub shard_flown : (s : ℕ) → IsFlown K pieces lane (shards s).flight (view K lane log' shards') (shard_node K s) (shards' s).flight
 
--- a batch that a fault stopped
+-- a batch that a fault stopped: at its Prepare, with nothing of the lane written at its coordinator, or behind it
 pub record BatchStopped (K : Shape) (alone : Bool) (lane : ℕ) (txs : List Compact) (log : Sight) (shards : ℕ → Sight) (log' : Sight) (shards' : ℕ → Sight) (node : ℕ) (f : NodeFault) : Type 0 where
   pub made : Made K (txs ∷ []) alone lane (view K lane log shards) (view K lane log' shards')
   pub flown : Flown K (txs ∷ []) lane log shards log' shards'
@@ -129,6 +129,7 @@ pub record BatchStopped (K : Shape) (alone : Bool) (lane : ℕ) (txs : List Comp
   pub prepares : (prepared_of lane log'.seen ≡ prepared_of lane log.seen) ⊎ (prepared_of lane log'.seen ≡ txs ∷ prepared_of lane log.seen)
   pub told : IsAnswerOf K lane log' shards' node f
   pub fault : IsBatchFault K lane txs log' shards' node f
+  pub begun : (own lane log'.seen ≡ own lane log.seen) ⊎ ((b : Batch) × (b.lane ≡ lane) × IsOpenFault K b txs log' shards' node f)
   pub granted : IsNoRefusal f
 
 -- these pieces of at most n, the newest first, were cut from the list, and the rest is left

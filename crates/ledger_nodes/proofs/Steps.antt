@@ -1,5 +1,6 @@
 -- The nodes of a ledger behind a lane's driver.
-use Rattle.std.proofs.Common.{◌≡◌, ◌≢◌, ◌⊎◌, inl, inr, ℕ, zero, suc, ◌-◌, ◌*◌, ◌/◌, ◌<◌, ◌≤◌, true, false, ◌==◌, nat_lt, if◌then◌else◌, List, [], ◌∷◌, length, take, Option, Some, refl, sym, ap, ◌∙◌, subst, arith}
+use Rattle.std.proofs.Common.{◌≡◌, ◌≢◌, ◌⊎◌, inl, inr, ℕ, zero, suc, ◌-◌, ◌*◌, ◌/◌, ◌<◌, ◌≤◌, true, false, ◌==◌, nat_lt, if◌then◌else◌, List, [], ◌∷◌, length, take, Option, Some, None, refl, sym, ap, ◌∙◌, subst, arith}
+use Rattle.std.specs.Prelude.{IfSome}
 use Rattle.std.specs.List.{All}
 use Rattle.std.proofs.lemmas.List.Elements.{All-nil, All-cons, All-head, All-tail, All-weaker}
 use Rattle.std.proofs.lemmas.Nat.{div_below}
@@ -9,7 +10,7 @@ use Rattle.cbdc_model.specs.Records.{Header, txs_of}
 use Rattle.cbdc_model.specs.Slots.{slot}
 use Rattle.cbdc_model.specs.Due.{open_batch}
 use Rattle.cbdc_model.specs.Ranges.{home_of, shard_node}
-use Rattle.cbdc_model.specs.After.{IsJournal}
+use Rattle.cbdc_model.specs.After.{After, IsJournal}
 use Rattle.cbdc_model.specs.History.{header_of}
 use Rattle.cbdc_model.specs.Sights.{Sight}
 use Rattle.coord_log.specs.Logs.{LogOf, sight, HoldsJournal as HoldsLog}
@@ -20,10 +21,10 @@ use Rattle.run_laws.specs.Turns.{Elsewhere}
 use Rattle.run_laws.proofs.Seen.{seen_log}
 use Rattle.coord_log.specs.OpenLanes.{open_lane}
 use Rattle.recovery.specs.Open.{IsOpen}
-use Rattle.turn_laws.specs.Nodes.{AreNodes}
+use Rattle.turn_laws.specs.Nodes.{AreNodes, AreNext}
 use Rattle.turn_laws.proofs.OpenThere.{told_is_open}
 use Rattle.ledger_runs.specs.Turning.{IsLaneOf, KeepsLanes}
-use Rattle.ledger_nodes.specs.Ledgers.{IsLedger, journals_of, faults_of, AreStored}
+use Rattle.ledger_nodes.specs.Ledgers.{IsLedger, IsLogNext, IsShardNext, journals_of, faults_of, AreStored}
 use Rattle.ledger_nodes.specs.Steps.{IsStep}
 
 pub home_inside : (lane coordinators lanes : ℕ) → lane < coordinators * lanes → lane / lanes < coordinators
@@ -47,6 +48,11 @@ module _ {D : Type 0} where
   log_is (l ∷ logs) all zero lt = All-head (λ l. IsJournal l.header l.journal) l logs all
   log_is (l ∷ logs) all (suc n) lt = log_is logs (All-tail (λ l. IsJournal l.header l.journal) l logs all) n (omega (arith, lt))
 
+  log_next : (logs : List (LogOf D)) → All IsLogNext logs → (n : ℕ) → n < length logs → IfSome (sight_at sight logs n).flight (After (sight_at sight logs n).header (sight_at sight logs n).seen)
+  log_next [] all n lt = absurd (let z : n < 0 = lt in omega (arith, z))
+  log_next (l ∷ logs) all zero lt = All-head IsLogNext l logs all
+  log_next (l ∷ logs) all (suc n) lt = log_next logs (All-tail IsLogNext l logs all) n (omega (arith, lt))
+
   held_logs : (content : D → Option (List ℕ)) (images : D → List ℕ → Type 0) (logs : List (LogOf D)) → All (λ l. IsJournal l.header l.journal) logs → All (HoldsLog content images) logs
       → AreLogsHeld content images logs
   held_logs content images [] js hs = All-nil (IsLogHeld content images)
@@ -67,6 +73,17 @@ module _ {D : Type 0} where
     shard_is [] all n lt = absurd (let z : n < 0 = lt in omega (arith, z))
     shard_is (s ∷ shards) all zero lt = All-head (λ s. IsJournal s.header s.journal) s shards all
     shard_is (s ∷ shards) all (suc n) lt = shard_is shards (All-tail (λ s. IsJournal s.header s.journal) s shards all) n (omega (arith, lt))
+
+    shard_next : (shards : List (ShardOf D)) → All IsShardNext shards → (n : ℕ) → n < length shards
+        → IfSome (sight_at (sight_of count limit) shards n).flight (After (sight_at (sight_of count limit) shards n).header (sight_at (sight_of count limit) shards n).seen)
+    shard_next [] all n lt = absurd (let z : n < 0 = lt in omega (arith, z))
+    shard_next (s ∷ shards) all zero lt = All-head IsShardNext s shards all
+    shard_next (s ∷ shards) all (suc n) lt = shard_next shards (All-tail IsShardNext s shards all) n (omega (arith, lt))
+
+    none_flies : (shards : List (ShardOf D)) (n : ℕ) → length shards ≤ n → (sight_at (sight_of count limit) shards n).flight ≡ None
+    none_flies [] n le = refl
+    none_flies (s ∷ shards) zero le = absurd (omega (arith, le))
+    none_flies (s ∷ shards) (suc n) le = none_flies shards n (omega (arith, le))
 
     none_there : (shards : List (ShardOf D)) (n : ℕ) → length shards ≤ n → (sight_at (sight_of count limit) shards n).seen ≡ []
     none_there [] n le = refl
@@ -90,6 +107,14 @@ module _ {D : Type 0} where
       logs_are = λ n lt. log_is logs ledger.log_journals n (subst (λ m. n < m) (sym ledger.coordinators) lt);
       shards_are = λ s lt. shard_is shards ledger.shard_journals s (subst (λ m. s < m) (sym ledger.shards_are) lt);
       beyond = λ s le. none_there shards s (subst (λ m. m ≤ s) (sym ledger.shards_are) le);
+    }
+
+    pub are_next : (h : Header) (logs : List (LogOf D)) (shards : List (ShardOf D)) → length logs ≡ h.shape.coordinators → length shards ≡ h.shape.shards → All IsLogNext logs → All IsShardNext shards
+        → AreNext h.shape (sight_at sight logs) (sight_at (sight_of count limit) shards)
+    are_next h logs shards log_count shard_count log_flights shard_flights = record {
+      logs_are = λ n lt. log_next logs log_flights n (subst (λ m. n < m) (sym log_count) lt);
+      shards_are = λ s lt. shard_next shards shard_flights s (subst (λ m. s < m) (sym shard_count) lt);
+      beyond = λ s le. none_flies shards s (subst (λ m. m ≤ s) (sym shard_count) le);
     }
 
     pub are_shards : (h : Header) (logs : List (LogOf D)) (shards : List (ShardOf D)) → IsLedger h logs shards → AreShardsOf h.shape (sight_at (sight_of count limit) shards)
@@ -120,7 +145,7 @@ module _ {D : Type 0} where
         (log_holds : AreLogsHeld content images logs → AreLogsHeld content images logs') (shard_holds : AreShardsHeld content images shards → AreShardsHeld content images shards')
         (log_later : (n : ℕ) → (sight_at sight logs n).faults ≤ (sight_at sight logs' n).faults)
         (shard_later : (n : ℕ) → (sight_at (sight_of count limit) shards n).faults ≤ (sight_at (sight_of count limit) shards' n).faults)
-        (log_journals : All (λ l. IsJournal l.header l.journal) logs') (shard_journals : All (λ s. IsJournal s.header s.journal) shards') where
+        (log_journals : All (λ l. IsJournal l.header l.journal) logs') (shard_journals : All (λ s. IsJournal s.header s.journal) shards') (log_flights : All IsLogNext logs') (shard_flights : All IsShardNext shards') where
       here : (n : ℕ) → (n ≡ at) ⊎ (n ≢ at)
       here n = go (eqb_tells n at)
         where
@@ -178,6 +203,7 @@ module _ {D : Type 0} where
         shard_nodes = shard_nodes;
         elsewhere = away;
         others = other_lanes;
+        next = are_next h logs' shards' (log_count ∙ ledger.coordinators) (shard_count ∙ ledger.shards_are) log_flights shard_flights;
         stored = stored;
         later = later;
       }

@@ -10,7 +10,6 @@ use Rattle.std.specs.Prelude.{option_map}
 use Rattle.cbdc_types.specs.declared.batch.Phase.{Phase as OpenPhase}
 use Rattle.cbdc_model.specs.Due.{open_batch}
 use Rattle.coord_log.specs.OpenLanes.{open_lane, open_phase, batch_in}
-use Rattle.coord_core.specs.Lanes.{IsOwn}
 use Rattle.shard_node.specs.Shards.{ShardOf, sight_of}
 use Rattle.node_ports.specs.Nodes.{sight_at}
 use Rattle.lane_laws.specs.Batches.{Settled, BatchDone}
@@ -28,10 +27,13 @@ use Rattle.run_laws.proofs.Rests.{checked_rest_law}
 use Rattle.run_laws.proofs.OpenLanes.{checked_resume_law}
 use Rattle.turn_laws.proofs.OpenThere.{is_idle, unfinished}
 use Rattle.turn_laws.specs.Nodes.{SameFlights}
-use Rattle.turn_laws.proofs.Checking.{IsCheckedTurn, batch_checked, stopped_checked, stopped_cause, taken_checked, left_checked, left_cause}
+use Rattle.turn_laws.proofs.Checking.{IsCheckedTurn, batch_checked, batch_prepared, stopped_checked, stopped_cause, taken_checked, taken_unprepared, left_checked, left_unprepared, left_cause}
 use Rattle.turn_laws.proofs.Turned.{batch_keeps, batch_same, stopped_keeps, batch_does, resume_keeps, resume_same, left_keeps, resume_took}
-use Rattle.ledger_runs.specs.Faults.{IsLaneCause, HaveFailed, MayHold, Nothing, IsThese}
-use Rattle.ledger_nodes.specs.Ledgers.{IsLedger, journals_of, faults_of, opened_of, capacity_of, AreChecked, AreQuiet}
+use Rattle.turn_laws.proofs.Flying.{batch_flies, stopped_flies, resume_flies, left_flies}
+use Rattle.ledger_runs.specs.Flying.{FliesOn, FliesOnBy}
+use Rattle.ledger_runs.specs.Pieces.{HasPrepared, IsUnprepared}
+use Rattle.ledger_runs.specs.Faults.{IsLaneCause, HaveFailed, MayHold, Nothing}
+use Rattle.ledger_nodes.specs.Ledgers.{IsLedger, journals_of, flights_of, faults_of, opened_of, capacity_of, AreChecked, AreQuiet}
 use Rattle.ledger_nodes.specs.Steps.{IsStep}
 use Rattle.ledger_nodes.proofs.Steps.{home_inside, are_nodes, are_shards, is_lane, log_is, same_flight}
 
@@ -121,9 +123,6 @@ module _ {D : Type 0} (count limit : D → ℕ) (content : D → Option (List �
     here = subst (λ n. sight_at sight logs n ≡ sight x) at_is
         (read_at logs at x (subst (λ n. n < length logs) (sym at_is) (subst (λ m. home_of K lane < m) (sym ledger.coordinators) home)) is)
 
-    pub own_there : IsOwn x.header lane
-    own_there = subst (λ s. IsOwn s.header lane) here (subst (λ k. IsOwn k lane) (sym (ledger.log_headers (home_of K lane) home)) refl)
-
     pub told_there : (found o : Option OpenLane) → found ≡ open_lane x.journal lane → found ≡ o → open_lane (L (home_of K lane)).seen lane ≡ o
     told_there found o e f = ap (λ s. open_lane s.seen lane) here ∙ sym e ∙ f
 
@@ -174,6 +173,14 @@ module _ {D : Type 0} (count limit : D → ℕ) (content : D → Option (List �
       came_keeps (Err e) done stop =
           stopped_keeps K lane L S L' S' some home shape step.elsewhere (are_nodes count limit h logs shards ledger) (are_nodes count limit h logs' shards' step.ledger) step.log_nodes step.shard_nodes idle_there txs e stop
 
+      -- what is in flight may come next
+      pub came_flies : (came : Result LaneReport LaneFault) → IfOk came (λ r. IsOneBatch K true lane txs (L (home_of K lane)) S (L' (home_of K lane)) S' r.batches)
+          → IfErr came (IsBatchStopped K true lane txs (L (home_of K lane)) S (L' (home_of K lane)) S') → OfKept K I (FliesOnBy K txs I J (flights_of count limit K logs shards) (flights_of count limit K logs' shards'))
+      came_flies (Ok r) done stop =
+          batch_flies K lane L S L' S' some home shape step.elsewhere (are_nodes count limit h logs shards ledger) (are_nodes count limit h logs' shards' step.ledger) step.log_nodes step.shard_nodes step.next idle_there txs r.batches done
+      came_flies (Err e) done stop =
+          stopped_flies K lane L S L' S' some home shape step.elsewhere (are_nodes count limit h logs shards ledger) (are_nodes count limit h logs' shards' step.ledger) step.log_nodes step.shard_nodes step.next idle_there txs e stop
+
       -- checked journals stay checked, and a fault has its cause
       pub came_checked : (came : Result LaneReport LaneFault) → IfOk came (λ r. IsOneBatch K true lane txs (L (home_of K lane)) S (L' (home_of K lane)) S' r.batches)
           → IfErr came (IsBatchStopped K true lane txs (L (home_of K lane)) S (L' (home_of K lane)) S') → (c : AreChecked count limit K logs shards) → IsCheckedTurn K c.0 lane I J
@@ -182,9 +189,14 @@ module _ {D : Type 0} (count limit : D → ℕ) (content : D → Option (List �
       came_checked (Err e) done stop c =
           stopped_checked K lane L S L' S' ledger.limits home shape shard_shapes step.elsewhere (are_nodes count limit h logs shards ledger) (are_nodes count limit h logs' shards' step.ledger) step.log_nodes step.shard_nodes c.0 c.1 idle_there txs e stop
 
-      pub came_cause : (e : LaneFault) → IsBatchStopped K true lane txs (L (home_of K lane)) S (L' (home_of K lane)) S' e → AreChecked count limit K logs shards → Causes (IsThese txs) e
+      pub came_cause : (e : LaneFault) → IsBatchStopped K true lane txs (L (home_of K lane)) S (L' (home_of K lane)) S' e → AreChecked count limit K logs shards → Causes (IsUnprepared K lane txs I J) e
       came_cause e stop c =
           stopped_cause K lane L S L' S' ledger.limits home shape shard_shapes step.elsewhere (are_nodes count limit h logs shards ledger) (are_nodes count limit h logs' shards' step.ledger) step.log_nodes step.shard_nodes c.0 c.1 idle_there txs e stop
+
+      -- a batch that is done is what the lane has prepared
+      pub came_prepared : (reports : List BatchReport) → IsOneBatch K true lane txs (L (home_of K lane)) S (L' (home_of K lane)) S' reports → AreChecked count limit K logs shards → HasPrepared K lane (txs ∷ []) I J
+      came_prepared reports done c =
+          batch_prepared K lane L S L' S' ledger.limits home shape shard_shapes step.elsewhere (are_nodes count limit h logs shards ledger) (are_nodes count limit h logs' shards' step.ledger) step.log_nodes step.shard_nodes c.0 c.1 idle_there txs reports done
 
       pub came_quiet : (reports : List BatchReport) → IsOneBatch K true lane txs (L (home_of K lane)) S (L' (home_of K lane)) S' reports → OfKept K I (λ _ _. AreQuiet logs shards → AreQuiet logs' shards')
       came_quiet reports done mint submissions kept =
@@ -213,12 +225,26 @@ module _ {D : Type 0} (count limit : D → ℕ) (content : D → Option (List �
       resumed_keeps (Err e) taken stop =
           left_keeps K lane L S L' S' some home shape step.elsewhere (are_nodes count limit h logs shards ledger) (are_nodes count limit h logs' shards' step.ledger) step.log_nodes step.shard_nodes o told e stop
 
+      pub resumed_flies : (came : Result ResumedBatch LaneFault) → OnOk came (IsUnfinished o.phase K o (L (home_of K lane)) S → IsTakenUp K true o.batch (L (home_of K lane)) S (L' (home_of K lane)) S')
+          → IfErr came (IsResumeStopped K true o (L (home_of K lane)) S (L' (home_of K lane)) S') → OfKept K I (FliesOn K I J (flights_of count limit K logs shards) (flights_of count limit K logs' shards'))
+      resumed_flies (Ok r) taken stop =
+          resume_flies K lane L S L' S' some home shape step.elsewhere (are_nodes count limit h logs shards ledger) (are_nodes count limit h logs' shards' step.ledger) step.log_nodes step.shard_nodes step.next o told taken
+      resumed_flies (Err e) taken stop =
+          left_flies K lane L S L' S' some home shape step.elsewhere (are_nodes count limit h logs shards ledger) (are_nodes count limit h logs' shards' step.ledger) step.log_nodes step.shard_nodes step.next o told e stop
+
       pub resumed_checked : (came : Result ResumedBatch LaneFault) → OnOk came (IsUnfinished o.phase K o (L (home_of K lane)) S → IsTakenUp K true o.batch (L (home_of K lane)) S (L' (home_of K lane)) S')
           → IfErr came (IsResumeStopped K true o (L (home_of K lane)) S (L' (home_of K lane)) S') → (c : AreChecked count limit K logs shards) → IsCheckedTurn K c.0 lane I J
       resumed_checked (Ok r) taken stop c =
           taken_checked K lane L S L' S' ledger.limits home shape shard_shapes step.elsewhere (are_nodes count limit h logs shards ledger) (are_nodes count limit h logs' shards' step.ledger) step.log_nodes step.shard_nodes c.0 c.1 o told taken
       resumed_checked (Err e) taken stop c =
           left_checked K lane L S L' S' ledger.limits home shape shard_shapes step.elsewhere (are_nodes count limit h logs shards ledger) (are_nodes count limit h logs' shards' step.ledger) step.log_nodes step.shard_nodes c.0 c.1 o told e stop
+
+      pub resumed_unprepared : (came : Result ResumedBatch LaneFault) → OnOk came (IsUnfinished o.phase K o (L (home_of K lane)) S → IsTakenUp K true o.batch (L (home_of K lane)) S (L' (home_of K lane)) S')
+          → IfErr came (IsResumeStopped K true o (L (home_of K lane)) S (L' (home_of K lane)) S') → AreChecked count limit K logs shards → HasPrepared K lane [] I J
+      resumed_unprepared (Ok r) taken stop c =
+          taken_unprepared K lane L S L' S' ledger.limits home shape shard_shapes step.elsewhere (are_nodes count limit h logs shards ledger) (are_nodes count limit h logs' shards' step.ledger) step.log_nodes step.shard_nodes c.0 c.1 o told taken
+      resumed_unprepared (Err e) taken stop c =
+          left_unprepared K lane L S L' S' ledger.limits home shape shard_shapes step.elsewhere (are_nodes count limit h logs shards ledger) (are_nodes count limit h logs' shards' step.ledger) step.log_nodes step.shard_nodes c.0 c.1 o told e stop
 
       pub resumed_cause : (e : LaneFault) → IsResumeStopped K true o (L (home_of K lane)) S (L' (home_of K lane)) S' e → AreChecked count limit K logs shards → Causes Nothing e
       resumed_cause e stop c =

@@ -1,9 +1,9 @@
 -- The nodes of a ledger, open.
-use Rattle.std.specs.Prelude.{◌≡◌, ℕ, ◌-◌, ◌<◌, nat_lt, if◌then◌else◌, List, length, Option, None, All}
+use Rattle.std.specs.Prelude.{◌≡◌, ℕ, ◌-◌, ◌<◌, nat_lt, if◌then◌else◌, List, length, Option, None, IfSome, All}
 use Rattle.cbdc_types.specs.Limits.{IsWithinLimits}
 use Rattle.cbdc_model.specs.Records.{Shape, Header, Record}
 use Rattle.cbdc_model.specs.Ranges.{shard_node}
-use Rattle.cbdc_model.specs.After.{IsJournal}
+use Rattle.cbdc_model.specs.After.{After, IsJournal}
 use Rattle.cbdc_model.specs.History.{Minted, header_of}
 use Rattle.coord_log.specs.Logs.{LogOf, sight, HoldsJournal as HoldsLog}
 use Rattle.shard_node.specs.Shards.{ShardOf, sight_of, HoldsJournal as HoldsShard}
@@ -11,6 +11,7 @@ use Rattle.node_ports.specs.Nodes.{sight_at}
 use Rattle.run_laws.specs.Runs.{seen_by}
 use Rattle.run_laws.specs.Checked.{CheckedJournals}
 use Rattle.run_laws.specs.Faults.{opened_by, capacity_by}
+use Rattle.run_laws.specs.Flights.{flying}
 
 -- as many coordinators and shards as the ledger's shape has, each under its own header, with a journal of it
 pub record IsLedger {D : Type 0} (h : Header) (logs : List (LogOf D)) (shards : List (ShardOf D)) : Type 0 where
@@ -43,6 +44,17 @@ opened_of count limit K logs shards = opened_by K (sight_at sight logs) (sight_a
 
 abbrev pub capacity_of : {D : Type 0} → (D → ℕ) → (D → ℕ) → Shape → List (LogOf D) → List (ShardOf D) → ℕ → ℕ
 capacity_of count limit K logs shards = capacity_by K (sight_at sight logs) (sight_at (sight_of count limit) shards)
+
+-- the record in flight at each node, if there is one
+abbrev pub flights_of : {D : Type 0} → (D → ℕ) → (D → ℕ) → Shape → List (LogOf D) → List (ShardOf D) → ℕ → Option Record
+flights_of count limit K logs shards = flying K (sight_at sight logs) (sight_at (sight_of count limit) shards)
+
+-- a coordinator's record in flight may come next there, and a shard's
+abbrev pub IsLogNext : {D : Type 0} → LogOf D → Type 0
+IsLogNext l = IfSome l.flight (After l.header l.journal)
+
+abbrev pub IsShardNext : {D : Type 0} → ShardOf D → Type 0
+IsShardNext s = IfSome s.flight (After s.header s.journal)
 
 -- each record of the journals is after those before it, and caused
 abbrev pub AreChecked : {D : Type 0} → (D → ℕ) → (D → ℕ) → Shape → List (LogOf D) → List (ShardOf D) → Type 0

@@ -1,2 +1,3 @@
 pub mod Ledgers
 pub mod Steps
+pub mod Ones

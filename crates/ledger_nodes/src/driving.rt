@@ -13,17 +13,20 @@ ghost use Rattle.lane_driver.specs.Reports.{AreReports};
 ghost use Rattle.lane_laws.specs.Resuming.{IsTakenUp};
 ghost use Rattle.recovery.specs.Open.{IsResumed, IsUnfinished, HasItsOutcomes, IsResumeStopped};
 ghost use Rattle.ledger_runs.specs.Turning.{phase_at, IsLaneOf};
-ghost use Rattle.ledger_nodes.specs.Ledgers.{IsLedger, journals_of, AreChecked};
+ghost use Rattle.ledger_nodes.specs.Ledgers.{IsLedger, IsLogNext, IsShardNext, journals_of, AreChecked};
 ghost use Rattle.ledger_nodes.specs.Steps.{IsStep};
+ghost use Rattle.ledger_nodes.specs.Ones.{IsOneOf};
+ghost use Rattle.recovery.specs.declared.resumed.ResumedBatch.{ResumedBatch as BatchOf};
 
 use cbdc_types::{CompactTx, Header, LaneId, OpenLane, Shape};
 use coord_log::CoordLog;
 use lane_driver::{LaneFault, LaneReport, Ports, run_batch};
 use node_ports::{NodeLogs, NodeShards};
 use outside::{Disk, Gate};
-use recovery::{ResumedBatch, resume_lane};
+use recovery::{Resumed, ResumedBatch, resume};
 use shard_node::ShardNode;
 use std::alloc::Global;
+use std::slice::from_ref;
 use std::sync::Wait;
 
 /// The place of a lane's coordinator.
@@ -36,18 +39,20 @@ pub(crate) fn home(shape: &Shape, lane: LaneId) -> u32
     lane.0 / shape.lanes()
 }
 
-// Each coordinator's journal is one of its header.
+// Each coordinator's journal is one of its header, and a record in flight may come next there.
 fn see_logs<D: Disk>(logs: &[CoordLog<D>])
-    ensures { All (λ l. IsJournal l.header l.journal) logs.now }
+    ensures journals { All (λ l. IsJournal l.header l.journal) logs.now }
+    ensures next { All IsLogNext logs.now }
 {
     'logs: for log in logs {
         let _records = log.records();
     }
 }
 
-// Each shard's journal is one of its header.
+// Each shard's journal is one of its header, and a record in flight may come next there.
 fn see_shards<D: Disk>(shards: &[ShardNode<D>])
-    ensures { All (λ s. IsJournal s.header s.journal) shards.now }
+    ensures journals { All (λ s. IsJournal s.header s.journal) shards.now }
+    ensures next { All IsShardNext shards.now }
 {
     'shards: for shard in shards {
         let _records = shard.records();
@@ -87,6 +92,20 @@ pub(crate) fn drive_batch<W: Wait, D: Disk, G: Gate>(
     came
 }
 
+// What came of a list of one lane.
+fn one_of(came: Result<Resumed, LaneFault>) -> Result<ResumedBatch, LaneFault>
+    requires { IfOk came (λ r. (b : BatchOf) × (r.batches ≡ b ∷ [])) }
+    ensures { IsOneOf came result }
+{
+    match came {
+        Ok(Resumed { batches }) => match batches.into_vec().pop() {
+            Some(batch) => Ok(batch),
+            None => unreachable!(),
+        },
+        Err(fault) => Err(fault),
+    }
+}
+
 /// Takes a lane's open batch to its end.
 pub(crate) fn drive_resume<W: Wait, D: Disk, G: Gate>(
     alloc: Global,
@@ -117,8 +136,8 @@ pub(crate) fn drive_resume<W: Wait, D: Disk, G: Gate>(
 {
     ports.log.at = home(&header.shape, lane);
     ports.shards.lane = lane;
-    let came = resume_lane(alloc, &header.shape, unfinished, ports, gate);
+    let came = resume(alloc, &header.shape, from_ref(unfinished), ports, gate);
     see_logs(ports.log.logs.as_slice());
     see_shards(ports.shards.nodes.as_slice());
-    came
+    one_of(came)
 }

@@ -1,7 +1,7 @@
 // The nodes of a ledger, lent to the ports of its lanes.
 ghost use Rattle.std.specs.Prelude.{◌≡◌, ◌∷◌, []};
 ghost use Rattle.lane_driver.specs.declared.fault.BatchReport.{BatchReport as ReportOf};
-ghost use Rattle.ledger_nodes.specs.Ledgers.{journals_of, faults_of, opened_of, capacity_of, AreChecked, AreStored, AreQuiet};
+ghost use Rattle.ledger_nodes.specs.Ledgers.{journals_of, flights_of, faults_of, opened_of, capacity_of, AreChecked, AreStored, AreQuiet};
 
 use crate::driving::{drive_batch, drive_resume, home};
 use crate::ledger::Ledger;
@@ -88,6 +88,8 @@ impl<'r, W: Wait, D: Disk> Turns for LentLedger<'r, W, D> {
     ghost shape = { λ l. l.header.shape };
 
     ghost journals = { λ l. journals_of D.count D.limit l.header.shape l.logs l.shards };
+
+    ghost flights = { λ l. flights_of D.count D.limit l.header.shape l.logs l.shards };
 
     ghost faults = { λ l. faults_of D.count D.limit l.header.shape l.logs l.shards };
 

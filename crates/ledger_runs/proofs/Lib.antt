@@ -4,4 +4,8 @@ pub mod WaveKeeping
 pub mod Sizes
 pub mod Stays
 pub mod WaveTelling
+pub mod Others
+pub mod Preparing
 pub mod Faulting
+pub mod Least
+pub mod Flying

@@ -16,7 +16,7 @@ use Rattle.run_laws.specs.Turns.{ResumesBatch}
 use Rattle.run_laws.specs.WaveSteps.{ResumedSo}
 use Rattle.ledger_runs.specs.Turning.{OfKept, StaysKept, DidBatch, TookUp, listed}
 use Rattle.ledger_runs.specs.Waving.{TurnsAt}
-use Rattle.ledger_runs.specs.Telling.{IsOpened, IsResumedAt, TellResumed, TakesUp, SamePrepared, KeepsDecided, kept_by, TakesIn, TellsTurn, TellsSince, TellSince, AllTell, AreFresh}
+use Rattle.ledger_runs.specs.Telling.{IsOpened, IsResumedAt, TellResumed, TakesUp, KeepsDecided, kept_by, TakesIn, TellsTurn, TellsSince, TellSince, AllTell, AreFresh}
 use Rattle.ledger_runs.specs.declared.lanes.Lane.{Lane}
 use Rattle.ledger_runs.proofs.Stays.{same_outcomes, keeps_as_before, keeps_more}
 use Rattle.ledger_runs.proofs.WaveKeeping.{each_by, at_place}
@@ -140,15 +140,6 @@ told_next K lane E I J before after so told (Some r, did, opened, e) =
       e,
     )
 
--- and no turn that resumes has a new Prepare
-pub prepares_next : (K : Shape) (lane : ℕ) (I J : ℕ → List Record) (before after : List ResumedBatch) → TakesUp K lane I J before after → SamePrepared K I J
-prepares_next K lane I J before after (None, (idle, same), opened, e) = λ l. ap (prepared l) (same (home_of K l))
-prepares_next K lane I J before after (Some r, did, opened, e) = λ l. go l (eqb_tells l lane)
-  where
-    go : (l : ℕ) → (((l == lane) ≡ true) × (l ≡ lane)) ⊎ (((l == lane) ≡ false) × (l ≢ lane)) → prepared l (J (home_of K l)) ≡ prepared l (I (home_of K l))
-    go l (inl (b, same)) = subst (λ m. prepared m (J (home_of K m)) ≡ prepared m (I (home_of K m))) (sym same) did.0.prepares
-    go l (inr (b, other)) = did.0.others.prepares l (home_of K l) other
-
 -- ---- by what is said of one turn
 
 pub resumed_told : (K H : Shape) (lane : ℕ) (E J L : ℕ → List Record) (before after : List ResumedBatch) → H ≡ K
@@ -157,12 +148,6 @@ pub resumed_told : (K H : Shape) (lane : ℕ) (E J L : ℕ → List Record) (bef
 resumed_told K H lane E J L before after e keeps so told takes mint submissions kept =
     let now = subst (λ k. OfKept k J (λ _ _. TakesUp k lane J L before after)) e takes mint submissions (keeps mint submissions kept).kept in
     subst (λ n. TellResumed K E L n after) (sym (add-one lane)) (told_next K lane E J L before after (so mint submissions kept) (told mint submissions kept) now)
-
-pub resumed_prepares : (K H : Shape) (lane : ℕ) (E J L : ℕ → List Record) (before after : List ResumedBatch) → H ≡ K
-    → OfKept K E (StaysKept K E J) → OfKept K E (λ _ _. SamePrepared K E J) → OfKept H J (λ _ _. TakesUp H lane J L before after) → OfKept K E (λ _ _. SamePrepared K E L)
-resumed_prepares K H lane E J L before after e keeps same takes mint submissions kept l =
-    let now = subst (λ k. OfKept k J (λ _ _. TakesUp k lane J L before after)) e takes mint submissions (keeps mint submissions kept).kept in
-    prepares_next K lane J L before after now l ∙ same mint submissions kept l
 
 pub takes_found : (K : Shape) (lane : ℕ) (I J : ℕ → List Record) (found : Option ResumedBatch) (r : Result (Unit {0}) LaneFault) (before after : List ResumedBatch)
     → OfKept K I (λ _ _. TookUp K lane I J found) → IsOpened K lane I found → OnOk r (after ≡ before ++ listed found) → OnOk r (OfKept K I (λ _ _. TakesUp K lane I J before after))

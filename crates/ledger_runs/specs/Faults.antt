@@ -1,5 +1,5 @@
 -- Why a lane stopped, by the journals then and at any later time.
-use Rattle.std.specs.Prelude.{◌≡◌, ◌⊎◌, ℕ, ◌+◌, ◌^◌, ◌<◌, true, List, [], ◌∷◌, ◌++◌, length, take, drop, Some}
+use Rattle.std.specs.Prelude.{◌≡◌, ◌⊎◌, ℕ, ◌+◌, ◌^◌, ◌<◌, true, List, [], ◌∷◌, ◌++◌, Some, None}
 use Rattle.cbdc_model.specs.Records.{Shape, Batch, Compact, Record, record_of, stamp_of, is_in_lane, Prepare}
 use Rattle.cbdc_model.specs.Slots.{slot, Idle, InPrepare}
 use Rattle.cbdc_model.specs.Ranges.{home_of, shard_node, part}
@@ -13,6 +13,7 @@ use Rattle.lane_driver.specs.declared.fault.LaneFaultKind.{LaneFaultKind}
 use Rattle.lane_driver.specs.declared.fault.LaneFaultKind.TheVariants.{DiskFault as DiskStopped, Full as NoRoom, ClockEnd as NoStamp, Memory as NoMemory}
 use Rattle.ledger_runs.specs.Turning.{phase_at, IsLaneOf}
 use Rattle.ledger_runs.specs.Waving.{EachLane}
+use Rattle.ledger_runs.specs.Pieces.{IsNextPiece, IsNextFrom}
 use Rattle.ledger_runs.specs.declared.lanes.Lane.{Lane}
 
 -- all of these records are the lane's
@@ -82,22 +83,16 @@ HaveFailed opened faults n = HasRisen (opened n) (faults n)
 abbrev pub MayHold : (ℕ → ℕ) → ℕ → ℕ → Type 0
 MayHold capacity n c = c ≡ capacity n
 
--- none, or these, are next
+-- nothing is next
 abbrev pub Nothing : List Compact → Type 0
 Nothing txs = ⊥
 
-abbrev pub IsThese : List Compact → List Compact → Type 0
-IsThese these txs = txs ≡ these
-
--- a batch of what the lane gets, or what is left
-abbrev pub IsPiece : Shape → List Compact → List Compact → Type 0
-IsPiece K all txs = (start : ℕ) × (start < length all) × (txs ≡ take K.batch (drop start all))
-
 -- each lane that has stopped has its cause
 abbrev pub HaveCauses : Shape → (ℕ → List Record) → (ℕ → List Record) → (ℕ → Type 0) → (ℕ → ℕ → Type 0) → List Lane → Type 0
-HaveCauses K E X failed may_hold lanes = EachLane (λ lane x. (e : LaneFault) → x.fault ≡ Some e → IsLaneCause K lane (IsPiece K x.txs.items) E X failed may_hold e) lanes
+HaveCauses K E X failed may_hold lanes = EachLane (λ lane x. (e : LaneFault) → x.fault ≡ Some e → IsLaneCause K lane (IsNextPiece K lane x.txs.items E X) E X failed may_hold e) lanes
 
--- what a turn of a lane leaves of its fault: it had it, and nothing was done; or it has its cause
-abbrev pub IsTurnCause : Shape → ℕ → Lane → Lane → (ℕ → List Record) → (ℕ → List Record) → (ℕ → Type 0) → (ℕ → ℕ → Type 0) → Type 0
-IsTurnCause K lane old new I J failed may_hold =
-    (e : LaneFault) → new.fault ≡ Some e → ((old.fault ≡ Some e) × ((n : ℕ) → J n ≡ I n)) ⊎ IsLaneCause K lane (IsPiece K old.txs.items) I J failed may_hold e
+-- what a turn of a lane from a place of its transactions on leaves of its fault: it had it, and nothing was done; or it had none, and it has its cause
+abbrev pub IsTurnCause : Shape → ℕ → ℕ → Lane → Lane → (ℕ → List Record) → (ℕ → List Record) → (ℕ → Type 0) → (ℕ → ℕ → Type 0) → Type 0
+IsTurnCause K lane start old new I J failed may_hold =
+    (e : LaneFault) → new.fault ≡ Some e
+    → ((old.fault ≡ Some e) × ((n : ℕ) → J n ≡ I n)) ⊎ ((old.fault ≡ None) × IsLaneCause K lane (IsNextFrom K lane start old.txs.items I J) I J failed may_hold e)

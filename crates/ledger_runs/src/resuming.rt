@@ -1,12 +1,15 @@
 // Batches that an earlier run left open.
-ghost use Rattle.std.specs.Prelude.{◌≡◌, ◌≤◌, ◌*◌, ℕ, ◌++◌, IfOk, IfErr, OnOk};
+ghost use Rattle.std.specs.Prelude.{◌≡◌, ◌≤◌, ◌*◌, ℕ, [], ◌++◌, IfOk, IfErr, OnOk};
 ghost use Rattle.cbdc_model.specs.Lanes.{IsEnd};
 ghost use Rattle.lane_driver.specs.declared.fault.LaneFaultKind.TheVariants.{Memory};
 ghost use Rattle.cbdc_model.specs.World.{AreIdle};
 ghost use Rattle.cbdc_model.specs.Waves.{IsResumed};
 ghost use Rattle.cbdc_model.specs.Slots.{Idle};
 ghost use Rattle.ledger_runs.specs.Turning.{phase_at, IsLaneOf, KeepsLanes, OfKept, StaysKept, listed, TookUpOne};
+ghost use Rattle.ledger_runs.specs.Flying.{FliesOn};
+ghost use Rattle.ledger_runs.specs.Least.{IsLeastOpen};
 ghost use Rattle.ledger_runs.specs.Telling.{TakesUp, TellResumed, SamePrepared};
+ghost use Rattle.ledger_runs.specs.Pieces.{HasPrepared};
 ghost use Rattle.ledger_runs.specs.Faults.{GrowBy, IsLaneCause, IsRunCause, HaveFailed, MayHold, Nothing};
 
 use crate::Turns;
@@ -49,12 +52,14 @@ fn resume_next<L: Turns, G: Gate>(
     ensures told { OnOk result (OfKept (L.shape ledger.old) (L.journals ledger.old)
         (λ _ _. TakesUp (L.shape ledger.old) lane (L.journals ledger.old) (L.journals ledger.new) batches.old.items batches.new.items)) }
     ensures quiet { OnOk result (OfKept (L.shape ledger.old) (L.journals ledger.old) (λ _ _. L.quiet ledger.old → L.quiet ledger.new)) }
+    ensures flies { OfKept (L.shape ledger.old) (L.journals ledger.old) (FliesOn (L.shape ledger.old) (L.journals ledger.old) (L.journals ledger.new) (L.flights ledger.old) (L.flights ledger.new)) }
     ensures holds { L.holds ledger.old → L.holds ledger.new }
     ensures later { (n : ℕ) → L.faults ledger.old n ≤ L.faults ledger.new n }
     ensures opened_same { (n : ℕ) → L.opened ledger.new n ≡ L.opened ledger.old n }
     ensures capacity_same { (n : ℕ) → L.capacity ledger.new n ≡ L.capacity ledger.old n }
     ensures checked { L.checked ledger.new }
     ensures grows { GrowBy lane (L.journals ledger.old) (L.journals ledger.new) }
+    ensures unprepared { HasPrepared (L.shape ledger.old) lane [] (L.journals ledger.old) (L.journals ledger.new) }
     ensures fault { IfErr result (IsLaneCause (L.shape ledger.old) lane Nothing (L.journals ledger.old) (L.journals ledger.new)
         (HaveFailed (L.opened ledger.new) (L.faults ledger.new)) (MayHold (L.capacity ledger.new))) }
 {
@@ -79,8 +84,9 @@ pub fn resume_all<L: Turns, G: Gate>(
     // The batches that were open, in order, each with the phase in which it stood and what is decided of it; and none was prepared.
     ensures told { IfOk result (λ rs. OfKept (L.shape ledger.old) (L.journals ledger.old)
         (λ _ _. TellResumed (L.shape ledger.old) (L.journals ledger.old) (L.journals ledger.new) ((L.shape ledger.old).coordinators * (L.shape ledger.old).lanes) rs.items)) }
-    ensures prepares { OnOk result (OfKept (L.shape ledger.old) (L.journals ledger.old) (λ _ _. SamePrepared (L.shape ledger.old) (L.journals ledger.old) (L.journals ledger.new))) }
+    ensures prepares { SamePrepared (L.shape ledger.old) (L.journals ledger.old) (L.journals ledger.new) }
     ensures quiet { OnOk result (OfKept (L.shape ledger.old) (L.journals ledger.old) (λ _ _. L.quiet ledger.old → L.quiet ledger.new)) }
+    ensures flies { OfKept (L.shape ledger.old) (L.journals ledger.old) (FliesOn (L.shape ledger.old) (L.journals ledger.old) (L.journals ledger.new) (L.flights ledger.old) (L.flights ledger.new)) }
     ensures holds { L.holds ledger.old → L.holds ledger.new }
     ensures later { (n : ℕ) → L.faults ledger.old n ≤ L.faults ledger.new n }
     ensures opened_same { (n : ℕ) → L.opened ledger.new n ≡ L.opened ledger.old n }
@@ -91,6 +97,9 @@ pub fn resume_all<L: Turns, G: Gate>(
     // Its fault has its cause.
     ensures fault { IfErr result (IsRunCause (L.shape ledger.old) (λ _. Nothing) (L.journals ledger.old) (L.journals ledger.new)
         (HaveFailed (L.opened ledger.new) (L.faults ledger.new)) (MayHold (L.capacity ledger.new))) }
+
+    // It is that of the least lane that met one: all lesser lanes are idle.
+    ensures least { IfErr result (IsLeastOpen (L.shape ledger.old) (L.journals ledger.old) (L.journals ledger.new) (HaveFailed (L.opened ledger.new) (L.faults ledger.new)) (MayHold (L.capacity ledger.new))) }
 {
     let count = ledger.shape().lane_count();
     let Ok(mut batches) = Vec::with_capacity(alloc, count as usize) else {

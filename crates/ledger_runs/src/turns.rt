@@ -1,11 +1,13 @@
 // What a run asks of the nodes of a ledger.
-ghost use Rattle.std.specs.Prelude.{◌≡◌, ◌≤◌, ℕ, List, length, All, IfOk, IfErr, OnOk};
+ghost use Rattle.std.specs.Prelude.{◌≡◌, ◌≤◌, ℕ, List, Option, [], ◌∷◌, length, All, IfOk, IfErr, OnOk};
 ghost use Rattle.cbdc_model.specs.Records.{Shape as ShapeOf, Record};
 ghost use Rattle.cbdc_model.specs.Slots.{Idle};
 ghost use Rattle.cbdc_model.specs.Grammar.{HasSize, IsCompact};
 ghost use Rattle.ledger_runs.specs.Turning.{phase_at, IsLaneOf, KeepsLanes, OfKept, StaysKept, StaysKeptBy, DidBatch, TookUp};
+ghost use Rattle.ledger_runs.specs.Flying.{FliesOn, FliesOnBy};
 ghost use Rattle.ledger_runs.specs.Telling.{IsOpened};
-ghost use Rattle.ledger_runs.specs.Faults.{GrowBy, IsLaneCause, HaveFailed, MayHold, Nothing, IsThese};
+ghost use Rattle.ledger_runs.specs.Pieces.{HasPrepared, IsUnprepared};
+ghost use Rattle.ledger_runs.specs.Faults.{GrowBy, IsLaneCause, HaveFailed, MayHold, Nothing};
 
 use cbdc_types::{CompactTx, LaneId, Shape};
 use lane_driver::{BatchReport, LaneFault};
@@ -20,6 +22,9 @@ pub trait Turns {
 
     /// The journal of each node, the newest record first.
     ghost journals: { Self → ℕ → List Record };
+
+    /// The record in flight at each node, if there is one: a failed call may have left it on the node's disk or not.
+    ghost flights: { Self → ℕ → Option Record };
 
     /// How often the disk of each node has failed.
     ghost faults: { Self → ℕ → ℕ };
@@ -63,15 +68,17 @@ pub trait Turns {
         ensures does { IfOk result (λ r. OfKept (shape self.old) (journals self.old) (λ _ _. DidBatch (shape self.old) lane txs.now (journals self.old) (journals self.new) r)) }
         ensures full { IfOk result (λ r. length r.outcomes ≡ length txs.now) }
         ensures quiet { OnOk result (OfKept (shape self.old) (journals self.old) (λ _ _. quiet self.old → quiet self.new)) }
+        ensures flies { OfKept (shape self.old) (journals self.old) (FliesOnBy (shape self.old) txs.now (journals self.old) (journals self.new) (flights self.old) (flights self.new)) }
         ensures holds { holds self.old → holds self.new }
         ensures later { (n : ℕ) → faults self.old n ≤ faults self.new n }
         ensures opened_same { (n : ℕ) → opened self.new n ≡ opened self.old n }
         ensures capacity_same { (n : ℕ) → capacity self.new n ≡ capacity self.old n }
         ensures checked { checked self.new }
         ensures grows { GrowBy lane (journals self.old) (journals self.new) }
+        ensures prepared { OnOk result (HasPrepared (shape self.old) lane (txs.now ∷ []) (journals self.old) (journals self.new)) }
 
-        // Its fault has its cause.
-        ensures fault { IfErr result (IsLaneCause (shape self.old) lane (IsThese txs.now) (journals self.old) (journals self.new)
+        // Its fault has its cause: what it wants where its batch was not begun is the Prepare of these transactions.
+        ensures fault { IfErr result (IsLaneCause (shape self.old) lane (IsUnprepared (shape self.old) lane txs.now (journals self.old) (journals self.new)) (journals self.old) (journals self.new)
             (HaveFailed (opened self.new) (faults self.new)) (MayHold (capacity self.new))) };
 
     /// Brings the open batch of a lane to its end, if it has one.
@@ -90,12 +97,14 @@ pub trait Turns {
         ensures took { IfOk result (λ found. OfKept (shape self.old) (journals self.old) (λ _ _. TookUp (shape self.old) lane (journals self.old) (journals self.new) found)) }
         ensures opened { IfOk result (IsOpened (shape self.old) lane (journals self.old)) }
         ensures quiet { OnOk result (OfKept (shape self.old) (journals self.old) (λ _ _. quiet self.old → quiet self.new)) }
+        ensures flies { OfKept (shape self.old) (journals self.old) (FliesOn (shape self.old) (journals self.old) (journals self.new) (flights self.old) (flights self.new)) }
         ensures holds { holds self.old → holds self.new }
         ensures later { (n : ℕ) → faults self.old n ≤ faults self.new n }
         ensures opened_same { (n : ℕ) → opened self.new n ≡ opened self.old n }
         ensures capacity_same { (n : ℕ) → capacity self.new n ≡ capacity self.old n }
         ensures checked { checked self.new }
         ensures grows { GrowBy lane (journals self.old) (journals self.new) }
+        ensures unprepared { HasPrepared (shape self.old) lane [] (journals self.old) (journals self.new) }
 
         // Its fault has its cause.
         ensures fault { IfErr result (IsLaneCause (shape self.old) lane Nothing (journals self.old) (journals self.new)

@@ -8,7 +8,10 @@ ghost use Rattle.cbdc_model.specs.World.{AreIdle};
 ghost use Rattle.cbdc_model.specs.Waves.{IsFileRun};
 ghost use Rattle.ledger_runs.specs.Turning.{phase_at, IsLaneOf, KeepsLanes, OfKept, StaysKeptBy};
 ghost use Rattle.ledger_runs.specs.Waving.{HaveSent, AreWithin, NoFault, AreReady, AllProper, TookTurn, KeepsSent, OfSent, GoesOn, AreShorter, TurnsAt};
+ghost use Rattle.ledger_runs.specs.Pieces.{HasPreparedFrom, HaveTaken, HavePreparedAll};
 ghost use Rattle.ledger_runs.specs.Faults.{GrowBy, HaveFailed, MayHold, HaveCauses, IsTurnCause};
+ghost use Rattle.ledger_runs.specs.Flying.{FliesOnBy, FliesSent};
+ghost use Rattle.ledger_runs.specs.Least.{RunTheirs};
 ghost use Rattle.ledger_runs.specs.Telling.{TellsTurn, TellSince, AllTell, AreFresh};
 ghost use Rattle.ledger_runs.specs.declared.lanes.Lane.{Lane as LaneOf};
 
@@ -50,13 +53,15 @@ fn turn<L: Turns, G: Gate>(
     ensures told { lane.new.fault ≡ None → OfKept (L.shape ledger.old) (L.journals ledger.old)
         (λ _ _. TellsTurn (L.shape ledger.old) number lane.old lane.new (L.journals ledger.old) (L.journals ledger.new)) }
     ensures quiet { lane.new.fault ≡ None → OfKept (L.shape ledger.old) (L.journals ledger.old) (λ _ _. L.quiet ledger.old → L.quiet ledger.new) }
+    ensures flies { OfKept (L.shape ledger.old) (L.journals ledger.old) (FliesOnBy (L.shape ledger.old) lane.old.txs.items (L.journals ledger.old) (L.journals ledger.new) (L.flights ledger.old) (L.flights ledger.new)) }
     ensures holds { L.holds ledger.old → L.holds ledger.new }
     ensures later { (n : ℕ) → L.faults ledger.old n ≤ L.faults ledger.new n }
     ensures opened_same { (n : ℕ) → L.opened ledger.new n ≡ L.opened ledger.old n }
     ensures capacity_same { (n : ℕ) → L.capacity ledger.new n ≡ L.capacity ledger.old n }
     ensures checked { L.checked ledger.new }
     ensures grows { GrowBy number (L.journals ledger.old) (L.journals ledger.new) }
-    ensures cause { IsTurnCause (L.shape ledger.old) number lane.old lane.new (L.journals ledger.old) (L.journals ledger.new) (HaveFailed (L.opened ledger.new) (L.faults ledger.new)) (MayHold (L.capacity ledger.new)) }
+    ensures prepared { lane.new.fault ≡ None → HasPreparedFrom (L.shape ledger.old) number start lane.old.txs.items (L.journals ledger.old) (L.journals ledger.new) }
+    ensures cause { IsTurnCause (L.shape ledger.old) number start lane.old lane.new (L.journals ledger.old) (L.journals ledger.new) (HaveFailed (L.opened ledger.new) (L.faults ledger.new)) (MayHold (L.capacity ledger.new)) }
 {
     if lane.fault.is_some() || start >= lane.txs.len() {
         return;
@@ -92,14 +97,18 @@ fn turn_at<L: Turns, G: Gate>(
         → OfKept (L.shape ledger.old) (L.journals ledger.old) (λ _ _. TellsTurn (L.shape ledger.old) number x y (L.journals ledger.old) (L.journals ledger.new)) }
     ensures quiet { (y : LaneOf) → slice_get lanes.new.items number ≡ Some y → y.fault ≡ None
         → OfKept (L.shape ledger.old) (L.journals ledger.old) (λ _ _. L.quiet ledger.old → L.quiet ledger.new) }
+    ensures flies { (x : LaneOf) → slice_get lanes.old.items number ≡ Some x
+        → OfKept (L.shape ledger.old) (L.journals ledger.old) (FliesOnBy (L.shape ledger.old) x.txs.items (L.journals ledger.old) (L.journals ledger.new) (L.flights ledger.old) (L.flights ledger.new)) }
     ensures holds { L.holds ledger.old → L.holds ledger.new }
     ensures later { (n : ℕ) → L.faults ledger.old n ≤ L.faults ledger.new n }
     ensures opened_same { (n : ℕ) → L.opened ledger.new n ≡ L.opened ledger.old n }
     ensures capacity_same { (n : ℕ) → L.capacity ledger.new n ≡ L.capacity ledger.old n }
     ensures checked { L.checked ledger.new }
     ensures grows { GrowBy number (L.journals ledger.old) (L.journals ledger.new) }
+    ensures prepared { (x y : LaneOf) → slice_get lanes.old.items number ≡ Some x → slice_get lanes.new.items number ≡ Some y → y.fault ≡ None
+        → HasPreparedFrom (L.shape ledger.old) number start x.txs.items (L.journals ledger.old) (L.journals ledger.new) }
     ensures cause { (x y : LaneOf) → slice_get lanes.old.items number ≡ Some x → slice_get lanes.new.items number ≡ Some y
-        → IsTurnCause (L.shape ledger.old) number x y (L.journals ledger.old) (L.journals ledger.new) (HaveFailed (L.opened ledger.new) (L.faults ledger.new)) (MayHold (L.capacity ledger.new)) }
+        → IsTurnCause (L.shape ledger.old) number start x y (L.journals ledger.old) (L.journals ledger.new) (HaveFailed (L.opened ledger.new) (L.faults ledger.new)) (MayHold (L.capacity ledger.new)) }
 {
     turn(
         alloc,
@@ -137,13 +146,17 @@ fn turns<L: Turns, G: Gate>(
     ensures told { (E : ℕ → List Record) → OfSent (L.shape ledger.old) (L.journals ledger.old) lanes.old.items lanes.new.items
         (TellSince (L.shape ledger.old) E (L.journals ledger.old) lanes.old.items → TellSince (L.shape ledger.old) E (L.journals ledger.new) lanes.new.items) }
     ensures quiet { OfSent (L.shape ledger.old) (L.journals ledger.old) lanes.old.items lanes.new.items (L.quiet ledger.old → L.quiet ledger.new) }
+    ensures flies { (sent : ℕ → List Compact) → HaveSent sent lanes.old.items
+        → OfKept (L.shape ledger.old) (L.journals ledger.old) (FliesSent (L.shape ledger.old) sent (L.journals ledger.old) (L.journals ledger.new) (L.flights ledger.old) (L.flights ledger.new)) }
     ensures holds { L.holds ledger.old → L.holds ledger.new }
     ensures later { (n : ℕ) → L.faults ledger.old n ≤ L.faults ledger.new n }
     ensures opened_same { (n : ℕ) → L.opened ledger.new n ≡ L.opened ledger.old n }
     ensures capacity_same { (n : ℕ) → L.capacity ledger.new n ≡ L.capacity ledger.old n }
     ensures checked { L.checked ledger.new }
     ensures grows { (n : ℕ) → IsEnd (L.journals ledger.old n) (L.journals ledger.new n) }
-    ensures causes { (E : ℕ → List Record) → ((n : ℕ) → IsEnd (E n) (L.journals ledger.old n))
+    ensures taken { (E : ℕ → List Record) → HaveTaken (L.shape ledger.old) E (L.journals ledger.old) (λ _. start) lanes.old.items
+        → HaveTaken (L.shape ledger.old) E (L.journals ledger.new) (λ _. start + (L.shape ledger.old).batch) lanes.new.items }
+    ensures causes { (E : ℕ → List Record) → ((n : ℕ) → IsEnd (E n) (L.journals ledger.old n)) → HaveTaken (L.shape ledger.old) E (L.journals ledger.old) (λ _. start) lanes.old.items
         → HaveCauses (L.shape ledger.old) E (L.journals ledger.old) (HaveFailed (L.opened ledger.old) (L.faults ledger.old)) (MayHold (L.capacity ledger.old)) lanes.old.items
         → HaveCauses (L.shape ledger.old) E (L.journals ledger.new) (HaveFailed (L.opened ledger.new) (L.faults ledger.new)) (MayHold (L.capacity ledger.new)) lanes.new.items }
 {
@@ -181,16 +194,22 @@ pub fn run_wave<L: Turns, G: Gate>(alloc: Global, ledger: &mut L, lanes: &mut Ve
         → OfKept (L.shape ledger.old) (L.journals ledger.old) (λ _ submissions. AllProper (L.shape ledger.old) sent submissions
         → IsFileRun (L.shape ledger.old) sent (L.journals ledger.old) (L.journals ledger.new)) }
 
+    // Each lane that met no fault has run all that it got, whatever the others met.
+    ensures theirs { RunTheirs (L.shape ledger.old) (L.journals ledger.old) (L.journals ledger.new) lanes.new.items }
+
     // Each lane tells what was decided of its transactions, where none had a turn before.
     ensures told { OfSent (L.shape ledger.old) (L.journals ledger.old) lanes.old.items lanes.new.items
         (AreFresh lanes.old.items → AllTell (L.shape ledger.old) (L.journals ledger.old) (L.journals ledger.new) lanes.new.items) }
     ensures quiet { OfSent (L.shape ledger.old) (L.journals ledger.old) lanes.old.items lanes.new.items (L.quiet ledger.old → L.quiet ledger.new) }
+    ensures flies { (sent : ℕ → List Compact) → HaveSent sent lanes.old.items
+        → OfKept (L.shape ledger.old) (L.journals ledger.old) (FliesSent (L.shape ledger.old) sent (L.journals ledger.old) (L.journals ledger.new) (L.flights ledger.old) (L.flights ledger.new)) }
     ensures holds { L.holds ledger.old → L.holds ledger.new }
     ensures later { (n : ℕ) → L.faults ledger.old n ≤ L.faults ledger.new n }
     ensures opened_same { (n : ℕ) → L.opened ledger.new n ≡ L.opened ledger.old n }
     ensures capacity_same { (n : ℕ) → L.capacity ledger.new n ≡ L.capacity ledger.old n }
     ensures checked { L.checked ledger.new }
     ensures grows { (n : ℕ) → IsEnd (L.journals ledger.old n) (L.journals ledger.new n) }
+    ensures prepared { NoFault lanes.new.items → HavePreparedAll (L.shape ledger.old) (L.journals ledger.old) (L.journals ledger.new) lanes.new.items }
 
     // Each fault has its cause, where none had one before.
     ensures causes { NoFault lanes.old.items → HaveCauses (L.shape ledger.old) (L.journals ledger.old) (L.journals ledger.new) (HaveFailed (L.opened ledger.new) (L.faults ledger.new)) (MayHold (L.capacity ledger.new)) lanes.new.items }

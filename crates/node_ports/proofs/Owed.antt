@@ -1,12 +1,13 @@
 -- What an answer of a coordinator says of its journal.
 use Rattle.std.proofs.Common.{◌≡◌, ℕ, ◌+◌, ◌≤◌, Bool, true, false, List, ◌∷◌, refl, ap, ◌∙◌, inl, inr, Some, None, Option, Result, Ok, Err}
-use Rattle.std.specs.Prelude.{nat_lt}
+use Rattle.std.specs.Prelude.{nat_lt, IfErr, OnOk}
 use Rattle.std.proofs.lemmas.Bool.{ltb-false}
 use Rattle.cbdc_types.specs.declared.calls.NodeFault.{NodeFault}
 use Rattle.cbdc_types.specs.declared.calls.NodeFault.TheVariants.{Broken, Refused as Refuses, ClockEnd, Full, DiskFault, Memory}
 use Rattle.cbdc_model.specs.Records.{Record}
 use Rattle.cbdc_model.specs.Due.{Due, Answers, Writes, unless_broken, if_early, if_room}
-use Rattle.cbdc_model.specs.Sights.{Sight, IsSameNode, Meets}
+use Rattle.cbdc_model.specs.Sights.{Sight, IsSameNode, Meets, MeetsFault}
+use Rattle.lane_driver.specs.Told.{IsStillNode}
 
 -- whatever it answered, it is the same node
 pub same_node : {A : Type 0} (m : Bool) (due : Due A) (old new : Sight) (J : List Record) (result : Result A NodeFault) → Meets m due old new J result → IsSameNode old new
@@ -18,6 +19,37 @@ same_node m due old new J (Err (Broken since)) told = told.1.node
 same_node m due old new J (Err (Refuses why)) told = told.1.node
 same_node m due old new J (Err (ClockEnd stamp)) told = told.1.node
 same_node m due old new J (Err (Full used need capacity)) told = told.1.node
+
+-- a node at which an append has failed writes nothing
+still_flying : {A : Type 0} (m : Bool) (broken : Option ℕ) (due : Due A) (old new : Sight) (result : Result A NodeFault) (r : Record) → Meets m (unless_broken broken due) old new old.seen result
+    → (broken ≡ None → old.flight ≡ None) → old.flight ≡ Some r → (new.flight ≡ Some r) × (new.seen ≡ old.seen)
+still_flying m None due old new result r meets landed is = let none : old.flight ≡ None = landed refl in cc
+still_flying m (Some since) due old new (Ok a) r (inl (e, stays)) landed is = cc
+still_flying m (Some since) due old new (Ok a) r (inr (q, e, appends)) landed is = cc
+still_flying m (Some since) due old new (Err DiskFault) r (a, q, e, fails) landed is = cc
+still_flying m (Some since) due old new (Err Memory) r (e, stays) landed is = (stays.flight ∙ is, stays.seen)
+still_flying m (Some since) due old new (Err (Broken s)) r (e, stays) landed is = (stays.flight ∙ is, stays.seen)
+still_flying m (Some since) due old new (Err (Refuses why)) r (e, stays) landed is = (stays.flight ∙ is, stays.seen)
+still_flying m (Some since) due old new (Err (ClockEnd stamp)) r (e, stays) landed is = (stays.flight ∙ is, stays.seen)
+still_flying m (Some since) due old new (Err (Full used need capacity)) r (e, stays) landed is = (stays.flight ∙ is, stays.seen)
+
+-- so a record in flight stays so
+pub still_node : {A : Type 0} (m : Bool) (broken : Option ℕ) (due : Due A) (old new : Sight) (result : Result A NodeFault) → Meets m (unless_broken broken due) old new old.seen result → (broken ≡ None → old.flight ≡ None)
+    → IsStillNode old new
+still_node m broken due old new result meets landed =
+    let same : IsSameNode old new = same_node m (unless_broken broken due) old new old.seen result meets in
+    record { header = same.header; opened = same.opened; capacity = same.capacity; later = same.later; flying = λ r is. still_flying m broken due old new result r meets landed is }
+
+-- where it is known of faults alone what was owed
+pub still_decided : {A : Type 0} (m : Bool) (broken : Option ℕ) (due : Record → Due A) (old new : Sight) (result : Result A NodeFault) → IsSameNode old new
+    → IfErr result (λ f. (r : Record) × MeetsFault m (unless_broken broken (due r)) old new old.seen f) → OnOk result (broken ≡ None) → (broken ≡ None → old.flight ≡ None) → IsStillNode old new
+still_decided {A} m broken due old new result same fault whole landed =
+    record { header = same.header; opened = same.opened; capacity = same.capacity; later = same.later; flying = λ r is. go result r fault whole is }
+  where
+    go : (result : Result A NodeFault) (r : Record) → IfErr result (λ f. (r : Record) × MeetsFault m (unless_broken broken (due r)) old new old.seen f) → OnOk result (broken ≡ None) → old.flight ≡ Some r
+        → (new.flight ≡ Some r) × (new.seen ≡ old.seen)
+    go (Ok a) r fault whole is = let none : old.flight ≡ None = landed whole in cc
+    go (Err f) r (q, told) whole is = still_flying m broken (due q) old new (Err f) r told landed is
 
 -- at Ok the record that was owed is written
 pub record Wrote {A : Type 0} (a answer : A) (r : Record) (stamp bound : ℕ) (new : Sight) (J : List Record) : Type 0 where

@@ -4,9 +4,9 @@ ghost use Rattle.cbdc_model.specs.Grammar.{HasSize, IsCompact};
 ghost use Rattle.cbdc_model.specs.Records.{txs_of, outcomes_of};
 ghost use Rattle.cbdc_model.specs.Due.{open_batch, prepare_due, discard_due, done_due};
 ghost use Rattle.cbdc_model.specs.Slots.{slot, Idle, InPrepare, InCommit, InDiscard};
-ghost use Rattle.cbdc_model.specs.Sights.{Told, IsSameNode};
+ghost use Rattle.cbdc_model.specs.Sights.{Told};
 ghost use Rattle.lane_laws.specs.Answers.{DecideAnswer};
-ghost use Rattle.lane_driver.specs.Told.{IsLane, IsPrepared, IsStamp, AreReplies};
+ghost use Rattle.lane_driver.specs.Told.{IsLane, IsPrepared, IsStamp, AreReplies, IsStillNode};
 ghost use Rattle.lane_driver.specs.Causes.{IsLogCause};
 ghost use Rattle.coord_log.specs.Logs.{sight};
 ghost use Rattle.node_ports.specs.Nodes.{sight_at, KeepsRest, IsLogHeld, AreLogsHeld};
@@ -65,7 +65,7 @@ fn prepare_at<D: Disk>(
     ensures phase { OnOk result ((slot log.new.journal lane).phase ≡ InPrepare) }
     ensures txs { OnOk result (txs_of log.new.journal (open_batch log.new.journal lane) ≡ txs.now) }
     ensures others { KeepsRest (sight log.old) (sight log.new) lane }
-    ensures node { IsSameNode (sight log.old) (sight log.new) }
+    ensures node { IsStillNode (sight log.old) (sight log.new) }
     ensures later { log.old.faults ≤ log.new.faults }
     ensures holds { IsLogHeld D.content D.images log.old → IsLogHeld D.content D.images log.new }
 {
@@ -83,7 +83,6 @@ fn decide_at<D: Disk>(
     requires home { IsLane log.old.header lane }
     requires phase { (slot log.old.journal lane).phase ≡ InPrepare }
     requires replies { AreReplies log.old.header.shape replies.now }
-    requires empty { out.old.items ≡ [] }
     requires room { length (txs_of log.old.journal (open_batch log.old.journal lane)) ≤ vec_capacity out.old }
     ensures told { DecideAnswer true lane replies.now (sight log.old) (sight log.new) result }
     ensures fault { IfErr result (λ f. IsLogCause f (sight log.new)) }
@@ -92,7 +91,7 @@ fn decide_at<D: Disk>(
     ensures outcomes { OnOk result (length out.new.items ≡ length (txs_of log.old.journal (open_batch log.old.journal lane))) }
     ensures written { OnOk result (out.new.items ≡ outcomes_of log.new.journal (open_batch log.new.journal lane)) }
     ensures others { KeepsRest (sight log.old) (sight log.new) lane }
-    ensures node { IsSameNode (sight log.old) (sight log.new) }
+    ensures node { IsStillNode (sight log.old) (sight log.new) }
     ensures later { log.old.faults ≤ log.new.faults }
     ensures holds { IsLogHeld D.content D.images log.old → IsLogHeld D.content D.images log.new }
 {
@@ -113,7 +112,7 @@ fn discard_at<D: Disk>(
     ensures stamp { IfOk result IsStamp }
     ensures phase { OnOk result ((slot log.new.journal lane).phase ≡ InDiscard) }
     ensures others { KeepsRest (sight log.old) (sight log.new) lane }
-    ensures node { IsSameNode (sight log.old) (sight log.new) }
+    ensures node { IsStillNode (sight log.old) (sight log.new) }
     ensures later { log.old.faults ≤ log.new.faults }
     ensures holds { IsLogHeld D.content D.images log.old → IsLogHeld D.content D.images log.new }
 {
@@ -130,7 +129,7 @@ fn done_at<D: Disk>(log: &mut CoordLog<D>, lane: LaneId, cause: Stamp) -> Result
     ensures stamp { IfOk result IsStamp }
     ensures phase { OnOk result ((slot log.new.journal lane).phase ≡ Idle) }
     ensures others { KeepsRest (sight log.old) (sight log.new) lane }
-    ensures node { IsSameNode (sight log.old) (sight log.new) }
+    ensures node { IsStillNode (sight log.old) (sight log.new) }
     ensures later { log.old.faults ≤ log.new.faults }
     ensures holds { IsLogHeld D.content D.images log.old → IsLogHeld D.content D.images log.new }
 {

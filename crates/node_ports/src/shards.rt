@@ -3,8 +3,8 @@ ghost use Rattle.std.specs.Prelude.{◌≡◌, ◌≢◌, ◌≤◌, ◌<◌, �
 ghost use Rattle.cbdc_model.specs.Calls.{IsLockCall, IsFinishCall, IsForgetCall};
 ghost use Rattle.cbdc_model.specs.Grammar.{IsReply};
 ghost use Rattle.cbdc_model.specs.Due.{lock_due, finish_due, forget_due};
-ghost use Rattle.cbdc_model.specs.Sights.{Told, IsSameNode};
-ghost use Rattle.lane_driver.specs.Told.{IsStamp, KeepNodes};
+ghost use Rattle.cbdc_model.specs.Sights.{Told};
+ghost use Rattle.lane_driver.specs.Told.{IsStamp, IsStillNode, KeepNodes};
 ghost use Rattle.shard_node.specs.Shards.{sight_of};
 ghost use Rattle.node_ports.specs.Nodes.{sight_at, IsShardHeld, AreShardsHeld};
 
@@ -35,7 +35,7 @@ fn lock_at<D: Disk>(node: &mut ShardNode<D>, call: &LockCall) -> Result<Replied,
     requires { IsLockCall node.old.header call.now }
     ensures answer { Told true call.now.batch.lane true (lock_due node.old.header.shape (D.limit node.old.disk) call.now) (sight_of D.count D.limit node.old) (sight_of D.count D.limit node.new) result }
     ensures told { IfOk result (λ a. IsStamp a.stamp × All (IsReply node.old.header.shape) a.replies) }
-    ensures node { IsSameNode (sight_of D.count D.limit node.old) (sight_of D.count D.limit node.new) }
+    ensures node { IsStillNode (sight_of D.count D.limit node.old) (sight_of D.count D.limit node.new) }
     ensures later { D.count node.old.disk ≤ D.count node.new.disk }
     ensures holds { IsShardHeld D.content D.images node.old → IsShardHeld D.content D.images node.new }
 {
@@ -47,7 +47,7 @@ fn finish_at<D: Disk>(node: &mut ShardNode<D>, call: &FinishCall) -> Result<Stam
     requires { IsFinishCall node.old.header call.now }
     ensures answer { Told true call.now.batch.lane false (finish_due call.now) (sight_of D.count D.limit node.old) (sight_of D.count D.limit node.new) result }
     ensures told { IfOk result IsStamp }
-    ensures node { IsSameNode (sight_of D.count D.limit node.old) (sight_of D.count D.limit node.new) }
+    ensures node { IsStillNode (sight_of D.count D.limit node.old) (sight_of D.count D.limit node.new) }
     ensures later { D.count node.old.disk ≤ D.count node.new.disk }
     ensures holds { IsShardHeld D.content D.images node.old → IsShardHeld D.content D.images node.new }
 {
@@ -59,7 +59,7 @@ fn forget_at<D: Disk>(node: &mut ShardNode<D>, call: &ForgetCall) -> Result<Stam
     requires { IsForgetCall node.old.header call.now }
     ensures answer { Told true call.now.batch.lane false (forget_due call.now) (sight_of D.count D.limit node.old) (sight_of D.count D.limit node.new) result }
     ensures told { IfOk result IsStamp }
-    ensures node { IsSameNode (sight_of D.count D.limit node.old) (sight_of D.count D.limit node.new) }
+    ensures node { IsStillNode (sight_of D.count D.limit node.old) (sight_of D.count D.limit node.new) }
     ensures later { D.count node.old.disk ≤ D.count node.new.disk }
     ensures holds { IsShardHeld D.content D.images node.old → IsShardHeld D.content D.images node.new }
 {

@@ -6,6 +6,8 @@ use Rattle.std.proofs.lemmas.Bool.{ltb-true, ltb-false, cases_lt}
 use Rattle.outside.specs.Counts.{Rose}
 use Rattle.cbdc_model.specs.Records.{Shape, Header, Record}
 use Rattle.cbdc_model.specs.After.{IsJournal}
+use Rattle.cbdc_model.specs.Room.{kept_room}
+use Rattle.cbdc_model.specs.Due.{used_of}
 use Rattle.record_log.specs.Held.{OpensToEither}
 use Rattle.coord_log.specs.Logs.{LogOf, sight, HoldsJournal as HoldsLog}
 use Rattle.shard_node.specs.Shards.{ShardOf, sight_of, HoldsWith, HoldsJournal as HoldsShard}
@@ -15,9 +17,10 @@ use Rattle.node_ports.specs.Nodes.{sight_at}
 use Rattle.rack_nodes.specs.Places.{EachFrom, MayReturn}
 use Rattle.rack_nodes.specs.Racked.{OfTold}
 use Rattle.rack_ledgers.specs.Ledgers.{ByPlace, AreOpened}
-use Rattle.rack_laws.specs.Shown.{KeepsEach, HoldsEach, node_count}
+use Rattle.rack_laws.specs.Shown.{KeepsEach, HoldsEach, LogHasRoom, ShardHasRoom, HaveRoom, node_count}
 use Rattle.rack_laws.proofs.Opened.{at_place, sight_there, all_by}
-use Rattle.ledger_nodes.specs.Ledgers.{IsLedger, journals_of, faults_of, opened_of, capacity_of, AreStored, AreQuiet}
+use Rattle.ledger_nodes.specs.Ledgers.{IsLedger, journals_of, flights_of, faults_of, opened_of, capacity_of, AreStored, AreQuiet}
+use Rattle.ledger_nodes.proofs.Steps.{same_flight}
 
 -- nodes whose disks' counts have not fallen may be put back where those before might
 pub returns : {N : Type 0} (f : N → ℕ) (can : ℕ → ℕ → Type 0) (i : ℕ) (xs ys : List N) → length ys ≡ length xs
@@ -119,6 +122,28 @@ module _ {D : Type 0} (content : D → Option (List ℕ)) (images : D → List �
       ∙ (ap (λ p. (sight_at (sight_of count limit) shards p).seen) (shard_place K s)
       ∙ ap (λ t. t.seen) (sight_there (sight_of count limit) shards s x there))
 
+  log_flight : (K : Shape) (logs : List (LogOf D)) (shards : List (ShardOf D)) (n : ℕ) (l : LogOf D) → n < K.coordinators → slice_get logs n ≡ Some l → flights_of count limit K logs shards n ≡ l.flight
+  log_flight K logs shards n l low there =
+      ap (λ b. if b then (sight_at sight logs n).flight else (sight_at (sight_of count limit) shards (n - K.coordinators)).flight) (log_low K n low)
+      ∙ ap (λ s. s.flight) (sight_there sight logs n l there)
+
+  shard_flight : (K : Shape) (logs : List (LogOf D)) (shards : List (ShardOf D)) (s : ℕ) (x : ShardOf D) → slice_get shards s ≡ Some x → flights_of count limit K logs shards (K.coordinators + s) ≡ x.flight
+  shard_flight K logs shards s x there =
+      ap (λ b. if b then (sight_at sight logs (K.coordinators + s)).flight else (sight_at (sight_of count limit) shards ((K.coordinators + s) - K.coordinators)).flight) (shard_high K s)
+      ∙ (ap (λ p. (sight_at (sight_of count limit) shards p).flight) (shard_place K s)
+      ∙ ap (λ t. t.flight) (sight_there (sight_of count limit) shards s x there))
+
+  -- nodes that were opened have nothing in flight anywhere
+  pub none_fly : (K : Shape) (logs : List (LogOf D)) (shards : List (ShardOf D)) → AreQuiet logs shards → (n : ℕ) → flights_of count limit K logs shards n ≡ None
+  none_fly K logs shards quiet n = go (nat_lt n K.coordinators)
+    where
+      quiet_shard : (s : ℕ) → (sight_at (sight_of count limit) shards s).flight ≡ None
+      quiet_shard s = same_flight count limit shards s ∙ quiet.shards_are s
+
+      go : (b : _) → (if b then (sight_at sight logs n).flight else (sight_at (sight_of count limit) shards (n - K.coordinators)).flight) ≡ None
+      go true = quiet.logs_are n
+      go false = quiet_shard (n - K.coordinators)
+
   module _ (held : ℕ → Option D) (h : Header) (logs now : List (LogOf D)) (shards after : List (ShardOf D)) (are : AreOpened content images limit count held h logs shards)
       (g : Header) (shape : g.shape ≡ h.shape) (is : IsLedger g now after) (later : (n : ℕ) → faults_of count limit h.shape logs shards n ≤ faults_of count limit h.shape now after n) where
     coordinators_stay : length now ≡ h.shape.coordinators
@@ -165,24 +190,26 @@ module _ {D : Type 0} (content : D → Option (List ℕ)) (images : D → List �
       subst (λ R. OpensToEither (reverse R) x.flight c) (sym same) (with_images x.flight x.disk x.gate x.journal holds c (subst (λ y. images y c) (back d told) image))
 
   -- a disk that is back keeps its node's journal, and what is in flight there, where nodes are not quiet
-  record KeepsIt (held : Option D) (J : List Record) (quiet : Type 0) : Type 0 where
+  record KeepsIt (held : Option D) (J : List Record) (flies : Option Record) (quiet : Type 0) : Type 0 where
     flight : Option Record
+    is : flies ≡ flight
     none : quiet → flight ≡ None
     images_are : OfTold held (λ d. (c : List ℕ) → images d c → OpensToEither (reverse J) flight c)
 
   each_keeps : (held : ℕ → Option D) (h : Header) (logs : List (LogOf D)) (shards : List (ShardOf D)) → IsLedger h logs shards → AreStored content images logs shards
       → ByPlace (λ n l. OfTold (held n) (λ d. d ≡ l.disk)) logs → ByPlace (λ s x. OfTold (held (length logs + s)) (λ d. d ≡ x.disk)) shards
-      → (n : ℕ) → n < node_count h.shape → KeepsIt (held n) (journals_of count limit h.shape logs shards n) (AreQuiet logs shards)
+      → (n : ℕ) → n < node_count h.shape → KeepsIt (held n) (journals_of count limit h.shape logs shards n) (flights_of count limit h.shape logs shards n) (AreQuiet logs shards)
   each_keeps held h logs shards is stored logs_back shards_back n inside = go (nat_lt n h.shape.coordinators) refl
     where
       Kept : Type 0
-      Kept = KeepsIt (held n) (journals_of count limit h.shape logs shards n) (AreQuiet logs shards)
+      Kept = KeepsIt (held n) (journals_of count limit h.shape logs shards n) (flights_of count limit h.shape logs shards n) (AreQuiet logs shards)
 
       at_log : n < h.shape.coordinators → Kept
       at_log low =
           let l = at_place logs n (omega (arith, low, is.coordinators)) in
           record {
             flight = l.0.flight;
+            is = log_flight h.shape logs shards n l.0 low l.1;
             none = λ quiet. sym (ap (λ s. s.flight) (sight_there sight logs n l.0 l.1)) ∙ quiet.logs_are n;
             images_are = log_images l.0 (held n) (journals_of count limit h.shape logs shards n) (log_journal h.shape logs shards n l.0 low l.1)
                 (by_all (HoldsLog content images) logs stored.logs_are n l.0 l.1) (logs_back n l.0 l.1);
@@ -195,6 +222,7 @@ module _ {D : Type 0} (content : D → Option (List ℕ)) (images : D → List �
           let same : journals_of count limit h.shape logs shards n ≡ x.0.journal = ap (λ k. journals_of count limit h.shape logs shards k) e ∙ shard_journal h.shape logs shards s x.0 x.1 in
           record {
             flight = x.0.flight;
+            is = ap (λ k. flights_of count limit h.shape logs shards k) e ∙ shard_flight h.shape logs shards s x.0 x.1;
             none = λ quiet. sym (ap (λ t. t.flight) (sight_there (sight_of (λ d. 0) (λ d. 0)) shards s x.0 x.1)) ∙ quiet.shards_are s;
             images_are = shard_images x.0 (held n) (journals_of count limit h.shape logs shards n) same
                 (by_all (HoldsShard content images) shards stored.shards_are s x.0 x.1) (subst (λ k. OfTold (held k) (λ d. d ≡ x.0.disk)) place (shards_back s x.0 x.1));
@@ -213,6 +241,14 @@ module _ {D : Type 0} (content : D → Option (List ℕ)) (images : D → List �
   keeps_each held h logs shards is stored logs_back shards_back n inside =
       let k = each_keeps held h logs shards is stored logs_back shards_back n inside in
       (k.flight, k.images_are)
+
+  -- with the record that is in flight at its node, or without
+  pub keeps_flights : (held : ℕ → Option D) (h : Header) (logs : List (LogOf D)) (shards : List (ShardOf D)) → IsLedger h logs shards → AreStored content images logs shards
+      → ByPlace (λ n l. OfTold (held n) (λ d. d ≡ l.disk)) logs → ByPlace (λ s x. OfTold (held (length logs + s)) (λ d. d ≡ x.disk)) shards
+      → (n : ℕ) → n < node_count h.shape → OfTold (held n) (λ d. (c : List ℕ) → images d c → OpensToEither (reverse (journals_of count limit h.shape logs shards n)) (flights_of count limit h.shape logs shards n) c)
+  keeps_flights held h logs shards is stored logs_back shards_back n inside d told c image =
+      let k = each_keeps held h logs shards is stored logs_back shards_back n inside in
+      subst (λ o. OpensToEither (reverse (journals_of count limit h.shape logs shards n)) o c) (sym k.is) (k.images_are d told c image)
 
   -- and hold nothing else, where nothing is in flight
   pub holds_each : (held : ℕ → Option D) (h : Header) (logs : List (LogOf D)) (shards : List (ShardOf D)) → IsLedger h logs shards → AreStored content images logs shards
@@ -242,6 +278,31 @@ module _ {D : Type 0} (content : D → Option (List ℕ)) (images : D → List �
         let place : K.coordinators + (n - K.coordinators) ≡ n = omega (arith, high) in
         subst P place (shard (n - K.coordinators) (omega (arith, high, inside)))
   ]
+
+  -- disks that are back have room for what is kept for their open batches, where their nodes have
+  pub rooms_each : (held : ℕ → Option D) (h : Header) (logs : List (LogOf D)) (shards : List (ShardOf D)) → IsLedger h logs shards → All (LogHasRoom limit) logs → All (ShardHasRoom limit) shards
+      → ByPlace (λ n l. OfTold (held n) (λ d. d ≡ l.disk)) logs → ByPlace (λ s x. OfTold (held (length logs + s)) (λ d. d ≡ x.disk)) shards
+      → HaveRoom limit held h.shape (journals_of count limit h.shape logs shards)
+  rooms_each held h logs shards is log_rooms shard_rooms logs_back shards_back =
+      by_node h.shape (λ n. OfTold (held n) (λ d. Here (journals_of count limit h.shape logs shards n) d)) at_log at_shard
+    where
+      Here : List Record → D → Type 0
+      Here J d = used_of J + kept_room h.shape J ≤ limit d
+
+      at_log : (n : ℕ) → n < h.shape.coordinators → OfTold (held n) (λ d. Here (journals_of count limit h.shape logs shards n) d)
+      at_log n low d told =
+          let l = at_place logs n (omega (arith, low, is.coordinators)) in
+          let shape : l.0.header.shape ≡ h.shape = ap (λ s. s.header.shape) (sym (sight_there sight logs n l.0 l.1)) ∙ ap (λ x. x.shape) (is.log_headers n low) in
+          let own : Here l.0.journal l.0.disk = subst (λ k. used_of l.0.journal + kept_room k l.0.journal ≤ limit l.0.disk) shape (by_all (LogHasRoom limit) logs log_rooms n l.0 l.1) in
+          subst (λ J. Here J d) (sym (log_journal h.shape logs shards n l.0 low l.1)) (subst (λ x. Here l.0.journal x) (sym (logs_back n l.0 l.1 d told)) own)
+
+      at_shard : (s : ℕ) → s < h.shape.shards → OfTold (held (h.shape.coordinators + s)) (λ d. Here (journals_of count limit h.shape logs shards (h.shape.coordinators + s)) d)
+      at_shard s low d told =
+          let x = at_place shards s (omega (arith, low, is.shards_are)) in
+          let shape : x.0.header.shape ≡ h.shape = ap (λ t. t.header.shape) (sym (sight_there (sight_of (λ d. 0) (λ d. 0)) shards s x.0 x.1)) ∙ ap (λ y. y.shape) (is.shard_headers s low) in
+          let own : Here x.0.journal x.0.disk = subst (λ k. used_of x.0.journal + kept_room k x.0.journal ≤ limit x.0.disk) shape (by_all (ShardHasRoom limit) shards shard_rooms s x.0 x.1) in
+          let back : d ≡ x.0.disk = subst (λ k. OfTold (held (k + s)) (λ d. d ≡ x.0.disk)) is.coordinators (shards_back s x.0 x.1) d told in
+          subst (λ J. Here J d) (sym (shard_journal h.shape logs shards s x.0 x.1)) (subst (λ y. Here x.0.journal y) (sym back) own)
 
   -- a node may hold what its disk may that was told
   pub may_hold : (held : ℕ → Option D) (h : Header) (logs : List (LogOf D)) (shards : List (ShardOf D)) → AreOpened content images limit count held h logs shards

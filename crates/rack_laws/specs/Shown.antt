@@ -1,11 +1,15 @@
 -- Ledgers as racks show and store them.
-use Rattle.std.specs.Prelude.{◌≡◌, ℕ, ◌+◌, ◌<◌, List, reverse, Option, Some}
+use Rattle.std.specs.Prelude.{◌≡◌, ℕ, ◌+◌, ◌<◌, ◌≤◌, List, reverse, Option, Some}
 use Rattle.cbdc_types.specs.Limits.{IsWithinLimits}
 use Rattle.cbdc_model.specs.Records.{Digest, Shape, Record}
 use Rattle.cbdc_model.specs.Coins.{Output, FullTx, genesis_id}
 use Rattle.cbdc_model.specs.History.{header_of}
 use Rattle.cbdc_model.specs.World.{KeptJournals}
+use Rattle.cbdc_model.specs.Room.{kept_room}
+use Rattle.cbdc_model.specs.Due.{used_of}
 use Rattle.record_log.specs.Held.{OpensTo, OpensToEither}
+use Rattle.coord_log.specs.Logs.{LogOf}
+use Rattle.shard_node.specs.Shards.{ShardOf}
 use Rattle.rack_nodes.specs.Racked.{OfTold}
 use Rattle.rack_nodes.specs.Refused.{IsNodeJournal}
 
@@ -34,3 +38,22 @@ KeepsEach images held K X = (n : ℕ) → n < node_count K
 -- whatever a crash may leave of a node's disk that is told opens to exactly this journal
 abbrev pub HoldsEach : {D : Type 0} → (D → List ℕ → Type 0) → (ℕ → Option D) → Shape → (ℕ → List Record) → Type 0
 HoldsEach images held K X = (n : ℕ) → n < node_count K → OfTold (held n) (λ d. (c : List ℕ) → images d c → OpensTo (reverse (X n)) c)
+
+-- one image of each node's disk that is told: what a crash may leave of them
+abbrev pub AreLeft : {D : Type 0} → (D → List ℕ → Type 0) → (ℕ → Option D) → Shape → (ℕ → List ℕ) → Type 0
+AreLeft images held K contents = (n : ℕ) → n < node_count K → OfTold (held n) (λ d. images d (contents n))
+
+-- those open to these journals
+abbrev pub OpenTo : {D : Type 0} → (ℕ → Option D) → Shape → (ℕ → List ℕ) → (ℕ → List Record) → Type 0
+OpenTo held K contents X = (n : ℕ) → n < node_count K → OfTold (held n) (λ d. OpensTo (reverse (X n)) (contents n))
+
+-- a coordinator's disk, and a shard's, has room for its journal and for what is kept for its open batches
+abbrev pub LogHasRoom : {D : Type 0} → (D → ℕ) → LogOf D → Type 0
+LogHasRoom limit l = used_of l.journal + kept_room l.header.shape l.journal ≤ limit l.disk
+
+abbrev pub ShardHasRoom : {D : Type 0} → (D → ℕ) → ShardOf D → Type 0
+ShardHasRoom limit s = used_of s.journal + kept_room s.header.shape s.journal ≤ limit s.disk
+
+-- so has each disk that is told, by these journals of its ledger's nodes
+abbrev pub HaveRoom : {D : Type 0} → (D → ℕ) → (ℕ → Option D) → Shape → (ℕ → List Record) → Type 0
+HaveRoom limit held K X = (n : ℕ) → n < node_count K → OfTold (held n) (λ d. used_of (X n) + kept_room K (X n) ≤ limit d)

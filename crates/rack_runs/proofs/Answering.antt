@@ -1,7 +1,8 @@
 -- What a lane's fault answers has its cause.
-use Rattle.std.proofs.Common.{◌≡◌, ◌⊎◌, inl, inr, ℕ, zero, suc, ◌+◌, ◌*◌, ◌/◌, ◌<◌, ◌≤◌, true, List, length, reverse, Option, sym, subst, arith}
+use Rattle.std.proofs.Common.{◌≡◌, ◌⊎◌, inl, inr, ℕ, zero, suc, ◌+◌, ◌*◌, ◌/◌, ◌<◌, ◌≤◌, true, List, [], ◌∷◌, ◌++◌, length, reverse, Option, sym, ap, ◌∙◌, subst, arith}
 use Rattle.std.specs.Prelude.{Result, Ok, Err, IfErr, All}
 use Rattle.std.proofs.lemmas.Nat.{div_below}
+use Rattle.std.proofs.lemmas.List.{length-append}
 use Rattle.outside.specs.Counts.{Rose}
 use Rattle.cbdc_types.specs.declared.answer.Answer.{Answer}
 use Rattle.cbdc_types.specs.declared.answer.Answer.TheVariants as answers
@@ -9,6 +10,7 @@ use Rattle.cbdc_model.specs.Records.{Shape, Header, Compact, Record, Row, journa
 use Rattle.cbdc_model.specs.Ranges.{home_of}
 use Rattle.cbdc_model.specs.Lanes.{IsEnd}
 use Rattle.cbdc_model.specs.Coins.{FullTx}
+use Rattle.cbdc_model.specs.Waves.{sent_to}
 use Rattle.ledger_laws.proofs.Cuts.{end_self}
 use Rattle.lane_laws.specs.Calls.{is_concerned}
 use Rattle.lane_driver.specs.declared.fault.LaneFault.{LaneFault}
@@ -21,15 +23,22 @@ use Rattle.rack_ledgers.specs.Ledgers.{ByPlace, AreOpened}
 use Rattle.caused_ledgers.specs.Caused.{journals_of as lent_journals, AreCaused}
 use Rattle.caused_ledgers.proofs.Told.{told_history}
 use Rattle.submissions.specs.Checks.{VerdictsOf}
+use Rattle.sound_laws.specs.SoundTest.{sound_by}
+use Rattle.sound_laws.proofs.Telling.{is_sound_law}
 use Rattle.ledger_runs.specs.Turning.{IsLaneOf}
-use Rattle.ledger_runs.specs.Faults.{IsWanted, wants_prepare, wants_lock, IsSomeCauseOf, IsRunCause, HaveFailed, MayHold, Nothing}
+use Rattle.ledger_runs.specs.Telling.{SamePrepared}
+use Rattle.ledger_runs.specs.Pieces.{IsNextOf}
+use Rattle.ledger_runs.specs.Faults.{IsWanted, wants_prepare, wants_lock, IsCauseOf, IsSomeCauseOf, IsRunCause, HaveFailed, MayHold, Nothing}
+use Rattle.ledger_runs.specs.Least.{IsLeastFault, IsLeastOpen}
 use Rattle.ledger_runs.proofs.Faulting.{run_moves}
-use Rattle.file_runs.specs.Runs.{IsFilesPiece}
+use Rattle.file_runs.specs.Runs.{IsSentPiece, IsFilesPiece}
+use Rattle.file_runs.specs.Endings.{EndsFirst, EndsFiles}
 use Rattle.ledger_nodes.specs.Ledgers.{IsLedger, journals_of, faults_of, opened_of, capacity_of, AreStored}
-use Rattle.rack_laws.specs.Shown.{KeepsEach, node_count}
+use Rattle.rack_laws.specs.Shown.{OfShown, KeepsEach, node_count}
 use Rattle.rack_laws.proofs.Behind.{keeps_each, told_stored, may_hold, have_risen}
 use Rattle.rack_runs.specs.Kinds.{answer_at, answer_to, IsLaneAnswer}
-use Rattle.rack_runs.specs.Runs.{IsLaneFault, NothingNext, PieceNext}
+use Rattle.rack_runs.specs.Endings.{EndsRun, IsLeastAnswer}
+use Rattle.rack_runs.specs.Runs.{IsCutShort, IsLaneFault, NothingNext, PieceNext}
 use Rattle.rack_runs.specs.declared.over.Over.{Over}
 use Rattle.rack_runs.specs.declared.over.Ran.{Ran}
 use Rattle.rack_runs.proofs.Checking.{same_journals}
@@ -117,6 +126,89 @@ module _ (K : Shape) (next due : ℕ → List Compact → Type 0) (E X : ℕ →
   answer_moves (answers.ReadFault file) h = absurd h
   answer_moves answers.WriteFault h = absurd h
 
+-- ---- the least lane's fault
+
+pub came_ends : (ends : LaneFault → Type 0) (came : Result Ran Answer) (over : Result Over LaneFault)
+    → IfErr came (λ a. (a ≡ answers.Memory) ⊎ ((e : LaneFault) × (over ≡ Err e) × (a ≡ answer_to e))) → IfErr over ends → IfErr came (IsLeastAnswer ends)
+came_ends ends (Ok r) over told least = tt
+came_ends ends (Err a) over (inl memory) least = inl memory
+came_ends ends (Err a) over (inr (e, err, is)) least = inr (e, is, subst (λ o. IfErr o ends) err least)
+
+module _ (K : Shape) (failed fails : ℕ → Type 0) (holds held : ℕ → ℕ → Type 0)
+    (failed_on : (n : ℕ) → n < node_count K → failed n → fails n) (held_on : (n c : ℕ) → n < node_count K → holds n c → held n c) where
+  -- by what is known of the nodes of the ledger otherwise
+  cause_by : (lane : ℕ) (next : List Compact → Type 0) (E X : ℕ → List Record) → IsLaneOf K lane → (node : ℕ) (kind : LaneFaultKind) → IsCauseOf K lane next E X failed holds node kind → IsCauseOf K lane next E X fails held node kind
+  cause_by lane next E X lt node DiskStopped (inside, did) = (inside, failed_on node inside did)
+  cause_by lane next E X lt node (NoRoom used need capacity) h = record {
+    front = h.front;
+    since = h.since;
+    within = h.within;
+    wanted = h.wanted;
+    is_wanted = h.is_wanted;
+    capacity_is = held_on node capacity (wanted_inside K lane next X node h.front h.wanted lt h.is_wanted) h.capacity_is;
+    used_is = h.used_is;
+    need_is = h.need_is;
+    above = h.above;
+  }
+  cause_by lane next E X lt node (NoStamp stamp) h = record {
+    front = h.front;
+    since = h.since;
+    within = h.within;
+    wanted = h.wanted;
+    is_wanted = h.is_wanted;
+    stamp_is = h.stamp_is;
+    above = h.above;
+  }
+  cause_by lane next E X lt node NoMemory h = tt
+
+  least_by : (sent : ℕ → List Compact) (next : ℕ → List Compact → Type 0) (I J : ℕ → List Record) (e : LaneFault) → IsLeastFault K sent next I J failed holds e → IsLeastFault K sent next I J fails held e
+  least_by sent next I J e h = record {
+    lane = h.lane;
+    is_lane = h.is_lane;
+    cause = cause_by h.lane (next h.lane) I J h.is_lane e.node e.fault h.cause;
+    lesser = h.lesser;
+  }
+
+  open_by : (I J : ℕ → List Record) (e : LaneFault) → IsLeastOpen K I J failed holds e → IsLeastOpen K I J fails held e
+  open_by I J e (inl memory) = inl memory
+  open_by I J e (inr (lane, lt, cause, lesser)) = inr (lane, lt, cause_by lane Nothing I J lt e.node e.fault cause, lesser)
+
+  first_by : (verdicts : VerdictsOf) (more : List (List FullTx)) (I J : ℕ → List Record) (e : LaneFault) → EndsFirst K verdicts more I J failed holds e → EndsFirst K verdicts more I J fails held e
+  first_by verdicts [] I J e h = h
+  first_by verdicts (file ∷ more) I J e (inl none) = inl none
+  first_by verdicts (file ∷ more) I J e (inr least) = inr (λ sound tells. least_by (sent_to K sound file) (IsSentPiece K verdicts file I J) I J e (least sound tells))
+
+  files_by : (verdicts : VerdictsOf) (files : List (List FullTx)) (I J : ℕ → List Record) (e : LaneFault) → EndsFiles K verdicts files I J failed holds e → EndsFiles K verdicts files I J fails held e
+  files_by verdicts files I J e h = record {
+    done = h.done;
+    more = h.more;
+    are = h.are;
+    middle = h.middle;
+    grows = h.grows;
+    before = h.before;
+    idle = h.idle;
+    ends = first_by verdicts h.more h.middle J e h.ends;
+  }
+
+  ends_by : (verdicts : VerdictsOf) (files : List (List FullTx)) (E X : ℕ → List Record) (e : LaneFault) → EndsRun verdicts files K E X failed holds e → EndsRun verdicts files K E X fails held e
+  ends_by verdicts files E X e (inl left) = inl (open_by E X e left)
+  ends_by verdicts files E X e (inr (middle, grows, unprepared, idle, ends)) = inr (middle, grows, unprepared, idle, files_by verdicts files middle X e ends)
+
+  pub answer_by : (verdicts : VerdictsOf) (files : List (List FullTx)) (E X : ℕ → List Record) (a : Answer) → IsLeastAnswer (EndsRun verdicts files K E X failed holds) a → IsLeastAnswer (EndsRun verdicts files K E X fails held) a
+  answer_by verdicts files E X a (inl memory) = inl memory
+  answer_by verdicts files E X a (inr (e, is, ends)) = inr (e, is, ends_by verdicts files E X e ends)
+
+-- where there are no files it is that of an open batch's lane, or memory ran out
+no_files : (verdicts : VerdictsOf) (K : Shape) (E X : ℕ → List Record) (failed : ℕ → Type 0) (holds : ℕ → ℕ → Type 0) (a : Answer)
+    → IsLeastAnswer (EndsRun verdicts [] K E X failed holds) a → IsLeastAnswer (IsLeastOpen K E X failed holds) a
+no_files verdicts K E X failed holds a (inl memory) = inl memory
+no_files verdicts K E X failed holds a (inr (e, is, inl left)) = inr (e, is, left)
+no_files verdicts K E X failed holds a (inr (e, is, inr (middle, grows, unprepared, idle, ends))) = inl (is ∙ ap (λ k. answer_at e.node k) (memory ends.more ends.done ends.are ends.ends))
+  where
+    memory : (more done : List (List FullTx)) → [] ≡ done ++ more → EndsFirst K verdicts more ends.middle X failed holds e → e.fault ≡ NoMemory
+    memory [] done none unbegun = unbegun.0
+    memory (file ∷ more) done none first = absurd (omega (arith, ap length none, length-append done (file ∷ more)))
+
 -- ---- on a rack
 
 module _ {D : Type 0} (content : D → Option (List ℕ)) (images : D → List ℕ → Type 0) (limit count : D → ℕ) (held back : ℕ → Option D) (h g : Header)
@@ -132,11 +224,27 @@ module _ {D : Type 0} (content : D → Option (List ℕ)) (images : D → List �
   entry : journals_of count limit h.shape logs shards ≡ (λ n. journal n History)
   entry = λ i n. same_journals content images limit count held h logs shards are caused n i
 
+  -- what is known at exit of the disks' counts since entry, and of what they may hold
+  abbrev Rises : ℕ → Type 0
+  Rises n = Rose (before n) (behind n)
+
+  abbrev Holds : ℕ → ℕ → Type 0
+  Holds n c = OfTold (held n) (λ d. c ≡ limit d)
+
+  risen : (n : ℕ) → n < node_count h.shape → HaveFailed (opened_of count limit h.shape logs shards) (faults_of count limit h.shape now after) n → Rises n
+  risen = have_risen content images limit count held h logs now shards after are g shape is counts before behind logs_since shards_since logs_counted shards_counted
+
+  may : (n c : ℕ) → n < node_count h.shape → MayHold (capacity_of count limit h.shape logs shards) n c → Holds n c
+  may n c inside is_so = may_hold content images limit count held h logs shards are n c inside is_so
+
   pub lane_fault : (verdicts : VerdictsOf) (files : List (List FullTx)) → ((n : ℕ) → IsEnd (journals_of count limit h.shape logs shards n) (journals_of count limit h.shape now after n)) → (a : Answer)
-      → IsLaneAnswer h.shape (IsFilesPiece h.shape verdicts files) (journals_of count limit h.shape logs shards) (journals_of count limit h.shape now after)
+      → IsLaneAnswer h.shape (IsFilesPiece h.shape verdicts files (journals_of count limit h.shape logs shards) (journals_of count limit h.shape now after)) (journals_of count limit h.shape logs shards) (journals_of count limit h.shape now after)
       (HaveFailed (opened_of count limit h.shape logs shards) (faults_of count limit h.shape now after)) (MayHold (capacity_of count limit h.shape logs shards)) a
-      → IsLaneFault content images limit held back before behind (PieceNext verdicts files) a
-  lane_fault verdicts files grows a cause = record {
+      → IsLeastAnswer (EndsRun verdicts files h.shape (journals_of count limit h.shape logs shards) (journals_of count limit h.shape now after)
+      (HaveFailed (opened_of count limit h.shape logs shards) (faults_of count limit h.shape now after)) (MayHold (capacity_of count limit h.shape logs shards))) a
+      → OfShown content held (IsCutShort images limit back files (journals_of count limit h.shape now after))
+      → IsLaneFault content images limit held back before behind (PieceNext verdicts files) (EndsRun verdicts files) files a
+  lane_fault verdicts files grows a cause least kept = record {
     ledger = record {
       shape = h.shape;
       genesis = h.genesis;
@@ -149,45 +257,66 @@ module _ {D : Type 0} (content : D → Option (List ℕ)) (images : D → List �
     disks = λ tells.
         subst (λ k. KeepsEach images back k (journals_of count limit k now after)) shape
         (keeps_each content images limit count back g now after is (stored (told_stored content images limit count held h logs shards are tells)) logs_back shards_back);
-    cause = subst (λ L. IsLaneAnswer h.shape (IsFilesPiece h.shape verdicts files) L (journals_of count limit h.shape now after) (λ n. Rose (before n) (behind n)) (λ n c. OfTold (held n) (λ d. c ≡ limit d)) a) entry
-        (answer_moves h.shape (IsFilesPiece h.shape verdicts files) (IsFilesPiece h.shape verdicts files) (journals_of count limit h.shape logs shards) (journals_of count limit h.shape now after)
-        (HaveFailed (opened_of count limit h.shape logs shards) (faults_of count limit h.shape now after)) (λ n. Rose (before n) (behind n)) (MayHold (capacity_of count limit h.shape logs shards)) (λ n c. OfTold (held n) (λ d. c ≡ limit d))
-        (λ lane txs piece. piece)
-        (have_risen content images limit count held h logs now shards after are g shape is counts before behind logs_since shards_since logs_counted shards_counted)
-        (λ n c inside may. may_hold content images limit count held h logs shards are n c inside may) a cause);
+    cause = subst (λ L. IsLaneAnswer h.shape (IsFilesPiece h.shape verdicts files L (journals_of count limit h.shape now after)) L (journals_of count limit h.shape now after) Rises Holds a) entry
+        (answer_moves h.shape (IsFilesPiece h.shape verdicts files (journals_of count limit h.shape logs shards) (journals_of count limit h.shape now after))
+        (IsFilesPiece h.shape verdicts files (journals_of count limit h.shape logs shards) (journals_of count limit h.shape now after)) (journals_of count limit h.shape logs shards) (journals_of count limit h.shape now after)
+        (HaveFailed (opened_of count limit h.shape logs shards) (faults_of count limit h.shape now after)) Rises (MayHold (capacity_of count limit h.shape logs shards)) Holds (λ lane txs piece. piece) risen may a cause);
+    least = subst (λ L. IsLeastAnswer (EndsRun verdicts files h.shape L (journals_of count limit h.shape now after) Rises Holds) a) entry
+        (answer_by h.shape (HaveFailed (opened_of count limit h.shape logs shards) (faults_of count limit h.shape now after)) Rises (MayHold (capacity_of count limit h.shape logs shards)) Holds risen may verdicts files
+        (journals_of count limit h.shape logs shards) (journals_of count limit h.shape now after) a least);
+    kept = kept;
   }
 
--- where nothing is next for any lane
-pub of_nothing : {D : Type 0} (content : D → Option (List ℕ)) (images : D → List ℕ → Type 0) (limit : D → ℕ) (held back : ℕ → Option D) (before now : ℕ → ℕ) (next : Shape → ℕ → List Compact → Type 0) (a : Answer)
-    → IsLaneFault content images limit held back before now next a → ((K : Shape) (lane : ℕ) (txs : List Compact) → next K lane txs → ⊥) → IsLaneFault content images limit held back before now NothingNext a
-of_nothing content images limit held back before now next a f none = record {
-  ledger = f.ledger;
-  exit = f.exit;
-  grows = f.grows;
-  disks = f.disks;
-  cause = answer_moves f.ledger.shape (next f.ledger.shape) (NothingNext f.ledger.shape) (λ n. journal n (reverse f.ledger.rows)) f.exit (λ n. Rose (before n) (now n)) (λ n. Rose (before n) (now n))
-      (λ n c. OfTold (held n) (λ d. c ≡ limit d)) (λ n c. OfTold (held n) (λ d. c ≡ limit d)) (none f.ledger.shape) (λ n inside did. did) (λ n c inside may. may) a f.cause;
-}
+-- no files have a piece
+no_piece : (verdicts : VerdictsOf) (K : Shape) (E X : ℕ → List Record) (lane : ℕ) (txs : List Compact) → PieceNext verdicts [] K E X lane txs → ⊥
+no_piece verdicts K E X lane txs piece = go (piece (sound_by verdicts) (is_sound_law verdicts))
+  where
+    none_so : (done more : List (List Compact)) → [] ≡ done ++ txs ∷ more → ⊥
+    none_so [] more e = let z : [] ≡ txs ∷ more = e in cc
+    none_so (p ∷ done) more e = let z : [] ≡ p ∷ (done ++ txs ∷ more) = e in cc
+
+    go : (pieces : List (List Compact)) × (pieces ≡ []) × IsNextOf K lane pieces E X txs → ⊥
+    go (pieces, none, next) = none_so next.0 next.1 (sym none ∙ next.2)
+
+-- a run of no files: nothing is next for any lane
+pub of_nothing : {D : Type 0} (content : D → Option (List ℕ)) (images : D → List ℕ → Type 0) (limit : D → ℕ) (held back : ℕ → Option D) (before now : ℕ → ℕ) (verdicts : VerdictsOf) (a : Answer)
+    → IsLaneFault content images limit held back before now (PieceNext verdicts []) (EndsRun verdicts []) [] a → IsLaneFault content images limit held back before now NothingNext IsLeastOpen [] a
+of_nothing content images limit held back before now verdicts a f =
+    let E : ℕ → List Record = λ n. journal n (reverse f.ledger.rows) in
+    record {
+      ledger = f.ledger;
+      exit = f.exit;
+      grows = f.grows;
+      disks = f.disks;
+      cause = answer_moves f.ledger.shape (PieceNext verdicts [] f.ledger.shape E f.exit) (NothingNext f.ledger.shape E f.exit) E f.exit (λ n. Rose (before n) (now n)) (λ n. Rose (before n) (now n))
+          (λ n c. OfTold (held n) (λ d. c ≡ limit d)) (λ n c. OfTold (held n) (λ d. c ≡ limit d)) (no_piece verdicts f.ledger.shape E f.exit) (λ n inside did. did) (λ n c inside may. may) a f.cause;
+      least = no_files verdicts f.ledger.shape E f.exit (λ n. Rose (before n) (now n)) (λ n c. OfTold (held n) (λ d. c ≡ limit d)) a f.least;
+      kept = f.kept;
+    }
 
 -- ---- a run over open nodes
 
 -- a fault that a run meets as it brings open batches to their end
 pub resumed_fault : (K : Shape) (verdicts : VerdictsOf) (files : List (List FullTx)) (E X : ℕ → List Record) (failed : ℕ → Type 0) (holds : ℕ → ℕ → Type 0) (e : LaneFault)
-    → IsRunCause K (λ _. Nothing) E X failed holds e → IsRunCause K (IsFilesPiece K verdicts files) E X failed holds e
+    → IsRunCause K (λ _. Nothing) E X failed holds e → IsRunCause K (IsFilesPiece K verdicts files E X) E X failed holds e
 resumed_fault K verdicts files E X failed holds e h =
-    run_moves K (λ _. Nothing) (IsFilesPiece K verdicts files) E E X failed failed holds holds (λ n. end_self (E n)) (λ lane txs none. absurd none) (λ n did. did) (λ n c may. may) e h
+    run_moves K (λ _. Nothing) (IsFilesPiece K verdicts files E X) E E X failed failed holds holds (λ n. end_self (E n)) (λ lane txs inside none. absurd none) (λ n did. did) (λ n c may. may) e h
 
--- or in a file behind that
-pub filed_fault : (K H : Shape) (verdicts : VerdictsOf) (files : List (List FullTx)) (E M X : ℕ → List Record) (failed : ℕ → Type 0) (holds : ℕ → ℕ → Type 0) → H ≡ K → ((n : ℕ) → IsEnd (E n) (M n)) → (e : LaneFault)
-    → IsRunCause H (IsFilesPiece H verdicts files) M X failed holds e → IsRunCause K (IsFilesPiece K verdicts files) E X failed holds e
-filed_fault K H verdicts files E M X failed holds same since e h =
-    run_moves K (IsFilesPiece K verdicts files) (IsFilesPiece K verdicts files) M E X failed failed holds holds since (λ lane txs piece. piece) (λ n did. did) (λ n c may. may) e
-    (subst (λ k. IsRunCause k (IsFilesPiece k verdicts files) M X failed holds e) same h)
+-- or in a file behind that, by which nothing was prepared
+pub filed_fault : (K H : Shape) (verdicts : VerdictsOf) (files : List (List FullTx)) (E M X : ℕ → List Record) (failed : ℕ → Type 0) (holds : ℕ → ℕ → Type 0) → H ≡ K → ((n : ℕ) → IsEnd (E n) (M n)) → SamePrepared K E M
+    → (e : LaneFault) → IsRunCause H (IsFilesPiece H verdicts files M X) M X failed holds e → IsRunCause K (IsFilesPiece K verdicts files E X) E X failed holds e
+filed_fault K H verdicts files E M X failed holds same since unprepared e h =
+    run_moves K (IsFilesPiece K verdicts files M X) (IsFilesPiece K verdicts files E X) M E X failed failed holds holds since since_entry (λ n did. did) (λ n c may. may) e
+    (subst (λ k. IsRunCause k (IsFilesPiece k verdicts files M X) M X failed holds e) same h)
+  where
+    since_entry : (lane : ℕ) (txs : List Compact) → IsLaneOf K lane → IsFilesPiece K verdicts files M X lane txs → IsFilesPiece K verdicts files E X lane txs
+    since_entry lane txs inside piece sound tells =
+        let p = piece sound tells in
+        (p.0, p.1, (p.2.0, p.2.1, p.2.2, p.2.3 ∙ ap (λ ps. reverse p.2.0 ++ ps) (unprepared lane)))
 
 -- by what was known of the nodes before
-pub by_entry : (K : Shape) (next : ℕ → List Compact → Type 0) (E X : ℕ → List Record) (opened opens faults capacity holds : ℕ → ℕ) → ((n : ℕ) → opens n ≡ opened n) → ((n : ℕ) → holds n ≡ capacity n)
-    → (over : Result Over LaneFault) → IfErr over (IsRunCause K next E X (HaveFailed opens faults) (MayHold holds)) → IfErr over (IsRunCause K next E X (HaveFailed opened faults) (MayHold capacity))
-by_entry K next E X opened opens faults capacity holds same may over h =
+pub by_entry : (P : (ℕ → ℕ) → (ℕ → ℕ) → Type 0) (opened opens capacity holds : ℕ → ℕ) → ((n : ℕ) → opens n ≡ opened n) → ((n : ℕ) → holds n ≡ capacity n) → P opens holds → P opened capacity
+by_entry P opened opens capacity holds same may h =
     let o : opens ≡ opened = λ i n. same n i in
     let c : holds ≡ capacity = λ i n. may n i in
-    subst (λ x. IfErr over (IsRunCause K next E X (HaveFailed x faults) (MayHold capacity))) o (subst (λ x. IfErr over (IsRunCause K next E X (HaveFailed opens faults) (MayHold x))) c h)
+    subst (λ x. P x capacity) o (subst (λ x. P opens x) c h)

@@ -1,5 +1,5 @@
 -- The ledger that a rack showed, behind a run.
-use Rattle.std.proofs.Common.{◌≡◌, ℕ, ◌+◌, ◌≤◌, List, [], ◌++◌, length, Bool, Option, refl, sym, ◌∙◌, subst}
+use Rattle.std.proofs.Common.{◌≡◌, ℕ, ◌+◌, ◌<◌, ◌≤◌, List, [], ◌++◌, length, reverse, Bool, Option, Some, None, refl, sym, ◌∙◌, subst}
 use Rattle.std.proofs.lemmas.List.{append-nil}
 use Rattle.cbdc_types.specs.Limits.{IsWithinLimits}
 use Rattle.cbdc_model.specs.Records.{Shape, Header, Record}
@@ -10,28 +10,32 @@ use Rattle.cbdc_model.specs.Lanes.{IsEnd}
 use Rattle.cbdc_model.specs.World.{KeptJournals, AreIdle}
 use Rattle.cbdc_model.specs.Headline.{Headline}
 use Rattle.cbdc_model.specs.Waves.{IsResumed, Waves}
+use Rattle.ledger_laws.proofs.Cuts.{end_trans}
 use Rattle.ledger_laws.proofs.Ledger.{steady}
 use Rattle.ledger_laws.proofs.Recovery.{idle_law}
 use Rattle.run_laws.proofs.Rests.{none_beyond}
+use Rattle.record_log.specs.Held.{OpensToEither}
 use Rattle.coord_log.specs.Logs.{LogOf}
 use Rattle.shard_node.specs.Shards.{ShardOf}
 use Rattle.rack_ledgers.specs.Ledgers.{ByPlace, AreOpened}
 use Rattle.rack_nodes.specs.Racked.{OfTold}
-use Rattle.rack_laws.specs.Shown.{Shows, OfShown, KeepsEach, HoldsEach, node_count}
+use Rattle.rack_laws.specs.Shown.{Shows, OfShown, KeepsEach, HoldsEach, OpenTo, LogHasRoom, ShardHasRoom, HaveRoom, node_count}
 use Rattle.rack_laws.proofs.Opened.{same_shape, same_journals, logs_held, shards_held}
-use Rattle.rack_laws.proofs.Behind.{are_quiet, keeps_each, holds_each}
+use Rattle.rack_laws.proofs.Behind.{are_quiet, none_fly, keeps_each, keeps_flights, holds_each, rooms_each}
+use Rattle.rack_laws.proofs.Crashed.{crashed}
 use Rattle.ledger_runs.specs.Turning.{OfKept, StaysKept}
-use Rattle.ledger_nodes.specs.Ledgers.{IsLedger, journals_of, AreStored, AreQuiet}
+use Rattle.ledger_nodes.specs.Ledgers.{IsLedger, journals_of, flights_of, AreStored, AreQuiet}
 use Rattle.submissions.specs.Checks.{VerdictsOf, TellsSound}
 use Rattle.sound_laws.specs.SoundTest.{sound_by}
 use Rattle.sound_laws.proofs.Telling.{is_sound_law}
-use Rattle.file_runs.specs.Runs.{joined}
+use Rattle.ledger_runs.specs.Flying.{AllMayCome}
+use Rattle.file_runs.specs.Runs.{joined, FliesWith}
 use Rattle.rack_runs.specs.Runs.{IsGrown, IsRun, IsRecovered, IsCutShort}
 use Rattle.printed_lines.specs.Unspent.{IsUnspentCount}
 use Rattle.rack_runs.specs.declared.over.Ran.{Ran}
 use Rattle.rack_runs.specs.Telling.{CountAll, TellsRun, IsTold}
 use Rattle.rack_runs.proofs.Unspent.{unspent_counted}
-use Rattle.std.specs.Prelude.{map}
+use Rattle.std.specs.Prelude.{map, All}
 
 -- kept journals have nothing beyond the ledger's nodes
 beyond : (K : Shape) (mint : List Output) (submissions : List FullTx) (E : ℕ → List Record) → KeptJournals K mint submissions E → (n : ℕ) → node_count K ≤ n → E n ≡ []
@@ -55,6 +59,9 @@ module _ {D : Type 0} (content : D → Option (List ℕ)) (images : D → List �
 
   abbrev pub QuietIt : Shape → Type 0
   QuietIt S = OfKept S (journals_of count limit S logs shards) (λ _ _. AreQuiet logs shards → AreQuiet now after)
+
+  abbrev pub FliesIt : Shape → Type 0
+  FliesIt S = OfKept S (journals_of count limit S logs shards) (FliesWith S (joined files) (journals_of count limit S logs shards) (journals_of count limit S now after) (flights_of count limit S logs shards) (flights_of count limit S now after))
 
   pub record Ends (verdicts : VerdictsOf) (S : Shape) : Type 0 where
     pub idle : AreIdle S (journals_of count limit S now after)
@@ -83,6 +90,16 @@ module _ {D : Type 0} (content : D → Option (List ℕ)) (images : D → List �
 
     disks_hold : AreQuiet now after → HoldsEach images back K (journals_of count limit K now after)
     disks_hold quiet = subst (λ k. HoldsEach images back k (journals_of count limit k now after)) (shape ∙ shape_is) (holds_each content images limit count back g now after is is_stored logs_back shards_back quiet)
+
+    disks_fly : (n : ℕ) → n < node_count K → OfTold (back n) (λ d. (c : List ℕ) → images d c → OpensToEither (reverse (journals_of count limit K now after n)) (flights_of count limit K now after n) c)
+    disks_fly = subst (λ k. (n : ℕ) → n < node_count k → OfTold (back n) (λ d. (c : List ℕ) → images d c → OpensToEither (reverse (journals_of count limit k now after n)) (flights_of count limit k now after n) c))
+        (shape ∙ shape_is) (keeps_flights content images limit count back g now after is is_stored logs_back shards_back)
+
+    -- nothing was in flight at entry
+    may_come : FliesIt h.shape → AllMayCome K mint (submissions ++ joined files) (journals_of count limit K now after) (flights_of count limit K now after)
+    may_come flies = subst FliesIt shape_is flies mint submissions kept_there (λ n r there.
+        absurd (let none : flights_of count limit K logs shards n ≡ None = none_fly content images limit count K logs shards (are_quiet content images limit count held h logs shards are) n in
+        let z : None ≡ Some r = sym none ∙ there in cc))
 
     is_grown : KeepsIt h.shape → IsGrown K mint (submissions ++ joined files) E (journals_of count limit K now after)
     is_grown keeps =
@@ -126,12 +143,20 @@ module _ {D : Type 0} (content : D → Option (List ℕ)) (images : D → List �
   runs verdicts keeps idle resumed waves quiet K mint submissions E within shows kept =
       is_run K mint submissions E within shows kept verdicts keeps (record { idle = idle; resumed = resumed; waves = waves; quiet = quiet })
 
-  pub cut_short : KeepsIt h.shape → OfShown content held (IsCutShort images back files)
-  cut_short keeps K mint submissions E within shows kept = record {
-    exit = journals_of count limit K now after;
-    grown = is_grown K mint submissions E within shows kept keeps;
-    disks = disks_keep K mint submissions E within shows kept;
-  }
+  pub cut_short : KeepsIt h.shape → FliesIt h.shape → All (LogHasRoom limit) now → All (ShardHasRoom limit) after → OfShown content held (IsCutShort images limit back files (journals_of count limit h.shape now after))
+  cut_short keeps flies log_rooms shard_rooms K mint submissions E within shows kept =
+      let grown = is_grown K mint submissions E within shows kept keeps in
+      subst (λ k. IsCutShort images limit back files (journals_of count limit k now after) K mint submissions E) (sym (shape_is K mint submissions E within shows kept)) (record {
+        grown = grown;
+        disks = disks_keep K mint submissions E within shows kept;
+        rooms = subst (λ k. HaveRoom limit back k (journals_of count limit k now after)) (shape ∙ shape_is K mint submissions E within shows kept)
+            (rooms_each content images limit count back g now after is log_rooms shard_rooms logs_back shards_back);
+        crashes = λ contents left.
+            let came : (X : ℕ → List Record) × OpenTo back K contents X × ((n : ℕ) → IsEnd (journals_of count limit K now after n) (X n)) × KeptJournals K mint (submissions ++ joined files) X
+              = crashed images back K mint (submissions ++ joined files) (journals_of count limit K now after) (flights_of count limit K now after) (may_come K mint submissions E within shows kept flies)
+                (disks_fly K mint submissions E within shows kept) contents left within.some_shard grown.kept in
+            (came.0, came.1, record { grows = λ n. end_trans (E n) (journals_of count limit K now after n) (came.0 n) (grown.grows n) (came.2 n); kept = came.3 });
+      })
 
 -- a run of no files is a recovery
 pub recovers : {D : Type 0} (content : D → Option (List ℕ)) (images : D → List ℕ → Type 0) (held back : ℕ → Option D) (verdicts : VerdictsOf)

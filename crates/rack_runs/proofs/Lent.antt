@@ -1,8 +1,8 @@
 -- A ledger's nodes, lent and taken back.
-use Rattle.std.proofs.Common.{◌≡◌, ℕ, List, Result, Ok, Err, subst}
+use Rattle.std.proofs.Common.{◌≡◌, ℕ, List, Option, Result, Ok, Err, subst}
 use Rattle.std.specs.Prelude.{OnOk, IfOk, IsOk, IfErr}
 use Rattle.cbdc_model.specs.Records.{Shape, Record}
-use Rattle.ledger_nodes.specs.Ledgers.{LedgerOf, journals_of, faults_of}
+use Rattle.ledger_nodes.specs.Ledgers.{LedgerOf, journals_of, flights_of, faults_of}
 
 -- what a whole run says is so where its answer is whole
 pub on_ok : {A B E F : Type 0} (X : Type 0) (r : Result A E) (o : Result B F) → OnOk r (IsOk o) → OnOk o X → OnOk r X
@@ -25,6 +25,10 @@ on_ok_all (Err e) f x y z v = tt
 pub if_err_by : {B F : Type 0} (P Q : F → Type 0) (o : Result B F) → ((e : F) → P e → Q e) → IfErr o P → IfErr o Q
 if_err_by P Q (Ok b) f so = tt
 if_err_by P Q (Err e) f so = f e so
+
+pub if_err_both : {B F : Type 0} (P Q : F → Type 0) (o : Result B F) → IfErr o P → IfErr o Q → IfErr o (λ e. P e × Q e)
+if_err_both P Q (Ok b) p q = tt
+if_err_both P Q (Err e) p q = (p, q)
 
 pub on_ok_both : {B F : Type 0} (X Y : Type 0) (o : Result B F) → OnOk o X → OnOk o Y → OnOk o (X × Y)
 on_ok_both X Y (Ok b) x y = (x, y)
@@ -61,3 +65,9 @@ module _ {D : Type 0} (count limit : D → ℕ) where
   lent_both P S b back same shape so =
       subst (λ l. P (journals_of count limit S l.logs l.shards) (faults_of count limit S l.logs l.shards)) same
       (subst (λ k. P (journals_of count limit k b.logs b.shards) (faults_of count limit k b.logs b.shards)) shape so)
+
+  pub lent_flights : (P : (ℕ → List Record) → (ℕ → Option Record) → Type 0) (S : Shape) (b back : LedgerOf D) → b ≡ back → b.header.shape ≡ S
+      → P (journals_of count limit b.header.shape b.logs b.shards) (flights_of count limit b.header.shape b.logs b.shards) → P (journals_of count limit S back.logs back.shards) (flights_of count limit S back.logs back.shards)
+  lent_flights P S b back same shape so =
+      subst (λ l. P (journals_of count limit S l.logs l.shards) (flights_of count limit S l.logs l.shards)) same
+      (subst (λ k. P (journals_of count limit k b.logs b.shards) (flights_of count limit k b.logs b.shards)) shape so)

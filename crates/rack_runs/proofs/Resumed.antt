@@ -1,5 +1,5 @@
 -- A run over the nodes of a ledger: what was open, and the files behind it.
-use Rattle.std.proofs.Common.{◌≡◌, ℕ, ◌*◌, List, [], ◌∷◌, ◌++◌, length, Bool, refl, sym, subst, arith}
+use Rattle.std.proofs.Common.{◌≡◌, ℕ, ◌*◌, List, [], ◌∷◌, ◌++◌, length, Bool, Option, refl, sym, subst, arith}
 use Rattle.ledger_laws.proofs.Cuts.{end_trans}
 use Rattle.cbdc_model.specs.Records.{Shape, Record}
 use Rattle.cbdc_model.specs.Coins.{FullTx}
@@ -14,8 +14,10 @@ use Rattle.file_runs.specs.Telling.{TellFiles}
 use Rattle.rack_runs.specs.declared.over.Over.{Over}
 use Rattle.rack_runs.specs.declared.over.Ran.{Ran}
 use Rattle.rack_runs.specs.Telling.{TellsRun}
-use Rattle.file_runs.specs.Runs.{joined}
+use Rattle.file_runs.specs.Runs.{joined, FliesWith}
 use Rattle.file_runs.proofs.Filing.{kept_more}
+use Rattle.file_runs.proofs.Flying.{may_more}
+use Rattle.ledger_runs.specs.Flying.{FliesOn}
 
 -- the submissions of files that were not run do no harm
 pub over_cut : (K : Shape) (files : List (List FullTx)) (I M : ℕ → List Record) → OfKept K I (StaysKept K I M) → OfKept K I (λ mint submissions. StaysKept K I M mint (submissions ++ joined files))
@@ -29,6 +31,15 @@ over_keeps K H files I M J e one two mint submissions kept =
     let a = one mint submissions kept in
     let b = subst (λ k. OfKept k M (λ m s. StaysKept k M J m (s ++ joined files))) e two mint submissions a.kept in
     record { grows = λ n. end_trans (I n) (M n) (J n) (a.grows n) (b.grows n); kept = b.kept }
+
+-- nor to what is in flight
+pub flies_cut : (K : Shape) (files : List (List FullTx)) (I M : ℕ → List Record) (F G : ℕ → Option Record) → OfKept K I (FliesOn K I M F G) → OfKept K I (FliesWith K (joined files) I M F G)
+flies_cut K files I M F G flies mint submissions kept may = may_more K mint submissions (joined files) M G (flies mint submissions kept may)
+
+pub flies_over : (K H : Shape) (files : List (List FullTx)) (I M J : ℕ → List Record) (F G L : ℕ → Option Record) → H ≡ K → OfKept K I (StaysKept K I M) → OfKept K I (FliesOn K I M F G)
+    → OfKept H M (FliesWith H (joined files) M J G L) → OfKept K I (FliesWith K (joined files) I J F L)
+flies_over K H files I M J F G L e keeps one two mint submissions kept may =
+    subst (λ k. OfKept k M (FliesWith k (joined files) M J G L)) e two mint submissions (keeps mint submissions kept).kept (one mint submissions kept may)
 
 pub over_waves : (K H : Shape) (verdicts : VerdictsOf) (files : List (List FullTx)) (I M J : ℕ → List Record) → H ≡ K → OfKept K I (StaysKept K I M) → OfKept K I (λ _ _. IsResumed K I M)
     → OfKept H M (λ _ _. (sound : FullTx → Bool) (E : ℕ → List Record) → TellsSound verdicts sound → IsResumed H E M → Waves H sound files E J)
@@ -49,7 +60,7 @@ over_none K verdicts files I M none resumed mint submissions kept sound tells =
 
 -- what is told of the open batches and of the files behind them
 pub over_told : (K H : Shape) (verdicts : VerdictsOf) (files : List (List FullTx)) (I M J : ℕ → List Record) (resumed : List ResumedBatch) (waves : List Wave) → H ≡ K → OfKept K I (StaysKept K I M)
-    → OfKept K I (λ _ _. TellResumed K I M (K.coordinators * K.lanes) resumed) → OfKept K I (λ _ _. SamePrepared K I M)
+    → OfKept K I (λ _ _. TellResumed K I M (K.coordinators * K.lanes) resumed) → SamePrepared K I M
     → OfKept H M (λ _ _. TellFiles H verdicts files M J waves) → OfKept K I (λ _ _. TellsRun K verdicts files I J resumed waves)
 over_told K H verdicts files I M J resumed waves e keeps batches same told mint submissions kept =
     let mid = keeps mint submissions kept in
@@ -57,18 +68,18 @@ over_told K H verdicts files I M J resumed waves e keeps batches same told mint 
       middle = M;
       grows = mid.grows;
       batches = batches mint submissions kept;
-      unprepared = same mint submissions kept;
+      unprepared = same;
       told = subst (λ k. OfKept k M (λ _ _. TellFiles k verdicts files M J waves)) e told mint submissions mid.kept;
     }
 
 pub over_told_none : (K : Shape) (verdicts : VerdictsOf) (files : List (List FullTx)) (I M : ℕ → List Record) (resumed : List ResumedBatch) (waves : List Wave) → files ≡ [] → waves ≡ []
-    → OfKept K I (StaysKept K I M) → OfKept K I (λ _ _. TellResumed K I M (K.coordinators * K.lanes) resumed) → OfKept K I (λ _ _. SamePrepared K I M)
+    → OfKept K I (StaysKept K I M) → OfKept K I (λ _ _. TellResumed K I M (K.coordinators * K.lanes) resumed) → SamePrepared K I M
     → OfKept K I (λ _ _. TellsRun K verdicts files I M resumed waves)
 over_told_none K verdicts files I M resumed waves none nothing keeps batches same mint submissions kept = record {
   middle = M;
   grows = (keeps mint submissions kept).grows;
   batches = batches mint submissions kept;
-  unprepared = same mint submissions kept;
+  unprepared = same;
   told = subst (λ fs. TellFiles K verdicts fs M M waves) (sym none) (nothing, λ n. refl);
 }
 

@@ -9,7 +9,8 @@ use Rattle.cbdc_model.specs.Lanes.{IsEnd}
 use Rattle.cbdc_model.specs.World.{KeptJournals}
 use Rattle.cbdc_model.specs.Headline.{Headline}
 use Rattle.cbdc_model.specs.Waves.{IsResumed, Waves}
-use Rattle.rack_laws.specs.Shown.{KeepsEach, HoldsEach}
+use Rattle.lane_driver.specs.declared.fault.LaneFault.{LaneFault}
+use Rattle.rack_laws.specs.Shown.{OfShown, KeepsEach, HoldsEach, AreLeft, OpenTo, HaveRoom}
 use Rattle.submissions.specs.Checks.{VerdictsOf}
 use Rattle.sound_laws.specs.SoundTest.{sound_by}
 use Rattle.rack_nodes.specs.Racked.{OfTold}
@@ -17,6 +18,7 @@ use Rattle.caused_ledgers.specs.Caused.{IsCausedLedger}
 use Rattle.caused_ledgers.specs.Laws.{AllTell}
 use Rattle.file_runs.specs.Runs.{joined, IsFilesPiece}
 use Rattle.rack_runs.specs.Kinds.{IsLaneAnswer}
+use Rattle.rack_runs.specs.Endings.{IsLeastAnswer}
 
 -- journals that have grown at their ends from those at entry, and are kept
 pub record IsGrown (K : Shape) (mint : List Output) (submissions : List FullTx) (E X : ℕ → List Record) : Type 0 where
@@ -42,26 +44,36 @@ pub record IsRecovered {D : Type 0} (images : D → List ℕ → Type 0) (held :
   pub resumed : IsResumed K E exit
   pub headline : Clean mint submissions → Headline K mint submissions exit
 
--- a run that a lane's fault cut short: each disk keeps its journal, with one record more or without
-pub record IsCutShort {D : Type 0} (images : D → List ℕ → Type 0) (held : ℕ → Option D) (files : List (List FullTx)) (K : Shape) (mint : List Output) (submissions : List FullTx) (E : ℕ → List Record) : Type 0 where
-  pub exit : ℕ → List Record
+-- whatever a crash leaves of the disks opens to journals that have grown from those at entry, and are kept
+abbrev pub SurvivesCrashes : {D : Type 0} → (D → List ℕ → Type 0) → (ℕ → Option D) → Shape → List Output → List FullTx → (ℕ → List Record) → Type 0
+SurvivesCrashes images held K mint submissions E =
+    (contents : ℕ → List ℕ) → AreLeft images held K contents → (X : ℕ → List Record) × OpenTo held K contents X × IsGrown K mint submissions E X
+
+-- a run that a lane's fault cut short: each disk keeps its journal at exit, with one record more or without, and has room for it and for what is kept
+-- for the batches that are open there; and whatever a crash leaves of the disks is kept
+pub record IsCutShort {D : Type 0} (images : D → List ℕ → Type 0) (limit : D → ℕ) (held : ℕ → Option D) (files : List (List FullTx)) (exit : ℕ → List Record) (K : Shape) (mint : List Output) (submissions : List FullTx) (E : ℕ → List Record) : Type 0 where
   pub grown : IsGrown K mint (submissions ++ joined files) E exit
   pub disks : KeepsEach images held K exit
+  pub rooms : HaveRoom limit held K exit
+  pub crashes : SurvivesCrashes images held K mint (submissions ++ joined files) E
 
 -- a lane's fault ended a run over the ledger that the disks told, in which each record was caused: its journals have grown at their ends, where the
 -- disks told all each keeps its journal, with one record more or without, and the answer has its cause, by the counts of faults before and now and by
--- what the disks that were told may hold
-pub record IsLaneFault {D : Type 0} (content : D → Option (List ℕ)) (images : D → List ℕ → Type 0) (limit : D → ℕ) (held back : ℕ → Option D) (before now : ℕ → ℕ) (next : Shape → ℕ → List Compact → Type 0) (answer : Answer) : Type 0 where
+-- what the disks that were told may hold; it is the least lane's that met one; and where the ledger was kept, it is cut short
+pub record IsLaneFault {D : Type 0} (content : D → Option (List ℕ)) (images : D → List ℕ → Type 0) (limit : D → ℕ) (held back : ℕ → Option D) (before now : ℕ → ℕ) (next : Shape → (ℕ → List Record) → (ℕ → List Record) → ℕ → List Compact → Type 0)
+    (ends : Shape → (ℕ → List Record) → (ℕ → List Record) → (ℕ → Type 0) → (ℕ → ℕ → Type 0) → LaneFault → Type 0) (files : List (List FullTx)) (answer : Answer) : Type 0 where
   pub ledger : IsCausedLedger content held
   pub exit : ℕ → List Record
   pub grows : (n : ℕ) → IsEnd (journal n (reverse ledger.rows)) (exit n)
   pub disks : AllTell content held ledger.shape → KeepsEach images back ledger.shape exit
-  pub cause : IsLaneAnswer ledger.shape (next ledger.shape) (λ n. journal n (reverse ledger.rows)) exit (λ n. Rose (before n) (now n)) (λ n c. OfTold (held n) (λ d. c ≡ limit d)) answer
+  pub cause : IsLaneAnswer ledger.shape (next ledger.shape (λ n. journal n (reverse ledger.rows)) exit) (λ n. journal n (reverse ledger.rows)) exit (λ n. Rose (before n) (now n)) (λ n c. OfTold (held n) (λ d. c ≡ limit d)) answer
+  pub least : IsLeastAnswer (ends ledger.shape (λ n. journal n (reverse ledger.rows)) exit (λ n. Rose (before n) (now n)) (λ n c. OfTold (held n) (λ d. c ≡ limit d))) answer
+  pub kept : OfShown content held (IsCutShort images limit back files exit)
 
 -- nothing is next for any lane
-abbrev pub NothingNext : Shape → ℕ → List Compact → Type 0
-NothingNext K lane txs = ⊥
+abbrev pub NothingNext : Shape → (ℕ → List Record) → (ℕ → List Record) → ℕ → List Compact → Type 0
+NothingNext K E X lane txs = ⊥
 
--- a batch of what a lane gets of one of these files, or what is left
-abbrev pub PieceNext : VerdictsOf → List (List FullTx) → Shape → ℕ → List Compact → Type 0
-PieceNext verdicts files K = IsFilesPiece K verdicts files
+-- the next piece of what these files send to a lane, by what it has prepared from journals E to X
+abbrev pub PieceNext : VerdictsOf → List (List FullTx) → Shape → (ℕ → List Record) → (ℕ → List Record) → ℕ → List Compact → Type 0
+PieceNext verdicts files K E X = IsFilesPiece K verdicts files E X

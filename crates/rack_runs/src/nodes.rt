@@ -8,8 +8,10 @@ ghost use Rattle.input_files.specs.Limits.{IsShort};
 ghost use Rattle.submissions.specs.Checks.{TellsSound};
 ghost use Rattle.ledger_runs.specs.Turning.{OfKept, StaysKept};
 ghost use Rattle.ledger_runs.specs.Faults.{HaveFailed, MayHold};
-ghost use Rattle.file_runs.specs.Runs.{joined, IsFilesPiece};
-ghost use Rattle.ledger_nodes.specs.Ledgers.{IsLedger, journals_of, faults_of, opened_of, capacity_of, AreChecked, AreStored, AreQuiet};
+ghost use Rattle.file_runs.specs.Runs.{joined, IsFilesPiece, FliesWith};
+ghost use Rattle.rack_runs.specs.Endings.{EndsRun, IsLeastAnswer};
+ghost use Rattle.ledger_nodes.specs.Ledgers.{IsLedger, journals_of, flights_of, faults_of, opened_of, capacity_of, AreChecked, AreStored, AreQuiet};
+ghost use Rattle.rack_laws.specs.Shown.{LogHasRoom, ShardHasRoom};
 ghost use Rattle.rack_runs.specs.Kinds.{answer_to, IsLaneAnswer};
 ghost use Rattle.lane_driver.specs.declared.fault.LaneFault.{LaneFault as FaultOf};
 ghost use Rattle.rack_runs.specs.Telling.{CountAll, TellsRun};
@@ -33,12 +35,22 @@ pub(crate) struct Behind<D: Disk> {
     pub came: Result<Ran, Answer>,
 }
 
-// Each coordinator's count of faults is its disk's.
-fn see_counts<D: Disk>(logs: &[CoordLog<D>])
-    ensures { All (λ l. l.faults ≡ D.count l.disk) logs.now }
+// Each coordinator's count of faults is its disk's, which has room for what is kept for its open batches.
+fn see_logs<D: Disk>(logs: &[CoordLog<D>])
+    ensures counts { All (λ l. l.faults ≡ D.count l.disk) logs.now }
+    ensures rooms { All (LogHasRoom D.limit) logs.now }
 {
     'logs: for log in logs {
         let _header = log.header();
+    }
+}
+
+// So has each shard's.
+fn see_shards<D: Disk>(shards: &[ShardNode<D>])
+    ensures { All (ShardHasRoom D.limit) shards.now }
+{
+    'shards: for shard in shards {
+        let _header = shard.header();
     }
 }
 
@@ -91,6 +103,8 @@ pub(crate) fn run_nodes<W: Wait, D: Disk, V: Verifier, G: Gate>(
     ensures ledger { IsLedger result.nodes.header result.nodes.logs.items result.nodes.shards.items }
     ensures shape { result.nodes.header.shape ≡ nodes.header.shape }
     ensures counts { All (λ l. l.faults ≡ D.count l.disk) result.nodes.logs.items }
+    ensures log_rooms { All (LogHasRoom D.limit) result.nodes.logs.items }
+    ensures shard_rooms { All (ShardHasRoom D.limit) result.nodes.shards.items }
     ensures idle { OnOk result.came (AreIdle nodes.header.shape (journals_of D.count D.limit nodes.header.shape result.nodes.logs.items result.nodes.shards.items)) }
     ensures keeps { OfKept nodes.header.shape (journals_of D.count D.limit nodes.header.shape nodes.logs.items nodes.shards.items)
         (λ mint submissions. StaysKept nodes.header.shape (journals_of D.count D.limit nodes.header.shape nodes.logs.items nodes.shards.items)
@@ -114,11 +128,25 @@ pub(crate) fn run_nodes<W: Wait, D: Disk, V: Verifier, G: Gate>(
     ensures grows { (n : ℕ) → IsEnd (journals_of D.count D.limit nodes.header.shape nodes.logs.items nodes.shards.items n)
         (journals_of D.count D.limit nodes.header.shape result.nodes.logs.items result.nodes.shards.items n) }
 
+    // What is in flight may come next at its node, as before.
+    ensures flies { OfKept nodes.header.shape (journals_of D.count D.limit nodes.header.shape nodes.logs.items nodes.shards.items)
+        (FliesWith nodes.header.shape (joined files.now) (journals_of D.count D.limit nodes.header.shape nodes.logs.items nodes.shards.items)
+        (journals_of D.count D.limit nodes.header.shape result.nodes.logs.items result.nodes.shards.items)
+        (flights_of D.count D.limit nodes.header.shape nodes.logs.items nodes.shards.items) (flights_of D.count D.limit nodes.header.shape result.nodes.logs.items result.nodes.shards.items)) }
+
     // What a fault answers has its cause.
-    ensures fault { IfErr result.came (IsLaneAnswer nodes.header.shape (IsFilesPiece nodes.header.shape (V.verdict_of verifier.now) files.now)
+    ensures fault { IfErr result.came (IsLaneAnswer nodes.header.shape (IsFilesPiece nodes.header.shape (V.verdict_of verifier.now) files.now
+        (journals_of D.count D.limit nodes.header.shape nodes.logs.items nodes.shards.items) (journals_of D.count D.limit nodes.header.shape result.nodes.logs.items result.nodes.shards.items))
         (journals_of D.count D.limit nodes.header.shape nodes.logs.items nodes.shards.items) (journals_of D.count D.limit nodes.header.shape result.nodes.logs.items result.nodes.shards.items)
         (HaveFailed (opened_of D.count D.limit nodes.header.shape nodes.logs.items nodes.shards.items) (faults_of D.count D.limit nodes.header.shape result.nodes.logs.items result.nodes.shards.items))
         (MayHold (capacity_of D.count D.limit nodes.header.shape nodes.logs.items nodes.shards.items))) }
+
+    // And it is the least lane's that met one.
+    ensures least { IfErr result.came (IsLeastAnswer (EndsRun (V.verdict_of verifier.now) files.now nodes.header.shape
+        (journals_of D.count D.limit nodes.header.shape nodes.logs.items nodes.shards.items)
+        (journals_of D.count D.limit nodes.header.shape result.nodes.logs.items result.nodes.shards.items)
+        (HaveFailed (opened_of D.count D.limit nodes.header.shape nodes.logs.items nodes.shards.items) (faults_of D.count D.limit nodes.header.shape result.nodes.logs.items result.nodes.shards.items))
+        (MayHold (capacity_of D.count D.limit nodes.header.shape nodes.logs.items nodes.shards.items)))) }
 {
     let Nodes {
         header,
@@ -139,8 +167,9 @@ pub(crate) fn run_nodes<W: Wait, D: Disk, V: Verifier, G: Gate>(
         logs,
         shards,
     } = lent.take_back();
-    see_counts(&logs);
-    let came = came_of(over, &shards);
+    see_logs(logs.as_slice());
+    see_shards(shards.as_slice());
+    let came = came_of(over, shards.as_slice());
     Behind {
         nodes: Nodes {
             header,

@@ -4,7 +4,9 @@ ghost use Rattle.input_files.specs.Limits.{IsShort};
 ghost use Rattle.rack_nodes.specs.Racked.{IsBack};
 ghost use Rattle.caused_ledgers.specs.Caused.{IsCausedLedger, IsUnresumed};
 ghost use Rattle.rack_laws.specs.Shown.{OfShown};
-ghost use Rattle.rack_runs.specs.Runs.{IsRun, IsRecovered, IsCutShort, IsLaneFault, NothingNext, PieceNext};
+ghost use Rattle.ledger_runs.specs.Least.{IsLeastOpen};
+ghost use Rattle.rack_runs.specs.Endings.{EndsRun};
+ghost use Rattle.rack_runs.specs.Runs.{IsRun, IsRecovered, IsLaneFault, NothingNext, PieceNext};
 ghost use Rattle.rack_runs.specs.Telling.{IsTold};
 ghost use Rattle.submissions.specs.Checks.{VerdictsOf};
 
@@ -39,11 +41,11 @@ pub fn run_on<W: Wait, R: Rack, V: Verifier, G: Gate>(
     ensures told { IfOk result (λ r. OfShown R.Disk.content (R.held rack.old) (IsTold R.Disk.images (R.held rack.new) (V.verdict_of verifier.now) files.now r)) }
 
     // The nodes could not be opened, or a record is not caused, and the disks are back; or the rack showed such a ledger and a lane met a
-    // fault, which has its cause: journals have grown at their ends, and are kept.
+    // fault, which has its cause and is that of the least lane that met one: journals have grown at their ends, and are kept whatever a crash leaves.
     ensures stopped { IfErr result (λ e. (IsUnresumed R.Disk.content R.Disk.images R.Disk.limit R.Disk.count (R.held rack.old) (R.count rack.old) (R.count rack.new) e
         × ((n : ℕ) → IsBack R.Disk.images R.Disk.limit (R.held rack.old n) (R.held rack.new n)))
-        ⊎ (IsLaneFault R.Disk.content R.Disk.images R.Disk.limit (R.held rack.old) (R.held rack.new) (R.count rack.old) (R.count rack.new) (PieceNext (V.verdict_of verifier.now) files.now) e
-        × OfShown R.Disk.content (R.held rack.old) (IsCutShort R.Disk.images (R.held rack.new) files.now))) }
+        ⊎ (IsLaneFault R.Disk.content R.Disk.images R.Disk.limit (R.held rack.old) (R.held rack.new) (R.count rack.old) (R.count rack.new) (PieceNext (V.verdict_of verifier.now) files.now)
+        (EndsRun (V.verdict_of verifier.now) files.now) files.now e)) }
 
     ensures back { (n : ℕ) → R.can_take rack.new n }
     ensures later { (n : ℕ) → R.count rack.old n ≤ R.count rack.new n }
@@ -70,8 +72,7 @@ pub fn recover_on<W: Wait, R: Rack, G: Gate>(
     ensures told { IfOk result (λ r. (verdicts : VerdictsOf) × OfShown R.Disk.content (R.held rack.old) (IsTold R.Disk.images (R.held rack.new) verdicts [] r)) }
     ensures stopped { IfErr result (λ e. (IsUnresumed R.Disk.content R.Disk.images R.Disk.limit R.Disk.count (R.held rack.old) (R.count rack.old) (R.count rack.new) e
         × ((n : ℕ) → IsBack R.Disk.images R.Disk.limit (R.held rack.old n) (R.held rack.new n)))
-        ⊎ (IsLaneFault R.Disk.content R.Disk.images R.Disk.limit (R.held rack.old) (R.held rack.new) (R.count rack.old) (R.count rack.new) NothingNext e
-        × OfShown R.Disk.content (R.held rack.old) (IsCutShort R.Disk.images (R.held rack.new) []))) }
+        ⊎ (IsLaneFault R.Disk.content R.Disk.images R.Disk.limit (R.held rack.old) (R.held rack.new) (R.count rack.old) (R.count rack.new) NothingNext IsLeastOpen [] e)) }
     ensures back { (n : ℕ) → R.can_take rack.new n }
     ensures later { (n : ℕ) → R.count rack.old n ≤ R.count rack.new n }
 {

@@ -2,7 +2,7 @@
 use Rattle.std.proofs.Common.{◌≡◌, ◌≢◌, ℕ, ◌+◌, ◌<◌, Bool, List, [], ◌∷◌, ◌++◌, length, get_or, take, drop, refl, sym, ap, ◌∙◌, subst, arith}
 use Rattle.std.specs.List.{All}
 use Rattle.std.proofs.lemmas.List.{take_more, take-append-drop}
-use Rattle.std.proofs.lemmas.List.Elements.{All-push, All-weaker}
+use Rattle.std.proofs.lemmas.List.Elements.{All-get_or, All-push, All-weaker}
 use Rattle.cbdc_types.specs.declared.batch.OpenLane.{OpenLane}
 use Rattle.cbdc_model.specs.Records.{Shape, Header, Compact}
 use Rattle.cbdc_model.specs.Slots.{Phase, Idle}
@@ -10,7 +10,7 @@ use Rattle.cbdc_model.specs.Sights.{Sight}
 use Rattle.lane_driver.specs.Told.{IsLane, KeepsOthers}
 use Rattle.recovery.specs.declared.resumed.ResumedBatch.{ResumedBatch}
 use Rattle.lane_driver.specs.declared.fault.LaneFault.{LaneFault}
-use Rattle.recovery.specs.Open.{IsOpen, LanesAbove, LanesRise, IsUnfinished, IsResumeStopped, IsOneTaken, AreTakenUp, IsStoppedAmong}
+use Rattle.recovery.specs.Open.{IsOpen, LanesAbove, LanesRise, KeepsUnlisted, IsUnfinished, IsResumeStopped, IsOneTaken, AreTakenUp, IsStoppedAmong}
 use Rattle.recovery.proofs.Rest.{split_rest, open_here}
 
 -- ---- what was taken
@@ -85,3 +85,12 @@ module _ (os : List OpenLane) (i : ℕ) (o : OpenLane) (lt : i < length os) (is 
             idle = (keeps x.batch.lane was.lane apart).0 ∙ was.idle;
             below = below.1;
           }
+
+  -- lanes that are not listed stay as they were
+  pub unlisted_more : (h k : Header) (p q r : ℕ → Phase) (t u v : ℕ → List Compact) → k ≡ h → KeepsUnlisted h os p q t u → KeepsOthers k o.batch.lane q r u v → KeepsUnlisted h os p r t v
+  unlisted_more h k p q r t u v e so one lane inside apart =
+      let was = so lane inside apart in
+      let now = one lane (subst (λ x. IsLane x lane) (sym e) inside) (subst (λ x. lane ≢ x.batch.lane) (sym is) (All-get_or (λ x. lane ≢ x.batch.lane) os i o lt apart)) in (
+        now.0 ∙ was.0,
+        now.1 ∙ was.1,
+      )

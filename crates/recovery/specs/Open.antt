@@ -1,5 +1,5 @@
 -- The lanes that are open at a coordinator.
-use Rattle.std.specs.Prelude.{◌≡◌, ◌⊎◌, ℕ, ◌<◌, Bool, List, [], ◌∷◌, ◌++◌, length}
+use Rattle.std.specs.Prelude.{◌≡◌, ◌≢◌, ◌⊎◌, ℕ, ◌<◌, Bool, List, [], ◌∷◌, ◌++◌, length}
 use Rattle.std.specs.List.{All, AllZip}
 use Rattle.cbdc_types.specs.declared.batch.OpenLane.{OpenLane}
 use Rattle.cbdc_types.specs.declared.batch.Phase.{Phase as OpenPhase}
@@ -47,6 +47,10 @@ LanesAbove n (o ∷ os) = (n < o.batch.lane) × LanesAbove n os
 abbrev pub LanesRise : List OpenLane → Type 0
 LanesRise [] = Unit {0}
 LanesRise (o ∷ os) = LanesAbove o.batch.lane os × LanesRise os
+
+-- the coordinator's lanes that are none of these are as before
+abbrev pub KeepsUnlisted : Header → List OpenLane → (ℕ → Phase) → (ℕ → Phase) → (ℕ → List Compact) → (ℕ → List Compact) → Type 0
+KeepsUnlisted h os p q t u = (lane : ℕ) → IsLane h lane → All (λ o. lane ≢ o.batch.lane) os → (q lane ≡ p lane) × (u lane ≡ t lane)
 
 -- the batch was resumed, with an outcome for each transaction
 pub record IsResumed (o : OpenLane) (r : ResumedBatch) : Type 0 where

@@ -5,4 +5,4 @@ mod resumed;
 mod resuming;
 
 pub use resumed::{Resumed, ResumedBatch};
-pub use resuming::{resume, resume_lane};
+pub use resuming::resume;

@@ -6,7 +6,7 @@ ghost use Rattle.cbdc_types.specs.declared.batch.Phase.TheVariants.{Prepared, Co
 ghost use Rattle.lane_laws.specs.Resuming.{IsTakenUp};
 ghost use Rattle.lane_driver.specs.Told.{KeepsOthers, AreShardsOf, KeepNodes};
 ghost use Rattle.lane_driver.specs.Causes.{IsCausedFault};
-ghost use Rattle.recovery.specs.Open.{IsOpen, LanesRise, IsResumed, AreResumed, IsUnfinished, AreUnfinished, HasItsOutcomes, IsResumeStopped, AreTakenUp, AreStopped};
+ghost use Rattle.recovery.specs.Open.{IsOpen, LanesRise, KeepsUnlisted, IsResumed, AreResumed, IsUnfinished, AreUnfinished, HasItsOutcomes, IsResumeStopped, AreTakenUp, AreStopped};
 
 use crate::resumed::{Resumed, ResumedBatch};
 use cbdc_types::{List, OpenLane, Outcome, Outcomes, Phase, Shape};
@@ -237,8 +237,8 @@ fn resume_discarded<S: PortSet, L: LogPort, G: Gate>(
     }
 }
 
-/// Takes one open batch to its end, from the phase in which it stands.
-pub fn resume_lane<S: PortSet, L: LogPort, G: Gate>(
+// Takes one open batch to its end, from the phase in which it stands.
+fn resume_lane<S: PortSet, L: LogPort, G: Gate>(
     alloc: Global,
     shape: &Shape,
     unfinished: &OpenLane,
@@ -306,6 +306,7 @@ pub fn resume<S: PortSet, L: LogPort, G: Gate>(
     // Or one stopped, those before it are at their end, and those behind it untouched.
     ensures left { IfErr result (AreStopped shape.now L.alone lanes.now (L.sights ports.old.log (L.at ports.old.log)) (S.sights ports.old.shards) (L.sights ports.new.log (L.at ports.new.log)) (S.sights ports.new.shards)) }
     ensures fault { IfErr result (IsCausedFault shape.now (L.sights ports.new.log) (S.sights ports.new.shards)) }
+    ensures others { KeepsUnlisted (L.header ports.old.log) lanes.now (L.phase ports.old.log) (L.phase ports.new.log) (L.open_txs ports.old.log) (L.open_txs ports.new.log) }
     ensures at_same { L.at ports.new.log ≡ L.at ports.old.log }
     ensures header { L.header ports.new.log ≡ L.header ports.old.log }
     ensures log_count { L.count ports.new.log ≡ L.count ports.old.log }

@@ -55,11 +55,11 @@ second : (a c : Bool) → (a && c) ≡ true → c ≡ true
 second a c h = grind (arith, h)
 
 -- one piece more
-cuts_more : {A : Type 0} (n : ℕ) (xs : List A) (pieces : List (List A)) (rest : List A) → CutsOff n xs pieces rest → 0 < length (take n rest) → CutsOff n xs (pieces ++ take n rest ∷ []) (drop n rest)
+pub cuts_more : {A : Type 0} (n : ℕ) (xs : List A) (pieces : List (List A)) (rest : List A) → CutsOff n xs pieces rest → 0 < length (take n rest) → CutsOff n xs (pieces ++ take n rest ∷ []) (drop n rest)
 cuts_more n xs [] rest c some = subst (λ ys. (0 < length (take n rest)) × (take n rest ≡ take n ys) × (drop n rest ≡ drop n ys)) c (some, refl, refl)
 cuts_more n xs (piece ∷ pieces) rest c some = (c.0, c.1, cuts_more n (drop n xs) pieces rest c.2 some)
 
-cuts_all : {A : Type 0} (n : ℕ) (xs : List A) (pieces : List (List A)) → CutsOff n xs pieces [] → IsCut n xs pieces
+pub cuts_all : {A : Type 0} (n : ℕ) (xs : List A) (pieces : List (List A)) → CutsOff n xs pieces [] → IsCut n xs pieces
 cuts_all n xs [] c = sym c
 cuts_all n xs (piece ∷ pieces) c = (c.0, c.1, cuts_all n (drop n xs) pieces c.2)
 

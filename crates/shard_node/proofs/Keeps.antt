@@ -1,6 +1,6 @@
 -- A shard's parts stay a shard's behind a record.
 use Rattle.std.proofs.Common.{◌≡◌, ℕ, ◌+◌, ◌*◌, ◌≤◌, List, [], ◌∷◌, length, reverse, Option, Some, None, option_map, refl, sym, ◌∙◌, ap, subst, arith}
-use Rattle.std.specs.Prelude.{slice_get}
+use Rattle.std.specs.Prelude.{slice_get, IfSome}
 use Rattle.std.proofs.lemmas.List.{reverse-append}
 use Rattle.std.proofs.lemmas.List.Sums.{sum_by-cons}
 use Rattle.cbdc_types.specs.Limits.{IsWithinLimits}
@@ -48,6 +48,8 @@ module _ {D : Type 0} {G : Ghosts D} where
     opened = is.opened;
     since = is.since;
     sound = is.sound;
+    flying = is.flying;
+    room = is.room;
   }
 
   -- what holds while a record is on its way
@@ -59,9 +61,10 @@ module _ {D : Type 0} {G : Ghosts D} where
     pub limits : IsWithinLimits p.log.header.shape
     pub lanes : length p.decisions.items ≡ p.log.header.shape.coordinators * p.log.header.shape.lanes
     pub opened : p.opened ≤ G.count (disk_of p.log.journal)
+    pub room : used_of (journal_of p) + kept_room p.log.header.shape (journal_of p) ≤ G.limit (disk_of p.log.journal)
 
   pub standing : (p : Parts D G) → IsShardOf p → Standing p
-  standing p is = record { header = is.header; stands = is.stands; journal = is.journal; shard = is.shard; limits = is.limits; lanes = is.lanes; opened = is.opened }
+  standing p is = record { header = is.header; stands = is.stands; journal = is.journal; shard = is.shard; limits = is.limits; lanes = is.lanes; opened = is.opened; room = is.room }
 
   pushed : (p new : Parts D G) (r : Record) → HasWritten p new r → journal_of new ≡ r ∷ journal_of p
   pushed p new r w = ap reverse w.records ∙ reverse-append p.log.records.items (r ∷ [])
@@ -74,6 +77,10 @@ module _ {D : Type 0} {G : Ghosts D} where
       let is : journal_of new ≡ r ∷ J = pushed p new r w in
       let size = size_is p.log.header r s.limits next.0 in
       let more = sum_by-cons size_of r J in
+      let now : used_of (r ∷ J) + kept_room p.log.header.shape (r ∷ J) ≤ G.limit (disk_of new.log.journal) = omega (arith, free, w.limit) in
+      let room_now : used_of (journal_of new) + kept_room new.log.header.shape (journal_of new) ≤ G.limit (disk_of new.log.journal) =
+      subst (λ (h : Header). used_of (journal_of new) + kept_room h.shape (journal_of new) ≤ G.limit (disk_of new.log.journal)) (sym w.header)
+      (subst (λ (l : List Record). used_of l + kept_room p.log.header.shape l ≤ G.limit (disk_of new.log.journal)) (sym is) now) in
       record {
         header = w.core_header ∙ s.header ∙ sym w.header;
         stands = subst (λ (l : List Record). Stands new.core l) (sym is) (w.stands J s.stands);
@@ -85,20 +92,19 @@ module _ {D : Type 0} {G : Ghosts D} where
         since = subst (λ (o : Option ℕ). IsBrokenSince new.opened (G.count (disk_of new.log.journal)) o) (sym w.broken) tt;
         sound = λ _. record {
           used = let now : gate_of new.log.journal + 1 ≡ used_of (r ∷ J) = omega (arith, w.gate, used, size, more) in now ∙ ap used_of (sym is);
-          free =
-              let now : used_of (r ∷ J) + kept_room p.log.header.shape (r ∷ J) ≤ G.limit (disk_of new.log.journal) = omega (arith, free, w.limit) in
-              subst (λ (h : Header). used_of (journal_of new) + kept_room h.shape (journal_of new) ≤ G.limit (disk_of new.log.journal)) (sym w.header)
-              (subst (λ (l : List Record). used_of l + kept_room p.log.header.shape l ≤ G.limit (disk_of new.log.journal)) (sym is) now);
+          free = room_now;
           decisions = subst (λ v. HaveDecisions (journal_of new) v.items) (sym w.decisions) (subst (λ (l : List Record). HaveDecisions l p.decisions.items) (sym is) decisions);
           records =
               let now : HasRecords new.log (kept_room p.log.header.shape (r ∷ J)) = record { count = count; room = w.room count 1057 room; enough = enough } in
               subst (λ (h : Header). HasRecords new.log (kept_room h.shape (journal_of new))) (sym w.header) (subst (λ (l : List Record). HasRecords new.log (kept_room p.log.header.shape l)) (sym is) now);
           landed = w.flight ∙ landed;
         };
+        flying = subst (λ (o : Option Record). IfSome o (After new.log.header (journal_of new))) (sym (w.flight ∙ landed)) tt;
+        room = room_now;
       }
 
-  pub failed : (p new : Parts D G) (r : Record) → Standing p → HasFailed p new r → IsShardOf new
-  failed p new r s f =
+  pub failed : (p new : Parts D G) (r : Record) → Standing p → HasFailed p new r → After p.log.header (journal_of p) r → IsShardOf new
+  failed p new r s f next =
       let is : journal_of new ≡ journal_of p = ap reverse f.records in
       record {
         header = ap (λ c. c.header) f.core ∙ s.header ∙ sym f.header;
@@ -110,6 +116,11 @@ module _ {D : Type 0} {G : Ghosts D} where
         opened = omega (arith, f.opened, f.later, s.opened);
         since = subst (λ (o : Option ℕ). IsBrokenSince new.opened (G.count (disk_of new.log.journal)) o) (sym f.broken) (omega (arith, f.opened, f.rose, s.opened), omega arith);
         sound = λ none. none_some (G.count (disk_of new.log.journal)) (broken_of new.log.journal) f.broken none;
+        flying = subst (λ (o : Option Record). IfSome o (After new.log.header (journal_of new))) (sym f.flight)
+            (subst (λ (h : Header). After h (journal_of new) r) (sym f.header) (subst (λ (l : List Record). After p.log.header l r) (sym is) next));
+        room =
+            let kept : kept_room new.log.header.shape (journal_of new) ≡ kept_room p.log.header.shape (journal_of p) = ap (λ (l : List Record). kept_room new.log.header.shape l) is ∙ ap (λ (h : Header). kept_room h.shape (journal_of p)) f.header in
+            omega (arith, s.room, kept, ap used_of is, f.limit);
       }
 
   -- ---- what a caller sees

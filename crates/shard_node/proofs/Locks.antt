@@ -1,7 +1,7 @@
 -- Lock: the room and the memory for its batch are taken first.
 use Rattle.std.proofs.Common.{◌≡◌, ◌≢◌, inr, ℕ, ◌+◌, ◌-◌, ◌*◌, ◌/◌, ◌^◌, ◌≤◌, ◌<◌, min, Bool, true, List, [], ◌∷◌, length, reverse, vec_capacity, Option, Some, None, Ok, Err, sym, ◌∙◌, ap, subst, arith}
 use Rattle.std.specs.Global.{Vec}
-use Rattle.std.specs.Prelude.{slice_get}
+use Rattle.std.specs.Prelude.{slice_get, IfSome}
 use Rattle.std.proofs.lemmas.List.Sums.{sum_by-cons}
 use Rattle.cbdc_types.specs.declared.calls.LockCall.{LockCall}
 use Rattle.cbdc_types.specs.declared.calls.Replied.{Replied}
@@ -34,7 +34,7 @@ use Rattle.shard_node.specs.Parts.{HaveDecisions, HasRecords, IsShardOf, HasWrit
 use Rattle.shard_node.proofs.Lanes.{IsLockedWith, same_room, same_lock, past_lock, own_lock, locked_room, room_idle}
 use Rattle.shard_node.proofs.Rooms.{kept_moves, kept_small}
 use Rattle.shard_node.proofs.Follows.{IsNextLock, lock_appends, lock_after, length_answered, in_grammar}
-use Rattle.shard_node.proofs.Keeps.{wrote, appends, fails}
+use Rattle.shard_node.proofs.Keeps.{standing, wrote, failed, appends, fails}
 use Rattle.shard_node.proofs.Owed.{lock_writes, lock_full}
 
 -- the Lock that was made is the one that is owed
@@ -113,6 +113,8 @@ module _ {D : Type 0} {G : Ghosts D} where
                 records = subst (λ (n : ℕ). HasRecords log n) (sym kept) (record { count = old.records.count; room = t.keeps old.records.count 1057 old.records.room; enough = old.records.enough });
                 landed = old.landed;
               };
+          flying = subst (λ (h : Header). IfSome p.flight (After h J)) (sym t.header) (subst (λ (l : List Record). IfSome p.flight (After p.log.header l)) (sym same) is.flying);
+          room = omega (arith, is.room, same_kept log t, ap used_of same, ap G.limit t.untouched.disk);
         }
       where
         same_kept : (log : RecordLog D G) → HasTaken p log memory c.batch.lane → kept_room log.header.shape (reverse log.records.items) ≡ kept_room p.log.header.shape (journal_of p)
@@ -145,6 +147,17 @@ module _ {D : Type 0} {G : Ghosts D} where
           let small = kept_small p.log.header (journal_of p) is.limits (in_grammar p.log.header (journal_of p) is.journal) in
           let same : kept_room p.core.header.shape (journal_of p) ≡ kept_room p.log.header.shape (journal_of p) = ap (λ (h : Header). kept_room h.shape (journal_of p)) is.header in
           (omega (arith, e (journal_of p) is.stands, small, same), omega (arith, e (journal_of p) is.stands, small, same))
+
+      -- the disk failed at it
+      pub lock_left : (log : RecordLog D G) (memory : Vec (Vec Bool)) → HasTaken p log memory c.batch.lane → (new : Parts D G)
+          → HasFailed {D = D} {G = G} (record { log = log; core = p.core; decisions = memory; flight = p.flight; opened = p.opened }) new next → IsShardOf new
+      lock_left log memory t new f =
+          let mid : Parts D G = record { log = log; core = p.core; decisions = memory; flight = p.flight; opened = p.opened } in
+          let N : Record = lock_record (journal_of p) c in
+          let same : reverse log.records.items ≡ journal_of p = ap reverse t.records in
+          let after : After log.header (reverse log.records.items) N =
+          subst (λ (h : Header). After h (reverse log.records.items) N) (sym t.header) (subst (λ (l : List Record). After p.log.header l N) (sym same) lock_fits) in
+          failed mid new N (standing mid (taken_shard log memory t)) (subst (λ (x : Record). HasFailed mid new x) next_is f) after
 
       module _ (size len kept : ℕ) (size_is : size ≡ size_of (lock_record (journal_of p) c)) (len_is : len ≡ length c.part) (kept_is : kept ≡ kept_room p.log.header.shape (journal_of p)) where
         need_is : size + (76 + len + kept) ≡ need_of p.log.header.shape (journal_of p) (lock_record (journal_of p) c)
@@ -198,7 +211,7 @@ module _ {D : Type 0} {G : Ghosts D} where
                     same_lock (journal_of p) (N ∷ journal_of p) lane (vec_capacity m) (past_lock (journal_of p) (next_stamp (journal_of p) c.cause) c.batch (answered (journal_of p) c.batch [] c.part) lane apart)
                     (sound.decisions lane m (t.others lane m (λ e. apart (sym e)) get))
               ] in
-              wrote mid new N (record { header = s.header; stands = s.stands; journal = s.journal; shard = s.shard; limits = s.limits; lanes = s.lanes; opened = s.opened }) w2 after used
+              wrote mid new N (record { header = s.header; stands = s.stands; journal = s.journal; shard = s.shard; limits = s.limits; lanes = s.lanes; opened = s.opened; room = s.room }) w2 after used
               (omega (arith, total, keeps, size_is, len_is, kept_is, kept_now, used_now, grown, ap G.limit t.untouched.disk))
               (subst (λ (l : List Record). HaveDecisions (N ∷ l) memory.items) (sym same) decisions) ((76 + len + kept) / 34 + 1)
               (record { records = omega (arith, room.records); body = omega (arith, room.body, enough); row = omega (arith, room.row, enough) })

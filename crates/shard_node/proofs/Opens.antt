@@ -74,6 +74,8 @@ module _ {D : Type 0} {G : Ghosts D} where
           records = record { count = kept / 34 + 1; room = has; enough = omega (arith, kept_now, kept_is) };
           landed = refl;
         };
+        flying = tt;
+        room = omega (arith, used, ap used_of same, kept_now, kept_is, fits, untouched.gate, ap G.limit untouched.disk);
       }
 
   -- what its disk holds

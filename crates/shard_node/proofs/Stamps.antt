@@ -27,7 +27,7 @@ use Rattle.shard_node.specs.Parts.{HasRecords, IsShardOf, HasWritten, HasFailed,
 use Rattle.shard_node.proofs.Lanes.{IsLockedWith, same_room, same_lock, past_finish, past_forget, own_finish, own_forget, room_locked, room_finished, finished_room, forgotten_room}
 use Rattle.shard_node.proofs.Rooms.{kept_moves}
 use Rattle.shard_node.proofs.Follows.{IsNextFinish, IsNextForget, finish_appends, finish_after, fits_length, forget_appends, forget_after}
-use Rattle.shard_node.proofs.Keeps.{standing, wrote, appends, fails}
+use Rattle.shard_node.proofs.Keeps.{standing, wrote, failed, appends, fails}
 use Rattle.shard_node.proofs.Owed.{finish_writes, forget_writes}
 
 -- what a Finish and a Forget leave to be kept
@@ -89,11 +89,17 @@ module _ {D : Type 0} {G : Ghosts D} where
         let J = journal_of p in
         let r : Record = Finish t c.batch c.decisions in
         let kept = finish_kept in
-        wrote (record p { decisions = memory }) new r (record { header = is.header; stands = is.stands; journal = is.journal; shard = is.shard; limits = is.limits; lanes = len ∙ is.lanes; opened = is.opened }) w finish_fits sound.used
+        wrote (record p { decisions = memory }) new r (record { header = is.header; stands = is.stands; journal = is.journal; shard = is.shard; limits = is.limits; lanes = len ∙ is.lanes; opened = is.opened; room = is.room }) w finish_fits sound.used
         (omega (arith, sound.free, kept, sum_by-cons size_of r J)) (λ lane m get. elim (same_nat c.batch.lane lane) [
           | Yes e ↦ subst (λ (l : ℕ). IsLockedWith (r ∷ J) l (vec_capacity m)) e (own_finish J t c.batch c.decisions (vec_capacity m))
           | No apart ↦ same_lock J (r ∷ J) lane (vec_capacity m) (past_finish J t c.batch c.decisions lane apart) (sound.decisions lane m (others lane m (λ e. apart (sym e)) get))
         ]) (sound.records.count - 1) (one_less p.log (kept_room p.log.header.shape J) sound.records (omega (arith, kept))) (omega (arith, sound.records.enough, kept)) sound.landed
+
+    -- the disk failed at it
+    pub finish_left : (memory : Vec (Vec Bool)) (new : Parts D G) → HasFailed (record p { decisions = memory }) new (Finish t c.batch c.decisions) → length memory.items ≡ length p.decisions.items → IsShardOf new
+    finish_left memory new f len =
+        failed (record p { decisions = memory }) new (Finish t c.batch c.decisions)
+        (record { header = is.header; stands = is.stands; journal = is.journal; shard = is.shard; limits = is.limits; lanes = len ∙ is.lanes; opened = is.opened; room = is.room }) f finish_fits
 
     pub finish_done : (memory : Vec (Vec Bool)) (new : Parts D G) → HasWritten (record p { decisions = memory }) new (Finish t c.batch c.decisions)
         → Meets false (finish_due c None (journal_of p)) (sight_of G.count G.limit (view_of p)) (sight_of G.count G.limit (view_of new)) (journal_of p) (Ok t)
@@ -137,6 +143,10 @@ module _ {D : Type 0} {G : Ghosts D} where
           | Yes e ↦ subst (λ (l : ℕ). IsLockedWith (r ∷ J) l (vec_capacity m)) e (own_forget J t c.batch (vec_capacity m))
           | No apart ↦ same_lock J (r ∷ J) lane (vec_capacity m) (past_forget J t c.batch lane apart) (sound.decisions lane m get)
         ]) (sound.records.count - 1) (one_less p.log (kept_room p.log.header.shape J) sound.records (omega (arith, kept))) (omega (arith, sound.records.enough, kept)) sound.landed
+
+    -- the disk failed at it
+    pub forget_left : (new : Parts D G) → HasFailed p new (Forget t c.batch) → IsShardOf new
+    forget_left new f = failed p new (Forget t c.batch) (standing p is) f forget_fits
 
     pub forget_done : (new : Parts D G) → HasWritten p new (Forget t c.batch)
         → Meets false (forget_due c None (journal_of p)) (sight_of G.count G.limit (view_of p)) (sight_of G.count G.limit (view_of new)) (journal_of p) (Ok t)

@@ -1,5 +1,5 @@
 -- What always holds of the parts of a shard.
-use Rattle.std.specs.Prelude.{◌≡◌, ℕ, ◌+◌, ◌*◌, ◌≤◌, Bool, List, [], ◌∷◌, ◌++◌, length, reverse, vec_capacity, Option, Some, None, slice_get}
+use Rattle.std.specs.Prelude.{◌≡◌, ℕ, ◌+◌, ◌*◌, ◌≤◌, Bool, List, [], ◌∷◌, ◌++◌, length, reverse, vec_capacity, Option, Some, None, IfSome, slice_get}
 use Rattle.std.specs.Global.{Vec}
 use Rattle.cbdc_types.specs.declared.calls.LockCall.{LockCall}
 use Rattle.cbdc_types.specs.declared.calls.Replied.{Replied}
@@ -8,7 +8,7 @@ use Rattle.cbdc_model.specs.Replies.{entries, replies}
 use Rattle.cbdc_model.specs.Slots.{slot, InLock}
 use Rattle.cbdc_types.specs.Limits.{IsWithinLimits}
 use Rattle.cbdc_model.specs.Grammar.{IsShard}
-use Rattle.cbdc_model.specs.After.{IsJournal}
+use Rattle.cbdc_model.specs.After.{After, IsJournal}
 use Rattle.cbdc_model.specs.Room.{kept_room}
 use Rattle.cbdc_model.specs.Due.{used_of, open_batch}
 use Rattle.cbdc_model.specs.Sights.{IsBrokenSince}
@@ -68,6 +68,8 @@ pub record IsShardOf {D : Type 0} {G : Ghosts D} (p : Parts D G) : Type 0 where
   pub opened : p.opened ≤ G.count (disk_of p.log.journal)
   pub since : IsBrokenSince p.opened (G.count (disk_of p.log.journal)) (broken_of p.log.journal)
   pub sound : broken_of p.log.journal ≡ None → IsSound p.log p.log.header (journal_of p) p.decisions.items p.flight
+  pub flying : IfSome p.flight (After p.log.header (journal_of p))
+  pub room : used_of (journal_of p) + kept_room p.log.header.shape (journal_of p) ≤ G.limit (disk_of p.log.journal)
 
 -- the record was written and taken in
 pub record HasWritten {D : Type 0} {G : Ghosts D} (old new : Parts D G) (r : Record) : Type 0 where

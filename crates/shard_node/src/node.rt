@@ -1,8 +1,9 @@
 // The calls at a shard.
-ghost use Rattle.std.specs.Prelude.{◌≡◌, ◌≤◌, true, false, reverse};
-ghost use Rattle.cbdc_model.specs.Due.{lock_due, finish_due, forget_due};
+ghost use Rattle.std.specs.Prelude.{◌≡◌, ◌+◌, ◌≤◌, true, false, None, IfSome, reverse};
+ghost use Rattle.cbdc_model.specs.Due.{used_of, lock_due, finish_due, forget_due};
+ghost use Rattle.cbdc_model.specs.Room.{kept_room};
 ghost use Rattle.cbdc_model.specs.Sights.{Meets, IsBrokenSince};
-ghost use Rattle.cbdc_model.specs.After.{IsJournal};
+ghost use Rattle.cbdc_model.specs.After.{After, IsJournal};
 ghost use Rattle.cbdc_model.specs.Grammar.{IsShard};
 ghost use Rattle.cbdc_model.specs.Status.{status};
 ghost use Rattle.cbdc_model.specs.Fates.{fate};
@@ -132,6 +133,12 @@ impl<D: Disk> ShardNode<D> {
         // Its disk's count has not fallen since it was opened, and has risen if an append has failed since.
         ensures since_opened { self.now.opened ≤ D.count self.now.disk }
         ensures since_broken { IsBrokenSince self.now.opened (D.count self.now.disk) self.now.broken }
+
+        // A record is in flight only where an append has failed since.
+        ensures landed { self.now.broken ≡ None → self.now.flight ≡ None }
+
+        // What its journal takes, with what is kept for its unfinished batches, lies within the capacity.
+        ensures room { used_of self.now.journal + kept_room self.now.header.shape self.now.journal ≤ D.limit self.now.disk }
     {
         &self.parts.log.header
     }
@@ -141,6 +148,9 @@ impl<D: Disk> ShardNode<D> {
         ensures records { reverse result.now ≡ self.now.journal }
         ensures journal { IsJournal self.now.header self.now.journal }
         ensures shard { IsShard self.now.header.shape self.now.header.node }
+
+        // A record in flight may come next.
+        ensures flying { IfSome self.now.flight (After self.now.header self.now.journal) }
     {
         self.parts.log.records.as_slice()
     }

@@ -9,9 +9,11 @@ use Rattle.cbdc_model.specs.Ranges.{home_of}
 use Rattle.cbdc_model.specs.Slots.{slot, Idle, InPrepare}
 use Rattle.cbdc_model.specs.History.{Minted}
 use Rattle.cbdc_model.specs.Lanes.{may_come, Made}
+use Rattle.cbdc_model.specs.Waves.{prepared}
 use Rattle.cbdc_model.specs.Sights.{Sight}
 use Rattle.ledger_laws.proofs.Cuts.{end_self}
-use Rattle.lane_laws.specs.Batches.{Settled}
+use Rattle.lane_laws.specs.Batches as batches
+use Rattle.lane_laws.specs.Batches.{own, Settled}
 use Rattle.lane_laws.specs.Resuming.{IsTakenUp}
 use Rattle.lane_driver.specs.declared.fault.LaneFault.{LaneFault}
 use Rattle.lane_driver.specs.declared.fault.BatchReport.{BatchReport}
@@ -29,9 +31,11 @@ use Rattle.run_laws.proofs.TurnStep.{lifted, checked_turn_law}
 use Rattle.run_laws.proofs.Rests.{checked_rest_law}
 use Rattle.run_laws.proofs.OpenLanes.{checked_resume_law}
 use Rattle.run_laws.proofs.Nodes.{nodes_law}
-use Rattle.run_laws.proofs.TurnKinds.{taken_law}
+use Rattle.run_laws.proofs.Seen.{seen_log}
+use Rattle.run_laws.proofs.TurnKinds.{taken_law, prepared_law, prepared_own}
 use Rattle.run_laws.proofs.Stopping.{stop_law}
-use Rattle.ledger_runs.specs.Faults.{AreOfLane, GrowBy, IsWanted, wants_prepare, wants_lock, IsLaneCause, HaveFailed, MayHold, Nothing, IsThese}
+use Rattle.ledger_runs.specs.Pieces.{HasPrepared, IsUnprepared}
+use Rattle.ledger_runs.specs.Faults.{AreOfLane, GrowBy, IsWanted, wants_prepare, wants_lock, IsLaneCause, HaveFailed, MayHold, Nothing}
 use Rattle.turn_laws.specs.Nodes.{AreNodes}
 use Rattle.turn_laws.proofs.Headers.{are_journals}
 use Rattle.turn_laws.proofs.OpenThere.{told_lane, unfinished}
@@ -56,6 +60,28 @@ module _ (K : Shape) (pieces : List (List Compact)) (lane : ℕ) (I J : ℕ → 
   grow_by n = ((made.grows n).0, (made.grows n).1, all_own n (made.grows n).0 [] (made.grows n).1)
 
 -- ---- causes
+
+-- what is next in other words
+next_by : (K : Shape) (lane : ℕ) (next due : List Compact → Type 0) (J : ℕ → List Record) → ((txs : List Compact) → next txs → due txs) → (node : ℕ) (r : Record) → IsNext K lane next J node r → IsNext K lane due J node r
+next_by K lane next due J on node r (next_prepare txs is at idle e) = next_prepare txs (on txs is) at idle e
+next_by K lane next due J on node r (next_lock b t txs s is at concerned phase stands behind e) = next_lock b t txs s is at concerned phase stands behind e
+
+stop_by : (K : Shape) (lane : ℕ) (next due : List Compact → Type 0) (J : ℕ → List Record) (opened faults capacity : ℕ → ℕ) → ((txs : List Compact) → next txs → due txs)
+    → (node : ℕ) (f : NodeFault) → IsStopBy K lane next J opened faults capacity node f → IsStopBy K lane due J opened faults capacity node f
+stop_by K lane next due J opened faults capacity on node (Broken since) h = h
+stop_by K lane next due J opened faults capacity on node (Refuses why) h = h
+stop_by K lane next due J opened faults capacity on node (ClockEnd stamp) h =
+    record { wanted = h.wanted; is_next = next_by K lane next due J on node h.wanted h.is_next; stamp_is = h.stamp_is; above = h.above }
+stop_by K lane next due J opened faults capacity on node (Full used need limit) h = record {
+  wanted = h.wanted;
+  is_next = next_by K lane next due J on node h.wanted h.is_next;
+  limit_is = h.limit_is;
+  used_is = h.used_is;
+  need_is = h.need_is;
+  above = h.above;
+}
+stop_by K lane next due J opened faults capacity on node DiskFault h = h
+stop_by K lane next due J opened faults capacity on node Memory h = h
 
 -- what a lane needs next, by the journals at its stop
 wanted_of : (K : Shape) (lane : ℕ) (next : List Compact → Type 0) (J : ℕ → List Record) (node : ℕ) (r : Record) → IsNext K lane next J node r → IsWanted K lane next J node (J node) r
@@ -139,6 +165,11 @@ module _ (K : Shape) (lane : ℕ) (logs shards logs' shards' : ℕ → Sight) (l
   none_done : log' ≡ log → shards' ≡ shards → IsCheckedTurn K m lane I J
   none_done e s = turned [] ((taken_law K lane logs shards logs' shards' elsewhere).4 e s)
 
+  unprepared : IsTurn K [] lane logs shards logs' shards' → HasPrepared K lane [] I J
+  unprepared turn =
+      ap (prepared lane) (seen_log K logs' shards' (home_of K lane) home) ∙ (prepared_law K lane logs shards logs' shards' home).2 turn
+      ∙ ap (prepared lane) (sym (seen_log K logs shards (home_of K lane) home))
+
   shape_still : log'.header.shape ≡ K
   shape_still = ap (λ h. h.shape) (log_nodes (home_of K lane)).header ∙ shape
 
@@ -159,13 +190,34 @@ module _ (K : Shape) (lane : ℕ) (logs shards logs' shards' : ℕ → Sight) (l
         let s = stop (slot log.seen lane).number settled in
         turned (txs ∷ []) ((taken_law K lane logs shards logs' shards' elsewhere).1 txs s.0 s.1 s.3)
 
-    pub stopped_cause : (e : LaneFault) → IsBatchStopped K true lane txs log shards log' shards' e → ItsCause (IsThese txs) e
-    stopped_cause e (inl none) = memory_cause (IsThese txs) e none.0
+    -- without a record of the lane at its coordinator it has prepared nothing
+    unbegun : own lane log'.seen ≡ own lane log.seen → HasPrepared K lane [] I J
+    unbegun same =
+        ap (prepared lane) (seen_log K logs' shards' (home_of K lane) home) ∙ prepared_own lane log'.seen ∙ ap batches.prepared same ∙ sym (prepared_own lane log.seen)
+        ∙ ap (prepared lane) (sym (seen_log K logs shards (home_of K lane) home))
+
+    pub stopped_cause : (e : LaneFault) → IsBatchStopped K true lane txs log shards log' shards' e → ItsCause (IsUnprepared K lane txs I J) e
+    stopped_cause e (inl none) = memory_cause (IsUnprepared K lane txs I J) e none.0
     stopped_cause e (inr stop) =
         let s = stop (slot log.seen lane).number settled in
         let turn = stopped_checked e (inr stop) in
-        fault_cause K lane (IsThese txs) I J (opened_by K logs' shards') (faults_by K logs' shards') (capacity_by K logs' shards') turn.grows e s.0 s.1 s.2
-        ((stop_law K m lane logs' shards' txs s.0 s.1 limits home shape_still shard_shapes turn.checked).0 s.3.fault)
+        let law = stop_law K m lane logs' shards' txs s.0 s.1 limits home shape_still shard_shapes turn.checked in
+        fault_cause K lane (IsUnprepared K lane txs I J) I J (opened_by K logs' shards') (faults_by K logs' shards') (capacity_by K logs' shards') turn.grows e s.0 s.1 s.2
+        (elim s.3.begun [
+          | inl same ↦
+              stop_by K lane (λ t. t ≡ txs) (IsUnprepared K lane txs I J) J (opened_by K logs' shards') (faults_by K logs' shards') (capacity_by K logs' shards') (λ t is. (is, unbegun same)) s.0 s.1
+              (law.0 s.3.fault)
+          | inr behind ↦
+              stop_by K lane (λ t. ⊥) (IsUnprepared K lane txs I J) J (opened_by K logs' shards') (faults_by K logs' shards') (capacity_by K logs' shards') (λ t none. absurd none) s.0 s.1
+              (law.1 behind.0 behind.1 behind.2)
+        ])
+
+    -- a batch that is done is what the lane has prepared
+    pub batch_prepared : (reports : List BatchReport) → IsOneBatch K true lane txs log shards log' shards' reports → HasPrepared K lane (txs ∷ []) I J
+    batch_prepared reports (r, is, done) =
+        ap (prepared lane) (seen_log K logs' shards' (home_of K lane) home)
+        ∙ (prepared_law K lane logs shards logs' shards' home).0 (slot log.seen lane).number txs r.batch r.outcomes (done (slot log.seen lane).number settled)
+        ∙ ap (λ L. txs ∷ prepared lane L) (sym (seen_log K logs shards (home_of K lane) home))
 
   module _ (o : OpenLane) (told : open_lane log.seen lane ≡ Some o) where
     lane_is : o.batch.lane ≡ lane
@@ -182,6 +234,16 @@ module _ (K : Shape) (lane : ℕ) (logs shards logs' shards' : ℕ → Sight) (l
     left_checked e (inr stop) =
         let s = stop still in
         turned [] ((taken_law K lane logs shards logs' shards' elsewhere).3 o.batch s.0 s.1 lane_is s.3)
+
+    -- an open batch that was taken up, or left, is what the lane had prepared before
+    pub taken_unprepared : (IsUnfinished o.phase K o log shards → IsTakenUp K true o.batch log shards log' shards') → HasPrepared K lane [] I J
+    taken_unprepared taken = unprepared ((taken_law K lane logs shards logs' shards' elsewhere).2 o.batch lane_is (taken still))
+
+    pub left_unprepared : (e : LaneFault) → IsResumeStopped K true o log shards log' shards' e → HasPrepared K lane [] I J
+    left_unprepared e (inl none) = unprepared ((taken_law K lane logs shards logs' shards' elsewhere).4 none.1 none.2)
+    left_unprepared e (inr stop) =
+        let s = stop still in
+        unprepared ((taken_law K lane logs shards logs' shards' elsewhere).3 o.batch s.0 s.1 lane_is s.3)
 
     pub left_cause : (e : LaneFault) → IsResumeStopped K true o log shards log' shards' e → ItsCause Nothing e
     left_cause e (inl none) = memory_cause Nothing e none.0

@@ -36,7 +36,7 @@ header_is K m J n h checked lt j =
     named_first K m n h (after_in h (journal n checked.later) [] (first_record K m n)
     (subst (IsJournal h) (sym (checked.history.journals_are n) ∙ journal_append n checked.later (first_rows K m) ∙ ap (λ L. journal n checked.later ++ L) (first_is K m n lt)) j))
 
-which_node : (K : Shape) (n : ℕ) → (n < K.coordinators) ⊎ ((K.coordinators ≤ n) × (n - K.coordinators < K.shards)) ⊎ ((K.coordinators ≤ n) × (K.shards ≤ n - K.coordinators))
+pub which_node : (K : Shape) (n : ℕ) → (n < K.coordinators) ⊎ ((K.coordinators ≤ n) × (n - K.coordinators < K.shards)) ⊎ ((K.coordinators ≤ n) × (K.shards ≤ n - K.coordinators))
 which_node K n = grind arith
 
 module _ (K : Shape) (logs shards logs' shards' : ℕ → Sight) (nodes : AreNodes K logs shards) (nodes' : AreNodes K logs' shards')

@@ -3,3 +3,4 @@ pub mod OpenThere
 pub mod Headers
 pub mod Turned
 pub mod Checking
+pub mod Flying

@@ -43,13 +43,13 @@ use Rattle.turn_laws.proofs.OwnJournals.{own_ok, stands_still}
 use Rattle.turn_laws.proofs.OpenThere.{told_open, unfinished, never_idle}
 
 -- one piece passes, and none does
-pass_one : (P : Compact → Type 0) (txs : List Compact) → All P txs → AllPass P (txs ∷ [])
+pub pass_one : (P : Compact → Type 0) (txs : List Compact) → All P txs → AllPass P (txs ∷ [])
 pass_one P txs all piece h = at h.0 h.1 h.2
   where
     at : (k : ℕ) → k < 1 → slice_index_or (txs ∷ []) k piece ≡ piece → All P piece
     at k lt e = let zero : k ≡ 0 = omega (arith, lt) in subst (All P) (subst (λ n. slice_index_or (txs ∷ []) n piece ≡ piece) zero e) all
 
-pass_none : (P : Compact → Type 0) → AllPass P []
+pub pass_none : (P : Compact → Type 0) → AllPass P []
 pass_none P piece h = absurd (let lt : h.0 < 0 = h.1 in omega (arith, lt))
 
 -- the outcomes of a done batch are those of its Commit

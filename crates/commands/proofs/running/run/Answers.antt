@@ -31,3 +31,6 @@ pub returns-clause-did : goal.returns-clause-did
 returns-clause-did g c well =
     did_run (g.I.Inbox.file c.args.inbox.now) g.R.Disk.Disk.content g.R.Disk.Disk.images (g.R.Rack.held c.args.rack.now) (g.R.Rack.held c.run_all.new.rack) (IsPrinted (g.O.Sink.taken c.args.out.now) (g.O.Sink.taken c.write_report.new.out) answers.WriteFault)
     c.args.verdicts.now c.args.clients.now c.in-Ok.ran c.in-Ok.ensures.did c.in-Err-write_report.ensures.prints
+
+pub returns-in-Err-clause-left : goal.returns-in-Err-clause-left
+returns-in-Err-clause-left g c not_well = c.in-Err.ensures.left

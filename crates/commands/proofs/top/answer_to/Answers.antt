@@ -1,9 +1,10 @@
-use Rattle.std.proofs.Common.{inr, refl, sym, subst}
+use Rattle.std.proofs.Common.{inl, inr, ⊎_elim, refl, sym, subst}
+use Rattle.command_line.specs.declared.request.Request.{Request}
 use Rattle.command_line.specs.declared.request.Request.TheVariants.{Audit, Gen}
 use Rattle.commands.specs.Audits.{DidAudit, WhyNoAudit}
 use Rattle.commands.specs.Causes.{IsTold}
 use Rattle.commands.specs.Generated.{WhyNoWorkload}
-use Rattle.commands.specs.Left.{Leaves}
+use Rattle.commands.specs.Left.{Leaves, RunLeaves}
 use Rattle.commands.specs.Outcomes.{Did, Why}
 use Rattle.commands.specs.Texts.{IsPrinted}
 use Rattle.commands.proofs.Answers.{well_told, told_by}
@@ -51,3 +52,14 @@ returns-in-Status-clause-left g c not_well =
 pub returns-in-Audit-clause-left : goal.returns-in-Audit-clause-left
 returns-in-Audit-clause-left g c not_well =
     inr (subst (λ r. Leaves (g.I.Inbox.file c.args.inbox.now) g.R.Disk.Disk.content g.R.Disk.Disk.images g.R.Disk.Disk.limit (g.R.Rack.held c.args.rack.now) (g.R.Rack.held c.audit.new.rack) r c.audit.result) (sym c.in-Audit.is) c.audit.ensures.left)
+
+pub returns-in-Recover-clause-left : goal.returns-in-Recover-clause-left
+returns-in-Recover-clause-left g c not_well =
+    inr (subst (λ r. Leaves (g.I.Inbox.file c.args.inbox.now) g.R.Disk.Disk.content g.R.Disk.Disk.images g.R.Disk.Disk.limit (g.R.Rack.held c.args.rack.now) (g.R.Rack.held c.recover.new.rack) r c.recover.result) (sym c.in-Recover.is) (c.recover.ensures.left not_well))
+
+pub returns-in-Run-clause-left : goal.returns-in-Run-clause-left
+returns-in-Run-clause-left g c not_well =
+    let There : Request → Type 0 = λ r. Leaves (g.I.Inbox.file c.args.inbox.now) g.R.Disk.Disk.content g.R.Disk.Disk.images g.R.Disk.Disk.limit (g.R.Rack.held c.args.rack.now) (g.R.Rack.held c.run.new.rack) r c.run.result in
+    ⊎_elim (λ same. inl same)
+    (λ left. inr (subst There (sym c.in-Run.is)
+    (subst (λ files. RunLeaves (g.I.Inbox.file c.args.inbox.now) g.R.Disk.Disk.content g.R.Disk.Disk.images g.R.Disk.Disk.limit (g.R.Rack.held c.args.rack.now) (g.R.Rack.held c.run.new.rack) files) c.deref.ensures.value left))) (c.run.ensures.left not_well)

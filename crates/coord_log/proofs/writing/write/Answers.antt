@@ -53,8 +53,8 @@ returns-in-Err-clause-told g c = λ opened.
 pub returns-in-Err-clause-sound : goal.returns-in-Err-clause-sound
 returns-in-Err-clause-sound g c = λ opened since.
     let is = disk_failed c.args.log.now c.args.core.now c.args.flight.now c.args.next _ _ c.in-Err.field-0 c.requires c.in-Err.is c.in-Err.ensures.answer in
-    sound_broken c.args.log.now c.write.new.self c.args.core.now c.args.flight.now _ c.args.next opened c.requires since (c.write.ensures.fault is) c.write.ensures.later
-    c.write.ensures.records c.write.ensures.header (c.write.ensures.broken is)
+    sound_broken c.args.log.now c.write.new.self c.args.core.now c.args.flight.now c.args.next opened c.requires since (c.write.ensures.fault is) c.write.ensures.later
+    c.write.ensures.records c.write.ensures.header (c.write.ensures.broken is) c.write.ensures.limit
 
 pub returns-in-Err-clause-broken : goal.returns-in-Err-clause-broken
 returns-in-Err-clause-broken g c = c.write.ensures.broken (disk_failed c.args.log.now c.args.core.now c.args.flight.now c.args.next _ _ c.in-Err.field-0 c.requires c.in-Err.is c.in-Err.ensures.answer)

@@ -1,9 +1,14 @@
-use Rattle.std.proofs.Common.{◌≡◌, ◌∙◌, refl, sym, subst, arith, get_or, take}
+use Rattle.std.proofs.Common.{◌≡◌, ◌∙◌, refl, sym, ap, subst, arith, get_or, take, [], ◌+◌}
 use Rattle.file_runs.proofs.Joining.{files_begin, files_step, files_end, same_file, keeps_none, keeps_fault}
 use Rattle.file_runs.proofs.FileTelling.{told_files, told_all}
 use Rattle.ledger_laws.proofs.Cuts.{end_self, end_trans}
+use Rattle.cbdc_model.specs.World.{AreIdle}
 use Rattle.ledger_runs.specs.Faults.{HaveFailed, MayHold}
+use Rattle.file_runs.specs.Runs.{joined}
+use Rattle.file_runs.proofs.Pieces.{none_prepared, file_prepared}
 use Rattle.file_runs.proofs.Causing.{files_cause}
+use Rattle.file_runs.proofs.Flying.{flies_none, flies_more, flies_fault, flies_all}
+use Rattle.file_runs.proofs.Ending.{unbegun_files, files_end_so}
 use Rattle.file_runs.proofs.files.run_files.Goals as goal
 
 pub returns-in_default-clause-keeps : goal.returns-in_default-clause-keeps
@@ -30,7 +35,9 @@ files-init g c = record {
   opened = λ n. refl;
   capacity = λ n. refl;
   checked = c.requires.checked;
+  flies = flies_none (g.L.Turns.shape c.args.ledger.now) [] (g.L.Turns.journals c.args.ledger.now) (g.L.Turns.flights c.args.ledger.now);
   grows = λ n. end_self (g.L.Turns.journals c.args.ledger.now n);
+  prepared = none_prepared (g.L.Turns.shape c.args.ledger.now) (g.V.Verifier.verdict_of c.args.verifier.now) (g.L.Turns.journals c.args.ledger.now);
 }
 
 pub files-preserved : goal.files-preserved
@@ -52,7 +59,13 @@ files-preserved g c =
       opened = λ n. did.opened_same n ∙ is.opened n;
       capacity = λ n. did.capacity_same n ∙ is.capacity n;
       checked = did.still;
+      flies = flies_more (g.L.Turns.shape c.args.ledger.now) (g.L.Turns.shape c.files.ledger) c.args.files.now c.files.txs-index c.as_slice.result.now
+          (g.L.Turns.journals c.args.ledger.now) (g.L.Turns.journals c.files.ledger) (g.L.Turns.journals c.run_file.new.ledger) (g.L.Turns.flights c.args.ledger.now) (g.L.Turns.flights c.files.ledger) (g.L.Turns.flights c.run_file.new.ledger)
+          is.shape c.files-test.true (subst (λ f. f ≡ get_or c.args.files.now c.files.txs-index f) (sym c.as_slice.ensures) c.txs-item.is) is.so.keeps is.flies did.flies;
       grows = λ n. end_trans (g.L.Turns.journals c.args.ledger.now n) (g.L.Turns.journals c.files.ledger n) (g.L.Turns.journals c.run_file.new.ledger n) (is.grows n) (did.grows n);
+      prepared = file_prepared (g.L.Turns.shape c.args.ledger.now) (g.L.Turns.shape c.files.ledger) (g.V.Verifier.verdict_of c.args.verifier.now) c.args.files.now c.files.txs-index c.as_slice.result.now
+          (g.L.Turns.journals c.args.ledger.now) (g.L.Turns.journals c.files.ledger) (g.L.Turns.journals c.run_file.new.ledger)
+          is.shape c.files-test.true (subst (λ f. f ≡ get_or c.args.files.now c.files.txs-index f) (sym c.as_slice.ensures) c.txs-item.is) is.prepared c.in-Ok-run_file.ensures.prepared;
     }
 
 pub returns-clause-keeps : goal.returns-clause-keeps
@@ -84,4 +97,50 @@ returns-in-Err-clause-fault g c =
     files_cause (g.L.Turns.shape c.args.ledger.now) (g.L.Turns.shape c.files.ledger) (g.V.Verifier.verdict_of c.args.verifier.now) c.args.files.now c.files.txs-index c.as_slice.result.now
     (g.L.Turns.journals c.args.ledger.now) (g.L.Turns.journals c.files.ledger) (g.L.Turns.journals c.run_file.new.ledger)
     (HaveFailed (g.L.Turns.opened c.run_file.new.ledger) (g.L.Turns.faults c.run_file.new.ledger)) (MayHold (g.L.Turns.capacity c.run_file.new.ledger))
-    c.files.invariant.shape c.files-test.true (subst (λ f. f ≡ get_or c.args.files.now c.files.txs-index f) (sym c.as_slice.ensures) c.txs-item.is) c.files.invariant.grows c.in-Err.fault c.in-Err.ensures.fault
+    c.files.invariant.shape c.files-test.true (subst (λ f. f ≡ get_or c.args.files.now c.files.txs-index f) (sym c.as_slice.ensures) c.txs-item.is) c.files.invariant.grows c.files.invariant.prepared c.in-Err.fault c.in-Err.ensures.fault
+
+pub returns-in_default-clause-flies : goal.returns-in_default-clause-flies
+returns-in_default-clause-flies g c = flies_none (g.L.Turns.shape c.args.ledger.now) (joined c.args.files.now) (g.L.Turns.journals c.args.ledger.now) (g.L.Turns.flights c.args.ledger.now)
+
+pub returns-in-Err-clause-flies : goal.returns-in-Err-clause-flies
+returns-in-Err-clause-flies g c =
+    flies_fault (g.L.Turns.shape c.args.ledger.now) (g.L.Turns.shape c.files.ledger) c.args.files.now c.files.txs-index c.as_slice.result.now
+    (g.L.Turns.journals c.args.ledger.now) (g.L.Turns.journals c.files.ledger) (g.L.Turns.journals c.run_file.new.ledger) (g.L.Turns.flights c.args.ledger.now) (g.L.Turns.flights c.files.ledger) (g.L.Turns.flights c.run_file.new.ledger)
+    c.files.invariant.shape c.files-test.true (subst (λ f. f ≡ get_or c.args.files.now c.files.txs-index f) (sym c.as_slice.ensures) c.txs-item.is) c.files.invariant.so.keeps c.files.invariant.flies c.run_file.ensures.flies
+
+pub returns-in-Err-push-clause-flies : goal.returns-in-Err-push-clause-flies
+returns-in-Err-push-clause-flies g c =
+    flies_fault (g.L.Turns.shape c.args.ledger.now) (g.L.Turns.shape c.files.ledger) c.args.files.now c.files.txs-index c.as_slice.result.now
+    (g.L.Turns.journals c.args.ledger.now) (g.L.Turns.journals c.files.ledger) (g.L.Turns.journals c.run_file.new.ledger) (g.L.Turns.flights c.args.ledger.now) (g.L.Turns.flights c.files.ledger) (g.L.Turns.flights c.run_file.new.ledger)
+    c.files.invariant.shape c.files-test.true (subst (λ f. f ≡ get_or c.args.files.now c.files.txs-index f) (sym c.as_slice.ensures) c.txs-item.is) c.files.invariant.so.keeps c.files.invariant.flies c.run_file.ensures.flies
+
+pub returns-clause-flies : goal.returns-clause-flies
+returns-clause-flies g c =
+    flies_all (g.L.Turns.shape c.args.ledger.now) c.args.files.now c.files.txs-index (g.L.Turns.journals c.args.ledger.now) (g.L.Turns.journals c.files.ledger)
+    (g.L.Turns.flights c.args.ledger.now) (g.L.Turns.flights c.files.ledger) (omega (arith, c.files-test.false)) c.files.invariant.flies
+
+pub returns-in_default-clause-least : goal.returns-in_default-clause-least
+returns-in_default-clause-least g c =
+    unbegun_files (g.L.Turns.shape c.args.ledger.now) (g.V.Verifier.verdict_of c.args.verifier.now) c.args.files.now 0 (g.L.Turns.journals c.args.ledger.now) (g.L.Turns.journals c.args.ledger.now)
+    (HaveFailed (g.L.Turns.opened c.args.ledger.now) (g.L.Turns.faults c.args.ledger.now)) (MayHold (g.L.Turns.capacity c.args.ledger.now)) c.no_memory.result
+    (λ n. end_self (g.L.Turns.journals c.args.ledger.now n)) (none_prepared (g.L.Turns.shape c.args.ledger.now) (g.V.Verifier.verdict_of c.args.verifier.now) (g.L.Turns.journals c.args.ledger.now)) c.requires.idle
+    (ap (λ e. e.fault) c.no_memory.ensures)
+
+pub returns-in-Err-clause-least : goal.returns-in-Err-clause-least
+returns-in-Err-clause-least g c =
+    files_end_so (g.L.Turns.shape c.args.ledger.now) (g.L.Turns.shape c.files.ledger) (g.V.Verifier.verdict_of c.args.verifier.now) c.args.files.now c.files.txs-index c.as_slice.result.now
+    (g.L.Turns.journals c.args.ledger.now) (g.L.Turns.journals c.files.ledger) (g.L.Turns.journals c.run_file.new.ledger)
+    (HaveFailed (g.L.Turns.opened c.run_file.new.ledger) (g.L.Turns.faults c.run_file.new.ledger)) (MayHold (g.L.Turns.capacity c.run_file.new.ledger)) c.in-Err.fault
+    c.files.invariant.shape c.files-test.true (subst (λ f. f ≡ get_or c.args.files.now c.files.txs-index f) (sym c.as_slice.ensures) c.txs-item.is) c.files.invariant.grows c.files.invariant.prepared c.files.invariant.so.idle c.in-Err.ensures.least
+
+pub returns-in-Err-push-clause-least : goal.returns-in-Err-push-clause-least
+returns-in-Err-push-clause-least g c =
+    let is = c.files.invariant in
+    unbegun_files (g.L.Turns.shape c.args.ledger.now) (g.V.Verifier.verdict_of c.args.verifier.now) c.args.files.now (c.files.txs-index + 1) (g.L.Turns.journals c.args.ledger.now) (g.L.Turns.journals c.run_file.new.ledger)
+    (HaveFailed (g.L.Turns.opened c.run_file.new.ledger) (g.L.Turns.faults c.run_file.new.ledger)) (MayHold (g.L.Turns.capacity c.run_file.new.ledger)) c.no_memory-in-Err-push.result
+    (λ n. end_trans (g.L.Turns.journals c.args.ledger.now n) (g.L.Turns.journals c.files.ledger n) (g.L.Turns.journals c.run_file.new.ledger n) (is.grows n) (c.run_file.ensures.grows n))
+    (file_prepared (g.L.Turns.shape c.args.ledger.now) (g.L.Turns.shape c.files.ledger) (g.V.Verifier.verdict_of c.args.verifier.now) c.args.files.now c.files.txs-index c.as_slice.result.now
+    (g.L.Turns.journals c.args.ledger.now) (g.L.Turns.journals c.files.ledger) (g.L.Turns.journals c.run_file.new.ledger)
+    is.shape c.files-test.true (subst (λ f. f ≡ get_or c.args.files.now c.files.txs-index f) (sym c.as_slice.ensures) c.txs-item.is) is.prepared c.in-Ok-run_file.ensures.prepared)
+    (subst (λ k. AreIdle k (g.L.Turns.journals c.run_file.new.ledger)) is.shape c.in-Ok-run_file.ensures.idle)
+    (ap (λ e. e.fault) c.no_memory-in-Err-push.ensures)

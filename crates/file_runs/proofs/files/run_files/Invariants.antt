@@ -3,6 +3,8 @@ use Rattle.cbdc_model.specs.Lanes.{IsEnd}
 use Rattle.ledger_runs.specs.Turning.{OfKept}
 use Rattle.file_runs.specs.Telling.{TellFiles}
 use Rattle.file_runs.proofs.Joining.{FilesSo}
+use Rattle.file_runs.proofs.Flying.{FlyFiles}
+use Rattle.file_runs.specs.Runs.{HavePreparedFiles}
 use Rattle.file_runs.proofs.files.run_files.Given as goal
 
 abbrev pub invariant-files : goal.invariant-files
@@ -18,5 +20,7 @@ invariant-files g l =
       opened : (n : ℕ) → g.L.Turns.opened l.ledger n ≡ g.L.Turns.opened l.fn.ledger n;
       capacity : (n : ℕ) → g.L.Turns.capacity l.ledger n ≡ g.L.Turns.capacity l.fn.ledger n;
       checked : g.L.Turns.checked l.ledger;
+      flies : FlyFiles K (take l.txs-index l.files) (g.L.Turns.journals l.fn.ledger) (g.L.Turns.journals l.ledger) (g.L.Turns.flights l.fn.ledger) (g.L.Turns.flights l.ledger);
       grows : (n : ℕ) → IsEnd (g.L.Turns.journals l.fn.ledger n) (g.L.Turns.journals l.ledger n);
+      prepared : HavePreparedFiles K (g.V.Verifier.verdict_of l.fn.verifier) (take l.txs-index l.files) (g.L.Turns.journals l.fn.ledger) (g.L.Turns.journals l.ledger);
     }

@@ -1,10 +1,12 @@
-use Rattle.std.proofs.Common.{◌≡◌, ◌*◌, ◌∙◌, subst, length, Some}
+use Rattle.std.proofs.Common.{◌≡◌, ◌*◌, ◌∙◌, inl, refl, ap, subst, length, Some}
 use Rattle.submissions.specs.Checks.{AreSent, AreChecked}
 use Rattle.ledger_runs.specs.Telling.{AreFresh, AllTell}
 use Rattle.ledger_runs.specs.Waving.{NoFault, FirstFaultIs}
 use Rattle.file_runs.proofs.Filing.{stays_more, are_within, keeps_file, of_wave, runs_file}
 use Rattle.ledger_runs.specs.Faults.{HaveFailed, MayHold}
-use Rattle.file_runs.proofs.Causing.{file_cause}
+use Rattle.file_runs.proofs.Causing.{file_cause, file_done}
+use Rattle.file_runs.proofs.Flying.{flies_none, flies_file}
+use Rattle.file_runs.proofs.Ending.{file_ends}
 use Rattle.file_runs.proofs.waves.run_file.Goals as goal
 
 pub returns-in_default-clause-keeps : goal.returns-in_default-clause-keeps
@@ -59,6 +61,17 @@ returns-in-None-clause-told g c mint submissions kept =
           c.in-Ok.ensures.sound are none c.run_wave.ensures.told mint submissions kept are.untold;
     }
 
+pub returns-in-None-clause-prepared : goal.returns-in-None-clause-prepared
+returns-in-None-clause-prepared g c =
+    let K = g.L.Turns.shape c.args.ledger.now in
+    let verdicts = g.V.Verifier.verdict_of c.args.verifier.now in
+    let sent = subst (λ k. AreSent k verdicts c.args.txs.now c.in-Ok.field-0.lanes.items) c.shape.ensures c.in-Ok.ensures.sent in
+    let count = subst (λ k. length c.in-Ok.field-0.lanes.items ≡ k.coordinators * k.lanes) c.shape.ensures c.in-Ok.ensures.lanes in
+    let none = subst (λ ls. NoFault ls) c.deref.ensures.value (subst (λ o. FirstFaultIs c.deref.result.now o) c.in-None.is c.first_fault.ensures) in
+    let are = c.in-Ok-lanes_of.ensures in
+    file_done K verdicts c.args.txs.now c.in-Ok.field-0.lanes.items c.in-Ok-lanes_of.lanes.items c.run_wave.new.lanes.items (g.L.Turns.journals c.args.ledger.now) (g.L.Turns.journals c.run_wave.new.ledger)
+    (c.run_wave.ensures.count ∙ are.count ∙ count) sent are c.run_wave.ensures.sent (c.run_wave.ensures.prepared none)
+
 pub returns-in-Some-clause-fault : goal.returns-in-Some-clause-fault
 returns-in-Some-clause-fault g c =
     let K = g.L.Turns.shape c.args.ledger.now in
@@ -70,3 +83,39 @@ returns-in-Some-clause-fault g c =
     file_cause K verdicts c.args.txs.now c.in-Ok.field-0.lanes.items c.in-Ok-lanes_of.lanes.items c.run_wave.new.lanes.items (g.L.Turns.journals c.args.ledger.now) (g.L.Turns.journals c.run_wave.new.ledger)
     (HaveFailed (g.L.Turns.opened c.run_wave.new.ledger) (g.L.Turns.faults c.run_wave.new.ledger)) (MayHold (g.L.Turns.capacity c.run_wave.new.ledger))
     (c.run_wave.ensures.count ∙ are.count ∙ count) sent are c.run_wave.ensures.sent (c.run_wave.ensures.causes are.fresh) c.in-Some.fault first
+
+pub returns-in_default-clause-flies : goal.returns-in_default-clause-flies
+returns-in_default-clause-flies g c = flies_none (g.L.Turns.shape c.args.ledger.now) c.args.txs.now (g.L.Turns.journals c.args.ledger.now) (g.L.Turns.flights c.args.ledger.now)
+
+pub returns-in_default-lanes_of-clause-flies : goal.returns-in_default-lanes_of-clause-flies
+returns-in_default-lanes_of-clause-flies g c = flies_none (g.L.Turns.shape c.args.ledger.now) c.args.txs.now (g.L.Turns.journals c.args.ledger.now) (g.L.Turns.flights c.args.ledger.now)
+
+pub returns-in-Some-clause-flies : goal.returns-in-Some-clause-flies
+returns-in-Some-clause-flies g c =
+    flies_file (g.L.Turns.shape c.args.ledger.now) (g.V.Verifier.verdict_of c.args.verifier.now) c.args.txs.now c.in-Ok.field-0.lanes.items c.in-Ok-lanes_of.lanes.items
+    (g.L.Turns.journals c.args.ledger.now) (g.L.Turns.journals c.run_wave.new.ledger) (g.L.Turns.flights c.args.ledger.now) (g.L.Turns.flights c.run_wave.new.ledger)
+    c.in-Ok.ensures.sound c.in-Ok-lanes_of.ensures c.run_wave.ensures.flies
+
+pub returns-in-None-clause-flies : goal.returns-in-None-clause-flies
+returns-in-None-clause-flies g c =
+    flies_file (g.L.Turns.shape c.args.ledger.now) (g.V.Verifier.verdict_of c.args.verifier.now) c.args.txs.now c.in-Ok.field-0.lanes.items c.in-Ok-lanes_of.lanes.items
+    (g.L.Turns.journals c.args.ledger.now) (g.L.Turns.journals c.run_wave.new.ledger) (g.L.Turns.flights c.args.ledger.now) (g.L.Turns.flights c.run_wave.new.ledger)
+    c.in-Ok.ensures.sound c.in-Ok-lanes_of.ensures c.run_wave.ensures.flies
+
+pub returns-in_default-clause-least : goal.returns-in_default-clause-least
+returns-in_default-clause-least g c = inl (ap (λ e. e.fault) c.no_memory.ensures, λ n. refl)
+
+pub returns-in_default-lanes_of-clause-least : goal.returns-in_default-lanes_of-clause-least
+returns-in_default-lanes_of-clause-least g c = inl (ap (λ e. e.fault) c.no_memory-in_default-lanes_of.ensures, λ n. refl)
+
+pub returns-in-Some-clause-least : goal.returns-in-Some-clause-least
+returns-in-Some-clause-least g c =
+    let K = g.L.Turns.shape c.args.ledger.now in
+    let verdicts = g.V.Verifier.verdict_of c.args.verifier.now in
+    let sent = subst (λ k. AreSent k verdicts c.args.txs.now c.in-Ok.field-0.lanes.items) c.shape.ensures c.in-Ok.ensures.sent in
+    let count = subst (λ k. length c.in-Ok.field-0.lanes.items ≡ k.coordinators * k.lanes) c.shape.ensures c.in-Ok.ensures.lanes in
+    let are = c.in-Ok-lanes_of.ensures in
+    let first = subst (λ ls. FirstFaultIs ls (Some c.in-Some.fault)) c.deref.ensures.value (subst (λ o. FirstFaultIs c.deref.result.now o) c.in-Some.is c.first_fault.ensures) in
+    file_ends K verdicts c.args.txs.now c.in-Ok.field-0.lanes.items c.in-Ok-lanes_of.lanes.items c.run_wave.new.lanes.items (g.L.Turns.journals c.args.ledger.now) (g.L.Turns.journals c.run_wave.new.ledger)
+    (HaveFailed (g.L.Turns.opened c.run_wave.new.ledger) (g.L.Turns.faults c.run_wave.new.ledger)) (MayHold (g.L.Turns.capacity c.run_wave.new.ledger))
+    (c.run_wave.ensures.count ∙ are.count ∙ count) sent are c.run_wave.ensures.sent (c.run_wave.ensures.causes are.fresh) c.run_wave.ensures.theirs c.in-Some.fault first

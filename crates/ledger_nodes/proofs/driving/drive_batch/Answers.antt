@@ -8,6 +8,7 @@ use Rattle.shard_node.specs.Shards.{sight_of}
 use Rattle.node_ports.specs.Nodes.{sight_at}
 use Rattle.run_laws.proofs.Seen.{seen_log}
 use Rattle.lane_driver.specs.Stops.{IsBatchStopped, IsOneBatch}
+use Rattle.ledger_nodes.specs.Ledgers.{IsLogNext, IsShardNext}
 use Rattle.ledger_nodes.proofs.Steps.{is_step, are_shards, at_home}
 use Rattle.ledger_nodes.proofs.Turns.{is_settled}
 use Rattle.ledger_nodes.proofs.driving.drive_batch.Goals as goal
@@ -20,7 +21,8 @@ returns-clause-step g c = is_step g.D.Disk.count g.D.Disk.limit g.D.Disk.content
     c.args.ports.now.log.logs.items c.args.ports.now.shards.nodes.items c.run_batch-came.new.ports.log.logs.items c.run_batch-came.new.ports.shards.nodes.items
     c.requires.ledger c.requires.lane c.home-ports.ensures.place c.run_batch-came.ensures.at_same c.args.lane refl c.run_batch-came.ensures.log_count c.run_batch-came.ensures.count c.run_batch-came.ensures.elsewhere c.run_batch-came.ensures.log_nodes c.run_batch-came.ensures.nodes
     c.run_batch-came.ensures.others c.run_batch-came.ensures.log_holds c.run_batch-came.ensures.shard_holds c.run_batch-came.ensures.log_later c.run_batch-came.ensures.shard_later
-    (subst (All (λ l. IsJournal l.header l.journal)) c.as_slice.ensures.value c.see_logs.ensures) (subst (All (λ s. IsJournal s.header s.journal)) c.as_slice-2.ensures.value c.see_shards.ensures)
+    (subst (All (λ l. IsJournal l.header l.journal)) c.as_slice.ensures.value c.see_logs.ensures.journals) (subst (All (λ s. IsJournal s.header s.journal)) c.as_slice-2.ensures.value c.see_shards.ensures.journals)
+    (subst (All IsLogNext) c.as_slice.ensures.value c.see_logs.ensures.next) (subst (All IsShardNext) c.as_slice-2.ensures.value c.see_shards.ensures.next)
 
 pub returns-clause-done : goal.returns-clause-done
 returns-clause-done g c = at_home (λ x y. IfOk c.run_batch-came.result (λ r. IsOneBatch c.args.header.now.shape true c.args.lane c.args.txs.now x (λ n. sight_at (sight_of g.D.Disk.count g.D.Disk.limit) c.args.ports.now.shards.nodes.items n) y (λ n. sight_at (sight_of g.D.Disk.count g.D.Disk.limit) c.run_batch-came.new.ports.shards.nodes.items n) r.batches))

@@ -5,8 +5,10 @@ use Rattle.ledger_runs.proofs.Keeping.{stays, stays_next, same_next, idle_next, 
 use Rattle.ledger_runs.specs.Telling.{TellResumed}
 use Rattle.ledger_laws.proofs.Cuts.{end_self, end_trans}
 use Rattle.ledger_runs.specs.Faults.{HaveFailed, MayHold}
-use Rattle.ledger_runs.proofs.Faulting.{grown_end, resumed_cause}
-use Rattle.ledger_runs.proofs.WaveTelling.{resumed_told, resumed_prepares}
+use Rattle.ledger_runs.proofs.Faulting.{grown_end, resumed_cause, least_open}
+use Rattle.ledger_runs.proofs.Flying.{flies_next}
+use Rattle.ledger_runs.proofs.WaveTelling.{resumed_told}
+use Rattle.ledger_runs.proofs.Preparing.{resumed_none}
 use Rattle.ledger_runs.proofs.resuming.resume_all.Goals as goal
 
 pub returns-in-Err-clause-keeps : goal.returns-in-Err-clause-keeps
@@ -25,8 +27,9 @@ lanes-init g c =
       keeps = stays K E;
       so = λ _ _ _. begins K E;
       told = λ _ _ _. c.in-Ok.ensures.items;
-      prepares = λ _ _ _ _. refl;
+      prepares = λ _. refl;
       quiet = λ _ _ _ was. was;
+      flies = λ _ _ _ may. may;
       holds = λ h. h;
       later = λ n. omega arith;
       opened = λ n. refl;
@@ -51,10 +54,11 @@ lanes-preserved g c =
       so = so_next step skip K _ c.lanes.lane E _ _ _ _ so.shape so.keeps so.so c.in-Ok-resume_next.ensures.took;
       told = resumed_told K (g.L.Turns.shape c.lanes.ledger) c.lanes.lane E (g.L.Turns.journals c.lanes.ledger) (g.L.Turns.journals c.resume_next.new.ledger) c.lanes.batches.items c.resume_next.new.batches.items
           so.shape so.keeps so.so so.told c.in-Ok-resume_next.ensures.told;
-      prepares = resumed_prepares K (g.L.Turns.shape c.lanes.ledger) c.lanes.lane E (g.L.Turns.journals c.lanes.ledger) (g.L.Turns.journals c.resume_next.new.ledger) c.lanes.batches.items c.resume_next.new.batches.items
-          so.shape so.keeps so.prepares c.in-Ok-resume_next.ensures.told;
+      prepares = resumed_none K (g.L.Turns.shape c.lanes.ledger) c.lanes.lane E (g.L.Turns.journals c.lanes.ledger) (g.L.Turns.journals c.resume_next.new.ledger) so.shape so.prepares did.grows did.unprepared;
       quiet = same_next K (g.L.Turns.shape c.lanes.ledger) E (g.L.Turns.journals c.lanes.ledger) (g.L.Turns.quiet c.args.ledger.now) (g.L.Turns.quiet c.lanes.ledger) (g.L.Turns.quiet c.resume_next.new.ledger)
           so.shape so.keeps so.quiet c.in-Ok-resume_next.ensures.quiet;
+      flies = flies_next K (g.L.Turns.shape c.lanes.ledger) E (g.L.Turns.journals c.lanes.ledger) (g.L.Turns.journals c.resume_next.new.ledger) (g.L.Turns.flights c.args.ledger.now) (g.L.Turns.flights c.lanes.ledger) (g.L.Turns.flights c.resume_next.new.ledger)
+          so.shape so.keeps so.flies did.flies;
       holds = λ h. did.holds (so.holds h);
       later = λ n. omega (arith, did.later n, so.later n);
       opened = λ n. did.opened_same n ∙ so.opened n;
@@ -81,6 +85,11 @@ returns-clause-told g c =
 pub returns-clause-prepares : goal.returns-clause-prepares
 returns-clause-prepares g c = c.lanes.invariant.prepares
 
+pub returns-in-Err-clause-prepares : goal.returns-in-Err-clause-prepares
+returns-in-Err-clause-prepares g c =
+    resumed_none (g.L.Turns.shape c.args.ledger.now) (g.L.Turns.shape c.lanes.ledger) c.lanes.lane (g.L.Turns.journals c.args.ledger.now) (g.L.Turns.journals c.lanes.ledger) (g.L.Turns.journals c.resume_next.new.ledger)
+    c.lanes.invariant.shape c.lanes.invariant.prepares c.resume_next.ensures.grows c.resume_next.ensures.unprepared
+
 pub returns-in-Err-clause-grows : goal.returns-in-Err-clause-grows
 returns-in-Err-clause-grows g c n = end_trans (g.L.Turns.journals c.args.ledger.now n) (g.L.Turns.journals c.lanes.ledger n) (g.L.Turns.journals c.resume_next.new.ledger n)
     (c.lanes.invariant.grows n) (grown_end c.lanes.lane _ _ c.resume_next.ensures.grows n)
@@ -90,3 +99,17 @@ returns-in-Err-clause-fault g c =
     resumed_cause (g.L.Turns.shape c.args.ledger.now) (g.L.Turns.shape c.lanes.ledger) c.lanes.lane (g.L.Turns.journals c.args.ledger.now) (g.L.Turns.journals c.lanes.ledger) (g.L.Turns.journals c.resume_next.new.ledger)
     (HaveFailed (g.L.Turns.opened c.resume_next.new.ledger) (g.L.Turns.faults c.resume_next.new.ledger)) (MayHold (g.L.Turns.capacity c.resume_next.new.ledger))
     c.lanes.invariant.shape (omega (arith, c.lanes-test.true, c.lanes.invariant.count)) c.lanes.invariant.grows c.in-Err.fault c.in-Err.ensures.fault
+
+pub returns-in-Err-clause-least : goal.returns-in-Err-clause-least
+returns-in-Err-clause-least g c =
+    least_open (g.L.Turns.shape c.args.ledger.now) (g.L.Turns.shape c.lanes.ledger) c.lanes.lane (g.L.Turns.journals c.args.ledger.now) (g.L.Turns.journals c.lanes.ledger) (g.L.Turns.journals c.resume_next.new.ledger)
+    (HaveFailed (g.L.Turns.opened c.resume_next.new.ledger) (g.L.Turns.faults c.resume_next.new.ledger)) (MayHold (g.L.Turns.capacity c.resume_next.new.ledger))
+    c.lanes.invariant.shape (omega (arith, c.lanes-test.true, c.lanes.invariant.count)) c.lanes.invariant.grows c.lanes.invariant.idle c.resume_next.ensures.others c.in-Err.fault c.in-Err.ensures.fault
+
+pub returns-in-Err-clause-flies : goal.returns-in-Err-clause-flies
+returns-in-Err-clause-flies g c =
+    flies_next (g.L.Turns.shape c.args.ledger.now) (g.L.Turns.shape c.lanes.ledger) (g.L.Turns.journals c.args.ledger.now) (g.L.Turns.journals c.lanes.ledger) (g.L.Turns.journals c.resume_next.new.ledger)
+    (g.L.Turns.flights c.args.ledger.now) (g.L.Turns.flights c.lanes.ledger) (g.L.Turns.flights c.resume_next.new.ledger) c.lanes.invariant.shape c.lanes.invariant.keeps c.lanes.invariant.flies c.resume_next.ensures.flies
+
+pub returns-clause-flies : goal.returns-clause-flies
+returns-clause-flies g c = c.lanes.invariant.flies

@@ -3,6 +3,7 @@ use Rattle.cbdc_model.specs.Slots.{Idle}
 use Rattle.cbdc_model.specs.Lanes.{IsEnd}
 use Rattle.run_laws.specs.WaveSteps.{ResumedSo}
 use Rattle.ledger_runs.specs.Turning.{phase_at, OfKept, StaysKept}
+use Rattle.ledger_runs.specs.Flying.{FliesOn}
 use Rattle.ledger_runs.specs.Telling.{TellResumed, SamePrepared}
 use Rattle.ledger_runs.proofs.resuming.resume_all.Given as goal
 
@@ -18,8 +19,9 @@ invariant-lanes g l =
       keeps : OfKept K E (StaysKept K E J);
       so : OfKept K E (λ _ _. ResumedSo K l.lane E J);
       told : OfKept K E (λ _ _. TellResumed K E J l.lane l.batches.items);
-      prepares : OfKept K E (λ _ _. SamePrepared K E J);
+      prepares : SamePrepared K E J;
       quiet : OfKept K E (λ _ _. g.L.Turns.quiet l.fn.ledger → g.L.Turns.quiet l.ledger);
+      flies : OfKept K E (FliesOn K E J (g.L.Turns.flights l.fn.ledger) (g.L.Turns.flights l.ledger));
       holds : g.L.Turns.holds l.fn.ledger → g.L.Turns.holds l.ledger;
       later : (n : ℕ) → g.L.Turns.faults l.fn.ledger n ≤ g.L.Turns.faults l.ledger n;
       opened : (n : ℕ) → g.L.Turns.opened l.ledger n ≡ g.L.Turns.opened l.fn.ledger n;

@@ -1,5 +1,6 @@
-use Rattle.coord_log.specs.Logs.{sight}
-use Rattle.std.proofs.Common.{◌^◌, sym}
+use Rattle.coord_log.specs.Logs.{sight, commit_due}
+use Rattle.std.proofs.Common.{◌^◌, false, None, sym}
+use Rattle.node_ports.proofs.Owed.{still_decided}
 use Rattle.node_ports.proofs.Rises.{rises, all_earlier, all_name}
 use Rattle.node_ports.proofs.Coordinators.{decide_told, decide_fault, decide_stamp, decide_phase, decide_written, decide_rest}
 use Rattle.node_ports.proofs.logs.decide_at.Goals as goal
@@ -50,7 +51,7 @@ returns-clause-others g c =
 
 pub returns-clause-node : goal.returns-clause-node
 returns-clause-node g c =
-    c.decide.ensures.node
+    still_decided false c.args.log.now.broken (λ r. commit_due c.args.log.now.header.shape c.args.replies.now r None c.args.log.now.journal) (sight c.args.log.now) (sight c.decide.new.self) c.decide.result c.decide.ensures.node c.decide.ensures.fault c.decide.ensures.whole c.header-header.ensures.landed
 
 pub returns-clause-later : goal.returns-clause-later
 returns-clause-later g c =

@@ -1,7 +1,7 @@
 use Rattle.coord_log.specs.Logs.{sight}
-use Rattle.std.proofs.Common.{false, sym}
+use Rattle.std.proofs.Common.{false, None, sym}
 use Rattle.cbdc_model.specs.Due.{discard_due}
-use Rattle.node_ports.proofs.Owed.{same_node}
+use Rattle.node_ports.proofs.Owed.{still_node}
 use Rattle.node_ports.proofs.Coordinators.{told_alone, later_of, discard_stamp, discard_phase, discard_rest}
 use Rattle.node_ports.proofs.logs.discard_at.Goals as goal
 
@@ -27,7 +27,7 @@ returns-clause-others g c =
 
 pub returns-clause-node : goal.returns-clause-node
 returns-clause-node g c =
-    same_node false (discard_due c.args.lane c.args.cause c.args.log.now.broken c.args.log.now.journal) (sight c.args.log.now) (sight c.discard.new.self) c.args.log.now.journal c.discard.result c.discard.ensures.meets
+    still_node false c.args.log.now.broken (discard_due c.args.lane c.args.cause None c.args.log.now.journal) (sight c.args.log.now) (sight c.discard.new.self) c.discard.result c.discard.ensures.meets c.header-header.ensures.landed
 
 pub returns-clause-later : goal.returns-clause-later
 returns-clause-later g c =

@@ -1,7 +1,7 @@
 use Rattle.coord_log.specs.Logs.{sight}
-use Rattle.std.proofs.Common.{false, sym}
+use Rattle.std.proofs.Common.{false, None, sym}
 use Rattle.cbdc_model.specs.Due.{done_due}
-use Rattle.node_ports.proofs.Owed.{same_node}
+use Rattle.node_ports.proofs.Owed.{still_node}
 use Rattle.node_ports.proofs.Coordinators.{told_alone, later_of, done_stamp, ended_phase, ended_rest}
 use Rattle.node_ports.proofs.logs.done_at.Goals as goal
 
@@ -27,7 +27,7 @@ returns-clause-others g c =
 
 pub returns-clause-node : goal.returns-clause-node
 returns-clause-node g c =
-    same_node false (done_due c.args.lane c.args.cause c.args.log.now.broken c.args.log.now.journal) (sight c.args.log.now) (sight c.done.new.self) c.args.log.now.journal c.done.result c.done.ensures.meets
+    still_node false c.args.log.now.broken (done_due c.args.lane c.args.cause None c.args.log.now.journal) (sight c.args.log.now) (sight c.done.new.self) c.done.result c.done.ensures.meets c.header-header.ensures.landed
 
 pub returns-clause-later : goal.returns-clause-later
 returns-clause-later g c =

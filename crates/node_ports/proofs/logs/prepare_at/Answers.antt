@@ -1,10 +1,10 @@
 use Rattle.coord_log.specs.Logs.{sight}
-use Rattle.std.proofs.Common.{true, sym}
+use Rattle.std.proofs.Common.{true, None, sym}
 use Rattle.std.proofs.lemmas.List.Elements.{All-weaker}
 use Rattle.cbdc_model.specs.Grammar.{IsCompact}
 use Rattle.cbdc_model.specs.Due.{prepare_due}
 use Rattle.coord_log.specs.Logs.{IsShort}
-use Rattle.node_ports.proofs.Owed.{same_node}
+use Rattle.node_ports.proofs.Owed.{still_node}
 use Rattle.node_ports.proofs.Coordinators.{told_alone, later_of, prepare_named, prepare_phase, prepare_txs, prepare_rest}
 use Rattle.node_ports.proofs.logs.prepare_at.Goals as goal
 
@@ -46,7 +46,7 @@ returns-clause-others g c =
 
 pub returns-clause-node : goal.returns-clause-node
 returns-clause-node g c =
-    same_node true (prepare_due c.args.log.now.header.shape c.args.log.now.capacity c.args.lane c.args.txs.now c.args.log.now.broken c.args.log.now.journal) (sight c.args.log.now) (sight c.prepare.new.self) c.args.log.now.journal c.prepare.result c.prepare.ensures.meets
+    still_node true c.args.log.now.broken (prepare_due c.args.log.now.header.shape c.args.log.now.capacity c.args.lane c.args.txs.now None c.args.log.now.journal) (sight c.args.log.now) (sight c.prepare.new.self) c.prepare.result c.prepare.ensures.meets c.header-header.ensures.landed
 
 pub returns-clause-later : goal.returns-clause-later
 returns-clause-later g c =

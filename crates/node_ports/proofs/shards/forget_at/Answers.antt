@@ -1,7 +1,7 @@
-use Rattle.std.proofs.Common.{false}
+use Rattle.std.proofs.Common.{false, None}
 use Rattle.cbdc_model.specs.Due.{forget_due}
 use Rattle.shard_node.specs.Shards.{sight_of}
-use Rattle.node_ports.proofs.Owed.{same_node}
+use Rattle.node_ports.proofs.Owed.{still_node}
 use Rattle.node_ports.proofs.Coordinators.{told_alone}
 use Rattle.node_ports.proofs.Replying.{forget_stamp}
 use Rattle.node_ports.proofs.shards.forget_at.Goals as goal
@@ -16,7 +16,7 @@ returns-clause-told g c =
 
 pub returns-clause-node : goal.returns-clause-node
 returns-clause-node g c =
-    same_node false (forget_due c.args.call.now c.args.node.now.broken c.args.node.now.journal) (sight_of g.D.Disk.count g.D.Disk.limit c.args.node.now) (sight_of g.D.Disk.count g.D.Disk.limit c.forget.new.self) c.args.node.now.journal c.forget.result c.forget.ensures.meets
+    still_node false c.args.node.now.broken (forget_due c.args.call.now None c.args.node.now.journal) (sight_of g.D.Disk.count g.D.Disk.limit c.args.node.now) (sight_of g.D.Disk.count g.D.Disk.limit c.forget.new.self) c.forget.result c.forget.ensures.meets c.header-header.ensures.landed
 
 pub returns-clause-later : goal.returns-clause-later
 returns-clause-later g c =

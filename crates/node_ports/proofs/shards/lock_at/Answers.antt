@@ -1,7 +1,7 @@
-use Rattle.std.proofs.Common.{true}
+use Rattle.std.proofs.Common.{true, None}
 use Rattle.cbdc_model.specs.Due.{lock_due}
 use Rattle.shard_node.specs.Shards.{sight_of}
-use Rattle.node_ports.proofs.Owed.{same_node}
+use Rattle.node_ports.proofs.Owed.{still_node}
 use Rattle.node_ports.proofs.Coordinators.{told_alone}
 use Rattle.node_ports.proofs.Replying.{lock_replies}
 use Rattle.node_ports.proofs.shards.lock_at.Goals as goal
@@ -16,7 +16,7 @@ returns-clause-told g c =
 
 pub returns-clause-node : goal.returns-clause-node
 returns-clause-node g c =
-    same_node true (lock_due c.args.node.now.header.shape (g.D.Disk.limit c.args.node.now.disk) c.args.call.now c.args.node.now.broken c.args.node.now.journal) (sight_of g.D.Disk.count g.D.Disk.limit c.args.node.now) (sight_of g.D.Disk.count g.D.Disk.limit c.lock.new.self) c.args.node.now.journal c.lock.result c.lock.ensures.meets
+    still_node true c.args.node.now.broken (lock_due c.args.node.now.header.shape (g.D.Disk.limit c.args.node.now.disk) c.args.call.now None c.args.node.now.journal) (sight_of g.D.Disk.count g.D.Disk.limit c.args.node.now) (sight_of g.D.Disk.count g.D.Disk.limit c.lock.new.self) c.lock.result c.lock.ensures.meets c.header-header.ensures.landed
 
 pub returns-clause-later : goal.returns-clause-later
 returns-clause-later g c =

@@ -1,9 +1,10 @@
-use Rattle.std.proofs.Common.{length, sym, ◌∙◌}
+use Rattle.std.proofs.Common.{inl, inr, length, sym, subst, ◌∙◌}
 use Rattle.std.proofs.lemmas.Bool.{eqb-true}
 use Rattle.ledger_runs.proofs.Keeping.{same_next}
-use Rattle.rack_runs.proofs.Resumed.{over_cut, over_keeps, over_waves, over_none, none_of, over_told, over_told_none}
+use Rattle.rack_runs.proofs.Resumed.{over_cut, over_keeps, flies_cut, flies_over, over_waves, over_none, none_of, over_told, over_told_none}
 use Rattle.ledger_laws.proofs.Cuts.{end_trans}
 use Rattle.ledger_runs.specs.Faults.{HaveFailed, MayHold}
+use Rattle.file_runs.specs.Endings.{EndsFiles}
 use Rattle.rack_runs.proofs.Answering.{resumed_fault, filed_fault}
 use Rattle.rack_runs.proofs.over.run_over.Goals as goal
 
@@ -50,12 +51,12 @@ pub returns-then-is_empty-clause-told : goal.returns-then-is_empty-clause-told
 returns-then-is_empty-clause-told g c =
     over_told_none (g.L.Turns.shape c.args.ledger.now) (g.V.Verifier.verdict_of c.args.verifier.now) c.args.files.now (g.L.Turns.journals c.args.ledger.now) (g.L.Turns.journals c.resume_all.new.ledger) c.in-Ok.resumed.items _
     (none_of c.args.files.now (eqb-true (length c.args.files.now) 0 (sym c.is_empty.ensures ∙ c.if-is_empty.true))) c.new.ensures.items
-    c.resume_all.ensures.keeps c.in-Ok.ensures.told c.in-Ok.ensures.prepares
+    c.resume_all.ensures.keeps c.in-Ok.ensures.told c.resume_all.ensures.prepares
 
 pub returns-in-Ok-run_files-clause-told : goal.returns-in-Ok-run_files-clause-told
 returns-in-Ok-run_files-clause-told g c =
     over_told (g.L.Turns.shape c.args.ledger.now) (g.L.Turns.shape c.resume_all.new.ledger) (g.V.Verifier.verdict_of c.args.verifier.now) c.args.files.now (g.L.Turns.journals c.args.ledger.now) (g.L.Turns.journals c.resume_all.new.ledger) (g.L.Turns.journals c.run_files.new.ledger)
-    c.in-Ok.resumed.items c.in-Ok-run_files.waves.items c.resume_all.ensures.shape c.resume_all.ensures.keeps c.in-Ok.ensures.told c.in-Ok.ensures.prepares c.in-Ok-run_files.ensures.told
+    c.in-Ok.resumed.items c.in-Ok-run_files.waves.items c.resume_all.ensures.shape c.resume_all.ensures.keeps c.in-Ok.ensures.told c.resume_all.ensures.prepares c.in-Ok-run_files.ensures.told
 
 pub returns-in-Err-clause-fault : goal.returns-in-Err-clause-fault
 returns-in-Err-clause-fault g c =
@@ -65,10 +66,41 @@ returns-in-Err-clause-fault g c =
 pub returns-in-Err-run_files-clause-fault : goal.returns-in-Err-run_files-clause-fault
 returns-in-Err-run_files-clause-fault g c =
     filed_fault (g.L.Turns.shape c.args.ledger.now) (g.L.Turns.shape c.resume_all.new.ledger) (g.V.Verifier.verdict_of c.args.verifier.now) c.args.files.now (g.L.Turns.journals c.args.ledger.now) (g.L.Turns.journals c.resume_all.new.ledger) (g.L.Turns.journals c.run_files.new.ledger)
-    (HaveFailed (g.L.Turns.opened c.run_files.new.ledger) (g.L.Turns.faults c.run_files.new.ledger)) (MayHold (g.L.Turns.capacity c.run_files.new.ledger)) c.resume_all.ensures.shape c.resume_all.ensures.grows c.in-Err-run_files.fault c.in-Err-run_files.ensures.fault
+    (HaveFailed (g.L.Turns.opened c.run_files.new.ledger) (g.L.Turns.faults c.run_files.new.ledger)) (MayHold (g.L.Turns.capacity c.run_files.new.ledger)) c.resume_all.ensures.shape c.resume_all.ensures.grows c.resume_all.ensures.prepares c.in-Err-run_files.fault c.in-Err-run_files.ensures.fault
 
 pub returns-in-Ok-run_files-clause-grows : goal.returns-in-Ok-run_files-clause-grows
 returns-in-Ok-run_files-clause-grows g c n = end_trans (g.L.Turns.journals c.args.ledger.now n) (g.L.Turns.journals c.resume_all.new.ledger n) (g.L.Turns.journals c.run_files.new.ledger n) (c.resume_all.ensures.grows n) (c.run_files.ensures.grows n)
 
 pub returns-in-Err-run_files-clause-grows : goal.returns-in-Err-run_files-clause-grows
 returns-in-Err-run_files-clause-grows g c n = end_trans (g.L.Turns.journals c.args.ledger.now n) (g.L.Turns.journals c.resume_all.new.ledger n) (g.L.Turns.journals c.run_files.new.ledger n) (c.resume_all.ensures.grows n) (c.run_files.ensures.grows n)
+
+pub returns-in-Err-clause-flies : goal.returns-in-Err-clause-flies
+returns-in-Err-clause-flies g c =
+    flies_cut (g.L.Turns.shape c.args.ledger.now) c.args.files.now (g.L.Turns.journals c.args.ledger.now) (g.L.Turns.journals c.resume_all.new.ledger) (g.L.Turns.flights c.args.ledger.now) (g.L.Turns.flights c.resume_all.new.ledger) c.resume_all.ensures.flies
+
+pub returns-then-is_empty-clause-flies : goal.returns-then-is_empty-clause-flies
+returns-then-is_empty-clause-flies g c =
+    flies_cut (g.L.Turns.shape c.args.ledger.now) c.args.files.now (g.L.Turns.journals c.args.ledger.now) (g.L.Turns.journals c.resume_all.new.ledger) (g.L.Turns.flights c.args.ledger.now) (g.L.Turns.flights c.resume_all.new.ledger) c.resume_all.ensures.flies
+
+pub returns-in-Ok-run_files-clause-flies : goal.returns-in-Ok-run_files-clause-flies
+returns-in-Ok-run_files-clause-flies g c =
+    flies_over (g.L.Turns.shape c.args.ledger.now) (g.L.Turns.shape c.resume_all.new.ledger) c.args.files.now (g.L.Turns.journals c.args.ledger.now) (g.L.Turns.journals c.resume_all.new.ledger) (g.L.Turns.journals c.run_files.new.ledger)
+    (g.L.Turns.flights c.args.ledger.now) (g.L.Turns.flights c.resume_all.new.ledger) (g.L.Turns.flights c.run_files.new.ledger) c.resume_all.ensures.shape c.resume_all.ensures.keeps c.resume_all.ensures.flies c.run_files.ensures.flies
+
+pub returns-in-Err-run_files-clause-flies : goal.returns-in-Err-run_files-clause-flies
+returns-in-Err-run_files-clause-flies g c =
+    flies_over (g.L.Turns.shape c.args.ledger.now) (g.L.Turns.shape c.resume_all.new.ledger) c.args.files.now (g.L.Turns.journals c.args.ledger.now) (g.L.Turns.journals c.resume_all.new.ledger) (g.L.Turns.journals c.run_files.new.ledger)
+    (g.L.Turns.flights c.args.ledger.now) (g.L.Turns.flights c.resume_all.new.ledger) (g.L.Turns.flights c.run_files.new.ledger) c.resume_all.ensures.shape c.resume_all.ensures.keeps c.resume_all.ensures.flies c.run_files.ensures.flies
+
+pub returns-in-Err-clause-least : goal.returns-in-Err-clause-least
+returns-in-Err-clause-least g c = inl c.in-Err.ensures.least
+
+pub returns-in-Err-run_files-clause-least : goal.returns-in-Err-run_files-clause-least
+returns-in-Err-run_files-clause-least g c = inr (
+  g.L.Turns.journals c.resume_all.new.ledger,
+  c.resume_all.ensures.grows,
+  c.resume_all.ensures.prepares,
+  c.in-Ok.ensures.idle,
+  subst (λ k. EndsFiles k (g.V.Verifier.verdict_of c.args.verifier.now) c.args.files.now (g.L.Turns.journals c.resume_all.new.ledger) (g.L.Turns.journals c.run_files.new.ledger)
+      (HaveFailed (g.L.Turns.opened c.run_files.new.ledger) (g.L.Turns.faults c.run_files.new.ledger)) (MayHold (g.L.Turns.capacity c.run_files.new.ledger)) c.in-Err-run_files.fault) c.resume_all.ensures.shape c.in-Err-run_files.ensures.least,
+)

@@ -1,4 +1,4 @@
-use Rattle.std.proofs.Common.{◌<◌, inl, inr, ⊎_elim, arith}
+use Rattle.std.proofs.Common.{inl, inr, ⊎_elim}
 use Rattle.rack_runs.proofs.Answering.{of_nothing}
 use Rattle.rack_runs.proofs.Lent.{on_ok_by, if_ok_by, if_err_by}
 use Rattle.rack_runs.proofs.Ledgers.{recovers, told_of_none}
@@ -16,5 +16,5 @@ pub returns-clause-stopped : goal.returns-clause-stopped
 returns-clause-stopped g c =
     if_err_by _ _ c.run_on.result
     (λ e is. ⊎_elim (λ refused. inl refused)
-    (λ cut. inr (of_nothing g.R.Disk.Disk.content g.R.Disk.Disk.images g.R.Disk.Disk.limit (g.R.Rack.held c.args.rack.now) (g.R.Rack.held c.run_on.new.rack) (g.R.Rack.count c.args.rack.now) (g.R.Rack.count c.run_on.new.rack) _ e cut.0 (λ K lane txs piece. let low : piece.1.0 < 0 = piece.1.1 in omega (arith, low)), cut.1)) is)
+    (λ cut. inr (of_nothing g.R.Disk.Disk.content g.R.Disk.Disk.images g.R.Disk.Disk.limit (g.R.Rack.held c.args.rack.now) (g.R.Rack.held c.run_on.new.rack) (g.R.Rack.count c.args.rack.now) (g.R.Rack.count c.run_on.new.rack) _ e cut)) is)
     c.run_on.ensures.stopped

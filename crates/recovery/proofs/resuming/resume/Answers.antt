@@ -4,7 +4,7 @@ use Rattle.lane_driver.proofs.Fitting.{elsewhere_on, nodes_on, ledger_kept}
 use Rattle.lane_laws.specs.Resuming.{IsTakenUp}
 use Rattle.recovery.proofs.Untouched.{stands_here, stand_rest, home_there, still_shape}
 use Rattle.recovery.proofs.Rest.{open_here, rise_rest, open_rest, resumed_more}
-use Rattle.recovery.proofs.InOrder.{taken_more, stopped_here, over_more}
+use Rattle.recovery.proofs.InOrder.{taken_more, stopped_here, over_more, unlisted_more}
 use Rattle.recovery.proofs.resuming.resume.Goals as goal
 
 pub resume_lane-requires-clause-is_open : goal.resume_lane-requires-clause-is_open
@@ -45,6 +45,7 @@ loop-unfinished-preserved g c =
           (g.S.PortSet.sights c.args.ports.now.shards) (g.S.PortSet.sights c.loop-unfinished.ports.shards) (g.S.PortSet.sights c.resume_lane.new.ports.shards)
           inv.taken (record { taken = told.taken here; resumed = told.resumed; outcomes = told.outcomes here }));
       over = over_more c.args.lanes.now i c.unfinished-item.result c.loop-unfinished-test.true c.unfinished-item.is _ _ _ _ _ _ told.header told.others told.idle inv.rise inv.open_rest inv.over;
+      others = unlisted_more c.args.lanes.now i c.unfinished-item.result c.loop-unfinished-test.true c.unfinished-item.is _ _ _ _ _ _ _ _ inv.header inv.others told.others;
       len = c.push_reserved.ensures.len ∙ ap (λ n. n + 1) inv.len;
       room = c.push_reserved.ensures.capacity ∙ inv.room;
     }
@@ -103,3 +104,7 @@ returns-in-Err-resume_lane-clause-left g c =
     (g.S.PortSet.sights c.args.ports.now.shards) (g.S.PortSet.sights c.loop-unfinished.ports.shards) (g.S.PortSet.sights c.resume_lane.new.ports.shards) c.in-Err-resume_lane.fault inv.taken
     (stands_here c.args.shape.now (g.L.LogPort.sights c.loop-unfinished.ports.log (g.L.LogPort.at c.loop-unfinished.ports.log)) (g.S.PortSet.sights c.loop-unfinished.ports.shards) c.args.lanes.now c.loop-unfinished.unfinished-index c.unfinished-item.result c.loop-unfinished-test.true c.unfinished-item.is inv.stand)
     c.in-Err-resume_lane.ensures.left)
+
+pub returns-in-Err-resume_lane-clause-others : goal.returns-in-Err-resume_lane-clause-others
+returns-in-Err-resume_lane-clause-others g c =
+    unlisted_more c.args.lanes.now c.loop-unfinished.unfinished-index c.unfinished-item.result c.loop-unfinished-test.true c.unfinished-item.is _ _ _ _ _ _ _ _ c.loop-unfinished.invariant.header c.loop-unfinished.invariant.others c.in-Err-resume_lane.ensures.others

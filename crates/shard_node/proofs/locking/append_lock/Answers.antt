@@ -1,6 +1,6 @@
 use Rattle.std.proofs.Common.{arith, sym, subst}
 use Rattle.shard_node.proofs.Keeps.{stays}
-use Rattle.shard_node.proofs.Locks.{HasTaken, size_exact, kept_exact, lock_full_is, taken_shard, lock_memory, lock_room, lock_wrote, lock_done, lock_failed}
+use Rattle.shard_node.proofs.Locks.{HasTaken, size_exact, kept_exact, lock_full_is, taken_shard, lock_memory, lock_room, lock_wrote, lock_done, lock_left, lock_failed}
 use Rattle.shard_node.specs.Shards.{HoldsJournal, LeavesBetween}
 use Rattle.shard_node.specs.Parts.{view_of}
 use Rattle.shard_node.proofs.Leaving.{same_view, still}
@@ -37,6 +37,13 @@ returns-in-Err-clause-shard g c =
     let taken : HasTaken c.args.parts.now c.take_memory.new.log c.take_memory.new.memory c.args.call.now.batch.lane =
     record { lanes = c.take_memory.ensures.lanes; others = c.take_memory.ensures.others; keeps = c.take_memory.ensures.keeps; untouched = c.take_memory.ensures.untouched; records = c.take_memory.ensures.records; header = c.take_memory.ensures.header } in
     taken_shard c.args.parts.now c.args.call.now c.args.replied c.requires.shard c.requires.call c.requires.whole c.requires.next c.take_memory.new.log c.take_memory.new.memory taken
+
+pub returns-in-Err-write-clause-shard : goal.returns-in-Err-write-clause-shard
+returns-in-Err-write-clause-shard g c =
+    let taken : HasTaken c.args.parts.now c.take_memory.new.log c.take_memory.new.memory c.args.call.now.batch.lane =
+    record { lanes = c.take_memory.ensures.lanes; others = c.take_memory.ensures.others; keeps = c.take_memory.ensures.keeps; untouched = c.take_memory.ensures.untouched; records = c.take_memory.ensures.records; header = c.take_memory.ensures.header } in
+    lock_left c.args.parts.now c.args.call.now c.args.replied c.requires.shard c.requires.call c.requires.whole c.requires.next (omega arith) c.in-Ok.next c.in-Ok.ensures
+    c.take_memory.new.log c.take_memory.new.memory taken c.write.new.parts c.in-Err-write.ensures.failed
 
 pub write-requires-clause-memory : goal.write-requires-clause-memory
 write-requires-clause-memory g c =

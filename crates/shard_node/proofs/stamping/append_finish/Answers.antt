@@ -1,5 +1,5 @@
 use Rattle.std.proofs.Common.{◌≡◌, ◌∙◌, arith}
-use Rattle.shard_node.proofs.Stamps.{finish_decisions, finish_memory, finish_room, finish_wrote, finish_done, finish_failed}
+use Rattle.shard_node.proofs.Stamps.{finish_decisions, finish_memory, finish_room, finish_wrote, finish_done, finish_left, finish_failed}
 use Rattle.shard_node.specs.Parts.{view_of}
 use Rattle.shard_node.proofs.Leaving.{still}
 use Rattle.shard_node.proofs.stamping.append_finish.Goals as goal
@@ -27,6 +27,12 @@ pub returns-in-Ok-clause-meets : goal.returns-in-Ok-clause-meets
 returns-in-Ok-clause-meets g c =
     let same : c.take_decisions-decisions.result ≡ c.args.call.now.decisions = c.take_decisions-decisions.ensures.value ∙ c.as_slice.ensures in
     finish_done c.args.parts.now c.args.call.now c.args.stamp c.requires.shard c.requires.call c.requires.whole c.requires.next (omega arith) c.take_decisions-decisions.new.memory c.write.new.parts (rw same at c.in-Ok.ensures.written)
+
+pub returns-in-Err-clause-shard : goal.returns-in-Err-clause-shard
+returns-in-Err-clause-shard g c =
+    let same : c.take_decisions-decisions.result ≡ c.args.call.now.decisions = c.take_decisions-decisions.ensures.value ∙ c.as_slice.ensures in
+    finish_left c.args.parts.now c.args.call.now c.args.stamp c.requires.shard c.requires.call c.requires.whole c.requires.next (omega arith) c.take_decisions-decisions.new.memory c.write.new.parts (rw same at c.in-Err.ensures.failed)
+    c.take_decisions-decisions.ensures.lanes
 
 pub returns-in-Err-clause-meets : goal.returns-in-Err-clause-meets
 returns-in-Err-clause-meets g c =

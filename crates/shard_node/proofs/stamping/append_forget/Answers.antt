@@ -1,5 +1,5 @@
 use Rattle.std.proofs.Common.{arith}
-use Rattle.shard_node.proofs.Stamps.{forget_memory, forget_room, forget_wrote, forget_done, forget_failed}
+use Rattle.shard_node.proofs.Stamps.{forget_memory, forget_room, forget_wrote, forget_done, forget_left, forget_failed}
 use Rattle.shard_node.specs.Parts.{view_of}
 use Rattle.shard_node.proofs.Leaving.{still}
 use Rattle.shard_node.proofs.stamping.append_forget.Goals as goal
@@ -15,6 +15,9 @@ returns-in-Ok-clause-shard g c = forget_wrote c.args.parts.now c.args.call.now c
 
 pub returns-in-Ok-clause-meets : goal.returns-in-Ok-clause-meets
 returns-in-Ok-clause-meets g c = forget_done c.args.parts.now c.args.call.now c.args.stamp c.requires.shard c.requires.call c.requires.whole c.requires.next (omega arith) c.write.new.parts c.in-Ok.ensures.written
+
+pub returns-in-Err-clause-shard : goal.returns-in-Err-clause-shard
+returns-in-Err-clause-shard g c = forget_left c.args.parts.now c.args.call.now c.args.stamp c.requires.shard c.requires.call c.requires.whole c.requires.next (omega arith) c.write.new.parts c.in-Err.ensures.failed
 
 pub returns-in-Err-clause-meets : goal.returns-in-Err-clause-meets
 returns-in-Err-clause-meets g c = forget_failed c.args.parts.now c.args.call.now c.args.stamp c.requires.shard c.requires.call c.requires.whole c.requires.next (omega arith) c.write.new.parts c.in-Err.fault c.in-Err.ensures.fault c.in-Err.ensures.failed

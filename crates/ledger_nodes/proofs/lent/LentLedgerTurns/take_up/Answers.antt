@@ -1,11 +1,8 @@
 use Rattle.std.proofs.Common.{Some, None, refl, sym, subst}
 use Rattle.ledger_runs.specs.Turning.{IsLaneOf}
 use Rattle.ledger_nodes.specs.Ledgers.{AreChecked}
-use Rattle.ledger_nodes.proofs.Turns.{none_open, own_there, told_there, resumed_keeps, resumed_quiet, resumed_took, is_opened, resumed_checked, resumed_cause, opened_same, capacity_same}
+use Rattle.ledger_nodes.proofs.Turns.{none_open, told_there, resumed_keeps, resumed_flies, resumed_quiet, resumed_took, is_opened, resumed_checked, resumed_unprepared, resumed_cause, opened_same, capacity_same}
 use Rattle.ledger_nodes.proofs.lent.LentLedgerTurns.take_up.Goals as goal
-
-pub open_lane-requires : goal.open_lane-requires
-open_lane-requires g c = own_there g.D.Disk.count g.D.Disk.limit g.D.Disk.content g.D.Disk.images c.self.inside.header c.args.lane c.self.inside.ports.log.logs.items c.self.inside.ports.shards.nodes.items c.self.invariant (subst (λ v. IsLaneOf v.header.shape c.args.lane) (sym c.self.view_is) c.requires.lane) c.home-at.result c.index.result.now c.home-at.ensures.place c.index.ensures
 
 pub returns-in_default-found-clause-idle : goal.returns-in_default-found-clause-idle
 returns-in_default-found-clause-idle g c = rw (← c.self.view_is) (none_open g.D.Disk.count g.D.Disk.limit g.D.Disk.content g.D.Disk.images c.self.inside.header c.args.lane c.self.inside.ports.log.logs.items c.self.inside.ports.shards.nodes.items c.self.invariant (subst (λ v. IsLaneOf v.header.shape c.args.lane) (sym c.self.view_is) c.requires.lane) (told_there g.D.Disk.count g.D.Disk.limit g.D.Disk.content g.D.Disk.images c.self.inside.header c.args.lane c.self.inside.ports.log.logs.items c.self.inside.ports.shards.nodes.items c.self.invariant (subst (λ v. IsLaneOf v.header.shape c.args.lane) (sym c.self.view_is) c.requires.lane) c.home-at.result c.index.result.now c.home-at.ensures.place c.index.ensures c.in-Ok.found (None) c.in-Ok.ensures c.in_default-found.is))
@@ -25,6 +22,12 @@ returns-in-Ok-drive_resume-clause-keeps g c = rw (← c.self.view_is)
     c.drive_resume.new.ports.log.logs.items c.drive_resume.new.ports.shards.nodes.items c.drive_resume.ensures.step c.in-Some.unfinished
     (told_there g.D.Disk.count g.D.Disk.limit g.D.Disk.content g.D.Disk.images c.self.inside.header c.args.lane c.self.inside.ports.log.logs.items c.self.inside.ports.shards.nodes.items c.self.invariant (subst (λ v. IsLaneOf v.header.shape c.args.lane) (sym c.self.view_is) c.requires.lane) c.home-at.result c.index.result.now c.home-at.ensures.place c.index.ensures c.in-Ok.found (Some c.in-Some.unfinished) c.in-Ok.ensures c.in-Some.is) c.drive_resume.result c.drive_resume.ensures.taken c.drive_resume.ensures.left)
 
+pub returns-in-Ok-drive_resume-clause-flies : goal.returns-in-Ok-drive_resume-clause-flies
+returns-in-Ok-drive_resume-clause-flies g c = rw (← c.self.view_is)
+    (resumed_flies g.D.Disk.count g.D.Disk.limit g.D.Disk.content g.D.Disk.images c.self.inside.header c.args.lane c.self.inside.ports.log.logs.items c.self.inside.ports.shards.nodes.items c.self.invariant (subst (λ v. IsLaneOf v.header.shape c.args.lane) (sym c.self.view_is) c.requires.lane)
+    c.drive_resume.new.ports.log.logs.items c.drive_resume.new.ports.shards.nodes.items c.drive_resume.ensures.step c.in-Some.unfinished
+    (told_there g.D.Disk.count g.D.Disk.limit g.D.Disk.content g.D.Disk.images c.self.inside.header c.args.lane c.self.inside.ports.log.logs.items c.self.inside.ports.shards.nodes.items c.self.invariant (subst (λ v. IsLaneOf v.header.shape c.args.lane) (sym c.self.view_is) c.requires.lane) c.home-at.result c.index.result.now c.home-at.ensures.place c.index.ensures c.in-Ok.found (Some c.in-Some.unfinished) c.in-Ok.ensures c.in-Some.is) c.drive_resume.result c.drive_resume.ensures.taken c.drive_resume.ensures.left)
+
 pub returns-in-Ok-drive_resume-clause-holds : goal.returns-in-Ok-drive_resume-clause-holds
 returns-in-Ok-drive_resume-clause-holds g c = rw (← c.self.view_is) c.drive_resume.ensures.step.stored
 
@@ -37,6 +40,12 @@ returns-clause-others g c = rw (← c.self.view_is) c.drive_resume.ensures.step.
 pub returns-clause-keeps : goal.returns-clause-keeps
 returns-clause-keeps g c = rw (← c.self.view_is)
     (resumed_keeps g.D.Disk.count g.D.Disk.limit g.D.Disk.content g.D.Disk.images c.self.inside.header c.args.lane c.self.inside.ports.log.logs.items c.self.inside.ports.shards.nodes.items c.self.invariant (subst (λ v. IsLaneOf v.header.shape c.args.lane) (sym c.self.view_is) c.requires.lane)
+    c.drive_resume.new.ports.log.logs.items c.drive_resume.new.ports.shards.nodes.items c.drive_resume.ensures.step c.in-Some.unfinished
+    (told_there g.D.Disk.count g.D.Disk.limit g.D.Disk.content g.D.Disk.images c.self.inside.header c.args.lane c.self.inside.ports.log.logs.items c.self.inside.ports.shards.nodes.items c.self.invariant (subst (λ v. IsLaneOf v.header.shape c.args.lane) (sym c.self.view_is) c.requires.lane) c.home-at.result c.index.result.now c.home-at.ensures.place c.index.ensures c.in-Ok.found (Some c.in-Some.unfinished) c.in-Ok.ensures c.in-Some.is) c.drive_resume.result c.drive_resume.ensures.taken c.drive_resume.ensures.left)
+
+pub returns-clause-flies : goal.returns-clause-flies
+returns-clause-flies g c = rw (← c.self.view_is)
+    (resumed_flies g.D.Disk.count g.D.Disk.limit g.D.Disk.content g.D.Disk.images c.self.inside.header c.args.lane c.self.inside.ports.log.logs.items c.self.inside.ports.shards.nodes.items c.self.invariant (subst (λ v. IsLaneOf v.header.shape c.args.lane) (sym c.self.view_is) c.requires.lane)
     c.drive_resume.new.ports.log.logs.items c.drive_resume.new.ports.shards.nodes.items c.drive_resume.ensures.step c.in-Some.unfinished
     (told_there g.D.Disk.count g.D.Disk.limit g.D.Disk.content g.D.Disk.images c.self.inside.header c.args.lane c.self.inside.ports.log.logs.items c.self.inside.ports.shards.nodes.items c.self.invariant (subst (λ v. IsLaneOf v.header.shape c.args.lane) (sym c.self.view_is) c.requires.lane) c.home-at.result c.index.result.now c.home-at.ensures.place c.index.ensures c.in-Ok.found (Some c.in-Some.unfinished) c.in-Ok.ensures c.in-Some.is) c.drive_resume.result c.drive_resume.ensures.taken c.drive_resume.ensures.left)
 
@@ -54,6 +63,9 @@ returns-in-Ok-drive_resume-clause-took g c = rw (← c.self.view_is)
 
 pub returns-in_default-found-clause-quiet : goal.returns-in_default-found-clause-quiet
 returns-in_default-found-clause-quiet g c = rw (← c.self.view_is) (λ mint submissions kept was. was)
+
+pub returns-in_default-found-clause-flies : goal.returns-in_default-found-clause-flies
+returns-in_default-found-clause-flies g c = rw (← c.self.view_is) (λ mint submissions kept may. may)
 
 pub returns-in-Ok-drive_resume-clause-quiet : goal.returns-in-Ok-drive_resume-clause-quiet
 returns-in-Ok-drive_resume-clause-quiet g c = rw (← c.self.view_is)
@@ -112,6 +124,18 @@ returns-clause-grows g c = rw (← c.self.view_is)
     (resumed_checked g.D.Disk.count g.D.Disk.limit g.D.Disk.content g.D.Disk.images c.self.inside.header c.args.lane c.self.inside.ports.log.logs.items c.self.inside.ports.shards.nodes.items c.self.invariant (subst (λ v. IsLaneOf v.header.shape c.args.lane) (sym c.self.view_is) c.requires.lane)
     c.drive_resume.new.ports.log.logs.items c.drive_resume.new.ports.shards.nodes.items c.drive_resume.ensures.step c.in-Some.unfinished
     (told_there g.D.Disk.count g.D.Disk.limit g.D.Disk.content g.D.Disk.images c.self.inside.header c.args.lane c.self.inside.ports.log.logs.items c.self.inside.ports.shards.nodes.items c.self.invariant (subst (λ v. IsLaneOf v.header.shape c.args.lane) (sym c.self.view_is) c.requires.lane) c.home-at.result c.index.result.now c.home-at.ensures.place c.index.ensures c.in-Ok.found (Some c.in-Some.unfinished) c.in-Ok.ensures c.in-Some.is) c.drive_resume.result c.drive_resume.ensures.taken c.drive_resume.ensures.left (subst (λ v. AreChecked g.D.Disk.count g.D.Disk.limit v.header.shape v.logs v.shards) (sym c.self.view_is) c.requires.checked)).grows
+
+pub returns-in-Ok-drive_resume-clause-unprepared : goal.returns-in-Ok-drive_resume-clause-unprepared
+returns-in-Ok-drive_resume-clause-unprepared g c = rw (← c.self.view_is)
+    (resumed_unprepared g.D.Disk.count g.D.Disk.limit g.D.Disk.content g.D.Disk.images c.self.inside.header c.args.lane c.self.inside.ports.log.logs.items c.self.inside.ports.shards.nodes.items c.self.invariant (subst (λ v. IsLaneOf v.header.shape c.args.lane) (sym c.self.view_is) c.requires.lane)
+    c.drive_resume.new.ports.log.logs.items c.drive_resume.new.ports.shards.nodes.items c.drive_resume.ensures.step c.in-Some.unfinished
+    (told_there g.D.Disk.count g.D.Disk.limit g.D.Disk.content g.D.Disk.images c.self.inside.header c.args.lane c.self.inside.ports.log.logs.items c.self.inside.ports.shards.nodes.items c.self.invariant (subst (λ v. IsLaneOf v.header.shape c.args.lane) (sym c.self.view_is) c.requires.lane) c.home-at.result c.index.result.now c.home-at.ensures.place c.index.ensures c.in-Ok.found (Some c.in-Some.unfinished) c.in-Ok.ensures c.in-Some.is) c.drive_resume.result c.drive_resume.ensures.taken c.drive_resume.ensures.left (subst (λ v. AreChecked g.D.Disk.count g.D.Disk.limit v.header.shape v.logs v.shards) (sym c.self.view_is) c.requires.checked))
+
+pub returns-clause-unprepared : goal.returns-clause-unprepared
+returns-clause-unprepared g c = rw (← c.self.view_is)
+    (resumed_unprepared g.D.Disk.count g.D.Disk.limit g.D.Disk.content g.D.Disk.images c.self.inside.header c.args.lane c.self.inside.ports.log.logs.items c.self.inside.ports.shards.nodes.items c.self.invariant (subst (λ v. IsLaneOf v.header.shape c.args.lane) (sym c.self.view_is) c.requires.lane)
+    c.drive_resume.new.ports.log.logs.items c.drive_resume.new.ports.shards.nodes.items c.drive_resume.ensures.step c.in-Some.unfinished
+    (told_there g.D.Disk.count g.D.Disk.limit g.D.Disk.content g.D.Disk.images c.self.inside.header c.args.lane c.self.inside.ports.log.logs.items c.self.inside.ports.shards.nodes.items c.self.invariant (subst (λ v. IsLaneOf v.header.shape c.args.lane) (sym c.self.view_is) c.requires.lane) c.home-at.result c.index.result.now c.home-at.ensures.place c.index.ensures c.in-Ok.found (Some c.in-Some.unfinished) c.in-Ok.ensures c.in-Some.is) c.drive_resume.result c.drive_resume.ensures.taken c.drive_resume.ensures.left (subst (λ v. AreChecked g.D.Disk.count g.D.Disk.limit v.header.shape v.logs v.shards) (sym c.self.view_is) c.requires.checked))
 
 pub returns-clause-fault : goal.returns-clause-fault
 returns-clause-fault g c = rw (← c.self.view_is)

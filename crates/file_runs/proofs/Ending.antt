@@ -1,0 +1,64 @@
+-- Whose fault ended files.
+use Rattle.std.proofs.Common.{◌≡◌, inl, inr, ℕ, ◌*◌, ◌+◌, ◌<◌, List, [], ◌∷◌, ◌++◌, length, take, drop, get_or, Some, refl, sym, ap, ◌∙◌, subst}
+use Rattle.std.specs.Global.{Vec}
+use Rattle.std.proofs.lemmas.List.{append_assoc, take-append-drop}
+use Rattle.cbdc_types.specs.declared.tx.CompactTx.{CompactTx}
+use Rattle.cbdc_model.specs.Records.{Shape, Compact, Record}
+use Rattle.cbdc_model.specs.Coins.{FullTx}
+use Rattle.cbdc_model.specs.World.{AreIdle}
+use Rattle.cbdc_model.specs.Waves.{sent_to}
+use Rattle.cbdc_model.specs.Lanes.{IsEnd}
+use Rattle.submissions.specs.Checks.{VerdictsOf, AreSent}
+use Rattle.lane_driver.specs.declared.fault.LaneFault.{LaneFault}
+use Rattle.lane_driver.specs.declared.fault.LaneFaultKind.TheVariants.{Memory as NoMemory}
+use Rattle.ledger_runs.specs.Waving.{HaveSent, FirstFaultIs}
+use Rattle.ledger_runs.specs.Faults.{HaveCauses}
+use Rattle.ledger_runs.specs.Least.{RunTheirs}
+use Rattle.ledger_runs.specs.declared.lanes.Lane.{Lane}
+use Rattle.ledger_runs.proofs.Least.{least_fault}
+use Rattle.file_runs.specs.Runs.{AreLanesOf, HavePreparedFiles, IsSentPiece}
+use Rattle.file_runs.specs.Endings.{EndsFile, EndsFirst, EndsFiles}
+use Rattle.file_runs.proofs.Causing.{sent_piece}
+use Rattle.file_runs.proofs.Joining.{so_far}
+
+-- the first fault of a file's lanes
+pub file_ends : (K : Shape) (verdicts : VerdictsOf) (file : List FullTx) (lists : List (Vec CompactTx)) (lanes after : List Lane) (I J : ℕ → List Record) (failed : ℕ → Type 0) (holds : ℕ → ℕ → Type 0)
+    → length after ≡ K.coordinators * K.lanes → AreSent K verdicts file lists → AreLanesOf lists lanes → ((sent : ℕ → List Compact) → HaveSent sent lanes → HaveSent sent after)
+    → HaveCauses K I J failed holds after → RunTheirs K I J after → (e : LaneFault) → FirstFaultIs after (Some e) → EndsFile K verdicts file I J failed holds e
+file_ends K verdicts file lists lanes after I J failed holds count are_sent are keeps causes theirs e first =
+    inr (λ sound tells. least_fault K (sent_to K sound file) (IsSentPiece K verdicts file I J) I J failed holds after count
+    (keeps (sent_to K sound file) (λ l y t. are_sent sound tells l y.txs (are.each l y t)))
+    (λ lane x there txs piece. sent_piece K verdicts file lists lanes after I J are_sent are keeps lane x there txs piece) causes theirs e first)
+
+unbegun_first : (K : Shape) (verdicts : VerdictsOf) (more : List (List FullTx)) (I : ℕ → List Record) (failed : ℕ → Type 0) (holds : ℕ → ℕ → Type 0) (e : LaneFault) → e.fault ≡ NoMemory → EndsFirst K verdicts more I I failed holds e
+unbegun_first K verdicts [] I failed holds e is = (is, λ n. refl)
+unbegun_first K verdicts (file ∷ more) I failed holds e is = inl (is, λ n. refl)
+
+-- memory ran out behind files that have been run
+pub unbegun_files : (K : Shape) (verdicts : VerdictsOf) (files : List (List FullTx)) (i : ℕ) (I J : ℕ → List Record) (failed : ℕ → Type 0) (holds : ℕ → ℕ → Type 0) (e : LaneFault)
+    → ((n : ℕ) → IsEnd (I n) (J n)) → HavePreparedFiles K verdicts (take i files) I J → AreIdle K J → e.fault ≡ NoMemory → EndsFiles K verdicts files I J failed holds e
+unbegun_files K verdicts files i I J failed holds e grows so idle is = record {
+  done = take i files;
+  more = drop i files;
+  are = sym (take-append-drop i files);
+  middle = J;
+  grows = grows;
+  before = so;
+  idle = idle;
+  ends = unbegun_first K verdicts (drop i files) J failed holds e is;
+}
+
+-- a file's fault ends the files
+pub files_end_so : (K H : Shape) (verdicts : VerdictsOf) (files : List (List FullTx)) (i : ℕ) (file : List FullTx) (I J L : ℕ → List Record) (failed : ℕ → Type 0) (holds : ℕ → ℕ → Type 0) (e : LaneFault)
+    → H ≡ K → i < length files → file ≡ get_or files i file → ((n : ℕ) → IsEnd (I n) (J n)) → HavePreparedFiles K verdicts (take i files) I J → AreIdle K J
+    → EndsFile H verdicts file J L failed holds e → EndsFiles K verdicts files I L failed holds e
+files_end_so K H verdicts files i file I J L failed holds e same low is grows so idle ends = record {
+  done = take i files;
+  more = file ∷ drop (i + 1) files;
+  are = sym (sym (append_assoc (take i files) (file ∷ []) (drop (i + 1) files)) ∙ ap (λ fs. fs ++ drop (i + 1) files) (so_far files i file low is) ∙ take-append-drop (i + 1) files);
+  middle = J;
+  grows = grows;
+  before = so;
+  idle = idle;
+  ends = subst (λ k. EndsFile k verdicts file J L failed holds e) same ends;
+}

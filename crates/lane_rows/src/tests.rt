@@ -1,0 +1,5 @@
+mod cores;
+mod counting;
+mod lanes;
+mod ledgers;
+mod parts;

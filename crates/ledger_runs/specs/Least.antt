@@ -1,0 +1,35 @@
+-- Whose fault ends a wave: the least lane's that met one. The others go on to the end of the wave.
+use Rattle.std.specs.Prelude.{◌≡◌, ◌⊎◌, ℕ, ◌<◌, List, None}
+use Rattle.cbdc_model.specs.Records.{Shape, Compact, Record}
+use Rattle.cbdc_model.specs.Slots.{Idle}
+use Rattle.lane_driver.specs.declared.fault.LaneFault.{LaneFault}
+use Rattle.lane_driver.specs.declared.fault.LaneFaultKind.TheVariants.{Memory as NoMemory}
+use Rattle.ledger_runs.specs.Turning.{phase_at, IsLaneOf}
+use Rattle.ledger_runs.specs.Waving.{EachLane}
+use Rattle.ledger_runs.specs.Pieces.{HasPreparedAll}
+use Rattle.ledger_runs.specs.Faults.{IsLaneCause, Nothing}
+use Rattle.ledger_runs.specs.declared.lanes.Lane.{Lane}
+
+-- from journals I to J the lane has prepared all that it got, in pieces of a batch's size and in order, and is idle
+abbrev pub HasRun : Shape → ℕ → List Compact → (ℕ → List Record) → (ℕ → List Record) → Type 0
+HasRun K lane all I J = HasPreparedAll K lane all I J × (phase_at K J lane ≡ Idle)
+
+-- so has each lane that met no fault
+abbrev pub RunTheirs : Shape → (ℕ → List Record) → (ℕ → List Record) → List Lane → Type 0
+RunTheirs K I J lanes = EachLane (λ lane x. x.fault ≡ None → HasRun K lane x.txs.items I J) lanes
+
+-- the fault is a lane's, has its cause, and each lesser lane has run all that it got
+pub record IsLeastFault (K : Shape) (sent : ℕ → List Compact) (next : ℕ → List Compact → Type 0) (I J : ℕ → List Record) (failed : ℕ → Type 0) (may_hold : ℕ → ℕ → Type 0) (e : LaneFault) : Type 0 where
+  pub lane : ℕ
+  pub is_lane : IsLaneOf K lane
+  pub cause : IsLaneCause K lane (next lane) I J failed may_hold e
+  pub lesser : (other : ℕ) → other < lane → HasRun K other (sent other) I J
+
+-- of lanes that were open: the fault is a lane's, has its cause, and all lesser lanes are idle; or memory for what is told ran out
+abbrev pub IsLeastOpen : Shape → (ℕ → List Record) → (ℕ → List Record) → (ℕ → Type 0) → (ℕ → ℕ → Type 0) → LaneFault → Type 0
+IsLeastOpen K I J failed may_hold e =
+    (e.fault ≡ NoMemory) ⊎ ((lane : ℕ) × IsLaneOf K lane × IsLaneCause K lane Nothing I J failed may_hold e × ((other : ℕ) → other < lane → phase_at K J other ≡ Idle))
+
+-- memory ran out before anything was done
+abbrev pub IsUnbegun : (ℕ → List Record) → (ℕ → List Record) → LaneFault → Type 0
+IsUnbegun I J e = (e.fault ≡ NoMemory) × ((n : ℕ) → J n ≡ I n)

@@ -1,0 +1,25 @@
+use Rattle.std.proofs.Common.{◌≡◌, ◌+◌, ◌≤◌, take, subst, sym, arith}
+use Rattle.std.proofs.lemmas.List.Elements.{All-more, All-same}
+use Rattle.cbdc_model.specs.Room.{kept_room}
+use Rattle.cbdc_model.specs.Due.{used_of}
+use Rattle.rack_laws.specs.Shown.{LogHasRoom}
+use Rattle.ledger_nodes.proofs.Steps.{take_whole}
+use Rattle.rack_runs.proofs.nodes.see_logs.Goals as goal
+
+pub logs-preserved : goal.logs-preserved
+logs-preserved g c =
+    let told = c.header-header.ensures in
+    let room = subst (λ n. used_of c.log-item.result.journal + kept_room c.log-item.result.header.shape c.log-item.result.journal ≤ n) told.capacity told.room in
+    record {
+      counts = All-more (λ x. x.faults ≡ g.D.Disk.count x.disk) c.args.logs.now c.logs.log-index c.log-item.result c.logs-test.true c.logs.invariant.counts
+          (subst (λ x. x.faults ≡ g.D.Disk.count x.disk) c.log-item.is told.count);
+      rooms = All-more (LogHasRoom g.D.Disk.limit) c.args.logs.now c.logs.log-index c.log-item.result c.logs-test.true c.logs.invariant.rooms (subst (LogHasRoom g.D.Disk.limit) c.log-item.is room);
+    }
+
+pub returns : goal.returns
+returns g c =
+    let whole = sym (take_whole c.args.logs.now c.logs.log-index (omega (arith, c.logs-test.false))) in
+    record {
+      counts = All-same (λ x. x.faults ≡ g.D.Disk.count x.disk) c.args.logs.now (take c.logs.log-index c.args.logs.now) whole c.logs.invariant.counts;
+      rooms = All-same (LogHasRoom g.D.Disk.limit) c.args.logs.now (take c.logs.log-index c.args.logs.now) whole c.logs.invariant.rooms;
+    }
