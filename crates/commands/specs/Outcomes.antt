@@ -1,5 +1,5 @@
 -- What was done when all went well, by what the files and the disks told before and tell behind it.
-use Rattle.std.specs.Prelude.{◌≡◌, ◌⊎◌, ℕ, ◌<◌, List, [], ◌++◌, reverse, Option, IsSome, Ok, string_bytes}
+use Rattle.std.specs.Prelude.{◌≡◌, ◌⊎◌, ℕ, ◌<◌, ◌≤◌, List, [], ◌++◌, reverse, Option, IsSome, Ok, string_bytes}
 use Rattle.outside.specs.Images.{Tells}
 use Rattle.line_text.specs.Lines.{Text}
 use Rattle.cbdc_types.specs.declared.answer.Answer.{Answer}
@@ -39,7 +39,7 @@ use Rattle.commands.specs.Generated.{PrintsWorkload, WhyNoWorkload}
 pub use Rattle.commands.specs.Generated.{first_journals}
 
 -- the file held a mint, no node was in use, each node's disk holds its first record alone, and so does whatever a crash leaves of one that told its
--- content; the first records are a kept ledger of the mint, to which nothing was handed in yet; and this was printed
+-- content, while all other disks are as before; the first records are a kept ledger of the mint, to which nothing was handed in yet; and this was printed
 pub record DidInit {D : Type 0} (files : Text → Option (List ℕ)) (content : D → Option (List ℕ)) (images : D → List ℕ → Type 0) (before now : ℕ → Option D) (printed : Text → Type 0) (shape : Shape) (file : FileWord) : Type 0 where
   pub mint : List Output
   pub read : Tells (files file.name.now) (λ c. mint_of_file c ≡ Ok mint)
@@ -47,6 +47,7 @@ pub record DidInit {D : Type 0} (files : Text → Option (List ℕ)) (content : 
   pub holds : (n : ℕ) → n < node_count shape → HoldsFirst content images (first_of shape mint n) (before n) (now n)
   pub opens : (n : ℕ) → n < node_count shape
       → OfTold (before n) (λ was. OfTold (now n) (λ d. IsSome (content was) → (c : List ℕ) → images d c → OpensTo (reverse (first_journals shape mint n)) c))
+  pub outside : (n : ℕ) → node_count shape ≤ n → now n ≡ before n
   pub kept : KeptJournals shape mint [] (first_journals shape mint)
   pub prints : printed (init_lines mint)
 
