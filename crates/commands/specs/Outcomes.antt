@@ -1,5 +1,5 @@
 -- What was done when all went well, by what the files and the disks told before and tell behind it.
-use Rattle.std.specs.Prelude.{◌≡◌, ◌⊎◌, ℕ, ◌<◌, ◌≤◌, List, [], ◌++◌, reverse, Option, IsSome, Ok, string_bytes}
+use Rattle.std.specs.Prelude.{◌≡◌, ◌⊎◌, ℕ, ◌+◌, ◌<◌, ◌≤◌, List, [], ◌++◌, reverse, Option, IsSome, Ok, string_bytes}
 use Rattle.outside.specs.Images.{Tells}
 use Rattle.line_text.specs.Lines.{Text}
 use Rattle.cbdc_types.specs.declared.answer.Answer.{Answer}
@@ -7,6 +7,8 @@ use Rattle.cbdc_types.specs.Limits.{IsWithinLimits}
 use Rattle.cbdc_model.specs.Records.{Digest, Shape, Compact, Record}
 use Rattle.cbdc_model.specs.Coins.{Output, FullTx}
 use Rattle.cbdc_model.specs.History.{header_of}
+use Rattle.cbdc_model.specs.Room.{kept_room}
+use Rattle.cbdc_model.specs.Due.{used_of}
 use Rattle.cbdc_model.specs.World.{KeptJournals}
 use Rattle.cbdc_model.specs.Waves.{Waves}
 use Rattle.record_log.specs.Held.{OpensTo}
@@ -90,14 +92,16 @@ abbrev pub PrintsRecovery : {D : Type 0} → (D → Option (List ℕ)) → (D �
 PrintsRecovery content images before now printed =
     OfShown content before (λ K mint submissions E. (X : ℕ → List Record) × HoldsEach images now K X × ((text : Text) × IsRecoverText K E X text × printed text))
 
--- what the disks told opened to journals of all nodes of a ledger, the disks are back as they were read, and a line was printed for each hash, in
--- order, with its status in the journal of the shard that holds it
+-- what the disks told opened to journals of all nodes of a ledger, each disk having room for its journal and for what is kept for the batches that are
+-- open there; the disks are back as they were read, and a line was printed for each hash, in order, with its status in the journal of the shard that
+-- holds it
 pub record DidStatus {D : Type 0} (content : D → Option (List ℕ)) (images : D → List ℕ → Type 0) (limit : D → ℕ) (before now : ℕ → Option D) (printed : Text → Type 0) (hashes : List Digest) : Type 0 where
   pub shape : Shape
   pub genesis : Digest
   pub journals : ℕ → List Record
   pub limits : IsWithinLimits shape
   pub opened : (n : ℕ) → n < node_count shape → OfTold (before n) (λ was. Tells (content was) (IsNodeJournal (header_of shape genesis n) (journals n)))
+  pub room : (n : ℕ) → n < node_count shape → OfTold (before n) (λ was. used_of (journals n) + kept_room shape (journals n) ≤ limit was)
   pub back : (n : ℕ) → IsBack images limit (before n) (now n)
   pub prints : printed (status_lines shape journals hashes)
 
