@@ -172,15 +172,15 @@ module _ (K : Shape) (mint : List Output) (few_coins : length mint ≤ 1000000) 
       first_shown K mint limits few_coins bytes_told bytes_left (disk_at old) (disk_at mid) (λ n inside. (let e = ready.empty n inside in (e.0, e.1, refl))) (λ n inside. (let d = told_there mid all n inside in (d.0, d.1))) holds
 
   module _ (files : List (List FullTx)) (mid new : PlainRack) (shows : Shows bytes_told (disk_at mid) K (genesis_id mint) (first_journals K mint)) where
-    pub unrun : (next : Shape → (ℕ → List Record) → (ℕ → List Record) → ℕ → List Compact → Type 0) (ends : Shape → (ℕ → List Record) → (ℕ → List Record) → (ℕ → Type 0) → (ℕ → ℕ → Type 0) → LaneFault → Type 0) (a : Answer)
+    pub unrun : (next : Shape → (ℕ → List Record) → (ℕ → List Record) → ℕ → List Compact → Type 0) (ends : Shape → (ℕ → List Record) → (ℕ → List Record) → (ℕ → Type 0) → (ℕ → ℕ → Type 0) → LaneFault → Type 0) (begun : Shape → (ℕ → List Record) → (ℕ → List Record) → Type 0) (a : Answer)
         → (IsUnresumed bytes_told bytes_left room_of faults_of (disk_at mid) (faults_at mid.misses) (faults_at new.misses) a × ((n : ℕ) → IsBack bytes_left room_of (disk_at mid n) (disk_at new n)))
-        ⊎ IsLaneFault bytes_told bytes_left room_of (disk_at mid) (disk_at new) (faults_at mid.misses) (faults_at new.misses) next ends files a
+        ⊎ IsLaneFault bytes_told bytes_left room_of (disk_at mid) (disk_at new) (faults_at mid.misses) (faults_at new.misses) next ends begun files a
         → IsUnrun K mint files new a
-    unrun next ends a (inl (inl unopened, back)) = inr (inl (record { old = mid; new = new; journals = first_journals K mint; kept = first_kept K mint limits few_coins; shows = shows; why = unopened_of_mint bytes_told bytes_left room_of faults_of (disk_at mid) K (genesis_id mint) (first_journals K mint) limits shows (faults_at mid.misses) (faults_at new.misses) a unopened }))
-    unrun next ends a (inl (inr (inl unsound), back)) =
+    unrun next ends begun a (inl (inl unopened, back)) = inr (inl (record { old = mid; new = new; journals = first_journals K mint; kept = first_kept K mint limits few_coins; shows = shows; why = unopened_of_mint bytes_told bytes_left room_of faults_of (disk_at mid) K (genesis_id mint) (first_journals K mint) limits shows (faults_at mid.misses) (faults_at new.misses) a unopened }))
+    unrun next ends begun a (inl (inr (inl unsound), back)) =
         absurd (none_unsound bytes_told bytes_left (disk_at mid) K mint [] (first_journals K mint) limits few_coins (first_kept K mint limits few_coins) room_of faults_of a shows unsound)
-    unrun next ends a (inl (inr (inr memory), back)) = inl memory
-    unrun next ends a (inr fault) =
+    unrun next ends begun a (inl (inr (inr memory), back)) = inl memory
+    unrun next ends begun a (inr fault) =
         inr (inr (lane_kind fault.ledger.shape (next fault.ledger.shape (λ n. journal n (reverse fault.ledger.rows)) fault.exit) (λ n. journal n (reverse fault.ledger.rows)) fault.exit _ _ a fault.cause, (fault.exit, fault.kept K mint [] (first_journals K mint) limits shows (first_kept K mint limits few_coins))))
 
 -- ---- a workload's run and audit

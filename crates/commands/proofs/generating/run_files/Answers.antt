@@ -20,4 +20,4 @@ pub returns-clause-why : goal.returns-clause-why
 returns-clause-why g c =
     let limits = c.requires.ready.limits in
     let shows = made_shown c.args.shape.now c.args.mint c.requires.few limits c.args.rack.now c.make_ledger.new.rack c.requires.ready c.make_ledger.ensures.back c.in-Ok.ensures.written in
-    if_err_by _ _ c.run_on.result (λ e stopped. unrun c.args.shape.now c.args.mint c.requires.few limits c.args.clients.now c.make_ledger.new.rack c.run_on.new.rack shows _ _ e stopped) c.run_on.ensures.stopped
+    if_err_by _ _ c.run_on.result (λ e stopped. unrun c.args.shape.now c.args.mint c.requires.few limits c.args.clients.now c.make_ledger.new.rack c.run_on.new.rack shows _ _ _ e stopped) c.run_on.ensures.stopped

@@ -1,4 +1,4 @@
-use Rattle.std.proofs.Common.{◌≡◌, ◌∙◌, ◌≤◌, ◌++◌, ℕ, Bool, [], subst, sym, ap}
+use Rattle.std.proofs.Common.{◌≡◌, ◌∙◌, ◌≤◌, ◌<◌, ◌++◌, ℕ, Bool, [], subst, sym, ap}
 use Rattle.std.specs.Prelude.{All, IfOk, IfErr, map}
 use Rattle.cbdc_model.specs.Coins.{FullTx as TxOf}
 use Rattle.cbdc_model.specs.World.{AreIdle}
@@ -9,7 +9,7 @@ use Rattle.cbdc_model.specs.Lanes.{IsEnd}
 use Rattle.ledger_runs.specs.Faults.{IsRunCause, HaveFailed, MayHold}
 use Rattle.rack_runs.specs.Endings.{EndsRun}
 use Rattle.rack_runs.proofs.Answering.{came_cause, came_ends, by_entry}
-use Rattle.file_runs.specs.Runs.{joined, IsFilesPiece, FliesWith}
+use Rattle.file_runs.specs.Runs.{joined, HaveBegunFiles, IsFilesPiece, FliesWith}
 use Rattle.ledger_nodes.specs.Ledgers.{journals_of, flights_of, faults_of, opened_of, capacity_of, AreChecked, AreStored, AreQuiet}
 use Rattle.rack_laws.specs.Shown.{LogHasRoom, ShardHasRoom}
 use Rattle.rack_runs.specs.Telling.{CountAll, TellsRun}
@@ -175,3 +175,15 @@ returns-clause-flies g c =
     let shape : c.run_over-over.new.ledger.header.shape ≡ c.args.nodes.header.shape = c.run_over-over.ensures.shape ∙ ap (λ l. l.header.shape) lent in
     lent_flights g.D.Disk.count g.D.Disk.limit (λ X G. OfKept c.args.nodes.header.shape (journals_of g.D.Disk.count g.D.Disk.limit c.args.nodes.header.shape c.args.nodes.logs.items c.args.nodes.shards.items) (FliesWith c.args.nodes.header.shape (joined c.args.files.now) (journals_of g.D.Disk.count g.D.Disk.limit c.args.nodes.header.shape c.args.nodes.logs.items c.args.nodes.shards.items) X (flights_of g.D.Disk.count g.D.Disk.limit c.args.nodes.header.shape c.args.nodes.logs.items c.args.nodes.shards.items) G)) c.args.nodes.header.shape c.run_over-over.new.ledger _ back shape
     (subst (λ l. OfKept l.header.shape (journals_of g.D.Disk.count g.D.Disk.limit l.header.shape l.logs l.shards) (FliesWith l.header.shape (joined c.args.files.now) (journals_of g.D.Disk.count g.D.Disk.limit l.header.shape l.logs l.shards) (journals_of g.D.Disk.count g.D.Disk.limit c.run_over-over.new.ledger.header.shape c.run_over-over.new.ledger.logs c.run_over-over.new.ledger.shards) (flights_of g.D.Disk.count g.D.Disk.limit l.header.shape l.logs l.shards) (flights_of g.D.Disk.count g.D.Disk.limit c.run_over-over.new.ledger.header.shape c.run_over-over.new.ledger.logs c.run_over-over.new.ledger.shards))) lent c.run_over-over.ensures.flies)
+
+pub returns-clause-begun : goal.returns-clause-begun
+returns-clause-begun g c =
+    let back : c.run_over-over.new.ledger ≡ record { header = c.header.inside.header; logs = c.header.inside.logs.items; shards = c.header.inside.shards.items } = cc in
+    let lent : c.lend-lent.result ≡ record { header = c.args.nodes.header; logs = c.args.nodes.logs.items; shards = c.args.nodes.shards.items } = c.lend-lent.ensures in
+    let shape : c.run_over-over.new.ledger.header.shape ≡ c.args.nodes.header.shape = c.run_over-over.ensures.shape ∙ ap (λ l. l.header.shape) lent in
+    let verdicts = g.V.Verifier.verdict_of c.args.verifier.now in
+    lent_journals g.D.Disk.count g.D.Disk.limit
+    (λ L. 0 < c.args.nodes.header.shape.batch → HaveBegunFiles c.args.nodes.header.shape verdicts c.args.files.now (journals_of g.D.Disk.count g.D.Disk.limit c.args.nodes.header.shape c.args.nodes.logs.items c.args.nodes.shards.items) L)
+    c.args.nodes.header.shape c.run_over-over.new.ledger _ back shape
+    (subst (λ l. 0 < l.header.shape.batch → HaveBegunFiles l.header.shape verdicts c.args.files.now (journals_of g.D.Disk.count g.D.Disk.limit l.header.shape l.logs l.shards)
+    (journals_of g.D.Disk.count g.D.Disk.limit c.run_over-over.new.ledger.header.shape c.run_over-over.new.ledger.logs c.run_over-over.new.ledger.shards)) lent c.run_over-over.ensures.begun)
