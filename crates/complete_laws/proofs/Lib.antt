@@ -8,3 +8,4 @@ pub mod Rooms
 pub mod Sound
 mod Spelling
 pub mod Verdicts
+pub mod Small
