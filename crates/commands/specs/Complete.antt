@@ -7,7 +7,7 @@ use Rattle.cbdc_model.specs.Clean.{Clean}
 use Rattle.cbdc_model.specs.Due.{used_of}
 use Rattle.cbdc_model.specs.World.{AreIdle}
 use Rattle.command_line.specs.declared.request.Request.{Request}
-use Rattle.command_line.specs.declared.request.Request.TheVariants.{Init, Run, Recover, Status, Audit, Show}
+use Rattle.command_line.specs.declared.request.Request.TheVariants.{Init, Run, Recover, Status, Audit, Gen, Show}
 use Rattle.verifier_port.specs.Files.{told}
 use Rattle.verifier_port.specs.declared.file.VerdictFile.{VerdictFile}
 use Rattle.sound_laws.specs.SoundTest.{sound_by}
@@ -15,6 +15,8 @@ use Rattle.word_laws.specs.Refused.{AreWhole}
 use Rattle.word_laws.specs.Single.{names_of}
 use Rattle.input_files.specs.Contents.{mint_of_file}
 use Rattle.file_runs.specs.Runs.{joined}
+use Rattle.workload.specs.Generator.{mint_of}
+use Rattle.workload_laws.specs.Files.{all_of}
 use Rattle.rack_laws.specs.Shown.{node_count}
 use Rattle.complete_laws.specs.Files.{HoldsFile, HoldsVerdicts, HoldClients}
 use Rattle.complete_laws.specs.Making.{CanMake}
@@ -54,8 +56,8 @@ pub record CanAudit {D : Type 0} (files : Text → Option (List ℕ)) (files_bef
 abbrev pub none_sound : FullTx → Bool
 none_sound t = false
 
--- nothing hinders what is asked: its files are read, its disks tell what it is about and have the room for it, and none of them fails; of runs,
--- recoveries and workloads nothing is said
+-- nothing hinders what is asked: its files are read, its disks tell what it is about and have the room for it, and none of them fails; no hashes of a
+-- workload clash
 abbrev pub IsUnhindered : {D : Type 0} → (Text → Option (List ℕ)) → (Text → ℕ) → (Text → ℕ) → (D → Option (List ℕ)) → (D → ℕ) → (ℕ → Option D) → (ℕ → ℕ) → (ℕ → ℕ) → Request → Type 0
 IsUnhindered files files_before files_now content limit held before now (Init shape mint) = CanInit files files_before files_now content limit held before now shape mint.name.now
 IsUnhindered files files_before files_now content limit held before now (Run verdicts clients) =
@@ -64,5 +66,5 @@ IsUnhindered files files_before files_now content limit held before now Recover 
 IsUnhindered files files_before files_now content limit held before now (Status hashes) = AreWhole hashes.items × IsReady content limit held before now none_sound []
 IsUnhindered files files_before files_now content limit held before now (Audit mint clients) =
     CanAudit files files_before files_now content limit held before now mint.name.now (names_of clients.items)
+IsUnhindered files files_before files_now content limit held before now (Gen shape seed count) = Clean (mint_of seed count) (all_of seed count)
 IsUnhindered files files_before files_now content limit held before now (Show text) = Unit {0}
-IsUnhindered files files_before files_now content limit held before now other = ⊥

@@ -89,21 +89,6 @@ PrintsWorkload printed K seed n = (text : Text) × IsWorkloadText K seed n text 
 
 -- ---- why a workload was not done
 
--- the ledger of a mint stands on disks in memory with these journals, and could not be opened
-pub record IsUnopenedThere (K : Shape) (mint : List Output) (submissions : List FullTx) (answer : Answer) : Type 0 where
-  pub old : PlainRack
-  pub new : PlainRack
-  pub journals : ℕ → List Record
-  pub kept : KeptJournals K mint submissions journals
-  pub shows : Shows bytes_told (disk_at old) K (genesis_id mint) journals
-  pub why : IsUnopenedBy bytes_told bytes_left room_of faults_of (disk_at old) (faults_at old.misses) (faults_at new.misses) (Some (genesis_id mint)) answer
-
--- a run of the workload was cut short: the journals have grown at their ends, and are kept
-pub record IsCutWorkload (K : Shape) (seed n : ℕ) : Type 0 where
-  pub exit : ℕ → List Record
-  pub grows : (node : ℕ) → IsEnd (made_for K seed n node) (exit node)
-  pub kept : KeptJournals K (mint_of seed n) (all_of seed n) exit
-
 -- an audit found this behind a run, which it does only where two outputs of the workload share a hash, or two transactions an id
 pub record IsUnsoundWorkload (K : Shape) (seed n place : ℕ) (kind : UnsoundKind) : Type 0 where
   pub exit : ℕ → List Record
@@ -111,17 +96,8 @@ pub record IsUnsoundWorkload (K : Shape) (seed n place : ℕ) (kind : UnsoundKin
   pub audited : HasVerdictOf K (mint_of seed n) (all_of seed n) exit (Unsound place kind)
   pub unclean : Clean (mint_of seed n) (all_of seed n) → ⊥
 
--- why a workload was not done: the nodes could not be opened, a lane of its run met a fault, or its audit found something wrong
-abbrev pub IsStoppedWorkload : Shape → ℕ → ℕ → Answer → Type 0
-IsStoppedWorkload K seed n answer = IsUnopenedThere K (mint_of seed n) (all_of seed n) answer ⊎ IsCutWorkload K seed n
-
+-- why a workload was not done: its audit found something wrong, or memory ran out
 abbrev pub WhyNoWorkload : Shape → ℕ → ℕ → Answer → Type 0
-WhyNoWorkload K seed n (answers.NotReady node) = IsUnopenedThere K (mint_of seed n) (all_of seed n) (answers.NotReady node)
-WhyNoWorkload K seed n (answers.Foreign node kept asked) = IsUnopenedThere K (mint_of seed n) (all_of seed n) (answers.Foreign node kept asked)
-WhyNoWorkload K seed n (answers.Damaged node at) = IsUnopenedThere K (mint_of seed n) (all_of seed n) (answers.Damaged node at)
-WhyNoWorkload K seed n (answers.Full node used need capacity) = IsStoppedWorkload K seed n (answers.Full node used need capacity)
-WhyNoWorkload K seed n (answers.DiskFault node) = IsStoppedWorkload K seed n (answers.DiskFault node)
-WhyNoWorkload K seed n (answers.ClockEnd node stamp) = IsCutWorkload K seed n
 WhyNoWorkload K seed n (answers.Unsound place kind) = IsUnsoundWorkload K seed n place kind
 WhyNoWorkload K seed n answers.Memory = Unit {0}
 WhyNoWorkload K seed n other = ⊥
