@@ -1,12 +1,12 @@
 -- A lane of a kept ledger that a rack shows stops for no reason but that memory ran out, where there is room and no disk fails.
-use Rattle.std.proofs.Common.{◌≡◌, ℕ, ◌+◌, ◌*◌, ◌^◌, ◌<◌, ◌≤◌, true, Bool, List, [], ◌∷◌, ◌++◌, reverse, Option, Some, refl, sym, ap, ◌∙◌, subst, arith}
+use Rattle.std.proofs.Common.{◌≡◌, ℕ, ◌+◌, ◌*◌, ◌^◌, ◌<◌, ◌≤◌, true, false, Bool, List, [], ◌∷◌, ◌++◌, reverse, Option, Some, refl, sym, ap, ◌∙◌, subst, arith}
 use Rattle.outside.specs.Counts.{Rose}
 use Rattle.cbdc_types.specs.Limits.{IsWithinLimits}
 use Rattle.cbdc_types.specs.declared.answer.Answer.{Answer}
 use Rattle.cbdc_types.specs.declared.answer.Answer.TheVariants as answers
-use Rattle.cbdc_model.specs.Records.{Shape, Batch, Compact, Record, Row, journal, record_of, stamp_of, Prepare}
+use Rattle.cbdc_model.specs.Records.{Shape, Batch, Compact, Record, journal, record_of, stamp_of, Prepare}
 use Rattle.cbdc_model.specs.Slots.{slot}
-use Rattle.cbdc_model.specs.Ranges.{home_of, shard_node, part, Concerned}
+use Rattle.cbdc_model.specs.Ranges.{home_of, shard_node, part, is_no_part, Concerned}
 use Rattle.cbdc_model.specs.Room.{need_of}
 use Rattle.cbdc_model.specs.Due.{used_of, prepare_record, lock_record}
 use Rattle.cbdc_model.specs.Coins.{Output, FullTx, genesis_id}
@@ -41,7 +41,10 @@ are_cut K sound [] lane pieces none = none
 are_cut K sound (file ∷ files) lane pieces (own, more, cut, rest, is) = (own, more, cut, are_cut K sound files lane more rest, is)
 
 is_concerned_there : (K : Shape) (txs : List Compact) (s : ℕ) → is_concerned K txs s ≡ true → Concerned K txs s
-is_concerned_there K txs s h = grind (arith, h)
+is_concerned_there K txs s h =
+    let inside : s < K.shards = grind (arith, h) in
+    let some : is_no_part (part K.shards s 0 txs) ≡ false = grind (arith, h) in
+    (inside, some)
 
 module _ (K : Shape) (mint : List Output) (sound : FullTx → Bool) (capacity : ℕ → ℕ) (files : List (List FullTx)) (E X : ℕ → List Record) (limits : IsWithinLimits K)
     (ample : Ample K sound capacity files E) (way : IsUnderway K (minted mint) sound files E X) (next : ℕ → List Compact → Type 0)

@@ -1,7 +1,7 @@
 use Rattle.std.proofs.Common.{◌∙◌, sym, subst}
 use Rattle.file_runs.specs.Runs.{joined}
 use Rattle.workload.specs.Generator.{mint_of}
-use Rattle.commands.specs.Generated.{all_of, files_of}
+use Rattle.commands.specs.Generated.{all_of}
 use Rattle.commands.specs.InMemory.{AreReady, HaveRoom, TellsRunOf, IsCheckedSound, IsUnchecked}
 use Rattle.commands.proofs.Memory.{are_ready, workload_fits}
 use Rattle.commands.proofs.Generated.{memory_why, came_to, unchecked_why}
@@ -15,8 +15,8 @@ run_files-requires-clause-ready g c =
 pub run_files-requires-clause-room : goal.run_files-requires-clause-room
 run_files-requires-clause-room g c =
     let files = c.deref.ensures.value ∙ c.in-Ok.ensures.clients in
-    subst (λ fs. HaveRoom c.args.shape.now c.in-Ok.field-0.mint fs c.in-Ok-rack_of.rack) (sym files)
-    (subst (λ m. HaveRoom c.args.shape.now m (files_of c.args.seed c.args.count) c.in-Ok-rack_of.rack) (sym c.in-Ok.ensures.mint)
+    subst (λ m. HaveRoom c.args.shape.now m c.deref.result.now c.in-Ok-rack_of.rack) (sym c.in-Ok.ensures.mint)
+    (subst (λ fs. HaveRoom c.args.shape.now (mint_of c.args.seed c.args.count) fs c.in-Ok-rack_of.rack) (sym files)
     (workload_fits c.args.shape.now c.args.seed c.args.count c.requires c.in-Ok-rack_of.rack c.in-Ok-rack_of.ensures.limits c.in-Ok-rack_of.ensures.empty))
 
 pub returns-in-Err-clause-why : goal.returns-in-Err-clause-why
