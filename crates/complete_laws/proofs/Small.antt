@@ -4,6 +4,7 @@ use Rattle.std.specs.List.{filter, flat_map, range_with_len, sum_by}
 use Rattle.std.proofs.lemmas.List.{length-append, length-map}
 use Rattle.std.proofs.lemmas.Bool.{cases_lt, true≢false}
 use Rattle.std.proofs.lemmas.Nat.{div_below}
+use Rattle.std.proofs.Math.Nat.{mul-add}
 use Rattle.cbdc_types.specs.Limits.{IsWithinLimits}
 use Rattle.cbdc_model.specs.Records.{Digest, Shape, Compact, Entry, Record, journal, record_of, txs_of, last_stamp, Genesis, Start}
 use Rattle.cbdc_model.specs.Slots.{Phase, slot, Idle}
@@ -47,7 +48,7 @@ sum_times c f g zero each = omega arith
 sum_times c f g (suc n) each =
     let below : sum_below f n ≤ c * sum_below g n = sum_times c f g n (λ k lt. each k (omega (arith, lt))) in
     let here : f n ≤ c * g n = each n (omega arith) in
-    omega (arith, below, here)
+    omega (arith, below, here, mul-add c (sum_below g n) (g n))
 
 -- what comes at one node is a part of all
 weight_top : (n : ℕ) (cs : List Coming) → weight bytes n cs ≤ total (λ (c : Coming). c.size) cs
@@ -114,7 +115,7 @@ one_sent sound lanes k t file lane =
     ]
 
 all_sent : (sound : FullTx → Bool) (lanes k n : ℕ) (file : List FullTx) → sum_below (sent_count sound lanes k file) n ≤ length file
-all_sent sound lanes k n [] = let none : sum_below (λ lane. 0) n ≡ 0 = sum_none (λ lane. 0) n (λ j lt. refl) in omega (arith, none)
+all_sent sound lanes k n [] = let none : sum_below (sent_count sound lanes k []) n ≡ 0 = sum_none (sent_count sound lanes k []) n (λ j lt. refl) in omega (arith, none)
 all_sent sound lanes k n (t ∷ file) =
     let each : sum_below (sent_count sound lanes k (t ∷ file)) n ≤ sum_below (λ lane. one_at (k % lanes) lane + sent_count sound lanes (suc k) file lane) n
     = sum_le (sent_count sound lanes k (t ∷ file)) (λ lane. one_at (k % lanes) lane + sent_count sound lanes (suc k) file lane) n (λ lane lt. one_sent sound lanes k t file lane) in
@@ -165,13 +166,20 @@ module _ (K : Shape) (lane : ℕ) (txs : List Compact) (few : AreFew txs) (some 
 
   home_none : (n : ℕ) → home_of K lane ≢ n → weight bytes n (at_coordinator K lane txs) ≡ 0
   home_none n apart =
-      elsewhere n (home_of K lane) 6 (42 + sum_by compact_size txs) _ apart (elsewhere n (home_of K lane) 7 (42 + 57 * length txs) _ apart (elsewhere n (home_of K lane) 8 34 _ apart (elsewhere n (home_of K lane) 9 34 [] apart refl)))
+      let last : List Coming = record { node = home_of K lane; kind = 9; size = 34 } ∷ [] in
+      let third : List Coming = record { node = home_of K lane; kind = 8; size = 34 } ∷ (record { node = home_of K lane; kind = 9; size = 34 } ∷ []) in
+      let second : List Coming =
+      record { node = home_of K lane; kind = 7; size = 42 + 57 * length txs } ∷ (record { node = home_of K lane; kind = 8; size = 34 } ∷ (record { node = home_of K lane; kind = 9; size = 34 } ∷ [])) in
+      elsewhere n (home_of K lane) 6 (42 + sum_by compact_size txs) second apart
+      (elsewhere n (home_of K lane) 7 (42 + 57 * length txs) third apart (elsewhere n (home_of K lane) 8 34 last apart (elsewhere n (home_of K lane) 9 34 [] apart refl)))
 
   -- at a shard
   shard_none : (n node : ℕ) (es : List Entry) → node ≢ n → weight bytes n (at_shard node es) ≡ 0
   shard_none n node [] apart = refl
   shard_none n node (e ∷ es) apart =
-      elsewhere n node 2 (42 + sum_by largest_answered (e ∷ es)) _ apart (elsewhere n node 3 (42 + length (e ∷ es)) _ apart (elsewhere n node 4 34 [] apart refl))
+      let last : List Coming = record { node = node; kind = 4; size = 34 } ∷ [] in
+      let second : List Coming = record { node = node; kind = 3; size = 42 + length (e ∷ es) } ∷ (record { node = node; kind = 4; size = 34 } ∷ []) in
+      elsewhere n node 2 (42 + sum_by largest_answered (e ∷ es)) second apart (elsewhere n node 3 (42 + length (e ∷ es)) last apart (elsewhere n node 4 34 [] apart refl))
 
   shard_most : (n node s : ℕ) → weight bytes n (at_shard node (part K.shards s 0 txs)) ≤ 320 * length txs
   shard_most n node s = go (part K.shards s 0 txs) (part_few K.shards s 0 txs few)
@@ -192,14 +200,14 @@ module _ (K : Shape) (lane : ℕ) (txs : List Compact) (few : AreFew txs) (some 
   -- all records of a batch at a coordinator, and at a shard
   at_home : (n : ℕ) → n < K.coordinators → weight bytes n (records_of K lane txs) ≤ 353 * length txs
   at_home n low =
-      let range = weight_range bytes n (λ s. at_shard (shard_node K s) (part K.shards s 0 txs)) K.shards in
-      let none = sum_none (λ s. weight bytes n (at_shard (shard_node K s) (part K.shards s 0 txs))) K.shards (λ s lt. shard_none n (shard_node K s) (part K.shards s 0 txs) (λ h. omega (arith, h, low))) in
+      let range : weight bytes n shards_of ≡ sum_below (λ s. weight bytes n (at_shard (shard_node K s) (part K.shards s 0 txs))) K.shards = weight_range bytes n (λ s. at_shard (shard_node K s) (part K.shards s 0 txs)) K.shards in
+      let none : sum_below (λ s. weight bytes n (at_shard (shard_node K s) (part K.shards s 0 txs))) K.shards ≡ 0 = sum_none (λ s. weight bytes n (at_shard (shard_node K s) (part K.shards s 0 txs))) K.shards (λ s lt. shard_none n (shard_node K s) (part K.shards s 0 txs) (λ h. omega (arith, h, low))) in
       omega (arith, both n, range, none, home_most n)
 
   at_shards : (n : ℕ) → home_of K lane < K.coordinators → K.coordinators ≤ n → weight bytes n (records_of K lane txs) ≤ 320 * length txs
   at_shards n home high =
-      let range = weight_range bytes n (λ s. at_shard (shard_node K s) (part K.shards s 0 txs)) K.shards in
-      let own = single (λ s. weight bytes n (at_shard (shard_node K s) (part K.shards s 0 txs))) (n - K.coordinators) K.shards (320 * length txs)
+      let range : weight bytes n shards_of ≡ sum_below (λ s. weight bytes n (at_shard (shard_node K s) (part K.shards s 0 txs))) K.shards = weight_range bytes n (λ s. at_shard (shard_node K s) (part K.shards s 0 txs)) K.shards in
+      let own : sum_below (λ s. weight bytes n (at_shard (shard_node K s) (part K.shards s 0 txs))) K.shards ≤ 320 * length txs = single (λ s. weight bytes n (at_shard (shard_node K s) (part K.shards s 0 txs))) (n - K.coordinators) K.shards (320 * length txs)
       (λ s apart. shard_none n (shard_node K s) (part K.shards s 0 txs) (λ h. apart (omega (arith, h)))) (shard_most n (shard_node K (n - K.coordinators)) (n - K.coordinators)) in
       let none = home_none n (λ h. omega (arith, h, home, high)) in
       omega (arith, both n, range, own, none)
@@ -252,9 +260,9 @@ files_count sound lanes [] lane = 0
 files_count sound lanes (file ∷ files) lane = sent_count sound lanes 0 file lane + files_count sound lanes files lane
 
 all_counted : (sound : FullTx → Bool) (lanes n : ℕ) (files : List (List FullTx)) → sum_below (files_count sound lanes files) n ≤ all_txs files
-all_counted sound lanes n [] = let none : sum_below (λ lane. 0) n ≡ 0 = sum_none (λ lane. 0) n (λ j lt. refl) in omega (arith, none)
+all_counted sound lanes n [] = let none : sum_below (files_count sound lanes []) n ≡ 0 = sum_none (files_count sound lanes []) n (λ j lt. refl) in omega (arith, none)
 all_counted sound lanes n (file ∷ files) =
-    let both : sum_below (λ lane. sent_count sound lanes 0 file lane + files_count sound lanes files lane) n ≡ sum_below (sent_count sound lanes 0 file) n + sum_below (files_count sound lanes files) n
+    let both : sum_below (files_count sound lanes (file ∷ files)) n ≡ sum_below (sent_count sound lanes 0 file) n + sum_below (files_count sound lanes files) n
     = sum_add (sent_count sound lanes 0 file) (files_count sound lanes files) n in
     let rest : sum_below (files_count sound lanes files) n ≤ all_txs files = all_counted sound lanes n files in
     omega (arith, both, rest, all_sent sound lanes 0 n file)
@@ -275,7 +283,7 @@ planned K sound (file ∷ files) lane some small =
       batches = own.0 ++ rest.batches;
       cut = (own.0, rest.batches, own.1, rest.cut, refl);
       filled = filled_both own.0 rest.batches (filled_cut K.batch (sent_to K sound file lane) own.0 few own.1) rest.filled;
-      count = omega (arith, total-append length own.0 rest.batches, cut_many K.batch (sent_to K sound file lane) own.0 own.1, rest.count);
+      count = let mine : total length own.0 ≡ sent_count sound (K.coordinators * K.lanes) 0 file lane = cut_many K.batch (sent_to K sound file lane) own.0 own.1 in omega (arith, total-append length own.0 rest.batches, mine, rest.count);
     }
 
 -- so much of each batch is so much of all
@@ -285,7 +293,7 @@ filled_weight K lane c n [] filled each = omega arith
 filled_weight K lane c n (b ∷ bs) filled each =
     let rest = filled_weight K lane c n bs filled.2 each in
     let here = each b filled.0 filled.1 in
-    omega (arith, rest, here)
+    omega (arith, rest, here, mul-add c (length b) (total length bs))
 
 length_flat : {X A : Type 0} (f : X → List A) (xs : List X) → length (flat_map f xs) ≡ total (λ x. length (f x)) xs
 length_flat f [] = refl
@@ -324,15 +332,18 @@ first_stamp K m n = elim (nat_lt n K.coordinators) as (λ b. last_stamp ((if b t
   | false ↦ refl
 ]
 
+used_one : (r : Record) → used_of (r ∷ []) ≡ 1 + size_of r
+used_one r = let is : sum_by size_of (r ∷ []) ≡ size_of r + 0 = total_is size_of (r ∷ []) in omega (arith, is)
+
 first_used : (K : Shape) (m : Minted) (n : ℕ) → (n < K.coordinators → used_of (first_record K m n ∷ []) ≤ 99) × (used_of (first_record K m n ∷ []) ≤ 107 + 32 * length m.hashes)
 first_used K m n = go (nat_lt n K.coordinators) refl
   where
     go : (b : Bool) → nat_lt n K.coordinators ≡ b → (n < K.coordinators → used_of ((if b then Start (header_of K m.id n) else Genesis (header_of K m.id n) (on_shard K.shards (n - K.coordinators) m.hashes)) ∷ []) ≤ 99)
         × (used_of ((if b then Start (header_of K m.id n) else Genesis (header_of K m.id n) (on_shard K.shards (n - K.coordinators) m.hashes)) ∷ []) ≤ 107 + 32 * length m.hashes)
-    go true e = ((λ low. omega arith), omega arith)
+    go true e = ((λ low. omega (arith, used_one (Start (header_of K m.id n)))), omega (arith, used_one (Start (header_of K m.id n))))
     go false e = (
       (λ low. absurd (let z : nat_lt n K.coordinators ≡ true = grind (arith, low) in true≢false (sym z ∙ e))),
-      omega (arith, on_few K.shards (n - K.coordinators) m.hashes),
+      omega (arith, used_one (Genesis (header_of K m.id n) (on_shard K.shards (n - K.coordinators) m.hashes)), on_few K.shards (n - K.coordinators) m.hashes),
     )
 
 module _ (K : Shape) (m : Minted) (sound : FullTx → Bool) (capacity : ℕ → ℕ) (files : List (List FullTx)) (limits : IsWithinLimits K) (small : AllSmall files) (bounded : all_txs files ≤ 2 ^ 54)
