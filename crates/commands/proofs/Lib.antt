@@ -27,3 +27,4 @@ pub mod Cut
 pub mod OneText
 pub mod Generated
 pub mod Complete
+pub mod Spared

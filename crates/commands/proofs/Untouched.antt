@@ -78,7 +78,7 @@ module _ {D : Type 0} (content : D → Option (List ℕ)) (images : D → List �
       ⊎_elim
       (λ unopened. ⊎_elim (λ closed. not_unopened held before now a closed)
       (λ other. ⊎_elim (λ unsound. subst (λ b. IsBeforeDisks b → ⊥) (sym unsound.told) (λ none. none)) (λ memory. subst (λ b. IsBeforeDisks b → ⊥) (sym memory) (λ none. none)) other) unopened.0)
-      (λ lane. not_by_lane lane.ledger.shape (next lane.ledger.shape) (λ n. journal n (reverse lane.ledger.rows)) lane.exit (λ n. Rose (before n) (now n)) (λ n c. OfTold (held n) (λ d. c ≡ limit d)) a lane.cause) is
+      (λ lane. not_by_lane lane.ledger.shape (next lane.ledger.shape (λ n. journal n (reverse lane.ledger.rows)) lane.exit) (λ n. journal n (reverse lane.ledger.rows)) lane.exit (λ n. Rose (before n) (now n)) (λ n c. OfTold (held n) (λ d. c ≡ limit d)) a lane.cause) is
 
   -- where a run or a recovery did not come through, all was not done
   pub not_done : (held new : ℕ → Option D) (before now : ℕ → ℕ) (next : Shape → (ℕ → List Record) → (ℕ → List Record) → ℕ → List Compact → Type 0)
@@ -87,7 +87,7 @@ module _ {D : Type 0} (content : D → Option (List ℕ)) (images : D → List �
       ⊎_elim
       (λ unopened. ⊎_elim (λ closed. refused_alone a (unopened_kind content images limit count held before now None a closed))
       (λ other. ⊎_elim (λ unsound. subst (λ b. IsWell b → ⊥) (sym unsound.told) (λ none. none)) (λ memory. subst (λ b. IsWell b → ⊥) (sym memory) (λ none. none)) other) unopened.0)
-      (λ lane. lane_alone lane.ledger.shape (next lane.ledger.shape) (λ n. journal n (reverse lane.ledger.rows)) lane.exit (λ n. Rose (before n) (now n)) (λ n c. OfTold (held n) (λ d. c ≡ limit d)) a lane.cause) is
+      (λ lane. lane_alone lane.ledger.shape (next lane.ledger.shape (λ n. journal n (reverse lane.ledger.rows)) lane.exit) (λ n. journal n (reverse lane.ledger.rows)) lane.exit (λ n. Rose (before n) (now n)) (λ n c. OfTold (held n) (λ d. c ≡ limit d)) a lane.cause) is
 
   -- what it leaves
   pub turns_leave : (held new : ℕ → Option D) (before now : ℕ → ℕ) (next : Shape → (ℕ → List Record) → (ℕ → List Record) → ℕ → List Compact → Type 0)

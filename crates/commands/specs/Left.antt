@@ -8,7 +8,7 @@ use Rattle.cbdc_model.specs.Records.{Shape, Record}
 use Rattle.cbdc_model.specs.Coins.{Output, FullTx}
 use Rattle.command_line.specs.declared.request.FileWord.{FileWord}
 use Rattle.command_line.specs.declared.request.Request.{Request}
-use Rattle.command_line.specs.declared.request.Request.TheVariants.{Init, Run, Recover, Status, Audit}
+use Rattle.command_line.specs.declared.request.Request.TheVariants.{Init, Run, Recover, Status, Audit, Gen, Show}
 use Rattle.input_files.specs.Contents.{mint_of_file, AreRead}
 use Rattle.rack_nodes.specs.Racked.{IsBack}
 use Rattle.rack_laws.specs.Shown.{OfShown}
@@ -46,3 +46,9 @@ Leaves files content images limit before now Recover answer = TurnsLeave content
 Leaves files content images limit before now (Status hashes) answer = (n : ℕ) → IsBack images limit (before n) (now n)
 Leaves files content images limit before now (Audit mint clients) answer = (n : ℕ) → IsBack images limit (before n) (now n)
 Leaves files content images limit before now other answer = Unit {0}
+
+-- what is asked is about no rack: a workload in memory, or a text that is shown
+abbrev pub IsOfNoRack : Request → Type 0
+IsOfNoRack (Gen shape seed size) = Unit {0}
+IsOfNoRack (Show text) = Unit {0}
+IsOfNoRack other = ⊥

@@ -2,3 +2,4 @@ mod devices;
 mod disks;
 mod journals;
 mod records;
+mod shards;

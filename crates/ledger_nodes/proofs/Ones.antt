@@ -1,5 +1,5 @@
 -- What comes of a list of one lane is what comes of the lane.
-use Rattle.std.proofs.Common.{◌≡◌, ◌≢◌, ◌⊎◌, inl, inr, ℕ, Bool, List, [], ◌∷◌, ◌++◌, length, Result, Ok, Err, IfOk, IfErr, OnOk, refl, sym, ap, ◌∙◌, subst, arith}
+use Rattle.std.proofs.Common.{◌≡◌, ◌≢◌, ◌⊎◌, inl, inr, ℕ, Bool, List, [], ◌∷◌, ◌++◌, length, get_or, Result, Ok, Err, IfOk, IfErr, OnOk, refl, sym, ap, ◌∙◌, subst, arith}
 use Rattle.std.specs.List.{All, AllZip}
 use Rattle.std.proofs.lemmas.List.{length-append}
 use Rattle.std.proofs.lemmas.List.Elements.{All-nil, All-cons, All-head}
@@ -57,7 +57,7 @@ stopped_one K alone o log log' I J e among = go among.before among.batches among
         (subst (λ x. IsResumeStopped K alone among.stopped_at x I log' J e) same (subst (λ x. IsResumeStopped K alone among.stopped_at among.log_there x log' J e) shards_same among.stopped))
       where
         head_is : o ∷ [] ≡ among.stopped_at ∷ among.behind → o ≡ among.stopped_at
-        head_is refl = refl
+        head_is is_one = ap (λ l. get_or l 0 o) is_one
     go [] (b ∷ bs) is taken = absurd taken
     go (p ∷ ps) bs is taken = absurd (omega (arith, ap length is, length-append ps (among.stopped_at ∷ among.behind)))
 

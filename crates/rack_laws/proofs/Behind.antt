@@ -286,7 +286,7 @@ module _ {D : Type 0} (content : D → Option (List ℕ)) (images : D → List �
   rooms_each held h logs shards is log_rooms shard_rooms logs_back shards_back =
       by_node h.shape (λ n. OfTold (held n) (λ d. Here (journals_of count limit h.shape logs shards n) d)) at_log at_shard
     where
-      abbrev Here : List Record → D → Type 0
+      Here : List Record → D → Type 0
       Here J d = used_of J + kept_room h.shape J ≤ limit d
 
       at_log : (n : ℕ) → n < h.shape.coordinators → OfTold (held n) (λ d. Here (journals_of count limit h.shape logs shards n) d)

@@ -1,7 +1,10 @@
 // The worked rows of runs: one coordinator, one shard, one lane, batches of 16. The mint is one coin of 100.
 use cbdc_types::FullTx;
 use identifiers::tx_id;
-use row_making::{Ran, claims, client, good, made, paid, pays, play, sixty_forty, spends, used};
+use row_making::{
+    Ran, bytes_of, claims, client, genesis, good, made, mint, paid, pays, play, sixty_forty,
+    spends, two_disks, used,
+};
 use std::alloc::{AllocError, Global};
 use std::process::Abort;
 use std::sync::Wait;
@@ -87,15 +90,15 @@ fn two_spenders_in_two_runs(rt: HostRuntime) -> Result<(), Fail> {
     Ok(())
 }
 
-// Runs two client files of one transaction each over a new ledger, in one run, with good verdicts on the inputs of these.
+// Runs two client files over a new ledger, in one run, with good verdicts on the inputs of these.
 fn in_two_files<W: Wait>(
     rt: &W,
     alloc: Global,
-    first: &FullTx,
-    second: &FullTx,
+    first: &[&FullTx],
+    second: &[&FullTx],
     known: &[&FullTx],
 ) -> Result<Ran, AllocError> {
-    let (one, two) = (client(alloc, &[first])?, client(alloc, &[second])?);
+    let (one, two) = (client(alloc, first)?, client(alloc, second)?);
     let lines = good(alloc, known)?;
     let rack = made(rt, alloc, 10_000, 10_000)?;
     let words = ["run", "--verdicts", "v", "c", "d"];
@@ -108,7 +111,7 @@ fn in_two_files<W: Wait>(
 fn two_spenders_in_two_files(rt: HostRuntime) -> Result<(), Fail> {
     let alloc = rt.alloc();
     let (tx, other) = (sixty_forty(alloc)?, whole(alloc)?);
-    let run = in_two_files(&rt, alloc, &tx, &other, &[&tx, &other])?;
+    let run = in_two_files(&rt, alloc, &[&tx], &[&other], &[&tx, &other])?;
     let text =
         "1 0 95dc87bd021f95fe4232b14028e3332879a437b67d6eaaf9a6510670e422cc2f confirmed 0 1\n2 0 18a18a0961b2e87d125720b33669f007226725e25988328f9a9f63772f3ca1c3 rejected missing 866fbe7a1335a2e2e2ec97861a6980fc2f1314dd1bbc6d33f73d184a9e1807bc 0 0 2\nresumed 0\nbatches 2\nconfirmed 1\nrejected 1\nrefused 0\nunspent 2\n";
     told(&rt, &run, 0, text);
@@ -120,7 +123,7 @@ fn two_spenders_in_two_files(rt: HostRuntime) -> Result<(), Fail> {
 fn the_same_transaction_in_two_files(rt: HostRuntime) -> Result<(), Fail> {
     let alloc = rt.alloc();
     let tx = sixty_forty(alloc)?;
-    let run = in_two_files(&rt, alloc, &tx, &tx, &[&tx])?;
+    let run = in_two_files(&rt, alloc, &[&tx], &[&tx], &[&tx])?;
     let text =
         "1 0 95dc87bd021f95fe4232b14028e3332879a437b67d6eaaf9a6510670e422cc2f confirmed 0 1\n2 0 95dc87bd021f95fe4232b14028e3332879a437b67d6eaaf9a6510670e422cc2f rejected missing 866fbe7a1335a2e2e2ec97861a6980fc2f1314dd1bbc6d33f73d184a9e1807bc 0 0 2\nresumed 0\nbatches 2\nconfirmed 1\nrejected 1\nrefused 0\nunspent 2\n";
     told(&rt, &run, 0, text);
@@ -133,7 +136,7 @@ fn an_output_spent_in_a_later_file(rt: HostRuntime) -> Result<(), Fail> {
     let alloc = rt.alloc();
     let tx = sixty_forty(alloc)?;
     let next = pays(alloc, &[spends(tx_id(&tx), 0, (2, 60))], &[(5, 60)])?;
-    let run = in_two_files(&rt, alloc, &tx, &next, &[&tx, &next])?;
+    let run = in_two_files(&rt, alloc, &[&tx], &[&next], &[&tx, &next])?;
     let text =
         "1 0 95dc87bd021f95fe4232b14028e3332879a437b67d6eaaf9a6510670e422cc2f confirmed 0 1\n2 0 215b40eaed9285d724ea6a36278d5bd86e7c4695764770784946ebccdc7784c8 confirmed 0 2\nresumed 0\nbatches 2\nconfirmed 2\nrejected 0\nrefused 0\nunspent 2\n";
     told(&rt, &run, 0, text);
@@ -155,6 +158,19 @@ fn an_output_spent_in_its_own_batch(rt: HostRuntime) -> Result<(), Fail> {
     let text =
         "1 0 215b40eaed9285d724ea6a36278d5bd86e7c4695764770784946ebccdc7784c8 confirmed 0 2\nresumed 0\nbatches 1\nconfirmed 1\nrejected 0\nrefused 0\nunspent 2\n";
     told(&rt, &later, 0, text);
+    Ok(())
+}
+
+/// Both in one file, and the later spender alone in a second file of the same run: missing in its own batch, confirmed in the next.
+#[test]
+fn an_output_spent_in_its_own_batch_and_in_the_next_file(rt: HostRuntime) -> Result<(), Fail> {
+    let alloc = rt.alloc();
+    let tx = sixty_forty(alloc)?;
+    let next = pays(alloc, &[spends(tx_id(&tx), 0, (2, 60))], &[(5, 60)])?;
+    let run = in_two_files(&rt, alloc, &[&tx, &next], &[&next], &[&tx, &next])?;
+    let text =
+        "1 0 95dc87bd021f95fe4232b14028e3332879a437b67d6eaaf9a6510670e422cc2f confirmed 0 1\n1 1 215b40eaed9285d724ea6a36278d5bd86e7c4695764770784946ebccdc7784c8 rejected missing c49d41e772da3d66ee9f973c0c26810b7263fab2b96c7a97fdaa8c778bc6a2b7 0 0 1\n2 0 215b40eaed9285d724ea6a36278d5bd86e7c4695764770784946ebccdc7784c8 confirmed 0 2\nresumed 0\nbatches 2\nconfirmed 2\nrejected 1\nrefused 0\nunspent 2\n";
+    told(&rt, &run, 0, text);
     Ok(())
 }
 
@@ -229,5 +245,66 @@ fn nothing_to_recover(rt: HostRuntime) -> Result<(), Fail> {
     told(&rt, &recovered, 0, "resumed 0\nunspent 2\n");
     assert_eq!(rt; used(&recovered.rack, 0), 396);
     assert_eq!(rt; used(&recovered.rack, 1), 411);
+    Ok(())
+}
+
+// How many bytes the body of the record at this gate has.
+fn length_at(bytes: &[u8], gate: usize) -> usize {
+    let low = bytes.get(gate.saturating_add(1)).copied().unwrap_or(0);
+    let high = bytes.get(gate.saturating_add(2)).copied().unwrap_or(0);
+    usize::from(high) * 256 + usize::from(low)
+}
+
+// Where the gate behind so many records stands, from this gate on.
+fn behind(bytes: &[u8], gate: usize, records: usize) -> usize {
+    let mut at = gate;
+    for _ in 0..records {
+        at = at.saturating_add(9).saturating_add(length_at(bytes, at));
+    }
+    at
+}
+
+// The lanes of the batches in a coordinator's journal, in order, where each batch has its four records one behind the other: the lane's number
+// stands behind gate, length, kind and stamp.
+fn lanes_of(alloc: Global, bytes: &[u8], batches: usize) -> Result<Vec<u8>, AllocError> {
+    let mut lanes = Vec::new(alloc);
+    let mut at = behind(bytes, 0, 1);
+    for _ in 0..batches {
+        lanes.push(bytes.get(at.saturating_add(18)).copied().unwrap_or(255))?;
+        at = behind(bytes, at, 4);
+    }
+    Ok(lanes)
+}
+
+// A transaction for each of four coins of 100.
+fn four_payments(alloc: Global) -> Result<Vec<FullTx>, AllocError> {
+    let id = genesis(alloc, &FOUR)?;
+    let mut all = Vec::new(alloc);
+    for index in 0..4u64 {
+        all.push(pays(alloc, &[spends(id, index, (1, 100))], &[(2, 100)])?)?;
+    }
+    Ok(all)
+}
+
+const FOUR: [(u8, u64); 4] = [(1, 100), (1, 100), (1, 100), (1, 100)];
+
+/// Two lanes with two batches each take turns, a batch a turn: the lesser lane first.
+#[test]
+fn lanes_take_turns(rt: HostRuntime) -> Result<(), Fail> {
+    let alloc = rt.alloc();
+    let bytes = mint(alloc, &FOUR)?;
+    let disks = two_disks(alloc, 10_000, 10_000)?;
+    let words = ["init", "--lanes", "2", "--batch", "1", "m"];
+    let made = play(&rt, alloc, disks, &words, &[("m", &bytes)])?;
+    let txs = four_payments(alloc)?;
+    let mut handed = Vec::new(alloc);
+    for tx in &txs {
+        handed.push(tx)?;
+    }
+    let run = paid(&rt, alloc, made.rack, &handed)?;
+    assert_eq!(rt; run.status, 0);
+    let journal = bytes_of(alloc, &run.rack, 0)?;
+    let lanes = lanes_of(alloc, &journal, 4)?;
+    assert_eq!(rt; lanes.as_slice(), [0u8, 1, 0, 1].as_slice());
     Ok(())
 }

@@ -211,7 +211,7 @@ module _ {D : Type 0} {G : Ghosts D} where
                     same_lock (journal_of p) (N ∷ journal_of p) lane (vec_capacity m) (past_lock (journal_of p) (next_stamp (journal_of p) c.cause) c.batch (answered (journal_of p) c.batch [] c.part) lane apart)
                     (sound.decisions lane m (t.others lane m (λ e. apart (sym e)) get))
               ] in
-              wrote mid new N (record { header = s.header; stands = s.stands; journal = s.journal; shard = s.shard; limits = s.limits; lanes = s.lanes; opened = s.opened }) w2 after used
+              wrote mid new N (record { header = s.header; stands = s.stands; journal = s.journal; shard = s.shard; limits = s.limits; lanes = s.lanes; opened = s.opened; room = s.room }) w2 after used
               (omega (arith, total, keeps, size_is, len_is, kept_is, kept_now, used_now, grown, ap G.limit t.untouched.disk))
               (subst (λ (l : List Record). HaveDecisions (N ∷ l) memory.items) (sym same) decisions) ((76 + len + kept) / 34 + 1)
               (record { records = omega (arith, room.records); body = omega (arith, room.body, enough); row = omega (arith, room.row, enough) })

@@ -7,6 +7,7 @@ use Rattle.commands.specs.Outcomes.{Why}
 use Rattle.commands.proofs.Answers.{told_by}
 use Rattle.commands.proofs.Named.{answered}
 use Rattle.commands.proofs.Naming.{asked_name}
+use Rattle.commands.proofs.Spared.{of_no_rack}
 use Rattle.outside.specs.Counts.{Rose}
 use Rattle.word_laws.proofs.Refused.{asked_law}
 use Rattle.commands.proofs.top.answer_words.Goals as goal
@@ -32,3 +33,6 @@ pub returns-in-Ok-clause-named : goal.returns-in-Ok-clause-named
 returns-in-Ok-clause-named g c =
     asked_name (texts c.args.words.now) c.in-Ok.request (g.I.Inbox.count c.args.inbox.now) (g.I.Inbox.count c.answer_to-status.new.inbox) (Rose (g.O.Sink.count c.args.out.now) (g.O.Sink.count c.answer_to-status.new.out)) c.name_of-name.result.now c.answer_to-status.result
     c.in-Ok.ensures.asked c.answer_to-status.ensures.cause c.name_of-name.ensures
+
+pub returns-in-Ok-clause-spared : goal.returns-in-Ok-clause-spared
+returns-in-Ok-clause-spared g c r asked of = c.answer_to-status.ensures.spared (of_no_rack (texts c.args.words.now) r c.in-Ok.request asked c.in-Ok.ensures.asked of)

@@ -137,13 +137,13 @@ pub returns-in-Err-push-clause-least : goal.returns-in-Err-push-clause-least
 returns-in-Err-push-clause-least g c =
     let is = c.files.invariant in
     unbegun_files (g.L.Turns.shape c.args.ledger.now) (g.V.Verifier.verdict_of c.args.verifier.now) c.args.files.now (c.files.txs-index + 1) (g.L.Turns.journals c.args.ledger.now) (g.L.Turns.journals c.run_file.new.ledger)
-    (HaveFailed (g.L.Turns.opened c.run_file.new.ledger) (g.L.Turns.faults c.run_file.new.ledger)) (MayHold (g.L.Turns.capacity c.run_file.new.ledger)) c.no_memory.result
+    (HaveFailed (g.L.Turns.opened c.run_file.new.ledger) (g.L.Turns.faults c.run_file.new.ledger)) (MayHold (g.L.Turns.capacity c.run_file.new.ledger)) c.no_memory-in-Err-push.result
     (λ n. end_trans (g.L.Turns.journals c.args.ledger.now n) (g.L.Turns.journals c.files.ledger n) (g.L.Turns.journals c.run_file.new.ledger n) (is.grows n) (c.run_file.ensures.grows n))
     (file_prepared (g.L.Turns.shape c.args.ledger.now) (g.L.Turns.shape c.files.ledger) (g.V.Verifier.verdict_of c.args.verifier.now) c.args.files.now c.files.txs-index c.as_slice.result.now
     (g.L.Turns.journals c.args.ledger.now) (g.L.Turns.journals c.files.ledger) (g.L.Turns.journals c.run_file.new.ledger)
-    is.shape c.files-test.true (subst (λ f. f ≡ get_or c.args.files.now c.files.txs-index f) (sym c.as_slice.ensures) c.txs-item.is) is.prepared c.in-Ok.ensures.prepared)
-    (subst (λ k. AreIdle k (g.L.Turns.journals c.run_file.new.ledger)) is.shape c.in-Ok.ensures.idle)
-    (ap (λ e. e.fault) c.no_memory.ensures)
+    is.shape c.files-test.true (subst (λ f. f ≡ get_or c.args.files.now c.files.txs-index f) (sym c.as_slice.ensures) c.txs-item.is) is.prepared c.in-Ok-run_file.ensures.prepared)
+    (subst (λ k. AreIdle k (g.L.Turns.journals c.run_file.new.ledger)) is.shape c.in-Ok-run_file.ensures.idle)
+    (ap (λ e. e.fault) c.no_memory-in-Err-push.ensures)
 
 pub returns-in_default-clause-begun : goal.returns-in_default-clause-begun
 returns-in_default-clause-begun g c = files_unbegun (g.L.Turns.shape c.args.ledger.now) (g.V.Verifier.verdict_of c.args.verifier.now) c.args.files.now (g.L.Turns.journals c.args.ledger.now)

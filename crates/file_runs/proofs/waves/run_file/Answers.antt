@@ -107,7 +107,7 @@ pub returns-in_default-clause-least : goal.returns-in_default-clause-least
 returns-in_default-clause-least g c = inl (ap (λ e. e.fault) c.no_memory.ensures, λ n. refl)
 
 pub returns-in_default-lanes_of-clause-least : goal.returns-in_default-lanes_of-clause-least
-returns-in_default-lanes_of-clause-least g c = inl (ap (λ e. e.fault) c.no_memory.ensures, λ n. refl)
+returns-in_default-lanes_of-clause-least g c = inl (ap (λ e. e.fault) c.no_memory-in_default-lanes_of.ensures, λ n. refl)
 
 pub returns-in-Some-clause-least : goal.returns-in-Some-clause-least
 returns-in-Some-clause-least g c =

@@ -129,7 +129,7 @@ returns-clause-told g c =
     (λ _ _. TellsRun l.header.shape v c.args.files.now (journals_of g.D.Disk.count g.D.Disk.limit l.header.shape l.logs l.shards) N o.resumed.items o.waves.items)) lent told)))
 
 pub returns-clause-unspent : goal.returns-clause-unspent
-returns-clause-unspent g c = subst (λ xs. IfOk c.came_of-came.result (λ r. CountAll (map (λ s. s.journal) xs) r.unspent)) c.as_slice-came.ensures.value c.came_of-came.ensures.unspent
+returns-clause-unspent g c = subst (λ xs. IfOk c.came_of-came.result (λ r. CountAll (map (λ s. s.journal) xs) r.unspent)) c.as_slice-3.ensures.value c.came_of-came.ensures.unspent
 
 pub run_over-over-requires-clause-checked : goal.run_over-over-requires-clause-checked
 run_over-over-requires-clause-checked g c = subst (λ l. AreChecked g.D.Disk.count g.D.Disk.limit l.header.shape l.logs l.shards) (sym c.lend-lent.ensures) c.requires.checked

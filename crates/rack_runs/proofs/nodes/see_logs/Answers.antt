@@ -9,7 +9,7 @@ use Rattle.rack_runs.proofs.nodes.see_logs.Goals as goal
 pub logs-preserved : goal.logs-preserved
 logs-preserved g c =
     let told = c.header-header.ensures in
-    let room = subst (λ n. used_of c.log.now.journal + kept_room c.log.now.header.shape c.log.now.journal ≤ n) told.capacity told.room in
+    let room = subst (λ n. used_of c.log-item.result.journal + kept_room c.log-item.result.header.shape c.log-item.result.journal ≤ n) told.capacity told.room in
     record {
       counts = All-more (λ x. x.faults ≡ g.D.Disk.count x.disk) c.args.logs.now c.logs.log-index c.log-item.result c.logs-test.true c.logs.invariant.counts
           (subst (λ x. x.faults ≡ g.D.Disk.count x.disk) c.log-item.is told.count);

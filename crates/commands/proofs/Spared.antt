@@ -1,0 +1,22 @@
+-- What the words ask for is of no rack, whichever request they are read as.
+use Rattle.line_text.specs.Lines.{Text}
+use Rattle.std.specs.Prelude.{List}
+use Rattle.command_line.specs.Asked.{IsAsked}
+use Rattle.command_line.specs.declared.request.Request.{Request}
+use Rattle.command_line.specs.declared.request.Request.TheVariants.{Init, Run, Recover, Status, Audit, Gen, Show}
+use Rattle.word_laws.specs.Single.{AreAlike}
+use Rattle.word_laws.proofs.Single.{one_request_law}
+use Rattle.commands.specs.Left.{IsOfNoRack}
+
+alike_spared : (r other : Request) → AreAlike r other → IsOfNoRack r → IsOfNoRack other
+alike_spared (Gen shape seed size) (Gen kind number count) alike of = tt
+alike_spared (Show text) (Show other) alike of = tt
+alike_spared (Init shape mint) _ alike of = absurd of
+alike_spared (Run verdicts clients) _ alike of = absurd of
+alike_spared Recover _ alike of = absurd of
+alike_spared (Status hashes) _ alike of = absurd of
+alike_spared (Audit mint clients) _ alike of = absurd of
+alike_spared _ _ alike of = absurd alike
+
+pub of_no_rack : (words : List Text) (r other : Request) → IsAsked words r → IsAsked words other → IsOfNoRack r → IsOfNoRack other
+of_no_rack words r other asked also of = alike_spared r other (one_request_law words r other asked also) of
