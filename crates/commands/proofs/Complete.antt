@@ -1,5 +1,5 @@
 -- Where nothing hinders what is asked, it is done, unless memory runs out.
-use Rattle.std.proofs.Common.{◌≡◌, ◌⊎◌, inl, inr, ℕ, List, [], Option, Some, None, Ok, refl, sym, ap, subst}
+use Rattle.std.proofs.Common.{◌≡◌, ◌⊎◌, inl, inr, ℕ, Bool, List, [], Option, Some, None, Ok, refl, sym, ap, subst}
 use Rattle.outside.specs.Images.{Tells}
 use Rattle.line_text.specs.Lines.{Text}
 use Rattle.cbdc_types.specs.declared.answer.Answer.{Answer}

@@ -6,7 +6,7 @@ use Rattle.cbdc_types.specs.Limits.{IsWithinLimits}
 use Rattle.cbdc_types.specs.declared.answer.Answer.{Answer}
 use Rattle.cbdc_types.specs.declared.answer.Answer.TheVariants as answers
 use Rattle.cbdc_types.specs.declared.answer.UnsoundKind.{UnsoundKind}
-use Rattle.cbdc_model.specs.Records.{Digest, Shape, Compact, Record, Row, journal}
+use Rattle.cbdc_model.specs.Records.{Shape, Record, Row, journal}
 use Rattle.cbdc_model.specs.Coins.{Output, FullTx, genesis_id}
 use Rattle.cbdc_model.specs.Due.{used_of}
 use Rattle.cbdc_model.specs.History.{header_of}

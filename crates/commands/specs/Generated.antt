@@ -1,22 +1,16 @@
 -- What `gen` comes to: a ledger of the workload's mint is made in nodes of its own, the workload's files are run over it, and it is audited.
 use Rattle.std.specs.List.{range_with_len}
-use Rattle.std.specs.Prelude.{◌≡◌, ◌⊎◌, ◌+◌, ◌-◌, ◌*◌, ◌/◌, ◌++◌, ℕ, zero, suc, length, List, reverse, Some}
+use Rattle.std.specs.Prelude.{◌≡◌, ◌⊎◌, ◌+◌, ◌-◌, ◌*◌, ◌/◌, ◌++◌, ℕ, zero, suc, length, List, reverse}
 use Rattle.line_text.specs.Lines.{Text, summary_text}
 use Rattle.cbdc_types.specs.declared.answer.Answer.{Answer}
 use Rattle.cbdc_types.specs.declared.answer.Answer.TheVariants as answers
 use Rattle.cbdc_types.specs.declared.answer.UnsoundKind.{UnsoundKind}
 use Rattle.cbdc_model.specs.Records.{Shape, Record, Row, journal}
-use Rattle.cbdc_model.specs.Coins.{Output, FullTx, genesis_id}
+use Rattle.cbdc_model.specs.Coins.{Output, FullTx}
 use Rattle.cbdc_model.specs.Clean.{Clean}
 use Rattle.cbdc_model.specs.History.{IsOrdered}
-use Rattle.cbdc_model.specs.Lanes.{IsEnd}
 use Rattle.cbdc_model.specs.World.{KeptJournals}
 use Rattle.cbdc_model.specs.Waves.{Waves, share}
-use Rattle.plain_rack.specs.declared.plain_rack.PlainRack.{PlainRack}
-use Rattle.plain_rack.specs.Places.{faults_at}
-use Rattle.plain_rack.specs.Racks.{disk_at, bytes_told, bytes_left, room_of, faults_of}
-use Rattle.rack_laws.specs.Shown.{Shows}
-use Rattle.rack_ledgers.specs.Ledgers.{IsUnopenedBy}
 use Rattle.sound_laws.specs.SoundTest.{sound_by}
 use Rattle.audit.specs.declared.verdict.Totals.{Totals}
 use Rattle.audit.specs.declared.verdict.Verdict.{Verdict}

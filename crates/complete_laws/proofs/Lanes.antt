@@ -4,15 +4,12 @@ use Rattle.outside.specs.Counts.{Rose}
 use Rattle.cbdc_types.specs.Limits.{IsWithinLimits}
 use Rattle.cbdc_types.specs.declared.answer.Answer.{Answer}
 use Rattle.cbdc_types.specs.declared.answer.Answer.TheVariants as answers
-use Rattle.cbdc_model.specs.Records.{Shape, Batch, Compact, Record, journal, record_of, stamp_of, Prepare}
+use Rattle.cbdc_model.specs.Records.{Shape, Compact, Record, journal, record_of, Prepare}
 use Rattle.cbdc_model.specs.Slots.{slot}
 use Rattle.cbdc_model.specs.Ranges.{home_of, shard_node, part, is_no_part, Concerned}
-use Rattle.cbdc_model.specs.Room.{need_of}
-use Rattle.cbdc_model.specs.Due.{used_of, prepare_record, lock_record}
-use Rattle.cbdc_model.specs.Coins.{Output, FullTx, genesis_id}
+use Rattle.cbdc_model.specs.Coins.{Output, FullTx}
 use Rattle.cbdc_model.specs.History.{minted}
 use Rattle.cbdc_model.specs.Lanes.{IsEnd}
-use Rattle.cbdc_model.specs.World.{KeptJournals}
 use Rattle.lane_laws.specs.Calls.{is_concerned}
 use Rattle.run_laws.proofs.Checked.{kept_is_checked_law}
 use Rattle.ample_laws.specs.Ample.{Ample, AreCut}

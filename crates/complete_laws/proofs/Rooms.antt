@@ -1,5 +1,5 @@
 -- Room for what is kept for a ledger's open batches.
-use Rattle.std.proofs.Common.{ℕ, ◌<◌, ◌≤◌, Bool, List, arith}
+use Rattle.std.proofs.Common.{ℕ, ◌<◌, ◌≤◌, le_trans, Bool, List, [], ◌∷◌, length, reverse, ap, ◌∙◌, length-append, arith}
 use Rattle.std.specs.Prelude.{All}
 use Rattle.std.proofs.lemmas.List.Elements.{All-nil, All-cons}
 use Rattle.cbdc_types.specs.Limits.{IsWithinLimits}

@@ -1,5 +1,5 @@
 -- Room on a new ledger for small transactions.
-use Rattle.std.proofs.Common.{◌≡◌, ◌≢◌, ◌⊎◌, inl, inr, ℕ, zero, suc, ◌+◌, ◌-◌, ◌*◌, ◌/◌, ◌%◌, ◌^◌, ◌<◌, ◌≤◌, Bool, true, false, max, nat_lt, ◌&&◌, ◌==◌, cond, if◌then◌else◌, List, [], ◌∷◌, ◌++◌, length, map, take, drop, is_some, not, length-take, length-drop, refl, sym, ap, ◌∙◌, subst, arith}
+use Rattle.std.proofs.Common.{◌≡◌, ◌≢◌, ◌⊎◌, inl, inr, ℕ, zero, suc, ◌+◌, ◌-◌, ◌*◌, ◌/◌, ◌%◌, ◌^◌, ◌<◌, ◌≤◌, Bool, true, false, nat_lt, ◌&&◌, ◌==◌, cond, if◌then◌else◌, List, [], ◌∷◌, ◌++◌, length, map, take, drop, is_some, not, length-take, length-drop, refl, sym, ap, ◌∙◌, subst, arith}
 use Rattle.std.specs.List.{filter, flat_map, range_with_len, sum_by}
 use Rattle.std.proofs.lemmas.List.{length-append, length-map}
 use Rattle.std.proofs.lemmas.Bool.{cases_lt, true≢false}
@@ -7,7 +7,7 @@ use Rattle.std.proofs.lemmas.Nat.{div_below}
 use Rattle.std.proofs.Math.Nat.{mul-add}
 use Rattle.cbdc_types.specs.Limits.{IsWithinLimits}
 use Rattle.cbdc_model.specs.Records.{Digest, Shape, Compact, Entry, Record, journal, record_of, txs_of, last_stamp, Genesis, Start}
-use Rattle.cbdc_model.specs.Slots.{Phase, slot, Idle}
+use Rattle.cbdc_model.specs.Slots.{slot, Idle}
 use Rattle.cbdc_model.specs.Ranges.{home_of, shard_node, shard_of, on_shard, is_empty, entry_of, part}
 use Rattle.cbdc_model.specs.Causes.{greatest}
 use Rattle.cbdc_model.specs.Next.{is_idle}
@@ -21,7 +21,7 @@ use Rattle.ledger_laws.proofs.FirstJournals.{first_is}
 use Rattle.input_files.specs.Contents.{all_txs}
 use Rattle.ample_laws.specs.Ample.{Coming, Ample, AreCut, largest_answered, at_coordinator, at_shard, records_of, unwritten, still_to_come, bytes_at}
 use Rattle.ample_laws.proofs.Sums.{Yes, No, same_nat, total, total_is, total-append, sum_below, sum_le, sum_add, sum_none, one_at, once_below, total_range}
-use Rattle.ample_laws.proofs.Scales.{bytes, ones}
+use Rattle.ample_laws.proofs.Scales.{bytes}
 use Rattle.ample_laws.proofs.Weights.{weight, weight-append, weight_flat, weight_range}
 use Rattle.ledger_runs.proofs.Preparing.{cut_of}
 use Rattle.complete_laws.specs.Small.{AreSmall, AllSmall, HasNewRoom, NewRoomLaw}
