@@ -6,6 +6,8 @@ use Rattle.cbdc_model.specs.Records.{Digest, Shape, Header, Record}
 use Rattle.cbdc_model.specs.History.{header_of}
 use Rattle.cbdc_model.specs.Ranges.{shard_of}
 use Rattle.cbdc_model.specs.Status.{status}
+use Rattle.cbdc_model.specs.Room.{kept_room}
+use Rattle.cbdc_model.specs.Due.{used_of}
 use Rattle.coord_log.specs.Logs.{LogOf}
 use Rattle.line_text.specs.Lines.{Text}
 use Rattle.line_text.specs.Reports.{status_line}
@@ -78,6 +80,30 @@ module _ {D : Type 0} (content : D → Option (List ℕ)) (images : D → List �
           subst (λ (J : List Record). IsNodeJournal (header_of h.shape h.genesis n) J c) (sym (journal_high h.shape logs shards n high ∙ journal_some (λ (s : ShardOf D). s.journal) shards (n - h.shape.coordinators) x.0 x.1))
           (subst (λ (k : Header). IsNodeJournal k x.0.journal c) (shard.header ∙ ap (header_of h.shape h.genesis) place) own)
 
+  -- and each disk has room for that journal and for what is kept for its open batches
+  pub node_room : (n : ℕ) → n < node_count h.shape → OfTold (held n) (λ was. used_of (journals_at h.shape logs shards n) + kept_room h.shape (journals_at h.shape logs shards n) ≤ limit was)
+  node_room n inside = go (nat_lt n h.shape.coordinators) refl
+    where
+      go : (b : _) → nat_lt n h.shape.coordinators ≡ b → OfTold (held n) (λ was. used_of (journals_at h.shape logs shards n) + kept_room h.shape (journals_at h.shape logs shards n) ≤ limit was)
+      go true t = λ was is.
+          let low : n < h.shape.coordinators = ltb-true n h.shape.coordinators t in
+          let x = at_place logs n (omega (arith, low, are.coordinators)) in
+          let log = are.logs_at n x.0 x.1 in
+          let own : used_of x.0.journal + kept_room x.0.header.shape x.0.journal ≤ limit was =
+          subst (λ m. used_of x.0.journal + kept_room x.0.header.shape x.0.journal ≤ m) (log.capacity ∙ (log.opened was is).read.room) log.room in
+          let here : used_of x.0.journal + kept_room h.shape x.0.journal ≤ limit was = subst (λ k. used_of x.0.journal + kept_room k x.0.journal ≤ limit was) (ap (λ k. k.shape) log.header) own in
+          subst (λ (J : List Record). used_of J + kept_room h.shape J ≤ limit was) (sym (journal_low h.shape logs shards n low ∙ journal_some (λ (l : LogOf D). l.journal) logs n x.0 x.1)) here
+      go false t = λ was is.
+          let high : h.shape.coordinators ≤ n = ltb-false n h.shape.coordinators t in
+          let place : h.shape.coordinators + (n - h.shape.coordinators) ≡ n = omega (arith, high) in
+          let x = at_place shards (n - h.shape.coordinators) (omega (arith, high, inside, are.shards_are)) in
+          let shard = are.shards_at (n - h.shape.coordinators) x.0 x.1 in
+          let own : used_of x.0.journal + kept_room x.0.header.shape x.0.journal ≤ limit was =
+          subst (λ m. used_of x.0.journal + kept_room x.0.header.shape x.0.journal ≤ m) ((shard.opened was (ap held place ∙ is)).read.room) shard.room in
+          let here : used_of x.0.journal + kept_room h.shape x.0.journal ≤ limit was = subst (λ k. used_of x.0.journal + kept_room k x.0.journal ≤ limit was) (ap (λ k. k.shape) shard.header) own in
+          subst (λ (J : List Record). used_of J + kept_room h.shape J ≤ limit was)
+          (sym (journal_high h.shape logs shards n high ∙ journal_some (λ (s : ShardOf D). s.journal) shards (n - h.shape.coordinators) x.0 x.1)) here
+
   module _ (mid now : ℕ → Option D) (kept : (n : ℕ) → length logs + length shards ≤ n → mid n ≡ held n) (closed_logs : ByPlace (λ n l. OfTold (now n) (λ d. d ≡ l.disk)) logs)
       (closed_shards : ByPlace (λ s x. OfTold (now (length logs + s)) (λ d. d ≡ x.disk)) shards) (others : (n : ℕ) → length logs + length shards ≤ n → now n ≡ mid n) where
     pub all_back : (n : ℕ) → IsBack images limit (held n) (now n)
@@ -93,6 +119,7 @@ module _ {D : Type 0} (content : D → Option (List ℕ)) (images : D → List �
       journals = journals_at h.shape logs shards;
       limits = are.limits;
       opened = node_opens;
+      room = node_room;
       back = all_back;
       prints = subst printed (lines_are h.shape logs shards are.shards_are hashes) told;
     }

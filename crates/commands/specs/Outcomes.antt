@@ -1,5 +1,5 @@
 -- What was done when all went well, by what the files and the disks told before and tell behind it.
-use Rattle.std.specs.Prelude.{◌≡◌, ◌⊎◌, ℕ, ◌<◌, List, [], ◌++◌, reverse, Option, IsSome, Ok, string_bytes}
+use Rattle.std.specs.Prelude.{◌≡◌, ◌⊎◌, ℕ, ◌+◌, ◌<◌, ◌≤◌, List, [], ◌++◌, reverse, Option, IsSome, Ok, string_bytes}
 use Rattle.outside.specs.Images.{Tells}
 use Rattle.line_text.specs.Lines.{Text}
 use Rattle.cbdc_types.specs.declared.answer.Answer.{Answer}
@@ -7,6 +7,8 @@ use Rattle.cbdc_types.specs.Limits.{IsWithinLimits}
 use Rattle.cbdc_model.specs.Records.{Digest, Shape, Compact, Record}
 use Rattle.cbdc_model.specs.Coins.{Output, FullTx}
 use Rattle.cbdc_model.specs.History.{header_of}
+use Rattle.cbdc_model.specs.Room.{kept_room}
+use Rattle.cbdc_model.specs.Due.{used_of}
 use Rattle.cbdc_model.specs.World.{KeptJournals}
 use Rattle.cbdc_model.specs.Waves.{Waves}
 use Rattle.record_log.specs.Held.{OpensTo}
@@ -39,7 +41,7 @@ use Rattle.commands.specs.Generated.{PrintsWorkload, WhyNoWorkload}
 pub use Rattle.commands.specs.Generated.{first_journals}
 
 -- the file held a mint, no node was in use, each node's disk holds its first record alone, and so does whatever a crash leaves of one that told its
--- content; the first records are a kept ledger of the mint, to which nothing was handed in yet; and this was printed
+-- content, while all other disks are as before; the first records are a kept ledger of the mint, to which nothing was handed in yet; and this was printed
 pub record DidInit {D : Type 0} (files : Text → Option (List ℕ)) (content : D → Option (List ℕ)) (images : D → List ℕ → Type 0) (before now : ℕ → Option D) (printed : Text → Type 0) (shape : Shape) (file : FileWord) : Type 0 where
   pub mint : List Output
   pub read : Tells (files file.name.now) (λ c. mint_of_file c ≡ Ok mint)
@@ -47,6 +49,7 @@ pub record DidInit {D : Type 0} (files : Text → Option (List ℕ)) (content : 
   pub holds : (n : ℕ) → n < node_count shape → HoldsFirst content images (first_of shape mint n) (before n) (now n)
   pub opens : (n : ℕ) → n < node_count shape
       → OfTold (before n) (λ was. OfTold (now n) (λ d. IsSome (content was) → (c : List ℕ) → images d c → OpensTo (reverse (first_journals shape mint n)) c))
+  pub outside : (n : ℕ) → node_count shape ≤ n → now n ≡ before n
   pub kept : KeptJournals shape mint [] (first_journals shape mint)
   pub prints : printed (init_lines mint)
 
@@ -89,14 +92,16 @@ abbrev pub PrintsRecovery : {D : Type 0} → (D → Option (List ℕ)) → (D �
 PrintsRecovery content images before now printed =
     OfShown content before (λ K mint submissions E. (X : ℕ → List Record) × HoldsEach images now K X × ((text : Text) × IsRecoverText K E X text × printed text))
 
--- what the disks told opened to journals of all nodes of a ledger, the disks are back as they were read, and a line was printed for each hash, in
--- order, with its status in the journal of the shard that holds it
+-- what the disks told opened to journals of all nodes of a ledger, each disk having room for its journal and for what is kept for the batches that are
+-- open there; the disks are back as they were read, and a line was printed for each hash, in order, with its status in the journal of the shard that
+-- holds it
 pub record DidStatus {D : Type 0} (content : D → Option (List ℕ)) (images : D → List ℕ → Type 0) (limit : D → ℕ) (before now : ℕ → Option D) (printed : Text → Type 0) (hashes : List Digest) : Type 0 where
   pub shape : Shape
   pub genesis : Digest
   pub journals : ℕ → List Record
   pub limits : IsWithinLimits shape
   pub opened : (n : ℕ) → n < node_count shape → OfTold (before n) (λ was. Tells (content was) (IsNodeJournal (header_of shape genesis n) (journals n)))
+  pub room : (n : ℕ) → n < node_count shape → OfTold (before n) (λ was. used_of (journals n) + kept_room shape (journals n) ≤ limit was)
   pub back : (n : ℕ) → IsBack images limit (before n) (now n)
   pub prints : printed (status_lines shape journals hashes)
 
