@@ -148,8 +148,7 @@ module _ (K : Shape) (seed n : ℕ) (small : n ≤ 10000) where
   small_files : AllSmall (files_of seed n)
   small_files = (
     each_small (split_of seed n (genesis_id (mint_of seed n))) (λ i. omega arith) 0 (minted_of n),
-    each_small (join_of seed n (genesis_id (mint_of seed n))) (λ i. omega arith) 0 (joined_of n),
-    tt,
+    (each_small (join_of seed n (genesis_id (mint_of seed n))) (λ i. omega arith) 0 (joined_of n), tt),
   )
     where
       each_small : (f : ℕ → FullTx) → ((i : ℕ) → length (f i).inputs + length (f i).outputs ≤ 3) → (k m : ℕ) → AreSmall (map f (range_with_len k m))

@@ -82,8 +82,8 @@ made_many id k (o ∷ os) = let rest = made_many id (suc k) os in omega (arith, 
 
 small_compact : (t : FullTx) → length t.inputs + length t.outputs ≤ 3 → length (compact t).inputs + length (compact t).outputs ≤ 3
 small_compact t small =
-    let ins : length (compact t).inputs ≡ length t.inputs = length-map coin_hash t.inputs in
-    let outs : length (compact t).outputs ≡ length (tx_coins t) = length-map coin_hash (tx_coins t) in
+    let ins : length (compact t).inputs ≡ length t.inputs = length-map t.inputs coin_hash in
+    let outs : length (compact t).outputs ≡ length (tx_coins t) = length-map (tx_coins t) coin_hash in
     let made : length (tx_coins t) ≡ length t.outputs = made_many (tx_id t) 0 t.outputs in
     omega (arith, ins, outs, made, small)
 
