@@ -157,6 +157,7 @@ module _ (K : Shape) (seed n : ℕ) (small : n ≤ 10000) where
 
   pub workload_fits : (rack : PlainRack) → IsWithinLimits K → ((node : ℕ) → node < node_count K → IsEmptyAt rack (4096 + 400 * n) node) → HaveRoom K (mint_of seed n) (files_of seed n) rack
   workload_fits rack limits empty =
-      new_room K (minted (mint_of seed n)) (sound_by all_good) (λ node. limit_at room_of (disk_at rack node)) (files_of seed n) limits small_files (omega (arith, all_many, small))
-      ((λ node low. (let e = empty node (omega (arith, low)) in omega (arith, all_many, ap (limit_at room_of) e.1, e.3))),
-      (λ node high inside. (let e = empty node inside in omega (arith, all_many, minted_many, minted_few, ap (limit_at room_of) e.1, e.3))))
+      new_room K (minted (mint_of seed n)) (sound_by all_good) (λ node. limit_at room_of (disk_at rack node)) (files_of seed n) limits small_files (omega (arith, all_many, small)) (
+        (λ node low. (let e = empty node (omega (arith, low)) in omega (arith, all_many, ap (limit_at room_of) e.1, e.3))),
+        (λ node high inside. (let e = empty node inside in omega (arith, all_many, minted_many, minted_few, ap (limit_at room_of) e.1, e.3))),
+      )

@@ -146,13 +146,15 @@ run_none content images limit held back before now K mint submissions E ready st
     fault_none content images limit held back before now K mint submissions E ready steady (sound_by verdicts) files ample (PieceNext verdicts files) (EndsRun verdicts files) (PiecesPrepared verdicts files)
     (λ X. (
       (λ lane txs lt piece.
-      (let (pieces, are, next) = piece (sound_by verdicts) (is_sound_law verdicts) in
-      (next.1, record {
-        done = next.0;
-        cut = are_cut K (sound_by verdicts) files lane (next.0 ++ txs ∷ next.1) (subst (AreFilesPieces K (sound_by verdicts) lane files) next.2 are);
-        prepares = next.3;
-      }))),
+          (let (pieces, are, next) = piece (sound_by verdicts) (is_sound_law verdicts) in (
+            next.1,
+            record {
+              done = next.0;
+              cut = are_cut K (sound_by verdicts) files lane (next.0 ++ txs ∷ next.1) (subst (AreFilesPieces K (sound_by verdicts) lane files) next.2 are);
+              prepares = next.3;
+            },
+          ))),
       (λ begun lane lt.
-      (let (done, more, are, has) = begun lane lt (sound_by verdicts) (is_sound_law verdicts) in
-      (more, record { done = done; cut = are_cut K (sound_by verdicts) files lane (done ++ more) are; prepares = has }))),
+          (let (done, more, are, has) = begun lane lt (sound_by verdicts) (is_sound_law verdicts) in
+          (more, record { done = done; cut = are_cut K (sound_by verdicts) files lane (done ++ more) are; prepares = has }))),
     )) a fault

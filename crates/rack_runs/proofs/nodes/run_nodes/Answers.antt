@@ -149,7 +149,7 @@ returns-clause-fault g c =
     let shape : c.run_over-over.new.ledger.header.shape ≡ c.args.nodes.header.shape = c.run_over-over.ensures.shape ∙ ap (λ l. l.header.shape) lent in
     let verdicts = g.V.Verifier.verdict_of c.args.verifier.now in
     let entry = by_entry (λ o h. IfErr c.run_over-over.result (IsRunCause c.lend-lent.result.header.shape (IsFilesPiece c.lend-lent.result.header.shape verdicts c.args.files.now (journals_of g.D.Disk.count g.D.Disk.limit c.lend-lent.result.header.shape c.lend-lent.result.logs c.lend-lent.result.shards) (journals_of g.D.Disk.count g.D.Disk.limit c.run_over-over.new.ledger.header.shape c.run_over-over.new.ledger.logs c.run_over-over.new.ledger.shards)) (journals_of g.D.Disk.count g.D.Disk.limit c.lend-lent.result.header.shape c.lend-lent.result.logs c.lend-lent.result.shards) (journals_of g.D.Disk.count g.D.Disk.limit c.run_over-over.new.ledger.header.shape c.run_over-over.new.ledger.logs c.run_over-over.new.ledger.shards) (HaveFailed o (faults_of g.D.Disk.count g.D.Disk.limit c.run_over-over.new.ledger.header.shape c.run_over-over.new.ledger.logs c.run_over-over.new.ledger.shards)) (MayHold h))) (opened_of g.D.Disk.count g.D.Disk.limit c.lend-lent.result.header.shape c.lend-lent.result.logs c.lend-lent.result.shards) (opened_of g.D.Disk.count g.D.Disk.limit c.run_over-over.new.ledger.header.shape c.run_over-over.new.ledger.logs c.run_over-over.new.ledger.shards) (capacity_of g.D.Disk.count g.D.Disk.limit c.lend-lent.result.header.shape c.lend-lent.result.logs c.lend-lent.result.shards) (capacity_of g.D.Disk.count g.D.Disk.limit c.run_over-over.new.ledger.header.shape c.run_over-over.new.ledger.logs c.run_over-over.new.ledger.shards)
-      c.run_over-over.ensures.opened_same c.run_over-over.ensures.capacity_same c.run_over-over.ensures.fault in
+    c.run_over-over.ensures.opened_same c.run_over-over.ensures.capacity_same c.run_over-over.ensures.fault in
     let own = subst (λ l. IfErr c.run_over-over.result (IsRunCause l.header.shape (IsFilesPiece l.header.shape verdicts c.args.files.now (journals_of g.D.Disk.count g.D.Disk.limit l.header.shape l.logs l.shards) (journals_of g.D.Disk.count g.D.Disk.limit c.run_over-over.new.ledger.header.shape c.run_over-over.new.ledger.logs c.run_over-over.new.ledger.shards)) (journals_of g.D.Disk.count g.D.Disk.limit l.header.shape l.logs l.shards) (journals_of g.D.Disk.count g.D.Disk.limit c.run_over-over.new.ledger.header.shape c.run_over-over.new.ledger.logs c.run_over-over.new.ledger.shards) (HaveFailed (opened_of g.D.Disk.count g.D.Disk.limit l.header.shape l.logs l.shards) (faults_of g.D.Disk.count g.D.Disk.limit c.run_over-over.new.ledger.header.shape c.run_over-over.new.ledger.logs c.run_over-over.new.ledger.shards)) (MayHold (capacity_of g.D.Disk.count g.D.Disk.limit l.header.shape l.logs l.shards)))) lent entry in
     came_cause c.args.nodes.header.shape (IsFilesPiece c.args.nodes.header.shape verdicts c.args.files.now (journals_of g.D.Disk.count g.D.Disk.limit c.args.nodes.header.shape c.args.nodes.logs.items c.args.nodes.shards.items) (journals_of g.D.Disk.count g.D.Disk.limit c.args.nodes.header.shape c.header.inside.logs.items c.header.inside.shards.items)) (journals_of g.D.Disk.count g.D.Disk.limit c.args.nodes.header.shape c.args.nodes.logs.items c.args.nodes.shards.items) (journals_of g.D.Disk.count g.D.Disk.limit c.args.nodes.header.shape c.header.inside.logs.items c.header.inside.shards.items) (HaveFailed (opened_of g.D.Disk.count g.D.Disk.limit c.args.nodes.header.shape c.args.nodes.logs.items c.args.nodes.shards.items) (faults_of g.D.Disk.count g.D.Disk.limit c.args.nodes.header.shape c.header.inside.logs.items c.header.inside.shards.items)) (MayHold (capacity_of g.D.Disk.count g.D.Disk.limit c.args.nodes.header.shape c.args.nodes.logs.items c.args.nodes.shards.items))
     c.came_of-came.result c.run_over-over.result c.came_of-came.ensures.fault
@@ -162,7 +162,7 @@ returns-clause-least g c =
     let shape : c.run_over-over.new.ledger.header.shape ≡ c.args.nodes.header.shape = c.run_over-over.ensures.shape ∙ ap (λ l. l.header.shape) lent in
     let verdicts = g.V.Verifier.verdict_of c.args.verifier.now in
     let entry = by_entry (λ o h. IfErr c.run_over-over.result (EndsRun verdicts c.args.files.now c.lend-lent.result.header.shape (journals_of g.D.Disk.count g.D.Disk.limit c.lend-lent.result.header.shape c.lend-lent.result.logs c.lend-lent.result.shards) (journals_of g.D.Disk.count g.D.Disk.limit c.run_over-over.new.ledger.header.shape c.run_over-over.new.ledger.logs c.run_over-over.new.ledger.shards) (HaveFailed o (faults_of g.D.Disk.count g.D.Disk.limit c.run_over-over.new.ledger.header.shape c.run_over-over.new.ledger.logs c.run_over-over.new.ledger.shards)) (MayHold h))) (opened_of g.D.Disk.count g.D.Disk.limit c.lend-lent.result.header.shape c.lend-lent.result.logs c.lend-lent.result.shards) (opened_of g.D.Disk.count g.D.Disk.limit c.run_over-over.new.ledger.header.shape c.run_over-over.new.ledger.logs c.run_over-over.new.ledger.shards) (capacity_of g.D.Disk.count g.D.Disk.limit c.lend-lent.result.header.shape c.lend-lent.result.logs c.lend-lent.result.shards) (capacity_of g.D.Disk.count g.D.Disk.limit c.run_over-over.new.ledger.header.shape c.run_over-over.new.ledger.logs c.run_over-over.new.ledger.shards)
-      c.run_over-over.ensures.opened_same c.run_over-over.ensures.capacity_same c.run_over-over.ensures.least in
+    c.run_over-over.ensures.opened_same c.run_over-over.ensures.capacity_same c.run_over-over.ensures.least in
     let own = subst (λ l. IfErr c.run_over-over.result (EndsRun verdicts c.args.files.now l.header.shape (journals_of g.D.Disk.count g.D.Disk.limit l.header.shape l.logs l.shards) (journals_of g.D.Disk.count g.D.Disk.limit c.run_over-over.new.ledger.header.shape c.run_over-over.new.ledger.logs c.run_over-over.new.ledger.shards) (HaveFailed (opened_of g.D.Disk.count g.D.Disk.limit l.header.shape l.logs l.shards) (faults_of g.D.Disk.count g.D.Disk.limit c.run_over-over.new.ledger.header.shape c.run_over-over.new.ledger.logs c.run_over-over.new.ledger.shards)) (MayHold (capacity_of g.D.Disk.count g.D.Disk.limit l.header.shape l.logs l.shards)))) lent entry in
     came_ends (EndsRun verdicts c.args.files.now c.args.nodes.header.shape (journals_of g.D.Disk.count g.D.Disk.limit c.args.nodes.header.shape c.args.nodes.logs.items c.args.nodes.shards.items) (journals_of g.D.Disk.count g.D.Disk.limit c.args.nodes.header.shape c.header.inside.logs.items c.header.inside.shards.items) (HaveFailed (opened_of g.D.Disk.count g.D.Disk.limit c.args.nodes.header.shape c.args.nodes.logs.items c.args.nodes.shards.items) (faults_of g.D.Disk.count g.D.Disk.limit c.args.nodes.header.shape c.header.inside.logs.items c.header.inside.shards.items)) (MayHold (capacity_of g.D.Disk.count g.D.Disk.limit c.args.nodes.header.shape c.args.nodes.logs.items c.args.nodes.shards.items)))
     c.came_of-came.result c.run_over-over.result c.came_of-came.ensures.fault
