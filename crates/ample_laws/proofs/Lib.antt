@@ -1,8 +1,8 @@
 mod Row
-mod Sums
-mod Scales
+pub mod Sums
+pub mod Scales
 mod Numbers
-mod Weights
+pub mod Weights
 mod Lanes
 mod Budgets
 mod Growth

@@ -1,5 +1,5 @@
 -- Where nothing hinders what is asked, it is done, unless memory runs out.
-use Rattle.std.proofs.Common.{◌≡◌, ◌⊎◌, inl, inr, ℕ, List, [], Option, Some, None, Ok, refl, sym, ap, subst}
+use Rattle.std.proofs.Common.{◌≡◌, ◌⊎◌, inl, inr, ℕ, Bool, List, [], Option, Some, None, Ok, refl, sym, ap, subst}
 use Rattle.outside.specs.Images.{Tells}
 use Rattle.line_text.specs.Lines.{Text}
 use Rattle.cbdc_types.specs.declared.answer.Answer.{Answer}
@@ -12,6 +12,9 @@ use Rattle.command_line.specs.declared.request.FileWord.{FileWord}
 use Rattle.command_line.specs.declared.request.Request.{Request}
 use Rattle.command_line.specs.declared.request.Request.TheVariants.{Init, Run, Recover, Status, Audit, Gen, Show}
 use Rattle.command_line.specs.declared.request.WordsFault.TheVariants.{Bad}
+use Rattle.cbdc_model.specs.Clean.{Clean}
+use Rattle.workload.specs.Generator.{mint_of}
+use Rattle.workload_laws.specs.Files.{all_of}
 use Rattle.word_laws.specs.Refused.{AreWhole, HasHashes}
 use Rattle.word_laws.specs.Single.{AreAlike, names_of}
 use Rattle.word_laws.proofs.Refused.{asked_law}
@@ -20,17 +23,29 @@ use Rattle.input_files.specs.Contents.{mint_of_file, AreRead}
 use Rattle.file_runs.specs.Runs.{joined}
 use Rattle.audit.specs.declared.verdict.Verdict.TheVariants.{Unsound}
 use Rattle.audited_ledgers.specs.Audited.{IsAudited}
+use Rattle.ample_laws.specs.Ample.{Ample}
+use Rattle.caused_ledgers.specs.Caused.{IsUnresumed}
+use Rattle.ledger_runs.specs.Least.{IsLeastOpen}
+use Rattle.rack_runs.specs.Endings.{EndsRun}
+use Rattle.rack_runs.specs.Runs.{NonePrepared, NothingNext, PieceNext, PiecesPrepared}
+use Rattle.sound_laws.specs.SoundTest.{sound_by}
+use Rattle.submissions.specs.Checks.{VerdictsOf}
+use Rattle.verifier_port.specs.Files.{told}
 use Rattle.complete_laws.specs.Making.{CanMake}
 use Rattle.complete_laws.specs.Ready.{IsReady, limit_at}
 use Rattle.complete_laws.proofs.Audited.{audit_sound}
 use Rattle.complete_laws.proofs.Files.{read_once, not_read_none, clients_once, clients_none}
+use Rattle.complete_laws.proofs.Caused.{unsound_none}
+use Rattle.complete_laws.proofs.Lanes.{recovery_none, run_none}
 use Rattle.complete_laws.proofs.Making.{made}
 use Rattle.complete_laws.proofs.Openings.{unopened_none}
 use Rattle.complete_laws.proofs.Rooms.{ample_rooms, idle_rooms}
+use Rattle.complete_laws.proofs.Verdicts.{verdicts_none, verdicts_once}
 use Rattle.commands.specs.Audits.{IsUnsoundBy, WasAudited, WhyUnopened, WhyUnaudited, WhyNoAudit}
 use Rattle.commands.specs.Causes.{IsTold}
-use Rattle.commands.specs.Complete.{CanInit, CanAudit, IsUnhindered, none_sound}
-use Rattle.commands.specs.Outcomes.{WhyNoInit, WhyNoStatus, Why}
+use Rattle.commands.specs.Complete.{CanInit, CanRun, CanAudit, IsUnhindered, none_sound}
+use Rattle.commands.specs.Generated.{WhyNoWorkload}
+use Rattle.commands.specs.Outcomes.{WhyNoInit, WhyNoTurns, WhyNoRun, WhyNoStatus, Why}
 
 module _ {D : Type 0} (files : Text → Option (List ℕ)) (files_before files_now : Text → ℕ) (content : D → Option (List ℕ)) (images : D → List ℕ → Type 0) (limit count : D → ℕ) (held back : ℕ → Option D) (before now : ℕ → ℕ) where
   init_none : (shape : Shape) (file : FileWord) (answer : Answer) → CanInit files files_before files_now content limit held before now shape file.name.now
@@ -45,6 +60,38 @@ module _ {D : Type 0} (files : Text → Option (List ℕ)) (files_before files_n
       let shows = ready.shows in
       let rooms = ample_rooms ready.shape ready.mint ready.submissions ready.journals (λ n. limit_at limit (held n)) shows.limits shows.kept none_sound [] ready.ample in
       unopened_none content images limit count held before now ready.shape ready.mint ready.submissions ready.journals ready.shows rooms ready.steady None answer tt why.0
+
+  -- what is not resumed
+  unresumed : (sound : FullTx → Bool) (handed : List (List FullTx)) (answer : Answer) → IsReady content limit held before now sound handed → IsUnresumed content images limit count held before now answer → answer ≡ answers.Memory
+  unresumed sound handed answer ready (inl unopened) =
+      let shows = ready.shows in
+      let rooms = ample_rooms ready.shape ready.mint ready.submissions ready.journals (λ n. limit_at limit (held n)) shows.limits shows.kept sound handed ready.ample in
+      unopened_none content images limit count held before now ready.shape ready.mint ready.submissions ready.journals ready.shows rooms ready.steady None answer tt unopened
+  unresumed sound handed answer ready (inr (inl unsound)) = absurd (unsound_none content held ready.shape ready.mint ready.submissions ready.journals ready.shows images limit count answer unsound)
+  unresumed sound handed answer ready (inr (inr memory)) = memory
+
+  recover_none : (answer : Answer) → IsReady content limit held before now none_sound [] → WhyNoTurns content images limit count held back before now NothingNext IsLeastOpen NonePrepared [] answer → answer ≡ answers.Memory
+  recover_none answer ready (inl unbegun) = unresumed none_sound [] answer ready unbegun.0
+  recover_none answer ready (inr lane) =
+      recovery_none content images limit held back before now ready.shape ready.mint ready.submissions ready.journals ready.shows ready.steady none_sound ready.ample answer lane
+
+  module _ (verdicts : FileWord) (clients : List FileWord) (can : CanRun files files_before files_now content limit held before now verdicts.name.now (names_of clients)) where
+    -- over the transactions and verdicts that the files hold
+    turns_none : (handed : List (List FullTx)) (tells : VerdictsOf) (answer : Answer) → handed ≡ can.handed → tells ≡ told can.known
+        → WhyNoTurns content images limit count held back before now (PieceNext tells handed) (EndsRun tells handed) (PiecesPrepared tells handed) handed answer → answer ≡ answers.Memory
+    turns_none handed tells answer these known (inl unbegun) = unresumed (sound_by (told can.known)) can.handed answer can.ready unbegun.0
+    turns_none handed tells answer these known (inr lane) =
+        let ready = can.ready in
+        run_none content images limit held back before now ready.shape ready.mint ready.submissions ready.journals ready.shows ready.steady tells handed
+        (subst (λ v. Ample ready.shape (sound_by v) (λ n. limit_at limit (held n)) handed ready.journals) (sym known)
+        (subst (λ hs. Ample ready.shape (sound_by (told can.known)) (λ n. limit_at limit (held n)) hs ready.journals) (sym these) ready.ample)) answer lane
+
+    run_unhindered : (answer : Answer) → WhyNoRun files files_before files_now content images limit count held back before now verdicts clients answer → answer ≡ answers.Memory
+    run_unhindered answer (inl not_read) = clients_none files files_before files_now clients can.handed answer can.holds not_read
+    run_unhindered answer (inr (handed, read, inl unknown)) = verdicts_none files files_before files_now verdicts.name.now can.known can.knows verdicts.place answer unknown
+    run_unhindered answer (inr (handed, read, inr (known, knows, why))) =
+        turns_none handed (told known) answer (clients_once files files_before files_now clients 0 can.handed handed can.holds read)
+        (verdicts_once files files_before files_now verdicts.name.now can.known can.knows known knows) why
 
   module _ (file : FileWord) (clients : List FileWord) (can : CanAudit files files_before files_now content limit held before now file.name.now (names_of clients)) where
     this_mint : (mint : List Output) → Tells (files file.name.now) (λ c. mint_of_file c ≡ Ok mint) → mint ≡ can.mint
@@ -94,6 +141,23 @@ module _ {D : Type 0} (files : Text → Option (List ℕ)) (files_before files_n
       | inr without ↦ unaudited answer without
     ]
 
+  gen_none : (shape : Shape) (seed size : ℕ) (answer : Answer) → Clean (mint_of seed size) (all_of seed size) → WhyNoWorkload shape seed size answer → answer ≡ answers.Memory
+  gen_none shape seed size (answers.Unsound place kind) clean unsound = absurd (unsound.unclean clean)
+  gen_none shape seed size answers.Memory clean why = refl
+  gen_none shape seed size answers.Ok clean why = absurd why
+  gen_none shape seed size answers.BadWords clean why = absurd why
+  gen_none shape seed size (answers.BadInput file at kind) clean why = absurd why
+  gen_none shape seed size (answers.TooMuch total) clean why = absurd why
+  gen_none shape seed size (answers.NotReady n) clean why = absurd why
+  gen_none shape seed size (answers.Foreign n kept asked) clean why = absurd why
+  gen_none shape seed size (answers.NotEmpty n) clean why = absurd why
+  gen_none shape seed size (answers.Full n used need capacity) clean why = absurd why
+  gen_none shape seed size (answers.ClockEnd n stamp) clean why = absurd why
+  gen_none shape seed size (answers.Damaged n at) clean why = absurd why
+  gen_none shape seed size (answers.ReadFault file) clean why = absurd why
+  gen_none shape seed size answers.WriteFault clean why = absurd why
+  gen_none shape seed size (answers.DiskFault n) clean why = absurd why
+
   abbrev Free : Request → Type 0
   Free r = IsUnhindered files files_before files_now content limit held before now r
 
@@ -103,11 +167,11 @@ module _ {D : Type 0} (files : Text → Option (List ℕ)) (files_before files_n
   -- nothing but want of memory is the cause
   why_none : (r : Request) (answer : Answer) → Free r → Caused r answer → answer ≡ answers.Memory
   why_none (Init shape mint) answer free why = init_none shape mint answer free why
-  why_none (Run verdicts clients) answer free why = absurd free
-  why_none Recover answer free why = absurd free
+  why_none (Run verdicts clients) answer free why = run_unhindered verdicts clients.items free answer why
+  why_none Recover answer free why = recover_none answer free why
   why_none (Status hashes) answer free why = status_none answer free.1 why
   why_none (Audit mint clients) answer free why = audit_none mint clients.items free answer why
-  why_none (Gen shape seed size) answer free why = absurd free
+  why_none (Gen shape seed size) answer free why = gen_none shape seed size answer free why.1
   why_none (Show text) answer free why = absurd why
 
   -- the same request is hindered no more
@@ -115,14 +179,16 @@ module _ {D : Type 0} (files : Text → Option (List ℕ)) (files_before files_n
   free_alike (Init shape mint) (Init kind file) alike free =
       subst (λ (s : Shape). CanInit files files_before files_now content limit held before now s file.name.now) alike.0
       (subst (λ (name : Text). CanInit files files_before files_now content limit held before now shape name) alike.1 free)
+  free_alike (Run verdicts clients) (Run others words) alike free =
+      subst (λ (names : List Text). CanRun files files_before files_now content limit held before now others.name.now names) alike.1
+      (subst (λ (name : Text). CanRun files files_before files_now content limit held before now name (names_of clients.items)) alike.0 free)
+  free_alike Recover Recover alike free = free
   free_alike (Status hashes) (Status sought) alike free = (subst AreWhole alike free.0, free.1)
   free_alike (Audit mint clients) (Audit file others) alike free =
       subst (λ (names : List Text). CanAudit files files_before files_now content limit held before now file.name.now names) alike.1
       (subst (λ (name : Text). CanAudit files files_before files_now content limit held before now name (names_of clients.items)) alike.0 free)
+  free_alike (Gen shape seed size) (Gen kind number count) alike free = subst (λ k. Clean (mint_of number k) (all_of number k)) alike.2 (subst (λ k. Clean (mint_of k size) (all_of k size)) alike.1 free)
   free_alike (Show text) (Show other) alike free = tt
-  free_alike (Run verdicts clients) _ alike free = absurd free
-  free_alike Recover _ alike free = absurd free
-  free_alike (Gen shape seed size) _ alike free = absurd free
   free_alike _ _ alike free = absurd alike
 
   has_hashes : (r : Request) → Free r → HasHashes r

@@ -1,13 +1,14 @@
 -- What a workload's run and audit come to, over nodes in memory.
-use Rattle.std.proofs.Common.{◌≡◌, ◌⊎◌, inl, inr, ◌<◌, ◌≤◌, ◌++◌, ℕ, List, [], length, reverse, Option, Some, refl, sym, ap, ◌∙◌, subst, arith}
+use Rattle.std.proofs.Common.{◌≡◌, ◌⊎◌, inl, inr, ◌<◌, ◌≤◌, ◌++◌, ℕ, List, [], length, reverse, Option, Some, None, refl, sym, ap, ◌∙◌, subst, arith}
 use Rattle.std.proofs.lemmas.Bool.{cases_lt}
 use Rattle.std.proofs.lemmas.List.FromFn.{length-map-range_with_len}
 use Rattle.cbdc_types.specs.Limits.{IsWithinLimits}
 use Rattle.cbdc_types.specs.declared.answer.Answer.{Answer}
 use Rattle.cbdc_types.specs.declared.answer.Answer.TheVariants as answers
 use Rattle.cbdc_types.specs.declared.answer.UnsoundKind.{UnsoundKind}
-use Rattle.cbdc_model.specs.Records.{Digest, Shape, Compact, Record, Row, journal}
+use Rattle.cbdc_model.specs.Records.{Shape, Record, Row, journal}
 use Rattle.cbdc_model.specs.Coins.{Output, FullTx, genesis_id}
+use Rattle.cbdc_model.specs.Due.{used_of}
 use Rattle.cbdc_model.specs.History.{header_of}
 use Rattle.cbdc_model.specs.Lanes.{IsEnd}
 use Rattle.cbdc_model.specs.Ranges.{home_of}
@@ -18,29 +19,22 @@ use Rattle.plain_rack.specs.declared.plain_rack.PlainRack.{PlainRack}
 use Rattle.plain_rack.specs.Places.{faults_at}
 use Rattle.plain_rack.specs.Racks.{AllIn, disk_at, bytes_told, bytes_left, room_of, faults_of}
 use Rattle.ledger_laws.proofs.Recovery.{idle_law}
-use Rattle.ledger_init.specs.Made.{HoldsFirst, first_of}
+use Rattle.ledger_init.specs.Made.{HoldsFirst, SameRoom, first_of}
 use Rattle.opening_laws.proofs.Once.{opens_once_law}
 use Rattle.sound_laws.specs.SoundTest.{sound_by}
 use Rattle.sound_laws.proofs.Telling.{is_sound_law}
 use Rattle.submissions.specs.Checks.{TellsSound}
 use Rattle.input_files.specs.Contents.{all_txs}
-use Rattle.file_runs.proofs.Filing.{kept_more}
-use Rattle.audit.specs.Walks.{IsFirstUncaused}
 use Rattle.audit.specs.declared.verdict.Totals.{Totals}
 use Rattle.audit.specs.declared.verdict.Verdict.{Verdict}
 use Rattle.audit.specs.declared.verdict.Verdict.TheVariants.{Sound, Unsound}
 use Rattle.audit.specs.Verdicts.{IsVerdict}
-use Rattle.caused_ledgers.specs.Caused.{IsToldHistory, IsUnsound, IsUnresumed}
-use Rattle.caused_ledgers.proofs.Told.{told_history}
+use Rattle.caused_ledgers.specs.Caused.{IsToldHistory, IsUnresumed}
 use Rattle.audited_ledgers.specs.Audited.{IsAudited}
-use Rattle.rack_laws.specs.Shown.{Shows, OfShown, HoldsEach, node_count}
-use Rattle.rack_laws.proofs.Opened.{same_genesis}
-use Rattle.rack_ledgers.proofs.Lacks.{unopened_kind}
+use Rattle.rack_laws.specs.Shown.{Shows, HoldsEach, node_count}
 use Rattle.rack_nodes.specs.Racked.{IsBack}
-use Rattle.rack_nodes.specs.Refused.{IsNodeRefusal}
-use Rattle.rack_runs.specs.Kinds.{IsLaneAnswer}
-use Rattle.lane_driver.specs.declared.fault.LaneFault.{LaneFault}
-use Rattle.rack_runs.specs.Runs.{IsLaneFault}
+use Rattle.rack_runs.specs.Endings.{EndsRun}
+use Rattle.rack_runs.specs.Runs.{IsLaneFault, PieceNext, PiecesPrepared}
 use Rattle.rack_runs.specs.declared.over.Ran.{Ran}
 use Rattle.rack_runs.specs.Telling.{TellsRun}
 use Rattle.line_text.specs.Lines.{summary_text}
@@ -52,12 +46,16 @@ use Rattle.workload.specs.Generator.{mint_of, minted_of, joined_of, split_of, jo
 use Rattle.commands.specs.Audits.{IsUnsoundBy}
 use Rattle.commands.specs.Causes.{IsDone}
 use Rattle.commands.specs.Told.{IsCountable}
-use Rattle.commands.specs.Generated.{all_good, files_of, all_of, first_journals, made_for, IsWorkloadRun, HasVerdictOf, EndsWorkload, batches_for, IsWorkloadText, IsUnopenedThere, IsCutWorkload, IsUnsoundWorkload, WhyNoWorkload}
-use Rattle.commands.specs.InMemory.{AreReady, TellsRunOf, IsLaneKind, IsUnrun, numbers_of, CameTo, IsCheckedSound, IsUnchecked}
-use Rattle.commands.proofs.Minted.{unopened_of_mint}
+use Rattle.commands.specs.Generated.{all_good, files_of, all_of, first_journals, made_for, IsWorkloadRun, HasVerdictOf, EndsWorkload, batches_for, IsWorkloadText, IsUnsoundWorkload, WhyNoWorkload}
+use Rattle.commands.specs.InMemory.{AreReady, HaveRoom, TellsRunOf, numbers_of, CameTo, IsCheckedSound, IsUnchecked}
 use Rattle.commands.proofs.FirstShown.{kept_journal, kept_beyond, first_kept, first_shown}
-use Rattle.commands.proofs.Memory.{there}
-use Rattle.complete_laws.proofs.Sound.{none_uncaused, never_unsound}
+use Rattle.commands.proofs.Memory.{none_rose, there}
+use Rattle.complete_laws.specs.Ready.{NoneRises, ShowsKept, limit_at}
+use Rattle.complete_laws.proofs.Caused.{unsound_none}
+use Rattle.complete_laws.proofs.Lanes.{run_none}
+use Rattle.complete_laws.proofs.Openings.{unopened_none}
+use Rattle.complete_laws.proofs.Rooms.{ample_rooms, idle_rooms, more_room, used_within}
+use Rattle.complete_laws.proofs.Sound.{never_unsound}
 use Rattle.commands.proofs.Printed.{run_numbers, countable}
 use Rattle.commands.proofs.Cut.{batches_are_cut}
 use Rattle.commands.proofs.Refused.{none_open, none_refused, all_decided}
@@ -106,17 +104,6 @@ module _ {D : Type 0} (content : D → Option (List ℕ)) (images : D → List �
     is = subst (λ k. IsVerdict k mint handed audited.rows verdict) (shape_is shows audited.shape audited.rows audited.history) audited.is;
   }
 
-  -- each of its records is caused
-  pub none_unsound : (limit count : D → ℕ) (a : Answer) → Shows content held K (genesis_id mint) X → IsUnsound content images limit count held a → ⊥
-  none_unsound limit count a shows unsound =
-      let K' = unsound.header.shape in
-      let minted = same_genesis content images limit count held unsound.header unsound.logs unsound.shards unsound.opened K (genesis_id mint) X within shows in
-      let history = subst (λ (g : Digest). IsToldHistory content held unsound.header.shape g unsound.uncaused.rows) minted
-      (told_history content images limit count held unsound.header unsound.logs unsound.shards unsound.opened unsound.uncaused.rows unsound.uncaused.merged) in
-      let rows = unsound.uncaused.rows in
-      none_uncaused K mint submissions X within (kept_journal K mint within minted_few submissions X kept) kept rows (journals_are shows K' rows history) history.ordered unsound.place
-      (subst (λ k. IsFirstUncaused k rows unsound.place) (shape_is shows K' rows history) unsound.uncaused.first)
-
 module _ (K : Shape) (seed n : ℕ) (within : IsWithinLimits K) (small : n ≤ 10000) (X : ℕ → List Record) (ran : Ran) (told : TellsRun K all_good (files_of seed n) (made_for K seed n) X ran.resumed.items ran.waves.items) where
   tests : TellsSound all_good (sound_by all_good)
   tests = is_sound_law all_good
@@ -141,23 +128,6 @@ module _ (K : Shape) (seed n : ℕ) (within : IsWithinLimits K) (small : n ≤ 1
 
 -- ---- over a rack in memory
 
-lane_kind : (K : Shape) (next : ℕ → List Compact → Type 0) (E X : ℕ → List Record) (failed : ℕ → Type 0) (holds : ℕ → ℕ → Type 0) (a : Answer) → IsLaneAnswer K next E X failed holds a → IsLaneKind a
-lane_kind K next E X failed holds answers.Ok is = absurd is
-lane_kind K next E X failed holds answers.BadWords is = absurd is
-lane_kind K next E X failed holds (answers.BadInput file at what) is = absurd is
-lane_kind K next E X failed holds (answers.TooMuch total) is = absurd is
-lane_kind K next E X failed holds (answers.NotReady k) is = absurd is
-lane_kind K next E X failed holds (answers.Foreign k kept asked) is = absurd is
-lane_kind K next E X failed holds (answers.NotEmpty k) is = absurd is
-lane_kind K next E X failed holds (answers.Full k used need capacity) is = tt
-lane_kind K next E X failed holds (answers.Unsound place what) is = absurd is
-lane_kind K next E X failed holds (answers.ClockEnd k stamp) is = tt
-lane_kind K next E X failed holds (answers.Damaged k at) is = absurd is
-lane_kind K next E X failed holds (answers.ReadFault file) is = absurd is
-lane_kind K next E X failed holds answers.WriteFault is = absurd is
-lane_kind K next E X failed holds (answers.DiskFault k) is = tt
-lane_kind K next E X failed holds answers.Memory is = tt
-
 module _ (K : Shape) (mint : List Output) (few_coins : length mint ≤ 1000000) (limits : IsWithinLimits K) where
   -- what is in place tells its bytes
   pub told_there : (rack : PlainRack) → AllIn rack → (n : ℕ) → n < node_count K → (d : PlainDisk) × (disk_at rack n ≡ Some d) × ((c : List ℕ) × (bytes_told d ≡ Some c) × bytes_left d c)
@@ -171,61 +141,38 @@ module _ (K : Shape) (mint : List Output) (few_coins : length mint ≤ 1000000) 
   made_shown old mid ready all holds =
       first_shown K mint limits few_coins bytes_told bytes_left (disk_at old) (disk_at mid) (λ n inside. (let e = ready.empty n inside in (e.0, e.1, refl))) (λ n inside. (let d = told_there mid all n inside in (d.0, d.1))) holds
 
-  module _ (files : List (List FullTx)) (mid new : PlainRack) (shows : Shows bytes_told (disk_at mid) K (genesis_id mint) (first_journals K mint)) where
-    pub unrun : (next : Shape → (ℕ → List Record) → (ℕ → List Record) → ℕ → List Compact → Type 0) (ends : Shape → (ℕ → List Record) → (ℕ → List Record) → (ℕ → Type 0) → (ℕ → ℕ → Type 0) → LaneFault → Type 0) (a : Answer)
+  -- no node in memory fails
+  pub none_rises : (old new : PlainRack) → NoneRises K (faults_at old.misses) (faults_at new.misses)
+  none_rises old new n inside = none_rose old.misses new.misses n (omega (arith, inside, limits.coordinators, limits.shards))
+
+  -- the disks of a ledger that was made have as much room as before
+  pub room_still : (files : List (List FullTx)) (old mid : PlainRack) → AreReady K mint old → AllIn mid → ((n : ℕ) → n < node_count K → SameRoom room_of (disk_at old n) (disk_at mid n)) → HaveRoom K mint files old → HaveRoom K mint files mid
+  room_still files old mid ready all rooms ample =
+      more_room K (sound_by all_good) (λ n. limit_at room_of (disk_at old n)) (λ n. limit_at room_of (disk_at mid n)) files (first_journals K mint)
+      (λ n inside. (let was = ready.empty n inside in let is = told_there mid all n inside in omega (arith, ap (limit_at room_of) was.1, ap (limit_at room_of) is.1, rooms n inside was.0 was.1 is.0 is.1))) ample
+
+  module _ (files : List (List FullTx)) (mid new : PlainRack) (shows : Shows bytes_told (disk_at mid) K (genesis_id mint) (first_journals K mint)) (ample : HaveRoom K mint files mid) where
+    ready : ShowsKept bytes_told (disk_at mid) K mint [] (first_journals K mint)
+    ready = record { limits = limits; shown = shows; kept = first_kept K mint limits few_coins }
+
+    -- its files are run, unless memory runs out
+    pub unrun : (a : Answer)
         → (IsUnresumed bytes_told bytes_left room_of faults_of (disk_at mid) (faults_at mid.misses) (faults_at new.misses) a × ((n : ℕ) → IsBack bytes_left room_of (disk_at mid n) (disk_at new n)))
-        ⊎ IsLaneFault bytes_told bytes_left room_of (disk_at mid) (disk_at new) (faults_at mid.misses) (faults_at new.misses) next ends files a
-        → IsUnrun K mint files new a
-    unrun next ends a (inl (inl unopened, back)) = inr (inl (record { old = mid; new = new; journals = first_journals K mint; kept = first_kept K mint limits few_coins; shows = shows; why = unopened_of_mint bytes_told bytes_left room_of faults_of (disk_at mid) K (genesis_id mint) (first_journals K mint) limits shows (faults_at mid.misses) (faults_at new.misses) a unopened }))
-    unrun next ends a (inl (inr (inl unsound), back)) =
-        absurd (none_unsound bytes_told bytes_left (disk_at mid) K mint [] (first_journals K mint) limits few_coins (first_kept K mint limits few_coins) room_of faults_of a shows unsound)
-    unrun next ends a (inl (inr (inr memory), back)) = inl memory
-    unrun next ends a (inr fault) =
-        inr (inr (lane_kind fault.ledger.shape (next fault.ledger.shape (λ n. journal n (reverse fault.ledger.rows)) fault.exit) (λ n. journal n (reverse fault.ledger.rows)) fault.exit _ _ a fault.cause, (fault.exit, fault.kept K mint [] (first_journals K mint) limits shows (first_kept K mint limits few_coins))))
+        ⊎ IsLaneFault bytes_told bytes_left room_of (disk_at mid) (disk_at new) (faults_at mid.misses) (faults_at new.misses) (PieceNext all_good files) (EndsRun all_good files) (PiecesPrepared all_good files) files a
+        → a ≡ answers.Memory
+    unrun a (inl (inl unopened, back)) =
+        unopened_none bytes_told bytes_left room_of faults_of (disk_at mid) (faults_at mid.misses) (faults_at new.misses) K mint [] (first_journals K mint) ready
+        (ample_rooms K mint [] (first_journals K mint) (λ n. limit_at room_of (disk_at mid n)) limits (first_kept K mint limits few_coins) (sound_by all_good) files ample) (none_rises mid new) None a tt unopened
+    unrun a (inl (inr (inl unsound), back)) = absurd (unsound_none bytes_told (disk_at mid) K mint [] (first_journals K mint) ready bytes_left room_of faults_of a unsound)
+    unrun a (inl (inr (inr memory), back)) = memory
+    unrun a (inr fault) =
+        run_none bytes_told bytes_left room_of (disk_at mid) (disk_at new) (faults_at mid.misses) (faults_at new.misses) K mint [] (first_journals K mint) ready (none_rises mid new) all_good files ample a fault
 
 -- ---- a workload's run and audit
 
 module _ (K : Shape) (seed n : ℕ) where
-  unopened_why : (a : Answer) → IsNodeRefusal a → IsUnopenedThere K (mint_of seed n) (all_of seed n) a → WhyNoWorkload K seed n a
-  unopened_why answers.Ok kind is = absurd kind
-  unopened_why answers.BadWords kind is = absurd kind
-  unopened_why (answers.BadInput file at what) kind is = absurd kind
-  unopened_why (answers.TooMuch total) kind is = absurd kind
-  unopened_why (answers.NotReady k) kind is = is
-  unopened_why (answers.Foreign k kept asked) kind is = is
-  unopened_why (answers.NotEmpty k) kind is = absurd kind
-  unopened_why (answers.Full k used need capacity) kind is = inl is
-  unopened_why (answers.Unsound place what) kind is = absurd kind
-  unopened_why (answers.ClockEnd k stamp) kind is = absurd kind
-  unopened_why (answers.Damaged k at) kind is = is
-  unopened_why (answers.ReadFault file) kind is = absurd kind
-  unopened_why answers.WriteFault kind is = absurd kind
-  unopened_why (answers.DiskFault k) kind is = inl is
-  unopened_why answers.Memory kind is = tt
-
-  lane_why : (a : Answer) → IsLaneKind a → IsCutWorkload K seed n → WhyNoWorkload K seed n a
-  lane_why answers.Ok kind is = absurd kind
-  lane_why answers.BadWords kind is = absurd kind
-  lane_why (answers.BadInput file at what) kind is = absurd kind
-  lane_why (answers.TooMuch total) kind is = absurd kind
-  lane_why (answers.NotReady k) kind is = absurd kind
-  lane_why (answers.Foreign k kept asked) kind is = absurd kind
-  lane_why (answers.NotEmpty k) kind is = absurd kind
-  lane_why (answers.Full k used need capacity) kind is = inr is
-  lane_why (answers.Unsound place what) kind is = absurd kind
-  lane_why (answers.ClockEnd k stamp) kind is = is
-  lane_why (answers.Damaged k at) kind is = absurd kind
-  lane_why (answers.ReadFault file) kind is = absurd kind
-  lane_why answers.WriteFault kind is = absurd kind
-  lane_why (answers.DiskFault k) kind is = inr is
-  lane_why answers.Memory kind is = tt
-
-  pub unrun_why : (rack : PlainRack) (a : Answer) → IsUnrun K (mint_of seed n) (files_of seed n) rack a → WhyNoWorkload K seed n a
-  unrun_why rack a (inl memory) = subst (WhyNoWorkload K seed n) (sym memory) tt
-  unrun_why rack a (inr (inl is)) =
-      unopened_why a (unopened_kind bytes_told bytes_left room_of faults_of (disk_at is.old) (faults_at is.old.misses) (faults_at is.new.misses) (Some (genesis_id (mint_of seed n))) a is.why)
-      (record { old = is.old; new = is.new; journals = is.journals; kept = kept_more K (mint_of seed n) [] (all_of seed n) is.journals is.kept; shows = is.shows; why = is.why })
-  unrun_why rack a (inr (inr (kind, (exit, cut)))) = lane_why a kind (record { exit = exit; grows = cut.grown.grows; kept = cut.grown.kept })
+  pub memory_why : (a : Answer) → a ≡ answers.Memory → WhyNoWorkload K seed n a
+  memory_why a memory = subst (WhyNoWorkload K seed n) (sym memory) tt
 
   module _ (small : n ≤ 10000) (limits : IsWithinLimits K) (rack : PlainRack) (all : AllIn rack) (ran : Ran) (told : TellsRunOf K (mint_of seed n) (files_of seed n) rack ran) where
     is_run : IsWorkloadRun K seed n told.exit
@@ -242,6 +189,18 @@ module _ (K : Shape) (seed n : ℕ) where
     idle lane low =
         let last = told.waves.2.2 in
         ap (λ J. (slot J lane).phase) (last.2 (home_of K lane)) ∙ last.1.idle lane low
+
+    -- what a disk holds is within its room
+    fits : (k : ℕ) → k < node_count K → used_of (told.exit k) ≤ limit_at room_of (disk_at rack k)
+    fits k inside =
+        let s = shows k inside in
+        let d : PlainDisk = s.0 in
+        let bytes : length s.2.0 ≡ length d.bytes.items = ap (λ (o : Option (List ℕ)). length (bytes_in o)) (sym s.2.1) in
+        omega (arith, used_within (header_of K (genesis_id (mint_of seed n)) k) (told.exit k) s.2.0 s.2.2, bytes, d.within, ap (limit_at room_of) s.1)
+      where
+        bytes_in : Option (List ℕ) → List ℕ
+        bytes_in None = []
+        bytes_in (Some c) = c
 
     pub came_to : (totals : Totals) → IsCheckedSound rack (mint_of seed n) (all_of seed n) totals → CameTo K seed n ran totals
     came_to totals audited = record {
@@ -285,9 +244,10 @@ module _ (K : Shape) (seed n : ℕ) where
     pub unchecked_why : (new : PlainRack) (a : Answer) → IsUnchecked rack new (mint_of seed n) (all_of seed n) a → WhyNoWorkload K seed n a
     unchecked_why new a (inl wrong) = wrong_why a wrong
     unchecked_why new a (inr (inl unopened)) =
-        unopened_why a (unopened_kind bytes_told bytes_left room_of faults_of (disk_at rack) (faults_at rack.misses) (faults_at new.misses) (Some (genesis_id (mint_of seed n))) a unopened)
-        (record { old = rack; new = new; journals = told.exit; kept = told.grown.kept; shows = shows; why = unopened })
-    unchecked_why new a (inr (inr memory)) = subst (WhyNoWorkload K seed n) (sym memory) tt
+        memory_why a (unopened_none bytes_told bytes_left room_of faults_of (disk_at rack) (faults_at rack.misses) (faults_at new.misses) K (mint_of seed n) (all_of seed n) told.exit
+        (record { limits = limits; shown = shows; kept = told.grown.kept }) (idle_rooms K (mint_of seed n) (all_of seed n) told.exit (λ k. limit_at room_of (disk_at rack k)) limits told.grown.kept idle fits)
+        (none_rises K (mint_of seed n) (few seed n small) limits rack new) (Some (genesis_id (mint_of seed n))) a refl unopened)
+    unchecked_why new a (inr (inr memory)) = memory_why a memory
 
   -- what was done is told
   pub why_done : (written : Type 0) (a : Answer) → WhyNoWorkload K seed n a → IsDone (λ file. ⊥) (λ file. ⊥) written a

@@ -21,7 +21,6 @@ pub mod RunLines
 pub mod Batched
 pub mod Printed
 pub mod FirstShown
-pub mod Minted
 pub mod Memory
 pub mod Refused
 pub mod Cut

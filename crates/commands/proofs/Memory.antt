@@ -1,5 +1,5 @@
 -- Nodes in memory: their disks never fail, and have room for a workload's first records.
-use Rattle.std.proofs.Common.{◌≡◌, ◌⊎◌, inl, inr, ◌+◌, ◌-◌, ◌*◌, ◌^◌, ◌<◌, ◌≤◌, ℕ, zero, suc, Bool, true, false, nat_lt, if◌then◌else◌, List, [], ◌++◌, length, get_or, Option, Some, None, refl, ap, subst, arith}
+use Rattle.std.proofs.Common.{◌≡◌, ◌⊎◌, inl, inr, ◌+◌, ◌-◌, ◌*◌, ◌^◌, ◌<◌, ◌≤◌, ℕ, zero, suc, Bool, true, false, nat_lt, if◌then◌else◌, List, [], ◌++◌, length, map, get_or, Option, Some, None, refl, ap, subst, arith}
 use Rattle.std.specs.Prelude.{slice_get}
 use Rattle.std.specs.List.{range_with_len, All}
 use Rattle.std.proofs.lemmas.Option.{slice_get_cases}
@@ -11,9 +11,15 @@ use Rattle.cbdc_types.specs.Limits.{IsWithinLimits}
 use Rattle.cbdc_types.specs.declared.answer.Answer.{Answer}
 use Rattle.cbdc_types.specs.declared.answer.Answer.TheVariants as answers
 use Rattle.cbdc_model.specs.Records.{Shape, Genesis, Start}
-use Rattle.cbdc_model.specs.Coins.{Output, genesis_id, genesis_hashes}
+use Rattle.cbdc_model.specs.Coins.{Output, FullTx, genesis_id, genesis_hashes}
 use Rattle.cbdc_model.specs.Clean.{value_out}
-use Rattle.cbdc_model.specs.History.{header_of}
+use Rattle.cbdc_model.specs.History.{minted, header_of}
+use Rattle.input_files.specs.Contents.{all_txs}
+use Rattle.sound_laws.specs.SoundTest.{sound_by}
+use Rattle.complete_laws.specs.Ready.{limit_at}
+use Rattle.complete_laws.specs.Small.{AreSmall, AllSmall}
+use Rattle.complete_laws.proofs.Small.{new_room}
+use Rattle.commands.specs.Generated.{all_good, files_of}
 use Rattle.cbdc_model.specs.Ranges.{on_shard}
 use Rattle.cbdc_model.specs.Room.{size_of}
 use Rattle.mem_devices.specs.declared.plain_disk.PlainDisk.{PlainDisk}
@@ -24,8 +30,8 @@ use Rattle.record_codec.specs.Bodies.{body_of}
 use Rattle.gate_journal.specs.Rows.{row}
 use Rattle.rack_nodes.specs.Blank.{IsInUse}
 use Rattle.ledger_init.specs.Made.{node_count, first_of, IsUnmade}
-use Rattle.workload.specs.Generator.{coin, coin_value, mint_of, minted_of}
-use Rattle.commands.specs.InMemory.{AreReady}
+use Rattle.workload.specs.Generator.{coin, coin_value, mint_of, minted_of, joined_of, split_of, join_of}
+use Rattle.commands.specs.InMemory.{AreReady, HaveRoom}
 use Rattle.commands.proofs.FirstShown.{on_length, made_length}
 
 -- ---- the rack
@@ -128,3 +134,30 @@ module _ (K : Shape) (seed n : ℕ) (small : n ≤ 10000) where
         let first = first_fits node in
         (e.0, e.1, e.2, omega (arith, room, first));
   }
+
+  -- and have room for all that comes of the workload
+  minted_many : length (genesis_hashes (mint_of seed n)) ≡ length (mint_of seed n)
+  minted_many = made_length (genesis_id (mint_of seed n)) 0 (mint_of seed n)
+
+  all_many : all_txs (files_of seed n) ≡ n
+  all_many =
+      let a = length-map-range_with_len (split_of seed n (genesis_id (mint_of seed n))) 0 (minted_of n) in
+      let b = length-map-range_with_len (join_of seed n (genesis_id (mint_of seed n))) 0 (joined_of n) in
+      omega (arith, a, b)
+
+  small_files : AllSmall (files_of seed n)
+  small_files = (
+    each_small (split_of seed n (genesis_id (mint_of seed n))) (λ i. omega arith) 0 (minted_of n),
+    (each_small (join_of seed n (genesis_id (mint_of seed n))) (λ i. omega arith) 0 (joined_of n), tt),
+  )
+    where
+      each_small : (f : ℕ → FullTx) → ((i : ℕ) → length (f i).inputs + length (f i).outputs ≤ 3) → (k m : ℕ) → AreSmall (map f (range_with_len k m))
+      each_small f each k zero = tt
+      each_small f each k (suc m) = (each k, each_small f each (k + 1) m)
+
+  pub workload_fits : (rack : PlainRack) → IsWithinLimits K → ((node : ℕ) → node < node_count K → IsEmptyAt rack (4096 + 400 * n) node) → HaveRoom K (mint_of seed n) (files_of seed n) rack
+  workload_fits rack limits empty =
+      new_room K (minted (mint_of seed n)) (sound_by all_good) (λ node. limit_at room_of (disk_at rack node)) (files_of seed n) limits small_files (omega (arith, all_many, small)) (
+        (λ node low. (let e = empty node (omega (arith, low)) in omega (arith, all_many, ap (limit_at room_of) e.1, e.3))),
+        (λ node high inside. (let e = empty node inside in omega (arith, all_many, minted_many, minted_few, ap (limit_at room_of) e.1, e.3))),
+      )

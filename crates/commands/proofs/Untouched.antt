@@ -73,8 +73,8 @@ module _ {D : Type 0} (content : D → Option (List ℕ)) (images : D → List �
   not_unopened held before now a is = not_refused a (unopened_kind content images limit count held before now None a is)
 
   pub not_turned : (held new : ℕ → Option D) (before now : ℕ → ℕ) (next : Shape → (ℕ → List Record) → (ℕ → List Record) → ℕ → List Compact → Type 0)
-      (ends : Shape → (ℕ → List Record) → (ℕ → List Record) → (ℕ → Type 0) → (ℕ → ℕ → Type 0) → LaneFault → Type 0) (handed : List (List FullTx)) (a : Answer) → WhyNoTurns content images limit count held new before now next ends handed a → IsBeforeDisks a → ⊥
-  not_turned held new before now next ends handed a is =
+      (ends : Shape → (ℕ → List Record) → (ℕ → List Record) → (ℕ → Type 0) → (ℕ → ℕ → Type 0) → LaneFault → Type 0) (begun : Shape → (ℕ → List Record) → (ℕ → List Record) → Type 0) (handed : List (List FullTx)) (a : Answer) → WhyNoTurns content images limit count held new before now next ends begun handed a → IsBeforeDisks a → ⊥
+  not_turned held new before now next ends begun handed a is =
       ⊎_elim
       (λ unopened. ⊎_elim (λ closed. not_unopened held before now a closed)
       (λ other. ⊎_elim (λ unsound. subst (λ b. IsBeforeDisks b → ⊥) (sym unsound.told) (λ none. none)) (λ memory. subst (λ b. IsBeforeDisks b → ⊥) (sym memory) (λ none. none)) other) unopened.0)
@@ -82,8 +82,8 @@ module _ {D : Type 0} (content : D → Option (List ℕ)) (images : D → List �
 
   -- where a run or a recovery did not come through, all was not done
   pub not_done : (held new : ℕ → Option D) (before now : ℕ → ℕ) (next : Shape → (ℕ → List Record) → (ℕ → List Record) → ℕ → List Compact → Type 0)
-      (ends : Shape → (ℕ → List Record) → (ℕ → List Record) → (ℕ → Type 0) → (ℕ → ℕ → Type 0) → LaneFault → Type 0) (handed : List (List FullTx)) (a : Answer) → WhyNoTurns content images limit count held new before now next ends handed a → IsWell a → ⊥
-  not_done held new before now next ends handed a is =
+      (ends : Shape → (ℕ → List Record) → (ℕ → List Record) → (ℕ → Type 0) → (ℕ → ℕ → Type 0) → LaneFault → Type 0) (begun : Shape → (ℕ → List Record) → (ℕ → List Record) → Type 0) (handed : List (List FullTx)) (a : Answer) → WhyNoTurns content images limit count held new before now next ends begun handed a → IsWell a → ⊥
+  not_done held new before now next ends begun handed a is =
       ⊎_elim
       (λ unopened. ⊎_elim (λ closed. refused_alone a (unopened_kind content images limit count held before now None a closed))
       (λ other. ⊎_elim (λ unsound. subst (λ b. IsWell b → ⊥) (sym unsound.told) (λ none. none)) (λ memory. subst (λ b. IsWell b → ⊥) (sym memory) (λ none. none)) other) unopened.0)
@@ -91,10 +91,10 @@ module _ {D : Type 0} (content : D → Option (List ℕ)) (images : D → List �
 
   -- what it leaves
   pub turns_leave : (held new : ℕ → Option D) (before now : ℕ → ℕ) (next : Shape → (ℕ → List Record) → (ℕ → List Record) → ℕ → List Compact → Type 0)
-      (ends : Shape → (ℕ → List Record) → (ℕ → List Record) → (ℕ → Type 0) → (ℕ → ℕ → Type 0) → LaneFault → Type 0) (handed : List (List FullTx)) (a : Answer) → WhyNoTurns content images limit count held new before now next ends handed a
+      (ends : Shape → (ℕ → List Record) → (ℕ → List Record) → (ℕ → Type 0) → (ℕ → ℕ → Type 0) → LaneFault → Type 0) (begun : Shape → (ℕ → List Record) → (ℕ → List Record) → Type 0) (handed : List (List FullTx)) (a : Answer) → WhyNoTurns content images limit count held new before now next ends begun handed a
       → TurnsLeave content images limit held new handed
-  turns_leave held new before now next ends handed a (inl (why, back)) = inl back
-  turns_leave held new before now next ends handed a (inr fault) = inr (fault.exit, fault.kept)
+  turns_leave held new before now next ends begun handed a (inl (why, back)) = inl back
+  turns_leave held new before now next ends begun handed a (inr fault) = inr (fault.exit, fault.kept)
 
 -- of these answers a ledger that is not made gives one alone
 too_much_alone : {D : Type 0} (K : Shape) (mint : List Output) (content : D → Option (List ℕ)) (limit : D → ℕ) (held : ℕ → Option D) (before now : ℕ → ℕ) (P : Type 0) (a : Answer)

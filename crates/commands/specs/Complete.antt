@@ -7,13 +7,18 @@ use Rattle.cbdc_model.specs.Clean.{Clean}
 use Rattle.cbdc_model.specs.Due.{used_of}
 use Rattle.cbdc_model.specs.World.{AreIdle}
 use Rattle.command_line.specs.declared.request.Request.{Request}
-use Rattle.command_line.specs.declared.request.Request.TheVariants.{Init, Status, Audit, Show}
+use Rattle.command_line.specs.declared.request.Request.TheVariants.{Init, Run, Recover, Status, Audit, Gen, Show}
+use Rattle.verifier_port.specs.Files.{told}
+use Rattle.verifier_port.specs.declared.file.VerdictFile.{VerdictFile}
+use Rattle.sound_laws.specs.SoundTest.{sound_by}
 use Rattle.word_laws.specs.Refused.{AreWhole}
 use Rattle.word_laws.specs.Single.{names_of}
 use Rattle.input_files.specs.Contents.{mint_of_file}
 use Rattle.file_runs.specs.Runs.{joined}
+use Rattle.workload.specs.Generator.{mint_of}
+use Rattle.workload_laws.specs.Files.{all_of}
 use Rattle.rack_laws.specs.Shown.{node_count}
-use Rattle.complete_laws.specs.Files.{HoldsFile, HoldClients}
+use Rattle.complete_laws.specs.Files.{HoldsFile, HoldsVerdicts, HoldClients}
 use Rattle.complete_laws.specs.Making.{CanMake}
 use Rattle.complete_laws.specs.Ready.{IsReady, ShowsKept, NoneRises, limit_at}
 
@@ -23,6 +28,14 @@ pub record CanInit {D : Type 0} (files : Text → Option (List ℕ)) (files_befo
   pub holds : HoldsFile files files_before files_now mint_of_file name mint
   pub can : CanMake content limit held shape mint
   pub steady : NoneRises shape before now
+
+-- the files hold verdicts and transactions, and the disks show a kept ledger, with room and stamps for all that is to come of them
+pub record CanRun {D : Type 0} (files : Text → Option (List ℕ)) (files_before files_now : Text → ℕ) (content : D → Option (List ℕ)) (limit : D → ℕ) (held : ℕ → Option D) (before now : ℕ → ℕ) (verdicts : Text) (clients : List Text) : Type 0 where
+  pub known : VerdictFile
+  pub handed : List (List FullTx)
+  pub knows : HoldsVerdicts files files_before files_now verdicts known
+  pub holds : HoldClients files files_before files_now 0 clients handed
+  pub ready : IsReady content limit held before now (sound_by (told known)) handed
 
 -- the files hold the mint of the ledger that the disks show and transactions of which it is kept, all batches of which are at their end; no hashes
 -- clash, what the disks hold is within their limits, and none fails
@@ -43,12 +56,15 @@ pub record CanAudit {D : Type 0} (files : Text → Option (List ℕ)) (files_bef
 abbrev pub none_sound : FullTx → Bool
 none_sound t = false
 
--- nothing hinders what is asked: its files are read, its disks tell what it is about and have the room for it, and none of them fails; of runs,
--- recoveries and workloads nothing is said
+-- nothing hinders what is asked: its files are read, its disks tell what it is about and have the room for it, and none of them fails; no hashes of a
+-- workload clash
 abbrev pub IsUnhindered : {D : Type 0} → (Text → Option (List ℕ)) → (Text → ℕ) → (Text → ℕ) → (D → Option (List ℕ)) → (D → ℕ) → (ℕ → Option D) → (ℕ → ℕ) → (ℕ → ℕ) → Request → Type 0
 IsUnhindered files files_before files_now content limit held before now (Init shape mint) = CanInit files files_before files_now content limit held before now shape mint.name.now
+IsUnhindered files files_before files_now content limit held before now (Run verdicts clients) =
+    CanRun files files_before files_now content limit held before now verdicts.name.now (names_of clients.items)
+IsUnhindered files files_before files_now content limit held before now Recover = IsReady content limit held before now none_sound []
 IsUnhindered files files_before files_now content limit held before now (Status hashes) = AreWhole hashes.items × IsReady content limit held before now none_sound []
 IsUnhindered files files_before files_now content limit held before now (Audit mint clients) =
     CanAudit files files_before files_now content limit held before now mint.name.now (names_of clients.items)
+IsUnhindered files files_before files_now content limit held before now (Gen shape seed count) = Clean (mint_of seed count) (all_of seed count)
 IsUnhindered files files_before files_now content limit held before now (Show text) = Unit {0}
-IsUnhindered files files_before files_now content limit held before now other = ⊥

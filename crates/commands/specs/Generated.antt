@@ -1,22 +1,16 @@
 -- What `gen` comes to: a ledger of the workload's mint is made in nodes of its own, the workload's files are run over it, and it is audited.
 use Rattle.std.specs.List.{range_with_len}
-use Rattle.std.specs.Prelude.{◌≡◌, ◌⊎◌, ◌+◌, ◌-◌, ◌*◌, ◌/◌, ◌++◌, ℕ, zero, suc, length, List, reverse, Some}
+use Rattle.std.specs.Prelude.{◌≡◌, ◌⊎◌, ◌+◌, ◌-◌, ◌*◌, ◌/◌, ◌++◌, ℕ, zero, suc, length, List, reverse}
 use Rattle.line_text.specs.Lines.{Text, summary_text}
 use Rattle.cbdc_types.specs.declared.answer.Answer.{Answer}
 use Rattle.cbdc_types.specs.declared.answer.Answer.TheVariants as answers
 use Rattle.cbdc_types.specs.declared.answer.UnsoundKind.{UnsoundKind}
 use Rattle.cbdc_model.specs.Records.{Shape, Record, Row, journal}
-use Rattle.cbdc_model.specs.Coins.{Output, FullTx, genesis_id}
+use Rattle.cbdc_model.specs.Coins.{Output, FullTx}
 use Rattle.cbdc_model.specs.Clean.{Clean}
 use Rattle.cbdc_model.specs.History.{IsOrdered}
-use Rattle.cbdc_model.specs.Lanes.{IsEnd}
 use Rattle.cbdc_model.specs.World.{KeptJournals}
 use Rattle.cbdc_model.specs.Waves.{Waves, share}
-use Rattle.plain_rack.specs.declared.plain_rack.PlainRack.{PlainRack}
-use Rattle.plain_rack.specs.Places.{faults_at}
-use Rattle.plain_rack.specs.Racks.{disk_at, bytes_told, bytes_left, room_of, faults_of}
-use Rattle.rack_laws.specs.Shown.{Shows}
-use Rattle.rack_ledgers.specs.Ledgers.{IsUnopenedBy}
 use Rattle.sound_laws.specs.SoundTest.{sound_by}
 use Rattle.audit.specs.declared.verdict.Totals.{Totals}
 use Rattle.audit.specs.declared.verdict.Verdict.{Verdict}
@@ -89,21 +83,6 @@ PrintsWorkload printed K seed n = (text : Text) × IsWorkloadText K seed n text 
 
 -- ---- why a workload was not done
 
--- the ledger of a mint stands on disks in memory with these journals, and could not be opened
-pub record IsUnopenedThere (K : Shape) (mint : List Output) (submissions : List FullTx) (answer : Answer) : Type 0 where
-  pub old : PlainRack
-  pub new : PlainRack
-  pub journals : ℕ → List Record
-  pub kept : KeptJournals K mint submissions journals
-  pub shows : Shows bytes_told (disk_at old) K (genesis_id mint) journals
-  pub why : IsUnopenedBy bytes_told bytes_left room_of faults_of (disk_at old) (faults_at old.misses) (faults_at new.misses) (Some (genesis_id mint)) answer
-
--- a run of the workload was cut short: the journals have grown at their ends, and are kept
-pub record IsCutWorkload (K : Shape) (seed n : ℕ) : Type 0 where
-  pub exit : ℕ → List Record
-  pub grows : (node : ℕ) → IsEnd (made_for K seed n node) (exit node)
-  pub kept : KeptJournals K (mint_of seed n) (all_of seed n) exit
-
 -- an audit found this behind a run, which it does only where two outputs of the workload share a hash, or two transactions an id
 pub record IsUnsoundWorkload (K : Shape) (seed n place : ℕ) (kind : UnsoundKind) : Type 0 where
   pub exit : ℕ → List Record
@@ -111,17 +90,8 @@ pub record IsUnsoundWorkload (K : Shape) (seed n place : ℕ) (kind : UnsoundKin
   pub audited : HasVerdictOf K (mint_of seed n) (all_of seed n) exit (Unsound place kind)
   pub unclean : Clean (mint_of seed n) (all_of seed n) → ⊥
 
--- why a workload was not done: the nodes could not be opened, a lane of its run met a fault, or its audit found something wrong
-abbrev pub IsStoppedWorkload : Shape → ℕ → ℕ → Answer → Type 0
-IsStoppedWorkload K seed n answer = IsUnopenedThere K (mint_of seed n) (all_of seed n) answer ⊎ IsCutWorkload K seed n
-
+-- why a workload was not done: its audit found something wrong, or memory ran out
 abbrev pub WhyNoWorkload : Shape → ℕ → ℕ → Answer → Type 0
-WhyNoWorkload K seed n (answers.NotReady node) = IsUnopenedThere K (mint_of seed n) (all_of seed n) (answers.NotReady node)
-WhyNoWorkload K seed n (answers.Foreign node kept asked) = IsUnopenedThere K (mint_of seed n) (all_of seed n) (answers.Foreign node kept asked)
-WhyNoWorkload K seed n (answers.Damaged node at) = IsUnopenedThere K (mint_of seed n) (all_of seed n) (answers.Damaged node at)
-WhyNoWorkload K seed n (answers.Full node used need capacity) = IsStoppedWorkload K seed n (answers.Full node used need capacity)
-WhyNoWorkload K seed n (answers.DiskFault node) = IsStoppedWorkload K seed n (answers.DiskFault node)
-WhyNoWorkload K seed n (answers.ClockEnd node stamp) = IsCutWorkload K seed n
 WhyNoWorkload K seed n (answers.Unsound place kind) = IsUnsoundWorkload K seed n place kind
 WhyNoWorkload K seed n answers.Memory = Unit {0}
 WhyNoWorkload K seed n other = ⊥

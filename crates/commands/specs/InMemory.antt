@@ -2,7 +2,6 @@
 use Rattle.std.specs.Prelude.{◌≡◌, ◌⊎◌, ◌+◌, ◌^◌, ◌<◌, ◌≤◌, ℕ, List, [], length, Some}
 use Rattle.cbdc_types.specs.Limits.{IsWithinLimits}
 use Rattle.cbdc_types.specs.declared.answer.Answer.{Answer}
-use Rattle.cbdc_types.specs.declared.answer.Answer.TheVariants as answers
 use Rattle.cbdc_model.specs.Records.{Shape, Record}
 use Rattle.cbdc_model.specs.Clean.{value_out}
 use Rattle.cbdc_model.specs.Coins.{Output, FullTx}
@@ -11,19 +10,21 @@ use Rattle.mem_devices.specs.declared.plain_disk.PlainDisk.{PlainDisk}
 use Rattle.plain_rack.specs.declared.plain_rack.PlainRack.{PlainRack}
 use Rattle.plain_rack.specs.Places.{faults_at}
 use Rattle.plain_rack.specs.Racks.{disk_at, bytes_told, bytes_left, room_of, faults_of}
+use Rattle.ample_laws.specs.Ample.{Ample}
+use Rattle.sound_laws.specs.SoundTest.{sound_by}
+use Rattle.complete_laws.specs.Ready.{limit_at}
 use Rattle.ledger_init.specs.Made.{node_count, first_of}
 use Rattle.line_text.specs.Lines.{Text, summary_text}
 use Rattle.audit.specs.declared.verdict.Totals.{Totals}
 use Rattle.audit.specs.declared.verdict.Verdict.TheVariants.{Sound}
 use Rattle.audited_ledgers.specs.Audited.{IsAudited}
-use Rattle.rack_runs.specs.Runs.{IsCutShort}
 use Rattle.rack_runs.specs.Telling.{IsTold}
 use Rattle.rack_runs.specs.declared.over.Ran.{Ran}
 use Rattle.printed_lines.specs.Runs.{is_confirmed, is_rejected, is_refused}
 use Rattle.workload.specs.Generator.{mint_of}
 use Rattle.commands.specs.Audits.{IsUnsoundBy, WhyUnopened}
 use Rattle.commands.specs.Told.{told_total, batches_told, IsCountable}
-use Rattle.commands.specs.Generated.{all_good, all_of, first_journals, IsWorkloadRun, HasVerdictOf, EndsWorkload, IsUnopenedThere}
+use Rattle.commands.specs.Generated.{all_good, all_of, first_journals, IsWorkloadRun, HasVerdictOf, EndsWorkload}
 
 -- empty disks, each with room for the first record of its node
 pub record AreReady (K : Shape) (mint : List Output) (rack : PlainRack) : Type 0 where
@@ -31,22 +32,13 @@ pub record AreReady (K : Shape) (mint : List Output) (rack : PlainRack) : Type 0
   pub fits : value_out mint < 2 ^ 64
   pub empty : (node : ℕ) → node < node_count K → (d : PlainDisk) × (disk_at rack node ≡ Some d) × (d.bytes.items ≡ []) × (size_of (first_of K mint node) + 1 ≤ d.capacity)
 
+-- they have room and stamps for every record that is to come of files
+abbrev pub HaveRoom : Shape → List Output → List (List FullTx) → PlainRack → Type 0
+HaveRoom K mint files rack = Ample K (sound_by all_good) (λ n. limit_at room_of (disk_at rack n)) files (first_journals K mint)
+
 -- files were run over the ledger that a mint began in memory, and the run tells what it did
 abbrev pub TellsRunOf : Shape → List Output → List (List FullTx) → PlainRack → Ran → Type 0
 TellsRunOf K mint files rack ran = IsTold bytes_left (disk_at rack) all_good files ran K mint [] (first_journals K mint)
-
--- the answers that a lane's fault gives
-abbrev pub IsLaneKind : Answer → Type 0
-IsLaneKind (answers.DiskFault node) = Unit {0}
-IsLaneKind (answers.Full node used need capacity) = Unit {0}
-IsLaneKind (answers.ClockEnd node stamp) = Unit {0}
-IsLaneKind answers.Memory = Unit {0}
-IsLaneKind other = ⊥
-
--- files were not run: memory ran out, or the nodes could not be opened, or a lane met a fault
-abbrev pub IsUnrun : Shape → List Output → List (List FullTx) → PlainRack → Answer → Type 0
-IsUnrun K mint files rack answer =
-    (answer ≡ answers.Memory) ⊎ (IsUnopenedThere K mint [] answer ⊎ (IsLaneKind answer × ((exit : ℕ → List Record) × IsCutShort bytes_left room_of (disk_at rack) files exit K mint [] (first_journals K mint))))
 
 -- the numbers that end the text of a run
 abbrev pub numbers_of : Ran → Text

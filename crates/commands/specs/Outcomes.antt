@@ -35,7 +35,7 @@ use Rattle.lane_driver.specs.declared.fault.LaneFault.{LaneFault}
 use Rattle.ledger_runs.specs.Least.{IsLeastOpen}
 use Rattle.file_runs.specs.Runs.{joined}
 use Rattle.rack_runs.specs.Endings.{EndsRun}
-use Rattle.rack_runs.specs.Runs.{IsGrown, IsRun, IsRecovered, IsLaneFault, NothingNext, PieceNext}
+use Rattle.rack_runs.specs.Runs.{IsGrown, IsRun, IsRecovered, IsLaneFault, NonePrepared, NothingNext, PieceNext, PiecesPrepared}
 use Rattle.commands.specs.Audits.{DidAudit, WhyNoAudit}
 use Rattle.commands.specs.Generated.{PrintsWorkload, WhyNoWorkload}
 pub use Rattle.commands.specs.Generated.{first_journals}
@@ -127,10 +127,11 @@ WhyNoInit files files_before files_now content limit disks disks_before disks_no
 -- all caused a lane met a fault, its answer has its cause, and it is the least lane's that met one: the ledger's journals have grown at their ends, and
 -- are kept, each by its disk, with one record more or without, and whatever a crash leaves of them
 abbrev pub WhyNoTurns : {D : Type 0} → (D → Option (List ℕ)) → (D → List ℕ → Type 0) → (D → ℕ) → (D → ℕ) → (ℕ → Option D) → (ℕ → Option D) → (ℕ → ℕ) → (ℕ → ℕ) → (Shape → (ℕ → List Record) → (ℕ → List Record) → ℕ → List Compact → Type 0)
-    → (Shape → (ℕ → List Record) → (ℕ → List Record) → (ℕ → Type 0) → (ℕ → ℕ → Type 0) → LaneFault → Type 0) → List (List FullTx) → Answer → Type 0
-WhyNoTurns content images limit count disks now disks_before disks_now next ends handed answer =
+    → (Shape → (ℕ → List Record) → (ℕ → List Record) → (ℕ → Type 0) → (ℕ → ℕ → Type 0) → LaneFault → Type 0)
+    → (Shape → (ℕ → List Record) → (ℕ → List Record) → Type 0) → List (List FullTx) → Answer → Type 0
+WhyNoTurns content images limit count disks now disks_before disks_now next ends begun handed answer =
     (IsUnresumed content images limit count disks disks_before disks_now answer × ((n : ℕ) → IsBack images limit (disks n) (now n)))
-    ⊎ IsLaneFault content images limit disks now disks_before disks_now next ends handed answer
+    ⊎ IsLaneFault content images limit disks now disks_before disks_now next ends begun handed answer
 
 -- a client file is the first that is not read; or all client files were read, and the verdicts are not; or all were read and could not be run
 abbrev pub WhyNoRun : {D : Type 0} → (Text → Option (List ℕ)) → (Text → ℕ) → (Text → ℕ) → (D → Option (List ℕ)) → (D → List ℕ → Type 0) → (D → ℕ) → (D → ℕ) → (ℕ → Option D) → (ℕ → Option D) → (ℕ → ℕ) → (ℕ → ℕ)
@@ -139,7 +140,7 @@ WhyNoRun files files_before files_now content images limit count disks now disks
     FirstNotRead files files_before files_now clients answer
     ⊎ ((handed : List (List FullTx)) × AreRead files 0 clients handed
     × (IsNoVerdicts verdicts.place (files verdicts.name.now) (files_before verdicts.name.now) (files_now verdicts.name.now) answer
-    ⊎ ((known : VerdictFile) × AreVerdicts (files verdicts.name.now) known × WhyNoTurns content images limit count disks now disks_before disks_now (PieceNext (told known) handed) (EndsRun (told known) handed) handed answer)))
+    ⊎ ((known : VerdictFile) × AreVerdicts (files verdicts.name.now) known × WhyNoTurns content images limit count disks now disks_before disks_now (PieceNext (told known) handed) (EndsRun (told known) handed) (PiecesPrepared (told known) handed) handed answer)))
 
 -- the ledger could not be opened, and the disks are back as they were read
 abbrev pub WhyNoStatus : {D : Type 0} → (D → Option (List ℕ)) → (D → List ℕ → Type 0) → (D → ℕ) → (D → ℕ) → (ℕ → Option D) → (ℕ → Option D) → (ℕ → ℕ) → (ℕ → ℕ) → Answer → Type 0
@@ -153,7 +154,7 @@ Why files files_before files_now content images limit count disks now disks_befo
 Why files files_before files_now content images limit count disks now disks_before disks_now (Run verdicts clients) answer =
     WhyNoRun files files_before files_now content images limit count disks now disks_before disks_now verdicts clients.items answer
 Why files files_before files_now content images limit count disks now disks_before disks_now Recover answer =
-    WhyNoTurns content images limit count disks now disks_before disks_now NothingNext IsLeastOpen [] answer
+    WhyNoTurns content images limit count disks now disks_before disks_now NothingNext IsLeastOpen NonePrepared [] answer
 Why files files_before files_now content images limit count disks now disks_before disks_now (Status hashes) answer =
     WhyNoStatus content images limit count disks now disks_before disks_now answer
 Why files files_before files_now content images limit count disks now disks_before disks_now (Gen shape seed size) answer = ((n : ℕ) → now n ≡ disks n) × WhyNoWorkload shape seed size answer

@@ -4,7 +4,7 @@ ghost use Rattle.outside.specs.Counts.{Rose};
 ghost use Rattle.cbdc_types.specs.Limits.{IsWithinLimits};
 ghost use Rattle.commands.specs.Causes.{IsDone, IsTold, IsWell};
 ghost use Rattle.commands.specs.Generated.{files_of as files_from, PrintsWorkload, WhyNoWorkload};
-ghost use Rattle.commands.specs.InMemory.{AreReady, TellsRunOf, IsUnrun, IsCheckedSound, IsUnchecked, CameTo};
+ghost use Rattle.commands.specs.InMemory.{AreReady, HaveRoom, TellsRunOf, IsCheckedSound, IsUnchecked, CameTo};
 ghost use Rattle.commands.specs.Texts.{IsPrinted, IsSilent};
 ghost use Rattle.file_runs.specs.Runs.{joined as all_joined};
 ghost use Rattle.input_files.specs.Limits.{IsShort};
@@ -85,8 +85,9 @@ fn run_files<W: Wait, G: Gate>(
     requires few { length mint ≤ 1000000 }
     requires short { All (λ txs. All IsShort txs) clients.now }
     requires ready { AreReady shape.now mint rack.old }
+    requires room { HaveRoom shape.now mint clients.now rack.old }
     ensures did { IfOk result (TellsRunOf shape.now mint clients.now rack.new) }
-    ensures why { IfErr result (IsUnrun shape.now mint clients.now rack.new) }
+    ensures why { IfErr result (λ e. e ≡ Answer.Memory) }
     ensures back { AllIn rack.new }
 {
     let Made {

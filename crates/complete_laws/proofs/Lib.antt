@@ -1,9 +1,11 @@
 pub mod Audited
 pub mod Caused
 pub mod Files
+pub mod Lanes
 pub mod Making
 pub mod Openings
 pub mod Rooms
 pub mod Sound
 mod Spelling
 pub mod Verdicts
+pub mod Small

@@ -2,3 +2,4 @@ pub mod Files
 pub mod Making
 pub mod Openings
 pub mod Ready
+pub mod Small

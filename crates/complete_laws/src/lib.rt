@@ -9,6 +9,7 @@ ghost use Rattle.cbdc_model.specs.Records.{Record, Shape};
 ghost use Rattle.caused_ledgers.specs.Caused.{IsUnsound};
 ghost use Rattle.complete_laws.specs.Openings.{NodeOpensLaw};
 ghost use Rattle.complete_laws.specs.Ready.{HasKeptRoom, NoneRises, ShowsKept, limit_at};
+ghost use Rattle.complete_laws.specs.Small.{NewRoomLaw};
 ghost use Rattle.rack_nodes.specs.Asked.{IsCoordinator, IsShardNode};
 ghost use Rattle.rack_ledgers.specs.Ledgers.{IsUnopened, IsUnopenedBy};
 
@@ -34,4 +35,9 @@ pub fn ledger_opens_law<R: Rack>(old: &R, new: &R)
     ensures caused { (K : Shape) (mint : List Output) (submissions : List FullTx) (E : ℕ → List Record) (answer : Told)
         → ShowsKept R.Disk.content (R.held old.now) K mint submissions E
         → IsUnsound R.Disk.content R.Disk.images R.Disk.limit R.Disk.count (R.held old.now) answer → ⊥ }
+{}
+
+/// A new ledger has room and stamps for small transactions, by so many bytes for each.
+pub fn new_room_law()
+    ensures { NewRoomLaw }
 {}

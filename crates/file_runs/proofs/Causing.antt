@@ -12,12 +12,12 @@ use Rattle.ledger_laws.proofs.Cuts.{end_self}
 use Rattle.submissions.specs.Checks.{VerdictsOf, AreSent}
 use Rattle.lane_driver.specs.declared.fault.LaneFault.{LaneFault}
 use Rattle.ledger_runs.specs.Waving.{HaveSent, FirstFaultIs}
-use Rattle.ledger_runs.specs.Pieces.{HasPreparedAll, IsNextPiece, HavePreparedAll}
+use Rattle.ledger_runs.specs.Pieces.{HasPreparedAll, HasBegun, IsNextPiece, HaveBegun, HavePreparedAll}
 use Rattle.ledger_runs.specs.Faults.{IsRunCause, HaveCauses}
 use Rattle.ledger_runs.specs.declared.lanes.Lane.{Lane}
 use Rattle.ledger_runs.proofs.WaveKeeping.{at_place}
 use Rattle.ledger_runs.proofs.Faulting.{cause_since, cause_any, run_moves}
-use Rattle.file_runs.specs.Runs.{AreLanesOf, HavePreparedFile, HavePreparedFiles, IsSentPiece, IsFilesPiece}
+use Rattle.file_runs.specs.Runs.{AreLanesOf, HavePreparedFile, HavePreparedFiles, IsSentPiece, IsFilesPiece, HaveBegunFile}
 use Rattle.file_runs.proofs.Pieces.{files_piece}
 
 -- the next piece of what a lane got is that of what the file sends it
@@ -43,6 +43,14 @@ pub file_done : (K : Shape) (verdicts : VerdictsOf) (file : List FullTx) (lists 
 file_done K verdicts file lists lanes after I J count are_sent are keeps have lane inside sound tells =
     let x : (x : Lane) × (slice_get after lane ≡ Some x) = at_place after lane (omega (arith, inside, count)) in
     subst (λ all. HasPreparedAll K lane all I J) (keeps (sent_to K sound file) (λ l y t. are_sent sound tells l y.txs (are.each l y t)) lane x.0 x.1) (have lane x.0 x.1)
+
+-- with a fault or without each lane has begun with it
+pub file_begun : (K : Shape) (verdicts : VerdictsOf) (file : List FullTx) (lists : List (Vec CompactTx)) (lanes after : List Lane) (I J : ℕ → List Record)
+    → length after ≡ K.coordinators * K.lanes → AreSent K verdicts file lists → AreLanesOf lists lanes → ((sent : ℕ → List Compact) → HaveSent sent lanes → HaveSent sent after)
+    → HaveBegun K I J after → HaveBegunFile K verdicts file I J
+file_begun K verdicts file lists lanes after I J count are_sent are keeps have lane inside sound tells =
+    let x : (x : Lane) × (slice_get after lane ≡ Some x) = at_place after lane (omega (arith, inside, count)) in
+    subst (λ all. HasBegun K lane all I J) (keeps (sent_to K sound file) (λ l y t. are_sent sound tells l y.txs (are.each l y t)) lane x.0 x.1) (have lane x.0 x.1)
 
 -- a fault of one of the files
 pub files_cause : (K H : Shape) (verdicts : VerdictsOf) (files : List (List FullTx)) (i : ℕ) (file : List FullTx) (E J L : ℕ → List Record) (failed : ℕ → Type 0) (holds : ℕ → ℕ → Type 0)

@@ -1,16 +1,16 @@
 -- The pieces of what files send to a lane, and which one is next.
-use Rattle.std.proofs.Common.{◌≡◌, ◌⊎◌, inl, inr, ℕ, zero, suc, ◌+◌, ◌<◌, Bool, List, [], ◌∷◌, ◌++◌, length, take, drop, min, get_or, refl, sym, ap, ◌∙◌, subst, arith, length-take}
+use Rattle.std.proofs.Common.{◌≡◌, ◌⊎◌, inl, inr, ℕ, zero, suc, ◌+◌, ◌<◌, ◌≤◌, Bool, List, [], ◌∷◌, ◌++◌, length, take, drop, min, get_or, refl, sym, ap, ◌∙◌, subst, arith, length-take}
 use Rattle.std.specs.Prelude.{reverse}
-use Rattle.std.proofs.lemmas.List.{append_assoc, append-nil, reverse-append, take-append-drop}
+use Rattle.std.proofs.lemmas.List.{append_assoc, append-nil, reverse-append, take_all, take-append-drop}
 use Rattle.cbdc_model.specs.Records.{Shape, Compact, Record}
 use Rattle.cbdc_model.specs.Ranges.{home_of}
 use Rattle.cbdc_model.specs.Coins.{FullTx}
 use Rattle.cbdc_model.specs.Waves.{IsCut, prepared, sent_to}
 use Rattle.submissions.specs.Checks.{VerdictsOf, TellsSound}
 use Rattle.ledger_runs.specs.Turning.{IsLaneOf}
-use Rattle.ledger_runs.specs.Pieces.{HasPrepared, IsNextOf, IsNextPiece}
+use Rattle.ledger_runs.specs.Pieces.{HasPrepared, HasBegun, IsNextOf, IsNextPiece}
 use Rattle.ledger_runs.proofs.Preparing.{cut_of}
-use Rattle.file_runs.specs.Runs.{HavePreparedFile, HavePreparedFiles, IsSentPiece, AreFilesPieces, IsFilesPiece}
+use Rattle.file_runs.specs.Runs.{HavePreparedFile, HavePreparedFiles, IsSentPiece, AreFilesPieces, IsFilesPiece, HaveBegunFile, HaveBegunFiles}
 use Rattle.file_runs.proofs.Joining.{so_far}
 
 -- where something is cut, pieces are of one transaction at least
@@ -86,3 +86,34 @@ files_piece K verdicts files i file I J L lane txs low is so inside piece sound 
         split_all : (a ps d m b : List (List Compact)) → ps ≡ d ++ txs ∷ m → (a ++ ps) ++ b ≡ (a ++ d) ++ txs ∷ (m ++ b)
         split_all a ps d m b e =
             append_assoc a ps b ∙ ap (λ l. a ++ (l ++ b)) e ∙ ap (λ l. a ++ l) (append_assoc d (txs ∷ m) b) ∙ sym (append_assoc a d (txs ∷ (m ++ b)))
+
+-- ---- whether a lane has stopped or not
+
+-- nothing was done
+pub file_unbegun : (K : Shape) (verdicts : VerdictsOf) (file : List FullTx) (I : ℕ → List Record) → 0 < K.batch → HaveBegunFile K verdicts file I I
+file_unbegun K verdicts file I some lane inside sound tells = let pieces = cut_of K.batch (sent_to K sound file lane) some in ([], pieces.0, pieces.1, refl)
+
+pub files_unbegun : (K : Shape) (verdicts : VerdictsOf) (files : List (List FullTx)) (I : ℕ → List Record) → 0 < K.batch → HaveBegunFiles K verdicts files I I
+files_unbegun K verdicts files I some lane inside sound tells = let pieces = pieces_of K sound lane files some in ([], pieces.0, pieces.1, refl)
+
+-- what was begun of a file behind others is begun of all
+pub files_begun : (K H : Shape) (verdicts : VerdictsOf) (files : List (List FullTx)) (i : ℕ) (file : List FullTx) (I J L : ℕ → List Record) → H ≡ K → i < length files → file ≡ get_or files i file
+    → HavePreparedFiles K verdicts (take i files) I J → (0 < H.batch → HaveBegunFile H verdicts file J L) → 0 < K.batch → HaveBegunFiles K verdicts files I L
+files_begun K H verdicts files i file I J L same low is so begun some lane inside sound tells =
+    let was = so lane inside sound tells in
+    let (done, more, cut, has) = subst (λ k. 0 < k.batch → HaveBegunFile k verdicts file J L) same begun some lane inside sound tells in
+    let later = pieces_of K sound lane (drop (i + 1) files) some in
+    let all : (take i files ++ file ∷ []) ++ drop (i + 1) files ≡ files = ap (λ fs. fs ++ drop (i + 1) files) (so_far files i file low is) ∙ take-append-drop (i + 1) files in
+    let pieces : AreFilesPieces K sound lane files ((was.0 ++ (done ++ more)) ++ later.0) =
+    subst (λ fs. AreFilesPieces K sound lane fs ((was.0 ++ (done ++ more)) ++ later.0)) all
+    (both_files K sound lane (take i files ++ file ∷ []) (drop (i + 1) files) (was.0 ++ (done ++ more)) later.0
+    (both_files K sound lane (take i files) (file ∷ []) was.0 (done ++ more) was.1 (one_file K sound lane file (done ++ more) cut)) later.1) in
+    let moved : (was.0 ++ (done ++ more)) ++ later.0 ≡ (was.0 ++ done) ++ (more ++ later.0) =
+    append_assoc was.0 (done ++ more) later.0 ∙ ap (λ l. was.0 ++ l) (append_assoc done more later.0) ∙ sym (append_assoc was.0 done (more ++ later.0)) in
+    (was.0 ++ done, more ++ later.0, subst (AreFilesPieces K sound lane files) moved pieces, both_prepared K lane was.0 done I J L was.2 has)
+
+-- what was prepared of all is begun
+pub files_all_begun : (K : Shape) (verdicts : VerdictsOf) (files : List (List FullTx)) (i : ℕ) (I J : ℕ → List Record) → length files ≤ i → HavePreparedFiles K verdicts (take i files) I J → HaveBegunFiles K verdicts files I J
+files_all_begun K verdicts files i I J past so lane inside sound tells =
+    let was = so lane inside sound tells in
+    (was.0, [], subst (AreFilesPieces K sound lane files) (sym (append-nil was.0)) (subst (λ fs. AreFilesPieces K sound lane fs was.0) (take_all i files past) was.1), was.2)

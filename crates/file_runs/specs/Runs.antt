@@ -7,7 +7,7 @@ use Rattle.cbdc_model.specs.Coins.{Output, FullTx}
 use Rattle.cbdc_model.specs.Waves.{IsCut, sent_to}
 use Rattle.submissions.specs.Checks.{VerdictsOf, TellsSound}
 use Rattle.ledger_runs.specs.Turning.{IsLaneOf}
-use Rattle.ledger_runs.specs.Pieces.{HasPrepared, HasPreparedAll, IsNextOf, IsNextPiece}
+use Rattle.ledger_runs.specs.Pieces.{HasPrepared, HasPreparedAll, IsNextOf, IsNextPiece, HasBegun}
 use Rattle.ledger_runs.specs.Flying.{AllMayCome}
 use Rattle.ledger_runs.specs.declared.lanes.Lane.{Lane}
 
@@ -43,6 +43,15 @@ IsFilesPiece K verdicts files I J lane txs =
 -- where what is in flight may come next at its node of journals I, so may it at journals J, with more submissions
 abbrev pub FliesWith : Shape → List FullTx → (ℕ → List Record) → (ℕ → List Record) → (ℕ → Option Record) → (ℕ → Option Record) → List Output → List FullTx → Type 0
 FliesWith K more I J before after mint submissions = AllMayCome K mint submissions I before → AllMayCome K mint (submissions ++ more) J after
+
+-- from journals I to J each lane has prepared the first of the pieces that a file sends it, in order, and nothing else
+abbrev pub HaveBegunFile : Shape → VerdictsOf → List FullTx → (ℕ → List Record) → (ℕ → List Record) → Type 0
+HaveBegunFile K verdicts file I J = (lane : ℕ) → IsLaneOf K lane → (sound : FullTx → Bool) → TellsSound verdicts sound → HasBegun K lane (sent_to K sound file lane) I J
+
+-- of those that files send it
+abbrev pub HaveBegunFiles : Shape → VerdictsOf → List (List FullTx) → (ℕ → List Record) → (ℕ → List Record) → Type 0
+HaveBegunFiles K verdicts files I J = (lane : ℕ) → IsLaneOf K lane → (sound : FullTx → Bool) → TellsSound verdicts sound
+    → (done : List (List Compact)) × (more : List (List Compact)) × AreFilesPieces K sound lane files (done ++ more) × HasPrepared K lane done I J
 
 -- a lane for each list, with its transactions, which has had no turn and has not stopped
 pub record AreLanesOf (lists : List (Vec CompactTx)) (lanes : List Lane) : Type 0 where

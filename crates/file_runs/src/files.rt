@@ -1,5 +1,5 @@
 // Client files, one after another.
-ghost use Rattle.std.specs.Prelude.{◌≡◌, ◌≤◌, ◌++◌, ℕ, Bool, List, All, IfOk, IfErr, OnOk};
+ghost use Rattle.std.specs.Prelude.{◌≡◌, ◌≤◌, ◌<◌, ◌++◌, ℕ, Bool, List, All, IfOk, IfErr, OnOk};
 ghost use Rattle.cbdc_model.specs.Records.{Record};
 ghost use Rattle.cbdc_model.specs.Coins.{FullTx as TxOf};
 ghost use Rattle.cbdc_model.specs.Lanes.{IsEnd};
@@ -9,7 +9,7 @@ ghost use Rattle.input_files.specs.Limits.{IsShort};
 ghost use Rattle.submissions.specs.Checks.{TellsSound};
 ghost use Rattle.ledger_runs.specs.Turning.{OfKept, StaysKept};
 ghost use Rattle.ledger_runs.specs.Faults.{IsRunCause, HaveFailed, MayHold};
-ghost use Rattle.file_runs.specs.Runs.{joined, IsFilesPiece, FliesWith};
+ghost use Rattle.file_runs.specs.Runs.{joined, IsFilesPiece, FliesWith, HaveBegunFiles};
 ghost use Rattle.file_runs.specs.Endings.{EndsFiles};
 ghost use Rattle.file_runs.specs.Telling.{TellFiles};
 
@@ -56,6 +56,9 @@ pub fn run_files<L: Turns, V: Verifier, G: Gate>(
     ensures capacity_same { (n : ℕ) → L.capacity ledger.new n ≡ L.capacity ledger.old n }
     ensures still { L.checked ledger.new }
     ensures grows { (n : ℕ) → IsEnd (L.journals ledger.old n) (L.journals ledger.new n) }
+
+    // With a fault or without, no lane has prepared anything but the first pieces of what the files send it.
+    ensures begun { 0 < (L.shape ledger.old).batch → HaveBegunFiles (L.shape ledger.old) (V.verdict_of verifier.now) files.now (L.journals ledger.old) (L.journals ledger.new) }
 
     // A fault has its cause: what an idle lane wants is the Prepare of the next piece of what the files send it.
     ensures fault { IfErr result (IsRunCause (L.shape ledger.old) (IsFilesPiece (L.shape ledger.old) (V.verdict_of verifier.now) files.now (L.journals ledger.old) (L.journals ledger.new)) (L.journals ledger.old) (L.journals ledger.new)

@@ -1,5 +1,5 @@
 // One client file: its submissions are checked, and the sound ones are a wave.
-ghost use Rattle.std.specs.Prelude.{◌≡◌, ◌≤◌, ◌++◌, ℕ, Bool, All, IfOk, IfErr, OnOk};
+ghost use Rattle.std.specs.Prelude.{◌≡◌, ◌≤◌, ◌<◌, ◌++◌, ℕ, Bool, All, IfOk, IfErr, OnOk};
 ghost use Rattle.cbdc_model.specs.Coins.{FullTx as TxOf};
 ghost use Rattle.cbdc_model.specs.Lanes.{IsEnd};
 ghost use Rattle.cbdc_model.specs.World.{AreIdle};
@@ -8,7 +8,7 @@ ghost use Rattle.input_files.specs.Limits.{IsShort};
 ghost use Rattle.submissions.specs.Checks.{TellsSound, AreChecked};
 ghost use Rattle.ledger_runs.specs.Turning.{OfKept, StaysKept};
 ghost use Rattle.ledger_runs.specs.Faults.{IsRunCause, HaveFailed, MayHold};
-ghost use Rattle.file_runs.specs.Runs.{AreLanesOf, HavePreparedFile, IsSentPiece, FliesWith};
+ghost use Rattle.file_runs.specs.Runs.{AreLanesOf, HavePreparedFile, IsSentPiece, FliesWith, HaveBegunFile};
 ghost use Rattle.file_runs.specs.Endings.{EndsFile};
 ghost use Rattle.file_runs.specs.Telling.{TellsFile};
 
@@ -77,6 +77,9 @@ pub fn run_file<L: Turns, V: Verifier, G: Gate>(
     ensures grows { (n : ℕ) → IsEnd (L.journals ledger.old n) (L.journals ledger.new n) }
 
     ensures prepared { OnOk result (HavePreparedFile (L.shape ledger.old) (V.verdict_of verifier.now) txs.now (L.journals ledger.old) (L.journals ledger.new)) }
+
+    // With a fault or without, no lane has prepared anything but the first pieces of what the file sends it.
+    ensures begun { 0 < (L.shape ledger.old).batch → HaveBegunFile (L.shape ledger.old) (V.verdict_of verifier.now) txs.now (L.journals ledger.old) (L.journals ledger.new) }
 
     // A fault has its cause: what an idle lane wants is the Prepare of the next piece of what the file sends it.
     ensures fault { IfErr result (IsRunCause (L.shape ledger.old) (IsSentPiece (L.shape ledger.old) (V.verdict_of verifier.now) txs.now (L.journals ledger.old) (L.journals ledger.new)) (L.journals ledger.old) (L.journals ledger.new)

@@ -17,7 +17,7 @@ use Rattle.lane_laws.proofs.Laning.{lane_goes_on, lane_stops}
 use Rattle.lane_driver.specs.declared.fault.LaneFault.{LaneFault}
 use Rattle.lane_driver.specs.declared.fault.Stop.{Stop}
 use Rattle.lane_driver.specs.declared.fault.LaneFaultKind.TheVariants.{Memory as NoMemory}
-use Rattle.lane_driver.specs.Stops.{IsFaultOf, IsStopOf, IsPreparedStopped, IsOneStopped, IsBatchStopped}
+use Rattle.lane_driver.specs.Stops.{IsFaultOf, IsStopOf, HasNoMemory, IsPreparedStopped, IsOneStopped, IsOneTold, IsBatchStopped, IsBatchTold}
 use Rattle.lane_driver.specs.declared.fault.BatchReport.{BatchReport}
 use Rattle.lane_driver.specs.Reports.{AreDone}
 use Rattle.std.specs.Prelude.{◌++◌, reverse}
@@ -28,12 +28,18 @@ module _ (K : Shape) (alone : Bool) (lane : ℕ) (txs : List Compact) (n : ℕ) 
   pub prepare_stops : (f : NodeFault) (e : Stop) → IsStopOf e (home_of K lane) f → Told alone lane true (prepare_due log.header.shape log.capacity lane txs) log log1 (Err f) → IsOneStopped K alone lane txs log I log1 I e
   prepare_stops f e at told = inr (λ k st. (home_of K lane, f, at, batch_stopped K alone lane k txs n parts log log1 I I (home_of K lane) f st are (at_prepare told (λ s. refl) refl)))
 
+  pub prepare_told : (f : NodeFault) (e : Stop) → IsStopOf e (home_of K lane) f → Told alone lane true (prepare_due log.header.shape log.capacity lane txs) log log1 (Err f) → IsOneTold K alone lane txs n log I log1 I e
+  prepare_told f e at told = inr (parts, are, home_of K lane, f, at, at_prepare told (λ s. refl) refl)
+
   module _ (b : Batch) (t : ℕ) (told : Told alone lane true (prepare_due log.header.shape log.capacity lane txs) log log1 (Ok (b, t))) (log' : Sight) (J : ℕ → Sight) where
     pub prepared_done : (os : List Outcome) → ToldPrepared alone b t n parts log1 log' I J os → (k : ℕ) → Settled K lane k log I → BatchDone K alone lane k txs log I log' J b os
     prepared_done os rest k st = batch_done K alone lane k txs n parts log log' I J b os st are (record { log_prepared = log1; prepared = t; prepare = told; rest = rest })
 
     pub prepared_stops : (e : Stop) → IsPreparedStopped K alone b t n parts log1 log' I J e → IsOneStopped K alone lane txs log I log' J e
     prepared_stops e (node, f, at, stop) = inr (λ k st. (node, f, at, batch_stopped K alone lane k txs n parts log log' I J node f st are (behind_prepare b log1 t told stop)))
+
+    pub prepared_told : (e : Stop) → IsPreparedStopped K alone b t n parts log1 log' I J e → IsOneTold K alone lane txs n log I log' J e
+    prepared_told e (node, f, at, stop) = inr (parts, are, node, f, at, behind_prepare b log1 t told stop)
 
 -- a batch of a settled lane that stopped: no shard refused, and its lane stopped so
 module _ (K : Shape) (alone : Bool) (lane : ℕ) (txs : List Compact) (log log' : Sight) (I J : ℕ → Sight) (e : Stop) (stop : IsOneStopped K alone lane txs log I log' J e) where
@@ -50,6 +56,12 @@ module _ (K : Shape) (alone : Bool) (lane : ℕ) (txs : List Compact) (log log' 
       go : IsOneStopped K alone lane txs log I log' J e → IsBatchStopped K alone lane txs log I log' J l
       go (inl h) = inl (subst (λ x. IsFaultOf l x.node x.fault) h.0 told, h.1, h.2)
       go (inr h) = inr (λ k st. (let s = h k st in (s.0, s.1, subst (λ x. IsFaultOf l x.node x.fault) s.2 told, s.3)))
+
+-- what was told of it is told of the lane
+pub one_told : (K : Shape) (alone : Bool) (lane : ℕ) (txs : List Compact) (n : ℕ) (log log' : Sight) (I J : ℕ → Sight) (e : Stop) (l : LaneFault) → IsFaultOf l e.node e.fault → IsOneTold K alone lane txs n log I log' J e
+    → IsBatchTold K alone lane txs n log I log' J l
+one_told K alone lane txs n log log' I J e l is (inl h) = inl (subst (λ x. IsFaultOf l x.node x.fault) h.0 is, h.1, h.2)
+one_told K alone lane txs n log log' I J e l is (inr s) = inr (s.0, s.1, s.2, s.3, subst (λ x. IsFaultOf l x.node x.fault) s.4 is, s.5)
 
 -- a lane goes on by a batch, or stops at one
 module _ (K : Shape) (alone : Bool) (lane : ℕ) (txs rest piece : List Compact) (log0 log1 log2 : Sight) (I0 I1 I2 : ℕ → Sight) (so : LaneSo K alone lane txs rest log0 I0 log1 I1)
@@ -75,12 +87,21 @@ module _ (K : Shape) (alone : Bool) (lane : ℕ) (txs rest piece : List Compact)
       ) in
       subst (λ rs. AreDone K alone lane txs log0 I0 rs more log2 I2) (sym (ap reverse is ∙ reverse-append reports (r ∷ []))) next
 
-  pub lane_off : (e : LaneFault) → IsBatchStopped K alone lane piece log1 I1 log2 I2 e
-      → ((e ≡ record { node = 0; fault = NoMemory }) × ((rest : List Compact) × LaneSo K alone lane txs rest log0 I0 log2 I2)) ⊎ ((n : ℕ) × (f : NodeFault) × IsFaultOf e n f × LaneStopped K alone lane txs log0 I0 log2 I2 n f)
-  lane_off e (inl h) = inl (h.0, (rest, subst (λ (X : ℕ → Sight). LaneSo K alone lane txs rest log0 I0 log2 X) (sym h.2) (subst (λ l. LaneSo K alone lane txs rest log0 I0 l I1) (sym h.1) so)))
-  lane_off e (inr h) =
+  pub lane_off : (e : LaneFault) → 0 < length rest → IsBatchStopped K alone lane piece log1 I1 log2 I2 e
+      → HasNoMemory e log0 I0 log2 I2
+      ⊎ ((e ≡ record { node = 0; fault = NoMemory }) × (rest : List Compact) × (0 < length rest) × LaneSo K alone lane txs rest log0 I0 log2 I2)
+      ⊎ ((n : ℕ) × (f : NodeFault) × IsFaultOf e n f × LaneStopped K alone lane txs log0 I0 log2 I2 n f)
+  lane_off e some (inl h) =
+      inr (inl (h.0, rest, some, subst (λ (X : ℕ → Sight). LaneSo K alone lane txs rest log0 I0 log2 X) (sym h.2) (subst (λ l. LaneSo K alone lane txs rest log0 I0 l I1) (sym h.1) so)))
+  lane_off e some (inr h) =
       let s = h (slot log1.seen lane).number so.settled in
-      inr (s.0, s.1, s.2, lane_stops K alone lane txs rest log0 log1 log2 I0 I1 I2 so piece s.0 s.1 (front ∙ take_min K.batch rest) s.3)
+      inr (inr (s.0, s.1, s.2, lane_stops K alone lane txs rest log0 log1 log2 I0 I1 I2 so piece s.0 s.1 some (front ∙ take_min K.batch rest) s.3))
+
+  pub lane_told : (n : ℕ) (e : LaneFault) → 0 < length rest → IsBatchTold K alone lane piece n log1 I1 log2 I2 e
+      → HasNoMemory e log0 I0 log2 I2
+      ⊎ ((rest : List Compact) × (0 < length rest) × (before : Sight) × (shards_before : ℕ → Sight) × LaneSo K alone lane txs rest log0 I0 before shards_before
+      × IsBatchTold K alone lane (take K.batch rest) n before shards_before log2 I2 e)
+  lane_told n e some told = inr (rest, some, log1, I1, so, subst (λ p. IsBatchTold K alone lane p n log1 I1 log2 I2 e) (front ∙ take_min K.batch rest) told)
 
 pub none_left : (xs : List Compact) → true ≡ (length xs == 0) → xs ≡ []
 none_left [] h = refl

@@ -9,7 +9,7 @@ ghost use Rattle.lane_driver.specs.Told.{IsLane, KeepsOthers, KeepNodes, AreShar
 ghost use Rattle.lane_driver.specs.Rooms.{IsBatchRoom, IsLaterRoom};
 ghost use Rattle.lane_driver.specs.Reports.{AreReports};
 ghost use Rattle.lane_driver.specs.Causes.{IsCausedStop, IsCausedFault};
-ghost use Rattle.lane_driver.specs.Stops.{IsDiscardedStopped, IsCommittedStopped, IsPreparedStopped, IsOneStopped, IsBatchStopped, IsOneBatch, IsSettled};
+ghost use Rattle.lane_driver.specs.Stops.{IsDiscardedStopped, IsCommittedStopped, IsPreparedStopped, IsOneStopped, IsOneTold, IsBatchStopped, IsBatchTold, IsOneBatch, IsSettled};
 ghost use Rattle.lane_laws.specs.Batches.{Settled, BatchDone};
 ghost use Rattle.lane_laws.specs.Traces.{ToldDiscarded, ToldCommitted, ToldPrepared};
 
@@ -271,6 +271,7 @@ pub(crate) fn one_batch<S: PortSet, L: LogPort, G: Gate>(
     requires limits { All IsCompact txs.now }
     ensures done { IfOk result (λ r. (k : ℕ) → Settled shape.now lane k (L.sights ports.old.log (L.at ports.old.log)) (S.sights ports.old.shards) → BatchDone shape.now L.alone lane k txs.now (L.sights ports.old.log (L.at ports.old.log)) (S.sights ports.old.shards) (L.sights ports.new.log (L.at ports.new.log)) (S.sights ports.new.shards) r.batch r.outcomes) }
     ensures stopped { IfErr result (IsOneStopped shape.now L.alone lane txs.now (L.sights ports.old.log (L.at ports.old.log)) (S.sights ports.old.shards) (L.sights ports.new.log (L.at ports.new.log)) (S.sights ports.new.shards)) }
+    ensures told { IfErr result (IsOneTold shape.now L.alone lane txs.now repeats (L.sights ports.old.log (L.at ports.old.log)) (S.sights ports.old.shards) (L.sights ports.new.log (L.at ports.new.log)) (S.sights ports.new.shards)) }
     ensures fault { IfErr result (λ e. IsCausedStop shape.now (L.sights ports.new.log) (S.sights ports.new.shards) e.node e.fault) }
     ensures at_same { L.at ports.new.log ≡ L.at ports.old.log }
     ensures idle { OnOk result (L.phase ports.new.log lane ≡ Idle) }
@@ -335,6 +336,7 @@ pub fn run_batch<S: PortSet, L: LogPort, G: Gate>(
     requires limits { All IsCompact txs.now }
     ensures done { IfOk result (λ r. IsOneBatch shape.now L.alone lane txs.now (L.sights ports.old.log (L.at ports.old.log)) (S.sights ports.old.shards) (L.sights ports.new.log (L.at ports.new.log)) (S.sights ports.new.shards) r.batches) }
     ensures stopped { IfErr result (IsBatchStopped shape.now L.alone lane txs.now (L.sights ports.old.log (L.at ports.old.log)) (S.sights ports.old.shards) (L.sights ports.new.log (L.at ports.new.log)) (S.sights ports.new.shards)) }
+    ensures told { IfErr result (IsBatchTold shape.now L.alone lane txs.now repeats (L.sights ports.old.log (L.at ports.old.log)) (S.sights ports.old.shards) (L.sights ports.new.log (L.at ports.new.log)) (S.sights ports.new.shards)) }
     ensures fault { IfErr result (IsCausedFault shape.now (L.sights ports.new.log) (S.sights ports.new.shards)) }
     ensures at_same { L.at ports.new.log ≡ L.at ports.old.log }
     ensures idle { OnOk result (L.phase ports.new.log lane ≡ Idle) }

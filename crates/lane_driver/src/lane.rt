@@ -7,7 +7,7 @@ ghost use Rattle.cbdc_model.specs.Grammar.{IsCompact};
 ghost use Rattle.cbdc_model.specs.Ranges.{home_of};
 ghost use Rattle.lane_laws.specs.Batches.{Settled, LaneSo};
 ghost use Rattle.lane_driver.specs.Causes.{IsCausedFault};
-ghost use Rattle.lane_driver.specs.Stops.{IsLaneStopped, IsSettled};
+ghost use Rattle.lane_driver.specs.Stops.{IsLaneStopped, IsLaneTold, IsSettled};
 ghost use Rattle.lane_driver.specs.Told.{IsLane, KeepsOthers, AreShardsOf, KeepNodes};
 ghost use Rattle.lane_driver.specs.Reports.{IsReported, AreDone};
 
@@ -41,6 +41,7 @@ pub fn run_lane<S: PortSet, L: LogPort, G: Gate>(
     requires limits { All IsCompact txs.now }
     ensures done { OnOk result ((k : ℕ) → Settled shape.now lane k (L.sights ports.old.log (L.at ports.old.log)) (S.sights ports.old.shards) → LaneSo shape.now L.alone lane txs.now [] (L.sights ports.old.log (L.at ports.old.log)) (S.sights ports.old.shards) (L.sights ports.new.log (L.at ports.new.log)) (S.sights ports.new.shards)) }
     ensures stopped { IfErr result (IsLaneStopped shape.now L.alone lane txs.now (L.sights ports.old.log (L.at ports.old.log)) (S.sights ports.old.shards) (L.sights ports.new.log (L.at ports.new.log)) (S.sights ports.new.shards)) }
+    ensures told { IfErr result (IsLaneTold shape.now L.alone lane txs.now repeats (L.sights ports.old.log (L.at ports.old.log)) (S.sights ports.old.shards) (L.sights ports.new.log (L.at ports.new.log)) (S.sights ports.new.shards)) }
     ensures fault { IfErr result (IsCausedFault shape.now (L.sights ports.new.log) (S.sights ports.new.shards)) }
     ensures at_same { L.at ports.new.log ≡ L.at ports.old.log }
     ensures idle { OnOk result (L.phase ports.new.log lane ≡ Idle) }

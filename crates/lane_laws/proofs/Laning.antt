@@ -55,9 +55,10 @@ module _ (K : Shape) (alone : Bool) (lane : ℕ) (txs rest : List Compact) (log0
     prepares = ap prepared d.grew.log_is ∙ ap (λ L. piece ∷ L) so.prepares;
   }
 
-  pub lane_stops : (piece : List Compact) (node : ℕ) (f : NodeFault) → piece ≡ take K.batch rest → BatchStopped K alone lane piece log1 shards1 log2 shards2 node f → LaneStopped K alone lane txs log0 shards0 log2 shards2 node f
-  lane_stops piece node f is d = record {
+  pub lane_stops : (piece : List Compact) (node : ℕ) (f : NodeFault) → 0 < length rest → piece ≡ take K.batch rest → BatchStopped K alone lane piece log1 shards1 log2 shards2 node f → LaneStopped K alone lane txs log0 shards0 log2 shards2 node f
+  lane_stops piece node f some is d = record {
     rest = rest;
+    left = some;
     before_log = log1;
     before_shards = shards1;
     so = so;

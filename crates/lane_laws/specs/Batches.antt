@@ -147,9 +147,10 @@ pub record LaneSo (K : Shape) (alone : Bool) (lane : ℕ) (txs rest : List Compa
   pub settled : Settled K lane (slot log'.seen lane).number log' shards'
   pub prepares : prepared_of lane log'.seen ≡ pieces ++ prepared_of lane log.seen
 
--- a lane that a fault stopped: its new Prepares are the first of the pieces
+-- a lane that a fault stopped with something left to do: its new Prepares are the first of the pieces
 pub record LaneStopped (K : Shape) (alone : Bool) (lane : ℕ) (txs : List Compact) (log : Sight) (shards : ℕ → Sight) (log' : Sight) (shards' : ℕ → Sight) (node : ℕ) (f : NodeFault) : Type 0 where
   pub rest : List Compact
+  pub left : 0 < length rest
   pub before_log : Sight
   pub before_shards : ℕ → Sight
   pub so : LaneSo K alone lane txs rest log shards before_log before_shards

@@ -21,7 +21,7 @@ use Rattle.rack_nodes.specs.First.{IsBegun, IsUnwritten, first_need}
 use Rattle.rack_nodes.proofs.Each.{each_two, each_weaker, each_split}
 use Rattle.rack_nodes.proofs.Range.{opening_later}
 use Rattle.rack_nodes.proofs.Told.{back_same}
-use Rattle.ledger_init.specs.Made.{node_count, first_of, HoldsFirst, LeavesBut, ToldUnused, MayBeMade, IsFirstInUse, HasPlaceFor, IsLastFull, IsUnmade, IsOfNode, StoppedAt}
+use Rattle.ledger_init.specs.Made.{node_count, first_of, HoldsFirst, LeavesBut, SameRoom, ToldUnused, MayBeMade, IsFirstInUse, HasPlaceFor, IsLastFull, IsUnmade, IsOfNode, StoppedAt}
 use Rattle.ledger_init.specs.Places.{minted_by, HoldsOf, LeavesOf, IsDone, IsStopped, StopsAt}
 use Rattle.ledger_init.proofs.Sizes.{first_size}
 
@@ -87,6 +87,9 @@ module _ {D B : Type 0} (content : D → Option (List ℕ)) (images : D → List
   holds_at : (n : ℕ) (b : B) → IsBlankAt n b → IsDone content images limit (first_of K mint n) (disk_of b) (new n) → HoldsFirst content images (first_of K mint n) (old n) (new n)
   holds_at n b blank done = λ was is d is_now some. done.holds d is_now ((blank.1 was is).told some)
 
+  room_at : (n : ℕ) (b : B) → IsBlankAt n b → IsDone content images limit (first_of K mint n) (disk_of b) (new n) → SameRoom limit (old n) (new n)
+  room_at n b blank done = λ was is d is_now. let opened = blank.1 was is in done.same d is_now ∙ opened.read.room
+
   -- a disk that is back as it was
   pub back_emptied : (n : ℕ) → IsBack images limit (old n) (new n) → LeavesBut content images IsEmptied (old n) (new n)
   back_emptied n back = λ was is d is_now some c image. inr ((back was is d is_now).leaves c image)
@@ -106,6 +109,9 @@ module _ {D B : Type 0} (content : D → Option (List ℕ)) (images : D → List
 
     pub all_hold : EachFrom (λ n b. IsDone content images limit (first_of K mint n) (disk_of b) (new n)) 0 blanks → (n : ℕ) → n < node_count K → HoldsFirst content images (first_of K mint n) (old n) (new n)
     all_hold done n lt = each_two IsBlankAt _ (λ k. HoldsFirst content images (first_of K mint k) (old k) (new k)) 0 blanks holds_at opened done n (omega arith) (inside n lt)
+
+    pub all_rooms : EachFrom (λ n b. IsDone content images limit (first_of K mint n) (disk_of b) (new n)) 0 blanks → (n : ℕ) → n < node_count K → SameRoom limit (old n) (new n)
+    all_rooms done n lt = each_two IsBlankAt _ (λ k. SameRoom limit (old k) (new k)) 0 blanks room_at opened done n (omega arith) (inside n lt)
 
     pub all_left : EachFrom (λ n b. OfTold (new n) (LeavesOf content images (λ was. IsBegun was (first_of K mint n)) (disk_of b))) 0 blanks
         → (n : ℕ) → n < node_count K → LeavesBut content images (λ was. IsBegun was (first_of K mint n)) (old n) (new n)

@@ -28,11 +28,12 @@ pub record IsSafe {D : Type 0} (content : D → Option (List ℕ)) (images : D �
   pub begun : LeavesOf content images (λ before. IsBegun before first) given now
   pub emptied : answer ≢ answers.DiskFault node → LeavesOf content images IsEmptied given now
 
--- this node's disk holds its first record, for which it has room
+-- this node's disk holds its first record, for which it has room, and has as much as it had
 pub record IsDone {D : Type 0} (content : D → Option (List ℕ)) (images : D → List ℕ → Type 0) (limit : D → ℕ) (first : Record) (given : D) (held : Option D) : Type 0 where
   pub holds : OfTold held (HoldsOf content images first given)
   pub begun : OfTold held (LeavesOf content images (λ before. IsBegun before first) given)
   pub room : first_need first ≤ limit given
+  pub same : OfTold held (λ now. limit now ≡ limit given)
 
 -- this node's disk did not take its first record, and why
 pub record IsStopped {D : Type 0} (content : D → Option (List ℕ)) (images : D → List ℕ → Type 0) (limit count : D → ℕ) (node : ℕ) (first : Record) (answer : Answer) (now : ℕ) (given : D) (held : Option D) : Type 0 where

@@ -5,7 +5,7 @@ ghost use Rattle.cbdc_model.specs.Coins.{genesis_tx, genesis_id, genesis_hashes}
 ghost use Rattle.cbdc_model.specs.Clean.{value_out};
 ghost use Rattle.gate_journal.specs.Formatting.{IsEmptied};
 ghost use Rattle.rack_nodes.specs.First.{IsBegun};
-ghost use Rattle.ledger_init.specs.Made.{node_count, first_of, HoldsFirst, LeavesBut, MayBeMade, IsUnmade, IsLeft};
+ghost use Rattle.ledger_init.specs.Made.{node_count, first_of, HoldsFirst, LeavesBut, SameRoom, MayBeMade, IsUnmade, IsLeft};
 
 use crate::dealing::total_of;
 use crate::writing::write_firsts;
@@ -48,6 +48,7 @@ fn make_nodes<R: Rack>(
     ensures was { OnOk result (MayBeMade shape.now mint R.Disk.content (R.held rack.old)) }
     ensures written { OnOk result ((n : ℕ) → n < node_count shape.now
         → HoldsFirst R.Disk.content R.Disk.images (first_of shape.now mint n) (R.held rack.old n) (R.held rack.new n)) }
+    ensures rooms { OnOk result ((n : ℕ) → n < node_count shape.now → SameRoom R.Disk.limit (R.held rack.old n) (R.held rack.new n)) }
     ensures refusal { IfErr result (IsUnmade shape.now mint R.Disk.content R.Disk.limit (R.held rack.old) (R.count rack.old) (R.count rack.new)) }
     ensures left { (n : ℕ) → n < node_count shape.now
         → LeavesBut R.Disk.content R.Disk.images (λ before. IsBegun before (first_of shape.now mint n)) (R.held rack.old n) (R.held rack.new n) }
@@ -87,6 +88,7 @@ pub fn make_ledger<R: Rack>(
     // Each disk holds its first record alone, and so does whatever a crash may leave of it.
     ensures written { OnOk result ((n : ℕ) → n < node_count shape.now
         → HoldsFirst R.Disk.content R.Disk.images (first_of shape.now mint n) (R.held rack.old n) (R.held rack.new n)) }
+    ensures rooms { OnOk result ((n : ℕ) → n < node_count shape.now → SameRoom R.Disk.limit (R.held rack.old n) (R.held rack.new n)) }
 
     // Which refusal it is.
     ensures refusal { IfErr result (IsUnmade shape.now mint R.Disk.content R.Disk.limit (R.held rack.old) (R.count rack.old) (R.count rack.new)) }

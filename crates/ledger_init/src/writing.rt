@@ -55,6 +55,7 @@ fn write_disk<D: Disk>(
     ensures refusal { IfErr result.result (IsUnwritten node (D.limit disk) (first_record shape.now (minted_by genesis.now) node)) }
     ensures fault { IfErr result.result (IsOpening node (D.count disk) (D.count result.disk)) }
     ensures later { D.count disk ≤ D.count result.disk }
+    ensures limit { D.limit result.disk ≡ D.limit disk }
 {
     let Ok(first) = first_of(alloc, shape, genesis, node) else {
         return Wrote {

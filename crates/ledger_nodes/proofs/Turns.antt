@@ -27,11 +27,11 @@ use Rattle.run_laws.proofs.Rests.{checked_rest_law}
 use Rattle.run_laws.proofs.OpenLanes.{checked_resume_law}
 use Rattle.turn_laws.proofs.OpenThere.{is_idle, unfinished}
 use Rattle.turn_laws.specs.Nodes.{SameFlights}
-use Rattle.turn_laws.proofs.Checking.{IsCheckedTurn, batch_checked, batch_prepared, stopped_checked, stopped_cause, taken_checked, taken_unprepared, left_checked, left_unprepared, left_cause}
+use Rattle.turn_laws.proofs.Checking.{IsCheckedTurn, batch_checked, batch_prepared, stopped_checked, stopped_cause, stopped_tried, taken_checked, taken_unprepared, left_checked, left_unprepared, left_cause}
 use Rattle.turn_laws.proofs.Turned.{batch_keeps, batch_same, stopped_keeps, batch_does, resume_keeps, resume_same, left_keeps, resume_took}
 use Rattle.turn_laws.proofs.Flying.{batch_flies, stopped_flies, resume_flies, left_flies}
 use Rattle.ledger_runs.specs.Flying.{FliesOn, FliesOnBy}
-use Rattle.ledger_runs.specs.Pieces.{HasPrepared, IsUnprepared}
+use Rattle.ledger_runs.specs.Pieces.{HasPrepared, HasPreparedAtMost, IsUnprepared}
 use Rattle.ledger_runs.specs.Faults.{IsLaneCause, HaveFailed, MayHold, Nothing}
 use Rattle.ledger_nodes.specs.Ledgers.{IsLedger, journals_of, flights_of, faults_of, opened_of, capacity_of, AreChecked, AreQuiet}
 use Rattle.ledger_nodes.specs.Steps.{IsStep}
@@ -192,6 +192,11 @@ module _ {D : Type 0} (count limit : D → ℕ) (content : D → Option (List �
       pub came_cause : (e : LaneFault) → IsBatchStopped K true lane txs (L (home_of K lane)) S (L' (home_of K lane)) S' e → AreChecked count limit K logs shards → Causes (IsUnprepared K lane txs I J) e
       came_cause e stop c =
           stopped_cause K lane L S L' S' ledger.limits home shape shard_shapes step.elsewhere (are_nodes count limit h logs shards ledger) (are_nodes count limit h logs' shards' step.ledger) step.log_nodes step.shard_nodes c.0 c.1 idle_there txs e stop
+
+      -- what was stopped is all that it may have prepared
+      pub came_tried : (e : LaneFault) → IsBatchStopped K true lane txs (L (home_of K lane)) S (L' (home_of K lane)) S' e → AreChecked count limit K logs shards → HasPreparedAtMost K lane txs I J
+      came_tried e stop c =
+          stopped_tried K lane L S L' S' ledger.limits home shape shard_shapes step.elsewhere (are_nodes count limit h logs shards ledger) (are_nodes count limit h logs' shards' step.ledger) step.log_nodes step.shard_nodes c.0 c.1 idle_there txs e stop
 
       -- a batch that is done is what the lane has prepared
       pub came_prepared : (reports : List BatchReport) → IsOneBatch K true lane txs (L (home_of K lane)) S (L' (home_of K lane)) S' reports → AreChecked count limit K logs shards → HasPrepared K lane (txs ∷ []) I J

@@ -1,6 +1,6 @@
 -- What the lanes of a wave have prepared, turn after turn, and which piece is the next of each.
 use Rattle.std.proofs.Common.{◌≡◌, ◌≢◌, ◌⊎◌, inl, inr, true, false, ◌==◌, ℕ, zero, suc, ◌+◌, ◌*◌, ◌<◌, ◌≤◌, List, [], ◌∷◌, ◌++◌, length, take, drop, refl, sym, ap, ◌∙◌, subst, arith, le_trans, length-take, length-drop, min, Option, Some, None}
-use Rattle.std.specs.Prelude.{slice_get, reverse, Result, Ok, Err, OnOk, IsOk}
+use Rattle.std.specs.Prelude.{slice_get, reverse, Result, Ok, Err, OnOk, IfErr, IsOk}
 use Rattle.std.proofs.lemmas.List.{reverse-append, drop-drop}
 use Rattle.std.proofs.lemmas.Option.{slice_get_cases, slice_get_within}
 use Rattle.std.proofs.lemmas.Bool.Decides.{eqb_tells}
@@ -17,8 +17,8 @@ use Rattle.lane_driver.specs.declared.fault.LaneFault.{LaneFault}
 use Rattle.ledger_runs.specs.Turning.{IsLaneOf}
 use Rattle.ledger_runs.specs.Telling.{SamePrepared}
 use Rattle.ledger_runs.specs.Waving.{EachLane, HaveSent, NoFault, AreShorter, TurnsAt, taken_by}
-use Rattle.ledger_runs.specs.Pieces.{HasPrepared, HasPreparedAll, IsNextPiece, HasPreparedFrom, IsNextFrom, HaveTaken, HavePreparedAll}
-use Rattle.ledger_runs.specs.Faults.{GrowBy}
+use Rattle.ledger_runs.specs.Pieces.{HasPrepared, HasPreparedAll, HasPreparedAtMost, IsNextPiece, HasPreparedFrom, HasTriedFrom, IsNextFrom, HasBegun, HaveBegun, HaveTaken, HavePreparedAll}
+use Rattle.ledger_runs.specs.Faults.{GrowBy, IsTurnCause}
 use Rattle.ledger_runs.specs.declared.lanes.Lane.{Lane}
 use Rattle.ledger_runs.proofs.Keeping.{of_ok}
 use Rattle.ledger_runs.proofs.Others.{own_same}
@@ -105,7 +105,39 @@ took_more K lane start all E J L some (inr (inside, did)) took =
       prepares = did ∙ ap (λ ps. piece ∷ ps) took.prepares ∙ ap (λ ps. ps ++ prepared lane (E (home_of K lane))) (sym (reverse-append took.pieces (piece ∷ [])));
     }
 
+-- whether it stopped or not
+pub turn_tried : (K : Shape) (lane start size : ℕ) (all these : List Compact) (I J : ℕ → List Record) (came : Result BatchReport LaneFault) → these ≡ take size (drop start all) → size ≡ K.batch → start < length all
+    → OnOk came (HasPrepared K lane (these ∷ []) I J) → IfErr came (λ _. HasPreparedAtMost K lane these I J) → HasTriedFrom K lane start all I J
+turn_tried K lane start size all these I J came e s inside did tried = go came did tried
+  where
+    whole : HasPrepared K lane (these ∷ []) I J → HasTriedFrom K lane start all I J
+    whole h = inr (inside, subst (λ l. HasPrepared K lane (l ∷ []) I J) (e ∙ ap (λ n. take n (drop start all)) s) h)
+
+    go : (came : Result BatchReport LaneFault) → OnOk came (HasPrepared K lane (these ∷ []) I J) → IfErr came (λ _. HasPreparedAtMost K lane these I J) → HasTriedFrom K lane start all I J
+    go (Ok r) done stopped = whole done
+    go (Err f) done (inl none) = inl none
+    go (Err f) done (inr one) = whole one
+
+-- a lane that has taken so many has begun
+took_begun : (K : Shape) (lane taken : ℕ) (all : List Compact) (E J : ℕ → List Record) → 0 < K.batch → LaneTook K all taken lane (E (home_of K lane)) (J (home_of K lane)) → HasBegun K lane all E J
+took_begun K lane taken all E J some took =
+    let rest : (pieces : List (List Compact)) × IsCut K.batch (drop taken all) pieces = cut_of K.batch (drop taken all) some in
+    (took.pieces, rest.0, cuts_join K.batch all took.pieces (drop taken all) rest.0 took.cut rest.1, took.prepares)
+
+-- nor does a lane that has begun become another where nothing is prepared
+begun_stays : (K : Shape) (lane : ℕ) (all : List Compact) (E J L : ℕ → List Record) → prepared lane (L (home_of K lane)) ≡ prepared lane (J (home_of K lane)) → HasBegun K lane all E J → HasBegun K lane all E L
+begun_stays K lane all E J L same (done, more, cut, has) = (done, more, cut, same ∙ has)
+
+-- behind a turn of a lane that had not stopped
+tried_begun : (K : Shape) (lane start : ℕ) (all : List Compact) (E J L : ℕ → List Record) → 0 < K.batch → HasTriedFrom K lane start all J L → LaneTook K all start lane (E (home_of K lane)) (J (home_of K lane))
+    → HasBegun K lane all E L
+tried_begun K lane start all E J L some (inl none) took = begun_stays K lane all E J L none (took_begun K lane start all E J some took)
+tried_begun K lane start all E J L some (inr (inside, did)) took = took_begun K lane (start + K.batch) all E L some (took_more K lane start all E J L some (inr (inside, did)) took)
+
 -- ---- the lanes of a wave
+
+pub none_begun : (K : Shape) (E : ℕ → List Record) (lanes : List Lane) → 0 < K.batch → HaveBegun K E E lanes
+none_begun K E lanes some lane x there = let pieces : (ps : List (List Compact)) × IsCut K.batch x.txs.items ps = cut_of K.batch x.txs.items some in ([], pieces.0, pieces.1, refl)
 
 pub none_taken : (K : Shape) (E : ℕ → List Record) (lanes : List Lane) → HaveTaken K E E (λ _. 0) lanes
 none_taken K E lanes lane x there none = record { pieces = []; cut = refl; prepares = refl }
@@ -153,6 +185,31 @@ taken_step K H start turn E J L now after same some turned grown did have =
         let on = subst (λ k. HasPreparedFrom k turn start x.0.txs.items J L) same (did x.0 y x.1 there none) in
         subst (λ n. LaneTook K y.txs.items n turn (E (home_of K turn)) (L (home_of K turn))) (sym (taken_after start K.batch (turn + 1) turn (omega arith)))
         (subst (λ v. LaneTook K v.items (start + K.batch) turn (E (home_of K turn)) (L (home_of K turn))) (sym (turned.txs x.0 y x.1 there)) (took_more K turn start x.0.txs.items E J L some on took))
+
+-- each has begun, whether it has stopped or not
+pub begun_step : (K H : Shape) (start turn : ℕ) (failed : ℕ → Type 0) (holds : ℕ → ℕ → Type 0) (E J L : ℕ → List Record) (now after : List Lane) → H ≡ K → 0 < K.batch → TurnsAt turn now after → GrowBy turn J L
+    → ((x : Lane) → slice_get now turn ≡ Some x → HasTriedFrom H turn start x.txs.items J L)
+    → ((x y : Lane) → slice_get now turn ≡ Some x → slice_get after turn ≡ Some y → IsTurnCause H turn start x y J L failed holds)
+    → HaveTaken K E J (taken_by start K.batch turn) now → HaveBegun K E J now → HaveBegun K E L after
+begun_step K H start turn failed holds E J L now after same some turned grown tried cause taken have =
+    each_by (λ lane x. HasBegun K lane x.txs.items E L) turn now after turned.others
+    (λ lane x other there. begun_stays K lane x.txs.items E J L (same_prepared lane turn (λ h. other (sym h)) J L grown (home_of K lane)) (have lane x there))
+    (λ y there. let x = was_there turn now after y turned.count there in
+    subst (λ v. HasBegun K turn v.items E L) (sym (turned.txs x.0 y x.1 there)) (own x.0 y x.1 there x.0.fault refl y.fault refl))
+  where
+    -- what had stopped is as it was
+    rests : (x y : Lane) → slice_get now turn ≡ Some x → slice_get after turn ≡ Some y → (e f : LaneFault) → x.fault ≡ Some e → y.fault ≡ Some f → HasBegun K turn x.txs.items E L
+    rests x y was there e f had has = elim (cause x y was there f has) [
+      | inl before ↦ begun_stays K turn x.txs.items E J L (ap (prepared turn) (before.1 (home_of K turn))) (have turn x was)
+      | inr now ↦ absurd (let z : Some e ≡ None = sym had ∙ now.0 in cc)
+    ]
+
+    own : (x y : Lane) → slice_get now turn ≡ Some x → slice_get after turn ≡ Some y → (o : Option LaneFault) → x.fault ≡ o → (p : Option LaneFault) → y.fault ≡ p → HasBegun K turn x.txs.items E L
+    own x y was there None had p has =
+        let took = subst (λ n. LaneTook K x.txs.items n turn (E (home_of K turn)) (J (home_of K turn))) (taken_before start K.batch turn turn (omega arith)) (taken turn x was had) in
+        tried_begun K turn start x.txs.items E J L some (subst (λ k. HasTriedFrom k turn start x.txs.items J L) same (tried x was)) took
+    own x y was there (Some e) had None has = absurd (let z : Some e ≡ None = sym had ∙ turned.stopped x y was there has in cc)
+    own x y was there (Some e) had (Some f) has = rests x y was there e f had has
 
 -- behind the turns of all lanes
 pub taken_end : (K : Shape) (start turn : ℕ) (E J : ℕ → List Record) (lanes : List Lane) → length lanes ≤ turn → HaveTaken K E J (taken_by start K.batch turn) lanes → HaveTaken K E J (λ _. start + K.batch) lanes

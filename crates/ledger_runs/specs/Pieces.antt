@@ -43,3 +43,21 @@ HaveTaken K I J taken lanes = EachLane (λ lane x. x.fault ≡ None → LaneTook
 -- each lane has prepared all of them
 abbrev pub HavePreparedAll : Shape → (ℕ → List Record) → (ℕ → List Record) → List Lane → Type 0
 HavePreparedAll K I J lanes = EachLane (λ lane x. HasPreparedAll K lane x.txs.items I J) lanes
+
+-- ---- whether a lane has stopped or not
+
+-- the first of the pieces of what the lane gets, in order, and nothing else
+abbrev pub HasBegun : Shape → ℕ → List Compact → (ℕ → List Record) → (ℕ → List Record) → Type 0
+HasBegun K lane all I J = (done : List (List Compact)) × (more : List (List Compact)) × IsCut K.batch all (done ++ more) × HasPrepared K lane done I J
+
+-- nothing, or these transactions
+abbrev pub HasPreparedAtMost : Shape → ℕ → List Compact → (ℕ → List Record) → (ℕ → List Record) → Type 0
+HasPreparedAtMost K lane txs I J = HasPrepared K lane [] I J ⊎ HasPrepared K lane (txs ∷ []) I J
+
+-- a turn of the lane from a place of its transactions on: nothing, or the piece there
+abbrev pub HasTriedFrom : Shape → ℕ → ℕ → List Compact → (ℕ → List Record) → (ℕ → List Record) → Type 0
+HasTriedFrom K lane start all I J = HasPrepared K lane [] I J ⊎ ((start < length all) × HasPrepared K lane (take K.batch (drop start all) ∷ []) I J)
+
+-- each lane has begun with what it gets
+abbrev pub HaveBegun : Shape → (ℕ → List Record) → (ℕ → List Record) → List Lane → Type 0
+HaveBegun K I J lanes = EachLane (λ lane x. HasBegun K lane x.txs.items I J) lanes

@@ -6,7 +6,7 @@ ghost use Rattle.cbdc_model.specs.Grammar.{HasSize, IsCompact};
 ghost use Rattle.ledger_runs.specs.Turning.{phase_at, IsLaneOf, KeepsLanes, OfKept, StaysKept, StaysKeptBy, DidBatch, TookUp};
 ghost use Rattle.ledger_runs.specs.Flying.{FliesOn, FliesOnBy};
 ghost use Rattle.ledger_runs.specs.Telling.{IsOpened};
-ghost use Rattle.ledger_runs.specs.Pieces.{HasPrepared, IsUnprepared};
+ghost use Rattle.ledger_runs.specs.Pieces.{HasPrepared, HasPreparedAtMost, IsUnprepared};
 ghost use Rattle.ledger_runs.specs.Faults.{GrowBy, IsLaneCause, HaveFailed, MayHold, Nothing};
 
 use cbdc_types::{CompactTx, LaneId, Shape};
@@ -76,6 +76,7 @@ pub trait Turns {
         ensures checked { checked self.new }
         ensures grows { GrowBy lane (journals self.old) (journals self.new) }
         ensures prepared { OnOk result (HasPrepared (shape self.old) lane (txs.now ∷ []) (journals self.old) (journals self.new)) }
+        ensures tried { IfErr result (λ _. HasPreparedAtMost (shape self.old) lane txs.now (journals self.old) (journals self.new)) }
 
         // Its fault has its cause: what it wants where its batch was not begun is the Prepare of these transactions.
         ensures fault { IfErr result (IsLaneCause (shape self.old) lane (IsUnprepared (shape self.old) lane txs.now (journals self.old) (journals self.new)) (journals self.old) (journals self.new)

@@ -8,7 +8,7 @@ ghost use Rattle.cbdc_model.specs.World.{AreIdle};
 ghost use Rattle.cbdc_model.specs.Waves.{IsFileRun};
 ghost use Rattle.ledger_runs.specs.Turning.{phase_at, IsLaneOf, KeepsLanes, OfKept, StaysKeptBy};
 ghost use Rattle.ledger_runs.specs.Waving.{HaveSent, AreWithin, NoFault, AreReady, AllProper, TookTurn, KeepsSent, OfSent, GoesOn, AreShorter, TurnsAt};
-ghost use Rattle.ledger_runs.specs.Pieces.{HasPreparedFrom, HaveTaken, HavePreparedAll};
+ghost use Rattle.ledger_runs.specs.Pieces.{HasPreparedFrom, HasTriedFrom, HaveBegun, HaveTaken, HavePreparedAll};
 ghost use Rattle.ledger_runs.specs.Faults.{GrowBy, HaveFailed, MayHold, HaveCauses, IsTurnCause};
 ghost use Rattle.ledger_runs.specs.Flying.{FliesOnBy, FliesSent};
 ghost use Rattle.ledger_runs.specs.Least.{RunTheirs};
@@ -61,6 +61,7 @@ fn turn<L: Turns, G: Gate>(
     ensures checked { L.checked ledger.new }
     ensures grows { GrowBy number (L.journals ledger.old) (L.journals ledger.new) }
     ensures prepared { lane.new.fault ≡ None → HasPreparedFrom (L.shape ledger.old) number start lane.old.txs.items (L.journals ledger.old) (L.journals ledger.new) }
+    ensures tried { HasTriedFrom (L.shape ledger.old) number start lane.old.txs.items (L.journals ledger.old) (L.journals ledger.new) }
     ensures cause { IsTurnCause (L.shape ledger.old) number start lane.old lane.new (L.journals ledger.old) (L.journals ledger.new) (HaveFailed (L.opened ledger.new) (L.faults ledger.new)) (MayHold (L.capacity ledger.new)) }
 {
     if lane.fault.is_some() || start >= lane.txs.len() {
@@ -107,6 +108,7 @@ fn turn_at<L: Turns, G: Gate>(
     ensures grows { GrowBy number (L.journals ledger.old) (L.journals ledger.new) }
     ensures prepared { (x y : LaneOf) → slice_get lanes.old.items number ≡ Some x → slice_get lanes.new.items number ≡ Some y → y.fault ≡ None
         → HasPreparedFrom (L.shape ledger.old) number start x.txs.items (L.journals ledger.old) (L.journals ledger.new) }
+    ensures tried { (x : LaneOf) → slice_get lanes.old.items number ≡ Some x → HasTriedFrom (L.shape ledger.old) number start x.txs.items (L.journals ledger.old) (L.journals ledger.new) }
     ensures cause { (x y : LaneOf) → slice_get lanes.old.items number ≡ Some x → slice_get lanes.new.items number ≡ Some y
         → IsTurnCause (L.shape ledger.old) number start x y (L.journals ledger.old) (L.journals ledger.new) (HaveFailed (L.opened ledger.new) (L.faults ledger.new)) (MayHold (L.capacity ledger.new)) }
 {
@@ -156,6 +158,8 @@ fn turns<L: Turns, G: Gate>(
     ensures grows { (n : ℕ) → IsEnd (L.journals ledger.old n) (L.journals ledger.new n) }
     ensures taken { (E : ℕ → List Record) → HaveTaken (L.shape ledger.old) E (L.journals ledger.old) (λ _. start) lanes.old.items
         → HaveTaken (L.shape ledger.old) E (L.journals ledger.new) (λ _. start + (L.shape ledger.old).batch) lanes.new.items }
+    ensures begun { (E : ℕ → List Record) → HaveTaken (L.shape ledger.old) E (L.journals ledger.old) (λ _. start) lanes.old.items
+        → HaveBegun (L.shape ledger.old) E (L.journals ledger.old) lanes.old.items → HaveBegun (L.shape ledger.old) E (L.journals ledger.new) lanes.new.items }
     ensures causes { (E : ℕ → List Record) → ((n : ℕ) → IsEnd (E n) (L.journals ledger.old n)) → HaveTaken (L.shape ledger.old) E (L.journals ledger.old) (λ _. start) lanes.old.items
         → HaveCauses (L.shape ledger.old) E (L.journals ledger.old) (HaveFailed (L.opened ledger.old) (L.faults ledger.old)) (MayHold (L.capacity ledger.old)) lanes.old.items
         → HaveCauses (L.shape ledger.old) E (L.journals ledger.new) (HaveFailed (L.opened ledger.new) (L.faults ledger.new)) (MayHold (L.capacity ledger.new)) lanes.new.items }
@@ -210,6 +214,9 @@ pub fn run_wave<L: Turns, G: Gate>(alloc: Global, ledger: &mut L, lanes: &mut Ve
     ensures checked { L.checked ledger.new }
     ensures grows { (n : ℕ) → IsEnd (L.journals ledger.old n) (L.journals ledger.new n) }
     ensures prepared { NoFault lanes.new.items → HavePreparedAll (L.shape ledger.old) (L.journals ledger.old) (L.journals ledger.new) lanes.new.items }
+
+    // No lane has prepared anything but the first pieces of what it got, whether it met a fault or not.
+    ensures begun { HaveBegun (L.shape ledger.old) (L.journals ledger.old) (L.journals ledger.new) lanes.new.items }
 
     // Each fault has its cause, where none had one before.
     ensures causes { NoFault lanes.old.items → HaveCauses (L.shape ledger.old) (L.journals ledger.old) (L.journals ledger.new) (HaveFailed (L.opened ledger.new) (L.faults ledger.new)) (MayHold (L.capacity ledger.new)) lanes.new.items }

@@ -1,5 +1,5 @@
 -- What a lane's fault answers has its cause.
-use Rattle.std.proofs.Common.{◌≡◌, ◌⊎◌, inl, inr, ℕ, zero, suc, ◌+◌, ◌*◌, ◌/◌, ◌<◌, ◌≤◌, true, List, [], ◌∷◌, ◌++◌, length, reverse, Option, sym, ap, ◌∙◌, subst, arith}
+use Rattle.std.proofs.Common.{◌≡◌, ◌⊎◌, inl, inr, ℕ, zero, suc, ◌+◌, ◌*◌, ◌/◌, ◌<◌, ◌≤◌, true, List, [], ◌∷◌, ◌++◌, length, reverse, Option, refl, sym, ap, ◌∙◌, subst, arith}
 use Rattle.std.specs.Prelude.{Result, Ok, Err, IfErr, All}
 use Rattle.std.proofs.lemmas.Nat.{div_below}
 use Rattle.std.proofs.lemmas.List.{length-append}
@@ -27,18 +27,19 @@ use Rattle.sound_laws.specs.SoundTest.{sound_by}
 use Rattle.sound_laws.proofs.Telling.{is_sound_law}
 use Rattle.ledger_runs.specs.Turning.{IsLaneOf}
 use Rattle.ledger_runs.specs.Telling.{SamePrepared}
-use Rattle.ledger_runs.specs.Pieces.{IsNextOf}
+use Rattle.ledger_runs.specs.Pieces.{HasPrepared, IsNextOf}
 use Rattle.ledger_runs.specs.Faults.{IsWanted, wants_prepare, wants_lock, IsCauseOf, IsSomeCauseOf, IsRunCause, HaveFailed, MayHold, Nothing}
 use Rattle.ledger_runs.specs.Least.{IsLeastFault, IsLeastOpen}
 use Rattle.ledger_runs.proofs.Faulting.{run_moves}
-use Rattle.file_runs.specs.Runs.{IsSentPiece, IsFilesPiece}
+use Rattle.file_runs.specs.Runs.{IsSentPiece, AreFilesPieces, HaveBegunFiles, IsFilesPiece}
+use Rattle.file_runs.proofs.Pieces.{files_unbegun}
 use Rattle.file_runs.specs.Endings.{EndsFirst, EndsFiles}
 use Rattle.ledger_nodes.specs.Ledgers.{IsLedger, journals_of, faults_of, opened_of, capacity_of, AreStored}
 use Rattle.rack_laws.specs.Shown.{OfShown, KeepsEach, node_count}
 use Rattle.rack_laws.proofs.Behind.{keeps_each, told_stored, may_hold, have_risen}
 use Rattle.rack_runs.specs.Kinds.{answer_at, answer_to, IsLaneAnswer}
 use Rattle.rack_runs.specs.Endings.{EndsRun, IsLeastAnswer}
-use Rattle.rack_runs.specs.Runs.{IsCutShort, IsLaneFault, NothingNext, PieceNext}
+use Rattle.rack_runs.specs.Runs.{IsCutShort, IsLaneFault, NonePrepared, NothingNext, PieceNext, PiecesPrepared}
 use Rattle.rack_runs.specs.declared.over.Over.{Over}
 use Rattle.rack_runs.specs.declared.over.Ran.{Ran}
 use Rattle.rack_runs.proofs.Checking.{same_journals}
@@ -72,7 +73,7 @@ home_inside K lane lt = go K.lanes lt
 concerned_inside : (K : Shape) (txs : List Compact) (s : ℕ) → is_concerned K txs s ≡ true → s < K.shards
 concerned_inside K txs s h = grind (arith, h)
 
-wanted_inside : (K : Shape) (lane : ℕ) (next : List Compact → Type 0) (X : ℕ → List Record) (node : ℕ) (front : List Record) (r : Record) → IsLaneOf K lane → IsWanted K lane next X node front r → node < node_count K
+pub wanted_inside : (K : Shape) (lane : ℕ) (next : List Compact → Type 0) (X : ℕ → List Record) (node : ℕ) (front : List Record) (r : Record) → IsLaneOf K lane → IsWanted K lane next X node front r → node < node_count K
 wanted_inside K lane next X node front r lt (wants_prepare txs due at idle e) = omega (arith, at, home_inside K lane lt)
 wanted_inside K lane next X node front r lt (wants_lock b t txs s is at concerned phase stands behind e) = omega (arith, at, concerned_inside K txs s concerned)
 
@@ -237,14 +238,16 @@ module _ {D : Type 0} (content : D → Option (List ℕ)) (images : D → List �
   may : (n c : ℕ) → n < node_count h.shape → MayHold (capacity_of count limit h.shape logs shards) n c → Holds n c
   may n c inside is_so = may_hold content images limit count held h logs shards are n c inside is_so
 
-  pub lane_fault : (verdicts : VerdictsOf) (files : List (List FullTx)) → ((n : ℕ) → IsEnd (journals_of count limit h.shape logs shards n) (journals_of count limit h.shape now after n)) → (a : Answer)
+  pub lane_fault : (verdicts : VerdictsOf) (files : List (List FullTx))
+      → (0 < h.shape.batch → HaveBegunFiles h.shape verdicts files (journals_of count limit h.shape logs shards) (journals_of count limit h.shape now after))
+      → ((n : ℕ) → IsEnd (journals_of count limit h.shape logs shards n) (journals_of count limit h.shape now after n)) → (a : Answer)
       → IsLaneAnswer h.shape (IsFilesPiece h.shape verdicts files (journals_of count limit h.shape logs shards) (journals_of count limit h.shape now after)) (journals_of count limit h.shape logs shards) (journals_of count limit h.shape now after)
       (HaveFailed (opened_of count limit h.shape logs shards) (faults_of count limit h.shape now after)) (MayHold (capacity_of count limit h.shape logs shards)) a
       → IsLeastAnswer (EndsRun verdicts files h.shape (journals_of count limit h.shape logs shards) (journals_of count limit h.shape now after)
       (HaveFailed (opened_of count limit h.shape logs shards) (faults_of count limit h.shape now after)) (MayHold (capacity_of count limit h.shape logs shards))) a
       → OfShown content held (IsCutShort images limit back files (journals_of count limit h.shape now after))
-      → IsLaneFault content images limit held back before behind (PieceNext verdicts files) (EndsRun verdicts files) files a
-  lane_fault verdicts files grows a cause least kept = record {
+      → IsLaneFault content images limit held back before behind (PieceNext verdicts files) (EndsRun verdicts files) (PiecesPrepared verdicts files) files a
+  lane_fault verdicts files begun grows a cause least kept = record {
     ledger = record {
       shape = h.shape;
       genesis = h.genesis;
@@ -254,6 +257,7 @@ module _ {D : Type 0} (content : D → Option (List ℕ)) (images : D → List �
     };
     exit = journals_of count limit h.shape now after;
     grows = subst (λ L. (n : ℕ) → IsEnd (L n) (journals_of count limit h.shape now after n)) entry grows;
+    prepared = subst (λ L. HaveBegunFiles h.shape verdicts files L (journals_of count limit h.shape now after)) entry (begun are.limits.some_batch);
     disks = λ tells.
         subst (λ k. KeepsEach images back k (journals_of count limit k now after)) shape
         (keeps_each content images limit count back g now after is (stored (told_stored content images limit count held h logs shards are tells)) logs_back shards_back);
@@ -278,15 +282,28 @@ no_piece verdicts K E X lane txs piece = go (piece (sound_by verdicts) (is_sound
     go : (pieces : List (List Compact)) × (pieces ≡ []) × IsNextOf K lane pieces E X txs → ⊥
     go (pieces, none, next) = none_so next.0 next.1 (sym none ∙ next.2)
 
--- a run of no files: nothing is next for any lane
+-- of no files nothing is prepared
+no_pieces : (verdicts : VerdictsOf) (K : Shape) (E X : ℕ → List Record) → PiecesPrepared verdicts [] K E X → NonePrepared K E X
+no_pieces verdicts K E X begun lane inside = go (begun lane inside (sound_by verdicts) (is_sound_law verdicts))
+  where
+    none_so : (done more : List (List Compact)) → done ++ more ≡ [] → done ≡ []
+    none_so [] more e = refl
+    none_so (p ∷ done) more e = let z : p ∷ (done ++ more) ≡ [] = e in absurd (cc)
+
+    go : (done : List (List Compact)) × (more : List (List Compact)) × AreFilesPieces K (sound_by verdicts) lane [] (done ++ more) × HasPrepared K lane done E X → HasPrepared K lane [] E X
+    go (done, more, none, has) = subst (λ ps. HasPrepared K lane ps E X) (none_so done more none) has
+
+-- a run of no files: nothing is next for any lane, and none has prepared anything
 pub of_nothing : {D : Type 0} (content : D → Option (List ℕ)) (images : D → List ℕ → Type 0) (limit : D → ℕ) (held back : ℕ → Option D) (before now : ℕ → ℕ) (verdicts : VerdictsOf) (a : Answer)
-    → IsLaneFault content images limit held back before now (PieceNext verdicts []) (EndsRun verdicts []) [] a → IsLaneFault content images limit held back before now NothingNext IsLeastOpen [] a
+    → IsLaneFault content images limit held back before now (PieceNext verdicts []) (EndsRun verdicts []) (PiecesPrepared verdicts []) [] a
+    → IsLaneFault content images limit held back before now NothingNext IsLeastOpen NonePrepared [] a
 of_nothing content images limit held back before now verdicts a f =
     let E : ℕ → List Record = λ n. journal n (reverse f.ledger.rows) in
     record {
       ledger = f.ledger;
       exit = f.exit;
       grows = f.grows;
+      prepared = no_pieces verdicts f.ledger.shape E f.exit f.prepared;
       disks = f.disks;
       cause = answer_moves f.ledger.shape (PieceNext verdicts [] f.ledger.shape E f.exit) (NothingNext f.ledger.shape E f.exit) E f.exit (λ n. Rose (before n) (now n)) (λ n. Rose (before n) (now n))
           (λ n c. OfTold (held n) (λ d. c ≡ limit d)) (λ n c. OfTold (held n) (λ d. c ≡ limit d)) (no_piece verdicts f.ledger.shape E f.exit) (λ n inside did. did) (λ n c inside may. may) a f.cause;
@@ -295,6 +312,18 @@ of_nothing content images limit held back before now verdicts a f =
     }
 
 -- ---- a run over open nodes
+
+-- where open batches were brought to their end nothing was begun
+pub resumed_begun : (K : Shape) (verdicts : VerdictsOf) (files : List (List FullTx)) (E M : ℕ → List Record) → SamePrepared K E M → 0 < K.batch → HaveBegunFiles K verdicts files E M
+resumed_begun K verdicts files E M same some lane inside sound tells =
+    let (done, more, pieces, none) = files_unbegun K verdicts files E some lane inside sound tells in (done, more, pieces, same lane ∙ none)
+
+-- and what was begun behind that is begun of all
+pub filed_begun : (K H : Shape) (verdicts : VerdictsOf) (files : List (List FullTx)) (E M X : ℕ → List Record) → H ≡ K → SamePrepared K E M → (0 < H.batch → HaveBegunFiles H verdicts files M X)
+    → 0 < K.batch → HaveBegunFiles K verdicts files E X
+filed_begun K H verdicts files E M X same unprepared begun some lane inside sound tells =
+    let (done, more, pieces, has) = subst (λ k. 0 < k.batch → HaveBegunFiles k verdicts files M X) same begun some lane inside sound tells in
+    (done, more, pieces, has ∙ ap (λ ps. reverse done ++ ps) (unprepared lane))
 
 -- a fault that a run meets as it brings open batches to their end
 pub resumed_fault : (K : Shape) (verdicts : VerdictsOf) (files : List (List FullTx)) (E X : ℕ → List Record) (failed : ℕ → Type 0) (holds : ℕ → ℕ → Type 0) (e : LaneFault)

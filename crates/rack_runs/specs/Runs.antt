@@ -16,7 +16,9 @@ use Rattle.sound_laws.specs.SoundTest.{sound_by}
 use Rattle.rack_nodes.specs.Racked.{OfTold}
 use Rattle.caused_ledgers.specs.Caused.{IsCausedLedger}
 use Rattle.caused_ledgers.specs.Laws.{AllTell}
-use Rattle.file_runs.specs.Runs.{joined, IsFilesPiece}
+use Rattle.ledger_runs.specs.Turning.{IsLaneOf}
+use Rattle.ledger_runs.specs.Pieces.{HasPrepared}
+use Rattle.file_runs.specs.Runs.{joined, HaveBegunFiles, IsFilesPiece}
 use Rattle.rack_runs.specs.Kinds.{IsLaneAnswer}
 use Rattle.rack_runs.specs.Endings.{IsLeastAnswer}
 
@@ -57,14 +59,15 @@ pub record IsCutShort {D : Type 0} (images : D → List ℕ → Type 0) (limit :
   pub rooms : HaveRoom limit held K exit
   pub crashes : SurvivesCrashes images held K mint (submissions ++ joined files) E
 
--- a lane's fault ended a run over the ledger that the disks told, in which each record was caused: its journals have grown at their ends, where the
--- disks told all each keeps its journal, with one record more or without, and the answer has its cause, by the counts of faults before and now and by
--- what the disks that were told may hold; it is the least lane's that met one; and where the ledger was kept, it is cut short
+-- a lane's fault ended a run over the ledger that the disks told, in which each record was caused: its journals have grown at their ends, by so much as
+-- each lane has prepared; where the disks told all each keeps its journal, with one record more or without; the answer has its cause, by the counts of
+-- faults before and now and by what the disks that were told may hold; it is the least lane's that met one; and where the ledger was kept, it is cut short
 pub record IsLaneFault {D : Type 0} (content : D → Option (List ℕ)) (images : D → List ℕ → Type 0) (limit : D → ℕ) (held back : ℕ → Option D) (before now : ℕ → ℕ) (next : Shape → (ℕ → List Record) → (ℕ → List Record) → ℕ → List Compact → Type 0)
-    (ends : Shape → (ℕ → List Record) → (ℕ → List Record) → (ℕ → Type 0) → (ℕ → ℕ → Type 0) → LaneFault → Type 0) (files : List (List FullTx)) (answer : Answer) : Type 0 where
+    (ends : Shape → (ℕ → List Record) → (ℕ → List Record) → (ℕ → Type 0) → (ℕ → ℕ → Type 0) → LaneFault → Type 0) (begun : Shape → (ℕ → List Record) → (ℕ → List Record) → Type 0) (files : List (List FullTx)) (answer : Answer) : Type 0 where
   pub ledger : IsCausedLedger content held
   pub exit : ℕ → List Record
   pub grows : (n : ℕ) → IsEnd (journal n (reverse ledger.rows)) (exit n)
+  pub prepared : begun ledger.shape (λ n. journal n (reverse ledger.rows)) exit
   pub disks : AllTell content held ledger.shape → KeepsEach images back ledger.shape exit
   pub cause : IsLaneAnswer ledger.shape (next ledger.shape (λ n. journal n (reverse ledger.rows)) exit) (λ n. journal n (reverse ledger.rows)) exit (λ n. Rose (before n) (now n)) (λ n c. OfTold (held n) (λ d. c ≡ limit d)) answer
   pub least : IsLeastAnswer (ends ledger.shape (λ n. journal n (reverse ledger.rows)) exit (λ n. Rose (before n) (now n)) (λ n c. OfTold (held n) (λ d. c ≡ limit d))) answer
@@ -77,3 +80,11 @@ NothingNext K E X lane txs = ⊥
 -- the next piece of what these files send to a lane, by what it has prepared from journals E to X
 abbrev pub PieceNext : VerdictsOf → List (List FullTx) → Shape → (ℕ → List Record) → (ℕ → List Record) → ℕ → List Compact → Type 0
 PieceNext verdicts files K E X = IsFilesPiece K verdicts files E X
+
+-- no lane has prepared anything
+abbrev pub NonePrepared : Shape → (ℕ → List Record) → (ℕ → List Record) → Type 0
+NonePrepared K E X = (lane : ℕ) → IsLaneOf K lane → HasPrepared K lane [] E X
+
+-- no lane has prepared anything but the first pieces of what these files send it
+abbrev pub PiecesPrepared : VerdictsOf → List (List FullTx) → Shape → (ℕ → List Record) → (ℕ → List Record) → Type 0
+PiecesPrepared verdicts files K E X = HaveBegunFiles K verdicts files E X

@@ -1,5 +1,5 @@
 // A run over open nodes.
-ghost use Rattle.std.specs.Prelude.{◌≡◌, ◌⊎◌, Err, ◌≤◌, ◌++◌, ℕ, Bool, [], map, All, IfOk, IfSome, OnOk, IfErr, IsOk};
+ghost use Rattle.std.specs.Prelude.{◌≡◌, ◌⊎◌, Err, ◌≤◌, ◌<◌, ◌++◌, ℕ, Bool, [], map, All, IfOk, IfSome, OnOk, IfErr, IsOk};
 ghost use Rattle.cbdc_model.specs.Coins.{FullTx as TxOf};
 ghost use Rattle.cbdc_model.specs.Lanes.{IsEnd};
 ghost use Rattle.cbdc_model.specs.World.{AreIdle};
@@ -8,7 +8,7 @@ ghost use Rattle.input_files.specs.Limits.{IsShort};
 ghost use Rattle.submissions.specs.Checks.{TellsSound};
 ghost use Rattle.ledger_runs.specs.Turning.{OfKept, StaysKept};
 ghost use Rattle.ledger_runs.specs.Faults.{HaveFailed, MayHold};
-ghost use Rattle.file_runs.specs.Runs.{joined, IsFilesPiece, FliesWith};
+ghost use Rattle.file_runs.specs.Runs.{joined, HaveBegunFiles, IsFilesPiece, FliesWith};
 ghost use Rattle.rack_runs.specs.Endings.{EndsRun, IsLeastAnswer};
 ghost use Rattle.ledger_nodes.specs.Ledgers.{IsLedger, journals_of, flights_of, faults_of, opened_of, capacity_of, AreChecked, AreStored, AreQuiet};
 ghost use Rattle.rack_laws.specs.Shown.{LogHasRoom, ShardHasRoom};
@@ -127,6 +127,8 @@ pub(crate) fn run_nodes<W: Wait, D: Disk, V: Verifier, G: Gate>(
         ≤ faults_of D.count D.limit nodes.header.shape result.nodes.logs.items result.nodes.shards.items n }
     ensures grows { (n : ℕ) → IsEnd (journals_of D.count D.limit nodes.header.shape nodes.logs.items nodes.shards.items n)
         (journals_of D.count D.limit nodes.header.shape result.nodes.logs.items result.nodes.shards.items n) }
+    ensures begun { 0 < nodes.header.shape.batch → HaveBegunFiles nodes.header.shape (V.verdict_of verifier.now) files.now
+        (journals_of D.count D.limit nodes.header.shape nodes.logs.items nodes.shards.items) (journals_of D.count D.limit nodes.header.shape result.nodes.logs.items result.nodes.shards.items) }
 
     // What is in flight may come next at its node, as before.
     ensures flies { OfKept nodes.header.shape (journals_of D.count D.limit nodes.header.shape nodes.logs.items nodes.shards.items)

@@ -6,7 +6,7 @@ ghost use Rattle.caused_ledgers.specs.Caused.{IsCausedLedger, IsUnresumed};
 ghost use Rattle.rack_laws.specs.Shown.{OfShown};
 ghost use Rattle.ledger_runs.specs.Least.{IsLeastOpen};
 ghost use Rattle.rack_runs.specs.Endings.{EndsRun};
-ghost use Rattle.rack_runs.specs.Runs.{IsRun, IsRecovered, IsLaneFault, NothingNext, PieceNext};
+ghost use Rattle.rack_runs.specs.Runs.{IsRun, IsRecovered, IsLaneFault, NonePrepared, NothingNext, PieceNext, PiecesPrepared};
 ghost use Rattle.rack_runs.specs.Telling.{IsTold};
 ghost use Rattle.submissions.specs.Checks.{VerdictsOf};
 
@@ -45,7 +45,7 @@ pub fn run_on<W: Wait, R: Rack, V: Verifier, G: Gate>(
     ensures stopped { IfErr result (λ e. (IsUnresumed R.Disk.content R.Disk.images R.Disk.limit R.Disk.count (R.held rack.old) (R.count rack.old) (R.count rack.new) e
         × ((n : ℕ) → IsBack R.Disk.images R.Disk.limit (R.held rack.old n) (R.held rack.new n)))
         ⊎ (IsLaneFault R.Disk.content R.Disk.images R.Disk.limit (R.held rack.old) (R.held rack.new) (R.count rack.old) (R.count rack.new) (PieceNext (V.verdict_of verifier.now) files.now)
-        (EndsRun (V.verdict_of verifier.now) files.now) files.now e)) }
+        (EndsRun (V.verdict_of verifier.now) files.now) (PiecesPrepared (V.verdict_of verifier.now) files.now) files.now e)) }
 
     ensures back { (n : ℕ) → R.can_take rack.new n }
     ensures later { (n : ℕ) → R.count rack.old n ≤ R.count rack.new n }
@@ -72,7 +72,7 @@ pub fn recover_on<W: Wait, R: Rack, G: Gate>(
     ensures told { IfOk result (λ r. (verdicts : VerdictsOf) × OfShown R.Disk.content (R.held rack.old) (IsTold R.Disk.images (R.held rack.new) verdicts [] r)) }
     ensures stopped { IfErr result (λ e. (IsUnresumed R.Disk.content R.Disk.images R.Disk.limit R.Disk.count (R.held rack.old) (R.count rack.old) (R.count rack.new) e
         × ((n : ℕ) → IsBack R.Disk.images R.Disk.limit (R.held rack.old n) (R.held rack.new n)))
-        ⊎ (IsLaneFault R.Disk.content R.Disk.images R.Disk.limit (R.held rack.old) (R.held rack.new) (R.count rack.old) (R.count rack.new) NothingNext IsLeastOpen [] e)) }
+        ⊎ (IsLaneFault R.Disk.content R.Disk.images R.Disk.limit (R.held rack.old) (R.held rack.new) (R.count rack.old) (R.count rack.new) NothingNext IsLeastOpen NonePrepared [] e)) }
     ensures back { (n : ℕ) → R.can_take rack.new n }
     ensures later { (n : ℕ) → R.count rack.old n ≤ R.count rack.new n }
 {

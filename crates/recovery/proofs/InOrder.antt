@@ -10,7 +10,7 @@ use Rattle.cbdc_model.specs.Sights.{Sight}
 use Rattle.lane_driver.specs.Told.{IsLane, KeepsOthers}
 use Rattle.recovery.specs.declared.resumed.ResumedBatch.{ResumedBatch}
 use Rattle.lane_driver.specs.declared.fault.LaneFault.{LaneFault}
-use Rattle.recovery.specs.Open.{IsOpen, LanesAbove, LanesRise, KeepsUnlisted, IsUnfinished, IsResumeStopped, IsOneTaken, AreTakenUp, IsStoppedAmong}
+use Rattle.recovery.specs.Open.{IsOpen, LanesAbove, LanesRise, KeepsUnlisted, IsUnfinished, IsResumeStopped, IsResumeTold, IsOneTaken, AreTakenUp, IsStoppedAmong}
 use Rattle.recovery.proofs.Rest.{split_rest, open_here}
 
 -- ---- what was taken
@@ -49,8 +49,8 @@ module _ (os : List OpenLane) (i : ℕ) (o : OpenLane) (lt : i < length os) (is 
 
   -- it stopped here
   pub stopped_here : (K : Shape) (alone : Bool) (rs : List ResumedBatch) (log between log' : Sight) (I N J : ℕ → Sight) (e : LaneFault)
-      → AreTakenUp K alone (take i os) rs log I between N → IsUnfinished o.phase K o between N → IsResumeStopped K alone o between N log' J e → IsStoppedAmong K alone os log I log' J e
-  stopped_here K alone rs log between log' I N J e taken stands stopped = record {
+      → AreTakenUp K alone (take i os) rs log I between N → IsUnfinished o.phase K o between N → IsResumeStopped K alone o between N log' J e → IsResumeTold K alone o between N log' J e → IsStoppedAmong K alone os log I log' J e
+  stopped_here K alone rs log between log' I N J e taken stands stopped told = record {
     before = take i os;
     stopped_at = o;
     behind = drop (i + 1) os;
@@ -61,6 +61,7 @@ module _ (os : List OpenLane) (i : ℕ) (o : OpenLane) (lt : i < length os) (is 
     taken = taken;
     stands = stands;
     stopped = stopped;
+    told = told;
   }
 
   pub over_more : (h k : Header) (p q : ℕ → Phase) (t u : ℕ → List Compact) → k ≡ h → KeepsOthers h o.batch.lane p q t u → q o.batch.lane ≡ Idle → LanesRise (drop i os) → All (IsOpen h p t) (drop i os)

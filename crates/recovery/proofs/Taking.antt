@@ -7,7 +7,7 @@ use Rattle.cbdc_types.specs.declared.calls.LockCall.{LockCall}
 use Rattle.cbdc_model.specs.Records.{Shape, Batch, same_batch, Compact, Entry, Outcome, Record, record_of, outcomes_in, outcomes_of, Commit, Discard, Done}
 use Rattle.cbdc_model.specs.Sights.{Sight}
 use Rattle.lane_laws.specs.Calls.{AreParts, AreLocks, lock_of}
-use Rattle.lane_laws.specs.Traces.{ToldDiscarded, ToldCommitted, ToldPrepared}
+use Rattle.lane_laws.specs.Traces.{ToldDiscarded, ToldCommitted, ToldPrepared, DiscardedStopped, CommittedStopped}
 use Rattle.lane_laws.specs.Batches.{own}
 use Rattle.lane_laws.specs.Resuming.{IsTakenUp, IsLeft}
 use Rattle.lane_laws.specs.Faults.{IsNoRefusal}
@@ -18,7 +18,7 @@ use Rattle.lane_laws.proofs.Resumes.{takes_discarded, takes_committed, takes_pre
 use Rattle.lane_driver.specs.declared.fault.LaneFault.{LaneFault}
 use Rattle.lane_driver.specs.declared.fault.Stop.{Stop}
 use Rattle.lane_driver.specs.Stops.{IsFaultOf, IsDiscardedStopped, IsCommittedStopped, IsPreparedStopped}
-use Rattle.recovery.specs.Open.{IsUnfinished, IsResumeStopped}
+use Rattle.recovery.specs.Open.{IsUnfinished, IsResumeStopped, IsToldFrom, IsResumeTold}
 
 -- a batch's Commit under its Done and its Discard
 commit_below : (b : Batch) (ended discarded committed : ℕ) (os : List Outcome) (J : List Record) → record_of 7 (Done ended b ∷ Discard discarded b ∷ Commit committed b os ∷ J) b ≡ Some (Commit committed b os)
@@ -54,6 +54,17 @@ module _ (K : Shape) (alone : Bool) (o : OpenLane) (log log' : Sight) (I J : ℕ
     pub prepared_left : (fault : LaneFault) → IsFaultOf fault e.node e.fault → IsResumeStopped K alone o log I log' J fault
     prepared_left fault is = inr (λ h. (stop.0, stop.1, subst (λ x. IsFaultOf fault x.node x.fault) stop.2 is, leaves_prepared K alone o.batch o.txs o.stamp log log' I J n parts stop.0 stop.1 (at_phase Prepared phase h) own_parts stop.3))
 
+  -- what was told of it
+  pub prepared_told : (e : Stop) → o.phase ≡ Prepared → IsPreparedStopped K alone o.batch o.stamp 0 parts log log' I J e → (fault : LaneFault) → IsFaultOf fault e.node e.fault → IsResumeTold K alone o log I log' J fault
+  prepared_told e phase stop fault is = inr (
+    parts,
+    own_parts,
+    stop.0,
+    stop.1,
+    subst (λ x. IsFaultOf fault x.node x.fault) stop.2 is,
+    subst (λ p. IsToldFrom p K alone o parts log I log' J stop.0 stop.1) (sym phase) stop.3,
+  )
+
   module _ (locks : List (ℕ × LockCall)) (locks_are : locks ≡ map (lock_of o.batch o.stamp) parts) where
     own_locks : AreLocks K o.txs o.batch o.stamp locks
     own_locks = subst (λ cs. AreLocks K o.txs o.batch o.stamp cs) (sym locks_are) (are_locks K o.txs o.batch o.stamp parts own_parts)
@@ -75,6 +86,31 @@ module _ (K : Shape) (alone : Bool) (o : OpenLane) (log log' : Sight) (I J : ℕ
 
       pub committed_left : (fault : LaneFault) → IsFaultOf fault e.node e.fault → IsResumeStopped K alone o log I log' J fault
       committed_left fault is = inr (λ h. (stop.0, stop.1, subst (λ x. IsFaultOf fault x.node x.fault) stop.2 is, left h))
+
+    pub committed_told : (os : List Outcome) (e : Stop) → os ≡ o.outcomes → o.phase ≡ Committed → IsCommittedStopped K alone o.batch o.stamp os 0 locks log log' I J e
+        → (fault : LaneFault) → IsFaultOf fault e.node e.fault → IsResumeTold K alone o log I log' J fault
+    committed_told os e os_are phase stop fault is = inr (
+      parts,
+      own_parts,
+      stop.0,
+      stop.1,
+      subst (λ x. IsFaultOf fault x.node x.fault) stop.2 is,
+      subst (λ p. IsToldFrom p K alone o parts log I log' J stop.0 stop.1) (sym phase)
+          (subst (λ cs. CommittedStopped K alone o.batch o.stamp o.outcomes 0 cs log log' I J stop.0 stop.1) locks_are
+          (subst (λ qs. CommittedStopped K alone o.batch o.stamp qs 0 locks log log' I J stop.0 stop.1) os_are stop.3)),
+    )
+
+    pub discarded_told : (e : Stop) → o.phase ≡ Discarded → IsDiscardedStopped K alone o.batch o.stamp 0 locks log log' I J e
+        → (fault : LaneFault) → IsFaultOf fault e.node e.fault → IsResumeTold K alone o log I log' J fault
+    discarded_told e phase stop fault is = inr (
+      parts,
+      own_parts,
+      stop.0,
+      stop.1,
+      subst (λ x. IsFaultOf fault x.node x.fault) stop.2 is,
+      subst (λ p. IsToldFrom p K alone o parts log I log' J stop.0 stop.1) (sym phase)
+          (subst (λ cs. DiscardedStopped K alone o.batch o.stamp 0 cs log log' I J stop.0 stop.1) locks_are stop.3),
+    )
 
     pub discarded_taken : o.phase ≡ Discarded → ToldDiscarded alone o.batch o.stamp 0 locks log log' I J → IsUnfinished o.phase K o log I → IsTakenUp K alone o.batch log I log' J
     discarded_taken e told h = let d = at_phase Discarded e h in takes_discarded K alone o.batch o.txs d.0 log log' I J o.stamp o.stamp 0 locks d.1 own_locks told

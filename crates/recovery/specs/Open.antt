@@ -1,5 +1,5 @@
 -- The lanes that are open at a coordinator.
-use Rattle.std.specs.Prelude.{◌≡◌, ◌≢◌, ◌⊎◌, ℕ, ◌<◌, Bool, List, [], ◌∷◌, ◌++◌, length}
+use Rattle.std.specs.Prelude.{◌≡◌, ◌≢◌, ◌⊎◌, ℕ, ◌<◌, Bool, List, [], ◌∷◌, ◌++◌, length, map}
 use Rattle.std.specs.List.{All, AllZip}
 use Rattle.cbdc_types.specs.declared.batch.OpenLane.{OpenLane}
 use Rattle.cbdc_types.specs.declared.batch.Phase.{Phase as OpenPhase}
@@ -7,9 +7,11 @@ use Rattle.cbdc_types.specs.declared.batch.Phase.TheVariants.{Prepared, Committe
 use Rattle.cbdc_model.specs.Records.{Header, Compact}
 use Rattle.cbdc_model.specs.Slots.{Phase, InPrepare, InCommit, InDiscard}
 use Rattle.cbdc_model.specs.Grammar.{HasSize, IsBatchOf, IsCompact}
-use Rattle.cbdc_model.specs.Records.{Shape, Record, outcomes_of}
+use Rattle.cbdc_model.specs.Records.{Shape, Entry, Record, outcomes_of}
 use Rattle.cbdc_model.specs.Sights.{Sight}
 use Rattle.cbdc_types.specs.declared.calls.NodeFault.{NodeFault}
+use Rattle.lane_laws.specs.Calls.{AreParts, lock_of}
+use Rattle.lane_laws.specs.Traces.{DiscardedStopped, CommittedStopped, PreparedStopped}
 use Rattle.lane_laws.specs.Resuming.{IsPreparedAt, IsCommittedAt, IsDiscardedAt, IsTakenUp, IsLeft}
 use Rattle.lane_driver.specs.declared.fault.LaneFault.{LaneFault}
 use Rattle.lane_driver.specs.Stops.{IsFaultOf, HasNoMemory}
@@ -82,6 +84,19 @@ abbrev pub IsResumeStopped : Shape → Bool → OpenLane → Sight → (ℕ → 
 IsResumeStopped K alone o log I log' J e =
     HasNoMemory e log I log' J ⊎ (IsUnfinished o.phase K o log I → (n : ℕ) × (f : NodeFault) × IsFaultOf e n f × IsLeft K alone o.batch log I log' J n f)
 
+-- what was told of it, call by call, from the phase on in which it stood: all calls of a phase were made at all concerned shards, and where one of
+-- them did not do what it was asked, the least such shard's fault is this
+abbrev pub IsToldFrom : OpenPhase → Shape → Bool → OpenLane → List (ℕ × List Entry) → Sight → (ℕ → Sight) → Sight → (ℕ → Sight) → ℕ → NodeFault → Type 0
+IsToldFrom Prepared K alone o parts log I log' J n f = PreparedStopped K alone o.batch o.stamp 0 parts log log' I J n f
+IsToldFrom Committed K alone o parts log I log' J n f = CommittedStopped K alone o.batch o.stamp o.outcomes 0 (map (lock_of o.batch o.stamp) parts) log log' I J n f
+IsToldFrom Discarded K alone o parts log I log' J n f = DiscardedStopped K alone o.batch o.stamp 0 (map (lock_of o.batch o.stamp) parts) log log' I J n f
+
+-- the same, or it was not begun for want of memory
+abbrev pub IsResumeTold : Shape → Bool → OpenLane → Sight → (ℕ → Sight) → Sight → (ℕ → Sight) → LaneFault → Type 0
+IsResumeTold K alone o log I log' J e =
+    HasNoMemory e log I log' J
+    ⊎ ((parts : List (ℕ × List Entry)) × AreParts K o.txs parts × (n : ℕ) × (f : NodeFault) × IsFaultOf e n f × IsToldFrom o.phase K alone o parts log I log' J n f)
+
 -- the open batch was taken to its end, and it is told with the phase in which it stood and its outcomes
 pub record IsOneTaken (K : Shape) (alone : Bool) (o : OpenLane) (log : Sight) (I : ℕ → Sight) (log' : Sight) (J : ℕ → Sight) (r : ResumedBatch) : Type 0 where
   pub taken : IsTakenUp K alone o.batch log I log' J
@@ -108,6 +123,7 @@ pub record IsStoppedAmong (K : Shape) (alone : Bool) (os : List OpenLane) (log :
   pub taken : AreTakenUp K alone before batches log I log_there shards_there
   pub stands : IsUnfinished stopped_at.phase K stopped_at log_there shards_there
   pub stopped : IsResumeStopped K alone stopped_at log_there shards_there log' J e
+  pub told : IsResumeTold K alone stopped_at log_there shards_there log' J e
 
 -- that, or they were not begun for want of memory
 abbrev pub AreStopped : Shape → Bool → List OpenLane → Sight → (ℕ → Sight) → Sight → (ℕ → Sight) → LaneFault → Type 0

@@ -6,7 +6,7 @@ ghost use Rattle.cbdc_types.specs.declared.batch.Phase.TheVariants.{Prepared, Co
 ghost use Rattle.lane_laws.specs.Resuming.{IsTakenUp};
 ghost use Rattle.lane_driver.specs.Told.{KeepsOthers, AreShardsOf, KeepNodes};
 ghost use Rattle.lane_driver.specs.Causes.{IsCausedFault};
-ghost use Rattle.recovery.specs.Open.{IsOpen, LanesRise, KeepsUnlisted, IsResumed, AreResumed, IsUnfinished, AreUnfinished, HasItsOutcomes, IsResumeStopped, AreTakenUp, AreStopped};
+ghost use Rattle.recovery.specs.Open.{IsOpen, LanesRise, KeepsUnlisted, IsResumed, AreResumed, IsUnfinished, AreUnfinished, HasItsOutcomes, IsResumeStopped, IsResumeTold, AreTakenUp, AreStopped};
 
 use crate::resumed::{Resumed, ResumedBatch};
 use cbdc_types::{List, OpenLane, Outcome, Outcomes, Phase, Shape};
@@ -43,6 +43,7 @@ fn resume_prepared<S: PortSet, L: LogPort, G: Gate>(
     ensures taken { OnOk result (IsUnfinished unfinished.now.phase shape.now unfinished.now (L.sights ports.old.log (L.at ports.old.log)) (S.sights ports.old.shards) → IsTakenUp shape.now L.alone unfinished.now.batch (L.sights ports.old.log (L.at ports.old.log)) (S.sights ports.old.shards) (L.sights ports.new.log (L.at ports.new.log)) (S.sights ports.new.shards)) }
     ensures outcomes { IfOk result (λ r. IsUnfinished unfinished.now.phase shape.now unfinished.now (L.sights ports.old.log (L.at ports.old.log)) (S.sights ports.old.shards) → HasItsOutcomes unfinished.now.phase unfinished.now (L.sights ports.new.log (L.at ports.new.log)).seen r) }
     ensures left { IfErr result (IsResumeStopped shape.now L.alone unfinished.now (L.sights ports.old.log (L.at ports.old.log)) (S.sights ports.old.shards) (L.sights ports.new.log (L.at ports.new.log)) (S.sights ports.new.shards)) }
+    ensures told { IfErr result (IsResumeTold shape.now L.alone unfinished.now (L.sights ports.old.log (L.at ports.old.log)) (S.sights ports.old.shards) (L.sights ports.new.log (L.at ports.new.log)) (S.sights ports.new.shards)) }
     ensures fault { IfErr result (IsCausedFault shape.now (L.sights ports.new.log) (S.sights ports.new.shards)) }
     ensures idle { OnOk result (L.phase ports.new.log unfinished.now.batch.lane ≡ Idle) }
     ensures others { KeepsOthers (L.header ports.old.log) unfinished.now.batch.lane (L.phase ports.old.log) (L.phase ports.new.log) (L.open_txs ports.old.log) (L.open_txs ports.new.log) }
@@ -101,6 +102,7 @@ fn resume_committed<S: PortSet, L: LogPort, G: Gate>(
     ensures taken { OnOk result (IsUnfinished unfinished.now.phase shape.now unfinished.now (L.sights ports.old.log (L.at ports.old.log)) (S.sights ports.old.shards) → IsTakenUp shape.now L.alone unfinished.now.batch (L.sights ports.old.log (L.at ports.old.log)) (S.sights ports.old.shards) (L.sights ports.new.log (L.at ports.new.log)) (S.sights ports.new.shards)) }
     ensures outcomes { IfOk result (λ r. IsUnfinished unfinished.now.phase shape.now unfinished.now (L.sights ports.old.log (L.at ports.old.log)) (S.sights ports.old.shards) → HasItsOutcomes unfinished.now.phase unfinished.now (L.sights ports.new.log (L.at ports.new.log)).seen r) }
     ensures left { IfErr result (IsResumeStopped shape.now L.alone unfinished.now (L.sights ports.old.log (L.at ports.old.log)) (S.sights ports.old.shards) (L.sights ports.new.log (L.at ports.new.log)) (S.sights ports.new.shards)) }
+    ensures told { IfErr result (IsResumeTold shape.now L.alone unfinished.now (L.sights ports.old.log (L.at ports.old.log)) (S.sights ports.old.shards) (L.sights ports.new.log (L.at ports.new.log)) (S.sights ports.new.shards)) }
     ensures fault { IfErr result (IsCausedFault shape.now (L.sights ports.new.log) (S.sights ports.new.shards)) }
     ensures idle { OnOk result (L.phase ports.new.log unfinished.now.batch.lane ≡ Idle) }
     ensures others { KeepsOthers (L.header ports.old.log) unfinished.now.batch.lane (L.phase ports.old.log) (L.phase ports.new.log) (L.open_txs ports.old.log) (L.open_txs ports.new.log) }
@@ -176,6 +178,7 @@ fn resume_discarded<S: PortSet, L: LogPort, G: Gate>(
     ensures taken { OnOk result (IsUnfinished unfinished.now.phase shape.now unfinished.now (L.sights ports.old.log (L.at ports.old.log)) (S.sights ports.old.shards) → IsTakenUp shape.now L.alone unfinished.now.batch (L.sights ports.old.log (L.at ports.old.log)) (S.sights ports.old.shards) (L.sights ports.new.log (L.at ports.new.log)) (S.sights ports.new.shards)) }
     ensures outcomes { IfOk result (λ r. IsUnfinished unfinished.now.phase shape.now unfinished.now (L.sights ports.old.log (L.at ports.old.log)) (S.sights ports.old.shards) → HasItsOutcomes unfinished.now.phase unfinished.now (L.sights ports.new.log (L.at ports.new.log)).seen r) }
     ensures left { IfErr result (IsResumeStopped shape.now L.alone unfinished.now (L.sights ports.old.log (L.at ports.old.log)) (S.sights ports.old.shards) (L.sights ports.new.log (L.at ports.new.log)) (S.sights ports.new.shards)) }
+    ensures told { IfErr result (IsResumeTold shape.now L.alone unfinished.now (L.sights ports.old.log (L.at ports.old.log)) (S.sights ports.old.shards) (L.sights ports.new.log (L.at ports.new.log)) (S.sights ports.new.shards)) }
     ensures fault { IfErr result (IsCausedFault shape.now (L.sights ports.new.log) (S.sights ports.new.shards)) }
     ensures idle { OnOk result (L.phase ports.new.log unfinished.now.batch.lane ≡ Idle) }
     ensures others { KeepsOthers (L.header ports.old.log) unfinished.now.batch.lane (L.phase ports.old.log) (L.phase ports.new.log) (L.open_txs ports.old.log) (L.open_txs ports.new.log) }
@@ -255,6 +258,7 @@ fn resume_lane<S: PortSet, L: LogPort, G: Gate>(
     ensures taken { OnOk result (IsUnfinished unfinished.now.phase shape.now unfinished.now (L.sights ports.old.log (L.at ports.old.log)) (S.sights ports.old.shards) → IsTakenUp shape.now L.alone unfinished.now.batch (L.sights ports.old.log (L.at ports.old.log)) (S.sights ports.old.shards) (L.sights ports.new.log (L.at ports.new.log)) (S.sights ports.new.shards)) }
     ensures outcomes { IfOk result (λ r. IsUnfinished unfinished.now.phase shape.now unfinished.now (L.sights ports.old.log (L.at ports.old.log)) (S.sights ports.old.shards) → HasItsOutcomes unfinished.now.phase unfinished.now (L.sights ports.new.log (L.at ports.new.log)).seen r) }
     ensures left { IfErr result (IsResumeStopped shape.now L.alone unfinished.now (L.sights ports.old.log (L.at ports.old.log)) (S.sights ports.old.shards) (L.sights ports.new.log (L.at ports.new.log)) (S.sights ports.new.shards)) }
+    ensures told { IfErr result (IsResumeTold shape.now L.alone unfinished.now (L.sights ports.old.log (L.at ports.old.log)) (S.sights ports.old.shards) (L.sights ports.new.log (L.at ports.new.log)) (S.sights ports.new.shards)) }
     ensures fault { IfErr result (IsCausedFault shape.now (L.sights ports.new.log) (S.sights ports.new.shards)) }
     ensures idle { OnOk result (L.phase ports.new.log unfinished.now.batch.lane ≡ Idle) }
     ensures others { KeepsOthers (L.header ports.old.log) unfinished.now.batch.lane (L.phase ports.old.log) (L.phase ports.new.log) (L.open_txs ports.old.log) (L.open_txs ports.new.log) }
@@ -303,7 +307,8 @@ pub fn resume<S: PortSet, L: LogPort, G: Gate>(
     ensures taken { IfOk result (λ r. AreTakenUp shape.now L.alone lanes.now r.batches (L.sights ports.old.log (L.at ports.old.log)) (S.sights ports.old.shards) (L.sights ports.new.log (L.at ports.new.log)) (S.sights ports.new.shards)) }
     ensures idle { OnOk result (All (λ o. L.phase ports.new.log o.batch.lane ≡ Idle) lanes.now) }
 
-    // Or one stopped, those before it are at their end, and those behind it untouched.
+    // Or one stopped, at the least shard's fault of a phase all of whose calls were made, or at its coordinator's; those before
+    // it are at their end, and those behind it untouched.
     ensures left { IfErr result (AreStopped shape.now L.alone lanes.now (L.sights ports.old.log (L.at ports.old.log)) (S.sights ports.old.shards) (L.sights ports.new.log (L.at ports.new.log)) (S.sights ports.new.shards)) }
     ensures fault { IfErr result (IsCausedFault shape.now (L.sights ports.new.log) (S.sights ports.new.shards)) }
     ensures others { KeepsUnlisted (L.header ports.old.log) lanes.now (L.phase ports.old.log) (L.phase ports.new.log) (L.open_txs ports.old.log) (L.open_txs ports.new.log) }

@@ -34,7 +34,7 @@ use Rattle.run_laws.proofs.Nodes.{nodes_law}
 use Rattle.run_laws.proofs.Seen.{seen_log}
 use Rattle.run_laws.proofs.TurnKinds.{taken_law, prepared_law, prepared_own}
 use Rattle.run_laws.proofs.Stopping.{stop_law}
-use Rattle.ledger_runs.specs.Pieces.{HasPrepared, IsUnprepared}
+use Rattle.ledger_runs.specs.Pieces.{HasPrepared, HasPreparedAtMost, IsUnprepared}
 use Rattle.ledger_runs.specs.Faults.{AreOfLane, GrowBy, IsWanted, wants_prepare, wants_lock, IsLaneCause, HaveFailed, MayHold, Nothing}
 use Rattle.turn_laws.specs.Nodes.{AreNodes}
 use Rattle.turn_laws.proofs.Headers.{are_journals}
@@ -211,6 +211,18 @@ module _ (K : Shape) (lane : ℕ) (logs shards logs' shards' : ℕ → Sight) (l
               stop_by K lane (λ t. ⊥) (IsUnprepared K lane txs I J) J (opened_by K logs' shards') (faults_by K logs' shards') (capacity_by K logs' shards') (λ t none. absurd none) s.0 s.1
               (law.1 behind.0 behind.1 behind.2)
         ])
+
+    -- a batch that was stopped is all that it may have prepared
+    pub stopped_tried : (e : LaneFault) → IsBatchStopped K true lane txs log shards log' shards' e → HasPreparedAtMost K lane txs I J
+    stopped_tried e (inl none) = inl (unprepared ((taken_law K lane logs shards logs' shards' elsewhere).4 none.1 none.2))
+    stopped_tried e (inr stop) =
+        let s = stop (slot log.seen lane).number settled in
+        let now = ap (prepared lane) (seen_log K logs' shards' (home_of K lane) home) ∙ prepared_own lane log'.seen in
+        let was = sym (prepared_own lane log.seen) ∙ ap (prepared lane) (sym (seen_log K logs shards (home_of K lane) home)) in
+        elim s.3.prepares [
+          | inl same ↦ inl (now ∙ same ∙ was)
+          | inr one ↦ inr (now ∙ one ∙ ap (λ ps. txs ∷ ps) was)
+        ]
 
     -- a batch that is done is what the lane has prepared
     pub batch_prepared : (reports : List BatchReport) → IsOneBatch K true lane txs log shards log' shards' reports → HasPrepared K lane (txs ∷ []) I J

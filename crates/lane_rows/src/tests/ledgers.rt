@@ -200,17 +200,19 @@ fn are_settled(log: &CoordLog<PlainDisk>, node: &ShardNode<PlainDisk>) -> bool
     let header = *log.header();
     let other = *node.header();
     let shape = header.shape;
-    let ours = 0 < shape.lane_count()
-        && header.node.0 == 0
-        && shape.shards() == 1
-        && other.shape == shape
-        && other.node.0 == shape.coordinators();
-    match log.phase(LANE) {
-        LanePhase::Idle(last) => {
-            ours && are_up_to(log.records(), last) && are_first(node.records())
-        }
-        _ => false,
+    if shape.lane_count() == 0 || shape.shards() != 1 {
+        return false;
     }
+    if header.node.0 != 0 || other.node.0 != shape.coordinators() || other.shape != shape {
+        return false;
+    }
+    let LanePhase::Idle(last) = log.phase(LANE) else {
+        return false;
+    };
+    if !are_up_to(log.records(), last) {
+        return false;
+    }
+    are_first(node.records())
 }
 
 /// Runs the lane over these nodes, where it may be run: all its transactions, or one batch of them.

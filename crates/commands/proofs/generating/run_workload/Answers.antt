@@ -2,9 +2,9 @@ use Rattle.std.proofs.Common.{◌∙◌, sym, subst}
 use Rattle.file_runs.specs.Runs.{joined}
 use Rattle.workload.specs.Generator.{mint_of}
 use Rattle.commands.specs.Generated.{all_of}
-use Rattle.commands.specs.InMemory.{AreReady, TellsRunOf, IsUnrun, IsCheckedSound, IsUnchecked}
-use Rattle.commands.proofs.Memory.{are_ready}
-use Rattle.commands.proofs.Generated.{unrun_why, came_to, unchecked_why}
+use Rattle.commands.specs.InMemory.{AreReady, HaveRoom, TellsRunOf, IsCheckedSound, IsUnchecked}
+use Rattle.commands.proofs.Memory.{are_ready, workload_fits}
+use Rattle.commands.proofs.Generated.{memory_why, came_to, unchecked_why}
 use Rattle.commands.proofs.generating.run_workload.Goals as goal
 
 pub run_files-requires-clause-ready : goal.run_files-requires-clause-ready
@@ -12,12 +12,15 @@ run_files-requires-clause-ready g c =
     subst (λ m. AreReady c.args.shape.now m c.in-Ok-rack_of.rack) (sym c.in-Ok.ensures.mint)
     (are_ready c.args.shape.now c.args.seed c.args.count c.requires c.in-Ok-rack_of.rack c.in-Ok-rack_of.ensures.limits c.in-Ok-rack_of.ensures.empty)
 
-pub returns-in-Err-clause-why : goal.returns-in-Err-clause-why
-returns-in-Err-clause-why g c =
+pub run_files-requires-clause-room : goal.run_files-requires-clause-room
+run_files-requires-clause-room g c =
     let files = c.deref.ensures.value ∙ c.in-Ok.ensures.clients in
-    unrun_why c.args.shape.now c.args.seed c.args.count c.run_files.new.rack c.in-Err.fault
-    (subst (λ fs. IsUnrun c.args.shape.now (mint_of c.args.seed c.args.count) fs c.run_files.new.rack c.in-Err.fault) files
-    (subst (λ m. IsUnrun c.args.shape.now m c.deref.result.now c.run_files.new.rack c.in-Err.fault) c.in-Ok.ensures.mint c.in-Err.ensures.why))
+    subst (λ m. HaveRoom c.args.shape.now m c.deref.result.now c.in-Ok-rack_of.rack) (sym c.in-Ok.ensures.mint)
+    (subst (λ fs. HaveRoom c.args.shape.now (mint_of c.args.seed c.args.count) fs c.in-Ok-rack_of.rack) (sym files)
+    (workload_fits c.args.shape.now c.args.seed c.args.count c.requires c.in-Ok-rack_of.rack c.in-Ok-rack_of.ensures.limits c.in-Ok-rack_of.ensures.empty))
+
+pub returns-in-Err-clause-why : goal.returns-in-Err-clause-why
+returns-in-Err-clause-why g c = memory_why c.args.shape.now c.args.seed c.args.count c.in-Err.fault c.in-Err.ensures.why
 
 pub returns-in-Ok-check_files-clause-did : goal.returns-in-Ok-check_files-clause-did
 returns-in-Ok-check_files-clause-did g c =

@@ -2,7 +2,7 @@ use Rattle.commands.proofs.Untouched.{not_turned, not_done, turns_leave}
 use Rattle.std.proofs.Common.{[]}
 use Rattle.commands.specs.Outcomes.{WhyNoTurns}
 use Rattle.ledger_runs.specs.Least.{IsLeastOpen}
-use Rattle.rack_runs.specs.Runs.{NothingNext}
+use Rattle.rack_runs.specs.Runs.{NonePrepared, NothingNext}
 use Rattle.cbdc_types.specs.declared.answer.Answer.TheVariants as answers
 use Rattle.commands.specs.Texts.{IsPrinted}
 use Rattle.commands.proofs.Recovered.{prints_recovery}
@@ -11,14 +11,14 @@ use Rattle.commands.proofs.Faults.{silent_same}
 use Rattle.commands.proofs.recovering.recover.Goals as goal
 
 pub returns-in-Err-clause-why : goal.returns-in-Err-clause-why
-returns-in-Err-clause-why g c = told (WhyNoTurns g.R.Disk.Disk.content g.R.Disk.Disk.images g.R.Disk.Disk.limit g.R.Disk.Disk.count (g.R.Rack.held c.args.rack.now) (g.R.Rack.held c.recover_on.new.rack) (g.R.Rack.count c.args.rack.now) (g.R.Rack.count c.recover_on.new.rack) NothingNext IsLeastOpen []) c.in-Err.fault c.in-Err.ensures.stopped
+returns-in-Err-clause-why g c = told (WhyNoTurns g.R.Disk.Disk.content g.R.Disk.Disk.images g.R.Disk.Disk.limit g.R.Disk.Disk.count (g.R.Rack.held c.args.rack.now) (g.R.Rack.held c.recover_on.new.rack) (g.R.Rack.count c.args.rack.now) (g.R.Rack.count c.recover_on.new.rack) NothingNext IsLeastOpen NonePrepared []) c.in-Err.fault c.in-Err.ensures.stopped
 
 pub returns-in-Err-clause-silent : goal.returns-in-Err-clause-silent
 returns-in-Err-clause-silent g c = silent_same (g.O.Sink.taken c.args.out.now) c.in-Err.fault
 
 pub returns-in-Err-clause-untouched : goal.returns-in-Err-clause-untouched
 returns-in-Err-clause-untouched g c before =
-    absurd (not_turned g.R.Disk.Disk.content g.R.Disk.Disk.images g.R.Disk.Disk.limit g.R.Disk.Disk.count (g.R.Rack.held c.args.rack.now) (g.R.Rack.held c.recover_on.new.rack) (g.R.Rack.count c.args.rack.now) (g.R.Rack.count c.recover_on.new.rack) NothingNext IsLeastOpen [] c.in-Err.fault c.in-Err.ensures.stopped before)
+    absurd (not_turned g.R.Disk.Disk.content g.R.Disk.Disk.images g.R.Disk.Disk.limit g.R.Disk.Disk.count (g.R.Rack.held c.args.rack.now) (g.R.Rack.held c.recover_on.new.rack) (g.R.Rack.count c.args.rack.now) (g.R.Rack.count c.recover_on.new.rack) NothingNext IsLeastOpen NonePrepared [] c.in-Err.fault c.in-Err.ensures.stopped before)
 
 pub returns-in-Ok-write_recovered-clause-did : goal.returns-in-Ok-write_recovered-clause-did
 returns-in-Ok-write_recovered-clause-did g c well = (c.in-Ok.ensures.caused, c.in-Ok.ensures.recovered)
@@ -37,12 +37,12 @@ returns-clause-prints g c well =
     c.in-Ok.recovered c.in-Ok.ensures.told c.in-Err-write_recovered.ensures.prints
 
 pub returns-in-Err-clause-did : goal.returns-in-Err-clause-did
-returns-in-Err-clause-did g c well = absurd (not_done g.R.Disk.Disk.content g.R.Disk.Disk.images g.R.Disk.Disk.limit g.R.Disk.Disk.count (g.R.Rack.held c.args.rack.now) (g.R.Rack.held c.recover_on.new.rack) (g.R.Rack.count c.args.rack.now) (g.R.Rack.count c.recover_on.new.rack) NothingNext IsLeastOpen [] c.in-Err.fault c.in-Err.ensures.stopped well)
+returns-in-Err-clause-did g c well = absurd (not_done g.R.Disk.Disk.content g.R.Disk.Disk.images g.R.Disk.Disk.limit g.R.Disk.Disk.count (g.R.Rack.held c.args.rack.now) (g.R.Rack.held c.recover_on.new.rack) (g.R.Rack.count c.args.rack.now) (g.R.Rack.count c.recover_on.new.rack) NothingNext IsLeastOpen NonePrepared [] c.in-Err.fault c.in-Err.ensures.stopped well)
 
 pub returns-in-Err-clause-prints : goal.returns-in-Err-clause-prints
-returns-in-Err-clause-prints g c well = absurd (not_done g.R.Disk.Disk.content g.R.Disk.Disk.images g.R.Disk.Disk.limit g.R.Disk.Disk.count (g.R.Rack.held c.args.rack.now) (g.R.Rack.held c.recover_on.new.rack) (g.R.Rack.count c.args.rack.now) (g.R.Rack.count c.recover_on.new.rack) NothingNext IsLeastOpen [] c.in-Err.fault c.in-Err.ensures.stopped well)
+returns-in-Err-clause-prints g c well = absurd (not_done g.R.Disk.Disk.content g.R.Disk.Disk.images g.R.Disk.Disk.limit g.R.Disk.Disk.count (g.R.Rack.held c.args.rack.now) (g.R.Rack.held c.recover_on.new.rack) (g.R.Rack.count c.args.rack.now) (g.R.Rack.count c.recover_on.new.rack) NothingNext IsLeastOpen NonePrepared [] c.in-Err.fault c.in-Err.ensures.stopped well)
 
 pub returns-in-Err-clause-left : goal.returns-in-Err-clause-left
 returns-in-Err-clause-left g c not_well =
     turns_leave g.R.Disk.Disk.content g.R.Disk.Disk.images g.R.Disk.Disk.limit g.R.Disk.Disk.count (g.R.Rack.held c.args.rack.now) (g.R.Rack.held c.recover_on.new.rack) (g.R.Rack.count c.args.rack.now) (g.R.Rack.count c.recover_on.new.rack)
-    NothingNext IsLeastOpen [] c.in-Err.fault c.in-Err.ensures.stopped
+    NothingNext IsLeastOpen NonePrepared [] c.in-Err.fault c.in-Err.ensures.stopped

@@ -3,7 +3,7 @@ use Rattle.std.proofs.Common.{◌≤◌, inl, inr, refl, sym, subst}
 use Rattle.input_files.specs.Contents.{AreRead, AreVerdicts, IsNoVerdicts, all_txs}
 use Rattle.verifier_port.specs.Files.{told}
 use Rattle.rack_runs.specs.Endings.{EndsRun}
-use Rattle.rack_runs.specs.Runs.{PieceNext}
+use Rattle.rack_runs.specs.Runs.{PieceNext, PiecesPrepared}
 use Rattle.rack_runs.proofs.Lent.{if_ok_all, if_err_by}
 use Rattle.commands.proofs.Answers.{first_fault, no_verdicts_later}
 use Rattle.commands.proofs.running.run_all.Goals as goal
@@ -53,7 +53,7 @@ returns-clause-why g c =
 pub returns-clause-untouched : goal.returns-clause-untouched
 returns-clause-untouched g c =
     if_err_by _ _ c.run_on.result
-    (λ e why before. absurd (not_turned g.R.Disk.Disk.content g.R.Disk.Disk.images g.R.Disk.Disk.limit g.R.Disk.Disk.count (g.R.Rack.held c.args.rack.now) (g.R.Rack.held c.run_on.new.rack) (g.R.Rack.count c.args.rack.now) (g.R.Rack.count c.run_on.new.rack) (PieceNext (told c.in-Ok-verdicts_in.verdicts) c.deref.result.now) (EndsRun (told c.in-Ok-verdicts_in.verdicts) c.deref.result.now) c.deref.result.now e why before))
+    (λ e why before. absurd (not_turned g.R.Disk.Disk.content g.R.Disk.Disk.images g.R.Disk.Disk.limit g.R.Disk.Disk.count (g.R.Rack.held c.args.rack.now) (g.R.Rack.held c.run_on.new.rack) (g.R.Rack.count c.args.rack.now) (g.R.Rack.count c.run_on.new.rack) (PieceNext (told c.in-Ok-verdicts_in.verdicts) c.deref.result.now) (EndsRun (told c.in-Ok-verdicts_in.verdicts) c.deref.result.now) (PiecesPrepared (told c.in-Ok-verdicts_in.verdicts) c.deref.result.now) c.deref.result.now e why before))
     c.run_on.ensures.stopped
 
 pub returns-in-Err-clause-left : goal.returns-in-Err-clause-left
@@ -69,6 +69,6 @@ returns-clause-left g c =
       c.deref.result.now,
       subst (λ txs. AreRead (g.I.Inbox.file c.args.inbox.now) 0 c.args.clients.now txs) (sym c.deref.ensures.value) c.in-Ok.ensures.read,
       turns_leave g.R.Disk.Disk.content g.R.Disk.Disk.images g.R.Disk.Disk.limit g.R.Disk.Disk.count (g.R.Rack.held c.args.rack.now) (g.R.Rack.held c.run_on.new.rack) (g.R.Rack.count c.args.rack.now) (g.R.Rack.count c.run_on.new.rack)
-          (PieceNext (told c.in-Ok-verdicts_in.verdicts) c.deref.result.now) (EndsRun (told c.in-Ok-verdicts_in.verdicts) c.deref.result.now) c.deref.result.now e why,
+          (PieceNext (told c.in-Ok-verdicts_in.verdicts) c.deref.result.now) (EndsRun (told c.in-Ok-verdicts_in.verdicts) c.deref.result.now) (PiecesPrepared (told c.in-Ok-verdicts_in.verdicts) c.deref.result.now) c.deref.result.now e why,
     ))
     c.run_on.ensures.stopped

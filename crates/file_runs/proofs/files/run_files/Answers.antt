@@ -5,7 +5,7 @@ use Rattle.ledger_laws.proofs.Cuts.{end_self, end_trans}
 use Rattle.cbdc_model.specs.World.{AreIdle}
 use Rattle.ledger_runs.specs.Faults.{HaveFailed, MayHold}
 use Rattle.file_runs.specs.Runs.{joined}
-use Rattle.file_runs.proofs.Pieces.{none_prepared, file_prepared}
+use Rattle.file_runs.proofs.Pieces.{none_prepared, file_prepared, files_all_begun, files_begun, files_unbegun}
 use Rattle.file_runs.proofs.Causing.{files_cause}
 use Rattle.file_runs.proofs.Flying.{flies_none, flies_more, flies_fault, flies_all}
 use Rattle.file_runs.proofs.Ending.{unbegun_files, files_end_so}
@@ -144,3 +144,23 @@ returns-in-Err-push-clause-least g c =
     is.shape c.files-test.true (subst (λ f. f ≡ get_or c.args.files.now c.files.txs-index f) (sym c.as_slice.ensures) c.txs-item.is) is.prepared c.in-Ok-run_file.ensures.prepared)
     (subst (λ k. AreIdle k (g.L.Turns.journals c.run_file.new.ledger)) is.shape c.in-Ok-run_file.ensures.idle)
     (ap (λ e. e.fault) c.no_memory-in-Err-push.ensures)
+
+pub returns-in_default-clause-begun : goal.returns-in_default-clause-begun
+returns-in_default-clause-begun g c = files_unbegun (g.L.Turns.shape c.args.ledger.now) (g.V.Verifier.verdict_of c.args.verifier.now) c.args.files.now (g.L.Turns.journals c.args.ledger.now)
+
+pub returns-in-Err-clause-begun : goal.returns-in-Err-clause-begun
+returns-in-Err-clause-begun g c =
+    files_begun (g.L.Turns.shape c.args.ledger.now) (g.L.Turns.shape c.files.ledger) (g.V.Verifier.verdict_of c.args.verifier.now) c.args.files.now c.files.txs-index c.as_slice.result.now
+    (g.L.Turns.journals c.args.ledger.now) (g.L.Turns.journals c.files.ledger) (g.L.Turns.journals c.run_file.new.ledger)
+    c.files.invariant.shape c.files-test.true (subst (λ f. f ≡ get_or c.args.files.now c.files.txs-index f) (sym c.as_slice.ensures) c.txs-item.is) c.files.invariant.prepared c.run_file.ensures.begun
+
+pub returns-in-Err-push-clause-begun : goal.returns-in-Err-push-clause-begun
+returns-in-Err-push-clause-begun g c =
+    files_begun (g.L.Turns.shape c.args.ledger.now) (g.L.Turns.shape c.files.ledger) (g.V.Verifier.verdict_of c.args.verifier.now) c.args.files.now c.files.txs-index c.as_slice.result.now
+    (g.L.Turns.journals c.args.ledger.now) (g.L.Turns.journals c.files.ledger) (g.L.Turns.journals c.run_file.new.ledger)
+    c.files.invariant.shape c.files-test.true (subst (λ f. f ≡ get_or c.args.files.now c.files.txs-index f) (sym c.as_slice.ensures) c.txs-item.is) c.files.invariant.prepared c.run_file.ensures.begun
+
+pub returns-clause-begun : goal.returns-clause-begun
+returns-clause-begun g c some =
+    files_all_begun (g.L.Turns.shape c.args.ledger.now) (g.V.Verifier.verdict_of c.args.verifier.now) c.args.files.now c.files.txs-index (g.L.Turns.journals c.args.ledger.now) (g.L.Turns.journals c.files.ledger)
+    (omega (arith, c.files-test.false)) c.files.invariant.prepared

@@ -4,7 +4,8 @@ use Rattle.ledger_runs.specs.Telling.{AreFresh, AllTell}
 use Rattle.ledger_runs.specs.Waving.{NoFault, FirstFaultIs}
 use Rattle.file_runs.proofs.Filing.{stays_more, are_within, keeps_file, of_wave, runs_file}
 use Rattle.ledger_runs.specs.Faults.{HaveFailed, MayHold}
-use Rattle.file_runs.proofs.Causing.{file_cause, file_done}
+use Rattle.file_runs.proofs.Causing.{file_begun, file_cause, file_done}
+use Rattle.file_runs.proofs.Pieces.{file_unbegun}
 use Rattle.file_runs.proofs.Flying.{flies_none, flies_file}
 use Rattle.file_runs.proofs.Ending.{file_ends}
 use Rattle.file_runs.proofs.waves.run_file.Goals as goal
@@ -119,3 +120,29 @@ returns-in-Some-clause-least g c =
     file_ends K verdicts c.args.txs.now c.in-Ok.field-0.lanes.items c.in-Ok-lanes_of.lanes.items c.run_wave.new.lanes.items (g.L.Turns.journals c.args.ledger.now) (g.L.Turns.journals c.run_wave.new.ledger)
     (HaveFailed (g.L.Turns.opened c.run_wave.new.ledger) (g.L.Turns.faults c.run_wave.new.ledger)) (MayHold (g.L.Turns.capacity c.run_wave.new.ledger))
     (c.run_wave.ensures.count ∙ are.count ∙ count) sent are c.run_wave.ensures.sent (c.run_wave.ensures.causes are.fresh) c.run_wave.ensures.theirs c.in-Some.fault first
+
+pub returns-in_default-clause-begun : goal.returns-in_default-clause-begun
+returns-in_default-clause-begun g c = file_unbegun (g.L.Turns.shape c.args.ledger.now) (g.V.Verifier.verdict_of c.args.verifier.now) c.args.txs.now (g.L.Turns.journals c.args.ledger.now)
+
+pub returns-in_default-lanes_of-clause-begun : goal.returns-in_default-lanes_of-clause-begun
+returns-in_default-lanes_of-clause-begun g c = file_unbegun (g.L.Turns.shape c.args.ledger.now) (g.V.Verifier.verdict_of c.args.verifier.now) c.args.txs.now (g.L.Turns.journals c.args.ledger.now)
+
+pub returns-in-Some-clause-begun : goal.returns-in-Some-clause-begun
+returns-in-Some-clause-begun g c some =
+    let K = g.L.Turns.shape c.args.ledger.now in
+    let verdicts = g.V.Verifier.verdict_of c.args.verifier.now in
+    let sent = subst (λ k. AreSent k verdicts c.args.txs.now c.in-Ok.field-0.lanes.items) c.shape.ensures c.in-Ok.ensures.sent in
+    let count = subst (λ k. length c.in-Ok.field-0.lanes.items ≡ k.coordinators * k.lanes) c.shape.ensures c.in-Ok.ensures.lanes in
+    let are = c.in-Ok-lanes_of.ensures in
+    file_begun K verdicts c.args.txs.now c.in-Ok.field-0.lanes.items c.in-Ok-lanes_of.lanes.items c.run_wave.new.lanes.items (g.L.Turns.journals c.args.ledger.now) (g.L.Turns.journals c.run_wave.new.ledger)
+    (c.run_wave.ensures.count ∙ are.count ∙ count) sent are c.run_wave.ensures.sent c.run_wave.ensures.begun
+
+pub returns-in-None-clause-begun : goal.returns-in-None-clause-begun
+returns-in-None-clause-begun g c some =
+    let K = g.L.Turns.shape c.args.ledger.now in
+    let verdicts = g.V.Verifier.verdict_of c.args.verifier.now in
+    let sent = subst (λ k. AreSent k verdicts c.args.txs.now c.in-Ok.field-0.lanes.items) c.shape.ensures c.in-Ok.ensures.sent in
+    let count = subst (λ k. length c.in-Ok.field-0.lanes.items ≡ k.coordinators * k.lanes) c.shape.ensures c.in-Ok.ensures.lanes in
+    let are = c.in-Ok-lanes_of.ensures in
+    file_begun K verdicts c.args.txs.now c.in-Ok.field-0.lanes.items c.in-Ok-lanes_of.lanes.items c.run_wave.new.lanes.items (g.L.Turns.journals c.args.ledger.now) (g.L.Turns.journals c.run_wave.new.ledger)
+    (c.run_wave.ensures.count ∙ are.count ∙ count) sent are c.run_wave.ensures.sent c.run_wave.ensures.begun

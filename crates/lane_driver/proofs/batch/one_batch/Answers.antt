@@ -1,6 +1,6 @@
 use Rattle.cbdc_model.specs.Ranges.{home_of}
 use Rattle.lane_driver.proofs.Turning.{home_stop}
-use Rattle.lane_driver.proofs.Batching.{prepare_stops, prepared_done, prepared_stops}
+use Rattle.lane_driver.proofs.Batching.{prepare_stops, prepare_told, prepared_done, prepared_stops, prepared_told}
 use Rattle.lane_driver.proofs.Fitting.{parts_fit}
 use Rattle.std.proofs.Common.{◌∙◌, ◌*◌, ◌<◌, inl, refl, subst}
 use Rattle.cbdc_model.specs.Records.{Shape}
@@ -11,6 +11,10 @@ pub returns-in-Err-prepare-clause-stopped : goal.returns-in-Err-prepare-clause-s
 returns-in-Err-prepare-clause-stopped g c = prepare_stops c.args.shape.now g.L.LogPort.alone c.args.lane c.args.txs.now c.args.repeats c.in-Ok.room.parts (g.L.LogPort.sights c.args.ports.now.log (g.L.LogPort.at c.args.ports.now.log)) (g.L.LogPort.sights c.prepare.new.self (g.L.LogPort.at c.prepare.new.self)) (g.S.PortSet.sights c.args.ports.now.shards) c.in-Ok.ensures.parts
     c.in-Err-prepare.fault (record { node = c.home.result; fault = c.in-Err-prepare.fault }) (home_stop c.home.result (home_of c.args.shape.now c.args.lane) c.in-Err-prepare.fault c.home.ensures) c.in-Err-prepare.ensures.told
 
+pub returns-in-Err-prepare-clause-told : goal.returns-in-Err-prepare-clause-told
+returns-in-Err-prepare-clause-told g c = prepare_told c.args.shape.now g.L.LogPort.alone c.args.lane c.args.txs.now c.args.repeats c.in-Ok.room.parts (g.L.LogPort.sights c.args.ports.now.log (g.L.LogPort.at c.args.ports.now.log)) (g.L.LogPort.sights c.prepare.new.self (g.L.LogPort.at c.prepare.new.self)) (g.S.PortSet.sights c.args.ports.now.shards) c.in-Ok.ensures.parts
+    c.in-Err-prepare.fault (record { node = c.home.result; fault = c.in-Err-prepare.fault }) (home_stop c.home.result (home_of c.args.shape.now c.args.lane) c.in-Err-prepare.fault c.home.ensures) c.in-Err-prepare.ensures.told
+
 pub returns-in-Ok-from_prepared-clause-done : goal.returns-in-Ok-from_prepared-clause-done
 returns-in-Ok-from_prepared-clause-done g c = prepared_done c.args.shape.now g.L.LogPort.alone c.args.lane c.args.txs.now c.args.repeats c.in-Ok.room.parts (g.L.LogPort.sights c.args.ports.now.log (g.L.LogPort.at c.args.ports.now.log)) (g.L.LogPort.sights c.prepare.new.self (g.L.LogPort.at c.prepare.new.self)) (g.S.PortSet.sights c.args.ports.now.shards) c.in-Ok.ensures.parts
     c.in-Ok-prepare.prepared.0 c.in-Ok-prepare.prepared.1 c.in-Ok-prepare.ensures.told (g.L.LogPort.sights c.from_prepared.new.ports.log (g.L.LogPort.at c.from_prepared.new.ports.log)) (g.S.PortSet.sights c.from_prepared.new.ports.shards) c.in-Ok-from_prepared.outcomes c.in-Ok-from_prepared.ensures.told
@@ -19,11 +23,18 @@ pub returns-in-Err-from_prepared-clause-stopped : goal.returns-in-Err-from_prepa
 returns-in-Err-from_prepared-clause-stopped g c = prepared_stops c.args.shape.now g.L.LogPort.alone c.args.lane c.args.txs.now c.args.repeats c.in-Ok.room.parts (g.L.LogPort.sights c.args.ports.now.log (g.L.LogPort.at c.args.ports.now.log)) (g.L.LogPort.sights c.prepare.new.self (g.L.LogPort.at c.prepare.new.self)) (g.S.PortSet.sights c.args.ports.now.shards) c.in-Ok.ensures.parts
     c.in-Ok-prepare.prepared.0 c.in-Ok-prepare.prepared.1 c.in-Ok-prepare.ensures.told (g.L.LogPort.sights c.from_prepared.new.ports.log (g.L.LogPort.at c.from_prepared.new.ports.log)) (g.S.PortSet.sights c.from_prepared.new.ports.shards) c.in-Err-from_prepared.fault c.in-Err-from_prepared.ensures.stopped
 
+pub returns-in-Err-from_prepared-clause-told : goal.returns-in-Err-from_prepared-clause-told
+returns-in-Err-from_prepared-clause-told g c = prepared_told c.args.shape.now g.L.LogPort.alone c.args.lane c.args.txs.now c.args.repeats c.in-Ok.room.parts (g.L.LogPort.sights c.args.ports.now.log (g.L.LogPort.at c.args.ports.now.log)) (g.L.LogPort.sights c.prepare.new.self (g.L.LogPort.at c.prepare.new.self)) (g.S.PortSet.sights c.args.ports.now.shards) c.in-Ok.ensures.parts
+    c.in-Ok-prepare.prepared.0 c.in-Ok-prepare.prepared.1 c.in-Ok-prepare.ensures.told (g.L.LogPort.sights c.from_prepared.new.ports.log (g.L.LogPort.at c.from_prepared.new.ports.log)) (g.S.PortSet.sights c.from_prepared.new.ports.shards) c.in-Err-from_prepared.fault c.in-Err-from_prepared.ensures.stopped
+
 pub from_prepared-requires-clause-parts : goal.from_prepared-requires-clause-parts
 from_prepared-requires-clause-parts g c = parts_fit c.args.shape.now (g.S.PortSet.sights c.args.ports.now.shards) c.args.txs.now c.in-Ok.room.parts c.requires.ledger c.requires.size c.requires.limits c.in-Ok.ensures.parts
 
 pub returns-in-Err-clause-fault : goal.returns-in-Err-clause-fault
 returns-in-Err-clause-fault g c = inl (refl, refl)
+
+pub returns-in-Err-clause-told : goal.returns-in-Err-clause-told
+returns-in-Err-clause-told g c = inl (refl, refl, refl)
 
 pub returns-in-Err-prepare-clause-fault : goal.returns-in-Err-prepare-clause-fault
 returns-in-Err-prepare-clause-fault g c = log_fault c.args.shape.now c.args.lane (g.L.LogPort.at c.prepare.new.self) (g.L.LogPort.sights c.prepare.new.self) (g.S.PortSet.sights c.args.ports.now.shards) c.in-Err-prepare.fault (record { node = c.home.result; fault = c.in-Err-prepare.fault }) (subst (λ (K : Shape). c.args.lane < K.coordinators * K.lanes) c.requires.shape c.requires.home.0) (c.in-Err-prepare.ensures.at_same ∙ c.requires.at)

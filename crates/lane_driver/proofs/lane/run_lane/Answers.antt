@@ -8,7 +8,7 @@ use Rattle.lane_laws.specs.Batches.{LaneSo}
 use Rattle.lane_laws.proofs.Laning.{lane_begins}
 use Rattle.cbdc_types.specs.declared.calls.NodeFault.TheVariants.{Memory}
 use Rattle.cbdc_model.specs.Slots.{slot}
-use Rattle.lane_driver.proofs.Batching.{one_granted, one_stops, lane_on, done_on, lane_off, none_left}
+use Rattle.lane_driver.proofs.Batching.{one_granted, one_stops, one_told, lane_on, done_on, lane_off, lane_told, none_left}
 use Rattle.lane_driver.specs.Reports.{IsReported, AreDone}
 use Rattle.lane_driver.proofs.Cutting.{room_after, reported_more}
 use Rattle.lane_driver.proofs.lane.run_lane.Goals as goal
@@ -46,11 +46,22 @@ pieces-preserved g c =
     }
 
 pub returns-in-Err-one_batch-clause-stopped : goal.returns-in-Err-one_batch-clause-stopped
-returns-in-Err-one_batch-clause-stopped g c k st = lane_off c.args.shape.now g.L.LogPort.alone c.args.lane c.args.txs.now c.pieces.rest.now c.split_at.result.0.now (g.L.LogPort.sights c.args.ports.now.log (g.L.LogPort.at c.args.ports.now.log)) (g.L.LogPort.sights c.pieces.ports.log (g.L.LogPort.at c.pieces.ports.log)) (g.L.LogPort.sights c.one_batch.new.ports.log (g.L.LogPort.at c.one_batch.new.ports.log)) (g.S.PortSet.sights c.args.ports.now.shards) (g.S.PortSet.sights c.pieces.ports.shards) (g.S.PortSet.sights c.one_batch.new.ports.shards) (c.pieces.invariant.so k st) (c.split_at.ensures.front ∙ ap (λ n. take n c.pieces.rest.now) (c.min.ensures ∙ ap (λ n. min n (length c.pieces.rest.now)) c.batch-size.ensures.value))
-    c.lane_fault.result (one_stops c.args.shape.now g.L.LogPort.alone c.args.lane c.split_at.result.0.now (g.L.LogPort.sights c.pieces.ports.log (g.L.LogPort.at c.pieces.ports.log)) (g.L.LogPort.sights c.one_batch.new.ports.log (g.L.LogPort.at c.one_batch.new.ports.log)) (g.S.PortSet.sights c.pieces.ports.shards) (g.S.PortSet.sights c.one_batch.new.ports.shards) c.in-Err-one_batch.stop c.in-Err-one_batch.ensures.stopped c.lane_fault.result c.lane_fault.ensures)
+returns-in-Err-one_batch-clause-stopped g c k st =
+    let some : 0 < length c.pieces.rest.now = search rules in
+    lane_off c.args.shape.now g.L.LogPort.alone c.args.lane c.args.txs.now c.pieces.rest.now c.split_at.result.0.now (g.L.LogPort.sights c.args.ports.now.log (g.L.LogPort.at c.args.ports.now.log)) (g.L.LogPort.sights c.pieces.ports.log (g.L.LogPort.at c.pieces.ports.log)) (g.L.LogPort.sights c.one_batch.new.ports.log (g.L.LogPort.at c.one_batch.new.ports.log)) (g.S.PortSet.sights c.args.ports.now.shards) (g.S.PortSet.sights c.pieces.ports.shards) (g.S.PortSet.sights c.one_batch.new.ports.shards) (c.pieces.invariant.so k st) (c.split_at.ensures.front ∙ ap (λ n. take n c.pieces.rest.now) (c.min.ensures ∙ ap (λ n. min n (length c.pieces.rest.now)) c.batch-size.ensures.value))
+    c.lane_fault.result some (one_stops c.args.shape.now g.L.LogPort.alone c.args.lane c.split_at.result.0.now (g.L.LogPort.sights c.pieces.ports.log (g.L.LogPort.at c.pieces.ports.log)) (g.L.LogPort.sights c.one_batch.new.ports.log (g.L.LogPort.at c.one_batch.new.ports.log)) (g.S.PortSet.sights c.pieces.ports.shards) (g.S.PortSet.sights c.one_batch.new.ports.shards) c.in-Err-one_batch.stop c.in-Err-one_batch.ensures.stopped c.lane_fault.result c.lane_fault.ensures)
+
+pub returns-in-Err-one_batch-clause-told : goal.returns-in-Err-one_batch-clause-told
+returns-in-Err-one_batch-clause-told g c k st =
+    let some : 0 < length c.pieces.rest.now = search rules in
+    lane_told c.args.shape.now g.L.LogPort.alone c.args.lane c.args.txs.now c.pieces.rest.now c.split_at.result.0.now (g.L.LogPort.sights c.args.ports.now.log (g.L.LogPort.at c.args.ports.now.log)) (g.L.LogPort.sights c.pieces.ports.log (g.L.LogPort.at c.pieces.ports.log)) (g.L.LogPort.sights c.one_batch.new.ports.log (g.L.LogPort.at c.one_batch.new.ports.log)) (g.S.PortSet.sights c.args.ports.now.shards) (g.S.PortSet.sights c.pieces.ports.shards) (g.S.PortSet.sights c.one_batch.new.ports.shards) (c.pieces.invariant.so k st) (c.split_at.ensures.front ∙ ap (λ n. take n c.pieces.rest.now) (c.min.ensures ∙ ap (λ n. min n (length c.pieces.rest.now)) c.batch-size.ensures.value))
+    c.args.repeats c.lane_fault.result some (one_told c.args.shape.now g.L.LogPort.alone c.args.lane c.split_at.result.0.now c.args.repeats (g.L.LogPort.sights c.pieces.ports.log (g.L.LogPort.at c.pieces.ports.log)) (g.L.LogPort.sights c.one_batch.new.ports.log (g.L.LogPort.at c.one_batch.new.ports.log)) (g.S.PortSet.sights c.pieces.ports.shards) (g.S.PortSet.sights c.one_batch.new.ports.shards) c.in-Err-one_batch.stop c.lane_fault.result c.lane_fault.ensures c.in-Err-one_batch.ensures.told)
 
 pub returns-in-Err-clause-stopped : goal.returns-in-Err-clause-stopped
-returns-in-Err-clause-stopped g c k st = inl (c.no_memory.ensures, (c.args.txs.now, lane_begins c.args.shape.now g.L.LogPort.alone c.args.lane k c.args.txs.now (g.L.LogPort.sights c.args.ports.now.log (g.L.LogPort.at c.args.ports.now.log)) (g.S.PortSet.sights c.args.ports.now.shards) st))
+returns-in-Err-clause-stopped g c k st = inl (c.no_memory.ensures, refl, refl)
+
+pub returns-in-Err-clause-told : goal.returns-in-Err-clause-told
+returns-in-Err-clause-told g c k st = inl (c.no_memory.ensures, refl, refl)
 
 pub pieces-init : goal.pieces-init
 pieces-init g c = record {

@@ -1,11 +1,11 @@
-use Rattle.std.proofs.Common.{◌≡◌, ◌+◌, refl, ap, ◌∙◌, subst, arith}
+use Rattle.std.proofs.Common.{◌≡◌, ◌+◌, ◌<◌, refl, ap, ◌∙◌, subst, arith}
 use Rattle.ledger_runs.specs.Waving.{AreShorter, OfSent}
 use Rattle.ledger_runs.specs.Telling.{TellSince, AreFresh}
-use Rattle.ledger_runs.specs.Pieces.{HaveTaken}
+use Rattle.ledger_runs.specs.Pieces.{HaveBegun, HaveTaken}
 use Rattle.ledger_runs.specs.Faults.{HaveFailed, MayHold, HaveCauses}
 use Rattle.ledger_laws.proofs.Cuts.{end_self, end_trans}
 use Rattle.ledger_runs.proofs.Faulting.{causes_begin}
-use Rattle.ledger_runs.proofs.Preparing.{none_taken, taken_next, still_short, all_prepared}
+use Rattle.ledger_runs.proofs.Preparing.{none_begun, none_taken, taken_next, still_short, all_prepared}
 use Rattle.ledger_runs.proofs.WaveTelling.{tells_begin, tells_all}
 use Rattle.ledger_runs.proofs.Least.{run_theirs}
 use Rattle.ledger_runs.proofs.Flying.{flies_round}
@@ -26,6 +26,7 @@ rounds-init g c = record {
   checked = c.requires.checked;
   grows = λ n. end_self (g.L.Turns.journals c.args.ledger.now n);
   taken = none_taken (g.L.Turns.shape c.args.ledger.now) (g.L.Turns.journals c.args.ledger.now) c.args.lanes.now.items;
+  begun = none_begun (g.L.Turns.shape c.args.ledger.now) (g.L.Turns.journals c.args.ledger.now) c.args.lanes.now.items (subst (λ s. 0 < s.batch) c.shape.ensures (omega (arith, c.batch-size.ensures.limits)));
   causes = causes_begin (g.L.Turns.shape c.args.ledger.now) (g.L.Turns.journals c.args.ledger.now) (g.L.Turns.journals c.args.ledger.now) (HaveFailed (g.L.Turns.opened c.args.ledger.now) (g.L.Turns.faults c.args.ledger.now)) (MayHold (g.L.Turns.capacity c.args.ledger.now)) c.args.lanes.now.items;
 }
 
@@ -66,6 +67,11 @@ rounds-preserved g c =
           taken_next K c.rounds.start c.saturating_add-start.result c.longest-most.result E L c.turns.new.lanes.items
           (still_short c.args.lanes.now.items c.turns.new.lanes.items c.longest-most.result short (λ sent have. did.sent sent (is.so.sent sent have))) next
           (subst (λ k. HaveTaken k E J (λ _. c.rounds.start) c.rounds.lanes.items → HaveTaken k E L (λ _. c.rounds.start + k.batch) c.turns.new.lanes.items) is.shape (did.taken E) is.taken);
+      begun =
+          let E = g.L.Turns.journals c.args.ledger.now in
+          let J = g.L.Turns.journals c.rounds.ledger in
+          let L = g.L.Turns.journals c.turns.new.ledger in
+          subst (λ k. HaveTaken k E J (λ _. c.rounds.start) c.rounds.lanes.items → HaveBegun k E J c.rounds.lanes.items → HaveBegun k E L c.turns.new.lanes.items) is.shape (did.begun E) is.taken is.begun;
       causes = λ none.
           let E = g.L.Turns.journals c.args.ledger.now in
           let J = g.L.Turns.journals c.rounds.ledger in
@@ -94,6 +100,9 @@ returns-clause-prepared g c none =
     let short = subst (λ ls. AreShorter ls c.longest-most.result) c.deref.ensures.value c.longest-most.ensures in
     all_prepared K c.rounds.start c.longest-most.result (g.L.Turns.journals c.args.ledger.now) (g.L.Turns.journals c.rounds.ledger) c.rounds.lanes.items
     (still_short c.args.lanes.now.items c.rounds.lanes.items c.longest-most.result short c.rounds.invariant.so.sent) c.rounds-test.false none c.rounds.invariant.taken
+
+pub returns-clause-begun : goal.returns-clause-begun
+returns-clause-begun g c = c.rounds.invariant.begun
 
 pub returns-clause-quiet : goal.returns-clause-quiet
 returns-clause-quiet g c = c.rounds.invariant.quiet

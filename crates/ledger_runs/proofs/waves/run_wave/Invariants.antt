@@ -4,7 +4,7 @@ use Rattle.cbdc_model.specs.Lanes.{IsEnd}
 use Rattle.ledger_runs.specs.Turning.{OfKept}
 use Rattle.ledger_runs.specs.Flying.{FliesSent}
 use Rattle.ledger_runs.specs.Waving.{HaveSent, OfSent, NoFault}
-use Rattle.ledger_runs.specs.Pieces.{HaveTaken}
+use Rattle.ledger_runs.specs.Pieces.{HaveBegun, HaveTaken}
 use Rattle.ledger_runs.specs.Faults.{HaveFailed, MayHold, HaveCauses}
 use Rattle.ledger_runs.specs.Telling.{TellSince, AreFresh}
 use Rattle.ledger_runs.proofs.WaveKeeping.{RoundsSo}
@@ -26,6 +26,7 @@ invariant-rounds g l =
       checked : g.L.Turns.checked l.ledger;
       grows : (n : ℕ) → IsEnd (g.L.Turns.journals l.fn.ledger n) (g.L.Turns.journals l.ledger n);
       taken : HaveTaken K (g.L.Turns.journals l.fn.ledger) (g.L.Turns.journals l.ledger) (λ _. l.start) l.lanes.items;
+      begun : HaveBegun K (g.L.Turns.journals l.fn.ledger) (g.L.Turns.journals l.ledger) l.lanes.items;
       causes : NoFault l.fn.lanes.items
           → HaveCauses K (g.L.Turns.journals l.fn.ledger) (g.L.Turns.journals l.ledger) (HaveFailed (g.L.Turns.opened l.ledger) (g.L.Turns.faults l.ledger)) (MayHold (g.L.Turns.capacity l.ledger)) l.lanes.items;
     }

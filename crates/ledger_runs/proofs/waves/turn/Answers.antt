@@ -5,7 +5,7 @@ use Rattle.ledger_runs.proofs.WaveKeeping.{by_piece, took_of}
 use Rattle.ledger_runs.proofs.Flying.{flies_piece}
 use Rattle.ledger_runs.specs.Faults.{HaveFailed, MayHold}
 use Rattle.ledger_runs.proofs.Faulting.{turn_cause, none_by}
-use Rattle.ledger_runs.proofs.Preparing.{turn_prepared}
+use Rattle.ledger_runs.proofs.Preparing.{turn_prepared, turn_tried}
 use Rattle.ledger_runs.proofs.waves.turn.Goals as goal
 
 pub returns-clause-keeps : goal.returns-clause-keeps
@@ -42,6 +42,12 @@ returns-clause-prepared g c = λ none.
     turn_prepared (g.L.Turns.shape c.args.ledger.now) c.args.number c.args.start c.batch-size.result c.args.lane.now.txs.items c.piece.result.now (g.L.Turns.journals c.args.ledger.now) (g.L.Turns.journals c.run_batch-came.new.self)
     c.run_batch-came.result (c.piece.ensures ∙ ap (λ l. take c.batch-size.result (drop c.args.start l)) c.deref.ensures.value)
     (c.batch-size.ensures.value ∙ ap (λ s. s.batch) c.shape.ensures) (omega (arith, c.if-start-len.false, c.len.ensures)) (c.take_in.ensures.fault none).1 c.run_batch-came.ensures.prepared
+
+pub returns-clause-tried : goal.returns-clause-tried
+returns-clause-tried g c =
+    turn_tried (g.L.Turns.shape c.args.ledger.now) c.args.number c.args.start c.batch-size.result c.args.lane.now.txs.items c.piece.result.now (g.L.Turns.journals c.args.ledger.now) (g.L.Turns.journals c.run_batch-came.new.self)
+    c.run_batch-came.result (c.piece.ensures ∙ ap (λ l. take c.batch-size.result (drop c.args.start l)) c.deref.ensures.value)
+    (c.batch-size.ensures.value ∙ ap (λ s. s.batch) c.shape.ensures) (omega (arith, c.if-start-len.false, c.len.ensures)) c.run_batch-came.ensures.prepared c.run_batch-came.ensures.tried
 
 pub returns-clause-cause : goal.returns-clause-cause
 returns-clause-cause g c =

@@ -6,7 +6,7 @@ use Rattle.ledger_runs.specs.Turning.{OfKept, StaysKeptBy}
 use Rattle.ledger_runs.specs.Flying.{FliesOnBy}
 use Rattle.ledger_runs.specs.Waving.{TookTurn}
 use Rattle.ledger_runs.specs.Telling.{TellsTurn}
-use Rattle.ledger_runs.specs.Pieces.{HasPreparedFrom}
+use Rattle.ledger_runs.specs.Pieces.{HasPreparedFrom, HasTriedFrom}
 use Rattle.ledger_runs.specs.Faults.{IsTurnCause, HaveFailed, MayHold}
 use Rattle.ledger_runs.proofs.waves.turn_at.Goals as goal
 
@@ -56,6 +56,12 @@ returns-clause-prepared g c x y there after =
     let now : c.turn.new.lane ≡ y = sym (get_or-set_same items c.args.number c.turn.new.lane y c.requires.inside) ∙ get_or_from_slice_get (slice_set items c.args.number c.turn.new.lane) c.args.number y y after in
     λ none. subst (λ z. HasPreparedFrom K c.args.number c.args.start z.txs.items (g.L.Turns.journals c.args.ledger.now) (g.L.Turns.journals c.turn.new.ledger)) e
     (c.turn.ensures.prepared (ap (λ z. z.fault) now ∙ none))
+
+pub returns-clause-tried : goal.returns-clause-tried
+returns-clause-tried g c x there =
+    let e = c.index_mut.ensures.value ∙ get_or_from_slice_get c.args.lanes.now.items c.args.number x c.index_mut.result.now there in
+    let K = g.L.Turns.shape c.args.ledger.now in
+    subst (λ y. HasTriedFrom K c.args.number c.args.start y.txs.items (g.L.Turns.journals c.args.ledger.now) (g.L.Turns.journals c.turn.new.ledger)) e c.turn.ensures.tried
 
 pub returns-clause-cause : goal.returns-clause-cause
 returns-clause-cause g c x y there after =

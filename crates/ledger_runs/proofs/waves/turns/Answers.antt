@@ -5,7 +5,7 @@ use Rattle.ledger_runs.specs.Faults.{HaveFailed, MayHold}
 use Rattle.ledger_laws.proofs.Cuts.{end_self, end_trans}
 use Rattle.ledger_runs.proofs.Faulting.{grown_end, causes_step, risen_later, holds_later}
 use Rattle.ledger_runs.proofs.WaveTelling.{tells_step}
-use Rattle.ledger_runs.proofs.Preparing.{taken_begin, taken_step, taken_end}
+use Rattle.ledger_runs.proofs.Preparing.{taken_begin, taken_step, begun_step, taken_end}
 use Rattle.ledger_runs.proofs.Flying.{flies_turn}
 use Rattle.ledger_runs.proofs.waves.turns.Goals as goal
 
@@ -26,6 +26,7 @@ lanes-init g c =
       checked = c.requires.checked;
       grows = λ n. end_self (g.L.Turns.journals c.args.ledger.now n);
       taken = λ E. taken_begin K c.args.start E (g.L.Turns.journals c.args.ledger.now) c.args.lanes.now.items;
+      begun = λ E taken have. have;
       causes = λ E since taken have. have;
     }
 
@@ -64,6 +65,9 @@ lanes-preserved g c =
       taken = λ E was.
           taken_step K (g.L.Turns.shape c.lanes.ledger) c.args.start c.lanes.number E (g.L.Turns.journals c.lanes.ledger) (g.L.Turns.journals c.turn_at.new.ledger) c.lanes.lanes.items c.turn_at.new.lanes.items is.shape some did.turned did.grows did.prepared
           (is.taken E was);
+      begun = λ E was have.
+          begun_step K (g.L.Turns.shape c.lanes.ledger) c.args.start c.lanes.number (HaveFailed (g.L.Turns.opened c.turn_at.new.ledger) (g.L.Turns.faults c.turn_at.new.ledger)) (MayHold (g.L.Turns.capacity c.turn_at.new.ledger))
+          E (g.L.Turns.journals c.lanes.ledger) (g.L.Turns.journals c.turn_at.new.ledger) c.lanes.lanes.items c.turn_at.new.lanes.items is.shape some did.turned did.grows did.tried did.cause (is.taken E was) (is.begun E was have);
       causes = λ E since was have.
           causes_step K (g.L.Turns.shape c.lanes.ledger) E (g.L.Turns.journals c.lanes.ledger) (g.L.Turns.journals c.turn_at.new.ledger) c.args.start c.lanes.number
           (HaveFailed (g.L.Turns.opened c.lanes.ledger) (g.L.Turns.faults c.lanes.ledger)) (HaveFailed (g.L.Turns.opened c.turn_at.new.ledger) (g.L.Turns.faults c.turn_at.new.ledger))
@@ -93,6 +97,9 @@ returns-clause-taken g c E was =
     let K = g.L.Turns.shape c.args.ledger.now in
     taken_end K c.args.start c.lanes.number E (g.L.Turns.journals c.lanes.ledger) c.lanes.lanes.items
     (omega (arith, c.lanes.invariant.count, c.lanes.invariant.so.as_many, c.requires.count, c.lanes-test.false)) (c.lanes.invariant.taken E was)
+
+pub returns-clause-begun : goal.returns-clause-begun
+returns-clause-begun g c = c.lanes.invariant.begun
 
 pub returns-clause-flies : goal.returns-clause-flies
 returns-clause-flies g c = c.lanes.invariant.flies

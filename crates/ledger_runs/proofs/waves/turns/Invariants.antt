@@ -6,7 +6,7 @@ use Rattle.ledger_runs.specs.Telling.{TellSince}
 use Rattle.ledger_runs.specs.Turning.{OfKept}
 use Rattle.ledger_runs.specs.Flying.{FliesSent}
 use Rattle.ledger_runs.specs.Waving.{HaveSent, OfSent, taken_by}
-use Rattle.ledger_runs.specs.Pieces.{HaveTaken}
+use Rattle.ledger_runs.specs.Pieces.{HaveBegun, HaveTaken}
 use Rattle.ledger_runs.proofs.WaveKeeping.{TurnsSo}
 use Rattle.ledger_runs.proofs.waves.turns.Given as goal
 
@@ -28,6 +28,8 @@ invariant-lanes g l =
       checked : g.L.Turns.checked l.ledger;
       grows : (n : ℕ) → IsEnd (g.L.Turns.journals l.fn.ledger n) (g.L.Turns.journals l.ledger n);
       taken : (E : ℕ → List Record) → HaveTaken K E (g.L.Turns.journals l.fn.ledger) (λ _. l.start) l.fn.lanes.items → HaveTaken K E (g.L.Turns.journals l.ledger) (taken_by l.start K.batch l.number) l.lanes.items;
+      begun : (E : ℕ → List Record) → HaveTaken K E (g.L.Turns.journals l.fn.ledger) (λ _. l.start) l.fn.lanes.items → HaveBegun K E (g.L.Turns.journals l.fn.ledger) l.fn.lanes.items
+          → HaveBegun K E (g.L.Turns.journals l.ledger) l.lanes.items;
       causes : (E : ℕ → List Record) → ((n : ℕ) → IsEnd (E n) (g.L.Turns.journals l.fn.ledger n)) → HaveTaken K E (g.L.Turns.journals l.fn.ledger) (λ _. l.start) l.fn.lanes.items
           → HaveCauses K E (g.L.Turns.journals l.fn.ledger) (HaveFailed (g.L.Turns.opened l.fn.ledger) (g.L.Turns.faults l.fn.ledger)) (MayHold (g.L.Turns.capacity l.fn.ledger)) l.fn.lanes.items
           → HaveCauses K E (g.L.Turns.journals l.ledger) (HaveFailed (g.L.Turns.opened l.ledger) (g.L.Turns.faults l.ledger)) (MayHold (g.L.Turns.capacity l.ledger)) l.lanes.items;

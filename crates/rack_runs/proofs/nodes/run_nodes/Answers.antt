@@ -1,4 +1,4 @@
-use Rattle.std.proofs.Common.{◌≡◌, ◌∙◌, ◌≤◌, ◌++◌, ℕ, Bool, [], subst, sym, ap}
+use Rattle.std.proofs.Common.{◌≡◌, ◌∙◌, ◌≤◌, ◌<◌, ◌++◌, ℕ, Bool, [], subst, sym, ap}
 use Rattle.std.specs.Prelude.{All, IfOk, IfErr, map}
 use Rattle.cbdc_model.specs.Coins.{FullTx as TxOf}
 use Rattle.cbdc_model.specs.World.{AreIdle}
@@ -9,7 +9,7 @@ use Rattle.cbdc_model.specs.Lanes.{IsEnd}
 use Rattle.ledger_runs.specs.Faults.{IsRunCause, HaveFailed, MayHold}
 use Rattle.rack_runs.specs.Endings.{EndsRun}
 use Rattle.rack_runs.proofs.Answering.{came_cause, came_ends, by_entry}
-use Rattle.file_runs.specs.Runs.{joined, IsFilesPiece, FliesWith}
+use Rattle.file_runs.specs.Runs.{joined, HaveBegunFiles, IsFilesPiece, FliesWith}
 use Rattle.ledger_nodes.specs.Ledgers.{journals_of, flights_of, faults_of, opened_of, capacity_of, AreChecked, AreStored, AreQuiet}
 use Rattle.rack_laws.specs.Shown.{LogHasRoom, ShardHasRoom}
 use Rattle.rack_runs.specs.Telling.{CountAll, TellsRun}
@@ -149,7 +149,7 @@ returns-clause-fault g c =
     let shape : c.run_over-over.new.ledger.header.shape ≡ c.args.nodes.header.shape = c.run_over-over.ensures.shape ∙ ap (λ l. l.header.shape) lent in
     let verdicts = g.V.Verifier.verdict_of c.args.verifier.now in
     let entry = by_entry (λ o h. IfErr c.run_over-over.result (IsRunCause c.lend-lent.result.header.shape (IsFilesPiece c.lend-lent.result.header.shape verdicts c.args.files.now (journals_of g.D.Disk.count g.D.Disk.limit c.lend-lent.result.header.shape c.lend-lent.result.logs c.lend-lent.result.shards) (journals_of g.D.Disk.count g.D.Disk.limit c.run_over-over.new.ledger.header.shape c.run_over-over.new.ledger.logs c.run_over-over.new.ledger.shards)) (journals_of g.D.Disk.count g.D.Disk.limit c.lend-lent.result.header.shape c.lend-lent.result.logs c.lend-lent.result.shards) (journals_of g.D.Disk.count g.D.Disk.limit c.run_over-over.new.ledger.header.shape c.run_over-over.new.ledger.logs c.run_over-over.new.ledger.shards) (HaveFailed o (faults_of g.D.Disk.count g.D.Disk.limit c.run_over-over.new.ledger.header.shape c.run_over-over.new.ledger.logs c.run_over-over.new.ledger.shards)) (MayHold h))) (opened_of g.D.Disk.count g.D.Disk.limit c.lend-lent.result.header.shape c.lend-lent.result.logs c.lend-lent.result.shards) (opened_of g.D.Disk.count g.D.Disk.limit c.run_over-over.new.ledger.header.shape c.run_over-over.new.ledger.logs c.run_over-over.new.ledger.shards) (capacity_of g.D.Disk.count g.D.Disk.limit c.lend-lent.result.header.shape c.lend-lent.result.logs c.lend-lent.result.shards) (capacity_of g.D.Disk.count g.D.Disk.limit c.run_over-over.new.ledger.header.shape c.run_over-over.new.ledger.logs c.run_over-over.new.ledger.shards)
-      c.run_over-over.ensures.opened_same c.run_over-over.ensures.capacity_same c.run_over-over.ensures.fault in
+    c.run_over-over.ensures.opened_same c.run_over-over.ensures.capacity_same c.run_over-over.ensures.fault in
     let own = subst (λ l. IfErr c.run_over-over.result (IsRunCause l.header.shape (IsFilesPiece l.header.shape verdicts c.args.files.now (journals_of g.D.Disk.count g.D.Disk.limit l.header.shape l.logs l.shards) (journals_of g.D.Disk.count g.D.Disk.limit c.run_over-over.new.ledger.header.shape c.run_over-over.new.ledger.logs c.run_over-over.new.ledger.shards)) (journals_of g.D.Disk.count g.D.Disk.limit l.header.shape l.logs l.shards) (journals_of g.D.Disk.count g.D.Disk.limit c.run_over-over.new.ledger.header.shape c.run_over-over.new.ledger.logs c.run_over-over.new.ledger.shards) (HaveFailed (opened_of g.D.Disk.count g.D.Disk.limit l.header.shape l.logs l.shards) (faults_of g.D.Disk.count g.D.Disk.limit c.run_over-over.new.ledger.header.shape c.run_over-over.new.ledger.logs c.run_over-over.new.ledger.shards)) (MayHold (capacity_of g.D.Disk.count g.D.Disk.limit l.header.shape l.logs l.shards)))) lent entry in
     came_cause c.args.nodes.header.shape (IsFilesPiece c.args.nodes.header.shape verdicts c.args.files.now (journals_of g.D.Disk.count g.D.Disk.limit c.args.nodes.header.shape c.args.nodes.logs.items c.args.nodes.shards.items) (journals_of g.D.Disk.count g.D.Disk.limit c.args.nodes.header.shape c.header.inside.logs.items c.header.inside.shards.items)) (journals_of g.D.Disk.count g.D.Disk.limit c.args.nodes.header.shape c.args.nodes.logs.items c.args.nodes.shards.items) (journals_of g.D.Disk.count g.D.Disk.limit c.args.nodes.header.shape c.header.inside.logs.items c.header.inside.shards.items) (HaveFailed (opened_of g.D.Disk.count g.D.Disk.limit c.args.nodes.header.shape c.args.nodes.logs.items c.args.nodes.shards.items) (faults_of g.D.Disk.count g.D.Disk.limit c.args.nodes.header.shape c.header.inside.logs.items c.header.inside.shards.items)) (MayHold (capacity_of g.D.Disk.count g.D.Disk.limit c.args.nodes.header.shape c.args.nodes.logs.items c.args.nodes.shards.items))
     c.came_of-came.result c.run_over-over.result c.came_of-came.ensures.fault
@@ -162,7 +162,7 @@ returns-clause-least g c =
     let shape : c.run_over-over.new.ledger.header.shape ≡ c.args.nodes.header.shape = c.run_over-over.ensures.shape ∙ ap (λ l. l.header.shape) lent in
     let verdicts = g.V.Verifier.verdict_of c.args.verifier.now in
     let entry = by_entry (λ o h. IfErr c.run_over-over.result (EndsRun verdicts c.args.files.now c.lend-lent.result.header.shape (journals_of g.D.Disk.count g.D.Disk.limit c.lend-lent.result.header.shape c.lend-lent.result.logs c.lend-lent.result.shards) (journals_of g.D.Disk.count g.D.Disk.limit c.run_over-over.new.ledger.header.shape c.run_over-over.new.ledger.logs c.run_over-over.new.ledger.shards) (HaveFailed o (faults_of g.D.Disk.count g.D.Disk.limit c.run_over-over.new.ledger.header.shape c.run_over-over.new.ledger.logs c.run_over-over.new.ledger.shards)) (MayHold h))) (opened_of g.D.Disk.count g.D.Disk.limit c.lend-lent.result.header.shape c.lend-lent.result.logs c.lend-lent.result.shards) (opened_of g.D.Disk.count g.D.Disk.limit c.run_over-over.new.ledger.header.shape c.run_over-over.new.ledger.logs c.run_over-over.new.ledger.shards) (capacity_of g.D.Disk.count g.D.Disk.limit c.lend-lent.result.header.shape c.lend-lent.result.logs c.lend-lent.result.shards) (capacity_of g.D.Disk.count g.D.Disk.limit c.run_over-over.new.ledger.header.shape c.run_over-over.new.ledger.logs c.run_over-over.new.ledger.shards)
-      c.run_over-over.ensures.opened_same c.run_over-over.ensures.capacity_same c.run_over-over.ensures.least in
+    c.run_over-over.ensures.opened_same c.run_over-over.ensures.capacity_same c.run_over-over.ensures.least in
     let own = subst (λ l. IfErr c.run_over-over.result (EndsRun verdicts c.args.files.now l.header.shape (journals_of g.D.Disk.count g.D.Disk.limit l.header.shape l.logs l.shards) (journals_of g.D.Disk.count g.D.Disk.limit c.run_over-over.new.ledger.header.shape c.run_over-over.new.ledger.logs c.run_over-over.new.ledger.shards) (HaveFailed (opened_of g.D.Disk.count g.D.Disk.limit l.header.shape l.logs l.shards) (faults_of g.D.Disk.count g.D.Disk.limit c.run_over-over.new.ledger.header.shape c.run_over-over.new.ledger.logs c.run_over-over.new.ledger.shards)) (MayHold (capacity_of g.D.Disk.count g.D.Disk.limit l.header.shape l.logs l.shards)))) lent entry in
     came_ends (EndsRun verdicts c.args.files.now c.args.nodes.header.shape (journals_of g.D.Disk.count g.D.Disk.limit c.args.nodes.header.shape c.args.nodes.logs.items c.args.nodes.shards.items) (journals_of g.D.Disk.count g.D.Disk.limit c.args.nodes.header.shape c.header.inside.logs.items c.header.inside.shards.items) (HaveFailed (opened_of g.D.Disk.count g.D.Disk.limit c.args.nodes.header.shape c.args.nodes.logs.items c.args.nodes.shards.items) (faults_of g.D.Disk.count g.D.Disk.limit c.args.nodes.header.shape c.header.inside.logs.items c.header.inside.shards.items)) (MayHold (capacity_of g.D.Disk.count g.D.Disk.limit c.args.nodes.header.shape c.args.nodes.logs.items c.args.nodes.shards.items)))
     c.came_of-came.result c.run_over-over.result c.came_of-came.ensures.fault
@@ -175,3 +175,15 @@ returns-clause-flies g c =
     let shape : c.run_over-over.new.ledger.header.shape ≡ c.args.nodes.header.shape = c.run_over-over.ensures.shape ∙ ap (λ l. l.header.shape) lent in
     lent_flights g.D.Disk.count g.D.Disk.limit (λ X G. OfKept c.args.nodes.header.shape (journals_of g.D.Disk.count g.D.Disk.limit c.args.nodes.header.shape c.args.nodes.logs.items c.args.nodes.shards.items) (FliesWith c.args.nodes.header.shape (joined c.args.files.now) (journals_of g.D.Disk.count g.D.Disk.limit c.args.nodes.header.shape c.args.nodes.logs.items c.args.nodes.shards.items) X (flights_of g.D.Disk.count g.D.Disk.limit c.args.nodes.header.shape c.args.nodes.logs.items c.args.nodes.shards.items) G)) c.args.nodes.header.shape c.run_over-over.new.ledger _ back shape
     (subst (λ l. OfKept l.header.shape (journals_of g.D.Disk.count g.D.Disk.limit l.header.shape l.logs l.shards) (FliesWith l.header.shape (joined c.args.files.now) (journals_of g.D.Disk.count g.D.Disk.limit l.header.shape l.logs l.shards) (journals_of g.D.Disk.count g.D.Disk.limit c.run_over-over.new.ledger.header.shape c.run_over-over.new.ledger.logs c.run_over-over.new.ledger.shards) (flights_of g.D.Disk.count g.D.Disk.limit l.header.shape l.logs l.shards) (flights_of g.D.Disk.count g.D.Disk.limit c.run_over-over.new.ledger.header.shape c.run_over-over.new.ledger.logs c.run_over-over.new.ledger.shards))) lent c.run_over-over.ensures.flies)
+
+pub returns-clause-begun : goal.returns-clause-begun
+returns-clause-begun g c =
+    let back : c.run_over-over.new.ledger ≡ record { header = c.header.inside.header; logs = c.header.inside.logs.items; shards = c.header.inside.shards.items } = cc in
+    let lent : c.lend-lent.result ≡ record { header = c.args.nodes.header; logs = c.args.nodes.logs.items; shards = c.args.nodes.shards.items } = c.lend-lent.ensures in
+    let shape : c.run_over-over.new.ledger.header.shape ≡ c.args.nodes.header.shape = c.run_over-over.ensures.shape ∙ ap (λ l. l.header.shape) lent in
+    let verdicts = g.V.Verifier.verdict_of c.args.verifier.now in
+    lent_journals g.D.Disk.count g.D.Disk.limit
+    (λ L. 0 < c.args.nodes.header.shape.batch → HaveBegunFiles c.args.nodes.header.shape verdicts c.args.files.now (journals_of g.D.Disk.count g.D.Disk.limit c.args.nodes.header.shape c.args.nodes.logs.items c.args.nodes.shards.items) L)
+    c.args.nodes.header.shape c.run_over-over.new.ledger _ back shape
+    (subst (λ l. 0 < l.header.shape.batch → HaveBegunFiles l.header.shape verdicts c.args.files.now (journals_of g.D.Disk.count g.D.Disk.limit l.header.shape l.logs l.shards)
+    (journals_of g.D.Disk.count g.D.Disk.limit c.run_over-over.new.ledger.header.shape c.run_over-over.new.ledger.logs c.run_over-over.new.ledger.shards)) lent c.run_over-over.ensures.begun)

@@ -5,7 +5,7 @@ use Rattle.rack_runs.proofs.Resumed.{over_cut, over_keeps, flies_cut, flies_over
 use Rattle.ledger_laws.proofs.Cuts.{end_trans}
 use Rattle.ledger_runs.specs.Faults.{HaveFailed, MayHold}
 use Rattle.file_runs.specs.Endings.{EndsFiles}
-use Rattle.rack_runs.proofs.Answering.{resumed_fault, filed_fault}
+use Rattle.rack_runs.proofs.Answering.{resumed_begun, resumed_fault, filed_begun, filed_fault}
 use Rattle.rack_runs.proofs.over.run_over.Goals as goal
 
 pub returns-in-Err-clause-keeps : goal.returns-in-Err-clause-keeps
@@ -104,3 +104,21 @@ returns-in-Err-run_files-clause-least g c = inr (
   subst (λ k. EndsFiles k (g.V.Verifier.verdict_of c.args.verifier.now) c.args.files.now (g.L.Turns.journals c.resume_all.new.ledger) (g.L.Turns.journals c.run_files.new.ledger)
       (HaveFailed (g.L.Turns.opened c.run_files.new.ledger) (g.L.Turns.faults c.run_files.new.ledger)) (MayHold (g.L.Turns.capacity c.run_files.new.ledger)) c.in-Err-run_files.fault) c.resume_all.ensures.shape c.in-Err-run_files.ensures.least,
 )
+
+pub returns-in-Err-clause-begun : goal.returns-in-Err-clause-begun
+returns-in-Err-clause-begun g c =
+    resumed_begun (g.L.Turns.shape c.args.ledger.now) (g.V.Verifier.verdict_of c.args.verifier.now) c.args.files.now (g.L.Turns.journals c.args.ledger.now) (g.L.Turns.journals c.resume_all.new.ledger) c.resume_all.ensures.prepares
+
+pub returns-then-is_empty-clause-begun : goal.returns-then-is_empty-clause-begun
+returns-then-is_empty-clause-begun g c =
+    resumed_begun (g.L.Turns.shape c.args.ledger.now) (g.V.Verifier.verdict_of c.args.verifier.now) c.args.files.now (g.L.Turns.journals c.args.ledger.now) (g.L.Turns.journals c.resume_all.new.ledger) c.resume_all.ensures.prepares
+
+pub returns-in-Ok-run_files-clause-begun : goal.returns-in-Ok-run_files-clause-begun
+returns-in-Ok-run_files-clause-begun g c =
+    filed_begun (g.L.Turns.shape c.args.ledger.now) (g.L.Turns.shape c.resume_all.new.ledger) (g.V.Verifier.verdict_of c.args.verifier.now) c.args.files.now
+    (g.L.Turns.journals c.args.ledger.now) (g.L.Turns.journals c.resume_all.new.ledger) (g.L.Turns.journals c.run_files.new.ledger) c.resume_all.ensures.shape c.resume_all.ensures.prepares c.run_files.ensures.begun
+
+pub returns-in-Err-run_files-clause-begun : goal.returns-in-Err-run_files-clause-begun
+returns-in-Err-run_files-clause-begun g c =
+    filed_begun (g.L.Turns.shape c.args.ledger.now) (g.L.Turns.shape c.resume_all.new.ledger) (g.V.Verifier.verdict_of c.args.verifier.now) c.args.files.now
+    (g.L.Turns.journals c.args.ledger.now) (g.L.Turns.journals c.resume_all.new.ledger) (g.L.Turns.journals c.run_files.new.ledger) c.resume_all.ensures.shape c.resume_all.ensures.prepares c.run_files.ensures.begun

@@ -103,7 +103,7 @@ returns-in-Err-resume_lane-clause-left g c =
     (g.L.LogPort.sights c.args.ports.now.log (g.L.LogPort.at c.args.ports.now.log)) (g.L.LogPort.sights c.loop-unfinished.ports.log (g.L.LogPort.at c.loop-unfinished.ports.log)) (g.L.LogPort.sights c.resume_lane.new.ports.log (g.L.LogPort.at c.resume_lane.new.ports.log))
     (g.S.PortSet.sights c.args.ports.now.shards) (g.S.PortSet.sights c.loop-unfinished.ports.shards) (g.S.PortSet.sights c.resume_lane.new.ports.shards) c.in-Err-resume_lane.fault inv.taken
     (stands_here c.args.shape.now (g.L.LogPort.sights c.loop-unfinished.ports.log (g.L.LogPort.at c.loop-unfinished.ports.log)) (g.S.PortSet.sights c.loop-unfinished.ports.shards) c.args.lanes.now c.loop-unfinished.unfinished-index c.unfinished-item.result c.loop-unfinished-test.true c.unfinished-item.is inv.stand)
-    c.in-Err-resume_lane.ensures.left)
+    c.in-Err-resume_lane.ensures.left c.in-Err-resume_lane.ensures.told)
 
 pub returns-in-Err-resume_lane-clause-others : goal.returns-in-Err-resume_lane-clause-others
 returns-in-Err-resume_lane-clause-others g c =

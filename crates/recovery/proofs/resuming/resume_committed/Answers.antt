@@ -5,7 +5,7 @@ use Rattle.lane_driver.proofs.Ready.{lock_shards, lock_sizes, later_room}
 use Rattle.cbdc_model.specs.Grammar.{HasSize, IsBatchOf, IsCompact}
 use Rattle.std.specs.List.{All}
 use Rattle.lane_driver.proofs.Fitting.{parts_fit, locks_ready}
-use Rattle.recovery.proofs.Taking.{committed_taken, committed_granted, committed_left}
+use Rattle.recovery.proofs.Taking.{committed_taken, committed_granted, committed_left, committed_told}
 use Rattle.cbdc_types.specs.declared.batch.Phase.TheVariants.{Committed}
 use Rattle.recovery.proofs.resuming.resume_committed.Goals as goal
 
@@ -36,6 +36,10 @@ returns-in-Ok-from_committed-clause-taken g c = committed_taken c.args.shape.now
 pub returns-in-Err-from_committed-clause-left : goal.returns-in-Err-from_committed-clause-left
 returns-in-Err-from_committed-clause-left g c = committed_left c.args.shape.now g.L.LogPort.alone c.args.unfinished.now (g.L.LogPort.sights c.args.ports.now.log (g.L.LogPort.at c.args.ports.now.log)) (g.L.LogPort.sights c.from_committed.new.ports.log (g.L.LogPort.at c.from_committed.new.ports.log)) (g.S.PortSet.sights c.args.ports.now.shards) (g.S.PortSet.sights c.from_committed.new.ports.shards) c.as_slice-2.result.now c.as_slice-2.ensures c.in-Ok-take.room.parts c.in-Ok-take.ensures.parts c.deref.result.now (c.deref.ensures.value ∙ c.lock_calls.ensures)
     0 c.as_slice-3.result.now c.in-Err-from_committed.stop c.as_slice-3.ensures c.requires.phase c.in-Err-from_committed.ensures.stopped c.lane_fault.result c.lane_fault.ensures
+
+pub returns-in-Err-from_committed-clause-told : goal.returns-in-Err-from_committed-clause-told
+returns-in-Err-from_committed-clause-told g c = committed_told c.args.shape.now g.L.LogPort.alone c.args.unfinished.now (g.L.LogPort.sights c.args.ports.now.log (g.L.LogPort.at c.args.ports.now.log)) (g.L.LogPort.sights c.from_committed.new.ports.log (g.L.LogPort.at c.from_committed.new.ports.log)) (g.S.PortSet.sights c.args.ports.now.shards) (g.S.PortSet.sights c.from_committed.new.ports.shards) c.as_slice-2.result.now c.as_slice-2.ensures c.in-Ok-take.room.parts c.in-Ok-take.ensures.parts c.deref.result.now (c.deref.ensures.value ∙ c.lock_calls.ensures)
+    c.as_slice-3.result.now c.in-Err-from_committed.stop c.as_slice-3.ensures c.requires.phase c.in-Err-from_committed.ensures.stopped c.lane_fault.result c.lane_fault.ensures
 
 pub from_committed-requires-clause-batch : goal.from_committed-requires-clause-batch
 from_committed-requires-clause-batch g c = subst (λ K. IsBatchOf K c.args.unfinished.now.batch) c.requires.shape c.requires.is_open.batch

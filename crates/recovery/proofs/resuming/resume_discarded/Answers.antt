@@ -1,7 +1,7 @@
 use Rattle.std.proofs.Common.{◌∙◌, refl, sym, subst}
 use Rattle.cbdc_model.specs.Grammar.{IsBatchOf}
 use Rattle.lane_driver.proofs.Ready.{lock_shards}
-use Rattle.recovery.proofs.Taking.{discarded_taken, discarded_granted, discarded_left}
+use Rattle.recovery.proofs.Taking.{discarded_taken, discarded_granted, discarded_left, discarded_told}
 use Rattle.cbdc_types.specs.declared.batch.Phase.TheVariants.{Discarded}
 use Rattle.recovery.specs.Open.{HasItsOutcomes}
 use Rattle.recovery.proofs.resuming.resume_discarded.Goals as goal
@@ -16,6 +16,10 @@ returns-in-Ok-from_discarded-clause-taken g c = discarded_taken c.args.shape.now
 
 pub returns-in-Err-from_discarded-clause-left : goal.returns-in-Err-from_discarded-clause-left
 returns-in-Err-from_discarded-clause-left g c = discarded_left c.args.shape.now g.L.LogPort.alone c.args.unfinished.now (g.L.LogPort.sights c.args.ports.now.log (g.L.LogPort.at c.args.ports.now.log)) (g.L.LogPort.sights c.from_discarded.new.ports.log (g.L.LogPort.at c.from_discarded.new.ports.log)) (g.S.PortSet.sights c.args.ports.now.shards) (g.S.PortSet.sights c.from_discarded.new.ports.shards) c.as_slice-2.result.now c.as_slice-2.ensures c.in-Ok-take.room.parts c.in-Ok-take.ensures.parts c.deref.result.now (c.deref.ensures.value ∙ c.lock_calls.ensures)
+    c.in-Err-from_discarded.stop c.requires.phase c.in-Err-from_discarded.ensures.stopped c.lane_fault.result c.lane_fault.ensures
+
+pub returns-in-Err-from_discarded-clause-told : goal.returns-in-Err-from_discarded-clause-told
+returns-in-Err-from_discarded-clause-told g c = discarded_told c.args.shape.now g.L.LogPort.alone c.args.unfinished.now (g.L.LogPort.sights c.args.ports.now.log (g.L.LogPort.at c.args.ports.now.log)) (g.L.LogPort.sights c.from_discarded.new.ports.log (g.L.LogPort.at c.from_discarded.new.ports.log)) (g.S.PortSet.sights c.args.ports.now.shards) (g.S.PortSet.sights c.from_discarded.new.ports.shards) c.as_slice-2.result.now c.as_slice-2.ensures c.in-Ok-take.room.parts c.in-Ok-take.ensures.parts c.deref.result.now (c.deref.ensures.value ∙ c.lock_calls.ensures)
     c.in-Err-from_discarded.stop c.requires.phase c.in-Err-from_discarded.ensures.stopped c.lane_fault.result c.lane_fault.ensures
 
 pub from_discarded-requires-clause-batch : goal.from_discarded-requires-clause-batch

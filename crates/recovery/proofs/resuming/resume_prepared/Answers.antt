@@ -1,4 +1,4 @@
-use Rattle.recovery.proofs.Taking.{prepared_taken, prepared_granted, prepared_left, prepared_outcomes}
+use Rattle.recovery.proofs.Taking.{prepared_taken, prepared_granted, prepared_left, prepared_told, prepared_outcomes}
 use Rattle.recovery.specs.Open.{HasItsOutcomes}
 use Rattle.std.proofs.Common.{subst, sym}
 use Rattle.cbdc_model.specs.Grammar.{HasSize, IsBatchOf, IsCompact}
@@ -14,6 +14,10 @@ returns-in-Ok-from_prepared-clause-taken g c = prepared_taken c.args.shape.now g
 pub returns-in-Err-from_prepared-clause-left : goal.returns-in-Err-from_prepared-clause-left
 returns-in-Err-from_prepared-clause-left g c = prepared_left c.args.shape.now g.L.LogPort.alone c.args.unfinished.now (g.L.LogPort.sights c.args.ports.now.log (g.L.LogPort.at c.args.ports.now.log)) (g.L.LogPort.sights c.from_prepared.new.ports.log (g.L.LogPort.at c.from_prepared.new.ports.log)) (g.S.PortSet.sights c.args.ports.now.shards) (g.S.PortSet.sights c.from_prepared.new.ports.shards) c.as_slice.result.now c.as_slice.ensures c.in-Ok.room.parts c.in-Ok.ensures.parts
     0 c.in-Err-from_prepared.stop c.requires.phase c.in-Err-from_prepared.ensures.stopped c.lane_fault.result c.lane_fault.ensures
+
+pub returns-in-Err-from_prepared-clause-told : goal.returns-in-Err-from_prepared-clause-told
+returns-in-Err-from_prepared-clause-told g c = prepared_told c.args.shape.now g.L.LogPort.alone c.args.unfinished.now (g.L.LogPort.sights c.args.ports.now.log (g.L.LogPort.at c.args.ports.now.log)) (g.L.LogPort.sights c.from_prepared.new.ports.log (g.L.LogPort.at c.from_prepared.new.ports.log)) (g.S.PortSet.sights c.args.ports.now.shards) (g.S.PortSet.sights c.from_prepared.new.ports.shards) c.as_slice.result.now c.as_slice.ensures c.in-Ok.room.parts c.in-Ok.ensures.parts
+    c.in-Err-from_prepared.stop c.requires.phase c.in-Err-from_prepared.ensures.stopped c.lane_fault.result c.lane_fault.ensures
 
 pub from_prepared-requires-clause-parts : goal.from_prepared-requires-clause-parts
 from_prepared-requires-clause-parts g c =

@@ -1,10 +1,10 @@
 use Rattle.std.proofs.Common.{◌≡◌, [], ◌∷◌, length, sym, subst}
 use Rattle.cbdc_model.specs.Slots.{Idle}
 use Rattle.ledger_runs.specs.Turning.{phase_at, IsLaneOf, OfKept, DidBatch}
-use Rattle.ledger_runs.specs.Pieces.{HasPrepared, IsUnprepared}
+use Rattle.ledger_runs.specs.Pieces.{HasPrepared, HasPreparedAtMost, IsUnprepared}
 use Rattle.ledger_runs.specs.Faults.{IsLaneCause, HaveFailed, MayHold}
 use Rattle.ledger_nodes.specs.Ledgers.{journals_of, faults_of, opened_of, capacity_of, AreChecked, AreQuiet}
-use Rattle.ledger_nodes.proofs.Turns.{on_ok, on_err, if_ok, if_err, came_keeps, came_flies, came_quiet, came_prepared, came_does, came_full, came_checked, came_cause, opened_same, capacity_same, ok_err, err_by}
+use Rattle.ledger_nodes.proofs.Turns.{on_ok, on_err, if_ok, if_err, came_keeps, came_flies, came_quiet, came_prepared, came_does, came_full, came_checked, came_cause, came_tried, opened_same, capacity_same, ok_err, err_by}
 use Rattle.ledger_nodes.proofs.lent.LentLedgerTurns.run_batch.Goals.{in-Ok, in-Err}
 use Rattle.ledger_nodes.proofs.lent.LentLedgerTurns.run_batch.Goals as goal
 
@@ -88,6 +88,15 @@ returns-clause-prepared g c = rw (← c.self.view_is) (elim c.match-drive_batch.
       (subst (λ v. phase_at v.header.shape (journals_of g.D.Disk.count g.D.Disk.limit v.header.shape v.logs v.shards) c.args.lane ≡ Idle) (sym c.self.view_is) c.requires.idle) c.args.txs.now w.in-Ok.report.batches w.in-Ok.ensures.done
       (subst (λ v. AreChecked g.D.Disk.count g.D.Disk.limit v.header.shape v.logs v.shards) (sym c.self.view_is) c.requires.checked))
   | in-Err w ↦ on_err c.match-drive_batch.result w.in-Err.fault (HasPrepared c.self.inside.header.shape c.args.lane (c.args.txs.now ∷ []) (journals_of g.D.Disk.count g.D.Disk.limit c.self.inside.header.shape c.self.inside.ports.log.logs.items c.self.inside.ports.shards.nodes.items) (journals_of g.D.Disk.count g.D.Disk.limit c.self.inside.header.shape c.drive_batch.new.ports.log.logs.items c.drive_batch.new.ports.shards.nodes.items)) w.result-is
+])
+
+pub returns-clause-tried : goal.returns-clause-tried
+returns-clause-tried g c = rw (← c.self.view_is) (elim c.match-drive_batch.branch [
+  | in-Ok w ↦ ok_err c.match-drive_batch.result w.only.result (λ _. HasPreparedAtMost c.self.inside.header.shape c.args.lane c.args.txs.now (journals_of g.D.Disk.count g.D.Disk.limit c.self.inside.header.shape c.self.inside.ports.log.logs.items c.self.inside.ports.shards.nodes.items) (journals_of g.D.Disk.count g.D.Disk.limit c.self.inside.header.shape c.drive_batch.new.ports.log.logs.items c.drive_batch.new.ports.shards.nodes.items)) w.result-is
+  | in-Err w ↦ err_by c.match-drive_batch.result w.in-Err.fault (λ _. HasPreparedAtMost c.self.inside.header.shape c.args.lane c.args.txs.now (journals_of g.D.Disk.count g.D.Disk.limit c.self.inside.header.shape c.self.inside.ports.log.logs.items c.self.inside.ports.shards.nodes.items) (journals_of g.D.Disk.count g.D.Disk.limit c.self.inside.header.shape c.drive_batch.new.ports.log.logs.items c.drive_batch.new.ports.shards.nodes.items)) w.result-is
+      (came_tried g.D.Disk.count g.D.Disk.limit g.D.Disk.content g.D.Disk.images c.self.inside.header c.args.lane c.self.inside.ports.log.logs.items c.self.inside.ports.shards.nodes.items c.self.invariant (subst (λ v. IsLaneOf v.header.shape c.args.lane) (sym c.self.view_is) c.requires.lane)
+      c.drive_batch.new.ports.log.logs.items c.drive_batch.new.ports.shards.nodes.items c.drive_batch.ensures.step
+      (subst (λ v. phase_at v.header.shape (journals_of g.D.Disk.count g.D.Disk.limit v.header.shape v.logs v.shards) c.args.lane ≡ Idle) (sym c.self.view_is) c.requires.idle) c.args.txs.now w.in-Err.fault w.in-Err.ensures.stopped (subst (λ v. AreChecked g.D.Disk.count g.D.Disk.limit v.header.shape v.logs v.shards) (sym c.self.view_is) c.requires.checked))
 ])
 
 pub returns-clause-fault : goal.returns-clause-fault
