@@ -1,0 +1,2 @@
+mod making;
+mod rows;

@@ -1,0 +1,4 @@
+mod changed;
+mod judging;
+mod kept;
+mod others;

@@ -1,0 +1,149 @@
+// Examples on one coordinator and two shards.
+use crate::batches::{
+    Ledger, Turn, commit, confirmed, discard, finish, lock, missing, new_ledger, prepare, whole_batch,
+};
+use crate::coins::{coin, one, output, pays, program, two};
+use crate::rows::{Worked, batch};
+use cbdc_types::{FullTx, Input, List, Shape};
+use compact_tx::compact;
+use identifiers::input_hash;
+use model_check::genesis_id;
+use shard_ranges::shard_of;
+use std::alloc::{AllocError, Global};
+
+// Whether a coin lies on this one of two shards.
+fn lies_on(spent: &Input, shard: u32) -> bool {
+    shard_of(&input_hash(spent), 2) == shard
+}
+
+// The coin of 100 of a mint of this program.
+fn minted(alloc: Global, number: u64) -> Result<Input, AllocError> {
+    let mint = [output(number, 100)];
+    Ok(coin(genesis_id(alloc, &mint)?, 0, output(number, 100)))
+}
+
+/// A mint's one coin of 100, of the least program with which it lies on the first shard.
+pub fn known(alloc: Global) -> Result<Input, AllocError> {
+    for number in 0..100 {
+        let spent = minted(alloc, number)?;
+        if lies_on(&spent, 0) {
+            return Ok(spent);
+        }
+    }
+    minted(alloc, 100)
+}
+
+// A coin of 50 that no transaction made.
+fn made_by_none(number: u64) -> Input {
+    coin(program(7), 0, output(number, 50))
+}
+
+/// A coin of 50 that no transaction made, of the least program with which it lies on the second shard.
+pub fn unknown() -> Input {
+    for number in 0..100 {
+        let spent = made_by_none(number);
+        if lies_on(&spent, 1) {
+            return spent;
+        }
+    }
+    made_by_none(100)
+}
+
+/// One that spends a coin on the first shard and an unknown one on the second, and in a later file one that spends the first alone.
+pub fn unknown_input(alloc: Global, shape: Shape) -> Result<Worked, AllocError> {
+    let (x, y) = (known(alloc)?, unknown());
+    let t = pays(alloc, two(alloc, x, y)?, one(alloc, output(2, 150))?)?;
+    let u = pays(alloc, one(alloc, x)?, one(alloc, output(3, 100))?)?;
+    let mint = one(alloc, x.output)?;
+    let entry = new_ledger(alloc, shape, mint.as_slice())?;
+    let mut exit = new_ledger(alloc, shape, mint.as_slice())?;
+    let first = [missing(compact(alloc, &t)?, 1, input_hash(&y))];
+    whole_batch(alloc, &mut exit, batch(1), 1, &first)?;
+    let second = [confirmed(compact(alloc, &u)?)];
+    whole_batch(alloc, &mut exit, batch(2), 8, &second)?;
+    let files = two(alloc, one(alloc, t)?, one(alloc, u)?)?;
+    Ok(Worked {
+        shape,
+        mint,
+        earlier: List::new(alloc),
+        files,
+        entry,
+        exit,
+    })
+}
+
+// The transaction of a coin to one of 100 of this program.
+fn paid(alloc: Global, spent: Input, number: u64) -> Result<FullTx, AllocError> {
+    pays(alloc, one(alloc, spent)?, one(alloc, output(number, 100))?)
+}
+
+// Whether a transaction's outputs lie on this one of two shards.
+fn makes_on(alloc: Global, t: &FullTx, shard: u32) -> Result<bool, AllocError> {
+    let k = compact(alloc, t)?;
+    Ok(k.outputs.as_slice().iter().all(|x| shard_of(x, 2) == shard))
+}
+
+// The transaction of a coin to one of 100, of the least program with which that lies on the second shard.
+fn paid_across(alloc: Global, spent: Input) -> Result<FullTx, AllocError> {
+    for number in 0..100 {
+        let t = paid(alloc, spent, number)?;
+        if makes_on(alloc, &t, 1)? {
+            return Ok(t);
+        }
+    }
+    paid(alloc, spent, 100)
+}
+
+/// Where a batch was stopped.
+#[derive(Clone, Copy, Debug, PartialEq, Eq)]
+pub enum Stop {
+    BehindPrepare,
+    BehindFirstLock,
+    BehindFirstFinish,
+    BehindDiscard,
+}
+
+// The records of a batch up to a stop.
+fn begin(
+    alloc: Global,
+    ledger: &mut Ledger,
+    stop: Stop,
+    turns: &[Turn],
+) -> Result<(), AllocError> {
+    prepare(alloc, ledger, batch(1), 1, turns)?;
+    if stop == Stop::BehindPrepare {
+        return Ok(());
+    }
+    lock(alloc, ledger, 0, batch(1), 2, turns)?;
+    if stop == Stop::BehindFirstLock {
+        return Ok(());
+    }
+    lock(alloc, ledger, 1, batch(1), 2, turns)?;
+    commit(alloc, ledger, batch(1), 3, turns)?;
+    finish(alloc, ledger, 0, batch(1), 4, turns)?;
+    if stop == Stop::BehindFirstFinish {
+        return Ok(());
+    }
+    finish(alloc, ledger, 1, batch(1), 4, turns)?;
+    discard(ledger, batch(1), 5)
+}
+
+/// A transaction of a coin on the first shard to one on the second, whose batch was stopped before entry and is done at exit.
+pub fn stopped(alloc: Global, shape: Shape, stop: Stop) -> Result<Worked, AllocError> {
+    let x = known(alloc)?;
+    let t = paid_across(alloc, x)?;
+    let turns = [confirmed(compact(alloc, &t)?)];
+    let mint = one(alloc, x.output)?;
+    let mut entry = new_ledger(alloc, shape, mint.as_slice())?;
+    begin(alloc, &mut entry, stop, &turns)?;
+    let mut exit = new_ledger(alloc, shape, mint.as_slice())?;
+    whole_batch(alloc, &mut exit, batch(1), 1, &turns)?;
+    Ok(Worked {
+        shape,
+        mint,
+        earlier: one(alloc, t)?,
+        files: List::new(alloc),
+        entry,
+        exit,
+    })
+}
