@@ -1,11 +1,11 @@
 -- What it takes for batches to be finished alike, shard by shard and record by record.
-use Rattle.std.proofs.Common.{◌≡◌, ◌⊎◌, ◌↔◌, inl, inr, ℕ, zero, suc, ◌<◌, ◌≤◌, ◌==◌, Bool, true, false, ◌&&◌, not, List, [], ◌∷◌, length, drop, find, Option, Some, None, is_some, refl, sym, ap, ◌∙◌, subst, arith, rules}
+use Rattle.std.proofs.Common.{◌≡◌, ◌⊎◌, ◌↔◌, inl, inr, ℕ, zero, suc, ◌-◌, ◌<◌, ◌≤◌, ◌==◌, Bool, true, false, ◌&&◌, List, [], ◌∷◌, length, drop, is_some, refl, sym, ap, ◌∙◌, subst, arith, rules}
 use Rattle.std.specs.Prelude.{IsTrue}
 use Rattle.std.proofs.lemmas.Grind.{common_steps}
 use Rattle.std.proofs.lemmas.List.{get_or_past}
 use Rattle.std.proofs.lemmas.Bool.{cases_lt}
-use Rattle.cbdc_model.specs.Records.{Shape, Batch, Record, Compact, Outcome, kind_of, is_of, same_batch, record_of, txs_of, Genesis, Lock, Finish, Forget, Start, Prepare, Commit, Discard, Done}
-use Rattle.cbdc_model.specs.Ranges.{home_of, shard_node, on_shard, is_empty, entry_of, part, is_no_part, Concerned}
+use Rattle.cbdc_model.specs.Records.{Shape, Batch, Record, Compact, Outcome, kind_of, is_of, same_batch, record_of, txs_of, outcomes_of, decisions_in, Prepare}
+use Rattle.cbdc_model.specs.Ranges.{home_of, shard_node, on_shard, is_empty, entry_of, part}
 use Rattle.cbdc_model.specs.Outcomes.{won_at, decisions}
 use Rattle.cbdc_model.specs.World.{count_of, IsAlike, Alike}
 use Rattle.model_check.specs.Journals.{journals_in}
@@ -73,18 +73,52 @@ decides_not shards s txs t ts outcomes ds list e differ all place is =
       λ same. absurd (differ (won_at all place) (decisions all (part shards s (suc place) ts)) same (sym (ap (λ l. won_at l 0) is ∙ won_next all place))),
     ))
 
+-- what is finished at a shard
+pub finished_by : (K : Shape) (J : ℕ → List Record) (b : Batch) (s : ℕ) (told : Bool) (own home : List Record) (shards : ℕ) (txs : List Compact) (outcomes : List Outcome) (ds : List Bool)
+    → own ≡ J (shard_node K s) → home ≡ J (home_of K b.lane) → shards ≡ K.shards → txs ≡ txs_of home b → outcomes ≡ outcomes_of home b → ds ≡ decisions_in (record_of 3 own b)
+    → count_of 2 own b ≡ 1 → count_of 3 own b ≡ 1 → (IsTrue told ↔ (ds ≡ decisions outcomes (part shards s 0 txs))) → IsTrue told ↔ IsFinished K J b s
+finished_by K J b s told own home shards txs outcomes ds o h n t u d one two same =
+    let txs_is : txs ≡ txs_of (J (home_of K b.lane)) b = t ∙ ap (λ l. txs_of l b) h in
+    let outcomes_is : outcomes ≡ outcomes_of (J (home_of K b.lane)) b = u ∙ ap (λ l. outcomes_of l b) h in
+    let ds_is : ds ≡ decisions_in (record_of 3 (J (shard_node K s)) b) = d ∙ ap (λ l. decisions_in (record_of 3 l b)) o in
+    let all_is : decisions outcomes (part shards s 0 txs) ≡ decisions (outcomes_of (J (home_of K b.lane)) b) (part K.shards s 0 (txs_of (J (home_of K b.lane)) b)) =
+    λ i. decisions (outcomes_is i) (part (n i) s 0 (txs_is i)) in (
+      λ y. record {
+        one_lock = subst (λ l. count_of 2 l b ≡ 1) o one;
+        one_finish = subst (λ l. count_of 3 l b ≡ 1) o two;
+        same_decisions = sym ds_is ∙ same.0 y ∙ all_is;
+      },
+      λ f. same.1 (ds_is ∙ f.same_decisions ∙ sym all_is),
+    )
+
+-- what holds below a number, by what holds of the one before it
+pub each_below : (P : ℕ → Type 0) (n : ℕ) (told : Bool) → 0 < n → P (n - 1) → (IsTrue told ↔ ((s : ℕ) → s < n - 1 → P s)) → IsTrue told ↔ ((s : ℕ) → s < n → P s)
+each_below P n told some last below = (
+  λ y s lt. elim (cases_lt s (n - 1)) [
+    | inl less ↦ below.0 y s less
+    | inr le ↦ subst P (same s lt le) last
+  ],
+  λ all. below.1 (λ s lt. all s (more s lt)),
+)
+  where
+    same : (s : ℕ) → s < n → n - 1 ≤ s → n - 1 ≡ s
+    same s lt le = omega arith
+
+    more : (s : ℕ) → s < n - 1 → s < n
+    more s lt = omega arith
+
 -- a batch that is finished alike, shard by shard
 pub alike_by : (K : Shape) (J : ℕ → List Record) (b : Batch) (told : Bool) → count_of 7 (J (home_of K b.lane)) b ≡ 1
     → (IsTrue told ↔ ((s : ℕ) → s < K.shards → IsAlikeAt K J b s)) → IsTrue told ↔ IsAlike K J b
 alike_by K J b told one each = (
   λ y. let at : (s : ℕ) → s < K.shards → IsAlikeAt K J b s = each.0 y in
-    record {
-      one_commit = one;
-      one_lock = λ s in_part. ((at s in_part.0).finished in_part).one_lock;
-      one_finish = λ s in_part. ((at s in_part.0).finished in_part).one_finish;
-      same_decisions = λ s in_part. ((at s in_part.0).finished in_part).same_decisions;
-      no_other = λ s kind lt none is. other kind (J (shard_node K s)) b ((at s lt).none lt none) is;
-    },
+      record {
+        one_commit = one;
+        one_lock = λ s in_part. ((at s in_part.0).finished in_part).one_lock;
+        one_finish = λ s in_part. ((at s in_part.0).finished in_part).one_finish;
+        same_decisions = λ s in_part. ((at s in_part.0).finished in_part).same_decisions;
+        no_other = λ s kind lt none is. other kind (J (shard_node K s)) b ((at s lt).none lt none) is;
+      },
   λ alike. each.1 (λ s lt. record {
     finished = λ in_part. record { one_lock = alike.one_lock s in_part; one_finish = alike.one_finish s in_part; same_decisions = alike.same_decisions s in_part };
     none = λ lt none. record { lock = alike.no_other s 2 lt none (inl refl); finish = alike.no_other s 3 lt none (inr (inl refl)); forget = alike.no_other s 4 lt none (inr (inr refl)) };
@@ -126,7 +160,7 @@ prepared_next K J n past r rest told e first later = subst (λ l. IsTrue told �
 )
 
 pub not_prepared : (K : Shape) (J : ℕ → List Record) (n : ℕ) (past : List Record) (r : Record) (rest : List Record) → past ≡ r ∷ rest → (PreparedAlike K J n (r ∷ []) → ⊥) → IsTrue false ↔ PreparedAlike K J n past
-not_prepared K J n past r rest e no = subst (λ l. IsTrue false ↔ PreparedAlike K J n l) (sym e) (λ lie. absurd (no_lie lie), λ all. absurd (no (λ b home is. all b home (found_first r rest b (only r b is)))))
+not_prepared K J n past r rest e other = subst (λ l. IsTrue false ↔ PreparedAlike K J n l) (sym e) (λ lie. absurd (no_lie lie), λ all. absurd (other (λ b home is. all b home (found_first r rest b (only r b is)))))
 
 -- a record that prepares nothing
 pub prepares_none : (K : Shape) (J : ℕ → List Record) (n : ℕ) (r : Record) → (kind_of r == 6) ≡ false → PreparedAlike K J n (r ∷ [])

@@ -1,10 +1,9 @@
 -- What Clean says, by lists.
-use Rattle.std.proofs.Common.{◌≡◌, ◌⊎◌, ◌↔◌, inl, inr, ℕ, zero, suc, ◌<◌, false, List, [], ◌∷◌, ◌++◌, length, slice_index_or, Contains, Bool, refl, sym, subst, arith, rules}
-use Rattle.std.specs.Prelude.{All, IsTrue}
-use Rattle.std.proofs.lemmas.List.Elements.{All-cons, All-tail}
+use Rattle.std.proofs.Common.{◌≡◌, ◌⊎◌, inl, inr, false, List, [], ◌∷◌, ◌++◌, Contains, refl, sym, subst, rules}
+use Rattle.std.specs.Prelude.{IsTrue}
 use Rattle.std.specs.List.{AllByRecursion}
 use Rattle.cbdc_model.specs.Clean.{IsMember, IsNamed, Clean}
-use Rattle.cbdc_model.specs.Coins.{Output, Coin, FullTx, tx_id, tx_coins, genesis_tx}
+use Rattle.cbdc_model.specs.Coins.{Output, Coin, FullTx, tx_coins, genesis_tx}
 use Rattle.ledger_laws.proofs.Members.{In, in_contains, contains_in}
 use Rattle.kept_check.specs.Agreeing.{Agree, CoinsAgree, coins_in}
 
@@ -66,8 +65,8 @@ to_named : (mint : List Output) (txs : List FullTx) (c : Coin) → In c (tx_coin
 to_named mint txs c h = elim (in_parts (tx_coins (genesis_tx mint)) (coins_in txs) c h) [
   | inl i ↦ (genesis_tx mint, inl refl, inr (contains_in (tx_coins (genesis_tx mint)) c i))
   | inr later ↦
-    let found : In_coins txs c = from_coins txs c later in
-    (found.0, inr (contains_in txs found.0 found.1), coin_of found.0 c found.2)
+      let found : In_coins txs c = from_coins txs c later in
+      (found.0, inr (contains_in txs found.0 found.1), coin_of found.0 c found.2)
 ]
 
 of_member : (mint : List Output) (txs : List FullTx) (c : Coin) (t : FullTx) → IsMember mint txs t → (In c t.inputs ⊎ In c (tx_coins t)) → In c (tx_coins (genesis_tx mint) ++ coins_in txs)

@@ -1,6 +1,6 @@
 -- Journals that have a history have the one that is made of them by putting row after row in its place.
-use Rattle.std.proofs.Common.{◌≡◌, ◌⊎◌, inl, inr, ℕ, zero, suc, ◌+◌, ◌<◌, ◌≤◌, true, false, ◌&&◌, ◌||◌, ◌==◌, nat_lt, if◌then◌else◌, List, [], ◌∷◌, ◌++◌, refl, sym, ap, ◌∙◌, subst, arith, append-nil}
-use Rattle.cbdc_model.specs.History.{Minted, goes_above, IsAbove, IsOrdered, first_rows}
+use Rattle.std.proofs.Common.{◌≡◌, inl, inr, ℕ, zero, suc, ◌+◌, ◌<◌, ◌≤◌, true, false, ◌&&◌, ◌||◌, ◌==◌, nat_lt, if◌then◌else◌, List, [], ◌∷◌, ◌++◌, refl, sym, ap, ◌∙◌, subst, arith}
+use Rattle.cbdc_model.specs.History.{Minted, goes_above, IsOrdered, first_rows}
 use Rattle.cbdc_model.specs.Records.{Shape, Record, Row, journal, stamp_of}
 use Rattle.cbdc_model.specs.World.{first_record, IsHistory}
 use Rattle.ledger_laws.proofs.Members.{In}
@@ -9,7 +9,7 @@ use Rattle.ledger_laws.proofs.Worlds.{insert_row}
 use Rattle.ledger_laws.proofs.Merge.{AllBelow, Rising, insert_away, insert_at, insert_ordered}
 use Rattle.ledger_laws.proofs.OneHistory.{above_all}
 use Rattle.ledger_laws.proofs.HistoryLaws.{journal-append, one_history_law}
-use Rattle.ledger_laws.proofs.FirstJournals.{first_is, first_beyond}
+use Rattle.ledger_laws.proofs.FirstJournals.{first_is}
 use Rattle.kept_check.specs.Merging.{put_row, put_records, behind_first, later_below}
 
 put_is : (row : Row) (rows : List Row) → put_row row rows ≡ insert_row row rows

@@ -1,14 +1,19 @@
 -- Proper submissions, one after another.
-use Rattle.std.proofs.Common.{◌≡◌, ◌⊎◌, ◌↔◌, ◌≤◌, inl, inr, Bool, true, false, List, [], ◌∷◌, Contains, refl, sym, subst, rules}
-use Rattle.std.specs.Prelude.{All, IsTrue}
+use Rattle.std.proofs.Common.{◌≡◌, ◌↔◌, ◌≤◌, inl, inr, Bool, true, false, List, [], ◌∷◌, Contains, refl, sym, subst, rules}
+use Rattle.std.specs.Prelude.{All, IsTrue, Result, IfOk}
+use Rattle.std.proofs.lemmas.Result.{IfOk-weaker}
 use Rattle.cbdc_model.specs.Records.{Compact}
 use Rattle.std.proofs.lemmas.List.Elements.{All-cons, All-tail}
 use Rattle.cbdc_model.specs.Coins.{Input, Output, FullTx, compact}
 use Rattle.cbdc_model.specs.Clean.{IsProper, IsProperCompact}
 use Rattle.ledger_laws.proofs.Members.{In, in_contains, contains_in}
 
-no_lie : IsTrue false → ⊥
+pub no_lie : IsTrue false → ⊥
 no_lie t = search rules
+
+-- an answer to another question, where there is one
+pub told_of : {E : Type 0} (r : Result Bool E) (A B : Type 0) → ((told : Bool) → (IsTrue told ↔ A) → IsTrue told ↔ B) → IfOk r (λ told. IsTrue told ↔ A) → IfOk r (λ told. IsTrue told ↔ B)
+told_of r A B f h = IfOk-weaker r (λ told. IsTrue told ↔ A) (λ told. IsTrue told ↔ B) f h
 
 -- the first submission has this form
 pub proper_first : (all : List FullTx) (t : FullTx) (rest : List FullTx) (k : Compact) → all ≡ t ∷ rest → IsProper t → compact t ≡ k → IsTrue true ↔ IsProperCompact all k

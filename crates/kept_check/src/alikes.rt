@@ -41,7 +41,7 @@ fn behind(outcomes: &[Outcome]) -> &[Outcome]
 
 // Whether decisions are those of a shard's part of transactions by these outcomes, the first of which is the first
 // transaction's.
-#[tactic(auto, using(crate::proofs::Finished::decides_none, crate::proofs::Finished::decides_elsewhere, crate::proofs::Finished::decides_here, crate::proofs::Finished::decides_not))]
+#[tactic(auto, using(crate::proofs::Finished::decides_none))]
 fn are_decided(
     shards: u32,
     shard: u32,
@@ -63,10 +63,16 @@ fn are_decided(
     match ds.split_first() {
         None => false,
         Some((d, rest)) => {
-            *d == won_at(outcomes, 0)
-                && are_decided(shards, shard, others, behind(outcomes), rest)
+            *d == won_at(outcomes, 0) && are_decided(shards, shard, others, behind(outcomes), rest)
         }
     }
+}
+
+// Whether a journal has one Lock and one Finish of a batch.
+fn has_one_each(past: &[Record], batch: &BatchId) -> bool
+    ensures { IsTrue result ↔ ((count_of 2 past.now batch.now ≡ 1) × (count_of 3 past.now batch.now ≡ 1)) }
+{
+    count_of(2, past, batch) == 1 && count_of(3, past, batch) == 1
 }
 
 // Whether a shard has one Lock and one Finish of a batch, with the Commit's decisions.
@@ -76,8 +82,7 @@ fn is_finished(journals: &[List<Record>], shape: &Shape, batch: &BatchId, shard:
 {
     let home = home_journal(journals, shape, batch);
     let own = journal_at(journals, shape.coordinators() + shard);
-    count_of(2, own, batch) == 1
-        && count_of(3, own, batch) == 1
+    has_one_each(own, batch)
         && are_decided(
             shape.shards(),
             shard,
@@ -91,9 +96,7 @@ fn is_finished(journals: &[List<Record>], shape: &Shape, batch: &BatchId, shard:
 fn has_none(past: &[Record], batch: &BatchId) -> bool
     ensures { IsTrue result ↔ HasNone past.now batch.now }
 {
-    count_of(2, past, batch) == 0
-        && count_of(3, past, batch) == 0
-        && count_of(4, past, batch) == 0
+    count_of(2, past, batch) == 0 && count_of(3, past, batch) == 0 && count_of(4, past, batch) == 0
 }
 
 // Whether a shard is finished where the batch concerns it, and has no record of it elsewhere.
@@ -122,7 +125,7 @@ fn are_alike_below(journals: &[List<Record>], shape: &Shape, batch: &BatchId, n:
 
 /// Whether a batch has one Commit, each concerned shard one Lock and one Finish of it, with the Commit's decisions, and no
 /// other shard any record of it.
-#[tactic(auto, using(crate::proofs::Finished::alike_by, crate::proofs::Finished::not_alike))]
+#[tactic(auto, using(crate::proofs::Finished::not_alike))]
 pub fn is_alike(journals: &[List<Record>], shape: &Shape, batch: &BatchId) -> bool
     ensures { IsTrue result ↔ IsAlike shape.now (journals_in journals.now) batch.now }
 {
@@ -132,12 +135,7 @@ pub fn is_alike(journals: &[List<Record>], shape: &Shape, batch: &BatchId) -> bo
 
 // Whether the batch that a record prepares at its own coordinator is finished alike.
 #[tactic(auto, using(crate::proofs::Finished::prepares_none, crate::proofs::Finished::prepares_one))]
-fn is_prepared_alike(
-    journals: &[List<Record>],
-    shape: &Shape,
-    node: usize,
-    r: &Record,
-) -> bool
+fn is_prepared_alike(journals: &[List<Record>], shape: &Shape, node: usize, r: &Record) -> bool
     ensures { IsTrue result ↔ PreparedAlike shape.now (journals_in journals.now) node (r.now ∷ []) }
 {
     match r {

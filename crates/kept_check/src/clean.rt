@@ -23,11 +23,7 @@ fn add_coins(alloc: Global, ts: &[FullTx], out: &mut Vec<Input>) -> Result<(), A
 
 /// Whether no two transactions, the mint among them, that differ in inputs or outputs have one id, and no two coins that
 /// they spend or make have one hash.
-pub fn is_clean(
-    alloc: Global,
-    mint: &[Output],
-    submissions: &[FullTx],
-) -> Result<bool, AllocError>
+pub fn is_clean(alloc: Global, mint: &[Output], submissions: &[FullTx]) -> Result<bool, AllocError>
     ensures { IfOk result (λ yes. IsTrue yes ↔ Clean mint.now submissions.now) }
 {
     let first = genesis_tx(alloc, mint)?;

@@ -9,9 +9,7 @@ ghost use Rattle.kept_check.specs.Minting.{minted_by};
 use crate::proper::passes;
 use cbdc_types::{CompactTx, FullTx, Hash, Header, List, NodeId, Output, Record, Shape};
 use compact_tx::compact;
-use model_check::{
-    Row, copy_of_record, genesis_tx, hashes_on, is_after, is_caused_at, journal_of,
-};
+use model_check::{Row, copy_of_record, genesis_tx, hashes_on, is_after, is_caused_at, journal_of};
 use std::alloc::{AllocError, Global};
 
 /// A copy of a row.
@@ -57,12 +55,7 @@ fn header_of(shape: &Shape, genesis: &Hash, node: NodeId) -> Header
 }
 
 // Puts the first rows of the coordinators below n behind those so far.
-fn add_starts(
-    shape: &Shape,
-    mint: &CompactTx,
-    n: u32,
-    out: &mut Vec<Row>,
-) -> Result<(), AllocError>
+fn add_starts(shape: &Shape, mint: &CompactTx, n: u32, out: &mut Vec<Row>) -> Result<(), AllocError>
     ensures { OnOk result (out.new.items ≡ out.old.items ++ starts shape.now (minted_by mint.now) n) }
 {
     if n == 0 {
@@ -102,11 +95,7 @@ fn add_geneses(
 }
 
 /// The first rows of a ledger, by its mint as a compact transaction, the newest first.
-pub fn first_rows(
-    alloc: Global,
-    shape: &Shape,
-    mint: &CompactTx,
-) -> Result<List<Row>, AllocError>
+pub fn first_rows(alloc: Global, shape: &Shape, mint: &CompactTx) -> Result<List<Row>, AllocError>
     ensures { IfOk result (λ l. l ≡ first_rows shape.now (minted_by mint.now)) }
 {
     let mut out = Vec::new(alloc);
@@ -153,11 +142,12 @@ fn is_steady(
     if !is_steady(alloc, shape, mint, submissions, first, rest)? {
         return Ok(false);
     }
-    let past = rows_on(alloc, rest, first)?;
-    if !may_come(alloc, shape, &mint.id, submissions, past.as_slice(), row)? {
+    let rows = rows_on(alloc, rest, first)?;
+    let past = rows.as_slice();
+    if !may_come(alloc, shape, &mint.id, submissions, past, row)? {
         return Ok(false);
     }
-    is_caused_at(alloc, shape, past.as_slice(), row)
+    is_caused_at(alloc, shape, past, row)
 }
 
 /// Whether the rows on top of a ledger's first ones are kept: each follows its node's journal and is caused by the rows

@@ -25,7 +25,6 @@ fn number_of(row: &Row) -> usize
 }
 
 // Whether all rows are of the nodes below n: no other node has a journal then.
-#[tactic(auto, using(crate::proofs::Belows::below_more, crate::proofs::Belows::below_not))]
 fn are_below(rows: &[Row], n: usize) -> bool
     ensures { IsTrue result ↔ ((k : ℕ) → n ≤ k → journal k rows.now ≡ []) }
 {
@@ -109,12 +108,7 @@ pub fn is_history(
 }
 
 // Puts rows with one more in its place behind those so far.
-fn add_with(
-    alloc: Global,
-    row: &Row,
-    rows: &[Row],
-    out: &mut Vec<Row>,
-) -> Result<(), AllocError>
+fn add_with(alloc: Global, row: &Row, rows: &[Row], out: &mut Vec<Row>) -> Result<(), AllocError>
     ensures { OnOk result (out.new.items ≡ out.old.items ++ put_row row.now rows.now) }
 {
     let Some((head, later)) = rows.split_first() else {
@@ -176,11 +170,7 @@ fn behind_first<'a>(past: &'a [Record]) -> &'a [Record]
 
 // The records behind the oldest ones of the nodes below n, in the order of a history.
 #[tactic(auto, using(crate::proofs::Belows::below_step))]
-fn later_below(
-    alloc: Global,
-    journals: &[List<Record>],
-    n: u32,
-) -> Result<List<Row>, AllocError>
+fn later_below(alloc: Global, journals: &[List<Record>], n: u32) -> Result<List<Row>, AllocError>
     ensures { IfOk result (λ l. l ≡ later_below (journals_in journals.now) n) }
 {
     if n == 0 {

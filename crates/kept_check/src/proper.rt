@@ -55,7 +55,6 @@ fn is_worth(o: &Output) -> bool
 }
 
 // Whether each input claims a value.
-#[tactic(auto, using(crate::proofs::Propers::claim_more))]
 fn claim_value(cs: &[Input]) -> bool
     ensures { IsTrue result ↔ All (λ c. 1 ≤ c.output.value) cs.now }
 {
@@ -66,7 +65,6 @@ fn claim_value(cs: &[Input]) -> bool
 }
 
 // Whether each output has a value.
-#[tactic(auto, using(crate::proofs::Propers::worth_more))]
 fn have_value(os: &[Output]) -> bool
     ensures { IsTrue result ↔ All (λ o. 1 ≤ o.value) os.now }
 {
@@ -115,8 +113,15 @@ pub fn is_proper(t: &FullTx) -> bool
         && ins == outs
 }
 
+// Whether a transaction is proper, and this is its form, which is given.
+fn is_form(t: &FullTx, own: &CompactTx, k: &CompactTx) -> bool
+    ensures { IsTrue result ↔ (IsProper t.now × (own.now ≡ k.now)) }
+{
+    is_proper(t) && is_compact(own, k)
+}
+
 /// Whether a compact transaction is the form of a proper submission.
-#[tactic(auto, using(crate::proofs::Propers::proper_none, crate::proofs::Propers::proper_first, crate::proofs::Propers::proper_later))]
+#[tactic(auto, using(crate::proofs::Propers::proper_none, crate::proofs::Propers::proper_first))]
 pub fn is_proper_compact(
     alloc: Global,
     submissions: &[FullTx],
@@ -128,14 +133,13 @@ pub fn is_proper_compact(
         return Ok(false);
     };
     let own = compact(alloc, t)?;
-    if is_proper(t) && is_compact(&own, k) {
+    if is_form(t, &own, k) {
         return Ok(true);
     }
     is_proper_compact(alloc, rest, k)
 }
 
 // Whether each of these is the form of a proper submission.
-#[tactic(auto, using(crate::proofs::Propers::forms_more))]
 fn are_proper_compact(
     alloc: Global,
     submissions: &[FullTx],

@@ -1,52 +1,30 @@
 // The records of batches on one coordinator and one or two shards.
 use crate::coins::two;
 use cbdc_types::{
-    Answered, BatchId, CompactTx, Hash, Header, List, NodeId, Outcome, Output, Record, Reply,
-    Shape, Stamp,
+    Answered, BatchId, CompactTx, FullTx, Hash, Header, LaneId, List, NodeId, Outcome, Output,
+    Record, Reply, Shape, Stamp,
 };
 use compact_tx::compact;
-use model_check::{are_elsewhere, copy_of_compact, copy_of_record, entry_at, genesis_tx, hashes_on};
+use model_check::{
+    are_elsewhere, copy_of_compact, copy_of_record, entry_at, genesis_tx, hashes_on,
+};
 use std::alloc::{AllocError, Global};
 
-/// A transaction of a batch: what the first and the second shard reply to its part, and what comes of it.
+/// What becomes of a submission: it is held, this input of it is missing on a shard or locked by the first batch on the first shard, or
+/// it is refused before a batch.
+#[derive(Clone, Copy)]
+pub enum Fate {
+    Held,
+    Missing(u32, Hash),
+    Locked(Hash),
+    Refused,
+}
+
+/// A transaction of a batch, with what becomes of it.
 #[derive(Drop)]
 pub struct Turn {
     pub tx: CompactTx,
-    pub first: Reply,
-    pub second: Reply,
-    pub outcome: Outcome,
-}
-
-/// A transaction that each shard holds.
-pub fn confirmed(tx: CompactTx) -> Turn {
-    Turn {
-        tx,
-        first: Reply::Held,
-        second: Reply::Held,
-        outcome: Outcome::Held,
-    }
-}
-
-/// A transaction of which this input is not on this shard.
-pub fn missing(tx: CompactTx, shard: u32, input: Hash) -> Turn {
-    let mut turn = confirmed(tx);
-    turn.outcome = Outcome::Missing(shard, input);
-    if shard == 0 {
-        turn.first = Reply::Missing(input);
-    } else {
-        turn.second = Reply::Missing(input);
-    }
-    turn
-}
-
-/// A transaction of which this input is locked on the first shard.
-pub fn locked(tx: CompactTx, input: Hash, by: BatchId) -> Turn {
-    Turn {
-        tx,
-        first: Reply::Locked(input, by),
-        second: Reply::Held,
-        outcome: Outcome::Locked(0, input, by),
-    }
+    pub fate: Fate,
 }
 
 /// The journals of one coordinator and one or two shards, the oldest record first.
@@ -58,61 +36,138 @@ pub struct Ledger {
     pub second: Vec<Record>,
 }
 
-// The first record of a shard of a mint.
-fn genesis(
+/// A batch of lane 0.
+pub fn batch(number: u64) -> BatchId {
+    BatchId {
+        lane: LaneId(0),
+        number,
+    }
+}
+
+// What a shard replies to its part of a transaction.
+fn reply_of(fate: &Fate, shard: u32) -> Reply {
+    match fate {
+        Fate::Missing(there, input) => {
+            if *there == shard {
+                Reply::Missing(*input)
+            } else {
+                Reply::Held
+            }
+        }
+        Fate::Locked(input) => {
+            if shard == 0 {
+                Reply::Locked(*input, batch(1))
+            } else {
+                Reply::Held
+            }
+        }
+        _ => Reply::Held,
+    }
+}
+
+// What comes of a transaction in its batch.
+fn outcome_of(fate: &Fate) -> Outcome {
+    match fate {
+        Fate::Missing(there, input) => Outcome::Missing(*there, *input),
+        Fate::Locked(input) => Outcome::Locked(0, *input, batch(1)),
+        _ => Outcome::Held,
+    }
+}
+
+/// The transactions of a batch of these submissions: those that are not refused.
+pub fn turns_of(alloc: Global, file: &[FullTx], fates: &[Fate]) -> Result<Vec<Turn>, AllocError> {
+    let mut all = Vec::new(alloc);
+    for (t, fate) in file.iter().zip(fates.iter()) {
+        if !matches!(fate, Fate::Refused) {
+            let tx = compact(alloc, t)?;
+            all.push(Turn { tx, fate: *fate })?;
+        }
+    }
+    Ok(all)
+}
+
+// Puts a record behind those of a node.
+fn put(ledger: &mut Ledger, node: u32, record: Record) -> Result<(), AllocError> {
+    match node {
+        0 => ledger.log.push(record)?,
+        1 => ledger.first.push(record)?,
+        _ => ledger.second.push(record)?,
+    }
+    Ok(())
+}
+
+// The header of a node.
+fn header(node: u32, shape: &Shape, genesis: &Hash) -> Header {
+    Header {
+        node: NodeId(node),
+        shape: *shape,
+        genesis: *genesis,
+    }
+}
+
+// Puts the first record of a shard of a mint.
+fn put_genesis(
     alloc: Global,
-    shape: Shape,
+    ledger: &mut Ledger,
     shard: u32,
     minted: &CompactTx,
-) -> Result<Record, AllocError> {
+) -> Result<(), AllocError> {
+    let shape = ledger.shape;
     let hashes = hashes_on(alloc, shape.shards(), shard, minted.outputs.as_slice())?;
-    Ok(Record::Genesis {
-        header: Header {
-            node: NodeId(1 + shard.min(1)),
-            shape,
-            genesis: minted.id,
-        },
-        hashes,
-    })
+    let node = shard.saturating_add(1);
+    let header = header(node, &shape, &minted.id);
+    put(ledger, node, Record::Genesis { header, hashes })
+}
+
+// Puts the first records of all nodes.
+fn put_first(alloc: Global, ledger: &mut Ledger, minted: &CompactTx) -> Result<(), AllocError> {
+    let shape = ledger.shape;
+    let header = header(0, &shape, &minted.id);
+    put(ledger, 0, Record::Start { header })?;
+    put_genesis(alloc, ledger, 0, minted)?;
+    if shape.shards() == 2 {
+        put_genesis(alloc, ledger, 1, minted)?;
+    }
+    Ok(())
 }
 
 /// A new ledger of a mint, on one coordinator and as many shards as the shape says, two at most.
-pub fn new_ledger(alloc: Global, shape: Shape, mint: &[Output]) -> Result<Ledger, AllocError> {
+pub fn new_ledger(alloc: Global, shape: &Shape, mint: &[Output]) -> Result<Ledger, AllocError> {
     let minted = compact(alloc, &genesis_tx(alloc, mint)?)?;
     let mut ledger = Ledger {
-        shape,
+        shape: *shape,
         log: Vec::new(alloc),
         first: Vec::new(alloc),
         second: Vec::new(alloc),
     };
-    let header = Header {
-        node: NodeId(0),
-        shape,
-        genesis: minted.id,
-    };
-    ledger.log.push(Record::Start { header })?;
-    ledger.first.push(genesis(alloc, shape, 0, &minted)?)?;
-    if shape.shards() == 2 {
-        ledger.second.push(genesis(alloc, shape, 1, &minted)?)?;
-    }
+    put_first(alloc, &mut ledger, &minted)?;
     Ok(ledger)
+}
+
+// The transactions of a batch.
+fn txs_of(alloc: Global, turns: &[Turn]) -> Result<List<CompactTx>, AllocError> {
+    let mut txs = List::new(alloc);
+    for turn in turns {
+        txs.push(copy_of_compact(alloc, &turn.tx)?)?;
+    }
+    Ok(txs)
 }
 
 /// The Prepare of a batch.
 pub fn prepare(
     alloc: Global,
     ledger: &mut Ledger,
-    batch: BatchId,
+    batch: &BatchId,
     stamp: u64,
     turns: &[Turn],
 ) -> Result<(), AllocError> {
-    let mut txs = List::new(alloc);
-    for turn in turns {
-        txs.push(copy_of_compact(alloc, &turn.tx)?)?;
-    }
-    let stamp = Stamp(stamp);
-    ledger.log.push(Record::Prepare { stamp, batch, txs })?;
-    Ok(())
+    let txs = txs_of(alloc, turns)?;
+    let record = Record::Prepare {
+        stamp: Stamp(stamp),
+        batch: *batch,
+        txs,
+    };
+    put(ledger, 0, record)
 }
 
 // Whether a transaction has a hash on a shard.
@@ -134,7 +189,7 @@ fn answered(
     for turn in turns {
         if is_here(shape, shard, &turn.tx) {
             let entry = entry_at(alloc, shape.shards(), shard, place, &turn.tx)?;
-            let reply = if shard == 0 { turn.first } else { turn.second };
+            let reply = reply_of(&turn.fate, shard);
             all.push(Answered { entry, reply })?;
         }
         place = place.saturating_add(1);
@@ -147,7 +202,7 @@ pub fn lock(
     alloc: Global,
     ledger: &mut Ledger,
     shard: u32,
-    batch: BatchId,
+    batch: &BatchId,
     stamp: u64,
     turns: &[Turn],
 ) -> Result<(), AllocError> {
@@ -155,38 +210,54 @@ pub fn lock(
     if entries.is_empty() {
         return Ok(());
     }
-    let stamp = Stamp(stamp);
     let record = Record::Lock {
-        stamp,
-        batch,
+        stamp: Stamp(stamp),
+        batch: *batch,
         entries,
     };
-    if shard == 0 {
-        ledger.first.push(record)?;
-    } else {
-        ledger.second.push(record)?;
+    put(ledger, shard.saturating_add(1), record)
+}
+
+// What comes of the transactions of a batch.
+fn outcomes_of(alloc: Global, turns: &[Turn]) -> Result<List<Outcome>, AllocError> {
+    let mut outcomes = List::new(alloc);
+    for turn in turns {
+        outcomes.push(outcome_of(&turn.fate))?;
     }
-    Ok(())
+    Ok(outcomes)
 }
 
 /// The Commit of a batch.
 pub fn commit(
     alloc: Global,
     ledger: &mut Ledger,
-    batch: BatchId,
+    batch: &BatchId,
     stamp: u64,
     turns: &[Turn],
 ) -> Result<(), AllocError> {
-    let mut outcomes = List::new(alloc);
-    for turn in turns {
-        outcomes.push(turn.outcome)?;
-    }
-    ledger.log.push(Record::Commit {
+    let outcomes = outcomes_of(alloc, turns)?;
+    let record = Record::Commit {
         stamp: Stamp(stamp),
-        batch,
+        batch: *batch,
         outcomes,
-    })?;
-    Ok(())
+    };
+    put(ledger, 0, record)
+}
+
+// The decisions of a shard's part of a batch.
+fn decisions_at(
+    alloc: Global,
+    shape: &Shape,
+    shard: u32,
+    turns: &[Turn],
+) -> Result<List<bool>, AllocError> {
+    let mut decisions = List::new(alloc);
+    for turn in turns {
+        if is_here(shape, shard, &turn.tx) {
+            decisions.push(matches!(&turn.fate, Fate::Held))?;
+        }
+    }
+    Ok(decisions)
 }
 
 /// The Finish of a batch at a shard, where it has a part there.
@@ -194,71 +265,73 @@ pub fn finish(
     alloc: Global,
     ledger: &mut Ledger,
     shard: u32,
-    batch: BatchId,
+    batch: &BatchId,
     stamp: u64,
     turns: &[Turn],
 ) -> Result<(), AllocError> {
-    let mut decisions = List::new(alloc);
-    for turn in turns {
-        if is_here(&ledger.shape, shard, &turn.tx) {
-            decisions.push(turn.outcome == Outcome::Held)?;
-        }
-    }
+    let decisions = decisions_at(alloc, &ledger.shape, shard, turns)?;
     if decisions.is_empty() {
         return Ok(());
     }
     let record = Record::Finish {
         stamp: Stamp(stamp),
-        batch,
+        batch: *batch,
         decisions,
     };
-    if shard == 0 {
-        ledger.first.push(record)?;
-    } else {
-        ledger.second.push(record)?;
-    }
-    Ok(())
+    put(ledger, shard.saturating_add(1), record)
 }
 
 /// The Discard of a batch.
-pub fn discard(ledger: &mut Ledger, batch: BatchId, stamp: u64) -> Result<(), AllocError> {
-    let stamp = Stamp(stamp);
-    ledger.log.push(Record::Discard { stamp, batch })?;
-    Ok(())
+pub fn discard(ledger: &mut Ledger, batch: &BatchId, stamp: u64) -> Result<(), AllocError> {
+    let record = Record::Discard {
+        stamp: Stamp(stamp),
+        batch: *batch,
+    };
+    put(ledger, 0, record)
+}
+
+// Whether a shard has a part of a batch.
+fn has_part(shape: &Shape, shard: u32, turns: &[Turn]) -> bool {
+    for turn in turns {
+        if is_here(shape, shard, &turn.tx) {
+            return true;
+        }
+    }
+    false
 }
 
 /// The Forget of a batch at a shard, where it has a part there.
 pub fn forget(
     ledger: &mut Ledger,
     shard: u32,
-    batch: BatchId,
+    batch: &BatchId,
     stamp: u64,
     turns: &[Turn],
 ) -> Result<(), AllocError> {
-    let stamp = Stamp(stamp);
-    if !turns.iter().any(|turn| is_here(&ledger.shape, shard, &turn.tx)) {
+    if !has_part(&ledger.shape, shard, turns) {
         return Ok(());
     }
-    if shard == 0 {
-        ledger.first.push(Record::Forget { stamp, batch })?;
-    } else {
-        ledger.second.push(Record::Forget { stamp, batch })?;
-    }
-    Ok(())
+    let record = Record::Forget {
+        stamp: Stamp(stamp),
+        batch: *batch,
+    };
+    put(ledger, shard.saturating_add(1), record)
 }
 
 /// The Done of a batch.
-pub fn done(ledger: &mut Ledger, batch: BatchId, stamp: u64) -> Result<(), AllocError> {
-    let stamp = Stamp(stamp);
-    ledger.log.push(Record::Done { stamp, batch })?;
-    Ok(())
+pub fn done(ledger: &mut Ledger, batch: &BatchId, stamp: u64) -> Result<(), AllocError> {
+    let record = Record::Done {
+        stamp: Stamp(stamp),
+        batch: *batch,
+    };
+    put(ledger, 0, record)
 }
 
 /// All records of a batch, whose Prepare has this stamp and which no other batch comes between.
 pub fn whole_batch(
     alloc: Global,
     ledger: &mut Ledger,
-    batch: BatchId,
+    batch: &BatchId,
     stamp: u64,
     turns: &[Turn],
 ) -> Result<(), AllocError> {

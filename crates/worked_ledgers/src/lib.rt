@@ -7,10 +7,10 @@ mod coins;
 mod rows;
 mod shards;
 
-pub use batches::{Ledger, Turn, confirmed, journals, locked, missing, new_ledger, whole_batch};
+pub use batches::{Fate, Ledger, Turn, batch, journals, new_ledger, turns_of, whole_batch};
 pub use coins::{claims, coin, mint, one, output, pays, program, split, two, whole};
 pub use rows::{
-    Worked, an_empty_file, another_value, cut_in_two, lanes_in_turn, one_transaction,
-    refused_between, spent_in_its_batch, the_same_twice, two_spenders, two_spenders_apart,
+    Worked, an_empty_file, another_value, begun, cut_in_two, lanes_in_turn, more, one_transaction,
+    refused_between, spent_in_its_batch, take, the_same_twice, two_spenders, two_spenders_apart,
 };
 pub use shards::{Stop, known, stopped, unknown, unknown_input};

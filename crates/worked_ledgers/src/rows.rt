@@ -1,8 +1,7 @@
 // Examples on one coordinator and one shard.
-use crate::batches::{Ledger, Turn, confirmed, locked, missing, new_ledger, whole_batch};
+use crate::batches::{Fate, Ledger, batch, new_ledger, turns_of, whole_batch};
 use crate::coins::{claims, coin, mint, one, output, pays, split, two, whole};
-use cbdc_types::{BatchId, FullTx, Hash, LaneId, List, Output, Shape};
-use compact_tx::compact;
+use cbdc_types::{BatchId, FullTx, Hash, Input, LaneId, List, Output, Shape};
 use identifiers::{input_hash, tx_id};
 use model_check::genesis_id;
 use std::alloc::{AllocError, Global};
@@ -18,117 +17,150 @@ pub struct Worked {
     pub exit: Ledger,
 }
 
-/// A batch of lane 0.
-pub(crate) fn batch(number: u64) -> BatchId {
-    BatchId {
-        lane: LaneId(0),
-        number,
-    }
-}
-
-// A ledger of one coin of 100 that is new at entry, and ran a batch, and maybe another behind it.
-fn ran(
-    alloc: Global,
-    shape: Shape,
-    files: List<List<FullTx>>,
-    first: &[Turn],
-    second: &[Turn],
-) -> Result<Worked, AllocError> {
-    let mint = mint(alloc)?;
+/// A new ledger of a mint, which ran no file.
+pub fn begun(alloc: Global, shape: &Shape, mint: List<Output>) -> Result<Worked, AllocError> {
     let entry = new_ledger(alloc, shape, mint.as_slice())?;
-    let mut exit = new_ledger(alloc, shape, mint.as_slice())?;
-    if !first.is_empty() {
-        whole_batch(alloc, &mut exit, batch(1), 1, first)?;
-    }
-    if !second.is_empty() {
-        whole_batch(alloc, &mut exit, batch(2), 8, second)?;
-    }
+    let exit = new_ledger(alloc, shape, mint.as_slice())?;
     Ok(Worked {
-        shape,
+        shape: *shape,
         mint,
         earlier: List::new(alloc),
-        files,
+        files: List::new(alloc),
         entry,
         exit,
     })
 }
 
-// The hash of the mint's coin.
-fn minted(alloc: Global) -> Result<Hash, AllocError> {
+// The same of the mint of one coin of 100.
+fn of_one_coin(alloc: Global, shape: &Shape) -> Result<Worked, AllocError> {
+    begun(alloc, shape, mint(alloc)?)
+}
+
+// The batch of the next file, with the stamp of its Prepare.
+fn next_batch(row: &Worked) -> (BatchId, u64) {
+    if row.files.is_empty() {
+        (batch(1), 1)
+    } else {
+        (batch(2), 8)
+    }
+}
+
+/// Has a ledger run one more file, with these fates of its transactions, in a batch of its own. At most two.
+pub fn take(
+    alloc: Global,
+    row: &mut Worked,
+    file: List<FullTx>,
+    fates: &[Fate],
+) -> Result<(), AllocError> {
+    let turns = turns_of(alloc, file.as_slice(), fates)?;
+    if !turns.is_empty() {
+        let (own, stamp) = next_batch(row);
+        whole_batch(alloc, &mut row.exit, &own, stamp, turns.as_slice())?;
+    }
+    row.files.push(file)?;
+    Ok(())
+}
+
+// The same of a file of one transaction.
+fn take_one(alloc: Global, row: &mut Worked, t: FullTx, fate: Fate) -> Result<(), AllocError> {
+    take(alloc, row, one(alloc, t)?, &[fate])
+}
+
+// The same of a file of two.
+fn take_two(
+    alloc: Global,
+    row: &mut Worked,
+    t: FullTx,
+    u: FullTx,
+    fates: &[Fate],
+) -> Result<(), AllocError> {
+    take(alloc, row, two(alloc, t, u)?, fates)
+}
+
+// The mint's coin that claims this value.
+fn minted(alloc: Global, value: u64) -> Result<Hash, AllocError> {
     let id = genesis_id(alloc, mint(alloc)?.as_slice())?;
-    Ok(input_hash(&coin(id, 0, output(1, 100))))
+    Ok(input_hash(&coin(id, 0, output(1, value))))
 }
 
 /// The coin to 60 and 40.
-pub fn one_transaction(alloc: Global, shape: Shape) -> Result<Worked, AllocError> {
-    let t = split(alloc)?;
-    let turns = [confirmed(compact(alloc, &t)?)];
-    ran(alloc, shape, one(alloc, one(alloc, t)?)?, &turns, &[])
+pub fn one_transaction(alloc: Global, shape: &Shape) -> Result<Worked, AllocError> {
+    let mut row = of_one_coin(alloc, shape)?;
+    take_one(alloc, &mut row, split(alloc)?, Fate::Held)?;
+    Ok(row)
 }
 
 /// A client file without transactions.
-pub fn an_empty_file(alloc: Global, shape: Shape) -> Result<Worked, AllocError> {
-    ran(alloc, shape, one(alloc, List::new(alloc))?, &[], &[])
+pub fn an_empty_file(alloc: Global, shape: &Shape) -> Result<Worked, AllocError> {
+    let mut row = of_one_coin(alloc, shape)?;
+    take(alloc, &mut row, List::new(alloc), &[])?;
+    Ok(row)
 }
 
 /// Two that spend the coin, in one file.
-pub fn two_spenders(alloc: Global, shape: Shape) -> Result<Worked, AllocError> {
-    let (t, u) = (split(alloc)?, whole(alloc)?);
-    let turns = [
-        confirmed(compact(alloc, &t)?),
-        locked(compact(alloc, &u)?, minted(alloc)?, batch(1)),
-    ];
-    ran(alloc, shape, one(alloc, two(alloc, t, u)?)?, &turns, &[])
+pub fn two_spenders(alloc: Global, shape: &Shape) -> Result<Worked, AllocError> {
+    let fates = [Fate::Held, Fate::Locked(minted(alloc, 100)?)];
+    let mut row = of_one_coin(alloc, shape)?;
+    take_two(alloc, &mut row, split(alloc)?, whole(alloc)?, &fates)?;
+    Ok(row)
 }
 
 /// The same two in two files.
-pub fn two_spenders_apart(alloc: Global, shape: Shape) -> Result<Worked, AllocError> {
-    let (t, u) = (split(alloc)?, whole(alloc)?);
-    let first = [confirmed(compact(alloc, &t)?)];
-    let second = [missing(compact(alloc, &u)?, 0, minted(alloc)?)];
-    let files = two(alloc, one(alloc, t)?, one(alloc, u)?)?;
-    ran(alloc, shape, files, &first, &second)
+pub fn two_spenders_apart(alloc: Global, shape: &Shape) -> Result<Worked, AllocError> {
+    let lost = Fate::Missing(0, minted(alloc, 100)?);
+    let mut row = one_transaction(alloc, shape)?;
+    take_one(alloc, &mut row, whole(alloc)?, lost)?;
+    Ok(row)
+}
+
+// The output of 60.
+fn sixty(alloc: Global) -> Result<Input, AllocError> {
+    Ok(coin(tx_id(&split(alloc)?), 0, output(2, 60)))
+}
+
+// The transaction of the output of 60 to another 60.
+fn spend(alloc: Global) -> Result<FullTx, AllocError> {
+    let made = sixty(alloc)?;
+    pays(alloc, one(alloc, made)?, one(alloc, output(5, 60))?)
 }
 
 /// One that spends an output of 60 of the first, in one file with it, and again in a later file.
-pub fn spent_in_its_batch(alloc: Global, shape: Shape) -> Result<Worked, AllocError> {
-    let t = split(alloc)?;
-    let made = coin(tx_id(&t), 0, output(2, 60));
-    let u = pays(alloc, one(alloc, made)?, one(alloc, output(5, 60))?)?;
-    let again = pays(alloc, one(alloc, made)?, one(alloc, output(5, 60))?)?;
-    let first = [
-        confirmed(compact(alloc, &t)?),
-        missing(compact(alloc, &u)?, 0, input_hash(&made)),
-    ];
-    let second = [confirmed(compact(alloc, &again)?)];
-    let files = two(alloc, two(alloc, t, u)?, one(alloc, again)?)?;
-    ran(alloc, shape, files, &first, &second)
+pub fn spent_in_its_batch(alloc: Global, shape: &Shape) -> Result<Worked, AllocError> {
+    let fates = [Fate::Held, Fate::Missing(0, input_hash(&sixty(alloc)?))];
+    let mut row = of_one_coin(alloc, shape)?;
+    take_two(alloc, &mut row, split(alloc)?, spend(alloc)?, &fates)?;
+    take_one(alloc, &mut row, spend(alloc)?, Fate::Held)?;
+    Ok(row)
 }
 
 /// The coin claimed with a value of 1,000.
-pub fn another_value(alloc: Global, shape: Shape) -> Result<Worked, AllocError> {
+pub fn another_value(alloc: Global, shape: &Shape) -> Result<Worked, AllocError> {
+    let lost = Fate::Missing(0, minted(alloc, 1000)?);
     let t = claims(alloc, 1000, one(alloc, output(2, 1000))?)?;
-    let id = genesis_id(alloc, mint(alloc)?.as_slice())?;
-    let claimed = input_hash(&coin(id, 0, output(1, 1000)));
-    let turns = [missing(compact(alloc, &t)?, 0, claimed)];
-    ran(alloc, shape, one(alloc, one(alloc, t)?)?, &turns, &[])
+    let mut row = of_one_coin(alloc, shape)?;
+    take_one(alloc, &mut row, t, lost)?;
+    Ok(row)
 }
 
 /// The same transaction in two files.
-pub fn the_same_twice(alloc: Global, shape: Shape) -> Result<Worked, AllocError> {
-    let (t, u) = (split(alloc)?, split(alloc)?);
-    let first = [confirmed(compact(alloc, &t)?)];
-    let second = [missing(compact(alloc, &u)?, 0, minted(alloc)?)];
-    let files = two(alloc, one(alloc, t)?, one(alloc, u)?)?;
-    ran(alloc, shape, files, &first, &second)
+pub fn the_same_twice(alloc: Global, shape: &Shape) -> Result<Worked, AllocError> {
+    let lost = Fate::Missing(0, minted(alloc, 100)?);
+    let mut row = one_transaction(alloc, shape)?;
+    take_one(alloc, &mut row, split(alloc)?, lost)?;
+    Ok(row)
+}
+
+/// The transaction of the mint's coin to 60 and 41.
+pub fn more(alloc: Global) -> Result<FullTx, AllocError> {
+    claims(alloc, 100, two(alloc, output(2, 60), output(3, 41))?)
 }
 
 /// One to 60 and 41, which is refused, before the one to 60 and 40.
-pub fn refused_between(alloc: Global, shape: Shape) -> Result<Worked, AllocError> {
-    let t = split(alloc)?;
-    let more = claims(alloc, 100, two(alloc, output(2, 60), output(3, 41))?)?;
-    let turns = [confirmed(compact(alloc, &t)?)];
-    ran(alloc, shape, one(alloc, two(alloc, more, t)?)?, &turns, &[])
+pub fn refused_between(alloc: Global, shape: &Shape) -> Result<Worked, AllocError> {
+    let fates = [Fate::Refused, Fate::Held];
+    let mut row = of_one_coin(alloc, shape)?;
+    take_two(alloc, &mut row, more(alloc)?, split(alloc)?, &fates)?;
+    Ok(row)
 }
 
 // Three coins of 10.
@@ -138,61 +170,66 @@ fn three(alloc: Global) -> Result<List<Output>, AllocError> {
     Ok(all)
 }
 
-// The transaction of one of three coins of 10 to another 10.
-fn moved(alloc: Global, index: u64) -> Result<FullTx, AllocError> {
+// One of the three coins.
+fn one_of_three(alloc: Global, number: u64) -> Result<Input, AllocError> {
     let id = genesis_id(alloc, three(alloc)?.as_slice())?;
-    let number = index.min(2);
-    let spent = coin(id, number, output(number + 1, 10));
-    pays(alloc, one(alloc, spent)?, one(alloc, output(number + 4, 10))?)
+    let number = number.min(2);
+    Ok(coin(id, number, output(number + 1, 10)))
 }
 
-// A file of three transactions, each of one of three coins, behind which the ledger has these batches.
-fn three_moved(
+// The transaction of one of the three coins to another 10.
+fn moved(alloc: Global, number: u64) -> Result<FullTx, AllocError> {
+    let spent = one_of_three(alloc, number)?;
+    let made = output(number.min(2) + 4, 10);
+    pays(alloc, one(alloc, spent)?, one(alloc, made)?)
+}
+
+// The transactions of these of the three coins.
+fn all_moved(alloc: Global, from: u64, end: u64) -> Result<List<FullTx>, AllocError> {
+    let mut all = List::new(alloc);
+    for number in from..end {
+        all.push(moved(alloc, number)?)?;
+    }
+    Ok(all)
+}
+
+// Has a ledger run a batch of these of the three coins.
+fn run_moved(
     alloc: Global,
-    shape: Shape,
-    exit: Ledger,
-) -> Result<Worked, AllocError> {
-    let mut file = two(alloc, moved(alloc, 0)?, moved(alloc, 1)?)?;
-    file.push(moved(alloc, 2)?)?;
-    let mint = three(alloc)?;
-    let entry = new_ledger(alloc, shape, mint.as_slice())?;
-    Ok(Worked {
-        shape,
-        mint,
-        earlier: List::new(alloc),
-        files: one(alloc, file)?,
-        entry,
-        exit,
-    })
+    ledger: &mut Ledger,
+    own: &BatchId,
+    stamp: u64,
+    coins: (u64, u64),
+) -> Result<(), AllocError> {
+    let txs = all_moved(alloc, coins.0, coins.1)?;
+    let turns = turns_of(alloc, txs.as_slice(), &[Fate::Held, Fate::Held])?;
+    whole_batch(alloc, ledger, own, stamp, turns.as_slice())
 }
 
-// A transaction of the three that is held.
-fn held(alloc: Global, index: u64) -> Result<Turn, AllocError> {
-    Ok(confirmed(compact(alloc, &moved(alloc, index)?)?))
+// A new ledger of three coins of 10, with a file of the transactions of them.
+fn of_three_coins(alloc: Global, shape: &Shape) -> Result<Worked, AllocError> {
+    let mut row = begun(alloc, shape, three(alloc)?)?;
+    row.files.push(all_moved(alloc, 0, 3)?)?;
+    Ok(row)
 }
 
 /// Three transactions of one lane whose batches have two: the first two, and then the third.
-pub fn cut_in_two(alloc: Global, shape: Shape) -> Result<Worked, AllocError> {
-    let mut exit = new_ledger(alloc, shape, three(alloc)?.as_slice())?;
-    let first = [held(alloc, 0)?, held(alloc, 1)?];
-    whole_batch(alloc, &mut exit, batch(1), 1, &first)?;
-    let second = [held(alloc, 2)?];
-    whole_batch(alloc, &mut exit, batch(2), 8, &second)?;
-    three_moved(alloc, shape, exit)
+pub fn cut_in_two(alloc: Global, shape: &Shape) -> Result<Worked, AllocError> {
+    let mut row = of_three_coins(alloc, shape)?;
+    run_moved(alloc, &mut row.exit, &batch(1), 1, (0, 2))?;
+    run_moved(alloc, &mut row.exit, &batch(2), 8, (2, 3))?;
+    Ok(row)
 }
 
 /// Three transactions over two lanes whose batches have one: the first and the third on lane 0, the second on lane 1.
-pub fn lanes_in_turn(alloc: Global, shape: Shape) -> Result<Worked, AllocError> {
-    let mut exit = new_ledger(alloc, shape, three(alloc)?.as_slice())?;
-    let first = [held(alloc, 0)?];
-    whole_batch(alloc, &mut exit, batch(1), 1, &first)?;
-    let second = [held(alloc, 1)?];
+pub fn lanes_in_turn(alloc: Global, shape: &Shape) -> Result<Worked, AllocError> {
+    let mut row = of_three_coins(alloc, shape)?;
     let other = BatchId {
         lane: LaneId(1),
         number: 1,
     };
-    whole_batch(alloc, &mut exit, other, 8, &second)?;
-    let third = [held(alloc, 2)?];
-    whole_batch(alloc, &mut exit, batch(2), 15, &third)?;
-    three_moved(alloc, shape, exit)
+    run_moved(alloc, &mut row.exit, &batch(1), 1, (0, 1))?;
+    run_moved(alloc, &mut row.exit, &other, 8, (1, 2))?;
+    run_moved(alloc, &mut row.exit, &batch(2), 15, (2, 3))?;
+    Ok(row)
 }

@@ -1,10 +1,10 @@
 // Examples on one coordinator and two shards.
 use crate::batches::{
-    Ledger, Turn, commit, confirmed, discard, finish, lock, missing, new_ledger, prepare, whole_batch,
+    Fate, Ledger, Turn, batch, commit, discard, finish, lock, prepare, turns_of, whole_batch,
 };
 use crate::coins::{coin, one, output, pays, program, two};
-use crate::rows::{Worked, batch};
-use cbdc_types::{FullTx, Input, List, Shape};
+use crate::rows::{Worked, begun, take};
+use cbdc_types::{FullTx, Input, Shape};
 use compact_tx::compact;
 use identifiers::input_hash;
 use model_check::genesis_id;
@@ -49,42 +49,44 @@ pub fn unknown() -> Input {
     made_by_none(100)
 }
 
+// One that spends both coins.
+fn both(alloc: Global, x: &Input, y: &Input) -> Result<FullTx, AllocError> {
+    pays(alloc, two(alloc, *x, *y)?, one(alloc, output(2, 150))?)
+}
+
 /// One that spends a coin on the first shard and an unknown one on the second, and in a later file one that spends the first alone.
-pub fn unknown_input(alloc: Global, shape: Shape) -> Result<Worked, AllocError> {
+pub fn unknown_input(alloc: Global, shape: &Shape) -> Result<Worked, AllocError> {
     let (x, y) = (known(alloc)?, unknown());
-    let t = pays(alloc, two(alloc, x, y)?, one(alloc, output(2, 150))?)?;
-    let u = pays(alloc, one(alloc, x)?, one(alloc, output(3, 100))?)?;
-    let mint = one(alloc, x.output)?;
-    let entry = new_ledger(alloc, shape, mint.as_slice())?;
-    let mut exit = new_ledger(alloc, shape, mint.as_slice())?;
-    let first = [missing(compact(alloc, &t)?, 1, input_hash(&y))];
-    whole_batch(alloc, &mut exit, batch(1), 1, &first)?;
-    let second = [confirmed(compact(alloc, &u)?)];
-    whole_batch(alloc, &mut exit, batch(2), 8, &second)?;
-    let files = two(alloc, one(alloc, t)?, one(alloc, u)?)?;
-    Ok(Worked {
-        shape,
-        mint,
-        earlier: List::new(alloc),
-        files,
-        entry,
-        exit,
-    })
+    let lost = [Fate::Missing(1, input_hash(&y))];
+    let mut row = begun(alloc, shape, one(alloc, x.output)?)?;
+    take(alloc, &mut row, one(alloc, both(alloc, &x, &y)?)?, &lost)?;
+    take(
+        alloc,
+        &mut row,
+        one(alloc, paid(alloc, &x, 3)?)?,
+        &[Fate::Held],
+    )?;
+    Ok(row)
 }
 
 // The transaction of a coin to one of 100 of this program.
-fn paid(alloc: Global, spent: Input, number: u64) -> Result<FullTx, AllocError> {
-    pays(alloc, one(alloc, spent)?, one(alloc, output(number, 100))?)
+fn paid(alloc: Global, spent: &Input, number: u64) -> Result<FullTx, AllocError> {
+    pays(alloc, one(alloc, *spent)?, one(alloc, output(number, 100))?)
 }
 
 // Whether a transaction's outputs lie on this one of two shards.
 fn makes_on(alloc: Global, t: &FullTx, shard: u32) -> Result<bool, AllocError> {
     let k = compact(alloc, t)?;
-    Ok(k.outputs.as_slice().iter().all(|x| shard_of(x, 2) == shard))
+    for x in k.outputs.as_slice() {
+        if shard_of(x, 2) != shard {
+            return Ok(false);
+        }
+    }
+    Ok(true)
 }
 
 // The transaction of a coin to one of 100, of the least program with which that lies on the second shard.
-fn paid_across(alloc: Global, spent: Input) -> Result<FullTx, AllocError> {
+fn paid_across(alloc: Global, spent: &Input) -> Result<FullTx, AllocError> {
     for number in 0..100 {
         let t = paid(alloc, spent, number)?;
         if makes_on(alloc, &t, 1)? {
@@ -103,47 +105,40 @@ pub enum Stop {
     BehindDiscard,
 }
 
-// The records of a batch up to a stop.
-fn begin(
-    alloc: Global,
-    ledger: &mut Ledger,
-    stop: Stop,
-    turns: &[Turn],
-) -> Result<(), AllocError> {
-    prepare(alloc, ledger, batch(1), 1, turns)?;
-    if stop == Stop::BehindPrepare {
-        return Ok(());
-    }
-    lock(alloc, ledger, 0, batch(1), 2, turns)?;
-    if stop == Stop::BehindFirstLock {
-        return Ok(());
-    }
-    lock(alloc, ledger, 1, batch(1), 2, turns)?;
-    commit(alloc, ledger, batch(1), 3, turns)?;
-    finish(alloc, ledger, 0, batch(1), 4, turns)?;
+// The records of a batch behind its first Lock, up to a stop.
+fn go_on(alloc: Global, ledger: &mut Ledger, stop: Stop, turns: &[Turn]) -> Result<(), AllocError> {
+    let own = batch(1);
+    lock(alloc, ledger, 1, &own, 2, turns)?;
+    commit(alloc, ledger, &own, 3, turns)?;
+    finish(alloc, ledger, 0, &own, 4, turns)?;
     if stop == Stop::BehindFirstFinish {
         return Ok(());
     }
-    finish(alloc, ledger, 1, batch(1), 4, turns)?;
-    discard(ledger, batch(1), 5)
+    finish(alloc, ledger, 1, &own, 4, turns)?;
+    discard(ledger, &own, 5)
+}
+
+// The records of a batch up to a stop.
+fn begin(alloc: Global, ledger: &mut Ledger, stop: Stop, turns: &[Turn]) -> Result<(), AllocError> {
+    let own = batch(1);
+    prepare(alloc, ledger, &own, 1, turns)?;
+    if stop == Stop::BehindPrepare {
+        return Ok(());
+    }
+    lock(alloc, ledger, 0, &own, 2, turns)?;
+    if stop == Stop::BehindFirstLock {
+        return Ok(());
+    }
+    go_on(alloc, ledger, stop, turns)
 }
 
 /// A transaction of a coin on the first shard to one on the second, whose batch was stopped before entry and is done at exit.
-pub fn stopped(alloc: Global, shape: Shape, stop: Stop) -> Result<Worked, AllocError> {
+pub fn stopped(alloc: Global, shape: &Shape, stop: Stop) -> Result<Worked, AllocError> {
     let x = known(alloc)?;
-    let t = paid_across(alloc, x)?;
-    let turns = [confirmed(compact(alloc, &t)?)];
-    let mint = one(alloc, x.output)?;
-    let mut entry = new_ledger(alloc, shape, mint.as_slice())?;
-    begin(alloc, &mut entry, stop, &turns)?;
-    let mut exit = new_ledger(alloc, shape, mint.as_slice())?;
-    whole_batch(alloc, &mut exit, batch(1), 1, &turns)?;
-    Ok(Worked {
-        shape,
-        mint,
-        earlier: one(alloc, t)?,
-        files: List::new(alloc),
-        entry,
-        exit,
-    })
+    let mut row = begun(alloc, shape, one(alloc, x.output)?)?;
+    row.earlier.push(paid_across(alloc, &x)?)?;
+    let turns = turns_of(alloc, row.earlier.as_slice(), &[Fate::Held])?;
+    begin(alloc, &mut row.entry, stop, turns.as_slice())?;
+    whole_batch(alloc, &mut row.exit, &batch(1), 1, turns.as_slice())?;
+    Ok(row)
 }
