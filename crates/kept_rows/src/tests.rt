@@ -2,3 +2,5 @@ mod changed;
 mod judging;
 mod kept;
 mod others;
+mod taking;
+mod waves;

@@ -1,22 +1,13 @@
 // Ledgers of which one record differs from what the rules say are not kept.
 use super::judging::{is_alike, is_kept, plain, two_shards};
-use cbdc_types::{
-    Answered, BatchId, Hash, Header, LaneId, List, NodeId, Outcome, Record, Reply, Stamp,
-};
+use cbdc_types::{Answered, Hash, Header, List, NodeId, Outcome, Record, Reply, Stamp};
 use compact_tx::compact;
 use model_check::{copy_of_entry, copy_of_record, genesis_id};
 use std::test::Fail;
 use worked_ledgers::{
-    Worked, one, one_transaction, two_spenders, two_spenders_apart, unknown, unknown_input, whole,
+    Worked, batch, one, one_transaction, two_spenders, two_spenders_apart, unknown, unknown_input,
+    whole,
 };
-
-// The batch of lane 0 with this number.
-fn batch(number: u64) -> BatchId {
-    BatchId {
-        lane: LaneId(0),
-        number,
-    }
-}
 
 // Puts a record in place of another.
 fn put(records: &mut Vec<Record>, place: usize, record: Record) {
@@ -38,7 +29,9 @@ fn stamped(rt: &HostRuntime, stamp: u64, record: &Record) -> Result<Record, Fail
             entries,
         },
         Record::Finish {
-            batch, decisions, ..
+            batch,
+            decisions,
+            ..
         } => Record::Finish {
             stamp,
             batch,
@@ -47,7 +40,9 @@ fn stamped(rt: &HostRuntime, stamp: u64, record: &Record) -> Result<Record, Fail
         Record::Forget { batch, .. } => Record::Forget { stamp, batch },
         Record::Prepare { batch, txs, .. } => Record::Prepare { stamp, batch, txs },
         Record::Commit {
-            batch, outcomes, ..
+            batch,
+            outcomes,
+            ..
         } => Record::Commit {
             stamp,
             batch,
@@ -98,7 +93,7 @@ fn reply_again(rt: &HostRuntime, row: &mut Worked, reply: Reply) -> Result<(), F
 }
 
 fn payment(rt: &HostRuntime) -> Result<Worked, Fail> {
-    Ok(one_transaction(rt.alloc(), plain()?)?)
+    Ok(one_transaction(rt.alloc(), &plain()?)?)
 }
 
 // Whether the payment is kept where its exit has this record at a place of the coordinator's journal.
@@ -121,7 +116,15 @@ fn is_kept_at(rt: &HostRuntime, node: u32, place: usize, stamp: u64) -> Result<b
 
 #[test]
 fn the_stamps_of_the_rules(rt: HostRuntime) -> Result<(), Fail> {
-    for (node, place, stamp) in [(0, 1, 1), (1, 1, 2), (0, 2, 3), (1, 2, 4), (0, 3, 5), (1, 3, 6), (0, 4, 7)] {
+    for (node, place, stamp) in [
+        (0, 1, 1),
+        (1, 1, 2),
+        (0, 2, 3),
+        (1, 2, 4),
+        (0, 3, 5),
+        (1, 3, 6),
+        (0, 4, 7),
+    ] {
         assert!(rt; is_kept_at(&rt, node, place, stamp)?);
     }
     Ok(())
@@ -129,7 +132,15 @@ fn the_stamps_of_the_rules(rt: HostRuntime) -> Result<(), Fail> {
 
 #[test]
 fn stamps_that_are_one_more(rt: HostRuntime) -> Result<(), Fail> {
-    for (node, place, stamp) in [(0, 1, 2), (1, 1, 3), (0, 2, 4), (1, 2, 5), (0, 3, 6), (1, 3, 7), (0, 4, 8)] {
+    for (node, place, stamp) in [
+        (0, 1, 2),
+        (1, 1, 3),
+        (0, 2, 4),
+        (1, 2, 5),
+        (0, 3, 6),
+        (1, 3, 7),
+        (0, 4, 8),
+    ] {
         assert!(rt; !is_kept_at(&rt, node, place, stamp)?);
     }
     Ok(())
@@ -169,7 +180,7 @@ fn a_start_of_another_mint(rt: HostRuntime) -> Result<(), Fail> {
 
 #[test]
 fn a_genesis_without_the_coin(rt: HostRuntime) -> Result<(), Fail> {
-    let mut row = one_transaction(rt.alloc(), plain()?)?;
+    let mut row = one_transaction(rt.alloc(), &plain()?)?;
     let genesis = genesis_id(rt.alloc(), row.mint.as_slice())?;
     let bare = Record::Genesis {
         header: header(1, genesis)?,
@@ -260,7 +271,7 @@ fn a_shard_from_before_the_run(rt: HostRuntime) -> Result<(), Fail> {
 
 #[test]
 fn a_second_spender_that_is_held(rt: HostRuntime) -> Result<(), Fail> {
-    let mut row = two_spenders(rt.alloc(), plain()?)?;
+    let mut row = two_spenders(rt.alloc(), &plain()?)?;
     reply_again(&rt, &mut row, Reply::Held)?;
     assert!(rt; !is_kept(&rt, &row, &row.exit)?);
     Ok(())
@@ -268,7 +279,7 @@ fn a_second_spender_that_is_held(rt: HostRuntime) -> Result<(), Fail> {
 
 #[test]
 fn a_commit_by_the_first_shard_alone(rt: HostRuntime) -> Result<(), Fail> {
-    let mut row = unknown_input(rt.alloc(), two_shards()?)?;
+    let mut row = unknown_input(rt.alloc(), &two_shards()?)?;
     let other = Record::Commit {
         stamp: Stamp(3),
         batch: batch(1),
@@ -281,7 +292,7 @@ fn a_commit_by_the_first_shard_alone(rt: HostRuntime) -> Result<(), Fail> {
 
 #[test]
 fn a_batch_with_the_number_of_the_one_after_it(rt: HostRuntime) -> Result<(), Fail> {
-    let mut row = two_spenders_apart(rt.alloc(), plain()?)?;
+    let mut row = two_spenders_apart(rt.alloc(), &plain()?)?;
     let t = whole(rt.alloc())?;
     let third = Record::Prepare {
         stamp: Stamp(8),

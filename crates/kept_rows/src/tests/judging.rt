@@ -1,10 +1,8 @@
-// What the plain programs say of a worked ledger.
+// What the plain program says of a worked ledger.
 use cbdc_types::{FullTx, List, Shape};
 use kept_check::{are_alike, is_clean, is_kept_ledger};
 use model_check::copy_of_full;
 use std::test::Fail;
-use verifier_port::AllGood;
-use wave_check::are_waves;
 use worked_ledgers::{Ledger, Worked, journals};
 
 /// One coordinator with one lane, one shard, and batches of 16.
@@ -58,38 +56,12 @@ pub(crate) fn is_alike(rt: &HostRuntime, ledger: &Ledger) -> Result<bool, Fail> 
     Ok(are_alike(all.as_slice(), &ledger.shape))
 }
 
-/// Whether a run from one ledger to another took the files of a row in waves, where every witness is good.
-pub(crate) fn ran(
-    rt: &HostRuntime,
-    row: &Worked,
-    entry: &Ledger,
-    exit: &Ledger,
-) -> Result<bool, Fail> {
-    let before = journals(rt.alloc(), entry)?;
-    let behind = journals(rt.alloc(), exit)?;
-    let waves = are_waves(
-        rt.alloc(),
-        &row.shape,
-        &AllGood,
-        row.files.as_slice(),
-        before.as_slice(),
-        behind.as_slice(),
-    )?;
-    Ok(waves)
-}
-
-/// Whether a row took its files in waves.
-pub(crate) fn took(rt: &HostRuntime, row: &Worked) -> Result<bool, Fail> {
-    ran(rt, row, &row.entry, &row.exit)
-}
-
-/// Whether a row is clean, kept before and behind its run, finished alike behind it, and took its files in waves.
+/// Whether a row is clean, kept before and behind its run, and finished alike behind it.
 pub(crate) fn is_right(rt: &HostRuntime, row: &Worked) -> Result<bool, Fail> {
     Ok(
         are_clean(rt, row)?
             && is_kept(rt, row, &row.entry)?
             && is_kept(rt, row, &row.exit)?
-            && is_alike(rt, &row.exit)?
-            && took(rt, row)?,
+            && is_alike(rt, &row.exit)?,
     )
 }

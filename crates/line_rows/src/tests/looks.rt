@@ -21,7 +21,12 @@ fn is_text(printed: Option<Vec<u8>>, text: &str) -> bool {
 #[test]
 fn a_new_ledger(rt: HostRuntime) -> Result<(), Fail> {
     let text = format!(in rt.alloc(); "coins 1\nminted 100\ngenesis {GENESIS}\n")?;
-    assert!(rt; is_text(init_text(rt.alloc(), mint(rt.alloc())?.as_slice()), text.as_str()));
+    assert!(rt;
+        is_text(
+            init_text(rt.alloc(), mint(rt.alloc())?.as_slice()),
+            text.as_str()
+        )
+    );
     Ok(())
 }
 
@@ -42,7 +47,7 @@ fn looked(rt: &HostRuntime, ledger: &Ledger, hashes: &[Hash]) -> Result<Option<V
 
 #[test]
 fn what_is_known_of_hashes(rt: HostRuntime) -> Result<(), Fail> {
-    let row = one_transaction(rt.alloc(), Shape::new(1, 1, 1, 16)?)?;
+    let row = one_transaction(rt.alloc(), &Shape::new(1, 1, 1, 16)?)?;
     let t = split(rt.alloc())?;
     let made = coins_of(rt.alloc(), &t)?;
     let mut hashes = Vec::new(rt.alloc());
@@ -52,8 +57,7 @@ fn what_is_known_of_hashes(rt: HostRuntime) -> Result<(), Fail> {
     for coin in t.inputs.as_slice() {
         hashes.push(input_hash(coin))?;
     }
-    let text =
-        format!(in rt.alloc(); "{SIXTY} unspent\n{FORTY} unspent\n{COIN} absent\n")?;
+    let text = format!(in rt.alloc(); "{SIXTY} unspent\n{FORTY} unspent\n{COIN} absent\n")?;
     assert!(rt; is_text(looked(&rt, &row.exit, hashes.as_slice())?, text.as_str()));
     Ok(())
 }
@@ -61,7 +65,7 @@ fn what_is_known_of_hashes(rt: HostRuntime) -> Result<(), Fail> {
 // Behind the Lock of the first shard its coin is locked for the batch, and the batch's output is not there yet.
 #[test]
 fn what_is_known_of_a_locked_coin(rt: HostRuntime) -> Result<(), Fail> {
-    let row = stopped(rt.alloc(), Shape::new(2, 1, 1, 16)?, Stop::BehindFirstLock)?;
+    let row = stopped(rt.alloc(), &Shape::new(2, 1, 1, 16)?, Stop::BehindFirstLock)?;
     let mut hashes = Vec::new(rt.alloc());
     hashes.push(input_hash(&known(rt.alloc())?))?;
     for t in row.earlier.as_slice() {

@@ -18,7 +18,7 @@ fn text_of(rt: &HostRuntime, entry: &Ledger, exit: &Ledger) -> Result<Vec<u8>, F
 }
 
 fn row(rt: &HostRuntime, stop: Stop) -> Result<Worked, Fail> {
-    Ok(stopped(rt.alloc(), Shape::new(2, 1, 1, 16)?, stop)?)
+    Ok(stopped(rt.alloc(), &Shape::new(2, 1, 1, 16)?, stop)?)
 }
 
 // Whether this is printed of a recovery behind a stop.

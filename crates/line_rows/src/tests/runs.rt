@@ -33,7 +33,7 @@ fn plain() -> Result<Shape, Fail> {
 
 #[test]
 fn one_coin_becomes_two(rt: HostRuntime) -> Result<(), Fail> {
-    let row = one_transaction(rt.alloc(), plain()?)?;
+    let row = one_transaction(rt.alloc(), &plain()?)?;
     let text = format!(in rt.alloc();
         "1 0 {SPLIT} confirmed 0 1\nresumed 0\nbatches 1\nconfirmed 1\nrejected 0\nrefused 0\nunspent 2\n"
     )?;
@@ -43,7 +43,7 @@ fn one_coin_becomes_two(rt: HostRuntime) -> Result<(), Fail> {
 
 #[test]
 fn an_empty_client_file(rt: HostRuntime) -> Result<(), Fail> {
-    let row = an_empty_file(rt.alloc(), plain()?)?;
+    let row = an_empty_file(rt.alloc(), &plain()?)?;
     let text = "resumed 0\nbatches 0\nconfirmed 0\nrejected 0\nrefused 0\nunspent 1\n";
     assert_eq!(rt; text_of(&rt, &row)?.as_slice(), text.as_bytes());
     Ok(())
@@ -51,7 +51,7 @@ fn an_empty_client_file(rt: HostRuntime) -> Result<(), Fail> {
 
 #[test]
 fn two_spenders_in_one_file(rt: HostRuntime) -> Result<(), Fail> {
-    let row = two_spenders(rt.alloc(), plain()?)?;
+    let row = two_spenders(rt.alloc(), &plain()?)?;
     let text = format!(in rt.alloc();
         "1 0 {SPLIT} confirmed 0 1\n1 1 {WHOLE} rejected locked {COIN} 0 0 1 by 0 1\nresumed 0\nbatches 1\nconfirmed 1\nrejected 1\nrefused 0\nunspent 2\n"
     )?;
@@ -61,7 +61,7 @@ fn two_spenders_in_one_file(rt: HostRuntime) -> Result<(), Fail> {
 
 #[test]
 fn two_spenders_in_two_files(rt: HostRuntime) -> Result<(), Fail> {
-    let row = two_spenders_apart(rt.alloc(), plain()?)?;
+    let row = two_spenders_apart(rt.alloc(), &plain()?)?;
     let text = format!(in rt.alloc();
         "1 0 {SPLIT} confirmed 0 1\n2 0 {WHOLE} rejected missing {COIN} 0 0 2\nresumed 0\nbatches 2\nconfirmed 1\nrejected 1\nrefused 0\nunspent 2\n"
     )?;
@@ -71,7 +71,7 @@ fn two_spenders_in_two_files(rt: HostRuntime) -> Result<(), Fail> {
 
 #[test]
 fn an_unknown_input_on_another_shard(rt: HostRuntime) -> Result<(), Fail> {
-    let row = unknown_input(rt.alloc(), Shape::new(2, 1, 1, 16)?)?;
+    let row = unknown_input(rt.alloc(), &Shape::new(2, 1, 1, 16)?)?;
     let text = format!(in rt.alloc();
         "1 0 {BOTH} rejected missing {UNKNOWN} 1 0 1\n2 0 {ALONE} confirmed 0 2\nresumed 0\nbatches 2\nconfirmed 1\nrejected 1\nrefused 0\nunspent 1\n"
     )?;
@@ -81,7 +81,7 @@ fn an_unknown_input_on_another_shard(rt: HostRuntime) -> Result<(), Fail> {
 
 #[test]
 fn an_output_spent_in_its_batch_and_later(rt: HostRuntime) -> Result<(), Fail> {
-    let row = spent_in_its_batch(rt.alloc(), plain()?)?;
+    let row = spent_in_its_batch(rt.alloc(), &plain()?)?;
     let text = format!(in rt.alloc();
         "1 0 {SPLIT} confirmed 0 1\n1 1 {SPEND} rejected missing {SIXTY} 0 0 1\n2 0 {SPEND} confirmed 0 2\nresumed 0\nbatches 2\nconfirmed 2\nrejected 1\nrefused 0\nunspent 2\n"
     )?;
@@ -91,7 +91,7 @@ fn an_output_spent_in_its_batch_and_later(rt: HostRuntime) -> Result<(), Fail> {
 
 #[test]
 fn a_coin_claimed_with_another_value(rt: HostRuntime) -> Result<(), Fail> {
-    let row = another_value(rt.alloc(), plain()?)?;
+    let row = another_value(rt.alloc(), &plain()?)?;
     let text = format!(in rt.alloc();
         "1 0 {GREATER} rejected missing {CLAIMED} 0 0 1\nresumed 0\nbatches 1\nconfirmed 0\nrejected 1\nrefused 0\nunspent 1\n"
     )?;
@@ -101,7 +101,7 @@ fn a_coin_claimed_with_another_value(rt: HostRuntime) -> Result<(), Fail> {
 
 #[test]
 fn the_same_transaction_in_two_files(rt: HostRuntime) -> Result<(), Fail> {
-    let row = the_same_twice(rt.alloc(), plain()?)?;
+    let row = the_same_twice(rt.alloc(), &plain()?)?;
     let text = format!(in rt.alloc();
         "1 0 {SPLIT} confirmed 0 1\n2 0 {SPLIT} rejected missing {COIN} 0 0 2\nresumed 0\nbatches 2\nconfirmed 1\nrejected 1\nrefused 0\nunspent 2\n"
     )?;
@@ -111,7 +111,7 @@ fn the_same_transaction_in_two_files(rt: HostRuntime) -> Result<(), Fail> {
 
 #[test]
 fn a_refused_one_before_a_sound_one(rt: HostRuntime) -> Result<(), Fail> {
-    let row = refused_between(rt.alloc(), plain()?)?;
+    let row = refused_between(rt.alloc(), &plain()?)?;
     let text = format!(in rt.alloc();
         "1 0 {MORE} refused unbalanced 100 101\n1 1 {SPLIT} confirmed 0 1\nresumed 0\nbatches 1\nconfirmed 1\nrejected 0\nrefused 1\nunspent 2\n"
     )?;
@@ -121,7 +121,7 @@ fn a_refused_one_before_a_sound_one(rt: HostRuntime) -> Result<(), Fail> {
 
 #[test]
 fn three_over_two_lanes(rt: HostRuntime) -> Result<(), Fail> {
-    let row = lanes_in_turn(rt.alloc(), Shape::new(1, 1, 2, 1)?)?;
+    let row = lanes_in_turn(rt.alloc(), &Shape::new(1, 1, 2, 1)?)?;
     let [first, second, third] = MOVED;
     let text = format!(in rt.alloc();
         "1 0 {first} confirmed 0 1\n1 1 {second} confirmed 1 1\n1 2 {third} confirmed 0 2\nresumed 0\nbatches 3\nconfirmed 3\nrejected 0\nrefused 0\nunspent 3\n"
@@ -133,8 +133,8 @@ fn three_over_two_lanes(rt: HostRuntime) -> Result<(), Fail> {
 /// A sound submission whose batch the journals do not have has no line.
 #[test]
 fn an_undecided_submission(rt: HostRuntime) -> Result<(), Fail> {
-    let mut row = one_transaction(rt.alloc(), plain()?)?;
-    let Worked { entry, .. } = one_transaction(rt.alloc(), plain()?)?;
+    let mut row = one_transaction(rt.alloc(), &plain()?)?;
+    let Worked { entry, .. } = one_transaction(rt.alloc(), &plain()?)?;
     row.exit = entry;
     assert!(rt; text_of(&rt, &row)?.is_empty());
     Ok(())
