@@ -1,5 +1,5 @@
 -- A list is cut into pieces in one way.
-use Rattle.std.proofs.Common.{◌≡◌, ◌⊎◌, ◌↔◌, Bool, inl, inr, ℕ, ◌<◌, List, [], ◌∷◌, ◌++◌, zero, suc, ◌≤◌, min, take, drop, length, reverse, refl, sym, ap, ◌∙◌, subst, arith, append-nil, append_assoc}
+use Rattle.std.proofs.Common.{◌≡◌, ◌↔◌, Bool, inl, inr, ℕ, ◌<◌, List, [], ◌∷◌, ◌++◌, zero, suc, ◌≤◌, min, take, drop, length, reverse, refl, sym, ap, ◌∙◌, subst, arith, append-nil, append_assoc}
 use Rattle.std.proofs.lemmas.Bool.{cases_lt}
 use Rattle.std.proofs.lemmas.Grind.{common_steps}
 use Rattle.std.proofs.lemmas.List.{take_min}
@@ -29,11 +29,16 @@ cut_once n xs (a ∷ ps) (b ∷ qs) p q =
 pub prepared_by : (K : Shape) (lane n : ℕ) (sent : List Compact) (old new : List Record) (pieces found wanted : List (List Compact)) (told : Bool) → n ≡ K.batch → IsCut n sent pieces
     → found ≡ prepared lane new → wanted ≡ reverse pieces ++ prepared lane old → (IsTrue told ↔ (found ≡ wanted)) → IsTrue told ↔ IsPrepared K lane sent old new
 prepared_by K lane n sent old new pieces found wanted told size cut f w h =
-    let own : IsCut K.batch sent pieces = subst (λ k. IsCut k sent pieces) size cut in
-    (
+    let own : IsCut K.batch sent pieces = subst (λ k. IsCut k sent pieces) size cut in (
       λ t. (pieces, own, sym f ∙ h.0 t ∙ w),
       λ p. h.1 (f ∙ p.2 ∙ ap (λ l. reverse l ++ prepared lane old) (cut_once K.batch sent p.0 pieces p.1 own) ∙ sym w),
     )
+
+-- the same of lists that are the same
+pub prepared_alike : (K : Shape) (lane : ℕ) (sent sent' : List Compact) (old old' new new' : List Record) → sent ≡ sent' → old ≡ old' → new ≡ new'
+    → IsPrepared K lane sent old new → IsPrepared K lane sent' old' new'
+prepared_alike K lane sent sent' old old' new new' s o n h =
+    subst (λ l. IsPrepared K lane sent' old' l) n (subst (λ l. IsPrepared K lane sent' l new) o (subst (λ l. IsPrepared K lane l old new) s h))
 
 -- one piece after another
 pub no_pieces : (n : ℕ) (txs : List Compact) (old : List (List Compact)) → txs ≡ [] → AddsPieces n txs old old
@@ -68,5 +73,6 @@ back_is n k txs rest e f = elim (cases_lt n (length txs)) [
   where
     small : n < length txs → min n (length txs) ≡ n
     small lt = omega arith
+
     large : length txs ≤ n → min n (length txs) ≡ length txs
     large le = omega arith

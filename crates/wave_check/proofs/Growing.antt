@@ -1,11 +1,10 @@
 -- A journal that has grown by records of some batches, by its newer records.
-use Rattle.std.proofs.Common.{◌≡◌, ◌⊎◌, inl, inr, ◌↔◌, ℕ, Bool, false, suc, ◌+◌, ◌<◌, ◌≤◌, List, [], ◌∷◌, ◌++◌, take, drop, length, length-append, refl, sym, ap, ◌∙◌, subst, arith, rules, append_assoc}
+use Rattle.std.proofs.Common.{◌≡◌, inl, inr, ◌↔◌, ℕ, Bool, false, ◌+◌, ◌<◌, ◌≤◌, List, [], ◌∷◌, ◌++◌, take, drop, length, length-append, refl, sym, ap, ◌∙◌, subst, arith, rules, append_assoc}
 use Rattle.std.proofs.lemmas.Bool.{cases_lt}
 use Rattle.std.proofs.lemmas.List.{append_cancel_right, take_at, drop_at, take-append-drop, get_or_past}
 use Rattle.std.specs.Prelude.{IsTrue}
 use Rattle.std.specs.List.{AllByRecursion}
 use Rattle.cbdc_model.specs.Records.{Batch, Record}
-use Rattle.cbdc_model.specs.Lanes.{IsEnd}
 use Rattle.cbdc_model.specs.Waves.{Adds}
 use Rattle.model_check.specs.Journals.{journals_in}
 use Rattle.wave_check.specs.Adding.{IsNew, Grows}
@@ -18,9 +17,9 @@ pub grown : (of : Batch → Type 0) (newer old : List Record) → AllByRecursion
 grown of newer old all = record {
   grows = (newer, refl);
   each = λ more rest r e h.
-    let same : newer ≡ more ++ r ∷ h.0 =
-        append_cancel_right newer (more ++ r ∷ h.0) old (e ∙ ap (λ L. more ++ r ∷ L) h.1 ∙ sym (append_assoc more (r ∷ h.0) old)) in
-    middle (IsNew of) more h.0 r (subst (AllByRecursion (IsNew of)) same all);
+      let same : newer ≡ more ++ r ∷ h.0 =
+      append_cancel_right newer (more ++ r ∷ h.0) old (e ∙ ap (λ L. more ++ r ∷ L) h.1 ∙ sym (append_assoc more (r ∷ h.0) old)) in
+      middle (IsNew of) more h.0 r (subst (AllByRecursion (IsNew of)) same all);
 }
 
 each_new : (of : Batch → Type 0) (newer old : List Record) → Grows of old (newer ++ old) → AllByRecursion (IsNew of) newer
@@ -65,6 +64,7 @@ cut_at old new newer rest k e f l = record { joined = sym (take-append-drop k ne
   where
     e' : take k new ≡ newer
     e' = sym e
+
     f' : drop k new ≡ rest
     f' = sym f
 

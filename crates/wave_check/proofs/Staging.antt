@@ -1,13 +1,13 @@
 -- Stages one after another are the waves of files, and what they lead through is among the choices.
-use Rattle.std.proofs.Common.{◌≡◌, ◌↔◌, ℕ, ◌*◌, ◌<◌, ◌+◌, Bool, true, false, List, [], ◌∷◌, ◌++◌, length, slice_index_or, reverse, refl, sym, ap, ◌∙◌, subst, arith, rules, append-nil, append_assoc}
+use Rattle.std.proofs.Common.{◌≡◌, ◌↔◌, ℕ, ◌*◌, ◌<◌, Bool, true, false, List, [], ◌∷◌, ◌++◌, length, slice_index_or, reverse, sym, ap, ◌∙◌, subst, rules, append-nil, append_assoc}
 use Rattle.std.specs.Prelude.{IsTrue}
 use Rattle.cbdc_model.specs.Records.{Shape, Compact, Record}
 use Rattle.cbdc_model.specs.Ranges.{home_of}
 use Rattle.cbdc_model.specs.Coins.{FullTx}
 use Rattle.cbdc_model.specs.World.{AreIdle}
 use Rattle.cbdc_model.specs.Lanes.{IsEnd}
-use Rattle.cbdc_model.specs.Waves.{Adds, IsCut, prepared, sent_to, IsResumed, IsFileRun, AreFilesRun, Waves}
-use Rattle.ledger_laws.proofs.Cuts.{end_self, end_trans}
+use Rattle.cbdc_model.specs.Waves.{Adds, IsCut, prepared, sent_to, IsFileRun, AreFilesRun, Waves}
+use Rattle.ledger_laws.proofs.Cuts.{end_trans}
 use Rattle.model_check.specs.Journals.{journals_in}
 use Rattle.wave_check.specs.declared.stages.Stage.{Stage}
 use Rattle.wave_check.specs.declared.stages.Stage.TheVariants.{Resume, File}
@@ -122,8 +122,8 @@ pub runs_not : (K : Shape) (stages : List Stage) (s : Stage) (rest : List Stage)
 runs_not K stages s rest I all worlds e f none = subst (λ l. IsTrue false ↔ RunsBy K l I (journals_in all)) (sym e) (
   λ t. absurd (no_lie t),
   λ runs.
-    let here : Through K s rest I all = through K s rest I all runs in
-    let never : (k : ℕ) → k < length (choices all) → Leads K s rest I (journals_in all) (slice_index_or (choices all) k []) → ⊥ =
-        subst (λ l. (k : ℕ) → k < length l → Leads K s rest I (journals_in all) (slice_index_or l k []) → ⊥) f none in
-    absurd (never here.place here.inside here.leads),
+      let here : Through K s rest I all = through K s rest I all runs in
+      let never : (k : ℕ) → k < length (choices all) → Leads K s rest I (journals_in all) (slice_index_or (choices all) k []) → ⊥ =
+      subst (λ l. (k : ℕ) → k < length l → Leads K s rest I (journals_in all) (slice_index_or l k []) → ⊥) f none in
+      absurd (never here.place here.inside here.leads),
 )

@@ -10,11 +10,7 @@ use same_records::is_journal;
 use std::alloc::{AllocError, Global};
 
 // Puts copies of records behind those so far.
-fn add_records(
-    alloc: Global,
-    past: &[Record],
-    out: &mut Vec<Record>,
-) -> Result<(), AllocError>
+fn add_records(alloc: Global, past: &[Record], out: &mut Vec<Record>) -> Result<(), AllocError>
     ensures { OnOk result (out.new.items ≡ out.old.items ++ past.now) }
 {
     let Some((r, rest)) = past.split_first() else {
@@ -34,11 +30,7 @@ fn copy_of_journal(alloc: Global, past: &[Record]) -> Result<List<Record>, Alloc
 }
 
 // Puts a journal and what it was before each of its records behind those so far.
-fn add_ends(
-    alloc: Global,
-    past: &[Record],
-    out: &mut Vec<List<Record>>,
-) -> Result<(), AllocError>
+fn add_ends(alloc: Global, past: &[Record], out: &mut Vec<List<Record>>) -> Result<(), AllocError>
     ensures { OnOk result (out.new.items ≡ out.old.items ++ ends_of past.now) }
 {
     out.push(copy_of_journal(alloc, past)?)?;

@@ -1,5 +1,4 @@
-use Rattle.std.proofs.Common.{◌≡◌, ◌↔◌, sym, subst}
-use Rattle.std.proofs.lemmas.Result.{IfOk-weaker}
+use Rattle.std.proofs.Common.{◌↔◌, sym, subst}
 use Rattle.std.specs.Prelude.{IsTrue, IfOk}
 use Rattle.cbdc_model.specs.Waves.{IsFileRun}
 use Rattle.model_check.specs.Journals.{journals_in}
