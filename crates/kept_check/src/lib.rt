@@ -9,8 +9,6 @@ mod clean;
 mod kept;
 mod ledgers;
 mod proper;
-#[cfg(test)]
-mod tests;
 
 pub use agreeing::{agree, coins_agree};
 pub use alikes::{are_alike, count_of, is_alike};

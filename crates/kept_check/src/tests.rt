@@ -1,2 +1,0 @@
-mod making;
-mod rows;
