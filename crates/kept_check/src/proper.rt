@@ -113,7 +113,7 @@ pub fn is_proper(t: &FullTx) -> bool
         && ins == outs
 }
 
-// Whether a transaction is proper, and this is its form, which is given.
+// Whether a transaction is proper and its compact form, which is given, is this one.
 fn is_form(t: &FullTx, own: &CompactTx, k: &CompactTx) -> bool
     ensures { IsTrue result ↔ (IsProper t.now × (own.now ≡ k.now)) }
 {

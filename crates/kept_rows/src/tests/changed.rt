@@ -67,24 +67,43 @@ fn restamp(
     Ok(())
 }
 
-// A Lock of the same entries, each with this reply.
-fn replied(rt: &HostRuntime, record: &Record, reply: Reply) -> Result<Record, Fail> {
-    let mut all = List::new(rt.alloc());
-    if let Record::Lock { entries, .. } = record {
-        for a in entries.as_slice() {
-            let entry = copy_of_entry(rt.alloc(), &a.entry)?;
-            all.push(Answered { entry, reply })?;
-        }
+// The entries of a Lock, none of another record.
+fn entries_of<'a>(record: &'a Record) -> &'a [Answered] {
+    match record {
+        Record::Lock { entries, .. } => entries.as_slice(),
+        _ => &[],
     }
+}
+
+// These entries, each with this reply.
+fn all_replied(
+    rt: &HostRuntime,
+    entries: &[Answered],
+    reply: &Reply,
+) -> Result<List<Answered>, Fail> {
+    let mut all = List::new(rt.alloc());
+    for a in entries {
+        let entry = copy_of_entry(rt.alloc(), &a.entry)?;
+        all.push(Answered {
+            entry,
+            reply: *reply,
+        })?;
+    }
+    Ok(all)
+}
+
+// A Lock of the same entries, each with this reply.
+fn replied(rt: &HostRuntime, record: &Record, reply: &Reply) -> Result<Record, Fail> {
+    let entries = all_replied(rt, entries_of(record), reply)?;
     Ok(Record::Lock {
         stamp: Stamp(2),
         batch: batch(1),
-        entries: all,
+        entries,
     })
 }
 
 // Gives the entries of the first shard's first Lock this reply.
-fn reply_again(rt: &HostRuntime, row: &mut Worked, reply: Reply) -> Result<(), Fail> {
+fn reply_again(rt: &HostRuntime, row: &mut Worked, reply: &Reply) -> Result<(), Fail> {
     if let Some(there) = row.exit.first.get(1) {
         let changed = replied(rt, there, reply)?;
         put(&mut row.exit.first, 1, changed);
@@ -227,9 +246,9 @@ fn spent(rt: &HostRuntime) -> Result<Hash, Fail> {
 #[test]
 fn a_lock_that_misses_the_coin(rt: HostRuntime) -> Result<(), Fail> {
     let mut row = payment(&rt)?;
-    reply_again(&rt, &mut row, Reply::Held)?;
+    reply_again(&rt, &mut row, &Reply::Held)?;
     assert!(rt; is_kept(&rt, &row, &row.exit)?);
-    reply_again(&rt, &mut row, Reply::Missing(spent(&rt)?))?;
+    reply_again(&rt, &mut row, &Reply::Missing(spent(&rt)?))?;
     assert!(rt; !is_kept(&rt, &row, &row.exit)?);
     Ok(())
 }
@@ -272,7 +291,7 @@ fn a_shard_from_before_the_run(rt: HostRuntime) -> Result<(), Fail> {
 #[test]
 fn a_second_spender_that_is_held(rt: HostRuntime) -> Result<(), Fail> {
     let mut row = two_spenders(rt.alloc(), &plain()?)?;
-    reply_again(&rt, &mut row, Reply::Held)?;
+    reply_again(&rt, &mut row, &Reply::Held)?;
     assert!(rt; !is_kept(&rt, &row, &row.exit)?);
     Ok(())
 }
