@@ -83,33 +83,53 @@ fn minted(alloc: Global, value: u64) -> Result<Hash, AllocError> {
     Ok(input_hash(&coin(id, 0, output(1, value))))
 }
 
+// Adds its file.
+fn add_one_transaction(alloc: Global, row: &mut Worked) -> Result<(), AllocError> {
+    take_one(alloc, row, split(alloc)?, Fate::Held)
+}
+
 /// The coin to 60 and 40.
 pub fn one_transaction(alloc: Global, shape: &Shape) -> Result<Worked, AllocError> {
     let mut row = of_one_coin(alloc, shape)?;
-    take_one(alloc, &mut row, split(alloc)?, Fate::Held)?;
+    add_one_transaction(alloc, &mut row)?;
     Ok(row)
+}
+
+// Adds its file.
+fn add_an_empty_file(alloc: Global, row: &mut Worked) -> Result<(), AllocError> {
+    take(alloc, row, List::new(alloc), &[])
 }
 
 /// A client file without transactions.
 pub fn an_empty_file(alloc: Global, shape: &Shape) -> Result<Worked, AllocError> {
     let mut row = of_one_coin(alloc, shape)?;
-    take(alloc, &mut row, List::new(alloc), &[])?;
+    add_an_empty_file(alloc, &mut row)?;
     Ok(row)
+}
+
+// Adds its file.
+fn add_two_spenders(alloc: Global, row: &mut Worked) -> Result<(), AllocError> {
+    let fates = [Fate::Held, Fate::Locked(minted(alloc, 100)?)];
+    take_two(alloc, row, split(alloc)?, whole(alloc)?, &fates)
 }
 
 /// Two that spend the coin, in one file.
 pub fn two_spenders(alloc: Global, shape: &Shape) -> Result<Worked, AllocError> {
-    let fates = [Fate::Held, Fate::Locked(minted(alloc, 100)?)];
     let mut row = of_one_coin(alloc, shape)?;
-    take_two(alloc, &mut row, split(alloc)?, whole(alloc)?, &fates)?;
+    add_two_spenders(alloc, &mut row)?;
     Ok(row)
+}
+
+// Adds its second file.
+fn add_two_spenders_apart(alloc: Global, row: &mut Worked) -> Result<(), AllocError> {
+    let lost = Fate::Missing(0, minted(alloc, 100)?);
+    take_one(alloc, row, whole(alloc)?, lost)
 }
 
 /// The same two in two files.
 pub fn two_spenders_apart(alloc: Global, shape: &Shape) -> Result<Worked, AllocError> {
-    let lost = Fate::Missing(0, minted(alloc, 100)?);
     let mut row = one_transaction(alloc, shape)?;
-    take_one(alloc, &mut row, whole(alloc)?, lost)?;
+    add_two_spenders_apart(alloc, &mut row)?;
     Ok(row)
 }
 
@@ -124,29 +144,44 @@ fn spend(alloc: Global) -> Result<FullTx, AllocError> {
     pays(alloc, one(alloc, made)?, one(alloc, output(5, 60))?)
 }
 
+// Adds its files.
+fn add_spent_in_its_batch(alloc: Global, row: &mut Worked) -> Result<(), AllocError> {
+    let fates = [Fate::Held, Fate::Missing(0, input_hash(&sixty(alloc)?))];
+    take_two(alloc, row, split(alloc)?, spend(alloc)?, &fates)?;
+    take_one(alloc, row, spend(alloc)?, Fate::Held)
+}
+
 /// One that spends an output of 60 of the first, in one file with it, and again in a later file.
 pub fn spent_in_its_batch(alloc: Global, shape: &Shape) -> Result<Worked, AllocError> {
-    let fates = [Fate::Held, Fate::Missing(0, input_hash(&sixty(alloc)?))];
     let mut row = of_one_coin(alloc, shape)?;
-    take_two(alloc, &mut row, split(alloc)?, spend(alloc)?, &fates)?;
-    take_one(alloc, &mut row, spend(alloc)?, Fate::Held)?;
+    add_spent_in_its_batch(alloc, &mut row)?;
     Ok(row)
+}
+
+// Adds its file.
+fn add_another_value(alloc: Global, row: &mut Worked) -> Result<(), AllocError> {
+    let lost = Fate::Missing(0, minted(alloc, 1000)?);
+    let t = claims(alloc, 1000, one(alloc, output(2, 1000))?)?;
+    take_one(alloc, row, t, lost)
 }
 
 /// The coin claimed with a value of 1,000.
 pub fn another_value(alloc: Global, shape: &Shape) -> Result<Worked, AllocError> {
-    let lost = Fate::Missing(0, minted(alloc, 1000)?);
-    let t = claims(alloc, 1000, one(alloc, output(2, 1000))?)?;
     let mut row = of_one_coin(alloc, shape)?;
-    take_one(alloc, &mut row, t, lost)?;
+    add_another_value(alloc, &mut row)?;
     Ok(row)
+}
+
+// Adds its second file.
+fn add_the_same_twice(alloc: Global, row: &mut Worked) -> Result<(), AllocError> {
+    let lost = Fate::Missing(0, minted(alloc, 100)?);
+    take_one(alloc, row, split(alloc)?, lost)
 }
 
 /// The same transaction in two files.
 pub fn the_same_twice(alloc: Global, shape: &Shape) -> Result<Worked, AllocError> {
-    let lost = Fate::Missing(0, minted(alloc, 100)?);
     let mut row = one_transaction(alloc, shape)?;
-    take_one(alloc, &mut row, split(alloc)?, lost)?;
+    add_the_same_twice(alloc, &mut row)?;
     Ok(row)
 }
 
@@ -155,11 +190,16 @@ pub fn more(alloc: Global) -> Result<FullTx, AllocError> {
     claims(alloc, 100, two(alloc, output(2, 60), output(3, 41))?)
 }
 
+// Adds its file.
+fn add_refused_between(alloc: Global, row: &mut Worked) -> Result<(), AllocError> {
+    let fates = [Fate::Refused, Fate::Held];
+    take_two(alloc, row, more(alloc)?, split(alloc)?, &fates)
+}
+
 /// One to 60 and 41, which is refused, before the one to 60 and 40.
 pub fn refused_between(alloc: Global, shape: &Shape) -> Result<Worked, AllocError> {
-    let fates = [Fate::Refused, Fate::Held];
     let mut row = of_one_coin(alloc, shape)?;
-    take_two(alloc, &mut row, more(alloc)?, split(alloc)?, &fates)?;
+    add_refused_between(alloc, &mut row)?;
     Ok(row)
 }
 
@@ -206,30 +246,46 @@ fn run_moved(
     whole_batch(alloc, ledger, own, stamp, turns.as_slice())
 }
 
+// Adds a file of the transactions of three coins.
+fn add_file(alloc: Global, row: &mut Worked) -> Result<(), AllocError> {
+    row.files.push(all_moved(alloc, 0, 3)?)?;
+    Ok(())
+}
+
 // A new ledger of three coins of 10, with a file of the transactions of them.
 fn of_three_coins(alloc: Global, shape: &Shape) -> Result<Worked, AllocError> {
     let mut row = begun(alloc, shape, three(alloc)?)?;
-    row.files.push(all_moved(alloc, 0, 3)?)?;
+    add_file(alloc, &mut row)?;
     Ok(row)
+}
+
+// Has a ledger run them in batches of two.
+fn run_by_two(alloc: Global, ledger: &mut Ledger) -> Result<(), AllocError> {
+    run_moved(alloc, ledger, &batch(1), 1, (0, 2))?;
+    run_moved(alloc, ledger, &batch(2), 8, (2, 3))
 }
 
 /// Three transactions of one lane whose batches have two: the first two, and then the third.
 pub fn cut_in_two(alloc: Global, shape: &Shape) -> Result<Worked, AllocError> {
     let mut row = of_three_coins(alloc, shape)?;
-    run_moved(alloc, &mut row.exit, &batch(1), 1, (0, 2))?;
-    run_moved(alloc, &mut row.exit, &batch(2), 8, (2, 3))?;
+    run_by_two(alloc, &mut row.exit)?;
     Ok(row)
+}
+
+// Has a ledger run them one by one over two lanes.
+fn run_by_lane(alloc: Global, ledger: &mut Ledger) -> Result<(), AllocError> {
+    let other = BatchId {
+        lane: LaneId(1),
+        number: 1,
+    };
+    run_moved(alloc, ledger, &batch(1), 1, (0, 1))?;
+    run_moved(alloc, ledger, &other, 8, (1, 2))?;
+    run_moved(alloc, ledger, &batch(2), 15, (2, 3))
 }
 
 /// Three transactions over two lanes whose batches have one: the first and the third on lane 0, the second on lane 1.
 pub fn lanes_in_turn(alloc: Global, shape: &Shape) -> Result<Worked, AllocError> {
     let mut row = of_three_coins(alloc, shape)?;
-    let other = BatchId {
-        lane: LaneId(1),
-        number: 1,
-    };
-    run_moved(alloc, &mut row.exit, &batch(1), 1, (0, 1))?;
-    run_moved(alloc, &mut row.exit, &other, 8, (1, 2))?;
-    run_moved(alloc, &mut row.exit, &batch(2), 15, (2, 3))?;
+    run_by_lane(alloc, &mut row.exit)?;
     Ok(row)
 }

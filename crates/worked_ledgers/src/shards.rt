@@ -54,18 +54,29 @@ fn both(alloc: Global, x: &Input, y: &Input) -> Result<FullTx, AllocError> {
     pays(alloc, two(alloc, *x, *y)?, one(alloc, output(2, 150))?)
 }
 
+// Adds a file of one transaction.
+fn add_file(alloc: Global, row: &mut Worked, t: FullTx, fate: Fate) -> Result<(), AllocError> {
+    take(alloc, row, one(alloc, t)?, &[fate])
+}
+
+// Adds the files of one that spends both coins, and of one that spends the first alone.
+fn add_unknown_input(alloc: Global, row: &mut Worked, x: &Input) -> Result<(), AllocError> {
+    let y = unknown();
+    let lost = Fate::Missing(1, input_hash(&y));
+    add_file(alloc, row, both(alloc, x, &y)?, lost)?;
+    add_file(alloc, row, paid(alloc, x, 3)?, Fate::Held)
+}
+
+// A new ledger of a mint of this coin.
+fn of_coin(alloc: Global, shape: &Shape, x: &Input) -> Result<Worked, AllocError> {
+    begun(alloc, shape, one(alloc, x.output)?)
+}
+
 /// One that spends a coin on the first shard and an unknown one on the second, and in a later file one that spends the first alone.
 pub fn unknown_input(alloc: Global, shape: &Shape) -> Result<Worked, AllocError> {
-    let (x, y) = (known(alloc)?, unknown());
-    let lost = [Fate::Missing(1, input_hash(&y))];
-    let mut row = begun(alloc, shape, one(alloc, x.output)?)?;
-    take(alloc, &mut row, one(alloc, both(alloc, &x, &y)?)?, &lost)?;
-    take(
-        alloc,
-        &mut row,
-        one(alloc, paid(alloc, &x, 3)?)?,
-        &[Fate::Held],
-    )?;
+    let x = known(alloc)?;
+    let mut row = of_coin(alloc, shape, &x)?;
+    add_unknown_input(alloc, &mut row, &x)?;
     Ok(row)
 }
 
@@ -132,13 +143,24 @@ fn begin(alloc: Global, ledger: &mut Ledger, stop: Stop, turns: &[Turn]) -> Resu
     go_on(alloc, ledger, stop, turns)
 }
 
+// Has a row's entry run the batch up to a stop, and its exit the whole batch.
+fn run_both(alloc: Global, row: &mut Worked, stop: Stop, turns: &[Turn]) -> Result<(), AllocError> {
+    begin(alloc, &mut row.entry, stop, turns)?;
+    whole_batch(alloc, &mut row.exit, &batch(1), 1, turns)
+}
+
+// Adds the transaction and its batch.
+fn add_stopped(alloc: Global, row: &mut Worked, x: &Input, stop: Stop) -> Result<(), AllocError> {
+    let t = paid_across(alloc, x)?;
+    row.earlier.push(t)?;
+    let turns = turns_of(alloc, row.earlier.as_slice(), &[Fate::Held])?;
+    run_both(alloc, row, stop, turns.as_slice())
+}
+
 /// A transaction of a coin on the first shard to one on the second, whose batch was stopped before entry and is done at exit.
 pub fn stopped(alloc: Global, shape: &Shape, stop: Stop) -> Result<Worked, AllocError> {
     let x = known(alloc)?;
-    let mut row = begun(alloc, shape, one(alloc, x.output)?)?;
-    row.earlier.push(paid_across(alloc, &x)?)?;
-    let turns = turns_of(alloc, row.earlier.as_slice(), &[Fate::Held])?;
-    begin(alloc, &mut row.entry, stop, turns.as_slice())?;
-    whole_batch(alloc, &mut row.exit, &batch(1), 1, turns.as_slice())?;
+    let mut row = of_coin(alloc, shape, &x)?;
+    add_stopped(alloc, &mut row, &x, stop)?;
     Ok(row)
 }
