@@ -216,8 +216,7 @@ pub fn process<W: Wait, I: Inbox, R: Rack, O: Sink, G: Gate>(
     // its own no first record, or what it might have left before, or, where the disk failed, the new one alone.
     ensures left { (IsWell result.status → ⊥) → (result.rack ≡ rack) ⊎ ((r : Asked) × IsAsked (texts words.now) r × Leaves (I.file inbox.old) R.Disk.content R.Disk.images R.Disk.limit (R.held rack) (R.held result.rack) r result.status) }
 
-    // Where nothing hinders a making, a look at hashes, an audit or a help text, it was done, unless memory ran out. Nothing is said here of
-    // `run`, `recover` and `gen`.
+    // Where nothing hinders what is asked, it was done, unless memory ran out.
     ensures complete { (r : Asked) → IsAsked (texts words.now) r → IsUnhindered (I.file inbox.old) (I.count inbox.old) (I.count inbox.new) R.Disk.content R.Disk.limit (R.held rack) (R.count rack) (R.count result.rack) r
         → (Rose (O.count out.old) (O.count out.new) → ⊥) → (result.status ≡ Answer.Ok) ⊎ (result.status ≡ Answer.Memory) }
 

@@ -1,6 +1,7 @@
 -- A lane is settled where it is idle at its coordinator, no record there is of a later batch, and its shards have their first records alone.
 use Rattle.std.proofs.Common.{◌≡◌, ℕ, zero, suc, ◌+◌, ◌*◌, ◌/◌, ◌<◌, ◌≤◌, ◌&&◌, ◌==◌, Bool, true, false, List, [], ◌∷◌, length, None, refl, sym, ap, ◌∙◌, subst, arith, add-zero}
 use Rattle.std.specs.Prelude.{All}
+use Rattle.std.proofs.lemmas.List.Elements.{All-nil, All-cons, All-head, All-tail}
 use Rattle.cbdc_model.specs.Records.{Shape, Batch, Record, same_batch, kind_of, is_of, record_of, Genesis, Lock, Finish, Forget, Start, Prepare, Commit, Discard, Done}
 use Rattle.cbdc_model.specs.Ranges.{home_of, shard_node}
 use Rattle.cbdc_model.specs.Slots.{slot, slot_stamp, Idle}
@@ -19,27 +20,27 @@ use Rattle.lane_rows.specs.Nodes.{AreSettled}
 
 first_slot : (J : List Record) (lane : ℕ) → All IsFirst J → slot J lane ≡ record { number = 0; phase = Idle }
 first_slot [] lane all = refl
-first_slot (Genesis header hs ∷ J) lane all = first_slot J lane all.1
-first_slot (Start header ∷ J) lane all = first_slot J lane all.1
-first_slot (Lock stamp b es ∷ J) lane all = absurd all.0
-first_slot (Finish stamp b ds ∷ J) lane all = absurd all.0
-first_slot (Forget stamp b ∷ J) lane all = absurd all.0
-first_slot (Prepare stamp b txs ∷ J) lane all = absurd all.0
-first_slot (Commit stamp b os ∷ J) lane all = absurd all.0
-first_slot (Discard stamp b ∷ J) lane all = absurd all.0
-first_slot (Done stamp b ∷ J) lane all = absurd all.0
+first_slot (Genesis header hs ∷ J) lane all = first_slot J lane (All-tail IsFirst (Genesis header hs) J all)
+first_slot (Start header ∷ J) lane all = first_slot J lane (All-tail IsFirst (Start header) J all)
+first_slot (Lock stamp b es ∷ J) lane all = absurd (All-head IsFirst (Lock stamp b es) J all)
+first_slot (Finish stamp b ds ∷ J) lane all = absurd (All-head IsFirst (Finish stamp b ds) J all)
+first_slot (Forget stamp b ∷ J) lane all = absurd (All-head IsFirst (Forget stamp b) J all)
+first_slot (Prepare stamp b txs ∷ J) lane all = absurd (All-head IsFirst (Prepare stamp b txs) J all)
+first_slot (Commit stamp b os ∷ J) lane all = absurd (All-head IsFirst (Commit stamp b os) J all)
+first_slot (Discard stamp b ∷ J) lane all = absurd (All-head IsFirst (Discard stamp b) J all)
+first_slot (Done stamp b ∷ J) lane all = absurd (All-head IsFirst (Done stamp b) J all)
 
 first_stamp : (J : List Record) (lane : ℕ) → All IsFirst J → slot_stamp J lane ≡ 0
 first_stamp [] lane all = refl
-first_stamp (Genesis header hs ∷ J) lane all = first_stamp J lane all.1
-first_stamp (Start header ∷ J) lane all = first_stamp J lane all.1
-first_stamp (Lock stamp b es ∷ J) lane all = absurd all.0
-first_stamp (Finish stamp b ds ∷ J) lane all = absurd all.0
-first_stamp (Forget stamp b ∷ J) lane all = absurd all.0
-first_stamp (Prepare stamp b txs ∷ J) lane all = absurd all.0
-first_stamp (Commit stamp b os ∷ J) lane all = absurd all.0
-first_stamp (Discard stamp b ∷ J) lane all = absurd all.0
-first_stamp (Done stamp b ∷ J) lane all = absurd all.0
+first_stamp (Genesis header hs ∷ J) lane all = first_stamp J lane (All-tail IsFirst (Genesis header hs) J all)
+first_stamp (Start header ∷ J) lane all = first_stamp J lane (All-tail IsFirst (Start header) J all)
+first_stamp (Lock stamp b es ∷ J) lane all = absurd (All-head IsFirst (Lock stamp b es) J all)
+first_stamp (Finish stamp b ds ∷ J) lane all = absurd (All-head IsFirst (Finish stamp b ds) J all)
+first_stamp (Forget stamp b ∷ J) lane all = absurd (All-head IsFirst (Forget stamp b) J all)
+first_stamp (Prepare stamp b txs ∷ J) lane all = absurd (All-head IsFirst (Prepare stamp b txs) J all)
+first_stamp (Commit stamp b os ∷ J) lane all = absurd (All-head IsFirst (Commit stamp b os) J all)
+first_stamp (Discard stamp b ∷ J) lane all = absurd (All-head IsFirst (Discard stamp b) J all)
+first_stamp (Done stamp b ∷ J) lane all = absurd (All-head IsFirst (Done stamp b) J all)
 
 -- ---- records of batches up to a number
 
@@ -63,7 +64,8 @@ never false = refl
 
 none_later : (kind k : ℕ) (J : List Record) (b : Batch) → All (λ r. number_in r ≤ k) J → k < b.number → record_of kind J b ≡ None
 none_later kind k [] b all high = refl
-none_later kind k (r ∷ J) b all high = rw (not_of r b k all.0 high) (rw (never (kind_of r == kind)) (none_later kind k J b all.1 high))
+none_later kind k (r ∷ J) b all high =
+    rw (not_of r b k (All-head (λ x. number_in x ≤ k) r J all) high) (rw (never (kind_of r == kind)) (none_later kind k J b (All-tail (λ x. number_in x ≤ k) r J all) high))
 
 first_number : (r : Record) (k : ℕ) → IsFirst r → number_in r ≤ k
 first_number (Genesis header hs) k first = omega arith
@@ -77,8 +79,8 @@ first_number (Discard stamp b) k first = absurd first
 first_number (Done stamp b) k first = absurd first
 
 first_numbers : (J : List Record) (k : ℕ) → All IsFirst J → All (λ r. number_in r ≤ k) J
-first_numbers [] k all = all
-first_numbers (r ∷ J) k all = (first_number r k all.0, first_numbers J k all.1)
+first_numbers [] k all = All-nil (λ r. number_in r ≤ k)
+first_numbers (r ∷ J) k all = All-cons (λ x. number_in x ≤ k) r J (first_number r k (All-head IsFirst r J all)) (first_numbers J k (All-tail IsFirst r J all))
 
 pub settled : (K : Shape) (lane k : ℕ) (log : Sight) (shards : ℕ → Sight) → home_of K lane < K.coordinators → log.header.shape ≡ K → slot log.seen lane ≡ record { number = k; phase = Idle }
     → All (λ r. number_in r ≤ k) log.seen → ((s : ℕ) → All IsFirst (shards s).seen) → Settled K lane k log shards
@@ -121,7 +123,7 @@ module _ {D : Type 0} (count limit : D → ℕ) (log : LogOf D) (node : ShardOf 
       where
         go : (s : ℕ) → All IsFirst (sight_at (sight_of count limit) (node ∷ []) s).seen
         go zero = are.firsts
-        go (suc s) = tt
+        go (suc s) = All-nil IsFirst
 
     pub at_home : 0 ≡ home_of K 0
     at_home = sym home
@@ -148,3 +150,13 @@ module _ {D : Type 0} (count limit : D → ℕ) (log : LogOf D) (node : ShardOf 
     pub is_settled : IsSettled K 0 (sight_at sight logs 0) (sight_at (sight_of count limit) nodes)
     is_settled = subst (λ ls. IsSettled K 0 (sight_at sight ls 0) (sight_at (sight_of count limit) nodes)) (sym logs_are)
         (are.last, settled K 0 are.last (sight log) (sight_at (sight_of count limit) nodes) (subst (λ n. n < K.coordinators) (sym home) coordinators) refl are.idle are.numbers (λ s. shard_first nodes s nodes_are))
+
+    -- by the shape that the coordinator tells
+    pub as_many_at : (k : Shape) → k ≡ K → length nodes ≡ k.shards
+    as_many_at k is = as_many ∙ ap (λ s. s.shards) (sym is)
+
+    pub are_shards_at : (k : Shape) → k ≡ K → AreShardsOf k (sight_at (sight_of count limit) nodes)
+    are_shards_at k is = subst (λ s. AreShardsOf s (sight_at (sight_of count limit) nodes)) (sym is) are_shards
+
+    pub is_settled_at : (k : Shape) → k ≡ K → IsSettled k 0 (sight_at sight logs 0) (sight_at (sight_of count limit) nodes)
+    is_settled_at k is = subst (λ s. IsSettled s 0 (sight_at sight logs 0) (sight_at (sight_of count limit) nodes)) (sym is) is_settled

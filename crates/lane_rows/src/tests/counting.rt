@@ -1,4 +1,6 @@
 // Ports that count the calls at shards.
+ghost use Rattle.std.specs.Prelude.{◌≡◌};
+
 use cbdc_types::{FinishCall, ForgetCall, LockCall, NodeFault, Replied, Stamp};
 use lane_driver::PortSet;
 use outside::Gate;
@@ -19,7 +21,9 @@ pub(crate) struct Counting<S> {
 }
 
 /// Ports at which nothing was asked yet.
-pub(crate) fn counted<S: PortSet>(ports: S) -> Counting<S> {
+pub(crate) fn counted<S: PortSet>(ports: S) -> Counting<S>
+    ensures { result.ports ≡ ports }
+{
     Counting {
         ports,
         counts: Counts {

@@ -33,6 +33,14 @@ fn are_small(locks: &[(u32, LockCall)], size: usize) -> bool
     locks.iter().all(|c| c.1.part.len() <= size)
 }
 
+// How many outputs the first entry of a lock call has.
+fn outputs_of(call: &LockCall) -> usize {
+    match call.part.as_slice().get(0) {
+        Some(entry) => entry.outputs.len(),
+        None => 0,
+    }
+}
+
 /// A batch of one transaction is asked of its only shard, with the decision that its outcome is.
 #[test]
 fn the_calls_of_a_batch_go_to_its_shard(rt: HostRuntime) -> Result<(), Fail> {
@@ -70,7 +78,7 @@ fn the_calls_of_a_batch_go_to_its_shard(rt: HostRuntime) -> Result<(), Fail> {
     forget_calls(&locks, &BATCH, Stamp(5), &mut forgets);
     assert_eq!(rt; (locks.len(), finishes.len(), forgets.len()), (1, 1, 1));
     assert_eq!(rt; (locks[0].0, finishes[0].0, forgets[0].0), (0, 0, 0));
-    assert_eq!(rt; locks[0].1.part.as_slice()[0].outputs.len(), 2);
+    assert_eq!(rt; outputs_of(&locks[0].1), 2);
     assert_eq!(rt; finishes[0].1.decisions.as_slice(), [true].as_slice());
     assert_eq!(rt;
         forgets[0].1,

@@ -1,0 +1,4 @@
+pub mod Agreeing
+pub mod Alikes
+pub mod Merging
+pub mod Minting

@@ -1,0 +1,6 @@
+-- What first records say of a mint, by its compact transaction.
+use Rattle.cbdc_model.specs.Records.{Compact}
+use Rattle.cbdc_model.specs.History.{Minted}
+
+abbrev pub minted_by : Compact → Minted
+minted_by t = record { id = t.id; hashes = t.outputs }

@@ -1,0 +1,6 @@
+mod changed;
+mod judging;
+mod kept;
+mod others;
+mod taking;
+mod waves;

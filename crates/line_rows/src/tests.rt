@@ -1,0 +1,4 @@
+mod looks;
+mod named;
+mod recoveries;
+mod runs;
