@@ -12,7 +12,7 @@ use Rattle.command_line.specs.declared.request.Request.TheVariants.{Init, Run, R
 use Rattle.input_files.specs.Contents.{mint_of_file, AreRead}
 use Rattle.rack_nodes.specs.Racked.{IsBack}
 use Rattle.rack_laws.specs.Shown.{OfShown}
-use Rattle.rack_runs.specs.Runs.{IsCutShort}
+use Rattle.rack_runs.specs.Runs.{IsCutShort, SparesOthers}
 use Rattle.ledger_init.specs.Made.{IsLeft}
 
 -- the answers that come before any disk is taken: bad words, a file that is not read, and a mint of too much
@@ -29,10 +29,11 @@ InitLeaves files content images limit before now shape file answer =
     (mint : List Output) × Tells (files file.name.now) (λ c. mint_of_file c ≡ Ok mint) × IsLeft shape mint content images limit before now answer
 
 -- transactions over a ledger that did not come through: all disks are as they were read; or journals have grown at their ends, and where the ledger was
--- kept, they are kept, each by its disk, with one record more or without and with room for the batches that are open, and whatever a crash leaves
+-- kept, they are kept, each by its disk, with one record more or without and with room for the batches that are open, and whatever a crash leaves, and
+-- the disks that are no nodes of it are as before
 abbrev pub TurnsLeave : {D : Type 0} → (D → Option (List ℕ)) → (D → List ℕ → Type 0) → (D → ℕ) → (ℕ → Option D) → (ℕ → Option D) → List (List FullTx) → Type 0
 TurnsLeave content images limit before now handed =
-    ((n : ℕ) → IsBack images limit (before n) (now n)) ⊎ ((exit : ℕ → List Record) × OfShown content before (IsCutShort images limit now handed exit))
+    ((n : ℕ) → IsBack images limit (before n) (now n)) ⊎ ((exit : ℕ → List Record) × OfShown content before (IsCutShort images limit now handed exit) × SparesOthers content before now)
 
 -- the same of those that the files hold
 abbrev pub RunLeaves : {D : Type 0} → (Text → Option (List ℕ)) → (D → Option (List ℕ)) → (D → List ℕ → Type 0) → (D → ℕ) → (ℕ → Option D) → (ℕ → Option D) → List FileWord → Type 0
