@@ -116,9 +116,9 @@ prints_run content images before now printed verdicts files ran few shown is K m
       free = free_confirmed_law K mint (submissions ++ joined files) verdicts files E told.exit within.some_shard (lanes_there K within) more told.grown.kept;
     }
 
-pub did_run : {D : Type 0} (inbox : Text → Option (List ℕ)) (content : D → Option (List ℕ)) (images : D → List ℕ → Type 0) (before now : ℕ → Option D) (printed : Text → Type 0) (verdicts : FileWord) (clients : List FileWord) (ran : Ran)
-    → WasRun inbox content images before now verdicts clients ran → (IsCountable ran → printed (ran_text ran)) → DidRun inbox content images before now printed verdicts clients
-did_run inbox content images before now printed verdicts clients ran was is = record {
+pub did_run : {D : Type 0} (inbox : Text → Option (List ℕ)) (content : D → Option (List ℕ)) (images : D → List ℕ → Type 0) (limit : D → ℕ) (before now : ℕ → Option D) (printed : Text → Type 0) (verdicts : FileWord) (clients : List FileWord) (ran : Ran)
+    → WasRun inbox content images limit before now verdicts clients ran → (IsCountable ran → printed (ran_text ran)) → DidRun inbox content images limit before now printed verdicts clients
+did_run inbox content images limit before now printed verdicts clients ran was is = record {
   handed = was.handed;
   known = was.known;
   read = was.read;

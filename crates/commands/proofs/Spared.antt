@@ -6,7 +6,7 @@ use Rattle.command_line.specs.declared.request.Request.{Request}
 use Rattle.command_line.specs.declared.request.Request.TheVariants.{Init, Run, Recover, Status, Audit, Gen, Show}
 use Rattle.word_laws.specs.Single.{AreAlike}
 use Rattle.word_laws.proofs.Single.{one_request_law}
-use Rattle.commands.specs.Left.{IsOfNoRack}
+use Rattle.commands.specs.Left.{IsOfNoRack, IsOfNoFile}
 
 alike_spared : (r other : Request) → AreAlike r other → IsOfNoRack r → IsOfNoRack other
 alike_spared (Gen shape seed size) (Gen kind number count) alike of = tt
@@ -20,3 +20,17 @@ alike_spared _ _ alike of = absurd alike
 
 pub of_no_rack : (words : List Text) (r other : Request) → IsAsked words r → IsAsked words other → IsOfNoRack r → IsOfNoRack other
 of_no_rack words r other asked also of = alike_spared r other (one_request_law words r other asked also) of
+
+-- nor of any file
+alike_unread : (r other : Request) → AreAlike r other → IsOfNoFile r → IsOfNoFile other
+alike_unread Recover Recover alike of = tt
+alike_unread (Status hashes) (Status sought) alike of = tt
+alike_unread (Gen shape seed size) (Gen kind number count) alike of = tt
+alike_unread (Show text) (Show other) alike of = tt
+alike_unread (Init shape mint) _ alike of = absurd of
+alike_unread (Run verdicts clients) _ alike of = absurd of
+alike_unread (Audit mint clients) _ alike of = absurd of
+alike_unread _ _ alike of = absurd alike
+
+pub of_no_file : (words : List Text) (r other : Request) → IsAsked words r → IsAsked words other → IsOfNoFile r → IsOfNoFile other
+of_no_file words r other asked also of = alike_unread r other (one_request_law words r other asked also) of

@@ -25,7 +25,7 @@ use Rattle.printed_lines.specs.Runs.{IsRunLines}
 use Rattle.rack_nodes.specs.Racked.{OfTold, IsBack}
 use Rattle.rack_nodes.specs.Refused.{IsNodeJournal}
 use Rattle.rack_ledgers.specs.Ledgers.{IsUnopened}
-use Rattle.caused_ledgers.specs.Caused.{IsCausedLedger, IsUnresumed}
+use Rattle.caused_ledgers.specs.Caused.{IsUnresumed}
 use Rattle.rack_laws.specs.Shown.{OfShown, HoldsEach}
 use Rattle.submissions.specs.Checks.{VerdictsOf}
 use Rattle.sound_laws.specs.SoundTest.{sound_by}
@@ -35,7 +35,7 @@ use Rattle.lane_driver.specs.declared.fault.LaneFault.{LaneFault}
 use Rattle.ledger_runs.specs.Least.{IsLeastOpen}
 use Rattle.file_runs.specs.Runs.{joined}
 use Rattle.rack_runs.specs.Endings.{EndsRun}
-use Rattle.rack_runs.specs.Runs.{IsGrown, IsRun, IsRecovered, IsLaneFault, NonePrepared, NothingNext, PieceNext, PiecesPrepared}
+use Rattle.rack_runs.specs.Runs.{IsGrown, IsRun, IsRecovered, IsLaneFault, NonePrepared, NothingNext, PieceNext, PiecesPrepared, TookLedger}
 use Rattle.commands.specs.Audits.{DidAudit, WhyNoAudit}
 use Rattle.commands.specs.Generated.{PrintsWorkload, WhyNoWorkload}
 pub use Rattle.commands.specs.Generated.{first_journals}
@@ -74,18 +74,18 @@ PrintsRun content images before now printed verdicts handed = OfShown content be
 
 -- the files held these transactions and verdicts, which were run over the ledger that the disks told, in which each record was caused; each disk
 -- holds exactly its journal, and this was printed
-pub record DidRun {D : Type 0} (files : Text → Option (List ℕ)) (content : D → Option (List ℕ)) (images : D → List ℕ → Type 0) (before now : ℕ → Option D) (printed : Text → Type 0) (verdicts : FileWord) (clients : List FileWord) : Type 0 where
+pub record DidRun {D : Type 0} (files : Text → Option (List ℕ)) (content : D → Option (List ℕ)) (images : D → List ℕ → Type 0) (limit : D → ℕ) (before now : ℕ → Option D) (printed : Text → Type 0) (verdicts : FileWord) (clients : List FileWord) : Type 0 where
   pub handed : List (List FullTx)
   pub known : VerdictFile
   pub read : AreRead files 0 clients handed
   pub verdicts_read : AreVerdicts (files verdicts.name.now) known
-  pub caused : IsCausedLedger content before
+  pub caused : TookLedger content limit before now
   pub ran : OfShown content before (IsRun images now (told known) handed)
   pub prints : PrintsRun content images before now printed (told known) handed
 
 -- the disks told a ledger in which each record was caused, and its open batches were brought to their end; each disk holds exactly its journal
-abbrev pub DidRecover : {D : Type 0} → (D → Option (List ℕ)) → (D → List ℕ → Type 0) → (ℕ → Option D) → (ℕ → Option D) → Type 0
-DidRecover content images before now = IsCausedLedger content before × OfShown content before (IsRecovered images now)
+abbrev pub DidRecover : {D : Type 0} → (D → Option (List ℕ)) → (D → List ℕ → Type 0) → (D → ℕ) → (ℕ → Option D) → (ℕ → Option D) → Type 0
+DidRecover content images limit before now = TookLedger content limit before now × OfShown content before (IsRecovered images now)
 
 -- of the kept ledger that the disks told, this was printed: the lines of a recovery from its journals to those that the disks hold now
 abbrev pub PrintsRecovery : {D : Type 0} → (D → Option (List ℕ)) → (D → List ℕ → Type 0) → (ℕ → Option D) → (ℕ → Option D) → (Text → Type 0) → Type 0
@@ -108,8 +108,8 @@ pub record DidStatus {D : Type 0} (content : D → Option (List ℕ)) (images : 
 -- what was asked for was done, and this was printed
 abbrev pub Did : {D : Type 0} → (Text → Option (List ℕ)) → (D → Option (List ℕ)) → (D → List ℕ → Type 0) → (D → ℕ) → (ℕ → Option D) → (ℕ → Option D) → (Text → Type 0) → Request → Type 0
 Did files content images limit before now printed (Init shape mint) = DidInit files content images before now printed shape mint
-Did files content images limit before now printed (Run verdicts clients) = DidRun files content images before now printed verdicts clients.items
-Did files content images limit before now printed Recover = DidRecover content images before now × PrintsRecovery content images before now printed
+Did files content images limit before now printed (Run verdicts clients) = DidRun files content images limit before now printed verdicts clients.items
+Did files content images limit before now printed Recover = DidRecover content images limit before now × PrintsRecovery content images before now printed
 Did files content images limit before now printed (Status hashes) = DidStatus content images limit before now printed hashes.items
 Did files content images limit before now printed (Audit mint clients) = DidAudit files content images limit before now printed mint clients.items
 Did files content images limit before now printed (Gen shape seed size) = ((n : ℕ) → now n ≡ before n) × PrintsWorkload printed shape seed size

@@ -17,9 +17,8 @@ use Rattle.command_line.specs.declared.request.FileWord.{FileWord}
 use Rattle.input_files.specs.Contents.{AreRead, AreVerdicts, all_txs}
 use Rattle.verifier_port.specs.Files.{told}
 use Rattle.verifier_port.specs.declared.file.VerdictFile.{VerdictFile}
-use Rattle.caused_ledgers.specs.Caused.{IsCausedLedger}
 use Rattle.rack_laws.specs.Shown.{OfShown}
-use Rattle.rack_runs.specs.Runs.{IsRun}
+use Rattle.rack_runs.specs.Runs.{IsRun, TookLedger}
 use Rattle.rack_runs.specs.Telling.{IsTold}
 use Rattle.rack_runs.specs.declared.over.Ran.{Ran}
 use Rattle.commands.specs.declared.report.Counts.{Counts}
@@ -97,12 +96,12 @@ ran_text ran =
     ++ summary_text (length ran.resumed.items) (batches_told ran.waves.items) (told_total is_confirmed ran.waves.items) (told_total is_rejected ran.waves.items) (told_total is_refused ran.waves.items) ran.unspent
 
 -- the files held these transactions and verdicts, at most a million transactions; they were run over the ledger that the disks told, in which each record was caused, and the run tells what it did
-pub record WasRun {D : Type 0} (files : Text → Option (List ℕ)) (content : D → Option (List ℕ)) (images : D → List ℕ → Type 0) (before now : ℕ → Option D) (verdicts : FileWord) (clients : List FileWord) (ran : Ran) : Type 0 where
+pub record WasRun {D : Type 0} (files : Text → Option (List ℕ)) (content : D → Option (List ℕ)) (images : D → List ℕ → Type 0) (limit : D → ℕ) (before now : ℕ → Option D) (verdicts : FileWord) (clients : List FileWord) (ran : Ran) : Type 0 where
   pub handed : List (List FullTx)
   pub known : VerdictFile
   pub read : AreRead files 0 clients handed
   pub verdicts_read : AreVerdicts (files verdicts.name.now) known
   pub few : all_txs handed ≤ 1000000
-  pub caused : IsCausedLedger content before
+  pub caused : TookLedger content limit before now
   pub was : OfShown content before (IsRun images now (told known) handed)
   pub tells : OfShown content before (IsTold images now (told known) handed ran)

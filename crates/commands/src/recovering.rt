@@ -75,7 +75,7 @@ pub(crate) fn recover<W: Wait, R: Rack, O: Sink, G: Gate>(
 ) -> Answer
     requires { (n : ℕ) → R.can_take rack.old n }
     ensures cause { IsDone (λ file. ⊥) (λ file. ⊥) (Rose (O.count out.old) (O.count out.new)) result }
-    ensures did { IsWell result → DidRecover R.Disk.content R.Disk.images (R.held rack.old) (R.held rack.new) }
+    ensures did { IsWell result → DidRecover R.Disk.content R.Disk.images R.Disk.limit (R.held rack.old) (R.held rack.new) }
     ensures prints { IsWell result → PrintsRecovery R.Disk.content R.Disk.images (R.held rack.old) (R.held rack.new) (IsPrinted (O.taken out.old) (O.taken out.new) result) }
     ensures why { IsTold (WhyNoTurns R.Disk.content R.Disk.images R.Disk.limit R.Disk.count (R.held rack.old) (R.held rack.new) (R.count rack.old) (R.count rack.new) NothingNext IsLeastOpen NonePrepared []) result }
     ensures left { (IsWell result → ⊥) → TurnsLeave R.Disk.content R.Disk.images R.Disk.limit (R.held rack.old) (R.held rack.new) [] }

@@ -27,7 +27,7 @@ fn run_all<W: Wait, I: Inbox, R: Rack, G: Gate>(
     gate: &G,
 ) -> Result<Ran, Answer>
     requires { (n : ℕ) → R.can_take rack.old n }
-    ensures did { IfOk result (WasRun (I.file inbox.old) R.Disk.content R.Disk.images (R.held rack.old) (R.held rack.new) verdicts.now clients.now) }
+    ensures did { IfOk result (WasRun (I.file inbox.old) R.Disk.content R.Disk.images R.Disk.limit (R.held rack.old) (R.held rack.new) verdicts.now clients.now) }
     ensures why { IfErr result (WhyNoRun (I.file inbox.old) (I.count inbox.old) (I.count inbox.new) R.Disk.content R.Disk.images R.Disk.limit R.Disk.count (R.held rack.old) (R.held rack.new) (R.count rack.old) (R.count rack.new) verdicts.now clients.now) }
     ensures fault { IfErr result (IsFault (λ place. OnePlace clients.now place ⊎ (place ≡ verdicts.now.place)) (λ place. OneRose (I.count inbox.old) (I.count inbox.new) clients.now place ⊎ FileRose (I.count inbox.old) (I.count inbox.new) verdicts.now place)) }
     ensures untouched { IfErr result (λ e. IsBeforeDisks e → rack.new ≡ rack.old) }
@@ -60,7 +60,7 @@ pub(crate) fn run<W: Wait, I: Inbox, R: Rack, O: Sink, G: Gate>(
     requires { (n : ℕ) → R.can_take rack.old n }
     ensures cause { IsDone (λ place. OnePlace clients.now place ⊎ (place ≡ verdicts.now.place)) (λ place. OneRose (I.count inbox.old) (I.count inbox.new) clients.now place ⊎ FileRose (I.count inbox.old) (I.count inbox.new) verdicts.now place)
         (Rose (O.count out.old) (O.count out.new)) result }
-    ensures did { IsWell result → DidRun (I.file inbox.old) R.Disk.content R.Disk.images (R.held rack.old) (R.held rack.new) (IsPrinted (O.taken out.old) (O.taken out.new) result) verdicts.now clients.now }
+    ensures did { IsWell result → DidRun (I.file inbox.old) R.Disk.content R.Disk.images R.Disk.limit (R.held rack.old) (R.held rack.new) (IsPrinted (O.taken out.old) (O.taken out.new) result) verdicts.now clients.now }
     ensures why { IsTold (WhyNoRun (I.file inbox.old) (I.count inbox.old) (I.count inbox.new) R.Disk.content R.Disk.images R.Disk.limit R.Disk.count (R.held rack.old) (R.held rack.new) (R.count rack.old) (R.count rack.new) verdicts.now clients.now) result }
     ensures silent { IsSilent (O.taken out.old) (O.taken out.new) result }
     ensures written_later { O.count out.old ≤ O.count out.new }

@@ -9,7 +9,7 @@ ghost use Rattle.commands.specs.Causes.{IsAnswered, IsDone, IsTold, IsWell, Name
 ghost use Rattle.commands.specs.Complete.{IsUnhindered};
 ghost use Rattle.commands.specs.Sizes.{IsSized};
 ghost use Rattle.commands.specs.Outcomes.{Did, Why};
-ghost use Rattle.commands.specs.Left.{IsBeforeDisks, IsOfNoRack, Leaves};
+ghost use Rattle.commands.specs.Left.{IsBeforeDisks, IsOfNoFile, IsOfNoRack, Leaves};
 ghost use Rattle.outside.specs.Counts.{Rose};
 ghost use Rattle.printed_lines.specs.Reports.{Names};
 
@@ -112,6 +112,7 @@ fn answer_to<W: Wait, I: Inbox, R: Rack, O: Sink, G: Gate>(
     ensures why { IsTold (Why (I.file inbox.old) (I.count inbox.old) (I.count inbox.new) R.Disk.content R.Disk.images R.Disk.limit R.Disk.count (R.held rack.old) (R.held rack.new) (R.count rack.old) (R.count rack.new) request.now) result }
     ensures untouched { IsBeforeDisks result → rack.new ≡ rack.old }
     ensures spared { IsOfNoRack request.now → rack.new ≡ rack.old }
+    ensures unread { IsOfNoFile request.now → inbox.new ≡ inbox.old }
     ensures left { (IsWell result → ⊥) → (rack.new ≡ rack.old) ⊎ Leaves (I.file inbox.old) R.Disk.content R.Disk.images R.Disk.limit (R.held rack.old) (R.held rack.new) request.now result }
     ensures silent { IsSilent (O.taken out.old) (O.taken out.new) result }
     ensures written_later { O.count out.old ≤ O.count out.new }
@@ -149,6 +150,7 @@ fn answer_words<'a, W: Wait, I: Inbox, R: Rack, O: Sink, G: Gate>(
     ensures why { IsTold (λ a. (r : Asked) × IsAsked (texts words.entry.now) r × Why (I.file inbox.old) (I.count inbox.old) (I.count inbox.new) R.Disk.content R.Disk.images R.Disk.limit R.Disk.count (R.held rack.old) (R.held rack.new) (R.count rack.old) (R.count rack.new) r a) result.status }
     ensures untouched { IsBeforeDisks result.status → rack.new ≡ rack.old }
     ensures spared { (r : Asked) → IsAsked (texts words.entry.now) r → IsOfNoRack r → rack.new ≡ rack.old }
+    ensures unread { (r : Asked) → IsAsked (texts words.entry.now) r → IsOfNoFile r → inbox.new ≡ inbox.old }
     ensures left { (IsWell result.status → ⊥) → (rack.new ≡ rack.old) ⊎ ((r : Asked) × IsAsked (texts words.entry.now) r × Leaves (I.file inbox.old) R.Disk.content R.Disk.images R.Disk.limit (R.held rack.old) (R.held rack.new) r result.status) }
     ensures named { Names (AskedName (texts words.entry.now)) result.status result.name.now }
     ensures silent { IsSilent (O.taken out.old) (O.taken out.new) result.status }
@@ -207,6 +209,9 @@ pub fn process<W: Wait, I: Inbox, R: Rack, O: Sink, G: Gate>(
 
     // A workload and a text that is shown leave the rack as it was, whatever is answered.
     ensures spared { (r : Asked) → IsAsked (texts words.now) r → IsOfNoRack r → result.rack ≡ rack }
+
+    // A recovery, a look at hashes, a workload and a text that is shown read no file.
+    ensures unread { (r : Asked) → IsAsked (texts words.now) r → IsOfNoFile r → inbox.new ≡ inbox.old }
 
     // Behind `status` and `audit` all disks are as they were read, whatever was answered.
     // Where a run or a recovery did not come through, whatever the answer, want of memory too, all disks are as they were or as they were

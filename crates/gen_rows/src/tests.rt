@@ -28,8 +28,11 @@ fn expect<W: Wait + Abort>(rt: &W, alloc: Global, words: &[&str], text: &str) ->
 }
 
 #[test]
-fn one_transaction(rt: HostRuntime) -> Result<(), Fail> {
-    expect(&rt, rt.alloc(), &["gen", "0", "1"], ONE)
+fn one_transaction_twice(rt: HostRuntime) -> Result<(), Fail> {
+    for _ in 0..2 {
+        expect(&rt, rt.alloc(), &["gen", "0", "1"], ONE)?;
+    }
+    Ok(())
 }
 
 // The same seed gives the same text.

@@ -190,7 +190,7 @@ module _ {D B : Type 0} (content : D → Option (List ℕ)) (images : D → List
       (may, un.1, subst (λ (k : ℕ). IsLastFull K mint limit old k need capacity) (sym un.0) last)
   refused_of (answers.DiskFault n) node x inside blank may limits few above un op =
       let rose : Rose (before node) (now node) = omega (arith, op.1, blank.0.1) in
-      (may.fits, subst (λ (k : ℕ). k < node_count K) (sym un.0) inside, subst (λ (k : ℕ). Rose (before k) (now k)) (sym un.0) rose)
+      (may.fits, subst (λ (k : ℕ). k < node_count K) (sym un.0) inside, subst (λ (k : ℕ). Rose (before k) (now k)) (sym un.0) rose, λ m lt. may.unused m (omega (arith, lt, un.0, inside)))
   refused_of answers.Memory node x inside blank may limits few above un op = tt
   refused_of answers.Ok node x inside blank may limits few above un op = absurd un
   refused_of answers.BadWords node x inside blank may limits few above un op = absurd un
@@ -223,7 +223,12 @@ module _ {D B : Type 0} (content : D → Option (List ℕ)) (images : D → List
       } in
       subst (λ (k : ℕ). IsFirstInUse K mint content old k) (sym first.fails.0.1) here
   opening_unmade (answers.DiskFault n) start end is_start is_end fits first =
-      (fits, omega (arith, first.fails.0.1.0, first.inside, is_end), subst (λ (k : ℕ). Rose (before k) (now k)) (sym first.fails.0.1.0) first.fails.0.1.1)
+      let same : n ≡ first.node = first.fails.0.1.0 in (
+        fits,
+        omega (arith, same, first.inside, is_end),
+        subst (λ (k : ℕ). Rose (before k) (now k)) (sym same) first.fails.0.1.1,
+        λ k lt. each_two IsBlankAt IsBlankAt (λ m. ToldUnused content old m) start first.before (λ m b blank same. unused_at m b blank) first.opened first.opened k (omega (arith, is_start)) (omega (arith, first.places, lt, same)),
+      )
   opening_unmade answers.Memory start end is_start is_end fits first = tt
   opening_unmade answers.Ok start end is_start is_end fits first = absurd first.fails.0.0
   opening_unmade answers.BadWords start end is_start is_end fits first = absurd first.fails.0.0

@@ -73,7 +73,7 @@ abbrev pub IsUnmade : {D : Type 0} → Shape → List Output → (D → Option (
 IsUnmade K mint content limit held before now (answers.TooMuch total) = (total ≡ value_out mint) × (2 ^ 64 ≤ total)
 IsUnmade K mint content limit held before now (answers.NotEmpty n) = IsFirstInUse K mint content held n
 IsUnmade K mint content limit held before now (answers.Full n used need capacity) = MayBeMade K mint content held × (used ≡ 0) × IsLastFull K mint limit held n need capacity
-IsUnmade K mint content limit held before now (answers.DiskFault n) = (value_out mint < 2 ^ 64) × (n < node_count K) × Rose (before n) (now n)
+IsUnmade K mint content limit held before now (answers.DiskFault n) = (value_out mint < 2 ^ 64) × (n < node_count K) × Rose (before n) (now n) × ((m : ℕ) → m < n → ToldUnused content held m)
 IsUnmade K mint content limit held before now answers.Memory = Unit {0}
 IsUnmade K mint content limit held before now other = ⊥
 

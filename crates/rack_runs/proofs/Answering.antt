@@ -39,7 +39,7 @@ use Rattle.rack_laws.specs.Shown.{OfShown, KeepsEach, node_count}
 use Rattle.rack_laws.proofs.Behind.{keeps_each, told_stored, may_hold, have_risen}
 use Rattle.rack_runs.specs.Kinds.{answer_at, answer_to, IsLaneAnswer}
 use Rattle.rack_runs.specs.Endings.{EndsRun, IsLeastAnswer}
-use Rattle.rack_runs.specs.Runs.{IsCutShort, IsLaneFault, NonePrepared, NothingNext, PieceNext, PiecesPrepared}
+use Rattle.rack_runs.specs.Runs.{IsCutShort, IsLaneFault, NonePrepared, NothingNext, PieceNext, PiecesPrepared, SparesOthers}
 use Rattle.rack_runs.specs.declared.over.Over.{Over}
 use Rattle.rack_runs.specs.declared.over.Ran.{Ran}
 use Rattle.rack_runs.proofs.Checking.{same_journals}
@@ -245,9 +245,9 @@ module _ {D : Type 0} (content : D → Option (List ℕ)) (images : D → List �
       (HaveFailed (opened_of count limit h.shape logs shards) (faults_of count limit h.shape now after)) (MayHold (capacity_of count limit h.shape logs shards)) a
       → IsLeastAnswer (EndsRun verdicts files h.shape (journals_of count limit h.shape logs shards) (journals_of count limit h.shape now after)
       (HaveFailed (opened_of count limit h.shape logs shards) (faults_of count limit h.shape now after)) (MayHold (capacity_of count limit h.shape logs shards))) a
-      → OfShown content held (IsCutShort images limit back files (journals_of count limit h.shape now after))
+      → OfShown content held (IsCutShort images limit back files (journals_of count limit h.shape now after)) → SparesOthers content held back
       → IsLaneFault content images limit held back before behind (PieceNext verdicts files) (EndsRun verdicts files) (PiecesPrepared verdicts files) files a
-  lane_fault verdicts files begun grows a cause least kept = record {
+  lane_fault verdicts files begun grows a cause least kept spared = record {
     ledger = record {
       shape = h.shape;
       genesis = h.genesis;
@@ -269,6 +269,7 @@ module _ {D : Type 0} (content : D → Option (List ℕ)) (images : D → List �
         (answer_by h.shape (HaveFailed (opened_of count limit h.shape logs shards) (faults_of count limit h.shape now after)) Rises (MayHold (capacity_of count limit h.shape logs shards)) Holds risen may verdicts files
         (journals_of count limit h.shape logs shards) (journals_of count limit h.shape now after) a least);
     kept = kept;
+    spared = spared;
   }
 
 -- no files have a piece
@@ -309,6 +310,7 @@ of_nothing content images limit held back before now verdicts a f =
           (λ n c. OfTold (held n) (λ d. c ≡ limit d)) (λ n c. OfTold (held n) (λ d. c ≡ limit d)) (no_piece verdicts f.ledger.shape E f.exit) (λ n inside did. did) (λ n c inside may. may) a f.cause;
       least = no_files verdicts f.ledger.shape E f.exit (λ n. Rose (before n) (now n)) (λ n c. OfTold (held n) (λ d. c ≡ limit d)) a f.least;
       kept = f.kept;
+      spared = f.spared;
     }
 
 -- ---- a run over open nodes

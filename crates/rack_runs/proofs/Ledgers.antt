@@ -1,5 +1,6 @@
 -- The ledger that a rack showed, behind a run.
-use Rattle.std.proofs.Common.{◌≡◌, ℕ, ◌+◌, ◌<◌, ◌≤◌, List, [], ◌++◌, length, reverse, Bool, Option, Some, None, refl, sym, ◌∙◌, subst}
+use Rattle.std.proofs.Common.{◌≡◌, ℕ, ◌+◌, ◌-◌, ◌<◌, ◌≤◌, inl, inr, List, [], ◌++◌, length, reverse, Bool, Option, Some, None, refl, sym, ap, ◌∙◌, subst, arith}
+use Rattle.std.proofs.lemmas.Bool.{cases_lt}
 use Rattle.std.proofs.lemmas.List.{append-nil}
 use Rattle.cbdc_types.specs.Limits.{IsWithinLimits}
 use Rattle.cbdc_model.specs.Records.{Shape, Header, Record}
@@ -8,6 +9,9 @@ use Rattle.cbdc_model.specs.Clean.{Clean, IsProperCompact}
 use Rattle.cbdc_model.specs.History.{minted}
 use Rattle.cbdc_model.specs.Lanes.{IsEnd}
 use Rattle.cbdc_model.specs.World.{KeptJournals, AreIdle}
+use Rattle.cbdc_model.specs.Room.{kept_room}
+use Rattle.cbdc_model.specs.Due.{used_of}
+use Rattle.caused_ledgers.specs.Caused.{IsCausedLedger}
 use Rattle.cbdc_model.specs.Headline.{Headline}
 use Rattle.cbdc_model.specs.Waves.{IsResumed, Waves}
 use Rattle.ledger_laws.proofs.Cuts.{end_trans}
@@ -20,8 +24,8 @@ use Rattle.shard_node.specs.Shards.{ShardOf}
 use Rattle.rack_ledgers.specs.Ledgers.{ByPlace, AreOpened}
 use Rattle.rack_nodes.specs.Racked.{OfTold}
 use Rattle.rack_laws.specs.Shown.{Shows, OfShown, KeepsEach, HoldsEach, OpenTo, LogHasRoom, ShardHasRoom, HaveRoom, node_count}
-use Rattle.rack_laws.proofs.Opened.{same_shape, same_journals, logs_held, shards_held}
-use Rattle.rack_laws.proofs.Behind.{are_quiet, none_fly, keeps_each, keeps_flights, holds_each, rooms_each}
+use Rattle.rack_laws.proofs.Opened.{at_place, same_shape, same_journals, logs_held, shards_held}
+use Rattle.rack_laws.proofs.Behind.{log_journal, shard_journal, are_quiet, none_fly, keeps_each, keeps_flights, holds_each, rooms_each}
 use Rattle.rack_laws.proofs.Crashed.{crashed}
 use Rattle.ledger_runs.specs.Turning.{OfKept, StaysKept}
 use Rattle.ledger_nodes.specs.Ledgers.{IsLedger, journals_of, flights_of, AreStored, AreQuiet}
@@ -30,7 +34,7 @@ use Rattle.sound_laws.specs.SoundTest.{sound_by}
 use Rattle.sound_laws.proofs.Telling.{is_sound_law}
 use Rattle.ledger_runs.specs.Flying.{AllMayCome}
 use Rattle.file_runs.specs.Runs.{joined, FliesWith}
-use Rattle.rack_runs.specs.Runs.{IsGrown, IsRun, IsRecovered, IsCutShort}
+use Rattle.rack_runs.specs.Runs.{IsGrown, IsRun, IsRecovered, IsCutShort, SparesOthers, TookLedger}
 use Rattle.printed_lines.specs.Unspent.{IsUnspentCount}
 use Rattle.rack_runs.specs.declared.over.Ran.{Ran}
 use Rattle.rack_runs.specs.Telling.{CountAll, TellsRun, IsTold}
@@ -69,12 +73,39 @@ module _ {D : Type 0} (content : D → Option (List ℕ)) (images : D → List �
     pub waves : OfKept S (journals_of count limit S logs shards) (λ _ _. (sound : FullTx → Bool) → TellsSound verdicts sound → Waves S sound files (journals_of count limit S logs shards) (journals_of count limit S now after))
     pub quiet : OfKept S (journals_of count limit S logs shards) (λ _ _. AreQuiet logs shards → AreQuiet now after)
 
+  -- each disk that was told had room for its journal and for what is kept for its open batches
+  opened_room : HaveRoom limit held h.shape (journals_of count limit h.shape logs shards)
+  opened_room n inside = elim (cases_lt n h.shape.coordinators) [
+    | inl low ↦ λ was told.
+        let l = at_place logs n (omega (arith, low, are.coordinators)) in
+        let log = are.logs_at n l.0 l.1 in
+        let own : used_of l.0.journal + kept_room l.0.header.shape l.0.journal ≤ limit was =
+        subst (λ m. used_of l.0.journal + kept_room l.0.header.shape l.0.journal ≤ m) (log.capacity ∙ (log.opened was told).read.room) log.room in
+        let here : used_of l.0.journal + kept_room h.shape l.0.journal ≤ limit was = subst (λ k. used_of l.0.journal + kept_room k l.0.journal ≤ limit was) (ap (λ k. k.shape) log.header) own in
+        subst (λ (J : List Record). used_of J + kept_room h.shape J ≤ limit was) (sym (log_journal content images limit count h.shape logs shards n l.0 low l.1)) here
+    | inr high ↦ λ was told.
+        let place : h.shape.coordinators + (n - h.shape.coordinators) ≡ n = omega (arith, high) in
+        let x = at_place shards (n - h.shape.coordinators) (omega (arith, high, inside, are.shards_are)) in
+        let shard = are.shards_at (n - h.shape.coordinators) x.0 x.1 in
+        let own : used_of x.0.journal + kept_room x.0.header.shape x.0.journal ≤ limit was =
+        subst (λ m. used_of x.0.journal + kept_room x.0.header.shape x.0.journal ≤ m) ((shard.opened was (ap held place ∙ told)).read.room) shard.room in
+        let here : used_of x.0.journal + kept_room h.shape x.0.journal ≤ limit was = subst (λ k. used_of x.0.journal + kept_room k x.0.journal ≤ limit was) (ap (λ k. k.shape) shard.header) own in
+        subst (λ (J : List Record). used_of J + kept_room h.shape J ≤ limit was)
+        (sym (ap (λ m. journals_of count limit h.shape logs shards m) (sym place) ∙ shard_journal content images limit count h.shape logs shards (n - h.shape.coordinators) x.0 x.1)) here
+  ]
+
   module _ (K : Shape) (mint : List Output) (submissions : List FullTx) (E : ℕ → List Record) (within : IsWithinLimits K) (shows : Shows content held K (genesis_id mint) E) (kept : KeptJournals K mint submissions E) where
     shape_is : h.shape ≡ K
     shape_is = same_shape content images limit count held h logs shards are K (genesis_id mint) E within shows
 
     journals_are : journals_of count limit K logs shards ≡ E
     journals_are = λ i n. same_journals content images limit count held h logs shards are K (genesis_id mint) E within shows (beyond K mint submissions E kept) n i
+
+    had_room : HaveRoom limit held K E
+    had_room = subst (λ L. HaveRoom limit held K L) journals_are (subst (λ k. HaveRoom limit held k (journals_of count limit k logs shards)) shape_is opened_room)
+
+    others_stay : ((n : ℕ) → length logs + length shards ≤ n → back n ≡ held n) → (n : ℕ) → node_count K ≤ n → back n ≡ held n
+    others_stay others = subst (λ k. (n : ℕ) → node_count k ≤ n → back n ≡ held n) shape_is (λ n le. others n (omega (arith, le, are.coordinators, are.shards_are)))
 
     kept_there : KeptJournals K mint submissions (journals_of count limit K logs shards)
     kept_there = subst (KeptJournals K mint submissions) (sym journals_are) kept
@@ -134,6 +165,12 @@ module _ {D : Type 0} (content : D → Option (List ℕ)) (images : D → List �
 
   pub tells : (verdicts : VerdictsOf) (ran : Ran) → KeepsIt h.shape → WavesIt verdicts h.shape → TellsIt verdicts ran h.shape → CountAll (map (λ s. s.journal) after) ran.unspent → QuietIt h.shape → OfShown content held (IsTold images back verdicts files ran)
   tells verdicts ran keeps waves told counted quiet K mint submissions E within shows kept = is_told K mint submissions E within shows kept ran verdicts keeps waves told counted quiet
+
+  pub spares : ((n : ℕ) → length logs + length shards ≤ n → back n ≡ held n) → SparesOthers content held back
+  spares others K mint submissions E within shows kept = others_stay K mint submissions E within shows kept others
+
+  pub took : IsCausedLedger content held → ((n : ℕ) → length logs + length shards ≤ n → back n ≡ held n) → TookLedger content limit held back
+  took ledger others = record { ledger = ledger; room = had_room; spared = spares others }
 
   pub runs : (verdicts : VerdictsOf) → KeepsIt h.shape → AreIdle h.shape (journals_of count limit h.shape now after)
       → OfKept h.shape (journals_of count limit h.shape logs shards) (λ _ _. files ≡ [] → IsResumed h.shape (journals_of count limit h.shape logs shards) (journals_of count limit h.shape now after))

@@ -1,5 +1,5 @@
 -- What runs leave of the ledger that a rack showed.
-use Rattle.std.specs.Prelude.{◌≡◌, ℕ, List, [], ◌++◌, reverse, Option}
+use Rattle.std.specs.Prelude.{◌≤◌, ◌≡◌, ℕ, List, [], ◌++◌, reverse, Option}
 use Rattle.outside.specs.Counts.{Rose}
 use Rattle.cbdc_types.specs.declared.answer.Answer.{Answer}
 use Rattle.cbdc_model.specs.Records.{Shape, Compact, Record, journal}
@@ -10,7 +10,7 @@ use Rattle.cbdc_model.specs.World.{KeptJournals}
 use Rattle.cbdc_model.specs.Headline.{Headline}
 use Rattle.cbdc_model.specs.Waves.{IsResumed, Waves}
 use Rattle.lane_driver.specs.declared.fault.LaneFault.{LaneFault}
-use Rattle.rack_laws.specs.Shown.{OfShown, KeepsEach, HoldsEach, AreLeft, OpenTo, HaveRoom}
+use Rattle.rack_laws.specs.Shown.{OfShown, KeepsEach, HoldsEach, AreLeft, OpenTo, HaveRoom, node_count}
 use Rattle.submissions.specs.Checks.{VerdictsOf}
 use Rattle.sound_laws.specs.SoundTest.{sound_by}
 use Rattle.rack_nodes.specs.Racked.{OfTold}
@@ -59,9 +59,21 @@ pub record IsCutShort {D : Type 0} (images : D → List ℕ → Type 0) (limit :
   pub rooms : HaveRoom limit held K exit
   pub crashes : SurvivesCrashes images held K mint (submissions ++ joined files) E
 
+-- the disks that are no nodes of whatever kept ledger the rack showed are as before
+abbrev pub SparesOthers : {D : Type 0} → (D → Option (List ℕ)) → (ℕ → Option D) → (ℕ → Option D) → Type 0
+SparesOthers content held back = OfShown content held (λ K mint submissions E. (n : ℕ) → node_count K ≤ n → back n ≡ held n)
+
+-- the disks told a ledger in which each record was caused; where it was kept, each of its disks had room for its journal and for what is kept for the
+-- batches that were open there; and all other disks are as before
+pub record TookLedger {D : Type 0} (content : D → Option (List ℕ)) (limit : D → ℕ) (held back : ℕ → Option D) : Type 0 where
+  pub ledger : IsCausedLedger content held
+  pub room : OfShown content held (λ K mint submissions E. HaveRoom limit held K E)
+  pub spared : SparesOthers content held back
+
 -- a lane's fault ended a run over the ledger that the disks told, in which each record was caused: its journals have grown at their ends, by so much as
 -- each lane has prepared; where the disks told all each keeps its journal, with one record more or without; the answer has its cause, by the counts of
--- faults before and now and by what the disks that were told may hold; it is the least lane's that met one; and where the ledger was kept, it is cut short
+-- faults before and now and by what the disks that were told may hold; it is the least lane's that met one; where the ledger was kept, it is cut short, and the disks that
+-- are no nodes of it are as before
 pub record IsLaneFault {D : Type 0} (content : D → Option (List ℕ)) (images : D → List ℕ → Type 0) (limit : D → ℕ) (held back : ℕ → Option D) (before now : ℕ → ℕ) (next : Shape → (ℕ → List Record) → (ℕ → List Record) → ℕ → List Compact → Type 0)
     (ends : Shape → (ℕ → List Record) → (ℕ → List Record) → (ℕ → Type 0) → (ℕ → ℕ → Type 0) → LaneFault → Type 0) (begun : Shape → (ℕ → List Record) → (ℕ → List Record) → Type 0) (files : List (List FullTx)) (answer : Answer) : Type 0 where
   pub ledger : IsCausedLedger content held
@@ -72,6 +84,7 @@ pub record IsLaneFault {D : Type 0} (content : D → Option (List ℕ)) (images 
   pub cause : IsLaneAnswer ledger.shape (next ledger.shape (λ n. journal n (reverse ledger.rows)) exit) (λ n. journal n (reverse ledger.rows)) exit (λ n. Rose (before n) (now n)) (λ n c. OfTold (held n) (λ d. c ≡ limit d)) answer
   pub least : IsLeastAnswer (ends ledger.shape (λ n. journal n (reverse ledger.rows)) exit (λ n. Rose (before n) (now n)) (λ n c. OfTold (held n) (λ d. c ≡ limit d))) answer
   pub kept : OfShown content held (IsCutShort images limit back files exit)
+  pub spared : SparesOthers content held back
 
 -- nothing is next for any lane
 abbrev pub NothingNext : Shape → (ℕ → List Record) → (ℕ → List Record) → ℕ → List Compact → Type 0

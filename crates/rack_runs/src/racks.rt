@@ -2,11 +2,11 @@
 ghost use Rattle.std.specs.Prelude.{◌≤◌, ◌⊎◌, ℕ, [], All, IfOk, OnOk, IfErr};
 ghost use Rattle.input_files.specs.Limits.{IsShort};
 ghost use Rattle.rack_nodes.specs.Racked.{IsBack};
-ghost use Rattle.caused_ledgers.specs.Caused.{IsCausedLedger, IsUnresumed};
+ghost use Rattle.caused_ledgers.specs.Caused.{IsUnresumed};
 ghost use Rattle.rack_laws.specs.Shown.{OfShown};
 ghost use Rattle.ledger_runs.specs.Least.{IsLeastOpen};
 ghost use Rattle.rack_runs.specs.Endings.{EndsRun};
-ghost use Rattle.rack_runs.specs.Runs.{IsRun, IsRecovered, IsLaneFault, NonePrepared, NothingNext, PieceNext, PiecesPrepared};
+ghost use Rattle.rack_runs.specs.Runs.{IsRun, IsRecovered, IsLaneFault, TookLedger, NonePrepared, NothingNext, PieceNext, PiecesPrepared};
 ghost use Rattle.rack_runs.specs.Telling.{IsTold};
 ghost use Rattle.submissions.specs.Checks.{VerdictsOf};
 
@@ -31,8 +31,9 @@ pub fn run_on<W: Wait, R: Rack, V: Verifier, G: Gate>(
 ) -> Result<Ran, Answer>
     requires all { (n : ℕ) → R.can_take rack.old n }
     requires short { All (λ txs. All IsShort txs) files.now }
-    // The rack showed a ledger, and each record of its history is caused by what stands before it.
-    ensures caused { OnOk result (IsCausedLedger R.Disk.content (R.held rack.old)) }
+    // The rack showed a ledger, each record of its history is caused by what stands before it, and the disks had the room that is kept for its
+    // open batches. The disks that are no nodes of it are as they were.
+    ensures caused { OnOk result (TookLedger R.Disk.content R.Disk.limit (R.held rack.old) (R.held rack.new)) }
 
     // The ledger that the rack showed has its open batches at their end and the files' waves behind them, and each disk holds its journal.
     ensures ran { OnOk result (OfShown R.Disk.content (R.held rack.old) (IsRun R.Disk.images (R.held rack.new) (V.verdict_of verifier.now) files.now)) }
@@ -67,7 +68,7 @@ pub fn recover_on<W: Wait, R: Rack, G: Gate>(
     gate: &G,
 ) -> Result<Ran, Answer>
     requires all { (n : ℕ) → R.can_take rack.old n }
-    ensures caused { OnOk result (IsCausedLedger R.Disk.content (R.held rack.old)) }
+    ensures caused { OnOk result (TookLedger R.Disk.content R.Disk.limit (R.held rack.old) (R.held rack.new)) }
     ensures recovered { OnOk result (OfShown R.Disk.content (R.held rack.old) (IsRecovered R.Disk.images (R.held rack.new))) }
     ensures told { IfOk result (λ r. (verdicts : VerdictsOf) × OfShown R.Disk.content (R.held rack.old) (IsTold R.Disk.images (R.held rack.new) verdicts [] r)) }
     ensures stopped { IfErr result (λ e. (IsUnresumed R.Disk.content R.Disk.images R.Disk.limit R.Disk.count (R.held rack.old) (R.count rack.old) (R.count rack.new) e

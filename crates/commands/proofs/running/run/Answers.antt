@@ -24,12 +24,12 @@ returns-in-Err-clause-silent g c = silent_same (g.O.Sink.taken c.args.out.now) c
 
 pub returns-in-Ok-write_report-clause-did : goal.returns-in-Ok-write_report-clause-did
 returns-in-Ok-write_report-clause-did g c well =
-    did_run (g.I.Inbox.file c.args.inbox.now) g.R.Disk.Disk.content g.R.Disk.Disk.images (g.R.Rack.held c.args.rack.now) (g.R.Rack.held c.run_all.new.rack) (IsPrinted (g.O.Sink.taken c.args.out.now) (g.O.Sink.taken c.write_report.new.out) answers.Ok)
+    did_run (g.I.Inbox.file c.args.inbox.now) g.R.Disk.Disk.content g.R.Disk.Disk.images g.R.Disk.Disk.limit (g.R.Rack.held c.args.rack.now) (g.R.Rack.held c.run_all.new.rack) (IsPrinted (g.O.Sink.taken c.args.out.now) (g.O.Sink.taken c.write_report.new.out) answers.Ok)
     c.args.verdicts.now c.args.clients.now c.in-Ok.ran c.in-Ok.ensures.did c.in-Ok-write_report.ensures.prints
 
 pub returns-clause-did : goal.returns-clause-did
 returns-clause-did g c well =
-    did_run (g.I.Inbox.file c.args.inbox.now) g.R.Disk.Disk.content g.R.Disk.Disk.images (g.R.Rack.held c.args.rack.now) (g.R.Rack.held c.run_all.new.rack) (IsPrinted (g.O.Sink.taken c.args.out.now) (g.O.Sink.taken c.write_report.new.out) answers.WriteFault)
+    did_run (g.I.Inbox.file c.args.inbox.now) g.R.Disk.Disk.content g.R.Disk.Disk.images g.R.Disk.Disk.limit (g.R.Rack.held c.args.rack.now) (g.R.Rack.held c.run_all.new.rack) (IsPrinted (g.O.Sink.taken c.args.out.now) (g.O.Sink.taken c.write_report.new.out) answers.WriteFault)
     c.args.verdicts.now c.args.clients.now c.in-Ok.ran c.in-Ok.ensures.did c.in-Err-write_report.ensures.prints
 
 pub returns-in-Err-clause-left : goal.returns-in-Err-clause-left

@@ -7,7 +7,7 @@ use Rattle.commands.specs.Outcomes.{Why}
 use Rattle.commands.proofs.Answers.{told_by}
 use Rattle.commands.proofs.Named.{answered}
 use Rattle.commands.proofs.Naming.{asked_name}
-use Rattle.commands.proofs.Spared.{of_no_rack}
+use Rattle.commands.proofs.Spared.{of_no_rack, of_no_file}
 use Rattle.outside.specs.Counts.{Rose}
 use Rattle.word_laws.proofs.Refused.{asked_law}
 use Rattle.commands.proofs.top.answer_words.Goals as goal
@@ -36,3 +36,6 @@ returns-in-Ok-clause-named g c =
 
 pub returns-in-Ok-clause-spared : goal.returns-in-Ok-clause-spared
 returns-in-Ok-clause-spared g c r asked of = c.answer_to-status.ensures.spared (of_no_rack (texts c.args.words.now) r c.in-Ok.request asked c.in-Ok.ensures.asked of)
+
+pub returns-in-Ok-clause-unread : goal.returns-in-Ok-clause-unread
+returns-in-Ok-clause-unread g c r asked of = c.answer_to-status.ensures.unread (of_no_file (texts c.args.words.now) r c.in-Ok.request asked c.in-Ok.ensures.asked of)

@@ -4,7 +4,7 @@ use Rattle.rack_laws.proofs.Behind.{is_ledger, logs_return, shards_return}
 use Rattle.rack_runs.proofs.Checking.{opened_checked}
 use Rattle.rack_runs.proofs.Answering.{lane_fault}
 use Rattle.rack_runs.proofs.Lent.{on_ok_always, on_ok_all, on_ok_both, if_err_by, if_err_both, if_ok_all}
-use Rattle.rack_runs.proofs.Ledgers.{runs, cut_short, tells}
+use Rattle.rack_runs.proofs.Ledgers.{runs, cut_short, tells, spares, took}
 use Rattle.rack_runs.proofs.racks.run_on.Goals as goal
 
 pub run_nodes-nodes-requires-clause-ledger : goal.run_nodes-nodes-requires-clause-ledger
@@ -36,8 +36,16 @@ close_nodes-requires-clause-others g c n le =
 
 pub returns-clause-caused : goal.returns-clause-caused
 returns-clause-caused g c =
+    let ran = c.run_nodes-nodes.ensures in
+    let are = c.in-Ok.ensures.opened in
+    let logs : length c.run_nodes-nodes.result.nodes.logs.items ≡ length c.in-Ok.nodes.logs.items = ran.ledger.coordinators ∙ (ap (λ k. k.coordinators) ran.shape ∙ sym are.coordinators) in
+    let shards : length c.run_nodes-nodes.result.nodes.shards.items ≡ length c.in-Ok.nodes.shards.items = ran.ledger.shards_are ∙ (ap (λ k. k.shards) ran.shape ∙ sym are.shards_are) in
     on_ok_always c.run_nodes-nodes.result.came
+    (took g.R.Disk.Disk.content g.R.Disk.Disk.images g.R.Disk.Disk.limit g.R.Disk.Disk.count (g.R.Rack.held c.args.rack.now) (g.R.Rack.held c.close_nodes.new.rack) c.in-Ok.nodes.header c.run_nodes-nodes.result.nodes.header
+    c.in-Ok.nodes.logs.items c.run_nodes-nodes.result.nodes.logs.items c.in-Ok.nodes.shards.items c.run_nodes-nodes.result.nodes.shards.items c.args.files.now c.in-Ok.ensures.opened ran.ledger ran.shape
+    c.close_nodes.ensures.closed_logs c.close_nodes.ensures.closed_shards ran.stored
     (caused_ledger g.R.Disk.Disk.content g.R.Disk.Disk.images g.R.Disk.Disk.limit g.R.Disk.Disk.count (g.R.Rack.held c.args.rack.now) c.in-Ok.nodes.header c.in-Ok.nodes.logs.items c.in-Ok.nodes.shards.items c.in-Ok.ensures.opened c.in-Ok.ensures.caused)
+    (λ n le. c.close_nodes.ensures.others_held n (omega (arith, le, logs, shards)) ∙ c.in-Ok.ensures.others_held n le))
 
 pub returns-clause-ran : goal.returns-clause-ran
 returns-clause-ran g c =
@@ -55,6 +63,9 @@ run_nodes-nodes-requires-clause-checked g c =
 pub returns-clause-stopped : goal.returns-clause-stopped
 returns-clause-stopped g c =
     let ran = c.run_nodes-nodes.ensures in
+    let are = c.in-Ok.ensures.opened in
+    let logs : length c.run_nodes-nodes.result.nodes.logs.items ≡ length c.in-Ok.nodes.logs.items = ran.ledger.coordinators ∙ (ap (λ k. k.coordinators) ran.shape ∙ sym are.coordinators) in
+    let shards : length c.run_nodes-nodes.result.nodes.shards.items ≡ length c.in-Ok.nodes.shards.items = ran.ledger.shards_are ∙ (ap (λ k. k.shards) ran.shape ∙ sym are.shards_are) in
     if_err_by _ _ c.run_nodes-nodes.result.came
     (λ e came. inr
     (lane_fault g.R.Disk.Disk.content g.R.Disk.Disk.images g.R.Disk.Disk.limit g.R.Disk.Disk.count (g.R.Rack.held c.args.rack.now) (g.R.Rack.held c.close_nodes.new.rack) c.in-Ok.nodes.header
@@ -63,7 +74,11 @@ returns-clause-stopped g c =
     c.in-Ok.ensures.logs_since c.in-Ok.ensures.shards_since c.close_nodes.ensures.counted_logs c.close_nodes.ensures.counted_shards (g.V.Verifier.verdict_of c.args.verifier.now) c.args.files.now ran.begun ran.grows e came.0 came.1
     (cut_short g.R.Disk.Disk.content g.R.Disk.Disk.images g.R.Disk.Disk.limit g.R.Disk.Disk.count (g.R.Rack.held c.args.rack.now) (g.R.Rack.held c.close_nodes.new.rack) c.in-Ok.nodes.header
     c.run_nodes-nodes.result.nodes.header c.in-Ok.nodes.logs.items c.run_nodes-nodes.result.nodes.logs.items c.in-Ok.nodes.shards.items c.run_nodes-nodes.result.nodes.shards.items c.args.files.now c.in-Ok.ensures.opened
-    ran.ledger ran.shape c.close_nodes.ensures.closed_logs c.close_nodes.ensures.closed_shards ran.stored ran.keeps ran.flies ran.log_rooms ran.shard_rooms)))
+    ran.ledger ran.shape c.close_nodes.ensures.closed_logs c.close_nodes.ensures.closed_shards ran.stored ran.keeps ran.flies ran.log_rooms ran.shard_rooms)
+    (spares g.R.Disk.Disk.content g.R.Disk.Disk.images g.R.Disk.Disk.limit g.R.Disk.Disk.count (g.R.Rack.held c.args.rack.now) (g.R.Rack.held c.close_nodes.new.rack) c.in-Ok.nodes.header c.run_nodes-nodes.result.nodes.header
+    c.in-Ok.nodes.logs.items c.run_nodes-nodes.result.nodes.logs.items c.in-Ok.nodes.shards.items c.run_nodes-nodes.result.nodes.shards.items c.args.files.now c.in-Ok.ensures.opened ran.ledger ran.shape
+    c.close_nodes.ensures.closed_logs c.close_nodes.ensures.closed_shards ran.stored
+    (λ n le. c.close_nodes.ensures.others_held n (omega (arith, le, logs, shards)) ∙ c.in-Ok.ensures.others_held n le))))
     (if_err_both _ _ c.run_nodes-nodes.result.came ran.fault ran.least)
 
 pub returns-clause-told : goal.returns-clause-told
