@@ -4,3 +4,4 @@ pub mod Alls
 pub mod Keys
 pub mod Entitled
 pub mod Placing
+pub mod Counting

@@ -127,6 +127,7 @@ pub use room::kept_room;
 pub use room::lane_room;
 pub use room::need_of;
 pub use room::size_of;
+pub use room::used_of;
 pub use same::are_answered;
 pub use same::are_decisions;
 pub use same::are_hashes;

@@ -4,4 +4,5 @@ mod ledgers;
 mod making;
 mod refusals;
 mod replies;
+mod room;
 mod rows;
