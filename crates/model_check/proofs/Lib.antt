@@ -5,3 +5,4 @@ pub mod Keys
 pub mod Entitled
 pub mod Placing
 pub mod Counting
+pub mod Once

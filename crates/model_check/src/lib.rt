@@ -27,6 +27,7 @@ mod unspent;
 mod worlds;
 
 pub use books::coins_of;
+pub use books::count_of_book;
 pub use books::fold_of;
 pub use books::genesis_book;
 pub use books::genesis_id;
