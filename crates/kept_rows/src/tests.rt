@@ -1,6 +1,9 @@
 mod changed;
+mod coming;
+mod histories;
 mod judging;
 mod kept;
+mod money;
 mod others;
 mod taking;
 mod waves;
