@@ -116,8 +116,12 @@ fn two_lanes(rt: HostRuntime) -> Result<(), Fail> {
     let Some(all) = places(&rt, &row, &row.exit)? else {
         return Err(Fail::new("there is no history"));
     };
+    let Some(newest) = all.as_slice().last() else {
+        return Err(Fail::new("there is no row"));
+    };
     assert_eq!(rt; all.len(), 23);
-    assert_eq!(rt; all.as_slice().last(), Some(&(0, 21)));
+    assert_eq!(rt; newest.0, 0);
+    assert_eq!(rt; newest.1, 21);
     Ok(())
 }
 
