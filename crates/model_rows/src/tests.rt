@@ -3,6 +3,7 @@ mod full;
 mod ledgers;
 mod making;
 mod refusals;
+mod repeats;
 mod replies;
 mod room;
 mod rows;
