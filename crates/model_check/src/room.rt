@@ -1,6 +1,6 @@
 // How many bytes a record takes in its journal, how many are kept free for records still to come, and how many a journal
 // takes. Inside, 2^64 - 1 stands for a number that is not below it.
-ghost use Rattle.std.specs.Prelude.{◌≡◌, ◌+◌, ◌*◌, ◌-◌, ◌^◌, ◌<◌, ◌≤◌, length, min, sum_by, MatchOption};
+ghost use Rattle.std.specs.Prelude.{◌≡◌, ◌+◌, ◌*◌, ◌-◌, ◌^◌, ◌<◌, ◌≤◌, min, sum_by, MatchOption};
 ghost use Rattle.cbdc_model.specs.Room.{reply_size, outcome_size, compact_size, answered_size, size_of, room_in, lane_room, kept_below, kept_room, need_of};
 ghost use Rattle.cbdc_model.specs.Due.{used_of};
 ghost use Rattle.model_check.specs.Slots.{phase_in};

@@ -142,7 +142,7 @@ not_twice : (xs : List Input) (i k : ℕ) (x y : Input) → IsDistinct (λ p q. 
 not_twice [] i k x y d here earlier lt e = no_item x here
 not_twice (z ∷ xs) zero k x y d here earlier lt e = omega (arith, lt)
 not_twice (z ∷ xs) (suc i) zero x y d here earlier lt e =
-    itself z.point x.point (ap (λ c. c.point) (same_item z y earlier) ∙ e)
+    itself z.point x.point (ap (λ (c : Input). c.point) (same_item z y earlier) ∙ e)
     (key_at (key z.point) xs i x (key_apart (key z.point) (map (λ c. key c.point) xs) d) here)
 not_twice (z ∷ xs) (suc i) (suc k) x y d here earlier lt e =
     not_twice xs i k x y (keys_apart (key z.point) (map (λ c. key c.point) xs) d) here earlier (omega (arith, lt)) e

@@ -90,6 +90,7 @@ fn are_held(
 }
 
 /// What a ledger comes to.
+#[derive(Clone, Copy)]
 pub(crate) struct Left {
     pub committed: usize,
     pub coins: usize,
