@@ -85,7 +85,7 @@ module _ (K : Shape) (next due : ℕ → List Compact → Type 0) (E X : ℕ →
 
   -- by what is known of the nodes of the ledger otherwise
   pub answer_moves : (a : Answer) → IsLaneAnswer K next E X failed holds a → IsLaneAnswer K due E X fails held a
-  answer_moves (answers.DiskFault node) (inside, did) = (inside, failed_on node inside did)
+  answer_moves (answers.DiskFault node) (lane, lt, h) = (lane, lt, record { inside = h.inside; asked = h.asked; did = failed_on node h.inside h.did })
   answer_moves (answers.Full node used need capacity) (lane, lt, h) = (
     lane,
     lt,
@@ -139,7 +139,7 @@ module _ (K : Shape) (failed fails : ℕ → Type 0) (holds held : ℕ → ℕ �
     (failed_on : (n : ℕ) → n < node_count K → failed n → fails n) (held_on : (n c : ℕ) → n < node_count K → holds n c → held n c) where
   -- by what is known of the nodes of the ledger otherwise
   cause_by : (lane : ℕ) (next : List Compact → Type 0) (E X : ℕ → List Record) → IsLaneOf K lane → (node : ℕ) (kind : LaneFaultKind) → IsCauseOf K lane next E X failed holds node kind → IsCauseOf K lane next E X fails held node kind
-  cause_by lane next E X lt node DiskStopped (inside, did) = (inside, failed_on node inside did)
+  cause_by lane next E X lt node DiskStopped h = record { inside = h.inside; asked = h.asked; did = failed_on node h.inside h.did }
   cause_by lane next E X lt node (NoRoom used need capacity) h = record {
     front = h.front;
     since = h.since;
@@ -176,8 +176,8 @@ module _ (K : Shape) (failed fails : ℕ → Type 0) (holds held : ℕ → ℕ �
 
   first_by : (verdicts : VerdictsOf) (more : List (List FullTx)) (I J : ℕ → List Record) (e : LaneFault) → EndsFirst K verdicts more I J failed holds e → EndsFirst K verdicts more I J fails held e
   first_by verdicts [] I J e h = h
-  first_by verdicts (file ∷ more) I J e (inl none) = inl none
-  first_by verdicts (file ∷ more) I J e (inr least) = inr (λ sound tells. least_by (sent_to K sound file) (IsSentPiece K verdicts file I J) I J e (least sound tells))
+  first_by verdicts (file ∷ more) I J e (inl none, begun) = (inl none, begun)
+  first_by verdicts (file ∷ more) I J e (inr least, begun) = (inr (λ sound tells. least_by (sent_to K sound file) (IsSentPiece K verdicts file I J) I J e (least sound tells)), begun)
 
   files_by : (verdicts : VerdictsOf) (files : List (List FullTx)) (I J : ℕ → List Record) (e : LaneFault) → EndsFiles K verdicts files I J failed holds e → EndsFiles K verdicts files I J fails held e
   files_by verdicts files I J e h = record {

@@ -94,8 +94,8 @@ module _ (K : Shape) (lane : ℕ) (next : List Compact → Type 0) (I J : ℕ �
   abbrev Causes : LaneFault → Type 0
   Causes e = IsLaneCause K lane next I J (HaveFailed opened faults) (MayHold capacity) e
 
-  failed : (e : LaneFault) (node : ℕ) → e ≡ record { node = node; fault = DiskStopped } → HasFailed K opened faults node → Causes e
-  failed e node is h = subst Causes (sym is) (h.node_is, h.rose)
+  failed : (e : LaneFault) (node : ℕ) → e ≡ record { node = node; fault = DiskStopped } → HasFailed K lane J opened faults node → Causes e
+  failed e node is h = subst Causes (sym is) (record { inside = h.node_is; asked = h.asked; did = h.rose })
 
   no_stamp : (e : LaneFault) (node stamp : ℕ) → e ≡ record { node = node; fault = NoStamp stamp } → HasNoStamp K lane next J node stamp → Causes e
   no_stamp e node stamp is h = subst Causes (sym is) (record {
