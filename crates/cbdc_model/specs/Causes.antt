@@ -1,9 +1,10 @@
 -- What a record rests on: its causes stand, it agrees with them, and its stamp is one more than the greatest before it.
 use Rattle.std.specs.Prelude.{◌≡◌, ℕ, zero, suc, max, true, List, Option, is_some}
-use Rattle.cbdc_model.specs.Records.{Shape, Batch, Record, record_of, entries_in, txs_in, outcomes_in, stamp_in, txs_of, lock_of, last_stamp, Genesis, Lock, Finish, Forget, Start, Prepare, Commit, Discard, Done}
+use Rattle.cbdc_model.specs.Records.{Shape, Batch, Compact, Record, record_of, entries_in, txs_in, outcomes_in, stamp_in, txs_of, lock_of, Genesis, Lock, Finish, Forget, Start, Prepare, Commit, Discard, Done}
 use Rattle.cbdc_model.specs.Replies.{entries}
 use Rattle.cbdc_model.specs.Ranges.{shard_node, home_of, part, Concerned}
 use Rattle.cbdc_model.specs.Outcomes.{outcomes, decisions}
+use Rattle.cbdc_model.specs.Next.{next_stamp}
 
 -- the greatest of f s for s below n
 abbrev pub greatest : (ℕ → ℕ) → ℕ → ℕ
@@ -14,13 +15,17 @@ greatest f (suc n) = max (greatest f n) (f n)
 abbrev pub at_shards : Shape → (ℕ → List Record) → ℕ → Batch → ℕ → Option Record
 at_shards K journals kind b s = record_of kind (journals (shard_node K s)) b
 
+-- the transactions of a batch, by its Prepare at its coordinator
+abbrev pub prepared_txs : Shape → (ℕ → List Record) → Batch → List Compact
+prepared_txs K journals b = txs_of (journals (home_of K b.lane)) b
+
 -- each shard that the batch concerns has its record of the kind
 abbrev pub AllHave : Shape → (ℕ → List Record) → ℕ → Batch → Type 0
-AllHave K journals kind b = (s : ℕ) → Concerned K (txs_of (journals (home_of K b.lane)) b) s → is_some (at_shards K journals kind b s) ≡ true
+AllHave K journals kind b = (s : ℕ) → Concerned K (prepared_txs K journals b) s → is_some (at_shards K journals kind b s) ≡ true
 
 -- one more than the greatest of the node's last stamp and the cause's
 abbrev pub IsStamped : ℕ → List Record → ℕ → Type 0
-IsStamped stamp own cause = stamp ≡ suc (max (last_stamp own) cause)
+IsStamped stamp own cause = stamp ≡ next_stamp own cause
 
 -- the greatest stamp that the shards have of a kind of a batch
 abbrev pub last_of : Shape → (ℕ → List Record) → ℕ → Batch → ℕ
@@ -39,7 +44,7 @@ IsCaused K journals node (Lock stamp b es) =
     × IsStamped stamp (journals node) (stamp_in cause)
 IsCaused K journals node (Commit stamp b os) =
     AllHave K journals 2 b
-    × (os ≡ outcomes (λ s. entries_in (at_shards K journals 2 b s)) K.shards 0 (txs_of (journals (home_of K b.lane)) b))
+    × (os ≡ outcomes (λ s. entries_in (at_shards K journals 2 b s)) K.shards 0 (prepared_txs K journals b))
     × IsStamped stamp (journals node) (last_of K journals 2 b)
 IsCaused K journals node (Finish stamp b ds) =
     let cause = record_of 7 (journals (home_of K b.lane)) b in
