@@ -1,5 +1,6 @@
 mod changed;
 mod coming;
+mod coordinators;
 mod histories;
 mod judging;
 mod kept;

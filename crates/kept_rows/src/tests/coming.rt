@@ -16,12 +16,7 @@ pub(crate) fn history(
     ledger: &Ledger,
 ) -> Result<Option<List<Row>>, Fail> {
     let all = journals(rt.alloc(), ledger)?;
-    let rows = history_of(
-        rt.alloc(),
-        &row.shape,
-        row.mint.as_slice(),
-        all.as_slice(),
-    )?;
+    let rows = history_of(rt.alloc(), &row.shape, row.mint.as_slice(), all.as_slice())?;
     Ok(rows)
 }
 
@@ -60,7 +55,7 @@ fn is_worth(rt: &HostRuntime, row: &Worked, coins: &[Input], value: u128) -> Res
 }
 
 // The hashes of coins.
-fn hashes_of(rt: &HostRuntime, coins: &[Input]) -> Result<Vec<Hash>, Fail> {
+pub(crate) fn hashes_of(rt: &HostRuntime, coins: &[Input]) -> Result<Vec<Hash>, Fail> {
     let mut all = Vec::new(rt.alloc());
     for c in coins {
         all.push(input_hash(c))?;
@@ -83,10 +78,12 @@ fn are_held(
     let unspent = unspent_of(rt.alloc(), all.as_slice(), &row.shape)?;
     let hashes = hashes_of(rt, coins)?;
     let many = count_of_book(rt.alloc(), coins)?;
-    Ok(many == coins.len()
-        && unspent.len() == many
-        && are_within(unspent.as_slice(), hashes.as_slice())
-        && are_within(hashes.as_slice(), unspent.as_slice()))
+    Ok(
+        many == coins.len()
+            && unspent.len() == many
+            && are_within(unspent.as_slice(), hashes.as_slice())
+            && are_within(hashes.as_slice(), unspent.as_slice()),
+    )
 }
 
 /// What a ledger comes to.
@@ -109,9 +106,10 @@ fn leave(
         return Ok(false);
     };
     let many = txs.len() == wanted.committed && coins.len() == wanted.coins;
-    Ok(many
-        && is_worth(rt, row, coins.as_slice(), wanted.value)?
-        && are_held(rt, row, ledger, coins.as_slice())?)
+    Ok(
+        many && is_worth(rt, row, coins.as_slice(), wanted.value)?
+            && are_held(rt, row, ledger, coins.as_slice())?,
+    )
 }
 
 /// Whether a ledger has committed so many transactions, each of which found its inputs unspent, and they leave so many coins of so much,

@@ -13,14 +13,14 @@ const OUT_OF_RANGE: Refused = Refused::OtherPart { at: 99 };
 
 // The last record of batch 1 of lane 0: none, Lock 2, Finish 4, Forget 6.
 #[derive(Clone, Copy, Debug, PartialEq, Eq)]
-enum Last {
+pub(crate) enum Last {
     Genesis,
     Lock,
     Finish,
     Forget,
 }
 
-fn batch(lane: u32, number: u64) -> BatchId {
+pub(crate) fn batch(lane: u32, number: u64) -> BatchId {
     BatchId {
         lane: LaneId(lane),
         number,
@@ -28,7 +28,7 @@ fn batch(lane: u32, number: u64) -> BatchId {
 }
 
 // The two entries.
-fn entries(rt: &HostRuntime) -> Result<List<Entry>, Fail> {
+pub(crate) fn entries(rt: &HostRuntime) -> Result<List<Entry>, Fail> {
     let mut all = one(rt, entry(rt, 0, &[1], &[2])?)?;
     all.push(entry(rt, 1, &[7], &[3])?)?;
     Ok(all)
@@ -76,7 +76,7 @@ fn records(rt: &HostRuntime, last: Last) -> Result<List<Record>, Fail> {
 }
 
 // The journal up to this record.
-fn behind(rt: &HostRuntime, last: Last) -> Result<List<Record>, Fail> {
+pub(crate) fn behind(rt: &HostRuntime, last: Last) -> Result<List<Record>, Fail> {
     Ok(newest_first(records(rt, last)?))
 }
 
@@ -88,14 +88,14 @@ fn behind_another(rt: &HostRuntime, last: Last) -> Result<List<Record>, Fail> {
     Ok(newest_first(all))
 }
 
-fn lock_of(
+pub(crate) fn lock_of(
     rt: &HostRuntime,
     past: &[Record],
     own: BatchId,
     part: List<Entry>,
     cause: u64,
 ) -> Result<LockPlan, Fail> {
-    if last_stamp(past).0 >= 100 || cause >= 100 {
+    if last_stamp(past).0 >= 1 << 63 || cause >= 1 << 63 {
         return Ok(LockPlan::Refuse(OUT_OF_RANGE));
     }
     let call = LockCall {
@@ -106,14 +106,14 @@ fn lock_of(
     Ok(next_lock(rt.alloc(), past, &call)?)
 }
 
-fn finish_of(
+pub(crate) fn finish_of(
     rt: &HostRuntime,
     past: &[Record],
     own: BatchId,
     decisions: &[bool],
     cause: u64,
 ) -> Result<StampPlan, Fail> {
-    if last_stamp(past).0 >= 100 || cause >= 100 {
+    if last_stamp(past).0 >= 1 << 63 || cause >= 1 << 63 {
         return Ok(StampPlan::Refuse(OUT_OF_RANGE));
     }
     let call = FinishCall {
@@ -125,7 +125,7 @@ fn finish_of(
 }
 
 fn forget_of(past: &[Record], own: BatchId, cause: u64) -> StampPlan {
-    if last_stamp(past).0 >= 100 || cause >= 100 {
+    if last_stamp(past).0 >= 1 << 63 || cause >= 1 << 63 {
         return StampPlan::Refuse(OUT_OF_RANGE);
     }
     let call = ForgetCall {
@@ -135,23 +135,23 @@ fn forget_of(past: &[Record], own: BatchId, cause: u64) -> StampPlan {
     next_forget(past, &call)
 }
 
-fn append(stamp: u64) -> StampPlan {
+pub(crate) fn append(stamp: u64) -> StampPlan {
     StampPlan::Append(Stamp(stamp))
 }
 
-fn kept(stamp: u64) -> StampPlan {
+pub(crate) fn kept(stamp: u64) -> StampPlan {
     StampPlan::Kept(Stamp(stamp))
 }
 
-fn stale(kept: u64) -> StampPlan {
+pub(crate) fn stale(kept: u64) -> StampPlan {
     StampPlan::Refuse(Refused::Stale { kept })
 }
 
-fn early(kept: u64) -> StampPlan {
+pub(crate) fn early(kept: u64) -> StampPlan {
     StampPlan::Refuse(Refused::EarlyStamp { kept: Stamp(kept) })
 }
 
-fn other_part(at: u64) -> StampPlan {
+pub(crate) fn other_part(at: u64) -> StampPlan {
     StampPlan::Refuse(Refused::OtherPart { at })
 }
 
@@ -160,7 +160,7 @@ fn other_outcome(at: u64) -> StampPlan {
 }
 
 // Whether a plan is this one, a Lock's replies being those of the two entries.
-fn is_plan(plan: &LockPlan, wanted: &StampPlan) -> bool {
+pub(crate) fn is_plan(plan: &LockPlan, wanted: &StampPlan) -> bool {
     match (plan, wanted) {
         (LockPlan::Kept(told), StampPlan::Kept(stamp)) => {
             told.stamp == *stamp && told.replies.as_slice() == replies().as_slice()
@@ -174,7 +174,7 @@ fn is_plan(plan: &LockPlan, wanted: &StampPlan) -> bool {
 }
 
 // What a Lock of the two entries is answered behind a record.
-fn is_lock(
+pub(crate) fn is_lock(
     rt: &HostRuntime,
     last: Last,
     number: u64,
@@ -233,7 +233,7 @@ fn other_parts(rt: HostRuntime) -> Result<(), Fail> {
 }
 
 // What a Finish is answered behind a record.
-fn finished(
+pub(crate) fn finished(
     rt: &HostRuntime,
     last: Last,
     number: u64,
@@ -269,25 +269,42 @@ fn a_finish_again_with_an_early_cause(rt: HostRuntime) -> Result<(), Fail> {
 fn decisions_that_do_not_fit(rt: HostRuntime) -> Result<(), Fail> {
     let last = Last::Lock;
     assert_eq!(rt; finished(&rt, last, 1, &[true, true], 0)?, other_outcome(1));
-    assert_eq!(rt; finished(&rt, last, 1, &[false, true, true], 0)?, other_outcome(1));
+    assert_eq!(rt;
+        finished(&rt, last, 1, &[false, true, true], 0)?,
+        other_outcome(1)
+    );
     assert_eq!(rt; finished(&rt, last, 1, &[true], 0)?, other_outcome(1));
     assert_eq!(rt; finished(&rt, last, 1, &[], 0)?, other_outcome(0));
-    assert_eq!(rt; finished(&rt, last, 1, &[true, false, false], 0)?, other_outcome(2));
+    assert_eq!(rt;
+        finished(&rt, last, 1, &[true, false, false], 0)?,
+        other_outcome(2)
+    );
     Ok(())
 }
 
 #[test]
 fn other_decisions_than_before(rt: HostRuntime) -> Result<(), Fail> {
     let last = Last::Finish;
-    assert_eq!(rt; finished(&rt, last, 1, &[false, false], 0)?, other_outcome(0));
+    assert_eq!(rt;
+        finished(&rt, last, 1, &[false, false], 0)?,
+        other_outcome(0)
+    );
     assert_eq!(rt; finished(&rt, last, 1, &[true, true], 0)?, other_outcome(1));
     assert_eq!(rt; finished(&rt, last, 1, &[true], 0)?, other_outcome(1));
-    assert_eq!(rt; finished(&rt, last, 1, &[true, false, false], 0)?, other_outcome(2));
+    assert_eq!(rt;
+        finished(&rt, last, 1, &[true, false, false], 0)?,
+        other_outcome(2)
+    );
     Ok(())
 }
 
 // What a Forget is answered behind a record.
-fn forgotten(rt: &HostRuntime, last: Last, number: u64, cause: u64) -> Result<StampPlan, Fail> {
+pub(crate) fn forgotten(
+    rt: &HostRuntime,
+    last: Last,
+    number: u64,
+    cause: u64,
+) -> Result<StampPlan, Fail> {
     let own = behind(rt, last)?;
     Ok(forget_of(own.as_slice(), batch(0, number), cause))
 }
