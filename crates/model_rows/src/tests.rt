@@ -1,6 +1,7 @@
 mod calls;
 mod full;
 mod ledgers;
+mod looking;
 mod making;
 mod orders;
 mod refusals;
