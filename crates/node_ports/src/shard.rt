@@ -1,5 +1,5 @@
 // One shard of a ledger.
-ghost use Rattle.std.specs.Prelude.{◌≡◌, ◌≤◌, true, false, IfOk, All};
+ghost use Rattle.std.specs.Prelude.{◌≤◌, true, false, IfOk, All};
 ghost use Rattle.cbdc_model.specs.Calls.{IsLockCall, IsFinishCall, IsForgetCall};
 ghost use Rattle.cbdc_model.specs.Grammar.{IsReply};
 ghost use Rattle.cbdc_model.specs.Due.{lock_due, finish_due, forget_due};
