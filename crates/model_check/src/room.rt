@@ -13,11 +13,7 @@ use cbdc_types::{Answered, BatchId, CompactTx, LaneId, Outcome, Record, Reply, S
 fn counted(bytes: u64) -> Option<u64>
     ensures { MatchOption result (bytes ≡ 2 ^ 64 - 1) (λ n. (n ≡ bytes) × (n < 2 ^ 64 - 1)) }
 {
-    if bytes < u64::MAX {
-        Some(bytes)
-    } else {
-        None
-    }
+    if bytes < u64::MAX { Some(bytes) } else { None }
 }
 
 fn reply_size(reply: &Reply) -> u64

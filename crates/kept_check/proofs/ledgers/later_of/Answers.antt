@@ -16,7 +16,7 @@ returns-then-not-branch-clause-found c =
     let rows_are : later_below J (K.coordinators + K.shards) ≡ c.as_slice.result.now =
     sym (c.as_slice.ensures ∙ c.in_ok-later.ensures ∙ ap (later_below J) c.node_count.ensures.value) in
     λ later history on. absurd (no_lie (subst IsTrue c.if-not-branch.true (c.in_ok-is_history.ensures.1
-        (subst (λ l. IsHistory K m J l) rows_are (made_history K m J later history on)))))
+    (subst (λ l. IsHistory K m J l) rows_are (made_history K m J later history on)))))
 
 pub returns-clause-is : goal.returns-clause-is
 returns-clause-is c =
