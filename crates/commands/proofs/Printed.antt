@@ -107,7 +107,7 @@ prints_run content images before now printed verdicts files ran few shown is K m
     record {
       run = told.run;
       text = ran_text ran;
-      lines = λ sound tells. (let t = run_text K verdicts files few within E told.run.exit ran told.tells sound tells in record { all = t.0; are = t.1.0; unspent = ran.unspent; counted = told.unspent; text_is = t.1.1 });
+      lines = let t = run_text K verdicts files few within E told.run.exit ran told.tells (sound_by verdicts) tests in record { all = t.0; are = t.1.0; unspent = ran.unspent; counted = told.unspent; text_is = t.1.1 };
       prints = is (countable K verdicts files few within E told.run.exit ran told.tells (sound_by verdicts) tests);
       settled = settled_law K mint (submissions ++ joined files) verdicts files E told.run.exit within.some_shard (lanes_there K within) more told.run.grown.kept told.run.waves;
       free = free_confirmed_law K mint (submissions ++ joined files) verdicts files E told.run.exit within.some_shard (lanes_there K within) more told.run.grown.kept;

@@ -20,13 +20,14 @@ use Rattle.verifier_port.specs.declared.file.VerdictFile.{VerdictFile}
 use Rattle.ledger_init.specs.Made.{MayBeMade, HoldsFirst, first_of, node_count, IsUnmade}
 use Rattle.printed_lines.specs.Reports.{init_lines, status_lines}
 use Rattle.printed_lines.specs.Recoveries.{IsRecoverText}
-use Rattle.printed_lines.specs.Runs.{IsRunLines}
+use Rattle.printed_lines.specs.Runs.{IsRunText}
 use Rattle.rack_nodes.specs.Racked.{OfTold, IsBack}
 use Rattle.rack_nodes.specs.Refused.{IsNodeJournal}
 use Rattle.rack_ledgers.specs.Ledgers.{IsUnopened}
 use Rattle.caused_ledgers.specs.Caused.{IsUnresumed}
 use Rattle.rack_laws.specs.Shown.{OfShown}
 use Rattle.submissions.specs.Checks.{VerdictsOf}
+use Rattle.sound_laws.specs.SoundTest.{sound_by}
 use Rattle.submission_laws.specs.Settled.{AreSettled}
 use Rattle.submission_laws.specs.Free.{AreFreeConfirmed}
 use Rattle.lane_driver.specs.declared.fault.LaneFault.{LaneFault}
@@ -57,7 +58,7 @@ pub record DidInit {D : Type 0} (files : Text → Option (List ℕ)) (content : 
 pub record IsPrintedRun {D : Type 0} (images : D → List ℕ → Type 0) (now : ℕ → Option D) (printed : Text → Type 0) (verdicts : VerdictsOf) (handed : List (List FullTx)) (K : Shape) (mint : List Output) (submissions : List FullTx) (E : ℕ → List Record) : Type 0 where
   pub run : IsRun images now verdicts handed K mint submissions E
   pub text : Text
-  pub lines : IsRunLines K verdicts handed E run.exit text
+  pub lines : IsRunText K verdicts (sound_by verdicts) handed E run.exit text
   pub prints : printed text
   pub settled : AreSettled K verdicts handed E run.exit
   pub free : AreFreeConfirmed K verdicts handed E run.exit
