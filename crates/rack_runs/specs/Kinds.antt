@@ -22,7 +22,7 @@ answer_to e = answer_at e.node e.fault
 -- the cause of an answer to a lane's fault, from journals E to X, by the nodes whose disks have failed and what disks may hold: a node that a lane
 -- asks has a disk that failed, or no room or no stamp for what a lane wants; or memory ran out
 abbrev pub IsLaneAnswer : Shape → (ℕ → List Compact → Type 0) → (ℕ → List Record) → (ℕ → List Record) → (ℕ → Type 0) → (ℕ → ℕ → Type 0) → Answer → Type 0
-IsLaneAnswer K next E X failed may_hold (answers.DiskFault node) = (lane : ℕ) × IsLaneOf K lane × HasNoDiskFor K lane X failed node
+IsLaneAnswer K next E X failed may_hold (answers.DiskFault node) = (lane : ℕ) × IsLaneOf K lane × HasNoDiskFor K lane (next lane) X failed node
 IsLaneAnswer K next E X failed may_hold (answers.Full node used need capacity) = (lane : ℕ) × IsLaneOf K lane × HasNoRoomFor K lane (next lane) E X may_hold node used need capacity
 IsLaneAnswer K next E X failed may_hold (answers.ClockEnd node stamp) = (lane : ℕ) × IsLaneOf K lane × HasNoStampFor K lane (next lane) E X node stamp
 IsLaneAnswer K next E X failed may_hold answers.Memory = Unit {0}
