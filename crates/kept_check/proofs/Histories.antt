@@ -1,5 +1,5 @@
 -- The rows on top of a ledger's first ones, by its mint as a compact transaction, and the whole history.
-use Rattle.std.proofs.Common.{◌≡◌, ◌∙◌, ℕ, List, ◌++◌, Option, Some, None, sym, ap, subst}
+use Rattle.std.proofs.Common.{◌≡◌, ◌∙◌, ℕ, List, ◌++◌, Some, None, sym, ap, subst}
 use Rattle.cbdc_model.specs.Records.{Shape, Compact, Record, Row}
 use Rattle.cbdc_model.specs.Coins.{Output, compact, genesis_tx}
 use Rattle.cbdc_model.specs.History.{minted, first_rows, history_of}

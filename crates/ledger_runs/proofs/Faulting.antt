@@ -16,7 +16,7 @@ use Rattle.ledger_runs.specs.Turning.{phase_at, IsLaneOf, KeepsLanes}
 use Rattle.ledger_runs.specs.Least.{IsLeastOpen}
 use Rattle.ledger_runs.specs.Waving.{NoFault, TurnsAt, taken_by}
 use Rattle.ledger_runs.specs.Pieces.{IsUnprepared, IsNextPiece, IsNextFrom, HaveTaken}
-use Rattle.ledger_runs.specs.Faults.{GrowBy, HasNoDiskFor, IsWanted, wants_prepare, wants_lock, IsCauseOf, IsLaneCause, IsSomeCauseOf, IsRunCause, HaveFailed, MayHold, Nothing, HaveCauses, IsTurnCause}
+use Rattle.ledger_runs.specs.Faults.{GrowBy, IsWanted, wants_prepare, wants_lock, IsCauseOf, IsLaneCause, IsSomeCauseOf, IsRunCause, HaveFailed, MayHold, Nothing, HaveCauses, IsTurnCause}
 use Rattle.ledger_runs.specs.declared.lanes.Lane.{Lane}
 use Rattle.ledger_runs.proofs.Others.{slot_same, record_same}
 use Rattle.ledger_runs.proofs.Preparing.{same_prepared, next_piece, next_stays}
