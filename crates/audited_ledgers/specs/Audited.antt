@@ -1,9 +1,12 @@
 -- What an audit finds of the ledger that a rack's disks tell.
-use Rattle.std.specs.Prelude.{ℕ, List, reverse, Option}
-use Rattle.cbdc_model.specs.Records.{Shape, Record, Row}
+use Rattle.std.specs.Prelude.{◌+◌, ◌<◌, ◌≤◌, ℕ, List, reverse, Option}
+use Rattle.cbdc_model.specs.Records.{Shape, Record, Row, journal}
 use Rattle.cbdc_model.specs.Coins.{Output, FullTx, genesis_id}
 use Rattle.cbdc_model.specs.Clean.{Clean}
 use Rattle.cbdc_model.specs.History.{minted}
+use Rattle.cbdc_model.specs.Room.{kept_room}
+use Rattle.cbdc_model.specs.Due.{used_of}
+use Rattle.rack_nodes.specs.Racked.{OfTold}
 use Rattle.caused_ledgers.specs.Caused.{AreMerged, IsToldHistory}
 use Rattle.audit.specs.declared.verdict.Totals.{Totals}
 use Rattle.audit.specs.declared.verdict.Verdict.{Verdict}
@@ -24,6 +27,12 @@ pub record IsAudited {D : Type 0} (content : D → Option (List ℕ)) (held : �
   pub rows : List Row
   pub history : IsToldHistory content held shape (genesis_id mint) rows
   pub is : IsVerdict shape mint handed rows verdict
+
+-- each disk that is told of the ledger with this history, the oldest row first, has room for its journal there and for what is kept for the batches that
+-- are open in it
+abbrev pub HistoryHasRoom : {D : Type 0} → (D → ℕ) → (ℕ → Option D) → Shape → List Row → Type 0
+HistoryHasRoom limit held K rows =
+    (n : ℕ) → n < K.coordinators + K.shards → OfTold (held n) (λ was. used_of (journal n (reverse rows)) + kept_room K (journal n (reverse rows)) ≤ limit was)
 
 -- of the ledger that the disks tell, if its first records are those of the mint, no hashes clash and each committed transaction has an input, all
 -- money is accounted for, with these totals

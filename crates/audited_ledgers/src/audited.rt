@@ -6,7 +6,7 @@ ghost use Rattle.rack_nodes.specs.Racked.{IsBack};
 ghost use Rattle.rack_nodes.specs.Refused.{IsNodeRefusal};
 ghost use Rattle.rack_ledgers.specs.Ledgers.{ByPlace, IsUnopenedBy};
 ghost use Rattle.caused_ledgers.specs.Caused.{journals_of};
-ghost use Rattle.audited_ledgers.specs.Audited.{HasVerdict, IsAudited, Accounts};
+ghost use Rattle.audited_ledgers.specs.Audited.{HasVerdict, IsAudited, HistoryHasRoom, Accounts};
 
 use audit::{Verdict, audit};
 use caused_ledgers::{lend_logs, lend_shards};
@@ -53,6 +53,9 @@ pub fn audit_on<R: Rack>(
 ) -> Result<Verdict, Answer>
     requires { (n : ℕ) → R.can_take rack.old n }
     ensures audited { IfOk result (IsAudited R.Disk.content (R.held rack.old) mint.now handed.now) }
+
+    // Whatever the verdict, each disk had room for its journal of the history that was audited, and for what is kept for the batches open there.
+    ensures room { IfOk result (λ v. (was : IsAudited R.Disk.content (R.held rack.old) mint.now handed.now v) × HistoryHasRoom R.Disk.limit (R.held rack.old) was.shape was.rows) }
 
     // Where all is sound, no money was made, lost or spent twice, and the shards hold just what is left: the sentence.
     ensures sentence { IfOk result (Accounts R.Disk.content (R.held rack.old) mint.now handed.now) }

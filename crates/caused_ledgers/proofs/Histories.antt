@@ -40,8 +40,10 @@ pub are_merged : (all js : List (List Record)) (h : List Place) → all ≡ js �
     → ((n : ℕ) → journal n (newest_first all h) ≡ reverse (journal_in all n)) → (((n : ℕ) → Rises (journal_in all n)) → IsOrdered (newest_first all h)) → AreMerged js (rows_at all h)
 are_merged all js h same rise own newest ordered = record {
   journals = λ n. own n ∙ ap (λ (a : List (List Record)). journal_in a n) same;
-  newest_first = λ n. newest n ∙ ap (λ (a : List (List Record)). reverse (journal_in a n)) same;
-  ordered = ordered (λ n. subst (λ (a : List (List Record)). Rises (journal_in a n)) (sym same) (each_rises js rise n));
+  history = record {
+    ordered = ordered (λ n. subst (λ (a : List (List Record)). Rises (journal_in a n)) (sym same) (each_rises js rise n));
+    journals_are = λ n. newest n ∙ ap (λ (a : List (List Record)). reverse (journal_in a n)) same;
+  };
 }
 
 -- what the walk says of it

@@ -5,3 +5,4 @@ pub mod Closed
 pub mod Lists
 pub mod Told
 pub mod Once
+pub mod Refused

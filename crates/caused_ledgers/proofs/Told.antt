@@ -22,12 +22,12 @@ module _ {D : Type 0} (logs : List (LogOf D)) (shards : List (ShardOf D)) (rows 
 
   pub log_journal : (n : ℕ) (l : LogOf D) → slice_get logs n ≡ Some l → l.journal ≡ journal n (reverse rows)
   log_journal n l at =
-      sym (merged.newest_first n ∙ ap reverse (front_item (λ (x : LogOf D). reverse x.journal) shard_journals [] logs n l at) ∙ reverse-reverse l.journal)
+      sym (merged.history.journals_are n ∙ ap reverse (front_item (λ (x : LogOf D). reverse x.journal) shard_journals [] logs n l at) ∙ reverse-reverse l.journal)
 
   pub shard_journal : (n : ℕ) (s : ShardOf D) → slice_get shards n ≡ Some s → s.journal ≡ journal (length logs + n) (reverse rows)
   shard_journal n s at =
       sym (
-      merged.newest_first (length logs + n)
+      merged.history.journals_are (length logs + n)
       ∙ ap reverse (back_item (λ (x : LogOf D). reverse x.journal) shard_journals [] logs (length logs + n) n refl ∙ map_item (λ (x : ShardOf D). reverse x.journal) [] shards n s at)
       ∙ reverse-reverse s.journal
       )
@@ -36,7 +36,7 @@ module _ {D : Type 0} (logs : List (LogOf D)) (shards : List (ShardOf D)) (rows 
   no_journal n past =
       let k : ℕ = n - length logs in
       let place : n ≡ length logs + k = omega (arith, past) in
-      merged.newest_first n
+      merged.history.journals_are n
       ∙ ap reverse (back_item (λ (x : LogOf D). reverse x.journal) shard_journals [] logs n k place ∙ map_past (λ (x : ShardOf D). reverse x.journal) [] shards k (omega (arith, past, place)))
 
 module _ {D : Type 0} (content : D → Option (List ℕ)) (images : D → List ℕ → Type 0) (limit count : D → ℕ) (held : ℕ → Option D) (h : Header) (logs : List (LogOf D)) (shards : List (ShardOf D))
@@ -116,7 +116,7 @@ module _ {D : Type 0} (content : D → Option (List ℕ)) (images : D → List �
     journals = each_own;
     opened = each_opens;
     others = λ n past. no_journal logs shards rows merged n (omega (arith, past, are.coordinators, are.shards_are));
-    ordered = merged.ordered;
+    ordered = merged.history.ordered;
   }
 
 module _ {D : Type 0} (content : D → Option (List ℕ)) (images : D → List ℕ → Type 0) (limit count : D → ℕ) (held : ℕ → Option D) (h : Header) (logs : List (LogOf D)) (shards : List (ShardOf D)) where

@@ -7,7 +7,7 @@ use Rattle.cbdc_types.specs.declared.answer.Answer.TheVariants as answers
 use Rattle.cbdc_types.specs.declared.answer.UnsoundKind.TheVariants.{Cause}
 use Rattle.cbdc_model.specs.Records.{Digest, Shape, Header, Record, Row, journal}
 use Rattle.cbdc_model.specs.After.{IsJournal}
-use Rattle.cbdc_model.specs.History.{header_of, IsOrdered}
+use Rattle.cbdc_model.specs.History.{header_of, IsOrdered, IsHistoryOf}
 use Rattle.history.specs.Rows.{journal_in}
 use Rattle.audit.specs.Walks.{AllCaused, IsFirstUncaused}
 use Rattle.coord_log.specs.Logs.{LogOf}
@@ -20,11 +20,10 @@ use Rattle.rack_ledgers.specs.Ledgers.{AreOpened, IsUnopened}
 abbrev pub journals_of : {D : Type 0} → List (LogOf D) → List (ShardOf D) → List (List Record)
 journals_of logs shards = map (λ l. reverse l.journal) logs ++ map (λ s. reverse s.journal) shards
 
--- the rows, the oldest first, have these journals, and are in order
+-- the rows, the oldest first, are the history of these journals
 pub record AreMerged (all : List (List Record)) (rows : List Row) : Type 0 where
   pub journals : (n : ℕ) → journal n rows ≡ journal_in all n
-  pub newest_first : (n : ℕ) → journal n (reverse rows) ≡ reverse (journal_in all n)
-  pub ordered : IsOrdered (reverse rows)
+  pub history : IsHistoryOf (λ n. reverse (journal_in all n)) (reverse rows)
 
 -- each row of the journals' history is caused by those before it
 pub record AreCaused (K : Shape) (all : List (List Record)) : Type 0 where

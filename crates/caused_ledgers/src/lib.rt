@@ -6,5 +6,5 @@ mod laws;
 mod lent;
 
 pub use caused::open_caused;
-pub use laws::none_uncaused_law;
+pub use laws::{none_refused_law, none_uncaused_law};
 pub use lent::{lend_logs, lend_shards};

@@ -1,9 +1,10 @@
 -- What a record rests on: its causes stand, it agrees with them, and its stamp is one more than the greatest before it.
 use Rattle.std.specs.Prelude.{◌≡◌, ℕ, zero, suc, max, true, List, Option, is_some}
-use Rattle.cbdc_model.specs.Records.{Shape, Batch, Record, record_of, entries_in, txs_in, outcomes_in, stamp_in, txs_of, lock_of, last_stamp, Genesis, Lock, Finish, Forget, Start, Prepare, Commit, Discard, Done}
+use Rattle.cbdc_model.specs.Records.{Shape, Batch, Compact, Record, record_of, entries_in, txs_in, outcomes_in, stamp_in, txs_of, lock_of, Genesis, Lock, Finish, Forget, Start, Prepare, Commit, Discard, Done}
 use Rattle.cbdc_model.specs.Replies.{entries}
 use Rattle.cbdc_model.specs.Ranges.{shard_node, home_of, part, Concerned}
 use Rattle.cbdc_model.specs.Outcomes.{outcomes, decisions}
+use Rattle.cbdc_model.specs.Next.{next_stamp}
 
 -- the greatest of f s for s below n
 abbrev pub greatest : (ℕ → ℕ) → ℕ → ℕ
@@ -14,20 +15,27 @@ greatest f (suc n) = max (greatest f n) (f n)
 abbrev pub at_shards : Shape → (ℕ → List Record) → ℕ → Batch → ℕ → Option Record
 at_shards K journals kind b s = record_of kind (journals (shard_node K s)) b
 
+-- the transactions of a batch, by its Prepare at its coordinator
+abbrev pub prepared_txs : Shape → (ℕ → List Record) → Batch → List Compact
+prepared_txs K journals b = txs_of (journals (home_of K b.lane)) b
+
 -- each shard that the batch concerns has its record of the kind
 abbrev pub AllHave : Shape → (ℕ → List Record) → ℕ → Batch → Type 0
-AllHave K journals kind b = (s : ℕ) → Concerned K (txs_of (journals (home_of K b.lane)) b) s → is_some (at_shards K journals kind b s) ≡ true
+AllHave K journals kind b = (s : ℕ) → Concerned K (prepared_txs K journals b) s → is_some (at_shards K journals kind b s) ≡ true
 
 -- one more than the greatest of the node's last stamp and the cause's
 abbrev pub IsStamped : ℕ → List Record → ℕ → Type 0
-IsStamped stamp own cause = stamp ≡ suc (max (last_stamp own) cause)
+IsStamped stamp own cause = stamp ≡ next_stamp own cause
 
 -- the greatest stamp that the shards have of a kind of a batch
 abbrev pub last_of : Shape → (ℕ → List Record) → ℕ → Batch → ℕ
 last_of K journals kind b = greatest (λ s. stamp_in (at_shards K journals kind b s)) K.shards
 
--- the record's causes stand in these journals, and it agrees with them: a Lock with its Prepare, a Commit with all Locks,
--- a Finish with its Commit, a Discard with all Finishes, a Forget with its Discard, a Done with all Forgets
+-- the record's causes stand in these journals, it agrees with them, and its stamp is one more than the greatest of its node's last one and
+-- theirs (a Prepare has none, and of a first record nothing is asked): a Lock with its Prepare, of which it has the part for its shard, a Commit
+-- with all Locks, whose replies make its outcomes, a Finish with its Commit, whose decisions it has for the entries of the shard's own Lock, a
+-- Discard with all Finishes, a Forget with its Discard, a Done with all Forgets. Each concerned shard has its Lock, Finish or Forget; replies and
+-- stamps are looked for at all shards, of which the others have no record of the batch in kept journals
 abbrev pub IsCaused : Shape → (ℕ → List Record) → ℕ → Record → Type 0
 IsCaused K journals node (Genesis header hs) = Unit {0}
 IsCaused K journals node (Start header) = Unit {0}
@@ -39,7 +47,7 @@ IsCaused K journals node (Lock stamp b es) =
     × IsStamped stamp (journals node) (stamp_in cause)
 IsCaused K journals node (Commit stamp b os) =
     AllHave K journals 2 b
-    × (os ≡ outcomes (λ s. entries_in (at_shards K journals 2 b s)) K.shards 0 (txs_of (journals (home_of K b.lane)) b))
+    × (os ≡ outcomes (λ s. entries_in (at_shards K journals 2 b s)) K.shards 0 (prepared_txs K journals b))
     × IsStamped stamp (journals node) (last_of K journals 2 b)
 IsCaused K journals node (Finish stamp b ds) =
     let cause = record_of 7 (journals (home_of K b.lane)) b in

@@ -13,7 +13,7 @@ IsMember mint submissions t = (t ≡ genesis_tx mint) ⊎ Contains submissions t
 abbrev pub IsNamed : List Output → List FullTx → Coin → Type 0
 IsNamed mint submissions c = (t : FullTx) × IsMember mint submissions t × (Contains t.inputs c ⊎ Contains (tx_coins t) c)
 
--- members that differ in inputs or outputs have different ids, and different coins have different hashes
+-- members that differ in inputs or outputs have different ids, and different coins that members spend or make have different hashes
 pub record Clean (mint : List Output) (submissions : List FullTx) : Type 0 where
   pub ids : (t u : FullTx) → IsMember mint submissions t → IsMember mint submissions u → tx_id t ≡ tx_id u → (t.inputs ≡ u.inputs) × (t.outputs ≡ u.outputs)
   pub hashes : (c d : Coin) → IsNamed mint submissions c → IsNamed mint submissions d → coin_hash c ≡ coin_hash d → c ≡ d
@@ -24,7 +24,8 @@ value_in inputs = sum_by (λ c. c.output.value) inputs
 abbrev pub value_out : List Output → ℕ
 value_out outputs = sum_by (λ o. o.value) outputs
 
--- what is checked of a transaction without asking whether its witnesses are good
+-- what is checked of a transaction without asking whether its witnesses are good: some inputs, some outputs, as many witnesses as inputs, no
+-- outpoint twice among the inputs, no value 0, both sums of values below 2^64, and equal sums
 pub record IsProper (t : FullTx) : Type 0 where
   pub has_input : 0 < length t.inputs
   pub has_output : 0 < length t.outputs

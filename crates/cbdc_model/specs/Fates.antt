@@ -20,7 +20,8 @@ decided_fate [] ds id = None
 decided_fate (a ∷ es) [] id = None
 decided_fate (a ∷ es) (d ∷ ds) id = if same_digest a.entry.id id then Some (if d then Committed else Rejected) else decided_fate es ds id
 
--- by a batch in a phase
+-- what a batch in this phase says of the transaction: where it is locked and an entry of its Lock has the id, that it waits; where it is finished,
+-- what its Finish decided of the first such entry; in any other phase nothing
 abbrev pub fate_in : Phase → List Record → Batch → Digest → Option Fate
 fate_in Idle J b id = None
 fate_in InLock J b id = if names (lock_of J b) id then Some Waiting else None
@@ -29,7 +30,7 @@ fate_in InPrepare J b id = None
 fate_in InCommit J b id = None
 fate_in InDiscard J b id = None
 
--- by the last batch of a lane
+-- what the batch of a lane's slot says of the transaction, in the slot's phase
 abbrev pub lane_fate : List Record → Digest → ℕ → Option Fate
 lane_fate J id lane =
     let b : Batch = record { lane = lane; number = (slot J lane).number } in
@@ -39,7 +40,7 @@ abbrev pub or_else : Option Fate → Option Fate → Option Fate
 or_else None later = later
 or_else (Some f) later = Some f
 
--- by the least of the lanes below n that remembers it
+-- what the least of the lanes below n that remembers the transaction says of it, nothing where none does
 abbrev pub fate_below : List Record → Digest → ℕ → Option Fate
 fate_below J id zero = None
 fate_below J id (suc n) = or_else (fate_below J id n) (lane_fate J id n)

@@ -70,6 +70,11 @@ abbrev pub IsOrdered : List Row → Type 0
 IsOrdered [] = Unit {0}
 IsOrdered (row ∷ later) = IsAbove row later × IsOrdered later
 
+-- the rows are the history of these journals, the newest record of each first: all their records, by stamp and node
+pub record IsHistoryOf (J : ℕ → List Record) (rows : List Row) : Type 0 where
+  pub ordered : IsOrdered rows
+  pub journals_are : (n : ℕ) → journal n rows ≡ J n
+
 -- what a record commits, behind this journal
 abbrev pub newly_won : Record → List Record → List Compact
 newly_won (Commit stamp b os) past = won_txs (txs_of past b) os

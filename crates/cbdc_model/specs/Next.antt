@@ -53,7 +53,8 @@ abbrev pub lock_again : Option ℕ → List Record → Batch → Plan RepliesAt
 lock_again (Some at) J b = Refuse (OtherPart at)
 lock_again None J b = Kept (record { given = replies (lock_of J b); at = stamp_in (record_of 2 J b) })
 
--- Lock: behind the lane's number is stale, the same number is answered as before, an open lane and a late cause refuse
+-- Lock: an older number is stale, and so is the same one once forgotten; the same number is answered as before, and refused with another part;
+-- an open lane refuses a newer one, and so does a cause that is not above the stamp of the lane's last record
 abbrev pub next_lock : List Record → Batch → List Entry → ℕ → Plan RepliesAt
 next_lock J b part cause =
     let s = slot J b.lane in
@@ -83,7 +84,9 @@ finish_in InFinish J b ds cause = finish_again (difference same_decision (decisi
 finish_in InLock J b ds cause = finish_now (misfit (lock_of J b) ds) J b.lane cause
 finish_in other J b ds cause = Refuse (NotLocked (slot J b.lane).number)
 
--- Finish: of a locked batch, with as many decisions as entries and commit only for Held
+-- Finish: an older number is stale, and so is the same one once forgotten; a newer one is not locked; a finished batch answers the same decisions
+-- as before and refuses others; a locked one takes as many decisions as entries, commit only for Held, and a cause above the stamp of the lane's
+-- last record
 abbrev pub next_finish : List Record → Batch → List Bool → ℕ → Plan ℕ
 next_finish J b ds cause =
     let s = slot J b.lane in
@@ -96,7 +99,8 @@ forget_in Idle J b cause = Kept (slot_stamp J b.lane)
 forget_in InFinish J b cause = if not (nat_lt (slot_stamp J b.lane) cause) then Refuse (EarlyStamp (slot_stamp J b.lane)) else Append (next_stamp J cause)
 forget_in other J b cause = Refuse (NotFinished b.number)
 
--- Forget: of a finished batch
+-- Forget: an older number is stale, a newer one not locked; a forgotten batch answers as before; a locked one is not finished; a finished one takes
+-- a cause above the stamp of the lane's last record
 abbrev pub next_forget : List Record → Batch → ℕ → Plan ℕ
 next_forget J b cause =
     let s = slot J b.lane in

@@ -14,7 +14,8 @@ outcome_by (Some Held) s rest = rest
 outcome_by (Some (Missing x)) s rest = Lacks s x
 outcome_by (Some (Taken x by)) s rest = Blocked s x by
 
--- the outcome of place k over n shards, the least of which is s; `locks` gives each shard's answered part
+-- the outcome of place k over n shards, the least of which is s; `locks` gives each shard's answered part; a shard that has none, or no entry of
+-- this place in it, counts as not concerned
 abbrev pub outcome : (ℕ → List Answered) → ℕ → ℕ → ℕ → Outcome
 outcome locks k s zero = Won
 outcome locks k s (suc n) = outcome_by (reply_at (locks s) k) s (outcome locks k (suc s) n)

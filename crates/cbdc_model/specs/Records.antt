@@ -1,4 +1,5 @@
--- The records of the journals, and how one is found. A journal is a list of records, the newest first.
+-- The records of the journals, and how one is found. A journal is a list of records, the newest first. The reply Locked is named Taken here,
+-- and the outcomes Held, Missing and Locked are Won, Lacks and Blocked.
 use Rattle.std.specs.Prelude.{ℕ, Bool, true, false, ◌&&◌, ◌==◌, List, [], ◌∷◌, if◌then◌else◌, Option, Some, None, find, bytes_eq}
 use Rattle.cbdc_types.specs.declared.ids.BatchId.{BatchId}
 use Rattle.cbdc_types.specs.declared.tx.CompactTx.{CompactTx}
@@ -13,7 +14,7 @@ pub use Rattle.cbdc_types.specs.declared.batch.Answered.{Answered}
 pub use Rattle.cbdc_types.specs.declared.record.Record.{Record}
 pub use Rattle.cbdc_types.specs.declared.record.Record.TheVariants.{Genesis, Lock, Finish, Forget, Start, Prepare, Commit, Discard, Done}
 
--- a hash: its 32 bytes
+-- a hash: its 32 bytes, as a list of numbers (that each is below 256 is the type's)
 abbrev pub Digest : Type 0
 Digest = List ℕ
 
@@ -124,7 +125,7 @@ outcomes_of past b = outcomes_in (record_of 7 past b)
 abbrev pub lock_of : List Record → Batch → List Answered
 lock_of past b = entries_in (record_of 2 past b)
 
--- the stamp of the newest record
+-- the stamp of the newest record, 0 where there is none
 abbrev pub last_stamp : List Record → ℕ
 last_stamp [] = 0
 last_stamp (r ∷ past) = stamp_of r

@@ -33,14 +33,16 @@ returned_inputs (a ∷ es) [] = []
 returned_inputs (a ∷ es) (d ∷ ds) =
     if is_held a.reply then (if d then returned_inputs es ds else a.entry.inputs ++ returned_inputs es ds) else returned_inputs es ds
 
--- what a Finish with these decisions makes of a hash that had the status before
+-- what a Finish with these decisions makes of a hash that had the status before: Unspent for an output of a committed entry; else Unspent for
+-- an input of a Held entry that is not committed; else Absent for an input of a committed one; else as before
 abbrev pub finished_status : List Answered → List Bool → Digest → Status → Status
 finished_status es ds x before =
     if has (made_outputs es ds) x then Unspent else
     if has (returned_inputs es ds) x then Unspent else
     if has (taken_inputs es ds) x then Absent else before
 
--- the last record that names the hash decides
+-- by the newest record that names the hash: a Genesis its hashes, Unspent; a Lock the inputs of its Held entries, Locked by its batch; a Finish,
+-- read with its batch's Lock, as above; Absent where none does
 abbrev pub status : List Record → Digest → Status
 status [] x = Absent
 status (Genesis header hs ∷ past) x = if has hs x then Unspent else status past x

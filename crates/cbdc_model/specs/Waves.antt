@@ -30,7 +30,7 @@ abbrev pub prepared : ℕ → List Record → List (List Compact)
 prepared lane [] = []
 prepared lane (r ∷ J) = prepared_before lane r (prepared lane J)
 
--- from journals I to journals J, each new record is of a batch like these
+-- from journals I to journals J, the journals have grown at their ends, and each new record is of a batch like these
 pub record Adds (of : Batch → Type 0) (I J : ℕ → List Record) : Type 0 where
   pub grows : (n : ℕ) → IsEnd (I n) (J n)
   pub each : (n : ℕ) (newer rest : List Record) (r : Record) → J n ≡ newer ++ r ∷ rest → IsEnd (I n) rest → (b : Batch) × (is_of b r ≡ true) × of b
@@ -42,12 +42,13 @@ has_prepare K J b = is_some (record_of 6 (J (home_of K b.lane)) b)
 abbrev pub has_done : Shape → (ℕ → List Record) → Batch → Bool
 has_done K J b = is_some (record_of 9 (J (home_of K b.lane)) b)
 
--- the open batches are brought to their end, and nothing else is done
+-- the open batches are brought to their end, every lane is idle then, and nothing else is done
 pub record IsResumed (K : Shape) (I J : ℕ → List Record) : Type 0 where
   pub adds : Adds (λ b. (has_prepare K I b ≡ true) × (has_done K I b ≡ false)) I J
   pub idle : AreIdle K J
 
--- what each lane got is prepared in order, in pieces of a batch's size, all of it is brought to its end, and nothing else is done
+-- what each lane got is prepared in order, in pieces of a batch's size, all of it is brought to its end, every lane is idle then, and nothing else
+-- is done
 pub record IsFileRun (K : Shape) (sent : ℕ → List Compact) (I J : ℕ → List Record) : Type 0 where
   pub adds : Adds (λ b. (has_prepare K I b ≡ false) × (has_prepare K J b ≡ true)) I J
   pub cut : (lane : ℕ) → lane < K.coordinators * K.lanes → (pieces : List (List Compact)) × IsCut K.batch (sent lane) pieces

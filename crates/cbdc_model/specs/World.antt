@@ -4,7 +4,7 @@ use Rattle.std.specs.List.{range_with_len}
 use Rattle.cbdc_types.specs.declared.calls.LockCall.{LockCall}
 use Rattle.cbdc_types.specs.declared.calls.FinishCall.{FinishCall}
 use Rattle.cbdc_types.specs.declared.calls.ForgetCall.{ForgetCall}
-use Rattle.cbdc_model.specs.Records.{Digest, Shape, Batch, Compact, Outcome, Record, Row, record_of, journal, txs_of, outcomes_of, lock_of, decisions_in, kind_of, is_of, Genesis, Start, Lock, Finish, Forget, Prepare, Commit, Discard}
+use Rattle.cbdc_model.specs.Records.{Digest, Shape, Batch, Compact, Outcome, Record, Row, record_of, journal, outcomes_of, lock_of, decisions_in, kind_of, is_of, Genesis, Start, Lock, Finish, Forget, Prepare, Commit, Discard}
 use Rattle.cbdc_model.specs.Status.{status, Unspent}
 use Rattle.cbdc_model.specs.Slots.{slot, Idle}
 use Rattle.cbdc_model.specs.Replies.{answered, entries}
@@ -13,12 +13,12 @@ use Rattle.cbdc_model.specs.Outcomes.{decisions}
 use Rattle.cbdc_model.specs.Grammar.{IsInGrammar}
 use Rattle.cbdc_model.specs.Next.{Plan, Kept, Append, Refuse, next_lock, next_finish, next_forget, next_stamp}
 use Rattle.cbdc_model.specs.After.{After}
-use Rattle.cbdc_model.specs.Causes.{IsCaused}
+use Rattle.cbdc_model.specs.Causes.{prepared_txs, IsCaused}
 use Rattle.cbdc_model.specs.Coins.{Output, FullTx}
 use Rattle.cbdc_model.specs.Clean.{IsProperCompact}
 use Rattle.cbdc_model.specs.History.{Minted, minted, header_of, first_rows, TxsPass, IsKept, IsOrdered}
 
--- a node: its journal, whether it is up, and a record that a fault or a crash may have left or not
+-- a node: its journal, whether it is up, and the record that was begun there and is not ended, if there is one
 pub record Node : Type 0 where
   pub journal : List Record
   pub up : Bool
@@ -74,7 +74,7 @@ record_for J (Forget_call c) = appends (next_forget J c.batch c.cause) (Forget (
 
 -- the node is a shard that the batch concerns, by its Prepare
 abbrev pub IsConcerned : Shape → (ℕ → List Record) → ℕ → Batch → Type 0
-IsConcerned K J node b = (s : ℕ) × (node ≡ shard_node K s) × Concerned K (txs_of (J (home_of K b.lane)) b) s
+IsConcerned K J node b = (s : ℕ) × (node ≡ shard_node K s) × Concerned K (prepared_txs K J b) s
 
 -- the call's cause stands, with the stamp and the part or the decisions that the call carries
 abbrev pub CauseStands : Shape → (ℕ → List Record) → ℕ → ShardCall → Type 0
@@ -99,7 +99,10 @@ pub data Event : Type 0 where
 abbrev pub IsQuiet : World → ℕ → Type 0
 IsQuiet w n = (n < length w) × ((node_at w n).up ≡ true) × ((node_at w n).flight ≡ None)
 
--- where an event changes something
+-- where an event changes something: a record is begun at a node that is up with nothing in flight, where it is after the journal and caused; one
+-- ends at a node that is up and has one in flight; a node that is up crashes, and one that is down is opened again; a call is made again at a node
+-- that is up with nothing in flight, a shard that the batch concerns, where the call's cause stands and the shard appends a record for it, which is
+-- in the grammar
 abbrev pub Allowed : Shape → Minted → World → Event → Type 0
 Allowed K m w (Begin n r) = IsQuiet w n × After (header_of K m.id n) (journals w n) r × IsCaused K (journals w) n r
 Allowed K m w (End n) = (n < length w) × ((node_at w n).up ≡ true) × (is_some (node_at w n).flight ≡ true)
@@ -151,7 +154,8 @@ pub record KeptJournals (K : Shape) (mint : List Output) (submissions : List Ful
   pub history : IsHistory K (minted mint) J later
   pub kept : IsKept K mint submissions later
 
--- the world's journals have one, and each record in flight is after its node's journal and caused
+-- the world has all its nodes, its journals have a kept history, each record in flight is after its node's journal and caused, and a Prepare in
+-- flight has compact forms of proper submissions
 pub record KeptWorld (K : Shape) (mint : List Output) (submissions : List FullTx) (w : World) : Type 0 where
   pub size : length w ≡ K.coordinators + K.shards
   pub journals_kept : KeptJournals K mint submissions (journals w)
@@ -173,15 +177,15 @@ abbrev pub count_of : ℕ → List Record → Batch → ℕ
 count_of kind [] b = 0
 count_of kind (r ∷ past) b = (if (kind_of r == kind) && is_of b r then 1 else 0) + count_of kind past b
 
--- the batch has one Commit; each concerned shard has one Lock and one Finish of it, with the Commit's decisions; no other shard has any
--- record of it
+-- the batch has one Commit at its coordinator; each concerned shard has one Lock and one Finish of it, with the Commit's decisions; no other
+-- shard has a Lock, a Finish or a Forget of it
 pub record IsAlike (K : Shape) (J : ℕ → List Record) (b : Batch) : Type 0 where
   pub one_commit : count_of 7 (J (home_of K b.lane)) b ≡ 1
-  pub one_lock : (s : ℕ) → Concerned K (txs_of (J (home_of K b.lane)) b) s → count_of 2 (J (shard_node K s)) b ≡ 1
-  pub one_finish : (s : ℕ) → Concerned K (txs_of (J (home_of K b.lane)) b) s → count_of 3 (J (shard_node K s)) b ≡ 1
-  pub same_decisions : (s : ℕ) → Concerned K (txs_of (J (home_of K b.lane)) b) s
-      → decisions_in (record_of 3 (J (shard_node K s)) b) ≡ decisions (outcomes_of (J (home_of K b.lane)) b) (part K.shards s 0 (txs_of (J (home_of K b.lane)) b))
-  pub no_other : (s kind : ℕ) → s < K.shards → is_no_part (part K.shards s 0 (txs_of (J (home_of K b.lane)) b)) ≡ true
+  pub one_lock : (s : ℕ) → Concerned K (prepared_txs K J b) s → count_of 2 (J (shard_node K s)) b ≡ 1
+  pub one_finish : (s : ℕ) → Concerned K (prepared_txs K J b) s → count_of 3 (J (shard_node K s)) b ≡ 1
+  pub same_decisions : (s : ℕ) → Concerned K (prepared_txs K J b) s
+      → decisions_in (record_of 3 (J (shard_node K s)) b) ≡ decisions (outcomes_of (J (home_of K b.lane)) b) (part K.shards s 0 (prepared_txs K J b))
+  pub no_other : (s kind : ℕ) → s < K.shards → is_no_part (part K.shards s 0 (prepared_txs K J b)) ≡ true
       → (kind ≡ 2) ⊎ (kind ≡ 3) ⊎ (kind ≡ 4) → count_of kind (J (shard_node K s)) b ≡ 0
 
 -- every batch with a Prepare is finished alike on all its shards

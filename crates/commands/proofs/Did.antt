@@ -20,22 +20,16 @@ module _ {D : Type 0} (files : Text → Option (List ℕ)) (content : D → Opti
     read = is.read;
     verdicts_read = is.verdicts_read;
     caused = is.caused;
-    ran = is.ran;
-    prints = λ K mint submissions E within shows kept.
-        let told = is.prints K mint submissions E within shows kept in
-        record {
-          exit = told.exit;
-          disks = told.disks;
-          grown = told.grown;
-          waves = told.waves;
-          text = told.text;
-          lines = told.lines;
-          prints = by told.text told.prints;
-          settled = told.settled;
-          free = told.free;
-        };
+    ran = λ K mint submissions E within shows kept.
+        let told = is.ran K mint submissions E within shows kept in
+        record { run = told.run; text = told.text; lines = told.lines; prints = by told.text told.prints; settled = told.settled; free = told.free };
   }
-  did_by Recover is = (is.0, λ K mint submissions E within shows kept. let told = is.1 K mint submissions E within shows kept in (told.0, told.1, (told.2.0, told.2.1, by told.2.0 told.2.2)))
+  did_by Recover is = (
+    is.0,
+    λ K mint submissions E within shows kept.
+        let told = is.1 K mint submissions E within shows kept in
+        record { recovered = told.recovered; text = told.text; lines = told.lines; prints = by told.text told.prints },
+  )
   did_by (Status hashes) is =
       record { shape = is.shape; genesis = is.genesis; journals = is.journals; limits = is.limits; opened = is.opened; room = is.room; back = is.back; prints = by _ is.prints }
   did_by (Audit mint clients) is = record { totals = is.totals; was = is.was; sentence = is.sentence; back = is.back; prints = by _ is.prints }

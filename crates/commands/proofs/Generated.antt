@@ -175,28 +175,28 @@ module _ (K : Shape) (seed n : ℕ) where
   memory_why a memory = subst (WhyNoWorkload K seed n) (sym memory) tt
 
   module _ (small : n ≤ 10000) (limits : IsWithinLimits K) (rack : PlainRack) (all : AllIn rack) (ran : Ran) (told : TellsRunOf K (mint_of seed n) (files_of seed n) rack ran) where
-    is_run : IsWorkloadRun K seed n told.exit
-    is_run = record { kept = told.grown.kept; waves = told.waves }
+    is_run : IsWorkloadRun K seed n told.run.exit
+    is_run = record { kept = told.run.grown.kept; waves = told.run.waves }
 
-    shows : Shows bytes_told (disk_at rack) K (genesis_id (mint_of seed n)) told.exit
-    shows = shown bytes_told bytes_left (disk_at rack) K (mint_of seed n) (all_of seed n) told.exit limits (few seed n small) told.grown.kept told.disks (told_there K (mint_of seed n) (few seed n small) limits rack all)
+    shows : Shows bytes_told (disk_at rack) K (genesis_id (mint_of seed n)) told.run.exit
+    shows = shown bytes_told bytes_left (disk_at rack) K (mint_of seed n) (all_of seed n) told.run.exit limits (few seed n small) told.run.grown.kept told.run.disks (told_there K (mint_of seed n) (few seed n small) limits rack all)
 
-    has_verdict : (verdict : Verdict) → IsAudited bytes_told (disk_at rack) (mint_of seed n) (all_of seed n) verdict → HasVerdictOf K (mint_of seed n) (all_of seed n) told.exit verdict
+    has_verdict : (verdict : Verdict) → IsAudited bytes_told (disk_at rack) (mint_of seed n) (all_of seed n) verdict → HasVerdictOf K (mint_of seed n) (all_of seed n) told.run.exit verdict
     has_verdict verdict audited =
-        verdict_of bytes_told bytes_left (disk_at rack) K (mint_of seed n) (all_of seed n) told.exit limits (few seed n small) told.grown.kept shows (all_of seed n) verdict audited
+        verdict_of bytes_told bytes_left (disk_at rack) K (mint_of seed n) (all_of seed n) told.run.exit limits (few seed n small) told.run.grown.kept shows (all_of seed n) verdict audited
 
-    idle : AreIdle K told.exit
+    idle : AreIdle K told.run.exit
     idle lane low =
-        let last = told.waves.2.2 in
+        let last = told.run.waves.2.2 in
         ap (λ J. (slot J lane).phase) (last.2 (home_of K lane)) ∙ last.1.idle lane low
 
     -- what a disk holds is within its room
-    fits : (k : ℕ) → k < node_count K → used_of (told.exit k) ≤ limit_at room_of (disk_at rack k)
+    fits : (k : ℕ) → k < node_count K → used_of (told.run.exit k) ≤ limit_at room_of (disk_at rack k)
     fits k inside =
         let s = shows k inside in
         let d : PlainDisk = s.0 in
         let bytes : length s.2.0 ≡ length d.bytes.items = ap (λ (o : Option (List ℕ)). length (bytes_in o)) (sym s.2.1) in
-        omega (arith, used_within (header_of K (genesis_id (mint_of seed n)) k) (told.exit k) s.2.0 s.2.2, bytes, d.within, ap (limit_at room_of) s.1)
+        omega (arith, used_within (header_of K (genesis_id (mint_of seed n)) k) (told.run.exit k) s.2.0 s.2.2, bytes, d.within, ap (limit_at room_of) s.1)
       where
         bytes_in : Option (List ℕ) → List ℕ
         bytes_in None = []
@@ -205,10 +205,10 @@ module _ (K : Shape) (seed n : ℕ) where
     pub came_to : (totals : Totals) → IsCheckedSound rack (mint_of seed n) (all_of seed n) totals → CameTo K seed n ran totals
     came_to totals audited = record {
       limits = limits;
-      exit = told.exit;
+      exit = told.run.exit;
       run = is_run;
-      countable = is_countable K seed n limits small told.exit ran told.tells;
-      ends = ends_run K seed n limits small told.exit ran told.tells told.grown.grows told.unspent;
+      countable = is_countable K seed n limits small told.run.exit ran told.tells;
+      ends = ends_run K seed n limits small told.run.exit ran told.tells told.run.grown.grows told.unspent;
       audited = has_verdict (Sound totals) audited;
     }
 
@@ -216,12 +216,12 @@ module _ (K : Shape) (seed n : ℕ) where
     unsound_why place kind audited =
         let v = has_verdict (Unsound place kind) audited in
         record {
-          exit = told.exit;
+          exit = told.run.exit;
           run = is_run;
           audited = v;
           unclean = λ clean.
-              never_unsound K (mint_of seed n) (all_of seed n) told.exit limits (kept_journal K (mint_of seed n) limits (few seed n small) (all_of seed n) told.exit told.grown.kept) told.grown.kept v.rows v.journals_are v.ordered idle
-              (idle_law K (mint_of seed n) (all_of seed n) told.exit (omega (arith, limits.some_shard)) (omega (arith, limits.some_lane)) clean told.grown.kept idle) place kind v.is;
+              never_unsound K (mint_of seed n) (all_of seed n) told.run.exit limits (kept_journal K (mint_of seed n) limits (few seed n small) (all_of seed n) told.run.exit told.run.grown.kept) told.run.grown.kept v.rows v.journals_are v.ordered idle
+              (idle_law K (mint_of seed n) (all_of seed n) told.run.exit (omega (arith, limits.some_shard)) (omega (arith, limits.some_lane)) clean told.run.grown.kept idle) place kind v.is;
         }
 
     wrong_why : (a : Answer) → IsUnsoundBy (IsAudited bytes_told (disk_at rack) (mint_of seed n) (all_of seed n)) a → WhyNoWorkload K seed n a
@@ -244,8 +244,8 @@ module _ (K : Shape) (seed n : ℕ) where
     pub unchecked_why : (new : PlainRack) (a : Answer) → IsUnchecked rack new (mint_of seed n) (all_of seed n) a → WhyNoWorkload K seed n a
     unchecked_why new a (inl wrong) = wrong_why a wrong
     unchecked_why new a (inr (inl unopened)) =
-        memory_why a (unopened_none bytes_told bytes_left room_of faults_of (disk_at rack) (faults_at rack.misses) (faults_at new.misses) K (mint_of seed n) (all_of seed n) told.exit
-        (record { limits = limits; shown = shows; kept = told.grown.kept }) (idle_rooms K (mint_of seed n) (all_of seed n) told.exit (λ k. limit_at room_of (disk_at rack k)) limits told.grown.kept idle fits)
+        memory_why a (unopened_none bytes_told bytes_left room_of faults_of (disk_at rack) (faults_at rack.misses) (faults_at new.misses) K (mint_of seed n) (all_of seed n) told.run.exit
+        (record { limits = limits; shown = shows; kept = told.run.grown.kept }) (idle_rooms K (mint_of seed n) (all_of seed n) told.run.exit (λ k. limit_at room_of (disk_at rack k)) limits told.run.grown.kept idle fits)
         (none_rises K (mint_of seed n) (few seed n small) limits rack new) (Some (genesis_id (mint_of seed n))) a refl unopened)
     unchecked_why new a (inr (inr memory)) = memory_why a memory
 

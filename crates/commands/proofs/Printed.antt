@@ -105,15 +105,12 @@ prints_run content images before now printed verdicts files ran few shown is K m
     let tests = is_sound_law verdicts in
     let more = kept_more K mint submissions (joined files) E kept in
     record {
-      exit = told.exit;
-      disks = told.disks;
-      grown = told.grown;
-      waves = told.waves;
+      run = told.run;
       text = ran_text ran;
-      lines = λ sound tells. (let t = run_text K verdicts files few within E told.exit ran told.tells sound tells in record { all = t.0; are = t.1.0; unspent = ran.unspent; counted = told.unspent; text_is = t.1.1 });
-      prints = is (countable K verdicts files few within E told.exit ran told.tells (sound_by verdicts) tests);
-      settled = settled_law K mint (submissions ++ joined files) verdicts files E told.exit within.some_shard (lanes_there K within) more told.grown.kept told.waves;
-      free = free_confirmed_law K mint (submissions ++ joined files) verdicts files E told.exit within.some_shard (lanes_there K within) more told.grown.kept;
+      lines = let t = run_text K verdicts files few within E told.run.exit ran told.tells (sound_by verdicts) tests in record { all = t.0; are = t.1.0; unspent = ran.unspent; counted = told.unspent; text_is = t.1.1 };
+      prints = is (countable K verdicts files few within E told.run.exit ran told.tells (sound_by verdicts) tests);
+      settled = settled_law K mint (submissions ++ joined files) verdicts files E told.run.exit within.some_shard (lanes_there K within) more told.run.grown.kept told.run.waves;
+      free = free_confirmed_law K mint (submissions ++ joined files) verdicts files E told.run.exit within.some_shard (lanes_there K within) more told.run.grown.kept;
     }
 
 pub did_run : {D : Type 0} (inbox : Text → Option (List ℕ)) (content : D → Option (List ℕ)) (images : D → List ℕ → Type 0) (limit : D → ℕ) (before now : ℕ → Option D) (printed : Text → Type 0) (verdicts : FileWord) (clients : List FileWord) (ran : Ran)
@@ -124,6 +121,5 @@ did_run inbox content images limit before now printed verdicts clients ran was i
   read = was.read;
   verdicts_read = was.verdicts_read;
   caused = was.caused;
-  ran = was.was;
-  prints = prints_run content images before now printed (of_file was.known) was.handed ran was.few was.tells is;
+  ran = prints_run content images before now printed (of_file was.known) was.handed ran was.few was.tells is;
 }

@@ -21,6 +21,7 @@ use Rattle.submissions.specs.Checks.{VerdictsOf}
 use Rattle.rack_laws.specs.Shown.{OfShown}
 use Rattle.rack_runs.specs.declared.over.Ran.{Ran}
 use Rattle.rack_runs.specs.Telling.{IsTold}
+use Rattle.rack_runs.proofs.Ledgers.{recovered}
 use Rattle.commands.specs.Outcomes.{PrintsRecovery}
 use Rattle.commands.specs.Texts.{batch_text, batch_texts}
 
@@ -100,11 +101,12 @@ recovered_text ran = batch_texts ran.resumed.items ++ recovery_text (length ran.
 
 pub prints_recovery : {D : Type 0} (content : D → Option (List ℕ)) (images : D → List ℕ → Type 0) (before now : ℕ → Option D) (printed : Text → Type 0) (ran : Ran)
     → (verdicts : VerdictsOf) × OfShown content before (IsTold images now verdicts [] ran) → printed (recovered_text ran) → PrintsRecovery content images before now printed
+unfolding recovered
 prints_recovery content images before now printed ran (verdicts, shown) is K mint submissions E within shows kept =
     let told = shown K mint submissions E within shows kept in
-    let at : told.tells.middle ≡ told.exit = λ i n. sym (told.tells.told.1 n) i in
-    let all : TellResumed K E told.exit (K.coordinators * K.lanes) ran.resumed.items = subst (λ X. TellResumed K E X (K.coordinators * K.lanes) ran.resumed.items) at told.tells.batches in
-    let text_is : recovered_text ran ≡ recover_lines K E told.exit ran.unspent
-    = ap (λ l. l ++ recovery_text (length ran.resumed.items) ran.unspent) (texts_below K E told.exit (K.coordinators * K.lanes) ran.resumed.items all)
-    ∙ ap (λ n. resumed_lines K E told.exit ++ recovery_text n ran.unspent) (count_below K E told.exit (K.coordinators * K.lanes) ran.resumed.items all) in
-    (told.exit, told.disks, (recovered_text ran, (ran.unspent, told.unspent, text_is), is))
+    let at : told.tells.middle ≡ told.run.exit = λ i n. sym (told.tells.told.1 n) i in
+    let all : TellResumed K E told.run.exit (K.coordinators * K.lanes) ran.resumed.items = subst (λ X. TellResumed K E X (K.coordinators * K.lanes) ran.resumed.items) at told.tells.batches in
+    let text_is : recovered_text ran ≡ recover_lines K E told.run.exit ran.unspent
+    = ap (λ l. l ++ recovery_text (length ran.resumed.items) ran.unspent) (texts_below K E told.run.exit (K.coordinators * K.lanes) ran.resumed.items all)
+    ∙ ap (λ n. resumed_lines K E told.run.exit ++ recovery_text n ran.unspent) (count_below K E told.run.exit (K.coordinators * K.lanes) ran.resumed.items all) in
+    record { recovered = recovered images now verdicts K mint submissions E told.run; text = recovered_text ran; lines = (ran.unspent, told.unspent, text_is); prints = is }

@@ -10,25 +10,27 @@ use Rattle.input_files.specs.Contents.{mint_of_file, AreRead, IsNotRead, FirstNo
 use Rattle.audit.specs.declared.verdict.Totals.{Totals}
 use Rattle.audit.specs.declared.verdict.Verdict.{Verdict}
 use Rattle.audit.specs.declared.verdict.Verdict.TheVariants.{Sound, Unsound}
-use Rattle.audited_ledgers.specs.Audited.{IsAudited, IsAccountedFor}
+use Rattle.audited_ledgers.specs.Audited.{IsAudited, HistoryHasRoom, IsAccountedFor}
 use Rattle.file_runs.specs.Runs.{joined}
 use Rattle.printed_lines.specs.Reports.{audit_lines}
 use Rattle.rack_nodes.specs.Racked.{IsBack}
 use Rattle.rack_ledgers.specs.Ledgers.{IsUnopenedBy}
 
--- the files held this mint and these transactions, with which an audit of the ledger that the disks tell has this verdict
-pub record WasAudited {D : Type 0} (files : Text → Option (List ℕ)) (content : D → Option (List ℕ)) (disks : ℕ → Option D) (file : FileWord) (clients : List FileWord) (verdict : Verdict) : Type 0 where
+-- the files held this mint and these transactions, with which an audit of the history of the ledger that the disks tell has this verdict; each of those
+-- disks had room for its journal of that history and for what is kept for the batches that are open there
+pub record WasAudited {D : Type 0} (files : Text → Option (List ℕ)) (content : D → Option (List ℕ)) (limit : D → ℕ) (disks : ℕ → Option D) (file : FileWord) (clients : List FileWord) (verdict : Verdict) : Type 0 where
   pub mint : List Output
   pub handed : List (List FullTx)
   pub read : Tells (files file.name.now) (λ c. mint_of_file c ≡ Ok mint)
   pub clients_read : AreRead files 0 clients handed
   pub audited : IsAudited content disks mint (joined handed) verdict
+  pub room : HistoryHasRoom limit disks audited.shape audited.rows
 
 -- the verdict is that all is sound; the money of the ledger that the disks tell is accounted for, if its first records are those of the mint, no hashes
 -- clash and each committed transaction has an input; what it comes to was printed, and the disks are back as they were read
 pub record DidAudit {D : Type 0} (files : Text → Option (List ℕ)) (content : D → Option (List ℕ)) (images : D → List ℕ → Type 0) (limit : D → ℕ) (before now : ℕ → Option D) (printed : Text → Type 0) (file : FileWord) (clients : List FileWord) : Type 0 where
   pub totals : Totals
-  pub was : WasAudited files content before file clients (Sound totals)
+  pub was : WasAudited files content limit before file clients (Sound totals)
   pub sentence : IsAccountedFor content before was.mint (joined was.handed) totals
   pub back : (n : ℕ) → IsBack images limit (before n) (now n)
   pub prints : printed (audit_lines totals)
@@ -57,5 +59,5 @@ abbrev pub WhyNoAudit : {D : Type 0} → (Text → Option (List ℕ)) → (Text 
     → FileWord → List FileWord → Answer → Type 0
 WhyNoAudit files files_before files_now content images limit count disks now disks_before disks_now file clients answer =
     ((n : ℕ) → IsBack images limit (disks n) (now n))
-    × (IsUnsoundBy (WasAudited files content disks file clients) answer
+    × (IsUnsoundBy (WasAudited files content limit disks file clients) answer
     ⊎ WhyUnaudited files files_before files_now content images limit count disks disks_before disks_now file clients answer)

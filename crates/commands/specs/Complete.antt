@@ -56,8 +56,8 @@ pub record CanAudit {D : Type 0} (files : Text → Option (List ℕ)) (files_bef
 abbrev pub none_sound : FullTx → Bool
 none_sound t = false
 
--- nothing hinders what is asked: its files are read, its disks tell what it is about and have the room for it, and none of them fails; no hashes of a
--- workload clash
+-- nothing hinders what is asked: its files are read, its disks tell what it is about and have the room for it (of a run, a recovery and a look at
+-- hashes they are `Ample`), and none of them fails; each hash that is looked for has its 32 bytes; no hashes of a workload clash
 abbrev pub IsUnhindered : {D : Type 0} → (Text → Option (List ℕ)) → (Text → ℕ) → (Text → ℕ) → (D → Option (List ℕ)) → (D → ℕ) → (ℕ → Option D) → (ℕ → ℕ) → (ℕ → ℕ) → Request → Type 0
 IsUnhindered files files_before files_now content limit held before now (Init shape mint) = CanInit files files_before files_now content limit held before now shape mint.name.now
 IsUnhindered files files_before files_now content limit held before now (Run verdicts clients) =

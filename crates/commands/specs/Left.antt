@@ -51,7 +51,9 @@ TurnsLeave content images limit before now handed =
 abbrev pub RunLeaves : {D : Type 0} → (Text → Option (List ℕ)) → (D → Option (List ℕ)) → (D → List ℕ → Type 0) → (D → ℕ) → (ℕ → Option D) → (ℕ → Option D) → List FileWord → Type 0
 RunLeaves files content images limit before now clients = (handed : List (List FullTx)) × AreRead files 0 clients handed × TurnsLeave content images limit before now handed
 
--- what is left by what was asked for: behind `status` and `audit` all disks are as they were read, whatever was answered
+-- what is left by what was asked for and did not come through: by `init` of a mint that its file holds all disks as they were read, or first records at
+-- the nodes above the one at which their writing stopped; by `run` of transactions that its files hold, and by `recover`, all disks as they were read, or
+-- as a lane's fault leaves them; by `status` and `audit` all disks as they were read; of a workload and of a text that is shown nothing is said here
 abbrev pub Leaves : {D : Type 0} → (Text → Option (List ℕ)) → (D → Option (List ℕ)) → (D → List ℕ → Type 0) → (D → ℕ) → (ℕ → Option D) → (ℕ → Option D) → Request → Answer → Type 0
 Leaves files content images limit before now (Init shape mint) answer = InitLeaves files content images limit before now shape mint answer
 Leaves files content images limit before now (Run verdicts clients) answer = RunLeaves files content images limit before now clients.items

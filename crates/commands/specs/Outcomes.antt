@@ -1,5 +1,5 @@
 -- What was done when all went well, by what the files and the disks told before and tell behind it.
-use Rattle.std.specs.Prelude.{◌≡◌, ◌⊎◌, ℕ, ◌+◌, ◌<◌, ◌≤◌, List, [], ◌++◌, reverse, Option, IsSome, Ok, string_bytes}
+use Rattle.std.specs.Prelude.{◌≡◌, ◌⊎◌, ℕ, ◌+◌, ◌<◌, ◌≤◌, List, [], reverse, Option, IsSome, Ok, string_bytes}
 use Rattle.outside.specs.Images.{Tells}
 use Rattle.line_text.specs.Lines.{Text}
 use Rattle.cbdc_types.specs.declared.answer.Answer.{Answer}
@@ -10,7 +10,6 @@ use Rattle.cbdc_model.specs.History.{header_of}
 use Rattle.cbdc_model.specs.Room.{kept_room}
 use Rattle.cbdc_model.specs.Due.{used_of}
 use Rattle.cbdc_model.specs.World.{KeptJournals}
-use Rattle.cbdc_model.specs.Waves.{Waves}
 use Rattle.record_log.specs.Held.{OpensTo}
 use Rattle.command_line.specs.declared.request.FileWord.{FileWord}
 use Rattle.command_line.specs.declared.request.Request.{Request}
@@ -21,21 +20,20 @@ use Rattle.verifier_port.specs.declared.file.VerdictFile.{VerdictFile}
 use Rattle.ledger_init.specs.Made.{MayBeMade, HoldsFirst, first_of, node_count, IsUnmade}
 use Rattle.printed_lines.specs.Reports.{init_lines, status_lines}
 use Rattle.printed_lines.specs.Recoveries.{IsRecoverText}
-use Rattle.printed_lines.specs.Runs.{IsRunLines}
+use Rattle.printed_lines.specs.Runs.{IsRunText}
 use Rattle.rack_nodes.specs.Racked.{OfTold, IsBack}
 use Rattle.rack_nodes.specs.Refused.{IsNodeJournal}
 use Rattle.rack_ledgers.specs.Ledgers.{IsUnopened}
 use Rattle.caused_ledgers.specs.Caused.{IsUnresumed}
-use Rattle.rack_laws.specs.Shown.{OfShown, HoldsEach}
+use Rattle.rack_laws.specs.Shown.{OfShown}
 use Rattle.submissions.specs.Checks.{VerdictsOf}
 use Rattle.sound_laws.specs.SoundTest.{sound_by}
 use Rattle.submission_laws.specs.Settled.{AreSettled}
 use Rattle.submission_laws.specs.Free.{AreFreeConfirmed}
 use Rattle.lane_driver.specs.declared.fault.LaneFault.{LaneFault}
 use Rattle.ledger_runs.specs.Least.{IsLeastOpen}
-use Rattle.file_runs.specs.Runs.{joined}
 use Rattle.rack_runs.specs.Endings.{EndsRun}
-use Rattle.rack_runs.specs.Runs.{IsGrown, IsRun, IsRecovered, IsLaneFault, NonePrepared, NothingNext, PieceNext, PiecesPrepared, TookLedger}
+use Rattle.rack_runs.specs.Runs.{IsRun, IsRecovered, IsLaneFault, NonePrepared, NothingNext, PieceNext, PiecesPrepared, TookLedger}
 use Rattle.commands.specs.Audits.{DidAudit, WhyNoAudit}
 use Rattle.commands.specs.Generated.{PrintsWorkload, WhyNoWorkload}
 pub use Rattle.commands.specs.Generated.{first_journals}
@@ -53,20 +51,17 @@ pub record DidInit {D : Type 0} (files : Text → Option (List ℕ)) (content : 
   pub kept : KeptJournals shape mint [] (first_journals shape mint)
   pub prints : printed (init_lines mint)
 
--- a run of these transactions over a kept ledger, which was printed: the journals that the disks hold now have grown from those at entry and are kept,
--- with the files' waves behind them, and the lines are those of that run; what they tell of each sound submission is what became of it: it has its one
--- place in one new Prepare, and nothing else has one, and it is confirmed exactly where every shard held it; and it is confirmed where its inputs were
--- unspent when its file's wave began, and no other sound submission of the file spends one
+-- a run of these transactions over a kept ledger, which was printed: the lines are those of this run, from the journals at entry to those at its exit,
+-- which the disks hold now; what they tell of each sound submission is what became of it: it has its one place in one new Prepare, and nothing else has
+-- one, and it is confirmed exactly where every shard held it; and it is confirmed where its inputs were unspent when its file's wave began, and no other
+-- sound submission of the file spends one
 pub record IsPrintedRun {D : Type 0} (images : D → List ℕ → Type 0) (now : ℕ → Option D) (printed : Text → Type 0) (verdicts : VerdictsOf) (handed : List (List FullTx)) (K : Shape) (mint : List Output) (submissions : List FullTx) (E : ℕ → List Record) : Type 0 where
-  pub exit : ℕ → List Record
-  pub disks : HoldsEach images now K exit
-  pub grown : IsGrown K mint (submissions ++ joined handed) E exit
-  pub waves : Waves K (sound_by verdicts) handed E exit
+  pub run : IsRun images now verdicts handed K mint submissions E
   pub text : Text
-  pub lines : IsRunLines K verdicts handed E exit text
+  pub lines : IsRunText K verdicts (sound_by verdicts) handed E run.exit text
   pub prints : printed text
-  pub settled : AreSettled K verdicts handed E exit
-  pub free : AreFreeConfirmed K verdicts handed E exit
+  pub settled : AreSettled K verdicts handed E run.exit
+  pub free : AreFreeConfirmed K verdicts handed E run.exit
 
 -- of the kept ledger that the disks told, it was so
 abbrev pub PrintsRun : {D : Type 0} → (D → Option (List ℕ)) → (D → List ℕ → Type 0) → (ℕ → Option D) → (ℕ → Option D) → (Text → Type 0) → VerdictsOf → List (List FullTx) → Type 0
@@ -80,17 +75,24 @@ pub record DidRun {D : Type 0} (files : Text → Option (List ℕ)) (content : D
   pub read : AreRead files 0 clients handed
   pub verdicts_read : AreVerdicts (files verdicts.name.now) known
   pub caused : TookLedger content limit before now
-  pub ran : OfShown content before (IsRun images now (told known) handed)
-  pub prints : PrintsRun content images before now printed (told known) handed
+  pub ran : PrintsRun content images before now printed (told known) handed
 
--- the disks told a ledger in which each record was caused, and its open batches were brought to their end; each disk holds exactly its journal
-abbrev pub DidRecover : {D : Type 0} → (D → Option (List ℕ)) → (D → List ℕ → Type 0) → (D → ℕ) → (ℕ → Option D) → (ℕ → Option D) → Type 0
-DidRecover content images limit before now = TookLedger content limit before now × OfShown content before (IsRecovered images now)
+-- a recovery of a kept ledger, which was printed: the lines are those of this recovery, from the journals at entry to those at its exit, which the disks
+-- hold now
+pub record IsPrintedRecovery {D : Type 0} (images : D → List ℕ → Type 0) (now : ℕ → Option D) (printed : Text → Type 0) (K : Shape) (mint : List Output) (submissions : List FullTx) (E : ℕ → List Record) : Type 0 where
+  pub recovered : IsRecovered images now K mint submissions E
+  pub text : Text
+  pub lines : IsRecoverText K E recovered.exit text
+  pub prints : printed text
 
--- of the kept ledger that the disks told, this was printed: the lines of a recovery from its journals to those that the disks hold now
+-- of the kept ledger that the disks told, it was so
 abbrev pub PrintsRecovery : {D : Type 0} → (D → Option (List ℕ)) → (D → List ℕ → Type 0) → (ℕ → Option D) → (ℕ → Option D) → (Text → Type 0) → Type 0
-PrintsRecovery content images before now printed =
-    OfShown content before (λ K mint submissions E. (X : ℕ → List Record) × HoldsEach images now K X × ((text : Text) × IsRecoverText K E X text × printed text))
+PrintsRecovery content images before now printed = OfShown content before (IsPrintedRecovery images now printed)
+
+-- the disks told a ledger in which each record was caused, and its open batches were brought to their end; each disk holds exactly its journal, and this
+-- was printed
+abbrev pub DidRecover : {D : Type 0} → (D → Option (List ℕ)) → (D → List ℕ → Type 0) → (D → ℕ) → (ℕ → Option D) → (ℕ → Option D) → (Text → Type 0) → Type 0
+DidRecover content images limit before now printed = TookLedger content limit before now × PrintsRecovery content images before now printed
 
 -- what the disks told opened to journals of all nodes of a ledger, each disk having room for its journal and for what is kept for the batches that are
 -- open there; the disks are back as they were read, and a line was printed for each hash, in order, with its status in the journal of the shard that
@@ -109,7 +111,7 @@ pub record DidStatus {D : Type 0} (content : D → Option (List ℕ)) (images : 
 abbrev pub Did : {D : Type 0} → (Text → Option (List ℕ)) → (D → Option (List ℕ)) → (D → List ℕ → Type 0) → (D → ℕ) → (ℕ → Option D) → (ℕ → Option D) → (Text → Type 0) → Request → Type 0
 Did files content images limit before now printed (Init shape mint) = DidInit files content images before now printed shape mint
 Did files content images limit before now printed (Run verdicts clients) = DidRun files content images limit before now printed verdicts clients.items
-Did files content images limit before now printed Recover = DidRecover content images limit before now × PrintsRecovery content images before now printed
+Did files content images limit before now printed Recover = DidRecover content images limit before now printed
 Did files content images limit before now printed (Status hashes) = DidStatus content images limit before now printed hashes.items
 Did files content images limit before now printed (Audit mint clients) = DidAudit files content images limit before now printed mint clients.items
 Did files content images limit before now printed (Gen shape seed size) = ((n : ℕ) → now n ≡ before n) × PrintsWorkload printed shape seed size

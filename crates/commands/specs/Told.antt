@@ -18,7 +18,7 @@ use Rattle.input_files.specs.Contents.{AreRead, AreVerdicts, all_txs}
 use Rattle.verifier_port.specs.Files.{told}
 use Rattle.verifier_port.specs.declared.file.VerdictFile.{VerdictFile}
 use Rattle.rack_laws.specs.Shown.{OfShown}
-use Rattle.rack_runs.specs.Runs.{IsRun, TookLedger}
+use Rattle.rack_runs.specs.Runs.{TookLedger}
 use Rattle.rack_runs.specs.Telling.{IsTold}
 use Rattle.rack_runs.specs.declared.over.Ran.{Ran}
 use Rattle.commands.specs.declared.report.Counts.{Counts}
@@ -103,5 +103,4 @@ pub record WasRun {D : Type 0} (files : Text → Option (List ℕ)) (content : D
   pub verdicts_read : AreVerdicts (files verdicts.name.now) known
   pub few : all_txs handed ≤ 1000000
   pub caused : TookLedger content limit before now
-  pub was : OfShown content before (IsRun images now (told known) handed)
   pub tells : OfShown content before (IsTold images now (told known) handed ran)

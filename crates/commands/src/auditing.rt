@@ -39,7 +39,7 @@ fn audit_all<I: Inbox, R: Rack>(
     rack: &mut R,
 ) -> Result<Verdict, Answer>
     requires { (n : ℕ) → R.can_take rack.old n }
-    ensures did { IfOk result (WasAudited (I.file inbox.old) R.Disk.content (R.held rack.old) mint.now clients.now) }
+    ensures did { IfOk result (WasAudited (I.file inbox.old) R.Disk.content R.Disk.limit (R.held rack.old) mint.now clients.now) }
     ensures why { IfErr result (WhyUnaudited (I.file inbox.old) (I.count inbox.old) (I.count inbox.new) R.Disk.content R.Disk.images R.Disk.limit R.Disk.count (R.held rack.old) (R.count rack.old) (R.count rack.new) mint.now clients.now) }
     ensures held { (n : ℕ) → IsBack R.Disk.images R.Disk.limit (R.held rack.old n) (R.held rack.new n) }
     ensures fault { IfErr result (IsFault (λ place. (place ≡ mint.now.place) ⊎ OnePlace clients.now place) (λ place. FileRose (I.count inbox.old) (I.count inbox.new) mint.now place ⊎ OneRose (I.count inbox.old) (I.count inbox.new) clients.now place)) }

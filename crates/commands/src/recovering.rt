@@ -5,7 +5,7 @@ ghost use Rattle.line_text.specs.Reports.{recovery_text};
 ghost use Rattle.printed_lines.specs.Recoveries.{won_in};
 ghost use Rattle.outside.specs.Counts.{Rose, HasCause};
 ghost use Rattle.commands.specs.Causes.{IsDone, IsTold, IsWell};
-ghost use Rattle.commands.specs.Outcomes.{DidRecover, PrintsRecovery, WhyNoTurns};
+ghost use Rattle.commands.specs.Outcomes.{DidRecover, WhyNoTurns};
 ghost use Rattle.ledger_runs.specs.Least.{IsLeastOpen};
 ghost use Rattle.rack_runs.specs.Runs.{NonePrepared, NothingNext};
 ghost use Rattle.commands.specs.Texts.{IsPrinted, IsSilent, batch_text, batch_texts};
@@ -75,8 +75,7 @@ pub(crate) fn recover<W: Wait, R: Rack, O: Sink, G: Gate>(
 ) -> Answer
     requires { (n : ℕ) → R.can_take rack.old n }
     ensures cause { IsDone (λ file. ⊥) (λ file. ⊥) (Rose (O.count out.old) (O.count out.new)) result }
-    ensures did { IsWell result → DidRecover R.Disk.content R.Disk.images R.Disk.limit (R.held rack.old) (R.held rack.new) }
-    ensures prints { IsWell result → PrintsRecovery R.Disk.content R.Disk.images (R.held rack.old) (R.held rack.new) (IsPrinted (O.taken out.old) (O.taken out.new) result) }
+    ensures did { IsWell result → DidRecover R.Disk.content R.Disk.images R.Disk.limit (R.held rack.old) (R.held rack.new) (IsPrinted (O.taken out.old) (O.taken out.new) result) }
     ensures why { IsTold (WhyNoTurns R.Disk.content R.Disk.images R.Disk.limit R.Disk.count (R.held rack.old) (R.held rack.new) (R.count rack.old) (R.count rack.new) NothingNext IsLeastOpen NonePrepared []) result }
     ensures left { (IsWell result → ⊥) → TurnsLeave R.Disk.content R.Disk.images R.Disk.limit (R.held rack.old) (R.held rack.new) [] }
     ensures silent { IsSilent (O.taken out.old) (O.taken out.new) result }

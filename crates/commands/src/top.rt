@@ -190,10 +190,12 @@ pub fn process<W: Wait, I: Inbox, R: Rack, O: Sink, G: Gate>(
     // batches were brought to their end, hashes were looked up, or its journals were audited and are sound. What was run over or brought to
     // an end was a ledger that the disks told, each record of which was caused by what stood before it. Whatever a crash leaves of a
     // disk then opens to exactly its node's journal, and where no two outputs share a hash, the headline holds of the journals at exit. The
-    // lines of each command are those of the mint and of the journals (of `run` and `recover` at exit too; of `gen` those of a run of its workload in
+    // lines of each command are those of the mint and of the journals (of `run` and `recover` at that exit too; of `gen` those of a run of its workload in
     // memory and of the audit behind it), or at WriteFault a front. Each sound submission of a run has its one place in one new Prepare, and
     // nothing else has one; its line confirms it exactly where every shard held it, and always where its inputs are unspent when its
-    // file's wave begins and no other sound one of the file spends them. The text of a workload is one, where no hashes of it clash.
+    // file's wave begins and no other sound one of the file spends them. The text of a workload is one, where no hashes of it clash. Each
+    // disk of a ledger that was looked at or audited, and of a kept one that was run over or brought to an end, had room for its journal
+    // and for what is kept for the batches open there.
     ensures did { IsWell result.status → (r : Asked) × IsAsked (texts words.now) r × Did (I.file inbox.old) R.Disk.content R.Disk.images R.Disk.limit (R.held rack) (R.held result.rack) (IsPrinted (O.taken out.old) (O.taken out.new) result.status) r }
 
     // Else the line of the fault is printed and nothing else, or a front of it where the sink's count rose.

@@ -77,7 +77,7 @@ module _ (K : Shape) (mint : List Output) (sound : FullTx → Bool) (capacity : 
       omega (arith, room.1, h.stamp_is, h.above)
 
   pub answer_none : (a : Answer) → IsLaneAnswer K next E X failed may_hold a → a ≡ answers.Memory
-  answer_none (answers.DiskFault n) (there, did) = absurd (none n there did)
+  answer_none (answers.DiskFault n) (lane, lt, h) = absurd (none n h.inside h.did)
   answer_none (answers.Full n used need limit) (lane, lt, h) = absurd (full_none lane n used need limit lt h)
   answer_none (answers.ClockEnd n stamp) (lane, lt, h) = absurd (stamp_none lane n stamp lt h)
   answer_none answers.Memory h = refl

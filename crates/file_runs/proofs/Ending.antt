@@ -16,9 +16,10 @@ use Rattle.ledger_runs.specs.Faults.{HaveCauses}
 use Rattle.ledger_runs.specs.Least.{RunTheirs}
 use Rattle.ledger_runs.specs.declared.lanes.Lane.{Lane}
 use Rattle.ledger_runs.proofs.Least.{least_fault}
-use Rattle.file_runs.specs.Runs.{AreLanesOf, HavePreparedFiles, IsSentPiece}
+use Rattle.file_runs.specs.Runs.{AreLanesOf, HavePreparedFiles, HaveBegunFile, IsSentPiece}
 use Rattle.file_runs.specs.Endings.{EndsFile, EndsFirst, EndsFiles}
 use Rattle.file_runs.proofs.Causing.{sent_piece}
+use Rattle.file_runs.proofs.Pieces.{file_unbegun}
 use Rattle.file_runs.proofs.Joining.{so_far}
 
 -- the first fault of a file's lanes
@@ -32,7 +33,7 @@ file_ends K verdicts file lists lanes after I J failed holds count are_sent are 
 
 unbegun_first : (K : Shape) (verdicts : VerdictsOf) (more : List (List FullTx)) (I : ℕ → List Record) (failed : ℕ → Type 0) (holds : ℕ → ℕ → Type 0) (e : LaneFault) → e.fault ≡ NoMemory → EndsFirst K verdicts more I I failed holds e
 unbegun_first K verdicts [] I failed holds e is = (is, λ n. refl)
-unbegun_first K verdicts (file ∷ more) I failed holds e is = inl (is, λ n. refl)
+unbegun_first K verdicts (file ∷ more) I failed holds e is = (inl (is, λ n. refl), file_unbegun K verdicts file I)
 
 -- memory ran out behind files that have been run
 pub unbegun_files : (K : Shape) (verdicts : VerdictsOf) (files : List (List FullTx)) (i : ℕ) (I J : ℕ → List Record) (failed : ℕ → Type 0) (holds : ℕ → ℕ → Type 0) (e : LaneFault)
@@ -51,8 +52,8 @@ unbegun_files K verdicts files i I J failed holds e grows so idle is = record {
 -- a file's fault ends the files
 pub files_end_so : (K H : Shape) (verdicts : VerdictsOf) (files : List (List FullTx)) (i : ℕ) (file : List FullTx) (I J L : ℕ → List Record) (failed : ℕ → Type 0) (holds : ℕ → ℕ → Type 0) (e : LaneFault)
     → H ≡ K → i < length files → file ≡ get_or files i file → ((n : ℕ) → IsEnd (I n) (J n)) → HavePreparedFiles K verdicts (take i files) I J → AreIdle K J
-    → EndsFile H verdicts file J L failed holds e → EndsFiles K verdicts files I L failed holds e
-files_end_so K H verdicts files i file I J L failed holds e same low is grows so idle ends = record {
+    → EndsFile H verdicts file J L failed holds e → (0 < H.batch → HaveBegunFile H verdicts file J L) → EndsFiles K verdicts files I L failed holds e
+files_end_so K H verdicts files i file I J L failed holds e same low is grows so idle ends begun = record {
   done = take i files;
   more = file ∷ drop (i + 1) files;
   are = sym (sym (append_assoc (take i files) (file ∷ []) (drop (i + 1) files)) ∙ ap (λ fs. fs ++ drop (i + 1) files) (so_far files i file low is) ∙ take-append-drop (i + 1) files);
@@ -60,5 +61,5 @@ files_end_so K H verdicts files i file I J L failed holds e same low is grows so
   grows = grows;
   before = so;
   idle = idle;
-  ends = subst (λ k. EndsFile k verdicts file J L failed holds e) same ends;
+  ends = (subst (λ k. EndsFile k verdicts file J L failed holds e) same ends, subst (λ k. 0 < k.batch → HaveBegunFile k verdicts file J L) same begun);
 }

@@ -1,5 +1,5 @@
 -- Whose fault ends files that are run one after another.
-use Rattle.std.specs.Prelude.{◌≡◌, ◌⊎◌, ℕ, Bool, List, [], ◌∷◌, ◌++◌}
+use Rattle.std.specs.Prelude.{◌≡◌, ◌⊎◌, ℕ, ◌<◌, Bool, List, [], ◌∷◌, ◌++◌}
 use Rattle.cbdc_model.specs.Records.{Shape, Record}
 use Rattle.cbdc_model.specs.Coins.{FullTx}
 use Rattle.cbdc_model.specs.Lanes.{IsEnd}
@@ -8,17 +8,17 @@ use Rattle.cbdc_model.specs.Waves.{sent_to}
 use Rattle.submissions.specs.Checks.{VerdictsOf, TellsSound}
 use Rattle.lane_driver.specs.declared.fault.LaneFault.{LaneFault}
 use Rattle.ledger_runs.specs.Least.{IsLeastFault, IsUnbegun}
-use Rattle.file_runs.specs.Runs.{IsSentPiece, HavePreparedFiles}
+use Rattle.file_runs.specs.Runs.{IsSentPiece, HavePreparedFiles, HaveBegunFile}
 
 -- a file's: memory ran out before its wave; or it is the least lane's that met one in the wave, and each lesser lane has run all that the file sends it
 abbrev pub EndsFile : Shape → VerdictsOf → List FullTx → (ℕ → List Record) → (ℕ → List Record) → (ℕ → Type 0) → (ℕ → ℕ → Type 0) → LaneFault → Type 0
 EndsFile K verdicts file I J failed may_hold e =
     IsUnbegun I J e ⊎ ((sound : FullTx → Bool) → TellsSound verdicts sound → IsLeastFault K (sent_to K sound file) (IsSentPiece K verdicts file I J) I J failed may_hold e)
 
--- the first of more files, if there is one
+-- the first of more files, if there is one; no lane has prepared anything of the files behind it, only the first pieces of what it sends
 abbrev pub EndsFirst : Shape → VerdictsOf → List (List FullTx) → (ℕ → List Record) → (ℕ → List Record) → (ℕ → Type 0) → (ℕ → ℕ → Type 0) → LaneFault → Type 0
 EndsFirst K verdicts [] I J failed may_hold e = IsUnbegun I J e
-EndsFirst K verdicts (file ∷ more) I J failed may_hold e = EndsFile K verdicts file I J failed may_hold e
+EndsFirst K verdicts (file ∷ more) I J failed may_hold e = EndsFile K verdicts file I J failed may_hold e × (0 < K.batch → HaveBegunFile K verdicts file I J)
 
 -- of files from journals I to J: those before have been run by all lanes, which were idle then, and the first of those behind them was ended
 pub record EndsFiles (K : Shape) (verdicts : VerdictsOf) (files : List (List FullTx)) (I J : ℕ → List Record) (failed : ℕ → Type 0) (may_hold : ℕ → ℕ → Type 0) (e : LaneFault) : Type 0 where

@@ -1,9 +1,10 @@
 // Whether journals have a kept history.
-ghost use Rattle.std.specs.Prelude.{◌≡◌, ◌↔◌, ◌++◌, ◌<◌, ◌≤◌, ◌^◌, ℕ, [], length, IsTrue, IfOk, OnOk};
-ghost use Rattle.cbdc_model.specs.Records.{journal};
-ghost use Rattle.cbdc_model.specs.History.{minted, first_rows};
+ghost use Rattle.std.specs.Prelude.{◌≡◌, ◌↔◌, ◌++◌, ◌<◌, ◌≤◌, ◌^◌, ℕ, List as Items, [], length, Some, IsTrue, IfOk, IfSome, OnOk};
+ghost use Rattle.cbdc_model.specs.Records.{Row as ModelRow, journal};
+ghost use Rattle.cbdc_model.specs.History.{minted, first_rows, history_of};
 ghost use Rattle.cbdc_model.specs.World.{IsHistory, KeptJournals};
 ghost use Rattle.model_check.specs.Journals.{journals_in};
+ghost use Rattle.kept_check.specs.Histories.{AreOnNodes, IsWholeHistory};
 ghost use Rattle.kept_check.specs.Merging.{put_row, put_records, behind_first, later_below};
 ghost use Rattle.kept_check.specs.Minting.{minted_by};
 
@@ -180,6 +181,47 @@ fn later_below(alloc: Global, journals: &[List<Record>], n: u32) -> Result<List<
     let below = later_below(alloc, journals, node)?;
     let own = behind_first(journal_at(journals, node));
     with_records(alloc, NodeId(node), own, below)
+}
+
+// The rows on top of a ledger's first ones that are the history of these journals, where they have one.
+fn later_of(
+    alloc: Global,
+    shape: &Shape,
+    mint: &CompactTx,
+    journals: &[List<Record>],
+) -> Result<Option<List<Row>>, AllocError>
+    ensures is { IfOk result (λ o. IfSome o (λ later. IsHistory shape.now (minted_by mint.now) (journals_in journals.now) later)) }
+    ensures found { IfOk result (λ o. (later : Items ModelRow) → IsHistory shape.now (minted_by mint.now) (journals_in journals.now) later
+        → AreOnNodes shape.now (journals_in journals.now) → o ≡ Some later) }
+{
+    let later = later_below(alloc, journals, shape.node_count())?;
+    if !is_history(alloc, shape, mint, journals, later.as_slice())? {
+        return Ok(None);
+    }
+    Ok(Some(later))
+}
+
+/// The history of these journals, the newest row first: all their records by stamp and node. None where they have none on the nodes of
+/// this shape with the first records of this mint.
+#[tactic(auto, using(crate::proofs::Histories::none_whole, crate::proofs::Histories::is_whole, crate::proofs::Histories::found_whole))]
+pub fn history_of(
+    alloc: Global,
+    shape: &Shape,
+    mint: &[Output],
+    journals: &[List<Record>],
+) -> Result<Option<List<Row>>, AllocError>
+    ensures is { IfOk result (λ o. IfSome o (λ rows. IsWholeHistory shape.now mint.now (journals_in journals.now) rows)) }
+    ensures found { IfOk result (λ o. (later : Items ModelRow) → IsHistory shape.now (minted mint.now) (journals_in journals.now) later
+        → AreOnNodes shape.now (journals_in journals.now) → o ≡ Some (history_of shape.now mint.now later)) }
+{
+    let whole = genesis_tx(alloc, mint)?;
+    let minted = compact(alloc, &whole)?;
+    let Some(later) = later_of(alloc, shape, &minted, journals)? else {
+        return Ok(None);
+    };
+    let first = first_rows(alloc, shape, &minted)?;
+    let rows = rows_on(alloc, later.as_slice(), first.as_slice())?;
+    Ok(Some(rows))
 }
 
 /// Whether journals, of which the newest record is the first, have a kept history: their records by stamp and node, each

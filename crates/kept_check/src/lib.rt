@@ -14,5 +14,5 @@ pub use agreeing::{agree, coins_agree};
 pub use alikes::{are_alike, count_of, is_alike};
 pub use clean::is_clean;
 pub use kept::{first_rows, is_kept};
-pub use ledgers::{is_history, is_kept_ledger};
+pub use ledgers::{history_of, is_history, is_kept_ledger};
 pub use proper::{is_proper, is_proper_compact};

@@ -1,6 +1,10 @@
 mod changed;
+mod coming;
+mod coordinators;
+mod histories;
 mod judging;
 mod kept;
+mod money;
 mod others;
 mod taking;
 mod waves;

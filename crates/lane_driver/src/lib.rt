@@ -15,5 +15,5 @@ pub use batch::{from_committed, from_discarded, from_prepared, run_batch};
 pub use fault::{BatchReport, LaneFault, LaneFaultKind, LaneReport, Stop, lane_fault, no_memory};
 pub use lane::run_lane;
 pub use order::{finish_calls, forget_calls, lock_calls};
-pub use port::{LogPort, PortSet, Ports};
+pub use port::{LogPort, PortSet, Ports, ShardPort};
 pub use room::{BatchRoom, LaterRoom};

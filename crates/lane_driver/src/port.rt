@@ -3,8 +3,9 @@ ghost use Rattle.std.specs.Prelude.{◌≡◌, ◌≢◌, ◌≤◌, ℕ, Bool, 
 ghost use Rattle.std.specs.Vec.{vec_capacity};
 ghost use Rattle.cbdc_model.specs.Records.{Header, Compact};
 ghost use Rattle.cbdc_model.specs.Slots.{Phase, Idle, InPrepare, InCommit, InDiscard};
-ghost use Rattle.cbdc_model.specs.Grammar.{HasSize, IsCompact};
-ghost use Rattle.lane_driver.specs.Told.{IsLane, KeepsOthers, KeepNodes, AreLockCalls, AreFinishCalls, AreForgetCalls, AreShards, EachAnswer, LockTold, StampTold, AreReplies, IsPrepared, IsStamp};
+ghost use Rattle.cbdc_model.specs.Grammar.{HasSize, IsCompact, IsReply};
+ghost use Rattle.cbdc_model.specs.Calls.{IsLockCall, IsFinishCall, IsForgetCall};
+ghost use Rattle.lane_driver.specs.Told.{IsLane, IsStillNode, KeepsOthers, KeepNodes, AreLockCalls, AreFinishCalls, AreForgetCalls, AreShards, EachAnswer, LockTold, StampTold, AreReplies, IsPrepared, IsStamp};
 ghost use Rattle.lane_driver.specs.Causes.{IsLogCause};
 ghost use Rattle.lane_driver.specs.Calls.{shard};
 ghost use Rattle.cbdc_model.specs.Records.{outcomes_of};
@@ -131,6 +132,54 @@ pub trait LogPort {
         ensures elsewhere { (n : ℕ) → n ≢ at self.old → sights self.new n ≡ sights self.old n }
         ensures nodes { KeepNodes (sights self.old) (sights self.new) }
         ensures later { (n : ℕ) → faults self.old n ≤ faults self.new n }
+        ensures holds { holds self.old → holds self.new };
+}
+
+/// One shard of a ledger.
+pub trait ShardPort {
+    /// What is known of the shard.
+    ghost sight: { Self → Sight };
+
+    /// What tells the shard that the calls go to from others.
+    ghost at: { Self → ℕ };
+
+    /// Whether no other lane's records come between two calls.
+    ghost alone: { Bool };
+
+    /// How often its disk has failed.
+    ghost faults: { Self → ℕ };
+
+    /// What stays true of its node, whatever is asked of it.
+    ghost holds: { Self → Type 0 };
+
+    /// Locks a part for a batch, or answers as before.
+    fn lock<G: Gate>(&mut self, call: &LockCall, gate: &G) -> Result<Replied, NodeFault>
+        requires { IsLockCall (sight self.old).header call.now }
+        ensures replied { IfOk result (λ a. IsStamp a.stamp × All (IsReply (sight self.old).header.shape) a.replies) }
+        ensures told { LockAnswer alone (at self.old, call.now) (sight self.old) (sight self.new) result }
+        ensures at_same { at self.new ≡ at self.old }
+        ensures node { IsStillNode (sight self.old) (sight self.new) }
+        ensures later { faults self.old ≤ faults self.new }
+        ensures holds { holds self.old → holds self.new };
+
+    /// Applies a locked batch, or answers as before.
+    fn finish<G: Gate>(&mut self, call: &FinishCall, gate: &G) -> Result<Stamp, NodeFault>
+        requires { IsFinishCall (sight self.old).header call.now }
+        ensures stamp { IfOk result IsStamp }
+        ensures told { FinishAnswer alone (at self.old, call.now) (sight self.old) (sight self.new) result }
+        ensures at_same { at self.new ≡ at self.old }
+        ensures node { IsStillNode (sight self.old) (sight self.new) }
+        ensures later { faults self.old ≤ faults self.new }
+        ensures holds { holds self.old → holds self.new };
+
+    /// Forgets an applied batch, or answers as before.
+    fn forget<G: Gate>(&mut self, call: &ForgetCall, gate: &G) -> Result<Stamp, NodeFault>
+        requires { IsForgetCall (sight self.old).header call.now }
+        ensures stamp { IfOk result IsStamp }
+        ensures told { ForgetAnswer alone (at self.old, call.now) (sight self.old) (sight self.new) result }
+        ensures at_same { at self.new ≡ at self.old }
+        ensures node { IsStillNode (sight self.old) (sight self.new) }
+        ensures later { faults self.old ≤ faults self.new }
         ensures holds { holds self.old → holds self.new };
 }
 

@@ -3,8 +3,8 @@ use Rattle.std.proofs.Common.{◌≡◌, ◌⊎◌, inl, inr, ℕ, suc, ◌<◌,
 use Rattle.cbdc_types.specs.declared.calls.NodeFault.{NodeFault}
 use Rattle.cbdc_types.specs.declared.calls.NodeFault.TheVariants.{Broken, Refused as Refuses, ClockEnd, Full, DiskFault, Memory}
 use Rattle.cbdc_types.specs.declared.batch.ShardReplies.{ShardReplies}
-use Rattle.cbdc_model.specs.Records.{Batch, same_batch, Compact, Record, Shape, is_in_lane, record_of, lock_of, txs_of, last_stamp, stamp_of, stamp_in, txs_in, entries_in, Prepare, Commit, Discard, Done}
-use Rattle.cbdc_model.specs.Slots.{slot}
+use Rattle.cbdc_model.specs.Records.{Batch, same_batch, Compact, Outcome, Record, Shape, is_in_lane, record_of, lock_of, txs_of, last_stamp, stamp_of, stamp_in, txs_in, entries_in, Prepare, Commit, Discard, Done}
+use Rattle.cbdc_model.specs.Slots.{slot, Idle, InCommit, InDiscard}
 use Rattle.cbdc_model.specs.Replies.{entries}
 use Rattle.cbdc_model.specs.Causes.{IsCaused, IsStamped, AllHave, at_shards, last_of, greatest}
 use Rattle.cbdc_model.specs.Outcomes.{outcomes}
@@ -130,6 +130,7 @@ module _ (K : Shape) (lane number : ℕ) (txs : List Compact) where
   pub record Open (log : Sight) (t : ℕ) : Type 0 where
     pub prepare : record_of 6 log.seen named_batch ≡ Some (Prepare t named_batch txs)
     pub open_number : (slot log.seen lane).number ≡ number
+    pub busy : (slot log.seen lane).phase ≡ Idle → ⊥
     pub shape : log.header.shape ≡ K
 
   -- what the shards have of a kind: those that are concerned, and no others
@@ -195,11 +196,25 @@ module _ (K : Shape) (pieces : List (List Compact)) (alone : Bool) (lane number 
         let b : open_batch found lane ≡ B = open_is log found f o.open_number in
         λ i. Commit (next_stamp found (reply_cause K rs)) (b i) ((ap (λ c. decided K (txs_of found c) rs) b ∙ ap (λ ts. decided K ts rs) txs_found) i)
 
+  commit_phase : (L : List Record) (tc : ℕ) (os : List Outcome) → (slot (Commit tc B os ∷ L) lane).phase ≡ InCommit
+  commit_phase L tc os = let z : (lane == lane) ≡ true = same_number lane in rw z
+
+  discard_phase : (L : List Record) (td : ℕ) → (slot (Discard td B ∷ L) lane).phase ≡ InDiscard
+  discard_phase L td = let z : (lane == lane) ≡ true = same_number lane in rw z
+
+  in_commit : InCommit ≡ Idle → ⊥
+  in_commit h = let z : InCommit ≡ Idle = h in cc
+
+  in_discard : InDiscard ≡ Idle → ⊥
+  in_discard h = let z : InDiscard ≡ Idle = h in cc
+
   -- the batch stays open behind a record that is no Prepare
-  still_open : (log log' : Sight) (t : ℕ) (r : Record) → Open K lane number txs log t → LogStep lane log log' r → ((L : List Record) → record_of 6 (r ∷ L) B ≡ record_of 6 L B) → ((L : List Record) → (slot (r ∷ L) lane).number ≡ number) → Open K lane number txs log' t
-  still_open log log' t r o s past at = record {
+  still_open : (log log' : Sight) (t : ℕ) (r : Record) → Open K lane number txs log t → LogStep lane log log' r → ((L : List Record) → record_of 6 (r ∷ L) B ≡ record_of 6 L B) → ((L : List Record) → (slot (r ∷ L) lane).number ≡ number)
+      → ((L : List Record) → (slot (r ∷ L) lane).phase ≡ Idle → ⊥) → Open K lane number txs log' t
+  still_open log log' t r o s past at busy = record {
     prepare = record_own' ∙ o.prepare;
     open_number = ap (λ L. (slot L lane).number) s.seen_is ∙ at s.seen;
+    busy = λ h. busy s.seen (sym (ap (λ L. (slot L lane).phase) s.seen_is) ∙ h);
     shape = s.shape ∙ o.shape;
   }
     where
@@ -234,7 +249,7 @@ module _ (K : Shape) (pieces : List (List Compact)) (alone : Bool) (lane number 
       commit_ok tc told =
           let d = late_ok K pieces alone lane home log log' shards (reply_cause K rs) (λ L. commit_record K lane rs L) (λ n. Commit n B (decided K txs rs)) (λ found f. commit_named log shards t o found f rs) (λ n. same_number lane) (λ n. refl) (λ n. tt)
           (λ found f. commit_caused log shards t o found f rs looks) tc (decide_told (Ok tc) told) in (
-            record { moved = d.0; step = d.1; stays = still_open log log' t (Commit tc B (decided K txs rs)) o d.1 (λ L. refl) (λ L. let z : (lane == lane) ≡ true = same_number lane in rw z) },
+            record { moved = d.0; step = d.1; stays = still_open log log' t (Commit tc B (decided K txs rs)) o d.1 (λ L. refl) (λ L. let z : (lane == lane) ≡ true = same_number lane in rw z) (λ L h. in_commit (sym (commit_phase L tc (decided K txs rs)) ∙ h)) },
             ap (λ L. record_of 7 L B) d.1.seen_is ∙ (let z : same_batch B B ≡ true = self in rw z),
           )
 
@@ -255,7 +270,7 @@ module _ (K : Shape) (pieces : List (List Compact)) (alone : Bool) (lane number 
       discard_ok td told =
           let d = late_ok K pieces alone lane home log log' shards m (λ L. discard_record lane m L) (λ n. Discard n B) discard_named (λ n. same_number lane) (λ n. refl) (λ n. tt)
           (λ found f. (have log shards t o found f 3 stamps looks, stamped log shards t o found f 3 m stamps looks greatest_is)) td told in (
-            record { moved = d.0; step = d.1; stays = still_open log log' t (Discard td B) o d.1 (λ L. refl) (λ L. let z : (lane == lane) ≡ true = same_number lane in rw z) },
+            record { moved = d.0; step = d.1; stays = still_open log log' t (Discard td B) o d.1 (λ L. refl) (λ L. let z : (lane == lane) ≡ true = same_number lane in rw z) (λ L h. in_discard (sym (discard_phase L td) ∙ h)) },
             ap (λ L. record_of 8 L B) d.1.seen_is ∙ (let z : same_batch B B ≡ true = self in rw z),
           )
 

@@ -92,6 +92,7 @@ module _ (K : Shape) (pieces : List (List Compact)) (alone : Bool) (lane number 
       stamp = t;
       prepare = same_record 6 lane B log.seen log'.seen refl h.1.same ∙ o.prepare;
       number = ap (λ q. q.number) (same_slot lane log.seen log'.seen h.1.same) ∙ o.open_number;
+      busy = λ i. o.busy (sym (ap (λ q. q.phase) (same_slot lane log.seen log'.seen h.1.same)) ∙ i);
       call = call h.3;
     };
     granted = answer_unrefused false (due log'.seen) log' f never h.3;
@@ -114,6 +115,7 @@ module _ (K : Shape) (pieces : List (List Compact)) (alone : Bool) (lane number 
           stamp = t;
           prepare = o.prepare;
           number = o.open_number;
+          busy = o.busy;
           call = to_forget s td node_is concerned discard
               (answered alone lane false (λ L. stamp_by (next_forget L B td) (Forget (next_stamp L td) B)) (I s) (J s) f failed);
         };
@@ -190,6 +192,7 @@ module _ (K : Shape) (pieces : List (List Compact)) (alone : Bool) (lane number 
           stamp = t;
           prepare = o.prepare;
           number = o.open_number;
+          busy = o.busy;
           call = to_finish s tc os node_is concerned phase_is commit
               (answered alone lane false (λ L. stamp_by (next_finish L B (decisions os (part K.shards s 0 txs)) tc) (Finish (next_stamp L tc) B (decisions os (part K.shards s 0 txs)))) (I s) (J s) f failed);
         };
@@ -252,6 +255,7 @@ module _ (K : Shape) (pieces : List (List Compact)) (alone : Bool) (lane number 
           stamp = t;
           prepare = o.prepare;
           number = o.open_number;
+          busy = o.busy;
           call = to_lock s t node_is concerned phase_is o.prepare
               (subst (λ h. IsAnswered true (lock_due h.shape (J s).capacity own_call None (J s).seen) (J s) f) (sym failed.node.header)
               (subst (λ m. IsAnswered true (lock_due (I s).header.shape m own_call None (J s).seen) (J s) f) (sym failed.node.capacity)

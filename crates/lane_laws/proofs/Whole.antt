@@ -1,7 +1,7 @@
 -- A whole new batch of a settled lane: exactly its records, and the lane is settled again.
 use Rattle.std.proofs.Common.{◌≡◌, ◌⊎◌, inl, inr, ℕ, suc, ◌<◌, Bool, true, false, ◌&&◌, ◌==◌, if◌then◌else◌, List, [], ◌∷◌, ◌++◌, Some, None, refl, sym, ap, ◌∙◌, subst, arith}
 use Rattle.cbdc_model.specs.Records.{Batch, same_batch, Compact, Entry, Outcome, Record, Shape, is_in_lane, kind_of, is_of, record_of, last_stamp, stamp_in, Lock, Finish, Forget, Prepare, Commit, Discard, Done}
-use Rattle.cbdc_model.specs.Slots.{slot, slot_stamp, Idle, InLock}
+use Rattle.cbdc_model.specs.Slots.{slot, slot_stamp, Idle, InLock, InPrepare}
 use Rattle.cbdc_model.specs.Outcomes.{decisions}
 use Rattle.cbdc_model.specs.Ranges.{part}
 use Rattle.cbdc_model.specs.Deciding.{replies_at, replies_in, reply_stamp, answered_with}
@@ -46,10 +46,14 @@ which : (a : Bool) → (a ≡ true) ⊎ (a ≡ false)
 which true = inl refl
 which false = inr refl
 
+in_prepare : InPrepare ≡ Idle → ⊥
+in_prepare h = let z : InPrepare ≡ Idle = h in cc
+
 pub opened : (K : Shape) (lane k : ℕ) (txs : List Compact) (log log' : Sight) (t : ℕ) → log.header.shape ≡ K → LogStep lane log log' (Prepare t (batch_of lane k) txs) → Open K lane (suc k) txs log' t
 opened K lane k txs log log' t shape s = record {
   prepare = ap (λ L. record_of 6 L (batch_of lane k)) s.seen_is ∙ (let z : same_batch (batch_of lane k) (batch_of lane k) ≡ true = same_batch_self (batch_of lane k) in rw z);
   open_number = ap (λ L. (slot L lane).number) s.seen_is ∙ (let z : (lane == lane) ≡ true = same_number lane in rw z);
+  busy = λ h. in_prepare (sym (ap (λ L. (slot L lane).phase) s.seen_is ∙ (let z : (lane == lane) ≡ true = same_number lane in rw z)) ∙ h);
   shape = s.shape ∙ shape;
 }
 

@@ -50,11 +50,12 @@ pub data IsCallFault (K : Shape) (b : Batch) (txs : List Compact) (log : Sight) 
       → IsAnswered false (forget_due (record { batch = b; cause = t }) None (shards s).seen) (shards s) f → IsCallFault K b txs log shards node f
   to_done : (cause : ℕ) → node ≡ home_of K b.lane → cause ≡ latest_at K shards 4 b → IsAnswered false (done_due b.lane cause None log.seen) log f → IsCallFault K b txs log shards node f
 
--- the batch is its lane's last one, its Prepare stands, and this node answered so to a call of it
+-- the batch is its lane's last one and is open still, its Prepare stands, and this node answered so to a call of it
 pub record IsOpenFault (K : Shape) (b : Batch) (txs : List Compact) (log : Sight) (shards : ℕ → Sight) (node : ℕ) (f : NodeFault) : Type 0 where
   pub stamp : ℕ
   pub prepare : record_of 6 log.seen b ≡ Some (Prepare stamp b txs)
   pub number : (slot log.seen b.lane).number ≡ b.number
+  pub busy : (slot log.seen b.lane).phase ≡ Idle → ⊥
   pub call : IsCallFault K b txs log shards node f
 
 -- the same of a new batch of the lane: to its Prepare, the lane being idle, or to a call behind it

@@ -166,8 +166,9 @@ module _ {D B : Type 0} (content : D → Option (List ℕ)) (images : D → List
       front_parts = (each_split IsBlankAt 0 stopped.front (stopped.x ∷ stopped.done) (subst (λ (l : List B). EachFrom IsBlankAt 0 l) stopped.parts opened)).0
 
       -- the node at which the writing stopped
-      pub stopped_at : ((n : ℕ) → node_count K ≤ n → new n ≡ old n) → StoppedAt K mint content images limit old new answer (length stopped.front)
-      stopped_at others = record {
+      pub stopped_at : value_out mint < 2 ^ 64 → ((n : ℕ) → node_count K ≤ n → new n ≡ old n) → StoppedAt K mint content images limit old new answer (length stopped.front)
+      stopped_at fits others = record {
+        was = may_be_made fits;
         inside = here_inside;
         told = of_node (length stopped.front) (limit (disk_of stopped.x)) (first_of K mint (length stopped.front)) answer stopped.fails.refusal;
         below = λ n lt. each_two IsBlankAt (λ k b. OfTold (new k) (λ d. d ≡ disk_of b)) (λ k. IsBack images limit (old k) (new k)) 0 stopped.front back_there front_parts stopped.waiting n (omega arith) (omega (arith, lt));

@@ -86,9 +86,10 @@ IsOfNode k (answers.DiskFault n) = n ≡ k
 IsOfNode k answers.Memory = Unit {0}
 IsOfNode k other = ⊥
 
--- The writing, from the highest node down, stopped at this one. The disks of those below it are as they were read. A crash leaves of its own no
+-- No node was in use, and the writing, from the highest node down, stopped at this one. The disks of those below it are as they were read. A crash leaves of its own no
 -- first record, or what it might have left before, or, where the disk failed, its first record alone. Those above it hold their first records.
 pub record StoppedAt {D : Type 0} (K : Shape) (mint : List Output) (content : D → Option (List ℕ)) (images : D → List ℕ → Type 0) (limit : D → ℕ) (before now : ℕ → Option D) (answer : Answer) (k : ℕ) : Type 0 where
+  pub was : MayBeMade K mint content before
   pub inside : k < node_count K
   pub told : IsOfNode k answer
   pub below : (n : ℕ) → n < k → IsBack images limit (before n) (now n)

@@ -8,6 +8,7 @@ use Rattle.cbdc_model.specs.Lanes.{IsEnd}
 use Rattle.cbdc_model.specs.Sights.{HasRisen}
 use Rattle.ledger_laws.proofs.Cuts.{end_self, end_trans}
 use Rattle.run_laws.specs.WaveSteps.{LaneTook}
+use Rattle.run_laws.specs.Faults.{IsAsked, asks_prepare, asks_log, asks_shard}
 use Rattle.lane_driver.specs.declared.fault.LaneFault.{LaneFault}
 use Rattle.lane_driver.specs.declared.fault.LaneFaultKind.{LaneFaultKind}
 use Rattle.lane_driver.specs.declared.fault.LaneFaultKind.TheVariants.{DiskFault as DiskStopped, Full as NoRoom, ClockEnd as NoStamp, Memory as NoMemory}
@@ -31,14 +32,23 @@ wanted_stays lane other apart J X grown K next due on node front r (wants_lock b
     wants_lock b t txs s is at concerned (ap (λ s. s.phase) (slot_same lane other apart J X grown (home_of K lane)) ∙ phase) (record_same lane other apart J X grown 6 (home_of K lane) b is ∙ stands)
     (subst (λ s. s.number < b.number) (sym (slot_same lane other apart J X grown node)) behind) e
 
+-- whom a lane asks, while another goes on
+pub asked_stays : (lane other : ℕ) → other ≢ lane → (J X : ℕ → List Record) → GrowBy other J X → (K : Shape) (next due : List Compact → Type 0) → ((txs : List Compact) → next txs → due txs)
+    → (node : ℕ) → IsAsked K lane next J node → IsAsked K lane due X node
+asked_stays lane other apart J X grown K next due on node (asks_prepare txs is at idle) = asks_prepare txs (on txs is) at (ap (λ s. s.phase) (slot_same lane other apart J X grown (home_of K lane)) ∙ idle)
+asked_stays lane other apart J X grown K next due on node (asks_log at busy) = asks_log at (λ h. busy (sym (ap (λ s. s.phase) (slot_same lane other apart J X grown (home_of K lane))) ∙ h))
+asked_stays lane other apart J X grown K next due on node (asks_shard b t txs s is at concerned number busy stands) =
+    asks_shard b t txs s is at concerned (ap (λ s. s.number) (slot_same lane other apart J X grown (home_of K lane)) ∙ number)
+    (λ h. busy (sym (ap (λ s. s.phase) (slot_same lane other apart J X grown (home_of K lane))) ∙ h)) (record_same lane other apart J X grown 6 (home_of K lane) b is ∙ stands)
+
 -- ---- a cause by later journals, or by an earlier entry
 
 module _ (K : Shape) (lane : ℕ) (next due : List Compact → Type 0) (E F J X : ℕ → List Record) (failed fails : ℕ → Type 0) (holds held : ℕ → ℕ → Type 0)
     (before : (n : ℕ) → IsEnd (F n) (E n)) (grows : (n : ℕ) → IsEnd (J n) (X n))
     (wanted_on : (node : ℕ) (front : List Record) (r : Record) → IsWanted K lane next J node front r → IsWanted K lane due X node front r)
-    (failed_on : (n : ℕ) → failed n → fails n) (held_on : (n c : ℕ) → holds n c → held n c) where
+    (asked_on : (node : ℕ) → IsAsked K lane next J node → IsAsked K lane due X node) (failed_on : (n : ℕ) → failed n → fails n) (held_on : (n c : ℕ) → holds n c → held n c) where
   cause_moves : (node : ℕ) (kind : LaneFaultKind) → IsCauseOf K lane next E J failed holds node kind → IsCauseOf K lane due F X fails held node kind
-  cause_moves node DiskStopped (inside, did) = (inside, failed_on node did)
+  cause_moves node DiskStopped h = record { inside = h.inside; asked = asked_on node h.asked; did = failed_on node h.did }
   cause_moves node (NoRoom used need capacity) h = record {
     front = h.front;
     since = end_trans (F node) (E node) h.front (before node) h.since;
@@ -66,6 +76,11 @@ wanted_by : (K : Shape) (lane : ℕ) (next due : List Compact → Type 0) (X : �
 wanted_by K lane next due X on node front r (wants_prepare txs is at idle e) = wants_prepare txs (on txs is) at idle e
 wanted_by K lane next due X on node front r (wants_lock b t txs s is at concerned phase stands behind e) = wants_lock b t txs s is at concerned phase stands behind e
 
+asked_by : (K : Shape) (lane : ℕ) (next due : List Compact → Type 0) (X : ℕ → List Record) → ((txs : List Compact) → next txs → due txs) → (node : ℕ) → IsAsked K lane next X node → IsAsked K lane due X node
+asked_by K lane next due X on node (asks_prepare txs is at idle) = asks_prepare txs (on txs is) at idle
+asked_by K lane next due X on node (asks_log at busy) = asks_log at busy
+asked_by K lane next due X on node (asks_shard b t txs s is at concerned number busy stands) = asks_shard b t txs s is at concerned number busy stands
+
 -- a disk that has failed has failed later too
 pub risen_later : (opened faults opens later : ℕ → ℕ) → ((n : ℕ) → opens n ≡ opened n) → ((n : ℕ) → faults n ≤ later n) → (n : ℕ) → HaveFailed opened faults n → HaveFailed opens later n
 risen_later opened faults opens later same le n risen = subst (λ o. HasRisen o (later n)) (sym (same n)) (le_trans risen (le n))
@@ -77,7 +92,7 @@ holds_later capacity now same n c is = is ∙ sym (same n)
 pub cause_since : (K : Shape) (lane : ℕ) (next due : List Compact → Type 0) (E F X : ℕ → List Record) (failed : ℕ → Type 0) (holds : ℕ → ℕ → Type 0) → ((n : ℕ) → IsEnd (F n) (E n))
     → ((txs : List Compact) → next txs → due txs) → (e : LaneFault) → IsLaneCause K lane next E X failed holds e → IsLaneCause K lane due F X failed holds e
 cause_since K lane next due E F X failed holds before on e h =
-    cause_moves K lane next due E F X X failed failed holds holds before (λ n. end_self (X n)) (wanted_by K lane next due X on) (λ n did. did) (λ n c is. is) e.node e.fault h
+    cause_moves K lane next due E F X X failed failed holds holds before (λ n. end_self (X n)) (wanted_by K lane next due X on) (asked_by K lane next due X on) (λ n did. did) (λ n c is. is) e.node e.fault h
 
 -- a fault of a lane is one of the run
 pub cause_any : (K : Shape) (lane : ℕ) (next : ℕ → List Compact → Type 0) (E X : ℕ → List Record) (failed : ℕ → Type 0) (holds : ℕ → ℕ → Type 0) → IsLaneOf K lane
@@ -85,7 +100,7 @@ pub cause_any : (K : Shape) (lane : ℕ) (next : ℕ → List Compact → Type 0
 cause_any K lane next E X failed holds inside e h = go e.fault h
   where
     go : (kind : LaneFaultKind) → IsCauseOf K lane (next lane) E X failed holds e.node kind → IsSomeCauseOf K next E X failed holds e.node kind
-    go DiskStopped did = did
+    go DiskStopped cause = (lane, inside, cause)
     go (NoRoom used need capacity) cause = (lane, inside, cause)
     go (NoStamp stamp) cause = (lane, inside, cause)
     go NoMemory cause = tt
@@ -97,10 +112,10 @@ pub run_moves : (K : Shape) (next due : ℕ → List Compact → Type 0) (E F X 
 run_moves K next due E F X failed fails holds held before on failed_on held_on e h = go e.fault h
   where
     moves : (lane : ℕ) → IsLaneOf K lane → (kind : LaneFaultKind) → IsCauseOf K lane (next lane) E X failed holds e.node kind → IsCauseOf K lane (due lane) F X fails held e.node kind
-    moves lane inside = cause_moves K lane (next lane) (due lane) E F X X failed fails holds held before (λ n. end_self (X n)) (wanted_by K lane (next lane) (due lane) X (λ txs n. on lane txs inside n)) failed_on held_on e.node
+    moves lane inside = cause_moves K lane (next lane) (due lane) E F X X failed fails holds held before (λ n. end_self (X n)) (wanted_by K lane (next lane) (due lane) X (λ txs n. on lane txs inside n)) (asked_by K lane (next lane) (due lane) X (λ txs n. on lane txs inside n)) failed_on held_on e.node
 
     go : (kind : LaneFaultKind) → IsSomeCauseOf K next E X failed holds e.node kind → IsSomeCauseOf K due F X fails held e.node kind
-    go DiskStopped (inside, did) = (inside, failed_on e.node did)
+    go DiskStopped (lane, inside, cause) = (lane, inside, moves lane inside DiskStopped cause)
     go (NoRoom used need capacity) (lane, inside, cause) = (lane, inside, moves lane inside (NoRoom used need capacity) cause)
     go (NoStamp stamp) (lane, inside, cause) = (lane, inside, moves lane inside (NoStamp stamp) cause)
     go NoMemory cause = tt
@@ -158,13 +173,15 @@ causes_step K H E J L start turn failed fails holds held now after same some tur
         let apart : turn ≢ lane = λ h. other (sym h) in
         cause_moves K lane (IsNextPiece K lane x.txs.items E J) (IsNextPiece K lane x.txs.items E L) E E J L failed fails holds held (λ n. end_self (E n)) (λ n. ((grown n).0, (grown n).1))
         (wanted_stays lane turn apart J L grown K (IsNextPiece K lane x.txs.items E J) (IsNextPiece K lane x.txs.items E L)
+        (λ txs i. next_stays K lane x.txs.items txs E J L (same_prepared lane turn apart J L grown (home_of K lane)) i))
+        (asked_stays lane turn apart J L grown K (IsNextPiece K lane x.txs.items E J) (IsNextPiece K lane x.txs.items E L)
         (λ txs i. next_stays K lane x.txs.items txs E J L (same_prepared lane turn apart J L grown (home_of K lane)) i)) failed_on held_on e.node e.fault (have lane x there e is)
 
     -- the lane whose turn it was had stopped before
     had_it : (x : Lane) → slice_get now turn ≡ Some x → (e : LaneFault) → x.fault ≡ Some e → ((n : ℕ) → L n ≡ J n) → Causes K E turn x L fails held e
     had_it x was e had as_before =
         let all : J ≡ L = λ i n. sym (as_before n) i in
-        cause_moves K turn (IsNextPiece K turn x.txs.items E L) (IsNextPiece K turn x.txs.items E L) E E L L failed fails holds held (λ n. end_self (E n)) (λ n. end_self (L n)) (λ node front r w. w) failed_on held_on e.node e.fault
+        cause_moves K turn (IsNextPiece K turn x.txs.items E L) (IsNextPiece K turn x.txs.items E L) E E L L failed fails holds held (λ n. end_self (E n)) (λ n. end_self (L n)) (λ node front r w. w) (λ n a. a) failed_on held_on e.node e.fault
         (subst (λ X. Causes K E turn x X failed holds e) all (have turn x was e had))
 
     -- or it stopped now

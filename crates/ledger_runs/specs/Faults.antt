@@ -8,6 +8,7 @@ use Rattle.cbdc_model.specs.Due.{used_of, prepare_record, lock_record}
 use Rattle.cbdc_model.specs.Lanes.{IsEnd}
 use Rattle.cbdc_model.specs.Sights.{HasRisen}
 use Rattle.lane_laws.specs.Calls.{is_concerned}
+use Rattle.run_laws.specs.Faults.{IsAsked}
 use Rattle.lane_driver.specs.declared.fault.LaneFault.{LaneFault}
 use Rattle.lane_driver.specs.declared.fault.LaneFaultKind.{LaneFaultKind}
 use Rattle.lane_driver.specs.declared.fault.LaneFaultKind.TheVariants.{DiskFault as DiskStopped, Full as NoRoom, ClockEnd as NoStamp, Memory as NoMemory}
@@ -55,10 +56,16 @@ pub record HasNoStampFor (K : Shape) (lane : ℕ) (next : List Compact → Type 
   pub stamp_is : stamp ≡ stamp_of wanted
   pub above : 2 ^ 62 < stamp
 
--- the cause of a lane's fault of this node and kind, from journals E to X, by the nodes whose disks have failed and what disks may hold: a node of
--- the ledger has a disk that failed; or no room or no stamp for what the lane wants; want of memory is free
+-- it is a node of the ledger that the lane asks, by journals X, and its disk has failed
+pub record HasNoDiskFor (K : Shape) (lane : ℕ) (next : List Compact → Type 0) (X : ℕ → List Record) (failed : ℕ → Type 0) (node : ℕ) : Type 0 where
+  pub inside : node < K.coordinators + K.shards
+  pub asked : IsAsked K lane next X node
+  pub did : failed node
+
+-- the cause of a lane's fault of this node and kind, from journals E to X, by the nodes whose disks have failed and what disks may hold: a node that
+-- the lane asks has a disk that failed; or no room or no stamp for what the lane wants; want of memory is free
 abbrev pub IsCauseOf : Shape → ℕ → (List Compact → Type 0) → (ℕ → List Record) → (ℕ → List Record) → (ℕ → Type 0) → (ℕ → ℕ → Type 0) → ℕ → LaneFaultKind → Type 0
-IsCauseOf K lane next E X failed may_hold node DiskStopped = (node < K.coordinators + K.shards) × failed node
+IsCauseOf K lane next E X failed may_hold node DiskStopped = HasNoDiskFor K lane next X failed node
 IsCauseOf K lane next E X failed may_hold node (NoRoom used need capacity) = HasNoRoomFor K lane next E X may_hold node used need capacity
 IsCauseOf K lane next E X failed may_hold node (NoStamp stamp) = HasNoStampFor K lane next E X node stamp
 IsCauseOf K lane next E X failed may_hold node NoMemory = Unit {0}
@@ -68,7 +75,7 @@ IsLaneCause K lane next E X failed may_hold e = IsCauseOf K lane next E X failed
 
 -- the same of some lane, each with the transactions that are next for it
 abbrev pub IsSomeCauseOf : Shape → (ℕ → List Compact → Type 0) → (ℕ → List Record) → (ℕ → List Record) → (ℕ → Type 0) → (ℕ → ℕ → Type 0) → ℕ → LaneFaultKind → Type 0
-IsSomeCauseOf K next E X failed may_hold node DiskStopped = (node < K.coordinators + K.shards) × failed node
+IsSomeCauseOf K next E X failed may_hold node DiskStopped = (lane : ℕ) × IsLaneOf K lane × HasNoDiskFor K lane (next lane) X failed node
 IsSomeCauseOf K next E X failed may_hold node (NoRoom used need capacity) = (lane : ℕ) × IsLaneOf K lane × HasNoRoomFor K lane (next lane) E X may_hold node used need capacity
 IsSomeCauseOf K next E X failed may_hold node (NoStamp stamp) = (lane : ℕ) × IsLaneOf K lane × HasNoStampFor K lane (next lane) E X node stamp
 IsSomeCauseOf K next E X failed may_hold node NoMemory = Unit {0}

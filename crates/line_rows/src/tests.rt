@@ -1,4 +1,6 @@
+mod faults;
 mod looks;
 mod named;
 mod recoveries;
+mod refused;
 mod runs;

@@ -1,5 +1,5 @@
 -- Books as lists of coins.
-use Rattle.std.proofs.Common.{◌≡◌, ℕ, ◌+◌, Bool, true, false, cond, ◌==◌, ◌&&◌, not, List, [], ◌∷◌, map, filter, Some, None, refl, sym, ap, ◌∙◌, arith, length, sum_by, Ordering, Less, Equal, Greater, nat_cmp}
+use Rattle.std.proofs.Common.{◌≡◌, ℕ, ◌+◌, Bool, true, false, cond, ◌==◌, ◌&&◌, not, List, [], ◌∷◌, map, filter, Some, None, refl, sym, ap, ◌∙◌, arith, length, sum_by, is_some, Ordering, Less, Equal, Greater, nat_cmp}
 use Rattle.std.proofs.lemmas.Map.Text.{is_eq-slice_cmp}
 use Rattle.std.proofs.lemmas.List.Sums.{sum_by-cons}
 use Rattle.std.proofs.lemmas.Cmp.{eq_by_cmp_equiv}
@@ -116,9 +116,9 @@ remove-insert b k o is = book.same_map nat_list_cmp_total (book.slice_cmp-IsAnti
       | other_key t s ↦ get-insert_other (book.remove b k) k o q s ∙ get-remove_other b k q s
     ]
 
--- the value by the first coin and the others
-pub value_first : (c : Coin) (rest : List Coin) → value (book_of (c ∷ rest)) ≡ c.output.value + value (book.remove (book_of rest) (key c.point))
-value_first c rest = ap value again ∙ value-insert (book.remove (book_of rest) (key c.point)) (key c.point) c.output (get-remove_same (book_of rest) (key c.point) (key c.point) refl)
+-- the first coin is put into the book of the others at other outpoints
+first_put : (c : Coin) (rest : List Coin) → book_of (c ∷ rest) ≡ book.insert (book.remove (book_of rest) (key c.point)) (key c.point) c.output
+first_put c rest = book.same_map nat_list_cmp_total (book.slice_cmp-IsAntisymmetric book.nat_cmp-IsAntisymmetric) _ _ at
   where
     at : (q : List ℕ) → book.get (book.insert (book_of rest) (key c.point) c.output) q ≡ book.get (book.insert (book.remove (book_of rest) (key c.point)) (key c.point) c.output) q
     at q = elim (keys q (key c.point)) [
@@ -127,8 +127,20 @@ value_first c rest = ap value again ∙ value-insert (book.remove (book_of rest)
           ∙ sym (get-insert_other (book.remove (book_of rest) (key c.point)) (key c.point) c.output q s)
     ]
 
-    again : book_of (c ∷ rest) ≡ book.insert (book.remove (book_of rest) (key c.point)) (key c.point) c.output
-    again = book.same_map nat_list_cmp_total (book.slice_cmp-IsAntisymmetric book.nat_cmp-IsAntisymmetric) _ _ at
+-- the value by the first coin and the others
+pub value_first : (c : Coin) (rest : List Coin) → value (book_of (c ∷ rest)) ≡ c.output.value + value (book.remove (book_of rest) (key c.point))
+value_first c rest =
+    ap value (first_put c rest)
+    ∙ value-insert (book.remove (book_of rest) (key c.point)) (key c.point) c.output (get-remove_same (book_of rest) (key c.point) (key c.point) refl)
+
+-- the count of outputs by the first coin and the others
+count-insert : (b : Book) (k : List ℕ) (o : Output) → book.get b k ≡ None → book.len (book.insert b k o) ≡ book.len b + 1
+count-insert b k o none = book.len-insert nat_list_cmp_total b k o ∙ ap (λ g. cond (is_some g) (book.len b) (book.len b + 1)) none
+
+pub count_first : (c : Coin) (rest : List Coin) → book.len (book_of (c ∷ rest)) ≡ book.len (book.remove (book_of rest) (key c.point)) + 1
+count_first c rest =
+    ap book.len (first_put c rest)
+    ∙ count-insert (book.remove (book_of rest) (key c.point)) (key c.point) c.output (get-remove_same (book_of rest) (key c.point) (key c.point) refl)
 
 none_worth : (es : List (List ℕ × Output)) → length es ≡ 0 → entries_value es ≡ 0
 none_worth [] h = refl
@@ -137,3 +149,7 @@ none_worth (e ∷ es) h = absurd (omega arith)
 pub value_none : (coins : List Coin) → length coins ≡ 0 → 0 ≡ value (book_of coins)
 value_none [] h = sym (none_worth (book.entries (book.empty {X = Output} {R = key_cmp})) (sym (book.len-entries (book.empty {X = Output} {R = key_cmp})) ∙ book.len-empty key_cmp Output))
 value_none (c ∷ coins) h = absurd (omega arith)
+
+pub count_none : (coins : List Coin) → length coins ≡ 0 → 0 ≡ book.len (book_of coins)
+count_none [] h = sym (book.len-empty key_cmp Output)
+count_none (c ∷ coins) h = absurd (omega arith)

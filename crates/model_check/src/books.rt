@@ -217,6 +217,20 @@ pub fn value_of(alloc: Global, coins: &[Input]) -> Result<u128, AllocError>
     Ok(u128::from(c.output.value) + more)
 }
 
+/// How many outputs the book has that these coins are: each outpoint counts once.
+#[tactic(auto, using(crate::proofs::Keys::count_first))]
+pub fn count_of_book(alloc: Global, coins: &[Input]) -> Result<usize, AllocError>
+    ensures count { IfOk result (λ n. n ≡ book.len (book_of coins.now)) }
+    ensures bound { IfOk result (λ n. n ≤ length coins.now) }
+{
+    let Some((c, rest)) = coins.split_first() else {
+        return Ok(0);
+    };
+    let others = without(alloc, rest, &c.point)?;
+    let more = count_of_book(alloc, others.as_slice())?;
+    Ok(more + 1)
+}
+
 /// A mint as a transaction with no inputs.
 pub fn genesis_tx(alloc: Global, mint: &[Output]) -> Result<FullTx, AllocError>
     ensures { IfOk result (λ t. t ≡ genesis_tx mint.now) }

@@ -27,6 +27,7 @@ mod unspent;
 mod worlds;
 
 pub use books::coins_of;
+pub use books::count_of_book;
 pub use books::fold_of;
 pub use books::genesis_book;
 pub use books::genesis_id;
@@ -127,6 +128,7 @@ pub use room::kept_room;
 pub use room::lane_room;
 pub use room::need_of;
 pub use room::size_of;
+pub use room::used_of;
 pub use same::are_answered;
 pub use same::are_decisions;
 pub use same::are_hashes;

@@ -1,6 +1,7 @@
 // Which hashes are unspent over all shards.
 ghost use Rattle.std.specs.Prelude.{◌≡◌, ◌≤◌, ◌↔◌, ◌++◌, true, IsTrue, IfOk, OnOk};
-ghost use Rattle.cbdc_model.specs.Records.{Digest};
+ghost use Rattle.std.specs.List.{IsDistinct};
+ghost use Rattle.cbdc_model.specs.Records.{Digest, same_digest};
 ghost use Rattle.cbdc_model.specs.Status.{has};
 ghost use Rattle.cbdc_model.specs.World.{IsUnspent};
 ghost use Rattle.model_check.specs.Journals.{journals_in};
@@ -106,7 +107,8 @@ pub fn unspent_of(
     journals: &[List<Record>],
     shape: &Shape,
 ) -> Result<List<Hash>, AllocError>
-    ensures { IfOk result (λ l. (x : Digest) → (has l x ≡ true) ↔ IsUnspent shape.now (journals_in journals.now) x) }
+    ensures all { IfOk result (λ l. (x : Digest) → (has l x ≡ true) ↔ IsUnspent shape.now (journals_in journals.now) x) }
+    ensures once { IfOk result (λ l. IsDistinct same_digest l) }
 {
     let shards = shape.shards();
     let mut all = Vec::new(alloc);

@@ -1,7 +1,12 @@
 mod calls;
 mod full;
 mod ledgers;
+mod looking;
 mod making;
+mod orders;
 mod refusals;
+mod repeats;
 mod replies;
+mod room;
 mod rows;
+mod stamps;

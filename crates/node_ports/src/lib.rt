@@ -2,7 +2,9 @@
 #![tactic(auto)]
 
 mod logs;
+mod shard;
 mod shards;
 
 pub use logs::NodeLogs;
+pub use shard::NodeShard;
 pub use shards::NodeShards;

@@ -4,13 +4,14 @@ ghost use Rattle.cbdc_model.specs.Calls.{IsLockCall, IsFinishCall, IsForgetCall}
 ghost use Rattle.cbdc_model.specs.Grammar.{IsReply};
 ghost use Rattle.cbdc_model.specs.Due.{lock_due, finish_due, forget_due};
 ghost use Rattle.cbdc_model.specs.Sights.{Told};
-ghost use Rattle.lane_driver.specs.Told.{IsStamp, IsStillNode, KeepNodes};
+ghost use Rattle.lane_driver.specs.Told.{IsStamp, KeepNodes};
 ghost use Rattle.shard_node.specs.Shards.{sight_of};
-ghost use Rattle.node_ports.specs.Nodes.{sight_at, IsShardHeld, AreShardsHeld};
+ghost use Rattle.node_ports.specs.Nodes.{sight_at, AreShardsHeld};
 
+use crate::shard::NodeShard;
 use cbdc_types::{FinishCall, ForgetCall, LaneId, LockCall, NodeFault, NodeId, Replied, Stamp};
-use lane_driver::PortSet;
-use outside::{Disk, Gate, Point, When};
+use lane_driver::{PortSet, ShardPort};
+use outside::{Disk, Gate};
 use shard_node::ShardNode;
 use std::sync::Wait;
 
@@ -23,64 +24,7 @@ pub struct NodeShards<'r, W: Wait, D: Disk> {
     pub nodes: Vec<ShardNode<D>>,
 }
 
-// The kinds of the records that the calls append.
-const LOCK: u8 = 2;
-
-const FINISH: u8 = 3;
-
-const FORGET: u8 = 4;
-
-// Makes a call at a shard.
-fn lock_at<D: Disk>(node: &mut ShardNode<D>, call: &LockCall) -> Result<Replied, NodeFault>
-    requires { IsLockCall node.old.header call.now }
-    ensures answer { Told true call.now.batch.lane true (lock_due node.old.header.shape (D.limit node.old.disk) call.now) (sight_of D.count D.limit node.old) (sight_of D.count D.limit node.new) result }
-    ensures told { IfOk result (λ a. IsStamp a.stamp × All (IsReply node.old.header.shape) a.replies) }
-    ensures node { IsStillNode (sight_of D.count D.limit node.old) (sight_of D.count D.limit node.new) }
-    ensures later { D.count node.old.disk ≤ D.count node.new.disk }
-    ensures holds { IsShardHeld D.content D.images node.old → IsShardHeld D.content D.images node.new }
-{
-    let _header = node.header();
-    node.lock(call)
-}
-
-fn finish_at<D: Disk>(node: &mut ShardNode<D>, call: &FinishCall) -> Result<Stamp, NodeFault>
-    requires { IsFinishCall node.old.header call.now }
-    ensures answer { Told true call.now.batch.lane false (finish_due call.now) (sight_of D.count D.limit node.old) (sight_of D.count D.limit node.new) result }
-    ensures told { IfOk result IsStamp }
-    ensures node { IsStillNode (sight_of D.count D.limit node.old) (sight_of D.count D.limit node.new) }
-    ensures later { D.count node.old.disk ≤ D.count node.new.disk }
-    ensures holds { IsShardHeld D.content D.images node.old → IsShardHeld D.content D.images node.new }
-{
-    let _header = node.header();
-    node.finish(call)
-}
-
-fn forget_at<D: Disk>(node: &mut ShardNode<D>, call: &ForgetCall) -> Result<Stamp, NodeFault>
-    requires { IsForgetCall node.old.header call.now }
-    ensures answer { Told true call.now.batch.lane false (forget_due call.now) (sight_of D.count D.limit node.old) (sight_of D.count D.limit node.new) result }
-    ensures told { IfOk result IsStamp }
-    ensures node { IsStillNode (sight_of D.count D.limit node.old) (sight_of D.count D.limit node.new) }
-    ensures later { D.count node.old.disk ≤ D.count node.new.disk }
-    ensures holds { IsShardHeld D.content D.images node.old → IsShardHeld D.content D.images node.new }
-{
-    let _header = node.header();
-    node.forget(call)
-}
-
 impl<'r, W: Wait, D: Disk> NodeShards<'r, W, D> {
-    // Passes the gate at a call of a kind at a shard.
-    fn pass<G: Gate>(&self, gate: &G, shard: u32, kind: u8, when: When) {
-        gate.pass(
-            self.rt,
-            &Point {
-                lane: self.lane,
-                node: NodeId(self.first.saturating_add(shard)),
-                kind,
-                when,
-            },
-        );
-    }
-
     fn lock_one<G: Gate>(
         &mut self,
         shard: u32,
@@ -97,11 +41,13 @@ impl<'r, W: Wait, D: Disk> NodeShards<'r, W, D> {
         ensures later { (n : ℕ) → (sight_at (sight_of D.count D.limit) self.old.nodes.items n).faults ≤ (sight_at (sight_of D.count D.limit) self.new.nodes.items n).faults }
         ensures holds { AreShardsHeld D.content D.images self.old.nodes.items → AreShardsHeld D.content D.images self.new.nodes.items }
     {
-        self.pass(gate, shard, LOCK, When::Before);
-        self.pass(gate, shard, LOCK, When::Inside);
-        let answer = lock_at(&mut self.nodes[shard as usize], call);
-        self.pass(gate, shard, LOCK, When::After);
-        answer
+        let mut port = NodeShard {
+            rt: self.rt,
+            lane: self.lane,
+            node: NodeId(self.first.saturating_add(shard)),
+            shard: &mut self.nodes[shard as usize],
+        };
+        port.lock(call, gate)
     }
 
     fn finish_one<G: Gate>(
@@ -120,11 +66,13 @@ impl<'r, W: Wait, D: Disk> NodeShards<'r, W, D> {
         ensures later { (n : ℕ) → (sight_at (sight_of D.count D.limit) self.old.nodes.items n).faults ≤ (sight_at (sight_of D.count D.limit) self.new.nodes.items n).faults }
         ensures holds { AreShardsHeld D.content D.images self.old.nodes.items → AreShardsHeld D.content D.images self.new.nodes.items }
     {
-        self.pass(gate, shard, FINISH, When::Before);
-        self.pass(gate, shard, FINISH, When::Inside);
-        let answer = finish_at(&mut self.nodes[shard as usize], call);
-        self.pass(gate, shard, FINISH, When::After);
-        answer
+        let mut port = NodeShard {
+            rt: self.rt,
+            lane: self.lane,
+            node: NodeId(self.first.saturating_add(shard)),
+            shard: &mut self.nodes[shard as usize],
+        };
+        port.finish(call, gate)
     }
 
     fn forget_one<G: Gate>(
@@ -143,11 +91,13 @@ impl<'r, W: Wait, D: Disk> NodeShards<'r, W, D> {
         ensures later { (n : ℕ) → (sight_at (sight_of D.count D.limit) self.old.nodes.items n).faults ≤ (sight_at (sight_of D.count D.limit) self.new.nodes.items n).faults }
         ensures holds { AreShardsHeld D.content D.images self.old.nodes.items → AreShardsHeld D.content D.images self.new.nodes.items }
     {
-        self.pass(gate, shard, FORGET, When::Before);
-        self.pass(gate, shard, FORGET, When::Inside);
-        let answer = forget_at(&mut self.nodes[shard as usize], call);
-        self.pass(gate, shard, FORGET, When::After);
-        answer
+        let mut port = NodeShard {
+            rt: self.rt,
+            lane: self.lane,
+            node: NodeId(self.first.saturating_add(shard)),
+            shard: &mut self.nodes[shard as usize],
+        };
+        port.forget(call, gate)
     }
 }
 

@@ -28,6 +28,7 @@ use Rattle.sound_laws.proofs.Telling.{is_sound_law}
 use Rattle.ledger_runs.specs.Turning.{IsLaneOf}
 use Rattle.ledger_runs.specs.Telling.{SamePrepared}
 use Rattle.ledger_runs.specs.Pieces.{HasPrepared, IsNextOf}
+use Rattle.run_laws.specs.Faults.{IsAsked, asks_prepare, asks_log, asks_shard}
 use Rattle.ledger_runs.specs.Faults.{IsWanted, wants_prepare, wants_lock, IsCauseOf, IsSomeCauseOf, IsRunCause, HaveFailed, MayHold, Nothing}
 use Rattle.ledger_runs.specs.Least.{IsLeastFault, IsLeastOpen}
 use Rattle.ledger_runs.proofs.Faulting.{run_moves}
@@ -83,9 +84,14 @@ module _ (K : Shape) (next due : ℕ → List Compact → Type 0) (E X : ℕ →
   still_wanted lane node front r (wants_prepare txs is at idle e) = wants_prepare txs (on lane txs is) at idle e
   still_wanted lane node front r (wants_lock b t txs s is at concerned phase stands behind e) = wants_lock b t txs s is at concerned phase stands behind e
 
+  still_asked : (lane node : ℕ) → IsAsked K lane (next lane) X node → IsAsked K lane (due lane) X node
+  still_asked lane node (asks_prepare txs is at idle) = asks_prepare txs (on lane txs is) at idle
+  still_asked lane node (asks_log at busy) = asks_log at busy
+  still_asked lane node (asks_shard b t txs s is at concerned number busy stands) = asks_shard b t txs s is at concerned number busy stands
+
   -- by what is known of the nodes of the ledger otherwise
   pub answer_moves : (a : Answer) → IsLaneAnswer K next E X failed holds a → IsLaneAnswer K due E X fails held a
-  answer_moves (answers.DiskFault node) (inside, did) = (inside, failed_on node inside did)
+  answer_moves (answers.DiskFault node) (lane, lt, h) = (lane, lt, record { inside = h.inside; asked = still_asked lane node h.asked; did = failed_on node h.inside h.did })
   answer_moves (answers.Full node used need capacity) (lane, lt, h) = (
     lane,
     lt,
@@ -139,7 +145,7 @@ module _ (K : Shape) (failed fails : ℕ → Type 0) (holds held : ℕ → ℕ �
     (failed_on : (n : ℕ) → n < node_count K → failed n → fails n) (held_on : (n c : ℕ) → n < node_count K → holds n c → held n c) where
   -- by what is known of the nodes of the ledger otherwise
   cause_by : (lane : ℕ) (next : List Compact → Type 0) (E X : ℕ → List Record) → IsLaneOf K lane → (node : ℕ) (kind : LaneFaultKind) → IsCauseOf K lane next E X failed holds node kind → IsCauseOf K lane next E X fails held node kind
-  cause_by lane next E X lt node DiskStopped (inside, did) = (inside, failed_on node inside did)
+  cause_by lane next E X lt node DiskStopped h = record { inside = h.inside; asked = h.asked; did = failed_on node h.inside h.did }
   cause_by lane next E X lt node (NoRoom used need capacity) h = record {
     front = h.front;
     since = h.since;
@@ -176,8 +182,8 @@ module _ (K : Shape) (failed fails : ℕ → Type 0) (holds held : ℕ → ℕ �
 
   first_by : (verdicts : VerdictsOf) (more : List (List FullTx)) (I J : ℕ → List Record) (e : LaneFault) → EndsFirst K verdicts more I J failed holds e → EndsFirst K verdicts more I J fails held e
   first_by verdicts [] I J e h = h
-  first_by verdicts (file ∷ more) I J e (inl none) = inl none
-  first_by verdicts (file ∷ more) I J e (inr least) = inr (λ sound tells. least_by (sent_to K sound file) (IsSentPiece K verdicts file I J) I J e (least sound tells))
+  first_by verdicts (file ∷ more) I J e (inl none, begun) = (inl none, begun)
+  first_by verdicts (file ∷ more) I J e (inr least, begun) = (inr (λ sound tells. least_by (sent_to K sound file) (IsSentPiece K verdicts file I J) I J e (least sound tells)), begun)
 
   files_by : (verdicts : VerdictsOf) (files : List (List FullTx)) (I J : ℕ → List Record) (e : LaneFault) → EndsFiles K verdicts files I J failed holds e → EndsFiles K verdicts files I J fails held e
   files_by verdicts files I J e h = record {
@@ -192,7 +198,7 @@ module _ (K : Shape) (failed fails : ℕ → Type 0) (holds held : ℕ → ℕ �
   }
 
   ends_by : (verdicts : VerdictsOf) (files : List (List FullTx)) (E X : ℕ → List Record) (e : LaneFault) → EndsRun verdicts files K E X failed holds e → EndsRun verdicts files K E X fails held e
-  ends_by verdicts files E X e (inl left) = inl (open_by E X e left)
+  ends_by verdicts files E X e (inl (unprepared, left)) = inl (unprepared, open_by E X e left)
   ends_by verdicts files E X e (inr (middle, grows, unprepared, idle, ends)) = inr (middle, grows, unprepared, idle, files_by verdicts files middle X e ends)
 
   pub answer_by : (verdicts : VerdictsOf) (files : List (List FullTx)) (E X : ℕ → List Record) (a : Answer) → IsLeastAnswer (EndsRun verdicts files K E X failed holds) a → IsLeastAnswer (EndsRun verdicts files K E X fails held) a
@@ -203,7 +209,7 @@ module _ (K : Shape) (failed fails : ℕ → Type 0) (holds held : ℕ → ℕ �
 no_files : (verdicts : VerdictsOf) (K : Shape) (E X : ℕ → List Record) (failed : ℕ → Type 0) (holds : ℕ → ℕ → Type 0) (a : Answer)
     → IsLeastAnswer (EndsRun verdicts [] K E X failed holds) a → IsLeastAnswer (IsLeastOpen K E X failed holds) a
 no_files verdicts K E X failed holds a (inl memory) = inl memory
-no_files verdicts K E X failed holds a (inr (e, is, inl left)) = inr (e, is, left)
+no_files verdicts K E X failed holds a (inr (e, is, inl (unprepared, left))) = inr (e, is, left)
 no_files verdicts K E X failed holds a (inr (e, is, inr (middle, grows, unprepared, idle, ends))) = inl (is ∙ ap (λ k. answer_at e.node k) (memory ends.more ends.done ends.are ends.ends))
   where
     memory : (more done : List (List FullTx)) → [] ≡ done ++ more → EndsFirst K verdicts more ends.middle X failed holds e → e.fault ≡ NoMemory

@@ -58,12 +58,6 @@ module _ {D : Type 0} (content : D → Option (List ℕ)) (images : D → List �
   abbrev pub TellsIt : VerdictsOf → Ran → Shape → Type 0
   TellsIt verdicts ran S = OfKept S (journals_of count limit S logs shards) (λ _ _. TellsRun S verdicts files (journals_of count limit S logs shards) (journals_of count limit S now after) ran.resumed.items ran.waves.items)
 
-  abbrev pub WavesIt : VerdictsOf → Shape → Type 0
-  WavesIt verdicts S = OfKept S (journals_of count limit S logs shards) (λ _ _. (sound : FullTx → Bool) → TellsSound verdicts sound → Waves S sound files (journals_of count limit S logs shards) (journals_of count limit S now after))
-
-  abbrev pub QuietIt : Shape → Type 0
-  QuietIt S = OfKept S (journals_of count limit S logs shards) (λ _ _. AreQuiet logs shards → AreQuiet now after)
-
   abbrev pub FliesIt : Shape → Type 0
   FliesIt S = OfKept S (journals_of count limit S logs shards) (FliesWith S (joined files) (journals_of count limit S logs shards) (journals_of count limit S now after) (flights_of count limit S logs shards) (flights_of count limit S now after))
 
@@ -153,18 +147,16 @@ module _ {D : Type 0} (content : D → Option (List ℕ)) (images : D → List �
           headline = λ clean. idle_law K mint (submissions ++ joined files) (journals_of count limit K now after) within.some_shard within.some_lane clean grown.kept e.idle;
         }
 
-    is_told : (ran : Ran) (verdicts : VerdictsOf) → KeepsIt h.shape → WavesIt verdicts h.shape → TellsIt verdicts ran h.shape → CountAll (map (λ s. s.journal) after) ran.unspent → QuietIt h.shape → IsTold images back verdicts files ran K mint submissions E
-    is_told ran verdicts keeps waves told counted quiet = record {
-      exit = journals_of count limit K now after;
-      grown = is_grown keeps;
-      waves = subst (λ L. Waves K (sound_by verdicts) files L (journals_of count limit K now after)) journals_are (subst (WavesIt verdicts) shape_is waves mint submissions kept_there (sound_by verdicts) (is_sound_law verdicts));
-      disks = disks_hold (subst QuietIt shape_is quiet mint submissions kept_there (are_quiet content images limit count held h logs shards are));
+    is_told : (ran : Ran) (verdicts : VerdictsOf) → KeepsIt h.shape → Ends verdicts h.shape → TellsIt verdicts ran h.shape → CountAll (map (λ s. s.journal) after) ran.unspent → IsTold images back verdicts files ran K mint submissions E
+    unfolding is_run
+    is_told ran verdicts keeps ends told counted = record {
+      run = is_run verdicts keeps ends;
       tells = subst (λ L. TellsRun K verdicts files L (journals_of count limit K now after) ran.resumed.items ran.waves.items) journals_are (subst (TellsIt verdicts ran) shape_is told mint submissions kept_there);
       unspent = subst (λ k. IsUnspentCount k (journals_of count limit k now after) ran.unspent) (shape ∙ shape_is) (unspent_counted count limit g now after is ran.unspent counted);
     }
 
-  pub tells : (verdicts : VerdictsOf) (ran : Ran) → KeepsIt h.shape → WavesIt verdicts h.shape → TellsIt verdicts ran h.shape → CountAll (map (λ s. s.journal) after) ran.unspent → QuietIt h.shape → OfShown content held (IsTold images back verdicts files ran)
-  tells verdicts ran keeps waves told counted quiet K mint submissions E within shows kept = is_told K mint submissions E within shows kept ran verdicts keeps waves told counted quiet
+  pub tells : (verdicts : VerdictsOf) (ran : Ran) → KeepsIt h.shape → Ends verdicts h.shape → TellsIt verdicts ran h.shape → CountAll (map (λ s. s.journal) after) ran.unspent → OfShown content held (IsTold images back verdicts files ran)
+  tells verdicts ran keeps ends told counted K mint submissions E within shows kept = is_told K mint submissions E within shows kept ran verdicts keeps ends told counted
 
   pub spares : ((n : ℕ) → length logs + length shards ≤ n → back n ≡ held n) → SparesOthers content held back
   spares others K mint submissions E within shows kept = others_stay K mint submissions E within shows kept others
@@ -172,13 +164,15 @@ module _ {D : Type 0} (content : D → Option (List ℕ)) (images : D → List �
   pub took : IsCausedLedger content held → ((n : ℕ) → length logs + length shards ≤ n → back n ≡ held n) → TookLedger content limit held back
   took ledger others = record { ledger = ledger; room = had_room; spared = spares others }
 
-  pub runs : (verdicts : VerdictsOf) → KeepsIt h.shape → AreIdle h.shape (journals_of count limit h.shape now after)
+  pub ends : (verdicts : VerdictsOf) → AreIdle h.shape (journals_of count limit h.shape now after)
       → OfKept h.shape (journals_of count limit h.shape logs shards) (λ _ _. files ≡ [] → IsResumed h.shape (journals_of count limit h.shape logs shards) (journals_of count limit h.shape now after))
       → OfKept h.shape (journals_of count limit h.shape logs shards) (λ _ _. (sound : FullTx → Bool) → TellsSound verdicts sound → Waves h.shape sound files (journals_of count limit h.shape logs shards) (journals_of count limit h.shape now after))
       → OfKept h.shape (journals_of count limit h.shape logs shards) (λ _ _. AreQuiet logs shards → AreQuiet now after)
-      → OfShown content held (IsRun images back verdicts files)
-  runs verdicts keeps idle resumed waves quiet K mint submissions E within shows kept =
-      is_run K mint submissions E within shows kept verdicts keeps (record { idle = idle; resumed = resumed; waves = waves; quiet = quiet })
+      → Ends verdicts h.shape
+  ends verdicts idle resumed waves quiet = record { idle = idle; resumed = resumed; waves = waves; quiet = quiet }
+
+  pub runs : (verdicts : VerdictsOf) → KeepsIt h.shape → Ends verdicts h.shape → OfShown content held (IsRun images back verdicts files)
+  runs verdicts keeps ends K mint submissions E within shows kept = is_run K mint submissions E within shows kept verdicts keeps ends
 
   pub cut_short : KeepsIt h.shape → FliesIt h.shape → All (LogHasRoom limit) now → All (ShardHasRoom limit) after → OfShown content held (IsCutShort images limit back files (journals_of count limit h.shape now after))
   cut_short keeps flies log_rooms shard_rooms K mint submissions E within shows kept =
@@ -196,10 +190,9 @@ module _ {D : Type 0} (content : D → Option (List ℕ)) (images : D → List �
       })
 
 -- a run of no files is a recovery
-pub recovers : {D : Type 0} (content : D → Option (List ℕ)) (images : D → List ℕ → Type 0) (held back : ℕ → Option D) (verdicts : VerdictsOf)
-    → OfShown content held (IsRun images back verdicts []) → OfShown content held (IsRecovered images back)
-recovers content images held back verdicts shown K mint submissions E within shows kept =
-    let run = shown K mint submissions E within shows kept in
+unfoldable pub recovered : {D : Type 0} (images : D → List ℕ → Type 0) (back : ℕ → Option D) (verdicts : VerdictsOf) (K : Shape) (mint : List Output) (submissions : List FullTx) (E : ℕ → List Record)
+    → IsRun images back verdicts [] K mint submissions E → IsRecovered images back K mint submissions E
+recovered images back verdicts K mint submissions E run =
     let none : submissions ++ [] ≡ submissions = append-nil submissions in
     record {
       exit = run.exit;
@@ -208,6 +201,10 @@ recovers content images held back verdicts shown K mint submissions E within sho
       resumed = run.resumed refl;
       headline = λ clean. subst (λ s. Headline K mint s run.exit) none (run.headline (subst (Clean mint) (sym none) clean));
     }
+
+pub recovers : {D : Type 0} (content : D → Option (List ℕ)) (images : D → List ℕ → Type 0) (held back : ℕ → Option D) (verdicts : VerdictsOf)
+    → OfShown content held (IsRun images back verdicts []) → OfShown content held (IsRecovered images back)
+recovers content images held back verdicts shown K mint submissions E within shows kept = recovered images back verdicts K mint submissions E (shown K mint submissions E within shows kept)
 
 -- which verdicts they are does not matter where there are no files
 pub told_of_none : {D : Type 0} (content : D → Option (List ℕ)) (images : D → List ℕ → Type 0) (held back : ℕ → Option D) (verdicts : VerdictsOf) (ran : Ran)

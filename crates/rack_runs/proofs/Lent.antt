@@ -30,10 +30,6 @@ pub if_err_both : {B F : Type 0} (P Q : F → Type 0) (o : Result B F) → IfErr
 if_err_both P Q (Ok b) p q = tt
 if_err_both P Q (Err e) p q = (p, q)
 
-pub on_ok_both : {B F : Type 0} (X Y : Type 0) (o : Result B F) → OnOk o X → OnOk o Y → OnOk o (X × Y)
-on_ok_both X Y (Ok b) x y = (x, y)
-on_ok_both X Y (Err e) x y = tt
-
 -- what is said of what a whole run did is so of what is made of it
 pub if_made : {A B E F : Type 0} (P : B → Type 0) (Q : A → Type 0) (S : A → B → Type 0) (r : Result A E) (o : Result B F) → OnOk r (IsOk o) → IfOk r (λ a. IfOk o (S a)) → IfOk o P → ((a : A) (b : B) → S a b → P b → Q a) → IfOk r Q
 if_made P Q S (Ok a) (Ok b) whole same so f = f a b same so
@@ -43,6 +39,10 @@ if_made P Q S (Err e) o whole same so f = tt
 pub if_ok_all : {A E X : Type 0} (P Q T : A → Type 0) (r : Result A E) → IfOk r P → IfOk r Q → OnOk r X → ((a : A) → P a → Q a → X → T a) → IfOk r T
 if_ok_all P Q T (Ok a) p q x f = f a p q x
 if_ok_all P Q T (Err e) p q x f = tt
+
+pub if_ok_with : {A E X : Type 0} (P T : A → Type 0) (r : Result A E) → IfOk r P → OnOk r X → ((a : A) → P a → X → T a) → IfOk r T
+if_ok_with P T (Ok a) p x f = f a p x
+if_ok_with P T (Err e) p x f = tt
 
 pub if_ok_by : {A E : Type 0} (P Q : A → Type 0) (r : Result A E) → IfOk r P → ((a : A) → P a → Q a) → IfOk r Q
 if_ok_by P Q (Ok a) so f = f a so

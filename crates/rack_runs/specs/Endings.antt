@@ -13,11 +13,11 @@ use Rattle.ledger_runs.specs.Least.{IsLeastOpen}
 use Rattle.file_runs.specs.Endings.{EndsFiles}
 use Rattle.rack_runs.specs.Kinds.{answer_to}
 
--- from journals E at entry to X: it is the least lane's that met one as open batches were brought to their end; or these are at their end, nothing was
--- prepared newly meanwhile, and it ended the files behind that
+-- from journals E at entry to X: nothing was prepared newly, and it is the least lane's that met one as open batches were brought to their end; or these
+-- are at their end, nothing was prepared newly meanwhile, and it ended the files behind that
 abbrev pub EndsRun : VerdictsOf → List (List FullTx) → Shape → (ℕ → List Record) → (ℕ → List Record) → (ℕ → Type 0) → (ℕ → ℕ → Type 0) → LaneFault → Type 0
 EndsRun verdicts files K E X failed may_hold e =
-    IsLeastOpen K E X failed may_hold e
+    (SamePrepared K E X × IsLeastOpen K E X failed may_hold e)
     ⊎ ((middle : ℕ → List Record) × ((n : ℕ) → IsEnd (E n) (middle n)) × SamePrepared K E middle × AreIdle K middle × EndsFiles K verdicts files middle X failed may_hold e)
 
 -- memory ran out, or the answer is that to a fault that ended it

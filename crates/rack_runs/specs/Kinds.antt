@@ -1,5 +1,5 @@
 -- What a lane's fault answers, and its cause.
-use Rattle.std.specs.Prelude.{ℕ, ◌+◌, ◌<◌, List}
+use Rattle.std.specs.Prelude.{ℕ, List}
 use Rattle.cbdc_types.specs.declared.answer.Answer.{Answer}
 use Rattle.cbdc_types.specs.declared.answer.Answer.TheVariants as answers
 use Rattle.cbdc_model.specs.Records.{Shape, Compact, Record}
@@ -7,7 +7,7 @@ use Rattle.lane_driver.specs.declared.fault.LaneFault.{LaneFault}
 use Rattle.lane_driver.specs.declared.fault.LaneFaultKind.{LaneFaultKind}
 use Rattle.lane_driver.specs.declared.fault.LaneFaultKind.TheVariants.{DiskFault as DiskStopped, Full as NoRoom, ClockEnd as NoStamp, Memory as NoMemory}
 use Rattle.ledger_runs.specs.Turning.{IsLaneOf}
-use Rattle.ledger_runs.specs.Faults.{HasNoRoomFor, HasNoStampFor}
+use Rattle.ledger_runs.specs.Faults.{HasNoDiskFor, HasNoRoomFor, HasNoStampFor}
 
 -- the fault's node and its numbers
 abbrev pub answer_at : ℕ → LaneFaultKind → Answer
@@ -19,10 +19,10 @@ answer_at node NoMemory = answers.Memory
 abbrev pub answer_to : LaneFault → Answer
 answer_to e = answer_at e.node e.fault
 
--- the cause of an answer to a lane's fault, from journals E to X, by the nodes whose disks have failed and what disks may hold: a node of the ledger
--- has a disk that failed, or no room or no stamp for what a lane wants; or memory ran out
+-- the cause of an answer to a lane's fault, from journals E to X, by the nodes whose disks have failed and what disks may hold: a node that a lane
+-- asks has a disk that failed, or no room or no stamp for what a lane wants; or memory ran out
 abbrev pub IsLaneAnswer : Shape → (ℕ → List Compact → Type 0) → (ℕ → List Record) → (ℕ → List Record) → (ℕ → Type 0) → (ℕ → ℕ → Type 0) → Answer → Type 0
-IsLaneAnswer K next E X failed may_hold (answers.DiskFault node) = (node < K.coordinators + K.shards) × failed node
+IsLaneAnswer K next E X failed may_hold (answers.DiskFault node) = (lane : ℕ) × IsLaneOf K lane × HasNoDiskFor K lane (next lane) X failed node
 IsLaneAnswer K next E X failed may_hold (answers.Full node used need capacity) = (lane : ℕ) × IsLaneOf K lane × HasNoRoomFor K lane (next lane) E X may_hold node used need capacity
 IsLaneAnswer K next E X failed may_hold (answers.ClockEnd node stamp) = (lane : ℕ) × IsLaneOf K lane × HasNoStampFor K lane (next lane) E X node stamp
 IsLaneAnswer K next E X failed may_hold answers.Memory = Unit {0}

@@ -1,20 +1,16 @@
 -- What runs tell of what they did.
-use Rattle.std.specs.Prelude.{◌≡◌, ℕ, ◌+◌, ◌*◌, List, [], ◌∷◌, ◌++◌, Option}
+use Rattle.std.specs.Prelude.{◌≡◌, ℕ, ◌+◌, ◌*◌, List, [], ◌∷◌, Option}
 use Rattle.cbdc_model.specs.Records.{Shape, Record}
 use Rattle.cbdc_model.specs.Coins.{Output, FullTx}
 use Rattle.cbdc_model.specs.Lanes.{IsEnd}
-use Rattle.cbdc_model.specs.Waves.{Waves}
 use Rattle.shard_core.specs.Counts.{Counts}
 use Rattle.recovery.specs.declared.resumed.ResumedBatch.{ResumedBatch}
-use Rattle.rack_laws.specs.Shown.{HoldsEach}
 use Rattle.submissions.specs.Checks.{VerdictsOf}
-use Rattle.sound_laws.specs.SoundTest.{sound_by}
 use Rattle.ledger_runs.specs.Telling.{TellResumed, SamePrepared}
-use Rattle.file_runs.specs.Runs.{joined}
 use Rattle.file_runs.specs.Telling.{TellFiles}
 use Rattle.file_runs.specs.declared.waves.Wave.{Wave}
 use Rattle.printed_lines.specs.Unspent.{IsUnspentCount}
-use Rattle.rack_runs.specs.Runs.{IsGrown}
+use Rattle.rack_runs.specs.Runs.{IsRun}
 use Rattle.rack_runs.specs.declared.over.Ran.{Ran}
 
 -- how many hashes are unspent in the journals of some shards
@@ -30,11 +26,8 @@ pub record TellsRun (K : Shape) (verdicts : VerdictsOf) (files : List (List Full
   pub unprepared : SamePrepared K E middle
   pub told : TellFiles K verdicts files middle X waves
 
--- a run tells what it did, from journals E to those at exit, which have grown and are kept, have the files' waves behind E, and which the disks hold
+-- a run, which tells what it did, from journals E to those at its exit
 pub record IsTold {D : Type 0} (images : D → List ℕ → Type 0) (held : ℕ → Option D) (verdicts : VerdictsOf) (files : List (List FullTx)) (ran : Ran) (K : Shape) (mint : List Output) (submissions : List FullTx) (E : ℕ → List Record) : Type 0 where
-  pub exit : ℕ → List Record
-  pub grown : IsGrown K mint (submissions ++ joined files) E exit
-  pub waves : Waves K (sound_by verdicts) files E exit
-  pub disks : HoldsEach images held K exit
-  pub tells : TellsRun K verdicts files E exit ran.resumed.items ran.waves.items
-  pub unspent : IsUnspentCount K exit ran.unspent
+  pub run : IsRun images held verdicts files K mint submissions E
+  pub tells : TellsRun K verdicts files E run.exit ran.resumed.items ran.waves.items
+  pub unspent : IsUnspentCount K run.exit ran.unspent

@@ -4,6 +4,7 @@ use Rattle.cbdc_types.specs.declared.batch.OpenLane.{OpenLane}
 use Rattle.cbdc_types.specs.declared.batch.Phase.{Phase as OpenPhase}
 use Rattle.cbdc_types.specs.declared.batch.Phase.TheVariants.{Prepared, Committed, Discarded}
 use Rattle.cbdc_types.specs.declared.calls.LockCall.{LockCall}
+use Rattle.cbdc_model.specs.Slots.{Idle, InPrepare}
 use Rattle.cbdc_model.specs.Records.{Shape, Batch, same_batch, Compact, Entry, Outcome, Record, record_of, outcomes_in, outcomes_of, Commit, Discard, Done}
 use Rattle.cbdc_model.specs.Sights.{Sight}
 use Rattle.lane_laws.specs.Calls.{AreParts, AreLocks, lock_of}
@@ -37,11 +38,14 @@ module _ (K : Shape) (alone : Bool) (o : OpenLane) (log log' : Sight) (I J : ℕ
   pub prepared_taken : (n : ℕ) (os : List Outcome) → o.phase ≡ Prepared → ToldPrepared alone o.batch o.stamp n parts log log' I J os → IsUnfinished o.phase K o log I → IsTakenUp K alone o.batch log I log' J
   prepared_taken n os e told h = takes_prepared K alone o.batch o.txs o.stamp log log' I J n parts os (at_phase Prepared e h) own_parts told
 
+  in_prepare : InPrepare ≡ Idle → ⊥
+  in_prepare i = let z : InPrepare ≡ Idle = i in cc
+
   -- the outcomes are those of the Commit that was written
   pub prepared_outcomes : (n : ℕ) (os : List Outcome) → o.phase ≡ Prepared → ToldPrepared alone o.batch o.stamp n parts log log' I J os → IsUnfinished o.phase K o log I → os ≡ outcomes_of log'.seen o.batch
   prepared_outcomes n os e told h =
       let d = at_phase Prepared e h in
-      let r = prepared_run K [] alone o.batch.lane o.batch.number d.is_open.home o.txs log log' I J o.stamp n parts os (record { prepare = d.is_open.prepare; open_number = d.is_open.number; shape = d.is_open.shape }) d.is_open.others own_parts told in
+      let r = prepared_run K [] alone o.batch.lane o.batch.number d.is_open.home o.txs log log' I J o.stamp n parts os (record { prepare = d.is_open.prepare; open_number = d.is_open.number; busy = λ i. in_prepare (sym d.is_open.phase ∙ i); shape = d.is_open.shape }) d.is_open.others own_parts told in
       sym (ap outcomes_in (record_own 7 o.batch log'.seen
       ∙ ap (λ L. record_of 7 L o.batch) (r.rest.log_own ∙ ap (λ L. Done r.rest.ended o.batch ∷ Discard r.rest.discarded o.batch ∷ L) r.commit.own_is)
       ∙ commit_below o.batch r.rest.ended r.rest.discarded r.committed os (own o.batch.lane log.seen)))

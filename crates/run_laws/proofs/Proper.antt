@@ -1,14 +1,16 @@
--- A sound transaction is proper.
-use Rattle.std.proofs.Common.{◌≡◌, ◌⊎◌, inl, inr, ℕ, suc, zero, ◌<◌, ◌≤◌, ◌^◌, true, false, List, [], ◌∷◌, map, length, slice_get, Some, bytes_eq, refl, sym, arith}
+-- A sound transaction is proper, and a proper one is refused for a verdict alone.
+use Rattle.std.proofs.Common.{◌≡◌, ◌⊎◌, inl, inr, ℕ, suc, zero, ◌<◌, ◌≤◌, ◌^◌, true, false, List, [], ◌∷◌, map, length, slice_get, Some, None, bytes_eq, refl, sym, ap, ◌∙◌, subst, arith, lit<}
 use Rattle.std.specs.List.{IsDistinct, AllByRecursion}
 use Rattle.std.proofs.lemmas.Slice.Eq.{bytes_eq-Decides}
 use Rattle.std.proofs.lemmas.Map.Keys.{IsDistinct-cons}
-use Rattle.std.proofs.lemmas.List.Elements.{All-from_recursion}
-use Rattle.cbdc_model.specs.Coins.{Input, OutPoint}
+use Rattle.std.proofs.lemmas.List.Elements.{All-from_recursion, recursion_from_All}
+use Rattle.cbdc_model.specs.Coins.{Input, OutPoint, FullTx}
 use Rattle.cbdc_model.specs.Book.{key}
-use Rattle.sentinel.specs.FirstRefusal.{HasAt, IsLeast, Repeats}
-use Rattle.cbdc_types.specs.declared.answer.Refusal.TheVariants.{NoInputs, NoOutputs, WitnessCount, RepeatedInput, ZeroInput, ZeroOutput, InputOverflow, OutputOverflow, Unbalanced}
-use Rattle.run_laws.specs.Runs.{SoundLaw}
+use Rattle.cbdc_model.specs.Clean.{IsProper}
+use Rattle.sentinel.specs.FirstRefusal.{Verdicts, Applies, rank, HasAt, IsLeast, Repeats, input_sum, output_sum}
+use Rattle.cbdc_types.specs.declared.answer.Refusal.{Refusal}
+use Rattle.cbdc_types.specs.declared.answer.Refusal.TheVariants.{NoInputs, NoOutputs, WitnessCount, RepeatedInput, ZeroInput, ZeroOutput, InputOverflow, OutputOverflow, Unbalanced, BadWitness, Unverified}
+use Rattle.run_laws.specs.Runs.{SoundLaw, ProperLaw}
 
 -- where there is no least place, there is none
 none_up_to : (P : ℕ → Type 0) → ((i : ℕ) → IsLeast P i → ⊥) → (n i : ℕ) → i < n → P i → ⊥
@@ -75,17 +77,101 @@ below_of n limit h = elim (or n limit) [ inl lt ↦ lt | inr le ↦ absurd (h le
     or : (n limit : ℕ) → (n < limit) ⊎ (limit ≤ n)
     or n limit = grind arith
 
-pub sound_law : SoundLaw
-sound_law t verdicts sound = record {
-  has_input = some_of t.inputs (sound NoInputs);
-  has_output = some_of t.outputs (sound NoOutputs);
-  witnesses = same_of (length t.witnesses) (length t.inputs) (sound WitnessCount);
-  no_repeat = distinct t.inputs (none_at (Repeats t.inputs) (λ i. sound (RepeatedInput i)));
+-- what is refused for no reason that asks no verdict is proper
+proper_of : (t : FullTx) (verdicts : Verdicts) → ((r : Refusal) → rank r < 9 → ¬ (Applies t verdicts r)) → IsProper t
+proper_of t verdicts none = record {
+  has_input = some_of t.inputs (none NoInputs (lit< tt));
+  has_output = some_of t.outputs (none NoOutputs (lit< tt));
+  witnesses = same_of (length t.witnesses) (length t.inputs) (none WitnessCount (lit< tt));
+  no_repeat = distinct t.inputs (none_at (Repeats t.inputs) (λ i. none (RepeatedInput i) (lit< tt)));
   no_zero_input = All-from_recursion (λ c. 1 ≤ c.output.value) t.inputs
-      (no_zeros (λ c. c.output.value) t.inputs (none_at (HasAt (λ x. x.output.value ≡ 0) t.inputs) (λ i. sound (ZeroInput i))));
+      (no_zeros (λ c. c.output.value) t.inputs (none_at (HasAt (λ x. x.output.value ≡ 0) t.inputs) (λ i. none (ZeroInput i) (lit< tt))));
   no_zero_output = All-from_recursion (λ o. 1 ≤ o.value) t.outputs
-      (no_zeros (λ o. o.value) t.outputs (none_at (HasAt (λ o. o.value ≡ 0) t.outputs) (λ i. sound (ZeroOutput i))));
-  inputs_fit = below_of _ (2 ^ 64) (sound InputOverflow);
-  outputs_fit = below_of _ (2 ^ 64) (sound OutputOverflow);
-  balanced = same_of _ _ (λ h. sound (Unbalanced _ _) (refl, refl, h));
+      (no_zeros (λ o. o.value) t.outputs (none_at (HasAt (λ o. o.value ≡ 0) t.outputs) (λ i. none (ZeroOutput i) (lit< tt))));
+  inputs_fit = below_of _ (2 ^ 64) (none InputOverflow (lit< tt));
+  outputs_fit = below_of _ (2 ^ 64) (none OutputOverflow (lit< tt));
+  balanced = same_of _ _ (λ h. none (Unbalanced _ _) (lit< tt) (refl, refl, h));
 }
+
+pub sound_law : SoundLaw
+sound_law t verdicts sound = proper_of t verdicts (λ r below. sound r)
+
+-- what holds of all items holds of the one at a place
+no_item : {A : Type 0} (x : A) → None ≡ Some x → ⊥
+no_item x h = cc
+
+same_item : {A : Type 0} (x y : A) → Some x ≡ Some y → x ≡ y
+same_item x y h = cc
+
+all_at : {A : Type 0} (P : A → Type 0) (xs : List A) (i : ℕ) (x : A) → AllByRecursion P xs → slice_get xs i ≡ Some x → P x
+all_at P [] i x all at = absurd (no_item x at)
+all_at P (y ∷ xs) zero x all at = subst P (same_item y x at) all.0
+all_at P (y ∷ xs) (suc i) x all at = all_at P xs i x all.1 at
+
+-- a value that is not 0 is not 0 at a place
+zero_not : {A : Type 0} (value : A → ℕ) (xs : List A) (i : ℕ) → AllByRecursion (λ x. 1 ≤ value x) xs → HasAt (λ x. value x ≡ 0) xs i → ⊥
+zero_not value xs i all h = positive (value h.0) (all_at (λ x. 1 ≤ value x) xs i h.0 all h.1) h.2
+  where
+    positive : (n : ℕ) → 1 ≤ n → n ≡ 0 → ⊥
+    positive n le e = omega (arith, le, e)
+
+-- keys of which no two are one: the first is none of the others
+key_apart : (k : List ℕ) (ks : List (List ℕ)) → IsDistinct (λ p q. bytes_eq p q) (k ∷ ks) → AllByRecursion (λ q. bytes_eq k q ≡ false) ks
+unfolding IsDistinct
+key_apart k ks d = d.0
+
+keys_apart : (k : List ℕ) (ks : List (List ℕ)) → IsDistinct (λ p q. bytes_eq p q) (k ∷ ks) → IsDistinct (λ p q. bytes_eq p q) ks
+unfolding IsDistinct
+keys_apart k ks d = d.1
+
+key_at : (k : List ℕ) (xs : List Input) (i : ℕ) (x : Input) → AllByRecursion (λ q. bytes_eq k q ≡ false) (map (λ c. key c.point) xs) → slice_get xs i ≡ Some x → bytes_eq k (key x.point) ≡ false
+key_at k [] i x all at = absurd (no_item x at)
+key_at k (y ∷ xs) zero x all at = subst (λ z. bytes_eq k (key z.point) ≡ false) (same_item y x at) all.0
+key_at k (y ∷ xs) (suc i) x all at = key_at k xs i x all.1 at
+
+-- an outpoint is itself
+itself : (p q : OutPoint) → p ≡ q → bytes_eq (key p) (key q) ≡ false → ⊥
+itself p q e h = lie (sym ((bytes_eq-Decides (key p) (key q)).1 (ap key e)) ∙ h)
+  where
+    lie : true ≡ false → ⊥
+    lie s = cc
+
+-- where no two inputs name one outpoint none stands earlier
+not_twice : (xs : List Input) (i k : ℕ) (x y : Input) → IsDistinct (λ p q. bytes_eq p q) (map (λ c. key c.point) xs) → slice_get xs i ≡ Some x → slice_get xs k ≡ Some y
+    → k < i → y.point ≡ x.point → ⊥
+not_twice [] i k x y d here earlier lt e = no_item x here
+not_twice (z ∷ xs) zero k x y d here earlier lt e = omega (arith, lt)
+not_twice (z ∷ xs) (suc i) zero x y d here earlier lt e =
+    itself z.point x.point (ap (λ (c : Input). c.point) (same_item z y earlier) ∙ e)
+    (key_at (key z.point) xs i x (key_apart (key z.point) (map (λ c. key c.point) xs) d) here)
+not_twice (z ∷ xs) (suc i) (suc k) x y d here earlier lt e =
+    not_twice xs i k x y (keys_apart (key z.point) (map (λ c. key c.point) xs) d) here earlier (omega (arith, lt)) e
+
+repeats_not : (xs : List Input) (i : ℕ) → IsDistinct (λ p q. bytes_eq p q) (map (λ c. key c.point) xs) → Repeats xs i → ⊥
+repeats_not xs i d h = not_twice xs i h.2.0 h.0 h.2.2.0 d h.1 h.2.2.1 h.2.1 h.2.2.2
+
+some_not : {A : Type 0} (xs : List A) → 0 < length xs → xs ≡ [] → ⊥
+some_not [] some e = omega (arith, some)
+some_not (x ∷ xs) some e = cc
+
+past_not : (n limit : ℕ) → n < limit → limit ≤ n → ⊥
+past_not n limit below past = omega (arith, below, past)
+
+-- a proper transaction is refused for no reason that asks no verdict
+refused_not : (t : FullTx) (verdicts : Verdicts) → IsProper t → (r : Refusal) → rank r < 9 → ¬ (Applies t verdicts r)
+refused_not t verdicts p NoInputs below = some_not t.inputs p.has_input
+refused_not t verdicts p NoOutputs below = some_not t.outputs p.has_output
+refused_not t verdicts p WitnessCount below = λ other. other p.witnesses
+refused_not t verdicts p (RepeatedInput i) below = λ least. repeats_not t.inputs i p.no_repeat least.holds
+refused_not t verdicts p (ZeroInput i) below = λ least.
+    zero_not (λ c. c.output.value) t.inputs i (recursion_from_All (λ c. 1 ≤ c.output.value) t.inputs p.no_zero_input) least.holds
+refused_not t verdicts p (ZeroOutput i) below = λ least.
+    zero_not (λ o. o.value) t.outputs i (recursion_from_All (λ o. 1 ≤ o.value) t.outputs p.no_zero_output) least.holds
+refused_not t verdicts p InputOverflow below = past_not (input_sum t) (2 ^ 64) p.inputs_fit
+refused_not t verdicts p OutputOverflow below = past_not (output_sum t) (2 ^ 64) p.outputs_fit
+refused_not t verdicts p (Unbalanced ins outs) below = λ h. h.2 (h.0 ∙ p.balanced ∙ sym h.1)
+refused_not t verdicts p (BadWitness i) below = absurd (omega (arith, below))
+refused_not t verdicts p (Unverified i) below = absurd (omega (arith, below))
+
+pub proper_law : ProperLaw
+proper_law t verdicts = (refused_not t verdicts, proper_of t verdicts)

@@ -27,7 +27,7 @@ use Rattle.world_laws.proofs.Stamps.{found_le}
 use Rattle.world_laws.proofs.Few.{low, few_enough}
 use Rattle.run_laws.specs.Checked.{CheckedJournals}
 use Rattle.run_laws.specs.Runs.{seen_by}
-use Rattle.run_laws.specs.Faults.{IsNext, next_prepare, next_lock, HasFailed, IsStopBy, opened_by, faults_by, capacity_by, StopLaw}
+use Rattle.run_laws.specs.Faults.{IsNext, next_prepare, next_lock, IsAsked, asks_prepare, asks_log, asks_shard, HasFailed, IsStopBy, opened_by, faults_by, capacity_by, StopLaw}
 use Rattle.run_laws.proofs.Seen.{seen_log, seen_shard}
 use Rattle.run_laws.proofs.Checked.{Any, rows_of}
 use Rattle.lane_laws.proofs.Grants.{late_refuses}
@@ -115,15 +115,15 @@ stamp_within (Kept t) what end le e = let z : ok t ≡ err (ClockEnd end) = e in
 stamp_within (Refuse why) what end le e = let z : err {A = ℕ} (Refuses why) ≡ err (ClockEnd end) = e in cc
 stamp_within (Append t) what end le e = late_within t t what end (le t refl) e
 
-module _ (K : Shape) (lane : ℕ) (next : List Compact → Type 0) (J : ℕ → List Record) (opened faults capacity : ℕ → ℕ) (node : ℕ) (node_is : node < K.coordinators + K.shards) where
+module _ (K : Shape) (lane : ℕ) (next : List Compact → Type 0) (J : ℕ → List Record) (opened faults capacity : ℕ → ℕ) (node : ℕ) (node_is : node < K.coordinators + K.shards) (asked : IsAsked K lane next J node) where
   abbrev Stop : NodeFault → Type 0
   Stop f = IsStopBy K lane next J opened faults capacity node f
 
   abbrev SameCounts : Sight → Type 0
   SameCounts now = (opened node ≡ now.opened) × (faults node ≡ now.faults)
 
-  failed : (now : Sight) → SameCounts now → HasRisen now.opened now.faults → HasFailed K opened faults node
-  failed now same h = record { node_is = node_is; rose = subst (λ o. HasRisen o (faults node)) (sym same.0) (subst (λ f. HasRisen now.opened f) (sym same.1) h) }
+  failed : (now : Sight) → SameCounts now → HasRisen now.opened now.faults → HasFailed K lane next J opened faults node
+  failed now same h = record { node_is = node_is; asked = asked; rose = subst (λ o. HasRisen o (faults node)) (sym same.0) (subst (λ f. HasRisen now.opened f) (sym same.1) h) }
 
   -- a record that is next, and has no stamp or no room
   stops : {A : Type 0} (now : Sight) → SameCounts now → (stamp used need : ℕ) (a : A) (r : Record) → IsNext K lane next J node r → stamp ≡ stamp_of r → used ≡ used_of (J node) → need ≡ need_of K (J node) r
@@ -280,8 +280,8 @@ module _ (K : Shape) (m : Minted) (logs shards : ℕ → Sight) (limits : IsWith
         subst (λ x. x ≤ top) (ap stamp_in e ∙ is) l
 
     -- at the coordinator, behind causes that the shards have
-    at_log : (cause : ℕ) (r : Record) → cause ≤ top → IsAnswered false (if_early last_late (next_stamp log.seen cause) (Writes (next_stamp log.seen cause) r)) log f → StopAt (home_of K b.lane)
-    at_log cause r le h = late K b.lane next J opened faults capacity (home_of K b.lane) (log_node (home_of K b.lane) home) log same_log (next_stamp log.seen cause) r
+    at_log : IsAsked K b.lane next J (home_of K b.lane) → (cause : ℕ) (r : Record) → cause ≤ top → IsAnswered false (if_early last_late (next_stamp log.seen cause) (Writes (next_stamp log.seen cause) r)) log f → StopAt (home_of K b.lane)
+    at_log asked cause r le h = late K b.lane next J opened faults capacity (home_of K b.lane) (log_node (home_of K b.lane) home) asked log same_log (next_stamp log.seen cause) r
         (within (next_stamp log.seen cause) (next_within log.seen cause top log_low le)) f h
 
     open_stops : IsOpenFault K b txs log shards node f → StopAt node
@@ -290,27 +290,33 @@ module _ (K : Shape) (m : Minted) (logs shards : ℕ → Sight) (limits : IsWith
         never : (why : Refused) → Refuses why ≡ f → ⊥
         never why e = grant_law K m logs shards b txs node why limits.some_shard home checked (subst (λ g. IsOpenFault K b txs log shards node g) (sym e) fault)
 
+        busy : (slot (J (home_of K b.lane)) b.lane).phase ≡ Idle → ⊥
+        busy i = fault.busy (sym (ap (λ L. (slot L b.lane).phase) at_home) ∙ i)
+
+        asked : (s : ℕ) → is_concerned K txs s ≡ true → IsAsked K b.lane next J (shard_node K s)
+        asked s c = asks_shard b fault.stamp txs s refl refl c (ap (λ L. (slot L b.lane).number) at_home ∙ fault.number) busy (ap (λ L. record_of 6 L b) at_home ∙ fault.prepare)
+
         -- at a shard, behind a cause that the coordinator has
         at_shard : (s cause : ℕ) (p : Plan ℕ) (r : Record) → is_concerned K txs s ≡ true → cause ≤ top → ((t : ℕ) → p ≡ Append t → t ≡ next_stamp (shards s).seen cause)
             → IsAnswered false (stamp_by p r) (shards s) f → StopAt (shard_node K s)
-        at_shard s cause p r c le is h = planned_late K b.lane next J opened faults capacity (shard_node K s) (shard_there s (below K txs s c)) (shards s) (same_shard s) p r
+        at_shard s cause p r c le is h = planned_late K b.lane next J opened faults capacity (shard_node K s) (shard_there s (below K txs s c)) (asked s c) (shards s) (same_shard s) p r
             (λ t e. subst (λ x. x ≤ 2 ^ 62 + 2 ^ 20) (sym (is t e)) (within (next_stamp (shards s).seen cause) (next_within (shards s).seen cause top (shard_low s) le))) f never h
 
         go : IsCallFault K b txs log shards node f → StopAt node
         go (to_lock s t is c phase stands h) =
             subst StopAt (sym is)
-            (locks K b.lane next J opened faults capacity (shard_node K s) (shard_there s (below K txs s c)) (shards s) (same_shard s) b t txs s refl refl c (ap (λ L. (slot L b.lane).phase) at_home ∙ phase) (ap (λ L. record_of 6 L b) at_home ∙ stands) f never
+            (locks K b.lane next J opened faults capacity (shard_node K s) (shard_there s (below K txs s c)) (asked s c) (shards s) (same_shard s) b t txs s refl refl c (ap (λ L. (slot L b.lane).phase) at_home ∙ phase) (ap (λ L. record_of 6 L b) at_home ∙ stands) f never
             (subst (λ L. IsAnswered true (lock_due K (capacity (shard_node K s)) (part_call K b txs s t) None L) (shards s) f) (sym (seen_shard K logs shards s))
             (subst (λ limit. IsAnswered true (lock_due K limit (part_call K b txs s t) None (shards s).seen) (shards s) f) (sym (shard_by (λ x. x.capacity) s))
             (subst (λ k. IsAnswered true (lock_due k (shards s).capacity (part_call K b txs s t) None (shards s).seen) (shards s) f) (shard_shapes s (below K txs s c)) h))))
-        go (to_decide replies is cause h) = subst StopAt (sym is) (at_log (reply_cause K replies) (commit_record K b.lane replies log.seen) (subst (λ x. x ≤ top) (sym cause) (latest_low 2 b)) h)
+        go (to_decide replies is cause h) = subst StopAt (sym is) (at_log (asks_log refl busy) (reply_cause K replies) (commit_record K b.lane replies log.seen) (subst (λ x. x ≤ top) (sym cause) (latest_low 2 b)) h)
         go (to_finish s t os is c phase stands h) = subst StopAt (sym is) (at_shard s t (next_finish (shards s).seen b (decisions os (part K.shards s 0 txs)) t)
             (Finish (next_stamp (shards s).seen t) b (decisions os (part K.shards s 0 txs))) c (cause_low 7 t (Commit t b os) stands refl)
             (λ u e. (finish_new (shards s).seen b (decisions os (part K.shards s 0 txs)) t u e).1) h)
-        go (to_discard cause is latest h) = subst StopAt (sym is) (at_log cause (discard_record b.lane cause log.seen) (subst (λ x. x ≤ top) (sym latest) (latest_low 3 b)) h)
+        go (to_discard cause is latest h) = subst StopAt (sym is) (at_log (asks_log refl busy) cause (discard_record b.lane cause log.seen) (subst (λ x. x ≤ top) (sym latest) (latest_low 3 b)) h)
         go (to_forget s t is c stands h) = subst StopAt (sym is) (at_shard s t (next_forget (shards s).seen b t) (Forget (next_stamp (shards s).seen t) b) c (cause_low 8 t (Discard t b) stands refl)
             (λ u e. (forget_new (shards s).seen b t u e).1) h)
-        go (to_done cause is latest h) = subst StopAt (sym is) (at_log cause (done_record b.lane cause log.seen) (subst (λ x. x ≤ top) (sym latest) (latest_low 4 b)) h)
+        go (to_done cause is latest h) = subst StopAt (sym is) (at_log (asks_log refl busy) cause (done_record b.lane cause log.seen) (subst (λ x. x ≤ top) (sym latest) (latest_low 4 b)) h)
 
   open_by : (next : List Compact → Type 0) (lane : ℕ) (b : Batch) → b.lane ≡ lane → home_of K lane < K.coordinators → (txs : List Compact) (node : ℕ) (f : NodeFault) → IsOpenFault K b txs (logs (home_of K lane)) shards node f
       → IsStopBy K lane next J opened faults capacity node f
@@ -323,7 +329,7 @@ module _ (K : Shape) (m : Minted) (logs shards : ℕ → Sight) (limits : IsWith
   batch_by lane home shape txs node f (inr (b, is, fault)) = open_by (λ t. t ≡ txs) lane b is home txs node f fault
   batch_by lane home shape txs node f (inl (at, idle, h)) =
       subst (λ n. IsStopBy K lane (λ t. t ≡ txs) J opened faults capacity n f) (sym at)
-      (prepares K lane (λ t. t ≡ txs) J opened faults capacity (home_of K lane) (log_node (home_of K lane) home) (logs (home_of K lane))
+      (prepares K lane (λ t. t ≡ txs) J opened faults capacity (home_of K lane) (log_node (home_of K lane) home) (asks_prepare txs refl refl (ap (λ L. (slot L lane).phase) (seen_log K logs shards (home_of K lane) home) ∙ idle)) (logs (home_of K lane))
       (log_by (λ x. x.opened) (home_of K lane) home, log_by (λ x. x.faults) (home_of K lane) home)
       txs refl refl (ap (λ L. (slot L lane).phase) (seen_log K logs shards (home_of K lane) home) ∙ idle) f
       (subst (λ L. IsAnswered true (prepare_due K (capacity (home_of K lane)) lane txs None L) (logs (home_of K lane)) f) (sym (seen_log K logs shards (home_of K lane) home))

@@ -46,19 +46,28 @@ pub record HasNoStamp (K : Shape) (lane : ℕ) (next : List Compact → Type 0) 
   pub stamp_is : stamp ≡ stamp_of wanted
   pub above : 2 ^ 62 < stamp
 
--- it is a node of the ledger whose disk has failed since it was opened
-pub record HasFailed (K : Shape) (opened faults : ℕ → ℕ) (node : ℕ) : Type 0 where
+-- the lane asks this node: its coordinator, for its next Prepare, where it is idle and has transactions that are next; where it is not idle, its
+-- coordinator, or a shard that its last batch concerns, whose Prepare stands
+pub data IsAsked (K : Shape) (lane : ℕ) (next : List Compact → Type 0) (J : ℕ → List Record) (node : ℕ) : Type 0 where
+  asks_prepare : (txs : List Compact) → next txs → node ≡ home_of K lane → (slot (J (home_of K lane)) lane).phase ≡ Idle → IsAsked K lane next J node
+  asks_log : node ≡ home_of K lane → ((slot (J (home_of K lane)) lane).phase ≡ Idle → ⊥) → IsAsked K lane next J node
+  asks_shard : (b : Batch) (t : ℕ) (txs : List Compact) (s : ℕ) → b.lane ≡ lane → node ≡ shard_node K s → is_concerned K txs s ≡ true → (slot (J (home_of K lane)) lane).number ≡ b.number
+      → ((slot (J (home_of K lane)) lane).phase ≡ Idle → ⊥) → record_of 6 (J (home_of K lane)) b ≡ Some (Prepare t b txs) → IsAsked K lane next J node
+
+-- it is a node of the ledger that the lane asks, whose disk has failed since it was opened
+pub record HasFailed (K : Shape) (lane : ℕ) (next : List Compact → Type 0) (J : ℕ → List Record) (opened faults : ℕ → ℕ) (node : ℕ) : Type 0 where
   pub node_is : node < K.coordinators + K.shards
+  pub asked : IsAsked K lane next J node
   pub rose : HasRisen (opened node) (faults node)
 
--- why a lane stopped at a node, by the journals at its stop and what each node is: the node's disk has failed since it was opened; Full and
+-- why a lane stopped at a node, by the journals at its stop and what each node is: the lane asks it, and its disk has failed since it was opened; Full and
 -- ClockEnd are those of the record that the lane needs next there; nothing is refused
 abbrev pub IsStopBy : Shape → ℕ → (List Compact → Type 0) → (ℕ → List Record) → (ℕ → ℕ) → (ℕ → ℕ) → (ℕ → ℕ) → ℕ → NodeFault → Type 0
-IsStopBy K lane next J opened faults capacity node (Broken since) = HasFailed K opened faults node
+IsStopBy K lane next J opened faults capacity node (Broken since) = HasFailed K lane next J opened faults node
 IsStopBy K lane next J opened faults capacity node (Refuses why) = ⊥
 IsStopBy K lane next J opened faults capacity node (ClockEnd stamp) = HasNoStamp K lane next J node stamp
 IsStopBy K lane next J opened faults capacity node (Full used need limit) = HasNoRoom K lane next J (capacity node) node used need limit
-IsStopBy K lane next J opened faults capacity node DiskFault = HasFailed K opened faults node
+IsStopBy K lane next J opened faults capacity node DiskFault = HasFailed K lane next J opened faults node
 IsStopBy K lane next J opened faults capacity node Memory = Unit {0}
 
 -- of each node, the coordinators first: how often its disk had failed when it was opened, how often it has by now, and how many bytes it may hold

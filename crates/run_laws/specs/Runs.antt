@@ -1,12 +1,13 @@
 -- What a run does to the journals of all nodes, turn by turn.
-use Rattle.std.specs.Prelude.{◌≡◌, ◌⊎◌, ℕ, ◌-◌, ◌*◌, ◌<◌, ◌≢◌, ◌≤◌, false, length, All, Contains, true, nat_lt, if◌then◌else◌, List, []}
+use Rattle.std.specs.Prelude.{◌≡◌, ◌⊎◌, ◌↔◌, ℕ, ◌-◌, ◌*◌, ◌<◌, ◌≢◌, ◌≤◌, false, length, All, Contains, true, nat_lt, if◌then◌else◌, List, []}
 use Rattle.cbdc_model.specs.Records.{Shape, Header, Compact, Record}
 use Rattle.cbdc_model.specs.Grammar.{IsCompact}
 use Rattle.cbdc_model.specs.Ranges.{home_of, shard_node, part, is_no_part}
 use Rattle.cbdc_model.specs.Slots.{slot, Idle}
 use Rattle.cbdc_model.specs.Coins.{Output, FullTx}
 use Rattle.cbdc_model.specs.Clean.{Clean, IsProper, IsProperCompact}
-use Rattle.sentinel.specs.FirstRefusal.{Verdicts, IsSound}
+use Rattle.cbdc_types.specs.declared.answer.Refusal.{Refusal}
+use Rattle.sentinel.specs.FirstRefusal.{Verdicts, Applies, rank, IsSound}
 use Rattle.cbdc_model.specs.After.{IsJournal}
 use Rattle.cbdc_model.specs.History.{Minted, minted, header_of}
 use Rattle.cbdc_model.specs.World.{KeptJournals}
@@ -74,6 +75,10 @@ NodesLaw = (K : Shape) (m : Minted) (E X : ℕ → List Record) → AreJournals 
 -- a sound transaction is proper, whatever the verdicts
 abbrev pub SoundLaw : Type 0
 SoundLaw = (t : FullTx) (verdicts : Verdicts) → IsSound t verdicts → IsProper t
+
+-- a transaction is proper exactly where none of the reasons applies that ask no verdict: those before the two of witnesses
+abbrev pub ProperLaw : Type 0
+ProperLaw = (t : FullTx) (verdicts : Verdicts) → IsProper t ↔ ((r : Refusal) → rank r < 9 → ¬ (Applies t verdicts r))
 
 -- what is kept stays kept when more is submitted
 abbrev pub GrowLaw : Type 0

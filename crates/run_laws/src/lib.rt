@@ -6,7 +6,7 @@ ghost use Rattle.run_laws.specs.Faults.{GrantLaw, StopLaw};
 ghost use Rattle.run_laws.specs.Flights.{FlownLaw, FlushLaw};
 ghost use Rattle.run_laws.specs.Members.{CompactLaw, MemberLaw};
 ghost use Rattle.run_laws.specs.Open.{ResumeLaw, CheckedResumeLaw};
-ghost use Rattle.run_laws.specs.Runs.{TurnLaw, CheckedTurnLaw, RestLaw, CheckedRestLaw, OthersLaw, NodesLaw, SoundLaw, GrowLaw, EndLaw, PartLaw};
+ghost use Rattle.run_laws.specs.Runs.{TurnLaw, CheckedTurnLaw, RestLaw, CheckedRestLaw, OthersLaw, NodesLaw, SoundLaw, ProperLaw, GrowLaw, EndLaw, PartLaw};
 ghost use Rattle.run_laws.specs.Turns.{TakenLaw, SeenLaw, EndsLaw, PreparedLaw, DoneTurnLaw, OpenTurnLaw, ResumedTurnLaw};
 ghost use Rattle.run_laws.specs.WaveSteps.{TakesLaw, WaveBeginsLaw, WaveStepLaw, WaveSkipLaw, WaveEndsLaw, ResumingBeginsLaw, ResumingStepLaw, ResumingSkipLaw, ResumingEndsLaw, WavesBeginLaw, WavesStepLaw};
 
@@ -48,6 +48,11 @@ pub fn nodes_law()
 /// A transaction that a sentinel refuses for no reason is proper: what the laws ask of prepared transactions.
 pub fn sound_law()
     ensures { SoundLaw }
+{}
+
+/// A transaction is proper exactly where a sentinel has no reason to refuse it but a verdict.
+pub fn proper_law()
+    ensures { ProperLaw }
 {}
 
 /// What is kept stays kept when more is submitted.

@@ -26,7 +26,7 @@ use Rattle.recovery.specs.Open.{IsUnfinished, IsResumeStopped}
 use Rattle.run_laws.specs.Runs.{seen_by, IsTurn}
 use Rattle.run_laws.specs.Turns.{Elsewhere}
 use Rattle.run_laws.specs.Checked.{CheckedJournals}
-use Rattle.run_laws.specs.Faults.{IsNext, next_prepare, next_lock, HasNoRoom, HasNoStamp, HasFailed, IsStopBy, opened_by, faults_by, capacity_by}
+use Rattle.run_laws.specs.Faults.{IsNext, next_prepare, next_lock, IsAsked, asks_prepare, asks_log, asks_shard, HasNoRoom, HasNoStamp, HasFailed, IsStopBy, opened_by, faults_by, capacity_by}
 use Rattle.run_laws.proofs.TurnStep.{lifted, checked_turn_law}
 use Rattle.run_laws.proofs.Rests.{checked_rest_law}
 use Rattle.run_laws.proofs.OpenLanes.{checked_resume_law}
@@ -66,9 +66,17 @@ next_by : (K : Shape) (lane : ℕ) (next due : List Compact → Type 0) (J : ℕ
 next_by K lane next due J on node r (next_prepare txs is at idle e) = next_prepare txs (on txs is) at idle e
 next_by K lane next due J on node r (next_lock b t txs s is at concerned phase stands behind e) = next_lock b t txs s is at concerned phase stands behind e
 
+asked_by : (K : Shape) (lane : ℕ) (next due : List Compact → Type 0) (J : ℕ → List Record) → ((txs : List Compact) → next txs → due txs) → (node : ℕ) → IsAsked K lane next J node → IsAsked K lane due J node
+asked_by K lane next due J on node (asks_prepare txs is at idle) = asks_prepare txs (on txs is) at idle
+asked_by K lane next due J on node (asks_log at busy) = asks_log at busy
+asked_by K lane next due J on node (asks_shard b t txs s is at concerned number busy stands) = asks_shard b t txs s is at concerned number busy stands
+
+failed_by : (K : Shape) (lane : ℕ) (next due : List Compact → Type 0) (J : ℕ → List Record) (opened faults : ℕ → ℕ) → ((txs : List Compact) → next txs → due txs) → (node : ℕ) → HasFailed K lane next J opened faults node → HasFailed K lane due J opened faults node
+failed_by K lane next due J opened faults on node h = record { node_is = h.node_is; asked = asked_by K lane next due J on node h.asked; rose = h.rose }
+
 stop_by : (K : Shape) (lane : ℕ) (next due : List Compact → Type 0) (J : ℕ → List Record) (opened faults capacity : ℕ → ℕ) → ((txs : List Compact) → next txs → due txs)
     → (node : ℕ) (f : NodeFault) → IsStopBy K lane next J opened faults capacity node f → IsStopBy K lane due J opened faults capacity node f
-stop_by K lane next due J opened faults capacity on node (Broken since) h = h
+stop_by K lane next due J opened faults capacity on node (Broken since) h = failed_by K lane next due J opened faults on node h
 stop_by K lane next due J opened faults capacity on node (Refuses why) h = h
 stop_by K lane next due J opened faults capacity on node (ClockEnd stamp) h =
     record { wanted = h.wanted; is_next = next_by K lane next due J on node h.wanted h.is_next; stamp_is = h.stamp_is; above = h.above }
@@ -80,7 +88,7 @@ stop_by K lane next due J opened faults capacity on node (Full used need limit) 
   need_is = h.need_is;
   above = h.above;
 }
-stop_by K lane next due J opened faults capacity on node DiskFault h = h
+stop_by K lane next due J opened faults capacity on node DiskFault h = failed_by K lane next due J opened faults on node h
 stop_by K lane next due J opened faults capacity on node Memory h = h
 
 -- what a lane needs next, by the journals at its stop
@@ -94,8 +102,8 @@ module _ (K : Shape) (lane : ℕ) (next : List Compact → Type 0) (I J : ℕ �
   abbrev Causes : LaneFault → Type 0
   Causes e = IsLaneCause K lane next I J (HaveFailed opened faults) (MayHold capacity) e
 
-  failed : (e : LaneFault) (node : ℕ) → e ≡ record { node = node; fault = DiskStopped } → HasFailed K opened faults node → Causes e
-  failed e node is h = subst Causes (sym is) (h.node_is, h.rose)
+  failed : (e : LaneFault) (node : ℕ) → e ≡ record { node = node; fault = DiskStopped } → HasFailed K lane next J opened faults node → Causes e
+  failed e node is h = subst Causes (sym is) (record { inside = h.node_is; asked = h.asked; did = h.rose })
 
   no_stamp : (e : LaneFault) (node stamp : ℕ) → e ≡ record { node = node; fault = NoStamp stamp } → HasNoStamp K lane next J node stamp → Causes e
   no_stamp e node stamp is h = subst Causes (sym is) (record {

@@ -1,1 +1,2 @@
+mod refused;
 mod rows;

@@ -54,7 +54,7 @@ fn stamped(rt: &HostRuntime, stamp: u64, record: &Record) -> Result<Record, Fail
 }
 
 // Gives the record at a place another stamp.
-fn restamp(
+pub(crate) fn restamp(
     rt: &HostRuntime,
     records: &mut Vec<Record>,
     place: usize,

@@ -15,8 +15,8 @@ pub(crate) fn two_shards() -> Result<Shape, Fail> {
     Ok(Shape::new(2, 1, 1, 16)?)
 }
 
-// All that was ever submitted.
-fn submissions(rt: &HostRuntime, row: &Worked) -> Result<List<FullTx>, Fail> {
+/// All that was ever submitted.
+pub(crate) fn submissions(rt: &HostRuntime, row: &Worked) -> Result<List<FullTx>, Fail> {
     let mut all = List::new(rt.alloc());
     for t in row.earlier.as_slice() {
         all.push(copy_of_full(rt.alloc(), t)?)?;

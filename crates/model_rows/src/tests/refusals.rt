@@ -1,4 +1,6 @@
 // The table of refusals that need no ledger.
+mod order;
+
 use super::making::hash;
 use cbdc_types::{FullTx, Input, List, OutPoint, Output, Refusal};
 use model_check::{Listed, first_refusal_of};

@@ -5,7 +5,7 @@ ghost use Rattle.mem_devices.specs.Racks.{AllIn};
 
 use super::making::{CAPACITY, bytes_of, decoded, expect, rack_of};
 use super::rows::{Stop, stopped};
-use mem_devices::{MemRack, PlainDisk};
+use mem_devices::{FaultDisk, MemRack, PlainDisk};
 use std::alloc::Global;
 use std::process::Abort;
 use std::sync::Wait;
@@ -120,5 +120,45 @@ fn two_lanes_at_a_full_shard(rt: HostRuntime) -> Result<(), Fail> {
     let text = "fault full 2 used 171 need 240 capacity 410\n";
     let rack = expect(rt, alloc, rack, &RUN, 5, text)?;
     assert!(rt; bytes_of(alloc, &rack)? == stopped(alloc, &whole, &[2, 2, 1])?);
+    Ok(())
+}
+
+// Disks with these bytes, of which the coordinators' fail at one call, from this coordinator on.
+fn failing(
+    alloc: Global,
+    disks: &[Vec<u8>],
+    from: usize,
+    call: u64,
+) -> Result<MemRack<FaultDisk>, Fail>
+    ensures { IfOk result (λ r. AllIn r) }
+{
+    let mut all = Vec::new(alloc);
+    for bytes in disks {
+        if bytes.len() > CAPACITY {
+            return Err(Fail::new("too many bytes"));
+        }
+        let mut fails = Vec::new(alloc);
+        if all.len() >= from && all.len() < 2 {
+            fails.push(call)?;
+        }
+        all.push(FaultDisk::new(alloc, bytes, CAPACITY, fails, 1000)?)?;
+    }
+    Ok(MemRack::new(alloc, all)?)
+}
+
+/// Both coordinators' disks fail, each at the same call, whichever it is: the lesser lane's is told. Where the other fails
+/// alone, that one is told.
+#[test]
+fn two_disks_that_fail(rt: HostRuntime) -> Result<(), Fail> {
+    let rt = &rt;
+    let alloc = rt.alloc();
+    let whole = journals(alloc)?;
+    let made = stopped(alloc, &whole, &[1, 1, 1])?;
+    for call in 0..16 {
+        let rack = failing(alloc, &made, 0, call)?;
+        let _ = expect(rt, alloc, rack, &RUN, 12, "fault disk 0\n")?;
+        let rack = failing(alloc, &made, 1, call)?;
+        let _ = expect(rt, alloc, rack, &RUN, 12, "fault disk 1\n")?;
+    }
     Ok(())
 }

@@ -11,7 +11,7 @@ use std::test::Fail;
 
 // A ledger with one coordinator and one shard, whose mint is one coin of 100.
 #[derive(Clone, Copy)]
-struct Ledger {
+pub(crate) struct Ledger {
     shape: Shape,
     genesis: Hash,
     coin: Input,
@@ -25,13 +25,13 @@ fn output(value: u64) -> Output {
 }
 
 // A list of one item.
-fn one<T: Drop>(rt: &HostRuntime, item: T) -> Result<List<T>, Fail> {
+pub(crate) fn one<T: Drop>(rt: &HostRuntime, item: T) -> Result<List<T>, Fail> {
     let mut all = List::new(rt.alloc());
     all.push(item)?;
     Ok(all)
 }
 
-fn coin_of_100(rt: &HostRuntime) -> Result<Ledger, Fail> {
+pub(crate) fn coin_of_100(rt: &HostRuntime) -> Result<Ledger, Fail> {
     let mint = [output(100)];
     let genesis = genesis_id(rt.alloc(), mint.as_slice())?;
     let point = OutPoint {
@@ -48,13 +48,13 @@ fn coin_of_100(rt: &HostRuntime) -> Result<Ledger, Fail> {
     })
 }
 
-fn opened(rt: &HostRuntime, own: &Ledger) -> Result<World, Fail> {
+pub(crate) fn opened(rt: &HostRuntime, own: &Ledger) -> Result<World, Fail> {
     let hashes = [input_hash(&own.coin)];
     Ok(World::new(rt.alloc(), &own.shape, &own.genesis, hashes.as_slice())?)
 }
 
 // The coin is spent for outputs of these values.
-fn spend(rt: &HostRuntime, own: &Ledger, values: &[u64]) -> Result<CompactTx, Fail> {
+pub(crate) fn spend(rt: &HostRuntime, own: &Ledger, values: &[u64]) -> Result<CompactTx, Fail> {
     let mut outputs = List::new(rt.alloc());
     for value in values {
         outputs.push(output(*value))?;
@@ -67,14 +67,14 @@ fn spend(rt: &HostRuntime, own: &Ledger, values: &[u64]) -> Result<CompactTx, Fa
     Ok(compact(rt.alloc(), &full)?)
 }
 
-fn first_batch() -> BatchId {
+pub(crate) fn first_batch() -> BatchId {
     BatchId {
         lane: LaneId(0),
         number: 1,
     }
 }
 
-fn entry(rt: &HostRuntime, place: u32, t: &CompactTx) -> Result<Entry, Fail> {
+pub(crate) fn entry(rt: &HostRuntime, place: u32, t: &CompactTx) -> Result<Entry, Fail> {
     Ok(Entry {
         place,
         id: t.id,
@@ -83,7 +83,7 @@ fn entry(rt: &HostRuntime, place: u32, t: &CompactTx) -> Result<Entry, Fail> {
     })
 }
 
-fn prepare(rt: &HostRuntime, own: &Ledger, spends: &[&[u64]]) -> Result<Record, Fail> {
+pub(crate) fn prepare(rt: &HostRuntime, own: &Ledger, spends: &[&[u64]]) -> Result<Record, Fail> {
     let mut txs = List::new(rt.alloc());
     for values in spends {
         txs.push(spend(rt, own, values)?)?;
@@ -135,7 +135,7 @@ fn finish(rt: &HostRuntime, stamp: u64, decisions: &[bool]) -> Result<Record, Fa
 }
 
 // The record with this stamp of the row of one transaction to 60 and 40, in one batch; none comes behind the seventh.
-fn record(rt: &HostRuntime, own: &Ledger, stamp: u64) -> Result<Record, Fail> {
+pub(crate) fn record(rt: &HostRuntime, own: &Ledger, stamp: u64) -> Result<Record, Fail> {
     let batch = first_batch();
     let spends: [&[u64]; 1] = [&[60, 40]];
     match stamp {
@@ -159,12 +159,12 @@ fn record(rt: &HostRuntime, own: &Ledger, stamp: u64) -> Result<Record, Fail> {
 }
 
 // The node of the record with this stamp.
-fn place(stamp: u64) -> NodeId {
+pub(crate) fn place(stamp: u64) -> NodeId {
     if stamp % 2 == 0 { NodeId(1) } else { NodeId(0) }
 }
 
 // An event happens.
-fn happens(rt: &HostRuntime, world: &mut World, event: Event) -> Result<(), Fail> {
+pub(crate) fn happens(rt: &HostRuntime, world: &mut World, event: Event) -> Result<(), Fail> {
     world.step(rt.alloc(), &event)?;
     Ok(())
 }
@@ -185,7 +185,7 @@ fn written(rt: &HostRuntime, own: &Ledger, first: u64, last: u64) -> Result<Vec<
     Ok(events)
 }
 
-fn write(
+pub(crate) fn write(
     rt: &HostRuntime,
     world: &mut World,
     own: &Ledger,
@@ -240,7 +240,12 @@ fn are_journals(world: &World, home: &[Record], shard: &[Record]) -> bool {
 }
 
 // Whether the journals are the row's up to this stamp, all nodes are up and nothing is in flight.
-fn is_row(rt: &HostRuntime, world: &World, own: &Ledger, last: u64) -> Result<bool, Fail> {
+pub(crate) fn is_row(
+    rt: &HostRuntime,
+    world: &World,
+    own: &Ledger,
+    last: u64,
+) -> Result<bool, Fail> {
     let home = home_row(rt, own, last)?;
     let shard = shard_row(rt, own, last)?;
     Ok(are_journals(world, home.as_slice(), shard.as_slice()))

@@ -1,7 +1,7 @@
 use Rattle.std.proofs.Common.{◌+◌, ◌∙◌, length, arith, inr, refl}
 use Rattle.rack_ledgers.proofs.Backs.{back_parts}
 use Rattle.caused_ledgers.proofs.Closed.{nodes_back}
-use Rattle.audited_ledgers.proofs.Histories.{is_audited, verdicts_account}
+use Rattle.audited_ledgers.proofs.Histories.{is_audited, audited_room, verdicts_account}
 use Rattle.audited_ledgers.proofs.audited.audit_on.Goals as goal
 
 pub returns-in_default-clause-refusal : goal.returns-in_default-clause-refusal
@@ -16,6 +16,11 @@ verdict_of-verdict-requires-clause-shards g c n x is = (c.in-Ok-open_minted.ensu
 pub returns-in-Ok-verdict-clause-audited : goal.returns-in-Ok-verdict-clause-audited
 returns-in-Ok-verdict-clause-audited g c =
     is_audited g.R.Disk.Disk.content g.R.Disk.Disk.images g.R.Disk.Disk.limit g.R.Disk.Disk.count (g.R.Rack.held c.args.rack.now) c.in-Ok-open_minted.nodes.header c.in-Ok-open_minted.nodes.logs.items c.in-Ok-open_minted.nodes.shards.items
+    c.in-Ok-open_minted.ensures.opened c.args.mint.now (c.in-Ok-open_minted.ensures.minted ∙ c.in-Ok.ensures) c.args.handed.now c.in-Ok-verdict.verdict c.in-Ok-verdict.ensures
+
+pub returns-in-Ok-verdict-clause-room : goal.returns-in-Ok-verdict-clause-room
+returns-in-Ok-verdict-clause-room g c =
+    audited_room g.R.Disk.Disk.content g.R.Disk.Disk.images g.R.Disk.Disk.limit g.R.Disk.Disk.count (g.R.Rack.held c.args.rack.now) c.in-Ok-open_minted.nodes.header c.in-Ok-open_minted.nodes.logs.items c.in-Ok-open_minted.nodes.shards.items
     c.in-Ok-open_minted.ensures.opened c.args.mint.now (c.in-Ok-open_minted.ensures.minted ∙ c.in-Ok.ensures) c.args.handed.now c.in-Ok-verdict.verdict c.in-Ok-verdict.ensures
 
 pub returns-in-Ok-verdict-clause-sentence : goal.returns-in-Ok-verdict-clause-sentence

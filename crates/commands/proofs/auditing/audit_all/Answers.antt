@@ -1,8 +1,9 @@
 use Rattle.commands.proofs.Untouched.{not_refused}
-use Rattle.std.proofs.Common.{◌∙◌, inl, inr, subst, refl}
+use Rattle.std.proofs.Common.{◌∙◌, List, inl, inr, subst, refl}
+use Rattle.cbdc_model.specs.Coins.{Output, FullTx}
 use Rattle.input_files.specs.Contents.{mint_of_file}
 use Rattle.file_runs.specs.Runs.{joined}
-use Rattle.audited_ledgers.specs.Audited.{IsAudited}
+use Rattle.audited_ledgers.specs.Audited.{IsAudited, HistoryHasRoom}
 use Rattle.rack_nodes.proofs.Told.{back_same}
 use Rattle.rack_runs.proofs.Lent.{if_err_by}
 use Rattle.commands.specs.Audits.{WhyUnopened}
@@ -48,16 +49,21 @@ returns-in_default-clause-why g c = inl tt
 pub returns-clause-did : goal.returns-clause-did
 returns-clause-did g c =
     let all = c.deref.ensures.value ∙ c.in-Ok-joined.ensures in
+    let held = g.R.Rack.held c.args.rack.now in
     if_ok_by _ _ c.audit_on.result
-    (λ v is. record {
+    (λ v is.
+    let found : (was : IsAudited g.R.Disk.Disk.content held c.in-Ok.mint (joined c.in-Ok-all_clients_in.files.items) v) × HistoryHasRoom g.R.Disk.Disk.limit held was.shape was.rows =
+    subst (λ (m : List Output). (was : IsAudited g.R.Disk.Disk.content held m (joined c.in-Ok-all_clients_in.files.items) v) × HistoryHasRoom g.R.Disk.Disk.limit held was.shape was.rows) c.as_slice.ensures
+    (subst (λ (h : List FullTx). (was : IsAudited g.R.Disk.Disk.content held c.as_slice.result.now h v) × HistoryHasRoom g.R.Disk.Disk.limit held was.shape was.rows) all is) in
+    record {
       mint = c.in-Ok.mint;
       handed = c.in-Ok-all_clients_in.files.items;
       read = c.in-Ok.ensures.read;
       clients_read = are_read_same (g.I.Inbox.file c.mint_in.new.inbox) (g.I.Inbox.file c.args.inbox.now) c.mint_in.ensures.same c.args.clients.now c.in-Ok-all_clients_in.files.items 0 c.in-Ok-all_clients_in.ensures.read;
-      audited = subst (λ m. IsAudited g.R.Disk.Disk.content (g.R.Rack.held c.args.rack.now) m (joined c.in-Ok-all_clients_in.files.items) v) c.as_slice.ensures
-          (subst (λ h. IsAudited g.R.Disk.Disk.content (g.R.Rack.held c.args.rack.now) c.as_slice.result.now h v) all is);
+      audited = found.0;
+      room = found.1;
     })
-    c.audit_on.ensures.audited
+    c.audit_on.ensures.room
 
 pub returns-clause-why : goal.returns-clause-why
 returns-clause-why g c =

@@ -21,26 +21,21 @@ returns-in-Err-clause-untouched g c before =
     absurd (not_turned g.R.Disk.Disk.content g.R.Disk.Disk.images g.R.Disk.Disk.limit g.R.Disk.Disk.count (g.R.Rack.held c.args.rack.now) (g.R.Rack.held c.recover_on.new.rack) (g.R.Rack.count c.args.rack.now) (g.R.Rack.count c.recover_on.new.rack) NothingNext IsLeastOpen NonePrepared [] c.in-Err.fault c.in-Err.ensures.stopped before)
 
 pub returns-in-Ok-write_recovered-clause-did : goal.returns-in-Ok-write_recovered-clause-did
-returns-in-Ok-write_recovered-clause-did g c well = (c.in-Ok.ensures.caused, c.in-Ok.ensures.recovered)
+returns-in-Ok-write_recovered-clause-did g c well = (
+  c.in-Ok.ensures.caused,
+  prints_recovery g.R.Disk.Disk.content g.R.Disk.Disk.images (g.R.Rack.held c.args.rack.now) (g.R.Rack.held c.recover_on.new.rack) (IsPrinted (g.O.Sink.taken c.args.out.now) (g.O.Sink.taken c.write_recovered.new.out) answers.Ok)
+      c.in-Ok.recovered c.in-Ok.ensures.told c.in-Ok-write_recovered.ensures.prints,
+)
 
 pub returns-clause-did : goal.returns-clause-did
-returns-clause-did g c well = (c.in-Ok.ensures.caused, c.in-Ok.ensures.recovered)
-
-pub returns-in-Ok-write_recovered-clause-prints : goal.returns-in-Ok-write_recovered-clause-prints
-returns-in-Ok-write_recovered-clause-prints g c well =
-    prints_recovery g.R.Disk.Disk.content g.R.Disk.Disk.images (g.R.Rack.held c.args.rack.now) (g.R.Rack.held c.recover_on.new.rack) (IsPrinted (g.O.Sink.taken c.args.out.now) (g.O.Sink.taken c.write_recovered.new.out) answers.Ok)
-    c.in-Ok.recovered c.in-Ok.ensures.told c.in-Ok-write_recovered.ensures.prints
-
-pub returns-clause-prints : goal.returns-clause-prints
-returns-clause-prints g c well =
-    prints_recovery g.R.Disk.Disk.content g.R.Disk.Disk.images (g.R.Rack.held c.args.rack.now) (g.R.Rack.held c.recover_on.new.rack) (IsPrinted (g.O.Sink.taken c.args.out.now) (g.O.Sink.taken c.write_recovered.new.out) answers.WriteFault)
-    c.in-Ok.recovered c.in-Ok.ensures.told c.in-Err-write_recovered.ensures.prints
+returns-clause-did g c well = (
+  c.in-Ok.ensures.caused,
+  prints_recovery g.R.Disk.Disk.content g.R.Disk.Disk.images (g.R.Rack.held c.args.rack.now) (g.R.Rack.held c.recover_on.new.rack) (IsPrinted (g.O.Sink.taken c.args.out.now) (g.O.Sink.taken c.write_recovered.new.out) answers.WriteFault)
+      c.in-Ok.recovered c.in-Ok.ensures.told c.in-Err-write_recovered.ensures.prints,
+)
 
 pub returns-in-Err-clause-did : goal.returns-in-Err-clause-did
 returns-in-Err-clause-did g c well = absurd (not_done g.R.Disk.Disk.content g.R.Disk.Disk.images g.R.Disk.Disk.limit g.R.Disk.Disk.count (g.R.Rack.held c.args.rack.now) (g.R.Rack.held c.recover_on.new.rack) (g.R.Rack.count c.args.rack.now) (g.R.Rack.count c.recover_on.new.rack) NothingNext IsLeastOpen NonePrepared [] c.in-Err.fault c.in-Err.ensures.stopped well)
-
-pub returns-in-Err-clause-prints : goal.returns-in-Err-clause-prints
-returns-in-Err-clause-prints g c well = absurd (not_done g.R.Disk.Disk.content g.R.Disk.Disk.images g.R.Disk.Disk.limit g.R.Disk.Disk.count (g.R.Rack.held c.args.rack.now) (g.R.Rack.held c.recover_on.new.rack) (g.R.Rack.count c.args.rack.now) (g.R.Rack.count c.recover_on.new.rack) NothingNext IsLeastOpen NonePrepared [] c.in-Err.fault c.in-Err.ensures.stopped well)
 
 pub returns-in-Err-clause-left : goal.returns-in-Err-clause-left
 returns-in-Err-clause-left g c not_well =

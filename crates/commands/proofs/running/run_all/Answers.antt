@@ -4,7 +4,7 @@ use Rattle.input_files.specs.Contents.{AreRead, AreVerdicts, IsNoVerdicts, all_t
 use Rattle.verifier_port.specs.Files.{told}
 use Rattle.rack_runs.specs.Endings.{EndsRun}
 use Rattle.rack_runs.specs.Runs.{PieceNext, PiecesPrepared}
-use Rattle.rack_runs.proofs.Lent.{if_ok_all, if_err_by}
+use Rattle.rack_runs.proofs.Lent.{if_ok_with, if_err_by}
 use Rattle.commands.proofs.Answers.{first_fault, no_verdicts_later}
 use Rattle.commands.proofs.running.run_all.Goals as goal
 
@@ -14,15 +14,14 @@ returns-in-Err-clause-fault g c =
 
 pub returns-clause-did : goal.returns-clause-did
 returns-clause-did g c =
-    if_ok_all _ _ _ c.run_on.result c.run_on.ensures.told c.run_on.ensures.caused c.run_on.ensures.ran
-    (λ ran tells caused shown. record {
+    if_ok_with _ _ c.run_on.result c.run_on.ensures.told c.run_on.ensures.caused
+    (λ ran tells caused. record {
       handed = c.deref.result.now;
       known = c.in-Ok-verdicts_in.verdicts;
       few = subst (λ txs. all_txs txs ≤ 1000000) (sym c.deref.ensures.value) c.in-Ok.ensures.few;
       read = subst (λ txs. AreRead (g.I.Inbox.file c.args.inbox.now) 0 c.args.clients.now txs) (sym c.deref.ensures.value) c.in-Ok.ensures.read;
       verdicts_read = subst (λ t. AreVerdicts t c.in-Ok-verdicts_in.verdicts) (c.in-Ok.ensures.same c.args.verdicts.now.name.now) c.in-Ok-verdicts_in.ensures.read;
       caused = caused;
-      was = shown;
       tells = tells;
     })
 

@@ -32,7 +32,7 @@ returns-in-Audit-clause-did g c well =
 pub returns-in-Recover-clause-did : goal.returns-in-Recover-clause-did
 returns-in-Recover-clause-did g c well =
     subst (λ r. Did (g.I.Inbox.file c.args.inbox.now) g.R.Disk.Disk.content g.R.Disk.Disk.images g.R.Disk.Disk.limit (g.R.Rack.held c.args.rack.now) (g.R.Rack.held c.recover.new.rack) (IsPrinted (g.O.Sink.taken c.args.out.now) (g.O.Sink.taken c.recover.new.out) c.recover.result) r)
-    (sym c.in-Recover.is) (c.recover.ensures.did well, c.recover.ensures.prints well)
+    (sym c.in-Recover.is) (c.recover.ensures.did well)
 
 pub returns-in-Gen-clause-did : goal.returns-in-Gen-clause-did
 returns-in-Gen-clause-did g c well =

@@ -108,6 +108,6 @@ returns-clause-stops g c =
     (minted_is c.in-Ok.genesis c.args.mint c.in-Ok.ensures.0 c.in-Ok.ensures.1) c.in-Err-write_firsts.ensures.stopped in
     inr (
       length stopped.front,
-      stopped_at g.R.Disk.Disk.content g.R.Disk.Disk.images g.R.Disk.Disk.limit g.R.Disk.Disk.count (λ (b : Blank g.row.R-Disk.Denot). b.disk) (λ (b : Blank g.row.R-Disk.Denot). b.node) c.args.shape.now c.args.mint (λ n. g.R.Rack.held c.args.rack.now n) (λ n. g.R.Rack.held c.write_firsts.new.rack n) (λ n. g.R.Rack.count c.args.rack.now n) (λ n. g.R.Rack.count c.write_firsts.new.rack n) blanks all opened c.in-Err-write_firsts.fault stopped
+      stopped_at g.R.Disk.Disk.content g.R.Disk.Disk.images g.R.Disk.Disk.limit g.R.Disk.Disk.count (λ (b : Blank g.row.R-Disk.Denot). b.disk) (λ (b : Blank g.row.R-Disk.Denot). b.node) c.args.shape.now c.args.mint (λ n. g.R.Rack.held c.args.rack.now n) (λ n. g.R.Rack.held c.write_firsts.new.rack n) (λ n. g.R.Rack.count c.args.rack.now n) (λ n. g.R.Rack.count c.write_firsts.new.rack n) blanks all opened c.in-Err-write_firsts.fault stopped c.requires.fits
           (λ n ge. c.write_firsts.ensures.others_held n (omega (arith, ge, all)) ∙ c.open_all.ensures.others_held n (inr (omega (arith, ge, c.coordinators.ensures.value, c.shards.ensures.value)))),
     )

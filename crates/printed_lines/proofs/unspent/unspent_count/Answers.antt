@@ -11,5 +11,5 @@ returns c =
     let K = c.args.shape.now in
     let J = journals_in c.args.journals.now in
     counted K J c.as_slice.result.now c.count_different.result
-    (subst (λ l. (x : Digest) → (has l x ≡ true) ↔ IsUnspent K J x) (sym c.as_slice.ensures) c.in_ok-hashes.ensures)
+    (subst (λ l. (x : Digest) → (has l x ≡ true) ↔ IsUnspent K J x) (sym c.as_slice.ensures) c.in_ok-hashes.ensures.all)
     c.count_different.ensures.count

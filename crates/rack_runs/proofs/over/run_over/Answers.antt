@@ -93,7 +93,7 @@ returns-in-Err-run_files-clause-flies g c =
     (g.L.Turns.flights c.args.ledger.now) (g.L.Turns.flights c.resume_all.new.ledger) (g.L.Turns.flights c.run_files.new.ledger) c.resume_all.ensures.shape c.resume_all.ensures.keeps c.resume_all.ensures.flies c.run_files.ensures.flies
 
 pub returns-in-Err-clause-least : goal.returns-in-Err-clause-least
-returns-in-Err-clause-least g c = inl c.in-Err.ensures.least
+returns-in-Err-clause-least g c = inl (c.resume_all.ensures.prepares, c.in-Err.ensures.least)
 
 pub returns-in-Err-run_files-clause-least : goal.returns-in-Err-run_files-clause-least
 returns-in-Err-run_files-clause-least g c = inr (

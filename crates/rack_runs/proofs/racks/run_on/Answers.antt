@@ -3,8 +3,8 @@ use Rattle.caused_ledgers.proofs.Told.{caused_ledger}
 use Rattle.rack_laws.proofs.Behind.{is_ledger, logs_return, shards_return}
 use Rattle.rack_runs.proofs.Checking.{opened_checked}
 use Rattle.rack_runs.proofs.Answering.{lane_fault}
-use Rattle.rack_runs.proofs.Lent.{on_ok_always, on_ok_all, on_ok_both, if_err_by, if_err_both, if_ok_all}
-use Rattle.rack_runs.proofs.Ledgers.{runs, cut_short, tells, spares, took}
+use Rattle.rack_runs.proofs.Lent.{on_ok_by, on_ok_always, on_ok_all, if_err_by, if_err_both, if_ok_all}
+use Rattle.rack_runs.proofs.Ledgers.{ends, runs, cut_short, tells, spares, took}
 use Rattle.rack_runs.proofs.racks.run_on.Goals as goal
 
 pub run_nodes-nodes-requires-clause-ledger : goal.run_nodes-nodes-requires-clause-ledger
@@ -50,11 +50,15 @@ returns-clause-caused g c =
 pub returns-clause-ran : goal.returns-clause-ran
 returns-clause-ran g c =
     let ran = c.run_nodes-nodes.ensures in
-    on_ok_all c.run_nodes-nodes.result.came
+    on_ok_by c.run_nodes-nodes.result.came
     (runs g.R.Disk.Disk.content g.R.Disk.Disk.images g.R.Disk.Disk.limit g.R.Disk.Disk.count (g.R.Rack.held c.args.rack.now) (g.R.Rack.held c.close_nodes.new.rack) c.in-Ok.nodes.header c.run_nodes-nodes.result.nodes.header
     c.in-Ok.nodes.logs.items c.run_nodes-nodes.result.nodes.logs.items c.in-Ok.nodes.shards.items c.run_nodes-nodes.result.nodes.shards.items c.args.files.now c.in-Ok.ensures.opened ran.ledger ran.shape
     c.close_nodes.ensures.closed_logs c.close_nodes.ensures.closed_shards ran.stored (g.V.Verifier.verdict_of c.args.verifier.now) ran.keeps)
-    ran.idle ran.resumed ran.waves ran.quiet
+    (on_ok_all c.run_nodes-nodes.result.came
+    (ends g.R.Disk.Disk.content g.R.Disk.Disk.images g.R.Disk.Disk.limit g.R.Disk.Disk.count (g.R.Rack.held c.args.rack.now) (g.R.Rack.held c.close_nodes.new.rack) c.in-Ok.nodes.header c.run_nodes-nodes.result.nodes.header
+    c.in-Ok.nodes.logs.items c.run_nodes-nodes.result.nodes.logs.items c.in-Ok.nodes.shards.items c.run_nodes-nodes.result.nodes.shards.items c.args.files.now c.in-Ok.ensures.opened ran.ledger ran.shape
+    c.close_nodes.ensures.closed_logs c.close_nodes.ensures.closed_shards ran.stored (g.V.Verifier.verdict_of c.args.verifier.now))
+    ran.idle ran.resumed ran.waves ran.quiet)
 
 pub run_nodes-nodes-requires-clause-checked : goal.run_nodes-nodes-requires-clause-checked
 run_nodes-nodes-requires-clause-checked g c =
@@ -84,8 +88,13 @@ returns-clause-stopped g c =
 pub returns-clause-told : goal.returns-clause-told
 returns-clause-told g c =
     let ran = c.run_nodes-nodes.ensures in
-    if_ok_all _ _ _ c.run_nodes-nodes.result.came ran.told ran.unspent (on_ok_both _ _ c.run_nodes-nodes.result.came ran.waves ran.quiet)
-    (λ r told unspent both.
+    if_ok_all _ _ _ c.run_nodes-nodes.result.came ran.told ran.unspent
+    (on_ok_all c.run_nodes-nodes.result.came
+    (ends g.R.Disk.Disk.content g.R.Disk.Disk.images g.R.Disk.Disk.limit g.R.Disk.Disk.count (g.R.Rack.held c.args.rack.now) (g.R.Rack.held c.close_nodes.new.rack) c.in-Ok.nodes.header c.run_nodes-nodes.result.nodes.header
+    c.in-Ok.nodes.logs.items c.run_nodes-nodes.result.nodes.logs.items c.in-Ok.nodes.shards.items c.run_nodes-nodes.result.nodes.shards.items c.args.files.now c.in-Ok.ensures.opened ran.ledger ran.shape
+    c.close_nodes.ensures.closed_logs c.close_nodes.ensures.closed_shards ran.stored (g.V.Verifier.verdict_of c.args.verifier.now))
+    ran.idle ran.resumed ran.waves ran.quiet)
+    (λ r told unspent ended.
     tells g.R.Disk.Disk.content g.R.Disk.Disk.images g.R.Disk.Disk.limit g.R.Disk.Disk.count (g.R.Rack.held c.args.rack.now) (g.R.Rack.held c.close_nodes.new.rack) c.in-Ok.nodes.header c.run_nodes-nodes.result.nodes.header
     c.in-Ok.nodes.logs.items c.run_nodes-nodes.result.nodes.logs.items c.in-Ok.nodes.shards.items c.run_nodes-nodes.result.nodes.shards.items c.args.files.now c.in-Ok.ensures.opened ran.ledger ran.shape
-    c.close_nodes.ensures.closed_logs c.close_nodes.ensures.closed_shards ran.stored (g.V.Verifier.verdict_of c.args.verifier.now) r ran.keeps both.0 told unspent both.1)
+    c.close_nodes.ensures.closed_logs c.close_nodes.ensures.closed_shards ran.stored (g.V.Verifier.verdict_of c.args.verifier.now) r ran.keeps ended told unspent)

@@ -1,4 +1,4 @@
-use Rattle.std.proofs.Common.{true, subst}
+use Rattle.std.proofs.Common.{true, subst, rules}
 use Rattle.std.specs.List.{All}
 use Rattle.std.specs.Result.{IfOk}
 use Rattle.cbdc_model.specs.Calls.{IsLockCall}
@@ -11,30 +11,30 @@ use Rattle.node_ports.specs.Nodes.{IsShardHeld}
 use Rattle.node_ports.proofs.Places.{old_is, turned, set_elsewhere, turned_nodes, turned_faults, turned_held}
 use Rattle.node_ports.proofs.shards.NodeShards.lock_one.Goals as goal
 
-pub lock_at-answer-requires : goal.lock_at-answer-requires
-lock_at-answer-requires g c =
+pub lock-requires : goal.lock-requires
+lock-requires g c =
     let P : Sight → Type 0 = λ a. IsLockCall a.header c.args.call.now in subst P (old_is (sight_of g.D.Disk.count g.D.Disk.limit) c.args.self.now.nodes.items c.args.shard c.index_mut.result.now c.index_mut.result.now c.requires.place c.index_mut.ensures.value) c.requires.call
 
 pub returns-clause-answer : goal.returns-clause-answer
 returns-clause-answer g c =
-    turned (sight_of g.D.Disk.count g.D.Disk.limit) c.args.self.now.nodes.items c.args.shard c.index_mut.result.now c.lock_at-answer.new.node c.requires.place c.index_mut.ensures.value (λ a b. Told true c.args.call.now.batch.lane true (lock_due a.header.shape a.capacity c.args.call.now) a b c.lock_at-answer.result) c.lock_at-answer.ensures.answer
+    turned (sight_of g.D.Disk.count g.D.Disk.limit) c.args.self.now.nodes.items c.args.shard c.index_mut.result.now _ c.requires.place c.index_mut.ensures.value (λ a b. Told true c.args.call.now.batch.lane true (lock_due a.header.shape a.capacity c.args.call.now) a b c.lock.result) (search rules)
 
 pub returns-clause-elsewhere : goal.returns-clause-elsewhere
 returns-clause-elsewhere g c =
-    λ n ne. set_elsewhere (sight_of g.D.Disk.count g.D.Disk.limit) c.args.self.now.nodes.items c.args.shard c.lock_at-answer.new.node n ne
+    λ n ne. set_elsewhere (sight_of g.D.Disk.count g.D.Disk.limit) c.args.self.now.nodes.items c.args.shard _ n ne
 
 pub returns-clause-nodes : goal.returns-clause-nodes
 returns-clause-nodes g c =
-    turned_nodes (sight_of g.D.Disk.count g.D.Disk.limit) c.args.self.now.nodes.items c.args.shard c.index_mut.result.now c.lock_at-answer.new.node c.requires.place c.index_mut.ensures.value c.lock_at-answer.ensures.node
+    turned_nodes (sight_of g.D.Disk.count g.D.Disk.limit) c.args.self.now.nodes.items c.args.shard c.index_mut.result.now _ c.requires.place c.index_mut.ensures.value (search rules)
 
 pub returns-clause-later : goal.returns-clause-later
 returns-clause-later g c =
-    turned_faults (sight_of g.D.Disk.count g.D.Disk.limit) c.args.self.now.nodes.items c.args.shard c.index_mut.result.now c.lock_at-answer.new.node c.requires.place c.index_mut.ensures.value c.lock_at-answer.ensures.later
+    turned_faults (sight_of g.D.Disk.count g.D.Disk.limit) c.args.self.now.nodes.items c.args.shard c.index_mut.result.now _ c.requires.place c.index_mut.ensures.value (search rules)
 
 pub returns-clause-holds : goal.returns-clause-holds
 returns-clause-holds g c =
-    turned_held (sight_of g.D.Disk.count g.D.Disk.limit) c.args.self.now.nodes.items c.args.shard c.index_mut.result.now c.lock_at-answer.new.node c.requires.place c.index_mut.ensures.value (IsShardHeld g.D.Disk.content g.D.Disk.images) c.lock_at-answer.ensures.holds
+    turned_held (sight_of g.D.Disk.count g.D.Disk.limit) c.args.self.now.nodes.items c.args.shard c.index_mut.result.now _ c.requires.place c.index_mut.ensures.value (IsShardHeld g.D.Disk.content g.D.Disk.images) (search rules)
 
 pub returns-clause-told : goal.returns-clause-told
 returns-clause-told g c =
-    turned (sight_of g.D.Disk.count g.D.Disk.limit) c.args.self.now.nodes.items c.args.shard c.index_mut.result.now c.lock_at-answer.new.node c.requires.place c.index_mut.ensures.value (λ a b. IfOk c.lock_at-answer.result (λ r. IsStamp r.stamp × All (IsReply a.header.shape) r.replies)) c.lock_at-answer.ensures.told
+    turned (sight_of g.D.Disk.count g.D.Disk.limit) c.args.self.now.nodes.items c.args.shard c.index_mut.result.now c.lock.new.self.shard.now c.requires.place c.index_mut.ensures.value (λ a b. IfOk c.lock.result (λ r. IsStamp r.stamp × All (IsReply a.header.shape) r.replies)) c.lock.ensures.replied

@@ -4,7 +4,7 @@ use Rattle.shard_node.specs.Shards.{sight_of}
 use Rattle.node_ports.proofs.Owed.{still_node}
 use Rattle.node_ports.proofs.Coordinators.{told_alone}
 use Rattle.node_ports.proofs.Replying.{lock_replies}
-use Rattle.node_ports.proofs.shards.lock_at.Goals as goal
+use Rattle.node_ports.proofs.shard.lock_at.Goals as goal
 
 pub returns-clause-answer : goal.returns-clause-answer
 returns-clause-answer g c =

@@ -1,0 +1,119 @@
+// One shard of a ledger.
+ghost use Rattle.std.specs.Prelude.{◌≤◌, true, false, IfOk, All};
+ghost use Rattle.cbdc_model.specs.Calls.{IsLockCall, IsFinishCall, IsForgetCall};
+ghost use Rattle.cbdc_model.specs.Grammar.{IsReply};
+ghost use Rattle.cbdc_model.specs.Due.{lock_due, finish_due, forget_due};
+ghost use Rattle.cbdc_model.specs.Sights.{Told};
+ghost use Rattle.lane_driver.specs.Told.{IsStamp, IsStillNode};
+ghost use Rattle.shard_node.specs.Shards.{sight_of};
+ghost use Rattle.node_ports.specs.Nodes.{IsShardHeld};
+
+use cbdc_types::{FinishCall, ForgetCall, LaneId, LockCall, NodeFault, NodeId, Replied, Stamp};
+use lane_driver::ShardPort;
+use outside::{Disk, Gate, Point, When};
+use shard_node::ShardNode;
+use std::sync::Wait;
+
+/// One shard of a ledger for one lane: it is lent its node.
+#[derive(Drop)]
+pub struct NodeShard<'r, 'n, W: Wait, D: Disk> {
+    pub rt: &'r W,
+    pub lane: LaneId,
+    pub node: NodeId,
+    pub shard: &'n mut ShardNode<D>,
+}
+
+// The kinds of the records that the calls append.
+const LOCK: u8 = 2;
+
+const FINISH: u8 = 3;
+
+const FORGET: u8 = 4;
+
+// Makes a call at a shard.
+fn lock_at<D: Disk>(node: &mut ShardNode<D>, call: &LockCall) -> Result<Replied, NodeFault>
+    requires { IsLockCall node.old.header call.now }
+    ensures answer { Told true call.now.batch.lane true (lock_due node.old.header.shape (D.limit node.old.disk) call.now) (sight_of D.count D.limit node.old) (sight_of D.count D.limit node.new) result }
+    ensures told { IfOk result (λ a. IsStamp a.stamp × All (IsReply node.old.header.shape) a.replies) }
+    ensures node { IsStillNode (sight_of D.count D.limit node.old) (sight_of D.count D.limit node.new) }
+    ensures later { D.count node.old.disk ≤ D.count node.new.disk }
+    ensures holds { IsShardHeld D.content D.images node.old → IsShardHeld D.content D.images node.new }
+{
+    let _header = node.header();
+    node.lock(call)
+}
+
+fn finish_at<D: Disk>(node: &mut ShardNode<D>, call: &FinishCall) -> Result<Stamp, NodeFault>
+    requires { IsFinishCall node.old.header call.now }
+    ensures answer { Told true call.now.batch.lane false (finish_due call.now) (sight_of D.count D.limit node.old) (sight_of D.count D.limit node.new) result }
+    ensures told { IfOk result IsStamp }
+    ensures node { IsStillNode (sight_of D.count D.limit node.old) (sight_of D.count D.limit node.new) }
+    ensures later { D.count node.old.disk ≤ D.count node.new.disk }
+    ensures holds { IsShardHeld D.content D.images node.old → IsShardHeld D.content D.images node.new }
+{
+    let _header = node.header();
+    node.finish(call)
+}
+
+fn forget_at<D: Disk>(node: &mut ShardNode<D>, call: &ForgetCall) -> Result<Stamp, NodeFault>
+    requires { IsForgetCall node.old.header call.now }
+    ensures answer { Told true call.now.batch.lane false (forget_due call.now) (sight_of D.count D.limit node.old) (sight_of D.count D.limit node.new) result }
+    ensures told { IfOk result IsStamp }
+    ensures node { IsStillNode (sight_of D.count D.limit node.old) (sight_of D.count D.limit node.new) }
+    ensures later { D.count node.old.disk ≤ D.count node.new.disk }
+    ensures holds { IsShardHeld D.content D.images node.old → IsShardHeld D.content D.images node.new }
+{
+    let _header = node.header();
+    node.forget(call)
+}
+
+impl<'r, 'n, W: Wait, D: Disk> NodeShard<'r, 'n, W, D> {
+    // Passes the gate at a call of a kind.
+    fn pass<G: Gate>(&self, gate: &G, kind: u8, when: When) {
+        gate.pass(
+            self.rt,
+            &Point {
+                lane: self.lane,
+                node: self.node,
+                kind,
+                when,
+            },
+        );
+    }
+}
+
+impl<'r, 'n, W: Wait, D: Disk> ShardPort for NodeShard<'r, 'n, W, D> {
+    ghost sight = { λ p. sight_of D.count D.limit p.shard.now };
+
+    ghost at = { λ p. p.shard.ghost_name };
+
+    ghost alone = { true };
+
+    ghost faults = { λ p. D.count p.shard.now.disk };
+
+    ghost holds = { λ p. IsShardHeld D.content D.images p.shard.now };
+
+    fn lock<G: Gate>(&mut self, call: &LockCall, gate: &G) -> Result<Replied, NodeFault> {
+        self.pass(gate, LOCK, When::Before);
+        self.pass(gate, LOCK, When::Inside);
+        let answer = lock_at(self.shard, call);
+        self.pass(gate, LOCK, When::After);
+        answer
+    }
+
+    fn finish<G: Gate>(&mut self, call: &FinishCall, gate: &G) -> Result<Stamp, NodeFault> {
+        self.pass(gate, FINISH, When::Before);
+        self.pass(gate, FINISH, When::Inside);
+        let answer = finish_at(self.shard, call);
+        self.pass(gate, FINISH, When::After);
+        answer
+    }
+
+    fn forget<G: Gate>(&mut self, call: &ForgetCall, gate: &G) -> Result<Stamp, NodeFault> {
+        self.pass(gate, FORGET, When::Before);
+        self.pass(gate, FORGET, When::Inside);
+        let answer = forget_at(self.shard, call);
+        self.pass(gate, FORGET, When::After);
+        answer
+    }
+}
