@@ -1,4 +1,4 @@
--- What the disks of a rack tell at once.
+-- A ledger that all disks of a rack tell, and the answers that come of bytes and room.
 use Rattle.std.specs.Prelude.{◌≡◌, ◌+◌, ◌<◌, ◌≤◌, ℕ, List, Option, Some}
 use Rattle.outside.specs.Images.{Tells}
 use Rattle.cbdc_types.specs.Limits.{IsWithinLimits}

@@ -1,4 +1,4 @@
-// What disks tell once. The laws have no body that runs.
+// What can't be answered of a ledger that disks tell. The laws have no body that runs.
 ghost use Rattle.std.specs.Prelude.{ℕ, List, Some};
 ghost use Rattle.cbdc_types.specs.Limits.{IsWithinLimits};
 ghost use Rattle.cbdc_types.specs.declared.answer.Answer.{Answer as Told};
@@ -15,14 +15,14 @@ pub fn none_uncaused_law<R: Rack>(rack: &R)
         → IsUnsound R.Disk.content R.Disk.images R.Disk.limit R.Disk.count (R.held rack.now) answer → ⊥ }
 {}
 
-/// Where the disks tell a ledger, with their contents, none of its nodes can be refused but for a disk's fault or for want of memory: as full
-/// not where the disks have room, and in no other way whatever room they have.
+/// Where the disks tell a ledger, with their contents, none of its nodes is refused as NotReady, Damaged or Foreign, whatever room there is, and
+/// none as Full where the disks have room.
 pub fn none_refused_law<R: Rack>(rack: &R)
-    // Whatever mint began the ledger.
+    // Where no mint is asked for.
     ensures opened { (K : Shape) (genesis : Digest) (J : ℕ → List Record) (before now : ℕ → ℕ) (answer : Told) → TellLedger R.Disk.content (R.held rack.now) K genesis J
         → IsOfBytes answer → (IsOfRoom answer → AllHaveRoom R.Disk.limit (R.held rack.now) K J)
         → IsUnopened R.Disk.content R.Disk.images R.Disk.limit R.Disk.count (R.held rack.now) before now answer → ⊥ }
-    // Where that mint began it which should have.
+    // Where the mint that is asked for began it.
     ensures minted { (K : Shape) (genesis : Digest) (J : ℕ → List Record) (before now : ℕ → ℕ) (answer : Told) → TellLedger R.Disk.content (R.held rack.now) K genesis J
         → IsOfBytes answer → (IsOfRoom answer → AllHaveRoom R.Disk.limit (R.held rack.now) K J)
         → IsUnopenedBy R.Disk.content R.Disk.images R.Disk.limit R.Disk.count (R.held rack.now) before now (Some genesis) answer → ⊥ }

@@ -49,7 +49,7 @@ WhyUnaudited files files_before files_now content images limit count disks disks
     × (FirstNotRead files files_before files_now clients answer
     ⊎ ((handed : List (List FullTx)) × AreRead files 0 clients handed × WhyUnopened content images limit count disks disks_before disks_now mint answer)))
 
--- the verdict is that this is unsound, at this place
+-- the answer is Unsound, and so is the verdict, with this place and kind
 abbrev pub IsUnsoundBy : (Verdict → Type 0) → Answer → Type 0
 IsUnsoundBy was (answers.Unsound place kind) = was (Unsound place kind)
 IsUnsoundBy was other = ⊥

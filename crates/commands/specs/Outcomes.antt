@@ -126,8 +126,8 @@ WhyNoInit files files_before files_now content limit disks disks_before disks_no
     ⊎ ((mint : List Output) × Tells (files file.name.now) (λ c. mint_of_file c ≡ Ok mint) × IsUnmade shape mint content limit disks disks_before disks_now answer)
 
 -- the ledger could not be opened, or a record of it was not caused, and the disks are back as they were read; or over a ledger whose records were
--- all caused a lane met a fault, its answer has its cause, and it is the least lane's that met one: the ledger's journals have grown at their ends, and
--- are kept, each by its disk, with one record more or without, and whatever a crash leaves of them
+-- all caused a lane met a fault, its answer has its cause, and it is the least lane's that met one: the ledger's journals have grown at their ends, each
+-- by its disk, where all disks tell, with one record more or without; where they were kept they still are, whatever a crash leaves of the disks
 abbrev pub WhyNoTurns : {D : Type 0} → (D → Option (List ℕ)) → (D → List ℕ → Type 0) → (D → ℕ) → (D → ℕ) → (ℕ → Option D) → (ℕ → Option D) → (ℕ → ℕ) → (ℕ → ℕ) → (Shape → (ℕ → List Record) → (ℕ → List Record) → ℕ → List Compact → Type 0)
     → (Shape → (ℕ → List Record) → (ℕ → List Record) → (ℕ → Type 0) → (ℕ → ℕ → Type 0) → LaneFault → Type 0)
     → (Shape → (ℕ → List Record) → (ℕ → List Record) → Type 0) → List (List FullTx) → Answer → Type 0

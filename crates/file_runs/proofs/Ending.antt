@@ -44,6 +44,7 @@ unbegun_files K verdicts files i I J failed holds e grows so idle is = record {
   are = sym (take-append-drop i files);
   middle = J;
   grows = grows;
+  onward = λ n. ([], refl);
   before = so;
   idle = idle;
   ends = unbegun_first K verdicts (drop i files) J failed holds e is;
@@ -52,13 +53,14 @@ unbegun_files K verdicts files i I J failed holds e grows so idle is = record {
 -- a file's fault ends the files
 pub files_end_so : (K H : Shape) (verdicts : VerdictsOf) (files : List (List FullTx)) (i : ℕ) (file : List FullTx) (I J L : ℕ → List Record) (failed : ℕ → Type 0) (holds : ℕ → ℕ → Type 0) (e : LaneFault)
     → H ≡ K → i < length files → file ≡ get_or files i file → ((n : ℕ) → IsEnd (I n) (J n)) → HavePreparedFiles K verdicts (take i files) I J → AreIdle K J
-    → EndsFile H verdicts file J L failed holds e → (0 < H.batch → HaveBegunFile H verdicts file J L) → EndsFiles K verdicts files I L failed holds e
-files_end_so K H verdicts files i file I J L failed holds e same low is grows so idle ends begun = record {
+    → EndsFile H verdicts file J L failed holds e → (0 < H.batch → HaveBegunFile H verdicts file J L) → ((n : ℕ) → IsEnd (J n) (L n)) → EndsFiles K verdicts files I L failed holds e
+files_end_so K H verdicts files i file I J L failed holds e same low is grows so idle ends begun onward = record {
   done = take i files;
   more = file ∷ drop (i + 1) files;
   are = sym (sym (append_assoc (take i files) (file ∷ []) (drop (i + 1) files)) ∙ ap (λ fs. fs ++ drop (i + 1) files) (so_far files i file low is) ∙ take-append-drop (i + 1) files);
   middle = J;
   grows = grows;
+  onward = onward;
   before = so;
   idle = idle;
   ends = (subst (λ k. EndsFile k verdicts file J L failed holds e) same ends, subst (λ k. 0 < k.batch → HaveBegunFile k verdicts file J L) same begun);

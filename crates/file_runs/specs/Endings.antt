@@ -15,7 +15,8 @@ abbrev pub EndsFile : Shape → VerdictsOf → List FullTx → (ℕ → List Rec
 EndsFile K verdicts file I J failed may_hold e =
     IsUnbegun I J e ⊎ ((sound : FullTx → Bool) → TellsSound verdicts sound → IsLeastFault K (sent_to K sound file) (IsSentPiece K verdicts file I J) I J failed may_hold e)
 
--- the first of more files, if there is one; no lane has prepared anything of the files behind it, only the first pieces of what it sends
+-- the first of more files; without one memory ran out and nothing was done; no lane has prepared anything of the files behind it, only the first
+-- pieces of what it sends
 abbrev pub EndsFirst : Shape → VerdictsOf → List (List FullTx) → (ℕ → List Record) → (ℕ → List Record) → (ℕ → Type 0) → (ℕ → ℕ → Type 0) → LaneFault → Type 0
 EndsFirst K verdicts [] I J failed may_hold e = IsUnbegun I J e
 EndsFirst K verdicts (file ∷ more) I J failed may_hold e = EndsFile K verdicts file I J failed may_hold e × (0 < K.batch → HaveBegunFile K verdicts file I J)
@@ -27,6 +28,7 @@ pub record EndsFiles (K : Shape) (verdicts : VerdictsOf) (files : List (List Ful
   pub are : files ≡ done ++ more
   pub middle : ℕ → List Record
   pub grows : (n : ℕ) → IsEnd (I n) (middle n)
+  pub onward : (n : ℕ) → IsEnd (middle n) (J n)
   pub before : HavePreparedFiles K verdicts done I middle
   pub idle : AreIdle K middle
   pub ends : EndsFirst K verdicts more middle J failed may_hold e

@@ -183,7 +183,7 @@ fn later_below(alloc: Global, journals: &[List<Record>], n: u32) -> Result<List<
     with_records(alloc, NodeId(node), own, below)
 }
 
-// The rows on top of a ledger's first ones that are the history of these journals, where they have one.
+// The rows on top of a ledger's first ones that are the history of these journals, where they have one on the nodes of this shape.
 fn later_of(
     alloc: Global,
     shape: &Shape,

@@ -1,4 +1,4 @@
--- Whose fault ends a wave: the least lane's that met one. The others go on to the end of the wave.
+-- Whose fault ends a wave: the least lane's that met one.
 use Rattle.std.specs.Prelude.{◌≡◌, ◌⊎◌, ℕ, ◌<◌, List, None}
 use Rattle.cbdc_model.specs.Records.{Shape, Compact, Record}
 use Rattle.cbdc_model.specs.Slots.{Idle}

@@ -36,7 +36,7 @@ fn outcome_size(outcome: &Outcome) -> u64
     }
 }
 
-// 32 bytes for each of so many hashes.
+// 32 bytes for each of m hashes and of n more.
 fn hash_bytes(m: usize, n: usize) -> u64
     ensures { result ≡ min (32 * (m + n)) (2 ^ 64 - 1) }
 {
@@ -101,7 +101,7 @@ fn record_bytes(r: &Record) -> u64
     }
 }
 
-/// The bytes of a record in its journal, gate and length included. None where 64 bits may not count them.
+/// The bytes of a record in its journal, gate and length included. None where they are 2^64 - 1 or more.
 pub fn size_of(r: &Record) -> Option<u64>
     ensures { MatchOption result (2 ^ 64 - 1 ≤ size_of r.now) (λ n. n ≡ size_of r.now) }
 {
@@ -124,7 +124,7 @@ fn used_bytes(past: &[Record]) -> u64
     record_sizes(past).saturating_add(1)
 }
 
-/// The bytes of a disk that a journal takes: its records and the closing gate. None where 64 bits may not count them.
+/// The bytes of a disk that a journal takes: its records and the closing gate. None where they are 2^64 - 1 or more.
 pub fn used_of(past: &[Record]) -> Option<u64>
     ensures { MatchOption result (2 ^ 64 - 1 ≤ used_of past.now) (λ n. n ≡ used_of past.now) }
 {
@@ -172,7 +172,7 @@ fn lane_bytes(past: &[Record], lane: LaneId) -> u64
     room_in(slot.phase, m, n)
 }
 
-/// The bytes kept free for a lane's unfinished batch. None where 64 bits may not count them.
+/// The bytes kept free for a lane's unfinished batch. None where they are 2^64 - 1 or more.
 pub fn lane_room(past: &[Record], lane: LaneId) -> Option<u64>
     ensures { MatchOption result (2 ^ 64 - 1 ≤ lane_room past.now lane) (λ n. n ≡ lane_room past.now lane) }
 {
@@ -195,7 +195,7 @@ fn kept_bytes(shape: &Shape, past: &[Record]) -> u64
     kept_below(past, shape.lane_count())
 }
 
-/// The bytes kept free for the unfinished batches of all lanes. None where 64 bits may not count them.
+/// The bytes kept free for the unfinished batches of all lanes. None where they are 2^64 - 1 or more.
 pub fn kept_room(shape: &Shape, past: &[Record]) -> Option<u64>
     ensures { MatchOption result (2 ^ 64 - 1 ≤ kept_room shape.now past.now) (λ n. n ≡ kept_room shape.now past.now) }
 {
@@ -224,7 +224,7 @@ fn need_bytes(shape: &Shape, past: &[Record], r: &Record) -> u64
 }
 
 /// What a record needs: a Lock or a Prepare its own bytes, those of its batch's later records and those kept for other
-/// batches, every other record its own bytes. None where 64 bits may not count them.
+/// batches, every other record its own bytes. None where they are 2^64 - 1 or more.
 pub fn need_of(shape: &Shape, past: &[Record], r: &Record) -> Option<u64>
     ensures { MatchOption result (2 ^ 64 - 1 ≤ need_of shape.now past.now r.now) (λ n. n ≡ need_of shape.now past.now r.now) }
 {

@@ -14,7 +14,7 @@ use outside::{Disk, Gate, Point, When};
 use shard_node::ShardNode;
 use std::sync::Wait;
 
-/// One shard of a ledger for one lane: it is lent its node.
+/// One shard of a ledger for one lane, over its node, which it is lent.
 #[derive(Drop)]
 pub struct NodeShard<'r, 'n, W: Wait, D: Disk> {
     pub rt: &'r W,
@@ -30,7 +30,7 @@ const FINISH: u8 = 3;
 
 const FORGET: u8 = 4;
 
-// Makes a call at a shard.
+// The calls at a shard, by what is seen of it.
 fn lock_at<D: Disk>(node: &mut ShardNode<D>, call: &LockCall) -> Result<Replied, NodeFault>
     requires { IsLockCall node.old.header call.now }
     ensures answer { Told true call.now.batch.lane true (lock_due node.old.header.shape (D.limit node.old.disk) call.now) (sight_of D.count D.limit node.old) (sight_of D.count D.limit node.new) result }

@@ -15,7 +15,7 @@ use outside::{Disk, Gate};
 use shard_node::ShardNode;
 use std::sync::Wait;
 
-/// The shards of a ledger for one lane: the first of them is this node.
+/// The shards of a ledger for one lane; `first` is the number of shard 0's node.
 #[derive(Drop)]
 pub struct NodeShards<'r, W: Wait, D: Disk> {
     pub rt: &'r W,

@@ -192,6 +192,7 @@ module _ (K : Shape) (failed fails : ℕ → Type 0) (holds held : ℕ → ℕ �
     are = h.are;
     middle = h.middle;
     grows = h.grows;
+    onward = h.onward;
     before = h.before;
     idle = h.idle;
     ends = first_by verdicts h.more h.middle J e h.ends;

@@ -70,8 +70,8 @@ pub record TookLedger {D : Type 0} (content : D → Option (List ℕ)) (limit : 
   pub room : OfShown content held (λ K mint submissions E. HaveRoom limit held K E)
   pub spared : SparesOthers content held back
 
--- a lane's fault ended a run over the ledger that the disks told, in which each record was caused: its journals have grown at their ends, by so much as
--- each lane has prepared; where the disks told all each keeps its journal, with one record more or without; the answer has its cause, by the counts of
+-- a lane's fault ended a run over the ledger that the disks told, in which each record was caused: its journals have grown at their ends, and no
+-- lane has prepared anything newly but the first of its pieces, or nothing where there are no files; where the disks told all each keeps its journal, with one record more or without; the answer has its cause, by the counts of
 -- faults before and now and by what the disks that were told may hold; it is the least lane's that met one; where the ledger was kept, it is cut short, and the disks that
 -- are no nodes of it are as before
 pub record IsLaneFault {D : Type 0} (content : D → Option (List ℕ)) (images : D → List ℕ → Type 0) (limit : D → ℕ) (held back : ℕ → Option D) (before now : ℕ → ℕ) (next : Shape → (ℕ → List Record) → (ℕ → List Record) → ℕ → List Compact → Type 0)

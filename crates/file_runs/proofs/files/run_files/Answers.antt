@@ -131,7 +131,7 @@ returns-in-Err-clause-least g c =
     files_end_so (g.L.Turns.shape c.args.ledger.now) (g.L.Turns.shape c.files.ledger) (g.V.Verifier.verdict_of c.args.verifier.now) c.args.files.now c.files.txs-index c.as_slice.result.now
     (g.L.Turns.journals c.args.ledger.now) (g.L.Turns.journals c.files.ledger) (g.L.Turns.journals c.run_file.new.ledger)
     (HaveFailed (g.L.Turns.opened c.run_file.new.ledger) (g.L.Turns.faults c.run_file.new.ledger)) (MayHold (g.L.Turns.capacity c.run_file.new.ledger)) c.in-Err.fault
-    c.files.invariant.shape c.files-test.true (subst (λ f. f ≡ get_or c.args.files.now c.files.txs-index f) (sym c.as_slice.ensures) c.txs-item.is) c.files.invariant.grows c.files.invariant.prepared c.files.invariant.so.idle c.in-Err.ensures.least c.run_file.ensures.begun
+    c.files.invariant.shape c.files-test.true (subst (λ f. f ≡ get_or c.args.files.now c.files.txs-index f) (sym c.as_slice.ensures) c.txs-item.is) c.files.invariant.grows c.files.invariant.prepared c.files.invariant.so.idle c.in-Err.ensures.least c.run_file.ensures.begun c.run_file.ensures.grows
 
 pub returns-in-Err-push-clause-least : goal.returns-in-Err-push-clause-least
 returns-in-Err-push-clause-least g c =
