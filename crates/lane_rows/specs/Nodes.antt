@@ -1,4 +1,4 @@
--- The two nodes that a lane of these tests runs over.
+-- The nodes that a lane of these tests runs over.
 use Rattle.std.specs.Prelude.{◌≡◌, ℕ, ◌*◌, ◌<◌, ◌≤◌, All}
 use Rattle.cbdc_model.specs.Slots.{slot, Idle}
 use Rattle.cbdc_model.specs.After.{IsFirst}
@@ -17,3 +17,19 @@ pub record AreSettled {D : Type 0} (log : LogOf D) (node : ShardOf D) : Type 0 w
   pub idle : slot log.journal 0 ≡ record { number = last; phase = Idle }
   pub numbers : All (λ r. number_in r ≤ last) log.journal
   pub firsts : All IsFirst node.journal
+
+-- the only coordinator and both shards of a ledger, at which lane 0 is idle, with no record of a later batch, and the shards as they were made
+pub record AreBothSettled {D : Type 0} (log : LogOf D) (left right : ShardOf D) : Type 0 where
+  pub lane : 0 < log.header.shape.coordinators * log.header.shape.lanes
+  pub first : log.header.node ≡ 0
+  pub one : log.header.shape.coordinators ≡ 1
+  pub two : log.header.shape.shards ≡ 2
+  pub left_shape : left.header.shape ≡ log.header.shape
+  pub left_node : left.header.node ≡ 1
+  pub right_shape : right.header.shape ≡ log.header.shape
+  pub right_node : right.header.node ≡ 2
+  pub last : ℕ
+  pub idle : slot log.journal 0 ≡ record { number = last; phase = Idle }
+  pub numbers : All (λ r. number_in r ≤ last) log.journal
+  pub left_firsts : All IsFirst left.journal
+  pub right_firsts : All IsFirst right.journal

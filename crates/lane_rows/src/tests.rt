@@ -2,4 +2,5 @@ mod cores;
 mod counting;
 mod lanes;
 mod ledgers;
+mod order;
 mod parts;

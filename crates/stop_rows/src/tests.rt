@@ -1,3 +1,4 @@
 mod lanes;
 mod making;
+mod order;
 mod rows;

@@ -23,13 +23,18 @@ use std::test::Fail;
 /// The only lane.
 pub(crate) const LANE: LaneId = LaneId(0);
 
-/// One shard, one coordinator with one lane, batches of this size.
-pub(crate) fn header(node: u32, batch: u32) -> Result<Header, Fail> {
+/// So many shards, one coordinator with one lane, batches of this size.
+pub(crate) fn header_of(shards: u32, node: u32, batch: u32) -> Result<Header, Fail> {
     Ok(Header {
         node: NodeId(node),
-        shape: Shape::new(1, 1, 1, batch)?,
+        shape: Shape::new(shards, 1, 1, batch)?,
         genesis: Hash([0; 32]),
     })
+}
+
+/// The same with one shard.
+pub(crate) fn header(node: u32, batch: u32) -> Result<Header, Fail> {
+    header_of(1, node, batch)
 }
 
 /// A transaction with one input and these outputs, all named by a byte.
@@ -70,14 +75,13 @@ pub(crate) fn written(
     Ok(journal.into_disk())
 }
 
-/// The coordinator whose disk has a Start and these records.
-pub(crate) fn coordinator(
+/// The coordinator with this header whose disk has a Start and these records.
+pub(crate) fn coordinator_of(
     rt: &HostRuntime,
     capacity: usize,
-    batch: u32,
+    header: Header,
     later: Vec<Record>,
 ) -> Result<CoordLog<PlainDisk>, Fail> {
-    let header = header(0, batch)?;
     let mut records = Vec::new(rt.alloc());
     records.push(Record::Start { header })?;
     for record in later {
@@ -90,14 +94,23 @@ pub(crate) fn coordinator(
     }
 }
 
-/// The shard whose journal begins with one unspent hash.
-pub(crate) fn shard(
+/// The same beside one shard.
+pub(crate) fn coordinator(
     rt: &HostRuntime,
     capacity: usize,
     batch: u32,
+    later: Vec<Record>,
+) -> Result<CoordLog<PlainDisk>, Fail> {
+    coordinator_of(rt, capacity, header(0, batch)?, later)
+}
+
+/// The shard with this header whose journal begins with one unspent hash.
+pub(crate) fn shard_of(
+    rt: &HostRuntime,
+    capacity: usize,
+    header: Header,
     coin: u8,
 ) -> Result<ShardNode<PlainDisk>, Fail> {
-    let header = header(1, batch)?;
     let mut hashes = List::new(rt.alloc());
     hashes.push(Hash([coin; 32]))?;
     let first = [Record::Genesis { header, hashes }];
@@ -106,6 +119,16 @@ pub(crate) fn shard(
         Ok(node) => Ok(node),
         Err(_) => Err("no shard".into()),
     }
+}
+
+/// The only shard.
+pub(crate) fn shard(
+    rt: &HostRuntime,
+    capacity: usize,
+    batch: u32,
+    coin: u8,
+) -> Result<ShardNode<PlainDisk>, Fail> {
+    shard_of(rt, capacity, header(1, batch)?, coin)
 }
 
 // A hash has its 32 bytes.
@@ -127,7 +150,8 @@ fn is_compact(t: &CompactTx) -> bool
     is_whole(&t.id) && is_hash_list(t.inputs.as_slice()) && is_hash_list(t.outputs.as_slice())
 }
 
-fn are_compact(txs: &[CompactTx]) -> bool
+/// Whether their hashes and lists have the sizes that they may have.
+pub(crate) fn are_compact(txs: &[CompactTx]) -> bool
     ensures { IsTrue result ↔ All IsCompact txs.now }
 {
     txs.iter().all(|t| is_compact(t))
@@ -150,8 +174,8 @@ fn number_of(r: &Record) -> u64
     }
 }
 
-// Whether no record is of a batch behind this one.
-fn are_up_to(records: &[Record], last: u64) -> bool
+/// Whether no record is of a batch behind this one.
+pub(crate) fn are_up_to(records: &[Record], last: u64) -> bool
     ensures { IsTrue result ↔ All (λ r. number_in r ≤ last) records.now }
 {
     records.iter().all(|r| number_of(r) <= last)
@@ -167,8 +191,8 @@ fn is_first(r: &Record) -> bool
     }
 }
 
-// Whether all are first records.
-fn are_first(records: &[Record]) -> bool
+/// Whether all are first records.
+pub(crate) fn are_first(records: &[Record]) -> bool
     ensures { IsTrue result ↔ All IsFirst records.now }
 {
     records.iter().all(|r| is_first(r))
@@ -184,7 +208,7 @@ pub(crate) struct Ran {
 }
 
 /// A list of this one.
-fn alone<T: Drop>(alloc: Global, one: T) -> Result<Vec<T>, Fail>
+pub(crate) fn alone<T: Drop>(alloc: Global, one: T) -> Result<Vec<T>, Fail>
     ensures { IfOk result (λ v. v.items ≡ one ∷ []) }
 {
     let mut all = Vec::with_capacity(alloc, 1)?;
@@ -230,12 +254,15 @@ pub(crate) fn run_over<W: Wait>(
     }
     let shape = log.header().shape;
     let mut ports = Ports {
-        shards: counted(NodeShards {
-            rt,
-            lane: LANE,
-            first: shape.coordinators(),
-            nodes: alone(alloc, node)?,
-        }),
+        shards: counted(
+            alloc,
+            NodeShards {
+                rt,
+                lane: LANE,
+                first: shape.coordinators(),
+                nodes: alone(alloc, node)?,
+            },
+        ),
         log: NodeLogs {
             rt,
             logs: alone(alloc, log)?,
@@ -250,7 +277,7 @@ pub(crate) fn run_over<W: Wait>(
         return Err("no batch".into());
     };
     let Ports { shards, log } = ports;
-    let Counting { ports, counts } = shards;
+    let Counting { ports, counts, .. } = shards;
     let NodeShards { mut nodes, .. } = ports;
     let NodeLogs { mut logs, .. } = log;
     match (logs.pop(), nodes.pop()) {

@@ -6,7 +6,7 @@ use cbdc_types::NodeId;
 use commands::{Done, process};
 use line_text::status_code;
 use mem_devices::{MemInbox, MemRack, MemSink, PlainDisk};
-use outside::{Disk, OpenGate};
+use outside::{Disk, Gate, OpenGate};
 use std::alloc::Global;
 use std::process::Abort;
 use std::sync::Wait;
@@ -88,8 +88,31 @@ fn owned(alloc: Global, words: &[&str]) -> Result<Vec<String>, Fail> {
     Ok(all)
 }
 
-/// Runs the program with these words over the rack, with an output that takes so many bytes, and checks its text and
-/// status.
+/// Runs the program with these words over the rack, past a gate, with an output that takes so many bytes, and checks its
+/// text and status.
+pub(crate) fn expect_past<W: Wait + Abort, D: Disk + Drop, G: Gate>(
+    rt: &W,
+    alloc: Global,
+    rack: MemRack<D>,
+    words: &[&str],
+    room: usize,
+    status: u8,
+    text: &str,
+    gate: &G,
+) -> Result<MemRack<D>, Fail>
+    requires { AllIn rack }
+    ensures { IfOk result (λ r. AllIn r) }
+{
+    let words = owned(alloc, words)?;
+    let mut inbox = inbox(alloc)?;
+    let mut out = MemSink::new(alloc, room, Vec::new(alloc))?;
+    let Done { status: told, rack } = process(rt, alloc, &words, &mut inbox, rack, &mut out, gate);
+    assert_eq!(rt; out.taken(), text.as_bytes());
+    assert_eq!(rt; status_code(&told), status);
+    Ok(rack)
+}
+
+/// The same with a gate that holds up nothing.
 pub(crate) fn expect_in<W: Wait + Abort, D: Disk + Drop>(
     rt: &W,
     alloc: Global,
@@ -102,15 +125,7 @@ pub(crate) fn expect_in<W: Wait + Abort, D: Disk + Drop>(
     requires { AllIn rack }
     ensures { IfOk result (λ r. AllIn r) }
 {
-    let words = owned(alloc, words)?;
-    let mut inbox = inbox(alloc)?;
-    let mut out = MemSink::new(alloc, room, Vec::new(alloc))?;
-    let Done { status: told, rack } = process(
-        rt, alloc, &words, &mut inbox, rack, &mut out, &OpenGate,
-    );
-    assert_eq!(rt; out.taken(), text.as_bytes());
-    assert_eq!(rt; status_code(&told), status);
-    Ok(rack)
+    expect_past(rt, alloc, rack, words, room, status, text, &OpenGate)
 }
 
 /// The status of a run with these words over the rack, whatever it prints.

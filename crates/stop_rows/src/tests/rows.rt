@@ -15,10 +15,10 @@ const INIT: [&str; 4] = ["init", "--shards", "2", "m"];
 const INIT_TEXT: &str =
     "coins 1\nminted 100\ngenesis 47b7a252c13b014cd8e4e9767aa2b8de3e37704772a2d9ab29c63864921300d9\n";
 
-// One transaction on both shards.
-const PAY: [&str; 4] = ["run", "--verdicts", "v", "a"];
+/// One transaction on both shards.
+pub(crate) const PAY: [&str; 4] = ["run", "--verdicts", "v", "a"];
 
-const PAY_TEXT: &str =
+pub(crate) const PAY_TEXT: &str =
     "1 0 f456f5694698458a7281c08080cf16b8ddd5bba2d48e5eb89fdb545c1eef3864 confirmed 0 1\nresumed 0\nbatches 1\nconfirmed 1\nrejected 0\nrefused 0\nunspent 1\n";
 
 // A transaction that is rejected for shard 1, and one that spends the coin that it named on shard 0.
@@ -103,8 +103,8 @@ const PAID: [Stop; 11] = [
     },
 ];
 
-// The disks behind `init` and a run.
-fn made<W: Wait + Abort>(
+/// The disks behind `init` and a run.
+pub(crate) fn made<W: Wait + Abort>(
     rt: &W,
     alloc: Global,
     words: &[&str],
