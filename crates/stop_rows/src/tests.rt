@@ -1,3 +1,4 @@
+mod faults;
 mod lanes;
 mod making;
 mod order;
