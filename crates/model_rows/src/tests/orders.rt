@@ -8,10 +8,6 @@ use cbdc_types::{Entry, List, Refused};
 use model_check::StampPlan;
 use std::test::Fail;
 
-fn not_locked(kept: u64) -> StampPlan {
-    StampPlan::Refuse(Refused::NotLocked { kept })
-}
-
 fn open(kept: u64) -> StampPlan {
     StampPlan::Refuse(Refused::LaneOpen { kept })
 }
@@ -19,7 +15,7 @@ fn open(kept: u64) -> StampPlan {
 // Whether a Finish and a Forget of a batch that was not locked are both told this number, whatever the cause and the decisions.
 fn are_not_locked(rt: &HostRuntime, last: Last, number: u64, kept: u64) -> Result<bool, Fail> {
     for cause in [0, 9] {
-        let wanted = not_locked(kept);
+        let wanted = StampPlan::Refuse(Refused::NotLocked { kept });
         let finish = finished(rt, last, number, &[true, false], cause)?;
         let short = finished(rt, last, number, &[], cause)?;
         let forget = forgotten(rt, last, number, cause)?;

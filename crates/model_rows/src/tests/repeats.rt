@@ -247,18 +247,20 @@ pub(crate) fn finished(
 #[test]
 fn finishes_of_older_numbers(rt: HostRuntime) -> Result<(), Fail> {
     let both = [true, false];
+    let wanted = StampPlan::Refuse(Refused::Stale { kept: 1 });
     assert_eq!(rt; finished(&rt, Last::Genesis, 0, &both, 0)?, stale(0));
-    assert_eq!(rt; finished(&rt, Last::Lock, 0, &both, 9)?, stale(1));
-    assert_eq!(rt; finished(&rt, Last::Finish, 0, &both, 9)?, stale(1));
-    assert_eq!(rt; finished(&rt, Last::Forget, 0, &both, 9)?, stale(1));
-    assert_eq!(rt; finished(&rt, Last::Forget, 1, &both, 9)?, stale(1));
+    assert_eq!(rt; finished(&rt, Last::Lock, 0, &both, 9)?, wanted);
+    assert_eq!(rt; finished(&rt, Last::Finish, 0, &both, 9)?, wanted);
+    assert_eq!(rt; finished(&rt, Last::Forget, 0, &both, 9)?, wanted);
+    assert_eq!(rt; finished(&rt, Last::Forget, 1, &both, 9)?, wanted);
     Ok(())
 }
 
 #[test]
 fn a_finish_again_with_an_early_cause(rt: HostRuntime) -> Result<(), Fail> {
     let both = [true, false];
-    assert_eq!(rt; finished(&rt, Last::Lock, 1, &both, 2)?, early(2));
+    let wanted = StampPlan::Refuse(Refused::EarlyStamp { kept: Stamp(2) });
+    assert_eq!(rt; finished(&rt, Last::Lock, 1, &both, 2)?, wanted);
     assert_eq!(rt; finished(&rt, Last::Lock, 1, &both, 3)?, append(4));
     assert_eq!(rt; finished(&rt, Last::Finish, 1, &both, 0)?, kept(4));
     Ok(())
@@ -268,12 +270,10 @@ fn a_finish_again_with_an_early_cause(rt: HostRuntime) -> Result<(), Fail> {
 #[test]
 fn decisions_that_do_not_fit(rt: HostRuntime) -> Result<(), Fail> {
     let last = Last::Lock;
-    assert_eq!(rt; finished(&rt, last, 1, &[true, true], 0)?, other_outcome(1));
-    assert_eq!(rt;
-        finished(&rt, last, 1, &[false, true, true], 0)?,
-        other_outcome(1)
-    );
-    assert_eq!(rt; finished(&rt, last, 1, &[true], 0)?, other_outcome(1));
+    let second = StampPlan::Refuse(Refused::OtherOutcome { at: 1 });
+    assert_eq!(rt; finished(&rt, last, 1, &[true, true], 0)?, second);
+    assert_eq!(rt; finished(&rt, last, 1, &[false, true, true], 0)?, second);
+    assert_eq!(rt; finished(&rt, last, 1, &[true], 0)?, second);
     assert_eq!(rt; finished(&rt, last, 1, &[], 0)?, other_outcome(0));
     assert_eq!(rt;
         finished(&rt, last, 1, &[true, false, false], 0)?,
@@ -289,8 +289,9 @@ fn other_decisions_than_before(rt: HostRuntime) -> Result<(), Fail> {
         finished(&rt, last, 1, &[false, false], 0)?,
         other_outcome(0)
     );
-    assert_eq!(rt; finished(&rt, last, 1, &[true, true], 0)?, other_outcome(1));
-    assert_eq!(rt; finished(&rt, last, 1, &[true], 0)?, other_outcome(1));
+    let second = StampPlan::Refuse(Refused::OtherOutcome { at: 1 });
+    assert_eq!(rt; finished(&rt, last, 1, &[true, true], 0)?, second);
+    assert_eq!(rt; finished(&rt, last, 1, &[true], 0)?, second);
     assert_eq!(rt;
         finished(&rt, last, 1, &[true, false, false], 0)?,
         other_outcome(2)
@@ -311,9 +312,10 @@ pub(crate) fn forgotten(
 
 #[test]
 fn forgets_of_older_numbers(rt: HostRuntime) -> Result<(), Fail> {
-    assert_eq!(rt; forgotten(&rt, Last::Lock, 0, 9)?, stale(1));
-    assert_eq!(rt; forgotten(&rt, Last::Finish, 0, 9)?, stale(1));
-    assert_eq!(rt; forgotten(&rt, Last::Forget, 0, 9)?, stale(1));
+    let wanted = StampPlan::Refuse(Refused::Stale { kept: 1 });
+    assert_eq!(rt; forgotten(&rt, Last::Lock, 0, 9)?, wanted);
+    assert_eq!(rt; forgotten(&rt, Last::Finish, 0, 9)?, wanted);
+    assert_eq!(rt; forgotten(&rt, Last::Forget, 0, 9)?, wanted);
     Ok(())
 }
 

@@ -3,8 +3,8 @@
 use super::ledgers::{Tx, commit, confirmed, finish, lock, missing, prepare};
 use super::making::{forget, header, newest_first, one};
 use super::repeats::{Last, append, batch, behind, entries, finish_of, is_plan, lock_of};
-use cbdc_types::{List, NodeId, Record, Shape, Stamp};
-use model_check::{is_after, is_caused, is_in_grammar};
+use cbdc_types::{List, NodeId, Record, Refused, Shape, Stamp};
+use model_check::{StampPlan, is_after, is_caused, is_in_grammar};
 use std::test::Fail;
 
 fn shape() -> Result<Shape, Fail> {
@@ -126,9 +126,16 @@ fn committed(rt: &HostRuntime, stamp: u64) -> Result<List<Record>, Fail> {
     Ok(newest_first(all))
 }
 
-/// A Finish's stamp is one more than its Commit's also where it passes 2^62 + 2^20, and then it may not come next.
+/// A Finish's stamp is one more than its Commit's, which is above the lane's last stamp, also where it passes 2^62 + 2^20, and then it may
+/// not come next.
 #[test]
 fn a_finish_behind_the_last_commit(rt: HostRuntime) -> Result<(), Fail> {
+    let own = behind(&rt, Last::Lock)?;
+    let plan = finish_of(&rt, own.as_slice(), batch(0, 1), &[true, false], 2)?;
+    assert_eq!(rt;
+        plan,
+        StampPlan::Refuse(Refused::EarlyStamp { kept: Stamp(2) })
+    );
     for (cause, stamp, may) in [
         (4611686018427387904, 4611686018427387905, true),
         (4611686018428436479, 4611686018428436480, true),
