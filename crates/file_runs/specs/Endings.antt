@@ -1,10 +1,10 @@
 -- Whose fault ends files that are run one after another.
 use Rattle.std.specs.Prelude.{◌≡◌, ◌⊎◌, ℕ, ◌<◌, Bool, List, [], ◌∷◌, ◌++◌}
 use Rattle.cbdc_model.specs.Records.{Shape, Record}
-use Rattle.cbdc_model.specs.Coins.{FullTx}
+use Rattle.cbdc_model.specs.Coins.{Output, FullTx}
 use Rattle.cbdc_model.specs.Lanes.{IsEnd}
-use Rattle.cbdc_model.specs.World.{AreIdle}
-use Rattle.cbdc_model.specs.Waves.{sent_to}
+use Rattle.cbdc_model.specs.World.{AreIdle, KeptJournals}
+use Rattle.cbdc_model.specs.Waves.{sent_to, Waves}
 use Rattle.submissions.specs.Checks.{VerdictsOf, TellsSound}
 use Rattle.lane_driver.specs.declared.fault.LaneFault.{LaneFault}
 use Rattle.ledger_runs.specs.Least.{IsLeastFault, IsUnbegun}
@@ -32,3 +32,16 @@ pub record EndsFiles (K : Shape) (verdicts : VerdictsOf) (files : List (List Ful
   pub before : HavePreparedFiles K verdicts done I middle
   pub idle : AreIdle K middle
   pub ends : EndsFirst K verdicts more middle J failed may_hold e
+
+-- files that were run or cut short, from journals E, in which batches were open, to X: the open batches and the waves of the files before are at their
+-- end, those journals are kept with all lanes idle, and from there on they have grown
+pub record AreCut (K : Shape) (sound : FullTx → Bool) (files : List (List FullTx)) (mint : List Output) (E X : ℕ → List Record) : Type 0 where
+  pub done : List (List FullTx)
+  pub more : List (List FullTx)
+  pub are : files ≡ done ++ more
+  pub middle : ℕ → List Record
+  pub waves : Waves K sound done E middle
+  pub submissions : List FullTx
+  pub kept : KeptJournals K mint submissions middle
+  pub idle : AreIdle K middle
+  pub onward : (n : ℕ) → IsEnd (middle n) (X n)

@@ -1,5 +1,5 @@
 use Rattle.std.proofs.Common.{◌≡◌, ◌∙◌, refl, sym, ap, subst, arith, get_or, take, [], ◌+◌}
-use Rattle.file_runs.proofs.Joining.{files_begin, files_step, files_end, same_file, keeps_none, keeps_fault}
+use Rattle.file_runs.proofs.Joining.{files_begin, files_step, files_end, same_file, keeps_none, keeps_fault, cut_none, cut_behind, cut_all}
 use Rattle.file_runs.proofs.FileTelling.{told_files, told_all}
 use Rattle.ledger_laws.proofs.Cuts.{end_self, end_trans}
 use Rattle.cbdc_model.specs.World.{AreIdle}
@@ -164,3 +164,20 @@ pub returns-clause-begun : goal.returns-clause-begun
 returns-clause-begun g c some =
     files_all_begun (g.L.Turns.shape c.args.ledger.now) (g.V.Verifier.verdict_of c.args.verifier.now) c.args.files.now c.files.txs-index (g.L.Turns.journals c.args.ledger.now) (g.L.Turns.journals c.files.ledger)
     (omega (arith, c.files-test.false)) c.files.invariant.prepared
+
+pub returns-in_default-clause-cut : goal.returns-in_default-clause-cut
+returns-in_default-clause-cut g c = cut_none (g.L.Turns.shape c.args.ledger.now) (g.V.Verifier.verdict_of c.args.verifier.now) c.args.files.now (g.L.Turns.journals c.args.ledger.now) c.requires.idle
+
+pub returns-in-Err-clause-cut : goal.returns-in-Err-clause-cut
+returns-in-Err-clause-cut g c =
+    cut_behind (g.L.Turns.shape c.args.ledger.now) (g.V.Verifier.verdict_of c.args.verifier.now) c.args.files.now c.files.txs-index (g.L.Turns.journals c.args.ledger.now) (g.L.Turns.journals c.files.ledger) (g.L.Turns.journals c.run_file.new.ledger)
+    c.files.invariant.so c.run_file.ensures.grows
+
+pub returns-in-Err-push-clause-cut : goal.returns-in-Err-push-clause-cut
+returns-in-Err-push-clause-cut g c =
+    cut_behind (g.L.Turns.shape c.args.ledger.now) (g.V.Verifier.verdict_of c.args.verifier.now) c.args.files.now c.files.txs-index (g.L.Turns.journals c.args.ledger.now) (g.L.Turns.journals c.files.ledger) (g.L.Turns.journals c.run_file.new.ledger)
+    c.files.invariant.so c.run_file.ensures.grows
+
+pub returns-clause-cut : goal.returns-clause-cut
+returns-clause-cut g c =
+    cut_all (g.L.Turns.shape c.args.ledger.now) (g.V.Verifier.verdict_of c.args.verifier.now) c.args.files.now c.files.txs-index (g.L.Turns.journals c.args.ledger.now) (g.L.Turns.journals c.files.ledger) c.files.invariant.so
