@@ -5,13 +5,11 @@ use Rattle.cbdc_model.specs.Records.{Shape, Record}
 use Rattle.cbdc_model.specs.Coins.{FullTx}
 use Rattle.cbdc_model.specs.World.{AreIdle}
 use Rattle.cbdc_model.specs.Waves.{IsResumed, IsFileRun, Waves, sent_to}
-use Rattle.cbdc_model.specs.Lanes.{IsEnd}
-use Rattle.ledger_laws.proofs.Cuts.{end_self, end_trans}
+use Rattle.ledger_laws.proofs.Cuts.{end_trans}
 use Rattle.submissions.specs.Checks.{VerdictsOf, TellsSound}
 use Rattle.run_laws.proofs.WaveTurns.{waves_begin_law, waves_step_law}
 use Rattle.ledger_runs.specs.Turning.{OfKept, StaysKept}
 use Rattle.file_runs.specs.Runs.{joined}
-use Rattle.file_runs.specs.Endings.{AreCut}
 use Rattle.file_runs.proofs.Filing.{kept_more, stays_more}
 
 pub joined_append : {A : Type 0} (xs ys : List (List A)) → joined (xs ++ ys) ≡ joined xs ++ joined ys
@@ -92,30 +90,3 @@ files_step K H verdicts files i file I J L e low is so idle keeps runs = subst (
 
 pub files_end : (K : Shape) (verdicts : VerdictsOf) (files : List (List FullTx)) (i : ℕ) (I J : ℕ → List Record) → length files ≤ i → FilesSo K verdicts (take i files) I J → FilesSo K verdicts files I J
 files_end K verdicts files i I J all so = subst (λ fs. FilesSo K verdicts fs I J) (take_all i files all) so
-
--- ---- files that were cut short
-
-abbrev pub CutFiles : Shape → VerdictsOf → List (List FullTx) → (ℕ → List Record) → (ℕ → List Record) → Type 0
-CutFiles K verdicts files I X = OfKept K I (λ mint _. (sound : FullTx → Bool) (E : ℕ → List Record) → TellsSound verdicts sound → IsResumed K E I → AreCut K sound files mint E X)
-
--- behind files that have been run the journals have grown
-pub cut_behind : (K : Shape) (verdicts : VerdictsOf) (files : List (List FullTx)) (i : ℕ) (I J X : ℕ → List Record) → FilesSo K verdicts (take i files) I J → ((n : ℕ) → IsEnd (J n) (X n)) → CutFiles K verdicts files I X
-cut_behind K verdicts files i I J X so onward mint submissions kept sound E tells resumed = record {
-  done = take i files;
-  more = drop i files;
-  are = sym (take-append-drop i files);
-  middle = J;
-  waves = so.waves mint submissions kept sound E tells resumed;
-  submissions = submissions ++ joined (take i files);
-  kept = (so.keeps mint submissions kept).kept;
-  idle = so.idle;
-  onward = onward;
-}
-
--- nothing was done of any file
-pub cut_none : (K : Shape) (verdicts : VerdictsOf) (files : List (List FullTx)) (I : ℕ → List Record) → AreIdle K I → CutFiles K verdicts files I I
-cut_none K verdicts files I idle = cut_behind K verdicts files 0 I I I (files_begin K verdicts I idle) (λ n. end_self (I n))
-
--- all have been run
-pub cut_all : (K : Shape) (verdicts : VerdictsOf) (files : List (List FullTx)) (i : ℕ) (I J : ℕ → List Record) → FilesSo K verdicts (take i files) I J → CutFiles K verdicts files I J
-cut_all K verdicts files i I J so = cut_behind K verdicts files i I J J so (λ n. end_self (J n))

@@ -2,7 +2,7 @@
 use Rattle.std.proofs.Common.{◌≡◌, ◌≢◌, ◌⊎◌, inl, inr, Bool, true, false, ℕ, ◌+◌, ◌<◌, ◌≤◌, le_trans, List, refl, sym, ap, ◌∙◌, subst, arith, Some, None}
 use Rattle.std.specs.Prelude.{slice_get, is_some, length, take, drop, Option, Result, Ok, Err, IfErr}
 use Rattle.cbdc_model.specs.Records.{Shape, Compact, Record}
-use Rattle.cbdc_model.specs.Slots.{Idle}
+use Rattle.cbdc_model.specs.Slots.{slot, Idle}
 use Rattle.cbdc_model.specs.Ranges.{home_of}
 use Rattle.cbdc_model.specs.Lanes.{IsEnd}
 use Rattle.cbdc_model.specs.Sights.{HasRisen}
@@ -44,7 +44,7 @@ asked_stays lane other apart J X grown K next due on node (asks_shard b t txs s 
 -- ---- a cause by later journals, or by an earlier entry
 
 module _ (K : Shape) (lane : ℕ) (next due : List Compact → Type 0) (E F J X : ℕ → List Record) (failed fails : ℕ → Type 0) (holds held : ℕ → ℕ → Type 0)
-    (before : (n : ℕ) → IsEnd (F n) (E n)) (grows : (n : ℕ) → IsEnd (J n) (X n))
+    (before : (n : ℕ) → IsEnd (F n) (E n)) (grows : (n : ℕ) → IsEnd (J n) (X n)) (slot_on : (n : ℕ) → slot (X n) lane ≡ slot (J n) lane)
     (wanted_on : (node : ℕ) (front : List Record) (r : Record) → IsWanted K lane next J node front r → IsWanted K lane due X node front r)
     (asked_on : (node : ℕ) → IsAsked K lane next J node → IsAsked K lane due X node) (failed_on : (n : ℕ) → failed n → fails n) (held_on : (n c : ℕ) → holds n c → held n c) where
   cause_moves : (node : ℕ) (kind : LaneFaultKind) → IsCauseOf K lane next E J failed holds node kind → IsCauseOf K lane due F X fails held node kind
@@ -53,8 +53,10 @@ module _ (K : Shape) (lane : ℕ) (next due : List Compact → Type 0) (E F J X 
     front = h.front;
     since = end_trans (F node) (E node) h.front (before node) h.since;
     within = end_trans h.front (J node) (X node) h.within (grows node);
+    still = h.still ∙ sym (slot_on node);
     wanted = h.wanted;
     is_wanted = wanted_on node h.front h.wanted h.is_wanted;
+    early = h.early;
     capacity_is = held_on node capacity h.capacity_is;
     used_is = h.used_is;
     need_is = h.need_is;
@@ -64,6 +66,7 @@ module _ (K : Shape) (lane : ℕ) (next due : List Compact → Type 0) (E F J X 
     front = h.front;
     since = end_trans (F node) (E node) h.front (before node) h.since;
     within = end_trans h.front (J node) (X node) h.within (grows node);
+    still = h.still ∙ sym (slot_on node);
     wanted = h.wanted;
     is_wanted = wanted_on node h.front h.wanted h.is_wanted;
     stamp_is = h.stamp_is;
@@ -92,7 +95,7 @@ holds_later capacity now same n c is = is ∙ sym (same n)
 pub cause_since : (K : Shape) (lane : ℕ) (next due : List Compact → Type 0) (E F X : ℕ → List Record) (failed : ℕ → Type 0) (holds : ℕ → ℕ → Type 0) → ((n : ℕ) → IsEnd (F n) (E n))
     → ((txs : List Compact) → next txs → due txs) → (e : LaneFault) → IsLaneCause K lane next E X failed holds e → IsLaneCause K lane due F X failed holds e
 cause_since K lane next due E F X failed holds before on e h =
-    cause_moves K lane next due E F X X failed failed holds holds before (λ n. end_self (X n)) (wanted_by K lane next due X on) (asked_by K lane next due X on) (λ n did. did) (λ n c is. is) e.node e.fault h
+    cause_moves K lane next due E F X X failed failed holds holds before (λ n. end_self (X n)) (λ n. refl) (wanted_by K lane next due X on) (asked_by K lane next due X on) (λ n did. did) (λ n c is. is) e.node e.fault h
 
 -- a fault of a lane is one of the run
 pub cause_any : (K : Shape) (lane : ℕ) (next : ℕ → List Compact → Type 0) (E X : ℕ → List Record) (failed : ℕ → Type 0) (holds : ℕ → ℕ → Type 0) → IsLaneOf K lane
@@ -112,7 +115,7 @@ pub run_moves : (K : Shape) (next due : ℕ → List Compact → Type 0) (E F X 
 run_moves K next due E F X failed fails holds held before on failed_on held_on e h = go e.fault h
   where
     moves : (lane : ℕ) → IsLaneOf K lane → (kind : LaneFaultKind) → IsCauseOf K lane (next lane) E X failed holds e.node kind → IsCauseOf K lane (due lane) F X fails held e.node kind
-    moves lane inside = cause_moves K lane (next lane) (due lane) E F X X failed fails holds held before (λ n. end_self (X n)) (wanted_by K lane (next lane) (due lane) X (λ txs n. on lane txs inside n)) (asked_by K lane (next lane) (due lane) X (λ txs n. on lane txs inside n)) failed_on held_on e.node
+    moves lane inside = cause_moves K lane (next lane) (due lane) E F X X failed fails holds held before (λ n. end_self (X n)) (λ n. refl) (wanted_by K lane (next lane) (due lane) X (λ txs n. on lane txs inside n)) (asked_by K lane (next lane) (due lane) X (λ txs n. on lane txs inside n)) failed_on held_on e.node
 
     go : (kind : LaneFaultKind) → IsSomeCauseOf K next E X failed holds e.node kind → IsSomeCauseOf K due F X fails held e.node kind
     go DiskStopped (lane, inside, cause) = (lane, inside, moves lane inside DiskStopped cause)
@@ -171,7 +174,7 @@ causes_step K H E J L start turn failed fails holds held now after same some tur
     others : (lane : ℕ) (x : Lane) → lane ≢ turn → slice_get now lane ≡ Some x → (e : LaneFault) → x.fault ≡ Some e → Causes K E lane x L fails held e
     others lane x other there e is =
         let apart : turn ≢ lane = λ h. other (sym h) in
-        cause_moves K lane (IsNextPiece K lane x.txs.items E J) (IsNextPiece K lane x.txs.items E L) E E J L failed fails holds held (λ n. end_self (E n)) (λ n. ((grown n).0, (grown n).1))
+        cause_moves K lane (IsNextPiece K lane x.txs.items E J) (IsNextPiece K lane x.txs.items E L) E E J L failed fails holds held (λ n. end_self (E n)) (λ n. ((grown n).0, (grown n).1)) (slot_same lane turn apart J L grown)
         (wanted_stays lane turn apart J L grown K (IsNextPiece K lane x.txs.items E J) (IsNextPiece K lane x.txs.items E L)
         (λ txs i. next_stays K lane x.txs.items txs E J L (same_prepared lane turn apart J L grown (home_of K lane)) i))
         (asked_stays lane turn apart J L grown K (IsNextPiece K lane x.txs.items E J) (IsNextPiece K lane x.txs.items E L)
@@ -181,7 +184,7 @@ causes_step K H E J L start turn failed fails holds held now after same some tur
     had_it : (x : Lane) → slice_get now turn ≡ Some x → (e : LaneFault) → x.fault ≡ Some e → ((n : ℕ) → L n ≡ J n) → Causes K E turn x L fails held e
     had_it x was e had as_before =
         let all : J ≡ L = λ i n. sym (as_before n) i in
-        cause_moves K turn (IsNextPiece K turn x.txs.items E L) (IsNextPiece K turn x.txs.items E L) E E L L failed fails holds held (λ n. end_self (E n)) (λ n. end_self (L n)) (λ node front r w. w) (λ n a. a) failed_on held_on e.node e.fault
+        cause_moves K turn (IsNextPiece K turn x.txs.items E L) (IsNextPiece K turn x.txs.items E L) E E L L failed fails holds held (λ n. end_self (E n)) (λ n. end_self (L n)) (λ n. refl) (λ node front r w. w) (λ n a. a) failed_on held_on e.node e.fault
         (subst (λ X. Causes K E turn x X failed holds e) all (have turn x was e had))
 
     -- or it stopped now

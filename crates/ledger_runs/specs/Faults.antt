@@ -1,5 +1,5 @@
 -- Why a lane stopped, by the journals then and at any later time.
-use Rattle.std.specs.Prelude.{◌≡◌, ◌⊎◌, ℕ, ◌+◌, ◌^◌, ◌<◌, true, List, [], ◌∷◌, ◌++◌, Some, None}
+use Rattle.std.specs.Prelude.{◌≡◌, ◌⊎◌, ℕ, ◌+◌, ◌^◌, ◌<◌, ◌≤◌, true, List, [], ◌∷◌, ◌++◌, Some, None}
 use Rattle.cbdc_model.specs.Records.{Shape, Batch, Compact, Record, record_of, stamp_of, is_in_lane, Prepare}
 use Rattle.cbdc_model.specs.Slots.{slot, Idle, InPrepare}
 use Rattle.cbdc_model.specs.Ranges.{home_of, shard_node, part}
@@ -34,13 +34,16 @@ pub data IsWanted (K : Shape) (lane : ℕ) (next : List Compact → Type 0) (X :
       → record_of 6 (X (home_of K lane)) b ≡ Some (Prepare t b txs) → (slot (X node) lane).number < b.number
       → r ≡ lock_record front (record { batch = b; part = part K.shards s 0 txs; cause = t }) → IsWanted K lane next X node front r
 
--- behind a front of the node's journal, which the journal at entry begins, its disk has no room for what the wanted record needs there
+-- behind a front of the node's journal, which the journal at entry begins and behind which nothing of the lane came, its disk has no room for what the
+-- wanted record needs there, whose stamp is not past the last one
 pub record HasNoRoomFor (K : Shape) (lane : ℕ) (next : List Compact → Type 0) (E X : ℕ → List Record) (may_hold : ℕ → ℕ → Type 0) (node used need capacity : ℕ) : Type 0 where
   pub front : List Record
   pub since : IsEnd (E node) front
   pub within : IsEnd front (X node)
+  pub still : slot front lane ≡ slot (X node) lane
   pub wanted : Record
   pub is_wanted : IsWanted K lane next X node front wanted
+  pub early : stamp_of wanted ≤ 2 ^ 62
   pub capacity_is : may_hold node capacity
   pub used_is : used ≡ used_of front
   pub need_is : need ≡ need_of K front wanted
@@ -51,6 +54,7 @@ pub record HasNoStampFor (K : Shape) (lane : ℕ) (next : List Compact → Type 
   pub front : List Record
   pub since : IsEnd (E node) front
   pub within : IsEnd front (X node)
+  pub still : slot front lane ≡ slot (X node) lane
   pub wanted : Record
   pub is_wanted : IsWanted K lane next X node front wanted
   pub stamp_is : stamp ≡ stamp_of wanted

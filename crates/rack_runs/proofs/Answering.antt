@@ -37,7 +37,7 @@ use Rattle.file_runs.specs.Runs.{joined, IsSentPiece, AreFilesPieces, HaveBegunF
 use Rattle.file_runs.proofs.Pieces.{files_unbegun}
 use Rattle.file_runs.specs.Endings.{EndsFirst, EndsFiles}
 use Rattle.ledger_nodes.specs.Ledgers.{IsLedger, journals_of, flights_of, faults_of, opened_of, capacity_of, AreStored}
-use Rattle.rack_laws.specs.Shown.{OfShown, node_count}
+use Rattle.rack_laws.specs.Shown.{OfShown, HaveRoom, node_count}
 use Rattle.rack_laws.proofs.Behind.{keeps_flights, told_stored, may_hold, have_risen}
 use Rattle.rack_runs.specs.Kinds.{answer_at, answer_to, IsLaneAnswer}
 use Rattle.rack_runs.specs.Endings.{EndsRun, IsCut, IsLeastAnswer}
@@ -71,7 +71,7 @@ cut_waves K verdicts files E X shards lanes keeps cut mint submissions kept soun
   | inl same ↦ inl (open_batches K mint submissions (submissions ++ joined files) E X shards kept stays.kept stays.grows same)
   | inr c ↦
       let a = c.1 in
-      inr (c.0, a.done, a.more, a.middle, a.are, a.waves, new_batches K mint a.submissions (submissions ++ joined files) a.middle X shards a.kept stays.kept a.onward lanes a.idle)
+      inr (c.0, a.done, a.more, a.middle, a.are, a.waves, new_batches K mint a.submissions (submissions ++ joined files) a.middle X shards a.kept stays.kept a.onward lanes a.idle, a.first)
 ]
   where
     stays : StaysKept K E X mint (submissions ++ joined files)
@@ -113,8 +113,10 @@ module _ (K : Shape) (next due : ℕ → List Compact → Type 0) (E X : ℕ →
       front = h.front;
       since = h.since;
       within = h.within;
+      still = h.still;
       wanted = h.wanted;
       is_wanted = still_wanted lane node h.front h.wanted h.is_wanted;
+      early = h.early;
       capacity_is = held_on node capacity (wanted_inside K lane (next lane) X node h.front h.wanted lt h.is_wanted) h.capacity_is;
       used_is = h.used_is;
       need_is = h.need_is;
@@ -128,6 +130,7 @@ module _ (K : Shape) (next due : ℕ → List Compact → Type 0) (E X : ℕ →
       front = h.front;
       since = h.since;
       within = h.within;
+      still = h.still;
       wanted = h.wanted;
       is_wanted = still_wanted lane node h.front h.wanted h.is_wanted;
       stamp_is = h.stamp_is;
@@ -164,8 +167,10 @@ module _ (K : Shape) (failed fails : ℕ → Type 0) (holds held : ℕ → ℕ �
     front = h.front;
     since = h.since;
     within = h.within;
+    still = h.still;
     wanted = h.wanted;
     is_wanted = h.is_wanted;
+    early = h.early;
     capacity_is = held_on node capacity (wanted_inside K lane next X node h.front h.wanted lt h.is_wanted) h.capacity_is;
     used_is = h.used_is;
     need_is = h.need_is;
@@ -175,6 +180,7 @@ module _ (K : Shape) (failed fails : ℕ → Type 0) (holds held : ℕ → ℕ �
     front = h.front;
     since = h.since;
     within = h.within;
+    still = h.still;
     wanted = h.wanted;
     is_wanted = h.is_wanted;
     stamp_is = h.stamp_is;
@@ -270,9 +276,9 @@ module _ {D : Type 0} (content : D → Option (List ℕ)) (images : D → List �
       → OfKept h.shape (journals_of count limit h.shape logs shards)
       (λ mint _. (sound : FullTx → Bool) → TellsSound verdicts sound → IsCut h.shape sound files mint (journals_of count limit h.shape logs shards) (journals_of count limit h.shape now after))
       → ((n : ℕ) (r : Record) → flights_of count limit h.shape now after n ≡ Some r → HaveFailed (opened_of count limit h.shape logs shards) (faults_of count limit h.shape now after) n)
-      → OfShown content held (IsCutShort images limit back files (journals_of count limit h.shape now after)) → SparesOthers content held back
+      → OfShown content held (λ K mint submissions E. HaveRoom limit held K E) → OfShown content held (IsCutShort images limit back files (journals_of count limit h.shape now after)) → SparesOthers content held back
       → IsLaneFault content images limit held back before behind (PieceNext verdicts files) (EndsRun verdicts files) (PiecesPrepared verdicts files) files a
-  lane_fault verdicts files begun grows a cause least keeps cut flown kept spared = record {
+  lane_fault verdicts files begun grows a cause least keeps cut flown room kept spared = record {
     ledger = record {
       shape = h.shape;
       genesis = h.genesis;
@@ -298,6 +304,7 @@ module _ {D : Type 0} (content : D → Option (List ℕ)) (images : D → List �
     least = subst (λ L. IsLeastAnswer (EndsRun verdicts files h.shape L (journals_of count limit h.shape now after) Rises Holds) a) entry
         (answer_by h.shape (HaveFailed (opened_of count limit h.shape logs shards) (faults_of count limit h.shape now after)) Rises (MayHold (capacity_of count limit h.shape logs shards)) Holds risen may verdicts files
         (journals_of count limit h.shape logs shards) (journals_of count limit h.shape now after) a least);
+    room = room;
     kept = kept;
     spared = spared;
   }
@@ -348,6 +355,7 @@ of_nothing content images limit held back before now verdicts a f =
       cause = answer_moves f.ledger.shape (PieceNext verdicts [] f.ledger.shape E f.exit) (NothingNext f.ledger.shape E f.exit) E f.exit (λ n. Rose (before n) (now n)) (λ n. Rose (before n) (now n))
           (λ n c. OfTold (held n) (λ d. c ≡ limit d)) (λ n c. OfTold (held n) (λ d. c ≡ limit d)) (no_piece verdicts f.ledger.shape E f.exit) (λ n inside did. did) (λ n c inside may. may) a f.cause;
       least = no_files verdicts f.ledger.shape E f.exit (λ n. Rose (before n) (now n)) (λ n c. OfTold (held n) (λ d. c ≡ limit d)) a f.least;
+      room = f.room;
       kept = f.kept;
       spared = f.spared;
     }

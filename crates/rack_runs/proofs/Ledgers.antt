@@ -161,6 +161,9 @@ module _ {D : Type 0} (content : D → Option (List ℕ)) (images : D → List �
   pub spares : ((n : ℕ) → length logs + length shards ≤ n → back n ≡ held n) → SparesOthers content held back
   spares others K mint submissions E within shows kept = others_stay K mint submissions E within shows kept others
 
+  pub had_rooms : OfShown content held (λ K mint submissions E. HaveRoom limit held K E)
+  had_rooms = had_room
+
   pub took : IsCausedLedger content held → ((n : ℕ) → length logs + length shards ≤ n → back n ≡ held n) → TookLedger content limit held back
   took ledger others = record { ledger = ledger; room = had_room; spared = spares others }
 

@@ -20,6 +20,7 @@ use Rattle.caused_ledgers.specs.Laws.{AllTell}
 use Rattle.ledger_runs.specs.Turning.{IsLaneOf, OfKept}
 use Rattle.ledger_runs.specs.Pieces.{HasPrepared}
 use Rattle.file_runs.specs.Runs.{joined, HaveBegunFiles, IsFilesPiece}
+use Rattle.file_runs.specs.Endings.{HasBegunFirst}
 use Rattle.rack_runs.specs.Kinds.{IsLaneAnswer}
 use Rattle.rack_runs.specs.Endings.{IsLeastAnswer}
 
@@ -78,8 +79,8 @@ KeepsFlights images held K X flights = (n : ℕ) → n < node_count K → OfTold
 -- a lane's fault ended a run over the ledger that the disks told, in which each record was caused: its journals have grown at their ends, as a run that
 -- began so far grows them; a record is in flight only at a node whose disk has failed since, and where the disks told all each keeps its journal, with
 -- what is in flight there or without; the answer has its cause, by the counts of
--- faults before and now and by what the disks that were told may hold; it is the least lane's that met one; where the ledger was kept, it is cut short, and the disks that
--- are no nodes of it are as before
+-- faults before and now and by what the disks that were told may hold; it is the least lane's that met one; where the ledger was kept, each of its disks
+-- had room for its journal and for what is kept for the batches that were open there, it is cut short, and the disks that are no nodes of it are as before
 pub record IsLaneFault {D : Type 0} (content : D → Option (List ℕ)) (images : D → List ℕ → Type 0) (limit : D → ℕ) (held back : ℕ → Option D) (before now : ℕ → ℕ) (next : Shape → (ℕ → List Record) → (ℕ → List Record) → ℕ → List Compact → Type 0)
     (ends : Shape → (ℕ → List Record) → (ℕ → List Record) → (ℕ → Type 0) → (ℕ → ℕ → Type 0) → LaneFault → Type 0) (begun : Shape → (ℕ → List Record) → (ℕ → List Record) → Type 0) (files : List (List FullTx)) (answer : Answer) : Type 0 where
   pub ledger : IsCausedLedger content held
@@ -91,6 +92,7 @@ pub record IsLaneFault {D : Type 0} (content : D → Option (List ℕ)) (images 
   pub disks : AllTell content held ledger.shape → KeepsFlights images back ledger.shape exit flights
   pub cause : IsLaneAnswer ledger.shape (next ledger.shape (λ n. journal n (reverse ledger.rows)) exit) (λ n. journal n (reverse ledger.rows)) exit (λ n. Rose (before n) (now n)) (λ n c. OfTold (held n) (λ d. c ≡ limit d)) answer
   pub least : IsLeastAnswer (ends ledger.shape (λ n. journal n (reverse ledger.rows)) exit (λ n. Rose (before n) (now n)) (λ n c. OfTold (held n) (λ d. c ≡ limit d))) answer
+  pub room : OfShown content held (λ K mint submissions E. HaveRoom limit held K E)
   pub kept : OfShown content held (IsCutShort images limit back files exit)
   pub spared : SparesOthers content held back
 
@@ -107,12 +109,12 @@ abbrev pub AddsOpen : Shape → (ℕ → List Record) → (ℕ → List Record) 
 AddsOpen K E X = Adds (λ b. (has_prepare K E b ≡ true) × (has_done K E b ≡ false)) E X
 
 -- the order of a run that was cut short: all new records are of batches that were open; or, where there are files, the open batches and then the waves
--- of the first of the files are at their end, and all records behind those are of batches that are new then
+-- of the first of the files are at their end, and all records behind those are of batches that are new then and that the next file alone has begun
 abbrev pub IsCutWaves : Shape → (FullTx → Bool) → List (List FullTx) → (ℕ → List Record) → (ℕ → List Record) → Type 0
 IsCutWaves K sound files E X =
     AddsOpen K E X
     ⊎ ((0 < length files) × (done : List (List FullTx)) × (more : List (List FullTx)) × (middle : ℕ → List Record)
-    × (files ≡ done ++ more) × Waves K sound done E middle × Adds (λ b. has_prepare K middle b ≡ false) middle X)
+    × (files ≡ done ++ more) × Waves K sound done E middle × Adds (λ b. has_prepare K middle b ≡ false) middle X × HasBegunFirst K sound more middle X)
 
 -- no lane has prepared anything, and where the journals at entry are kept all new records are of batches that were open
 abbrev pub NonePrepared : Shape → (ℕ → List Record) → (ℕ → List Record) → Type 0

@@ -11,11 +11,9 @@ use Rattle.cbdc_model.specs.History.{Minted, minted, first_rows}
 use Rattle.cbdc_model.specs.World.{KeptJournals, AreIdle}
 use Rattle.cbdc_model.specs.Lanes.{IsEnd}
 use Rattle.cbdc_model.specs.Waves.{Adds, prepared, has_prepare, has_done}
-use Rattle.ledger_laws.proofs.Next.{Next, Steady, has_lock, has_forget}
-use Rattle.ledger_laws.proofs.Next as next
+use Rattle.ledger_laws.proofs.Next.{Next, Steady, has_lock, has_forget, has_prepare as is_prepared}
 use Rattle.ledger_laws.proofs.Slots.{JournalOk, next_ok, same_batch_self}
-use Rattle.ledger_laws.proofs.More.{MoreOk, next_more}
-use Rattle.ledger_laws.proofs.More as more
+use Rattle.ledger_laws.proofs.More.{MoreOk, next_more, has_done as is_done}
 use Rattle.ledger_laws.proofs.Dones.{PhaseOk, next_phase}
 use Rattle.ledger_laws.proofs.Lookups.{true_false, not_true}
 use Rattle.ledger_laws.proofs.Cuts.{end_trans}
@@ -65,7 +63,7 @@ module _ (K : Shape) (minting : Minted) (P Q : Compact → Type 0) (some : 0 < K
   oks_at n newer rest r e h = subst (λ L. Oks L) (sym h.1) (oks_from n h.0 (newer ++ r ∷ []) (e ∙ ap (λ L. newer ++ r ∷ L) h.1 ∙ shifted newer h.0 r (I n)))
 
   -- a Prepare that stood is the one that stands
-  prepare_from : (n : ℕ) (c : Batch) → next.has_prepare (I n) c ≡ true → (more newer : List Record) → J n ≡ newer ++ (more ++ I n) → record_of 6 (more ++ I n) c ≡ record_of 6 (I n) c
+  prepare_from : (n : ℕ) (c : Batch) → is_prepared (I n) c ≡ true → (more newer : List Record) → J n ≡ newer ++ (more ++ I n) → record_of 6 (more ++ I n) c ≡ record_of 6 (I n) c
   prepare_from n c stood [] newer e = refl
   prepare_from n c stood (r ∷ more) newer e =
       elim ((kind_of r == 6) && is_of c r) as (λ t. ((kind_of r == 6) && is_of c r) ≡ t → record_of 6 (r ∷ (more ++ I n)) c ≡ record_of 6 (I n) c) [
@@ -91,14 +89,14 @@ module _ (K : Shape) (minting : Minted) (P Q : Compact → Type 0) (some : 0 < K
       not_again (Done stamp b) next t = absurd (let z : false ≡ true = t in cc)
 
   module _ (grows : (n : ℕ) → IsEnd (I n) (J n)) where
-    same_prepare : (n : ℕ) (c : Batch) → next.has_prepare (I n) c ≡ true → record_of 6 (J n) c ≡ record_of 6 (I n) c
+    same_prepare : (n : ℕ) (c : Batch) → is_prepared (I n) c ≡ true → record_of 6 (J n) c ≡ record_of 6 (I n) c
     same_prepare n c stood = ap (λ L. record_of 6 L c) (grows n).1 ∙ prepare_from n c stood (grows n).0 [] (grows n).1
 
     -- a batch that was done is forgotten at each shard that has its Lock
     done_at : (c : Batch) (s : ℕ) → s < K.shards → has_lock (J (shard_node K s)) c ≡ true → has_done K I c ≡ true → has_forget (I (shard_node K s)) c ≡ true
     done_at c s lt locked done =
         let st = all_structure K minting Q some after kept' in
-        let stood : next.has_prepare (I (home_of K c.lane)) c ≡ true = ((all_phases K minting P some before kept (home_of K c.lane)).done_prepared c done).0 in
+        let stood : is_prepared (I (home_of K c.lane)) c ≡ true = ((all_phases K minting P some before kept (home_of K c.lane)).done_prepared c done).0 in
         let part : Concerned K (txs_of (J (home_of K c.lane)) c) s = (lt, not_empty (lock_of (J (shard_node K s)) c) _ (st.lock_part s c locked) ((all_more K minting Q some after kept' (shard_node K s)).lock_some c locked)) in
         done_forgot K minting P some before kept c done s (subst (λ o. Concerned K (txs_in o) s) (same_prepare (home_of K c.lane) c stood) part)
 
@@ -107,10 +105,10 @@ module _ (K : Shape) (minting : Minted) (P Q : Compact → Type 0) (some : 0 < K
     IsNewOf c = (has_prepare K J c ≡ true) × (has_done K I c ≡ false)
 
     -- at its coordinator, where it is not done below
-    at_log : (c : Batch) (n : ℕ) (newer rest : List Record) (r : Record) → n ≡ home_of K c.lane → next.has_prepare (r ∷ rest) c ≡ true → (more.has_done rest c ≡ true → ⊥) → J n ≡ newer ++ r ∷ rest → IsEnd (I n) rest → IsNewOf c
+    at_log : (c : Batch) (n : ℕ) (newer rest : List Record) (r : Record) → n ≡ home_of K c.lane → is_prepared (r ∷ rest) c ≡ true → (is_done rest c ≡ true → ⊥) → J n ≡ newer ++ r ∷ rest → IsEnd (I n) rest → IsNewOf c
     at_log c n newer rest r at stands undone e h = (
-      subst (λ m. next.has_prepare (J m) c ≡ true) at (subst (λ L. next.has_prepare L c ≡ true) (sym e) (still_found newer (r ∷ rest) 6 c stands)),
-      not_true _ (λ done. undone (subst (λ L. more.has_done L c ≡ true) (sym h.1) (still_found h.0 (I n) 9 c (subst (λ m. more.has_done (I m) c ≡ true) (sym at) done)))),
+      subst (λ m. is_prepared (J m) c ≡ true) at (subst (λ L. is_prepared L c ≡ true) (sym e) (still_found newer (r ∷ rest) 6 c stands)),
+      not_true _ (λ done. undone (subst (λ L. is_done L c ≡ true) (sym h.1) (still_found h.0 (I n) 9 c (subst (λ m. is_done (I m) c ≡ true) (sym at) done)))),
     )
 
     -- at a shard, where it has its Lock and is not forgotten below
@@ -127,10 +125,10 @@ module _ (K : Shape) (minting : Minted) (P Q : Compact → Type 0) (some : 0 < K
         locked : has_lock (J n) c ≡ true
         locked = subst (λ L. has_lock L c ≡ true) (sym e) (still_found newer (r ∷ rest) 2 c lock)
 
-    below_done : (rest : List Record) (c : Batch) → MoreOk rest → more.has_done rest c ≡ true → c.number ≤ (slot rest c.lane).number
+    below_done : (rest : List Record) (c : Batch) → MoreOk rest → is_done rest c ≡ true → c.number ≤ (slot rest c.lane).number
     below_done rest c ok d = ok.done_below c d
 
-    prepared_here : (stamp : ℕ) (c : Batch) (txs : List Compact) (rest : List Record) → next.has_prepare (Prepare stamp c txs ∷ rest) c ≡ true
+    prepared_here : (stamp : ℕ) (c : Batch) (txs : List Compact) (rest : List Record) → is_prepared (Prepare stamp c txs ∷ rest) c ≡ true
     prepared_here stamp c txs rest = rw (tested 6 c)
 
     locked_here : (stamp : ℕ) (c : Batch) (es : _) (rest : List Record) → has_lock (Lock stamp c es ∷ rest) c ≡ true

@@ -50,14 +50,17 @@ module _ {A : Type 0} (stamp used need capacity : ℕ) (a : A) (r : Record) wher
       two false true h e = absurd (let z : err {A = A} (Full used need capacity) ≡ err (ClockEnd end) = e in cc)
       two false false h e = absurd (let z : Writes a r ≡ err (ClockEnd end) = e in cc)
 
-  pub roomy_full : (u n c : ℕ) → Due' ≡ Answers (Err (Full u n c)) → (c ≡ capacity) × (u ≡ used) × (n ≡ need) × (capacity < used + need)
-  roomy_full u n c e = two (nat_lt last_early stamp) (nat_lt capacity (used + need)) refl e
+  within : (x y : ℕ) → nat_lt x y ≡ false → y ≤ x
+  within x y h = grind (arith, h)
+
+  pub roomy_full : (u n c : ℕ) → Due' ≡ Answers (Err (Full u n c)) → (c ≡ capacity) × (u ≡ used) × (n ≡ need) × (capacity < used + need) × (stamp ≤ 2 ^ 62)
+  roomy_full u n c e = two (nat_lt last_early stamp) (nat_lt capacity (used + need)) refl refl e
     where
-      two : (x y : Bool) → nat_lt capacity (used + need) ≡ y → (if x then Answers (Err (ClockEnd stamp)) else (if y then Answers (Err (Full used need capacity)) else Writes a r)) ≡ Answers (Err (Full u n c))
-          → (c ≡ capacity) × (u ≡ used) × (n ≡ need) × (capacity < used + need)
-      two true y h e = absurd (let z : err {A = A} (ClockEnd stamp) ≡ err (Full u n c) = e in cc)
-      two false true h e = let z : err {A = A} (Full used need capacity) ≡ err (Full u n c) = e in (cc, cc, cc, above capacity (used + need) h)
-      two false false h e = absurd (let z : Writes a r ≡ err (Full u n c) = e in cc)
+      two : (x y : Bool) → nat_lt last_early stamp ≡ x → nat_lt capacity (used + need) ≡ y → (if x then Answers (Err (ClockEnd stamp)) else (if y then Answers (Err (Full used need capacity)) else Writes a r)) ≡ Answers (Err (Full u n c))
+          → (c ≡ capacity) × (u ≡ used) × (n ≡ need) × (capacity < used + need) × (stamp ≤ 2 ^ 62)
+      two true y early h e = absurd (let z : err {A = A} (ClockEnd stamp) ≡ err (Full u n c) = e in cc)
+      two false true early h e = let z : err {A = A} (Full used need capacity) ≡ err (Full u n c) = e in (cc, cc, cc, above capacity (used + need) h, within last_early stamp early)
+      two false false early h e = absurd (let z : Writes a r ≡ err (Full u n c) = e in cc)
 
   pub roomy_grants : (why : Refused) → Due' ≡ Answers (Err (Refuses why)) → ⊥
   roomy_grants why e = two (nat_lt last_early stamp) (nat_lt capacity (used + need)) e
@@ -134,7 +137,7 @@ module _ (K : Shape) (lane : ℕ) (next : List Compact → Type 0) (J : ℕ → 
       let e = roomy_end stamp used need (capacity node) a r end h in record { wanted = r; is_next = is; stamp_is = e.0 ∙ stamp_is; above = e.1 }
   stops now same stamp used need a r is stamp_is used_is need_is (Full u n c) h =
       let e = roomy_full stamp used need (capacity node) a r u n c h in
-      record { wanted = r; is_next = is; limit_is = e.0; used_is = e.1 ∙ used_is; need_is = e.2 ∙ need_is; above = more c (capacity node) u used n need e.0 e.1 e.2 e.3 }
+      record { wanted = r; is_next = is; early = subst (λ x. x ≤ 2 ^ 62) stamp_is e.4; limit_is = e.0; used_is = e.1 ∙ used_is; need_is = e.2 ∙ need_is; above = more c (capacity node) u used n need e.0 e.1 e.2 e.3 }
     where
       more : (c d u v n m : ℕ) → c ≡ d → u ≡ v → n ≡ m → d < v + m → c < u + n
       more c d u v n m p q r h = omega (arith, p, q, r, h)

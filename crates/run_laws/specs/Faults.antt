@@ -1,5 +1,5 @@
 -- What checked journals say of a lane's fault.
-use Rattle.std.specs.Prelude.{◌≡◌, ℕ, ◌+◌, ◌-◌, ◌^◌, ◌<◌, true, nat_lt, if◌then◌else◌, List, Some}
+use Rattle.std.specs.Prelude.{◌≡◌, ℕ, ◌+◌, ◌-◌, ◌^◌, ◌<◌, ◌≤◌, true, nat_lt, if◌then◌else◌, List, Some}
 use Rattle.cbdc_types.specs.declared.calls.Refused.{Refused}
 use Rattle.cbdc_types.specs.declared.calls.NodeFault.{NodeFault}
 use Rattle.cbdc_types.specs.declared.calls.NodeFault.TheVariants.{Broken, Refused as Refuses, ClockEnd, Full, DiskFault, Memory}
@@ -30,10 +30,11 @@ pub data IsNext (K : Shape) (lane : ℕ) (next : List Compact → Type 0) (J : �
       → record_of 6 (J (home_of K b.lane)) b ≡ Some (Prepare t b txs) → (slot (J node) b.lane).number < b.number
       → r ≡ lock_record (J node) (record { batch = b; part = part K.shards s 0 txs; cause = t }) → IsNext K lane next J node r
 
--- the node, on a disk of so many bytes, has no room for what that record needs
+-- the node, on a disk of so many bytes, has no room for what that record needs, whose stamp is not past the last one
 pub record HasNoRoom (K : Shape) (lane : ℕ) (next : List Compact → Type 0) (J : ℕ → List Record) (limit node used need capacity : ℕ) : Type 0 where
   pub wanted : Record
   pub is_next : IsNext K lane next J node wanted
+  pub early : stamp_of wanted ≤ 2 ^ 62
   pub limit_is : capacity ≡ limit
   pub used_is : used ≡ used_of (J node)
   pub need_is : need ≡ need_of K (J node) wanted

@@ -83,6 +83,7 @@ stop_by K lane next due J opened faults capacity on node (ClockEnd stamp) h =
 stop_by K lane next due J opened faults capacity on node (Full used need limit) h = record {
   wanted = h.wanted;
   is_next = next_by K lane next due J on node h.wanted h.is_next;
+  early = h.early;
   limit_is = h.limit_is;
   used_is = h.used_is;
   need_is = h.need_is;
@@ -110,6 +111,7 @@ module _ (K : Shape) (lane : ℕ) (next : List Compact → Type 0) (I J : ℕ �
     front = J node;
     since = ((grown node).0, (grown node).1);
     within = end_self (J node);
+    still = refl;
     wanted = h.wanted;
     is_wanted = wanted_of K lane next J node h.wanted h.is_next;
     stamp_is = h.stamp_is;
@@ -121,8 +123,10 @@ module _ (K : Shape) (lane : ℕ) (next : List Compact → Type 0) (I J : ℕ �
     front = J node;
     since = ((grown node).0, (grown node).1);
     within = end_self (J node);
+    still = refl;
     wanted = h.wanted;
     is_wanted = wanted_of K lane next J node h.wanted h.is_next;
+    early = h.early;
     capacity_is = h.limit_is;
     used_is = h.used_is;
     need_is = h.need_is;
