@@ -1,5 +1,5 @@
 -- The cause of a lane's fault stays while other lanes go on.
-use Rattle.std.proofs.Common.{◌≡◌, ◌≢◌, ◌⊎◌, inl, inr, Bool, true, false, ℕ, ◌+◌, ◌<◌, ◌≤◌, le_trans, List, refl, sym, ap, ◌∙◌, subst, arith, Some, None}
+use Rattle.std.proofs.Common.{◌≡◌, ◌≢◌, ◌⊎◌, inl, inr, Bool, true, false, ℕ, suc, ◌+◌, ◌*◌, ◌<◌, ◌≤◌, le_trans, List, refl, sym, ap, ◌∙◌, subst, arith, Some, None}
 use Rattle.std.specs.Prelude.{slice_get, is_some, length, take, drop, Option, Result, Ok, Err, IfErr}
 use Rattle.cbdc_model.specs.Records.{Shape, Compact, Record}
 use Rattle.cbdc_model.specs.Slots.{slot, Idle}
@@ -16,7 +16,7 @@ use Rattle.ledger_runs.specs.Turning.{phase_at, IsLaneOf, KeepsLanes}
 use Rattle.ledger_runs.specs.Least.{IsLeastOpen}
 use Rattle.ledger_runs.specs.Waving.{NoFault, TurnsAt, taken_by}
 use Rattle.ledger_runs.specs.Pieces.{IsUnprepared, IsNextPiece, IsNextFrom, HaveTaken}
-use Rattle.ledger_runs.specs.Faults.{GrowBy, IsWanted, wants_prepare, wants_lock, IsCauseOf, IsLaneCause, IsSomeCauseOf, IsRunCause, HaveFailed, MayHold, Nothing, HaveCauses, IsTurnCause}
+use Rattle.ledger_runs.specs.Faults.{GrowBy, TookLanes, TakesInOrder, IsWanted, wants_prepare, wants_lock, IsCauseOf, IsLaneCause, IsSomeCauseOf, IsRunCause, HaveFailed, MayHold, Nothing, HaveCauses, IsTurnCause}
 use Rattle.ledger_runs.specs.declared.lanes.Lane.{Lane}
 use Rattle.ledger_runs.proofs.Others.{slot_same, record_same}
 use Rattle.ledger_runs.proofs.Preparing.{same_prepared, next_piece, next_stays}
@@ -135,6 +135,13 @@ memory_cause K lane next E X failed holds (Err e) h = of_memory K lane next E X 
 
 pub grown_end : (lane : ℕ) (I J : ℕ → List Record) → GrowBy lane I J → (n : ℕ) → IsEnd (I n) (J n)
 grown_end lane I J grown n = ((grown n).0, (grown n).1)
+
+-- lanes that were taken up, and one more
+pub none_taken : (K : Shape) (E : ℕ → List Record) → TakesInOrder K E E
+none_taken K E = (0, omega arith, λ n. refl)
+
+pub one_more : (lane : ℕ) (E J L : ℕ → List Record) → TookLanes lane E J → GrowBy lane J L → TookLanes (lane + 1) E L
+one_more lane E J L took grown = subst (λ n. TookLanes n E L) (let e : suc lane ≡ lane + 1 = omega arith in e) (J, took, grown)
 
 -- the fault of a lane that was resumed
 pub resumed_cause : (K H : Shape) (lane : ℕ) (E J L : ℕ → List Record) (failed : ℕ → Type 0) (holds : ℕ → ℕ → Type 0) → H ≡ K → IsLaneOf K lane → ((n : ℕ) → IsEnd (E n) (J n))

@@ -1,5 +1,5 @@
 -- Why a lane stopped, by the journals then and at any later time.
-use Rattle.std.specs.Prelude.{◌≡◌, ◌⊎◌, ℕ, ◌+◌, ◌^◌, ◌<◌, ◌≤◌, true, List, [], ◌∷◌, ◌++◌, Some, None}
+use Rattle.std.specs.Prelude.{◌≡◌, ◌⊎◌, ℕ, zero, suc, ◌+◌, ◌*◌, ◌^◌, ◌<◌, ◌≤◌, true, List, [], ◌∷◌, ◌++◌, Some, None}
 use Rattle.cbdc_model.specs.Records.{Shape, Batch, Compact, Record, record_of, stamp_of, is_in_lane, Prepare}
 use Rattle.cbdc_model.specs.Slots.{slot, Idle, InPrepare}
 use Rattle.cbdc_model.specs.Ranges.{home_of, shard_node, part}
@@ -25,6 +25,14 @@ AreOfLane lane (r ∷ more) = (is_in_lane lane r ≡ true) × AreOfLane lane mor
 -- each journal has grown at its end, by records of the lane alone
 abbrev pub GrowBy : ℕ → (ℕ → List Record) → (ℕ → List Record) → Type 0
 GrowBy lane I J = (n : ℕ) → (more : List Record) × (J n ≡ more ++ I n) × AreOfLane lane more
+
+-- the first so many lanes have been taken up in rising order, each by records of its own alone
+abbrev pub TookLanes : ℕ → (ℕ → List Record) → (ℕ → List Record) → Type 0
+TookLanes zero E X = (n : ℕ) → X n ≡ E n
+TookLanes (suc lane) E X = (middle : ℕ → List Record) × TookLanes lane E middle × GrowBy lane middle X
+
+abbrev pub TakesInOrder : Shape → (ℕ → List Record) → (ℕ → List Record) → Type 0
+TakesInOrder K E X = (lanes : ℕ) × (lanes ≤ K.coordinators * K.lanes) × TookLanes lanes E X
 
 -- the record that the lane still wants at a node by journals X, as it would stand there behind `front`: where the lane is idle, its next Prepare,
 -- of transactions that are next; where its batch is prepared, the Lock of a concerned shard that has not come to this batch

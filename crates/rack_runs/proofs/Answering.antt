@@ -40,7 +40,7 @@ use Rattle.ledger_nodes.specs.Ledgers.{IsLedger, journals_of, flights_of, faults
 use Rattle.rack_laws.specs.Shown.{OfShown, HaveRoom, node_count}
 use Rattle.rack_laws.proofs.Behind.{keeps_flights, told_stored, may_hold, have_risen}
 use Rattle.rack_runs.specs.Kinds.{answer_at, answer_to, IsLaneAnswer}
-use Rattle.rack_runs.specs.Endings.{EndsRun, IsCut, IsLeastAnswer}
+use Rattle.rack_runs.specs.Endings.{EndsRun, IsCut, IsInOrder, IsLeastAnswer}
 use Rattle.rack_runs.specs.Runs.{AddsOpen, IsCutWaves, IsCutShort, KeepsFlights, IsLaneFault, NonePrepared, NothingNext, PieceNext, PiecesPrepared, SparesOthers}
 use Rattle.rack_runs.specs.declared.over.Over.{Over}
 use Rattle.rack_runs.specs.declared.over.Ran.{Ran}
@@ -275,10 +275,11 @@ module _ {D : Type 0} (content : D → Option (List ℕ)) (images : D → List �
       → OfKept h.shape (journals_of count limit h.shape logs shards) (λ mint submissions. StaysKept h.shape (journals_of count limit h.shape logs shards) (journals_of count limit h.shape now after) mint (submissions ++ joined files))
       → OfKept h.shape (journals_of count limit h.shape logs shards)
       (λ mint _. (sound : FullTx → Bool) → TellsSound verdicts sound → IsCut h.shape sound files mint (journals_of count limit h.shape logs shards) (journals_of count limit h.shape now after))
+      → IsInOrder h.shape (journals_of count limit h.shape logs shards) (journals_of count limit h.shape now after)
       → ((n : ℕ) (r : Record) → flights_of count limit h.shape now after n ≡ Some r → HaveFailed (opened_of count limit h.shape logs shards) (faults_of count limit h.shape now after) n)
       → OfShown content held (λ K mint submissions E. HaveRoom limit held K E) → OfShown content held (IsCutShort images limit back files (journals_of count limit h.shape now after)) → SparesOthers content held back
       → IsLaneFault content images limit held back before behind (PieceNext verdicts files) (EndsRun verdicts files) (PiecesPrepared verdicts files) files a
-  lane_fault verdicts files begun grows a cause least keeps cut flown room kept spared = record {
+  lane_fault verdicts files begun grows a cause least keeps cut orders flown room kept spared = record {
     ledger = record {
       shape = h.shape;
       genesis = h.genesis;
@@ -291,6 +292,7 @@ module _ {D : Type 0} (content : D → Option (List ℕ)) (images : D → List �
     prepared = subst (λ L. PiecesPrepared verdicts files h.shape L (journals_of count limit h.shape now after)) entry (
       begun are.limits.some_batch,
       cut_waves h.shape verdicts files (journals_of count limit h.shape logs shards) (journals_of count limit h.shape now after) are.limits.some_shard are.limits.some_lane keeps cut,
+      orders,
     );
     flights = flights_of count limit h.shape now after;
     in_flight = λ n r inside there. risen n inside (flown n r there);
@@ -325,6 +327,7 @@ no_pieces : (verdicts : VerdictsOf) (K : Shape) (E X : ℕ → List Record) → 
 no_pieces verdicts K E X begun = (
   λ lane inside. go lane (begun.0 lane inside (sound_by verdicts) (is_sound_law verdicts)),
   λ mint submissions kept. opened (begun.1 mint submissions kept (sound_by verdicts) (is_sound_law verdicts)),
+  begun.2,
 )
   where
     opened : IsCutWaves K (sound_by verdicts) [] E X → AddsOpen K E X

@@ -22,14 +22,14 @@ use Rattle.ledger_runs.specs.Pieces.{HasPrepared}
 use Rattle.file_runs.specs.Runs.{joined, HaveBegunFiles, IsFilesPiece}
 use Rattle.file_runs.specs.Endings.{HasBegunFirst}
 use Rattle.rack_runs.specs.Kinds.{IsLaneAnswer}
-use Rattle.rack_runs.specs.Endings.{IsLeastAnswer}
+use Rattle.rack_runs.specs.Endings.{IsInOrder, IsLeastAnswer}
 
 -- journals that have grown at their ends from those at entry, and are kept
 pub record IsGrown (K : Shape) (mint : List Output) (submissions : List FullTx) (E X : ℕ → List Record) : Type 0 where
   pub grows : (n : ℕ) → IsEnd (E n) (X n)
   pub kept : KeptJournals K mint submissions X
 
--- a run: the open batches are brought to their end, one file's wave after another follows, each disk holds its journal and no record more,
+-- a run: the open batches are brought to their end, lane by lane in rising order, one file's wave after another follows, each disk holds its journal and no record more,
 -- and the sentence holds of the journals
 pub record IsRun {D : Type 0} (images : D → List ℕ → Type 0) (held : ℕ → Option D) (verdicts : VerdictsOf) (files : List (List FullTx)) (K : Shape) (mint : List Output) (submissions : List FullTx) (E : ℕ → List Record) : Type 0 where
   pub exit : ℕ → List Record
@@ -37,15 +37,17 @@ pub record IsRun {D : Type 0} (images : D → List ℕ → Type 0) (held : ℕ �
   pub disks : HoldsEach images held K exit
   pub resumed : files ≡ [] → IsResumed K E exit
   pub waves : Waves K (sound_by verdicts) files E exit
+  pub in_order : IsInOrder K E exit
   pub headline : Clean mint (submissions ++ joined files) → Headline K mint (submissions ++ joined files) exit
 
--- a recovery: the open batches are brought to their end, nothing else is done, each disk holds its journal and no record more, and the
+-- a recovery: the open batches are brought to their end, lane by lane in rising order, nothing else is done, each disk holds its journal and no record more, and the
 -- sentence holds of the journals
 pub record IsRecovered {D : Type 0} (images : D → List ℕ → Type 0) (held : ℕ → Option D) (K : Shape) (mint : List Output) (submissions : List FullTx) (E : ℕ → List Record) : Type 0 where
   pub exit : ℕ → List Record
   pub grown : IsGrown K mint submissions E exit
   pub disks : HoldsEach images held K exit
   pub resumed : IsResumed K E exit
+  pub in_order : IsInOrder K E exit
   pub headline : Clean mint submissions → Headline K mint submissions exit
 
 -- whatever a crash leaves of the disks opens to journals that have grown from those at entry, and are kept
@@ -116,12 +118,13 @@ IsCutWaves K sound files E X =
     ⊎ ((0 < length files) × (done : List (List FullTx)) × (more : List (List FullTx)) × (middle : ℕ → List Record)
     × (files ≡ done ++ more) × Waves K sound done E middle × Adds (λ b. has_prepare K middle b ≡ false) middle X × HasBegunFirst K sound more middle X)
 
--- no lane has prepared anything, and where the journals at entry are kept all new records are of batches that were open
+-- no lane has prepared anything, and where the journals at entry are kept all new records are of batches that were open; these are taken up in the
+-- order of their lanes
 abbrev pub NonePrepared : Shape → (ℕ → List Record) → (ℕ → List Record) → Type 0
-NonePrepared K E X = ((lane : ℕ) → IsLaneOf K lane → HasPrepared K lane [] E X) × OfKept K E (λ _ _. AddsOpen K E X)
+NonePrepared K E X = ((lane : ℕ) → IsLaneOf K lane → HasPrepared K lane [] E X) × OfKept K E (λ _ _. AddsOpen K E X) × IsInOrder K E X
 
 -- no lane has prepared anything but the first pieces of what these files send it, and where the journals at entry are kept the new records keep the
--- order of open batches and files
+-- order of open batches and files; the open batches are taken up in the order of their lanes
 abbrev pub PiecesPrepared : VerdictsOf → List (List FullTx) → Shape → (ℕ → List Record) → (ℕ → List Record) → Type 0
 PiecesPrepared verdicts files K E X =
-    HaveBegunFiles K verdicts files E X × OfKept K E (λ _ _. (sound : FullTx → Bool) → TellsSound verdicts sound → IsCutWaves K sound files E X)
+    HaveBegunFiles K verdicts files E X × OfKept K E (λ _ _. (sound : FullTx → Bool) → TellsSound verdicts sound → IsCutWaves K sound files E X) × IsInOrder K E X

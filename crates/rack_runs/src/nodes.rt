@@ -10,7 +10,7 @@ ghost use Rattle.submissions.specs.Checks.{TellsSound};
 ghost use Rattle.ledger_runs.specs.Turning.{OfKept, StaysKept};
 ghost use Rattle.ledger_runs.specs.Faults.{HaveFailed, MayHold};
 ghost use Rattle.file_runs.specs.Runs.{joined, HaveBegunFiles, IsFilesPiece, FliesWith};
-ghost use Rattle.rack_runs.specs.Endings.{EndsRun, IsCut, IsLeastAnswer};
+ghost use Rattle.rack_runs.specs.Endings.{EndsRun, IsCut, IsInOrder, IsLeastAnswer};
 ghost use Rattle.ledger_nodes.specs.Ledgers.{IsLedger, journals_of, flights_of, faults_of, opened_of, capacity_of, AreChecked, AreStored, AreQuiet};
 ghost use Rattle.rack_laws.specs.Shown.{LogHasRoom, ShardHasRoom};
 ghost use Rattle.rack_runs.specs.Kinds.{answer_to, IsLaneAnswer, FliesBroken, ShardFliesBroken};
@@ -137,6 +137,8 @@ pub(crate) fn run_nodes<W: Wait, D: Disk, V: Verifier, G: Gate>(
     ensures cut { OfKept nodes.header.shape (journals_of D.count D.limit nodes.header.shape nodes.logs.items nodes.shards.items)
         (λ mint _. (sound : TxOf → Bool) → TellsSound (V.verdict_of verifier.now) sound → IsCut nodes.header.shape sound files.now mint
         (journals_of D.count D.limit nodes.header.shape nodes.logs.items nodes.shards.items) (journals_of D.count D.limit nodes.header.shape result.nodes.logs.items result.nodes.shards.items)) }
+    ensures in_order { IsInOrder nodes.header.shape (journals_of D.count D.limit nodes.header.shape nodes.logs.items nodes.shards.items)
+        (journals_of D.count D.limit nodes.header.shape result.nodes.logs.items result.nodes.shards.items) }
 
     // What is in flight may come next at its node, as before.
     ensures flies { OfKept nodes.header.shape (journals_of D.count D.limit nodes.header.shape nodes.logs.items nodes.shards.items)

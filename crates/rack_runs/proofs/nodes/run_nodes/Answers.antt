@@ -7,7 +7,7 @@ use Rattle.submissions.specs.Checks.{TellsSound}
 use Rattle.ledger_runs.specs.Turning.{OfKept, StaysKept}
 use Rattle.cbdc_model.specs.Lanes.{IsEnd}
 use Rattle.ledger_runs.specs.Faults.{IsRunCause, HaveFailed, MayHold}
-use Rattle.rack_runs.specs.Endings.{EndsRun, IsCut}
+use Rattle.rack_runs.specs.Endings.{EndsRun, IsCut, IsInOrder}
 use Rattle.rack_runs.proofs.Answering.{came_cause, came_ends, by_entry}
 use Rattle.file_runs.specs.Runs.{joined, HaveBegunFiles, IsFilesPiece, FliesWith}
 use Rattle.ledger_nodes.specs.Ledgers.{journals_of, flights_of, faults_of, opened_of, capacity_of, AreChecked, AreStored, AreQuiet}
@@ -216,3 +216,14 @@ returns-clause-flown g c n r there =
     subst (λ o. HasRisen o (faults_of g.D.Disk.count g.D.Disk.limit K c.header.inside.logs.items c.header.inside.shards.items n)) same
     (all_flown g.D.Disk.count g.D.Disk.limit K c.header.inside.logs.items c.header.inside.shards.items
     (subst (λ xs. All FliesBroken xs) c.as_slice.ensures.value c.see_logs.ensures.flown) (subst (λ xs. All (ShardFliesBroken g.D.Disk.count) xs) c.as_slice-2.ensures.value c.see_shards.ensures.flown) n r there)
+
+pub returns-clause-in_order : goal.returns-clause-in_order
+returns-clause-in_order g c =
+    let back : c.run_over-over.new.ledger ≡ record { header = c.header.inside.header; logs = c.header.inside.logs.items; shards = c.header.inside.shards.items } = cc in
+    let lent : c.lend-lent.result ≡ record { header = c.args.nodes.header; logs = c.args.nodes.logs.items; shards = c.args.nodes.shards.items } = c.lend-lent.ensures in
+    let shape : c.run_over-over.new.ledger.header.shape ≡ c.args.nodes.header.shape = c.run_over-over.ensures.shape ∙ ap (λ l. l.header.shape) lent in
+    let K = c.args.nodes.header.shape in
+    let E = journals_of g.D.Disk.count g.D.Disk.limit c.args.nodes.header.shape c.args.nodes.logs.items c.args.nodes.shards.items in
+    lent_journals g.D.Disk.count g.D.Disk.limit (λ L. IsInOrder K E L) K c.run_over-over.new.ledger _ back shape
+    (subst (λ l. IsInOrder l.header.shape (journals_of g.D.Disk.count g.D.Disk.limit l.header.shape l.logs l.shards)
+    (journals_of g.D.Disk.count g.D.Disk.limit c.run_over-over.new.ledger.header.shape c.run_over-over.new.ledger.logs c.run_over-over.new.ledger.shards)) lent c.run_over-over.ensures.in_order)
