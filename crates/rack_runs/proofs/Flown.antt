@@ -11,9 +11,9 @@ use Rattle.ledger_runs.specs.Faults.{HaveFailed}
 use Rattle.ledger_nodes.specs.Ledgers.{flights_of, faults_of, opened_of}
 use Rattle.rack_runs.specs.Kinds.{FliesBroken, ShardFliesBroken}
 
-pub flies_broken : {broken : Option ℕ} {flight : Option Record} {opened faults : ℕ} → (broken ≡ None → flight ≡ None) → IsBrokenSince opened faults broken → (r : Record) → flight ≡ Some r → HasRisen opened faults
-flies_broken {broken = None} landed since r there = absurd (let z : None ≡ Some r = sym (landed refl) ∙ there in cc)
-flies_broken {broken = Some at} {opened} {faults} landed since r there = risen opened at faults since.0 since.1
+pub flies_broken : (broken : Option ℕ) (flight : Option Record) (opened faults : ℕ) → (broken ≡ None → flight ≡ None) → IsBrokenSince opened faults broken → (r : Record) → flight ≡ Some r → HasRisen opened faults
+flies_broken None flight opened faults landed since r there = absurd (let z : None ≡ Some r = sym (landed refl) ∙ there in cc)
+flies_broken (Some at) flight opened faults landed since r there = risen opened at faults since.0 since.1
   where
     risen : (opened at faults : ℕ) → HasRisen opened at → at ≤ faults → HasRisen opened faults
     risen opened at faults h le = omega (arith, h, le)

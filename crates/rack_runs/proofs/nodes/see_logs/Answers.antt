@@ -17,7 +17,7 @@ logs-preserved g c =
           (subst (λ x. x.faults ≡ g.D.Disk.count x.disk) c.log-item.is told.count);
       rooms = All-more (LogHasRoom g.D.Disk.limit) c.args.logs.now c.logs.log-index c.log-item.result c.logs-test.true c.logs.invariant.rooms (subst (LogHasRoom g.D.Disk.limit) c.log-item.is room);
       flown = All-more FliesBroken c.args.logs.now c.logs.log-index c.log-item.result c.logs-test.true c.logs.invariant.flown
-          (subst FliesBroken c.log-item.is (flies_broken told.landed told.since_broken));
+          (subst FliesBroken c.log-item.is (flies_broken c.log-item.result.broken c.log-item.result.flight c.log-item.result.opened c.log-item.result.faults told.landed told.since_broken));
     }
 
 pub returns : goal.returns

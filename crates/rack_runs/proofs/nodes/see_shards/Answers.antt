@@ -13,7 +13,7 @@ shards-preserved g c =
       rooms = All-more (ShardHasRoom g.D.Disk.limit) c.args.shards.now c.shards.shard-index c.shard-item.result c.shards-test.true c.shards.invariant.rooms
           (subst (ShardHasRoom g.D.Disk.limit) c.shard-item.is told.room);
       flown = All-more (ShardFliesBroken g.D.Disk.count) c.args.shards.now c.shards.shard-index c.shard-item.result c.shards-test.true c.shards.invariant.flown
-          (subst (ShardFliesBroken g.D.Disk.count) c.shard-item.is (flies_broken told.landed told.since_broken));
+          (subst (ShardFliesBroken g.D.Disk.count) c.shard-item.is (flies_broken c.shard-item.result.broken c.shard-item.result.flight c.shard-item.result.opened (g.D.Disk.count c.shard-item.result.disk) told.landed told.since_broken));
     }
 
 pub returns : goal.returns
