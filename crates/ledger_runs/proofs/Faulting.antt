@@ -1,14 +1,14 @@
 -- The cause of a lane's fault stays while other lanes go on.
 use Rattle.std.proofs.Common.{◌≡◌, ◌≢◌, ◌⊎◌, inl, inr, Bool, true, false, ℕ, suc, ◌+◌, ◌*◌, ◌<◌, ◌≤◌, le_trans, List, refl, sym, ap, ◌∙◌, subst, arith, Some, None}
 use Rattle.std.specs.Prelude.{slice_get, is_some, length, take, drop, Option, Result, Ok, Err, IfErr}
-use Rattle.cbdc_model.specs.Records.{Shape, Compact, Record}
+use Rattle.cbdc_model.specs.Records.{Shape, Batch, Compact, Record, record_of}
 use Rattle.cbdc_model.specs.Slots.{slot, Idle}
-use Rattle.cbdc_model.specs.Ranges.{home_of}
+use Rattle.cbdc_model.specs.Ranges.{home_of, shard_node}
 use Rattle.cbdc_model.specs.Lanes.{IsEnd}
 use Rattle.cbdc_model.specs.Sights.{HasRisen}
 use Rattle.ledger_laws.proofs.Cuts.{end_self, end_trans}
 use Rattle.run_laws.specs.WaveSteps.{LaneTook}
-use Rattle.run_laws.specs.Faults.{IsAsked, asks_prepare, asks_log, asks_shard}
+use Rattle.run_laws.specs.Faults.{awaited, HasHeard, IsAsked, asks_prepare, asks_log, asks_shard}
 use Rattle.lane_driver.specs.declared.fault.LaneFault.{LaneFault}
 use Rattle.lane_driver.specs.declared.fault.LaneFaultKind.{LaneFaultKind}
 use Rattle.lane_driver.specs.declared.fault.LaneFaultKind.TheVariants.{DiskFault as DiskStopped, Full as NoRoom, ClockEnd as NoStamp, Memory as NoMemory}
@@ -28,18 +28,31 @@ pub wanted_stays : (lane other : ℕ) → other ≢ lane → (J X : ℕ → List
     → (node : ℕ) (front : List Record) (r : Record) → IsWanted K lane next J node front r → IsWanted K lane due X node front r
 wanted_stays lane other apart J X grown K next due on node front r (wants_prepare txs is at idle e) =
     wants_prepare txs (on txs is) at (ap (λ s. s.phase) (slot_same lane other apart J X grown (home_of K lane)) ∙ idle) e
-wanted_stays lane other apart J X grown K next due on node front r (wants_lock b t txs s is at concerned phase stands behind e) =
+wanted_stays lane other apart J X grown K next due on node front r (wants_lock b t txs s is at concerned phase stands have behind e) =
     wants_lock b t txs s is at concerned (ap (λ s. s.phase) (slot_same lane other apart J X grown (home_of K lane)) ∙ phase) (record_same lane other apart J X grown 6 (home_of K lane) b is ∙ stands)
-    (subst (λ s. s.number < b.number) (sym (slot_same lane other apart J X grown node)) behind) e
+    (λ k lt c. ap is_some (record_same lane other apart J X grown 2 (shard_node K k) b is) ∙ have k lt c) (subst (λ s. s.number < b.number) (sym (slot_same lane other apart J X grown node)) behind) e
+
+-- what a lane has heard, while another goes on
+heard_stays : (lane other : ℕ) → other ≢ lane → (J X : ℕ → List Record) → GrowBy other J X → (K : Shape) (b : Batch) (txs : List Compact) (n : ℕ) → HasHeard K lane J b txs n → HasHeard K lane X b txs n
+heard_stays lane other apart J X grown K b txs n h = record {
+  of_lane = h.of_lane;
+  number = ap (λ s. s.number) same ∙ h.number;
+  busy = λ i. h.busy (sym (ap (λ s. s.phase) same) ∙ i);
+  stamp = h.stamp;
+  prepare = record_same lane other apart J X grown 6 (home_of K lane) b h.of_lane ∙ h.prepare;
+  heard = λ k lt c. subst (λ s. is_some (record_of (awaited s.phase) (X (shard_node K k)) b) ≡ true) (sym same)
+      (ap is_some (record_same lane other apart J X grown (awaited (slot (J (home_of K lane)) lane).phase) (shard_node K k) b h.of_lane) ∙ h.heard k lt c);
+}
+  where
+    same : slot (X (home_of K lane)) lane ≡ slot (J (home_of K lane)) lane
+    same = slot_same lane other apart J X grown (home_of K lane)
 
 -- whom a lane asks, while another goes on
 pub asked_stays : (lane other : ℕ) → other ≢ lane → (J X : ℕ → List Record) → GrowBy other J X → (K : Shape) (next due : List Compact → Type 0) → ((txs : List Compact) → next txs → due txs)
     → (node : ℕ) → IsAsked K lane next J node → IsAsked K lane due X node
 asked_stays lane other apart J X grown K next due on node (asks_prepare txs is at idle) = asks_prepare txs (on txs is) at (ap (λ s. s.phase) (slot_same lane other apart J X grown (home_of K lane)) ∙ idle)
-asked_stays lane other apart J X grown K next due on node (asks_log at busy) = asks_log at (λ h. busy (sym (ap (λ s. s.phase) (slot_same lane other apart J X grown (home_of K lane))) ∙ h))
-asked_stays lane other apart J X grown K next due on node (asks_shard b t txs s is at concerned number busy stands) =
-    asks_shard b t txs s is at concerned (ap (λ s. s.number) (slot_same lane other apart J X grown (home_of K lane)) ∙ number)
-    (λ h. busy (sym (ap (λ s. s.phase) (slot_same lane other apart J X grown (home_of K lane))) ∙ h)) (record_same lane other apart J X grown 6 (home_of K lane) b is ∙ stands)
+asked_stays lane other apart J X grown K next due on node (asks_log b txs at heard) = asks_log b txs at (heard_stays lane other apart J X grown K b txs K.shards heard)
+asked_stays lane other apart J X grown K next due on node (asks_shard b txs s at concerned heard) = asks_shard b txs s at concerned (heard_stays lane other apart J X grown K b txs s heard)
 
 -- ---- a cause by later journals, or by an earlier entry
 
@@ -77,12 +90,12 @@ module _ (K : Shape) (lane : ℕ) (next due : List Compact → Type 0) (E F J X 
 wanted_by : (K : Shape) (lane : ℕ) (next due : List Compact → Type 0) (X : ℕ → List Record) → ((txs : List Compact) → next txs → due txs) → (node : ℕ) (front : List Record) (r : Record)
     → IsWanted K lane next X node front r → IsWanted K lane due X node front r
 wanted_by K lane next due X on node front r (wants_prepare txs is at idle e) = wants_prepare txs (on txs is) at idle e
-wanted_by K lane next due X on node front r (wants_lock b t txs s is at concerned phase stands behind e) = wants_lock b t txs s is at concerned phase stands behind e
+wanted_by K lane next due X on node front r (wants_lock b t txs s is at concerned phase stands have behind e) = wants_lock b t txs s is at concerned phase stands have behind e
 
 asked_by : (K : Shape) (lane : ℕ) (next due : List Compact → Type 0) (X : ℕ → List Record) → ((txs : List Compact) → next txs → due txs) → (node : ℕ) → IsAsked K lane next X node → IsAsked K lane due X node
 asked_by K lane next due X on node (asks_prepare txs is at idle) = asks_prepare txs (on txs is) at idle
-asked_by K lane next due X on node (asks_log at busy) = asks_log at busy
-asked_by K lane next due X on node (asks_shard b t txs s is at concerned number busy stands) = asks_shard b t txs s is at concerned number busy stands
+asked_by K lane next due X on node (asks_log b txs at heard) = asks_log b txs at heard
+asked_by K lane next due X on node (asks_shard b txs s at concerned heard) = asks_shard b txs s at concerned heard
 
 -- a disk that has failed has failed later too
 pub risen_later : (opened faults opens later : ℕ → ℕ) → ((n : ℕ) → opens n ≡ opened n) → ((n : ℕ) → faults n ≤ later n) → (n : ℕ) → HaveFailed opened faults n → HaveFailed opens later n

@@ -8,6 +8,7 @@ use Rattle.cbdc_model.specs.Due.{used_of, prepare_record, lock_record}
 use Rattle.cbdc_model.specs.Lanes.{IsEnd}
 use Rattle.cbdc_model.specs.Sights.{HasRisen}
 use Rattle.lane_laws.specs.Calls.{is_concerned}
+use Rattle.lane_laws.specs.Faults.{HaveBelow}
 use Rattle.run_laws.specs.Faults.{IsAsked}
 use Rattle.lane_driver.specs.declared.fault.LaneFault.{LaneFault}
 use Rattle.lane_driver.specs.declared.fault.LaneFaultKind.{LaneFaultKind}
@@ -35,11 +36,12 @@ abbrev pub TakesInOrder : Shape → (ℕ → List Record) → (ℕ → List Reco
 TakesInOrder K E X = (lanes : ℕ) × (lanes ≤ K.coordinators * K.lanes) × TookLanes lanes E X
 
 -- the record that the lane still wants at a node by journals X, as it would stand there behind `front`: where the lane is idle, its next Prepare,
--- of transactions that are next; where its batch is prepared, the Lock of a concerned shard that has not come to this batch
+-- of transactions that are next; where its batch is prepared, the Lock of a concerned shard that has not come to this batch, each lesser one having
+-- its Lock
 pub data IsWanted (K : Shape) (lane : ℕ) (next : List Compact → Type 0) (X : ℕ → List Record) (node : ℕ) (front : List Record) (r : Record) : Type 0 where
   wants_prepare : (txs : List Compact) → next txs → node ≡ home_of K lane → phase_at K X lane ≡ Idle → r ≡ prepare_record front lane txs → IsWanted K lane next X node front r
   wants_lock : (b : Batch) (t : ℕ) (txs : List Compact) (s : ℕ) → b.lane ≡ lane → node ≡ shard_node K s → is_concerned K txs s ≡ true → phase_at K X lane ≡ InPrepare
-      → record_of 6 (X (home_of K lane)) b ≡ Some (Prepare t b txs) → (slot (X node) lane).number < b.number
+      → record_of 6 (X (home_of K lane)) b ≡ Some (Prepare t b txs) → HaveBelow K txs (λ k. X (shard_node K k)) 2 b s → (slot (X node) lane).number < b.number
       → r ≡ lock_record front (record { batch = b; part = part K.shards s 0 txs; cause = t }) → IsWanted K lane next X node front r
 
 -- behind a front of the node's journal, which the journal at entry begins and behind which nothing of the lane came, its disk has no room for what the

@@ -90,18 +90,18 @@ concerned_inside K txs s h = grind (arith, h)
 
 pub wanted_inside : (K : Shape) (lane : ℕ) (next : List Compact → Type 0) (X : ℕ → List Record) (node : ℕ) (front : List Record) (r : Record) → IsLaneOf K lane → IsWanted K lane next X node front r → node < node_count K
 wanted_inside K lane next X node front r lt (wants_prepare txs due at idle e) = omega (arith, at, home_inside K lane lt)
-wanted_inside K lane next X node front r lt (wants_lock b t txs s is at concerned phase stands behind e) = omega (arith, at, concerned_inside K txs s concerned)
+wanted_inside K lane next X node front r lt (wants_lock b t txs s is at concerned phase stands have behind e) = omega (arith, at, concerned_inside K txs s concerned)
 
 module _ (K : Shape) (next due : ℕ → List Compact → Type 0) (E X : ℕ → List Record) (failed fails : ℕ → Type 0) (holds held : ℕ → ℕ → Type 0)
     (on : (lane : ℕ) (txs : List Compact) → next lane txs → due lane txs) (failed_on : (n : ℕ) → n < node_count K → failed n → fails n) (held_on : (n c : ℕ) → n < node_count K → holds n c → held n c) where
   still_wanted : (lane node : ℕ) (front : List Record) (r : Record) → IsWanted K lane (next lane) X node front r → IsWanted K lane (due lane) X node front r
   still_wanted lane node front r (wants_prepare txs is at idle e) = wants_prepare txs (on lane txs is) at idle e
-  still_wanted lane node front r (wants_lock b t txs s is at concerned phase stands behind e) = wants_lock b t txs s is at concerned phase stands behind e
+  still_wanted lane node front r (wants_lock b t txs s is at concerned phase stands have behind e) = wants_lock b t txs s is at concerned phase stands have behind e
 
   still_asked : (lane node : ℕ) → IsAsked K lane (next lane) X node → IsAsked K lane (due lane) X node
   still_asked lane node (asks_prepare txs is at idle) = asks_prepare txs (on lane txs is) at idle
-  still_asked lane node (asks_log at busy) = asks_log at busy
-  still_asked lane node (asks_shard b t txs s is at concerned number busy stands) = asks_shard b t txs s is at concerned number busy stands
+  still_asked lane node (asks_log b txs at heard) = asks_log b txs at heard
+  still_asked lane node (asks_shard b txs s at concerned heard) = asks_shard b txs s at concerned heard
 
   -- by what is known of the nodes of the ledger otherwise
   pub answer_moves : (a : Answer) → IsLaneAnswer K next E X failed holds a → IsLaneAnswer K due E X fails held a
