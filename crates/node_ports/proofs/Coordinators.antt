@@ -14,8 +14,8 @@ use Rattle.cbdc_model.specs.After.{IsJournal}
 use Rattle.cbdc_model.specs.Sights.{Sight, IsBrokenSince, MeetsFault, Meets, Told}
 use Rattle.lane_laws.specs.Answers.{DecideAnswer}
 use Rattle.lane_driver.specs.Told.{IsPrepared, IsStamp, AreReplies}
-use Rattle.lane_driver.specs.Causes.{IsLogCause}
-use Rattle.lane_driver.proofs.Causing.{late_caused}
+use Rattle.lane_driver.specs.Causes.{IsDecideCause}
+use Rattle.lane_driver.proofs.Causing.{commit_caused}
 use Rattle.coord_core.specs.Decided.{AreRepliesTo}
 use Rattle.coord_log.specs.Logs.{commit_due}
 use Rattle.node_ports.specs.Nodes.{KeepsRest}
@@ -151,10 +151,10 @@ module _ (lane : ℕ) (out : List Outcome) (old new : Sight) (result : Result �
 -- its fault has its cause there, whatever the replies
 pub decide_fault : (lane : ℕ) (replies : List ShardReplies) (broken : Option ℕ) (old new : Sight) (result : Result ℕ NodeFault)
     → IfErr result (λ f. (r : Record) × MeetsFault false (commit_due old.header.shape replies r broken old.seen) old new old.seen f)
-    → IsJournal new.header new.seen → old.opened ≤ old.faults → IsBrokenSince old.opened old.faults broken → (broken ≡ None → old.flight ≡ None) → IfErr result (λ f. IsLogCause f new)
+    → IsJournal new.header new.seen → old.opened ≤ old.faults → IsBrokenSince old.opened old.faults broken → (broken ≡ None → old.flight ≡ None) → IfErr result (λ f. IsDecideCause f new)
 decide_fault lane replies broken old new (Ok t) fault journal since_opened since whole = tt
 decide_fault lane replies broken old new (Err f) (r, fault) journal since_opened since whole =
-    late_caused true lane (λ J. next_stamp J (reply_cause old.header.shape replies)) (λ J. r) old new f
+    commit_caused true lane (λ J. next_stamp J (reply_cause old.header.shape replies)) (λ J. r) old new f
     (told_alone lane false (commit_due old.header.shape replies r) broken old new (Err f) fault journal since_opened since whole)
 
 pub decide_stamp : (result : Result ℕ NodeFault) → IfOk result (λ t. t ≤ 2 ^ 62 + 2 ^ 20) → IfOk result IsStamp
