@@ -2,16 +2,17 @@
 ghost use Rattle.std.specs.Prelude.{◌≤◌, ◌<◌, ℕ, IsTrue, length, All, ◌↔◌};
 
 use super::counting::Counts;
-use super::ledgers::{LANE, Ran, coordinator, header, run_over, shard, tx};
+use super::ledgers::{LANE, coordinator, has_batches, has_outcomes, header, run_over, shard, tx};
 use batcher::Batcher;
 use cbdc_types::{
-    BatchId, CompactTx, ForgetCall, Hash, List, LockCall, NodeFault, NodeId, Outcome, Replied,
-    Reply, ShardReplies, Stamp,
+    BatchId, CompactTx, FinishCall, ForgetCall, Hash, List, LockCall, NodeFault, NodeId, Outcome,
+    Replied, Replies, Reply, Stamp,
 };
 use lane_driver::{
-    BatchRoom, LaneFault, LaneFaultKind, LaneReport, LaterRoom, ShardFault, finish_calls,
-    forget_calls, gather, latest, lock_calls, no_memory,
+    BatchRoom, LaneFault, LaneFaultKind, LaterRoom, ShardFault, finish_calls, forget_calls, gather,
+    latest, lock_calls, no_memory,
 };
+use std::alloc::AllocError;
 use std::test::Fail;
 
 const BATCH: BatchId = BatchId {
@@ -20,7 +21,7 @@ const BATCH: BatchId = BatchId {
 };
 
 // One transaction.
-fn one(rt: &HostRuntime) -> Result<Vec<CompactTx>, Fail> {
+fn one(rt: &HostRuntime) -> Result<Vec<CompactTx>, AllocError> {
     let mut txs = Vec::new(rt.alloc());
     txs.push(tx(rt, 9, 1, &[2, 3])?)?;
     Ok(txs)
@@ -41,11 +42,16 @@ fn outputs_of(call: &LockCall) -> usize {
     }
 }
 
-/// A batch of one transaction is asked of its only shard, with the decision that its outcome is.
-#[test]
-fn the_calls_of_a_batch_go_to_its_shard(rt: HostRuntime) -> Result<(), Fail> {
-    let rt = &rt;
-    let txs = one(rt)?;
+// The calls of a batch.
+#[derive(Drop)]
+struct Calls {
+    locks: Vec<(u32, LockCall)>,
+    finishes: Vec<(u32, FinishCall)>,
+    forgets: Vec<(u32, ForgetCall)>,
+}
+
+// The calls of a batch of one transaction, which is Held.
+fn calls_of(rt: &HostRuntime, txs: &[CompactTx]) -> Result<Calls, Fail> {
     let shape = header(0, 16)?.shape;
     if txs.len() != 1 {
         return Err("other transactions".into());
@@ -55,7 +61,7 @@ fn the_calls_of_a_batch_go_to_its_shard(rt: HostRuntime) -> Result<(), Fail> {
         mut locks,
         later,
         ..
-    } = BatchRoom::take(rt.alloc(), &shape, &txs)?;
+    } = BatchRoom::take(rt.alloc(), &shape, txs)?;
     let LaterRoom {
         mut finishes,
         mut forgets,
@@ -76,21 +82,55 @@ fn the_calls_of_a_batch_go_to_its_shard(rt: HostRuntime) -> Result<(), Fail> {
         &mut finishes,
     );
     forget_calls(&locks, &BATCH, Stamp(5), &mut forgets);
-    assert_eq!(rt; (locks.len(), finishes.len(), forgets.len()), (1, 1, 1));
-    assert_eq!(rt; (locks[0].0, finishes[0].0, forgets[0].0), (0, 0, 0));
-    assert_eq!(rt; outputs_of(&locks[0].1), 2);
-    assert_eq!(rt; finishes[0].1.decisions.as_slice(), [true].as_slice());
-    assert_eq!(rt;
-        forgets[0].1,
-        ForgetCall {
-            batch: BATCH,
-            cause: Stamp(5)
+    Ok(Calls {
+        locks,
+        finishes,
+        forgets,
+    })
+}
+
+// Whether the only lock call is of the first shard, and its entry makes so many hashes.
+fn is_lock(locks: &[(u32, LockCall)], made: usize) -> bool {
+    match locks.first() {
+        Some((shard, call)) => locks.len() == 1 && *shard == 0 && outputs_of(call) == made,
+        None => false,
+    }
+}
+
+// Whether the only finish call is of the first shard, with these decisions.
+fn is_finish(finishes: &[(u32, FinishCall)], wanted: &[bool]) -> bool {
+    match finishes.first() {
+        Some((shard, call)) => {
+            finishes.len() == 1 && *shard == 0 && call.decisions.as_slice() == wanted
         }
-    );
+        None => false,
+    }
+}
+
+// Whether the only forget call is of the first shard, for this call.
+fn is_forget(forgets: &[(u32, ForgetCall)], wanted: &ForgetCall) -> bool {
+    match forgets.first() {
+        Some((shard, call)) => forgets.len() == 1 && *shard == 0 && *call == *wanted,
+        None => false,
+    }
+}
+
+/// A batch of one transaction is asked of its only shard, with the decision that its outcome is.
+#[test]
+fn the_calls_of_a_batch_go_to_its_shard(rt: HostRuntime) -> Result<(), Fail> {
+    let rt = &rt;
+    let calls = calls_of(rt, &one(rt)?)?;
+    let forget = ForgetCall {
+        batch: BATCH,
+        cause: Stamp(5),
+    };
+    assert!(rt; is_lock(&calls.locks, 2));
+    assert!(rt; is_finish(&calls.finishes, &[true]));
+    assert!(rt; is_forget(&calls.forgets, &forget));
     Ok(())
 }
 
-// A lock call without entries, and what it may be answered.
+// A lock call of the fourth shard without entries, and what it may be answered.
 fn empty_call(rt: &HostRuntime) -> (u32, LockCall) {
     (
         3,
@@ -102,7 +142,7 @@ fn empty_call(rt: &HostRuntime) -> (u32, LockCall) {
     )
 }
 
-fn replied(rt: &HostRuntime, stamp: u64) -> Result<Replied, Fail> {
+fn replied(rt: &HostRuntime, stamp: u64) -> Result<Replied, AllocError> {
     let mut replies = List::new(rt.alloc());
     replies.push(Reply::Missing(Hash([4; 32])))?;
     Ok(Replied {
@@ -111,18 +151,32 @@ fn replied(rt: &HostRuntime, stamp: u64) -> Result<Replied, Fail> {
     })
 }
 
-// What two answers of the fourth shard come to.
-fn gathered(
+// Two of them.
+fn empty_calls(rt: &HostRuntime) -> Result<Vec<(u32, LockCall)>, AllocError> {
+    let mut calls = Vec::with_capacity(rt.alloc(), 2)?;
+    calls.push(empty_call(rt))?;
+    calls.push(empty_call(rt))?;
+    Ok(calls)
+}
+
+// Two answers.
+fn answers(
     rt: &HostRuntime,
     first: Result<Replied, NodeFault>,
     second: Result<Replied, NodeFault>,
-) -> Result<Result<List<ShardReplies>, ShardFault>, Fail> {
-    let mut calls = Vec::new(rt.alloc());
-    let mut answers = Vec::new(rt.alloc());
-    calls.push(empty_call(rt))?;
-    calls.push(empty_call(rt))?;
+) -> Result<Vec<Result<Replied, NodeFault>>, AllocError> {
+    let mut answers = Vec::with_capacity(rt.alloc(), 2)?;
     answers.push(first)?;
     answers.push(second)?;
+    Ok(answers)
+}
+
+// What two answers of the fourth shard come to.
+fn gathered(
+    rt: &HostRuntime,
+    answers: Vec<Result<Replied, NodeFault>>,
+) -> Result<Result<Replies, ShardFault>, Fail> {
+    let calls = empty_calls(rt)?;
     if answers.len() != calls.len() {
         return Err("an answer is missing".into());
     }
@@ -130,82 +184,96 @@ fn gathered(
     Ok(gather(&calls, answers, replies))
 }
 
+// What replies at these stamps come to.
+fn both(rt: &HostRuntime, first: u64, second: u64) -> Result<Result<Replies, ShardFault>, Fail> {
+    let first = replied(rt, first)?;
+    let second = replied(rt, second)?;
+    gathered(rt, answers(rt, Ok(first), Ok(second))?)
+}
+
+// Whether there are two replies, the first of the fourth shard and the second with this stamp.
+fn are_both(told: &Result<Replies, ShardFault>, stamp: Stamp) -> bool {
+    let Ok(replies) = told else {
+        return false;
+    };
+    let all = replies.as_slice();
+    match (all.get(0), all.get(1)) {
+        (Some(first), Some(second)) => {
+            all.len() == 2 && first.shard == 3 && second.stamp == stamp
+        }
+        _ => false,
+    }
+}
+
+// Whether they come to this fault of the fourth shard.
+fn is_fault(told: &Result<Replies, ShardFault>, fault: NodeFault) -> bool {
+    match told {
+        Ok(_) => false,
+        Err(first) => *first == ShardFault { shard: 3, fault },
+    }
+}
+
+// The greatest of stamp 9 of the third shard and what the sixth answers.
+fn latest_with(second: Result<Stamp, NodeFault>) -> Result<Stamp, ShardFault> {
+    let calls = [(2, Stamp(0)), (5, Stamp(0))];
+    let stamps = [Ok(Stamp(9)), second];
+    latest(&calls, &stamps)
+}
+
 /// All answers make the replies by shard, and the greatest stamp; the first fault stands for its phase.
 #[test]
 fn answers_come_together(rt: HostRuntime) -> Result<(), Fail> {
     let rt = &rt;
-    let Ok(replies) = gathered(rt, Ok(replied(rt, 8)?), Ok(replied(rt, 7)?))? else {
-        return Err("a fault".into());
-    };
-    assert_eq!(rt; replies.len(), 2);
-    assert_eq!(rt;
-        (replies.as_slice()[0].shard, replies.as_slice()[1].stamp),
-        (3, Stamp(7))
-    );
-    let fault = ShardFault {
-        shard: 3,
-        fault: NodeFault::DiskFault,
-    };
-    let failed = gathered(rt, Err(NodeFault::DiskFault), Err(NodeFault::Memory))?;
-    assert!(rt; failed == Err(fault));
+    assert!(rt; are_both(&both(rt, 8, 7)?, Stamp(7)));
+    let failed = answers(rt, Err(NodeFault::DiskFault), Err(NodeFault::Memory))?;
+    assert!(rt; is_fault(&gathered(rt, failed)?, NodeFault::DiskFault));
 
-    let calls = [(2, Stamp(0)), (5, Stamp(0))];
-    let stamps = [Ok(Stamp(9)), Ok(Stamp(6))];
-    assert_eq!(rt; latest(&calls, &stamps), Ok(Stamp(9)));
-    let broken = [Ok(Stamp(9)), Err(NodeFault::Broken { since: 1 })];
-    let fault = ShardFault {
-        shard: 5,
-        fault: NodeFault::Broken { since: 1 },
-    };
-    assert_eq!(rt; latest(&calls, &broken), Err(fault));
+    assert!(rt; latest_with(Ok(Stamp(6))) == Ok(Stamp(9)));
+    let fault = NodeFault::Broken { since: 1 };
+    assert!(rt; latest_with(Err(fault)) == Err(ShardFault { shard: 5, fault }));
     let none = LaneFault {
         node: NodeId(0),
         fault: LaneFaultKind::Memory,
     };
-    assert_eq!(rt; no_memory(), none);
+    assert!(rt; no_memory() == none);
     Ok(())
 }
 
-// The outcomes of a report's first batch.
-fn first_outcomes(report: &LaneReport) -> Option<&[Outcome]> {
-    let first = report.batches.as_slice().first()?;
-    Some(first.outcomes.as_slice())
-}
-
-/// A batcher hands over what was pushed, in order, once; a lane does it.
-#[test]
-fn a_full_batcher_is_a_lanes_batch(rt: HostRuntime) -> Result<(), Fail> {
-    let rt = &rt;
+// A batcher for batches of two with two transactions, where it has room for them.
+fn filled(rt: &HostRuntime) -> Result<Batcher, Fail> {
     let mut batcher = Batcher::new(rt.alloc(), 2);
-    assert!(rt; batcher.take().is_none());
     if !batcher.is_full() {
         batcher.push(tx(rt, 9, 1, &[2])?)?;
     }
     if !batcher.is_full() {
         batcher.push(tx(rt, 8, 2, &[3])?)?;
     }
+    Ok(batcher)
+}
+
+/// A batcher hands over what was pushed, in order, once; a lane does it.
+#[test]
+fn a_full_batcher_is_a_lanes_batch(rt: HostRuntime) -> Result<(), Fail> {
+    let rt = &rt;
+    assert!(rt; Batcher::new(rt.alloc(), 2).take().is_none());
+    let mut batcher = filled(rt)?;
     assert!(rt; batcher.is_full());
     let Some(batch) = batcher.take() else {
         return Err("nothing was pushed".into());
     };
     assert!(rt; batcher.take().is_none() && !batcher.is_full());
-    assert_eq!(rt; batch.len(), 2);
-    let log = coordinator(rt, 10_000, 2, Vec::new(rt.alloc()))?;
+    assert!(rt; batch.len() == 2);
+    let log = coordinator(rt, 10_000, 2, &[])?;
     let node = shard(rt, 10_000, 2, 1)?;
-    let Ran { came, counts, .. } = run_over(rt, rt.alloc(), log, node, batch.as_slice(), 0, true)?;
-    let Ok(report) = came else {
-        return Err("the lane stopped".into());
-    };
+    let ran = run_over(rt, rt.alloc(), log, node, batch.as_slice(), 0, true)?;
     let outcomes = [Outcome::Held, Outcome::Missing(0, Hash([2; 32]))];
-    assert_eq!(rt; report.batches.len(), 1);
-    assert_eq!(rt; first_outcomes(&report), Some(outcomes.as_slice()));
-    assert_eq!(rt;
-        counts,
-        Counts {
-            locks: 1,
-            finishes: 1,
-            forgets: 1
-        }
-    );
+    assert!(rt; has_batches(&ran, 1));
+    assert!(rt; has_outcomes(&ran, 0, 1, &outcomes));
+    let Counts {
+        locks,
+        finishes,
+        forgets,
+    } = ran.counts;
+    assert!(rt; locks == 1 && finishes == 1 && forgets == 1);
     Ok(())
 }
