@@ -1,6 +1,7 @@
 // A lane over a coordinator and a shard in memory.
-use super::counting::Counts;
-use super::ledgers::{LANE, Ran, coordinator, has_batches, has_outcomes, run_over, shard, tx};
+use super::ledgers::{
+    LANE, Ran, coordinator, has_batches, has_outcomes, is_asked, run_over, shard, tx,
+};
 use cbdc_types::{BatchId, CompactTx, Hash, List, NodeId, Outcome, Record, Stamp, Status};
 use lane_driver::{LaneFault, LaneFaultKind};
 use mem_devices::PlainDisk;
@@ -28,16 +29,6 @@ fn one(rt: &HostRuntime) -> Result<Vec<CompactTx>, AllocError> {
     let mut txs = Vec::new(rt.alloc());
     txs.push(tx(rt, 9, 1, &[2, 3])?)?;
     Ok(txs)
-}
-
-// Whether each kind of call was made so often.
-fn is_asked(ran: &Ran, count: usize) -> bool {
-    let Counts {
-        locks,
-        finishes,
-        forgets,
-    } = ran.counts;
-    locks == count && finishes == count && forgets == count
 }
 
 // Whether the coordinator and the shard have so many records.

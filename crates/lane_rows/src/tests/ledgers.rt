@@ -201,6 +201,16 @@ pub(crate) struct Ran {
     pub node: ShardNode<PlainDisk>,
 }
 
+/// Whether the shard was asked each kind of call so often.
+pub(crate) fn is_asked(ran: &Ran, count: usize) -> bool {
+    let Counts {
+        locks,
+        finishes,
+        forgets,
+    } = ran.counts;
+    locks == count && finishes == count && forgets == count
+}
+
 /// Whether a lane came to so many batches.
 pub(crate) fn has_batches(ran: &Ran, count: usize) -> bool {
     match &ran.came {

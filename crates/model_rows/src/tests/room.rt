@@ -16,9 +16,17 @@ fn behind(rt: &HostRuntime, tx: Tx) -> Result<Vec<List<Record>>, Fail> {
     Ok(journals(rt, &shape, rows.as_slice())?)
 }
 
+// Whether so many bytes are told.
+fn is_told(told: Option<u64>, wanted: u64) -> bool {
+    match told {
+        Some(n) => n == wanted,
+        None => false,
+    }
+}
+
 // Whether a journal's records have these sizes, the newest first.
 fn are_sizes(past: &[Record], wanted: &[u64]) -> bool {
-    past.len() == wanted.len() && past.iter().zip(wanted).all(|(r, n)| size_of(r) == Some(*n))
+    past.len() == wanted.len() && past.iter().zip(wanted).all(|(r, n)| is_told(size_of(r), *n))
 }
 
 // Whether a journal takes so many bytes behind each of its records, the newest first.
@@ -27,7 +35,7 @@ fn are_used(past: &[Record], wanted: &[u64]) -> bool {
         return false;
     }
     for place in 0..past.len() {
-        if used_of(&past[place..]) != Some(wanted[place]) {
+        if !is_told(used_of(&past[place..]), wanted[place]) {
             return false;
         }
     }
@@ -40,7 +48,7 @@ fn are_kept(shape: &Shape, past: &[Record], wanted: &[u64]) -> bool {
         return false;
     }
     for place in 0..past.len() {
-        if kept_room(shape, &past[place..]) != Some(wanted[place]) {
+        if !is_told(kept_room(shape, &past[place..]), wanted[place]) {
             return false;
         }
     }
@@ -75,9 +83,9 @@ fn is_needed(rt: &HostRuntime, shape: &Shape, start: &Record) -> Result<bool, Al
     let txs = [confirmed([1, 0], [2, 0])];
     let prepared = prepare(rt, 1, batch(1), &txs)?;
     Ok(
-        used_of(own.as_slice()) == Some(99)
-            && size_of(&prepared) == Some(154)
-            && need_of(shape, own.as_slice(), &prepared) == Some(321),
+        is_told(used_of(own.as_slice()), 99)
+            && is_told(size_of(&prepared), 154)
+            && is_told(need_of(shape, own.as_slice(), &prepared), 321),
     )
 }
 
@@ -91,7 +99,7 @@ fn the_need_of_a_prepare(rt: HostRuntime) -> Result<(), Fail> {
         return Err(Fail::new("there is no Start"));
     };
     assert!(rt; is_needed(&rt, &shape, start)?);
-    assert!(rt; used_of(log) == Some(364));
+    assert!(rt; is_told(used_of(log), 364));
     Ok(())
 }
 
@@ -114,15 +122,15 @@ fn the_need_of_a_lock(rt: HostRuntime) -> Result<(), Fail> {
     let shape = Shape::new(1, 1, 1, 16)?;
     let mut records = one(&rt, genesis(&rt, header(1, shape), &[1])?)?;
     let locked = short_lock(&rt, 2, batch(1), 1)?;
-    assert!(rt; used_of(records.as_slice()) == Some(139));
-    assert!(rt; kept_room(&shape, records.as_slice()) == Some(0));
-    assert!(rt; size_of(&locked) == Some(131));
-    assert!(rt; need_of(&shape, records.as_slice(), &locked) == Some(208));
+    assert!(rt; is_told(used_of(records.as_slice()), 139));
+    assert!(rt; is_told(kept_room(&shape, records.as_slice()), 0));
+    assert!(rt; is_told(size_of(&locked), 131));
+    assert!(rt; is_told(need_of(&shape, records.as_slice(), &locked), 208));
     records.push(locked)?;
     let own = newest_first(records);
-    assert!(rt; used_of(own.as_slice()) == Some(270));
-    assert!(rt; kept_room(&shape, own.as_slice()) == Some(77));
-    assert!(rt; lane_room(own.as_slice(), LaneId(0)) == Some(77));
+    assert!(rt; is_told(used_of(own.as_slice()), 270));
+    assert!(rt; is_told(kept_room(&shape, own.as_slice()), 77));
+    assert!(rt; is_told(lane_room(own.as_slice(), LaneId(0)), 77));
     Ok(())
 }
 
@@ -134,9 +142,9 @@ fn the_need_of_a_lock_beside_an_open_batch(rt: HostRuntime) -> Result<(), Fail> 
     records.push(short_lock(&rt, 2, of_lane(1, 5), 1)?)?;
     let own = newest_first(records);
     let locked = short_lock(&rt, 4, of_lane(0, 1), 3)?;
-    assert!(rt; lane_room(own.as_slice(), LaneId(0)) == Some(0));
-    assert!(rt; lane_room(own.as_slice(), LaneId(1)) == Some(77));
-    assert!(rt; kept_room(&shape, own.as_slice()) == Some(77));
-    assert!(rt; need_of(&shape, own.as_slice(), &locked) == Some(285));
+    assert!(rt; is_told(lane_room(own.as_slice(), LaneId(0)), 0));
+    assert!(rt; is_told(lane_room(own.as_slice(), LaneId(1)), 77));
+    assert!(rt; is_told(kept_room(&shape, own.as_slice()), 77));
+    assert!(rt; is_told(need_of(&shape, own.as_slice(), &locked), 285));
     Ok(())
 }

@@ -1,12 +1,10 @@
-// What a driver takes and makes of a batch's parts, and a batcher before a lane.
+// What a driver takes and makes of a batch's parts.
 ghost use Rattle.std.specs.Prelude.{◌≤◌, ◌<◌, ℕ, IsTrue, length, All, ◌↔◌};
 
-use super::counting::Counts;
-use super::ledgers::{LANE, coordinator, has_batches, has_outcomes, header, run_over, shard, tx};
-use batcher::Batcher;
+use super::making::{BATCH, header, one};
 use cbdc_types::{
-    BatchId, CompactTx, FinishCall, ForgetCall, Hash, List, LockCall, NodeFault, NodeId, Outcome,
-    Replied, Replies, Reply, Stamp,
+    CompactTx, FinishCall, ForgetCall, Hash, List, LockCall, NodeFault, NodeId, Outcome, Replied,
+    Replies, Reply, Stamp,
 };
 use lane_driver::{
     BatchRoom, LaneFault, LaneFaultKind, LaterRoom, ShardFault, finish_calls, forget_calls, gather,
@@ -14,18 +12,6 @@ use lane_driver::{
 };
 use std::alloc::AllocError;
 use std::test::Fail;
-
-const BATCH: BatchId = BatchId {
-    lane: LANE,
-    number: 1,
-};
-
-// One transaction.
-fn one(rt: &HostRuntime) -> Result<Vec<CompactTx>, AllocError> {
-    let mut txs = Vec::new(rt.alloc());
-    txs.push(tx(rt, 9, 1, &[2, 3])?)?;
-    Ok(txs)
-}
 
 // Whether no part has more entries than that.
 fn are_small(locks: &[(u32, LockCall)], size: usize) -> bool
@@ -52,7 +38,7 @@ struct Calls {
 
 // The calls of a batch of one transaction, which is Held.
 fn calls_of(rt: &HostRuntime, txs: &[CompactTx]) -> Result<Calls, Fail> {
-    let shape = header(0, 16)?.shape;
+    let shape = header()?.shape;
     if txs.len() != 1 {
         return Err("other transactions".into());
     }
@@ -236,44 +222,5 @@ fn answers_come_together(rt: HostRuntime) -> Result<(), Fail> {
         fault: LaneFaultKind::Memory,
     };
     assert!(rt; no_memory() == none);
-    Ok(())
-}
-
-// A batcher for batches of two with two transactions, where it has room for them.
-fn filled(rt: &HostRuntime) -> Result<Batcher, Fail> {
-    let mut batcher = Batcher::new(rt.alloc(), 2);
-    if !batcher.is_full() {
-        batcher.push(tx(rt, 9, 1, &[2])?)?;
-    }
-    if !batcher.is_full() {
-        batcher.push(tx(rt, 8, 2, &[3])?)?;
-    }
-    Ok(batcher)
-}
-
-/// A batcher hands over what was pushed, in order, once; a lane does it.
-#[test]
-fn a_full_batcher_is_a_lanes_batch(rt: HostRuntime) -> Result<(), Fail> {
-    let rt = &rt;
-    assert!(rt; Batcher::new(rt.alloc(), 2).take().is_none());
-    let mut batcher = filled(rt)?;
-    assert!(rt; batcher.is_full());
-    let Some(batch) = batcher.take() else {
-        return Err("nothing was pushed".into());
-    };
-    assert!(rt; batcher.take().is_none() && !batcher.is_full());
-    assert!(rt; batch.len() == 2);
-    let log = coordinator(rt, 10_000, 2, &[])?;
-    let node = shard(rt, 10_000, 2, 1)?;
-    let ran = run_over(rt, rt.alloc(), log, node, batch.as_slice(), 0, true)?;
-    let outcomes = [Outcome::Held, Outcome::Missing(0, Hash([2; 32]))];
-    assert!(rt; has_batches(&ran, 1));
-    assert!(rt; has_outcomes(&ran, 0, 1, &outcomes));
-    let Counts {
-        locks,
-        finishes,
-        forgets,
-    } = ran.counts;
-    assert!(rt; locks == 1 && finishes == 1 && forgets == 1);
     Ok(())
 }

@@ -2,22 +2,15 @@
 ghost use Rattle.std.specs.Prelude.{◌≤◌, ◌<◌, ◌^◌, ℕ, IsTrue};
 ghost use Rattle.coord_core.specs.Decided.{RisesBelow, AllEarlier};
 
-use super::ledgers::{LANE, header, tx};
-use cbdc_types::{
-    BatchId, CompactTx, LaneId, List, Outcome, Record, Replies, Reply, ShardReplies, Stamp,
-};
+use super::making::{BATCH, LANE, header, one};
+use cbdc_types::{CompactTx, LaneId, List, Outcome, Record, Replies, Reply, ShardReplies, Stamp};
 use coord_core::{CoordCore, LanePhase, copied_txs};
 use std::alloc::AllocError;
 use std::test::Fail;
 
-const BATCH: BatchId = BatchId {
-    lane: LANE,
-    number: 1,
-};
-
 // The lanes of a coordinator without a batch.
 fn started(rt: &HostRuntime) -> Result<CoordCore, Fail> {
-    let header = header(0, 16)?;
+    let header = header()?;
     if header.node.0 < header.shape.coordinators() {
         Ok(CoordCore::new(rt.alloc(), &header)?)
     } else {
@@ -186,8 +179,7 @@ fn begin(rt: &HostRuntime, core: &mut CoordCore, txs: &[CompactTx]) -> Result<()
 
 // The lanes behind a Prepare of one transaction.
 fn with_prepare(rt: &HostRuntime) -> Result<CoordCore, Fail> {
-    let mut txs = Vec::new(rt.alloc());
-    txs.push(tx(rt, 9, 1, &[2, 3])?)?;
+    let txs = one(rt)?;
     let mut core = started(rt)?;
     begin(rt, &mut core, &txs)?;
     Ok(core)
@@ -218,7 +210,7 @@ fn commit(rt: &HostRuntime, core: &mut CoordCore) -> Result<(), Fail> {
 #[test]
 fn a_prepare_begins_a_batch(rt: HostRuntime) -> Result<(), Fail> {
     let rt = &rt;
-    let header = header(0, 16)?;
+    let header = header()?;
     let fresh = started(rt)?;
     assert!(rt; *fresh.header() == header);
     assert!(rt; fresh.owns(LANE) && !fresh.owns(LaneId(1)));
