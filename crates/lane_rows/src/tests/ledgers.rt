@@ -71,8 +71,8 @@ fn write(
     Ok(())
 }
 
-/// A disk with the journal of a first record and the later ones.
-pub(crate) fn written(
+// A disk with the journal of a first record and the later ones.
+fn written(
     rt: &HostRuntime,
     disk: PlainDisk,
     header: &Header,
@@ -91,6 +91,33 @@ pub(crate) fn written(
     Ok(journal.into_disk())
 }
 
+// A disk of this capacity with such a journal.
+fn disk_with(
+    rt: &HostRuntime,
+    capacity: usize,
+    header: &Header,
+    first: &Record,
+    later: &[Record],
+) -> Result<PlainDisk, Fail> {
+    let disk = PlainDisk::new(rt.alloc(), capacity)?;
+    written(rt, disk, header, first, later)
+}
+
+// The coordinator of a disk, and the shard.
+fn opened_log(rt: &HostRuntime, disk: PlainDisk) -> Result<CoordLog<PlainDisk>, Fail> {
+    match CoordLog::open(rt.alloc(), disk) {
+        Ok(log) => Ok(log),
+        Err(_) => Err("no coordinator".into()),
+    }
+}
+
+fn opened_node(rt: &HostRuntime, disk: PlainDisk) -> Result<ShardNode<PlainDisk>, Fail> {
+    match ShardNode::open(rt.alloc(), disk) {
+        Ok(node) => Ok(node),
+        Err(_) => Err("no shard".into()),
+    }
+}
+
 /// The coordinator whose disk has a Start and these records.
 pub(crate) fn coordinator(
     rt: &HostRuntime,
@@ -100,11 +127,16 @@ pub(crate) fn coordinator(
 ) -> Result<CoordLog<PlainDisk>, Fail> {
     let header = header(0, batch)?;
     let start = Record::Start { header };
-    let disk = PlainDisk::new(rt.alloc(), capacity)?;
-    match CoordLog::open(rt.alloc(), written(rt, disk, &header, &start, later)?) {
-        Ok(log) => Ok(log),
-        Err(_) => Err("no coordinator".into()),
-    }
+    let disk = disk_with(rt, capacity, &header, &start, later)?;
+    opened_log(rt, disk)
+}
+
+// The first record of a shard that holds one hash.
+fn genesis(rt: &HostRuntime, header: Header, coin: u8) -> Result<Record, AllocError> {
+    Ok(Record::Genesis {
+        header,
+        hashes: hashes(rt, &[coin])?,
+    })
 }
 
 /// The shard whose journal begins with one unspent hash.
@@ -115,15 +147,9 @@ pub(crate) fn shard(
     coin: u8,
 ) -> Result<ShardNode<PlainDisk>, Fail> {
     let header = header(1, batch)?;
-    let first = Record::Genesis {
-        header,
-        hashes: hashes(rt, &[coin])?,
-    };
-    let disk = PlainDisk::new(rt.alloc(), capacity)?;
-    match ShardNode::open(rt.alloc(), written(rt, disk, &header, &first, &[])?) {
-        Ok(node) => Ok(node),
-        Err(_) => Err("no shard".into()),
-    }
+    let first = genesis(rt, header, coin)?;
+    let disk = disk_with(rt, capacity, &header, &first, &[])?;
+    opened_node(rt, disk)
 }
 
 // A hash has its 32 bytes.

@@ -26,7 +26,11 @@ fn is_told(told: Option<u64>, wanted: u64) -> bool {
 
 // Whether a journal's records have these sizes, the newest first.
 fn are_sizes(past: &[Record], wanted: &[u64]) -> bool {
-    past.len() == wanted.len() && past.iter().zip(wanted).all(|(r, n)| is_told(size_of(r), *n))
+    past.len() == wanted.len()
+        && past
+            .iter()
+            .zip(wanted)
+            .all(|(r, n)| is_told(size_of(r), *n))
 }
 
 // Whether a journal takes so many bytes behind each of its records, the newest first.
