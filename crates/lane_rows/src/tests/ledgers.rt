@@ -289,6 +289,32 @@ fn are_settled(log: &CoordLog<PlainDisk>, node: &ShardNode<PlainDisk>) -> bool
     are_first(node.records())
 }
 
+// The only one of these.
+fn only<T: Drop>(all: Vec<T>) -> Result<T, Fail> {
+    let mut all = all;
+    match all.pop() {
+        Some(one) => Ok(one),
+        None => Err("no node".into()),
+    }
+}
+
+// What a lane came to, and the nodes that it ran over.
+fn ended<'r, W: Wait>(
+    came: Result<LaneReport, LaneFault>,
+    ports: Ports<Counting<NodeShards<'r, W, PlainDisk>>, NodeLogs<'r, W, PlainDisk>>,
+) -> Result<Ran, Fail> {
+    let Ports { shards, log } = ports;
+    let Counting { ports, counts } = shards;
+    let NodeShards { nodes, .. } = ports;
+    let NodeLogs { logs, .. } = log;
+    Ok(Ran {
+        came,
+        counts,
+        log: only(logs)?,
+        node: only(nodes)?,
+    })
+}
+
 /// Runs the lane over these nodes, where it may be run: all its transactions, or one batch of them.
 pub(crate) fn run_over<W: Wait>(
     rt: &W,
@@ -323,17 +349,5 @@ pub(crate) fn run_over<W: Wait>(
     } else {
         return Err("no batch".into());
     };
-    let Ports { shards, log } = ports;
-    let Counting { ports, counts } = shards;
-    let NodeShards { mut nodes, .. } = ports;
-    let NodeLogs { mut logs, .. } = log;
-    match (logs.pop(), nodes.pop()) {
-        (Some(log), Some(node)) => Ok(Ran {
-            came,
-            counts,
-            log,
-            node,
-        }),
-        _ => Err("no nodes".into()),
-    }
+    ended(came, ports)
 }
