@@ -54,7 +54,7 @@ module _ (K : Shape) (mint : List Output) (sound : FullTx → Bool) (capacity : 
       let room = prepare_room_law K (minted mint) sound capacity files E X lane txs left front limits ample way lt has
       (subst (λ n. IsEnd (E n) front) at since) (subst (λ n. IsEnd front (X n)) at within) in
       subst (λ n. HasRoom K capacity n front r) (sym at) (subst (HasRoom K capacity (home_of K lane) front) (sym e) room)
-  has_room lane node front r lt (wants_lock b t txs s is at concerned phase stands behind e) since within =
+  has_room lane node front r lt (wants_lock b t txs s is at concerned phase stands have behind e) since within =
       let room = lock_room_law K (minted mint) sound capacity files E X b t txs s front limits ample way (omega (arith, is, lt))
       (subst (λ l. record_of 6 (X (home_of K l)) b ≡ Some (Prepare t b txs)) (sym is) stands) (is_concerned_there K txs s concerned)
       (subst (λ l. (slot (X (shard_node K s)) l).number < b.number) (sym is) (subst (λ n. (slot (X n) lane).number < b.number) at behind))

@@ -5,3 +5,4 @@ pub mod Pieces
 pub mod Causing
 pub mod Flying
 pub mod Ending
+pub mod Cutting

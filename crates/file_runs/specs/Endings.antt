@@ -1,13 +1,15 @@
 -- Whose fault ends files that are run one after another.
 use Rattle.std.specs.Prelude.{◌≡◌, ◌⊎◌, ℕ, ◌<◌, Bool, List, [], ◌∷◌, ◌++◌}
 use Rattle.cbdc_model.specs.Records.{Shape, Record}
-use Rattle.cbdc_model.specs.Coins.{FullTx}
+use Rattle.cbdc_model.specs.Coins.{Output, FullTx}
 use Rattle.cbdc_model.specs.Lanes.{IsEnd}
-use Rattle.cbdc_model.specs.World.{AreIdle}
-use Rattle.cbdc_model.specs.Waves.{sent_to}
+use Rattle.cbdc_model.specs.World.{AreIdle, KeptJournals}
+use Rattle.cbdc_model.specs.Waves.{sent_to, Waves}
 use Rattle.submissions.specs.Checks.{VerdictsOf, TellsSound}
 use Rattle.lane_driver.specs.declared.fault.LaneFault.{LaneFault}
 use Rattle.ledger_runs.specs.Least.{IsLeastFault, IsUnbegun}
+use Rattle.ledger_runs.specs.Turning.{IsLaneOf}
+use Rattle.ledger_runs.specs.Pieces.{HasBegun}
 use Rattle.file_runs.specs.Runs.{IsSentPiece, HavePreparedFiles, HaveBegunFile}
 
 -- a file's: memory ran out before its wave; or it is the least lane's that met one in the wave, and each lesser lane has run all that the file sends it
@@ -32,3 +34,22 @@ pub record EndsFiles (K : Shape) (verdicts : VerdictsOf) (files : List (List Ful
   pub before : HavePreparedFiles K verdicts done I middle
   pub idle : AreIdle K middle
   pub ends : EndsFirst K verdicts more middle J failed may_hold e
+
+-- of more files, from journals M to X, the first alone has been begun; without one nothing was done
+abbrev pub HasBegunFirst : Shape → (FullTx → Bool) → List (List FullTx) → (ℕ → List Record) → (ℕ → List Record) → Type 0
+HasBegunFirst K sound [] M X = (n : ℕ) → X n ≡ M n
+HasBegunFirst K sound (file ∷ more) M X = 0 < K.batch → (lane : ℕ) → IsLaneOf K lane → HasBegun K lane (sent_to K sound file lane) M X
+
+-- files that were run or cut short, from journals E, in which batches were open, to X: the open batches and the waves of the files before are at their
+-- end, those journals are kept with all lanes idle, and from there on they have grown by the first of the other files alone
+pub record AreCut (K : Shape) (sound : FullTx → Bool) (files : List (List FullTx)) (mint : List Output) (E X : ℕ → List Record) : Type 0 where
+  pub done : List (List FullTx)
+  pub more : List (List FullTx)
+  pub are : files ≡ done ++ more
+  pub middle : ℕ → List Record
+  pub waves : Waves K sound done E middle
+  pub submissions : List FullTx
+  pub kept : KeptJournals K mint submissions middle
+  pub idle : AreIdle K middle
+  pub onward : (n : ℕ) → IsEnd (middle n) (X n)
+  pub first : HasBegunFirst K sound more middle X

@@ -10,7 +10,7 @@ ghost use Rattle.submissions.specs.Checks.{TellsSound};
 ghost use Rattle.ledger_runs.specs.Turning.{OfKept, StaysKept};
 ghost use Rattle.ledger_runs.specs.Faults.{IsRunCause, HaveFailed, MayHold};
 ghost use Rattle.file_runs.specs.Runs.{joined, IsFilesPiece, FliesWith, HaveBegunFiles};
-ghost use Rattle.file_runs.specs.Endings.{EndsFiles};
+ghost use Rattle.file_runs.specs.Endings.{EndsFiles, AreCut};
 ghost use Rattle.file_runs.specs.Telling.{TellFiles};
 
 use crate::waves::{Wave, run_file};
@@ -45,6 +45,10 @@ pub fn run_files<L: Turns, V: Verifier, G: Gate>(
 
     // And what each wave tells of its submissions.
     ensures told { IfOk result (λ ws. OfKept (L.shape ledger.old) (L.journals ledger.old) (λ _ _. TellFiles (L.shape ledger.old) (V.verdict_of verifier.now) files.now (L.journals ledger.old) (L.journals ledger.new) ws.items)) }
+
+    // With a fault or without, files before have been run behind the resuming, and what came behind them is new.
+    ensures cut { OfKept (L.shape ledger.old) (L.journals ledger.old) (λ mint _. (sound : TxOf → Bool) (E : ℕ → List Record)
+        → TellsSound (V.verdict_of verifier.now) sound → IsResumed (L.shape ledger.old) E (L.journals ledger.old) → AreCut (L.shape ledger.old) sound files.now mint E (L.journals ledger.new)) }
 
     ensures quiet { OnOk result (OfKept (L.shape ledger.old) (L.journals ledger.old) (λ _ _. L.quiet ledger.old → L.quiet ledger.new)) }
     // What is in flight may come next at its node, as before.

@@ -22,7 +22,7 @@ use Rattle.lane_laws.proofs.Tellings.{Stopped, told_err}
 use Rattle.lane_laws.proofs.ByShard.{every_any, first_at}
 use Rattle.lane_driver.specs.declared.fault.Stop.{Stop}
 use Rattle.lane_driver.specs.Stops.{IsStopOf, IsStoppedAt}
-use Rattle.lane_driver.specs.Causes.{HasNoRoom, IsCause, IsLogCause, IsShardCause, IsCausedStop}
+use Rattle.lane_driver.specs.Causes.{HasNoRoom, IsCause, IsLogCause, IsDecideCause, IsShardCause, IsCausedStop}
 use Rattle.lane_driver.specs.Told.{AreShards}
 use Rattle.lane_driver.proofs.Phasing.{fault_inside}
 
@@ -188,7 +188,7 @@ late_grants {A = A} stamp a r why e = one (nat_lt last_late stamp) e
     one false e = let z : Writes a r ≡ err (Refuses why) = e in cc
 
 -- a record of a coordinator's open batch: only its stamp can be past its bound
-pub late_caused : (alone : Bool) (lane : ℕ) (stamp : List Record → ℕ) (what : List Record → Record) (old new : Sight) (f : NodeFault)
+late_caused : (alone : Bool) (lane : ℕ) (stamp : List Record → ℕ) (what : List Record → Record) (old new : Sight) (f : NodeFault)
     → Told alone lane false (λ broken J. unless_broken broken (if_early last_late (stamp J) (Writes (stamp J) (what J)))) old new (Err f) → IsLogCause f new
 late_caused alone lane stamp what old new f t =
     log_caused alone lane false (λ J. if_early last_late (stamp J) (Writes (stamp J) (what J))) old new (late_owing old.header.shape old.capacity stamp stamp what)
@@ -199,6 +199,33 @@ discard_caused alone lane cause old new f t = late_caused alone lane (λ J. next
 
 pub done_caused : (alone : Bool) (lane cause : ℕ) (old new : Sight) (f : NodeFault) → Told alone lane false (done_due lane cause) old new (Err f) → IsLogCause f new
 done_caused alone lane cause old new f t = late_caused alone lane (λ J. next_stamp J cause) (λ J. done_record lane cause J) old new f t
+
+-- ---- a decide
+
+-- what is a cause at a decide is one at any call of its coordinator
+pub decide_caused : (f : NodeFault) (now : Sight) → IsDecideCause f now → IsLogCause f now
+decide_caused (Broken since) now is = is
+decide_caused (Refuses why) now is = is
+decide_caused (ClockEnd stamp) now is = is
+decide_caused (Full used need capacity) now is = absurd is
+decide_caused DiskFault now is = is
+decide_caused Memory now is = absurd is
+
+-- only its stamp can be past its bound, and it takes no memory
+pub commit_caused : (alone : Bool) (lane : ℕ) (stamp : List Record → ℕ) (what : List Record → Record) (old new : Sight) (f : NodeFault)
+    → Told alone lane false (λ broken J. unless_broken broken (if_early last_late (stamp J) (Writes (stamp J) (what J)))) old new (Err f) → IsDecideCause f new
+commit_caused alone lane stamp what old new f t = because_late f (told_err alone lane false (λ J. if_early last_late (stamp J) (Writes (stamp J) (what J))) old new f owing.unbroken t)
+  where
+    owing : IsOwing old.header.shape old.capacity (λ J. if_early last_late (stamp J) (Writes (stamp J) (what J)))
+    owing = late_owing old.header.shape old.capacity stamp stamp what
+
+    because_late : (f : NodeFault) → Stopped alone lane false (λ J. if_early last_late (stamp J) (Writes (stamp J) (what J))) old new f → IsDecideCause f new
+    because_late (Broken since) st = st.risen
+    because_late (Refuses why) st = late_grants (stamp st.found) (stamp st.found) (what st.found) why st.why
+    because_late (ClockEnd end) st = owing.ends st.found end st.why
+    because_late (Full used need capacity) st = late_full (stamp st.found) (stamp st.found) (what st.found) used need capacity st.why
+    because_late DiskFault st = st.risen
+    because_late Memory st = let z : false ≡ true = st.why in cc
 
 -- ---- the lane's fault
 

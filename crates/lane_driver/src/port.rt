@@ -6,7 +6,7 @@ ghost use Rattle.cbdc_model.specs.Slots.{Phase, Idle, InPrepare, InCommit, InDis
 ghost use Rattle.cbdc_model.specs.Grammar.{HasSize, IsCompact, IsReply};
 ghost use Rattle.cbdc_model.specs.Calls.{IsLockCall, IsFinishCall, IsForgetCall};
 ghost use Rattle.lane_driver.specs.Told.{IsLane, IsStillNode, KeepsOthers, KeepNodes, AreLockCalls, AreFinishCalls, AreForgetCalls, AreShards, EachAnswer, LockTold, StampTold, AreReplies, IsPrepared, IsStamp};
-ghost use Rattle.lane_driver.specs.Causes.{IsLogCause};
+ghost use Rattle.lane_driver.specs.Causes.{IsDecideCause};
 ghost use Rattle.lane_driver.specs.Calls.{shard};
 ghost use Rattle.cbdc_model.specs.Records.{outcomes_of};
 ghost use Rattle.cbdc_model.specs.Due.{open_batch, prepare_due, discard_due, done_due};
@@ -19,7 +19,8 @@ use cbdc_types::{
 };
 use outside::Gate;
 
-/// The log of a lane's coordinator.
+/// The log of a lane's coordinator. Where records of other lanes may come between two calls, a call may find another lane's
+/// phase and transactions changed.
 pub trait LogPort {
     /// What is known of each coordinator, by its number.
     ghost sights: { Self → ℕ → Sight };
@@ -33,7 +34,7 @@ pub trait LogPort {
     /// The header of the coordinator's journal.
     ghost header: { Self → Header };
 
-    /// What the last record of a lane is there.
+    /// What the last known record of a lane is there.
     ghost phase: { Self → ℕ → Phase };
 
     /// The transactions of a lane's batch that is not done.
@@ -62,7 +63,7 @@ pub trait LogPort {
         ensures prepared { IfOk result (IsPrepared (header self.old).shape lane) }
         ensures phase { OnOk result (phase self.new lane ≡ InPrepare) }
         ensures txs { OnOk result (open_txs self.new lane ≡ txs.now) }
-        ensures others { KeepsOthers (header self.old) lane (phase self.old) (phase self.new) (open_txs self.old) (open_txs self.new) }
+        ensures others { alone ≡ true → KeepsOthers (header self.old) lane (phase self.old) (phase self.new) (open_txs self.old) (open_txs self.new) }
         ensures header { header self.new ≡ header self.old }
         ensures count { count self.new ≡ count self.old }
         ensures told { Told alone lane true (prepare_due (sights self.old (at self.old)).header.shape (sights self.old (at self.old)).capacity lane txs.now) (sights self.old (at self.old)) (sights self.new (at self.new)) result }
@@ -73,7 +74,7 @@ pub trait LogPort {
         ensures holds { holds self.old → holds self.new };
 
     /// Decides the prepared batch by what its shards replied, and tells the outcomes in place of what `out` holds, which
-    /// has room for them.
+    /// has room for them. It wants neither room nor memory.
     fn decide<G: Gate>(
         &mut self,
         lane: LaneId,
@@ -88,10 +89,10 @@ pub trait LogPort {
         ensures stamp { IfOk result IsStamp }
         ensures phase { OnOk result (phase self.new lane ≡ InCommit) }
         ensures outcomes { OnOk result (length out.new.items ≡ length (open_txs self.old lane)) }
-        ensures others { KeepsOthers (header self.old) lane (phase self.old) (phase self.new) (open_txs self.old) (open_txs self.new) }
+        ensures others { alone ≡ true → KeepsOthers (header self.old) lane (phase self.old) (phase self.new) (open_txs self.old) (open_txs self.new) }
         ensures header { header self.new ≡ header self.old }
         ensures count { count self.new ≡ count self.old }
-        ensures fault { IfErr result (λ f. IsLogCause f (sights self.new (at self.new))) }
+        ensures fault { IfErr result (λ f. IsDecideCause f (sights self.new (at self.new))) }
         ensures told { DecideAnswer alone lane replies.now (sights self.old (at self.old)) (sights self.new (at self.new)) result }
         ensures written { OnOk result (out.new.items ≡ outcomes_of (sights self.new (at self.new)).seen (open_batch (sights self.new (at self.new)).seen lane)) }
         ensures at_same { at self.new ≡ at self.old }
@@ -107,7 +108,7 @@ pub trait LogPort {
         requires cause { IsStamp cause }
         ensures stamp { IfOk result IsStamp }
         ensures phase { OnOk result (phase self.new lane ≡ InDiscard) }
-        ensures others { KeepsOthers (header self.old) lane (phase self.old) (phase self.new) (open_txs self.old) (open_txs self.new) }
+        ensures others { alone ≡ true → KeepsOthers (header self.old) lane (phase self.old) (phase self.new) (open_txs self.old) (open_txs self.new) }
         ensures header { header self.new ≡ header self.old }
         ensures count { count self.new ≡ count self.old }
         ensures told { Told alone lane false (discard_due lane cause) (sights self.old (at self.old)) (sights self.new (at self.new)) result }
@@ -124,7 +125,7 @@ pub trait LogPort {
         requires cause { IsStamp cause }
         ensures stamp { IfOk result IsStamp }
         ensures phase { OnOk result (phase self.new lane ≡ Idle) }
-        ensures others { KeepsOthers (header self.old) lane (phase self.old) (phase self.new) (open_txs self.old) (open_txs self.new) }
+        ensures others { alone ≡ true → KeepsOthers (header self.old) lane (phase self.old) (phase self.new) (open_txs self.old) (open_txs self.new) }
         ensures header { header self.new ≡ header self.old }
         ensures count { count self.new ≡ count self.old }
         ensures told { Told alone lane false (done_due lane cause) (sights self.old (at self.old)) (sights self.new (at self.new)) result }

@@ -1,5 +1,5 @@
 -- The answers of a phase's calls, by shard.
-use Rattle.std.proofs.Common.{◌≡◌, ℕ, zero, suc, ◌<◌, ◌≤◌, max, Bool, true, false, ◌==◌, List, [], ◌∷◌, length, map, Some, None, Result, Ok, Err, IsOk, slice_index_or, refl, sym, ap, ◌∙◌, subst, arith}
+use Rattle.std.proofs.Common.{◌≡◌, ℕ, zero, suc, ◌<◌, ◌≤◌, max, Bool, true, false, ◌==◌, List, [], ◌∷◌, length, map, take, Some, None, Result, Ok, Err, IsOk, slice_index_or, refl, sym, ap, ◌∙◌, subst, arith}
 use Rattle.std.specs.List.{All}
 use Rattle.std.proofs.lemmas.List.Elements.{All-head, All-tail}
 use Rattle.cbdc_types.specs.declared.calls.LockCall.{LockCall}
@@ -135,6 +135,36 @@ first_at {C = C} {A = A} told P I J s f cs answers each every first = go cs answ
     go (c ∷ cs) [] each every place lt call fault = absurd each
     go (c ∷ cs) (a ∷ answers) each every zero lt call fault = (c, every.0, call c, subst (λ b. told c (I s) (J s) b) (fault a) (subst (λ m. told c (I m) (J m) a) (call c) each.0))
     go (c ∷ cs) (a ∷ answers) each every (suc place) lt call fault = go cs answers each.1 every.1 place (omega arith) call fault
+
+-- no call is for a shard below all of theirs
+none_below : {C : Type 0} (n k : ℕ) (cs : List (ℕ × C)) → k < n → AllAbove shard n cs → NotAmong shard cs k
+none_below n k [] lt above = tt
+none_below n k (c ∷ cs) lt above = (apart c.0 n k above.0 lt, none_below n k cs lt above.1)
+  where
+    apart : (m n k : ℕ) → n < m → k < n → (m == k) ≡ false
+    apart m n k a b = grind (arith, a, b)
+
+-- a call for a lesser shard than that of the first fault was answered Ok
+pub before_at : {C A : Type 0} (told : ℕ × C → Sight → Sight → Result A NodeFault → Type 0) (P : ℕ × C → Type 0) (I J : ℕ → Sight) (s k : ℕ) (f : NodeFault) (cs : List (ℕ × C)) (answers : List (Result A NodeFault))
+    → EachTold told cs answers I J → Every P cs → IsRising shard cs → FirstFault shard cs answers s f → k < s → (NotAmong shard cs k → ⊥) → (c : ℕ × C) × P c × (c.0 ≡ k) × (a : A) × told c (I k) (J k) (Ok a)
+before_at {C = C} {A = A} told P I J s k f cs answers each every rising first lt = go cs answers each every rising first.place first.inside first.call first.before
+  where
+    go : (cs : List (ℕ × C)) (answers : List (Result A NodeFault)) → EachTold told cs answers I J → Every P cs → IsRising shard cs → (place : ℕ) → place < length cs
+        → ((c : ℕ × C) → shard (slice_index_or cs place c) ≡ s) → All IsOk (take place answers) → (NotAmong shard cs k → ⊥) → (c : ℕ × C) × P c × (c.0 ≡ k) × (a : A) × told c (I k) (J k) (Ok a)
+    go [] answers each every rising place inside call ok among = absurd (omega arith)
+    go (c ∷ cs) [] each every rising place inside call ok among = absurd each
+    go (c ∷ cs) (a ∷ answers) each every rising zero inside call ok among =
+        let low : k < c.0 = subst (λ n. k < n) (sym (call c)) lt in absurd (among (apart c.0 low, none_below c.0 k cs low rising.0))
+      where
+        apart : (n : ℕ) → k < n → (n == k) ≡ false
+        apart n low = grind (arith, low)
+    go (c ∷ cs) (a ∷ answers) each every rising (suc place) inside call ok among =
+        elim (c.0 == k) as (λ t. (c.0 == k) ≡ t → (c : ℕ × C) × P c × (c.0 ≡ k) × (a : A) × told c (I k) (J k) (Ok a)) [
+          | true ↦ λ t. (
+              let x = fine a (All-head IsOk a (take place answers) ok) in
+              (c, every.0, is_same c.0 k t, x.0, subst (λ m. told c (I m) (J m) (Ok x.0)) (is_same c.0 k t) (subst (λ b. told c (I c.0) (J c.0) b) x.1 each.0)))
+          | false ↦ λ t. go cs answers each.1 every.1 rising.1 place (omega arith) call (All-tail IsOk a (take place answers) ok) (λ n. among (t, n))
+        ] refl
 
 -- the greatest of the answers is the greatest by shard
 greatest_with : (f g : ℕ → ℕ) (at t : ℕ) → ((s : ℕ) → (at == s) ≡ false → f s ≡ g s) → f at ≡ t → g at ≡ 0 → (n : ℕ) → at < n → greatest f n ≡ max t (greatest g n)

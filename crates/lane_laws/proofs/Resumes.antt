@@ -57,7 +57,7 @@ module _ (K : Shape) (alone : Bool) (b : Batch) (txs : List Compact) (t : ℕ) (
   pub leaves_discarded : (u td n : ℕ) (locks : List (ℕ × LockCall)) (node : ℕ) (f : NodeFault) → IsDiscardedAt K b txs t td log I → AreLocks K txs b u locks → DiscardedStopped K alone b td n locks log log' I J node f
       → IsLeft K alone b log I log' J node f
   leaves_discarded u td n locks node f d are stop =
-      let r = discarded_stopped K [] alone b.lane b.number d.is_open.home txs log log' I J t u td n locks node f (opening in_discard d.is_open) d.discard (λ s c. d.is_open.others s 4 (inr (inr refl)) c) d.forgetting d.forgot are stop in
+      let r = discarded_stopped K [] alone b.lane b.number d.is_open.home txs log log' I J t u td n locks node f (opening in_discard d.is_open) d.discard d.is_open.phase (λ s c. d.is_open.others s 4 (inr (inr refl)) c) d.forgetting d.forgot are stop in
       record { made = r.fell.made; flown = r.fell.flown; told = r.told; txs = txs; fault = r.fault; granted = r.granted }
 
   pub leaves_committed : (u tc : ℕ) (os : List Outcome) (n : ℕ) (locks : List (ℕ × LockCall)) (node : ℕ) (f : NodeFault) → IsCommittedAt K b txs t tc os log I → AreLocks K txs b u locks

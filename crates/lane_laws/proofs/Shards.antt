@@ -14,7 +14,7 @@ use Rattle.cbdc_model.specs.Outcomes.{decisions}
 use Rattle.cbdc_model.specs.Ranges.{part, is_no_part}
 use Rattle.cbdc_model.specs.Deciding.{replies_at, replies_in, reply_stamp, answered_with}
 use Rattle.cbdc_model.specs.Next.{next_lock, next_finish, next_forget, next_stamp, same_entry, same_decision}
-use Rattle.cbdc_model.specs.Due.{lock_by, stamp_by}
+use Rattle.cbdc_model.specs.Due.{Due, lock_by, stamp_by}
 use Rattle.cbdc_model.specs.Sights.{Sight, Finds}
 use Rattle.ledger_laws.proofs.Slots.{same_batch_self}
 use Rattle.lane_laws.specs.Batches.{own}
@@ -93,6 +93,41 @@ module _ (K : Shape) (alone : Bool) (lane number : ℕ) (txs : List Compact) whe
 
   no_way : {X : Type 0} (s : ℕ) → is_concerned K txs s ≡ true → is_concerned K txs s ≡ false → X
   no_way s c n = absurd (let z : true ≡ false = sym c ∙ n in cc)
+
+  -- behind an Ok answer a shard has the record of its call
+  pub lock_has : (s t : ℕ) (old new : Sight) (a : Replied) → is_concerned K txs s ≡ true → LockAnswer alone (s, record { batch = B; part = part K.shards s 0 txs; cause = t }) old new (Ok a)
+      → is_some (record_of 2 new.seen B) ≡ true
+  lock_has s t old new a c told = elim (told_ok alone lane true by old new a told) [
+    | inl w ↦ (
+        let e = lock_kept old.header.shape old.capacity w.found call (next_lock w.found B (part K.shards s 0 txs) t) a w.answers in
+        let k = lock_stored w.found B (part K.shards s 0 txs) t e.0 e.1 in
+        some_entries (record_of 2 new.seen B) (part K.shards s 0 txs)
+        (ap (λ L. entries (lock_of L B)) w.seen ∙ no_difference same_entry entry_same (entries (lock_of w.found B)) (part K.shards s 0 txs) k.2) (has_part K txs s c))
+    | inr w ↦ (
+        let e = lock_wrote old.header.shape old.capacity w.found call (next_lock w.found B (part K.shards s 0 txs) t) a w.what w.writes in
+        ap (λ L. is_some (record_of 2 L B)) (w.seen ∙ ap (λ q. q ∷ w.found) e.3) ∙ (let z : same_batch B B ≡ true = self in rw z))
+  ]
+    where
+      call : LockCall
+      call = record { batch = B; part = part K.shards s 0 txs; cause = t }
+
+      by : List Record → Due Replied
+      by L = lock_by (next_lock L B (part K.shards s 0 txs) t) old.header.shape old.capacity L call
+
+  pub finish_has : (os : List Outcome) (s t : ℕ) (old new : Sight) (n : ℕ) → is_concerned K txs s ≡ true → FinishAnswer alone (s, record { batch = B; decisions = decisions os (part K.shards s 0 txs); cause = t }) old new (Ok n)
+      → is_some (record_of 3 new.seen B) ≡ true
+  finish_has os s t old new n c told = elim (told_ok alone lane false by old new n told) [
+    | inl w ↦ (
+        let k = finish_stored w.found B (decisions os (part K.shards s 0 txs)) t n (stamp_kept (next_finish w.found B (decisions os (part K.shards s 0 txs)) t) (Finish (next_stamp w.found t) B (decisions os (part K.shards s 0 txs))) n w.answers) in
+        some_decisions (record_of 3 new.seen B) os (part K.shards s 0 txs)
+        (ap (λ L. decisions_in (record_of 3 L B)) w.seen ∙ no_difference same_decision decision_same (decisions_in (record_of 3 w.found B)) (decisions os (part K.shards s 0 txs)) k.same) (has_part K txs s c))
+    | inr w ↦ (
+        let e = stamp_wrote (next_finish w.found B (decisions os (part K.shards s 0 txs)) t) (Finish (next_stamp w.found t) B (decisions os (part K.shards s 0 txs))) n w.what w.writes in
+        ap (λ L. is_some (record_of 3 L B)) (w.seen ∙ ap (λ q. q ∷ w.found) e.1) ∙ (let z : same_batch B B ≡ true = self in rw z))
+  ]
+    where
+      by : List Record → Due ℕ
+      by L = stamp_by (next_finish L B (decisions os (part K.shards s 0 txs)) t) (Finish (next_stamp L t) B (decisions os (part K.shards s 0 txs)))
 
   -- Lock: what the shard has then
   pub record LockedShard (rs : List ShardReplies) (I J : ℕ → Sight) (s : ℕ) : Type 0 where
@@ -249,6 +284,21 @@ module _ (K : Shape) (alone : Bool) (lane number : ℕ) (txs : List Compact) whe
   abbrev pub IsForgot : (ℕ → Sight) → Type 0
   IsForgot I = (s : ℕ) → is_concerned K txs s ≡ true → (slot (I s).seen lane).number ≡ number → (slot (I s).seen lane).phase ≡ Idle
       → (is_some (record_of 4 (I s).seen B) ≡ true) × (stamp_in (record_of 4 (I s).seen B) ≡ slot_stamp (I s).seen lane)
+
+  pub forget_has : (s t : ℕ) (I J : ℕ → Sight) (n : ℕ) → IsForgot I → is_concerned K txs s ≡ true → ForgetAnswer alone (s, record { batch = B; cause = t }) (I s) (J s) (Ok n) → is_some (record_of 4 (J s).seen B) ≡ true
+  forget_has s t I J n forgot c told = elim (told_ok alone lane false by (I s) (J s) n told) [
+    | inl w ↦ (
+        let k = forget_stored w.found B t n (stamp_kept (next_forget w.found B t) (Forget (next_stamp w.found t) B) n w.answers) in
+        let sl = finds_slot alone lane (I s).seen w.found w.finds in
+        ap (λ L. is_some (record_of 4 L B)) w.seen ∙ ap is_some (finds_record alone 4 B (I s).seen w.found w.finds)
+        ∙ (forgot s c (ap (λ q. q.number) (sym sl) ∙ k.number) (ap (λ q. q.phase) (sym sl) ∙ k.phase)).0)
+    | inr w ↦ (
+        let e = stamp_wrote (next_forget w.found B t) (Forget (next_stamp w.found t) B) n w.what w.writes in
+        ap (λ L. is_some (record_of 4 L B)) (w.seen ∙ ap (λ q. q ∷ w.found) e.1) ∙ (let z : same_batch B B ≡ true = self in rw z))
+  ]
+    where
+      by : List Record → Due ℕ
+      by L = stamp_by (next_forget L B t) (Forget (next_stamp L t) B)
 
   -- a Forget
   pub forgotten_shard : (t : ℕ) (I J : ℕ → Sight) (cs : List (ℕ × ForgetCall)) (answers : List (Result ℕ NodeFault)) → ((s : ℕ) → is_concerned K txs s ≡ false → record_of 4 (I s).seen B ≡ None) → IsForgot I

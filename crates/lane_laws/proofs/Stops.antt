@@ -1,5 +1,5 @@
 -- A batch that a fault stopped: what was made is caused, and so is what was left in flight; and the fault is a node's own answer.
-use Rattle.std.proofs.Common.{◌≡◌, ◌⊎◌, inl, inr, ℕ, suc, ◌<◌, ◌≤◌, Bool, true, false, ◌==◌, List, [], ◌∷◌, map, Some, None, Result, Err, refl, sym, ap, ◌∙◌, subst, arith}
+use Rattle.std.proofs.Common.{◌≡◌, ◌⊎◌, inl, inr, ℕ, suc, ◌<◌, ◌≤◌, Bool, true, false, ◌==◌, List, [], ◌∷◌, map, Some, None, Result, Ok, Err, refl, sym, ap, ◌∙◌, subst, arith}
 use Rattle.cbdc_types.specs.declared.calls.LockCall.{LockCall}
 use Rattle.cbdc_types.specs.declared.calls.FinishCall.{FinishCall}
 use Rattle.cbdc_types.specs.declared.calls.ForgetCall.{ForgetCall}
@@ -8,7 +8,7 @@ use Rattle.cbdc_types.specs.declared.calls.NodeFault.{NodeFault}
 use Rattle.cbdc_types.specs.declared.batch.ShardReplies.{ShardReplies}
 use Rattle.cbdc_types.specs.declared.calls.NodeFault.TheVariants.{Broken, Refused as Refuses, ClockEnd, Full, DiskFault, Memory}
 use Rattle.cbdc_model.specs.Records.{Batch, Compact, Entry, Outcome, Record, Shape, record_of, lock_of as lock_in, Finish, Forget, Prepare, Commit, Discard}
-use Rattle.cbdc_model.specs.Slots.{slot, Idle, InLock, InPrepare, InCommit}
+use Rattle.cbdc_model.specs.Slots.{slot, Idle, InLock, InPrepare, InCommit, InDiscard}
 use Rattle.cbdc_model.specs.After.{FitsReplies}
 use Rattle.cbdc_model.specs.Replies.{entries}
 use Rattle.cbdc_model.specs.Outcomes.{decisions}
@@ -22,7 +22,7 @@ use Rattle.ledger_laws.proofs.Moves.{greatest_bound}
 use Rattle.cbdc_model.specs.Sights.{Sight}
 use Rattle.lane_laws.specs.Batches.{own, prepared, prepared_of, Settled, IsAnswerOf, TakesRoom, BatchStopped}
 use Rattle.lane_laws.specs.Granting.{MayLock, MayFinish, MayForget}
-use Rattle.lane_laws.specs.Faults.{IsAnswered, IsNoRefusal, IsCallFault, to_lock, to_decide, to_finish, to_discard, to_forget, to_done, IsOpenFault}
+use Rattle.lane_laws.specs.Faults.{IsAnswered, IsNoRefusal, IsCallFault, to_lock, to_decide, to_finish, to_discard, to_forget, to_done, IsOpenFault, AreSeenBelow}
 use Rattle.lane_laws.specs.Calls.{shard, is_concerned, Every, AreParts, AreLocks, IsLock, IsFinish, IsForget, lock_of, finish_of, forget_of}
 use Rattle.lane_laws.specs.Gathering.{stamp_at}
 use Rattle.lane_laws.specs.Answers.{LockAnswer, FinishAnswer, ForgetAnswer}
@@ -31,12 +31,12 @@ use Rattle.lane_laws.proofs.Own.{finds_own, slot_own}
 use Rattle.lane_laws.proofs.Views.{Moved, Fell, fell_on, shards_fell}
 use Rattle.lane_laws.proofs.Dues.{lock_unbroken, stamp_unbroken, stamp_full, stamp_end}
 use Rattle.lane_laws.proofs.Tellings.{Stopped, FaultBy, told_err, answered}
-use Rattle.lane_laws.proofs.ByShard.{every_any, first_at}
+use Rattle.lane_laws.proofs.ByShard.{every_any, first_at, before_at}
 use Rattle.lane_laws.proofs.Asked.{OkUnless, locks_step, finishes_step, forgets_step}
 use Rattle.lane_laws.proofs.LogCalls.{Open, LogFell, commit_ok, commit_above, commit_err, discard_ok, discard_above, discard_err, done_err}
 use Rattle.lane_laws.proofs.Grants.{lock_grants, finish_grants, forget_grants, lock_on, finish_on, forget_on, locked_stamp, finished_stamp, early_refuses, late_refuses, stamp_refuses, lock_refuses, unrefused, answer_unrefused}
 use Rattle.lane_laws.proofs.Fits.{decided_fits}
-use Rattle.lane_laws.proofs.Shards.{IsForgot}
+use Rattle.lane_laws.proofs.Shards.{IsForgot, lock_has, finish_has, forget_has}
 use Rattle.lane_laws.proofs.Calls.{in_range, are_locks, are_finishes, are_forgets}
 use Rattle.lane_laws.proofs.Preparing.{batch_of, prepare_ok, prepare_err}
 use Rattle.lane_laws.proofs.Whole.{opened}
@@ -67,6 +67,9 @@ module _ (K : Shape) (pieces : List (List Compact)) (alone : Bool) (lane number 
   committed_slot : (M rest : List Record) (t : ℕ) (os : List Outcome) → M ≡ Commit t B os ∷ rest → (slot M lane).phase ≡ InCommit
   committed_slot M rest t os e = ap (λ L. (slot L lane).phase) e ∙ (let z : (lane == lane) ≡ true = itself lane in rw z)
 
+  discarded_slot : (M rest : List Record) (t : ℕ) → M ≡ Discard t B ∷ rest → (slot M lane).phase ≡ InDiscard
+  discarded_slot M rest t e = ap (λ L. (slot L lane).phase) e ∙ (let z : (lane == lane) ≡ true = itself lane in rw z)
+
   -- where a run of calls stopped behind the Locks
   pub record RunStopped (log log' : Sight) (I J : ℕ → Sight) (node : ℕ) (f : NodeFault) : Type 0 where
     pub fell : Fell K pieces alone lane log I log' J
@@ -83,7 +86,7 @@ module _ (K : Shape) (pieces : List (List Compact)) (alone : Bool) (lane number 
   -- at the coordinator
   log_stopped : (due : List Record → Due ℕ) (log log' : Sight) (I : ℕ → Sight) (t node : ℕ) (f : NodeFault) → Open K lane number txs log t → node ≡ home_of K lane
       → ((why : Refused) → due log'.seen ≡ Answers (Err (Refuses why)) → ⊥)
-      → (IsAnswered false (due log'.seen) log' f → IsCallFault K B txs log' I node f) → LogFell K pieces alone lane number home txs due log log' I f → RunStopped log log' I I node f
+      → ((slot log'.seen lane).phase ≡ (slot log.seen lane).phase → IsAnswered false (due log'.seen) log' f → IsCallFault K B txs log' I node f) → LogFell K pieces alone lane number home txs due log log' I f → RunStopped log log' I I node f
   log_stopped due log log' I t node f o e never call h = record {
     fell = h.0;
     told = inl (e, h.1.risen);
@@ -93,7 +96,7 @@ module _ (K : Shape) (pieces : List (List Compact)) (alone : Bool) (lane number 
       prepare = same_record 6 lane B log.seen log'.seen refl h.1.same ∙ o.prepare;
       number = ap (λ q. q.number) (same_slot lane log.seen log'.seen h.1.same) ∙ o.open_number;
       busy = λ i. o.busy (sym (ap (λ q. q.phase) (same_slot lane log.seen log'.seen h.1.same)) ∙ i);
-      call = call h.3;
+      call = call (ap (λ q. q.phase) (same_slot lane log.seen log'.seen h.1.same)) h.3;
     };
     granted = answer_unrefused false (due log'.seen) log' f never h.3;
     prepares = ap prepared h.1.same;
@@ -102,10 +105,10 @@ module _ (K : Shape) (pieces : List (List Compact)) (alone : Bool) (lane number 
   anyway : {A : Type 0} (answers : List (Result A NodeFault)) → Every (OkUnless true) answers
   anyway answers = every_any (OkUnless true) (λ a. inl refl) answers
 
-  pub discarded_stopped : (log log' : Sight) (I J : ℕ → Sight) (t u td repeats : ℕ) (locks : List (ℕ × LockCall)) (node : ℕ) (f : NodeFault) → Open K lane number txs log t → record_of 8 log.seen B ≡ Some (Discard td B)
+  pub discarded_stopped : (log log' : Sight) (I J : ℕ → Sight) (t u td repeats : ℕ) (locks : List (ℕ × LockCall)) (node : ℕ) (f : NodeFault) → Open K lane number txs log t → record_of 8 log.seen B ≡ Some (Discard td B) → (slot log.seen lane).phase ≡ InDiscard
       → ((s : ℕ) → is_concerned K txs s ≡ false → record_of 4 (I s).seen B ≡ None) → ((s : ℕ) → is_concerned K txs s ≡ true → MayForget (I s).seen B td) → IsForgot K alone lane number txs I → AreLocks K txs B u locks
       → DiscardedStopped K alone B td repeats locks log log' I J node f → RunStopped log log' I J node f
-  discarded_stopped log log' I J t u td repeats locks node f o discard none may forgot are (at_forget s stop same node_is) =
+  discarded_stopped log log' I J t u td repeats locks node f o discard phase_is none may forgot are (at_forget s stop same node_is) =
       subst (λ l. RunStopped log l I J node f) (sym same) (record {
         fell = shards_fell K lane home pieces alone true log I J (forgets_step K pieces alone lane number home txs true td log I J (map (forget_of B td) locks) stop.asked.answers discard (are_forgets K txs B u td locks are)
             stop.asked.each stop.asked.others (anyway stop.asked.answers));
@@ -116,7 +119,7 @@ module _ (K : Shape) (pieces : List (List Compact)) (alone : Bool) (lane number 
           prepare = o.prepare;
           number = o.open_number;
           busy = o.busy;
-          call = to_forget s td node_is concerned discard
+          call = to_forget s td node_is concerned phase_is discard had
               (answered alone lane false (λ L. stamp_by (next_forget L B td) (Forget (next_stamp L td) B)) (I s) (J s) f failed);
         };
         granted = unrefused false (stamp_by (next_forget failed.found B td) (Forget (next_stamp failed.found td) B)) f
@@ -125,6 +128,12 @@ module _ (K : Shape) (pieces : List (List Compact)) (alone : Bool) (lane number 
         prepares = refl;
       })
     where
+      had : AreSeenBelow K txs J 4 B s
+      had k lt c =
+          let e = before_at (ForgetAnswer alone) (IsForget K txs B td) I J s k f (map (forget_of B td) locks) stop.asked.answers stop.asked.each (are_forgets K txs B u td locks are).every (are_forgets K txs B u td locks are).rising stop.first lt
+          (λ n. (are_forgets K txs B u td locks are).covers k c n) in
+          forget_has K alone lane number txs k td I J e.3 forgot c (subst (λ (d : ForgetCall). ForgetAnswer alone (k, d) (I k) (J k) (Ok e.3)) e.1.1 e.4)
+
       asked : (c : ℕ × ForgetCall) × IsForget K txs B td c × (c.0 ≡ s) × ForgetAnswer alone c (I s) (J s) (Err f)
       asked = first_at (ForgetAnswer alone) (IsForget K txs B td) I J s f (map (forget_of B td) locks) stop.asked.answers stop.asked.each (are_forgets K txs B u td locks are).every stop.first
 
@@ -135,10 +144,10 @@ module _ (K : Shape) (pieces : List (List Compact)) (alone : Bool) (lane number 
       failed =
           told_err alone lane false (λ L. stamp_by (next_forget L B td) (Forget (next_stamp L td) B)) (I s) (J s) f (λ L n e. stamp_unbroken (next_forget L B td) (Forget (next_stamp L td) B) n e)
           (subst (λ (d : ForgetCall). ForgetAnswer alone (s, d) (I s) (J s) (Err f)) asked.1.1 asked.3)
-  discarded_stopped log log' I J t u td repeats locks node f o discard none may forgot are (at_done forgotten after phase again told node_is) =
+  discarded_stopped log log' I J t u td repeats locks node f o discard phase_is none may forgot are (at_done forgotten after phase again told node_is) =
       let r = forgets_run K pieces alone lane number home txs log I after J u td forgotten repeats locks discard none forgot are phase again in
       stopped_on log log log' I J J node f r.moved refl
-      (log_stopped (λ L. done_due lane forgotten None L) log log' J t node f o node_is (λ why e. late_refuses _ _ _ why e) (to_done forgotten node_is (r.greatest_is ∙ (λ i. greatest (λ s. sym (r.looks.stamp s) i) K.shards))) (done_err K pieces alone lane number home txs log log' J t o forgotten (stamp_at shard (map (forget_of B td) locks) phase.asked.answers) r.looks r.greatest_is f told))
+      (log_stopped (λ L. done_due lane forgotten None L) log log' J t node f o node_is (λ why e. late_refuses _ _ _ why e) (λ same. to_done forgotten node_is (same ∙ phase_is) (λ s lt c. r.looks.some s c) (r.greatest_is ∙ (λ i. greatest (λ s. sym (r.looks.stamp s) i) K.shards))) (done_err K pieces alone lane number home txs log log' J t o forgotten (stamp_at shard (map (forget_of B td) locks) phase.asked.answers) r.looks r.greatest_is f told))
 
   -- behind the Finishes and a later Discard each concerned shard may forget the batch
   forgetting : (log : Sight) (I J : ℕ → Sight) (os : List Outcome) (m td : ℕ) (fins : ℕ → ℕ) → FinishesRun K pieces alone lane number home txs log I J os m fins → m < td
@@ -193,7 +202,7 @@ module _ (K : Shape) (pieces : List (List Compact)) (alone : Bool) (lane number 
           prepare = o.prepare;
           number = o.open_number;
           busy = o.busy;
-          call = to_finish s tc os node_is concerned phase_is commit
+          call = to_finish s tc os node_is concerned phase_is commit had
               (answered alone lane false (λ L. stamp_by (next_finish L B (decisions os (part K.shards s 0 txs)) tc) (Finish (next_stamp L tc) B (decisions os (part K.shards s 0 txs)))) (I s) (J s) f failed);
         };
         granted = unrefused false (stamp_by (next_finish failed.found B (decisions os (part K.shards s 0 txs)) tc) (Finish (next_stamp failed.found tc) B (decisions os (part K.shards s 0 txs)))) f
@@ -203,6 +212,13 @@ module _ (K : Shape) (pieces : List (List Compact)) (alone : Bool) (lane number 
         prepares = refl;
       })
     where
+      had : AreSeenBelow K txs J 3 B s
+      had k lt c =
+          let e = before_at (FinishAnswer alone) (IsFinish K txs os B tc) I J s k f (map (finish_of B tc os) locks) stop.asked.answers stop.asked.each (are_finishes K txs B os u tc locks are).every (are_finishes K txs B os u tc locks are).rising
+          stop.first lt (λ n. (are_finishes K txs B os u tc locks are).covers k c n) in
+          finish_has K alone lane number txs os k tc (I k) (J k) e.3 c
+          (subst (λ (d : FinishCall). FinishAnswer alone (k, d) (I k) (J k) (Ok e.3)) (e.1.1 ∙ ap (λ (n : ℕ). let d : FinishCall = record { batch = B; decisions = decisions os (part K.shards n 0 txs); cause = tc } in d) e.2) e.4)
+
       asked : (c : ℕ × FinishCall) × IsFinish K txs os B tc c × (c.0 ≡ s) × FinishAnswer alone c (I s) (J s) (Err f)
       asked = first_at (FinishAnswer alone) (IsFinish K txs os B tc) I J s f (map (finish_of B tc os) locks) stop.asked.answers stop.asked.each (are_finishes K txs B os u tc locks are).every stop.first
 
@@ -217,14 +233,14 @@ module _ (K : Shape) (pieces : List (List Compact)) (alone : Bool) (lane number 
   committed_stopped log log' I J t u tc os repeats locks node f o commit phase_is part_is may none are (at_discard finished after phase again told node_is) =
       let r = finishes_run K pieces alone lane number home txs log I after J u tc finished os repeats locks commit part_is (λ s c. none s 3 (inl refl) c) are phase again in
       stopped_on log log log' I J J node f r.moved refl
-      (log_stopped (λ L. discard_due lane finished None L) log log' J t node f o node_is (λ why e. late_refuses _ _ _ why e) (to_discard finished node_is (r.greatest_is ∙ (λ i. greatest (λ s. sym (r.looks.stamp s) i) K.shards))) (discard_err K pieces alone lane number home txs log log' J t o finished (stamp_at shard (map (finish_of B tc os) locks) phase.asked.answers) r.looks r.greatest_is f told))
+      (log_stopped (λ L. discard_due lane finished None L) log log' J t node f o node_is (λ why e. late_refuses _ _ _ why e) (λ same. to_discard finished node_is (same ∙ phase_is) (λ s lt c. r.looks.some s c) (r.greatest_is ∙ (λ i. greatest (λ s. sym (r.looks.stamp s) i) K.shards))) (discard_err K pieces alone lane number home txs log log' J t o finished (stamp_at shard (map (finish_of B tc os) locks) phase.asked.answers) r.looks r.greatest_is f told))
   committed_stopped log log' I J t u tc os repeats locks node f o commit phase_is part_is may none are (behind_discard finished after phase before again log1 td told stop) =
       let r = finishes_run K pieces alone lane number home txs log I after before u tc finished os repeats locks commit part_is (λ s c. none s 3 (inl refl) c) are phase again in
       let d = discard_ok K pieces alone lane number home txs log log1 before t o finished (stamp_at shard (map (finish_of B tc os) locks) phase.asked.answers) r.looks r.greatest_is td told in
       let above = discard_above K pieces alone lane number home txs log log1 before t o finished (stamp_at shard (map (finish_of B tc os) locks) phase.asked.answers) r.looks r.greatest_is td told in
       stopped_on log log log' I before J node f r.moved refl
       (stopped_on log log1 log' before before J node f d.0.moved (ap prepared d.0.step.own_is)
-      (discarded_stopped log1 log' before J t u td repeats locks node f d.0.stays d.1
+      (discarded_stopped log1 log' before J t u td repeats locks node f d.0.stays d.1 (discarded_slot log1.seen d.0.step.seen td d.0.step.seen_is)
       (λ s c. same_record 4 lane B (I s).seen (before s).seen refl (r.others s c) ∙ none s 4 (inr refl) c)
       (forgetting log I before os finished td (stamp_at shard (map (finish_of B tc os) locks) phase.asked.answers) r above)
       (not_forgot K pieces alone lane number home txs log I before os finished (stamp_at shard (map (finish_of B tc os) locks) phase.asked.answers) r) are stop))
@@ -256,7 +272,7 @@ module _ (K : Shape) (pieces : List (List Compact)) (alone : Bool) (lane number 
           prepare = o.prepare;
           number = o.open_number;
           busy = o.busy;
-          call = to_lock s t node_is concerned phase_is o.prepare
+          call = to_lock s t node_is concerned phase_is o.prepare had
               (subst (λ h. IsAnswered true (lock_due h.shape (J s).capacity own_call None (J s).seen) (J s) f) (sym failed.node.header)
               (subst (λ m. IsAnswered true (lock_due (I s).header.shape m own_call None (J s).seen) (J s) f) (sym failed.node.capacity)
               (answered alone lane true (λ L. lock_by (next_lock L B (part K.shards s 0 txs) t) (I s).header.shape (I s).capacity L own_call) (I s) (J s) f failed)));
@@ -269,6 +285,13 @@ module _ (K : Shape) (pieces : List (List Compact)) (alone : Bool) (lane number 
         prepares = refl;
       })
     where
+      had : AreSeenBelow K txs J 2 B s
+      had k lt c =
+          let e = before_at (LockAnswer alone) (IsLock K txs B t) I J s k f (map (lock_of B t) parts) stop.asked.answers stop.asked.each (are_locks K txs B t parts are).every (are_locks K txs B t parts are).rising stop.first lt
+          (λ n. (are_locks K txs B t parts are).covers k c n) in
+          lock_has K alone lane number txs k t (I k) (J k) e.3 c
+          (subst (λ (d : LockCall). LockAnswer alone (k, d) (I k) (J k) (Ok e.3)) (e.1.1 ∙ ap (λ (n : ℕ). let d : LockCall = record { batch = B; part = part K.shards n 0 txs; cause = t } in d) e.2) e.4)
+
       call : (c : ℕ × LockCall) × IsLock K txs B t c × (c.0 ≡ s) × LockAnswer alone c (I s) (J s) (Err f)
       call = first_at (LockAnswer alone) (IsLock K txs B t) I J s f (map (lock_of B t) parts) stop.asked.answers stop.asked.each (are_locks K txs B t parts are).every stop.first
 
@@ -285,7 +308,7 @@ module _ (K : Shape) (pieces : List (List Compact)) (alone : Bool) (lane number 
   prepared_stopped log log' I J t repeats parts node f o phase_is none may are (at_decide rs after l again told node_is) =
       let r = locks_run K pieces alone lane number home txs log I after J t repeats parts rs o (λ s c. none s 2 (inl refl) c) are l again in
       prepared_on log log log' I J J node f r.moved refl
-      (log_stopped (λ L. decide_due K lane rs None L) log log' J t node f o node_is (λ why e. late_refuses _ _ _ why e) (to_decide rs node_is (λ i. greatest (λ s. sym (r.shards s).looks.stamp_is i) K.shards)) (commit_err K pieces alone lane number home txs log log' J t o rs (λ s. (r.shards s).looks) f told))
+      (log_stopped (λ L. decide_due K lane rs None L) log log' J t node f o node_is (λ why e. late_refuses _ _ _ why e) (λ same. to_decide rs node_is (same ∙ phase_is) (λ s lt c. (r.shards s).looks.some c) (λ i. greatest (λ s. sym (r.shards s).looks.stamp_is i) K.shards)) (commit_err K pieces alone lane number home txs log log' J t o rs (λ s. (r.shards s).looks) f told))
   prepared_stopped log log' I J t repeats parts node f o phase_is none may are (behind_commit rs after l before again log1 tc told os os_is stop) =
       let r = locks_run K pieces alone lane number home txs log I after before t repeats parts rs o (λ s c. none s 2 (inl refl) c) are l again in
       let d = commit_ok K pieces alone lane number home txs log log1 before t o rs (λ s. (r.shards s).looks) tc told in

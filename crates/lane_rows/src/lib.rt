@@ -1,4 +1,4 @@
-//! Lanes run over nodes in memory, and what their parts answer. There are tests alone here.
+//! Lanes run over nodes in memory. There are tests alone here.
 #![tactic(auto)]
 
 #[cfg(test)]

@@ -1,5 +1,4 @@
-mod cores;
+mod batches;
 mod counting;
 mod lanes;
 mod ledgers;
-mod parts;

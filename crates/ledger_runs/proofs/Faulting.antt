@@ -1,14 +1,14 @@
 -- The cause of a lane's fault stays while other lanes go on.
-use Rattle.std.proofs.Common.{◌≡◌, ◌≢◌, ◌⊎◌, inl, inr, Bool, true, false, ℕ, ◌+◌, ◌<◌, ◌≤◌, le_trans, List, refl, sym, ap, ◌∙◌, subst, arith, Some, None}
+use Rattle.std.proofs.Common.{◌≡◌, ◌≢◌, ◌⊎◌, inl, inr, Bool, true, false, ℕ, suc, ◌+◌, ◌*◌, ◌<◌, ◌≤◌, le_trans, List, refl, sym, ap, ◌∙◌, subst, arith, Some, None}
 use Rattle.std.specs.Prelude.{slice_get, is_some, length, take, drop, Option, Result, Ok, Err, IfErr}
-use Rattle.cbdc_model.specs.Records.{Shape, Compact, Record}
-use Rattle.cbdc_model.specs.Slots.{Idle}
-use Rattle.cbdc_model.specs.Ranges.{home_of}
+use Rattle.cbdc_model.specs.Records.{Shape, Batch, Compact, Record, record_of}
+use Rattle.cbdc_model.specs.Slots.{slot, Idle}
+use Rattle.cbdc_model.specs.Ranges.{home_of, shard_node}
 use Rattle.cbdc_model.specs.Lanes.{IsEnd}
 use Rattle.cbdc_model.specs.Sights.{HasRisen}
 use Rattle.ledger_laws.proofs.Cuts.{end_self, end_trans}
 use Rattle.run_laws.specs.WaveSteps.{LaneTook}
-use Rattle.run_laws.specs.Faults.{IsAsked, asks_prepare, asks_log, asks_shard}
+use Rattle.run_laws.specs.Faults.{awaited, HasHeard, IsAsked, asks_prepare, asks_log, asks_shard}
 use Rattle.lane_driver.specs.declared.fault.LaneFault.{LaneFault}
 use Rattle.lane_driver.specs.declared.fault.LaneFaultKind.{LaneFaultKind}
 use Rattle.lane_driver.specs.declared.fault.LaneFaultKind.TheVariants.{DiskFault as DiskStopped, Full as NoRoom, ClockEnd as NoStamp, Memory as NoMemory}
@@ -16,7 +16,7 @@ use Rattle.ledger_runs.specs.Turning.{phase_at, IsLaneOf, KeepsLanes}
 use Rattle.ledger_runs.specs.Least.{IsLeastOpen}
 use Rattle.ledger_runs.specs.Waving.{NoFault, TurnsAt, taken_by}
 use Rattle.ledger_runs.specs.Pieces.{IsUnprepared, IsNextPiece, IsNextFrom, HaveTaken}
-use Rattle.ledger_runs.specs.Faults.{GrowBy, IsWanted, wants_prepare, wants_lock, IsCauseOf, IsLaneCause, IsSomeCauseOf, IsRunCause, HaveFailed, MayHold, Nothing, HaveCauses, IsTurnCause}
+use Rattle.ledger_runs.specs.Faults.{GrowBy, TookLanes, TakesInOrder, IsWanted, wants_prepare, wants_lock, IsCauseOf, IsLaneCause, IsSomeCauseOf, IsRunCause, HaveFailed, MayHold, Nothing, HaveCauses, IsTurnCause}
 use Rattle.ledger_runs.specs.declared.lanes.Lane.{Lane}
 use Rattle.ledger_runs.proofs.Others.{slot_same, record_same}
 use Rattle.ledger_runs.proofs.Preparing.{same_prepared, next_piece, next_stays}
@@ -28,23 +28,36 @@ pub wanted_stays : (lane other : ℕ) → other ≢ lane → (J X : ℕ → List
     → (node : ℕ) (front : List Record) (r : Record) → IsWanted K lane next J node front r → IsWanted K lane due X node front r
 wanted_stays lane other apart J X grown K next due on node front r (wants_prepare txs is at idle e) =
     wants_prepare txs (on txs is) at (ap (λ s. s.phase) (slot_same lane other apart J X grown (home_of K lane)) ∙ idle) e
-wanted_stays lane other apart J X grown K next due on node front r (wants_lock b t txs s is at concerned phase stands behind e) =
+wanted_stays lane other apart J X grown K next due on node front r (wants_lock b t txs s is at concerned phase stands have behind e) =
     wants_lock b t txs s is at concerned (ap (λ s. s.phase) (slot_same lane other apart J X grown (home_of K lane)) ∙ phase) (record_same lane other apart J X grown 6 (home_of K lane) b is ∙ stands)
-    (subst (λ s. s.number < b.number) (sym (slot_same lane other apart J X grown node)) behind) e
+    (λ k lt c. ap is_some (record_same lane other apart J X grown 2 (shard_node K k) b is) ∙ have k lt c) (subst (λ s. s.number < b.number) (sym (slot_same lane other apart J X grown node)) behind) e
+
+-- what a lane has heard, while another goes on
+heard_stays : (lane other : ℕ) → other ≢ lane → (J X : ℕ → List Record) → GrowBy other J X → (K : Shape) (b : Batch) (txs : List Compact) (n : ℕ) → HasHeard K lane J b txs n → HasHeard K lane X b txs n
+heard_stays lane other apart J X grown K b txs n h = record {
+  of_lane = h.of_lane;
+  number = ap (λ s. s.number) same ∙ h.number;
+  busy = λ i. h.busy (sym (ap (λ s. s.phase) same) ∙ i);
+  stamp = h.stamp;
+  prepare = record_same lane other apart J X grown 6 (home_of K lane) b h.of_lane ∙ h.prepare;
+  heard = λ k lt c. subst (λ s. is_some (record_of (awaited s.phase) (X (shard_node K k)) b) ≡ true) (sym same)
+      (ap is_some (record_same lane other apart J X grown (awaited (slot (J (home_of K lane)) lane).phase) (shard_node K k) b h.of_lane) ∙ h.heard k lt c);
+}
+  where
+    same : slot (X (home_of K lane)) lane ≡ slot (J (home_of K lane)) lane
+    same = slot_same lane other apart J X grown (home_of K lane)
 
 -- whom a lane asks, while another goes on
 pub asked_stays : (lane other : ℕ) → other ≢ lane → (J X : ℕ → List Record) → GrowBy other J X → (K : Shape) (next due : List Compact → Type 0) → ((txs : List Compact) → next txs → due txs)
     → (node : ℕ) → IsAsked K lane next J node → IsAsked K lane due X node
 asked_stays lane other apart J X grown K next due on node (asks_prepare txs is at idle) = asks_prepare txs (on txs is) at (ap (λ s. s.phase) (slot_same lane other apart J X grown (home_of K lane)) ∙ idle)
-asked_stays lane other apart J X grown K next due on node (asks_log at busy) = asks_log at (λ h. busy (sym (ap (λ s. s.phase) (slot_same lane other apart J X grown (home_of K lane))) ∙ h))
-asked_stays lane other apart J X grown K next due on node (asks_shard b t txs s is at concerned number busy stands) =
-    asks_shard b t txs s is at concerned (ap (λ s. s.number) (slot_same lane other apart J X grown (home_of K lane)) ∙ number)
-    (λ h. busy (sym (ap (λ s. s.phase) (slot_same lane other apart J X grown (home_of K lane))) ∙ h)) (record_same lane other apart J X grown 6 (home_of K lane) b is ∙ stands)
+asked_stays lane other apart J X grown K next due on node (asks_log b txs at heard) = asks_log b txs at (heard_stays lane other apart J X grown K b txs K.shards heard)
+asked_stays lane other apart J X grown K next due on node (asks_shard b txs s at concerned heard) = asks_shard b txs s at concerned (heard_stays lane other apart J X grown K b txs s heard)
 
 -- ---- a cause by later journals, or by an earlier entry
 
 module _ (K : Shape) (lane : ℕ) (next due : List Compact → Type 0) (E F J X : ℕ → List Record) (failed fails : ℕ → Type 0) (holds held : ℕ → ℕ → Type 0)
-    (before : (n : ℕ) → IsEnd (F n) (E n)) (grows : (n : ℕ) → IsEnd (J n) (X n))
+    (before : (n : ℕ) → IsEnd (F n) (E n)) (grows : (n : ℕ) → IsEnd (J n) (X n)) (slot_on : (n : ℕ) → slot (X n) lane ≡ slot (J n) lane)
     (wanted_on : (node : ℕ) (front : List Record) (r : Record) → IsWanted K lane next J node front r → IsWanted K lane due X node front r)
     (asked_on : (node : ℕ) → IsAsked K lane next J node → IsAsked K lane due X node) (failed_on : (n : ℕ) → failed n → fails n) (held_on : (n c : ℕ) → holds n c → held n c) where
   cause_moves : (node : ℕ) (kind : LaneFaultKind) → IsCauseOf K lane next E J failed holds node kind → IsCauseOf K lane due F X fails held node kind
@@ -53,8 +66,10 @@ module _ (K : Shape) (lane : ℕ) (next due : List Compact → Type 0) (E F J X 
     front = h.front;
     since = end_trans (F node) (E node) h.front (before node) h.since;
     within = end_trans h.front (J node) (X node) h.within (grows node);
+    still = h.still ∙ sym (slot_on node);
     wanted = h.wanted;
     is_wanted = wanted_on node h.front h.wanted h.is_wanted;
+    early = h.early;
     capacity_is = held_on node capacity h.capacity_is;
     used_is = h.used_is;
     need_is = h.need_is;
@@ -64,6 +79,7 @@ module _ (K : Shape) (lane : ℕ) (next due : List Compact → Type 0) (E F J X 
     front = h.front;
     since = end_trans (F node) (E node) h.front (before node) h.since;
     within = end_trans h.front (J node) (X node) h.within (grows node);
+    still = h.still ∙ sym (slot_on node);
     wanted = h.wanted;
     is_wanted = wanted_on node h.front h.wanted h.is_wanted;
     stamp_is = h.stamp_is;
@@ -74,12 +90,12 @@ module _ (K : Shape) (lane : ℕ) (next due : List Compact → Type 0) (E F J X 
 wanted_by : (K : Shape) (lane : ℕ) (next due : List Compact → Type 0) (X : ℕ → List Record) → ((txs : List Compact) → next txs → due txs) → (node : ℕ) (front : List Record) (r : Record)
     → IsWanted K lane next X node front r → IsWanted K lane due X node front r
 wanted_by K lane next due X on node front r (wants_prepare txs is at idle e) = wants_prepare txs (on txs is) at idle e
-wanted_by K lane next due X on node front r (wants_lock b t txs s is at concerned phase stands behind e) = wants_lock b t txs s is at concerned phase stands behind e
+wanted_by K lane next due X on node front r (wants_lock b t txs s is at concerned phase stands have behind e) = wants_lock b t txs s is at concerned phase stands have behind e
 
 asked_by : (K : Shape) (lane : ℕ) (next due : List Compact → Type 0) (X : ℕ → List Record) → ((txs : List Compact) → next txs → due txs) → (node : ℕ) → IsAsked K lane next X node → IsAsked K lane due X node
 asked_by K lane next due X on node (asks_prepare txs is at idle) = asks_prepare txs (on txs is) at idle
-asked_by K lane next due X on node (asks_log at busy) = asks_log at busy
-asked_by K lane next due X on node (asks_shard b t txs s is at concerned number busy stands) = asks_shard b t txs s is at concerned number busy stands
+asked_by K lane next due X on node (asks_log b txs at heard) = asks_log b txs at heard
+asked_by K lane next due X on node (asks_shard b txs s at concerned heard) = asks_shard b txs s at concerned heard
 
 -- a disk that has failed has failed later too
 pub risen_later : (opened faults opens later : ℕ → ℕ) → ((n : ℕ) → opens n ≡ opened n) → ((n : ℕ) → faults n ≤ later n) → (n : ℕ) → HaveFailed opened faults n → HaveFailed opens later n
@@ -92,7 +108,7 @@ holds_later capacity now same n c is = is ∙ sym (same n)
 pub cause_since : (K : Shape) (lane : ℕ) (next due : List Compact → Type 0) (E F X : ℕ → List Record) (failed : ℕ → Type 0) (holds : ℕ → ℕ → Type 0) → ((n : ℕ) → IsEnd (F n) (E n))
     → ((txs : List Compact) → next txs → due txs) → (e : LaneFault) → IsLaneCause K lane next E X failed holds e → IsLaneCause K lane due F X failed holds e
 cause_since K lane next due E F X failed holds before on e h =
-    cause_moves K lane next due E F X X failed failed holds holds before (λ n. end_self (X n)) (wanted_by K lane next due X on) (asked_by K lane next due X on) (λ n did. did) (λ n c is. is) e.node e.fault h
+    cause_moves K lane next due E F X X failed failed holds holds before (λ n. end_self (X n)) (λ n. refl) (wanted_by K lane next due X on) (asked_by K lane next due X on) (λ n did. did) (λ n c is. is) e.node e.fault h
 
 -- a fault of a lane is one of the run
 pub cause_any : (K : Shape) (lane : ℕ) (next : ℕ → List Compact → Type 0) (E X : ℕ → List Record) (failed : ℕ → Type 0) (holds : ℕ → ℕ → Type 0) → IsLaneOf K lane
@@ -112,7 +128,7 @@ pub run_moves : (K : Shape) (next due : ℕ → List Compact → Type 0) (E F X 
 run_moves K next due E F X failed fails holds held before on failed_on held_on e h = go e.fault h
   where
     moves : (lane : ℕ) → IsLaneOf K lane → (kind : LaneFaultKind) → IsCauseOf K lane (next lane) E X failed holds e.node kind → IsCauseOf K lane (due lane) F X fails held e.node kind
-    moves lane inside = cause_moves K lane (next lane) (due lane) E F X X failed fails holds held before (λ n. end_self (X n)) (wanted_by K lane (next lane) (due lane) X (λ txs n. on lane txs inside n)) (asked_by K lane (next lane) (due lane) X (λ txs n. on lane txs inside n)) failed_on held_on e.node
+    moves lane inside = cause_moves K lane (next lane) (due lane) E F X X failed fails holds held before (λ n. end_self (X n)) (λ n. refl) (wanted_by K lane (next lane) (due lane) X (λ txs n. on lane txs inside n)) (asked_by K lane (next lane) (due lane) X (λ txs n. on lane txs inside n)) failed_on held_on e.node
 
     go : (kind : LaneFaultKind) → IsSomeCauseOf K next E X failed holds e.node kind → IsSomeCauseOf K due F X fails held e.node kind
     go DiskStopped (lane, inside, cause) = (lane, inside, moves lane inside DiskStopped cause)
@@ -132,6 +148,13 @@ memory_cause K lane next E X failed holds (Err e) h = of_memory K lane next E X 
 
 pub grown_end : (lane : ℕ) (I J : ℕ → List Record) → GrowBy lane I J → (n : ℕ) → IsEnd (I n) (J n)
 grown_end lane I J grown n = ((grown n).0, (grown n).1)
+
+-- lanes that were taken up, and one more
+pub none_taken : (K : Shape) (E : ℕ → List Record) → TakesInOrder K E E
+none_taken K E = (0, omega arith, λ n. refl)
+
+pub one_more : (lane : ℕ) (E J L : ℕ → List Record) → TookLanes lane E J → GrowBy lane J L → TookLanes (lane + 1) E L
+one_more lane E J L took grown = subst (λ n. TookLanes n E L) (let e : suc lane ≡ lane + 1 = omega arith in e) (J, took, grown)
 
 -- the fault of a lane that was resumed
 pub resumed_cause : (K H : Shape) (lane : ℕ) (E J L : ℕ → List Record) (failed : ℕ → Type 0) (holds : ℕ → ℕ → Type 0) → H ≡ K → IsLaneOf K lane → ((n : ℕ) → IsEnd (E n) (J n))
@@ -171,7 +194,7 @@ causes_step K H E J L start turn failed fails holds held now after same some tur
     others : (lane : ℕ) (x : Lane) → lane ≢ turn → slice_get now lane ≡ Some x → (e : LaneFault) → x.fault ≡ Some e → Causes K E lane x L fails held e
     others lane x other there e is =
         let apart : turn ≢ lane = λ h. other (sym h) in
-        cause_moves K lane (IsNextPiece K lane x.txs.items E J) (IsNextPiece K lane x.txs.items E L) E E J L failed fails holds held (λ n. end_self (E n)) (λ n. ((grown n).0, (grown n).1))
+        cause_moves K lane (IsNextPiece K lane x.txs.items E J) (IsNextPiece K lane x.txs.items E L) E E J L failed fails holds held (λ n. end_self (E n)) (λ n. ((grown n).0, (grown n).1)) (slot_same lane turn apart J L grown)
         (wanted_stays lane turn apart J L grown K (IsNextPiece K lane x.txs.items E J) (IsNextPiece K lane x.txs.items E L)
         (λ txs i. next_stays K lane x.txs.items txs E J L (same_prepared lane turn apart J L grown (home_of K lane)) i))
         (asked_stays lane turn apart J L grown K (IsNextPiece K lane x.txs.items E J) (IsNextPiece K lane x.txs.items E L)
@@ -181,7 +204,7 @@ causes_step K H E J L start turn failed fails holds held now after same some tur
     had_it : (x : Lane) → slice_get now turn ≡ Some x → (e : LaneFault) → x.fault ≡ Some e → ((n : ℕ) → L n ≡ J n) → Causes K E turn x L fails held e
     had_it x was e had as_before =
         let all : J ≡ L = λ i n. sym (as_before n) i in
-        cause_moves K turn (IsNextPiece K turn x.txs.items E L) (IsNextPiece K turn x.txs.items E L) E E L L failed fails holds held (λ n. end_self (E n)) (λ n. end_self (L n)) (λ node front r w. w) (λ n a. a) failed_on held_on e.node e.fault
+        cause_moves K turn (IsNextPiece K turn x.txs.items E L) (IsNextPiece K turn x.txs.items E L) E E L L failed fails holds held (λ n. end_self (E n)) (λ n. end_self (L n)) (λ n. refl) (λ node front r w. w) (λ n a. a) failed_on held_on e.node e.fault
         (subst (λ X. Causes K E turn x X failed holds e) all (have turn x was e had))
 
     -- or it stopped now

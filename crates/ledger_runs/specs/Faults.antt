@@ -1,5 +1,5 @@
 -- Why a lane stopped, by the journals then and at any later time.
-use Rattle.std.specs.Prelude.{◌≡◌, ◌⊎◌, ℕ, ◌+◌, ◌^◌, ◌<◌, true, List, [], ◌∷◌, ◌++◌, Some, None}
+use Rattle.std.specs.Prelude.{◌≡◌, ◌⊎◌, ℕ, zero, suc, ◌+◌, ◌*◌, ◌^◌, ◌<◌, ◌≤◌, true, List, [], ◌∷◌, ◌++◌, Some, None}
 use Rattle.cbdc_model.specs.Records.{Shape, Batch, Compact, Record, record_of, stamp_of, is_in_lane, Prepare}
 use Rattle.cbdc_model.specs.Slots.{slot, Idle, InPrepare}
 use Rattle.cbdc_model.specs.Ranges.{home_of, shard_node, part}
@@ -8,6 +8,7 @@ use Rattle.cbdc_model.specs.Due.{used_of, prepare_record, lock_record}
 use Rattle.cbdc_model.specs.Lanes.{IsEnd}
 use Rattle.cbdc_model.specs.Sights.{HasRisen}
 use Rattle.lane_laws.specs.Calls.{is_concerned}
+use Rattle.lane_laws.specs.Faults.{HaveBelow}
 use Rattle.run_laws.specs.Faults.{IsAsked}
 use Rattle.lane_driver.specs.declared.fault.LaneFault.{LaneFault}
 use Rattle.lane_driver.specs.declared.fault.LaneFaultKind.{LaneFaultKind}
@@ -26,21 +27,33 @@ AreOfLane lane (r ∷ more) = (is_in_lane lane r ≡ true) × AreOfLane lane mor
 abbrev pub GrowBy : ℕ → (ℕ → List Record) → (ℕ → List Record) → Type 0
 GrowBy lane I J = (n : ℕ) → (more : List Record) × (J n ≡ more ++ I n) × AreOfLane lane more
 
+-- the first so many lanes have been taken up in rising order, each by records of its own alone
+abbrev pub TookLanes : ℕ → (ℕ → List Record) → (ℕ → List Record) → Type 0
+TookLanes zero E X = (n : ℕ) → X n ≡ E n
+TookLanes (suc lane) E X = (middle : ℕ → List Record) × TookLanes lane E middle × GrowBy lane middle X
+
+abbrev pub TakesInOrder : Shape → (ℕ → List Record) → (ℕ → List Record) → Type 0
+TakesInOrder K E X = (lanes : ℕ) × (lanes ≤ K.coordinators * K.lanes) × TookLanes lanes E X
+
 -- the record that the lane still wants at a node by journals X, as it would stand there behind `front`: where the lane is idle, its next Prepare,
--- of transactions that are next; where its batch is prepared, the Lock of a concerned shard that has not come to this batch
+-- of transactions that are next; where its batch is prepared, the Lock of a concerned shard that has not come to this batch, each lesser one having
+-- its Lock
 pub data IsWanted (K : Shape) (lane : ℕ) (next : List Compact → Type 0) (X : ℕ → List Record) (node : ℕ) (front : List Record) (r : Record) : Type 0 where
   wants_prepare : (txs : List Compact) → next txs → node ≡ home_of K lane → phase_at K X lane ≡ Idle → r ≡ prepare_record front lane txs → IsWanted K lane next X node front r
   wants_lock : (b : Batch) (t : ℕ) (txs : List Compact) (s : ℕ) → b.lane ≡ lane → node ≡ shard_node K s → is_concerned K txs s ≡ true → phase_at K X lane ≡ InPrepare
-      → record_of 6 (X (home_of K lane)) b ≡ Some (Prepare t b txs) → (slot (X node) lane).number < b.number
+      → record_of 6 (X (home_of K lane)) b ≡ Some (Prepare t b txs) → HaveBelow K txs (λ k. X (shard_node K k)) 2 b s → (slot (X node) lane).number < b.number
       → r ≡ lock_record front (record { batch = b; part = part K.shards s 0 txs; cause = t }) → IsWanted K lane next X node front r
 
--- behind a front of the node's journal, which the journal at entry begins, its disk has no room for what the wanted record needs there
+-- behind a front of the node's journal, which the journal at entry begins and behind which nothing of the lane came, its disk has no room for what the
+-- wanted record needs there, whose stamp is not past the last one
 pub record HasNoRoomFor (K : Shape) (lane : ℕ) (next : List Compact → Type 0) (E X : ℕ → List Record) (may_hold : ℕ → ℕ → Type 0) (node used need capacity : ℕ) : Type 0 where
   pub front : List Record
   pub since : IsEnd (E node) front
   pub within : IsEnd front (X node)
+  pub still : slot front lane ≡ slot (X node) lane
   pub wanted : Record
   pub is_wanted : IsWanted K lane next X node front wanted
+  pub early : stamp_of wanted ≤ 2 ^ 62
   pub capacity_is : may_hold node capacity
   pub used_is : used ≡ used_of front
   pub need_is : need ≡ need_of K front wanted
@@ -51,6 +64,7 @@ pub record HasNoStampFor (K : Shape) (lane : ℕ) (next : List Compact → Type 
   pub front : List Record
   pub since : IsEnd (E node) front
   pub within : IsEnd front (X node)
+  pub still : slot front lane ≡ slot (X node) lane
   pub wanted : Record
   pub is_wanted : IsWanted K lane next X node front wanted
   pub stamp_is : stamp ≡ stamp_of wanted

@@ -10,7 +10,7 @@ ghost use Rattle.ledger_runs.specs.Flying.{FliesOn};
 ghost use Rattle.ledger_runs.specs.Least.{IsLeastOpen};
 ghost use Rattle.ledger_runs.specs.Telling.{TakesUp, TellResumed, SamePrepared};
 ghost use Rattle.ledger_runs.specs.Pieces.{HasPrepared};
-ghost use Rattle.ledger_runs.specs.Faults.{GrowBy, IsLaneCause, IsRunCause, HaveFailed, MayHold, Nothing};
+ghost use Rattle.ledger_runs.specs.Faults.{GrowBy, TakesInOrder, IsLaneCause, IsRunCause, HaveFailed, MayHold, Nothing};
 
 use crate::Turns;
 use cbdc_types::LaneId;
@@ -93,6 +93,9 @@ pub fn resume_all<L: Turns, G: Gate>(
     ensures capacity_same { (n : ℕ) → L.capacity ledger.new n ≡ L.capacity ledger.old n }
     ensures checked { L.checked ledger.new }
     ensures grows { (n : ℕ) → IsEnd (L.journals ledger.old n) (L.journals ledger.new n) }
+
+    // With a fault or without, lane by lane in rising order.
+    ensures order { TakesInOrder (L.shape ledger.old) (L.journals ledger.old) (L.journals ledger.new) }
 
     // Its fault has its cause.
     ensures fault { IfErr result (IsRunCause (L.shape ledger.old) (λ _. Nothing) (L.journals ledger.old) (L.journals ledger.new)

@@ -7,7 +7,7 @@ ghost use Rattle.cbdc_model.specs.Slots.{slot, Idle, InPrepare, InCommit, InDisc
 ghost use Rattle.cbdc_model.specs.Sights.{Told};
 ghost use Rattle.lane_laws.specs.Answers.{DecideAnswer};
 ghost use Rattle.lane_driver.specs.Told.{IsLane, IsPrepared, IsStamp, AreReplies, IsStillNode};
-ghost use Rattle.lane_driver.specs.Causes.{IsLogCause};
+ghost use Rattle.lane_driver.specs.Causes.{IsDecideCause};
 ghost use Rattle.coord_log.specs.Logs.{sight};
 ghost use Rattle.node_ports.specs.Nodes.{sight_at, KeepsRest, IsLogHeld, AreLogsHeld};
 
@@ -85,7 +85,7 @@ fn decide_at<D: Disk>(
     requires replies { AreReplies log.old.header.shape replies.now }
     requires room { length (txs_of log.old.journal (open_batch log.old.journal lane)) ≤ vec_capacity out.old }
     ensures told { DecideAnswer true lane replies.now (sight log.old) (sight log.new) result }
-    ensures fault { IfErr result (λ f. IsLogCause f (sight log.new)) }
+    ensures fault { IfErr result (λ f. IsDecideCause f (sight log.new)) }
     ensures stamp { IfOk result IsStamp }
     ensures phase { OnOk result ((slot log.new.journal lane).phase ≡ InCommit) }
     ensures outcomes { OnOk result (length out.new.items ≡ length (txs_of log.old.journal (open_batch log.old.journal lane))) }

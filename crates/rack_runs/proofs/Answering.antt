@@ -1,5 +1,5 @@
 -- What a lane's fault answers has its cause.
-use Rattle.std.proofs.Common.{◌≡◌, ◌⊎◌, inl, inr, ℕ, zero, suc, ◌+◌, ◌*◌, ◌/◌, ◌<◌, ◌≤◌, true, List, [], ◌∷◌, ◌++◌, length, reverse, Option, refl, sym, ap, ◌∙◌, subst, arith}
+use Rattle.std.proofs.Common.{◌≡◌, ◌⊎◌, inl, inr, ℕ, zero, suc, ◌+◌, ◌*◌, ◌/◌, ◌<◌, ◌≤◌, Bool, true, List, [], ◌∷◌, ◌++◌, length, reverse, Option, Some, refl, sym, ap, ◌∙◌, subst, arith}
 use Rattle.std.specs.Prelude.{Result, Ok, Err, IfErr, All}
 use Rattle.std.proofs.lemmas.Nat.{div_below}
 use Rattle.std.proofs.lemmas.List.{length-append}
@@ -9,7 +9,7 @@ use Rattle.cbdc_types.specs.declared.answer.Answer.TheVariants as answers
 use Rattle.cbdc_model.specs.Records.{Shape, Header, Compact, Record, Row, journal}
 use Rattle.cbdc_model.specs.Ranges.{home_of}
 use Rattle.cbdc_model.specs.Lanes.{IsEnd}
-use Rattle.cbdc_model.specs.Coins.{FullTx}
+use Rattle.cbdc_model.specs.Coins.{Output, FullTx}
 use Rattle.cbdc_model.specs.Waves.{sent_to}
 use Rattle.ledger_laws.proofs.Cuts.{end_self}
 use Rattle.lane_laws.specs.Calls.{is_concerned}
@@ -22,25 +22,26 @@ use Rattle.rack_nodes.specs.Racked.{OfTold}
 use Rattle.rack_ledgers.specs.Ledgers.{ByPlace, AreOpened}
 use Rattle.caused_ledgers.specs.Caused.{journals_of as lent_journals, AreCaused}
 use Rattle.caused_ledgers.proofs.Told.{told_history}
-use Rattle.submissions.specs.Checks.{VerdictsOf}
+use Rattle.submissions.specs.Checks.{VerdictsOf, TellsSound}
 use Rattle.sound_laws.specs.SoundTest.{sound_by}
 use Rattle.sound_laws.proofs.Telling.{is_sound_law}
-use Rattle.ledger_runs.specs.Turning.{IsLaneOf}
+use Rattle.ledger_runs.specs.Turning.{IsLaneOf, OfKept, StaysKept}
 use Rattle.ledger_runs.specs.Telling.{SamePrepared}
 use Rattle.ledger_runs.specs.Pieces.{HasPrepared, IsNextOf}
 use Rattle.run_laws.specs.Faults.{IsAsked, asks_prepare, asks_log, asks_shard}
 use Rattle.ledger_runs.specs.Faults.{IsWanted, wants_prepare, wants_lock, IsCauseOf, IsSomeCauseOf, IsRunCause, HaveFailed, MayHold, Nothing}
 use Rattle.ledger_runs.specs.Least.{IsLeastFault, IsLeastOpen}
 use Rattle.ledger_runs.proofs.Faulting.{run_moves}
-use Rattle.file_runs.specs.Runs.{IsSentPiece, AreFilesPieces, HaveBegunFiles, IsFilesPiece}
+use Rattle.run_laws.proofs.NewBatches.{new_batches, open_batches}
+use Rattle.file_runs.specs.Runs.{joined, IsSentPiece, AreFilesPieces, HaveBegunFiles, IsFilesPiece}
 use Rattle.file_runs.proofs.Pieces.{files_unbegun}
 use Rattle.file_runs.specs.Endings.{EndsFirst, EndsFiles}
-use Rattle.ledger_nodes.specs.Ledgers.{IsLedger, journals_of, faults_of, opened_of, capacity_of, AreStored}
-use Rattle.rack_laws.specs.Shown.{OfShown, KeepsEach, node_count}
-use Rattle.rack_laws.proofs.Behind.{keeps_each, told_stored, may_hold, have_risen}
+use Rattle.ledger_nodes.specs.Ledgers.{IsLedger, journals_of, flights_of, faults_of, opened_of, capacity_of, AreStored}
+use Rattle.rack_laws.specs.Shown.{OfShown, HaveRoom, node_count}
+use Rattle.rack_laws.proofs.Behind.{keeps_flights, told_stored, may_hold, have_risen}
 use Rattle.rack_runs.specs.Kinds.{answer_at, answer_to, IsLaneAnswer}
-use Rattle.rack_runs.specs.Endings.{EndsRun, IsLeastAnswer}
-use Rattle.rack_runs.specs.Runs.{IsCutShort, IsLaneFault, NonePrepared, NothingNext, PieceNext, PiecesPrepared, SparesOthers}
+use Rattle.rack_runs.specs.Endings.{EndsRun, IsCut, IsInOrder, IsLeastAnswer}
+use Rattle.rack_runs.specs.Runs.{AddsOpen, IsCutWaves, IsCutShort, KeepsFlights, IsLaneFault, NonePrepared, NothingNext, PieceNext, PiecesPrepared, SparesOthers}
 use Rattle.rack_runs.specs.declared.over.Over.{Over}
 use Rattle.rack_runs.specs.declared.over.Ran.{Ran}
 use Rattle.rack_runs.proofs.Checking.{same_journals}
@@ -63,6 +64,19 @@ came_cause K next E X failed holds (Err a) over (inl memory) cause = subst (λ x
 came_cause K next E X failed holds (Err a) over (inr (e, err, is)) cause =
     subst (λ x. IsLaneAnswer K next E X failed holds x) (sym is) (answered K next E X failed holds e (subst (λ o. IfErr o (IsRunCause K next E X failed holds)) err cause))
 
+-- kept journals that were cut short have grown in the order of open batches and files
+cut_waves : (K : Shape) (verdicts : VerdictsOf) (files : List (List FullTx)) (E X : ℕ → List Record) → 0 < K.shards → 0 < K.lanes → OfKept K E (λ mint submissions. StaysKept K E X mint (submissions ++ joined files))
+    → OfKept K E (λ mint _. (sound : FullTx → Bool) → TellsSound verdicts sound → IsCut K sound files mint E X) → OfKept K E (λ _ _. (sound : FullTx → Bool) → TellsSound verdicts sound → IsCutWaves K sound files E X)
+cut_waves K verdicts files E X shards lanes keeps cut mint submissions kept sound tells = elim (cut mint submissions kept sound tells) [
+  | inl same ↦ inl (open_batches K mint submissions (submissions ++ joined files) E X shards kept stays.kept stays.grows same)
+  | inr c ↦
+      let a = c.1 in
+      inr (c.0, a.done, a.more, a.middle, a.are, a.waves, new_batches K mint a.submissions (submissions ++ joined files) a.middle X shards a.kept stays.kept a.onward lanes a.idle, a.first)
+]
+  where
+    stays : StaysKept K E X mint (submissions ++ joined files)
+    stays = keeps mint submissions kept
+
 -- what a lane wants it wants at a node of the ledger
 home_inside : (K : Shape) (lane : ℕ) → IsLaneOf K lane → home_of K lane < K.coordinators
 home_inside K lane lt = go K.lanes lt
@@ -76,18 +90,18 @@ concerned_inside K txs s h = grind (arith, h)
 
 pub wanted_inside : (K : Shape) (lane : ℕ) (next : List Compact → Type 0) (X : ℕ → List Record) (node : ℕ) (front : List Record) (r : Record) → IsLaneOf K lane → IsWanted K lane next X node front r → node < node_count K
 wanted_inside K lane next X node front r lt (wants_prepare txs due at idle e) = omega (arith, at, home_inside K lane lt)
-wanted_inside K lane next X node front r lt (wants_lock b t txs s is at concerned phase stands behind e) = omega (arith, at, concerned_inside K txs s concerned)
+wanted_inside K lane next X node front r lt (wants_lock b t txs s is at concerned phase stands have behind e) = omega (arith, at, concerned_inside K txs s concerned)
 
 module _ (K : Shape) (next due : ℕ → List Compact → Type 0) (E X : ℕ → List Record) (failed fails : ℕ → Type 0) (holds held : ℕ → ℕ → Type 0)
     (on : (lane : ℕ) (txs : List Compact) → next lane txs → due lane txs) (failed_on : (n : ℕ) → n < node_count K → failed n → fails n) (held_on : (n c : ℕ) → n < node_count K → holds n c → held n c) where
   still_wanted : (lane node : ℕ) (front : List Record) (r : Record) → IsWanted K lane (next lane) X node front r → IsWanted K lane (due lane) X node front r
   still_wanted lane node front r (wants_prepare txs is at idle e) = wants_prepare txs (on lane txs is) at idle e
-  still_wanted lane node front r (wants_lock b t txs s is at concerned phase stands behind e) = wants_lock b t txs s is at concerned phase stands behind e
+  still_wanted lane node front r (wants_lock b t txs s is at concerned phase stands have behind e) = wants_lock b t txs s is at concerned phase stands have behind e
 
   still_asked : (lane node : ℕ) → IsAsked K lane (next lane) X node → IsAsked K lane (due lane) X node
   still_asked lane node (asks_prepare txs is at idle) = asks_prepare txs (on lane txs is) at idle
-  still_asked lane node (asks_log at busy) = asks_log at busy
-  still_asked lane node (asks_shard b t txs s is at concerned number busy stands) = asks_shard b t txs s is at concerned number busy stands
+  still_asked lane node (asks_log b txs at heard) = asks_log b txs at heard
+  still_asked lane node (asks_shard b txs s at concerned heard) = asks_shard b txs s at concerned heard
 
   -- by what is known of the nodes of the ledger otherwise
   pub answer_moves : (a : Answer) → IsLaneAnswer K next E X failed holds a → IsLaneAnswer K due E X fails held a
@@ -99,8 +113,10 @@ module _ (K : Shape) (next due : ℕ → List Compact → Type 0) (E X : ℕ →
       front = h.front;
       since = h.since;
       within = h.within;
+      still = h.still;
       wanted = h.wanted;
       is_wanted = still_wanted lane node h.front h.wanted h.is_wanted;
+      early = h.early;
       capacity_is = held_on node capacity (wanted_inside K lane (next lane) X node h.front h.wanted lt h.is_wanted) h.capacity_is;
       used_is = h.used_is;
       need_is = h.need_is;
@@ -114,6 +130,7 @@ module _ (K : Shape) (next due : ℕ → List Compact → Type 0) (E X : ℕ →
       front = h.front;
       since = h.since;
       within = h.within;
+      still = h.still;
       wanted = h.wanted;
       is_wanted = still_wanted lane node h.front h.wanted h.is_wanted;
       stamp_is = h.stamp_is;
@@ -150,8 +167,10 @@ module _ (K : Shape) (failed fails : ℕ → Type 0) (holds held : ℕ → ℕ �
     front = h.front;
     since = h.since;
     within = h.within;
+    still = h.still;
     wanted = h.wanted;
     is_wanted = h.is_wanted;
+    early = h.early;
     capacity_is = held_on node capacity (wanted_inside K lane next X node h.front h.wanted lt h.is_wanted) h.capacity_is;
     used_is = h.used_is;
     need_is = h.need_is;
@@ -161,6 +180,7 @@ module _ (K : Shape) (failed fails : ℕ → Type 0) (holds held : ℕ → ℕ �
     front = h.front;
     since = h.since;
     within = h.within;
+    still = h.still;
     wanted = h.wanted;
     is_wanted = h.is_wanted;
     stamp_is = h.stamp_is;
@@ -252,9 +272,14 @@ module _ {D : Type 0} (content : D → Option (List ℕ)) (images : D → List �
       (HaveFailed (opened_of count limit h.shape logs shards) (faults_of count limit h.shape now after)) (MayHold (capacity_of count limit h.shape logs shards)) a
       → IsLeastAnswer (EndsRun verdicts files h.shape (journals_of count limit h.shape logs shards) (journals_of count limit h.shape now after)
       (HaveFailed (opened_of count limit h.shape logs shards) (faults_of count limit h.shape now after)) (MayHold (capacity_of count limit h.shape logs shards))) a
-      → OfShown content held (IsCutShort images limit back files (journals_of count limit h.shape now after)) → SparesOthers content held back
+      → OfKept h.shape (journals_of count limit h.shape logs shards) (λ mint submissions. StaysKept h.shape (journals_of count limit h.shape logs shards) (journals_of count limit h.shape now after) mint (submissions ++ joined files))
+      → OfKept h.shape (journals_of count limit h.shape logs shards)
+      (λ mint _. (sound : FullTx → Bool) → TellsSound verdicts sound → IsCut h.shape sound files mint (journals_of count limit h.shape logs shards) (journals_of count limit h.shape now after))
+      → IsInOrder h.shape (journals_of count limit h.shape logs shards) (journals_of count limit h.shape now after)
+      → ((n : ℕ) (r : Record) → flights_of count limit h.shape now after n ≡ Some r → HaveFailed (opened_of count limit h.shape logs shards) (faults_of count limit h.shape now after) n)
+      → OfShown content held (λ K mint submissions E. HaveRoom limit held K E) → OfShown content held (IsCutShort images limit back files (journals_of count limit h.shape now after)) → SparesOthers content held back
       → IsLaneFault content images limit held back before behind (PieceNext verdicts files) (EndsRun verdicts files) (PiecesPrepared verdicts files) files a
-  lane_fault verdicts files begun grows a cause least kept spared = record {
+  lane_fault verdicts files begun grows a cause least keeps cut orders flown room kept spared = record {
     ledger = record {
       shape = h.shape;
       genesis = h.genesis;
@@ -264,10 +289,16 @@ module _ {D : Type 0} (content : D → Option (List ℕ)) (images : D → List �
     };
     exit = journals_of count limit h.shape now after;
     grows = subst (λ L. (n : ℕ) → IsEnd (L n) (journals_of count limit h.shape now after n)) entry grows;
-    prepared = subst (λ L. HaveBegunFiles h.shape verdicts files L (journals_of count limit h.shape now after)) entry (begun are.limits.some_batch);
+    prepared = subst (λ L. PiecesPrepared verdicts files h.shape L (journals_of count limit h.shape now after)) entry (
+      begun are.limits.some_batch,
+      cut_waves h.shape verdicts files (journals_of count limit h.shape logs shards) (journals_of count limit h.shape now after) are.limits.some_shard are.limits.some_lane keeps cut,
+      orders,
+    );
+    flights = flights_of count limit h.shape now after;
+    in_flight = λ n r inside there. risen n inside (flown n r there);
     disks = λ tells.
-        subst (λ k. KeepsEach images back k (journals_of count limit k now after)) shape
-        (keeps_each content images limit count back g now after is (stored (told_stored content images limit count held h logs shards are tells)) logs_back shards_back);
+        subst (λ k. KeepsFlights images back k (journals_of count limit k now after) (flights_of count limit k now after)) shape
+        (keeps_flights content images limit count back g now after is (stored (told_stored content images limit count held h logs shards are tells)) logs_back shards_back);
     cause = subst (λ L. IsLaneAnswer h.shape (IsFilesPiece h.shape verdicts files L (journals_of count limit h.shape now after)) L (journals_of count limit h.shape now after) Rises Holds a) entry
         (answer_moves h.shape (IsFilesPiece h.shape verdicts files (journals_of count limit h.shape logs shards) (journals_of count limit h.shape now after))
         (IsFilesPiece h.shape verdicts files (journals_of count limit h.shape logs shards) (journals_of count limit h.shape now after)) (journals_of count limit h.shape logs shards) (journals_of count limit h.shape now after)
@@ -275,6 +306,7 @@ module _ {D : Type 0} (content : D → Option (List ℕ)) (images : D → List �
     least = subst (λ L. IsLeastAnswer (EndsRun verdicts files h.shape L (journals_of count limit h.shape now after) Rises Holds) a) entry
         (answer_by h.shape (HaveFailed (opened_of count limit h.shape logs shards) (faults_of count limit h.shape now after)) Rises (MayHold (capacity_of count limit h.shape logs shards)) Holds risen may verdicts files
         (journals_of count limit h.shape logs shards) (journals_of count limit h.shape now after) a least);
+    room = room;
     kept = kept;
     spared = spared;
   }
@@ -292,14 +324,22 @@ no_piece verdicts K E X lane txs piece = go (piece (sound_by verdicts) (is_sound
 
 -- of no files nothing is prepared
 no_pieces : (verdicts : VerdictsOf) (K : Shape) (E X : ℕ → List Record) → PiecesPrepared verdicts [] K E X → NonePrepared K E X
-no_pieces verdicts K E X begun lane inside = go (begun lane inside (sound_by verdicts) (is_sound_law verdicts))
+no_pieces verdicts K E X begun = (
+  λ lane inside. go lane (begun.0 lane inside (sound_by verdicts) (is_sound_law verdicts)),
+  λ mint submissions kept. opened (begun.1 mint submissions kept (sound_by verdicts) (is_sound_law verdicts)),
+  begun.2,
+)
   where
+    opened : IsCutWaves K (sound_by verdicts) [] E X → AddsOpen K E X
+    opened (inl adds) = adds
+    opened (inr some) = absurd (omega (arith, some.0))
+
     none_so : (done more : List (List Compact)) → done ++ more ≡ [] → done ≡ []
     none_so [] more e = refl
     none_so (p ∷ done) more e = let z : p ∷ (done ++ more) ≡ [] = e in absurd (cc)
 
-    go : (done : List (List Compact)) × (more : List (List Compact)) × AreFilesPieces K (sound_by verdicts) lane [] (done ++ more) × HasPrepared K lane done E X → HasPrepared K lane [] E X
-    go (done, more, none, has) = subst (λ ps. HasPrepared K lane ps E X) (none_so done more none) has
+    go : (lane : ℕ) → (done : List (List Compact)) × (more : List (List Compact)) × AreFilesPieces K (sound_by verdicts) lane [] (done ++ more) × HasPrepared K lane done E X → HasPrepared K lane [] E X
+    go lane (done, more, none, has) = subst (λ ps. HasPrepared K lane ps E X) (none_so done more none) has
 
 -- a run of no files: nothing is next for any lane, and none has prepared anything
 pub of_nothing : {D : Type 0} (content : D → Option (List ℕ)) (images : D → List ℕ → Type 0) (limit : D → ℕ) (held back : ℕ → Option D) (before now : ℕ → ℕ) (verdicts : VerdictsOf) (a : Answer)
@@ -312,10 +352,13 @@ of_nothing content images limit held back before now verdicts a f =
       exit = f.exit;
       grows = f.grows;
       prepared = no_pieces verdicts f.ledger.shape E f.exit f.prepared;
+      flights = f.flights;
+      in_flight = f.in_flight;
       disks = f.disks;
       cause = answer_moves f.ledger.shape (PieceNext verdicts [] f.ledger.shape E f.exit) (NothingNext f.ledger.shape E f.exit) E f.exit (λ n. Rose (before n) (now n)) (λ n. Rose (before n) (now n))
           (λ n c. OfTold (held n) (λ d. c ≡ limit d)) (λ n c. OfTold (held n) (λ d. c ≡ limit d)) (no_piece verdicts f.ledger.shape E f.exit) (λ n inside did. did) (λ n c inside may. may) a f.cause;
       least = no_files verdicts f.ledger.shape E f.exit (λ n. Rose (before n) (now n)) (λ n c. OfTold (held n) (λ d. c ≡ limit d)) a f.least;
+      room = f.room;
       kept = f.kept;
       spared = f.spared;
     }

@@ -34,6 +34,7 @@ use Rattle.sound_laws.specs.SoundTest.{sound_by}
 use Rattle.sound_laws.proofs.Telling.{is_sound_law}
 use Rattle.ledger_runs.specs.Flying.{AllMayCome}
 use Rattle.file_runs.specs.Runs.{joined, FliesWith}
+use Rattle.rack_runs.specs.Endings.{IsInOrder}
 use Rattle.rack_runs.specs.Runs.{IsGrown, IsRun, IsRecovered, IsCutShort, SparesOthers, TookLedger}
 use Rattle.printed_lines.specs.Unspent.{IsUnspentCount}
 use Rattle.rack_runs.specs.declared.over.Ran.{Ran}
@@ -60,6 +61,9 @@ module _ {D : Type 0} (content : D → Option (List ℕ)) (images : D → List �
 
   abbrev pub FliesIt : Shape → Type 0
   FliesIt S = OfKept S (journals_of count limit S logs shards) (FliesWith S (joined files) (journals_of count limit S logs shards) (journals_of count limit S now after) (flights_of count limit S logs shards) (flights_of count limit S now after))
+
+  abbrev pub OrdersIt : Shape → Type 0
+  OrdersIt S = IsInOrder S (journals_of count limit S logs shards) (journals_of count limit S now after)
 
   pub record Ends (verdicts : VerdictsOf) (S : Shape) : Type 0 where
     pub idle : AreIdle S (journals_of count limit S now after)
@@ -134,8 +138,8 @@ module _ {D : Type 0} (content : D → Option (List ℕ)) (images : D → List �
           kept = a.kept;
         }
 
-    is_run : (verdicts : VerdictsOf) → KeepsIt h.shape → Ends verdicts h.shape → IsRun images back verdicts files K mint submissions E
-    is_run verdicts keeps ends =
+    is_run : (verdicts : VerdictsOf) → KeepsIt h.shape → OrdersIt h.shape → Ends verdicts h.shape → IsRun images back verdicts files K mint submissions E
+    is_run verdicts keeps orders ends =
         let grown = is_grown keeps in
         let e = subst (Ends verdicts) shape_is ends in
         record {
@@ -144,22 +148,26 @@ module _ {D : Type 0} (content : D → Option (List ℕ)) (images : D → List �
           disks = disks_hold (e.quiet mint submissions kept_there (are_quiet content images limit count held h logs shards are));
           resumed = λ none. subst (λ L. IsResumed K L (journals_of count limit K now after)) journals_are (e.resumed mint submissions kept_there none);
           waves = subst (λ L. Waves K (sound_by verdicts) files L (journals_of count limit K now after)) journals_are (e.waves mint submissions kept_there (sound_by verdicts) (is_sound_law verdicts));
+          in_order = subst (λ L. IsInOrder K L (journals_of count limit K now after)) journals_are (subst OrdersIt shape_is orders);
           headline = λ clean. idle_law K mint (submissions ++ joined files) (journals_of count limit K now after) within.some_shard within.some_lane clean grown.kept e.idle;
         }
 
-    is_told : (ran : Ran) (verdicts : VerdictsOf) → KeepsIt h.shape → Ends verdicts h.shape → TellsIt verdicts ran h.shape → CountAll (map (λ s. s.journal) after) ran.unspent → IsTold images back verdicts files ran K mint submissions E
+    is_told : (ran : Ran) (verdicts : VerdictsOf) → KeepsIt h.shape → OrdersIt h.shape → Ends verdicts h.shape → TellsIt verdicts ran h.shape → CountAll (map (λ s. s.journal) after) ran.unspent → IsTold images back verdicts files ran K mint submissions E
     unfolding is_run
-    is_told ran verdicts keeps ends told counted = record {
-      run = is_run verdicts keeps ends;
+    is_told ran verdicts keeps orders ends told counted = record {
+      run = is_run verdicts keeps orders ends;
       tells = subst (λ L. TellsRun K verdicts files L (journals_of count limit K now after) ran.resumed.items ran.waves.items) journals_are (subst (TellsIt verdicts ran) shape_is told mint submissions kept_there);
       unspent = subst (λ k. IsUnspentCount k (journals_of count limit k now after) ran.unspent) (shape ∙ shape_is) (unspent_counted count limit g now after is ran.unspent counted);
     }
 
-  pub tells : (verdicts : VerdictsOf) (ran : Ran) → KeepsIt h.shape → Ends verdicts h.shape → TellsIt verdicts ran h.shape → CountAll (map (λ s. s.journal) after) ran.unspent → OfShown content held (IsTold images back verdicts files ran)
-  tells verdicts ran keeps ends told counted K mint submissions E within shows kept = is_told K mint submissions E within shows kept ran verdicts keeps ends told counted
+  pub tells : (verdicts : VerdictsOf) (ran : Ran) → KeepsIt h.shape → OrdersIt h.shape → Ends verdicts h.shape → TellsIt verdicts ran h.shape → CountAll (map (λ s. s.journal) after) ran.unspent → OfShown content held (IsTold images back verdicts files ran)
+  tells verdicts ran keeps orders ends told counted K mint submissions E within shows kept = is_told K mint submissions E within shows kept ran verdicts keeps orders ends told counted
 
   pub spares : ((n : ℕ) → length logs + length shards ≤ n → back n ≡ held n) → SparesOthers content held back
   spares others K mint submissions E within shows kept = others_stay K mint submissions E within shows kept others
+
+  pub had_rooms : OfShown content held (λ K mint submissions E. HaveRoom limit held K E)
+  had_rooms = had_room
 
   pub took : IsCausedLedger content held → ((n : ℕ) → length logs + length shards ≤ n → back n ≡ held n) → TookLedger content limit held back
   took ledger others = record { ledger = ledger; room = had_room; spared = spares others }
@@ -171,8 +179,8 @@ module _ {D : Type 0} (content : D → Option (List ℕ)) (images : D → List �
       → Ends verdicts h.shape
   ends verdicts idle resumed waves quiet = record { idle = idle; resumed = resumed; waves = waves; quiet = quiet }
 
-  pub runs : (verdicts : VerdictsOf) → KeepsIt h.shape → Ends verdicts h.shape → OfShown content held (IsRun images back verdicts files)
-  runs verdicts keeps ends K mint submissions E within shows kept = is_run K mint submissions E within shows kept verdicts keeps ends
+  pub runs : (verdicts : VerdictsOf) → KeepsIt h.shape → OrdersIt h.shape → Ends verdicts h.shape → OfShown content held (IsRun images back verdicts files)
+  runs verdicts keeps orders ends K mint submissions E within shows kept = is_run K mint submissions E within shows kept verdicts keeps orders ends
 
   pub cut_short : KeepsIt h.shape → FliesIt h.shape → All (LogHasRoom limit) now → All (ShardHasRoom limit) after → OfShown content held (IsCutShort images limit back files (journals_of count limit h.shape now after))
   cut_short keeps flies log_rooms shard_rooms K mint submissions E within shows kept =
@@ -199,6 +207,7 @@ recovered images back verdicts K mint submissions E run =
       grown = subst (λ s. IsGrown K mint s E run.exit) none run.grown;
       disks = run.disks;
       resumed = run.resumed refl;
+      in_order = run.in_order;
       headline = λ clean. subst (λ s. Headline K mint s run.exit) none (run.headline (subst (Clean mint) (sym none) clean));
     }
 

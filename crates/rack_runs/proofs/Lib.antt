@@ -4,3 +4,4 @@ pub mod Ledgers
 pub mod Unspent
 pub mod Checking
 pub mod Answering
+pub mod Flown

@@ -1,8 +1,8 @@
 -- A run over the nodes of a ledger: what was open, and the files behind it.
-use Rattle.std.proofs.Common.{◌≡◌, ℕ, ◌*◌, List, [], ◌∷◌, ◌++◌, length, Bool, Option, refl, sym, subst, arith}
+use Rattle.std.proofs.Common.{◌≡◌, inr, ℕ, ◌*◌, ◌<◌, ◌==◌, false, List, [], ◌∷◌, ◌++◌, length, Bool, Option, refl, sym, subst, arith}
 use Rattle.ledger_laws.proofs.Cuts.{end_trans}
 use Rattle.cbdc_model.specs.Records.{Shape, Record}
-use Rattle.cbdc_model.specs.Coins.{FullTx}
+use Rattle.cbdc_model.specs.Coins.{Output, FullTx}
 use Rattle.cbdc_model.specs.Waves.{IsResumed, Waves}
 use Rattle.run_laws.proofs.WaveTurns.{waves_begin_law}
 use Rattle.submissions.specs.Checks.{VerdictsOf, TellsSound}
@@ -15,6 +15,8 @@ use Rattle.rack_runs.specs.declared.over.Over.{Over}
 use Rattle.rack_runs.specs.declared.over.Ran.{Ran}
 use Rattle.rack_runs.specs.Telling.{TellsRun}
 use Rattle.file_runs.specs.Runs.{joined, FliesWith}
+use Rattle.file_runs.specs.Endings.{AreCut}
+use Rattle.rack_runs.specs.Endings.{IsCut}
 use Rattle.file_runs.proofs.Filing.{kept_more}
 use Rattle.file_runs.proofs.Flying.{may_more}
 use Rattle.ledger_runs.specs.Flying.{FliesOn}
@@ -47,6 +49,19 @@ pub over_waves : (K H : Shape) (verdicts : VerdictsOf) (files : List (List FullT
 over_waves K H verdicts files I M J e one resumed two mint submissions kept sound tells =
     subst (λ k. OfKept k M (λ _ _. (test : FullTx → Bool) (E : ℕ → List Record) → TellsSound verdicts test → IsResumed k E M → Waves k test files E J)) e two mint submissions (one mint submissions kept).kept
     sound I tells (resumed mint submissions kept)
+
+pub some_of : (n : ℕ) → (n == 0) ≡ false → 0 < n
+some_of n e = grind (arith, e)
+
+-- files behind the open batches, run or cut short
+pub over_cuts : (K H : Shape) (verdicts : VerdictsOf) (files : List (List FullTx)) (I M J : ℕ → List Record) → H ≡ K → 0 < length files → OfKept K I (StaysKept K I M) → OfKept K I (λ _ _. IsResumed K I M)
+    → OfKept H M (λ mint _. (sound : FullTx → Bool) (E : ℕ → List Record) → TellsSound verdicts sound → IsResumed H E M → AreCut H sound files mint E J)
+    → OfKept K I (λ mint _. (sound : FullTx → Bool) → TellsSound verdicts sound → IsCut K sound files mint I J)
+over_cuts K H verdicts files I M J e some one resumed two mint submissions kept sound tells = inr (
+  some,
+  subst (λ k. OfKept k M (λ mint _. (test : FullTx → Bool) (E : ℕ → List Record) → TellsSound verdicts test → IsResumed k E M → AreCut k test files mint E J)) e two mint submissions (one mint submissions kept).kept
+      sound I tells (resumed mint submissions kept),
+)
 
 pub none_of : {A : Type 0} (xs : List A) → length xs ≡ 0 → xs ≡ []
 none_of [] e = refl

@@ -1,16 +1,17 @@
 -- Whose fault ends a run.
-use Rattle.std.specs.Prelude.{◌≡◌, ◌⊎◌, ℕ, List}
+use Rattle.std.specs.Prelude.{◌≡◌, ◌⊎◌, ℕ, ◌<◌, Bool, List, length}
 use Rattle.cbdc_types.specs.declared.answer.Answer.{Answer}
 use Rattle.cbdc_types.specs.declared.answer.Answer.TheVariants as answers
 use Rattle.cbdc_model.specs.Records.{Shape, Record}
-use Rattle.cbdc_model.specs.Coins.{FullTx}
+use Rattle.cbdc_model.specs.Coins.{Output, FullTx}
 use Rattle.cbdc_model.specs.Lanes.{IsEnd}
 use Rattle.cbdc_model.specs.World.{AreIdle}
 use Rattle.lane_driver.specs.declared.fault.LaneFault.{LaneFault}
 use Rattle.submissions.specs.Checks.{VerdictsOf}
 use Rattle.ledger_runs.specs.Telling.{SamePrepared}
+use Rattle.ledger_runs.specs.Faults.{TakesInOrder}
 use Rattle.ledger_runs.specs.Least.{IsLeastOpen}
-use Rattle.file_runs.specs.Endings.{EndsFiles}
+use Rattle.file_runs.specs.Endings.{EndsFiles, AreCut}
 use Rattle.rack_runs.specs.Kinds.{answer_to}
 
 -- from journals E at entry to X: nothing was prepared newly, and it is the least lane's that met one as open batches were brought to their end; or these
@@ -23,3 +24,11 @@ EndsRun verdicts files K E X failed may_hold e =
 -- memory ran out, or the answer is that to a fault that ended it
 abbrev pub IsLeastAnswer : (LaneFault → Type 0) → Answer → Type 0
 IsLeastAnswer ends answer = (answer ≡ answers.Memory) ⊎ ((e : LaneFault) × (answer ≡ answer_to e) × ends e)
+
+-- open batches are taken up in rising order of their lanes, and nothing else comes before all lanes are idle
+abbrev pub IsInOrder : Shape → (ℕ → List Record) → (ℕ → List Record) → Type 0
+IsInOrder K E X = (middle : ℕ → List Record) × TakesInOrder K E middle × (((n : ℕ) → X n ≡ middle n) ⊎ (AreIdle K middle × ((n : ℕ) → IsEnd (middle n) (X n))))
+
+-- from kept journals E to X a run came through or was cut short: nothing was prepared newly; or there are files, and they were run or cut short
+abbrev pub IsCut : Shape → (FullTx → Bool) → List (List FullTx) → List Output → (ℕ → List Record) → (ℕ → List Record) → Type 0
+IsCut K sound files mint E X = SamePrepared K E X ⊎ ((0 < length files) × AreCut K sound files mint E X)

@@ -1,8 +1,11 @@
 -- What a lane's fault answers, and its cause.
-use Rattle.std.specs.Prelude.{ℕ, List}
+use Rattle.std.specs.Prelude.{◌≡◌, ℕ, List, Some}
 use Rattle.cbdc_types.specs.declared.answer.Answer.{Answer}
 use Rattle.cbdc_types.specs.declared.answer.Answer.TheVariants as answers
 use Rattle.cbdc_model.specs.Records.{Shape, Compact, Record}
+use Rattle.cbdc_model.specs.Sights.{HasRisen}
+use Rattle.coord_log.specs.Logs.{LogOf}
+use Rattle.shard_node.specs.Shards.{ShardOf}
 use Rattle.lane_driver.specs.declared.fault.LaneFault.{LaneFault}
 use Rattle.lane_driver.specs.declared.fault.LaneFaultKind.{LaneFaultKind}
 use Rattle.lane_driver.specs.declared.fault.LaneFaultKind.TheVariants.{DiskFault as DiskStopped, Full as NoRoom, ClockEnd as NoStamp, Memory as NoMemory}
@@ -27,3 +30,10 @@ IsLaneAnswer K next E X failed may_hold (answers.Full node used need capacity) =
 IsLaneAnswer K next E X failed may_hold (answers.ClockEnd node stamp) = (lane : ℕ) × IsLaneOf K lane × HasNoStampFor K lane (next lane) E X node stamp
 IsLaneAnswer K next E X failed may_hold answers.Memory = Unit {0}
 IsLaneAnswer K next E X failed may_hold other = ⊥
+
+-- a record is in flight at a coordinator, and at a shard, only where its disk has failed since it was opened
+abbrev pub FliesBroken : {D : Type 0} → LogOf D → Type 0
+FliesBroken l = (r : Record) → l.flight ≡ Some r → HasRisen l.opened l.faults
+
+abbrev pub ShardFliesBroken : {D : Type 0} → (D → ℕ) → ShardOf D → Type 0
+ShardFliesBroken count s = (r : Record) → s.flight ≡ Some r → HasRisen s.opened (count s.disk)

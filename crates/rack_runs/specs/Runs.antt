@@ -1,33 +1,35 @@
 -- What runs leave of the ledger that a rack showed.
-use Rattle.std.specs.Prelude.{◌≤◌, ◌≡◌, ℕ, List, [], ◌++◌, reverse, Option}
+use Rattle.std.specs.Prelude.{◌≤◌, ◌≡◌, ◌⊎◌, ℕ, ◌<◌, Bool, true, false, List, [], ◌++◌, length, reverse, Option, Some}
 use Rattle.outside.specs.Counts.{Rose}
 use Rattle.cbdc_types.specs.declared.answer.Answer.{Answer}
-use Rattle.cbdc_model.specs.Records.{Shape, Compact, Record, journal}
+use Rattle.cbdc_model.specs.Records.{Shape, Batch, Compact, Record, journal}
 use Rattle.cbdc_model.specs.Coins.{Output, FullTx}
 use Rattle.cbdc_model.specs.Clean.{Clean}
 use Rattle.cbdc_model.specs.Lanes.{IsEnd}
 use Rattle.cbdc_model.specs.World.{KeptJournals}
 use Rattle.cbdc_model.specs.Headline.{Headline}
-use Rattle.cbdc_model.specs.Waves.{IsResumed, Waves}
+use Rattle.cbdc_model.specs.Waves.{Adds, has_prepare, has_done, IsResumed, Waves}
 use Rattle.lane_driver.specs.declared.fault.LaneFault.{LaneFault}
+use Rattle.record_log.specs.Held.{OpensToEither}
 use Rattle.rack_laws.specs.Shown.{OfShown, KeepsEach, HoldsEach, AreLeft, OpenTo, HaveRoom, node_count}
-use Rattle.submissions.specs.Checks.{VerdictsOf}
+use Rattle.submissions.specs.Checks.{VerdictsOf, TellsSound}
 use Rattle.sound_laws.specs.SoundTest.{sound_by}
 use Rattle.rack_nodes.specs.Racked.{OfTold}
 use Rattle.caused_ledgers.specs.Caused.{IsCausedLedger}
 use Rattle.caused_ledgers.specs.Laws.{AllTell}
-use Rattle.ledger_runs.specs.Turning.{IsLaneOf}
+use Rattle.ledger_runs.specs.Turning.{IsLaneOf, OfKept}
 use Rattle.ledger_runs.specs.Pieces.{HasPrepared}
 use Rattle.file_runs.specs.Runs.{joined, HaveBegunFiles, IsFilesPiece}
+use Rattle.file_runs.specs.Endings.{HasBegunFirst}
 use Rattle.rack_runs.specs.Kinds.{IsLaneAnswer}
-use Rattle.rack_runs.specs.Endings.{IsLeastAnswer}
+use Rattle.rack_runs.specs.Endings.{IsInOrder, IsLeastAnswer}
 
 -- journals that have grown at their ends from those at entry, and are kept
 pub record IsGrown (K : Shape) (mint : List Output) (submissions : List FullTx) (E X : ℕ → List Record) : Type 0 where
   pub grows : (n : ℕ) → IsEnd (E n) (X n)
   pub kept : KeptJournals K mint submissions X
 
--- a run: the open batches are brought to their end, one file's wave after another follows, each disk holds its journal and no record more,
+-- a run: the open batches are brought to their end, lane by lane in rising order, one file's wave after another follows, each disk holds its journal and no record more,
 -- and the sentence holds of the journals
 pub record IsRun {D : Type 0} (images : D → List ℕ → Type 0) (held : ℕ → Option D) (verdicts : VerdictsOf) (files : List (List FullTx)) (K : Shape) (mint : List Output) (submissions : List FullTx) (E : ℕ → List Record) : Type 0 where
   pub exit : ℕ → List Record
@@ -35,15 +37,17 @@ pub record IsRun {D : Type 0} (images : D → List ℕ → Type 0) (held : ℕ �
   pub disks : HoldsEach images held K exit
   pub resumed : files ≡ [] → IsResumed K E exit
   pub waves : Waves K (sound_by verdicts) files E exit
+  pub in_order : IsInOrder K E exit
   pub headline : Clean mint (submissions ++ joined files) → Headline K mint (submissions ++ joined files) exit
 
--- a recovery: the open batches are brought to their end, nothing else is done, each disk holds its journal and no record more, and the
+-- a recovery: the open batches are brought to their end, lane by lane in rising order, nothing else is done, each disk holds its journal and no record more, and the
 -- sentence holds of the journals
 pub record IsRecovered {D : Type 0} (images : D → List ℕ → Type 0) (held : ℕ → Option D) (K : Shape) (mint : List Output) (submissions : List FullTx) (E : ℕ → List Record) : Type 0 where
   pub exit : ℕ → List Record
   pub grown : IsGrown K mint submissions E exit
   pub disks : HoldsEach images held K exit
   pub resumed : IsResumed K E exit
+  pub in_order : IsInOrder K E exit
   pub headline : Clean mint submissions → Headline K mint submissions exit
 
 -- whatever a crash leaves of the disks opens to journals that have grown from those at entry, and are kept
@@ -70,19 +74,27 @@ pub record TookLedger {D : Type 0} (content : D → Option (List ℕ)) (limit : 
   pub room : OfShown content held (λ K mint submissions E. HaveRoom limit held K E)
   pub spared : SparesOthers content held back
 
--- a lane's fault ended a run over the ledger that the disks told, in which each record was caused: its journals have grown at their ends, and no
--- lane has prepared anything newly but the first of its pieces, or nothing where there are no files; where the disks told all each keeps its journal, with one record more or without; the answer has its cause, by the counts of
--- faults before and now and by what the disks that were told may hold; it is the least lane's that met one; where the ledger was kept, it is cut short, and the disks that
--- are no nodes of it are as before
+-- whatever a crash may leave of a node's disk that is told opens to this journal, with what is in flight there or without
+abbrev pub KeepsFlights : {D : Type 0} → (D → List ℕ → Type 0) → (ℕ → Option D) → Shape → (ℕ → List Record) → (ℕ → Option Record) → Type 0
+KeepsFlights images held K X flights = (n : ℕ) → n < node_count K → OfTold (held n) (λ d. (c : List ℕ) → images d c → OpensToEither (reverse (X n)) (flights n) c)
+
+-- a lane's fault ended a run over the ledger that the disks told, in which each record was caused: its journals have grown at their ends, as a run that
+-- began so far grows them; a record is in flight only at a node whose disk has failed since, and where the disks told all each keeps its journal, with
+-- what is in flight there or without; the answer has its cause, by the counts of
+-- faults before and now and by what the disks that were told may hold; it is the least lane's that met one; where the ledger was kept, each of its disks
+-- had room for its journal and for what is kept for the batches that were open there, it is cut short, and the disks that are no nodes of it are as before
 pub record IsLaneFault {D : Type 0} (content : D → Option (List ℕ)) (images : D → List ℕ → Type 0) (limit : D → ℕ) (held back : ℕ → Option D) (before now : ℕ → ℕ) (next : Shape → (ℕ → List Record) → (ℕ → List Record) → ℕ → List Compact → Type 0)
     (ends : Shape → (ℕ → List Record) → (ℕ → List Record) → (ℕ → Type 0) → (ℕ → ℕ → Type 0) → LaneFault → Type 0) (begun : Shape → (ℕ → List Record) → (ℕ → List Record) → Type 0) (files : List (List FullTx)) (answer : Answer) : Type 0 where
   pub ledger : IsCausedLedger content held
   pub exit : ℕ → List Record
   pub grows : (n : ℕ) → IsEnd (journal n (reverse ledger.rows)) (exit n)
   pub prepared : begun ledger.shape (λ n. journal n (reverse ledger.rows)) exit
-  pub disks : AllTell content held ledger.shape → KeepsEach images back ledger.shape exit
+  pub flights : ℕ → Option Record
+  pub in_flight : (n : ℕ) (r : Record) → n < node_count ledger.shape → flights n ≡ Some r → Rose (before n) (now n)
+  pub disks : AllTell content held ledger.shape → KeepsFlights images back ledger.shape exit flights
   pub cause : IsLaneAnswer ledger.shape (next ledger.shape (λ n. journal n (reverse ledger.rows)) exit) (λ n. journal n (reverse ledger.rows)) exit (λ n. Rose (before n) (now n)) (λ n c. OfTold (held n) (λ d. c ≡ limit d)) answer
   pub least : IsLeastAnswer (ends ledger.shape (λ n. journal n (reverse ledger.rows)) exit (λ n. Rose (before n) (now n)) (λ n c. OfTold (held n) (λ d. c ≡ limit d))) answer
+  pub room : OfShown content held (λ K mint submissions E. HaveRoom limit held K E)
   pub kept : OfShown content held (IsCutShort images limit back files exit)
   pub spared : SparesOthers content held back
 
@@ -94,10 +106,25 @@ NothingNext K E X lane txs = ⊥
 abbrev pub PieceNext : VerdictsOf → List (List FullTx) → Shape → (ℕ → List Record) → (ℕ → List Record) → ℕ → List Compact → Type 0
 PieceNext verdicts files K E X = IsFilesPiece K verdicts files E X
 
--- no lane has prepared anything
-abbrev pub NonePrepared : Shape → (ℕ → List Record) → (ℕ → List Record) → Type 0
-NonePrepared K E X = (lane : ℕ) → IsLaneOf K lane → HasPrepared K lane [] E X
+-- all new records are of batches that were open
+abbrev pub AddsOpen : Shape → (ℕ → List Record) → (ℕ → List Record) → Type 0
+AddsOpen K E X = Adds (λ b. (has_prepare K E b ≡ true) × (has_done K E b ≡ false)) E X
 
--- no lane has prepared anything but the first pieces of what these files send it
+-- the order of a run that was cut short: all new records are of batches that were open; or, where there are files, the open batches and then the waves
+-- of the first of the files are at their end, and all records behind those are of batches that are new then and that the next file alone has begun
+abbrev pub IsCutWaves : Shape → (FullTx → Bool) → List (List FullTx) → (ℕ → List Record) → (ℕ → List Record) → Type 0
+IsCutWaves K sound files E X =
+    AddsOpen K E X
+    ⊎ ((0 < length files) × (done : List (List FullTx)) × (more : List (List FullTx)) × (middle : ℕ → List Record)
+    × (files ≡ done ++ more) × Waves K sound done E middle × Adds (λ b. has_prepare K middle b ≡ false) middle X × HasBegunFirst K sound more middle X)
+
+-- no lane has prepared anything, and where the journals at entry are kept all new records are of batches that were open; these are taken up in the
+-- order of their lanes
+abbrev pub NonePrepared : Shape → (ℕ → List Record) → (ℕ → List Record) → Type 0
+NonePrepared K E X = ((lane : ℕ) → IsLaneOf K lane → HasPrepared K lane [] E X) × OfKept K E (λ _ _. AddsOpen K E X) × IsInOrder K E X
+
+-- no lane has prepared anything but the first pieces of what these files send it, and where the journals at entry are kept the new records keep the
+-- order of open batches and files; the open batches are taken up in the order of their lanes
 abbrev pub PiecesPrepared : VerdictsOf → List (List FullTx) → Shape → (ℕ → List Record) → (ℕ → List Record) → Type 0
-PiecesPrepared verdicts files K E X = HaveBegunFiles K verdicts files E X
+PiecesPrepared verdicts files K E X =
+    HaveBegunFiles K verdicts files E X × OfKept K E (λ _ _. (sound : FullTx → Bool) → TellsSound verdicts sound → IsCutWaves K sound files E X) × IsInOrder K E X

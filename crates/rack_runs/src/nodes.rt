@@ -1,5 +1,6 @@
 // A run over open nodes.
-ghost use Rattle.std.specs.Prelude.{◌≡◌, ◌⊎◌, Err, ◌≤◌, ◌<◌, ◌++◌, ℕ, Bool, [], map, All, IfOk, IfSome, OnOk, IfErr, IsOk};
+ghost use Rattle.std.specs.Prelude.{◌≡◌, ◌⊎◌, Err, Some, ◌≤◌, ◌<◌, ◌++◌, ℕ, Bool, [], map, All, IfOk, IfSome, OnOk, IfErr, IsOk};
+ghost use Rattle.cbdc_model.specs.Records.{Record};
 ghost use Rattle.cbdc_model.specs.Coins.{FullTx as TxOf};
 ghost use Rattle.cbdc_model.specs.Lanes.{IsEnd};
 ghost use Rattle.cbdc_model.specs.World.{AreIdle};
@@ -9,10 +10,10 @@ ghost use Rattle.submissions.specs.Checks.{TellsSound};
 ghost use Rattle.ledger_runs.specs.Turning.{OfKept, StaysKept};
 ghost use Rattle.ledger_runs.specs.Faults.{HaveFailed, MayHold};
 ghost use Rattle.file_runs.specs.Runs.{joined, HaveBegunFiles, IsFilesPiece, FliesWith};
-ghost use Rattle.rack_runs.specs.Endings.{EndsRun, IsLeastAnswer};
+ghost use Rattle.rack_runs.specs.Endings.{EndsRun, IsCut, IsInOrder, IsLeastAnswer};
 ghost use Rattle.ledger_nodes.specs.Ledgers.{IsLedger, journals_of, flights_of, faults_of, opened_of, capacity_of, AreChecked, AreStored, AreQuiet};
 ghost use Rattle.rack_laws.specs.Shown.{LogHasRoom, ShardHasRoom};
-ghost use Rattle.rack_runs.specs.Kinds.{answer_to, IsLaneAnswer};
+ghost use Rattle.rack_runs.specs.Kinds.{answer_to, IsLaneAnswer, FliesBroken, ShardFliesBroken};
 ghost use Rattle.lane_driver.specs.declared.fault.LaneFault.{LaneFault as FaultOf};
 ghost use Rattle.rack_runs.specs.Telling.{CountAll, TellsRun};
 
@@ -35,19 +36,21 @@ pub(crate) struct Behind<D: Disk> {
     pub came: Result<Ran, Answer>,
 }
 
-// Each coordinator's count of faults is its disk's, which has room for what is kept for its open batches.
+// Each coordinator's count of faults is its disk's, which has room for what is kept for its open batches; a record is in flight only where the disk failed.
 fn see_logs<D: Disk>(logs: &[CoordLog<D>])
     ensures counts { All (λ l. l.faults ≡ D.count l.disk) logs.now }
     ensures rooms { All (LogHasRoom D.limit) logs.now }
+    ensures flown { All FliesBroken logs.now }
 {
     'logs: for log in logs {
         let _header = log.header();
     }
 }
 
-// So has each shard's.
+// The same of each shard's disk.
 fn see_shards<D: Disk>(shards: &[ShardNode<D>])
-    ensures { All (ShardHasRoom D.limit) shards.now }
+    ensures rooms { All (ShardHasRoom D.limit) shards.now }
+    ensures flown { All (ShardFliesBroken D.count) shards.now }
 {
     'shards: for shard in shards {
         let _header = shard.header();
@@ -130,11 +133,22 @@ pub(crate) fn run_nodes<W: Wait, D: Disk, V: Verifier, G: Gate>(
     ensures begun { 0 < nodes.header.shape.batch → HaveBegunFiles nodes.header.shape (V.verdict_of verifier.now) files.now
         (journals_of D.count D.limit nodes.header.shape nodes.logs.items nodes.shards.items) (journals_of D.count D.limit nodes.header.shape result.nodes.logs.items result.nodes.shards.items) }
 
+    // Open batches come first, and then one file after another.
+    ensures cut { OfKept nodes.header.shape (journals_of D.count D.limit nodes.header.shape nodes.logs.items nodes.shards.items)
+        (λ mint _. (sound : TxOf → Bool) → TellsSound (V.verdict_of verifier.now) sound → IsCut nodes.header.shape sound files.now mint
+        (journals_of D.count D.limit nodes.header.shape nodes.logs.items nodes.shards.items) (journals_of D.count D.limit nodes.header.shape result.nodes.logs.items result.nodes.shards.items)) }
+    ensures in_order { IsInOrder nodes.header.shape (journals_of D.count D.limit nodes.header.shape nodes.logs.items nodes.shards.items)
+        (journals_of D.count D.limit nodes.header.shape result.nodes.logs.items result.nodes.shards.items) }
+
     // What is in flight may come next at its node, as before.
     ensures flies { OfKept nodes.header.shape (journals_of D.count D.limit nodes.header.shape nodes.logs.items nodes.shards.items)
         (FliesWith nodes.header.shape (joined files.now) (journals_of D.count D.limit nodes.header.shape nodes.logs.items nodes.shards.items)
         (journals_of D.count D.limit nodes.header.shape result.nodes.logs.items result.nodes.shards.items)
         (flights_of D.count D.limit nodes.header.shape nodes.logs.items nodes.shards.items) (flights_of D.count D.limit nodes.header.shape result.nodes.logs.items result.nodes.shards.items)) }
+
+    // Only where the disk has failed since its node was opened.
+    ensures flown { (n : ℕ) (r : Record) → flights_of D.count D.limit nodes.header.shape result.nodes.logs.items result.nodes.shards.items n ≡ Some r
+        → HaveFailed (opened_of D.count D.limit nodes.header.shape nodes.logs.items nodes.shards.items) (faults_of D.count D.limit nodes.header.shape result.nodes.logs.items result.nodes.shards.items) n }
 
     // What a fault answers has its cause.
     ensures fault { IfErr result.came (IsLaneAnswer nodes.header.shape (IsFilesPiece nodes.header.shape (V.verdict_of verifier.now) files.now

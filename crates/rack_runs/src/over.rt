@@ -9,7 +9,7 @@ ghost use Rattle.submissions.specs.Checks.{TellsSound};
 ghost use Rattle.ledger_runs.specs.Turning.{OfKept, StaysKept};
 ghost use Rattle.ledger_runs.specs.Faults.{IsRunCause, HaveFailed, MayHold};
 ghost use Rattle.file_runs.specs.Runs.{joined, HaveBegunFiles, IsFilesPiece, FliesWith};
-ghost use Rattle.rack_runs.specs.Endings.{EndsRun};
+ghost use Rattle.rack_runs.specs.Endings.{EndsRun, IsCut, IsInOrder};
 ghost use Rattle.rack_runs.specs.Telling.{TellsRun};
 
 use cbdc_types::{FullTx, List};
@@ -56,6 +56,11 @@ pub(crate) fn run_over<L: Turns, V: Verifier, G: Gate>(
     // And it tells the batches that were open, and of each file what came of its submissions.
     ensures told { IfOk result (λ o. OfKept (L.shape ledger.old) (L.journals ledger.old)
         (λ _ _. TellsRun (L.shape ledger.old) (V.verdict_of verifier.now) files.now (L.journals ledger.old) (L.journals ledger.new) o.resumed.items o.waves.items)) }
+    // With a fault or without, open batches come first, and then one file after another.
+    ensures cut { OfKept (L.shape ledger.old) (L.journals ledger.old) (λ mint _. (sound : TxOf → Bool)
+        → TellsSound (V.verdict_of verifier.now) sound → IsCut (L.shape ledger.old) sound files.now mint (L.journals ledger.old) (L.journals ledger.new)) }
+
+    ensures in_order { IsInOrder (L.shape ledger.old) (L.journals ledger.old) (L.journals ledger.new) }
     ensures quiet { OnOk result (OfKept (L.shape ledger.old) (L.journals ledger.old) (λ _ _. L.quiet ledger.old → L.quiet ledger.new)) }
     ensures flies { OfKept (L.shape ledger.old) (L.journals ledger.old) (FliesWith (L.shape ledger.old) (joined files.now) (L.journals ledger.old) (L.journals ledger.new) (L.flights ledger.old) (L.flights ledger.new)) }
     ensures holds { L.holds ledger.old → L.holds ledger.new }

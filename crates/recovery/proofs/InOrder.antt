@@ -2,7 +2,7 @@
 use Rattle.std.proofs.Common.{◌≡◌, ◌≢◌, ℕ, ◌+◌, ◌<◌, Bool, List, [], ◌∷◌, ◌++◌, length, get_or, take, drop, refl, sym, ap, ◌∙◌, subst, arith}
 use Rattle.std.specs.List.{All}
 use Rattle.std.proofs.lemmas.List.{take_more, take-append-drop}
-use Rattle.std.proofs.lemmas.List.Elements.{All-get_or, All-push, All-weaker}
+use Rattle.std.proofs.lemmas.List.Elements.{All-nil, All-get_or, All-push, All-weaker}
 use Rattle.cbdc_types.specs.declared.batch.OpenLane.{OpenLane}
 use Rattle.cbdc_model.specs.Records.{Shape, Header, Compact}
 use Rattle.cbdc_model.specs.Slots.{Phase, Idle}
@@ -11,7 +11,7 @@ use Rattle.lane_driver.specs.Told.{IsLane, KeepsOthers}
 use Rattle.recovery.specs.declared.resumed.ResumedBatch.{ResumedBatch}
 use Rattle.lane_driver.specs.declared.fault.LaneFault.{LaneFault}
 use Rattle.recovery.specs.Open.{IsOpen, LanesAbove, LanesRise, KeepsUnlisted, IsUnfinished, IsResumeStopped, IsResumeTold, IsOneTaken, AreTakenUp, IsStoppedAmong}
-use Rattle.recovery.proofs.Rest.{split_rest, open_here}
+use Rattle.recovery.proofs.Rest.{split_rest, open_here, more_before}
 
 -- ---- what was taken
 
@@ -64,11 +64,11 @@ module _ (os : List OpenLane) (i : ℕ) (o : OpenLane) (lt : i < length os) (is 
     told = told;
   }
 
-  pub over_more : (h k : Header) (p q : ℕ → Phase) (t u : ℕ → List Compact) → k ≡ h → KeepsOthers h o.batch.lane p q t u → q o.batch.lane ≡ Idle → LanesRise (drop i os) → All (IsOpen h p t) (drop i os)
+  pub over_more : (h k : Header) (p q : ℕ → Phase) (t u : ℕ → List Compact) → k ≡ h → (1 < length os → KeepsOthers h o.batch.lane p q t u) → q o.batch.lane ≡ Idle → LanesRise (drop i os) → All (IsOpen h p t) (drop i os)
       → All (IsOver h p (drop i os)) (take i os) → All (IsOver k q (drop (i + 1) os)) (take (i + 1) os)
   over_more h k p q t u e keeps idle rise open_rest over =
       subst (λ xs. All (IsOver k q (drop (i + 1) os)) xs) (sym longer)
-      (All-push (IsOver k q (drop (i + 1) os)) (take i os) o (All-weaker (IsOver h p (drop i os)) (IsOver k q (drop (i + 1) os)) older (take i os) over) here)
+      (All-push (IsOver k q (drop (i + 1) os)) (take i os) o (before (take i os) refl) here)
     where
       here : IsOver k q (drop (i + 1) os) o
       here = record {
@@ -77,15 +77,19 @@ module _ (os : List OpenLane) (i : ℕ) (o : OpenLane) (lt : i < length os) (is 
         below = (subst LanesRise split rise).0;
       }
 
-      older : (x : OpenLane) → IsOver h p (drop i os) x → IsOver k q (drop (i + 1) os) x
-      older x was =
+      older : KeepsOthers h o.batch.lane p q t u → (x : OpenLane) → IsOver h p (drop i os) x → IsOver k q (drop (i + 1) os) x
+      older kept x was =
           let below : LanesAbove x.batch.lane (o ∷ drop (i + 1) os) = subst (λ xs. LanesAbove x.batch.lane xs) split was.below in
           let apart : x.batch.lane ≢ o.batch.lane = λ same. (let lt : x.batch.lane < o.batch.lane = below.0 in omega (arith, same, lt)) in
           record {
             lane = subst (λ y. IsLane y x.batch.lane) (sym e) was.lane;
-            idle = (keeps x.batch.lane was.lane apart).0 ∙ was.idle;
+            idle = (kept x.batch.lane was.lane apart).0 ∙ was.idle;
             below = below.1;
           }
+
+      before : (xs : List OpenLane) → take i os ≡ xs → All (IsOver k q (drop (i + 1) os)) (take i os)
+      before [] d = let P : List OpenLane → Type 0 = λ ys. All (IsOver k q (drop (i + 1) os)) ys in subst P (sym d) (All-nil (IsOver k q (drop (i + 1) os)))
+      before (x ∷ xs) d = All-weaker (IsOver h p (drop i os)) (IsOver k q (drop (i + 1) os)) (older (keeps (more_before os i x xs lt d))) (take i os) over
 
   -- lanes that are not listed stay as they were
   pub unlisted_more : (h k : Header) (p q r : ℕ → Phase) (t u v : ℕ → List Compact) → k ≡ h → KeepsUnlisted h os p q t u → KeepsOthers k o.batch.lane q r u v → KeepsUnlisted h os p r t v

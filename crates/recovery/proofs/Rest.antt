@@ -1,5 +1,5 @@
 -- The lanes that are still open once one is resumed.
-use Rattle.std.proofs.Common.{◌≡◌, ◌≢◌, ℕ, suc, ◌+◌, ◌<◌, List, [], ◌∷◌, ◌++◌, length, get_or, take, drop, arith, ap, ◌∙◌, sym, subst, add-one, drop-cons}
+use Rattle.std.proofs.Common.{◌≡◌, ◌≢◌, ℕ, suc, ◌+◌, ◌<◌, List, [], ◌∷◌, ◌++◌, length, get_or, take, drop, length-take, length-drop, refl, arith, ap, ◌∙◌, sym, subst, add-one, drop-cons}
 use Rattle.std.specs.List.{All}
 use Rattle.std.proofs.lemmas.List.Elements.{All-nil, All-cons, All-head, All-tail}
 use Rattle.cbdc_types.specs.declared.batch.OpenLane.{OpenLane}
@@ -41,16 +41,29 @@ open_here h p t os i o lt e all =
     let P : List OpenLane → Type 0 = λ xs. All (IsOpen h p t) xs in
     All-head (IsOpen h p t) o (drop (i + 1) os) (subst P (split_rest os i o lt e) all)
 
+-- where one stands behind another, there are two
+pub more_behind : (os : List OpenLane) (i : ℕ) (x : OpenLane) (xs : List OpenLane) → drop (i + 1) os ≡ x ∷ xs → 1 < length os
+more_behind os i x xs d = let n : length (drop (i + 1) os) ≡ suc (length xs) = ap length d in omega (arith, n, length-drop (i + 1) os)
+
+pub more_before : (os : List OpenLane) (i : ℕ) (x : OpenLane) (xs : List OpenLane) → i < length os → take i os ≡ x ∷ xs → 1 < length os
+more_before os i x xs lt d = let n : length (take i os) ≡ suc (length xs) = ap length d in omega (arith, n, lt, length-take i os)
+
 pub rise_rest : (os : List OpenLane) (i : ℕ) (o : OpenLane) → i < length os → o ≡ get_or os i o → LanesRise (drop i os) → LanesRise (drop (i + 1) os)
 rise_rest os i o lt e rise = (subst LanesRise (split_rest os i o lt e) rise).1
 
 pub open_rest : (h k : Header) (p q : ℕ → Phase) (t u : ℕ → List Compact) (os : List OpenLane) (i : ℕ) (o : OpenLane) → i < length os → o ≡ get_or os i o
-    → LanesRise (drop i os) → All (IsOpen h p t) (drop i os) → k ≡ h → KeepsOthers h o.batch.lane p q t u → All (IsOpen k q u) (drop (i + 1) os)
-open_rest h k p q t u os i o lt e rise all same keeps =
-    let P : List OpenLane → Type 0 = λ xs. All (IsOpen h p t) xs in
-    let split = split_rest os i o lt e in
-    all_still_open h k o.batch.lane p q t u (drop (i + 1) os) same keeps (subst LanesRise split rise).0
-    (All-tail (IsOpen h p t) o (drop (i + 1) os) (subst P split all))
+    → LanesRise (drop i os) → All (IsOpen h p t) (drop i os) → k ≡ h → (1 < length os → KeepsOthers h o.batch.lane p q t u) → All (IsOpen k q u) (drop (i + 1) os)
+open_rest h k p q t u os i o lt e rise all same keeps = rest (drop (i + 1) os) refl
+  where
+    split : drop i os ≡ o ∷ drop (i + 1) os
+    split = split_rest os i o lt e
+
+    here : All (IsOpen h p t) (drop (i + 1) os)
+    here = let P : List OpenLane → Type 0 = λ xs. All (IsOpen h p t) xs in All-tail (IsOpen h p t) o (drop (i + 1) os) (subst P split all)
+
+    rest : (xs : List OpenLane) → drop (i + 1) os ≡ xs → All (IsOpen k q u) (drop (i + 1) os)
+    rest [] d = let P : List OpenLane → Type 0 = λ ys. All (IsOpen k q u) ys in subst P (sym d) (All-nil (IsOpen k q u))
+    rest (x ∷ xs) d = all_still_open h k o.batch.lane p q t u (drop (i + 1) os) same (keeps (more_behind os i x xs d)) (subst LanesRise split rise).0 here
 
 pub resumed_more : (os : List OpenLane) (rs : List ResumedBatch) (i : ℕ) (o : OpenLane) (r : ResumedBatch) → i < length os → o ≡ get_or os i o
     → AreResumed (take i os) rs → IsResumed o r → AreResumed (take (i + 1) os) (rs ++ r ∷ [])

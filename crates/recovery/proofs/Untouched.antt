@@ -1,5 +1,5 @@
 -- A lane's turn leaves what is open of the other lanes as it stands.
-use Rattle.std.proofs.Common.{◌≡◌, ◌≢◌, inl, inr, ℕ, suc, ◌+◌, ◌<◌, Bool, true, false, ◌==◌, List, [], ◌∷◌, ◌++◌, length, get_or, drop, is_some, refl, sym, ap, ◌∙◌, subst, append_assoc, length-drop, arith}
+use Rattle.std.proofs.Common.{◌≡◌, ◌≢◌, inl, inr, ℕ, suc, ◌+◌, ◌<◌, Bool, true, false, ◌==◌, List, [], ◌∷◌, ◌++◌, length, get_or, drop, is_some, refl, sym, ap, ◌∙◌, subst, append_assoc, arith}
 use Rattle.std.proofs.lemmas.List.Elements.{All-nil, All-cons, All-head, All-tail}
 use Rattle.cbdc_types.specs.declared.batch.OpenLane.{OpenLane}
 use Rattle.cbdc_types.specs.declared.batch.Phase.{Phase as OpenPhase}
@@ -19,7 +19,7 @@ use Rattle.lane_laws.proofs.Grants.{lock_on, finish_on, forget_on}
 use Rattle.lane_laws.proofs.Runs.{same_record}
 use Rattle.lane_driver.specs.Told.{KeepNodes}
 use Rattle.recovery.specs.Open.{LanesAbove, LanesRise, IsUnfinished, AreUnfinished}
-use Rattle.recovery.proofs.Rest.{split_rest}
+use Rattle.recovery.proofs.Rest.{split_rest, more_behind}
 
 -- ---- the records of another lane
 
@@ -157,12 +157,9 @@ stand_rest K alone log log' I J os i o quiet lt e rise home shape taken all = re
     here : AreUnfinished K (drop (i + 1) os) log I
     here = let P : List OpenLane → Type 0 = λ xs. AreUnfinished K xs log I in All-tail (λ o. IsUnfinished o.phase K o log I) o (drop (i + 1) os) (subst P split all)
 
-    more : (x : OpenLane) (xs : List OpenLane) → drop (i + 1) os ≡ x ∷ xs → 1 < length os
-    more x xs d = let n : length (drop (i + 1) os) ≡ suc (length xs) = ap length d in omega (arith, n, length-drop (i + 1) os)
-
     rest : (xs : List OpenLane) → drop (i + 1) os ≡ xs → AreUnfinished K (drop (i + 1) os) log' J
     rest [] d = let P : List OpenLane → Type 0 = λ ys. AreUnfinished K ys log' J in subst P (sym d) (All-nil (λ o. IsUnfinished o.phase K o log' J))
-    rest (x ∷ xs) d = all_untouched K o.batch log log' I J home shape (subst (λ a. IsTakenUp K a o.batch log I log' J) (quiet (more x xs d)) taken) (drop (i + 1) os) (subst LanesRise split rise).0 here
+    rest (x ∷ xs) d = all_untouched K o.batch log log' I J home shape (subst (λ a. IsTakenUp K a o.batch log I log' J) (quiet (more_behind os i x xs d)) taken) (drop (i + 1) os) (subst LanesRise split rise).0 here
 
 -- where its coordinator is, by what stands of it
 pub home_there : (K : Shape) (o : OpenLane) (log : Sight) (I : ℕ → Sight) (p : OpenPhase) → IsUnfinished p K o log I → home_of K o.batch.lane < K.coordinators

@@ -46,7 +46,7 @@ fn resume_prepared<S: PortSet, L: LogPort, G: Gate>(
     ensures told { IfErr result (IsResumeTold shape.now L.alone unfinished.now (L.sights ports.old.log (L.at ports.old.log)) (S.sights ports.old.shards) (L.sights ports.new.log (L.at ports.new.log)) (S.sights ports.new.shards)) }
     ensures fault { IfErr result (IsCausedFault shape.now (L.sights ports.new.log) (S.sights ports.new.shards)) }
     ensures idle { OnOk result (L.phase ports.new.log unfinished.now.batch.lane ≡ Idle) }
-    ensures others { KeepsOthers (L.header ports.old.log) unfinished.now.batch.lane (L.phase ports.old.log) (L.phase ports.new.log) (L.open_txs ports.old.log) (L.open_txs ports.new.log) }
+    ensures others { L.alone ≡ true → KeepsOthers (L.header ports.old.log) unfinished.now.batch.lane (L.phase ports.old.log) (L.phase ports.new.log) (L.open_txs ports.old.log) (L.open_txs ports.new.log) }
     ensures at_same { L.at ports.new.log ≡ L.at ports.old.log }
     ensures header { L.header ports.new.log ≡ L.header ports.old.log }
     ensures log_count { L.count ports.new.log ≡ L.count ports.old.log }
@@ -105,7 +105,7 @@ fn resume_committed<S: PortSet, L: LogPort, G: Gate>(
     ensures told { IfErr result (IsResumeTold shape.now L.alone unfinished.now (L.sights ports.old.log (L.at ports.old.log)) (S.sights ports.old.shards) (L.sights ports.new.log (L.at ports.new.log)) (S.sights ports.new.shards)) }
     ensures fault { IfErr result (IsCausedFault shape.now (L.sights ports.new.log) (S.sights ports.new.shards)) }
     ensures idle { OnOk result (L.phase ports.new.log unfinished.now.batch.lane ≡ Idle) }
-    ensures others { KeepsOthers (L.header ports.old.log) unfinished.now.batch.lane (L.phase ports.old.log) (L.phase ports.new.log) (L.open_txs ports.old.log) (L.open_txs ports.new.log) }
+    ensures others { L.alone ≡ true → KeepsOthers (L.header ports.old.log) unfinished.now.batch.lane (L.phase ports.old.log) (L.phase ports.new.log) (L.open_txs ports.old.log) (L.open_txs ports.new.log) }
     ensures at_same { L.at ports.new.log ≡ L.at ports.old.log }
     ensures header { L.header ports.new.log ≡ L.header ports.old.log }
     ensures log_count { L.count ports.new.log ≡ L.count ports.old.log }
@@ -181,7 +181,7 @@ fn resume_discarded<S: PortSet, L: LogPort, G: Gate>(
     ensures told { IfErr result (IsResumeTold shape.now L.alone unfinished.now (L.sights ports.old.log (L.at ports.old.log)) (S.sights ports.old.shards) (L.sights ports.new.log (L.at ports.new.log)) (S.sights ports.new.shards)) }
     ensures fault { IfErr result (IsCausedFault shape.now (L.sights ports.new.log) (S.sights ports.new.shards)) }
     ensures idle { OnOk result (L.phase ports.new.log unfinished.now.batch.lane ≡ Idle) }
-    ensures others { KeepsOthers (L.header ports.old.log) unfinished.now.batch.lane (L.phase ports.old.log) (L.phase ports.new.log) (L.open_txs ports.old.log) (L.open_txs ports.new.log) }
+    ensures others { L.alone ≡ true → KeepsOthers (L.header ports.old.log) unfinished.now.batch.lane (L.phase ports.old.log) (L.phase ports.new.log) (L.open_txs ports.old.log) (L.open_txs ports.new.log) }
     ensures at_same { L.at ports.new.log ≡ L.at ports.old.log }
     ensures header { L.header ports.new.log ≡ L.header ports.old.log }
     ensures log_count { L.count ports.new.log ≡ L.count ports.old.log }
@@ -261,7 +261,7 @@ fn resume_lane<S: PortSet, L: LogPort, G: Gate>(
     ensures told { IfErr result (IsResumeTold shape.now L.alone unfinished.now (L.sights ports.old.log (L.at ports.old.log)) (S.sights ports.old.shards) (L.sights ports.new.log (L.at ports.new.log)) (S.sights ports.new.shards)) }
     ensures fault { IfErr result (IsCausedFault shape.now (L.sights ports.new.log) (S.sights ports.new.shards)) }
     ensures idle { OnOk result (L.phase ports.new.log unfinished.now.batch.lane ≡ Idle) }
-    ensures others { KeepsOthers (L.header ports.old.log) unfinished.now.batch.lane (L.phase ports.old.log) (L.phase ports.new.log) (L.open_txs ports.old.log) (L.open_txs ports.new.log) }
+    ensures others { L.alone ≡ true → KeepsOthers (L.header ports.old.log) unfinished.now.batch.lane (L.phase ports.old.log) (L.phase ports.new.log) (L.open_txs ports.old.log) (L.open_txs ports.new.log) }
     ensures at_same { L.at ports.new.log ≡ L.at ports.old.log }
     ensures header { L.header ports.new.log ≡ L.header ports.old.log }
     ensures log_count { L.count ports.new.log ≡ L.count ports.old.log }
@@ -285,7 +285,8 @@ fn resume_lane<S: PortSet, L: LogPort, G: Gate>(
 /// Takes each open batch of a coordinator's lanes to its end, in the list's order: a prepared batch asks Lock again at
 /// each concerned shard and goes on, a committed one asks Finish, a discarded one Forget. The list has lanes that are not
 /// idle, each once, in rising order. Where it has more than one, no other lane writes meanwhile: a port tells of the lane that
-/// it is called for and lets records of all others come, those of the list's later lanes too.
+/// it is called for and lets records of all others come, those of the list's later lanes too. Where none write, the lanes that
+/// are not listed are as before.
 pub fn resume<S: PortSet, L: LogPort, G: Gate>(
     alloc: Global,
     shape: &Shape,
@@ -311,7 +312,7 @@ pub fn resume<S: PortSet, L: LogPort, G: Gate>(
     // it are at their end, and those behind it untouched.
     ensures left { IfErr result (AreStopped shape.now L.alone lanes.now (L.sights ports.old.log (L.at ports.old.log)) (S.sights ports.old.shards) (L.sights ports.new.log (L.at ports.new.log)) (S.sights ports.new.shards)) }
     ensures fault { IfErr result (IsCausedFault shape.now (L.sights ports.new.log) (S.sights ports.new.shards)) }
-    ensures others { KeepsUnlisted (L.header ports.old.log) lanes.now (L.phase ports.old.log) (L.phase ports.new.log) (L.open_txs ports.old.log) (L.open_txs ports.new.log) }
+    ensures others { L.alone ≡ true → KeepsUnlisted (L.header ports.old.log) lanes.now (L.phase ports.old.log) (L.phase ports.new.log) (L.open_txs ports.old.log) (L.open_txs ports.new.log) }
     ensures at_same { L.at ports.new.log ≡ L.at ports.old.log }
     ensures header { L.header ports.new.log ≡ L.header ports.old.log }
     ensures log_count { L.count ports.new.log ≡ L.count ports.old.log }

@@ -78,15 +78,15 @@ module _ (K : Shape) (minting : Minted) (P : Compact → Type 0) (some : 0 < K.s
 
 refused : (K : Shape) (b : Batch) (txs : List Compact) (log : Sight) (shards : ℕ → Sight) (node : ℕ) (why : Refused) → Grants K b txs log.seen (λ s. (shards s).seen)
     → IsCallFault K b txs log shards node (Refuses why) → ⊥
-refused K b txs log shards node why g (to_lock s t is c phase stands e) =
+refused K b txs log shards node why g (to_lock s t is c phase stands have e) =
     g.lock s t why c phase stands (lock_refuses (shards s).header.shape (shards s).capacity (shards s).seen (record { batch = b; part = part K.shards s 0 txs; cause = t }) (next_lock (shards s).seen b (part K.shards s 0 txs) t) why e)
-refused K b txs log shards node why g (to_decide replies is cause e) = late_refuses _ _ _ why e
-refused K b txs log shards node why g (to_finish s t os is c phase stands e) =
+refused K b txs log shards node why g (to_decide replies is phase have cause e) = late_refuses _ _ _ why e
+refused K b txs log shards node why g (to_finish s t os is c phase stands have e) =
     g.finish s t os why c phase stands (stamp_refuses (next_finish (shards s).seen b (decisions os (part K.shards s 0 txs)) t) (Finish (next_stamp (shards s).seen t) b (decisions os (part K.shards s 0 txs))) why e)
-refused K b txs log shards node why g (to_discard cause is latest e) = late_refuses _ _ _ why e
-refused K b txs log shards node why g (to_forget s t is c stands e) =
+refused K b txs log shards node why g (to_discard cause is phase have latest e) = late_refuses _ _ _ why e
+refused K b txs log shards node why g (to_forget s t is c phase stands have e) =
     g.forget s t why c stands (stamp_refuses (next_forget (shards s).seen b t) (Forget (next_stamp (shards s).seen t) b) why e)
-refused K b txs log shards node why g (to_done cause is latest e) = late_refuses _ _ _ why e
+refused K b txs log shards node why g (to_done cause is phase have latest e) = late_refuses _ _ _ why e
 
 pub grant_law : GrantLaw
 grant_law K m logs shards b txs node why some home checked fault =

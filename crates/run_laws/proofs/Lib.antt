@@ -10,6 +10,7 @@ pub mod Seen
 pub mod LastRecords
 pub mod OpenLanes
 pub mod NewRecords
+pub mod NewBatches
 pub mod TurnKinds
 pub mod BatchTurns
 pub mod WaveTurns

@@ -1,5 +1,5 @@
 -- Why a lane stopped, by checked journals.
-use Rattle.std.proofs.Common.{◌≡◌, inl, inr, ℕ, zero, suc, ◌+◌, ◌-◌, ◌^◌, ◌<◌, ◌≤◌, Bool, true, false, ◌&&◌, ◌||◌, not, ◌==◌, nat_lt, if◌then◌else◌, List, [], Some, None, Err, refl, sym, ap, ◌∙◌, subst, arith}
+use Rattle.std.proofs.Common.{◌≡◌, inl, inr, ℕ, zero, suc, ◌+◌, ◌-◌, ◌^◌, ◌<◌, ◌≤◌, Bool, true, false, ◌&&◌, ◌||◌, not, ◌==◌, nat_lt, if◌then◌else◌, List, [], Some, None, is_some, Err, refl, sym, ap, ◌∙◌, subst, arith}
 use Rattle.cbdc_types.specs.declared.calls.LockCall.{LockCall}
 use Rattle.cbdc_types.specs.declared.calls.Refused.{Refused}
 use Rattle.cbdc_types.specs.declared.calls.Refused.TheVariants.{Stale, LaneOpen, EarlyStamp}
@@ -7,7 +7,7 @@ use Rattle.cbdc_types.specs.declared.calls.Replied.{Replied}
 use Rattle.cbdc_types.specs.declared.calls.NodeFault.{NodeFault}
 use Rattle.cbdc_types.specs.declared.calls.NodeFault.TheVariants.{Broken, Refused as Refuses, ClockEnd, Full, DiskFault, Memory}
 use Rattle.cbdc_model.specs.Records.{Shape, Batch, Compact, Entry, Record, record_of, lock_of, stamp_of, stamp_in, last_stamp, Finish, Forget, Prepare, Commit, Discard}
-use Rattle.cbdc_model.specs.Slots.{slot, slot_stamp, Idle, InPrepare}
+use Rattle.cbdc_model.specs.Slots.{Phase, slot, slot_stamp, Idle, InPrepare, InCommit, InDiscard}
 use Rattle.cbdc_model.specs.Replies.{answered, entries, replies}
 use Rattle.cbdc_model.specs.Outcomes.{decisions}
 use Rattle.cbdc_model.specs.Deciding.{reply_cause}
@@ -20,14 +20,14 @@ use Rattle.cbdc_model.specs.Causes.{greatest}
 use Rattle.cbdc_model.specs.History.{Minted}
 use Rattle.cbdc_model.specs.Sights.{Sight, HasRisen}
 use Rattle.lane_laws.specs.Calls.{is_concerned}
-use Rattle.lane_laws.specs.Faults.{IsAnswered, IsCallFault, to_lock, to_decide, to_finish, to_discard, to_forget, to_done, IsOpenFault, IsBatchFault, latest_at}
+use Rattle.lane_laws.specs.Faults.{IsAnswered, IsCallFault, to_lock, to_decide, to_finish, to_discard, to_forget, to_done, HaveBelow, AreSeenBelow, IsOpenFault, IsBatchFault, latest_at}
 use Rattle.lane_laws.proofs.Dues.{ok, err, late_full, stamp_full, lock_new, finish_new, forget_new}
 use Rattle.world_laws.specs.Laws.{late_records}
 use Rattle.world_laws.proofs.Stamps.{found_le}
 use Rattle.world_laws.proofs.Few.{low, few_enough}
 use Rattle.run_laws.specs.Checked.{CheckedJournals}
 use Rattle.run_laws.specs.Runs.{seen_by}
-use Rattle.run_laws.specs.Faults.{IsNext, next_prepare, next_lock, IsAsked, asks_prepare, asks_log, asks_shard, HasFailed, IsStopBy, opened_by, faults_by, capacity_by, StopLaw}
+use Rattle.run_laws.specs.Faults.{IsNext, next_prepare, next_lock, awaited, HasHeard, IsAsked, asks_prepare, asks_log, asks_shard, HasFailed, IsStopBy, opened_by, faults_by, capacity_by, StopLaw}
 use Rattle.run_laws.proofs.Seen.{seen_log, seen_shard}
 use Rattle.run_laws.proofs.Checked.{Any, rows_of}
 use Rattle.lane_laws.proofs.Grants.{late_refuses}
@@ -50,14 +50,17 @@ module _ {A : Type 0} (stamp used need capacity : ℕ) (a : A) (r : Record) wher
       two false true h e = absurd (let z : err {A = A} (Full used need capacity) ≡ err (ClockEnd end) = e in cc)
       two false false h e = absurd (let z : Writes a r ≡ err (ClockEnd end) = e in cc)
 
-  pub roomy_full : (u n c : ℕ) → Due' ≡ Answers (Err (Full u n c)) → (c ≡ capacity) × (u ≡ used) × (n ≡ need) × (capacity < used + need)
-  roomy_full u n c e = two (nat_lt last_early stamp) (nat_lt capacity (used + need)) refl e
+  within : (x y : ℕ) → nat_lt x y ≡ false → y ≤ x
+  within x y h = grind (arith, h)
+
+  pub roomy_full : (u n c : ℕ) → Due' ≡ Answers (Err (Full u n c)) → (c ≡ capacity) × (u ≡ used) × (n ≡ need) × (capacity < used + need) × (stamp ≤ 2 ^ 62)
+  roomy_full u n c e = two (nat_lt last_early stamp) (nat_lt capacity (used + need)) refl refl e
     where
-      two : (x y : Bool) → nat_lt capacity (used + need) ≡ y → (if x then Answers (Err (ClockEnd stamp)) else (if y then Answers (Err (Full used need capacity)) else Writes a r)) ≡ Answers (Err (Full u n c))
-          → (c ≡ capacity) × (u ≡ used) × (n ≡ need) × (capacity < used + need)
-      two true y h e = absurd (let z : err {A = A} (ClockEnd stamp) ≡ err (Full u n c) = e in cc)
-      two false true h e = let z : err {A = A} (Full used need capacity) ≡ err (Full u n c) = e in (cc, cc, cc, above capacity (used + need) h)
-      two false false h e = absurd (let z : Writes a r ≡ err (Full u n c) = e in cc)
+      two : (x y : Bool) → nat_lt last_early stamp ≡ x → nat_lt capacity (used + need) ≡ y → (if x then Answers (Err (ClockEnd stamp)) else (if y then Answers (Err (Full used need capacity)) else Writes a r)) ≡ Answers (Err (Full u n c))
+          → (c ≡ capacity) × (u ≡ used) × (n ≡ need) × (capacity < used + need) × (stamp ≤ 2 ^ 62)
+      two true y early h e = absurd (let z : err {A = A} (ClockEnd stamp) ≡ err (Full u n c) = e in cc)
+      two false true early h e = let z : err {A = A} (Full used need capacity) ≡ err (Full u n c) = e in (cc, cc, cc, above capacity (used + need) h, within last_early stamp early)
+      two false false early h e = absurd (let z : Writes a r ≡ err (Full u n c) = e in cc)
 
   pub roomy_grants : (why : Refused) → Due' ≡ Answers (Err (Refuses why)) → ⊥
   roomy_grants why e = two (nat_lt last_early stamp) (nat_lt capacity (used + need)) e
@@ -134,7 +137,7 @@ module _ (K : Shape) (lane : ℕ) (next : List Compact → Type 0) (J : ℕ → 
       let e = roomy_end stamp used need (capacity node) a r end h in record { wanted = r; is_next = is; stamp_is = e.0 ∙ stamp_is; above = e.1 }
   stops now same stamp used need a r is stamp_is used_is need_is (Full u n c) h =
       let e = roomy_full stamp used need (capacity node) a r u n c h in
-      record { wanted = r; is_next = is; limit_is = e.0; used_is = e.1 ∙ used_is; need_is = e.2 ∙ need_is; above = more c (capacity node) u used n need e.0 e.1 e.2 e.3 }
+      record { wanted = r; is_next = is; early = subst (λ x. x ≤ 2 ^ 62) stamp_is e.4; limit_is = e.0; used_is = e.1 ∙ used_is; need_is = e.2 ∙ need_is; above = more c (capacity node) u used n need e.0 e.1 e.2 e.3 }
     where
       more : (c d u v n m : ℕ) → c ≡ d → u ≡ v → n ≡ m → d < v + m → c < u + n
       more c d u v n m p q r h = omega (arith, p, q, r, h)
@@ -166,13 +169,14 @@ module _ (K : Shape) (lane : ℕ) (next : List Compact → Type 0) (J : ℕ → 
       (next_prepare txs due home idle refl) refl refl refl f h
 
   module _ (now : Sight) (same : SameCounts now) (b : Batch) (t : ℕ) (txs : List Compact) (s : ℕ) (lane_is : b.lane ≡ lane) (at : node ≡ shard_node K s) (concerned : is_concerned K txs s ≡ true)
-      (phase : (slot (J (home_of K b.lane)) b.lane).phase ≡ InPrepare) (stands : record_of 6 (J (home_of K b.lane)) b ≡ Some (Prepare t b txs)) where
+      (phase : (slot (J (home_of K b.lane)) b.lane).phase ≡ InPrepare) (stands : record_of 6 (J (home_of K b.lane)) b ≡ Some (Prepare t b txs))
+      (have : HaveBelow K txs (λ k. J (shard_node K k)) 2 b s) where
     abbrev c : LockCall
     c = part_call K b txs s t
 
     appends : (f : NodeFault) (q : RepliesAt) → planned (J node) b (part K.shards s 0 txs) t ≡ Append q → IsAnswered true (lock_by (Append q) K (capacity node) (J node) c) now f → Stop f
     appends f q e h = stops now same q.at (used_of (J node)) (need_of K (J node) (lock_record (J node) c)) (replied_of q) (lock_record (J node) c)
-        (next_lock b t txs s lane_is at concerned phase stands (lock_behind (J node) b (part K.shards s 0 txs) t q e) refl)
+        (next_lock b t txs s lane_is at concerned phase stands have (lock_behind (J node) b (part K.shards s 0 txs) t q e) refl)
         (ap (λ x. x.at) (lock_new (J node) b (part K.shards s 0 txs) t q e).1) refl refl f h
 
     locks : (f : NodeFault) → ((why : Refused) → Refuses why ≡ f → ⊥) → IsAnswered true (lock_due K (capacity node) c None (J node)) now f → Stop f
@@ -293,30 +297,48 @@ module _ (K : Shape) (m : Minted) (logs shards : ℕ → Sight) (limits : IsWith
         busy : (slot (J (home_of K b.lane)) b.lane).phase ≡ Idle → ⊥
         busy i = fault.busy (sym (ap (λ L. (slot L b.lane).phase) at_home) ∙ i)
 
-        asked : (s : ℕ) → is_concerned K txs s ≡ true → IsAsked K b.lane next J (shard_node K s)
-        asked s c = asks_shard b fault.stamp txs s refl refl c (ap (λ L. (slot L b.lane).number) at_home ∙ fault.number) busy (ap (λ L. record_of 6 L b) at_home ∙ fault.prepare)
+        -- what the shards have
+        there : (kind n : ℕ) → AreSeenBelow K txs shards kind b n → HaveBelow K txs (λ s. J (shard_node K s)) kind b n
+        there kind n have s lt c = subst (λ L. is_some (record_of kind L b) ≡ true) (sym (seen_shard K logs shards s)) (have s lt c)
+
+        heard : (p : Phase) (n : ℕ) → (slot log.seen b.lane).phase ≡ p → AreSeenBelow K txs shards (awaited p) b n → HasHeard K b.lane J b txs n
+        heard p n phase have = record {
+          of_lane = refl;
+          number = ap (λ L. (slot L b.lane).number) at_home ∙ fault.number;
+          busy = busy;
+          stamp = fault.stamp;
+          prepare = ap (λ L. record_of 6 L b) at_home ∙ fault.prepare;
+          heard = subst (λ q. HaveBelow K txs (λ s. J (shard_node K s)) (awaited q) b n) (sym (ap (λ L. (slot L b.lane).phase) at_home ∙ phase)) (there (awaited p) n have);
+        }
+
+        asked : (p : Phase) (s : ℕ) → is_concerned K txs s ≡ true → (slot log.seen b.lane).phase ≡ p → AreSeenBelow K txs shards (awaited p) b s → IsAsked K b.lane next J (shard_node K s)
+        asked p s c phase have = asks_shard b txs s refl c (heard p s phase have)
+
+        asked_log : (p : Phase) → (slot log.seen b.lane).phase ≡ p → AreSeenBelow K txs shards (awaited p) b K.shards → IsAsked K b.lane next J (home_of K b.lane)
+        asked_log p phase have = asks_log b txs refl (heard p K.shards phase have)
 
         -- at a shard, behind a cause that the coordinator has
-        at_shard : (s cause : ℕ) (p : Plan ℕ) (r : Record) → is_concerned K txs s ≡ true → cause ≤ top → ((t : ℕ) → p ≡ Append t → t ≡ next_stamp (shards s).seen cause)
+        at_shard : (s cause : ℕ) (p : Plan ℕ) (r : Record) → is_concerned K txs s ≡ true → IsAsked K b.lane next J (shard_node K s) → cause ≤ top → ((t : ℕ) → p ≡ Append t → t ≡ next_stamp (shards s).seen cause)
             → IsAnswered false (stamp_by p r) (shards s) f → StopAt (shard_node K s)
-        at_shard s cause p r c le is h = planned_late K b.lane next J opened faults capacity (shard_node K s) (shard_there s (below K txs s c)) (asked s c) (shards s) (same_shard s) p r
+        at_shard s cause p r c asks le is h = planned_late K b.lane next J opened faults capacity (shard_node K s) (shard_there s (below K txs s c)) asks (shards s) (same_shard s) p r
             (λ t e. subst (λ x. x ≤ 2 ^ 62 + 2 ^ 20) (sym (is t e)) (within (next_stamp (shards s).seen cause) (next_within (shards s).seen cause top (shard_low s) le))) f never h
 
         go : IsCallFault K b txs log shards node f → StopAt node
-        go (to_lock s t is c phase stands h) =
+        go (to_lock s t is c phase stands have h) =
             subst StopAt (sym is)
-            (locks K b.lane next J opened faults capacity (shard_node K s) (shard_there s (below K txs s c)) (asked s c) (shards s) (same_shard s) b t txs s refl refl c (ap (λ L. (slot L b.lane).phase) at_home ∙ phase) (ap (λ L. record_of 6 L b) at_home ∙ stands) f never
+            (locks K b.lane next J opened faults capacity (shard_node K s) (shard_there s (below K txs s c)) (asked InPrepare s c phase have) (shards s) (same_shard s) b t txs s refl refl c (ap (λ L. (slot L b.lane).phase) at_home ∙ phase) (ap (λ L. record_of 6 L b) at_home ∙ stands)
+            (there 2 s have) f never
             (subst (λ L. IsAnswered true (lock_due K (capacity (shard_node K s)) (part_call K b txs s t) None L) (shards s) f) (sym (seen_shard K logs shards s))
             (subst (λ limit. IsAnswered true (lock_due K limit (part_call K b txs s t) None (shards s).seen) (shards s) f) (sym (shard_by (λ x. x.capacity) s))
             (subst (λ k. IsAnswered true (lock_due k (shards s).capacity (part_call K b txs s t) None (shards s).seen) (shards s) f) (shard_shapes s (below K txs s c)) h))))
-        go (to_decide replies is cause h) = subst StopAt (sym is) (at_log (asks_log refl busy) (reply_cause K replies) (commit_record K b.lane replies log.seen) (subst (λ x. x ≤ top) (sym cause) (latest_low 2 b)) h)
-        go (to_finish s t os is c phase stands h) = subst StopAt (sym is) (at_shard s t (next_finish (shards s).seen b (decisions os (part K.shards s 0 txs)) t)
-            (Finish (next_stamp (shards s).seen t) b (decisions os (part K.shards s 0 txs))) c (cause_low 7 t (Commit t b os) stands refl)
+        go (to_decide replies is phase have cause h) = subst StopAt (sym is) (at_log (asked_log InPrepare phase have) (reply_cause K replies) (commit_record K b.lane replies log.seen) (subst (λ x. x ≤ top) (sym cause) (latest_low 2 b)) h)
+        go (to_finish s t os is c phase stands have h) = subst StopAt (sym is) (at_shard s t (next_finish (shards s).seen b (decisions os (part K.shards s 0 txs)) t)
+            (Finish (next_stamp (shards s).seen t) b (decisions os (part K.shards s 0 txs))) c (asked InCommit s c phase have) (cause_low 7 t (Commit t b os) stands refl)
             (λ u e. (finish_new (shards s).seen b (decisions os (part K.shards s 0 txs)) t u e).1) h)
-        go (to_discard cause is latest h) = subst StopAt (sym is) (at_log (asks_log refl busy) cause (discard_record b.lane cause log.seen) (subst (λ x. x ≤ top) (sym latest) (latest_low 3 b)) h)
-        go (to_forget s t is c stands h) = subst StopAt (sym is) (at_shard s t (next_forget (shards s).seen b t) (Forget (next_stamp (shards s).seen t) b) c (cause_low 8 t (Discard t b) stands refl)
+        go (to_discard cause is phase have latest h) = subst StopAt (sym is) (at_log (asked_log InCommit phase have) cause (discard_record b.lane cause log.seen) (subst (λ x. x ≤ top) (sym latest) (latest_low 3 b)) h)
+        go (to_forget s t is c phase stands have h) = subst StopAt (sym is) (at_shard s t (next_forget (shards s).seen b t) (Forget (next_stamp (shards s).seen t) b) c (asked InDiscard s c phase have) (cause_low 8 t (Discard t b) stands refl)
             (λ u e. (forget_new (shards s).seen b t u e).1) h)
-        go (to_done cause is latest h) = subst StopAt (sym is) (at_log (asks_log refl busy) cause (done_record b.lane cause log.seen) (subst (λ x. x ≤ top) (sym latest) (latest_low 4 b)) h)
+        go (to_done cause is phase have latest h) = subst StopAt (sym is) (at_log (asked_log InDiscard phase have) cause (done_record b.lane cause log.seen) (subst (λ x. x ≤ top) (sym latest) (latest_low 4 b)) h)
 
   open_by : (next : List Compact → Type 0) (lane : ℕ) (b : Batch) → b.lane ≡ lane → home_of K lane < K.coordinators → (txs : List Compact) (node : ℕ) (f : NodeFault) → IsOpenFault K b txs (logs (home_of K lane)) shards node f
       → IsStopBy K lane next J opened faults capacity node f

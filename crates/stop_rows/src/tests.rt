@@ -1,3 +1,5 @@
+mod faults;
 mod lanes;
 mod making;
+mod order;
 mod rows;

@@ -64,12 +64,12 @@ module _ (K : Shape) (pieces : List (List Compact)) (lane : ℕ) (I J : ℕ → 
 -- what is next in other words
 next_by : (K : Shape) (lane : ℕ) (next due : List Compact → Type 0) (J : ℕ → List Record) → ((txs : List Compact) → next txs → due txs) → (node : ℕ) (r : Record) → IsNext K lane next J node r → IsNext K lane due J node r
 next_by K lane next due J on node r (next_prepare txs is at idle e) = next_prepare txs (on txs is) at idle e
-next_by K lane next due J on node r (next_lock b t txs s is at concerned phase stands behind e) = next_lock b t txs s is at concerned phase stands behind e
+next_by K lane next due J on node r (next_lock b t txs s is at concerned phase stands have behind e) = next_lock b t txs s is at concerned phase stands have behind e
 
 asked_by : (K : Shape) (lane : ℕ) (next due : List Compact → Type 0) (J : ℕ → List Record) → ((txs : List Compact) → next txs → due txs) → (node : ℕ) → IsAsked K lane next J node → IsAsked K lane due J node
 asked_by K lane next due J on node (asks_prepare txs is at idle) = asks_prepare txs (on txs is) at idle
-asked_by K lane next due J on node (asks_log at busy) = asks_log at busy
-asked_by K lane next due J on node (asks_shard b t txs s is at concerned number busy stands) = asks_shard b t txs s is at concerned number busy stands
+asked_by K lane next due J on node (asks_log b txs at heard) = asks_log b txs at heard
+asked_by K lane next due J on node (asks_shard b txs s at concerned heard) = asks_shard b txs s at concerned heard
 
 failed_by : (K : Shape) (lane : ℕ) (next due : List Compact → Type 0) (J : ℕ → List Record) (opened faults : ℕ → ℕ) → ((txs : List Compact) → next txs → due txs) → (node : ℕ) → HasFailed K lane next J opened faults node → HasFailed K lane due J opened faults node
 failed_by K lane next due J opened faults on node h = record { node_is = h.node_is; asked = asked_by K lane next due J on node h.asked; rose = h.rose }
@@ -83,6 +83,7 @@ stop_by K lane next due J opened faults capacity on node (ClockEnd stamp) h =
 stop_by K lane next due J opened faults capacity on node (Full used need limit) h = record {
   wanted = h.wanted;
   is_next = next_by K lane next due J on node h.wanted h.is_next;
+  early = h.early;
   limit_is = h.limit_is;
   used_is = h.used_is;
   need_is = h.need_is;
@@ -94,8 +95,8 @@ stop_by K lane next due J opened faults capacity on node Memory h = h
 -- what a lane needs next, by the journals at its stop
 wanted_of : (K : Shape) (lane : ℕ) (next : List Compact → Type 0) (J : ℕ → List Record) (node : ℕ) (r : Record) → IsNext K lane next J node r → IsWanted K lane next J node (J node) r
 wanted_of K lane next J node r (next_prepare txs due at idle e) = wants_prepare txs due at (subst (λ n. (slot (J n) lane).phase ≡ Idle) at idle) e
-wanted_of K lane next J node r (next_lock b t txs s is at concerned phase stands behind e) =
-    wants_lock b t txs s is at concerned (subst (λ l. (slot (J (home_of K l)) l).phase ≡ InPrepare) is phase) (subst (λ l. record_of 6 (J (home_of K l)) b ≡ Some (Prepare t b txs)) is stands)
+wanted_of K lane next J node r (next_lock b t txs s is at concerned phase stands have behind e) =
+    wants_lock b t txs s is at concerned (subst (λ l. (slot (J (home_of K l)) l).phase ≡ InPrepare) is phase) (subst (λ l. record_of 6 (J (home_of K l)) b ≡ Some (Prepare t b txs)) is stands) have
     (subst (λ l. (slot (J node) l).number < b.number) is behind) e
 
 module _ (K : Shape) (lane : ℕ) (next : List Compact → Type 0) (I J : ℕ → List Record) (opened faults capacity : ℕ → ℕ) (grown : GrowBy lane I J) where
@@ -110,6 +111,7 @@ module _ (K : Shape) (lane : ℕ) (next : List Compact → Type 0) (I J : ℕ �
     front = J node;
     since = ((grown node).0, (grown node).1);
     within = end_self (J node);
+    still = refl;
     wanted = h.wanted;
     is_wanted = wanted_of K lane next J node h.wanted h.is_next;
     stamp_is = h.stamp_is;
@@ -121,8 +123,10 @@ module _ (K : Shape) (lane : ℕ) (next : List Compact → Type 0) (I J : ℕ �
     front = J node;
     since = ((grown node).0, (grown node).1);
     within = end_self (J node);
+    still = refl;
     wanted = h.wanted;
     is_wanted = wanted_of K lane next J node h.wanted h.is_next;
+    early = h.early;
     capacity_is = h.limit_is;
     used_is = h.used_is;
     need_is = h.need_is;

@@ -1,14 +1,13 @@
 // A lane over a coordinator and a shard in memory.
-use super::counting::Counts;
-use super::ledgers::{LANE, Ran, coordinator, run_over, shard, tx};
+use super::ledgers::{
+    LANE, Ran, coordinator, has_batches, has_outcomes, is_asked, run_over, shard, tx,
+};
 use cbdc_types::{BatchId, CompactTx, Hash, List, NodeId, Outcome, Record, Stamp, Status};
-use lane_driver::{LaneFault, LaneFaultKind, LaneReport};
+use lane_driver::{LaneFault, LaneFaultKind};
+use mem_devices::PlainDisk;
+use std::alloc::AllocError;
 use std::sync::Wait;
 use std::test::Fail;
-
-fn batch(number: u64) -> BatchId {
-    BatchId { lane: LANE, number }
-}
 
 // A lane over new nodes, at which one hash is unspent: the byte 1.
 fn fresh<W: Wait>(
@@ -20,26 +19,49 @@ fn fresh<W: Wait>(
     repeats: u32,
     whole: bool,
 ) -> Result<Ran, Fail> {
-    let log = coordinator(rt, capacity, size, Vec::new(rt.alloc()))?;
+    let log = coordinator(rt, capacity, size, &[])?;
     let node = shard(rt, 10_000, size, 1)?;
     run_over(wait, rt.alloc(), log, node, txs, repeats, whole)
 }
 
 // One transaction, from the hash that is unspent to two others.
-fn one(rt: &HostRuntime) -> Result<Vec<CompactTx>, Fail> {
+fn one(rt: &HostRuntime) -> Result<Vec<CompactTx>, AllocError> {
     let mut txs = Vec::new(rt.alloc());
     txs.push(tx(rt, 9, 1, &[2, 3])?)?;
     Ok(txs)
 }
 
-// The outcomes of a report's batch at a place, which has this number.
-fn outcomes_at(report: &LaneReport, place: usize, number: u64) -> Option<&[Outcome]> {
-    let done = report.batches.as_slice().get(place)?;
-    if done.batch == batch(number) {
-        Some(done.outcomes.as_slice())
-    } else {
-        None
-    }
+// Whether the coordinator and the shard have so many records.
+fn have_records(ran: &Ran, log: usize, node: usize) -> bool {
+    ran.log.records().len() == log && ran.node.records().len() == node
+}
+
+// Whether this is the shard's status of a hash.
+fn is_status(ran: &Ran, x: u8, wanted: Status) -> bool {
+    ran.node.check_unspent(&Hash([x; 32])) == wanted
+}
+
+// Whether two lanes came to the same.
+fn came_alike(ran: &Ran, other: &Ran) -> bool {
+    ran.came == other.came
+}
+
+// Whether two lanes wrote the same records.
+fn wrote_alike(ran: &Ran, other: &Ran) -> bool {
+    ran.log.records() == other.log.records() && ran.node.records() == other.node.records()
+}
+
+// The disks of the coordinator and of the shard.
+fn disks(ran: Ran) -> (PlainDisk, PlainDisk) {
+    let Ran { log, node, .. } = ran;
+    (log.into_disk(), node.into_disk())
+}
+
+// Whether two lanes left the same bytes.
+fn left_alike(ran: Ran, other: Ran) -> bool {
+    let (log, node) = disks(ran);
+    let (other_log, other_node) = disks(other);
+    log.bytes() == other_log.bytes() && node.bytes() == other_node.bytes()
 }
 
 /// With three repeats a shard is asked seven times to lock, to finish and to forget: once, three times more after
@@ -50,35 +72,12 @@ fn three_repeats_ask_seven_times_and_append_nothing(rt: HostRuntime) -> Result<(
     let txs = one(rt)?;
     let plain = fresh(rt, rt, 10_000, 16, &txs, 0, true)?;
     let repeated = fresh(rt, rt, 10_000, 16, &txs, 3, true)?;
-    assert_eq!(rt;
-        plain.counts,
-        Counts {
-            locks: 1,
-            finishes: 1,
-            forgets: 1
-        }
-    );
-    assert_eq!(rt;
-        repeated.counts,
-        Counts {
-            locks: 7,
-            finishes: 7,
-            forgets: 7
-        }
-    );
-    assert!(rt; repeated.came == plain.came);
-    assert_eq!(rt; repeated.log.records(), plain.log.records());
-    assert_eq!(rt; repeated.node.records(), plain.node.records());
-    assert_eq!(rt; repeated.log.records().len(), 5);
-    assert_eq!(rt; repeated.node.records().len(), 4);
-    assert_eq!(rt;
-        repeated.log.into_disk().bytes(),
-        plain.log.into_disk().bytes()
-    );
-    assert_eq!(rt;
-        repeated.node.into_disk().bytes(),
-        plain.node.into_disk().bytes()
-    );
+    assert!(rt; is_asked(&plain, 1));
+    assert!(rt; is_asked(&repeated, 7));
+    assert!(rt; came_alike(&repeated, &plain));
+    assert!(rt; wrote_alike(&repeated, &plain));
+    assert!(rt; have_records(&repeated, 5, 4));
+    assert!(rt; left_alike(repeated, plain));
     Ok(())
 }
 
@@ -88,35 +87,17 @@ fn a_batch_is_done_as_a_lane_of_it(rt: HostRuntime) -> Result<(), Fail> {
     let rt = &rt;
     let txs = one(rt)?;
     let lane = fresh(rt, rt, 10_000, 16, &txs, 2, true)?;
-    let Ran {
-        came,
-        counts,
-        node,
-        ..
-    } = fresh(rt, rt, 10_000, 16, &txs, 2, false)?;
-    assert!(rt; came == lane.came);
-    assert_eq!(rt;
-        counts,
-        Counts {
-            locks: 5,
-            finishes: 5,
-            forgets: 5
-        }
-    );
-    let Ok(report) = came else {
-        return Err("the batch stopped".into());
-    };
-    assert_eq!(rt;
-        outcomes_at(&report, 0, 1),
-        Some([Outcome::Held].as_slice())
-    );
-    assert_eq!(rt; node.check_unspent(&Hash([1; 32])), Status::Absent);
-    assert_eq!(rt; node.check_unspent(&Hash([3; 32])), Status::Unspent);
+    let alone = fresh(rt, rt, 10_000, 16, &txs, 2, false)?;
+    assert!(rt; came_alike(&alone, &lane));
+    assert!(rt; is_asked(&alone, 5));
+    assert!(rt; has_outcomes(&alone, 0, 1, &[Outcome::Held]));
+    assert!(rt; is_status(&alone, 1, Status::Absent));
+    assert!(rt; is_status(&alone, 3, Status::Unspent));
     Ok(())
 }
 
 // Two transactions, the second of which spends what the first makes.
-fn two(rt: &HostRuntime) -> Result<Vec<CompactTx>, Fail> {
+fn two(rt: &HostRuntime) -> Result<Vec<CompactTx>, AllocError> {
     let mut txs = Vec::new(rt.alloc());
     txs.push(tx(rt, 9, 1, &[2])?)?;
     txs.push(tx(rt, 8, 2, &[3])?)?;
@@ -128,13 +109,10 @@ fn two(rt: &HostRuntime) -> Result<Vec<CompactTx>, Fail> {
 fn an_output_is_missing_in_its_own_batch(rt: HostRuntime) -> Result<(), Fail> {
     let rt = &rt;
     let txs = two(rt)?;
-    let Ran { came, .. } = fresh(rt, rt, 10_000, 16, &txs, 0, true)?;
-    let Ok(report) = came else {
-        return Err("the lane stopped".into());
-    };
+    let ran = fresh(rt, rt, 10_000, 16, &txs, 0, true)?;
     let missing = [Outcome::Held, Outcome::Missing(0, Hash([2; 32]))];
-    assert_eq!(rt; report.batches.len(), 1);
-    assert_eq!(rt; outcomes_at(&report, 0, 1), Some(missing.as_slice()));
+    assert!(rt; has_batches(&ran, 1));
+    assert!(rt; has_outcomes(&ran, 0, 1, &missing));
     Ok(())
 }
 
@@ -143,33 +121,12 @@ fn an_output_is_missing_in_its_own_batch(rt: HostRuntime) -> Result<(), Fail> {
 fn an_output_is_there_in_the_next_batch(rt: HostRuntime) -> Result<(), Fail> {
     let rt = &rt;
     let txs = two(rt)?;
-    let Ran {
-        came,
-        counts,
-        log,
-        ..
-    } = fresh(rt, rt, 10_000, 1, &txs, 0, true)?;
-    let Ok(report) = came else {
-        return Err("the lane stopped".into());
-    };
-    assert_eq!(rt; report.batches.len(), 2);
-    assert_eq!(rt;
-        outcomes_at(&report, 0, 1),
-        Some([Outcome::Held].as_slice())
-    );
-    assert_eq!(rt;
-        outcomes_at(&report, 1, 2),
-        Some([Outcome::Held].as_slice())
-    );
-    assert_eq!(rt; log.records().len(), 9);
-    assert_eq!(rt;
-        counts,
-        Counts {
-            locks: 2,
-            finishes: 2,
-            forgets: 2
-        }
-    );
+    let ran = fresh(rt, rt, 10_000, 1, &txs, 0, true)?;
+    assert!(rt; has_batches(&ran, 2));
+    assert!(rt; has_outcomes(&ran, 0, 1, &[Outcome::Held]));
+    assert!(rt; has_outcomes(&ran, 1, 2, &[Outcome::Held]));
+    assert!(rt; ran.log.records().len() == 9);
+    assert!(rt; is_asked(&ran, 2));
     Ok(())
 }
 
@@ -177,47 +134,43 @@ fn an_output_is_there_in_the_next_batch(rt: HostRuntime) -> Result<(), Fail> {
 #[test]
 fn without_transactions_nothing_is_asked(rt: HostRuntime) -> Result<(), Fail> {
     let rt = &rt;
-    let Ran {
-        came,
-        counts,
-        log,
-        node,
-    } = fresh(rt, rt, 10_000, 16, &[], 3, true)?;
-    let Ok(report) = came else {
-        return Err("the lane stopped".into());
-    };
-    assert!(rt; report.batches.is_empty());
-    assert_eq!(rt;
-        counts,
-        Counts {
-            locks: 0,
-            finishes: 0,
-            forgets: 0
-        }
-    );
-    assert_eq!(rt; log.records().len(), 1);
-    assert_eq!(rt; node.records().len(), 1);
+    let ran = fresh(rt, rt, 10_000, 16, &[], 3, true)?;
+    assert!(rt; has_batches(&ran, 0));
+    assert!(rt; is_asked(&ran, 0));
+    assert!(rt; have_records(&ran, 1, 1));
     Ok(())
 }
 
-// The records of a batch that is done at this stamp.
-fn done_at(rt: &HostRuntime, stamp: u64) -> Result<Vec<Record>, Fail> {
+// A Prepare of one transaction, and its Commit.
+fn prepared(rt: &HostRuntime, batch: BatchId) -> Result<Record, AllocError> {
     let mut txs = List::new(rt.alloc());
     txs.push(tx(rt, 7, 6, &[5])?)?;
-    let mut outcomes = List::new(rt.alloc());
-    outcomes.push(Outcome::Held)?;
-    let mut records = Vec::new(rt.alloc());
-    let batch = batch(1);
-    records.push(Record::Prepare {
+    Ok(Record::Prepare {
         stamp: Stamp(1),
         batch,
         txs,
-    })?;
-    records.push(Record::Commit {
+    })
+}
+
+fn committed(rt: &HostRuntime, batch: BatchId) -> Result<Record, AllocError> {
+    let mut outcomes = List::new(rt.alloc());
+    outcomes.push(Outcome::Held)?;
+    Ok(Record::Commit {
         stamp: Stamp(3),
         batch,
         outcomes,
-    })?;
+    })
+}
+
+// The records of a batch that is done at this stamp.
+fn done_at(rt: &HostRuntime, stamp: u64) -> Result<Vec<Record>, AllocError> {
+    let batch = BatchId {
+        lane: LANE,
+        number: 1,
+    };
+    let mut records = Vec::with_capacity(rt.alloc(), 4)?;
+    records.push(prepared(rt, batch)?)?;
+    records.push(committed(rt, batch)?)?;
     records.push(Record::Discard {
         stamp: Stamp(5),
         batch,
@@ -229,30 +182,33 @@ fn done_at(rt: &HostRuntime, stamp: u64) -> Result<Vec<Record>, Fail> {
     Ok(records)
 }
 
+// Whether a lane stopped at its coordinator with this fault.
+fn is_stopped(ran: &Ran, fault: LaneFaultKind) -> bool {
+    let node = NodeId(0);
+    match &ran.came {
+        Ok(_) => false,
+        Err(told) => *told == LaneFault { node, fault },
+    }
+}
+
 /// A coordinator whose last stamp is 2^62 begins no batch, and no shard is asked.
 #[test]
 fn a_lane_ends_with_the_clock(rt: HostRuntime) -> Result<(), Fail> {
     let rt = &rt;
-    let log = coordinator(rt, 10_000, 16, done_at(rt, 4611686018427387904)?)?;
+    let log = coordinator(rt, 10_000, 16, &done_at(rt, 4611686018427387904)?)?;
     let node = shard(rt, 10_000, 16, 1)?;
     let ended = run_over(rt, rt.alloc(), log, node, &one(rt)?, 3, true)?;
-    let end = LaneFault {
-        node: NodeId(0),
-        fault: LaneFaultKind::ClockEnd {
-            stamp: Stamp(4611686018427387905),
-        },
-    };
-    assert!(rt; ended.came == Err(end));
-    assert_eq!(rt;
-        ended.counts,
-        Counts {
-            locks: 0,
-            finishes: 0,
-            forgets: 0
-        }
-    );
-    assert_eq!(rt; ended.log.records().len(), 5);
+    let stamp = Stamp(4611686018427387905);
+    assert!(rt; is_stopped(&ended, LaneFaultKind::ClockEnd { stamp }));
+    assert!(rt; is_asked(&ended, 0));
+    assert!(rt; ended.log.records().len() == 5);
     Ok(())
+}
+
+// How many bytes the coordinator's disk has.
+fn bytes_of(ran: Ran) -> usize {
+    let (log, _node) = disks(ran);
+    log.bytes().len()
 }
 
 /// A coordinator without room for a batch says so, with its numbers; one byte more is enough.
@@ -261,19 +217,16 @@ fn a_lane_ends_where_its_coordinator_is_full(rt: HostRuntime) -> Result<(), Fail
     let rt = &rt;
     let mut txs = Vec::new(rt.alloc());
     txs.push(tx(rt, 9, 1, &[2])?)?;
-    let full = LaneFault {
-        node: NodeId(0),
-        fault: LaneFaultKind::Full {
-            used: 99,
-            need: 321,
-            capacity: 419,
-        },
+    let full = LaneFaultKind::Full {
+        used: 99,
+        need: 321,
+        capacity: 419,
     };
     let small = fresh(rt, rt, 419, 16, &txs, 0, true)?;
-    assert!(rt; small.came == Err(full));
-    assert_eq!(rt; small.log.records().len(), 1);
+    assert!(rt; is_stopped(&small, full));
+    assert!(rt; small.log.records().len() == 1);
     let large = fresh(rt, rt, 420, 16, &txs, 0, true)?;
     assert!(rt; large.came.is_ok());
-    assert_eq!(rt; large.log.into_disk().bytes().len(), 364);
+    assert!(rt; bytes_of(large) == 364);
     Ok(())
 }

@@ -6,7 +6,7 @@ ghost use Rattle.lane_rows.specs.Numbers.{number_in};
 ghost use Rattle.lane_rows.specs.Nodes.{AreSettled};
 
 use super::counting::{Counting, Counts, counted};
-use cbdc_types::{CompactTx, Hash, Header, LaneId, List, NodeId, Record, Shape};
+use cbdc_types::{BatchId, CompactTx, Hash, Header, LaneId, List, NodeId, Outcome, Record, Shape};
 use coord_core::LanePhase;
 use coord_log::CoordLog;
 use gate_journal::Journal;
@@ -16,7 +16,7 @@ use node_ports::{NodeLogs, NodeShards};
 use outside::OpenGate;
 use record_codec::write_record;
 use shard_node::ShardNode;
-use std::alloc::Global;
+use std::alloc::{AllocError, Global};
 use std::sync::Wait;
 use std::test::Fail;
 
@@ -32,42 +32,90 @@ pub(crate) fn header(node: u32, batch: u32) -> Result<Header, Fail> {
     })
 }
 
-/// A transaction with one input and these outputs, all named by a byte.
-pub(crate) fn tx(rt: &HostRuntime, id: u8, spent: u8, made: &[u8]) -> Result<CompactTx, Fail> {
-    let mut inputs = List::new(rt.alloc());
-    inputs.push(Hash([spent; 32]))?;
-    let mut outputs = List::new(rt.alloc());
-    for byte in made {
-        outputs.push(Hash([*byte; 32]))?;
+// The hashes that the bytes name.
+fn hashes(rt: &HostRuntime, bytes: &[u8]) -> Result<List<Hash>, AllocError> {
+    let mut all = List::new(rt.alloc());
+    for byte in bytes {
+        all.push(Hash([*byte; 32]))?;
     }
+    Ok(all)
+}
+
+/// A transaction with one input and these outputs, all named by a byte.
+pub(crate) fn tx(
+    rt: &HostRuntime,
+    id: u8,
+    spent: u8,
+    made: &[u8],
+) -> Result<CompactTx, AllocError> {
     Ok(CompactTx {
         id: Hash([id; 32]),
-        inputs,
-        outputs,
+        inputs: hashes(rt, &[spent])?,
+        outputs: hashes(rt, made)?,
     })
 }
 
-/// A disk with the journal of these records.
-pub(crate) fn written(
+// Adds a record to a journal.
+fn write(
+    rt: &HostRuntime,
+    journal: &mut Journal<PlainDisk>,
+    header: &Header,
+    record: &Record,
+) -> Result<(), Fail> {
+    let mut body = Vec::new(rt.alloc());
+    write_record(record, header, &mut body)?;
+    if body.len() as u64 > journal.reserved() {
+        return Err("a long body".into());
+    }
+    journal.append(&body)?;
+    Ok(())
+}
+
+// A disk with the journal of a first record and the later ones.
+fn written(
     rt: &HostRuntime,
     disk: PlainDisk,
     header: &Header,
-    records: &[Record],
+    first: &Record,
+    later: &[Record],
 ) -> Result<PlainDisk, Fail> {
     let Ok(made) = Journal::format(rt.alloc(), disk) else {
         return Err("no journal".into());
     };
     let mut journal = made;
     journal.reserve(1000)?;
-    for record in records {
-        let mut body = Vec::new(rt.alloc());
-        write_record(record, header, &mut body)?;
-        if body.len() as u64 > journal.reserved() {
-            return Err("a long body".into());
-        }
-        journal.append(&body)?;
+    write(rt, &mut journal, header, first)?;
+    for record in later {
+        write(rt, &mut journal, header, record)?;
     }
     Ok(journal.into_disk())
+}
+
+// A disk of this capacity with such a journal.
+fn disk_with(
+    rt: &HostRuntime,
+    capacity: usize,
+    header: &Header,
+    first: &Record,
+    later: &[Record],
+) -> Result<PlainDisk, Fail> {
+    let disk = PlainDisk::new(rt.alloc(), capacity)?;
+    written(rt, disk, header, first, later)
+}
+
+// The coordinator of a disk, and the shard.
+fn opened_log(rt: &HostRuntime, disk: PlainDisk) -> Result<CoordLog<PlainDisk>, Fail> {
+    match CoordLog::open(rt.alloc(), disk) {
+        Ok(log) => Ok(log),
+        Err(_) => Err("no coordinator".into()),
+    }
+}
+
+fn opened_node(rt: &HostRuntime, disk: PlainDisk) -> Result<ShardNode<PlainDisk>, Fail> {
+    match ShardNode::open(rt.alloc(), disk) {
+        Ok(node) => Ok(node),
+        Err(_) => Err("no shard".into()),
+    }
 }
 
 /// The coordinator whose disk has a Start and these records.
@@ -75,19 +123,20 @@ pub(crate) fn coordinator(
     rt: &HostRuntime,
     capacity: usize,
     batch: u32,
-    later: Vec<Record>,
+    later: &[Record],
 ) -> Result<CoordLog<PlainDisk>, Fail> {
     let header = header(0, batch)?;
-    let mut records = Vec::new(rt.alloc());
-    records.push(Record::Start { header })?;
-    for record in later {
-        records.push(record)?;
-    }
-    let disk = PlainDisk::new(rt.alloc(), capacity)?;
-    match CoordLog::open(rt.alloc(), written(rt, disk, &header, &records)?) {
-        Ok(log) => Ok(log),
-        Err(_) => Err("no coordinator".into()),
-    }
+    let start = Record::Start { header };
+    let disk = disk_with(rt, capacity, &header, &start, later)?;
+    opened_log(rt, disk)
+}
+
+// The first record of a shard that holds one hash.
+fn genesis(rt: &HostRuntime, header: Header, coin: u8) -> Result<Record, AllocError> {
+    Ok(Record::Genesis {
+        header,
+        hashes: hashes(rt, &[coin])?,
+    })
 }
 
 /// The shard whose journal begins with one unspent hash.
@@ -98,14 +147,9 @@ pub(crate) fn shard(
     coin: u8,
 ) -> Result<ShardNode<PlainDisk>, Fail> {
     let header = header(1, batch)?;
-    let mut hashes = List::new(rt.alloc());
-    hashes.push(Hash([coin; 32]))?;
-    let first = [Record::Genesis { header, hashes }];
-    let disk = PlainDisk::new(rt.alloc(), capacity)?;
-    match ShardNode::open(rt.alloc(), written(rt, disk, &header, &first)?) {
-        Ok(node) => Ok(node),
-        Err(_) => Err("no shard".into()),
-    }
+    let first = genesis(rt, header, coin)?;
+    let disk = disk_with(rt, capacity, &header, &first, &[])?;
+    opened_node(rt, disk)
 }
 
 // A hash has its 32 bytes.
@@ -183,6 +227,36 @@ pub(crate) struct Ran {
     pub node: ShardNode<PlainDisk>,
 }
 
+/// Whether the shard was asked each kind of call so often.
+pub(crate) fn is_asked(ran: &Ran, count: usize) -> bool {
+    let Counts {
+        locks,
+        finishes,
+        forgets,
+    } = ran.counts;
+    locks == count && finishes == count && forgets == count
+}
+
+/// Whether a lane came to so many batches.
+pub(crate) fn has_batches(ran: &Ran, count: usize) -> bool {
+    match &ran.came {
+        Ok(report) => report.batches.len() == count,
+        Err(_) => false,
+    }
+}
+
+/// Whether a lane's batch at a place has this number and these outcomes.
+pub(crate) fn has_outcomes(ran: &Ran, place: usize, number: u64, wanted: &[Outcome]) -> bool {
+    let Ok(report) = &ran.came else {
+        return false;
+    };
+    let batch = BatchId { lane: LANE, number };
+    match report.batches.as_slice().get(place) {
+        Some(done) => done.batch == batch && done.outcomes.as_slice() == wanted,
+        None => false,
+    }
+}
+
 /// A list of this one.
 fn alone<T: Drop>(alloc: Global, one: T) -> Result<Vec<T>, Fail>
     ensures { IfOk result (λ v. v.items ≡ one ∷ []) }
@@ -213,6 +287,32 @@ fn are_settled(log: &CoordLog<PlainDisk>, node: &ShardNode<PlainDisk>) -> bool
         return false;
     }
     are_first(node.records())
+}
+
+// The only one of these.
+fn only<T: Drop>(all: Vec<T>) -> Result<T, Fail> {
+    let mut all = all;
+    match all.pop() {
+        Some(one) => Ok(one),
+        None => Err("no node".into()),
+    }
+}
+
+// What a lane came to, and the nodes that it ran over.
+fn ended<'r, W: Wait>(
+    came: Result<LaneReport, LaneFault>,
+    ports: Ports<Counting<NodeShards<'r, W, PlainDisk>>, NodeLogs<'r, W, PlainDisk>>,
+) -> Result<Ran, Fail> {
+    let Ports { shards, log } = ports;
+    let Counting { ports, counts } = shards;
+    let NodeShards { nodes, .. } = ports;
+    let NodeLogs { logs, .. } = log;
+    Ok(Ran {
+        came,
+        counts,
+        log: only(logs)?,
+        node: only(nodes)?,
+    })
 }
 
 /// Runs the lane over these nodes, where it may be run: all its transactions, or one batch of them.
@@ -249,17 +349,5 @@ pub(crate) fn run_over<W: Wait>(
     } else {
         return Err("no batch".into());
     };
-    let Ports { shards, log } = ports;
-    let Counting { ports, counts } = shards;
-    let NodeShards { mut nodes, .. } = ports;
-    let NodeLogs { mut logs, .. } = log;
-    match (logs.pop(), nodes.pop()) {
-        (Some(log), Some(node)) => Ok(Ran {
-            came,
-            counts,
-            log,
-            node,
-        }),
-        _ => Err("no nodes".into()),
-    }
+    ended(came, ports)
 }

@@ -1,58 +1,68 @@
 // What calls are answered before and after each phase of a batch, by the rules' own numbers.
 use super::making::{
-    batch, entry, finish, forget, genesis, hash, header, lock, newest_first, one, part,
+    batch, entry, finish, forget, genesis, hash, header, lock, newest_first, one, put,
 };
 use cbdc_types::{
-    FinishCall, ForgetCall, List, LockCall, Record, Refused, Reply, Shape, Stamp, Status,
+    Entry, FinishCall, ForgetCall, List, LockCall, Record, Refused, Reply, Shape, Stamp, Status,
 };
 use model_check::{
     LockPlan, StampPlan, last_stamp, next_finish, next_forget, next_lock, status_of,
 };
-use std::test::Fail;
+use std::alloc::AllocError;
 
 // For a call that no row makes.
 const OUT_OF_RANGE: Refused = Refused::OtherPart { at: 99 };
 
-// The first records of a shard that holds the hash of ones, as many as told: Genesis, Lock 2, Finish 4, Forget 6.
-fn journal(rt: &HostRuntime, many: u32) -> Result<List<Record>, Fail> {
-    let shape = Shape::new(1, 1, 1, 16)?;
-    let mut records = one(rt, genesis(rt, header(1, shape), &[1])?)?;
+// Adds the records of the batch behind the Genesis, up to as many records as told.
+fn add_records(rt: &HostRuntime, all: &mut List<Record>, many: u32) -> Result<(), AllocError> {
     if many > 1 {
-        let e = entry(rt, 0, &[1], &[])?;
-        records.push(lock(rt, 2, batch(1), e, Reply::Held)?)?;
+        put(all, lock(rt, 2, batch(1), &[1], &[], Reply::Held))?;
     }
     if many > 2 {
-        records.push(finish(rt, 4, batch(1), &[true])?)?;
+        put(all, finish(rt, 4, batch(1), &[true]))?;
     }
     if many > 3 {
-        records.push(forget(6, batch(1)))?;
+        put(all, Ok(forget(6, batch(1))))?;
     }
-    Ok(newest_first(records))
+    Ok(())
 }
 
-// What a Forget of the batch with this number is answered there.
-fn forget_at(rt: &HostRuntime, many: u32, number: u64, cause: u64) -> Result<StampPlan, Fail> {
-    let own = journal(rt, many)?;
-    if last_stamp(own.as_slice()).0 >= 100 || cause >= 100 {
-        return Ok(StampPlan::Refuse(OUT_OF_RANGE));
+// The first records of a shard that holds the hash of ones, the newest first.
+fn journal_of(rt: &HostRuntime, shape: Shape, many: u32) -> Result<List<Record>, AllocError> {
+    let mut all = one(rt, genesis(rt, header(1, shape), &[1])?)?;
+    add_records(rt, &mut all, many)?;
+    Ok(newest_first(all))
+}
+
+// The same of as many records as told: Genesis, Lock 2, Finish 4, Forget 6. None where memory runs out.
+fn journal(rt: &HostRuntime, many: u32) -> Option<List<Record>> {
+    let Ok(shape) = Shape::new(1, 1, 1, 16) else {
+        return None;
+    };
+    journal_of(rt, shape, many).ok()
+}
+
+// What a Forget of the batch with this number is answered.
+fn forget_of(past: &[Record], number: u64, cause: u64) -> StampPlan {
+    if last_stamp(past).0 >= 100 || cause >= 100 {
+        return StampPlan::Refuse(OUT_OF_RANGE);
     }
     let call = ForgetCall {
         batch: batch(number),
         cause: Stamp(cause),
     };
-    Ok(next_forget(own.as_slice(), &call))
+    next_forget(past, &call)
 }
 
-// What a Finish of the batch with this number is answered there.
-fn finish_at(
+// What a Finish of the batch with this number is answered.
+fn finish_of(
     rt: &HostRuntime,
-    many: u32,
+    past: &[Record],
     number: u64,
     decisions: &[bool],
     cause: u64,
-) -> Result<StampPlan, Fail> {
-    let own = journal(rt, many)?;
-    if last_stamp(own.as_slice()).0 >= 100 || cause >= 100 {
+) -> Result<StampPlan, AllocError> {
+    if last_stamp(past).0 >= 100 || cause >= 100 {
         return Ok(StampPlan::Refuse(OUT_OF_RANGE));
     }
     let call = FinishCall {
@@ -60,27 +70,37 @@ fn finish_at(
         decisions: List::from_vec(Vec::from_slice(rt.alloc(), decisions)?),
         cause: Stamp(cause),
     };
-    Ok(next_finish(own.as_slice(), &call))
+    Ok(next_finish(past, &call))
 }
 
-// What a Lock of the batch with this number is answered there.
-fn lock_at(
+// What a Lock of the batch with this number is answered.
+fn lock_of(
     rt: &HostRuntime,
-    many: u32,
+    past: &[Record],
     number: u64,
-    entries: &[&[u8]],
+    part: List<Entry>,
     cause: u64,
-) -> Result<LockPlan, Fail> {
-    let own = journal(rt, many)?;
-    if last_stamp(own.as_slice()).0 >= 100 || cause >= 100 {
+) -> Result<LockPlan, AllocError> {
+    if last_stamp(past).0 >= 100 || cause >= 100 {
         return Ok(LockPlan::Refuse(OUT_OF_RANGE));
     }
     let call = LockCall {
         batch: batch(number),
-        part: part(rt, entries)?,
+        part,
         cause: Stamp(cause),
     };
-    Ok(next_lock(rt.alloc(), own.as_slice(), &call)?)
+    next_lock(rt.alloc(), past, &call)
+}
+
+// A part whose entries each spend one of these and make nothing.
+fn spending(rt: &HostRuntime, spent: &[u8]) -> Result<List<Entry>, AllocError> {
+    let mut all = List::new(rt.alloc());
+    let mut place = 0u32;
+    for x in spent {
+        put(&mut all, entry(rt, place, &[*x], &[]))?;
+        place = place.saturating_add(1);
+    }
+    Ok(all)
 }
 
 // Whether a plan is this one, a Lock's replies being this one reply.
@@ -97,6 +117,82 @@ fn is_plan(plan: &LockPlan, wanted: &StampPlan, reply: Reply) -> bool {
     }
 }
 
+// Whether two plans are the same.
+fn is_same(told: &StampPlan, wanted: &StampPlan) -> bool {
+    match (told, wanted) {
+        (StampPlan::Kept(own), StampPlan::Kept(stamp)) => *own == *stamp,
+        (StampPlan::Append(own), StampPlan::Append(stamp)) => *own == *stamp,
+        (StampPlan::Refuse(own), StampPlan::Refuse(why)) => *own == *why,
+        _ => false,
+    }
+}
+
+// Whether a Lock of entries that spend these is answered so, behind so many records, with this reply.
+fn is_lock(
+    rt: &HostRuntime,
+    many: u32,
+    number: u64,
+    spent: &[u8],
+    cause: u64,
+    reply: Reply,
+    wanted: StampPlan,
+) -> bool {
+    let (Some(own), Ok(part)) = (journal(rt, many), spending(rt, spent)) else {
+        return false;
+    };
+    match lock_of(rt, own.as_slice(), number, part, cause) {
+        Ok(plan) => is_plan(&plan, &wanted, reply),
+        Err(_) => false,
+    }
+}
+
+// Whether a Lock of an entry that spends the hash of ones is answered so, with the reply Held.
+fn is_held(rt: &HostRuntime, many: u32, number: u64, cause: u64, wanted: StampPlan) -> bool {
+    is_lock(rt, many, number, &[1], cause, Reply::Held, wanted)
+}
+
+// Whether a Finish is answered so behind so many records.
+fn is_finish(
+    rt: &HostRuntime,
+    many: u32,
+    number: u64,
+    decisions: &[bool],
+    cause: u64,
+    wanted: StampPlan,
+) -> bool {
+    let Some(own) = journal(rt, many) else {
+        return false;
+    };
+    match finish_of(rt, own.as_slice(), number, decisions, cause) {
+        Ok(plan) => is_same(&plan, &wanted),
+        Err(_) => false,
+    }
+}
+
+// Whether a Forget is answered so behind so many records.
+fn is_forget(rt: &HostRuntime, many: u32, number: u64, cause: u64, wanted: StampPlan) -> bool {
+    match journal(rt, many) {
+        Some(own) => is_same(&forget_of(own.as_slice(), number, cause), &wanted),
+        None => false,
+    }
+}
+
+// Whether this is the status of the hash of ones behind so many records.
+fn is_status(rt: &HostRuntime, many: u32, wanted: Status) -> bool {
+    match journal(rt, many) {
+        Some(own) => status_of(own.as_slice(), &hash(1)) == wanted,
+        None => false,
+    }
+}
+
+fn append(stamp: u64) -> StampPlan {
+    StampPlan::Append(Stamp(stamp))
+}
+
+fn kept(stamp: u64) -> StampPlan {
+    StampPlan::Kept(Stamp(stamp))
+}
+
 fn early(kept: u64) -> StampPlan {
     StampPlan::Refuse(Refused::EarlyStamp { kept: Stamp(kept) })
 }
@@ -109,130 +205,68 @@ fn stale(kept: u64) -> StampPlan {
     StampPlan::Refuse(Refused::Stale { kept })
 }
 
-#[test]
-fn locks(rt: HostRuntime) -> Result<(), Fail> {
-    let table: [(u32, u64, u64, Reply, StampPlan); 9] = [
-        (1, 1, 1, Reply::Held, StampPlan::Append(Stamp(2))),
-        (1, 1, 0, Reply::Held, early(0)),
-        (2, 1, 1, Reply::Held, StampPlan::Kept(Stamp(2))),
-        (2, 2, 8, Reply::Held, open(1)),
-        (3, 1, 1, Reply::Held, StampPlan::Kept(Stamp(2))),
-        (3, 2, 8, Reply::Held, open(1)),
-        (4, 1, 1, Reply::Held, stale(1)),
-        (4, 2, 6, Reply::Held, early(6)),
-        (
-            4,
-            2,
-            8,
-            Reply::Missing(hash(1)),
-            StampPlan::Append(Stamp(9)),
-        ),
-    ];
-    for (many, number, cause, reply, wanted) in table {
-        let plan = lock_at(&rt, many, number, &[&[1]], cause)?;
-        assert!(rt;
-            is_plan(&plan, &wanted, reply),
-            "behind {many}, number {number}, cause {cause}"
-        );
-    }
-    Ok(())
+fn not_locked(kept: u64) -> StampPlan {
+    StampPlan::Refuse(Refused::NotLocked { kept })
+}
+
+fn not_finished(kept: u64) -> StampPlan {
+    StampPlan::Refuse(Refused::NotFinished { kept })
+}
+
+fn other_part(at: u64) -> StampPlan {
+    StampPlan::Refuse(Refused::OtherPart { at })
+}
+
+fn other_outcome(at: u64) -> StampPlan {
+    StampPlan::Refuse(Refused::OtherOutcome { at })
 }
 
 #[test]
-fn other_parts(rt: HostRuntime) -> Result<(), Fail> {
-    let first = StampPlan::Refuse(Refused::OtherPart { at: 0 });
-    let second = StampPlan::Refuse(Refused::OtherPart { at: 1 });
-    let longer = lock_at(&rt, 2, 1, &[&[1], &[1]], 1)?;
-    assert!(rt; is_plan(&longer, &second, Reply::Held));
-    let other = lock_at(&rt, 3, 1, &[&[2]], 1)?;
-    assert!(rt; is_plan(&other, &first, Reply::Held));
-    Ok(())
+fn locks(rt: HostRuntime) {
+    assert!(rt; is_held(&rt, 1, 1, 1, append(2)));
+    assert!(rt; is_held(&rt, 1, 1, 0, early(0)));
+    assert!(rt; is_held(&rt, 2, 1, 1, kept(2)));
+    assert!(rt; is_held(&rt, 2, 2, 8, open(1)));
+    assert!(rt; is_held(&rt, 3, 1, 1, kept(2)));
+    assert!(rt; is_held(&rt, 3, 2, 8, open(1)));
+    assert!(rt; is_held(&rt, 4, 1, 1, stale(1)));
+    assert!(rt; is_held(&rt, 4, 2, 6, early(6)));
+    assert!(rt; is_lock(&rt, 4, 2, &[1], 8, Reply::Missing(hash(1)), append(9)));
 }
 
 #[test]
-fn finishes(rt: HostRuntime) -> Result<(), Fail> {
-    let other = StampPlan::Refuse(Refused::OtherOutcome { at: 0 });
-    let table: [(u32, u64, bool, u64, StampPlan); 8] = [
-        (
-            1,
-            1,
-            true,
-            3,
-            StampPlan::Refuse(Refused::NotLocked { kept: 0 }),
-        ),
-        (2, 1, true, 3, StampPlan::Append(Stamp(4))),
-        (
-            2,
-            1,
-            true,
-            2,
-            StampPlan::Refuse(Refused::EarlyStamp { kept: Stamp(2) }),
-        ),
-        (2, 1, false, 3, StampPlan::Append(Stamp(4))),
-        (3, 1, true, 3, StampPlan::Kept(Stamp(4))),
-        (3, 1, false, 3, other),
-        (4, 1, true, 3, StampPlan::Refuse(Refused::Stale { kept: 1 })),
-        (
-            4,
-            2,
-            true,
-            9,
-            StampPlan::Refuse(Refused::NotLocked { kept: 1 }),
-        ),
-    ];
-    for (many, number, decision, cause, wanted) in table {
-        let plan = finish_at(&rt, many, number, &[decision], cause)?;
-        assert_eq!(rt;
-            plan,
-            wanted,
-            "behind {many}, number {number}, cause {cause}"
-        );
-    }
-    assert_eq!(rt; finish_at(&rt, 2, 1, &[], 3)?, other);
-    Ok(())
+fn other_parts(rt: HostRuntime) {
+    assert!(rt; is_lock(&rt, 2, 1, &[1, 1], 1, Reply::Held, other_part(1)));
+    assert!(rt; is_lock(&rt, 3, 1, &[2], 1, Reply::Held, other_part(0)));
 }
 
 #[test]
-fn forgets(rt: HostRuntime) -> Result<(), Fail> {
-    let table: [(u32, u64, u64, StampPlan); 6] = [
-        (1, 1, 5, StampPlan::Refuse(Refused::NotLocked { kept: 0 })),
-        (2, 1, 5, StampPlan::Refuse(Refused::NotFinished { kept: 1 })),
-        (3, 1, 5, StampPlan::Append(Stamp(6))),
-        (
-            3,
-            1,
-            4,
-            StampPlan::Refuse(Refused::EarlyStamp { kept: Stamp(4) }),
-        ),
-        (4, 1, 5, StampPlan::Kept(Stamp(6))),
-        (4, 2, 9, StampPlan::Refuse(Refused::NotLocked { kept: 1 })),
-    ];
-    for (many, number, cause, wanted) in table {
-        let plan = forget_at(&rt, many, number, cause)?;
-        assert_eq!(rt;
-            plan,
-            wanted,
-            "behind {many}, number {number}, cause {cause}"
-        );
-    }
-    Ok(())
+fn finishes(rt: HostRuntime) {
+    assert!(rt; is_finish(&rt, 1, 1, &[true], 3, not_locked(0)));
+    assert!(rt; is_finish(&rt, 2, 1, &[true], 3, append(4)));
+    assert!(rt; is_finish(&rt, 2, 1, &[true], 2, early(2)));
+    assert!(rt; is_finish(&rt, 2, 1, &[false], 3, append(4)));
+    assert!(rt; is_finish(&rt, 3, 1, &[true], 3, kept(4)));
+    assert!(rt; is_finish(&rt, 3, 1, &[false], 3, other_outcome(0)));
+    assert!(rt; is_finish(&rt, 4, 1, &[true], 3, stale(1)));
+    assert!(rt; is_finish(&rt, 4, 2, &[true], 9, not_locked(1)));
+    assert!(rt; is_finish(&rt, 2, 1, &[], 3, other_outcome(0)));
 }
 
 #[test]
-fn statuses(rt: HostRuntime) -> Result<(), Fail> {
-    let table = [
-        (1, Status::Unspent),
-        (2, Status::Locked(batch(1))),
-        (3, Status::Absent),
-        (4, Status::Absent),
-    ];
-    for (many, wanted) in table {
-        let own = journal(&rt, many)?;
-        assert_eq!(rt;
-            status_of(own.as_slice(), &hash(1)),
-            wanted,
-            "behind {many}"
-        );
-    }
-    Ok(())
+fn forgets(rt: HostRuntime) {
+    assert!(rt; is_forget(&rt, 1, 1, 5, not_locked(0)));
+    assert!(rt; is_forget(&rt, 2, 1, 5, not_finished(1)));
+    assert!(rt; is_forget(&rt, 3, 1, 5, append(6)));
+    assert!(rt; is_forget(&rt, 3, 1, 4, early(4)));
+    assert!(rt; is_forget(&rt, 4, 1, 5, kept(6)));
+    assert!(rt; is_forget(&rt, 4, 2, 9, not_locked(1)));
+}
+
+#[test]
+fn statuses(rt: HostRuntime) {
+    assert!(rt; is_status(&rt, 1, Status::Unspent));
+    assert!(rt; is_status(&rt, 2, Status::Locked(batch(1))));
+    assert!(rt; is_status(&rt, 3, Status::Absent));
+    assert!(rt; is_status(&rt, 4, Status::Absent));
 }

@@ -4,7 +4,7 @@ use cbdc_types::{
     Answered, BatchId, CompactTx, Entry, Hash, List, NodeId, Outcome, Record, Reply, Shape, Stamp,
 };
 use model_check::{Row, committed_compact, has, is_after, is_caused, journal_of, unspent_of};
-use std::test::Fail;
+use std::alloc::AllocError;
 
 // A transaction of a batch on one shard: what it spends and makes, and what it was answered there. No hash is named 0.
 #[derive(Clone, Copy)]
@@ -38,7 +38,7 @@ pub(crate) fn missing(ins: [u8; 2], outs: [u8; 2], x: u8) -> Tx {
 }
 
 // The hashes that the bytes name.
-fn named(rt: &HostRuntime, bytes: [u8; 2]) -> Result<List<Hash>, Fail> {
+fn named(rt: &HostRuntime, bytes: [u8; 2]) -> Result<List<Hash>, AllocError> {
     let mut all = List::new(rt.alloc());
     if bytes[0] != 0 {
         all.push(hash(bytes[0]))?;
@@ -49,7 +49,13 @@ fn named(rt: &HostRuntime, bytes: [u8; 2]) -> Result<List<Hash>, Fail> {
     Ok(all)
 }
 
-pub(crate) fn row(rows: &mut Vec<Row>, node: u32, what: Record) -> Result<(), Fail> {
+// Adds a record of a node.
+pub(crate) fn row(
+    rows: &mut Vec<Row>,
+    node: u32,
+    made: Result<Record, AllocError>,
+) -> Result<(), AllocError> {
+    let what = made?;
     rows.push(Row {
         node: NodeId(node),
         what,
@@ -58,12 +64,12 @@ pub(crate) fn row(rows: &mut Vec<Row>, node: u32, what: Record) -> Result<(), Fa
 }
 
 // The first rows, the oldest first, of a ledger with one coordinator and a shard that holds this hash.
-pub(crate) fn opened(rt: &HostRuntime, shape: Shape, minted: u8) -> Result<Vec<Row>, Fail> {
+pub(crate) fn opened(rt: &HostRuntime, shape: Shape, minted: u8) -> Result<Vec<Row>, AllocError> {
     let mut rows = Vec::new(rt.alloc());
     let start = Record::Start {
         header: header(0, shape),
     };
-    row(&mut rows, 0, start)?;
+    row(&mut rows, 0, Ok(start))?;
     shard_opened(rt, &mut rows, 1, shape, minted)?;
     Ok(rows)
 }
@@ -75,12 +81,12 @@ pub(crate) fn shard_opened(
     node: u32,
     shape: Shape,
     minted: u8,
-) -> Result<(), Fail> {
+) -> Result<(), AllocError> {
     let first = Record::Genesis {
         header: header(node, shape),
         hashes: named(rt, [minted, 0])?,
     };
-    row(rows, node, first)
+    row(rows, node, Ok(first))
 }
 
 pub(crate) fn prepare(
@@ -88,7 +94,7 @@ pub(crate) fn prepare(
     stamp: u64,
     own: BatchId,
     txs: &[Tx],
-) -> Result<Record, Fail> {
+) -> Result<Record, AllocError> {
     let mut all = Vec::new(rt.alloc());
     for t in txs {
         all.push(CompactTx {
@@ -104,7 +110,12 @@ pub(crate) fn prepare(
     })
 }
 
-pub(crate) fn lock(rt: &HostRuntime, stamp: u64, own: BatchId, txs: &[Tx]) -> Result<Record, Fail> {
+pub(crate) fn lock(
+    rt: &HostRuntime,
+    stamp: u64,
+    own: BatchId,
+    txs: &[Tx],
+) -> Result<Record, AllocError> {
     let mut all = Vec::new(rt.alloc());
     let mut place = 0u32;
     for t in txs {
@@ -131,7 +142,7 @@ pub(crate) fn commit(
     stamp: u64,
     own: BatchId,
     txs: &[Tx],
-) -> Result<Record, Fail> {
+) -> Result<Record, AllocError> {
     let mut all = Vec::new(rt.alloc());
     for t in txs {
         all.push(t.outcome)?;
@@ -148,7 +159,7 @@ pub(crate) fn finish(
     stamp: u64,
     own: BatchId,
     txs: &[Tx],
-) -> Result<Record, Fail> {
+) -> Result<Record, AllocError> {
     let mut all = Vec::new(rt.alloc());
     for t in txs {
         all.push(t.decision)?;
@@ -167,23 +178,23 @@ pub(crate) fn whole_batch(
     first: u64,
     own: BatchId,
     txs: &[Tx],
-) -> Result<(), Fail> {
+) -> Result<(), AllocError> {
     let first = first.min(1000);
-    row(rows, 0, prepare(rt, first, own, txs)?)?;
-    row(rows, 1, lock(rt, first + 1, own, txs)?)?;
-    row(rows, 0, commit(rt, first + 2, own, txs)?)?;
-    row(rows, 1, finish(rt, first + 3, own, txs)?)?;
+    row(rows, 0, prepare(rt, first, own, txs))?;
+    row(rows, 1, lock(rt, first + 1, own, txs))?;
+    row(rows, 0, commit(rt, first + 2, own, txs))?;
+    row(rows, 1, finish(rt, first + 3, own, txs))?;
     let discard = Record::Discard {
         stamp: Stamp(first + 4),
         batch: own,
     };
-    row(rows, 0, discard)?;
-    row(rows, 1, super::making::forget(first + 5, own))?;
+    row(rows, 0, Ok(discard))?;
+    row(rows, 1, Ok(super::making::forget(first + 5, own)))?;
     let done = Record::Done {
         stamp: Stamp(first + 6),
         batch: own,
     };
-    row(rows, 0, done)
+    row(rows, 0, Ok(done))
 }
 
 // The journals of all nodes.
@@ -191,7 +202,7 @@ pub(crate) fn journals(
     rt: &HostRuntime,
     shape: &Shape,
     rows: &[Row],
-) -> Result<Vec<List<Record>>, Fail> {
+) -> Result<Vec<List<Record>>, AllocError> {
     let mut all = Vec::new(rt.alloc());
     for node in 0..shape.node_count() {
         all.push(journal_of(rt.alloc(), NodeId(node), rows)?)?;
@@ -200,7 +211,11 @@ pub(crate) fn journals(
 }
 
 // Whether the newest of these rows is the next record of its node, caused by the rows before it.
-pub(crate) fn newest_stands(rt: &HostRuntime, shape: &Shape, rows: &[Row]) -> Result<bool, Fail> {
+pub(crate) fn newest_stands(
+    rt: &HostRuntime,
+    shape: &Shape,
+    rows: &[Row],
+) -> Result<bool, AllocError> {
     let Some((newest, past)) = rows.split_first() else {
         return Ok(true);
     };
@@ -217,7 +232,7 @@ pub(crate) fn first_unsound(
     rt: &HostRuntime,
     shape: &Shape,
     rows: &[Row],
-) -> Result<Option<usize>, Fail> {
+) -> Result<Option<usize>, AllocError> {
     for place in 0..rows.len() {
         if !newest_stands(rt, shape, &rows[rows.len() - 1 - place..])? {
             return Ok(Some(place));
@@ -231,7 +246,7 @@ pub(crate) fn left(
     rt: &HostRuntime,
     minted: &[u8],
     txs: &[CompactTx],
-) -> Result<Option<Vec<Hash>>, Fail> {
+) -> Result<Option<Vec<Hash>>, AllocError> {
     let mut all = hashes(rt, minted)?.into_vec();
     for t in txs {
         for x in t.inputs.as_slice() {
@@ -251,7 +266,7 @@ pub(crate) fn holds(
     shape: &Shape,
     rows: &[Row],
     minted: &[u8],
-) -> Result<bool, Fail> {
+) -> Result<bool, AllocError> {
     let committed = committed_compact(rt.alloc(), rows)?;
     let Some(folded) = left(rt, minted, committed.as_slice())? else {
         return Ok(false);

@@ -2,13 +2,13 @@
 use cbdc_types::{
     Answered, BatchId, Entry, Hash, Header, LaneId, List, NodeId, Record, Reply, Shape, Stamp,
 };
-use std::test::Fail;
+use std::alloc::AllocError;
 
 pub(crate) fn hash(byte: u8) -> Hash {
     Hash([byte; 32])
 }
 
-pub(crate) fn hashes(rt: &HostRuntime, bytes: &[u8]) -> Result<List<Hash>, Fail> {
+pub(crate) fn hashes(rt: &HostRuntime, bytes: &[u8]) -> Result<List<Hash>, AllocError> {
     let mut all = List::new(rt.alloc());
     for byte in bytes {
         all.push(hash(*byte))?;
@@ -32,7 +32,12 @@ pub(crate) fn header(node: u32, shape: Shape) -> Header {
     }
 }
 
-pub(crate) fn entry(rt: &HostRuntime, place: u32, ins: &[u8], outs: &[u8]) -> Result<Entry, Fail> {
+pub(crate) fn entry(
+    rt: &HostRuntime,
+    place: u32,
+    ins: &[u8],
+    outs: &[u8],
+) -> Result<Entry, AllocError> {
     Ok(Entry {
         place,
         id: hash(100),
@@ -41,43 +46,57 @@ pub(crate) fn entry(rt: &HostRuntime, place: u32, ins: &[u8], outs: &[u8]) -> Re
     })
 }
 
-// A part whose entries spend these and make nothing, at the places 0, 1 and so on.
-pub(crate) fn part(rt: &HostRuntime, entries: &[&[u8]]) -> Result<List<Entry>, Fail> {
-    let mut all = List::new(rt.alloc());
-    let mut place = 0u32;
-    for ins in entries {
-        all.push(entry(rt, place, ins, &[])?)?;
-        place = place.saturating_add(1);
-    }
-    Ok(all)
+// An entry and its reply.
+pub(crate) fn answered(
+    rt: &HostRuntime,
+    place: u32,
+    ins: &[u8],
+    outs: &[u8],
+    reply: Reply,
+) -> Result<Answered, AllocError> {
+    Ok(Answered {
+        entry: entry(rt, place, ins, outs)?,
+        reply,
+    })
 }
 
 // A list of one item.
-pub(crate) fn one<T: Drop>(rt: &HostRuntime, item: T) -> Result<List<T>, Fail> {
+pub(crate) fn one<T: Drop>(rt: &HostRuntime, item: T) -> Result<List<T>, AllocError> {
     let mut all = Vec::new(rt.alloc());
     all.push(item)?;
     Ok(List::from_vec(all))
 }
 
-pub(crate) fn genesis(rt: &HostRuntime, h: Header, bytes: &[u8]) -> Result<Record, Fail> {
+// Puts what was made at the end of a list.
+pub(crate) fn put<T: Drop>(
+    all: &mut List<T>,
+    made: Result<T, AllocError>,
+) -> Result<(), AllocError> {
+    all.push(made?)?;
+    Ok(())
+}
+
+pub(crate) fn genesis(rt: &HostRuntime, h: Header, bytes: &[u8]) -> Result<Record, AllocError> {
     Ok(Record::Genesis {
         header: h,
         hashes: hashes(rt, bytes)?,
     })
 }
 
-// A Lock of one entry.
+// A Lock of one entry, at place 0.
 pub(crate) fn lock(
     rt: &HostRuntime,
     stamp: u64,
     own: BatchId,
-    entry: Entry,
+    ins: &[u8],
+    outs: &[u8],
     reply: Reply,
-) -> Result<Record, Fail> {
+) -> Result<Record, AllocError> {
+    let entry = answered(rt, 0, ins, outs, reply)?;
     Ok(Record::Lock {
         stamp: Stamp(stamp),
         batch: own,
-        entries: one(rt, Answered { entry, reply })?,
+        entries: one(rt, entry)?,
     })
 }
 
@@ -86,7 +105,7 @@ pub(crate) fn finish(
     stamp: u64,
     own: BatchId,
     decisions: &[bool],
-) -> Result<Record, Fail> {
+) -> Result<Record, AllocError> {
     Ok(Record::Finish {
         stamp: Stamp(stamp),
         batch: own,

@@ -1,8 +1,9 @@
 // How many bytes records take, how many a journal takes and how many are kept free, by the rules' own numbers.
 use super::ledgers::{Tx, confirmed, journals, opened, prepare, whole_batch};
-use super::making::{batch, entry, genesis, header, lock, newest_first, one};
+use super::making::{batch, genesis, header, lock, newest_first, one};
 use cbdc_types::{BatchId, LaneId, List, Record, Reply, Shape};
 use model_check::{copy_of_record, journal_at, kept_room, lane_room, need_of, size_of, used_of};
+use std::alloc::AllocError;
 use std::test::Fail;
 
 // The journals behind one transaction, on one coordinator and one shard.
@@ -12,100 +13,97 @@ fn behind(rt: &HostRuntime, tx: Tx) -> Result<Vec<List<Record>>, Fail> {
     let mut rows = opened(rt, shape, 1)?;
     whole_batch(rt, &mut rows, 1, batch(1), &txs)?;
     rows.reverse();
-    journals(rt, &shape, rows.as_slice())
+    Ok(journals(rt, &shape, rows.as_slice())?)
 }
 
-// The sizes of a journal's records, the newest first.
-fn sizes(rt: &HostRuntime, past: &[Record]) -> Result<Vec<Option<u64>>, Fail> {
-    let mut all = Vec::new(rt.alloc());
-    for r in past {
-        all.push(size_of(r))?;
+// Whether so many bytes are told.
+fn is_told(told: Option<u64>, wanted: u64) -> bool {
+    match told {
+        Some(n) => n == wanted,
+        None => false,
     }
-    Ok(all)
 }
 
-// The bytes that a journal takes behind each of its records, the newest first.
-fn all_used(rt: &HostRuntime, past: &[Record]) -> Result<Vec<Option<u64>>, Fail> {
-    let mut all = Vec::new(rt.alloc());
+// Whether a journal's records have these sizes, the newest first.
+fn are_sizes(past: &[Record], wanted: &[u64]) -> bool {
+    past.len() == wanted.len()
+        && past
+            .iter()
+            .zip(wanted)
+            .all(|(r, n)| is_told(size_of(r), *n))
+}
+
+// Whether a journal takes so many bytes behind each of its records, the newest first.
+fn are_used(past: &[Record], wanted: &[u64]) -> bool {
+    if past.len() != wanted.len() {
+        return false;
+    }
     for place in 0..past.len() {
-        all.push(used_of(&past[place..]))?;
+        if !is_told(used_of(&past[place..]), wanted[place]) {
+            return false;
+        }
     }
-    Ok(all)
+    true
 }
 
-// The bytes that are kept behind each of its records, the newest first.
-fn all_kept(rt: &HostRuntime, past: &[Record]) -> Result<Vec<Option<u64>>, Fail> {
-    let shape = Shape::new(1, 1, 1, 16)?;
-    let mut all = Vec::new(rt.alloc());
+// Whether so many bytes are kept behind each of its records, the newest first.
+fn are_kept(shape: &Shape, past: &[Record], wanted: &[u64]) -> bool {
+    if past.len() != wanted.len() {
+        return false;
+    }
     for place in 0..past.len() {
-        all.push(kept_room(&shape, &past[place..]))?;
+        if !is_told(kept_room(shape, &past[place..]), wanted[place]) {
+            return false;
+        }
     }
-    Ok(all)
-}
-
-// These numbers, as the plain program tells them.
-fn told(rt: &HostRuntime, numbers: &[u64]) -> Result<Vec<Option<u64>>, Fail> {
-    let mut all = Vec::new(rt.alloc());
-    for n in numbers {
-        all.push(Some(*n))?;
-    }
-    Ok(all)
+    true
 }
 
 #[test]
 fn the_coordinator_of_a_payment(rt: HostRuntime) -> Result<(), Fail> {
+    let shape = Shape::new(1, 1, 1, 16)?;
     let all = behind(&rt, confirmed([1, 0], [2, 3]))?;
     let log = journal_at(all.as_slice(), 0);
-    assert_eq!(rt;
-        sizes(&rt, log)?.as_slice(),
-        told(&rt, &[34, 34, 43, 186, 98])?.as_slice()
-    );
-    assert_eq!(rt;
-        all_used(&rt, log)?.as_slice(),
-        told(&rt, &[396, 362, 328, 285, 99])?.as_slice()
-    );
-    assert_eq!(rt;
-        all_kept(&rt, log)?.as_slice(),
-        told(&rt, &[0, 34, 68, 167, 0])?.as_slice()
-    );
+    assert!(rt; are_sizes(log, &[34, 34, 43, 186, 98]));
+    assert!(rt; are_used(log, &[396, 362, 328, 285, 99]));
+    assert!(rt; are_kept(&shape, log, &[0, 34, 68, 167, 0]));
     Ok(())
 }
 
 #[test]
 fn the_shard_of_a_payment(rt: HostRuntime) -> Result<(), Fail> {
+    let shape = Shape::new(1, 1, 1, 16)?;
     let all = behind(&rt, confirmed([1, 0], [2, 3]))?;
     let own = journal_at(all.as_slice(), 1);
-    assert_eq!(rt;
-        sizes(&rt, own)?.as_slice(),
-        told(&rt, &[34, 43, 195, 138])?.as_slice()
-    );
-    assert_eq!(rt;
-        all_used(&rt, own)?.as_slice(),
-        told(&rt, &[411, 377, 334, 139])?.as_slice()
-    );
-    assert_eq!(rt;
-        all_kept(&rt, own)?.as_slice(),
-        told(&rt, &[0, 34, 77, 0])?.as_slice()
-    );
+    assert!(rt; are_sizes(own, &[34, 43, 195, 138]));
+    assert!(rt; are_used(own, &[411, 377, 334, 139]));
+    assert!(rt; are_kept(&shape, own, &[0, 34, 77, 0]));
     Ok(())
+}
+
+// Whether a coordinator whose only record is this one takes 99 bytes, and a Prepare of 154 needs 321 there.
+fn is_needed(rt: &HostRuntime, shape: &Shape, start: &Record) -> Result<bool, AllocError> {
+    let own = one(rt, copy_of_record(rt.alloc(), start)?)?;
+    let txs = [confirmed([1, 0], [2, 0])];
+    let prepared = prepare(rt, 1, batch(1), &txs)?;
+    Ok(
+        is_told(used_of(own.as_slice()), 99)
+            && is_told(size_of(&prepared), 154)
+            && is_told(need_of(shape, own.as_slice(), &prepared), 321),
+    )
 }
 
 // A disk of 420 bytes has room for it, and one of 419 has not.
 #[test]
 fn the_need_of_a_prepare(rt: HostRuntime) -> Result<(), Fail> {
     let shape = Shape::new(1, 1, 1, 16)?;
-    let txs = [confirmed([1, 0], [2, 0])];
     let all = behind(&rt, confirmed([1, 0], [2, 0]))?;
     let log = journal_at(all.as_slice(), 0);
     let Some(start) = log.last() else {
         return Err(Fail::new("there is no Start"));
     };
-    let own = one(&rt, copy_of_record(rt.alloc(), start)?)?;
-    let prepared = prepare(&rt, 1, batch(1), &txs)?;
-    assert_eq!(rt; used_of(own.as_slice()), Some(99));
-    assert_eq!(rt; size_of(&prepared), Some(154));
-    assert_eq!(rt; need_of(&shape, own.as_slice(), &prepared), Some(321));
-    assert_eq!(rt; used_of(log), Some(364));
+    assert!(rt; is_needed(&rt, &shape, start)?);
+    assert!(rt; is_told(used_of(log), 364));
     Ok(())
 }
 
@@ -118,8 +116,8 @@ fn of_lane(lane: u32, number: u64) -> BatchId {
 }
 
 // A Lock of one entry with one input and no output, Held.
-fn short_lock(rt: &HostRuntime, stamp: u64, own: BatchId, spent: u8) -> Result<Record, Fail> {
-    lock(rt, stamp, own, entry(rt, 0, &[spent], &[])?, Reply::Held)
+fn short_lock(rt: &HostRuntime, stamp: u64, own: BatchId, spent: u8) -> Result<Record, AllocError> {
+    lock(rt, stamp, own, &[spent], &[], Reply::Held)
 }
 
 // A disk of 347 bytes has room for it, and one of 346 has not.
@@ -128,15 +126,15 @@ fn the_need_of_a_lock(rt: HostRuntime) -> Result<(), Fail> {
     let shape = Shape::new(1, 1, 1, 16)?;
     let mut records = one(&rt, genesis(&rt, header(1, shape), &[1])?)?;
     let locked = short_lock(&rt, 2, batch(1), 1)?;
-    assert_eq!(rt; used_of(records.as_slice()), Some(139));
-    assert_eq!(rt; kept_room(&shape, records.as_slice()), Some(0));
-    assert_eq!(rt; size_of(&locked), Some(131));
-    assert_eq!(rt; need_of(&shape, records.as_slice(), &locked), Some(208));
+    assert!(rt; is_told(used_of(records.as_slice()), 139));
+    assert!(rt; is_told(kept_room(&shape, records.as_slice()), 0));
+    assert!(rt; is_told(size_of(&locked), 131));
+    assert!(rt; is_told(need_of(&shape, records.as_slice(), &locked), 208));
     records.push(locked)?;
     let own = newest_first(records);
-    assert_eq!(rt; used_of(own.as_slice()), Some(270));
-    assert_eq!(rt; kept_room(&shape, own.as_slice()), Some(77));
-    assert_eq!(rt; lane_room(own.as_slice(), LaneId(0)), Some(77));
+    assert!(rt; is_told(used_of(own.as_slice()), 270));
+    assert!(rt; is_told(kept_room(&shape, own.as_slice()), 77));
+    assert!(rt; is_told(lane_room(own.as_slice(), LaneId(0)), 77));
     Ok(())
 }
 
@@ -148,9 +146,9 @@ fn the_need_of_a_lock_beside_an_open_batch(rt: HostRuntime) -> Result<(), Fail> 
     records.push(short_lock(&rt, 2, of_lane(1, 5), 1)?)?;
     let own = newest_first(records);
     let locked = short_lock(&rt, 4, of_lane(0, 1), 3)?;
-    assert_eq!(rt; lane_room(own.as_slice(), LaneId(0)), Some(0));
-    assert_eq!(rt; lane_room(own.as_slice(), LaneId(1)), Some(77));
-    assert_eq!(rt; kept_room(&shape, own.as_slice()), Some(77));
-    assert_eq!(rt; need_of(&shape, own.as_slice(), &locked), Some(285));
+    assert!(rt; is_told(lane_room(own.as_slice(), LaneId(0)), 0));
+    assert!(rt; is_told(lane_room(own.as_slice(), LaneId(1)), 77));
+    assert!(rt; is_told(kept_room(&shape, own.as_slice()), 77));
+    assert!(rt; is_told(need_of(&shape, own.as_slice(), &locked), 285));
     Ok(())
 }

@@ -3,9 +3,11 @@
 ghost use Rattle.std.specs.Prelude.{IfOk};
 ghost use Rattle.mem_devices.specs.Racks.{AllIn};
 
-use super::making::{CAPACITY, bytes_of, decoded, expect, rack_of};
+use super::making::{
+    CAPACITY, NEVER, WELL, bytes_of, decoded, expect, failing, failing_bytes, rack_of,
+};
 use super::rows::{Stop, stopped};
-use mem_devices::{FaultDisk, MemRack, PlainDisk};
+use mem_devices::{MemRack, PlainDisk};
 use std::alloc::Global;
 use std::process::Abort;
 use std::sync::Wait;
@@ -123,29 +125,6 @@ fn two_lanes_at_a_full_shard(rt: HostRuntime) -> Result<(), Fail> {
     Ok(())
 }
 
-// Disks with these bytes, of which the coordinators' fail at one call, from this coordinator on.
-fn failing(
-    alloc: Global,
-    disks: &[Vec<u8>],
-    from: usize,
-    call: u64,
-) -> Result<MemRack<FaultDisk>, Fail>
-    ensures { IfOk result (λ r. AllIn r) }
-{
-    let mut all = Vec::new(alloc);
-    for bytes in disks {
-        if bytes.len() > CAPACITY {
-            return Err(Fail::new("too many bytes"));
-        }
-        let mut fails = Vec::new(alloc);
-        if all.len() >= from && all.len() < 2 {
-            fails.push(call)?;
-        }
-        all.push(FaultDisk::new(alloc, bytes, CAPACITY, fails, 1000)?)?;
-    }
-    Ok(MemRack::new(alloc, all)?)
-}
-
 /// Both coordinators' disks fail, each at the same call, whichever it is: the lesser lane's is told. Where the other fails
 /// alone, that one is told.
 #[test]
@@ -155,10 +134,110 @@ fn two_disks_that_fail(rt: HostRuntime) -> Result<(), Fail> {
     let whole = journals(alloc)?;
     let made = stopped(alloc, &whole, &[1, 1, 1])?;
     for call in 0..16 {
-        let rack = failing(alloc, &made, 0, call)?;
+        let fails = (CAPACITY, call);
+        let rack = failing(alloc, &made, &[fails, fails, WELL])?;
         let _ = expect(rt, alloc, rack, &RUN, 12, "fault disk 0\n")?;
-        let rack = failing(alloc, &made, 1, call)?;
+        let rack = failing(alloc, &made, &[WELL, fails, WELL])?;
         let _ = expect(rt, alloc, rack, &RUN, 12, "fault disk 1\n")?;
     }
     Ok(())
+}
+
+// A call of the second coordinator's disk in its first batch, and how many bytes the disk has where that call fails: each record comes by one
+// write, a sync, its gate and a sync. Start takes 99 bytes, Prepare then 186, Commit 43, Discard and Done 34 each.
+const FAILED: [(u64, usize); 9] = [
+    (2, 99),
+    (3, 285),
+    (6, 285),
+    (7, 328),
+    (10, 328),
+    (11, 362),
+    (14, 362),
+    (15, 396),
+    (17, 396),
+];
+
+// How many bytes a node's disk has.
+fn length_at(disks: &[Vec<u8>], node: usize) -> usize {
+    match disks.get(node) {
+        Some(bytes) => bytes.len(),
+        None => 0,
+    }
+}
+
+// Whether a node's disk has the same bytes.
+fn is_same_at(one: &[Vec<u8>], two: &[Vec<u8>], node: usize) -> bool {
+    match (one.get(node), two.get(node)) {
+        (Some(one), Some(two)) => one.as_slice() == two.as_slice(),
+        _ => false,
+    }
+}
+
+/// The first coordinator has one byte too few for its Prepare, and the second one's disk fails at a call of its own batch, whichever it is: the
+/// lesser lane's fault is told, with its numbers, and the other lane has gone on to its own. Where the second one's disk fails before any
+/// batch, while it is opened, that is told.
+#[test]
+fn a_full_disk_and_one_that_fails(rt: HostRuntime) -> Result<(), Fail> {
+    let rt = &rt;
+    let alloc = rt.alloc();
+    let made = stopped(alloc, &journals(alloc)?, &[1, 1, 1])?;
+    let text = "fault full 0 used 99 need 321 capacity 419\n";
+    for (call, length) in &FAILED {
+        let rack = failing(alloc, &made, &[(419, NEVER), (CAPACITY, *call), WELL])?;
+        let rack = expect(rt, alloc, rack, &RUN, 5, text)?;
+        let left = failing_bytes(alloc, &rack)?;
+        assert!(rt; is_same_at(&left, &made, 0));
+        assert_eq!(rt; length_at(&left, 1), *length);
+    }
+    for call in 0..2 {
+        let rack = failing(alloc, &made, &[(419, NEVER), (CAPACITY, call), WELL])?;
+        let _ = expect(rt, alloc, rack, &RUN, 12, "fault disk 1\n")?;
+    }
+    Ok(())
+}
+
+/// The other way round: the first coordinator's disk fails at one call, whichever it is, and the second has one byte too few for its Prepare.
+#[test]
+fn a_disk_that_fails_and_a_full_one(rt: HostRuntime) -> Result<(), Fail> {
+    let rt = &rt;
+    let alloc = rt.alloc();
+    let made = stopped(alloc, &journals(alloc)?, &[1, 1, 1])?;
+    for call in 0..18 {
+        let rack = failing(alloc, &made, &[(CAPACITY, call), (451, NEVER), WELL])?;
+        let _ = expect(rt, alloc, rack, &RUN, 12, "fault disk 0\n")?;
+    }
+    Ok(())
+}
+
+// The file twice in one run.
+const TWICE: [&str; 5] = ["run", "--verdicts", "v", "q", "q"];
+
+// Runs the file twice over the ledger, where the second coordinator's disk has a limit: the fault, and so many records of the first time alone.
+fn ends_with_the_first<W: Wait + Abort>(
+    rt: &W,
+    alloc: Global,
+    limit: (usize, u64),
+    status: u8,
+    text: &str,
+    kept: &[usize; 3],
+) -> Result<(), Fail> {
+    let whole = journals(alloc)?;
+    let made = stopped(alloc, &whole, &[1, 1, 1])?;
+    let rack = failing(alloc, &made, &[WELL, limit, WELL])?;
+    let rack = expect(rt, alloc, rack, &TWICE, status, text)?;
+    assert!(rt; failing_bytes(alloc, &rack)? == stopped(alloc, &whole, kept)?);
+    Ok(())
+}
+
+/// Two client files, and a fault of the second lane in the first of them: its coordinator has one byte too few for the Prepare, or that disk
+/// fails at the Prepare's first call or at its last. The first lane's batch is done, and the second file is not begun: no lane prepares of it.
+#[test]
+fn no_file_behind_a_fault(rt: HostRuntime) -> Result<(), Fail> {
+    let rt = &rt;
+    let alloc = rt.alloc();
+    let text = "fault full 1 used 99 need 353 capacity 451\n";
+    ends_with_the_first(rt, alloc, (451, NEVER), 5, text, &[5, 1, 4])?;
+    let text = "fault disk 1\n";
+    ends_with_the_first(rt, alloc, (CAPACITY, 2), 12, text, &[5, 1, 4])?;
+    ends_with_the_first(rt, alloc, (CAPACITY, 5), 12, text, &[5, 2, 4])
 }

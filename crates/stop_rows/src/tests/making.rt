@@ -5,8 +5,8 @@ ghost use Rattle.mem_devices.specs.Racks.{AllIn};
 use cbdc_types::NodeId;
 use commands::{Done, process};
 use line_text::status_code;
-use mem_devices::{MemInbox, MemRack, MemSink, PlainDisk};
-use outside::{Disk, OpenGate};
+use mem_devices::{FaultDisk, MemInbox, MemRack, MemSink, PlainDisk};
+use outside::{Disk, Gate, OpenGate};
 use std::alloc::Global;
 use std::process::Abort;
 use std::sync::Wait;
@@ -14,6 +14,12 @@ use std::test::Fail;
 
 /// How many bytes each disk may have.
 pub(crate) const CAPACITY: usize = 10_000;
+
+/// A call that no run makes.
+pub(crate) const NEVER: u64 = 1_000_000;
+
+/// A disk that has room enough and does not fail, as `failing` takes it.
+pub(crate) const WELL: (usize, u64) = (CAPACITY, NEVER);
 
 // The files by name, in hexadecimal digits: the mint of a coin of 100 on shard 0, another mint, and client files. `a`
 // pays the coin to shard 1; `c` spends the coin and one of shard 1 that is not there; `d` pays the coin to shard 0; `e` is
@@ -88,8 +94,31 @@ fn owned(alloc: Global, words: &[&str]) -> Result<Vec<String>, Fail> {
     Ok(all)
 }
 
-/// Runs the program with these words over the rack, with an output that takes so many bytes, and checks its text and
-/// status.
+/// Runs the program with these words over the rack, past a gate, with an output that takes so many bytes, and checks its
+/// text and status.
+pub(crate) fn expect_past<W: Wait + Abort, D: Disk + Drop, G: Gate>(
+    rt: &W,
+    alloc: Global,
+    rack: MemRack<D>,
+    words: &[&str],
+    room: usize,
+    status: u8,
+    text: &str,
+    gate: &G,
+) -> Result<MemRack<D>, Fail>
+    requires { AllIn rack }
+    ensures { IfOk result (λ r. AllIn r) }
+{
+    let words = owned(alloc, words)?;
+    let mut inbox = inbox(alloc)?;
+    let mut out = MemSink::new(alloc, room, Vec::new(alloc))?;
+    let Done { status: told, rack } = process(rt, alloc, &words, &mut inbox, rack, &mut out, gate);
+    assert_eq!(rt; out.taken(), text.as_bytes());
+    assert_eq!(rt; status_code(&told), status);
+    Ok(rack)
+}
+
+/// The same with a gate that holds up nothing.
 pub(crate) fn expect_in<W: Wait + Abort, D: Disk + Drop>(
     rt: &W,
     alloc: Global,
@@ -102,15 +131,7 @@ pub(crate) fn expect_in<W: Wait + Abort, D: Disk + Drop>(
     requires { AllIn rack }
     ensures { IfOk result (λ r. AllIn r) }
 {
-    let words = owned(alloc, words)?;
-    let mut inbox = inbox(alloc)?;
-    let mut out = MemSink::new(alloc, room, Vec::new(alloc))?;
-    let Done { status: told, rack } = process(
-        rt, alloc, &words, &mut inbox, rack, &mut out, &OpenGate,
-    );
-    assert_eq!(rt; out.taken(), text.as_bytes());
-    assert_eq!(rt; status_code(&told), status);
-    Ok(rack)
+    expect_past(rt, alloc, rack, words, room, status, text, &OpenGate)
 }
 
 /// The status of a run with these words over the rack, whatever it prints.
@@ -188,6 +209,51 @@ pub(crate) fn rack_of(alloc: Global, disks: &[Vec<u8>]) -> Result<MemRack<PlainD
         all.push(disk_of(alloc, bytes)?)?;
     }
     Ok(MemRack::new(alloc, all)?)
+}
+
+// A disk with these bytes that may have so many, and fails at one call.
+fn failing_disk(alloc: Global, bytes: &[u8], room: usize, call: u64) -> Result<FaultDisk, Fail> {
+    if bytes.len() > room {
+        return Err(Fail::new("too many bytes"));
+    }
+    let mut fails = Vec::new(alloc);
+    fails.push(call)?;
+    Ok(FaultDisk::new(alloc, bytes, room, fails, 1000)?)
+}
+
+/// A rack of disks with these bytes: how many bytes each may have, and the call at which it fails.
+pub(crate) fn failing(
+    alloc: Global,
+    disks: &[Vec<u8>],
+    limits: &[(usize, u64); 3],
+) -> Result<MemRack<FaultDisk>, Fail>
+    ensures { IfOk result (λ r. AllIn r) }
+{
+    let mut all = Vec::new(alloc);
+    for (bytes, limit) in disks.iter().zip(limits) {
+        all.push(failing_disk(alloc, bytes, limit.0, limit.1)?)?;
+    }
+    Ok(MemRack::new(alloc, all)?)
+}
+
+// The bytes of a node's disk, of those that fail.
+fn failing_bytes_at(alloc: Global, rack: &MemRack<FaultDisk>, node: u32) -> Result<Vec<u8>, Fail> {
+    match rack.disk(NodeId(node)) {
+        Some(disk) => Ok(Vec::from_slice(alloc, disk.bytes())?),
+        None => Err(Fail::new("a disk is out")),
+    }
+}
+
+/// The bytes of the disks of a rack of three nodes that fail.
+pub(crate) fn failing_bytes(
+    alloc: Global,
+    rack: &MemRack<FaultDisk>,
+) -> Result<Vec<Vec<u8>>, Fail> {
+    let mut all = Vec::new(alloc);
+    for node in 0..3 {
+        all.push(failing_bytes_at(alloc, rack, node)?)?;
+    }
+    Ok(all)
 }
 
 // The bytes of a node's disk.

@@ -1,24 +1,26 @@
 // Runs that were stopped at each record, over disks that fail, and over disks of another ledger. Two shards, one
 // coordinator, one lane.
-ghost use Rattle.std.specs.Prelude.{IfOk};
-ghost use Rattle.mem_devices.specs.Racks.{AllIn};
-
-use super::making::{CAPACITY, bytes_of, cut, expect, expect_in, gate_of, rack_of, status_of};
-use mem_devices::{FaultDisk, MemRack, PlainDisk};
+use super::making::{
+    CAPACITY, WELL, bytes_of, cut, expect, expect_in, failing, gate_of, rack_of, status_of,
+};
+use mem_devices::{MemRack, PlainDisk};
 use std::alloc::Global;
 use std::process::Abort;
 use std::sync::Wait;
 use std::test::Fail;
 
-const INIT: [&str; 4] = ["init", "--shards", "2", "m"];
+/// The ledger of a coin on shard 0.
+pub(crate) const INIT: [&str; 4] = ["init", "--shards", "2", "m"];
 
-const INIT_TEXT: &str =
+/// What it then writes.
+pub(crate) const INIT_TEXT: &str =
     "coins 1\nminted 100\ngenesis 47b7a252c13b014cd8e4e9767aa2b8de3e37704772a2d9ab29c63864921300d9\n";
 
-// One transaction on both shards.
-const PAY: [&str; 4] = ["run", "--verdicts", "v", "a"];
+/// One transaction on both shards.
+pub(crate) const PAY: [&str; 4] = ["run", "--verdicts", "v", "a"];
 
-const PAY_TEXT: &str =
+/// What it then writes.
+pub(crate) const PAY_TEXT: &str =
     "1 0 f456f5694698458a7281c08080cf16b8ddd5bba2d48e5eb89fdb545c1eef3864 confirmed 0 1\nresumed 0\nbatches 1\nconfirmed 1\nrejected 0\nrefused 0\nunspent 1\n";
 
 // A transaction that is rejected for shard 1, and one that spends the coin that it named on shard 0.
@@ -27,8 +29,8 @@ const TWO: [&str; 5] = ["run", "--verdicts", "v", "c", "d"];
 const TWO_TEXT: &str =
     "1 0 6627eabcbdd438bbe17b84d49a07b60d4d4d77fac22669be6acb8dcaeb38a7df rejected missing f9e55a5f2e4b2e7db0fd7956b5ea01aaa3d050c5d13cd1f2452e7e1811afa9c6 1 0 1\n2 0 b4694a2899850129a47aefad7a230e0b416c6ce027648a362ee36e18510c6316 confirmed 0 2\nresumed 0\nbatches 2\nconfirmed 1\nrejected 1\nrefused 0\nunspent 1\n";
 
-// The second of these alone.
-const AGAIN: [&str; 4] = ["run", "--verdicts", "v", "d"];
+/// The second of these alone.
+pub(crate) const AGAIN: [&str; 4] = ["run", "--verdicts", "v", "d"];
 
 const FIRST: &str =
     "1 0 b4694a2899850129a47aefad7a230e0b416c6ce027648a362ee36e18510c6316 confirmed 0 1\nresumed 0\nbatches 1\nconfirmed 1\nrejected 0\nrefused 0\nunspent 1\n";
@@ -49,7 +51,7 @@ const STATUS: [&str; 3] = [
 const STATUS_TEXT: &str =
     "0bf0376646e6b4974a5a86c6c59db4396280671b1c89f05dd7d1fa54fe855faa absent\n36926e3bdb7e445b62e286fdea25012838616885144bcfa0ca4fb4dd6a99ec54 unspent\n";
 
-/// How many records each node has kept where a run was stopped, and what `recover` then writes.
+/// How many records each node has kept where a run was stopped, and what a command over them then writes.
 pub(crate) struct Stop {
     pub kept: [usize; 3],
     pub text: &'static str,
@@ -103,8 +105,8 @@ const PAID: [Stop; 11] = [
     },
 ];
 
-// The disks behind `init` and a run.
-fn made<W: Wait + Abort>(
+/// The disks behind `init` and a run.
+pub(crate) fn made<W: Wait + Abort>(
     rt: &W,
     alloc: Global,
     words: &[&str],
@@ -181,8 +183,8 @@ fn a_torn_gate(rt: HostRuntime) -> Result<(), Fail> {
     Ok(())
 }
 
-// The coin, in upper case digits, and the output of the transaction on both shards.
-const PAID_STATUS: [&str; 3] = [
+/// The coin, in upper case digits, and the output of the transaction on both shards.
+pub(crate) const PAID_STATUS: [&str; 3] = [
     "status",
     "0BF0376646E6B4974A5A86C6C59DB4396280671B1C89F05DD7D1FA54FE855FAA",
     "bf4b4fef638ef76da00f7cf1cefd50a8fbbe5fcb55561f64d6710966f38079ae",
@@ -362,24 +364,6 @@ fn two_files_stopped_anywhere(rt: HostRuntime) -> Result<(), Fail> {
     Ok(())
 }
 
-// A rack whose last disk fails at one call.
-fn failing(alloc: Global, disks: &[Vec<u8>], call: u64) -> Result<MemRack<FaultDisk>, Fail>
-    ensures { IfOk result (λ r. AllIn r) }
-{
-    let mut all = Vec::new(alloc);
-    for bytes in disks {
-        if bytes.len() > CAPACITY {
-            return Err(Fail::new("too many bytes"));
-        }
-        let mut fails = Vec::new(alloc);
-        if all.len() == 2 {
-            fails.push(call)?;
-        }
-        all.push(FaultDisk::new(alloc, bytes, CAPACITY, fails, 1000)?)?;
-    }
-    Ok(MemRack::new(alloc, all)?)
-}
-
 /// The last shard's disk fails at one of its first calls, whichever it is: `run` and `recover` name that node.
 #[test]
 fn a_disk_that_fails(rt: HostRuntime) -> Result<(), Fail> {
@@ -388,9 +372,9 @@ fn a_disk_that_fails(rt: HostRuntime) -> Result<(), Fail> {
     let whole = made(rt, rt.alloc(), &PAY, PAY_TEXT)?;
     let disks = stopped(alloc, &whole, &[3, 3, 2])?;
     for call in 0..8 {
-        let rack = failing(alloc, &disks, call)?;
+        let rack = failing(alloc, &disks, &[WELL, WELL, (CAPACITY, call)])?;
         let _ = expect(rt, alloc, rack, &["recover"], 12, "fault disk 2\n")?;
-        let rack = failing(alloc, &disks, call)?;
+        let rack = failing(alloc, &disks, &[WELL, WELL, (CAPACITY, call)])?;
         let _ = expect(rt, alloc, rack, &AGAIN, 12, "fault disk 2\n")?;
     }
     Ok(())

@@ -8,7 +8,7 @@ use Rattle.lane_driver.proofs.Ready.{lock_shards, lock_sizes, later_room}
 use Rattle.cbdc_model.specs.Calls.{IsLockCall}
 use Rattle.lane_driver.proofs.Fitting.{locks_ready, calls_kept, ledger_kept, nodes_same, nodes_on}
 use Rattle.std.proofs.Common.{inr}
-use Rattle.lane_driver.proofs.Causing.{log_fault}
+use Rattle.lane_driver.proofs.Causing.{log_fault, decide_caused}
 use Rattle.lane_driver.proofs.batch.from_prepared.Goals as goal
 
 pub lock_phase-requires-clause-shards : goal.lock_phase-requires-clause-shards
@@ -86,7 +86,7 @@ returns-in-Err-clause-fault g c = inr (inr c.in-Err.ensures.fault)
 pub returns-in-Err-decide-clause-fault : goal.returns-in-Err-decide-clause-fault
 returns-in-Err-decide-clause-fault g c = log_fault c.args.shape.now c.args.batch.now.lane (g.L.LogPort.at c.decide.new.self) (g.L.LogPort.sights c.decide.new.self) (g.S.PortSet.sights c.lock_again.new.shards) c.in-Err-decide.fault (record { node = c.home.result; fault = c.in-Err-decide.fault }) c.requires.batch.0 (c.in-Err-decide.ensures.at_same ∙ c.requires.at)
     (home_stop c.home.result (home_of c.args.shape.now c.args.batch.now.lane) c.in-Err-decide.fault c.home.ensures)
-    (c.in-Err-decide.ensures.fault)
+    (decide_caused c.in-Err-decide.fault (g.L.LogPort.sights c.decide.new.self (g.L.LogPort.at c.decide.new.self)) c.in-Err-decide.ensures.fault)
 
 pub returns-in-Ok-from_committed-clause-nodes : goal.returns-in-Ok-from_committed-clause-nodes
 returns-in-Ok-from_committed-clause-nodes g c = nodes_on (g.S.PortSet.sights c.args.ports.now.shards) (g.S.PortSet.sights c.lock_again.new.shards) (g.S.PortSet.sights c.from_committed.new.ports.shards) (nodes_on (g.S.PortSet.sights c.args.ports.now.shards) (g.S.PortSet.sights c.lock_phase.new.shards) (g.S.PortSet.sights c.lock_again.new.shards) c.in-Ok.ensures.nodes c.lock_again.ensures.nodes) c.in-Ok-from_committed.ensures.nodes

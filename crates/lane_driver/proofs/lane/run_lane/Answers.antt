@@ -24,7 +24,7 @@ pieces-preserved g c =
       so = λ k st. lane_on c.args.shape.now g.L.LogPort.alone c.args.lane c.args.txs.now c.pieces.rest.now c.split_at.result.0.now (g.L.LogPort.sights c.args.ports.now.log (g.L.LogPort.at c.args.ports.now.log)) (g.L.LogPort.sights c.pieces.ports.log (g.L.LogPort.at c.pieces.ports.log)) (g.L.LogPort.sights c.one_batch.new.ports.log (g.L.LogPort.at c.one_batch.new.ports.log)) (g.S.PortSet.sights c.args.ports.now.shards) (g.S.PortSet.sights c.pieces.ports.shards) (g.S.PortSet.sights c.one_batch.new.ports.shards) (c.pieces.invariant.so k st) (c.split_at.ensures.front ∙ ap (λ n. take n c.pieces.rest.now) (c.min.ensures ∙ ap (λ n. min n (length c.pieces.rest.now)) c.batch-size.ensures.value))
           c.split_at.result.1.now c.in-Ok-one_batch.report.batch c.in-Ok-one_batch.report.outcomes some (c.split_at.ensures.back ∙ ap (λ n. drop n c.pieces.rest.now) (c.min.ensures ∙ ap (λ n. min n (length c.pieces.rest.now)) c.batch-size.ensures.value)) c.in-Ok-one_batch.ensures.done;
       idle = search rules;
-      others = others_on (g.L.LogPort.header c.args.ports.now.log) (g.L.LogPort.header c.pieces.ports.log) c.args.lane (g.L.LogPort.phase c.args.ports.now.log) (g.L.LogPort.phase c.pieces.ports.log) (g.L.LogPort.phase c.one_batch.new.ports.log) (g.L.LogPort.open_txs c.args.ports.now.log) (g.L.LogPort.open_txs c.pieces.ports.log) (g.L.LogPort.open_txs c.one_batch.new.ports.log) c.pieces.invariant.header c.pieces.invariant.others c.in-Ok-one_batch.ensures.others;
+      others = λ quiet. others_on (g.L.LogPort.header c.args.ports.now.log) (g.L.LogPort.header c.pieces.ports.log) c.args.lane (g.L.LogPort.phase c.args.ports.now.log) (g.L.LogPort.phase c.pieces.ports.log) (g.L.LogPort.phase c.one_batch.new.ports.log) (g.L.LogPort.open_txs c.args.ports.now.log) (g.L.LogPort.open_txs c.pieces.ports.log) (g.L.LogPort.open_txs c.one_batch.new.ports.log) c.pieces.invariant.header (c.pieces.invariant.others quiet) (c.in-Ok-one_batch.ensures.others quiet);
       header = search rules;
       count = search rules;
       log_count = search rules;
@@ -68,7 +68,7 @@ pieces-init g c = record {
   at_same = refl;
   so = λ k st. lane_begins c.args.shape.now g.L.LogPort.alone c.args.lane k c.args.txs.now (g.L.LogPort.sights c.args.ports.now.log (g.L.LogPort.at c.args.ports.now.log)) (g.S.PortSet.sights c.args.ports.now.shards) st;
   idle = search rules;
-  others = λ l is ne. (refl, refl);
+  others = λ quiet l is ne. (refl, refl);
   header = search rules;
   count = search rules;
   log_count = search rules;
@@ -136,7 +136,7 @@ pub returns-clause-shard_holds : goal.returns-clause-shard_holds
 returns-clause-shard_holds g c = c.pieces.invariant.shard_holds
 
 pub returns-in-Err-one_batch-clause-others : goal.returns-in-Err-one_batch-clause-others
-returns-in-Err-one_batch-clause-others g c = others_on (g.L.LogPort.header c.args.ports.now.log) (g.L.LogPort.header c.pieces.ports.log) c.args.lane (g.L.LogPort.phase c.args.ports.now.log) (g.L.LogPort.phase c.pieces.ports.log) (g.L.LogPort.phase c.one_batch.new.ports.log) (g.L.LogPort.open_txs c.args.ports.now.log) (g.L.LogPort.open_txs c.pieces.ports.log) (g.L.LogPort.open_txs c.one_batch.new.ports.log) c.pieces.invariant.header c.pieces.invariant.others c.in-Err-one_batch.ensures.others
+returns-in-Err-one_batch-clause-others g c = λ quiet. others_on (g.L.LogPort.header c.args.ports.now.log) (g.L.LogPort.header c.pieces.ports.log) c.args.lane (g.L.LogPort.phase c.args.ports.now.log) (g.L.LogPort.phase c.pieces.ports.log) (g.L.LogPort.phase c.one_batch.new.ports.log) (g.L.LogPort.open_txs c.args.ports.now.log) (g.L.LogPort.open_txs c.pieces.ports.log) (g.L.LogPort.open_txs c.one_batch.new.ports.log) c.pieces.invariant.header (c.pieces.invariant.others quiet) (c.in-Err-one_batch.ensures.others quiet)
 
 pub returns-clause-others : goal.returns-clause-others
 returns-clause-others g c = c.pieces.invariant.others

@@ -1,4 +1,4 @@
-use Rattle.std.proofs.Common.{◌≡◌, ◌≢◌, ◌+◌, ◌*◌, ◌≤◌, ℕ, length, reverse}
+use Rattle.std.proofs.Common.{◌≡◌, ◌≢◌, ◌+◌, ◌*◌, ◌≤◌, ℕ, true, length, reverse}
 use Rattle.std.specs.Vec.{vec_capacity, vec_len}
 use Rattle.std.specs.List.{All}
 use Rattle.cbdc_model.specs.Grammar.{IsCompact}
@@ -15,7 +15,7 @@ invariant-pieces g l = record {
       → LaneSo l.shape g.L.LogPort.alone l.lane l.txs l.rest (g.L.LogPort.sights l.initial.ports.log (g.L.LogPort.at l.initial.ports.log)) (g.S.PortSet.sights l.initial.ports.shards)
       (g.L.LogPort.sights l.ports.log (g.L.LogPort.at l.ports.log)) (g.S.PortSet.sights l.ports.shards);
   idle : g.L.LogPort.phase l.ports.log l.lane ≡ Idle;
-  others : KeepsOthers (g.L.LogPort.header l.initial.ports.log) l.lane (g.L.LogPort.phase l.initial.ports.log) (g.L.LogPort.phase l.ports.log) (g.L.LogPort.open_txs l.initial.ports.log) (g.L.LogPort.open_txs l.ports.log);
+  others : g.L.LogPort.alone ≡ true → KeepsOthers (g.L.LogPort.header l.initial.ports.log) l.lane (g.L.LogPort.phase l.initial.ports.log) (g.L.LogPort.phase l.ports.log) (g.L.LogPort.open_txs l.initial.ports.log) (g.L.LogPort.open_txs l.ports.log);
   header : g.L.LogPort.header l.ports.log ≡ g.L.LogPort.header l.initial.ports.log;
   count : g.S.PortSet.count l.ports.shards ≡ g.S.PortSet.count l.initial.ports.shards;
   log_count : g.L.LogPort.count l.ports.log ≡ g.L.LogPort.count l.initial.ports.log;

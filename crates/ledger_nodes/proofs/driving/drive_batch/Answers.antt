@@ -20,7 +20,7 @@ pub returns-clause-step : goal.returns-clause-step
 returns-clause-step g c = is_step g.D.Disk.count g.D.Disk.limit g.D.Disk.content g.D.Disk.images c.args.header.now c.args.lane c.home-ports.result c.run_batch-came.new.ports.log.at
     c.args.ports.now.log.logs.items c.args.ports.now.shards.nodes.items c.run_batch-came.new.ports.log.logs.items c.run_batch-came.new.ports.shards.nodes.items
     c.requires.ledger c.requires.lane c.home-ports.ensures.place c.run_batch-came.ensures.at_same c.args.lane refl c.run_batch-came.ensures.log_count c.run_batch-came.ensures.count c.run_batch-came.ensures.elsewhere c.run_batch-came.ensures.log_nodes c.run_batch-came.ensures.nodes
-    c.run_batch-came.ensures.others c.run_batch-came.ensures.log_holds c.run_batch-came.ensures.shard_holds c.run_batch-came.ensures.log_later c.run_batch-came.ensures.shard_later
+    (c.run_batch-came.ensures.others refl) c.run_batch-came.ensures.log_holds c.run_batch-came.ensures.shard_holds c.run_batch-came.ensures.log_later c.run_batch-came.ensures.shard_later
     (subst (All (λ l. IsJournal l.header l.journal)) c.as_slice.ensures.value c.see_logs.ensures.journals) (subst (All (λ s. IsJournal s.header s.journal)) c.as_slice-2.ensures.value c.see_shards.ensures.journals)
     (subst (All IsLogNext) c.as_slice.ensures.value c.see_logs.ensures.next) (subst (All IsShardNext) c.as_slice-2.ensures.value c.see_shards.ensures.next)
 

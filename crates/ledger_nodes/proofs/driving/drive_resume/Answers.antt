@@ -1,4 +1,4 @@
-use Rattle.std.proofs.Common.{◌≡◌, ◌<◌, [], subst, sym, arith, IfOk, IfErr, OnOk, true}
+use Rattle.std.proofs.Common.{◌≡◌, ◌<◌, [], refl, subst, sym, arith, IfOk, IfErr, OnOk, true}
 use Rattle.std.specs.List.{All}
 use Rattle.std.proofs.lemmas.List.Elements.{All-nil, All-cons}
 use Rattle.cbdc_model.specs.After.{IsJournal}
@@ -37,7 +37,7 @@ returns-clause-step g c = is_step g.D.Disk.count g.D.Disk.limit g.D.Disk.content
     c.args.ports.now.log.logs.items c.args.ports.now.shards.nodes.items c.resume-came.new.ports.log.logs.items c.resume-came.new.ports.shards.nodes.items
     c.requires.ledger c.requires.lane c.home-ports.ensures.place c.resume-came.ensures.at_same c.args.unfinished.now.batch.lane (told_lane (sight_at sight c.args.ports.now.log.logs.items (home_of c.args.header.now.shape c.args.lane)).seen c.args.lane c.args.unfinished.now c.requires.told) c.resume-came.ensures.log_count c.resume-came.ensures.count c.resume-came.ensures.elsewhere c.resume-came.ensures.log_nodes c.resume-came.ensures.nodes
     (others_keep (sight_at sight c.args.ports.now.log.logs.items c.home-ports.result).header c.args.unfinished.now (λ l. (slot (sight_at sight c.args.ports.now.log.logs.items c.home-ports.result).seen l).phase) (λ l. (slot (sight_at sight c.resume-came.new.ports.log.logs.items c.resume-came.new.ports.log.at).seen l).phase) (λ l. txs_of (sight_at sight c.args.ports.now.log.logs.items c.home-ports.result).seen (open_batch (sight_at sight c.args.ports.now.log.logs.items c.home-ports.result).seen l)) (λ l. txs_of (sight_at sight c.resume-came.new.ports.log.logs.items c.resume-came.new.ports.log.at).seen (open_batch (sight_at sight c.resume-came.new.ports.log.logs.items c.resume-came.new.ports.log.at).seen l))
-    (subst (λ os. KeepsUnlisted (sight_at sight c.args.ports.now.log.logs.items c.home-ports.result).header os (λ l. (slot (sight_at sight c.args.ports.now.log.logs.items c.home-ports.result).seen l).phase) (λ l. (slot (sight_at sight c.resume-came.new.ports.log.logs.items c.resume-came.new.ports.log.at).seen l).phase) (λ l. txs_of (sight_at sight c.args.ports.now.log.logs.items c.home-ports.result).seen (open_batch (sight_at sight c.args.ports.now.log.logs.items c.home-ports.result).seen l)) (λ l. txs_of (sight_at sight c.resume-came.new.ports.log.logs.items c.resume-came.new.ports.log.at).seen (open_batch (sight_at sight c.resume-came.new.ports.log.logs.items c.resume-came.new.ports.log.at).seen l))) c.from_ref.ensures.value c.resume-came.ensures.others)) c.resume-came.ensures.log_holds c.resume-came.ensures.shard_holds c.resume-came.ensures.log_later c.resume-came.ensures.shard_later
+    (subst (λ os. KeepsUnlisted (sight_at sight c.args.ports.now.log.logs.items c.home-ports.result).header os (λ l. (slot (sight_at sight c.args.ports.now.log.logs.items c.home-ports.result).seen l).phase) (λ l. (slot (sight_at sight c.resume-came.new.ports.log.logs.items c.resume-came.new.ports.log.at).seen l).phase) (λ l. txs_of (sight_at sight c.args.ports.now.log.logs.items c.home-ports.result).seen (open_batch (sight_at sight c.args.ports.now.log.logs.items c.home-ports.result).seen l)) (λ l. txs_of (sight_at sight c.resume-came.new.ports.log.logs.items c.resume-came.new.ports.log.at).seen (open_batch (sight_at sight c.resume-came.new.ports.log.logs.items c.resume-came.new.ports.log.at).seen l))) c.from_ref.ensures.value (c.resume-came.ensures.others refl))) c.resume-came.ensures.log_holds c.resume-came.ensures.shard_holds c.resume-came.ensures.log_later c.resume-came.ensures.shard_later
     (subst (All (λ l. IsJournal l.header l.journal)) c.as_slice.ensures.value c.see_logs.ensures.journals) (subst (All (λ s. IsJournal s.header s.journal)) c.as_slice-2.ensures.value c.see_shards.ensures.journals)
     (subst (All IsLogNext) c.as_slice.ensures.value c.see_logs.ensures.next) (subst (All IsShardNext) c.as_slice-2.ensures.value c.see_shards.ensures.next)
 

@@ -1,11 +1,11 @@
-use Rattle.std.proofs.Common.{◌*◌, arith, refl, ap, ◌∙◌, subst}
+use Rattle.std.proofs.Common.{◌*◌, ◌+◌, arith, refl, ap, ◌∙◌, subst}
 use Rattle.run_laws.specs.WaveSteps.{ResumedSo, ResumingStepLaw, ResumingSkipLaw, ResumingBeginsLaw, ResumingEndsLaw}
 use Rattle.run_laws.proofs.WaveTurns.{resuming_begins_law, resuming_step_law, resuming_skip_law, resuming_ends_law}
 use Rattle.ledger_runs.proofs.Keeping.{stays, stays_next, same_next, idle_next, so_next}
 use Rattle.ledger_runs.specs.Telling.{TellResumed}
 use Rattle.ledger_laws.proofs.Cuts.{end_self, end_trans}
 use Rattle.ledger_runs.specs.Faults.{HaveFailed, MayHold}
-use Rattle.ledger_runs.proofs.Faulting.{grown_end, resumed_cause, least_open}
+use Rattle.ledger_runs.proofs.Faulting.{grown_end, resumed_cause, least_open, none_taken, one_more}
 use Rattle.ledger_runs.proofs.Flying.{flies_next}
 use Rattle.ledger_runs.proofs.WaveTelling.{resumed_told}
 use Rattle.ledger_runs.proofs.Preparing.{resumed_none}
@@ -36,6 +36,7 @@ lanes-init g c =
       capacity = λ n. refl;
       checked = c.requires;
       grows = λ n. end_self (E n);
+      order = λ n. refl;
     }
 
 pub lanes-preserved : goal.lanes-preserved
@@ -65,6 +66,7 @@ lanes-preserved g c =
       capacity = λ n. did.capacity_same n ∙ so.capacity n;
       checked = did.checked;
       grows = λ n. end_trans (E n) (g.L.Turns.journals c.lanes.ledger n) (g.L.Turns.journals c.resume_next.new.ledger n) (so.grows n) (grown_end c.lanes.lane _ _ did.grows n);
+      order = one_more c.lanes.lane (g.L.Turns.journals c.args.ledger.now) (g.L.Turns.journals c.lanes.ledger) (g.L.Turns.journals c.resume_next.new.ledger) so.order did.grows;
     }
 
 pub returns-clause-resumed : goal.returns-clause-resumed
@@ -113,3 +115,16 @@ returns-in-Err-clause-flies g c =
 
 pub returns-clause-flies : goal.returns-clause-flies
 returns-clause-flies g c = c.lanes.invariant.flies
+
+pub returns-in_default-clause-order : goal.returns-in_default-clause-order
+returns-in_default-clause-order g c = none_taken (g.L.Turns.shape c.args.ledger.now) (g.L.Turns.journals c.args.ledger.now)
+
+pub returns-in-Err-clause-order : goal.returns-in-Err-clause-order
+returns-in-Err-clause-order g c = (
+  c.lanes.lane + 1,
+  omega (arith, c.lanes-test.true, c.lanes.invariant.count),
+  one_more c.lanes.lane (g.L.Turns.journals c.args.ledger.now) (g.L.Turns.journals c.lanes.ledger) (g.L.Turns.journals c.resume_next.new.ledger) c.lanes.invariant.order c.resume_next.ensures.grows,
+)
+
+pub returns-clause-order : goal.returns-clause-order
+returns-clause-order g c = (c.lanes.lane, omega (arith, c.lanes.invariant.count, c.lanes-test.false, c.lanes.auto.lane-end), c.lanes.invariant.order)

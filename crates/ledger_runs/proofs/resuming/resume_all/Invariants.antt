@@ -5,6 +5,7 @@ use Rattle.run_laws.specs.WaveSteps.{ResumedSo}
 use Rattle.ledger_runs.specs.Turning.{phase_at, OfKept, StaysKept}
 use Rattle.ledger_runs.specs.Flying.{FliesOn}
 use Rattle.ledger_runs.specs.Telling.{TellResumed, SamePrepared}
+use Rattle.ledger_runs.specs.Faults.{TookLanes}
 use Rattle.ledger_runs.proofs.resuming.resume_all.Given as goal
 
 abbrev pub invariant-lanes : goal.invariant-lanes
@@ -28,4 +29,5 @@ invariant-lanes g l =
       capacity : (n : ℕ) → g.L.Turns.capacity l.ledger n ≡ g.L.Turns.capacity l.fn.ledger n;
       checked : g.L.Turns.checked l.ledger;
       grows : (n : ℕ) → IsEnd (E n) (J n);
+      order : TookLanes l.lane E J;
     }

@@ -7,14 +7,17 @@ use Rattle.submissions.specs.Checks.{TellsSound}
 use Rattle.ledger_runs.specs.Turning.{OfKept, StaysKept}
 use Rattle.cbdc_model.specs.Lanes.{IsEnd}
 use Rattle.ledger_runs.specs.Faults.{IsRunCause, HaveFailed, MayHold}
-use Rattle.rack_runs.specs.Endings.{EndsRun}
+use Rattle.rack_runs.specs.Endings.{EndsRun, IsCut, IsInOrder}
 use Rattle.rack_runs.proofs.Answering.{came_cause, came_ends, by_entry}
 use Rattle.file_runs.specs.Runs.{joined, HaveBegunFiles, IsFilesPiece, FliesWith}
 use Rattle.ledger_nodes.specs.Ledgers.{journals_of, flights_of, faults_of, opened_of, capacity_of, AreChecked, AreStored, AreQuiet}
 use Rattle.rack_laws.specs.Shown.{LogHasRoom, ShardHasRoom}
 use Rattle.rack_runs.specs.Telling.{CountAll, TellsRun}
 use Rattle.rack_runs.proofs.Resumed.{told_made}
-use Rattle.rack_runs.proofs.Lent.{if_made, on_ok, lent_journals, lent_faults, lent_both, lent_flights, on_ok_by}
+use Rattle.rack_runs.proofs.Lent.{if_made, on_ok, lent_journals, lent_faults, lent_both, lent_flights, lent_opened, on_ok_by}
+use Rattle.cbdc_model.specs.Sights.{HasRisen}
+use Rattle.rack_runs.specs.Kinds.{FliesBroken, ShardFliesBroken}
+use Rattle.rack_runs.proofs.Flown.{all_flown}
 use Rattle.rack_runs.proofs.nodes.run_nodes.Goals as goal
 
 pub returns-clause-counts : goal.returns-clause-counts
@@ -24,7 +27,7 @@ pub returns-clause-log_rooms : goal.returns-clause-log_rooms
 returns-clause-log_rooms g c = subst (λ xs. All (LogHasRoom g.D.Disk.limit) xs) c.as_slice.ensures.value c.see_logs.ensures.rooms
 
 pub returns-clause-shard_rooms : goal.returns-clause-shard_rooms
-returns-clause-shard_rooms g c = subst (λ xs. All (ShardHasRoom g.D.Disk.limit) xs) c.as_slice-2.ensures.value c.see_shards.ensures
+returns-clause-shard_rooms g c = subst (λ xs. All (ShardHasRoom g.D.Disk.limit) xs) c.as_slice-2.ensures.value c.see_shards.ensures.rooms
 
 pub returns-clause-shape : goal.returns-clause-shape
 returns-clause-shape g c =
@@ -187,3 +190,40 @@ returns-clause-begun g c =
     c.args.nodes.header.shape c.run_over-over.new.ledger _ back shape
     (subst (λ l. 0 < l.header.shape.batch → HaveBegunFiles l.header.shape verdicts c.args.files.now (journals_of g.D.Disk.count g.D.Disk.limit l.header.shape l.logs l.shards)
     (journals_of g.D.Disk.count g.D.Disk.limit c.run_over-over.new.ledger.header.shape c.run_over-over.new.ledger.logs c.run_over-over.new.ledger.shards)) lent c.run_over-over.ensures.begun)
+
+pub returns-clause-cut : goal.returns-clause-cut
+returns-clause-cut g c =
+    let back : c.run_over-over.new.ledger ≡ record { header = c.header.inside.header; logs = c.header.inside.logs.items; shards = c.header.inside.shards.items } = cc in
+    let lent : c.lend-lent.result ≡ record { header = c.args.nodes.header; logs = c.args.nodes.logs.items; shards = c.args.nodes.shards.items } = c.lend-lent.ensures in
+    let shape : c.run_over-over.new.ledger.header.shape ≡ c.args.nodes.header.shape = c.run_over-over.ensures.shape ∙ ap (λ l. l.header.shape) lent in
+    let verdicts = g.V.Verifier.verdict_of c.args.verifier.now in
+    let K = c.args.nodes.header.shape in
+    let E = journals_of g.D.Disk.count g.D.Disk.limit c.args.nodes.header.shape c.args.nodes.logs.items c.args.nodes.shards.items in
+    lent_journals g.D.Disk.count g.D.Disk.limit (λ L. OfKept K E (λ mint _. (sound : TxOf → Bool) → TellsSound verdicts sound → IsCut K sound c.args.files.now mint E L)) K c.run_over-over.new.ledger _ back shape
+    (subst (λ l. OfKept l.header.shape (journals_of g.D.Disk.count g.D.Disk.limit l.header.shape l.logs l.shards)
+    (λ mint _. (sound : TxOf → Bool) → TellsSound verdicts sound → IsCut l.header.shape sound c.args.files.now mint (journals_of g.D.Disk.count g.D.Disk.limit l.header.shape l.logs l.shards)
+    (journals_of g.D.Disk.count g.D.Disk.limit c.run_over-over.new.ledger.header.shape c.run_over-over.new.ledger.logs c.run_over-over.new.ledger.shards))) lent c.run_over-over.ensures.cut)
+
+pub returns-clause-flown : goal.returns-clause-flown
+returns-clause-flown g c n r there =
+    let back : c.run_over-over.new.ledger ≡ record { header = c.header.inside.header; logs = c.header.inside.logs.items; shards = c.header.inside.shards.items } = cc in
+    let lent : c.lend-lent.result ≡ record { header = c.args.nodes.header; logs = c.args.nodes.logs.items; shards = c.args.nodes.shards.items } = c.lend-lent.ensures in
+    let shape : c.run_over-over.new.ledger.header.shape ≡ c.args.nodes.header.shape = c.run_over-over.ensures.shape ∙ ap (λ l. l.header.shape) lent in
+    let K = c.args.nodes.header.shape in
+    let same = lent_opened g.D.Disk.count g.D.Disk.limit (λ o. o n ≡ opened_of g.D.Disk.count g.D.Disk.limit c.args.nodes.header.shape c.args.nodes.logs.items c.args.nodes.shards.items n) K c.run_over-over.new.ledger _ back shape
+    (subst (λ l. opened_of g.D.Disk.count g.D.Disk.limit c.run_over-over.new.ledger.header.shape c.run_over-over.new.ledger.logs c.run_over-over.new.ledger.shards n
+    ≡ opened_of g.D.Disk.count g.D.Disk.limit l.header.shape l.logs l.shards n) lent (c.run_over-over.ensures.opened_same n)) in
+    subst (λ o. HasRisen o (faults_of g.D.Disk.count g.D.Disk.limit K c.header.inside.logs.items c.header.inside.shards.items n)) same
+    (all_flown g.D.Disk.count g.D.Disk.limit K c.header.inside.logs.items c.header.inside.shards.items
+    (subst (λ xs. All FliesBroken xs) c.as_slice.ensures.value c.see_logs.ensures.flown) (subst (λ xs. All (ShardFliesBroken g.D.Disk.count) xs) c.as_slice-2.ensures.value c.see_shards.ensures.flown) n r there)
+
+pub returns-clause-in_order : goal.returns-clause-in_order
+returns-clause-in_order g c =
+    let back : c.run_over-over.new.ledger ≡ record { header = c.header.inside.header; logs = c.header.inside.logs.items; shards = c.header.inside.shards.items } = cc in
+    let lent : c.lend-lent.result ≡ record { header = c.args.nodes.header; logs = c.args.nodes.logs.items; shards = c.args.nodes.shards.items } = c.lend-lent.ensures in
+    let shape : c.run_over-over.new.ledger.header.shape ≡ c.args.nodes.header.shape = c.run_over-over.ensures.shape ∙ ap (λ l. l.header.shape) lent in
+    let K = c.args.nodes.header.shape in
+    let E = journals_of g.D.Disk.count g.D.Disk.limit c.args.nodes.header.shape c.args.nodes.logs.items c.args.nodes.shards.items in
+    lent_journals g.D.Disk.count g.D.Disk.limit (λ L. IsInOrder K E L) K c.run_over-over.new.ledger _ back shape
+    (subst (λ l. IsInOrder l.header.shape (journals_of g.D.Disk.count g.D.Disk.limit l.header.shape l.logs l.shards)
+    (journals_of g.D.Disk.count g.D.Disk.limit c.run_over-over.new.ledger.header.shape c.run_over-over.new.ledger.logs c.run_over-over.new.ledger.shards)) lent c.run_over-over.ensures.in_order)

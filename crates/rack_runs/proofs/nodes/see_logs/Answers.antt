@@ -4,6 +4,8 @@ use Rattle.cbdc_model.specs.Room.{kept_room}
 use Rattle.cbdc_model.specs.Due.{used_of}
 use Rattle.rack_laws.specs.Shown.{LogHasRoom}
 use Rattle.ledger_nodes.proofs.Steps.{take_whole}
+use Rattle.rack_runs.specs.Kinds.{FliesBroken}
+use Rattle.rack_runs.proofs.Flown.{flies_broken}
 use Rattle.rack_runs.proofs.nodes.see_logs.Goals as goal
 
 pub logs-preserved : goal.logs-preserved
@@ -14,6 +16,8 @@ logs-preserved g c =
       counts = All-more (λ x. x.faults ≡ g.D.Disk.count x.disk) c.args.logs.now c.logs.log-index c.log-item.result c.logs-test.true c.logs.invariant.counts
           (subst (λ x. x.faults ≡ g.D.Disk.count x.disk) c.log-item.is told.count);
       rooms = All-more (LogHasRoom g.D.Disk.limit) c.args.logs.now c.logs.log-index c.log-item.result c.logs-test.true c.logs.invariant.rooms (subst (LogHasRoom g.D.Disk.limit) c.log-item.is room);
+      flown = All-more FliesBroken c.args.logs.now c.logs.log-index c.log-item.result c.logs-test.true c.logs.invariant.flown
+          (subst FliesBroken c.log-item.is (flies_broken c.log-item.result.broken c.log-item.result.flight c.log-item.result.opened c.log-item.result.faults told.landed told.since_broken));
     }
 
 pub returns : goal.returns
@@ -22,4 +26,5 @@ returns g c =
     record {
       counts = All-same (λ x. x.faults ≡ g.D.Disk.count x.disk) c.args.logs.now (take c.logs.log-index c.args.logs.now) whole c.logs.invariant.counts;
       rooms = All-same (LogHasRoom g.D.Disk.limit) c.args.logs.now (take c.logs.log-index c.args.logs.now) whole c.logs.invariant.rooms;
+      flown = All-same FliesBroken c.args.logs.now (take c.logs.log-index c.args.logs.now) whole c.logs.invariant.flown;
     }

@@ -1,7 +1,7 @@
-use Rattle.std.proofs.Common.{inl, inr, length, sym, subst, ◌∙◌}
+use Rattle.std.proofs.Common.{inl, inr, length, refl, sym, subst, ◌∙◌}
 use Rattle.std.proofs.lemmas.Bool.{eqb-true}
 use Rattle.ledger_runs.proofs.Keeping.{same_next}
-use Rattle.rack_runs.proofs.Resumed.{over_cut, over_keeps, flies_cut, flies_over, over_waves, over_none, none_of, over_told, over_told_none}
+use Rattle.rack_runs.proofs.Resumed.{over_cut, over_keeps, flies_cut, flies_over, over_waves, over_none, over_cuts, none_of, some_of, over_told, over_told_none}
 use Rattle.ledger_laws.proofs.Cuts.{end_trans}
 use Rattle.ledger_runs.specs.Faults.{HaveFailed, MayHold}
 use Rattle.file_runs.specs.Endings.{EndsFiles}
@@ -122,3 +122,31 @@ pub returns-in-Err-run_files-clause-begun : goal.returns-in-Err-run_files-clause
 returns-in-Err-run_files-clause-begun g c =
     filed_begun (g.L.Turns.shape c.args.ledger.now) (g.L.Turns.shape c.resume_all.new.ledger) (g.V.Verifier.verdict_of c.args.verifier.now) c.args.files.now
     (g.L.Turns.journals c.args.ledger.now) (g.L.Turns.journals c.resume_all.new.ledger) (g.L.Turns.journals c.run_files.new.ledger) c.resume_all.ensures.shape c.resume_all.ensures.prepares c.run_files.ensures.begun
+
+pub returns-in-Err-clause-cut : goal.returns-in-Err-clause-cut
+returns-in-Err-clause-cut g c mint submissions kept sound tells = inl c.resume_all.ensures.prepares
+
+pub returns-then-is_empty-clause-cut : goal.returns-then-is_empty-clause-cut
+returns-then-is_empty-clause-cut g c mint submissions kept sound tells = inl c.resume_all.ensures.prepares
+
+pub returns-in-Ok-run_files-clause-cut : goal.returns-in-Ok-run_files-clause-cut
+returns-in-Ok-run_files-clause-cut g c =
+    over_cuts (g.L.Turns.shape c.args.ledger.now) (g.L.Turns.shape c.resume_all.new.ledger) (g.V.Verifier.verdict_of c.args.verifier.now) c.args.files.now (g.L.Turns.journals c.args.ledger.now) (g.L.Turns.journals c.resume_all.new.ledger) (g.L.Turns.journals c.run_files.new.ledger)
+    c.resume_all.ensures.shape (some_of (length c.args.files.now) (sym c.is_empty.ensures ∙ c.if-is_empty.false)) c.resume_all.ensures.keeps c.in-Ok.ensures.resumed c.run_files.ensures.cut
+
+pub returns-in-Err-run_files-clause-cut : goal.returns-in-Err-run_files-clause-cut
+returns-in-Err-run_files-clause-cut g c =
+    over_cuts (g.L.Turns.shape c.args.ledger.now) (g.L.Turns.shape c.resume_all.new.ledger) (g.V.Verifier.verdict_of c.args.verifier.now) c.args.files.now (g.L.Turns.journals c.args.ledger.now) (g.L.Turns.journals c.resume_all.new.ledger) (g.L.Turns.journals c.run_files.new.ledger)
+    c.resume_all.ensures.shape (some_of (length c.args.files.now) (sym c.is_empty.ensures ∙ c.if-is_empty.false)) c.resume_all.ensures.keeps c.in-Ok.ensures.resumed c.run_files.ensures.cut
+
+pub returns-in-Err-clause-in_order : goal.returns-in-Err-clause-in_order
+returns-in-Err-clause-in_order g c = (g.L.Turns.journals c.resume_all.new.ledger, c.resume_all.ensures.order, inl (λ n. refl))
+
+pub returns-then-is_empty-clause-in_order : goal.returns-then-is_empty-clause-in_order
+returns-then-is_empty-clause-in_order g c = (g.L.Turns.journals c.resume_all.new.ledger, c.resume_all.ensures.order, inl (λ n. refl))
+
+pub returns-in-Ok-run_files-clause-in_order : goal.returns-in-Ok-run_files-clause-in_order
+returns-in-Ok-run_files-clause-in_order g c = (g.L.Turns.journals c.resume_all.new.ledger, c.resume_all.ensures.order, inr (c.in-Ok.ensures.idle, c.run_files.ensures.grows))
+
+pub returns-in-Err-run_files-clause-in_order : goal.returns-in-Err-run_files-clause-in_order
+returns-in-Err-run_files-clause-in_order g c = (g.L.Turns.journals c.resume_all.new.ledger, c.resume_all.ensures.order, inr (c.in-Ok.ensures.idle, c.run_files.ensures.grows))

@@ -29,7 +29,7 @@ loop-unfinished-preserved g c =
       log_nodes = nodes_on (g.L.LogPort.sights c.args.ports.now.log) (g.L.LogPort.sights c.loop-unfinished.ports.log) (g.L.LogPort.sights c.resume_lane.new.ports.log) c.loop-unfinished.invariant.log_nodes c.in-Ok-resume_lane.ensures.log_nodes;
       log_holds = λ h. told.log_holds (inv.log_holds h);
       shard_holds = λ h. told.shard_holds (inv.shard_holds h);
-      open_rest = open_rest _ _ _ _ _ _ c.args.lanes.now i c.unfinished-item.result c.loop-unfinished-test.true c.unfinished-item.is inv.rise inv.open_rest told.header told.others;
+      open_rest = open_rest _ _ _ _ _ _ c.args.lanes.now i c.unfinished-item.result c.loop-unfinished-test.true c.unfinished-item.is inv.rise inv.open_rest told.header (λ more. told.others (sym c.requires.same ∙ c.requires.alone more));
       stand = stand_rest c.args.shape.now g.S.PortSet.alone (g.L.LogPort.sights c.loop-unfinished.ports.log (g.L.LogPort.at c.loop-unfinished.ports.log)) (g.L.LogPort.sights c.resume_lane.new.ports.log (g.L.LogPort.at c.resume_lane.new.ports.log)) (g.S.PortSet.sights c.loop-unfinished.ports.shards) (g.S.PortSet.sights c.resume_lane.new.ports.shards) c.args.lanes.now i c.unfinished-item.result c.requires.alone c.loop-unfinished-test.true c.unfinished-item.is inv.rise
           (home_there c.args.shape.now c.unfinished-item.result (g.L.LogPort.sights c.loop-unfinished.ports.log (g.L.LogPort.at c.loop-unfinished.ports.log)) (g.S.PortSet.sights c.loop-unfinished.ports.shards) c.unfinished-item.result.phase here)
           (still_shape (g.L.LogPort.sights c.loop-unfinished.ports.log) (g.L.LogPort.sights c.resume_lane.new.ports.log) (g.L.LogPort.at c.loop-unfinished.ports.log) (g.L.LogPort.at c.resume_lane.new.ports.log) told.at_same told.log_nodes)
@@ -44,8 +44,8 @@ loop-unfinished-preserved g c =
           (g.L.LogPort.sights c.args.ports.now.log (g.L.LogPort.at c.args.ports.now.log)) (g.L.LogPort.sights c.loop-unfinished.ports.log (g.L.LogPort.at c.loop-unfinished.ports.log)) (g.L.LogPort.sights c.resume_lane.new.ports.log (g.L.LogPort.at c.resume_lane.new.ports.log))
           (g.S.PortSet.sights c.args.ports.now.shards) (g.S.PortSet.sights c.loop-unfinished.ports.shards) (g.S.PortSet.sights c.resume_lane.new.ports.shards)
           inv.taken (record { taken = told.taken here; resumed = told.resumed; outcomes = told.outcomes here }));
-      over = over_more c.args.lanes.now i c.unfinished-item.result c.loop-unfinished-test.true c.unfinished-item.is _ _ _ _ _ _ told.header told.others told.idle inv.rise inv.open_rest inv.over;
-      others = unlisted_more c.args.lanes.now i c.unfinished-item.result c.loop-unfinished-test.true c.unfinished-item.is _ _ _ _ _ _ _ _ inv.header inv.others told.others;
+      over = over_more c.args.lanes.now i c.unfinished-item.result c.loop-unfinished-test.true c.unfinished-item.is _ _ _ _ _ _ told.header (λ more. told.others (sym c.requires.same ∙ c.requires.alone more)) told.idle inv.rise inv.open_rest inv.over;
+      others = λ quiet. unlisted_more c.args.lanes.now i c.unfinished-item.result c.loop-unfinished-test.true c.unfinished-item.is _ _ _ _ _ _ _ _ inv.header (inv.others quiet) (told.others quiet);
       len = c.push_reserved.ensures.len ∙ ap (λ n. n + 1) inv.len;
       room = c.push_reserved.ensures.capacity ∙ inv.room;
     }
@@ -107,4 +107,4 @@ returns-in-Err-resume_lane-clause-left g c =
 
 pub returns-in-Err-resume_lane-clause-others : goal.returns-in-Err-resume_lane-clause-others
 returns-in-Err-resume_lane-clause-others g c =
-    unlisted_more c.args.lanes.now c.loop-unfinished.unfinished-index c.unfinished-item.result c.loop-unfinished-test.true c.unfinished-item.is _ _ _ _ _ _ _ _ c.loop-unfinished.invariant.header c.loop-unfinished.invariant.others c.in-Err-resume_lane.ensures.others
+    λ quiet. unlisted_more c.args.lanes.now c.loop-unfinished.unfinished-index c.unfinished-item.result c.loop-unfinished-test.true c.unfinished-item.is _ _ _ _ _ _ _ _ c.loop-unfinished.invariant.header (c.loop-unfinished.invariant.others quiet) (c.in-Err-resume_lane.ensures.others quiet)

@@ -1,4 +1,4 @@
-use Rattle.std.proofs.Common.{◌≡◌, ◌≢◌, ◌≤◌, ℕ, length, take, drop}
+use Rattle.std.proofs.Common.{◌≡◌, ◌≢◌, ◌≤◌, ℕ, true, length, take, drop}
 use Rattle.std.specs.List.{All}
 use Rattle.std.specs.Vec.{vec_capacity, vec_len}
 use Rattle.lane_driver.specs.Told.{KeepNodes}
@@ -26,7 +26,7 @@ invariant-loop-unfinished g l = record {
   taken : AreTakenUp l.shape g.L.LogPort.alone (take l.unfinished-index l.lanes) l.batches.items (g.L.LogPort.sights l.initial.ports.log (g.L.LogPort.at l.initial.ports.log)) (g.S.PortSet.sights l.initial.ports.shards)
       (g.L.LogPort.sights l.ports.log (g.L.LogPort.at l.ports.log)) (g.S.PortSet.sights l.ports.shards);
   over : All (IsOver (g.L.LogPort.header l.ports.log) (g.L.LogPort.phase l.ports.log) (drop l.unfinished-index l.lanes)) (take l.unfinished-index l.lanes);
-  others : KeepsUnlisted (g.L.LogPort.header l.initial.ports.log) l.lanes (g.L.LogPort.phase l.initial.ports.log) (g.L.LogPort.phase l.ports.log) (g.L.LogPort.open_txs l.initial.ports.log) (g.L.LogPort.open_txs l.ports.log);
+  others : g.L.LogPort.alone ≡ true → KeepsUnlisted (g.L.LogPort.header l.initial.ports.log) l.lanes (g.L.LogPort.phase l.initial.ports.log) (g.L.LogPort.phase l.ports.log) (g.L.LogPort.open_txs l.initial.ports.log) (g.L.LogPort.open_txs l.ports.log);
   len : vec_len l.batches ≡ l.unfinished-index;
   room : vec_capacity l.batches ≡ length l.lanes;
 }

@@ -8,7 +8,7 @@ use Rattle.coord_log.specs.Logs.{sight}
 use Rattle.std.specs.Vec.{vec_capacity}
 use Rattle.lane_laws.specs.Answers.{DecideAnswer}
 use Rattle.lane_driver.specs.Told.{IsLane, AreReplies}
-use Rattle.lane_driver.specs.Causes.{IsLogCause}
+use Rattle.lane_driver.specs.Causes.{IsDecideCause}
 use Rattle.node_ports.specs.Nodes.{KeepsRest, IsLogHeld}
 use Rattle.node_ports.proofs.Places.{inside, old_is, turned, set_elsewhere, turned_nodes, turned_faults, turned_held}
 use Rattle.node_ports.proofs.logs.NodeLogsLogPort.decide.Goals as goal
@@ -39,7 +39,7 @@ returns-clause-told g c =
 
 pub returns-clause-fault : goal.returns-clause-fault
 returns-clause-fault g c =
-    turned sight c.args.self.now.logs.items c.args.self.now.at c.index_mut.result.now c.decide_at-answer.new.log (inside sight c.args.self.now.logs.items c.args.self.now.at c.args.lane c.requires.home.0) c.index_mut.ensures.value (λ a b. IfErr c.decide_at-answer.result (λ f. IsLogCause f b)) c.decide_at-answer.ensures.fault
+    turned sight c.args.self.now.logs.items c.args.self.now.at c.index_mut.result.now c.decide_at-answer.new.log (inside sight c.args.self.now.logs.items c.args.self.now.at c.args.lane c.requires.home.0) c.index_mut.ensures.value (λ a b. IfErr c.decide_at-answer.result (λ f. IsDecideCause f b)) c.decide_at-answer.ensures.fault
 
 pub returns-clause-phase : goal.returns-clause-phase
 returns-clause-phase g c =
@@ -55,7 +55,7 @@ returns-clause-written g c =
 
 pub returns-clause-others : goal.returns-clause-others
 returns-clause-others g c =
-    turned sight c.args.self.now.logs.items c.args.self.now.at c.index_mut.result.now c.decide_at-answer.new.log (inside sight c.args.self.now.logs.items c.args.self.now.at c.args.lane c.requires.home.0) c.index_mut.ensures.value (λ a b. KeepsRest a b c.args.lane) c.decide_at-answer.ensures.others
+    λ quiet. turned sight c.args.self.now.logs.items c.args.self.now.at c.index_mut.result.now c.decide_at-answer.new.log (inside sight c.args.self.now.logs.items c.args.self.now.at c.args.lane c.requires.home.0) c.index_mut.ensures.value (λ a b. KeepsRest a b c.args.lane) c.decide_at-answer.ensures.others
 
 pub returns-clause-header : goal.returns-clause-header
 returns-clause-header g c =

@@ -31,7 +31,7 @@ returns-clause-phase g c =
 
 pub returns-clause-others : goal.returns-clause-others
 returns-clause-others g c =
-    turned sight c.args.self.now.logs.items c.args.self.now.at c.index_mut.result.now c.discard_at-answer.new.log (inside sight c.args.self.now.logs.items c.args.self.now.at c.args.lane c.requires.home.0) c.index_mut.ensures.value (λ a b. KeepsRest a b c.args.lane) c.discard_at-answer.ensures.others
+    λ quiet. turned sight c.args.self.now.logs.items c.args.self.now.at c.index_mut.result.now c.discard_at-answer.new.log (inside sight c.args.self.now.logs.items c.args.self.now.at c.args.lane c.requires.home.0) c.index_mut.ensures.value (λ a b. KeepsRest a b c.args.lane) c.discard_at-answer.ensures.others
 
 pub returns-clause-header : goal.returns-clause-header
 returns-clause-header g c =

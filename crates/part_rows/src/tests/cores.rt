@@ -2,21 +2,15 @@
 ghost use Rattle.std.specs.Prelude.{◌≤◌, ◌<◌, ◌^◌, ℕ, IsTrue};
 ghost use Rattle.coord_core.specs.Decided.{RisesBelow, AllEarlier};
 
-use super::ledgers::{LANE, header, tx};
-use cbdc_types::{
-    BatchId, CompactTx, LaneId, List, Outcome, Record, Replies, Reply, ShardReplies, Stamp,
-};
+use super::making::{BATCH, LANE, header, one};
+use cbdc_types::{CompactTx, LaneId, List, Outcome, Record, Replies, Reply, ShardReplies, Stamp};
 use coord_core::{CoordCore, LanePhase, copied_txs};
+use std::alloc::AllocError;
 use std::test::Fail;
-
-const BATCH: BatchId = BatchId {
-    lane: LANE,
-    number: 1,
-};
 
 // The lanes of a coordinator without a batch.
 fn started(rt: &HostRuntime) -> Result<CoordCore, Fail> {
-    let header = header(0, 16)?;
+    let header = header()?;
     if header.node.0 < header.shape.coordinators() {
         Ok(CoordCore::new(rt.alloc(), &header)?)
     } else {
@@ -46,16 +40,21 @@ fn prepared(core: &mut CoordCore, txs: &[CompactTx]) -> Result<Record, Fail> {
     }
 }
 
-// One shard's reply at a stamp: it holds the batch's only transaction.
-fn held(rt: &HostRuntime, stamp: Stamp) -> Result<Replies, Fail> {
+// A shard's reply: it holds the batch's only transaction.
+fn reply(rt: &HostRuntime, stamp: Stamp) -> Result<ShardReplies, AllocError> {
     let mut replies = List::new(rt.alloc());
     replies.push(Reply::Held)?;
-    let mut all = List::new(rt.alloc());
-    all.push(ShardReplies {
+    Ok(ShardReplies {
         shard: 0,
         replies,
         stamp,
-    })?;
+    })
+}
+
+// One shard's reply at a stamp.
+fn held(rt: &HostRuntime, stamp: Stamp) -> Result<Replies, AllocError> {
+    let mut all = List::new(rt.alloc());
+    all.push(reply(rt, stamp)?)?;
     Ok(all)
 }
 
@@ -108,21 +107,27 @@ fn done(core: &mut CoordCore, cause: Stamp) -> Result<Record, Fail> {
     }
 }
 
-// The lane's phase, the bytes kept for its later records, and how many these are.
-fn stands_at(core: &CoordCore) -> Option<(LanePhase, u64, usize)> {
+// Whether the lane stands so, with so many bytes kept for its later records, and so many of these.
+fn stands(core: &CoordCore, phase: LanePhase, kept: u64, ahead: usize) -> bool {
     if core.owns(LANE) {
-        Some((core.phase(LANE), core.kept_room(), core.records_ahead()))
+        core.phase(LANE) == phase && core.kept_room() == kept && core.records_ahead() == ahead
     } else {
-        None
+        false
     }
 }
 
-// The stamps of a Commit by these replies and of a record with this cause.
-fn stamps(core: &CoordCore, replies: &Replies, cause: Stamp) -> Option<(Stamp, Stamp)> {
+// Whether these are the stamps of a Commit by these replies and of a record with this cause.
+fn are_stamps(
+    core: &CoordCore,
+    replies: &Replies,
+    cause: Stamp,
+    commit: Stamp,
+    later: Stamp,
+) -> bool {
     if are_of_the_first(replies.as_slice()) && cause.0 < 1 << 63 {
-        Some((core.commit_stamp(replies), core.after(cause)))
+        core.commit_stamp(replies) == commit && core.after(cause) == later
     } else {
-        None
+        false
     }
 }
 
@@ -141,55 +146,80 @@ fn done_at(stamp: u64) -> Record {
     }
 }
 
-// The lanes behind a Prepare of one transaction, which is the next record.
-fn with_prepare(rt: &HostRuntime) -> Result<CoordCore, Fail> {
-    let mut txs = Vec::new(rt.alloc());
-    txs.push(tx(rt, 9, 1, &[2, 3])?)?;
-    let mut core = started(rt)?;
+// Whether a record is next.
+fn is_next(core: &mut CoordCore, next: Record) -> Result<bool, AllocError> {
+    core.admit(&next)
+}
+
+// Asks for the Discard and takes it in, and tells whether it has this stamp; and the Done.
+fn discard(core: &mut CoordCore, cause: Stamp, stamp: u64) -> Result<bool, Fail> {
+    let next = discarded(core, cause)?;
+    take_in(core, &next)?;
+    Ok(next == discard_at(stamp))
+}
+
+fn end(core: &mut CoordCore, cause: Stamp, stamp: u64) -> Result<bool, Fail> {
+    let next = done(core, cause)?;
+    take_in(core, &next)?;
+    Ok(next == done_at(stamp))
+}
+
+// Begins a batch of these transactions: the Prepare is the next record.
+fn begin(rt: &HostRuntime, core: &mut CoordCore, txs: &[CompactTx]) -> Result<(), Fail> {
     let prepare = Record::Prepare {
         stamp: Stamp(1),
         batch: BATCH,
-        txs: copied_txs(rt.alloc(), &txs)?,
+        txs: copied_txs(rt.alloc(), txs)?,
     };
-    if prepared(&mut core, &txs)? != prepare {
+    if prepared(core, txs)? != prepare {
         return Err("another Prepare".into());
     }
-    take_in(&mut core, &prepare)?;
+    take_in(core, &prepare)
+}
+
+// The lanes behind a Prepare of one transaction.
+fn with_prepare(rt: &HostRuntime) -> Result<CoordCore, Fail> {
+    let txs = one(rt)?;
+    let mut core = started(rt)?;
+    begin(rt, &mut core, &txs)?;
     Ok(core)
+}
+
+// The Commit of the batch, whose transaction is Held.
+fn commit_of_held(rt: &HostRuntime) -> Result<Record, AllocError> {
+    let mut outcomes = List::new(rt.alloc());
+    outcomes.push(Outcome::Held)?;
+    Ok(Record::Commit {
+        stamp: Stamp(3),
+        batch: BATCH,
+        outcomes,
+    })
 }
 
 // Decides the batch by one shard's reply: the Commit is the next record.
 fn commit(rt: &HostRuntime, core: &mut CoordCore) -> Result<(), Fail> {
     let replies = held(rt, Stamp(2))?;
-    let mut outcomes = List::new(rt.alloc());
-    outcomes.push(Outcome::Held)?;
-    let commit = Record::Commit {
-        stamp: Stamp(3),
-        batch: BATCH,
-        outcomes,
-    };
-    if committed(core, &replies)? != commit {
+    let next = committed(core, &replies)?;
+    if next != commit_of_held(rt)? {
         return Err("another Commit".into());
     }
-    take_in(core, &commit)
+    take_in(core, &next)
 }
 
 /// A new coordinator's lanes are idle; a Prepare begins the first batch, and room for its later records is kept.
 #[test]
 fn a_prepare_begins_a_batch(rt: HostRuntime) -> Result<(), Fail> {
     let rt = &rt;
+    let header = header()?;
     let fresh = started(rt)?;
-    assert_eq!(rt; fresh.header(), &header(0, 16)?);
+    assert!(rt; *fresh.header() == header);
     assert!(rt; fresh.owns(LANE) && !fresh.owns(LaneId(1)));
-    assert_eq!(rt; stands_at(&fresh), Some((LanePhase::Idle(0), 0, 0)));
+    assert!(rt; stands(&fresh, LanePhase::Idle(0), 0, 0));
     let core = with_prepare(rt)?;
-    assert_eq!(rt; stands_at(&core), Some((LanePhase::Prepared(1), 167, 3)));
-    assert_eq!(rt; core.phase(LaneId(1)), LanePhase::Idle(0));
+    assert!(rt; stands(&core, LanePhase::Prepared(1), 167, 3));
+    assert!(rt; core.phase(LaneId(1)) == LanePhase::Idle(0));
     let replies = held(rt, Stamp(2))?;
-    assert_eq!(rt;
-        stamps(&core, &replies, Stamp(6)),
-        Some((Stamp(3), Stamp(7)))
-    );
+    assert!(rt; are_stamps(&core, &replies, Stamp(6), Stamp(3), Stamp(7)));
     Ok(())
 }
 
@@ -199,13 +229,11 @@ fn a_batch_goes_on_to_its_done(rt: HostRuntime) -> Result<(), Fail> {
     let rt = &rt;
     let mut core = with_prepare(rt)?;
     commit(rt, &mut core)?;
-    assert_eq!(rt; stands_at(&core), Some((LanePhase::Committed(1), 68, 2)));
-    assert!(rt; !core.admit(&done_at(5))?);
-    assert!(rt; discarded(&mut core, Stamp(4))? == discard_at(5));
-    take_in(&mut core, &discard_at(5))?;
-    assert_eq!(rt; stands_at(&core), Some((LanePhase::Discarded(1), 34, 1)));
-    assert!(rt; done(&mut core, Stamp(6))? == done_at(7));
-    take_in(&mut core, &done_at(7))?;
-    assert_eq!(rt; stands_at(&core), Some((LanePhase::Idle(1), 0, 0)));
+    assert!(rt; stands(&core, LanePhase::Committed(1), 68, 2));
+    assert!(rt; !is_next(&mut core, done_at(5))?);
+    assert!(rt; discard(&mut core, Stamp(4), 5)?);
+    assert!(rt; stands(&core, LanePhase::Discarded(1), 34, 1));
+    assert!(rt; end(&mut core, Stamp(6), 7)?);
+    assert!(rt; stands(&core, LanePhase::Idle(1), 0, 0));
     Ok(())
 }
