@@ -1,15 +1,15 @@
 -- The ledger that a rack showed, behind a run.
-use Rattle.std.proofs.Common.{◌≡◌, ℕ, ◌+◌, ◌-◌, ◌<◌, ◌≤◌, inl, inr, List, [], ◌++◌, length, reverse, Bool, Option, Some, None, refl, sym, ap, ◌∙◌, subst, arith}
+use Rattle.std.proofs.Common.{◌≡◌, ◌⊎◌, ◌∷◌, ℕ, ◌+◌, ◌-◌, ◌<◌, ◌≤◌, inl, inr, List, [], ◌++◌, length, reverse, Bool, Option, Some, None, refl, sym, ap, ◌∙◌, subst, arith}
 use Rattle.std.proofs.lemmas.Bool.{cases_lt}
 use Rattle.std.proofs.lemmas.List.{append-nil}
 use Rattle.cbdc_types.specs.Limits.{IsWithinLimits}
 use Rattle.cbdc_model.specs.Records.{Shape, Header, Record}
 use Rattle.cbdc_model.specs.Coins.{Output, FullTx, genesis_id}
 use Rattle.cbdc_model.specs.Clean.{Clean, IsProperCompact}
-use Rattle.cbdc_model.specs.History.{minted}
+use Rattle.cbdc_model.specs.History.{minted, header_of}
 use Rattle.cbdc_model.specs.Lanes.{IsEnd}
 use Rattle.cbdc_model.specs.World.{KeptJournals, AreIdle}
-use Rattle.cbdc_model.specs.Room.{kept_room}
+use Rattle.cbdc_model.specs.Room.{kept_room, need_of}
 use Rattle.cbdc_model.specs.Due.{used_of}
 use Rattle.caused_ledgers.specs.Caused.{IsCausedLedger}
 use Rattle.cbdc_model.specs.Headline.{Headline}
@@ -17,15 +17,18 @@ use Rattle.cbdc_model.specs.Waves.{IsResumed, Waves}
 use Rattle.ledger_laws.proofs.Cuts.{end_trans}
 use Rattle.ledger_laws.proofs.Ledger.{steady}
 use Rattle.ledger_laws.proofs.Recovery.{idle_law}
+use Rattle.ledger_laws.proofs.FirstJournals.{never_empty}
+use Rattle.run_laws.specs.Flights.{MayCome}
 use Rattle.run_laws.proofs.Rests.{none_beyond}
 use Rattle.record_log.specs.Held.{OpensToEither}
 use Rattle.coord_log.specs.Logs.{LogOf}
 use Rattle.shard_node.specs.Shards.{ShardOf}
 use Rattle.rack_ledgers.specs.Ledgers.{ByPlace, AreOpened}
 use Rattle.rack_nodes.specs.Racked.{OfTold}
-use Rattle.rack_laws.specs.Shown.{Shows, OfShown, KeepsEach, HoldsEach, OpenTo, LogHasRoom, ShardHasRoom, HaveRoom, node_count}
+use Rattle.rack_laws.specs.Shown.{Shows, OfShown, KeepsEach, HoldsEach, OpenTo, LogHasRoom, ShardHasRoom, LogFits, ShardFits, HaveRoom, node_count}
 use Rattle.rack_laws.proofs.Opened.{at_place, same_shape, same_journals, logs_held, shards_held}
-use Rattle.rack_laws.proofs.Behind.{log_journal, shard_journal, are_quiet, none_fly, keeps_each, keeps_flights, holds_each, rooms_each}
+use Rattle.rack_laws.proofs.Behind.{log_journal, shard_journal, are_quiet, none_fly, keeps_each, keeps_flights, holds_each, rooms_each, fits_each}
+use Rattle.rack_laws.proofs.Rooms.{room_behind}
 use Rattle.rack_laws.proofs.Crashed.{crashed}
 use Rattle.ledger_runs.specs.Turning.{OfKept, StaysKept}
 use Rattle.ledger_nodes.specs.Ledgers.{IsLedger, journals_of, flights_of, AreStored, AreQuiet}
@@ -40,18 +43,35 @@ use Rattle.printed_lines.specs.Unspent.{IsUnspentCount}
 use Rattle.rack_runs.specs.declared.over.Ran.{Ran}
 use Rattle.rack_runs.specs.Telling.{CountAll, TellsRun, IsTold}
 use Rattle.rack_runs.proofs.Unspent.{unspent_counted}
-use Rattle.std.specs.Prelude.{map, All}
+use Rattle.std.specs.Prelude.{map, All, IfSome}
 
 -- kept journals have nothing beyond the ledger's nodes
 beyond : (K : Shape) (mint : List Output) (submissions : List FullTx) (E : ℕ → List Record) → KeptJournals K mint submissions E → (n : ℕ) → node_count K ≤ n → E n ≡ []
 beyond K mint submissions E kept n le =
     sym (kept.history.journals_are n) ∙ none_beyond K (minted mint) (IsProperCompact submissions) kept.later (steady K (minted mint) (IsProperCompact submissions) kept.later kept.kept) n le
 
+-- a crash leaves a node's journal, or that with what was in flight there
+abbrev pub LandsOrNot : Shape → List Output → List FullTx → (ℕ → List Record) → (ℕ → Option Record) → ℕ → List Record → Type 0
+LandsOrNot K mint submissions J flights n now = (now ≡ J n) ⊎ ((r : Record) × (now ≡ r ∷ J n) × MayCome K mint submissions J n r × (flights n ≡ Some r))
+
+-- for which there was room, and for what is kept then
+landed_room : (K : Shape) (mint : List Output) (submissions : List FullTx) (J : ℕ → List Record) (flights : ℕ → Option Record) (n : ℕ) (now : List Record) (limit : ℕ) → n < node_count K → KeptJournals K mint submissions J
+    → used_of (J n) + kept_room K (J n) ≤ limit → IfSome (flights n) (λ r. used_of (J n) + need_of K (J n) r ≤ limit) → LandsOrNot K mint submissions J flights n now → used_of now + kept_room K now ≤ limit
+landed_room K mint submissions J flights n now limit inside kept room fits (inl e) = subst (λ L. used_of L + kept_room K L ≤ limit) (sym e) room
+landed_room K mint submissions J flights n now limit inside kept room fits (inr (r, e, may, flies)) =
+    subst (λ L. used_of L + kept_room K L ≤ limit) (sym e)
+    (room_behind (header_of K (minted mint).id n) (J n) r limit (λ none. never_empty K (minted mint) kept.later n inside (kept.history.journals_are n ∙ none)) may.after room
+    (subst (λ o. IfSome o (λ q. used_of (J n) + need_of K (J n) q ≤ limit)) flies fits))
+
 module _ {D : Type 0} (content : D → Option (List ℕ)) (images : D → List ℕ → Type 0) (limit count : D → ℕ) (held back : ℕ → Option D) (h g : Header)
     (logs now : List (LogOf D)) (shards after : List (ShardOf D)) (files : List (List FullTx))
     (are : AreOpened content images limit count held h logs shards) (is : IsLedger g now after) (shape : g.shape ≡ h.shape)
     (logs_back : ByPlace (λ n l. OfTold (back n) (λ d. d ≡ l.disk)) now) (shards_back : ByPlace (λ s x. OfTold (back (length now + s)) (λ d. d ≡ x.disk)) after)
     (stored : AreStored content images logs shards → AreStored content images now after) where
+  -- what is in flight had room, by journals
+  abbrev pub HaveFit : Shape → (ℕ → List Record) → (ℕ → Option Record) → Type 0
+  HaveFit K J F = (n : ℕ) → n < node_count K → OfTold (back n) (λ d. IfSome (F n) (λ r. used_of (J n) + need_of K (J n) r ≤ limit d))
+
   -- what a run says of its journals, by the shape
   abbrev pub KeepsIt : Shape → Type 0
   KeepsIt S = OfKept S (journals_of count limit S logs shards) (λ mint submissions. StaysKept S (journals_of count limit S logs shards) (journals_of count limit S now after) mint (submissions ++ joined files))
@@ -182,19 +202,28 @@ module _ {D : Type 0} (content : D → Option (List ℕ)) (images : D → List �
   pub runs : (verdicts : VerdictsOf) → KeepsIt h.shape → OrdersIt h.shape → Ends verdicts h.shape → OfShown content held (IsRun images back verdicts files)
   runs verdicts keeps orders ends K mint submissions E within shows kept = is_run K mint submissions E within shows kept verdicts keeps orders ends
 
-  pub cut_short : KeepsIt h.shape → FliesIt h.shape → All (LogHasRoom limit) now → All (ShardHasRoom limit) after → OfShown content held (IsCutShort images limit back files (journals_of count limit h.shape now after))
-  cut_short keeps flies log_rooms shard_rooms K mint submissions E within shows kept =
+  pub cut_short : KeepsIt h.shape → FliesIt h.shape → All (LogHasRoom limit) now → All (ShardHasRoom limit) after → All (LogFits limit) now → All (ShardFits limit) after → OfShown content held (IsCutShort images limit back files (journals_of count limit h.shape now after))
+  cut_short keeps flies log_rooms shard_rooms log_fits shard_fits K mint submissions E within shows kept =
       let grown = is_grown K mint submissions E within shows kept keeps in
+      let rooms : HaveRoom limit back K (journals_of count limit K now after) = subst (λ k. HaveRoom limit back k (journals_of count limit k now after)) (shape ∙ shape_is K mint submissions E within shows kept)
+      (rooms_each content images limit count back g now after is log_rooms shard_rooms logs_back shards_back) in
+      let fits : HaveFit K (journals_of count limit K now after) (flights_of count limit K now after) = subst (λ k. HaveFit k (journals_of count limit k now after) (flights_of count limit k now after)) (shape ∙ shape_is K mint submissions E within shows kept)
+      (fits_each content images limit count back g now after is log_fits shard_fits logs_back shards_back) in
       subst (λ k. IsCutShort images limit back files (journals_of count limit k now after) K mint submissions E) (sym (shape_is K mint submissions E within shows kept)) (record {
         grown = grown;
         disks = disks_keep K mint submissions E within shows kept;
-        rooms = subst (λ k. HaveRoom limit back k (journals_of count limit k now after)) (shape ∙ shape_is K mint submissions E within shows kept)
-            (rooms_each content images limit count back g now after is log_rooms shard_rooms logs_back shards_back);
+        rooms = rooms;
         crashes = λ contents left.
             let came : (X : ℕ → List Record) × OpenTo back K contents X × ((n : ℕ) → IsEnd (journals_of count limit K now after n) (X n)) × KeptJournals K mint (submissions ++ joined files) X
+            × ((n : ℕ) → LandsOrNot K mint (submissions ++ joined files) (journals_of count limit K now after) (flights_of count limit K now after) n (X n))
             = crashed images back K mint (submissions ++ joined files) (journals_of count limit K now after) (flights_of count limit K now after) (may_come K mint submissions E within shows kept flies)
             (disks_fly K mint submissions E within shows kept) contents left within.some_shard grown.kept in
-            (came.0, came.1, record { grows = λ n. end_trans (E n) (journals_of count limit K now after n) (came.0 n) (grown.grows n) (came.2 n); kept = came.3 });
+            (
+              came.0,
+              came.1,
+              record { grows = λ n. end_trans (E n) (journals_of count limit K now after n) (came.0 n) (grown.grows n) (came.2 n); kept = came.3 },
+              λ n inside d told. landed_room K mint (submissions ++ joined files) (journals_of count limit K now after) (flights_of count limit K now after) n (came.0 n) (limit d) inside grown.kept (rooms n inside d told) (fits n inside d told) (came.4 n),
+            );
       })
 
 -- a run of no files is a recovery

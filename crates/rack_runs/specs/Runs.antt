@@ -50,10 +50,11 @@ pub record IsRecovered {D : Type 0} (images : D → List ℕ → Type 0) (held :
   pub in_order : IsInOrder K E exit
   pub headline : Clean mint submissions → Headline K mint submissions exit
 
--- whatever a crash leaves of the disks opens to journals that have grown from those at entry, and are kept
-abbrev pub SurvivesCrashes : {D : Type 0} → (D → List ℕ → Type 0) → (ℕ → Option D) → Shape → List Output → List FullTx → (ℕ → List Record) → Type 0
-SurvivesCrashes images held K mint submissions E =
-    (contents : ℕ → List ℕ) → AreLeft images held K contents → (X : ℕ → List Record) × OpenTo held K contents X × IsGrown K mint submissions E X
+-- whatever a crash leaves of the disks opens to journals that have grown from those at entry, and are kept, and each disk has room for its journal
+-- and for what is kept for the batches that are open there
+abbrev pub SurvivesCrashes : {D : Type 0} → (D → List ℕ → Type 0) → (D → ℕ) → (ℕ → Option D) → Shape → List Output → List FullTx → (ℕ → List Record) → Type 0
+SurvivesCrashes images limit held K mint submissions E =
+    (contents : ℕ → List ℕ) → AreLeft images held K contents → (X : ℕ → List Record) × OpenTo held K contents X × IsGrown K mint submissions E X × HaveRoom limit held K X
 
 -- a run that a lane's fault cut short: each disk keeps its journal at exit, with one record more or without, and has room for it and for what is kept
 -- for the batches that are open there; and whatever a crash leaves of the disks is kept
@@ -61,7 +62,7 @@ pub record IsCutShort {D : Type 0} (images : D → List ℕ → Type 0) (limit :
   pub grown : IsGrown K mint (submissions ++ joined files) E exit
   pub disks : KeepsEach images held K exit
   pub rooms : HaveRoom limit held K exit
-  pub crashes : SurvivesCrashes images held K mint (submissions ++ joined files) E
+  pub crashes : SurvivesCrashes images limit held K mint (submissions ++ joined files) E
 
 -- the disks that are no nodes of whatever kept ledger the rack showed are as before
 abbrev pub SparesOthers : {D : Type 0} → (D → Option (List ℕ)) → (ℕ → Option D) → (ℕ → Option D) → Type 0

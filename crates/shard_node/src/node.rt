@@ -1,7 +1,7 @@
 // The calls at a shard.
 ghost use Rattle.std.specs.Prelude.{◌≡◌, ◌+◌, ◌≤◌, true, false, None, IfSome, reverse};
 ghost use Rattle.cbdc_model.specs.Due.{used_of, lock_due, finish_due, forget_due};
-ghost use Rattle.cbdc_model.specs.Room.{kept_room};
+ghost use Rattle.cbdc_model.specs.Room.{kept_room, need_of};
 ghost use Rattle.cbdc_model.specs.Sights.{Meets, IsBrokenSince};
 ghost use Rattle.cbdc_model.specs.After.{After, IsJournal};
 ghost use Rattle.cbdc_model.specs.Grammar.{IsShard};
@@ -134,8 +134,10 @@ impl<D: Disk> ShardNode<D> {
         ensures since_opened { self.now.opened ≤ D.count self.now.disk }
         ensures since_broken { IsBrokenSince self.now.opened (D.count self.now.disk) self.now.broken }
 
-        // A record is in flight only where an append has failed since.
+        // A record is in flight exactly where an append has failed since, and it had room.
         ensures landed { self.now.broken ≡ None → self.now.flight ≡ None }
+        ensures unbroken { self.now.flight ≡ None → self.now.broken ≡ None }
+        ensures fits { IfSome self.now.flight (λ r. used_of self.now.journal + need_of self.now.header.shape self.now.journal r ≤ D.limit self.now.disk) }
 
         // What its journal takes, with what is kept for its unfinished batches, lies within the capacity.
         ensures room { used_of self.now.journal + kept_room self.now.header.shape self.now.journal ≤ D.limit self.now.disk }

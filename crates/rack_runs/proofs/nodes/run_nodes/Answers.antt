@@ -11,7 +11,7 @@ use Rattle.rack_runs.specs.Endings.{EndsRun, IsCut, IsInOrder}
 use Rattle.rack_runs.proofs.Answering.{came_cause, came_ends, by_entry}
 use Rattle.file_runs.specs.Runs.{joined, HaveBegunFiles, IsFilesPiece, FliesWith}
 use Rattle.ledger_nodes.specs.Ledgers.{journals_of, flights_of, faults_of, opened_of, capacity_of, AreChecked, AreStored, AreQuiet}
-use Rattle.rack_laws.specs.Shown.{LogHasRoom, ShardHasRoom}
+use Rattle.rack_laws.specs.Shown.{LogHasRoom, ShardHasRoom, LogFits, ShardFits}
 use Rattle.rack_runs.specs.Telling.{CountAll, TellsRun}
 use Rattle.rack_runs.proofs.Resumed.{told_made}
 use Rattle.rack_runs.proofs.Lent.{if_made, on_ok, lent_journals, lent_faults, lent_both, lent_flights, lent_opened, on_ok_by}
@@ -28,6 +28,12 @@ returns-clause-log_rooms g c = subst (λ xs. All (LogHasRoom g.D.Disk.limit) xs)
 
 pub returns-clause-shard_rooms : goal.returns-clause-shard_rooms
 returns-clause-shard_rooms g c = subst (λ xs. All (ShardHasRoom g.D.Disk.limit) xs) c.as_slice-2.ensures.value c.see_shards.ensures.rooms
+
+pub returns-clause-log_fits : goal.returns-clause-log_fits
+returns-clause-log_fits g c = subst (λ xs. All (LogFits g.D.Disk.limit) xs) c.as_slice.ensures.value c.see_logs.ensures.fits
+
+pub returns-clause-shard_fits : goal.returns-clause-shard_fits
+returns-clause-shard_fits g c = subst (λ xs. All (ShardFits g.D.Disk.limit) xs) c.as_slice-2.ensures.value c.see_shards.ensures.fits
 
 pub returns-clause-shape : goal.returns-clause-shape
 returns-clause-shape g c =
