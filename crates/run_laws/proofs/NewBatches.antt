@@ -221,14 +221,14 @@ module _ (K : Shape) (mint : List Output) (submissions others : List FullTx) (I 
     each = λ n newer rest r e h. let (b, is, new) = news.each n newer rest r e h in (b, is, not_true _ (λ stood. true_false _ (was_done b stood) new.1));
   }
     where
+      inside : (lane : ℕ) → lane / K.lanes < K.coordinators → lane < K.coordinators * K.lanes
+      inside lane low = (div-lt_iff_lt-mul {k = K.lanes} {x = lane} {y = K.coordinators} lanes).0 low
+
       was_done : (b : Batch) → has_prepare K I b ≡ true → has_done K I b ≡ true
       was_done b stood =
           subst (λ X. has_prepare K X b ≡ true → has_done K X b ≡ true) (λ i n. kept.history.journals_are n i)
           (done_if_prepared K (minted mint) (IsProperCompact submissions) some kept.later (steady K (minted mint) (IsProperCompact submissions) kept.later kept.kept)
           (λ lane low. ap (λ L. (slot L lane).phase) (kept.history.journals_are (home_of K lane)) ∙ idle lane (inside lane low)) b) stood
-
-      inside : (lane : ℕ) → lane / K.lanes < K.coordinators → lane < K.coordinators * K.lanes
-      inside lane low = (div-lt_iff_lt-mul {k = K.lanes} {x = lane} {y = K.coordinators} lanes).0 low
 
   -- where nothing was prepared they are of batches that were open
   pub open_batches : ((lane : ℕ) → prepared lane (J (home_of K lane)) ≡ prepared lane (I (home_of K lane))) → Adds (λ b. (has_prepare K I b ≡ true) × (has_done K I b ≡ false)) I J

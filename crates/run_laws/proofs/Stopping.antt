@@ -228,8 +228,8 @@ module _ (K : Shape) (m : Minted) (logs shards : ℕ → Sight) (limits : IsWith
   found_at kind n b = subst (λ L. stamp_in (record_of kind L b) ≤ top) (checked.history.journals_are n)
       (found_le K m Any limits.some_shard checked.later (rows_of K m J checked) top (λ n. low K m Any limits.some_shard checked.later (rows_of K m J checked) n) kind n b)
 
-  within : (stamp : ℕ) → stamp ≤ suc top → stamp ≤ 2 ^ 62 + 2 ^ 20
-  within stamp le = let f : late_records K ≤ 33536 = few_enough K limits in omega (arith, le, f)
+  bounded : (stamp : ℕ) → stamp ≤ suc top → stamp ≤ 2 ^ 62 + 2 ^ 20
+  bounded stamp le = let f : late_records K ≤ 33536 = few_enough K limits in omega (arith, le, f)
 
   -- of a coordinator and of a shard
   low_is : (n : ℕ) → n < K.coordinators → nat_lt n K.coordinators ≡ true
@@ -286,7 +286,7 @@ module _ (K : Shape) (m : Minted) (logs shards : ℕ → Sight) (limits : IsWith
     -- at the coordinator, behind causes that the shards have
     at_log : IsAsked K b.lane next J (home_of K b.lane) → (cause : ℕ) (r : Record) → cause ≤ top → IsAnswered false (if_early last_late (next_stamp log.seen cause) (Writes (next_stamp log.seen cause) r)) log f → StopAt (home_of K b.lane)
     at_log asked cause r le h = late K b.lane next J opened faults capacity (home_of K b.lane) (log_node (home_of K b.lane) home) asked log same_log (next_stamp log.seen cause) r
-        (within (next_stamp log.seen cause) (next_within log.seen cause top log_low le)) f h
+        (bounded (next_stamp log.seen cause) (next_within log.seen cause top log_low le)) f h
 
     open_stops : IsOpenFault K b txs log shards node f → StopAt node
     open_stops fault = go fault.call
@@ -321,7 +321,7 @@ module _ (K : Shape) (m : Minted) (logs shards : ℕ → Sight) (limits : IsWith
         at_shard : (s cause : ℕ) (p : Plan ℕ) (r : Record) → is_concerned K txs s ≡ true → IsAsked K b.lane next J (shard_node K s) → cause ≤ top → ((t : ℕ) → p ≡ Append t → t ≡ next_stamp (shards s).seen cause)
             → IsAnswered false (stamp_by p r) (shards s) f → StopAt (shard_node K s)
         at_shard s cause p r c asks le is h = planned_late K b.lane next J opened faults capacity (shard_node K s) (shard_there s (below K txs s c)) asks (shards s) (same_shard s) p r
-            (λ t e. subst (λ x. x ≤ 2 ^ 62 + 2 ^ 20) (sym (is t e)) (within (next_stamp (shards s).seen cause) (next_within (shards s).seen cause top (shard_low s) le))) f never h
+            (λ t e. subst (λ x. x ≤ 2 ^ 62 + 2 ^ 20) (sym (is t e)) (bounded (next_stamp (shards s).seen cause) (next_within (shards s).seen cause top (shard_low s) le))) f never h
 
         go : IsCallFault K b txs log shards node f → StopAt node
         go (to_lock s t is c phase stands have h) =
