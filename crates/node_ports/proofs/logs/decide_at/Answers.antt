@@ -51,7 +51,7 @@ returns-clause-others g c =
 
 pub returns-clause-node : goal.returns-clause-node
 returns-clause-node g c =
-    still_decided false c.args.log.now.broken (λ r. commit_due c.args.log.now.header.shape c.args.replies.now r None c.args.log.now.journal) (sight c.args.log.now) (sight c.decide.new.self) c.decide.result c.decide.ensures.node c.decide.ensures.fault c.decide.ensures.whole c.header-header.ensures.landed c.header-header.ensures.unbroken
+    still_decided false c.args.log.now.broken (λ r. commit_due c.args.log.now.header.shape c.args.replies.now r None c.args.log.now.journal) (sight c.args.log.now) (sight c.decide.new.self) c.decide.result c.decide.ensures.node c.decide.ensures.fault c.decide.ensures.whole c.header-header.ensures.landed
 
 pub returns-clause-later : goal.returns-clause-later
 returns-clause-later g c =

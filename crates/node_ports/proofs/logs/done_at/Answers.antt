@@ -27,7 +27,7 @@ returns-clause-others g c =
 
 pub returns-clause-node : goal.returns-clause-node
 returns-clause-node g c =
-    still_node false c.args.log.now.broken (done_due c.args.lane c.args.cause None c.args.log.now.journal) (sight c.args.log.now) (sight c.done.new.self) c.done.result c.done.ensures.meets c.header-header.ensures.landed c.header-header.ensures.unbroken
+    still_node false c.args.log.now.broken (done_due c.args.lane c.args.cause None c.args.log.now.journal) (sight c.args.log.now) (sight c.done.new.self) c.done.result c.done.ensures.meets c.header-header.ensures.landed
 
 pub returns-clause-later : goal.returns-clause-later
 returns-clause-later g c =

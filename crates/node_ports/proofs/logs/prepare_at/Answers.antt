@@ -46,7 +46,7 @@ returns-clause-others g c =
 
 pub returns-clause-node : goal.returns-clause-node
 returns-clause-node g c =
-    still_node true c.args.log.now.broken (prepare_due c.args.log.now.header.shape c.args.log.now.capacity c.args.lane c.args.txs.now None c.args.log.now.journal) (sight c.args.log.now) (sight c.prepare.new.self) c.prepare.result c.prepare.ensures.meets c.header-header.ensures.landed c.header-header.ensures.unbroken
+    still_node true c.args.log.now.broken (prepare_due c.args.log.now.header.shape c.args.log.now.capacity c.args.lane c.args.txs.now None c.args.log.now.journal) (sight c.args.log.now) (sight c.prepare.new.self) c.prepare.result c.prepare.ensures.meets c.header-header.ensures.landed
 
 pub returns-clause-later : goal.returns-clause-later
 returns-clause-later g c =

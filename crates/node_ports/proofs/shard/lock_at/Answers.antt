@@ -16,7 +16,7 @@ returns-clause-told g c =
 
 pub returns-clause-node : goal.returns-clause-node
 returns-clause-node g c =
-    still_node true c.args.node.now.broken (lock_due c.args.node.now.header.shape (g.D.Disk.limit c.args.node.now.disk) c.args.call.now None c.args.node.now.journal) (sight_of g.D.Disk.count g.D.Disk.limit c.args.node.now) (sight_of g.D.Disk.count g.D.Disk.limit c.lock.new.self) c.lock.result c.lock.ensures.meets c.header-header.ensures.landed c.header-header.ensures.unbroken
+    still_node true c.args.node.now.broken (lock_due c.args.node.now.header.shape (g.D.Disk.limit c.args.node.now.disk) c.args.call.now None c.args.node.now.journal) (sight_of g.D.Disk.count g.D.Disk.limit c.args.node.now) (sight_of g.D.Disk.count g.D.Disk.limit c.lock.new.self) c.lock.result c.lock.ensures.meets c.header-header.ensures.landed
 
 pub returns-clause-later : goal.returns-clause-later
 returns-clause-later g c =
