@@ -41,7 +41,7 @@ use Rattle.rack_laws.specs.Shown.{OfShown, HaveRoom, node_count}
 use Rattle.rack_laws.proofs.Behind.{keeps_flights, told_stored, may_hold, have_risen}
 use Rattle.rack_runs.specs.Kinds.{answer_at, answer_to, IsLaneAnswer}
 use Rattle.rack_runs.specs.Endings.{EndsRun, IsCut, IsInOrder, IsLeastAnswer}
-use Rattle.rack_runs.specs.Runs.{AddsOpen, IsCutWaves, IsCutShort, KeepsFlights, IsLaneFault, NonePrepared, NothingNext, PieceNext, PiecesPrepared, SparesOthers}
+use Rattle.rack_runs.specs.Runs.{AddsOpen, IsCutWaves, IsCutShort, KeepsFlights, IsLaneFault, NonePrepared, NothingNext, PieceNext, PiecesPrepared, SparesOthers, TookLedger}
 use Rattle.rack_runs.specs.declared.over.Over.{Over}
 use Rattle.rack_runs.specs.declared.over.Ran.{Ran}
 use Rattle.rack_runs.proofs.Checking.{same_journals}
@@ -265,6 +265,20 @@ module _ {D : Type 0} (content : D → Option (List ℕ)) (images : D → List �
   may : (n c : ℕ) → n < node_count h.shape → MayHold (capacity_of count limit h.shape logs shards) n c → Holds n c
   may n c inside is_so = may_hold content images limit count held h logs shards are n c inside is_so
 
+  -- what was taken
+  pub took : HaveRoom limit held h.shape (journals_of count limit h.shape logs shards) → SparesOthers content held back → TookLedger content limit held back
+  took room spared = record {
+    ledger = record {
+      shape = h.shape;
+      genesis = h.genesis;
+      rows = caused.rows;
+      history = told_history content images limit count held h logs shards are caused.rows caused.merged;
+      caused = caused.caused;
+    };
+    room = subst (λ L. HaveRoom limit held h.shape L) entry room;
+    spared = spared;
+  }
+
   pub lane_fault : (verdicts : VerdictsOf) (files : List (List FullTx))
       → (0 < h.shape.batch → HaveBegunFiles h.shape verdicts files (journals_of count limit h.shape logs shards) (journals_of count limit h.shape now after))
       → ((n : ℕ) → IsEnd (journals_of count limit h.shape logs shards n) (journals_of count limit h.shape now after n)) → (a : Answer)
@@ -277,7 +291,7 @@ module _ {D : Type 0} (content : D → Option (List ℕ)) (images : D → List �
       (λ mint _. (sound : FullTx → Bool) → TellsSound verdicts sound → IsCut h.shape sound files mint (journals_of count limit h.shape logs shards) (journals_of count limit h.shape now after))
       → IsInOrder h.shape (journals_of count limit h.shape logs shards) (journals_of count limit h.shape now after)
       → ((n : ℕ) (r : Record) → flights_of count limit h.shape now after n ≡ Some r → HaveFailed (opened_of count limit h.shape logs shards) (faults_of count limit h.shape now after) n)
-      → OfShown content held (λ K mint submissions E. HaveRoom limit held K E) → OfShown content held (IsCutShort images limit back files (journals_of count limit h.shape now after)) → SparesOthers content held back
+      → HaveRoom limit held h.shape (journals_of count limit h.shape logs shards) → OfShown content held (IsCutShort images limit back files (journals_of count limit h.shape now after)) → SparesOthers content held back
       → IsLaneFault content images limit held back before behind (PieceNext verdicts files) (EndsRun verdicts files) (PiecesPrepared verdicts files) files a
   lane_fault verdicts files begun grows a cause least keeps cut orders flown room kept spared = record {
     ledger = record {
@@ -306,7 +320,7 @@ module _ {D : Type 0} (content : D → Option (List ℕ)) (images : D → List �
     least = subst (λ L. IsLeastAnswer (EndsRun verdicts files h.shape L (journals_of count limit h.shape now after) Rises Holds) a) entry
         (answer_by h.shape (HaveFailed (opened_of count limit h.shape logs shards) (faults_of count limit h.shape now after)) Rises (MayHold (capacity_of count limit h.shape logs shards)) Holds risen may verdicts files
         (journals_of count limit h.shape logs shards) (journals_of count limit h.shape now after) a least);
-    room = room;
+    room = subst (λ L. HaveRoom limit held h.shape L) entry room;
     kept = kept;
     spared = spared;
   }
