@@ -18,6 +18,7 @@ use Rattle.rack_nodes.specs.Racked.{OfTold}
 use Rattle.caused_ledgers.specs.Caused.{IsCausedLedger}
 use Rattle.caused_ledgers.specs.Laws.{AllTell}
 use Rattle.ledger_runs.specs.Turning.{IsLaneOf, OfKept}
+use Rattle.ledger_runs.specs.Faults.{AllRestSince}
 use Rattle.ledger_runs.specs.Pieces.{HasPrepared}
 use Rattle.file_runs.specs.Runs.{joined, HaveBegunFiles, IsFilesPiece}
 use Rattle.file_runs.specs.Endings.{HasBegunFirst}
@@ -84,7 +85,8 @@ KeepsFlights images held K X flights = (n : ℕ) → n < node_count K → OfTold
 -- a lane's fault ended a run over the ledger that the disks told, in which each record was caused: its journals have grown at their ends, as a run that
 -- began so far grows them; a record is in flight only at a node whose disk has failed since, and where the disks told all each keeps its journal, with
 -- what is in flight there or without; the answer has its cause, by the counts of
--- faults before and now and by what the disks that were told may hold; it is the least lane's that met one; each disk of the ledger
+-- faults before and now and by what the disks that were told may hold; it is the least lane's that met one; each lane is between
+-- batches, or its batch lacks a Lock, or the disk of a node that it asks has failed, or it has prepared nothing, so that its batch was open before; each disk of the ledger
 -- had room for its journal and for what is kept for the batches that were open there; where the ledger was kept it is cut short, and the disks that are no nodes of it are as before
 pub record IsLaneFault {D : Type 0} (content : D → Option (List ℕ)) (images : D → List ℕ → Type 0) (limit : D → ℕ) (held back : ℕ → Option D) (before now : ℕ → ℕ) (next : Shape → (ℕ → List Record) → (ℕ → List Record) → ℕ → List Compact → Type 0)
     (ends : Shape → (ℕ → List Record) → (ℕ → List Record) → (ℕ → Type 0) → (ℕ → ℕ → Type 0) → LaneFault → Type 0) (begun : Shape → (ℕ → List Record) → (ℕ → List Record) → Type 0) (files : List (List FullTx)) (answer : Answer) : Type 0 where
@@ -97,6 +99,7 @@ pub record IsLaneFault {D : Type 0} (content : D → Option (List ℕ)) (images 
   pub disks : AllTell content held ledger.shape → KeepsFlights images back ledger.shape exit flights
   pub cause : IsLaneAnswer ledger.shape (next ledger.shape (λ n. journal n (reverse ledger.rows)) exit) (λ n. journal n (reverse ledger.rows)) exit (λ n. Rose (before n) (now n)) (λ n c. OfTold (held n) (λ d. c ≡ limit d)) answer
   pub least : IsLeastAnswer (ends ledger.shape (λ n. journal n (reverse ledger.rows)) exit (λ n. Rose (before n) (now n)) (λ n c. OfTold (held n) (λ d. c ≡ limit d))) answer
+  pub rests : AllRestSince ledger.shape (λ n. journal n (reverse ledger.rows)) exit (λ n. Rose (before n) (now n))
   pub room : HaveRoom limit held ledger.shape (λ n. journal n (reverse ledger.rows))
   pub kept : OfShown content held (IsCutShort images limit back files exit)
   pub spared : SparesOthers content held back

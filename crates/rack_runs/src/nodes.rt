@@ -8,7 +8,7 @@ ghost use Rattle.cbdc_model.specs.Waves.{IsResumed, Waves};
 ghost use Rattle.input_files.specs.Limits.{IsShort};
 ghost use Rattle.submissions.specs.Checks.{TellsSound};
 ghost use Rattle.ledger_runs.specs.Turning.{OfKept, StaysKept};
-ghost use Rattle.ledger_runs.specs.Faults.{HaveFailed, MayHold};
+ghost use Rattle.ledger_runs.specs.Faults.{HaveFailed, MayHold, AllRestSince};
 ghost use Rattle.file_runs.specs.Runs.{joined, HaveBegunFiles, IsFilesPiece, FliesWith};
 ghost use Rattle.rack_runs.specs.Endings.{EndsRun, IsCut, IsInOrder, IsLeastAnswer};
 ghost use Rattle.ledger_nodes.specs.Ledgers.{IsLedger, journals_of, flights_of, faults_of, opened_of, capacity_of, AreChecked, AreStored, AreQuiet};
@@ -153,6 +153,12 @@ pub(crate) fn run_nodes<W: Wait, D: Disk, V: Verifier, G: Gate>(
     // Only where the disk has failed since its node was opened.
     ensures flown { (n : ℕ) (r : Record) → flights_of D.count D.limit nodes.header.shape result.nodes.logs.items result.nodes.shards.items n ≡ Some r
         → HaveFailed (opened_of D.count D.limit nodes.header.shape nodes.logs.items nodes.shards.items) (faults_of D.count D.limit nodes.header.shape result.nodes.logs.items result.nodes.shards.items) n }
+
+    // Each lane is between batches, or its batch lacks a Lock, or the disk of a node that it asks has failed; or it has prepared nothing, so that
+    // its batch was open before.
+    ensures rests { AllRestSince nodes.header.shape (journals_of D.count D.limit nodes.header.shape nodes.logs.items nodes.shards.items)
+        (journals_of D.count D.limit nodes.header.shape result.nodes.logs.items result.nodes.shards.items)
+        (HaveFailed (opened_of D.count D.limit nodes.header.shape nodes.logs.items nodes.shards.items) (faults_of D.count D.limit nodes.header.shape result.nodes.logs.items result.nodes.shards.items)) }
 
     // What a fault answers has its cause.
     ensures fault { IfErr result.came (IsLaneAnswer nodes.header.shape (IsFilesPiece nodes.header.shape (V.verdict_of verifier.now) files.now

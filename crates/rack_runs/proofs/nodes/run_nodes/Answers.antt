@@ -6,7 +6,7 @@ use Rattle.cbdc_model.specs.Waves.{IsResumed, Waves}
 use Rattle.submissions.specs.Checks.{TellsSound}
 use Rattle.ledger_runs.specs.Turning.{OfKept, StaysKept}
 use Rattle.cbdc_model.specs.Lanes.{IsEnd}
-use Rattle.ledger_runs.specs.Faults.{IsRunCause, HaveFailed, MayHold}
+use Rattle.ledger_runs.specs.Faults.{IsRunCause, HaveFailed, MayHold, AllRestSince}
 use Rattle.rack_runs.specs.Endings.{EndsRun, IsCut, IsInOrder}
 use Rattle.rack_runs.proofs.Answering.{came_cause, came_ends, by_entry}
 use Rattle.file_runs.specs.Runs.{joined, HaveBegunFiles, IsFilesPiece, FliesWith}
@@ -233,3 +233,13 @@ returns-clause-in_order g c =
     lent_journals g.D.Disk.count g.D.Disk.limit (λ L. IsInOrder K E L) K c.run_over-over.new.ledger _ back shape
     (subst (λ l. IsInOrder l.header.shape (journals_of g.D.Disk.count g.D.Disk.limit l.header.shape l.logs l.shards)
     (journals_of g.D.Disk.count g.D.Disk.limit c.run_over-over.new.ledger.header.shape c.run_over-over.new.ledger.logs c.run_over-over.new.ledger.shards)) lent c.run_over-over.ensures.in_order)
+
+pub returns-clause-rests : goal.returns-clause-rests
+returns-clause-rests g c =
+    let back : c.run_over-over.new.ledger ≡ record { header = c.header.inside.header; logs = c.header.inside.logs.items; shards = c.header.inside.shards.items } = cc in
+    let lent : c.lend-lent.result ≡ record { header = c.args.nodes.header; logs = c.args.nodes.logs.items; shards = c.args.nodes.shards.items } = c.lend-lent.ensures in
+    let shape : c.run_over-over.new.ledger.header.shape ≡ c.args.nodes.header.shape = c.run_over-over.ensures.shape ∙ ap (λ l. l.header.shape) lent in
+    let entry = by_entry (λ o h. AllRestSince c.lend-lent.result.header.shape (journals_of g.D.Disk.count g.D.Disk.limit c.lend-lent.result.header.shape c.lend-lent.result.logs c.lend-lent.result.shards) (journals_of g.D.Disk.count g.D.Disk.limit c.run_over-over.new.ledger.header.shape c.run_over-over.new.ledger.logs c.run_over-over.new.ledger.shards) (HaveFailed o (faults_of g.D.Disk.count g.D.Disk.limit c.run_over-over.new.ledger.header.shape c.run_over-over.new.ledger.logs c.run_over-over.new.ledger.shards))) (opened_of g.D.Disk.count g.D.Disk.limit c.lend-lent.result.header.shape c.lend-lent.result.logs c.lend-lent.result.shards) (opened_of g.D.Disk.count g.D.Disk.limit c.run_over-over.new.ledger.header.shape c.run_over-over.new.ledger.logs c.run_over-over.new.ledger.shards) (capacity_of g.D.Disk.count g.D.Disk.limit c.lend-lent.result.header.shape c.lend-lent.result.logs c.lend-lent.result.shards) (capacity_of g.D.Disk.count g.D.Disk.limit c.run_over-over.new.ledger.header.shape c.run_over-over.new.ledger.logs c.run_over-over.new.ledger.shards)
+    c.run_over-over.ensures.opened_same c.run_over-over.ensures.capacity_same c.run_over-over.ensures.rests in
+    let own = subst (λ l. AllRestSince l.header.shape (journals_of g.D.Disk.count g.D.Disk.limit l.header.shape l.logs l.shards) (journals_of g.D.Disk.count g.D.Disk.limit c.run_over-over.new.ledger.header.shape c.run_over-over.new.ledger.logs c.run_over-over.new.ledger.shards) (HaveFailed (opened_of g.D.Disk.count g.D.Disk.limit l.header.shape l.logs l.shards) (faults_of g.D.Disk.count g.D.Disk.limit c.run_over-over.new.ledger.header.shape c.run_over-over.new.ledger.logs c.run_over-over.new.ledger.shards))) lent entry in
+    lent_both g.D.Disk.count g.D.Disk.limit (λ X F. AllRestSince c.args.nodes.header.shape (journals_of g.D.Disk.count g.D.Disk.limit c.args.nodes.header.shape c.args.nodes.logs.items c.args.nodes.shards.items) X (HaveFailed (opened_of g.D.Disk.count g.D.Disk.limit c.args.nodes.header.shape c.args.nodes.logs.items c.args.nodes.shards.items) F)) c.args.nodes.header.shape c.run_over-over.new.ledger _ back shape own

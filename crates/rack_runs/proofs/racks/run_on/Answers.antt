@@ -80,7 +80,7 @@ returns-clause-stopped g c =
     (lane_fault g.R.Disk.Disk.content g.R.Disk.Disk.images g.R.Disk.Disk.limit g.R.Disk.Disk.count (g.R.Rack.held c.args.rack.now) (g.R.Rack.held c.close_nodes.new.rack) c.in-Ok.nodes.header
     c.run_nodes-nodes.result.nodes.header c.in-Ok.nodes.logs.items c.run_nodes-nodes.result.nodes.logs.items c.in-Ok.nodes.shards.items c.run_nodes-nodes.result.nodes.shards.items c.in-Ok.ensures.opened c.in-Ok.ensures.caused
     ran.ledger ran.shape c.close_nodes.ensures.closed_logs c.close_nodes.ensures.closed_shards ran.stored ran.counts (g.R.Rack.count c.args.rack.now) (g.R.Rack.count c.close_nodes.new.rack)
-    c.in-Ok.ensures.logs_since c.in-Ok.ensures.shards_since c.close_nodes.ensures.counted_logs c.close_nodes.ensures.counted_shards (g.V.Verifier.verdict_of c.args.verifier.now) c.args.files.now ran.begun ran.grows e came.0 came.1 ran.keeps ran.cut ran.in_order ran.flown
+    c.in-Ok.ensures.logs_since c.in-Ok.ensures.shards_since c.close_nodes.ensures.counted_logs c.close_nodes.ensures.counted_shards (g.V.Verifier.verdict_of c.args.verifier.now) c.args.files.now ran.begun ran.grows e came.0 came.1 ran.keeps ran.cut ran.in_order ran.flown ran.rests
     (opened_room g.R.Disk.Disk.content g.R.Disk.Disk.images g.R.Disk.Disk.limit g.R.Disk.Disk.count (g.R.Rack.held c.args.rack.now) (g.R.Rack.held c.close_nodes.new.rack) c.in-Ok.nodes.header c.run_nodes-nodes.result.nodes.header
     c.in-Ok.nodes.logs.items c.run_nodes-nodes.result.nodes.logs.items c.in-Ok.nodes.shards.items c.run_nodes-nodes.result.nodes.shards.items c.args.files.now c.in-Ok.ensures.opened ran.ledger ran.shape
     c.close_nodes.ensures.closed_logs c.close_nodes.ensures.closed_shards ran.stored)
