@@ -135,7 +135,7 @@ pub recovery_none : {D : Type 0} (content : D → Option (List ℕ)) (images : D
     → (sound : FullTx → Bool) → Ample K sound (λ n. limit_at limit (held n)) [] E → (a : Answer) → IsLaneFault content images limit held back before now NothingNext IsLeastOpen NonePrepared [] a → a ≡ answers.Memory
 recovery_none content images limit held back before now K mint submissions E ready steady sound ample a fault =
     fault_none content images limit held back before now K mint submissions E ready steady sound [] ample NothingNext IsLeastOpen NonePrepared
-    (λ X. ((λ lane txs lt nothing. absurd nothing), (λ none lane lt. ([], record { done = []; cut = refl; prepares = none lane lt })))) a fault
+    (λ X. ((λ lane txs lt nothing. absurd nothing), (λ none lane lt. ([], record { done = []; cut = refl; prepares = none.0 lane lt })))) a fault
 
 -- of a run
 pub run_none : {D : Type 0} (content : D → Option (List ℕ)) (images : D → List ℕ → Type 0) (limit : D → ℕ) (held back : ℕ → Option D) (before now : ℕ → ℕ)
@@ -155,6 +155,6 @@ run_none content images limit held back before now K mint submissions E ready st
             },
           ))),
       (λ begun lane lt.
-          (let (done, more, are, has) = begun lane lt (sound_by verdicts) (is_sound_law verdicts) in
+          (let (done, more, are, has) = begun.0 lane lt (sound_by verdicts) (is_sound_law verdicts) in
           (more, record { done = done; cut = are_cut K (sound_by verdicts) files lane (done ++ more) are; prepares = has }))),
     )) a fault
