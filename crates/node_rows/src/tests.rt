@@ -1,0 +1,5 @@
+mod cores;
+mod locks;
+mod logs;
+mod nodes;
+mod tables;
