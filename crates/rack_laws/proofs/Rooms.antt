@@ -58,15 +58,30 @@ room_behind h J (Start header) limit some after room need = absurd (some after.1
 room_behind h J (Lock stamp b es) limit some after room need =
     omega (arith, moved h J (Lock stamp b es ∷ J) b.lane (λ l apart. past_lock J stamp b es l apart) after.0.1.0, room_idle J b.lane after.1.1, locked_room J stamp b es, need, sum_by-cons size_of (Lock stamp b es) J)
 room_behind h J (Finish stamp b ds) limit some after room need =
-    omega (arith, moved h J (Finish stamp b ds ∷ J) b.lane (λ l apart. past_finish J stamp b ds l apart) after.0.1.0, room_locked J b after.1.1 after.1.2, finished_room J stamp b ds,
-    fits_length (lock_of J b) ds after.1.3, room, sum_by-cons size_of (Finish stamp b ds) J)
+    omega (
+      arith,
+      moved h J (Finish stamp b ds ∷ J) b.lane (λ l apart. past_finish J stamp b ds l apart) after.0.1.0,
+      room_locked J b after.1.1 after.1.2,
+      finished_room J stamp b ds,
+      fits_length (lock_of J b) ds after.1.3,
+      room,
+      sum_by-cons size_of (Finish stamp b ds) J,
+    )
 room_behind h J (Forget stamp b) limit some after room need =
     omega (arith, moved h J (Forget stamp b ∷ J) b.lane (λ l apart. past_forget J stamp b l apart) after.0.1.0, room_finished J b.lane after.1.1, forgotten_room J stamp b, room, sum_by-cons size_of (Forget stamp b) J)
 room_behind h J (Prepare stamp b txs) limit some after room need =
     omega (arith, moved h J (Prepare stamp b txs ∷ J) b.lane (λ l apart. past_prepare J stamp b txs l apart) after.0.1.0, room_idle J b.lane after.1.2, prepared_room J stamp b txs, need, sum_by-cons size_of (Prepare stamp b txs) J)
 room_behind h J (Commit stamp b os) limit some after room need =
-    omega (arith, moved h J (Commit stamp b os ∷ J) b.lane (λ l apart. past_commit J stamp b os l apart) after.0.1.0, room_prepared J b after.1.2 after.1.3, committed_room J stamp b os,
-    after.1.4, commit_size os, room, sum_by-cons size_of (Commit stamp b os) J)
+    omega (
+      arith,
+      moved h J (Commit stamp b os ∷ J) b.lane (λ l apart. past_commit J stamp b os l apart) after.0.1.0,
+      room_prepared J b after.1.2 after.1.3,
+      committed_room J stamp b os,
+      after.1.4,
+      commit_size os,
+      room,
+      sum_by-cons size_of (Commit stamp b os) J,
+    )
 room_behind h J (Discard stamp b) limit some after room need =
     omega (arith, moved h J (Discard stamp b ∷ J) b.lane (λ l apart. past_discard J stamp b l apart) after.0.1.0, room_committed J b.lane after.1.2, discarded_room J stamp b, room, sum_by-cons size_of (Discard stamp b) J)
 room_behind h J (Done stamp b) limit some after room need =

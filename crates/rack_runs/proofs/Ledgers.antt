@@ -210,8 +210,7 @@ module _ {D : Type 0} (content : D → Option (List ℕ)) (images : D → List �
             let came : (X : ℕ → List Record) × OpenTo back K contents X × ((n : ℕ) → IsEnd (journals_of count limit K now after n) (X n)) × KeptJournals K mint (submissions ++ joined files) X
             × ((n : ℕ) → LandsOrNot K mint (submissions ++ joined files) (journals_of count limit K now after) (flights_of count limit K now after) n (X n))
             = crashed images back K mint (submissions ++ joined files) (journals_of count limit K now after) (flights_of count limit K now after) (may_come K mint submissions E within shows kept flies)
-            (disks_fly K mint submissions E within shows kept) contents left within.some_shard grown.kept in
-            (
+            (disks_fly K mint submissions E within shows kept) contents left within.some_shard grown.kept in (
               came.0,
               came.1,
               record { grows = λ n. end_trans (E n) (journals_of count limit K now after n) (came.0 n) (grown.grows n) (came.2 n); kept = came.3 },

@@ -244,13 +244,13 @@ module _ (K : Shape) (lane : ℕ) (logs shards logs' shards' : ℕ → Sight) (l
     -- with a new batch, of which a shard that it concerns has nothing, it lacks a Lock
     lacks_lock : (b : Batch) → b.lane ≡ lane → (slot log.seen lane).number < b.number → (node : ℕ) (f : NodeFault) → f ≡ Memory → IsOpenFault K b txs log' shards' node f
         → (s : ℕ) → is_concerned K txs s ≡ true → own lane (shards' s).seen ≡ own lane (shards s).seen → LacksLock K lane J
-    lacks_lock b is above node f memory open s concerned same = record {
+    lacks_lock b is above node f memory asked s concerned same = record {
       batch = b;
       of_lane = is;
-      stamp = open.stamp;
+      stamp = asked.stamp;
       txs = txs;
-      phase = ap (λ L. (slot L lane).phase) (seen_log K logs' shards' (home_of K lane) home) ∙ subst (λ l. (slot log'.seen l).phase ≡ InPrepare) is (in_prepare K b txs log' shards' node f memory open.call);
-      prepare = ap (λ L. record_of 6 L b) (seen_log K logs' shards' (home_of K lane) home) ∙ open.prepare;
+      phase = ap (λ L. (slot L lane).phase) (seen_log K logs' shards' (home_of K lane) home) ∙ subst (λ l. (slot log'.seen l).phase ≡ InPrepare) is (in_prepare K b txs log' shards' node f memory asked.call);
+      prepare = ap (λ L. record_of 6 L b) (seen_log K logs' shards' (home_of K lane) home) ∙ asked.prepare;
       shard = s;
       concerned = concerned;
       lacks =
