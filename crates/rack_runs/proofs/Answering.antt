@@ -227,7 +227,7 @@ module _ (K : Shape) (failed fails : ℕ → Type 0) (holds held : ℕ → ℕ �
     where
       go : RestsSince K lane E X failed → RestsSince K lane E X fails
       go (inl (inl before)) = inl (inl before)
-      go (inl (inr (node, no))) = inl (inr (node, record { inside = no.inside; asked = no.asked; did = failed_on node no.inside no.did }))
+      go (inl (inr (node, failure))) = inl (inr (node, record { inside = failure.inside; asked = failure.asked; did = failed_on node failure.inside failure.did }))
       go (inr none) = inr none
 
   pub answer_by : (verdicts : VerdictsOf) (files : List (List FullTx)) (E X : ℕ → List Record) (a : Answer) → IsLeastAnswer (EndsRun verdicts files K E X failed holds) a → IsLeastAnswer (EndsRun verdicts files K E X fails held) a
