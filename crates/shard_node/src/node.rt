@@ -54,7 +54,8 @@ impl<D: Disk> ShardNode<D> {
         ShardNode { alloc, parts }
     }
 
-    /// Locks a part for a batch, or answers as before. What is needed for the batch's later records is taken here.
+    /// Locks a part for a batch, answers as before, or refuses and changes nothing. What is needed for the batch's later
+    /// records is taken here.
     pub fn lock(&mut self, call: &LockCall) -> Result<Replied, NodeFault>
         requires { IsLockCall self.old.header call.now }
         ensures meets { Meets true (lock_due self.old.header.shape (D.limit self.old.disk) call.now self.old.broken self.old.journal)
@@ -71,7 +72,7 @@ impl<D: Disk> ShardNode<D> {
         lock_parts(self.alloc, &mut self.parts, call)
     }
 
-    /// Applies a locked batch, or answers as before. Takes no memory.
+    /// Applies a locked batch, answers as before, or refuses and changes nothing. Takes no memory.
     pub fn finish(&mut self, call: &FinishCall) -> Result<Stamp, NodeFault>
         requires { IsFinishCall self.old.header call.now }
         ensures meets { Meets false (finish_due call.now self.old.broken self.old.journal)
@@ -88,7 +89,7 @@ impl<D: Disk> ShardNode<D> {
         finish_parts(self.alloc, &mut self.parts, call)
     }
 
-    /// Forgets a finished batch, or answers as before. Takes no memory.
+    /// Forgets a finished batch, answers as before, or refuses and changes nothing. Takes no memory.
     pub fn forget(&mut self, call: &ForgetCall) -> Result<Stamp, NodeFault>
         requires { IsForgetCall self.old.header call.now }
         ensures meets { Meets false (forget_due call.now self.old.broken self.old.journal)
