@@ -176,23 +176,23 @@ pub(crate) fn whole_batch(
     rt: &HostRuntime,
     rows: &mut Vec<Row>,
     first: u64,
-    own: BatchId,
+    own: &BatchId,
     txs: &[Tx],
 ) -> Result<(), AllocError> {
     let first = first.min(1000);
-    row(rows, 0, prepare(rt, first, own, txs))?;
-    row(rows, 1, lock(rt, first + 1, own, txs))?;
-    row(rows, 0, commit(rt, first + 2, own, txs))?;
-    row(rows, 1, finish(rt, first + 3, own, txs))?;
+    row(rows, 0, prepare(rt, first, *own, txs))?;
+    row(rows, 1, lock(rt, first + 1, *own, txs))?;
+    row(rows, 0, commit(rt, first + 2, *own, txs))?;
+    row(rows, 1, finish(rt, first + 3, *own, txs))?;
     let discard = Record::Discard {
         stamp: Stamp(first + 4),
-        batch: own,
+        batch: *own,
     };
     row(rows, 0, Ok(discard))?;
-    row(rows, 1, Ok(super::making::forget(first + 5, own)))?;
+    row(rows, 1, Ok(super::making::forget(first + 5, *own)))?;
     let done = Record::Done {
         stamp: Stamp(first + 6),
-        batch: own,
+        batch: *own,
     };
     row(rows, 0, Ok(done))
 }

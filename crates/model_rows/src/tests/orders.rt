@@ -16,16 +16,16 @@ fn not_locked(kept: u64) -> StampPlan {
 }
 
 // Whether a Finish and a Forget of a batch are both told this for this cause, whatever the decisions.
-fn are_both(rt: &HostRuntime, last: Last, number: u64, cause: u64, wanted: StampPlan) -> bool {
-    is_finish(rt, last, number, &[true, false], cause, wanted)
-        && is_finish(rt, last, number, &[], cause, wanted)
-        && is_forget(rt, last, number, cause, wanted)
+fn are_both(rt: &HostRuntime, last: Last, number: u64, cause: u64, wanted: &StampPlan) -> bool {
+    is_finish(rt, last, number, &[true, false], cause, *wanted)
+        && is_finish(rt, last, number, &[], cause, *wanted)
+        && is_forget(rt, last, number, cause, *wanted)
 }
 
 // Whether a Finish and a Forget of a batch that was not locked are both told this number, whatever the cause and the decisions.
 fn are_not_locked(rt: &HostRuntime, last: Last, number: u64, kept: u64) -> bool {
     let wanted = not_locked(kept);
-    are_both(rt, last, number, 0, wanted) && are_both(rt, last, number, 9, wanted)
+    are_both(rt, last, number, 0, &wanted) && are_both(rt, last, number, 9, &wanted)
 }
 
 /// A Finish and a Forget of a number past the lane's are not locked, with the lane's number, before the cause and the decisions are looked at.
@@ -70,7 +70,7 @@ fn named(
 }
 
 // The two entries, at these places and of these ids.
-fn placed(rt: &HostRuntime, places: [u32; 2], ids: [u8; 2]) -> Result<List<Entry>, AllocError> {
+fn placed(rt: &HostRuntime, places: &[u32; 2], ids: &[u8; 2]) -> Result<List<Entry>, AllocError> {
     let mut all = List::new(rt.alloc());
     put(&mut all, named(rt, places[0], ids[0], &[1], &[2]))?;
     put(&mut all, named(rt, places[1], ids[1], &[7], &[3]))?;
@@ -78,26 +78,26 @@ fn placed(rt: &HostRuntime, places: [u32; 2], ids: [u8; 2]) -> Result<List<Entry
 }
 
 // Whether a Lock of these is told this, behind the Lock and behind the Finish.
-fn is_told(rt: &HostRuntime, places: [u32; 2], ids: [u8; 2], wanted: StampPlan) -> bool {
-    is_part(rt, Last::Lock, placed(rt, places, ids), 0, wanted)
-        && is_part(rt, Last::Finish, placed(rt, places, ids), 0, wanted)
+fn is_told(rt: &HostRuntime, places: &[u32; 2], ids: &[u8; 2], wanted: &StampPlan) -> bool {
+    is_part(rt, Last::Lock, placed(rt, places, ids), 0, *wanted)
+        && is_part(rt, Last::Finish, placed(rt, places, ids), 0, *wanted)
 }
 
 /// A Lock of the same number is of another part where a place alone or an id alone differs, at the first entry that does.
 #[test]
 fn another_place_or_another_id(rt: HostRuntime) {
-    assert!(rt; is_told(&rt, [0, 1], [100, 100], kept(2)));
-    assert!(rt; is_told(&rt, [0, 2], [100, 100], other_part(1)));
-    assert!(rt; is_told(&rt, [5, 6], [100, 100], other_part(0)));
-    assert!(rt; is_told(&rt, [0, 1], [100, 101], other_part(1)));
-    assert!(rt; is_told(&rt, [0, 1], [101, 100], other_part(0)));
+    assert!(rt; is_told(&rt, &[0, 1], &[100, 100], &kept(2)));
+    assert!(rt; is_told(&rt, &[0, 2], &[100, 100], &other_part(1)));
+    assert!(rt; is_told(&rt, &[5, 6], &[100, 100], &other_part(0)));
+    assert!(rt; is_told(&rt, &[0, 1], &[100, 101], &other_part(1)));
+    assert!(rt; is_told(&rt, &[0, 1], &[101, 100], &other_part(0)));
 }
 
 // Whether a Lock, also of another part, and a Finish of a forgotten number are stale for this cause, whatever the decisions.
 fn are_stale(rt: &HostRuntime, cause: u64) -> bool {
     let last = Last::Forget;
     is_lock(rt, last, 1, cause, stale(1))
-        && is_part(rt, last, placed(rt, [5, 6], [100, 100]), cause, stale(1))
+        && is_part(rt, last, placed(rt, &[5, 6], &[100, 100]), cause, stale(1))
         && is_finish(rt, last, 1, &[true, true], cause, stale(1))
         && is_finish(rt, last, 1, &[], cause, stale(1))
 }

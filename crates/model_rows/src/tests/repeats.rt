@@ -325,9 +325,8 @@ fn paired(rt: &HostRuntime, spent: &[u8], made: &[u8]) -> Result<List<Entry>, Al
 
 // Whether a Lock of these is told the place where the locked one is another, behind the Lock and behind the Finish, whatever its cause.
 fn is_another(rt: &HostRuntime, spent: &[u8], made: &[u8], at: u64) -> bool {
-    let wanted = other_part(at);
-    is_part(rt, Last::Lock, paired(rt, spent, made), 0, wanted)
-        && is_part(rt, Last::Finish, paired(rt, spent, made), 0, wanted)
+    is_part(rt, Last::Lock, paired(rt, spent, made), 0, other_part(at))
+        && is_part(rt, Last::Finish, paired(rt, spent, made), 0, other_part(at))
 }
 
 #[test]

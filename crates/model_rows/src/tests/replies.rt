@@ -60,10 +60,10 @@ fn three_parts(rt: HostRuntime) -> Result<(), Fail> {
 }
 
 // The journal of a shard that held the hash of ones, which this batch has locked, the newest first.
-fn taken(rt: &HostRuntime, other: BatchId) -> Result<List<Record>, Fail> {
+fn taken(rt: &HostRuntime, other: &BatchId) -> Result<List<Record>, Fail> {
     let shape = Shape::new(1, 1, 2, 16)?;
     let mut all = one(rt, genesis(rt, header(1, shape), &[1])?)?;
-    put(&mut all, lock(rt, 2, other, &[1], &[], Reply::Held))?;
+    put(&mut all, lock(rt, 2, *other, &[1], &[], Reply::Held))?;
     Ok(newest_first(all))
 }
 
@@ -73,7 +73,7 @@ fn a_hash_that_another_batch_holds(rt: HostRuntime) -> Result<(), Fail> {
         lane: LaneId(1),
         number: 5,
     };
-    let own = taken(&rt, other)?;
+    let own = taken(&rt, &other)?;
     let locked = [Reply::Locked(hash(1), other)];
     assert!(rt; are_replies(&rt, own.as_slice(), &part(&rt, &[&[1]]), &locked));
     Ok(())

@@ -11,7 +11,7 @@ fn behind(rt: &HostRuntime, tx: Tx) -> Result<Vec<List<Record>>, Fail> {
     let shape = Shape::new(1, 1, 1, 16)?;
     let txs = [tx];
     let mut rows = opened(rt, shape, 1)?;
-    whole_batch(rt, &mut rows, 1, batch(1), &txs)?;
+    whole_batch(rt, &mut rows, 1, &batch(1), &txs)?;
     rows.reverse();
     Ok(journals(rt, &shape, rows.as_slice())?)
 }

@@ -12,9 +12,9 @@ use std::test::Fail;
 // The rows of a ledger with one shard that held the hash of ones, behind one batch and maybe another, the oldest first.
 fn ledger(rt: &HostRuntime, first: &[Tx], second: &[Tx]) -> Result<Vec<Row>, Fail> {
     let mut rows = opened(rt, Shape::new(1, 1, 1, 16)?, 1)?;
-    whole_batch(rt, &mut rows, 1, batch(1), first)?;
+    whole_batch(rt, &mut rows, 1, &batch(1), first)?;
     if !second.is_empty() {
-        whole_batch(rt, &mut rows, 8, batch(2), second)?;
+        whole_batch(rt, &mut rows, 8, &batch(2), second)?;
     }
     Ok(rows)
 }
@@ -198,12 +198,12 @@ fn finished(
 #[test]
 fn two_shards_and_an_unknown_input(rt: HostRuntime) -> Result<(), Fail> {
     let shape = Shape::new(2, 1, 1, 16)?;
-    let rejected = Outcome::Missing(1, hash(200));
     let mut rows = locked(&rt, 0, Reply::Missing(hash(200)))?;
-    committed(&rt, &mut rows, 3, rejected)?;
+    committed(&rt, &mut rows, 3, Outcome::Missing(1, hash(200)))?;
     finished(&rt, &mut rows, 1, 4, false)?;
     finished(&rt, &mut rows, 2, 4, false)?;
     rows.reverse();
+    let rejected = Outcome::Missing(1, hash(200));
     assert!(rt; is_outcome(&rt, &shape, rows.as_slice(), 1, 0, rejected));
     assert!(rt; is_right(&rt, &shape, rows.as_slice(), &[1]));
     Ok(())
