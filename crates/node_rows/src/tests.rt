@@ -1,5 +1,4 @@
 mod cores;
-mod locks;
 mod logs;
 mod nodes;
 mod tables;

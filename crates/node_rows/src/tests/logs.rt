@@ -13,6 +13,7 @@ use coord_log::CoordLog;
 use gate_journal::Journal;
 use mem_devices::PlainDisk;
 use record_codec::write_record;
+use std::process::Abort;
 use std::test::Fail;
 
 const LANE: LaneId = LaneId(0);
@@ -239,26 +240,58 @@ fn stands_at(
     Ok(Some(stands))
 }
 
+// The batch is prepared.
+fn prepares(
+    rt: &impl Abort,
+    host: &HostRuntime,
+    log: &mut CoordLog<PlainDisk>,
+) -> Result<(), Fail> {
+    let txs = one_tx(host, &[Hash([2; 32]), Hash([3; 32])])?;
+    assert_eq!(rt; prepared(log, txs.as_slice()), Ok((BATCH, Stamp(1))));
+    Ok(())
+}
+
+// It is committed, and its outcomes are told in place of what was there.
+fn decides(rt: &impl Abort, host: &HostRuntime, log: &mut CoordLog<PlainDisk>) -> Result<(), Fail> {
+    let mut out = Vec::with_capacity(host.alloc(), 1)?;
+    out.push(Outcome::Missing(0, Hash([7; 32])))?;
+    let replies = held(host, Stamp(2))?;
+    assert_eq!(rt; decided(log, &replies, &mut out), Ok(Stamp(3)));
+    assert_eq!(rt; out.as_slice(), [Outcome::Held].as_slice());
+    Ok(())
+}
+
+// So the batch of one transaction stands, and the other lane has none.
+fn stands(
+    rt: &impl Abort,
+    log: &CoordLog<PlainDisk>,
+    phase: Phase,
+    stamp: u64,
+    outcomes: usize,
+) -> Result<(), Fail> {
+    let opened = Some((phase, Stamp(stamp), 1, outcomes));
+    assert_eq!(rt; stands_at(log, LANE)?, opened);
+    assert_eq!(rt; stands_at(log, LaneId(1))?, None);
+    Ok(())
+}
+
 #[test]
 fn a_batch_goes_from_prepare_to_done(rt: HostRuntime) -> Result<(), Fail> {
-    let txs = one_tx(&rt, &[Hash([2; 32]), Hash([3; 32])])?;
-    let mut log = started(&rt, 1000)?;
-    assert_eq!(rt; prepared(&mut log, txs.as_slice()), Ok((BATCH, Stamp(1))));
-    let opened = Some((Phase::Prepared, Stamp(1), 1, 0));
-    assert_eq!(rt; stands_at(&log, LANE)?, opened);
-    assert_eq!(rt; log.phase(LaneId(1)), LanePhase::Idle(0));
-    assert_eq!(rt; stands_at(&log, LaneId(1))?, None);
-    let mut out = Vec::with_capacity(rt.alloc(), 1)?;
-    out.push(Outcome::Missing(0, Hash([7; 32])))?;
-    let replies = held(&rt, Stamp(2))?;
-    assert_eq!(rt; decided(&mut log, &replies, &mut out), Ok(Stamp(3)));
-    assert_eq!(rt; out.as_slice(), [Outcome::Held].as_slice());
-    let opened = Some((Phase::Committed, Stamp(3), 1, 1));
-    assert_eq!(rt; stands_at(&log, LANE)?, opened);
+    let rt = &rt;
+    let mut log = started(rt, 1000)?;
+    prepares(rt, rt, &mut log)?;
+    stands(rt, &log, Phase::Prepared, 1, 0)?;
+    decides(rt, rt, &mut log)?;
+    stands(rt, &log, Phase::Committed, 3, 1)?;
     assert_eq!(rt; discarded(&mut log, Stamp(4)), Ok(Stamp(5)));
-    let opened = Some((Phase::Discarded, Stamp(5), 1, 1));
-    assert_eq!(rt; stands_at(&log, LANE)?, opened);
+    stands(rt, &log, Phase::Discarded, 5, 1)?;
     assert_eq!(rt; done(&mut log, Stamp(6)), Ok(Stamp(7)));
+    is_closed(rt, log)
+}
+
+// No batch is open, and the journal has all records of one.
+fn is_closed(rt: &impl Abort, log: CoordLog<PlainDisk>) -> Result<(), Fail> {
+    assert_eq!(rt; log.phase(LaneId(1)), LanePhase::Idle(0));
     assert_eq!(rt; stands_at(&log, LANE)?, None);
     assert_eq!(rt; log.records().len(), 5);
     let disk = log.into_disk();
@@ -266,19 +299,23 @@ fn a_batch_goes_from_prepare_to_done(rt: HostRuntime) -> Result<(), Fail> {
     Ok(())
 }
 
+// Which fault the first Prepare of a coordinator with so much room meets, and how many records there are then.
+fn first_prepare(rt: &HostRuntime, capacity: usize) -> Result<(Option<NodeFault>, usize), Fail> {
+    let txs = one_tx(rt, &[Hash([2; 32])])?;
+    let mut log = started(rt, capacity)?;
+    let fault = prepared(&mut log, txs.as_slice()).err();
+    Ok((fault, log.records().len()))
+}
+
 #[test]
 fn a_prepare_needs_room_for_its_batch(rt: HostRuntime) -> Result<(), Fail> {
-    let txs = one_tx(&rt, &[Hash([2; 32])])?;
     let full = NodeFault::Full {
         used: 99,
         need: 321,
         capacity: 419,
     };
-    let mut small = started(&rt, 419)?;
-    assert_eq!(rt; prepared(&mut small, txs.as_slice()), Err(full));
-    let mut large = started(&rt, 420)?;
-    assert_eq!(rt; prepared(&mut large, txs.as_slice()), Ok((BATCH, Stamp(1))));
-    assert_eq!(rt; large.records().len(), 2);
+    assert_eq!(rt; first_prepare(&rt, 419)?, (Some(full), 1));
+    assert_eq!(rt; first_prepare(&rt, 420)?, (None, 2));
     Ok(())
 }
 
