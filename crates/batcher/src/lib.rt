@@ -64,6 +64,3 @@ impl Batcher {
         Some(mem::replace(&mut self.waiting, List::new(self.alloc)))
     }
 }
-
-#[cfg(test)]
-mod tests;

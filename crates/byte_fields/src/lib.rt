@@ -4,8 +4,6 @@
 mod fault;
 mod reading;
 mod records;
-#[cfg(test)]
-mod tests;
 mod transactions;
 mod writing;
 

@@ -11,6 +11,3 @@ pub use clients::read_clients;
 pub use fault::{BadFile, FetchFault, FileFault};
 pub use input::fetch;
 pub use mint::read_mint;
-
-#[cfg(test)]
-mod tests;

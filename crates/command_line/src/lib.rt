@@ -4,8 +4,6 @@
 mod command;
 mod places;
 mod request;
-#[cfg(test)]
-mod tests;
 mod values;
 
 pub use request::{FileWord, Request, WordsFault, parse};

@@ -98,9 +98,9 @@ module _ (K : Shape) (verdicts : VerdictsOf) (files : List (List FullTx)) (few :
       let t = all_told sound tells in
       (t.0, (t.1, ap (λ l. l ++ ran_tail ran) t.2 ∙ ap (λ l. files_lines 1 files t.0 ++ l) t.3))
 
-pub prints_run : {D : Type 0} (content : D → Option (List ℕ)) (images : D → List ℕ → Type 0) (before now : ℕ → Option D) (printed : Text → Type 0) (verdicts : VerdictsOf) (files : List (List FullTx)) (ran : Ran) → all_txs files ≤ 1000000
-    → OfShown content before (IsTold images now verdicts files ran) → (IsCountable ran → printed (ran_text ran)) → PrintsRun content images before now printed verdicts files
-prints_run content images before now printed verdicts files ran few shown is K mint submissions E within shows kept =
+pub prints_run : {D : Type 0} (content : D → Option (List ℕ)) (images : D → List ℕ → Type 0) (limit : D → ℕ) (before now : ℕ → Option D) (printed : Text → Type 0) (verdicts : VerdictsOf) (files : List (List FullTx)) (ran : Ran) → all_txs files ≤ 1000000
+    → OfShown content before (IsTold images limit now verdicts files ran) → (IsCountable ran → printed (ran_text ran)) → PrintsRun content images limit before now printed verdicts files
+prints_run content images limit before now printed verdicts files ran few shown is K mint submissions E within shows kept =
     let told = shown K mint submissions E within shows kept in
     let tests = is_sound_law verdicts in
     let more = kept_more K mint submissions (joined files) E kept in
@@ -121,5 +121,5 @@ did_run inbox content images limit before now printed verdicts clients ran was i
   read = was.read;
   verdicts_read = was.verdicts_read;
   caused = was.caused;
-  ran = prints_run content images before now printed (of_file was.known) was.handed ran was.few was.tells is;
+  ran = prints_run content images limit before now printed (of_file was.known) was.handed ran was.few was.tells is;
 }

@@ -92,9 +92,9 @@ module _ {D : Type 0} (content : D → Option (List ℕ)) (images : D → List �
   -- what it leaves
   pub turns_leave : (held new : ℕ → Option D) (before now : ℕ → ℕ) (next : Shape → (ℕ → List Record) → (ℕ → List Record) → ℕ → List Compact → Type 0)
       (ends : Shape → (ℕ → List Record) → (ℕ → List Record) → (ℕ → Type 0) → (ℕ → ℕ → Type 0) → LaneFault → Type 0) (begun : Shape → (ℕ → List Record) → (ℕ → List Record) → Type 0) (handed : List (List FullTx)) (a : Answer) → WhyNoTurns content images limit count held new before now next ends begun handed a
-      → TurnsLeave content images limit held new handed
+      → TurnsLeave content images limit held new before now next ends begun handed a
   turns_leave held new before now next ends begun handed a (inl (why, back)) = inl back
-  turns_leave held new before now next ends begun handed a (inr fault) = inr (record { ledger = fault.ledger; exit = fault.exit; grows = fault.grows; disks = λ tells n inside. (fault.flights n, fault.disks tells n inside); kept = fault.kept; spared = fault.spared })
+  turns_leave held new before now next ends begun handed a (inr fault) = inr fault
 
 -- of these answers a ledger that is not made gives one alone
 too_much_alone : {D : Type 0} (K : Shape) (mint : List Output) (content : D → Option (List ℕ)) (limit : D → ℕ) (held : ℕ → Option D) (before now : ℕ → ℕ) (P : Type 0) (a : Answer)

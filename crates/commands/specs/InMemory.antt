@@ -38,7 +38,7 @@ HaveRoom K mint files rack = Ample K (sound_by all_good) (λ n. limit_at room_of
 
 -- files were run over the ledger that a mint began in memory, and the run tells what it did
 abbrev pub TellsRunOf : Shape → List Output → List (List FullTx) → PlainRack → Ran → Type 0
-TellsRunOf K mint files rack ran = IsTold bytes_left (disk_at rack) all_good files ran K mint [] (first_journals K mint)
+TellsRunOf K mint files rack ran = IsTold bytes_left room_of (disk_at rack) all_good files ran K mint [] (first_journals K mint)
 
 -- the numbers that end the text of a run
 abbrev pub numbers_of : Ran → Text

@@ -55,8 +55,8 @@ pub record DidInit {D : Type 0} (files : Text → Option (List ℕ)) (content : 
 -- which the disks hold now; what they tell of each sound submission is what became of it: it has its one place in one new Prepare, and nothing else has
 -- one, and it is confirmed exactly where every shard held it; and it is confirmed where its inputs were unspent when its file's wave began, and no other
 -- sound submission of the file spends one
-pub record IsPrintedRun {D : Type 0} (images : D → List ℕ → Type 0) (now : ℕ → Option D) (printed : Text → Type 0) (verdicts : VerdictsOf) (handed : List (List FullTx)) (K : Shape) (mint : List Output) (submissions : List FullTx) (E : ℕ → List Record) : Type 0 where
-  pub run : IsRun images now verdicts handed K mint submissions E
+pub record IsPrintedRun {D : Type 0} (images : D → List ℕ → Type 0) (limit : D → ℕ) (now : ℕ → Option D) (printed : Text → Type 0) (verdicts : VerdictsOf) (handed : List (List FullTx)) (K : Shape) (mint : List Output) (submissions : List FullTx) (E : ℕ → List Record) : Type 0 where
+  pub run : IsRun images limit now verdicts handed K mint submissions E
   pub text : Text
   pub lines : IsRunText K verdicts (sound_by verdicts) handed E run.exit text
   pub prints : printed text
@@ -64,8 +64,8 @@ pub record IsPrintedRun {D : Type 0} (images : D → List ℕ → Type 0) (now :
   pub free : AreFreeConfirmed K verdicts handed E run.exit
 
 -- of the kept ledger that the disks told, it was so
-abbrev pub PrintsRun : {D : Type 0} → (D → Option (List ℕ)) → (D → List ℕ → Type 0) → (ℕ → Option D) → (ℕ → Option D) → (Text → Type 0) → VerdictsOf → List (List FullTx) → Type 0
-PrintsRun content images before now printed verdicts handed = OfShown content before (IsPrintedRun images now printed verdicts handed)
+abbrev pub PrintsRun : {D : Type 0} → (D → Option (List ℕ)) → (D → List ℕ → Type 0) → (D → ℕ) → (ℕ → Option D) → (ℕ → Option D) → (Text → Type 0) → VerdictsOf → List (List FullTx) → Type 0
+PrintsRun content images limit before now printed verdicts handed = OfShown content before (IsPrintedRun images limit now printed verdicts handed)
 
 -- the files held these transactions and verdicts, which were run over the ledger that the disks told, in which each record was caused; each disk
 -- holds exactly its journal, and this was printed
@@ -75,24 +75,24 @@ pub record DidRun {D : Type 0} (files : Text → Option (List ℕ)) (content : D
   pub read : AreRead files 0 clients handed
   pub verdicts_read : AreVerdicts (files verdicts.name.now) known
   pub caused : TookLedger content limit before now
-  pub ran : PrintsRun content images before now printed (told known) handed
+  pub ran : PrintsRun content images limit before now printed (told known) handed
 
 -- a recovery of a kept ledger, which was printed: the lines are those of this recovery, from the journals at entry to those at its exit, which the disks
 -- hold now
-pub record IsPrintedRecovery {D : Type 0} (images : D → List ℕ → Type 0) (now : ℕ → Option D) (printed : Text → Type 0) (K : Shape) (mint : List Output) (submissions : List FullTx) (E : ℕ → List Record) : Type 0 where
-  pub recovered : IsRecovered images now K mint submissions E
+pub record IsPrintedRecovery {D : Type 0} (images : D → List ℕ → Type 0) (limit : D → ℕ) (now : ℕ → Option D) (printed : Text → Type 0) (K : Shape) (mint : List Output) (submissions : List FullTx) (E : ℕ → List Record) : Type 0 where
+  pub recovered : IsRecovered images limit now K mint submissions E
   pub text : Text
   pub lines : IsRecoverText K E recovered.exit text
   pub prints : printed text
 
 -- of the kept ledger that the disks told, it was so
-abbrev pub PrintsRecovery : {D : Type 0} → (D → Option (List ℕ)) → (D → List ℕ → Type 0) → (ℕ → Option D) → (ℕ → Option D) → (Text → Type 0) → Type 0
-PrintsRecovery content images before now printed = OfShown content before (IsPrintedRecovery images now printed)
+abbrev pub PrintsRecovery : {D : Type 0} → (D → Option (List ℕ)) → (D → List ℕ → Type 0) → (D → ℕ) → (ℕ → Option D) → (ℕ → Option D) → (Text → Type 0) → Type 0
+PrintsRecovery content images limit before now printed = OfShown content before (IsPrintedRecovery images limit now printed)
 
 -- the disks told a ledger in which each record was caused, and its open batches were brought to their end; each disk holds exactly its journal, and this
 -- was printed
 abbrev pub DidRecover : {D : Type 0} → (D → Option (List ℕ)) → (D → List ℕ → Type 0) → (D → ℕ) → (ℕ → Option D) → (ℕ → Option D) → (Text → Type 0) → Type 0
-DidRecover content images limit before now printed = TookLedger content limit before now × PrintsRecovery content images before now printed
+DidRecover content images limit before now printed = TookLedger content limit before now × PrintsRecovery content images limit before now printed
 
 -- what the disks told opened to journals of all nodes of a ledger, each disk having room for its journal and for what is kept for the batches that are
 -- open there; the disks are back as they were read, and a line was printed for each hash, in order, with its status in the journal of the shard that

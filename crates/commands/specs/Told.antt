@@ -103,4 +103,4 @@ pub record WasRun {D : Type 0} (files : Text → Option (List ℕ)) (content : D
   pub verdicts_read : AreVerdicts (files verdicts.name.now) known
   pub few : all_txs handed ≤ 1000000
   pub caused : TookLedger content limit before now
-  pub tells : OfShown content before (IsTold images now (told known) handed ran)
+  pub tells : OfShown content before (IsTold images limit now (told known) handed ran)

@@ -31,7 +31,7 @@ fn run_all<W: Wait, I: Inbox, R: Rack, G: Gate>(
     ensures why { IfErr result (WhyNoRun (I.file inbox.old) (I.count inbox.old) (I.count inbox.new) R.Disk.content R.Disk.images R.Disk.limit R.Disk.count (R.held rack.old) (R.held rack.new) (R.count rack.old) (R.count rack.new) verdicts.now clients.now) }
     ensures fault { IfErr result (IsFault (λ place. OnePlace clients.now place ⊎ (place ≡ verdicts.now.place)) (λ place. OneRose (I.count inbox.old) (I.count inbox.new) clients.now place ⊎ FileRose (I.count inbox.old) (I.count inbox.new) verdicts.now place)) }
     ensures untouched { IfErr result (λ e. IsBeforeDisks e → rack.new ≡ rack.old) }
-    ensures left { IfErr result (λ _. (rack.new ≡ rack.old) ⊎ RunLeaves (I.file inbox.old) R.Disk.content R.Disk.images R.Disk.limit (R.held rack.old) (R.held rack.new) clients.now) }
+    ensures left { IfErr result (λ e. (rack.new ≡ rack.old) ⊎ RunLeaves (I.file inbox.old) R.Disk.content R.Disk.images R.Disk.limit (R.held rack.old) (R.held rack.new) (R.count rack.old) (R.count rack.new) verdicts.now clients.now e) }
     ensures back { (n : ℕ) → R.can_take rack.new n }
 {
     let files = match all_clients_in(alloc, inbox, clients) {
@@ -65,7 +65,7 @@ pub(crate) fn run<W: Wait, I: Inbox, R: Rack, O: Sink, G: Gate>(
     ensures silent { IsSilent (O.taken out.old) (O.taken out.new) result }
     ensures written_later { O.count out.old ≤ O.count out.new }
     ensures untouched { IsBeforeDisks result → rack.new ≡ rack.old }
-    ensures left { (IsWell result → ⊥) → (rack.new ≡ rack.old) ⊎ RunLeaves (I.file inbox.old) R.Disk.content R.Disk.images R.Disk.limit (R.held rack.old) (R.held rack.new) clients.now }
+    ensures left { (IsWell result → ⊥) → (rack.new ≡ rack.old) ⊎ RunLeaves (I.file inbox.old) R.Disk.content R.Disk.images R.Disk.limit (R.held rack.old) (R.held rack.new) (R.count rack.old) (R.count rack.new) verdicts.now clients.now result }
     ensures back { (n : ℕ) → R.can_take rack.new n }
 {
     let ran = match run_all(rt, alloc, clients, verdicts, inbox, rack, gate) {

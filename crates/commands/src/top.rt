@@ -113,7 +113,7 @@ fn answer_to<W: Wait, I: Inbox, R: Rack, O: Sink, G: Gate>(
     ensures untouched { IsBeforeDisks result → rack.new ≡ rack.old }
     ensures spared { IsOfNoRack request.now → rack.new ≡ rack.old }
     ensures unread { IsOfNoFile request.now → inbox.new ≡ inbox.old }
-    ensures left { (IsWell result → ⊥) → (rack.new ≡ rack.old) ⊎ Leaves (I.file inbox.old) R.Disk.content R.Disk.images R.Disk.limit (R.held rack.old) (R.held rack.new) request.now result }
+    ensures left { (IsWell result → ⊥) → (rack.new ≡ rack.old) ⊎ Leaves (I.file inbox.old) R.Disk.content R.Disk.images R.Disk.limit (R.held rack.old) (R.held rack.new) (R.count rack.old) (R.count rack.new) request.now result }
     ensures silent { IsSilent (O.taken out.old) (O.taken out.new) result }
     ensures written_later { O.count out.old ≤ O.count out.new }
 {
@@ -151,7 +151,7 @@ fn answer_words<'a, W: Wait, I: Inbox, R: Rack, O: Sink, G: Gate>(
     ensures untouched { IsBeforeDisks result.status → rack.new ≡ rack.old }
     ensures spared { (r : Asked) → IsAsked (texts words.entry.now) r → IsOfNoRack r → rack.new ≡ rack.old }
     ensures unread { (r : Asked) → IsAsked (texts words.entry.now) r → IsOfNoFile r → inbox.new ≡ inbox.old }
-    ensures left { (IsWell result.status → ⊥) → (rack.new ≡ rack.old) ⊎ ((r : Asked) × IsAsked (texts words.entry.now) r × Leaves (I.file inbox.old) R.Disk.content R.Disk.images R.Disk.limit (R.held rack.old) (R.held rack.new) r result.status) }
+    ensures left { (IsWell result.status → ⊥) → (rack.new ≡ rack.old) ⊎ ((r : Asked) × IsAsked (texts words.entry.now) r × Leaves (I.file inbox.old) R.Disk.content R.Disk.images R.Disk.limit (R.held rack.old) (R.held rack.new) (R.count rack.old) (R.count rack.new) r result.status) }
     ensures named { Names (AskedName (texts words.entry.now)) result.status result.name.now }
     ensures silent { IsSilent (O.taken out.old) (O.taken out.new) result.status }
     ensures written_later { O.count out.old ≤ O.count out.new }
@@ -217,11 +217,12 @@ pub fn process<W: Wait, I: Inbox, R: Rack, O: Sink, G: Gate>(
 
     // Behind `status` and `audit` all disks are as they were read, whatever was answered.
     // Where a run or a recovery did not come through, whatever the answer, want of memory too, all disks are as they were or as they were
-    // read; or the journals of a kept ledger have grown at their ends and are kept, whatever a crash leaves of the disks.
+    // read, or all is as a lane's fault leaves it: the journals of a kept ledger have grown at their ends, each lane by the first pieces
+    // that it got, and are kept, whatever a crash leaves of the disks.
     // Where a ledger was not made, all disks are as they were or as they were read; or the writing of first records stopped at a node that
     // has no room or whose disk failed: those below it are as they were read, those above it hold their first records, and a crash leaves of
     // its own no first record, or what it might have left before, or, where the disk failed, the new one alone.
-    ensures left { (IsWell result.status → ⊥) → (result.rack ≡ rack) ⊎ ((r : Asked) × IsAsked (texts words.now) r × Leaves (I.file inbox.old) R.Disk.content R.Disk.images R.Disk.limit (R.held rack) (R.held result.rack) r result.status) }
+    ensures left { (IsWell result.status → ⊥) → (result.rack ≡ rack) ⊎ ((r : Asked) × IsAsked (texts words.now) r × Leaves (I.file inbox.old) R.Disk.content R.Disk.images R.Disk.limit (R.held rack) (R.held result.rack) (R.count rack) (R.count result.rack) r result.status) }
 
     // Where nothing hinders what is asked, it was done, unless memory ran out.
     ensures complete { (r : Asked) → IsAsked (texts words.now) r → IsUnhindered (I.file inbox.old) (I.count inbox.old) (I.count inbox.new) R.Disk.content R.Disk.limit (R.held rack) (R.count rack) (R.count result.rack) r

@@ -1,9 +1,6 @@
 //! What coordinators and shards see of a transaction: its id and the hashes of its coins.
 #![tactic(auto)]
 
-#[cfg(test)]
-mod tests;
-
 ghost use Rattle.std.specs.Prelude.{◌≡◌, ◌≤◌, ◌+◌, length, map, take, IfOk};
 ghost use Rattle.cbdc_model.specs.Coins.{compact, coin_hash, made_coins, tx_id as spec_id};
 

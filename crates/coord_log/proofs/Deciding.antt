@@ -111,6 +111,7 @@ decide_ready {D} {G} l b c flight lane stamp os r whole same keeps on sound read
       size = memory_for l (ahead_of c.lanes) (size_of (Commit stamp (core_batch b lane) os)) (next_ahead c lane whole (omega arith)) (omega (arith, commit_size os, size.1, count, on.limits.batch)) memory;
       free = omega (arith, ready.place.space, same.kept);
       fits = omega (arith, ready.place.space, same.kept, next_fits c lane (size_of (Commit stamp (core_batch b lane) os)) whole (omega (arith, kept, commit_size os, next'.2)));
+      needs = omega (arith, ready.used, ready.place.space, same.kept, next_fits c lane (size_of (Commit stamp (core_batch b lane) os)) whole (omega (arith, kept, commit_size os, next'.2)));
       place = λ d takes. commit_place l c d stamp (core_batch b lane) os whole next' takes rooms (omega (arith, ready.place.space, same.kept)) (all_memory l (ahead_of c.lanes) memory);
     })
 

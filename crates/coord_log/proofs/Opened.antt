@@ -89,6 +89,8 @@ opened_sound {D} {G} old l c may ends untouched records header whole is space me
         };
       };
       flying = tt;
+      unbroken = λ e. untouched.broken ∙ whole;
+      fits = tt;
       free = omega (arith, ends, sums, limit, space);
     }
 

@@ -103,6 +103,7 @@ discard_ready {D} {G} l c flight lane stamp r whole on sound ready own phase som
       size = memory_for l (ahead_of c.lanes) 34 (next_ahead c lane whole (omega arith)) (omega arith) ready.place.memory;
       free = omega (arith, ready.place.space);
       fits = omega (arith, ready.place.space, next_fits c lane 34 whole (omega arith));
+      needs = omega (arith, ready.used, ready.place.space, next_fits c lane 34 whole (omega arith));
       place = λ d takes. discard_place l c d stamp (core_batch c lane) whole next' takes (all_others c lane ready.place.rooms) (omega (arith, ready.place.space)) (all_memory l (ahead_of c.lanes) ready.place.memory);
     })
 
@@ -133,6 +134,7 @@ done_ready {D} {G} l c flight lane stamp r whole on sound ready own phase some l
       size = memory_for l (ahead_of c.lanes) 34 (next_ahead c lane whole (omega arith)) (omega arith) ready.place.memory;
       free = omega (arith, ready.place.space);
       fits = omega (arith, ready.place.space, next_fits c lane 34 whole (omega arith));
+      needs = omega (arith, ready.used, ready.place.space, next_fits c lane 34 whole (omega arith));
       place = λ d takes. done_place l c d stamp (core_batch c lane) whole next' takes (all_others c lane ready.place.rooms) (omega (arith, ready.place.space)) (all_memory l (ahead_of c.lanes) ready.place.memory);
     })
 

@@ -59,6 +59,8 @@ sound_kept {D} {G} old new b c opened flight untouched records header keeps same
         };
       });
       flying = rw (header, records) sound.flying;
+      unbroken = λ e. untouched.broken ∙ sound.unbroken e;
+      fits = rw (header, records, limit) sound.fits;
       free = omega (arith, sound.free, used, same.kept, limit);
     }
 
@@ -132,6 +134,8 @@ prepare_ready {D} {G} old l b c flight lane size txs r whole same grown on sound
     let batch_le : length txs ≤ l.header.shape.batch = let Q : Header → Type 0 = λ h. length txs ≤ h.shape.batch in subst Q (on.header ∙ sym header) limit in
     let s : size ≡ size_of (Prepare (c.last + 1) (next_batch c lane) txs) = size-is ∙ ap size_of is in
     let used : used_of (reverse l.records.items) ≡ used_of (reverse old.records.items) = ap (λ x. used_of (reverse x)) records in
+    let there : IsJournal c.header (reverse l.records.items) = let Q : Header → Type 0 = λ h. IsJournal h (reverse l.records.items) in subst Q (sym on'.header) on'.journal in
+    let kept : kept_of c.lanes ≡ kept_room l.header.shape (reverse l.records.items) = kept_is c (reverse l.records.items) whole on'.stands there ∙ ap (λ h. kept_room h.shape (reverse l.records.items)) on'.header in
     let room' : HasRoom l 1 (size_of (Prepare (c.last + 1) (next_batch c lane) txs)) = let Q : ℕ → Type 0 = λ n. HasRoom l 1 n in subst Q s (fewer l (ahead_of c.lanes + 4) 1 size (omega arith) room) in
     subst P (sym is) (record {
       on = on';
@@ -143,6 +147,7 @@ prepare_ready {D} {G} old l b c flight lane size txs r whole same grown on sound
       size = room';
       free = omega (arith, untouched.gate, limits, space);
       fits = omega (arith, untouched.gate, limits, space, s);
+      needs = omega (arith, ready.used, used, limits, space, s, kept);
       place = λ d takes. prepare_place l c d (c.last + 1) (next_batch c lane) txs whole next' takes (rooms_grow b c same grown ready.place.rooms) memory (omega (arith, untouched.gate, limits, space, s));
     })
 

@@ -15,7 +15,7 @@ use Rattle.cbdc_model.specs.Records.{Header, Record}
 use Rattle.cbdc_model.specs.Grammar.{IsInGrammar}
 use Rattle.cbdc_model.specs.After.{After, Follows, IsJournal}
 use Rattle.cbdc_model.specs.Due.{used_of}
-use Rattle.cbdc_model.specs.Room.{size_of}
+use Rattle.cbdc_model.specs.Room.{size_of, need_of}
 use Rattle.cbdc_model.specs.Sights.{HasRisen, IsBrokenSince}
 use Rattle.record_codec.specs.Bodies.{body_of}
 use Rattle.record_log.proofs.Sizes.{size_is}
@@ -93,6 +93,8 @@ sound_after {D} {G} old new c d flight r opened due since later records header g
         };
       };
       flying = let P : Option Record → Type 0 = λ f. IfSome f (After new.header (reverse new.records.items)) in subst P (sym due.none_left) tt;
+      unbroken = λ e. whole;
+      fits = let P : Option Record → Type 0 = λ f. IfSome f (λ q. used_of (reverse new.records.items) + need_of new.header.shape (reverse new.records.items) q ≤ G.limit (disk_of new.journal)) in subst P (sym due.none_left) tt;
       free = omega (arith, u, gate, size, place.space, limit);
     }
 
@@ -117,6 +119,8 @@ sound_broken {D} {G} old new c flight r opened due since rose later records head
       broken = subst B (sym broken) (risen, omega arith);
       ready = λ e. cc;
       flying = let P : Header → List Record → Type 0 = λ h x. After h x r in rw (header, records) after;
+      unbroken = λ e. absurd (let z : Some r ≡ None = e in cc);
+      fits = rw (header, records, limit) due.needs;
       free = omega (arith, ap (λ x. used_of (reverse x)) records, due.used, due.free, limit);
     }
 

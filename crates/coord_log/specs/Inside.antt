@@ -9,7 +9,7 @@ use Rattle.cbdc_model.specs.Records.{Record}
 use Rattle.cbdc_model.specs.Grammar.{IsInGrammar}
 use Rattle.cbdc_model.specs.After.{After, IsJournal}
 use Rattle.cbdc_model.specs.Due.{used_of}
-use Rattle.cbdc_model.specs.Room.{size_of}
+use Rattle.cbdc_model.specs.Room.{size_of, need_of}
 use Rattle.cbdc_model.specs.Sights.{IsBrokenSince}
 use Rattle.record_log.specs.declared.log.RecordLog.{RecordLog}
 use Rattle.record_log.specs.Logs.{HasRoom}
@@ -60,6 +60,8 @@ pub record IsSound {D : Type 0} {G : Ghosts D} (l : RecordLog D G) (c : CoordOf)
   pub broken : IsBrokenSince opened (G.count (disk_of l.journal)) (broken_of l.journal)
   pub ready : broken_of l.journal ≡ None → IsReady l c flight
   pub flying : IfSome flight (After l.header (reverse l.records.items))
+  pub unbroken : flight ≡ None → broken_of l.journal ≡ None
+  pub fits : IfSome flight (λ r. used_of (reverse l.records.items) + need_of l.header.shape (reverse l.records.items) r ≤ G.limit (disk_of l.journal))
   pub free : used_of (reverse l.records.items) + kept_of c.lanes ≤ G.limit (disk_of l.journal)
 
 -- the record is next, in the grammar, and has its place
@@ -73,6 +75,7 @@ pub record IsDue {D : Type 0} {G : Ghosts D} (l : RecordLog D G) (c : CoordOf) (
   pub size : HasRoom l 1 (size_of r)
   pub free : gate_of l.journal + 1 + kept_of c.lanes ≤ G.limit (disk_of l.journal)
   pub fits : gate_of l.journal + 1 + size_of r ≤ G.limit (disk_of l.journal)
+  pub needs : used_of (reverse l.records.items) + need_of l.header.shape (reverse l.records.items) r ≤ G.limit (disk_of l.journal)
   pub place : (d : CoordOf) → Takes c d r → HasPlace l d (size_of r) 1
 
 -- why there is no room: the disk is full, with these numbers, or memory ran out

@@ -4,8 +4,6 @@
 mod copying;
 mod log;
 mod opening;
-#[cfg(test)]
-mod tests;
 mod writing;
 
 pub use log::CoordLog;

@@ -5,7 +5,7 @@ ghost use Rattle.gate_journal.specs.Shown.{disk_of, broken_of};
 ghost use Rattle.cbdc_model.specs.Records.{Record, Prepare, Commit, Discard, Done, last_stamp, txs_of};
 ghost use Rattle.cbdc_model.specs.After.{After, IsJournal};
 ghost use Rattle.cbdc_model.specs.Slots.{slot, Idle, InPrepare, InCommit, InDiscard};
-ghost use Rattle.cbdc_model.specs.Room.{kept_room};
+ghost use Rattle.cbdc_model.specs.Room.{kept_room, need_of};
 ghost use Rattle.cbdc_model.specs.Due.{used_of, open_batch, prepare_due, decide_due, discard_due, done_due};
 ghost use Rattle.cbdc_model.specs.Sights.{Meets, MeetsFault, IsSameNode, IsBrokenSince};
 ghost use Rattle.coord_core.specs.Phases.{slot_of};
@@ -68,8 +68,10 @@ impl<D: Disk> CoordLog<D> {
         ensures count { self.now.faults ≡ D.count self.now.disk }
         ensures capacity { self.now.capacity ≡ D.limit self.now.disk }
 
-        // A record is in flight only where an append has failed since.
+        // A record is in flight exactly where an append has failed since, and it had room.
         ensures landed { self.now.broken ≡ None → self.now.flight ≡ None }
+        ensures unbroken { self.now.flight ≡ None → self.now.broken ≡ None }
+        ensures fits { IfSome self.now.flight (λ r. used_of self.now.journal + need_of self.now.header.shape self.now.journal r ≤ self.now.capacity) }
 
         // What its journal takes, with what is kept for its open batches, lies within the capacity.
         ensures room { used_of self.now.journal + kept_room self.now.header.shape self.now.journal ≤ self.now.capacity }

@@ -1,5 +1,5 @@
 -- The cause of a fault that ends a file's wave, or the files.
-use Rattle.std.proofs.Common.{◌≡◌, ℕ, ◌*◌, ◌<◌, List, length, take, get_or, subst, arith, Some}
+use Rattle.std.proofs.Common.{◌≡◌, inl, ℕ, ◌*◌, ◌<◌, List, length, take, get_or, refl, subst, arith, Option, Some, None}
 use Rattle.std.specs.Prelude.{slice_get}
 use Rattle.std.specs.Global.{Vec}
 use Rattle.std.proofs.lemmas.Option.{slice_get_within}
@@ -13,10 +13,11 @@ use Rattle.submissions.specs.Checks.{VerdictsOf, AreSent}
 use Rattle.lane_driver.specs.declared.fault.LaneFault.{LaneFault}
 use Rattle.ledger_runs.specs.Waving.{HaveSent, FirstFaultIs}
 use Rattle.ledger_runs.specs.Pieces.{HasPreparedAll, HasBegun, IsNextPiece, HaveBegun, HavePreparedAll}
-use Rattle.ledger_runs.specs.Faults.{IsRunCause, HaveCauses}
+use Rattle.ledger_runs.specs.Faults.{IsRunCause, HaveCauses, Rests, AllRest}
+use Rattle.ledger_runs.specs.Least.{RunTheirs}
 use Rattle.ledger_runs.specs.declared.lanes.Lane.{Lane}
 use Rattle.ledger_runs.proofs.WaveKeeping.{at_place}
-use Rattle.ledger_runs.proofs.Faulting.{cause_since, cause_any, run_moves}
+use Rattle.ledger_runs.proofs.Faulting.{cause_since, cause_any, run_moves, rests_by}
 use Rattle.file_runs.specs.Runs.{AreLanesOf, HavePreparedFile, HavePreparedFiles, IsSentPiece, IsFilesPiece, HaveBegunFile}
 use Rattle.file_runs.proofs.Pieces.{files_piece}
 
@@ -35,6 +36,18 @@ file_cause K verdicts file lists lanes after I J failed holds count are_sent are
     cause_any K lane (IsSentPiece K verdicts file I J) I J failed holds (omega (arith, slice_get_within after lane x there, count)) e
     (cause_since K lane (IsNextPiece K lane x.txs.items I J) (IsSentPiece K verdicts file I J lane) I I J failed holds (λ n. end_self (I n))
     (sent_piece K verdicts file lists lanes after I J are_sent are keeps lane x there) e (causes lane x there e is))
+
+-- behind a wave each lane rests
+pub wave_rests : (K : Shape) (after : List Lane) (I J : ℕ → List Record) (failed : ℕ → Type 0) (holds : ℕ → ℕ → Type 0)
+    → length after ≡ K.coordinators * K.lanes → HaveCauses K I J failed holds after → RunTheirs K I J after → AllRest K J failed
+wave_rests K after I J failed holds count causes theirs lane inside = go there.0 there.1 there.0.fault refl
+  where
+    there : (x : Lane) × (slice_get after lane ≡ Some x)
+    there = at_place after lane (omega (arith, inside, count))
+
+    go : (x : Lane) → slice_get after lane ≡ Some x → (o : Option LaneFault) → x.fault ≡ o → Rests K lane J failed
+    go x at None none = inl (inl (theirs lane x at none).1)
+    go x at (Some e) is = rests_by K lane (IsNextPiece K lane x.txs.items I J) I J failed holds e (causes lane x at e is)
 
 -- without a fault each lane has prepared what the file sends it
 pub file_done : (K : Shape) (verdicts : VerdictsOf) (file : List FullTx) (lists : List (Vec CompactTx)) (lanes after : List Lane) (I J : ℕ → List Record)

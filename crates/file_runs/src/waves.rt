@@ -7,7 +7,7 @@ ghost use Rattle.cbdc_model.specs.Waves.{IsFileRun, sent_to};
 ghost use Rattle.input_files.specs.Limits.{IsShort};
 ghost use Rattle.submissions.specs.Checks.{TellsSound, AreChecked};
 ghost use Rattle.ledger_runs.specs.Turning.{OfKept, StaysKept};
-ghost use Rattle.ledger_runs.specs.Faults.{IsRunCause, HaveFailed, MayHold};
+ghost use Rattle.ledger_runs.specs.Faults.{IsRunCause, HaveFailed, MayHold, AllRest};
 ghost use Rattle.file_runs.specs.Runs.{AreLanesOf, HavePreparedFile, IsSentPiece, FliesWith, HaveBegunFile};
 ghost use Rattle.file_runs.specs.Endings.{EndsFile};
 ghost use Rattle.file_runs.specs.Telling.{TellsFile};
@@ -84,6 +84,9 @@ pub fn run_file<L: Turns, V: Verifier, G: Gate>(
     // A fault has its cause: what an idle lane wants is the Prepare of the next piece of what the file sends it.
     ensures fault { IfErr result (IsRunCause (L.shape ledger.old) (IsSentPiece (L.shape ledger.old) (V.verdict_of verifier.now) txs.now (L.journals ledger.old) (L.journals ledger.new)) (L.journals ledger.old) (L.journals ledger.new)
         (HaveFailed (L.opened ledger.new) (L.faults ledger.new)) (MayHold (L.capacity ledger.new))) }
+
+    // Whatever came, each lane is between batches, or its batch lacks a Lock, or the disk of a node that it asks has failed.
+    ensures rests { AllRest (L.shape ledger.old) (L.journals ledger.new) (HaveFailed (L.opened ledger.new) (L.faults ledger.new)) }
 
     // It is that of the least lane that met one: each lesser lane has run all that the file sends it.
     ensures least { IfErr result (EndsFile (L.shape ledger.old) (V.verdict_of verifier.now) txs.now (L.journals ledger.old) (L.journals ledger.new) (HaveFailed (L.opened ledger.new) (L.faults ledger.new)) (MayHold (L.capacity ledger.new))) }

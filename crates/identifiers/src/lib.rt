@@ -92,6 +92,3 @@ pub fn uhs_id(tx: &Hash, index: u64, o: &Output) -> Hash
         output: *o,
     })
 }
-
-#[cfg(test)]
-mod tests;

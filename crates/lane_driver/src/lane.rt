@@ -20,7 +20,8 @@ use std::alloc::Global;
 
 /// Runs the transactions of an idle lane in order, in batches of `batch`, the last maybe shorter; with none it makes no
 /// call. With repeats, each shard call of a batch is made so many times more after its phase, and all its shard calls
-/// after it is done. Where no other lane's records come meanwhile, the other lanes are as before.
+/// after it is done. The first batch that meets a fault ends it, and that fault is the answer. Where no other lane's
+/// records come meanwhile, the other lanes are as before.
 pub fn run_lane<S: PortSet, L: LogPort, G: Gate>(
     alloc: Global,
     shape: &Shape,

@@ -100,7 +100,7 @@ pub fn forget_again<S: PortSet, G: Gate>(
     }
 }
 
-/// Locks the parts at their shards, and gathers the replies.
+/// Locks the parts at their shards, and gathers the replies, or tells the fault of the least shard that had one.
 pub fn lock_phase<S: PortSet, G: Gate>(
     shape: &Shape,
     shards: &mut S,
@@ -133,7 +133,7 @@ pub fn lock_phase<S: PortSet, G: Gate>(
     }
 }
 
-/// Applies the batch at its shards: the greatest stamp of its Finishes.
+/// Applies the batch at its shards: the greatest stamp of its Finishes, or the fault of the least shard that had one.
 pub fn finish_phase<S: PortSet, G: Gate>(
     shape: &Shape,
     shards: &mut S,
@@ -163,7 +163,7 @@ pub fn finish_phase<S: PortSet, G: Gate>(
     }
 }
 
-/// Lets the shards forget the batch: the greatest stamp of its Forgets.
+/// Lets the shards forget the batch: the greatest stamp of its Forgets, or the fault of the least shard that had one.
 pub fn forget_phase<S: PortSet, G: Gate>(
     shape: &Shape,
     shards: &mut S,

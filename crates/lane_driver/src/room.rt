@@ -47,7 +47,7 @@ fn decision_rooms(alloc: Global, count: usize, size: usize) -> Result<Vec<Vec<bo
 }
 
 impl LaterRoom {
-    /// Room for the calls at so many shards, and for so many decisions at each.
+    /// Room for the calls at so many shards, and for so many decisions at each, or memory ran out.
     pub fn take(alloc: Global, count: usize, size: usize) -> Result<LaterRoom, AllocError>
         ensures { IfOk result (IsLaterRoom count size) }
     {
@@ -76,7 +76,8 @@ fn is_division(parts: &[(u32, Part)], shards: u32, size: usize) -> bool
 }
 
 impl BatchRoom {
-    /// The parts of these transactions, and the memory of their batch.
+    /// The parts of these transactions, and the memory of their batch, or memory ran out. A division that is not in
+    /// order, which `split` never makes, is told so too.
     pub fn take(alloc: Global, shape: &Shape, txs: &[CompactTx]) -> Result<BatchRoom, AllocError>
         requires { length txs.now < 2 ^ 32 }
         ensures room { IfOk result (IsBatchRoom shape.now.shards (length txs.now)) }

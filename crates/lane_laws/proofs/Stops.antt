@@ -351,6 +351,6 @@ batch_stopped K alone lane k txs repeats parts log log' I J node f st are (behin
       prepares = inr (r.prepares ∙ ap prepared p.2.own_is);
       told = r.told;
       fault = inr (batch_of lane k, refl, r.fault);
-      begun = inr (batch_of lane k, refl, r.fault);
+      begun = inr (batch_of lane k, refl, omega (arith, st.number), r.fault);
       granted = r.granted;
     }

@@ -32,7 +32,7 @@ use Rattle.turn_laws.proofs.Turned.{batch_keeps, batch_same, stopped_keeps, batc
 use Rattle.turn_laws.proofs.Flying.{batch_flies, stopped_flies, resume_flies, left_flies}
 use Rattle.ledger_runs.specs.Flying.{FliesOn, FliesOnBy}
 use Rattle.ledger_runs.specs.Pieces.{HasPrepared, HasPreparedAtMost, IsUnprepared}
-use Rattle.ledger_runs.specs.Faults.{IsLaneCause, HaveFailed, MayHold, Nothing}
+use Rattle.ledger_runs.specs.Faults.{IsLaneCause, IsOpenCause, HaveFailed, MayHold}
 use Rattle.ledger_nodes.specs.Ledgers.{IsLedger, journals_of, flights_of, faults_of, opened_of, capacity_of, AreChecked, AreQuiet}
 use Rattle.ledger_nodes.specs.Steps.{IsStep}
 use Rattle.ledger_nodes.proofs.Steps.{home_inside, are_nodes, are_shards, is_lane, log_is, same_flight}
@@ -251,7 +251,8 @@ module _ {D : Type 0} (count limit : D → ℕ) (content : D → Option (List �
       resumed_unprepared (Err e) taken stop c =
           left_unprepared K lane L S L' S' ledger.limits home shape shard_shapes step.elsewhere (are_nodes count limit h logs shards ledger) (are_nodes count limit h logs' shards' step.ledger) step.log_nodes step.shard_nodes c.0 c.1 o told e stop
 
-      pub resumed_cause : (e : LaneFault) → IsResumeStopped K true o (L (home_of K lane)) S (L' (home_of K lane)) S' e → AreChecked count limit K logs shards → Causes Nothing e
+      pub resumed_cause : (e : LaneFault) → IsResumeStopped K true o (L (home_of K lane)) S (L' (home_of K lane)) S' e → AreChecked count limit K logs shards
+          → IsOpenCause K lane I J (HaveFailed (opened_of count limit K logs' shards') (faults_of count limit K logs' shards')) (MayHold (capacity_of count limit K logs' shards')) e
       resumed_cause e stop c =
           left_cause K lane L S L' S' ledger.limits home shape shard_shapes step.elsewhere (are_nodes count limit h logs shards ledger) (are_nodes count limit h logs' shards' step.ledger) step.log_nodes step.shard_nodes c.0 c.1 o told e stop
 

@@ -1,6 +1,6 @@
 -- The cause of a lane's fault stays while other lanes go on.
 use Rattle.std.proofs.Common.{◌≡◌, ◌≢◌, ◌⊎◌, inl, inr, Bool, true, false, ℕ, suc, ◌+◌, ◌*◌, ◌<◌, ◌≤◌, le_trans, List, refl, sym, ap, ◌∙◌, subst, arith, Some, None}
-use Rattle.std.specs.Prelude.{slice_get, is_some, length, take, drop, Option, Result, Ok, Err, IfErr}
+use Rattle.std.specs.Prelude.{slice_get, is_some, length, take, drop, Option, Result, Ok, Err, IfErr, IsOk, OnOk}
 use Rattle.cbdc_model.specs.Records.{Shape, Batch, Compact, Record, record_of}
 use Rattle.cbdc_model.specs.Slots.{slot, Idle}
 use Rattle.cbdc_model.specs.Ranges.{home_of, shard_node}
@@ -16,11 +16,12 @@ use Rattle.ledger_runs.specs.Turning.{phase_at, IsLaneOf, KeepsLanes}
 use Rattle.ledger_runs.specs.Least.{IsLeastOpen}
 use Rattle.ledger_runs.specs.Waving.{NoFault, TurnsAt, taken_by}
 use Rattle.ledger_runs.specs.Pieces.{IsUnprepared, IsNextPiece, IsNextFrom, HaveTaken}
-use Rattle.ledger_runs.specs.Faults.{GrowBy, TookLanes, TakesInOrder, IsWanted, wants_prepare, wants_lock, IsCauseOf, IsLaneCause, IsSomeCauseOf, IsRunCause, HaveFailed, MayHold, Nothing, HaveCauses, IsTurnCause}
+use Rattle.ledger_runs.specs.Faults.{GrowBy, TookLanes, TakesInOrder, IsWanted, wants_prepare, wants_lock, HasNoDiskFor, LacksLock, IsBeforeLocks, IsCauseOf, IsLaneCause, IsSomeCauseOf, IsRunCause, IsOpenCause, HaveFailed, MayHold, Nothing, Rests, HaveCauses, IsTurnCause}
 use Rattle.ledger_runs.specs.declared.lanes.Lane.{Lane}
 use Rattle.ledger_runs.proofs.Others.{slot_same, record_same}
 use Rattle.ledger_runs.proofs.Preparing.{same_prepared, next_piece, next_stays}
 use Rattle.ledger_runs.proofs.WaveKeeping.{each_by, was_there, taken_before}
+use Rattle.ledger_runs.proofs.Keeping.{of_ok}
 
 -- ---- what a lane wants, while another goes on
 
@@ -54,12 +55,30 @@ asked_stays lane other apart J X grown K next due on node (asks_prepare txs is a
 asked_stays lane other apart J X grown K next due on node (asks_log b txs at heard) = asks_log b txs at (heard_stays lane other apart J X grown K b txs K.shards heard)
 asked_stays lane other apart J X grown K next due on node (asks_shard b txs s at concerned heard) = asks_shard b txs s at concerned (heard_stays lane other apart J X grown K b txs s heard)
 
+-- a batch that lacks a Lock lacks it while another goes on
+lacks_stays : (lane other : ℕ) → other ≢ lane → (J X : ℕ → List Record) → GrowBy other J X → (K : Shape) → LacksLock K lane J → LacksLock K lane X
+lacks_stays lane other apart J X grown K h = record {
+  batch = h.batch;
+  of_lane = h.of_lane;
+  stamp = h.stamp;
+  txs = h.txs;
+  phase = ap (λ s. s.phase) (slot_same lane other apart J X grown (home_of K lane)) ∙ h.phase;
+  prepare = record_same lane other apart J X grown 6 (home_of K lane) h.batch h.of_lane ∙ h.prepare;
+  shard = h.shard;
+  concerned = h.concerned;
+  lacks = subst (λ s. s.number < h.batch.number) (sym (slot_same lane other apart J X grown (shard_node K h.shard))) h.lacks;
+}
+
+pub before_locks_stay : (lane other : ℕ) → other ≢ lane → (J X : ℕ → List Record) → GrowBy other J X → (K : Shape) → IsBeforeLocks K lane J → IsBeforeLocks K lane X
+before_locks_stay lane other apart J X grown K (inl idle) = inl (ap (λ s. s.phase) (slot_same lane other apart J X grown (home_of K lane)) ∙ idle)
+before_locks_stay lane other apart J X grown K (inr lacks) = inr (lacks_stays lane other apart J X grown K lacks)
+
 -- ---- a cause by later journals, or by an earlier entry
 
 module _ (K : Shape) (lane : ℕ) (next due : List Compact → Type 0) (E F J X : ℕ → List Record) (failed fails : ℕ → Type 0) (holds held : ℕ → ℕ → Type 0)
     (before : (n : ℕ) → IsEnd (F n) (E n)) (grows : (n : ℕ) → IsEnd (J n) (X n)) (slot_on : (n : ℕ) → slot (X n) lane ≡ slot (J n) lane)
     (wanted_on : (node : ℕ) (front : List Record) (r : Record) → IsWanted K lane next J node front r → IsWanted K lane due X node front r)
-    (asked_on : (node : ℕ) → IsAsked K lane next J node → IsAsked K lane due X node) (failed_on : (n : ℕ) → failed n → fails n) (held_on : (n c : ℕ) → holds n c → held n c) where
+    (asked_on : (node : ℕ) → IsAsked K lane next J node → IsAsked K lane due X node) (before_on : IsBeforeLocks K lane J → IsBeforeLocks K lane X) (failed_on : (n : ℕ) → failed n → fails n) (held_on : (n c : ℕ) → holds n c → held n c) where
   cause_moves : (node : ℕ) (kind : LaneFaultKind) → IsCauseOf K lane next E J failed holds node kind → IsCauseOf K lane due F X fails held node kind
   cause_moves node DiskStopped h = record { inside = h.inside; asked = asked_on node h.asked; did = failed_on node h.did }
   cause_moves node (NoRoom used need capacity) h = record {
@@ -85,7 +104,7 @@ module _ (K : Shape) (lane : ℕ) (next due : List Compact → Type 0) (E F J X 
     stamp_is = h.stamp_is;
     above = h.above;
   }
-  cause_moves node NoMemory h = tt
+  cause_moves node NoMemory h = before_on h
 
 wanted_by : (K : Shape) (lane : ℕ) (next due : List Compact → Type 0) (X : ℕ → List Record) → ((txs : List Compact) → next txs → due txs) → (node : ℕ) (front : List Record) (r : Record)
     → IsWanted K lane next X node front r → IsWanted K lane due X node front r
@@ -108,7 +127,7 @@ holds_later capacity now same n c is = is ∙ sym (same n)
 pub cause_since : (K : Shape) (lane : ℕ) (next due : List Compact → Type 0) (E F X : ℕ → List Record) (failed : ℕ → Type 0) (holds : ℕ → ℕ → Type 0) → ((n : ℕ) → IsEnd (F n) (E n))
     → ((txs : List Compact) → next txs → due txs) → (e : LaneFault) → IsLaneCause K lane next E X failed holds e → IsLaneCause K lane due F X failed holds e
 cause_since K lane next due E F X failed holds before on e h =
-    cause_moves K lane next due E F X X failed failed holds holds before (λ n. end_self (X n)) (λ n. refl) (wanted_by K lane next due X on) (asked_by K lane next due X on) (λ n did. did) (λ n c is. is) e.node e.fault h
+    cause_moves K lane next due E F X X failed failed holds holds before (λ n. end_self (X n)) (λ n. refl) (wanted_by K lane next due X on) (asked_by K lane next due X on) (λ short. short) (λ n did. did) (λ n c is. is) e.node e.fault h
 
 -- a fault of a lane is one of the run
 pub cause_any : (K : Shape) (lane : ℕ) (next : ℕ → List Compact → Type 0) (E X : ℕ → List Record) (failed : ℕ → Type 0) (holds : ℕ → ℕ → Type 0) → IsLaneOf K lane
@@ -128,7 +147,7 @@ pub run_moves : (K : Shape) (next due : ℕ → List Compact → Type 0) (E F X 
 run_moves K next due E F X failed fails holds held before on failed_on held_on e h = go e.fault h
   where
     moves : (lane : ℕ) → IsLaneOf K lane → (kind : LaneFaultKind) → IsCauseOf K lane (next lane) E X failed holds e.node kind → IsCauseOf K lane (due lane) F X fails held e.node kind
-    moves lane inside = cause_moves K lane (next lane) (due lane) E F X X failed fails holds held before (λ n. end_self (X n)) (λ n. refl) (wanted_by K lane (next lane) (due lane) X (λ txs n. on lane txs inside n)) (asked_by K lane (next lane) (due lane) X (λ txs n. on lane txs inside n)) failed_on held_on e.node
+    moves lane inside = cause_moves K lane (next lane) (due lane) E F X X failed fails holds held before (λ n. end_self (X n)) (λ n. refl) (wanted_by K lane (next lane) (due lane) X (λ txs n. on lane txs inside n)) (asked_by K lane (next lane) (due lane) X (λ txs n. on lane txs inside n)) (λ short. short) failed_on held_on e.node
 
     go : (kind : LaneFaultKind) → IsSomeCauseOf K next E X failed holds e.node kind → IsSomeCauseOf K due F X fails held e.node kind
     go DiskStopped (lane, inside, cause) = (lane, inside, moves lane inside DiskStopped cause)
@@ -136,15 +155,36 @@ run_moves K next due E F X failed fails holds held before on failed_on held_on e
     go (NoStamp stamp) (lane, inside, cause) = (lane, inside, moves lane inside (NoStamp stamp) cause)
     go NoMemory cause = tt
 
--- want of memory is free
-pub of_memory : (K : Shape) (lane : ℕ) (next : List Compact → Type 0) (E X : ℕ → List Record) (failed : ℕ → Type 0) (holds : ℕ → ℕ → Type 0) (e : LaneFault) → e.fault ≡ NoMemory
+-- memory ran out between batches
+of_memory : (K : Shape) (lane : ℕ) (next : List Compact → Type 0) (E X : ℕ → List Record) (failed : ℕ → Type 0) (holds : ℕ → ℕ → Type 0) (e : LaneFault) → e.fault ≡ NoMemory → phase_at K X lane ≡ Idle
     → IsLaneCause K lane next E X failed holds e
-of_memory K lane next E X failed holds e is = subst (λ k. IsCauseOf K lane next E X failed holds e.node k) (sym is) tt
+of_memory K lane next E X failed holds e is idle = subst (λ k. IsCauseOf K lane next E X failed holds e.node k) (sym is) (inl idle)
 
-pub memory_cause : {A : Type 0} (K : Shape) (lane : ℕ) (next : List Compact → Type 0) (E X : ℕ → List Record) (failed : ℕ → Type 0) (holds : ℕ → ℕ → Type 0) (r : Result A LaneFault)
-    → IfErr r (λ e. e.fault ≡ NoMemory) → IfErr r (IsLaneCause K lane next E X failed holds)
-memory_cause K lane next E X failed holds (Ok a) h = tt
-memory_cause K lane next E X failed holds (Err e) h = of_memory K lane next E X failed holds e h
+-- or while an open batch was brought to its end
+pub memory_cause : {A : Type 0} (K : Shape) (lane : ℕ) (E X : ℕ → List Record) (failed : ℕ → Type 0) (holds : ℕ → ℕ → Type 0) (r : Result A LaneFault)
+    → IfErr r (λ e. e.fault ≡ NoMemory) → IfErr r (IsOpenCause K lane E X failed holds)
+memory_cause K lane E X failed holds (Ok a) h = tt
+memory_cause K lane E X failed holds (Err e) h = inl h
+
+-- a lane that has a fault with its cause rests
+pub rests_by : (K : Shape) (lane : ℕ) (next : List Compact → Type 0) (E X : ℕ → List Record) (failed : ℕ → Type 0) (holds : ℕ → ℕ → Type 0) (e : LaneFault) → IsLaneCause K lane next E X failed holds e → Rests K lane X failed
+rests_by K lane next E X failed holds e cause = go e.fault cause
+  where
+    wants : (node : ℕ) (front : List Record) (r : Record) → IsWanted K lane next X node front r → IsBeforeLocks K lane X
+    wants node front r (wants_prepare txs is at idle e) = inl idle
+    wants node front r (wants_lock b t txs s is at concerned phase stands have behind e) =
+        inr (record { batch = b; of_lane = is; stamp = t; txs = txs; phase = phase; prepare = stands; shard = s; concerned = concerned; lacks = subst (λ n. (slot (X n) lane).number < b.number) at behind })
+
+    asks : (h : HasNoDiskFor K lane next X failed e.node) → IsAsked K lane next X e.node → Rests K lane X failed
+    asks h (asks_prepare txs is at idle) = inl (inl idle)
+    asks h (asks_log b txs at heard) = inr (e.node, record { inside = h.inside; asked = asks_log b txs at heard; did = h.did })
+    asks h (asks_shard b txs s at concerned heard) = inr (e.node, record { inside = h.inside; asked = asks_shard b txs s at concerned heard; did = h.did })
+
+    go : (kind : LaneFaultKind) → IsCauseOf K lane next E X failed holds e.node kind → Rests K lane X failed
+    go DiskStopped h = asks h h.asked
+    go (NoRoom used need capacity) h = inl (wants e.node h.front h.wanted h.is_wanted)
+    go (NoStamp stamp) h = inl (wants e.node h.front h.wanted h.is_wanted)
+    go NoMemory h = inl h
 
 pub grown_end : (lane : ℕ) (I J : ℕ → List Record) → GrowBy lane I J → (n : ℕ) → IsEnd (I n) (J n)
 grown_end lane I J grown n = ((grown n).0, (grown n).1)
@@ -158,15 +198,17 @@ one_more lane E J L took grown = subst (λ n. TookLanes n E L) (let e : suc lane
 
 -- the fault of a lane that was resumed
 pub resumed_cause : (K H : Shape) (lane : ℕ) (E J L : ℕ → List Record) (failed : ℕ → Type 0) (holds : ℕ → ℕ → Type 0) → H ≡ K → IsLaneOf K lane → ((n : ℕ) → IsEnd (E n) (J n))
-    → (e : LaneFault) → IsLaneCause H lane Nothing J L failed holds e → IsRunCause K (λ _. Nothing) E L failed holds e
-resumed_cause K H lane E J L failed holds same inside since e cause =
+    → (e : LaneFault) → IsOpenCause H lane J L failed holds e → IsRunCause K (λ _. Nothing) E L failed holds e
+resumed_cause K H lane E J L failed holds same inside since e (inl memory) = subst (λ k. IsSomeCauseOf K (λ _. Nothing) E L failed holds e.node k) (sym memory) tt
+resumed_cause K H lane E J L failed holds same inside since e (inr cause) =
     cause_any K lane (λ _. Nothing) E L failed holds inside e
     (cause_since K lane Nothing Nothing J E L failed holds since (λ txs n. n) e (subst (λ k. IsLaneCause k lane Nothing J L failed holds e) same cause))
 
 -- the first fault of lanes that were open is the least lane's
 pub least_open : (K H : Shape) (lane : ℕ) (E J L : ℕ → List Record) (failed : ℕ → Type 0) (holds : ℕ → ℕ → Type 0) → H ≡ K → IsLaneOf K lane → ((n : ℕ) → IsEnd (E n) (J n))
-    → ((l : ℕ) → l < lane → phase_at K J l ≡ Idle) → KeepsLanes H lane J L → (e : LaneFault) → IsLaneCause H lane Nothing J L failed holds e → IsLeastOpen K E L failed holds e
-least_open K H lane E J L failed holds same inside since idle others e cause = inr (
+    → ((l : ℕ) → l < lane → phase_at K J l ≡ Idle) → KeepsLanes H lane J L → (e : LaneFault) → IsOpenCause H lane J L failed holds e → IsLeastOpen K E L failed holds e
+least_open K H lane E J L failed holds same inside since idle others e (inl memory) = inl memory
+least_open K H lane E J L failed holds same inside since idle others e (inr cause) = inr (
   lane,
   inside,
   cause_since K lane Nothing Nothing J E L failed holds since (λ txs n. n) e (subst (λ k. IsLaneCause k lane Nothing J L failed holds e) same cause),
@@ -198,13 +240,13 @@ causes_step K H E J L start turn failed fails holds held now after same some tur
         (wanted_stays lane turn apart J L grown K (IsNextPiece K lane x.txs.items E J) (IsNextPiece K lane x.txs.items E L)
         (λ txs i. next_stays K lane x.txs.items txs E J L (same_prepared lane turn apart J L grown (home_of K lane)) i))
         (asked_stays lane turn apart J L grown K (IsNextPiece K lane x.txs.items E J) (IsNextPiece K lane x.txs.items E L)
-        (λ txs i. next_stays K lane x.txs.items txs E J L (same_prepared lane turn apart J L grown (home_of K lane)) i)) failed_on held_on e.node e.fault (have lane x there e is)
+        (λ txs i. next_stays K lane x.txs.items txs E J L (same_prepared lane turn apart J L grown (home_of K lane)) i)) (before_locks_stay lane turn apart J L grown K) failed_on held_on e.node e.fault (have lane x there e is)
 
     -- the lane whose turn it was had stopped before
     had_it : (x : Lane) → slice_get now turn ≡ Some x → (e : LaneFault) → x.fault ≡ Some e → ((n : ℕ) → L n ≡ J n) → Causes K E turn x L fails held e
     had_it x was e had as_before =
         let all : J ≡ L = λ i n. sym (as_before n) i in
-        cause_moves K turn (IsNextPiece K turn x.txs.items E L) (IsNextPiece K turn x.txs.items E L) E E L L failed fails holds held (λ n. end_self (E n)) (λ n. end_self (L n)) (λ n. refl) (λ node front r w. w) (λ n a. a) failed_on held_on e.node e.fault
+        cause_moves K turn (IsNextPiece K turn x.txs.items E L) (IsNextPiece K turn x.txs.items E L) E E L L failed fails holds held (λ n. end_self (E n)) (λ n. end_self (L n)) (λ n. refl) (λ node front r w. w) (λ n a. a) (λ short. short) failed_on held_on e.node e.fault
         (subst (λ X. Causes K E turn x X failed holds e) all (have turn x was e had))
 
     -- or it stopped now
@@ -224,14 +266,14 @@ causes_step K H E J L start turn failed fails holds held now after same some tur
 
 -- a turn of a lane that had not stopped
 pub turn_cause : {A : Type 0} (K : Shape) (lane start : ℕ) (old new : Lane) (these : List Compact) (I J : ℕ → List Record) (failed : ℕ → Type 0) (holds : ℕ → ℕ → Type 0) (came : Result A LaneFault) → old.fault ≡ None
-    → start < length old.txs.items → these ≡ take K.batch (drop start old.txs.items) → ((e : LaneFault) → new.fault ≡ Some e → (old.fault ≡ Some e) ⊎ ((e.fault ≡ NoMemory) ⊎ (came ≡ Err e)))
-    → IfErr came (IsLaneCause K lane (IsUnprepared K lane these I J) I J failed holds) → IsTurnCause K lane start old new I J failed holds
-turn_cause K lane start old new these I J failed holds came none inside piece told cause e is = go (told e is)
+    → start < length old.txs.items → these ≡ take K.batch (drop start old.txs.items) → ((e : LaneFault) → new.fault ≡ Some e → (old.fault ≡ Some e) ⊎ (((e.fault ≡ NoMemory) × IsOk came) ⊎ (came ≡ Err e)))
+    → OnOk came (phase_at K J lane ≡ Idle) → IfErr came (IsLaneCause K lane (IsUnprepared K lane these I J) I J failed holds) → IsTurnCause K lane start old new I J failed holds
+turn_cause K lane start old new these I J failed holds came none inside piece told idle cause e is = go (told e is)
   where
-    go : (old.fault ≡ Some e) ⊎ ((e.fault ≡ NoMemory) ⊎ (came ≡ Err e))
+    go : (old.fault ≡ Some e) ⊎ (((e.fault ≡ NoMemory) × IsOk came) ⊎ (came ≡ Err e))
         → ((old.fault ≡ Some e) × ((n : ℕ) → J n ≡ I n)) ⊎ ((old.fault ≡ None) × IsLaneCause K lane (IsNextFrom K lane start old.txs.items I J) I J failed holds e)
     go (inl had) = absurd (let z : Some e ≡ None = sym had ∙ none in cc)
-    go (inr (inl memory)) = inr (none, of_memory K lane (IsNextFrom K lane start old.txs.items I J) I J failed holds e memory)
+    go (inr (inl memory)) = inr (none, of_memory K lane (IsNextFrom K lane start old.txs.items I J) I J failed holds e memory.0 (of_ok came (phase_at K J lane ≡ Idle) memory.1 idle))
     go (inr (inr err)) = inr (
       none,
       cause_since K lane (IsUnprepared K lane these I J) (IsNextFrom K lane start old.txs.items I J) I I J failed holds (λ n. end_self (I n)) (λ txs i. (inside, (i.0 ∙ piece, i.1))) e

@@ -15,7 +15,7 @@ use Rattle.lane_driver.specs.declared.fault.LaneFaultKind.{LaneFaultKind}
 use Rattle.lane_driver.specs.declared.fault.LaneFaultKind.TheVariants.{DiskFault as DiskStopped, Full as NoRoom, ClockEnd as NoStamp, Memory as NoMemory}
 use Rattle.ledger_runs.specs.Turning.{phase_at, IsLaneOf}
 use Rattle.ledger_runs.specs.Waving.{EachLane}
-use Rattle.ledger_runs.specs.Pieces.{IsNextPiece, IsNextFrom}
+use Rattle.ledger_runs.specs.Pieces.{HasPrepared, IsNextPiece, IsNextFrom}
 use Rattle.ledger_runs.specs.declared.lanes.Lane.{Lane}
 
 -- all of these records are the lane's
@@ -76,18 +76,34 @@ pub record HasNoDiskFor (K : Shape) (lane : ℕ) (next : List Compact → Type 0
   pub asked : IsAsked K lane next X node
   pub did : failed node
 
+-- the lane's batch is prepared and lacks a Lock: a shard that it concerns has not come to it
+pub record LacksLock (K : Shape) (lane : ℕ) (X : ℕ → List Record) : Type 0 where
+  pub batch : Batch
+  pub of_lane : batch.lane ≡ lane
+  pub stamp : ℕ
+  pub txs : List Compact
+  pub phase : phase_at K X lane ≡ InPrepare
+  pub prepare : record_of 6 (X (home_of K lane)) batch ≡ Some (Prepare stamp batch txs)
+  pub shard : ℕ
+  pub concerned : is_concerned K txs shard ≡ true
+  pub lacks : (slot (X (shard_node K shard)) lane).number < batch.number
+
+-- the lane is between batches, or its batch lacks a Lock
+abbrev pub IsBeforeLocks : Shape → ℕ → (ℕ → List Record) → Type 0
+IsBeforeLocks K lane X = (phase_at K X lane ≡ Idle) ⊎ LacksLock K lane X
+
 -- the cause of a lane's fault of this node and kind, from journals E to X, by the nodes whose disks have failed and what disks may hold: a node that
--- the lane asks has a disk that failed; or no room or no stamp for what the lane wants; want of memory is free
+-- the lane asks has a disk that failed; or no room or no stamp for what the lane wants; memory runs out between batches, or before a batch has its Locks
 abbrev pub IsCauseOf : Shape → ℕ → (List Compact → Type 0) → (ℕ → List Record) → (ℕ → List Record) → (ℕ → Type 0) → (ℕ → ℕ → Type 0) → ℕ → LaneFaultKind → Type 0
 IsCauseOf K lane next E X failed may_hold node DiskStopped = HasNoDiskFor K lane next X failed node
 IsCauseOf K lane next E X failed may_hold node (NoRoom used need capacity) = HasNoRoomFor K lane next E X may_hold node used need capacity
 IsCauseOf K lane next E X failed may_hold node (NoStamp stamp) = HasNoStampFor K lane next E X node stamp
-IsCauseOf K lane next E X failed may_hold node NoMemory = Unit {0}
+IsCauseOf K lane next E X failed may_hold node NoMemory = IsBeforeLocks K lane X
 
 abbrev pub IsLaneCause : Shape → ℕ → (List Compact → Type 0) → (ℕ → List Record) → (ℕ → List Record) → (ℕ → Type 0) → (ℕ → ℕ → Type 0) → LaneFault → Type 0
 IsLaneCause K lane next E X failed may_hold e = IsCauseOf K lane next E X failed may_hold e.node e.fault
 
--- the same of some lane, each with the transactions that are next for it
+-- the same of some lane, each with the transactions that are next for it; want of memory is free
 abbrev pub IsSomeCauseOf : Shape → (ℕ → List Compact → Type 0) → (ℕ → List Record) → (ℕ → List Record) → (ℕ → Type 0) → (ℕ → ℕ → Type 0) → ℕ → LaneFaultKind → Type 0
 IsSomeCauseOf K next E X failed may_hold node DiskStopped = (lane : ℕ) × IsLaneOf K lane × HasNoDiskFor K lane (next lane) X failed node
 IsSomeCauseOf K next E X failed may_hold node (NoRoom used need capacity) = (lane : ℕ) × IsLaneOf K lane × HasNoRoomFor K lane (next lane) E X may_hold node used need capacity
@@ -107,6 +123,24 @@ MayHold capacity n c = c ≡ capacity n
 -- nothing is next
 abbrev pub Nothing : List Compact → Type 0
 Nothing txs = ⊥
+
+-- the cause of the fault of a lane whose open batch is brought to its end, where want of memory is free
+abbrev pub IsOpenCause : Shape → ℕ → (ℕ → List Record) → (ℕ → List Record) → (ℕ → Type 0) → (ℕ → ℕ → Type 0) → LaneFault → Type 0
+IsOpenCause K lane E X failed may_hold e = (e.fault ≡ NoMemory) ⊎ IsLaneCause K lane Nothing E X failed may_hold e
+
+-- where a lane stands: between batches; its batch lacks a Lock; or it has an open batch, and the disk of a node that it asks has failed
+abbrev pub Rests : Shape → ℕ → (ℕ → List Record) → (ℕ → Type 0) → Type 0
+Rests K lane X failed = IsBeforeLocks K lane X ⊎ ((node : ℕ) × HasNoDiskFor K lane Nothing X failed node)
+
+abbrev pub AllRest : Shape → (ℕ → List Record) → (ℕ → Type 0) → Type 0
+AllRest K X failed = (lane : ℕ) → IsLaneOf K lane → Rests K lane X failed
+
+-- or, from journals E to X, it has prepared nothing, so that its batch, if it has one, was open before
+abbrev pub RestsSince : Shape → ℕ → (ℕ → List Record) → (ℕ → List Record) → (ℕ → Type 0) → Type 0
+RestsSince K lane E X failed = Rests K lane X failed ⊎ HasPrepared K lane [] E X
+
+abbrev pub AllRestSince : Shape → (ℕ → List Record) → (ℕ → List Record) → (ℕ → Type 0) → Type 0
+AllRestSince K E X failed = (lane : ℕ) → IsLaneOf K lane → RestsSince K lane E X failed
 
 -- each lane that has stopped has its cause
 abbrev pub HaveCauses : Shape → (ℕ → List Record) → (ℕ → List Record) → (ℕ → Type 0) → (ℕ → ℕ → Type 0) → List Lane → Type 0

@@ -47,7 +47,7 @@ impl Lane {
         ensures txs { self.new.txs ≡ self.old.txs }
         ensures fault { self.new.fault ≡ None → (self.old.fault ≡ None) × IsOk came }
         ensures told { self.new.fault ≡ None → IfOk came (TakesIn self.old self.new) }
-        ensures cause { (e : FaultOf) → self.new.fault ≡ Some e → (self.old.fault ≡ Some e) ⊎ ((e.fault ≡ Memory) ⊎ (came ≡ Err e)) }
+        ensures cause { (e : FaultOf) → self.new.fault ≡ Some e → (self.old.fault ≡ Some e) ⊎ (((e.fault ≡ Memory) × IsOk came) ⊎ (came ≡ Err e)) }
     {
         match came {
             Ok(report) => {

@@ -10,7 +10,7 @@ ghost use Rattle.ledger_runs.specs.Flying.{FliesOn};
 ghost use Rattle.ledger_runs.specs.Least.{IsLeastOpen};
 ghost use Rattle.ledger_runs.specs.Telling.{TakesUp, TellResumed, SamePrepared};
 ghost use Rattle.ledger_runs.specs.Pieces.{HasPrepared};
-ghost use Rattle.ledger_runs.specs.Faults.{GrowBy, TakesInOrder, IsLaneCause, IsRunCause, HaveFailed, MayHold, Nothing};
+ghost use Rattle.ledger_runs.specs.Faults.{GrowBy, TakesInOrder, IsOpenCause, IsRunCause, HaveFailed, MayHold, Nothing};
 
 use crate::Turns;
 use cbdc_types::LaneId;
@@ -60,7 +60,7 @@ fn resume_next<L: Turns, G: Gate>(
     ensures checked { L.checked ledger.new }
     ensures grows { GrowBy lane (L.journals ledger.old) (L.journals ledger.new) }
     ensures unprepared { HasPrepared (L.shape ledger.old) lane [] (L.journals ledger.old) (L.journals ledger.new) }
-    ensures fault { IfErr result (IsLaneCause (L.shape ledger.old) lane Nothing (L.journals ledger.old) (L.journals ledger.new)
+    ensures fault { IfErr result (IsOpenCause (L.shape ledger.old) lane (L.journals ledger.old) (L.journals ledger.new)
         (HaveFailed (L.opened ledger.new) (L.faults ledger.new)) (MayHold (L.capacity ledger.new))) }
 {
     match ledger.take_up(alloc, lane, gate) {

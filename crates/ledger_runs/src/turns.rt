@@ -7,7 +7,7 @@ ghost use Rattle.ledger_runs.specs.Turning.{phase_at, IsLaneOf, KeepsLanes, OfKe
 ghost use Rattle.ledger_runs.specs.Flying.{FliesOn, FliesOnBy};
 ghost use Rattle.ledger_runs.specs.Telling.{IsOpened};
 ghost use Rattle.ledger_runs.specs.Pieces.{HasPrepared, HasPreparedAtMost, IsUnprepared};
-ghost use Rattle.ledger_runs.specs.Faults.{GrowBy, IsLaneCause, HaveFailed, MayHold, Nothing};
+ghost use Rattle.ledger_runs.specs.Faults.{GrowBy, IsLaneCause, IsOpenCause, HaveFailed, MayHold};
 
 use cbdc_types::{CompactTx, LaneId, Shape};
 use lane_driver::{BatchReport, LaneFault};
@@ -107,7 +107,7 @@ pub trait Turns {
         ensures grows { GrowBy lane (journals self.old) (journals self.new) }
         ensures unprepared { HasPrepared (shape self.old) lane [] (journals self.old) (journals self.new) }
 
-        // Its fault has its cause.
-        ensures fault { IfErr result (IsLaneCause (shape self.old) lane Nothing (journals self.old) (journals self.new)
+        // Its fault has its cause, unless memory ran out.
+        ensures fault { IfErr result (IsOpenCause (shape self.old) lane (journals self.old) (journals self.new)
             (HaveFailed (opened self.new) (faults self.new)) (MayHold (capacity self.new))) };
 }

@@ -10,8 +10,6 @@ mod reports;
 mod status;
 mod submissions;
 mod summary;
-#[cfg(test)]
-mod tests;
 
 pub use faults::write_fault;
 pub use output::{WriteFault, write_all};

@@ -49,14 +49,15 @@ broken_on opened before now None le h = tt
 broken_on opened before now (Some since) le h = (h.0, omega (arith, h.1))
 
 pub told_alone : {A : Type 0} (lane : ℕ) (m : Bool) (due : Option ℕ → List Record → Due A) (broken : Option ℕ) (old new : Sight) (result : Result A NodeFault) → Meets m (due broken old.seen) old new old.seen result
-    → IsJournal new.header new.seen → old.opened ≤ old.faults → IsBrokenSince old.opened old.faults broken → (broken ≡ None → old.flight ≡ None)
+    → IsJournal new.header new.seen → old.opened ≤ old.faults → IsBrokenSince old.opened old.faults broken → (broken ≡ None → old.flight ≡ None) → (old.flight ≡ None → broken ≡ None)
     → Told true lane m due old new result
-told_alone lane m due broken old new result meets journal since_opened since whole = record {
+told_alone lane m due broken old new result meets journal since_opened since whole unbroken = record {
   found = old.seen;
   broken = broken;
   finds = record { more = []; is = refl; between = tt };
   since = broken_on old.opened old.faults new.faults broken (same_node m (due broken old.seen) old new old.seen result meets).later since;
   whole = whole;
+  unbroken = λ alone. unbroken;
   since_opened = since_opened;
   order = in_order new.header lane old.seen new.seen journal (seen_of m (due broken old.seen) old new old.seen result meets);
   later = omega arith;
@@ -132,9 +133,9 @@ module _ (lane : ℕ) (txs : List Compact) (broken : Option ℕ) (old new : Sigh
 
 pub decide_told : (lane : ℕ) (replies : List ShardReplies) (broken : Option ℕ) (old new : Sight) (result : Result ℕ NodeFault) → AreReplies old.header.shape replies
     → (AreRepliesTo old.header.shape (txs_of old.seen (open_batch old.seen lane)) replies → Meets false (decide_due old.header.shape lane replies broken old.seen) old new old.seen result)
-    → IsJournal new.header new.seen → old.opened ≤ old.faults → IsBrokenSince old.opened old.faults broken → (broken ≡ None → old.flight ≡ None) → DecideAnswer true lane replies old new result
-decide_told lane replies broken old new result are meets journal since_opened since whole = λ each.
-    told_alone lane false (decide_due old.header.shape lane replies) broken old new result (meets (record { rising = rises old.header.shape.shards replies are.0; each = each })) journal since_opened since whole
+    → IsJournal new.header new.seen → old.opened ≤ old.faults → IsBrokenSince old.opened old.faults broken → (broken ≡ None → old.flight ≡ None) → (old.flight ≡ None → broken ≡ None) → DecideAnswer true lane replies old new result
+decide_told lane replies broken old new result are meets journal since_opened since whole unbroken = λ each.
+    told_alone lane false (decide_due old.header.shape lane replies) broken old new result (meets (record { rising = rises old.header.shape.shards replies are.0; each = each })) journal since_opened since whole unbroken
 
 module _ (lane : ℕ) (out : List Outcome) (old new : Sight) (result : Result ℕ NodeFault) (appended : IfOk result (λ t. new.seen ≡ Commit t (open_batch old.seen lane) out ∷ old.seen)) where
   pub decide_phase : OnOk result ((slot new.seen lane).phase ≡ InCommit)
@@ -151,11 +152,11 @@ module _ (lane : ℕ) (out : List Outcome) (old new : Sight) (result : Result �
 -- its fault has its cause there, whatever the replies
 pub decide_fault : (lane : ℕ) (replies : List ShardReplies) (broken : Option ℕ) (old new : Sight) (result : Result ℕ NodeFault)
     → IfErr result (λ f. (r : Record) × MeetsFault false (commit_due old.header.shape replies r broken old.seen) old new old.seen f)
-    → IsJournal new.header new.seen → old.opened ≤ old.faults → IsBrokenSince old.opened old.faults broken → (broken ≡ None → old.flight ≡ None) → IfErr result (λ f. IsDecideCause f new)
-decide_fault lane replies broken old new (Ok t) fault journal since_opened since whole = tt
-decide_fault lane replies broken old new (Err f) (r, fault) journal since_opened since whole =
+    → IsJournal new.header new.seen → old.opened ≤ old.faults → IsBrokenSince old.opened old.faults broken → (broken ≡ None → old.flight ≡ None) → (old.flight ≡ None → broken ≡ None) → IfErr result (λ f. IsDecideCause f new)
+decide_fault lane replies broken old new (Ok t) fault journal since_opened since whole unbroken = tt
+decide_fault lane replies broken old new (Err f) (r, fault) journal since_opened since whole unbroken =
     commit_caused true lane (λ J. next_stamp J (reply_cause old.header.shape replies)) (λ J. r) old new f
-    (told_alone lane false (commit_due old.header.shape replies r) broken old new (Err f) fault journal since_opened since whole)
+    (told_alone lane false (commit_due old.header.shape replies r) broken old new (Err f) fault journal since_opened since whole unbroken)
 
 pub decide_stamp : (result : Result ℕ NodeFault) → IfOk result (λ t. t ≤ 2 ^ 62 + 2 ^ 20) → IfOk result IsStamp
 decide_stamp result h = mapped result (λ t. t ≤ 2 ^ 62 + 2 ^ 20) IsStamp (λ t le. small t t refl le) h

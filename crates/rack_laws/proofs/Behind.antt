@@ -1,12 +1,12 @@
 -- The nodes of a ledger that was opened, and their disks behind a run.
 use Rattle.std.proofs.Common.{◌≡◌, inl, inr, ℕ, zero, suc, ◌+◌, ◌-◌, ◌<◌, ◌≤◌, true, false, nat_lt, if◌then◌else◌, List, [], ◌∷◌, length, get_or, reverse, Option, Some, None, refl, sym, ap, ◌∙◌, subst, arith}
-use Rattle.std.specs.Prelude.{slice_get, All}
+use Rattle.std.specs.Prelude.{slice_get, All, IfSome}
 use Rattle.std.proofs.lemmas.Option.{slice_get_within, slice_get-get_or}
 use Rattle.std.proofs.lemmas.Bool.{ltb-true, ltb-false, cases_lt}
 use Rattle.outside.specs.Counts.{Rose}
 use Rattle.cbdc_model.specs.Records.{Shape, Header, Record}
 use Rattle.cbdc_model.specs.After.{IsJournal}
-use Rattle.cbdc_model.specs.Room.{kept_room}
+use Rattle.cbdc_model.specs.Room.{kept_room, need_of}
 use Rattle.cbdc_model.specs.Due.{used_of}
 use Rattle.record_log.specs.Held.{OpensToEither}
 use Rattle.coord_log.specs.Logs.{LogOf, sight, HoldsJournal as HoldsLog}
@@ -17,7 +17,7 @@ use Rattle.node_ports.specs.Nodes.{sight_at}
 use Rattle.rack_nodes.specs.Places.{EachFrom, MayReturn}
 use Rattle.rack_nodes.specs.Racked.{OfTold}
 use Rattle.rack_ledgers.specs.Ledgers.{ByPlace, AreOpened}
-use Rattle.rack_laws.specs.Shown.{KeepsEach, HoldsEach, LogHasRoom, ShardHasRoom, HaveRoom, node_count}
+use Rattle.rack_laws.specs.Shown.{KeepsEach, HoldsEach, LogHasRoom, ShardHasRoom, LogFits, ShardFits, HaveRoom, node_count}
 use Rattle.rack_laws.proofs.Opened.{at_place, sight_there, all_by}
 use Rattle.ledger_nodes.specs.Ledgers.{IsLedger, journals_of, flights_of, faults_of, opened_of, capacity_of, AreStored, AreQuiet}
 use Rattle.ledger_nodes.proofs.Steps.{same_flight}
@@ -303,6 +303,33 @@ module _ {D : Type 0} (content : D → Option (List ℕ)) (images : D → List �
           let own : Here x.0.journal x.0.disk = subst (λ k. used_of x.0.journal + kept_room k x.0.journal ≤ limit x.0.disk) shape (by_all (ShardHasRoom limit) shards shard_rooms s x.0 x.1) in
           let back : d ≡ x.0.disk = subst (λ k. OfTold (held (k + s)) (λ d. d ≡ x.0.disk)) is.coordinators (shards_back s x.0 x.1) d told in
           subst (λ J. Here J d) (sym (shard_journal h.shape logs shards s x.0 x.1)) (subst (λ y. Here x.0.journal y) (sym back) own)
+
+  -- and what is in flight had room
+  pub fits_each : (held : ℕ → Option D) (h : Header) (logs : List (LogOf D)) (shards : List (ShardOf D)) → IsLedger h logs shards → All (LogFits limit) logs → All (ShardFits limit) shards
+      → ByPlace (λ n l. OfTold (held n) (λ d. d ≡ l.disk)) logs → ByPlace (λ s x. OfTold (held (length logs + s)) (λ d. d ≡ x.disk)) shards
+      → (n : ℕ) → n < node_count h.shape → OfTold (held n) (λ d. IfSome (flights_of count limit h.shape logs shards n) (λ r. used_of (journals_of count limit h.shape logs shards n) + need_of h.shape (journals_of count limit h.shape logs shards n) r ≤ limit d))
+  fits_each held h logs shards is log_fits shard_fits logs_back shards_back =
+      by_node h.shape (λ n. OfTold (held n) (λ d. Here (journals_of count limit h.shape logs shards n) (flights_of count limit h.shape logs shards n) d)) at_log at_shard
+    where
+      Here : List Record → Option Record → D → Type 0
+      Here J f d = IfSome f (λ r. used_of J + need_of h.shape J r ≤ limit d)
+
+      at_log : (n : ℕ) → n < h.shape.coordinators → OfTold (held n) (λ d. Here (journals_of count limit h.shape logs shards n) (flights_of count limit h.shape logs shards n) d)
+      at_log n low d told =
+          let l = at_place logs n (omega (arith, low, is.coordinators)) in
+          let shape : l.0.header.shape ≡ h.shape = ap (λ s. s.header.shape) (sym (sight_there sight logs n l.0 l.1)) ∙ ap (λ x. x.shape) (is.log_headers n low) in
+          let own : Here l.0.journal l.0.flight l.0.disk = subst (λ k. IfSome l.0.flight (λ r. used_of l.0.journal + need_of k l.0.journal r ≤ limit l.0.disk)) shape (by_all (LogFits limit) logs log_fits n l.0 l.1) in
+          subst (λ J. Here J (flights_of count limit h.shape logs shards n) d) (sym (log_journal h.shape logs shards n l.0 low l.1))
+          (subst (λ f. Here l.0.journal f d) (sym (log_flight h.shape logs shards n l.0 low l.1)) (subst (λ x. Here l.0.journal l.0.flight x) (sym (logs_back n l.0 l.1 d told)) own))
+
+      at_shard : (s : ℕ) → s < h.shape.shards → OfTold (held (h.shape.coordinators + s)) (λ d. Here (journals_of count limit h.shape logs shards (h.shape.coordinators + s)) (flights_of count limit h.shape logs shards (h.shape.coordinators + s)) d)
+      at_shard s low d told =
+          let x = at_place shards s (omega (arith, low, is.shards_are)) in
+          let shape : x.0.header.shape ≡ h.shape = ap (λ t. t.header.shape) (sym (sight_there (sight_of (λ d. 0) (λ d. 0)) shards s x.0 x.1)) ∙ ap (λ y. y.shape) (is.shard_headers s low) in
+          let own : Here x.0.journal x.0.flight x.0.disk = subst (λ k. IfSome x.0.flight (λ r. used_of x.0.journal + need_of k x.0.journal r ≤ limit x.0.disk)) shape (by_all (ShardFits limit) shards shard_fits s x.0 x.1) in
+          let back : d ≡ x.0.disk = subst (λ k. OfTold (held (k + s)) (λ d. d ≡ x.0.disk)) is.coordinators (shards_back s x.0 x.1) d told in
+          subst (λ J. Here J (flights_of count limit h.shape logs shards (h.shape.coordinators + s)) d) (sym (shard_journal h.shape logs shards s x.0 x.1))
+          (subst (λ f. Here x.0.journal f d) (sym (shard_flight h.shape logs shards s x.0 x.1)) (subst (λ y. Here x.0.journal x.0.flight y) (sym back) own))
 
   -- a node may hold what its disk may that was told
   pub may_hold : (held : ℕ → Option D) (h : Header) (logs : List (LogOf D)) (shards : List (ShardOf D)) → AreOpened content images limit count held h logs shards

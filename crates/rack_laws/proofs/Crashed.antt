@@ -26,7 +26,7 @@ module _ {D : Type 0} (images : D → List ℕ → Type 0) (held : ℕ → Optio
   -- the journal that a node's image opens to: it is that of the node, or stands before what may come next there
   record Left (n : ℕ) : Type 0 where
     now : List Record
-    is : (now ≡ J n) ⊎ ((r : Record) × (now ≡ r ∷ J n) × MayCome K mint submissions J n r)
+    is : (now ≡ J n) ⊎ ((r : Record) × (now ≡ r ∷ J n) × MayCome K mint submissions J n r × (flights n ≡ Some r))
     opens : n < node_count K → OfTold (held n) (λ d. OpensTo (reverse now) (contents n))
 
   same : (n : ℕ) → (n < node_count K → OfTold (held n) (λ d. OpensTo (reverse (J n)) (contents n))) → Left n
@@ -37,7 +37,7 @@ module _ {D : Type 0} (images : D → List ℕ → Type 0) (held : ℕ → Optio
   either n (Some r) e (inl opens) = same n (λ inside d told. opens)
   either n (Some r) e (inr opens) = record {
     now = r ∷ J n;
-    is = inr (r, refl, may n r e);
+    is = inr (r, refl, may n r e, e);
     opens = λ inside d told. subst (λ bs. Opens bs (contents n)) (bodies_more r (J n)) opens;
   }
 
@@ -49,15 +49,21 @@ module _ {D : Type 0} (images : D → List ℕ → Type 0) (held : ℕ → Optio
       go true low None e = same n (λ inside d told. absurd (let z : None ≡ Some d = sym e ∙ told in cc))
       go true low (Some d) e = either n (flights n) refl (keeps n (ltb-true n (node_count K) low) d e (contents n) (left n (ltb-true n (node_count K) low) d e))
 
-  grown : (n : ℕ) → (now : List Record) → (now ≡ J n) ⊎ ((r : Record) × (now ≡ r ∷ J n) × MayCome K mint submissions J n r) → IsEnd (J n) now
+  grown : (n : ℕ) → (now : List Record) → (now ≡ J n) ⊎ ((r : Record) × (now ≡ r ∷ J n) × MayCome K mint submissions J n r × (flights n ≡ Some r)) → IsEnd (J n) now
   grown n now (inl e) = subst (λ L. IsEnd (J n) L) (sym e) (end_self (J n))
-  grown n now (inr (r, e, come)) = (r ∷ [], e)
+  grown n now (inr (r, e, come, flies)) = (r ∷ [], e)
 
-  -- all of them are kept
+  came : (n : ℕ) → (now : List Record) → (now ≡ J n) ⊎ ((r : Record) × (now ≡ r ∷ J n) × MayCome K mint submissions J n r × (flights n ≡ Some r)) → (now ≡ J n) ⊎ ((r : Record) × (now ≡ r ∷ J n) × MayCome K mint submissions J n r)
+  came n now (inl e) = inl e
+  came n now (inr (r, e, come, flies)) = inr (r, e, come)
+
+  -- all of them are kept, each the journal of its node or that with what is in flight there
   pub crashed : 0 < K.shards → KeptJournals K mint submissions J → (X : ℕ → List Record) × OpenTo held K contents X × ((n : ℕ) → IsEnd (J n) (X n)) × KeptJournals K mint submissions X
+      × ((n : ℕ) → (X n ≡ J n) ⊎ ((r : Record) × (X n ≡ r ∷ J n) × MayCome K mint submissions J n r × (flights n ≡ Some r)))
   crashed some kept = (
     λ n. (at_node n).now,
     λ n inside. (at_node n).opens inside,
     λ n. grown n (at_node n).now (at_node n).is,
-    flush_law K mint submissions J (λ n. (at_node n).now) some kept (λ n. (at_node n).is),
+    flush_law K mint submissions J (λ n. (at_node n).now) some kept (λ n. came n (at_node n).now (at_node n).is),
+    λ n. (at_node n).is,
   )

@@ -1,3 +1,4 @@
 pub mod Opened
 pub mod Behind
+pub mod Rooms
 pub mod Crashed

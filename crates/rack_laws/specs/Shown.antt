@@ -1,11 +1,11 @@
 -- Ledgers as racks show and store them.
-use Rattle.std.specs.Prelude.{◌≡◌, ℕ, ◌+◌, ◌<◌, ◌≤◌, List, reverse, Option, Some}
+use Rattle.std.specs.Prelude.{◌≡◌, ℕ, ◌+◌, ◌<◌, ◌≤◌, List, reverse, Option, Some, IfSome}
 use Rattle.cbdc_types.specs.Limits.{IsWithinLimits}
 use Rattle.cbdc_model.specs.Records.{Digest, Shape, Record}
 use Rattle.cbdc_model.specs.Coins.{Output, FullTx, genesis_id}
 use Rattle.cbdc_model.specs.History.{header_of}
 use Rattle.cbdc_model.specs.World.{KeptJournals}
-use Rattle.cbdc_model.specs.Room.{kept_room}
+use Rattle.cbdc_model.specs.Room.{kept_room, need_of}
 use Rattle.cbdc_model.specs.Due.{used_of}
 use Rattle.record_log.specs.Held.{OpensTo, OpensToEither}
 use Rattle.coord_log.specs.Logs.{LogOf}
@@ -53,6 +53,13 @@ LogHasRoom limit l = used_of l.journal + kept_room l.header.shape l.journal ≤ 
 
 abbrev pub ShardHasRoom : {D : Type 0} → (D → ℕ) → ShardOf D → Type 0
 ShardHasRoom limit s = used_of s.journal + kept_room s.header.shape s.journal ≤ limit s.disk
+
+-- what is in flight there had room
+abbrev pub LogFits : {D : Type 0} → (D → ℕ) → LogOf D → Type 0
+LogFits limit l = IfSome l.flight (λ r. used_of l.journal + need_of l.header.shape l.journal r ≤ limit l.disk)
+
+abbrev pub ShardFits : {D : Type 0} → (D → ℕ) → ShardOf D → Type 0
+ShardFits limit s = IfSome s.flight (λ r. used_of s.journal + need_of s.header.shape s.journal r ≤ limit s.disk)
 
 -- so has each disk that is told, by these journals of its ledger's nodes
 abbrev pub HaveRoom : {D : Type 0} → (D → ℕ) → (ℕ → Option D) → Shape → (ℕ → List Record) → Type 0

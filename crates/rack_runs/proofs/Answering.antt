@@ -29,7 +29,7 @@ use Rattle.ledger_runs.specs.Turning.{IsLaneOf, OfKept, StaysKept}
 use Rattle.ledger_runs.specs.Telling.{SamePrepared}
 use Rattle.ledger_runs.specs.Pieces.{HasPrepared, IsNextOf}
 use Rattle.run_laws.specs.Faults.{IsAsked, asks_prepare, asks_log, asks_shard}
-use Rattle.ledger_runs.specs.Faults.{IsWanted, wants_prepare, wants_lock, IsCauseOf, IsSomeCauseOf, IsRunCause, HaveFailed, MayHold, Nothing}
+use Rattle.ledger_runs.specs.Faults.{IsWanted, wants_prepare, wants_lock, IsCauseOf, IsSomeCauseOf, IsRunCause, HaveFailed, MayHold, Nothing, RestsSince, AllRestSince}
 use Rattle.ledger_runs.specs.Least.{IsLeastFault, IsLeastOpen}
 use Rattle.ledger_runs.proofs.Faulting.{run_moves}
 use Rattle.run_laws.proofs.NewBatches.{new_batches, open_batches}
@@ -41,7 +41,7 @@ use Rattle.rack_laws.specs.Shown.{OfShown, HaveRoom, node_count}
 use Rattle.rack_laws.proofs.Behind.{keeps_flights, told_stored, may_hold, have_risen}
 use Rattle.rack_runs.specs.Kinds.{answer_at, answer_to, IsLaneAnswer}
 use Rattle.rack_runs.specs.Endings.{EndsRun, IsCut, IsInOrder, IsLeastAnswer}
-use Rattle.rack_runs.specs.Runs.{AddsOpen, IsCutWaves, IsCutShort, KeepsFlights, IsLaneFault, NonePrepared, NothingNext, PieceNext, PiecesPrepared, SparesOthers}
+use Rattle.rack_runs.specs.Runs.{AddsOpen, IsCutWaves, IsCutShort, KeepsFlights, IsLaneFault, NonePrepared, NothingNext, PieceNext, PiecesPrepared, SparesOthers, TookLedger}
 use Rattle.rack_runs.specs.declared.over.Over.{Over}
 use Rattle.rack_runs.specs.declared.over.Ran.{Ran}
 use Rattle.rack_runs.proofs.Checking.{same_journals}
@@ -186,7 +186,7 @@ module _ (K : Shape) (failed fails : ℕ → Type 0) (holds held : ℕ → ℕ �
     stamp_is = h.stamp_is;
     above = h.above;
   }
-  cause_by lane next E X lt node NoMemory h = tt
+  cause_by lane next E X lt node NoMemory h = h
 
   least_by : (sent : ℕ → List Compact) (next : ℕ → List Compact → Type 0) (I J : ℕ → List Record) (e : LaneFault) → IsLeastFault K sent next I J failed holds e → IsLeastFault K sent next I J fails held e
   least_by sent next I J e h = record {
@@ -221,6 +221,14 @@ module _ (K : Shape) (failed fails : ℕ → Type 0) (holds held : ℕ → ℕ �
   ends_by : (verdicts : VerdictsOf) (files : List (List FullTx)) (E X : ℕ → List Record) (e : LaneFault) → EndsRun verdicts files K E X failed holds e → EndsRun verdicts files K E X fails held e
   ends_by verdicts files E X e (inl (unprepared, left)) = inl (unprepared, open_by E X e left)
   ends_by verdicts files E X e (inr (middle, grows, unprepared, idle, ends)) = inr (middle, grows, unprepared, idle, files_by verdicts files middle X e ends)
+
+  rest_by : (E X : ℕ → List Record) → AllRestSince K E X failed → AllRestSince K E X fails
+  rest_by E X h lane inside = go (h lane inside)
+    where
+      go : RestsSince K lane E X failed → RestsSince K lane E X fails
+      go (inl (inl before)) = inl (inl before)
+      go (inl (inr (node, failure))) = inl (inr (node, record { inside = failure.inside; asked = failure.asked; did = failed_on node failure.inside failure.did }))
+      go (inr none) = inr none
 
   pub answer_by : (verdicts : VerdictsOf) (files : List (List FullTx)) (E X : ℕ → List Record) (a : Answer) → IsLeastAnswer (EndsRun verdicts files K E X failed holds) a → IsLeastAnswer (EndsRun verdicts files K E X fails held) a
   answer_by verdicts files E X a (inl memory) = inl memory
@@ -265,6 +273,20 @@ module _ {D : Type 0} (content : D → Option (List ℕ)) (images : D → List �
   may : (n c : ℕ) → n < node_count h.shape → MayHold (capacity_of count limit h.shape logs shards) n c → Holds n c
   may n c inside is_so = may_hold content images limit count held h logs shards are n c inside is_so
 
+  -- what was taken
+  pub took : HaveRoom limit held h.shape (journals_of count limit h.shape logs shards) → SparesOthers content held back → TookLedger content limit held back
+  took room spared = record {
+    ledger = record {
+      shape = h.shape;
+      genesis = h.genesis;
+      rows = caused.rows;
+      history = told_history content images limit count held h logs shards are caused.rows caused.merged;
+      caused = caused.caused;
+    };
+    room = subst (λ L. HaveRoom limit held h.shape L) entry room;
+    spared = spared;
+  }
+
   pub lane_fault : (verdicts : VerdictsOf) (files : List (List FullTx))
       → (0 < h.shape.batch → HaveBegunFiles h.shape verdicts files (journals_of count limit h.shape logs shards) (journals_of count limit h.shape now after))
       → ((n : ℕ) → IsEnd (journals_of count limit h.shape logs shards n) (journals_of count limit h.shape now after n)) → (a : Answer)
@@ -277,9 +299,10 @@ module _ {D : Type 0} (content : D → Option (List ℕ)) (images : D → List �
       (λ mint _. (sound : FullTx → Bool) → TellsSound verdicts sound → IsCut h.shape sound files mint (journals_of count limit h.shape logs shards) (journals_of count limit h.shape now after))
       → IsInOrder h.shape (journals_of count limit h.shape logs shards) (journals_of count limit h.shape now after)
       → ((n : ℕ) (r : Record) → flights_of count limit h.shape now after n ≡ Some r → HaveFailed (opened_of count limit h.shape logs shards) (faults_of count limit h.shape now after) n)
-      → OfShown content held (λ K mint submissions E. HaveRoom limit held K E) → OfShown content held (IsCutShort images limit back files (journals_of count limit h.shape now after)) → SparesOthers content held back
+      → AllRestSince h.shape (journals_of count limit h.shape logs shards) (journals_of count limit h.shape now after) (HaveFailed (opened_of count limit h.shape logs shards) (faults_of count limit h.shape now after))
+      → HaveRoom limit held h.shape (journals_of count limit h.shape logs shards) → OfShown content held (IsCutShort images limit back files (journals_of count limit h.shape now after)) → SparesOthers content held back
       → IsLaneFault content images limit held back before behind (PieceNext verdicts files) (EndsRun verdicts files) (PiecesPrepared verdicts files) files a
-  lane_fault verdicts files begun grows a cause least keeps cut orders flown room kept spared = record {
+  lane_fault verdicts files begun grows a cause least keeps cut orders flown rests room kept spared = record {
     ledger = record {
       shape = h.shape;
       genesis = h.genesis;
@@ -306,7 +329,10 @@ module _ {D : Type 0} (content : D → Option (List ℕ)) (images : D → List �
     least = subst (λ L. IsLeastAnswer (EndsRun verdicts files h.shape L (journals_of count limit h.shape now after) Rises Holds) a) entry
         (answer_by h.shape (HaveFailed (opened_of count limit h.shape logs shards) (faults_of count limit h.shape now after)) Rises (MayHold (capacity_of count limit h.shape logs shards)) Holds risen may verdicts files
         (journals_of count limit h.shape logs shards) (journals_of count limit h.shape now after) a least);
-    room = room;
+    rests = subst (λ L. AllRestSince h.shape L (journals_of count limit h.shape now after) Rises) entry
+        (rest_by h.shape (HaveFailed (opened_of count limit h.shape logs shards) (faults_of count limit h.shape now after)) Rises (MayHold (capacity_of count limit h.shape logs shards)) Holds risen may
+        (journals_of count limit h.shape logs shards) (journals_of count limit h.shape now after) rests);
+    room = subst (λ L. HaveRoom limit held h.shape L) entry room;
     kept = kept;
     spared = spared;
   }
@@ -358,6 +384,7 @@ of_nothing content images limit held back before now verdicts a f =
       cause = answer_moves f.ledger.shape (PieceNext verdicts [] f.ledger.shape E f.exit) (NothingNext f.ledger.shape E f.exit) E f.exit (λ n. Rose (before n) (now n)) (λ n. Rose (before n) (now n))
           (λ n c. OfTold (held n) (λ d. c ≡ limit d)) (λ n c. OfTold (held n) (λ d. c ≡ limit d)) (no_piece verdicts f.ledger.shape E f.exit) (λ n inside did. did) (λ n c inside may. may) a f.cause;
       least = no_files verdicts f.ledger.shape E f.exit (λ n. Rose (before n) (now n)) (λ n c. OfTold (held n) (λ d. c ≡ limit d)) a f.least;
+      rests = f.rests;
       room = f.room;
       kept = f.kept;
       spared = f.spared;

@@ -1,31 +1,33 @@
 -- The ledger that a rack showed, behind a run.
-use Rattle.std.proofs.Common.{◌≡◌, ℕ, ◌+◌, ◌-◌, ◌<◌, ◌≤◌, inl, inr, List, [], ◌++◌, length, reverse, Bool, Option, Some, None, refl, sym, ap, ◌∙◌, subst, arith}
+use Rattle.std.proofs.Common.{◌≡◌, ◌⊎◌, ◌∷◌, ℕ, ◌+◌, ◌-◌, ◌<◌, ◌≤◌, inl, inr, List, [], ◌++◌, length, reverse, Bool, Option, Some, None, refl, sym, ap, ◌∙◌, subst, arith}
 use Rattle.std.proofs.lemmas.Bool.{cases_lt}
 use Rattle.std.proofs.lemmas.List.{append-nil}
 use Rattle.cbdc_types.specs.Limits.{IsWithinLimits}
 use Rattle.cbdc_model.specs.Records.{Shape, Header, Record}
 use Rattle.cbdc_model.specs.Coins.{Output, FullTx, genesis_id}
 use Rattle.cbdc_model.specs.Clean.{Clean, IsProperCompact}
-use Rattle.cbdc_model.specs.History.{minted}
+use Rattle.cbdc_model.specs.History.{minted, header_of}
 use Rattle.cbdc_model.specs.Lanes.{IsEnd}
 use Rattle.cbdc_model.specs.World.{KeptJournals, AreIdle}
-use Rattle.cbdc_model.specs.Room.{kept_room}
+use Rattle.cbdc_model.specs.Room.{kept_room, need_of}
 use Rattle.cbdc_model.specs.Due.{used_of}
-use Rattle.caused_ledgers.specs.Caused.{IsCausedLedger}
 use Rattle.cbdc_model.specs.Headline.{Headline}
 use Rattle.cbdc_model.specs.Waves.{IsResumed, Waves}
 use Rattle.ledger_laws.proofs.Cuts.{end_trans}
 use Rattle.ledger_laws.proofs.Ledger.{steady}
 use Rattle.ledger_laws.proofs.Recovery.{idle_law}
+use Rattle.ledger_laws.proofs.FirstJournals.{never_empty}
+use Rattle.run_laws.specs.Flights.{MayCome}
 use Rattle.run_laws.proofs.Rests.{none_beyond}
 use Rattle.record_log.specs.Held.{OpensToEither}
 use Rattle.coord_log.specs.Logs.{LogOf}
 use Rattle.shard_node.specs.Shards.{ShardOf}
 use Rattle.rack_ledgers.specs.Ledgers.{ByPlace, AreOpened}
 use Rattle.rack_nodes.specs.Racked.{OfTold}
-use Rattle.rack_laws.specs.Shown.{Shows, OfShown, KeepsEach, HoldsEach, OpenTo, LogHasRoom, ShardHasRoom, HaveRoom, node_count}
+use Rattle.rack_laws.specs.Shown.{Shows, OfShown, KeepsEach, HoldsEach, OpenTo, LogHasRoom, ShardHasRoom, LogFits, ShardFits, HaveRoom, node_count}
 use Rattle.rack_laws.proofs.Opened.{at_place, same_shape, same_journals, logs_held, shards_held}
-use Rattle.rack_laws.proofs.Behind.{log_journal, shard_journal, are_quiet, none_fly, keeps_each, keeps_flights, holds_each, rooms_each}
+use Rattle.rack_laws.proofs.Behind.{log_journal, shard_journal, are_quiet, none_fly, keeps_each, keeps_flights, holds_each, rooms_each, fits_each}
+use Rattle.rack_laws.proofs.Rooms.{room_behind}
 use Rattle.rack_laws.proofs.Crashed.{crashed}
 use Rattle.ledger_runs.specs.Turning.{OfKept, StaysKept}
 use Rattle.ledger_nodes.specs.Ledgers.{IsLedger, journals_of, flights_of, AreStored, AreQuiet}
@@ -35,23 +37,40 @@ use Rattle.sound_laws.proofs.Telling.{is_sound_law}
 use Rattle.ledger_runs.specs.Flying.{AllMayCome}
 use Rattle.file_runs.specs.Runs.{joined, FliesWith}
 use Rattle.rack_runs.specs.Endings.{IsInOrder}
-use Rattle.rack_runs.specs.Runs.{IsGrown, IsRun, IsRecovered, IsCutShort, SparesOthers, TookLedger}
+use Rattle.rack_runs.specs.Runs.{IsGrown, IsRun, IsRecovered, IsCutShort, SparesOthers}
 use Rattle.printed_lines.specs.Unspent.{IsUnspentCount}
 use Rattle.rack_runs.specs.declared.over.Ran.{Ran}
 use Rattle.rack_runs.specs.Telling.{CountAll, TellsRun, IsTold}
 use Rattle.rack_runs.proofs.Unspent.{unspent_counted}
-use Rattle.std.specs.Prelude.{map, All}
+use Rattle.std.specs.Prelude.{map, All, IfSome}
 
 -- kept journals have nothing beyond the ledger's nodes
 beyond : (K : Shape) (mint : List Output) (submissions : List FullTx) (E : ℕ → List Record) → KeptJournals K mint submissions E → (n : ℕ) → node_count K ≤ n → E n ≡ []
 beyond K mint submissions E kept n le =
     sym (kept.history.journals_are n) ∙ none_beyond K (minted mint) (IsProperCompact submissions) kept.later (steady K (minted mint) (IsProperCompact submissions) kept.later kept.kept) n le
 
+-- a crash leaves a node's journal, or that with what was in flight there
+abbrev pub LandsOrNot : Shape → List Output → List FullTx → (ℕ → List Record) → (ℕ → Option Record) → ℕ → List Record → Type 0
+LandsOrNot K mint submissions J flights n now = (now ≡ J n) ⊎ ((r : Record) × (now ≡ r ∷ J n) × MayCome K mint submissions J n r × (flights n ≡ Some r))
+
+-- for which there was room, and for what is kept then
+landed_room : (K : Shape) (mint : List Output) (submissions : List FullTx) (J : ℕ → List Record) (flights : ℕ → Option Record) (n : ℕ) (now : List Record) (limit : ℕ) → n < node_count K → KeptJournals K mint submissions J
+    → used_of (J n) + kept_room K (J n) ≤ limit → IfSome (flights n) (λ r. used_of (J n) + need_of K (J n) r ≤ limit) → LandsOrNot K mint submissions J flights n now → used_of now + kept_room K now ≤ limit
+landed_room K mint submissions J flights n now limit inside kept room fits (inl e) = subst (λ L. used_of L + kept_room K L ≤ limit) (sym e) room
+landed_room K mint submissions J flights n now limit inside kept room fits (inr (r, e, may, flies)) =
+    subst (λ L. used_of L + kept_room K L ≤ limit) (sym e)
+    (room_behind (header_of K (minted mint).id n) (J n) r limit (λ none. never_empty K (minted mint) kept.later n inside (kept.history.journals_are n ∙ none)) may.after room
+    (subst (λ o. IfSome o (λ q. used_of (J n) + need_of K (J n) q ≤ limit)) flies fits))
+
 module _ {D : Type 0} (content : D → Option (List ℕ)) (images : D → List ℕ → Type 0) (limit count : D → ℕ) (held back : ℕ → Option D) (h g : Header)
     (logs now : List (LogOf D)) (shards after : List (ShardOf D)) (files : List (List FullTx))
     (are : AreOpened content images limit count held h logs shards) (is : IsLedger g now after) (shape : g.shape ≡ h.shape)
     (logs_back : ByPlace (λ n l. OfTold (back n) (λ d. d ≡ l.disk)) now) (shards_back : ByPlace (λ s x. OfTold (back (length now + s)) (λ d. d ≡ x.disk)) after)
     (stored : AreStored content images logs shards → AreStored content images now after) where
+  -- what is in flight had room, by journals
+  abbrev pub HaveFit : Shape → (ℕ → List Record) → (ℕ → Option Record) → Type 0
+  HaveFit K J F = (n : ℕ) → n < node_count K → OfTold (back n) (λ d. IfSome (F n) (λ r. used_of (J n) + need_of K (J n) r ≤ limit d))
+
   -- what a run says of its journals, by the shape
   abbrev pub KeepsIt : Shape → Type 0
   KeepsIt S = OfKept S (journals_of count limit S logs shards) (λ mint submissions. StaysKept S (journals_of count limit S logs shards) (journals_of count limit S now after) mint (submissions ++ joined files))
@@ -72,7 +91,7 @@ module _ {D : Type 0} (content : D → Option (List ℕ)) (images : D → List �
     pub quiet : OfKept S (journals_of count limit S logs shards) (λ _ _. AreQuiet logs shards → AreQuiet now after)
 
   -- each disk that was told had room for its journal and for what is kept for its open batches
-  opened_room : HaveRoom limit held h.shape (journals_of count limit h.shape logs shards)
+  pub opened_room : HaveRoom limit held h.shape (journals_of count limit h.shape logs shards)
   opened_room n inside = elim (cases_lt n h.shape.coordinators) [
     | inl low ↦ λ was told.
         let l = at_place logs n (omega (arith, low, are.coordinators)) in
@@ -99,9 +118,6 @@ module _ {D : Type 0} (content : D → Option (List ℕ)) (images : D → List �
     journals_are : journals_of count limit K logs shards ≡ E
     journals_are = λ i n. same_journals content images limit count held h logs shards are K (genesis_id mint) E within shows (beyond K mint submissions E kept) n i
 
-    had_room : HaveRoom limit held K E
-    had_room = subst (λ L. HaveRoom limit held K L) journals_are (subst (λ k. HaveRoom limit held k (journals_of count limit k logs shards)) shape_is opened_room)
-
     others_stay : ((n : ℕ) → length logs + length shards ≤ n → back n ≡ held n) → (n : ℕ) → node_count K ≤ n → back n ≡ held n
     others_stay others = subst (λ k. (n : ℕ) → node_count k ≤ n → back n ≡ held n) shape_is (λ n le. others n (omega (arith, le, are.coordinators, are.shards_are)))
 
@@ -124,6 +140,9 @@ module _ {D : Type 0} (content : D → Option (List ℕ)) (images : D → List �
     disks_fly = subst (λ k. (n : ℕ) → n < node_count k → OfTold (back n) (λ d. (c : List ℕ) → images d c → OpensToEither (reverse (journals_of count limit k now after n)) (flights_of count limit k now after n) c))
         (shape ∙ shape_is) (keeps_flights content images limit count back g now after is is_stored logs_back shards_back)
 
+    rooms_there : All (LogHasRoom limit) now → All (ShardHasRoom limit) after → HaveRoom limit back K (journals_of count limit K now after)
+    rooms_there log_rooms shard_rooms = subst (λ k. HaveRoom limit back k (journals_of count limit k now after)) (shape ∙ shape_is) (rooms_each content images limit count back g now after is log_rooms shard_rooms logs_back shards_back)
+
     -- nothing was in flight at entry
     may_come : FliesIt h.shape → AllMayCome K mint (submissions ++ joined files) (journals_of count limit K now after) (flights_of count limit K now after)
     may_come flies = subst FliesIt shape_is flies mint submissions kept_there (λ n r there.
@@ -138,39 +157,34 @@ module _ {D : Type 0} (content : D → Option (List ℕ)) (images : D → List �
           kept = a.kept;
         }
 
-    is_run : (verdicts : VerdictsOf) → KeepsIt h.shape → OrdersIt h.shape → Ends verdicts h.shape → IsRun images back verdicts files K mint submissions E
-    is_run verdicts keeps orders ends =
+    is_run : (verdicts : VerdictsOf) → KeepsIt h.shape → OrdersIt h.shape → All (LogHasRoom limit) now → All (ShardHasRoom limit) after → Ends verdicts h.shape → IsRun images limit back verdicts files K mint submissions E
+    is_run verdicts keeps orders log_rooms shard_rooms ends =
         let grown = is_grown keeps in
         let e = subst (Ends verdicts) shape_is ends in
         record {
           exit = journals_of count limit K now after;
           grown = grown;
           disks = disks_hold (e.quiet mint submissions kept_there (are_quiet content images limit count held h logs shards are));
+          rooms = rooms_there log_rooms shard_rooms;
           resumed = λ none. subst (λ L. IsResumed K L (journals_of count limit K now after)) journals_are (e.resumed mint submissions kept_there none);
           waves = subst (λ L. Waves K (sound_by verdicts) files L (journals_of count limit K now after)) journals_are (e.waves mint submissions kept_there (sound_by verdicts) (is_sound_law verdicts));
           in_order = subst (λ L. IsInOrder K L (journals_of count limit K now after)) journals_are (subst OrdersIt shape_is orders);
           headline = λ clean. idle_law K mint (submissions ++ joined files) (journals_of count limit K now after) within.some_shard within.some_lane clean grown.kept e.idle;
         }
 
-    is_told : (ran : Ran) (verdicts : VerdictsOf) → KeepsIt h.shape → OrdersIt h.shape → Ends verdicts h.shape → TellsIt verdicts ran h.shape → CountAll (map (λ s. s.journal) after) ran.unspent → IsTold images back verdicts files ran K mint submissions E
+    is_told : (ran : Ran) (verdicts : VerdictsOf) → KeepsIt h.shape → OrdersIt h.shape → All (LogHasRoom limit) now → All (ShardHasRoom limit) after → Ends verdicts h.shape → TellsIt verdicts ran h.shape → CountAll (map (λ s. s.journal) after) ran.unspent → IsTold images limit back verdicts files ran K mint submissions E
     unfolding is_run
-    is_told ran verdicts keeps orders ends told counted = record {
-      run = is_run verdicts keeps orders ends;
+    is_told ran verdicts keeps orders log_rooms shard_rooms ends told counted = record {
+      run = is_run verdicts keeps orders log_rooms shard_rooms ends;
       tells = subst (λ L. TellsRun K verdicts files L (journals_of count limit K now after) ran.resumed.items ran.waves.items) journals_are (subst (TellsIt verdicts ran) shape_is told mint submissions kept_there);
       unspent = subst (λ k. IsUnspentCount k (journals_of count limit k now after) ran.unspent) (shape ∙ shape_is) (unspent_counted count limit g now after is ran.unspent counted);
     }
 
-  pub tells : (verdicts : VerdictsOf) (ran : Ran) → KeepsIt h.shape → OrdersIt h.shape → Ends verdicts h.shape → TellsIt verdicts ran h.shape → CountAll (map (λ s. s.journal) after) ran.unspent → OfShown content held (IsTold images back verdicts files ran)
-  tells verdicts ran keeps orders ends told counted K mint submissions E within shows kept = is_told K mint submissions E within shows kept ran verdicts keeps orders ends told counted
+  pub tells : (verdicts : VerdictsOf) (ran : Ran) → KeepsIt h.shape → OrdersIt h.shape → All (LogHasRoom limit) now → All (ShardHasRoom limit) after → Ends verdicts h.shape → TellsIt verdicts ran h.shape → CountAll (map (λ s. s.journal) after) ran.unspent → OfShown content held (IsTold images limit back verdicts files ran)
+  tells verdicts ran keeps orders log_rooms shard_rooms ends told counted K mint submissions E within shows kept = is_told K mint submissions E within shows kept ran verdicts keeps orders log_rooms shard_rooms ends told counted
 
   pub spares : ((n : ℕ) → length logs + length shards ≤ n → back n ≡ held n) → SparesOthers content held back
   spares others K mint submissions E within shows kept = others_stay K mint submissions E within shows kept others
-
-  pub had_rooms : OfShown content held (λ K mint submissions E. HaveRoom limit held K E)
-  had_rooms = had_room
-
-  pub took : IsCausedLedger content held → ((n : ℕ) → length logs + length shards ≤ n → back n ≡ held n) → TookLedger content limit held back
-  took ledger others = record { ledger = ledger; room = had_room; spared = spares others }
 
   pub ends : (verdicts : VerdictsOf) → AreIdle h.shape (journals_of count limit h.shape now after)
       → OfKept h.shape (journals_of count limit h.shape logs shards) (λ _ _. files ≡ [] → IsResumed h.shape (journals_of count limit h.shape logs shards) (journals_of count limit h.shape now after))
@@ -179,43 +193,51 @@ module _ {D : Type 0} (content : D → Option (List ℕ)) (images : D → List �
       → Ends verdicts h.shape
   ends verdicts idle resumed waves quiet = record { idle = idle; resumed = resumed; waves = waves; quiet = quiet }
 
-  pub runs : (verdicts : VerdictsOf) → KeepsIt h.shape → OrdersIt h.shape → Ends verdicts h.shape → OfShown content held (IsRun images back verdicts files)
-  runs verdicts keeps orders ends K mint submissions E within shows kept = is_run K mint submissions E within shows kept verdicts keeps orders ends
+  pub runs : (verdicts : VerdictsOf) → KeepsIt h.shape → OrdersIt h.shape → All (LogHasRoom limit) now → All (ShardHasRoom limit) after → Ends verdicts h.shape → OfShown content held (IsRun images limit back verdicts files)
+  runs verdicts keeps orders log_rooms shard_rooms ends K mint submissions E within shows kept = is_run K mint submissions E within shows kept verdicts keeps orders log_rooms shard_rooms ends
 
-  pub cut_short : KeepsIt h.shape → FliesIt h.shape → All (LogHasRoom limit) now → All (ShardHasRoom limit) after → OfShown content held (IsCutShort images limit back files (journals_of count limit h.shape now after))
-  cut_short keeps flies log_rooms shard_rooms K mint submissions E within shows kept =
+  pub cut_short : KeepsIt h.shape → FliesIt h.shape → All (LogHasRoom limit) now → All (ShardHasRoom limit) after → All (LogFits limit) now → All (ShardFits limit) after → OfShown content held (IsCutShort images limit back files (journals_of count limit h.shape now after))
+  cut_short keeps flies log_rooms shard_rooms log_fits shard_fits K mint submissions E within shows kept =
       let grown = is_grown K mint submissions E within shows kept keeps in
+      let rooms = rooms_there K mint submissions E within shows kept log_rooms shard_rooms in
+      let fits : HaveFit K (journals_of count limit K now after) (flights_of count limit K now after) = subst (λ k. HaveFit k (journals_of count limit k now after) (flights_of count limit k now after)) (shape ∙ shape_is K mint submissions E within shows kept)
+      (fits_each content images limit count back g now after is log_fits shard_fits logs_back shards_back) in
       subst (λ k. IsCutShort images limit back files (journals_of count limit k now after) K mint submissions E) (sym (shape_is K mint submissions E within shows kept)) (record {
         grown = grown;
         disks = disks_keep K mint submissions E within shows kept;
-        rooms = subst (λ k. HaveRoom limit back k (journals_of count limit k now after)) (shape ∙ shape_is K mint submissions E within shows kept)
-            (rooms_each content images limit count back g now after is log_rooms shard_rooms logs_back shards_back);
+        rooms = rooms;
         crashes = λ contents left.
             let came : (X : ℕ → List Record) × OpenTo back K contents X × ((n : ℕ) → IsEnd (journals_of count limit K now after n) (X n)) × KeptJournals K mint (submissions ++ joined files) X
+            × ((n : ℕ) → LandsOrNot K mint (submissions ++ joined files) (journals_of count limit K now after) (flights_of count limit K now after) n (X n))
             = crashed images back K mint (submissions ++ joined files) (journals_of count limit K now after) (flights_of count limit K now after) (may_come K mint submissions E within shows kept flies)
-            (disks_fly K mint submissions E within shows kept) contents left within.some_shard grown.kept in
-            (came.0, came.1, record { grows = λ n. end_trans (E n) (journals_of count limit K now after n) (came.0 n) (grown.grows n) (came.2 n); kept = came.3 });
+            (disks_fly K mint submissions E within shows kept) contents left within.some_shard grown.kept in (
+              came.0,
+              came.1,
+              record { grows = λ n. end_trans (E n) (journals_of count limit K now after n) (came.0 n) (grown.grows n) (came.2 n); kept = came.3 },
+              λ n inside d told. landed_room K mint (submissions ++ joined files) (journals_of count limit K now after) (flights_of count limit K now after) n (came.0 n) (limit d) inside grown.kept (rooms n inside d told) (fits n inside d told) (came.4 n),
+            );
       })
 
 -- a run of no files is a recovery
-unfoldable pub recovered : {D : Type 0} (images : D → List ℕ → Type 0) (back : ℕ → Option D) (verdicts : VerdictsOf) (K : Shape) (mint : List Output) (submissions : List FullTx) (E : ℕ → List Record)
-    → IsRun images back verdicts [] K mint submissions E → IsRecovered images back K mint submissions E
-recovered images back verdicts K mint submissions E run =
+unfoldable pub recovered : {D : Type 0} (images : D → List ℕ → Type 0) (limit : D → ℕ) (back : ℕ → Option D) (verdicts : VerdictsOf) (K : Shape) (mint : List Output) (submissions : List FullTx) (E : ℕ → List Record)
+    → IsRun images limit back verdicts [] K mint submissions E → IsRecovered images limit back K mint submissions E
+recovered images limit back verdicts K mint submissions E run =
     let none : submissions ++ [] ≡ submissions = append-nil submissions in
     record {
       exit = run.exit;
       grown = subst (λ s. IsGrown K mint s E run.exit) none run.grown;
       disks = run.disks;
+      rooms = run.rooms;
       resumed = run.resumed refl;
       in_order = run.in_order;
       headline = λ clean. subst (λ s. Headline K mint s run.exit) none (run.headline (subst (Clean mint) (sym none) clean));
     }
 
-pub recovers : {D : Type 0} (content : D → Option (List ℕ)) (images : D → List ℕ → Type 0) (held back : ℕ → Option D) (verdicts : VerdictsOf)
-    → OfShown content held (IsRun images back verdicts []) → OfShown content held (IsRecovered images back)
-recovers content images held back verdicts shown K mint submissions E within shows kept = recovered images back verdicts K mint submissions E (shown K mint submissions E within shows kept)
+pub recovers : {D : Type 0} (content : D → Option (List ℕ)) (images : D → List ℕ → Type 0) (limit : D → ℕ) (held back : ℕ → Option D) (verdicts : VerdictsOf)
+    → OfShown content held (IsRun images limit back verdicts []) → OfShown content held (IsRecovered images limit back)
+recovers content images limit held back verdicts shown K mint submissions E within shows kept = recovered images limit back verdicts K mint submissions E (shown K mint submissions E within shows kept)
 
 -- which verdicts they are does not matter where there are no files
-pub told_of_none : {D : Type 0} (content : D → Option (List ℕ)) (images : D → List ℕ → Type 0) (held back : ℕ → Option D) (verdicts : VerdictsOf) (ran : Ran)
-    → OfShown content held (IsTold images back verdicts [] ran) → (known : VerdictsOf) × OfShown content held (IsTold images back known [] ran)
-told_of_none content images held back verdicts ran shown = (verdicts, shown)
+pub told_of_none : {D : Type 0} (content : D → Option (List ℕ)) (images : D → List ℕ → Type 0) (limit : D → ℕ) (held back : ℕ → Option D) (verdicts : VerdictsOf) (ran : Ran)
+    → OfShown content held (IsTold images limit back verdicts [] ran) → (known : VerdictsOf) × OfShown content held (IsTold images limit back known [] ran)
+told_of_none content images limit held back verdicts ran shown = (verdicts, shown)

@@ -18,6 +18,7 @@ use Rattle.rack_nodes.specs.Racked.{OfTold}
 use Rattle.caused_ledgers.specs.Caused.{IsCausedLedger}
 use Rattle.caused_ledgers.specs.Laws.{AllTell}
 use Rattle.ledger_runs.specs.Turning.{IsLaneOf, OfKept}
+use Rattle.ledger_runs.specs.Faults.{AllRestSince}
 use Rattle.ledger_runs.specs.Pieces.{HasPrepared}
 use Rattle.file_runs.specs.Runs.{joined, HaveBegunFiles, IsFilesPiece}
 use Rattle.file_runs.specs.Endings.{HasBegunFirst}
@@ -29,31 +30,34 @@ pub record IsGrown (K : Shape) (mint : List Output) (submissions : List FullTx) 
   pub grows : (n : ℕ) → IsEnd (E n) (X n)
   pub kept : KeptJournals K mint submissions X
 
--- a run: the open batches are brought to their end, lane by lane in rising order, one file's wave after another follows, each disk holds its journal and no record more,
--- and the sentence holds of the journals
-pub record IsRun {D : Type 0} (images : D → List ℕ → Type 0) (held : ℕ → Option D) (verdicts : VerdictsOf) (files : List (List FullTx)) (K : Shape) (mint : List Output) (submissions : List FullTx) (E : ℕ → List Record) : Type 0 where
+-- a run: the open batches are brought to their end, lane by lane in rising order, one file's wave after another follows, each disk holds its journal and no record more
+-- and has room for it and for what is kept, and the sentence holds of the journals
+pub record IsRun {D : Type 0} (images : D → List ℕ → Type 0) (limit : D → ℕ) (held : ℕ → Option D) (verdicts : VerdictsOf) (files : List (List FullTx)) (K : Shape) (mint : List Output) (submissions : List FullTx) (E : ℕ → List Record) : Type 0 where
   pub exit : ℕ → List Record
   pub grown : IsGrown K mint (submissions ++ joined files) E exit
   pub disks : HoldsEach images held K exit
+  pub rooms : HaveRoom limit held K exit
   pub resumed : files ≡ [] → IsResumed K E exit
   pub waves : Waves K (sound_by verdicts) files E exit
   pub in_order : IsInOrder K E exit
   pub headline : Clean mint (submissions ++ joined files) → Headline K mint (submissions ++ joined files) exit
 
--- a recovery: the open batches are brought to their end, lane by lane in rising order, nothing else is done, each disk holds its journal and no record more, and the
--- sentence holds of the journals
-pub record IsRecovered {D : Type 0} (images : D → List ℕ → Type 0) (held : ℕ → Option D) (K : Shape) (mint : List Output) (submissions : List FullTx) (E : ℕ → List Record) : Type 0 where
+-- a recovery: the open batches are brought to their end, lane by lane in rising order, nothing else is done, each disk holds its journal and no record more and
+-- has room for it and for what is kept, and the sentence holds of the journals
+pub record IsRecovered {D : Type 0} (images : D → List ℕ → Type 0) (limit : D → ℕ) (held : ℕ → Option D) (K : Shape) (mint : List Output) (submissions : List FullTx) (E : ℕ → List Record) : Type 0 where
   pub exit : ℕ → List Record
   pub grown : IsGrown K mint submissions E exit
   pub disks : HoldsEach images held K exit
+  pub rooms : HaveRoom limit held K exit
   pub resumed : IsResumed K E exit
   pub in_order : IsInOrder K E exit
   pub headline : Clean mint submissions → Headline K mint submissions exit
 
--- whatever a crash leaves of the disks opens to journals that have grown from those at entry, and are kept
-abbrev pub SurvivesCrashes : {D : Type 0} → (D → List ℕ → Type 0) → (ℕ → Option D) → Shape → List Output → List FullTx → (ℕ → List Record) → Type 0
-SurvivesCrashes images held K mint submissions E =
-    (contents : ℕ → List ℕ) → AreLeft images held K contents → (X : ℕ → List Record) × OpenTo held K contents X × IsGrown K mint submissions E X
+-- whatever a crash leaves of the disks opens to journals that have grown from those at entry, and are kept, and each disk has room for its journal
+-- and for what is kept for the batches that are open there
+abbrev pub SurvivesCrashes : {D : Type 0} → (D → List ℕ → Type 0) → (D → ℕ) → (ℕ → Option D) → Shape → List Output → List FullTx → (ℕ → List Record) → Type 0
+SurvivesCrashes images limit held K mint submissions E =
+    (contents : ℕ → List ℕ) → AreLeft images held K contents → (X : ℕ → List Record) × OpenTo held K contents X × IsGrown K mint submissions E X × HaveRoom limit held K X
 
 -- a run that a lane's fault cut short: each disk keeps its journal at exit, with one record more or without, and has room for it and for what is kept
 -- for the batches that are open there; and whatever a crash leaves of the disks is kept
@@ -61,17 +65,17 @@ pub record IsCutShort {D : Type 0} (images : D → List ℕ → Type 0) (limit :
   pub grown : IsGrown K mint (submissions ++ joined files) E exit
   pub disks : KeepsEach images held K exit
   pub rooms : HaveRoom limit held K exit
-  pub crashes : SurvivesCrashes images held K mint (submissions ++ joined files) E
+  pub crashes : SurvivesCrashes images limit held K mint (submissions ++ joined files) E
 
 -- the disks that are no nodes of whatever kept ledger the rack showed are as before
 abbrev pub SparesOthers : {D : Type 0} → (D → Option (List ℕ)) → (ℕ → Option D) → (ℕ → Option D) → Type 0
 SparesOthers content held back = OfShown content held (λ K mint submissions E. (n : ℕ) → node_count K ≤ n → back n ≡ held n)
 
--- the disks told a ledger in which each record was caused; where it was kept, each of its disks had room for its journal and for what is kept for the
--- batches that were open there; and all other disks are as before
+-- the disks told a ledger in which each record was caused; each of its disks had room for its journal and for what is kept for the batches that were
+-- open there; and where the ledger was kept all other disks are as before
 pub record TookLedger {D : Type 0} (content : D → Option (List ℕ)) (limit : D → ℕ) (held back : ℕ → Option D) : Type 0 where
   pub ledger : IsCausedLedger content held
-  pub room : OfShown content held (λ K mint submissions E. HaveRoom limit held K E)
+  pub room : HaveRoom limit held ledger.shape (λ n. journal n (reverse ledger.rows))
   pub spared : SparesOthers content held back
 
 -- whatever a crash may leave of a node's disk that is told opens to this journal, with what is in flight there or without
@@ -81,8 +85,9 @@ KeepsFlights images held K X flights = (n : ℕ) → n < node_count K → OfTold
 -- a lane's fault ended a run over the ledger that the disks told, in which each record was caused: its journals have grown at their ends, as a run that
 -- began so far grows them; a record is in flight only at a node whose disk has failed since, and where the disks told all each keeps its journal, with
 -- what is in flight there or without; the answer has its cause, by the counts of
--- faults before and now and by what the disks that were told may hold; it is the least lane's that met one; where the ledger was kept, each of its disks
--- had room for its journal and for what is kept for the batches that were open there, it is cut short, and the disks that are no nodes of it are as before
+-- faults before and now and by what the disks that were told may hold; it is the least lane's that met one; each lane is between
+-- batches, or its batch lacks a Lock, or the disk of a node that it asks has failed, or it has prepared nothing, so that its batch was open before; each disk of the ledger
+-- had room for its journal and for what is kept for the batches that were open there; where the ledger was kept it is cut short, and the disks that are no nodes of it are as before
 pub record IsLaneFault {D : Type 0} (content : D → Option (List ℕ)) (images : D → List ℕ → Type 0) (limit : D → ℕ) (held back : ℕ → Option D) (before now : ℕ → ℕ) (next : Shape → (ℕ → List Record) → (ℕ → List Record) → ℕ → List Compact → Type 0)
     (ends : Shape → (ℕ → List Record) → (ℕ → List Record) → (ℕ → Type 0) → (ℕ → ℕ → Type 0) → LaneFault → Type 0) (begun : Shape → (ℕ → List Record) → (ℕ → List Record) → Type 0) (files : List (List FullTx)) (answer : Answer) : Type 0 where
   pub ledger : IsCausedLedger content held
@@ -94,7 +99,8 @@ pub record IsLaneFault {D : Type 0} (content : D → Option (List ℕ)) (images 
   pub disks : AllTell content held ledger.shape → KeepsFlights images back ledger.shape exit flights
   pub cause : IsLaneAnswer ledger.shape (next ledger.shape (λ n. journal n (reverse ledger.rows)) exit) (λ n. journal n (reverse ledger.rows)) exit (λ n. Rose (before n) (now n)) (λ n c. OfTold (held n) (λ d. c ≡ limit d)) answer
   pub least : IsLeastAnswer (ends ledger.shape (λ n. journal n (reverse ledger.rows)) exit (λ n. Rose (before n) (now n)) (λ n c. OfTold (held n) (λ d. c ≡ limit d))) answer
-  pub room : OfShown content held (λ K mint submissions E. HaveRoom limit held K E)
+  pub rests : AllRestSince ledger.shape (λ n. journal n (reverse ledger.rows)) exit (λ n. Rose (before n) (now n))
+  pub room : HaveRoom limit held ledger.shape (λ n. journal n (reverse ledger.rows))
   pub kept : OfShown content held (IsCutShort images limit back files exit)
   pub spared : SparesOthers content held back
 

@@ -27,7 +27,7 @@ pub record TellsRun (K : Shape) (verdicts : VerdictsOf) (files : List (List Full
   pub told : TellFiles K verdicts files middle X waves
 
 -- a run, which tells what it did, from journals E to those at its exit
-pub record IsTold {D : Type 0} (images : D → List ℕ → Type 0) (held : ℕ → Option D) (verdicts : VerdictsOf) (files : List (List FullTx)) (ran : Ran) (K : Shape) (mint : List Output) (submissions : List FullTx) (E : ℕ → List Record) : Type 0 where
-  pub run : IsRun images held verdicts files K mint submissions E
+pub record IsTold {D : Type 0} (images : D → List ℕ → Type 0) (limit : D → ℕ) (held : ℕ → Option D) (verdicts : VerdictsOf) (files : List (List FullTx)) (ran : Ran) (K : Shape) (mint : List Output) (submissions : List FullTx) (E : ℕ → List Record) : Type 0 where
+  pub run : IsRun images limit held verdicts files K mint submissions E
   pub tells : TellsRun K verdicts files E run.exit ran.resumed.items ran.waves.items
   pub unspent : IsUnspentCount K run.exit ran.unspent

@@ -8,11 +8,11 @@ ghost use Rattle.cbdc_model.specs.Waves.{IsResumed, Waves};
 ghost use Rattle.input_files.specs.Limits.{IsShort};
 ghost use Rattle.submissions.specs.Checks.{TellsSound};
 ghost use Rattle.ledger_runs.specs.Turning.{OfKept, StaysKept};
-ghost use Rattle.ledger_runs.specs.Faults.{HaveFailed, MayHold};
+ghost use Rattle.ledger_runs.specs.Faults.{HaveFailed, MayHold, AllRestSince};
 ghost use Rattle.file_runs.specs.Runs.{joined, HaveBegunFiles, IsFilesPiece, FliesWith};
 ghost use Rattle.rack_runs.specs.Endings.{EndsRun, IsCut, IsInOrder, IsLeastAnswer};
 ghost use Rattle.ledger_nodes.specs.Ledgers.{IsLedger, journals_of, flights_of, faults_of, opened_of, capacity_of, AreChecked, AreStored, AreQuiet};
-ghost use Rattle.rack_laws.specs.Shown.{LogHasRoom, ShardHasRoom};
+ghost use Rattle.rack_laws.specs.Shown.{LogHasRoom, ShardHasRoom, LogFits, ShardFits};
 ghost use Rattle.rack_runs.specs.Kinds.{answer_to, IsLaneAnswer, FliesBroken, ShardFliesBroken};
 ghost use Rattle.lane_driver.specs.declared.fault.LaneFault.{LaneFault as FaultOf};
 ghost use Rattle.rack_runs.specs.Telling.{CountAll, TellsRun};
@@ -41,6 +41,7 @@ fn see_logs<D: Disk>(logs: &[CoordLog<D>])
     ensures counts { All (λ l. l.faults ≡ D.count l.disk) logs.now }
     ensures rooms { All (LogHasRoom D.limit) logs.now }
     ensures flown { All FliesBroken logs.now }
+    ensures fits { All (LogFits D.limit) logs.now }
 {
     'logs: for log in logs {
         let _header = log.header();
@@ -51,6 +52,7 @@ fn see_logs<D: Disk>(logs: &[CoordLog<D>])
 fn see_shards<D: Disk>(shards: &[ShardNode<D>])
     ensures rooms { All (ShardHasRoom D.limit) shards.now }
     ensures flown { All (ShardFliesBroken D.count) shards.now }
+    ensures fits { All (ShardFits D.limit) shards.now }
 {
     'shards: for shard in shards {
         let _header = shard.header();
@@ -108,6 +110,8 @@ pub(crate) fn run_nodes<W: Wait, D: Disk, V: Verifier, G: Gate>(
     ensures counts { All (λ l. l.faults ≡ D.count l.disk) result.nodes.logs.items }
     ensures log_rooms { All (LogHasRoom D.limit) result.nodes.logs.items }
     ensures shard_rooms { All (ShardHasRoom D.limit) result.nodes.shards.items }
+    ensures log_fits { All (LogFits D.limit) result.nodes.logs.items }
+    ensures shard_fits { All (ShardFits D.limit) result.nodes.shards.items }
     ensures idle { OnOk result.came (AreIdle nodes.header.shape (journals_of D.count D.limit nodes.header.shape result.nodes.logs.items result.nodes.shards.items)) }
     ensures keeps { OfKept nodes.header.shape (journals_of D.count D.limit nodes.header.shape nodes.logs.items nodes.shards.items)
         (λ mint submissions. StaysKept nodes.header.shape (journals_of D.count D.limit nodes.header.shape nodes.logs.items nodes.shards.items)
@@ -149,6 +153,12 @@ pub(crate) fn run_nodes<W: Wait, D: Disk, V: Verifier, G: Gate>(
     // Only where the disk has failed since its node was opened.
     ensures flown { (n : ℕ) (r : Record) → flights_of D.count D.limit nodes.header.shape result.nodes.logs.items result.nodes.shards.items n ≡ Some r
         → HaveFailed (opened_of D.count D.limit nodes.header.shape nodes.logs.items nodes.shards.items) (faults_of D.count D.limit nodes.header.shape result.nodes.logs.items result.nodes.shards.items) n }
+
+    // Each lane is between batches, or its batch lacks a Lock, or the disk of a node that it asks has failed; or it has prepared nothing, so that
+    // its batch was open before.
+    ensures rests { AllRestSince nodes.header.shape (journals_of D.count D.limit nodes.header.shape nodes.logs.items nodes.shards.items)
+        (journals_of D.count D.limit nodes.header.shape result.nodes.logs.items result.nodes.shards.items)
+        (HaveFailed (opened_of D.count D.limit nodes.header.shape nodes.logs.items nodes.shards.items) (faults_of D.count D.limit nodes.header.shape result.nodes.logs.items result.nodes.shards.items)) }
 
     // What a fault answers has its cause.
     ensures fault { IfErr result.came (IsLaneAnswer nodes.header.shape (IsFilesPiece nodes.header.shape (V.verdict_of verifier.now) files.now

@@ -7,7 +7,7 @@ ghost use Rattle.cbdc_model.specs.Waves.{IsResumed, Waves};
 ghost use Rattle.input_files.specs.Limits.{IsShort};
 ghost use Rattle.submissions.specs.Checks.{TellsSound};
 ghost use Rattle.ledger_runs.specs.Turning.{OfKept, StaysKept};
-ghost use Rattle.ledger_runs.specs.Faults.{IsRunCause, HaveFailed, MayHold};
+ghost use Rattle.ledger_runs.specs.Faults.{IsRunCause, HaveFailed, MayHold, AllRestSince};
 ghost use Rattle.file_runs.specs.Runs.{joined, HaveBegunFiles, IsFilesPiece, FliesWith};
 ghost use Rattle.rack_runs.specs.Endings.{EndsRun, IsCut, IsInOrder};
 ghost use Rattle.rack_runs.specs.Telling.{TellsRun};
@@ -75,6 +75,10 @@ pub(crate) fn run_over<L: Turns, V: Verifier, G: Gate>(
     // A fault has its cause: what an idle lane wants is the Prepare of the next piece of what the files send it.
     ensures fault { IfErr result (IsRunCause (L.shape ledger.old) (IsFilesPiece (L.shape ledger.old) (V.verdict_of verifier.now) files.now (L.journals ledger.old) (L.journals ledger.new)) (L.journals ledger.old) (L.journals ledger.new)
         (HaveFailed (L.opened ledger.new) (L.faults ledger.new)) (MayHold (L.capacity ledger.new))) }
+
+    // Whatever came, each lane is between batches, or its batch lacks a Lock, or the disk of a node that it asks has failed; or it has prepared
+    // nothing, so that its batch was open before.
+    ensures rests { AllRestSince (L.shape ledger.old) (L.journals ledger.old) (L.journals ledger.new) (HaveFailed (L.opened ledger.new) (L.faults ledger.new)) }
 
     // And it is the least lane's that met one.
     ensures least { IfErr result (EndsRun (V.verdict_of verifier.now) files.now (L.shape ledger.old) (L.journals ledger.old) (L.journals ledger.new) (HaveFailed (L.opened ledger.new) (L.faults ledger.new)) (MayHold (L.capacity ledger.new))) }

@@ -36,10 +36,10 @@ pub fn run_on<W: Wait, R: Rack, V: Verifier, G: Gate>(
     ensures caused { OnOk result (TookLedger R.Disk.content R.Disk.limit (R.held rack.old) (R.held rack.new)) }
 
     // The ledger that the rack showed has its open batches at their end and the files' waves behind them, and each disk holds its journal.
-    ensures ran { OnOk result (OfShown R.Disk.content (R.held rack.old) (IsRun R.Disk.images (R.held rack.new) (V.verdict_of verifier.now) files.now)) }
+    ensures ran { OnOk result (OfShown R.Disk.content (R.held rack.old) (IsRun R.Disk.images R.Disk.limit (R.held rack.new) (V.verdict_of verifier.now) files.now)) }
 
     // And what was done is told: the batches that were open, what came of each submission, and how many hashes are unspent now.
-    ensures told { IfOk result (λ r. OfShown R.Disk.content (R.held rack.old) (IsTold R.Disk.images (R.held rack.new) (V.verdict_of verifier.now) files.now r)) }
+    ensures told { IfOk result (λ r. OfShown R.Disk.content (R.held rack.old) (IsTold R.Disk.images R.Disk.limit (R.held rack.new) (V.verdict_of verifier.now) files.now r)) }
 
     // The nodes could not be opened, or a record is not caused, and the disks are back; or the rack showed such a ledger and a lane met a
     // fault, which has its cause and is that of the least lane that met one: journals have grown at their ends, and are kept whatever a crash leaves.
@@ -69,8 +69,8 @@ pub fn recover_on<W: Wait, R: Rack, G: Gate>(
 ) -> Result<Ran, Answer>
     requires all { (n : ℕ) → R.can_take rack.old n }
     ensures caused { OnOk result (TookLedger R.Disk.content R.Disk.limit (R.held rack.old) (R.held rack.new)) }
-    ensures recovered { OnOk result (OfShown R.Disk.content (R.held rack.old) (IsRecovered R.Disk.images (R.held rack.new))) }
-    ensures told { IfOk result (λ r. (verdicts : VerdictsOf) × OfShown R.Disk.content (R.held rack.old) (IsTold R.Disk.images (R.held rack.new) verdicts [] r)) }
+    ensures recovered { OnOk result (OfShown R.Disk.content (R.held rack.old) (IsRecovered R.Disk.images R.Disk.limit (R.held rack.new))) }
+    ensures told { IfOk result (λ r. (verdicts : VerdictsOf) × OfShown R.Disk.content (R.held rack.old) (IsTold R.Disk.images R.Disk.limit (R.held rack.new) verdicts [] r)) }
     ensures stopped { IfErr result (λ e. (IsUnresumed R.Disk.content R.Disk.images R.Disk.limit R.Disk.count (R.held rack.old) (R.count rack.old) (R.count rack.new) e
         × ((n : ℕ) → IsBack R.Disk.images R.Disk.limit (R.held rack.old n) (R.held rack.new n)))
         ⊎ (IsLaneFault R.Disk.content R.Disk.images R.Disk.limit (R.held rack.old) (R.held rack.new) (R.count rack.old) (R.count rack.new) NothingNext IsLeastOpen NonePrepared [] e)) }

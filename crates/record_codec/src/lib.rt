@@ -7,8 +7,6 @@ mod measure;
 mod reading;
 mod sizes;
 mod standing;
-#[cfg(test)]
-mod tests;
 mod writing;
 
 pub use fault::RecordFault;

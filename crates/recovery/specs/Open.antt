@@ -84,8 +84,8 @@ abbrev pub IsResumeStopped : Shape → Bool → OpenLane → Sight → (ℕ → 
 IsResumeStopped K alone o log I log' J e =
     HasNoMemory e log I log' J ⊎ (IsUnfinished o.phase K o log I → (n : ℕ) × (f : NodeFault) × IsFaultOf e n f × IsLeft K alone o.batch log I log' J n f)
 
--- what was told of it, call by call, from the phase on in which it stood: all calls of a phase were made at all concerned shards, and where one of
--- them did not do what it was asked, the least such shard's fault is this
+-- what was told of it, call by call, from the phase on in which it stood: each concerned shard of a phase answered as it does (a lock with `Memory`
+-- maybe unasked), and where one of them did not do what it was asked, the least such shard's fault is this
 abbrev pub IsToldFrom : OpenPhase → Shape → Bool → OpenLane → List (ℕ × List Entry) → Sight → (ℕ → Sight) → Sight → (ℕ → Sight) → ℕ → NodeFault → Type 0
 IsToldFrom Prepared K alone o parts log I log' J n f = PreparedStopped K alone o.batch o.stamp 0 parts log log' I J n f
 IsToldFrom Committed K alone o parts log I log' J n f = CommittedStopped K alone o.batch o.stamp o.outcomes 0 (map (lock_of o.batch o.stamp) parts) log log' I J n f

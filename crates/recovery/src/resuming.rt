@@ -286,7 +286,8 @@ fn resume_lane<S: PortSet, L: LogPort, G: Gate>(
 /// each concerned shard and goes on, a committed one asks Finish, a discarded one Forget. The list has lanes that are not
 /// idle, each once, in rising order. Where it has more than one, no other lane writes meanwhile: a port tells of the lane that
 /// it is called for and lets records of all others come, those of the list's later lanes too. Where none write, the lanes that
-/// are not listed are as before.
+/// are not listed are as before. The first lane that meets a fault ends it: the batches before are at their end, those
+/// behind are untouched.
 pub fn resume<S: PortSet, L: LogPort, G: Gate>(
     alloc: Global,
     shape: &Shape,

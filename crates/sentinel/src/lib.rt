@@ -6,8 +6,6 @@
 
 mod places;
 mod steps;
-#[cfg(test)]
-mod tests;
 
 ghost use Rattle.std.specs.Prelude.{MatchResult};
 ghost use Rattle.sentinel.specs.FirstRefusal.{IsFirstRefusal, IsSound};

@@ -8,8 +8,6 @@ mod core_state;
 mod judging;
 mod plans;
 mod replying;
-#[cfg(test)]
-mod tests;
 
 pub use copying::answered;
 pub use core_state::ShardCore;

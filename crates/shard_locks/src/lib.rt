@@ -4,6 +4,3 @@
 mod locks;
 
 pub use locks::Locks;
-
-#[cfg(test)]
-mod tests;

@@ -7,7 +7,7 @@ use Rattle.cbdc_types.specs.Limits.{IsWithinLimits}
 use Rattle.cbdc_model.specs.Records.{Header, Record}
 use Rattle.cbdc_model.specs.Grammar.{IsShard}
 use Rattle.cbdc_model.specs.After.{After, IsJournal}
-use Rattle.cbdc_model.specs.Room.{kept_room, size_of}
+use Rattle.cbdc_model.specs.Room.{kept_room, size_of, need_of}
 use Rattle.cbdc_model.specs.Due.{used_of}
 use Rattle.cbdc_model.specs.Sights.{IsBrokenSince, Stays, Appends, Fails}
 use Rattle.outside.specs.declared.disk.Disk.{Ghosts}
@@ -50,6 +50,8 @@ module _ {D : Type 0} {G : Ghosts D} where
     sound = is.sound;
     flying = is.flying;
     room = is.room;
+    unbroken = is.unbroken;
+    fits = is.fits;
   }
 
   -- what holds while a record is on its way
@@ -101,10 +103,13 @@ module _ {D : Type 0} {G : Ghosts D} where
         };
         flying = subst (λ (o : Option Record). IfSome o (After new.log.header (journal_of new))) (sym (w.flight ∙ landed)) tt;
         room = room_now;
+        unbroken = λ none. w.broken;
+        fits = subst (λ (o : Option Record). IfSome o (λ q. used_of (journal_of new) + need_of new.log.header.shape (journal_of new) q ≤ G.limit (disk_of new.log.journal))) (sym (w.flight ∙ landed)) tt;
       }
 
-  pub failed : (p new : Parts D G) (r : Record) → Standing p → HasFailed p new r → After p.log.header (journal_of p) r → IsShardOf new
-  failed p new r s f next =
+  pub failed : (p new : Parts D G) (r : Record) → Standing p → HasFailed p new r → After p.log.header (journal_of p) r
+      → used_of (journal_of p) + need_of p.log.header.shape (journal_of p) r ≤ G.limit (disk_of p.log.journal) → IsShardOf new
+  failed p new r s f next had =
       let is : journal_of new ≡ journal_of p = ap reverse f.records in
       record {
         header = ap (λ c. c.header) f.core ∙ s.header ∙ sym f.header;
@@ -121,6 +126,11 @@ module _ {D : Type 0} {G : Ghosts D} where
         room =
             let kept : kept_room new.log.header.shape (journal_of new) ≡ kept_room p.log.header.shape (journal_of p) = ap (λ (l : List Record). kept_room new.log.header.shape l) is ∙ ap (λ (h : Header). kept_room h.shape (journal_of p)) f.header in
             omega (arith, s.room, kept, ap used_of is, f.limit);
+        unbroken = λ none. absurd (let z : Some r ≡ None = sym f.flight ∙ none in cc);
+        fits =
+            let needed : need_of new.log.header.shape (journal_of new) r ≡ need_of p.log.header.shape (journal_of p) r = ap (λ (l : List Record). need_of new.log.header.shape l r) is ∙ ap (λ (h : Header). need_of h.shape (journal_of p) r) f.header in
+            let now : used_of (journal_of new) + need_of new.log.header.shape (journal_of new) r ≤ G.limit (disk_of new.log.journal) = omega (arith, had, needed, ap used_of is, f.limit) in
+            subst (λ (o : Option Record). IfSome o (λ q. used_of (journal_of new) + need_of new.log.header.shape (journal_of new) q ≤ G.limit (disk_of new.log.journal))) (sym f.flight) now;
       }
 
   -- ---- what a caller sees

@@ -115,6 +115,10 @@ module _ {D : Type 0} {G : Ghosts D} where
               };
           flying = subst (λ (h : Header). IfSome p.flight (After h J)) (sym t.header) (subst (λ (l : List Record). IfSome p.flight (After p.log.header l)) (sym same) is.flying);
           room = omega (arith, is.room, same_kept log t, ap used_of same, ap G.limit t.untouched.disk);
+          unbroken = λ none. t.untouched.broken ∙ is.unbroken none;
+          fits = subst (λ (h : Header). IfSome p.flight (λ q. used_of J + need_of h.shape J q ≤ G.limit (disk_of log.journal))) (sym t.header)
+              (subst (λ (l : List Record). IfSome p.flight (λ q. used_of l + need_of p.log.header.shape l q ≤ G.limit (disk_of log.journal))) (sym same)
+              (subst (λ (n : ℕ). IfSome p.flight (λ q. used_of (journal_of p) + need_of p.log.header.shape (journal_of p) q ≤ n)) (sym (ap G.limit t.untouched.disk)) is.fits));
         }
       where
         same_kept : (log : RecordLog D G) → HasTaken p log memory c.batch.lane → kept_room log.header.shape (reverse log.records.items) ≡ kept_room p.log.header.shape (journal_of p)
@@ -148,17 +152,6 @@ module _ {D : Type 0} {G : Ghosts D} where
           let same : kept_room p.core.header.shape (journal_of p) ≡ kept_room p.log.header.shape (journal_of p) = ap (λ (h : Header). kept_room h.shape (journal_of p)) is.header in
           (omega (arith, e (journal_of p) is.stands, small, same), omega (arith, e (journal_of p) is.stands, small, same))
 
-      -- the disk failed at it
-      pub lock_left : (log : RecordLog D G) (memory : Vec (Vec Bool)) → HasTaken p log memory c.batch.lane → (new : Parts D G)
-          → HasFailed {D = D} {G = G} (record { log = log; core = p.core; decisions = memory; flight = p.flight; opened = p.opened }) new next → IsShardOf new
-      lock_left log memory t new f =
-          let mid : Parts D G = record { log = log; core = p.core; decisions = memory; flight = p.flight; opened = p.opened } in
-          let N : Record = lock_record (journal_of p) c in
-          let same : reverse log.records.items ≡ journal_of p = ap reverse t.records in
-          let after : After log.header (reverse log.records.items) N =
-          subst (λ (h : Header). After h (reverse log.records.items) N) (sym t.header) (subst (λ (l : List Record). After p.log.header l N) (sym same) lock_fits) in
-          failed mid new N (standing mid (taken_shard log memory t)) (subst (λ (x : Record). HasFailed mid new x) next_is f) after
-
       module _ (size len kept : ℕ) (size_is : size ≡ size_of (lock_record (journal_of p) c)) (len_is : len ≡ length c.part) (kept_is : kept ≡ kept_room p.log.header.shape (journal_of p)) where
         need_is : size + (76 + len + kept) ≡ need_of p.log.header.shape (journal_of p) (lock_record (journal_of p) c)
         need_is = omega (arith, size_is, len_is, kept_is, length_answered (journal_of p) c.batch c.part)
@@ -181,6 +174,19 @@ module _ {D : Type 0} {G : Ghosts D} where
 
           pub lock_room : gate_of log.journal + 1 + (9 + length (body_of next)) ≤ G.limit (disk_of log.journal)
           lock_room = let sound = is.sound whole in omega (arith, total, sound.used, lock_size, size_is, t.untouched.gate, ap G.limit t.untouched.disk)
+
+          -- the disk failed at it
+          pub lock_left : (new : Parts D G) → HasFailed {D = D} {G = G} (record { log = log; core = p.core; decisions = memory; flight = p.flight; opened = p.opened }) new next → IsShardOf new
+          lock_left new f =
+              let mid : Parts D G = record { log = log; core = p.core; decisions = memory; flight = p.flight; opened = p.opened } in
+              let N : Record = lock_record (journal_of p) c in
+              let same : reverse log.records.items ≡ journal_of p = ap reverse t.records in
+              let after : After log.header (reverse log.records.items) N =
+              subst (λ (h : Header). After h (reverse log.records.items) N) (sym t.header) (subst (λ (l : List Record). After p.log.header l N) (sym same) lock_fits) in
+              let needed : need_of log.header.shape (reverse log.records.items) N ≡ need_of p.log.header.shape (journal_of p) N =
+              ap (λ (l : List Record). need_of log.header.shape l N) same ∙ ap (λ (h : Header). need_of h.shape (journal_of p) N) t.header in
+              failed mid new N (standing mid (taken_shard log memory t)) (subst (λ (x : Record). HasFailed mid new x) next_is f) after
+              (omega (arith, total, need_is, needed, ap used_of same, ap G.limit t.untouched.disk))
 
           due : lock_due p.log.header.shape (G.limit (disk_of p.log.journal)) c None (journal_of p) ≡ Writes r (lock_record (journal_of p) c)
           due = lock_writes p.log.header.shape (G.limit (disk_of p.log.journal)) c (journal_of p) r planned early (omega (arith, total, need_is))

@@ -76,6 +76,8 @@ module _ {D : Type 0} {G : Ghosts D} where
         };
         flying = tt;
         room = omega (arith, used, ap used_of same, kept_now, kept_is, fits, untouched.gate, ap G.limit untouched.disk);
+        unbroken = λ none. untouched.broken ∙ whole;
+        fits = tt;
       }
 
   -- what its disk holds

@@ -100,6 +100,7 @@ module _ {D : Type 0} {G : Ghosts D} where
     finish_left memory new f len =
         failed (record p { decisions = memory }) new (Finish t c.batch c.decisions)
         (record { header = is.header; stands = is.stands; journal = is.journal; shard = is.shard; limits = is.limits; lanes = len ∙ is.lanes; opened = is.opened; room = is.room }) f finish_fits
+        (let sound = is.sound whole in omega (arith, sound.used, finish_room, finish_size))
 
     pub finish_done : (memory : Vec (Vec Bool)) (new : Parts D G) → HasWritten (record p { decisions = memory }) new (Finish t c.batch c.decisions)
         → Meets false (finish_due c None (journal_of p)) (sight_of G.count G.limit (view_of p)) (sight_of G.count G.limit (view_of new)) (journal_of p) (Ok t)
@@ -146,7 +147,7 @@ module _ {D : Type 0} {G : Ghosts D} where
 
     -- the disk failed at it
     pub forget_left : (new : Parts D G) → HasFailed p new (Forget t c.batch) → IsShardOf new
-    forget_left new f = failed p new (Forget t c.batch) (standing p is) f forget_fits
+    forget_left new f = failed p new (Forget t c.batch) (standing p is) f forget_fits (let sound = is.sound whole in omega (arith, sound.used, forget_room, forget_size))
 
     pub forget_done : (new : Parts D G) → HasWritten p new (Forget t c.batch)
         → Meets false (forget_due c None (journal_of p)) (sight_of G.count G.limit (view_of p)) (sight_of G.count G.limit (view_of new)) (journal_of p) (Ok t)

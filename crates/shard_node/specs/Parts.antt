@@ -9,7 +9,7 @@ use Rattle.cbdc_model.specs.Slots.{slot, InLock}
 use Rattle.cbdc_types.specs.Limits.{IsWithinLimits}
 use Rattle.cbdc_model.specs.Grammar.{IsShard}
 use Rattle.cbdc_model.specs.After.{After, IsJournal}
-use Rattle.cbdc_model.specs.Room.{kept_room}
+use Rattle.cbdc_model.specs.Room.{kept_room, need_of}
 use Rattle.cbdc_model.specs.Due.{used_of, open_batch}
 use Rattle.cbdc_model.specs.Sights.{IsBrokenSince}
 use Rattle.outside.specs.declared.disk.Disk.{Ghosts}
@@ -70,6 +70,8 @@ pub record IsShardOf {D : Type 0} {G : Ghosts D} (p : Parts D G) : Type 0 where
   pub sound : broken_of p.log.journal ≡ None → IsSound p.log p.log.header (journal_of p) p.decisions.items p.flight
   pub flying : IfSome p.flight (After p.log.header (journal_of p))
   pub room : used_of (journal_of p) + kept_room p.log.header.shape (journal_of p) ≤ G.limit (disk_of p.log.journal)
+  pub unbroken : p.flight ≡ None → broken_of p.log.journal ≡ None
+  pub fits : IfSome p.flight (λ r. used_of (journal_of p) + need_of p.log.header.shape (journal_of p) r ≤ G.limit (disk_of p.log.journal))
 
 -- the record was written and taken in
 pub record HasWritten {D : Type 0} {G : Ghosts D} (old new : Parts D G) (r : Record) : Type 0 where

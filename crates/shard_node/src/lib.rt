@@ -7,8 +7,6 @@ mod node;
 mod opening;
 mod parts;
 mod stamping;
-#[cfg(test)]
-mod tests;
 mod writing;
 
 pub use conditions::{is_finish_call, is_forget_call, is_lock_call};

@@ -1,7 +1,7 @@
 // The calls at a shard.
 ghost use Rattle.std.specs.Prelude.{◌≡◌, ◌+◌, ◌≤◌, true, false, None, IfSome, reverse};
 ghost use Rattle.cbdc_model.specs.Due.{used_of, lock_due, finish_due, forget_due};
-ghost use Rattle.cbdc_model.specs.Room.{kept_room};
+ghost use Rattle.cbdc_model.specs.Room.{kept_room, need_of};
 ghost use Rattle.cbdc_model.specs.Sights.{Meets, IsBrokenSince};
 ghost use Rattle.cbdc_model.specs.After.{After, IsJournal};
 ghost use Rattle.cbdc_model.specs.Grammar.{IsShard};
@@ -54,7 +54,8 @@ impl<D: Disk> ShardNode<D> {
         ShardNode { alloc, parts }
     }
 
-    /// Locks a part for a batch, or answers as before. What is needed for the batch's later records is taken here.
+    /// Locks a part for a batch, answers as before, or refuses and changes nothing. What is needed for the batch's later
+    /// records is taken here.
     pub fn lock(&mut self, call: &LockCall) -> Result<Replied, NodeFault>
         requires { IsLockCall self.old.header call.now }
         ensures meets { Meets true (lock_due self.old.header.shape (D.limit self.old.disk) call.now self.old.broken self.old.journal)
@@ -71,7 +72,7 @@ impl<D: Disk> ShardNode<D> {
         lock_parts(self.alloc, &mut self.parts, call)
     }
 
-    /// Applies a locked batch, or answers as before. Takes no memory.
+    /// Applies a locked batch, answers as before, or refuses and changes nothing. Takes no memory.
     pub fn finish(&mut self, call: &FinishCall) -> Result<Stamp, NodeFault>
         requires { IsFinishCall self.old.header call.now }
         ensures meets { Meets false (finish_due call.now self.old.broken self.old.journal)
@@ -88,7 +89,7 @@ impl<D: Disk> ShardNode<D> {
         finish_parts(self.alloc, &mut self.parts, call)
     }
 
-    /// Forgets a finished batch, or answers as before. Takes no memory.
+    /// Forgets a finished batch, answers as before, or refuses and changes nothing. Takes no memory.
     pub fn forget(&mut self, call: &ForgetCall) -> Result<Stamp, NodeFault>
         requires { IsForgetCall self.old.header call.now }
         ensures meets { Meets false (forget_due call.now self.old.broken self.old.journal)
@@ -134,8 +135,10 @@ impl<D: Disk> ShardNode<D> {
         ensures since_opened { self.now.opened ≤ D.count self.now.disk }
         ensures since_broken { IsBrokenSince self.now.opened (D.count self.now.disk) self.now.broken }
 
-        // A record is in flight only where an append has failed since.
+        // A record is in flight exactly where an append has failed since, and it had room.
         ensures landed { self.now.broken ≡ None → self.now.flight ≡ None }
+        ensures unbroken { self.now.flight ≡ None → self.now.broken ≡ None }
+        ensures fits { IfSome self.now.flight (λ r. used_of self.now.journal + need_of self.now.header.shape self.now.journal r ≤ D.limit self.now.disk) }
 
         // What its journal takes, with what is kept for its unfinished batches, lies within the capacity.
         ensures room { used_of self.now.journal + kept_room self.now.header.shape self.now.journal ≤ D.limit self.now.disk }

@@ -6,6 +6,3 @@ mod ranges;
 
 pub use parts::split;
 pub use ranges::shard_of;
-
-#[cfg(test)]
-mod tests;

@@ -1,11 +1,12 @@
 -- A turn at checked journals: they are checked still, they have grown by records of the lane alone, and its fault has its cause.
-use Rattle.std.proofs.Common.{◌≡◌, inl, inr, ℕ, ◌<◌, true, List, [], ◌∷◌, ◌++◌, Some, refl, sym, ap, ◌∙◌, subst, append_assoc, arith}
+use Rattle.std.proofs.Common.{◌≡◌, ◌⊎◌, inl, inr, ℕ, ◌<◌, ◌≤◌, true, false, List, [], ◌∷◌, ◌++◌, Some, refl, sym, ap, ◌∙◌, subst, append_assoc, arith}
 use Rattle.cbdc_types.specs.Limits.{IsWithinLimits}
 use Rattle.cbdc_types.specs.declared.batch.OpenLane.{OpenLane}
 use Rattle.cbdc_types.specs.declared.calls.NodeFault.{NodeFault}
 use Rattle.cbdc_types.specs.declared.calls.NodeFault.TheVariants.{Broken, Refused as Refuses, ClockEnd, Full, DiskFault, Memory}
-use Rattle.cbdc_model.specs.Records.{Shape, Compact, Record, record_of, is_in_lane, Prepare}
-use Rattle.cbdc_model.specs.Ranges.{home_of}
+use Rattle.cbdc_model.specs.Records.{Shape, Batch, Compact, Record, record_of, is_in_lane, Prepare}
+use Rattle.cbdc_model.specs.Ranges.{home_of, shard_node}
+use Rattle.cbdc_model.specs.Due.{Due}
 use Rattle.cbdc_model.specs.Slots.{slot, Idle, InPrepare}
 use Rattle.cbdc_model.specs.History.{Minted}
 use Rattle.cbdc_model.specs.Lanes.{may_come, Made}
@@ -13,7 +14,9 @@ use Rattle.cbdc_model.specs.Waves.{prepared}
 use Rattle.cbdc_model.specs.Sights.{Sight}
 use Rattle.ledger_laws.proofs.Cuts.{end_self}
 use Rattle.lane_laws.specs.Batches as batches
-use Rattle.lane_laws.specs.Batches.{own, Settled}
+use Rattle.lane_laws.specs.Batches.{own, Settled, TakesRoom, BatchStopped}
+use Rattle.lane_laws.specs.Calls.{is_concerned}
+use Rattle.lane_laws.specs.Faults.{IsAnswered, IsCallFault, to_lock, to_decide, to_finish, to_discard, to_forget, to_done, IsOpenFault}
 use Rattle.lane_laws.specs.Resuming.{IsTakenUp}
 use Rattle.lane_driver.specs.declared.fault.LaneFault.{LaneFault}
 use Rattle.lane_driver.specs.declared.fault.BatchReport.{BatchReport}
@@ -31,11 +34,13 @@ use Rattle.run_laws.proofs.TurnStep.{lifted, checked_turn_law}
 use Rattle.run_laws.proofs.Rests.{checked_rest_law}
 use Rattle.run_laws.proofs.OpenLanes.{checked_resume_law}
 use Rattle.run_laws.proofs.Nodes.{nodes_law}
-use Rattle.run_laws.proofs.Seen.{seen_log}
+use Rattle.run_laws.proofs.Seen.{seen_log, seen_shard}
+use Rattle.lane_laws.proofs.Own.{slot_own}
 use Rattle.run_laws.proofs.TurnKinds.{taken_law, prepared_law, prepared_own}
 use Rattle.run_laws.proofs.Stopping.{stop_law}
 use Rattle.ledger_runs.specs.Pieces.{HasPrepared, HasPreparedAtMost, IsUnprepared}
-use Rattle.ledger_runs.specs.Faults.{AreOfLane, GrowBy, IsWanted, wants_prepare, wants_lock, IsLaneCause, HaveFailed, MayHold, Nothing}
+use Rattle.ledger_runs.specs.Turning.{phase_at}
+use Rattle.ledger_runs.specs.Faults.{AreOfLane, GrowBy, IsWanted, wants_prepare, wants_lock, LacksLock, IsBeforeLocks, IsLaneCause, IsOpenCause, HaveFailed, MayHold, Nothing}
 use Rattle.turn_laws.specs.Nodes.{AreNodes}
 use Rattle.turn_laws.proofs.Headers.{are_journals}
 use Rattle.turn_laws.proofs.OpenThere.{told_lane, unfinished}
@@ -133,13 +138,40 @@ module _ (K : Shape) (lane : ℕ) (next : List Compact → Type 0) (I J : ℕ �
     above = h.above;
   })
 
-  fault_cause : (e : LaneFault) (node : ℕ) (f : NodeFault) → IsFaultOf e node f → IsStopBy K lane next J opened faults capacity node f → Causes e
-  fault_cause e node (Broken since) is h = failed e node is h
-  fault_cause e node (Refuses why) is h = absurd h
-  fault_cause e node (ClockEnd stamp) is h = no_stamp e node stamp is h
-  fault_cause e node (Full used need limit) is h = no_room e node used need limit is h
-  fault_cause e node DiskFault is h = failed e node is h
-  fault_cause e node Memory is h = subst Causes (sym is) tt
+  fault_cause : (e : LaneFault) (node : ℕ) (f : NodeFault) → IsFaultOf e node f → IsStopBy K lane next J opened faults capacity node f → (f ≡ Memory → IsBeforeLocks K lane J) → Causes e
+  fault_cause e node (Broken since) is h short = failed e node is h
+  fault_cause e node (Refuses why) is h short = absurd h
+  fault_cause e node (ClockEnd stamp) is h short = no_stamp e node stamp is h
+  fault_cause e node (Full used need limit) is h short = no_room e node used need limit is h
+  fault_cause e node DiskFault is h short = failed e node is h
+  fault_cause e node Memory is h short = subst Causes (sym is) (short refl)
+
+  -- where want of memory is free
+  free_cause : (e : LaneFault) (node : ℕ) (f : NodeFault) → IsFaultOf e node f → IsStopBy K lane next J opened faults capacity node f → (e.fault ≡ NoMemory) ⊎ Causes e
+  free_cause e node (Broken since) is h = inr (failed e node is h)
+  free_cause e node (Refuses why) is h = absurd h
+  free_cause e node (ClockEnd stamp) is h = inr (no_stamp e node stamp is h)
+  free_cause e node (Full used need limit) is h = inr (no_room e node used need limit is h)
+  free_cause e node DiskFault is h = inr (failed e node is h)
+  free_cause e node Memory is h = inl (ap (λ x. x.fault) is)
+
+-- ---- want of memory
+
+-- a call that takes none does not answer it
+never_memory : {A : Type 0} (due : Due A) (now : Sight) (f : NodeFault) → f ≡ Memory → IsAnswered false due now f → ⊥
+never_memory due now f memory h = let z : false ≡ true = subst (λ x. IsAnswered false due now x) memory h in cc
+
+-- so behind a Prepare it is answered to a Lock
+in_prepare : (K : Shape) (b : Batch) (txs : List Compact) (log : Sight) (shards : ℕ → Sight) (node : ℕ) (f : NodeFault) → f ≡ Memory → IsCallFault K b txs log shards node f → (slot log.seen b.lane).phase ≡ InPrepare
+in_prepare K b txs log shards node f memory (to_lock s t at concerned phase stands had answered) = phase
+in_prepare K b txs log shards node f memory (to_decide replies at phase had cause answered) = phase
+in_prepare K b txs log shards node f memory (to_finish s t os at concerned phase stands had answered) = absurd (never_memory _ (shards s) f memory answered)
+in_prepare K b txs log shards node f memory (to_discard cause at phase had latest answered) = absurd (never_memory _ log f memory answered)
+in_prepare K b txs log shards node f memory (to_forget s t at concerned phase stands had answered) = absurd (never_memory _ (shards s) f memory answered)
+in_prepare K b txs log shards node f memory (to_done cause at phase had latest answered) = absurd (never_memory _ log f memory answered)
+
+own_slot : (lane : ℕ) (L M : List Record) → own lane M ≡ own lane L → slot M lane ≡ slot L lane
+own_slot lane L M same = slot_own lane M ∙ ap (λ N. slot N lane) same ∙ sym (slot_own lane L)
 
 -- ---- turns
 
@@ -185,9 +217,6 @@ module _ (K : Shape) (lane : ℕ) (logs shards logs' shards' : ℕ → Sight) (l
   shape_still : log'.header.shape ≡ K
   shape_still = ap (λ h. h.shape) (log_nodes (home_of K lane)).header ∙ shape
 
-  memory_cause : (next : List Compact → Type 0) (e : LaneFault) → e ≡ record { node = 0; fault = NoMemory } → ItsCause next e
-  memory_cause next e is = subst (λ x. ItsCause next x) (sym is) tt
-
   module _ (idle : (slot log.seen lane).phase ≡ Idle) (txs : List Compact) where
     settled : Settled K lane (slot log.seen lane).number log shards
     settled = checked_rest_law K m lane logs shards limits.some_shard home shape checked idle
@@ -208,8 +237,40 @@ module _ (K : Shape) (lane : ℕ) (logs shards logs' shards' : ℕ → Sight) (l
         ap (prepared lane) (seen_log K logs' shards' (home_of K lane) home) ∙ prepared_own lane log'.seen ∙ ap batches.prepared same ∙ sym (prepared_own lane log.seen)
         ∙ ap (prepared lane) (sym (seen_log K logs shards (home_of K lane) home))
 
+    -- and is between batches
+    idle_now : own lane log'.seen ≡ own lane log.seen → phase_at K J lane ≡ Idle
+    idle_now same = ap (λ L. (slot L lane).phase) (seen_log K logs' shards' (home_of K lane) home) ∙ ap (λ q. q.phase) (own_slot lane log.seen log'.seen same) ∙ idle
+
+    -- with a new batch, of which a shard that it concerns has nothing, it lacks a Lock
+    lacks_lock : (b : Batch) → b.lane ≡ lane → (slot log.seen lane).number < b.number → (node : ℕ) (f : NodeFault) → f ≡ Memory → IsOpenFault K b txs log' shards' node f
+        → (s : ℕ) → is_concerned K txs s ≡ true → own lane (shards' s).seen ≡ own lane (shards s).seen → LacksLock K lane J
+    lacks_lock b is above node f memory asked s concerned same = record {
+      batch = b;
+      of_lane = is;
+      stamp = asked.stamp;
+      txs = txs;
+      phase = ap (λ L. (slot L lane).phase) (seen_log K logs' shards' (home_of K lane) home) ∙ subst (λ l. (slot log'.seen l).phase ≡ InPrepare) is (in_prepare K b txs log' shards' node f memory asked.call);
+      prepare = ap (λ L. record_of 6 L b) (seen_log K logs' shards' (home_of K lane) home) ∙ asked.prepare;
+      shard = s;
+      concerned = concerned;
+      lacks =
+          let same_number : (slot (J (shard_node K s)) lane).number ≡ (slot (shards s).seen lane).number
+          = ap (λ L. (slot L lane).number) (seen_shard K logs' shards' s) ∙ ap (λ q. q.number) (own_slot lane (shards s).seen (shards' s).seen same) in
+          let low : (slot (shards s).seen lane).number ≤ (slot log.seen lane).number = settled.shard_number s in
+          omega (arith, same_number, low, above);
+    }
+
+    short_at : (node : ℕ) (f : NodeFault) → BatchStopped K true lane txs log shards log' shards' node f → f ≡ Memory → IsBeforeLocks K lane J
+    short_at node f stop memory = elim (stop.room (subst TakesRoom (sym memory) tt)) [
+      | inl same ↦ inl (idle_now same)
+      | inr lacks ↦ elim stop.begun [
+        | inl same ↦ inl (idle_now same)
+        | inr behind ↦ inr (lacks_lock behind.0 behind.1 behind.2 node f memory behind.3 lacks.0 lacks.1 lacks.2)
+      ]
+    ]
+
     pub stopped_cause : (e : LaneFault) → IsBatchStopped K true lane txs log shards log' shards' e → ItsCause (IsUnprepared K lane txs I J) e
-    stopped_cause e (inl none) = memory_cause (IsUnprepared K lane txs I J) e none.0
+    stopped_cause e (inl none) = subst (λ x. ItsCause (IsUnprepared K lane txs I J) x) (sym none.0) (inl (idle_now (ap (λ l. own lane l.seen) none.1)))
     stopped_cause e (inr stop) =
         let s = stop (slot log.seen lane).number settled in
         let turn = stopped_checked e (inr stop) in
@@ -221,8 +282,8 @@ module _ (K : Shape) (lane : ℕ) (logs shards logs' shards' : ℕ → Sight) (l
               (law.0 s.3.fault)
           | inr behind ↦
               stop_by K lane (λ t. ⊥) (IsUnprepared K lane txs I J) J (opened_by K logs' shards') (faults_by K logs' shards') (capacity_by K logs' shards') (λ t none. absurd none) s.0 s.1
-              (law.1 behind.0 behind.1 behind.2)
-        ])
+              (law.1 behind.0 behind.1 behind.3)
+        ]) (short_at s.0 s.1 s.3)
 
     -- a batch that was stopped is all that it may have prepared
     pub stopped_tried : (e : LaneFault) → IsBatchStopped K true lane txs log shards log' shards' e → HasPreparedAtMost K lane txs I J
@@ -269,10 +330,11 @@ module _ (K : Shape) (lane : ℕ) (logs shards logs' shards' : ℕ → Sight) (l
         let s = stop still in
         unprepared ((taken_law K lane logs shards logs' shards' elsewhere).3 o.batch s.0 s.1 lane_is s.3)
 
-    pub left_cause : (e : LaneFault) → IsResumeStopped K true o log shards log' shards' e → ItsCause Nothing e
-    left_cause e (inl none) = memory_cause Nothing e none.0
+    pub left_cause : (e : LaneFault) → IsResumeStopped K true o log shards log' shards' e
+        → IsOpenCause K lane I J (HaveFailed (opened_by K logs' shards') (faults_by K logs' shards')) (MayHold (capacity_by K logs' shards')) e
+    left_cause e (inl none) = inl (ap (λ x. x.fault) none.0)
     left_cause e (inr stop) =
         let s = stop still in
         let turn = left_checked e (inr stop) in
-        fault_cause K lane Nothing I J (opened_by K logs' shards') (faults_by K logs' shards') (capacity_by K logs' shards') turn.grows e s.0 s.1 s.2
+        free_cause K lane Nothing I J (opened_by K logs' shards') (faults_by K logs' shards') (capacity_by K logs' shards') turn.grows e s.0 s.1 s.2
         ((stop_law K m lane logs' shards' s.3.txs s.0 s.1 limits home shape_still shard_shapes turn.checked).1 o.batch lane_is s.3.fault)

@@ -3,8 +3,6 @@
 
 mod file;
 mod line;
-#[cfg(test)]
-mod tests;
 
 ghost use Rattle.std.specs.Prelude.{◌≡◌, ℕ, List};
 

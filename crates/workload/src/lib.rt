@@ -3,8 +3,6 @@
 
 mod coins;
 mod spends;
-#[cfg(test)]
-mod tests;
 mod verdicts;
 
 ghost use Rattle.std.specs.Prelude.{◌≡◌, ◌≤◌, IfOk};

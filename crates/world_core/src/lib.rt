@@ -7,8 +7,6 @@ mod causes;
 mod events;
 mod nodes;
 mod parts;
-#[cfg(test)]
-mod tests;
 mod turns;
 mod world;
 

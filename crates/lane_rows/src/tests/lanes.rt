@@ -130,6 +130,19 @@ fn an_output_is_there_in_the_next_batch(rt: HostRuntime) -> Result<(), Fail> {
     Ok(())
 }
 
+/// Each batch of a lane is repeated, not the first alone.
+#[test]
+fn each_batch_is_repeated(rt: HostRuntime) -> Result<(), Fail> {
+    let rt = &rt;
+    let txs = two(rt)?;
+    let plain = fresh(rt, rt, 10_000, 1, &txs, 0, true)?;
+    let repeated = fresh(rt, rt, 10_000, 1, &txs, 3, true)?;
+    assert!(rt; has_batches(&repeated, 2));
+    assert!(rt; is_asked(&repeated, 14));
+    assert!(rt; wrote_alike(&repeated, &plain));
+    Ok(())
+}
+
 /// Without a transaction nothing is asked and nothing is written.
 #[test]
 fn without_transactions_nothing_is_asked(rt: HostRuntime) -> Result<(), Fail> {

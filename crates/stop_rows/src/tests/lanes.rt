@@ -15,6 +15,9 @@ use std::test::Fail;
 
 const INIT: [&str; 4] = ["init", "--coordinators", "2", "p"];
 
+// One coordinator with two lanes, and two shards.
+const LANES: [&str; 6] = ["init", "--shards", "2", "--lanes", "2", "p"];
+
 const INIT_TEXT: &str =
     "coins 2\nminted 150\ngenesis a58054748bc5b2dfaf3b7a8d2fb376e97db1bd79119bb88fe26c641d99956170\n";
 
@@ -122,6 +125,23 @@ fn two_lanes_at_a_full_shard(rt: HostRuntime) -> Result<(), Fail> {
     let text = "fault full 2 used 171 need 240 capacity 410\n";
     let rack = expect(rt, alloc, rack, &RUN, 5, text)?;
     assert!(rt; bytes_of(alloc, &rack)? == stopped(alloc, &whole, &[2, 2, 1])?);
+    Ok(())
+}
+
+/// Two lanes of one coordinator, for whose Locks the second shard has no room: both batches are open there. Once it has room they come to
+/// their end, the lesser lane's first, and nothing is open then.
+#[test]
+fn two_open_lanes_of_one_coordinator(rt: HostRuntime) -> Result<(), Fail> {
+    let rt = &rt;
+    let alloc = rt.alloc();
+    let rack = expect(rt, alloc, empty(alloc, 340)?, &LANES, 0, INIT_TEXT)?;
+    let text = "fault full 2 used 139 need 208 capacity 340\n";
+    let rack = expect(rt, alloc, rack, &RUN, 5, text)?;
+    let rack = rack_of(alloc, &bytes_of(alloc, &rack)?)?;
+    let text =
+        "batch 0 1 prepare confirmed 1 rejected 0\nbatch 1 1 prepare confirmed 1 rejected 0\nresumed 2\nunspent 3\n";
+    let rack = expect(rt, alloc, rack, &["recover"], 0, text)?;
+    let _ = expect(rt, alloc, rack, &["recover"], 0, "resumed 0\nunspent 3\n")?;
     Ok(())
 }
 

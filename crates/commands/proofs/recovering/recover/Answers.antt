@@ -23,14 +23,14 @@ returns-in-Err-clause-untouched g c before =
 pub returns-in-Ok-write_recovered-clause-did : goal.returns-in-Ok-write_recovered-clause-did
 returns-in-Ok-write_recovered-clause-did g c well = (
   c.in-Ok.ensures.caused,
-  prints_recovery g.R.Disk.Disk.content g.R.Disk.Disk.images (g.R.Rack.held c.args.rack.now) (g.R.Rack.held c.recover_on.new.rack) (IsPrinted (g.O.Sink.taken c.args.out.now) (g.O.Sink.taken c.write_recovered.new.out) answers.Ok)
+  prints_recovery g.R.Disk.Disk.content g.R.Disk.Disk.images g.R.Disk.Disk.limit (g.R.Rack.held c.args.rack.now) (g.R.Rack.held c.recover_on.new.rack) (IsPrinted (g.O.Sink.taken c.args.out.now) (g.O.Sink.taken c.write_recovered.new.out) answers.Ok)
       c.in-Ok.recovered c.in-Ok.ensures.told c.in-Ok-write_recovered.ensures.prints,
 )
 
 pub returns-clause-did : goal.returns-clause-did
 returns-clause-did g c well = (
   c.in-Ok.ensures.caused,
-  prints_recovery g.R.Disk.Disk.content g.R.Disk.Disk.images (g.R.Rack.held c.args.rack.now) (g.R.Rack.held c.recover_on.new.rack) (IsPrinted (g.O.Sink.taken c.args.out.now) (g.O.Sink.taken c.write_recovered.new.out) answers.WriteFault)
+  prints_recovery g.R.Disk.Disk.content g.R.Disk.Disk.images g.R.Disk.Disk.limit (g.R.Rack.held c.args.rack.now) (g.R.Rack.held c.recover_on.new.rack) (IsPrinted (g.O.Sink.taken c.args.out.now) (g.O.Sink.taken c.write_recovered.new.out) answers.WriteFault)
       c.in-Ok.recovered c.in-Ok.ensures.told c.in-Err-write_recovered.ensures.prints,
 )
 

@@ -67,6 +67,8 @@ returns-clause-left g c =
     (λ e why. inr (
       c.deref.result.now,
       subst (λ txs. AreRead (g.I.Inbox.file c.args.inbox.now) 0 c.args.clients.now txs) (sym c.deref.ensures.value) c.in-Ok.ensures.read,
+      c.in-Ok-verdicts_in.verdicts,
+      subst (λ t. AreVerdicts t c.in-Ok-verdicts_in.verdicts) (c.in-Ok.ensures.same c.args.verdicts.now.name.now) c.in-Ok-verdicts_in.ensures.read,
       turns_leave g.R.Disk.Disk.content g.R.Disk.Disk.images g.R.Disk.Disk.limit g.R.Disk.Disk.count (g.R.Rack.held c.args.rack.now) (g.R.Rack.held c.run_on.new.rack) (g.R.Rack.count c.args.rack.now) (g.R.Rack.count c.run_on.new.rack)
           (PieceNext (told c.in-Ok-verdicts_in.verdicts) c.deref.result.now) (EndsRun (told c.in-Ok-verdicts_in.verdicts) c.deref.result.now) (PiecesPrepared (told c.in-Ok-verdicts_in.verdicts) c.deref.result.now) c.deref.result.now e why,
     ))

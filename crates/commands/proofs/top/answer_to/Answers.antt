@@ -47,19 +47,19 @@ returns-in-Gen-clause-why g c =
 
 pub returns-in-Status-clause-left : goal.returns-in-Status-clause-left
 returns-in-Status-clause-left g c not_well =
-    inr (subst (λ r. Leaves (g.I.Inbox.file c.args.inbox.now) g.R.Disk.Disk.content g.R.Disk.Disk.images g.R.Disk.Disk.limit (g.R.Rack.held c.args.rack.now) (g.R.Rack.held c.status.new.rack) r c.status.result) (sym c.in-Status.is) c.status.ensures.left)
+    inr (subst (λ r. Leaves (g.I.Inbox.file c.args.inbox.now) g.R.Disk.Disk.content g.R.Disk.Disk.images g.R.Disk.Disk.limit (g.R.Rack.held c.args.rack.now) (g.R.Rack.held c.status.new.rack) (g.R.Rack.count c.args.rack.now) (g.R.Rack.count c.status.new.rack) r c.status.result) (sym c.in-Status.is) c.status.ensures.left)
 
 pub returns-in-Audit-clause-left : goal.returns-in-Audit-clause-left
 returns-in-Audit-clause-left g c not_well =
-    inr (subst (λ r. Leaves (g.I.Inbox.file c.args.inbox.now) g.R.Disk.Disk.content g.R.Disk.Disk.images g.R.Disk.Disk.limit (g.R.Rack.held c.args.rack.now) (g.R.Rack.held c.audit.new.rack) r c.audit.result) (sym c.in-Audit.is) c.audit.ensures.left)
+    inr (subst (λ r. Leaves (g.I.Inbox.file c.args.inbox.now) g.R.Disk.Disk.content g.R.Disk.Disk.images g.R.Disk.Disk.limit (g.R.Rack.held c.args.rack.now) (g.R.Rack.held c.audit.new.rack) (g.R.Rack.count c.args.rack.now) (g.R.Rack.count c.audit.new.rack) r c.audit.result) (sym c.in-Audit.is) c.audit.ensures.left)
 
 pub returns-in-Recover-clause-left : goal.returns-in-Recover-clause-left
 returns-in-Recover-clause-left g c not_well =
-    inr (subst (λ r. Leaves (g.I.Inbox.file c.args.inbox.now) g.R.Disk.Disk.content g.R.Disk.Disk.images g.R.Disk.Disk.limit (g.R.Rack.held c.args.rack.now) (g.R.Rack.held c.recover.new.rack) r c.recover.result) (sym c.in-Recover.is) (c.recover.ensures.left not_well))
+    inr (subst (λ r. Leaves (g.I.Inbox.file c.args.inbox.now) g.R.Disk.Disk.content g.R.Disk.Disk.images g.R.Disk.Disk.limit (g.R.Rack.held c.args.rack.now) (g.R.Rack.held c.recover.new.rack) (g.R.Rack.count c.args.rack.now) (g.R.Rack.count c.recover.new.rack) r c.recover.result) (sym c.in-Recover.is) (c.recover.ensures.left not_well))
 
 pub returns-in-Run-clause-left : goal.returns-in-Run-clause-left
 returns-in-Run-clause-left g c not_well =
-    let There : Request → Type 0 = λ r. Leaves (g.I.Inbox.file c.args.inbox.now) g.R.Disk.Disk.content g.R.Disk.Disk.images g.R.Disk.Disk.limit (g.R.Rack.held c.args.rack.now) (g.R.Rack.held c.run.new.rack) r c.run.result in
+    let There : Request → Type 0 = λ r. Leaves (g.I.Inbox.file c.args.inbox.now) g.R.Disk.Disk.content g.R.Disk.Disk.images g.R.Disk.Disk.limit (g.R.Rack.held c.args.rack.now) (g.R.Rack.held c.run.new.rack) (g.R.Rack.count c.args.rack.now) (g.R.Rack.count c.run.new.rack) r c.run.result in
     ⊎_elim (λ same. inl same)
     (λ left. inr (subst There (sym c.in-Run.is)
-    (subst (λ files. RunLeaves (g.I.Inbox.file c.args.inbox.now) g.R.Disk.Disk.content g.R.Disk.Disk.images g.R.Disk.Disk.limit (g.R.Rack.held c.args.rack.now) (g.R.Rack.held c.run.new.rack) files) c.deref.ensures.value left))) (c.run.ensures.left not_well)
+    (subst (λ files. RunLeaves (g.I.Inbox.file c.args.inbox.now) g.R.Disk.Disk.content g.R.Disk.Disk.images g.R.Disk.Disk.limit (g.R.Rack.held c.args.rack.now) (g.R.Rack.held c.run.new.rack) (g.R.Rack.count c.args.rack.now) (g.R.Rack.count c.run.new.rack) c.in-Run.verdicts files c.run.result) c.deref.ensures.value left))) (c.run.ensures.left not_well)

@@ -1,10 +1,10 @@
-use Rattle.std.proofs.Common.{◌≡◌, ◌∙◌, refl, sym, ap, subst, arith, get_or, take, [], ◌+◌}
+use Rattle.std.proofs.Common.{inl, ◌≡◌, ◌∙◌, refl, sym, ap, subst, arith, get_or, take, [], ◌+◌}
 use Rattle.file_runs.proofs.Joining.{files_begin, files_step, files_end, same_file, keeps_none, keeps_fault}
 use Rattle.file_runs.proofs.Cutting.{cut_none, cut_behind, cut_at}
 use Rattle.file_runs.proofs.FileTelling.{told_files, told_all}
 use Rattle.ledger_laws.proofs.Cuts.{end_self, end_trans}
 use Rattle.cbdc_model.specs.World.{AreIdle}
-use Rattle.ledger_runs.specs.Faults.{HaveFailed, MayHold}
+use Rattle.ledger_runs.specs.Faults.{HaveFailed, MayHold, AllRest}
 use Rattle.file_runs.specs.Runs.{joined}
 use Rattle.file_runs.proofs.Pieces.{none_prepared, file_prepared, files_all_begun, files_begun, files_unbegun}
 use Rattle.file_runs.proofs.Causing.{files_cause}
@@ -182,3 +182,17 @@ returns-in-Err-push-clause-cut g c =
 pub returns-clause-cut : goal.returns-clause-cut
 returns-clause-cut g c =
     cut_at (g.L.Turns.shape c.args.ledger.now) (g.V.Verifier.verdict_of c.args.verifier.now) c.args.files.now c.files.txs-index (g.L.Turns.journals c.args.ledger.now) (g.L.Turns.journals c.files.ledger) c.files.invariant.so
+
+pub returns-in_default-clause-rests : goal.returns-in_default-clause-rests
+returns-in_default-clause-rests g c lane inside = inl (inl (c.requires.idle lane inside))
+
+pub returns-in-Err-clause-rests : goal.returns-in-Err-clause-rests
+returns-in-Err-clause-rests g c =
+    subst (λ k. AllRest k (g.L.Turns.journals c.run_file.new.ledger) (HaveFailed (g.L.Turns.opened c.run_file.new.ledger) (g.L.Turns.faults c.run_file.new.ledger))) c.files.invariant.shape c.run_file.ensures.rests
+
+pub returns-in-Err-push-clause-rests : goal.returns-in-Err-push-clause-rests
+returns-in-Err-push-clause-rests g c =
+    subst (λ k. AllRest k (g.L.Turns.journals c.run_file.new.ledger) (HaveFailed (g.L.Turns.opened c.run_file.new.ledger) (g.L.Turns.faults c.run_file.new.ledger))) c.files.invariant.shape c.run_file.ensures.rests
+
+pub returns-clause-rests : goal.returns-clause-rests
+returns-clause-rests g c lane inside = inl (inl (c.files.invariant.so.idle lane inside))

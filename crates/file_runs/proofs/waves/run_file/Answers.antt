@@ -4,7 +4,7 @@ use Rattle.ledger_runs.specs.Telling.{AreFresh, AllTell}
 use Rattle.ledger_runs.specs.Waving.{NoFault, FirstFaultIs}
 use Rattle.file_runs.proofs.Filing.{stays_more, are_within, keeps_file, of_wave, runs_file}
 use Rattle.ledger_runs.specs.Faults.{HaveFailed, MayHold}
-use Rattle.file_runs.proofs.Causing.{file_begun, file_cause, file_done}
+use Rattle.file_runs.proofs.Causing.{file_begun, file_cause, file_done, wave_rests}
 use Rattle.file_runs.proofs.Pieces.{file_unbegun}
 use Rattle.file_runs.proofs.Flying.{flies_none, flies_file}
 use Rattle.file_runs.proofs.Ending.{file_ends}
@@ -146,3 +146,25 @@ returns-in-None-clause-begun g c some =
     let are = c.in-Ok-lanes_of.ensures in
     file_begun K verdicts c.args.txs.now c.in-Ok.field-0.lanes.items c.in-Ok-lanes_of.lanes.items c.run_wave.new.lanes.items (g.L.Turns.journals c.args.ledger.now) (g.L.Turns.journals c.run_wave.new.ledger)
     (c.run_wave.ensures.count ∙ are.count ∙ count) sent are c.run_wave.ensures.sent c.run_wave.ensures.begun
+
+pub returns-in_default-clause-rests : goal.returns-in_default-clause-rests
+returns-in_default-clause-rests g c lane inside = inl (inl (c.requires.idle lane inside))
+
+pub returns-in_default-lanes_of-clause-rests : goal.returns-in_default-lanes_of-clause-rests
+returns-in_default-lanes_of-clause-rests g c lane inside = inl (inl (c.requires.idle lane inside))
+
+pub returns-in-Some-clause-rests : goal.returns-in-Some-clause-rests
+returns-in-Some-clause-rests g c =
+    let count = subst (λ k. length c.in-Ok.field-0.lanes.items ≡ k.coordinators * k.lanes) c.shape.ensures c.in-Ok.ensures.lanes in
+    let are = c.in-Ok-lanes_of.ensures in
+    wave_rests (g.L.Turns.shape c.args.ledger.now) c.run_wave.new.lanes.items (g.L.Turns.journals c.args.ledger.now) (g.L.Turns.journals c.run_wave.new.ledger)
+    (HaveFailed (g.L.Turns.opened c.run_wave.new.ledger) (g.L.Turns.faults c.run_wave.new.ledger)) (MayHold (g.L.Turns.capacity c.run_wave.new.ledger))
+    (c.run_wave.ensures.count ∙ are.count ∙ count) (c.run_wave.ensures.causes are.fresh) c.run_wave.ensures.theirs
+
+pub returns-in-None-clause-rests : goal.returns-in-None-clause-rests
+returns-in-None-clause-rests g c =
+    let count = subst (λ k. length c.in-Ok.field-0.lanes.items ≡ k.coordinators * k.lanes) c.shape.ensures c.in-Ok.ensures.lanes in
+    let are = c.in-Ok-lanes_of.ensures in
+    wave_rests (g.L.Turns.shape c.args.ledger.now) c.run_wave.new.lanes.items (g.L.Turns.journals c.args.ledger.now) (g.L.Turns.journals c.run_wave.new.ledger)
+    (HaveFailed (g.L.Turns.opened c.run_wave.new.ledger) (g.L.Turns.faults c.run_wave.new.ledger)) (MayHold (g.L.Turns.capacity c.run_wave.new.ledger))
+    (c.run_wave.ensures.count ∙ are.count ∙ count) (c.run_wave.ensures.causes are.fresh) c.run_wave.ensures.theirs

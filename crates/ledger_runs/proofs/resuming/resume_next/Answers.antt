@@ -13,4 +13,4 @@ pub returns-in-Ok-clause-told : goal.returns-in-Ok-clause-told
 returns-in-Ok-clause-told g c = takes_found (g.L.Turns.shape c.args.ledger.now) c.args.lane (g.L.Turns.journals c.args.ledger.now) (g.L.Turns.journals c.take_up.new.self) c.in-Ok.found c.keep.result _ _ c.in-Ok.ensures.took c.in-Ok.ensures.opened c.keep.ensures.kept
 
 pub returns-in-Ok-clause-fault : goal.returns-in-Ok-clause-fault
-returns-in-Ok-clause-fault g c = memory_cause _ _ _ _ _ _ _ c.keep.result c.keep.ensures.memory
+returns-in-Ok-clause-fault g c = memory_cause _ _ _ _ _ _ c.keep.result c.keep.ensures.memory

@@ -56,4 +56,4 @@ returns-clause-cause g c =
     c.run_batch-came.result (none_by c.args.lane.now.fault c.is_some.result c.is_some.ensures c.if-is_some.false) (omega (arith, c.if-start-len.false, c.len.ensures))
     (c.piece.ensures ∙ ap (λ l. take c.batch-size.result (drop c.args.start l)) c.deref.ensures.value
     ∙ ap (λ n. take n (drop c.args.start c.args.lane.now.txs.items)) (c.batch-size.ensures.value ∙ ap (λ s. s.batch) c.shape.ensures))
-    c.take_in.ensures.cause c.run_batch-came.ensures.fault
+    c.take_in.ensures.cause c.run_batch-came.ensures.idle c.run_batch-came.ensures.fault

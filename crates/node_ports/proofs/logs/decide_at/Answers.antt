@@ -23,11 +23,11 @@ decide-requires-clause-named g c =
 
 pub returns-clause-told : goal.returns-clause-told
 returns-clause-told g c =
-    decide_told c.args.lane c.args.replies.now c.args.log.now.broken (sight c.args.log.now) (sight c.decide.new.self) c.decide.result c.requires.replies c.decide.ensures.meets c.decide.ensures.journal c.header-header.ensures.since_opened c.header-header.ensures.since_broken c.header-header.ensures.landed
+    decide_told c.args.lane c.args.replies.now c.args.log.now.broken (sight c.args.log.now) (sight c.decide.new.self) c.decide.result c.requires.replies c.decide.ensures.meets c.decide.ensures.journal c.header-header.ensures.since_opened c.header-header.ensures.since_broken c.header-header.ensures.landed c.header-header.ensures.unbroken
 
 pub returns-clause-fault : goal.returns-clause-fault
 returns-clause-fault g c =
-    decide_fault c.args.lane c.args.replies.now c.args.log.now.broken (sight c.args.log.now) (sight c.decide.new.self) c.decide.result c.decide.ensures.fault c.decide.ensures.journal c.header-header.ensures.since_opened c.header-header.ensures.since_broken c.header-header.ensures.landed
+    decide_fault c.args.lane c.args.replies.now c.args.log.now.broken (sight c.args.log.now) (sight c.decide.new.self) c.decide.result c.decide.ensures.fault c.decide.ensures.journal c.header-header.ensures.since_opened c.header-header.ensures.since_broken c.header-header.ensures.landed c.header-header.ensures.unbroken
 
 pub returns-clause-stamp : goal.returns-clause-stamp
 returns-clause-stamp g c =

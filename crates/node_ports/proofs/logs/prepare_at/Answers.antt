@@ -26,7 +26,7 @@ prepare-requires-clause-short g c =
 
 pub returns-clause-told : goal.returns-clause-told
 returns-clause-told g c =
-    told_alone c.args.lane true (prepare_due c.args.log.now.header.shape c.args.log.now.capacity c.args.lane c.args.txs.now) c.args.log.now.broken (sight c.args.log.now) (sight c.prepare.new.self) c.prepare.result c.prepare.ensures.meets c.prepare.ensures.journal c.header-header.ensures.since_opened c.header-header.ensures.since_broken c.header-header.ensures.landed
+    told_alone c.args.lane true (prepare_due c.args.log.now.header.shape c.args.log.now.capacity c.args.lane c.args.txs.now) c.args.log.now.broken (sight c.args.log.now) (sight c.prepare.new.self) c.prepare.result c.prepare.ensures.meets c.prepare.ensures.journal c.header-header.ensures.since_opened c.header-header.ensures.since_broken c.header-header.ensures.landed c.header-header.ensures.unbroken
 
 pub returns-clause-prepared : goal.returns-clause-prepared
 returns-clause-prepared g c =

@@ -8,11 +8,11 @@ use Rattle.node_ports.proofs.shard.finish_at.Goals as goal
 
 pub returns-clause-answer : goal.returns-clause-answer
 returns-clause-answer g c =
-    told_alone c.args.call.now.batch.lane false (finish_due c.args.call.now) c.args.node.now.broken (sight_of g.D.Disk.count g.D.Disk.limit c.args.node.now) (sight_of g.D.Disk.count g.D.Disk.limit c.finish.new.self) c.finish.result c.finish.ensures.meets c.finish.ensures.journal c.header-header.ensures.since_opened c.header-header.ensures.since_broken c.header-header.ensures.landed
+    told_alone c.args.call.now.batch.lane false (finish_due c.args.call.now) c.args.node.now.broken (sight_of g.D.Disk.count g.D.Disk.limit c.args.node.now) (sight_of g.D.Disk.count g.D.Disk.limit c.finish.new.self) c.finish.result c.finish.ensures.meets c.finish.ensures.journal c.header-header.ensures.since_opened c.header-header.ensures.since_broken c.header-header.ensures.landed c.header-header.ensures.unbroken
 
 pub returns-clause-told : goal.returns-clause-told
 returns-clause-told g c =
-    finish_stamp c.args.call.now (sight_of g.D.Disk.count g.D.Disk.limit c.args.node.now) (sight_of g.D.Disk.count g.D.Disk.limit c.finish.new.self) c.finish.result (told_alone c.args.call.now.batch.lane false (finish_due c.args.call.now) c.args.node.now.broken (sight_of g.D.Disk.count g.D.Disk.limit c.args.node.now) (sight_of g.D.Disk.count g.D.Disk.limit c.finish.new.self) c.finish.result c.finish.ensures.meets c.finish.ensures.journal c.header-header.ensures.since_opened c.header-header.ensures.since_broken c.header-header.ensures.landed) c.finish.ensures.journal
+    finish_stamp c.args.call.now (sight_of g.D.Disk.count g.D.Disk.limit c.args.node.now) (sight_of g.D.Disk.count g.D.Disk.limit c.finish.new.self) c.finish.result (told_alone c.args.call.now.batch.lane false (finish_due c.args.call.now) c.args.node.now.broken (sight_of g.D.Disk.count g.D.Disk.limit c.args.node.now) (sight_of g.D.Disk.count g.D.Disk.limit c.finish.new.self) c.finish.result c.finish.ensures.meets c.finish.ensures.journal c.header-header.ensures.since_opened c.header-header.ensures.since_broken c.header-header.ensures.landed c.header-header.ensures.unbroken) c.finish.ensures.journal
 
 pub returns-clause-node : goal.returns-clause-node
 returns-clause-node g c =

@@ -6,12 +6,12 @@ use Rattle.cbdc_model.specs.Waves.{IsResumed, Waves}
 use Rattle.submissions.specs.Checks.{TellsSound}
 use Rattle.ledger_runs.specs.Turning.{OfKept, StaysKept}
 use Rattle.cbdc_model.specs.Lanes.{IsEnd}
-use Rattle.ledger_runs.specs.Faults.{IsRunCause, HaveFailed, MayHold}
+use Rattle.ledger_runs.specs.Faults.{IsRunCause, HaveFailed, MayHold, AllRestSince}
 use Rattle.rack_runs.specs.Endings.{EndsRun, IsCut, IsInOrder}
 use Rattle.rack_runs.proofs.Answering.{came_cause, came_ends, by_entry}
 use Rattle.file_runs.specs.Runs.{joined, HaveBegunFiles, IsFilesPiece, FliesWith}
 use Rattle.ledger_nodes.specs.Ledgers.{journals_of, flights_of, faults_of, opened_of, capacity_of, AreChecked, AreStored, AreQuiet}
-use Rattle.rack_laws.specs.Shown.{LogHasRoom, ShardHasRoom}
+use Rattle.rack_laws.specs.Shown.{LogHasRoom, ShardHasRoom, LogFits, ShardFits}
 use Rattle.rack_runs.specs.Telling.{CountAll, TellsRun}
 use Rattle.rack_runs.proofs.Resumed.{told_made}
 use Rattle.rack_runs.proofs.Lent.{if_made, on_ok, lent_journals, lent_faults, lent_both, lent_flights, lent_opened, on_ok_by}
@@ -28,6 +28,12 @@ returns-clause-log_rooms g c = subst (λ xs. All (LogHasRoom g.D.Disk.limit) xs)
 
 pub returns-clause-shard_rooms : goal.returns-clause-shard_rooms
 returns-clause-shard_rooms g c = subst (λ xs. All (ShardHasRoom g.D.Disk.limit) xs) c.as_slice-2.ensures.value c.see_shards.ensures.rooms
+
+pub returns-clause-log_fits : goal.returns-clause-log_fits
+returns-clause-log_fits g c = subst (λ xs. All (LogFits g.D.Disk.limit) xs) c.as_slice.ensures.value c.see_logs.ensures.fits
+
+pub returns-clause-shard_fits : goal.returns-clause-shard_fits
+returns-clause-shard_fits g c = subst (λ xs. All (ShardFits g.D.Disk.limit) xs) c.as_slice-2.ensures.value c.see_shards.ensures.fits
 
 pub returns-clause-shape : goal.returns-clause-shape
 returns-clause-shape g c =
@@ -227,3 +233,13 @@ returns-clause-in_order g c =
     lent_journals g.D.Disk.count g.D.Disk.limit (λ L. IsInOrder K E L) K c.run_over-over.new.ledger _ back shape
     (subst (λ l. IsInOrder l.header.shape (journals_of g.D.Disk.count g.D.Disk.limit l.header.shape l.logs l.shards)
     (journals_of g.D.Disk.count g.D.Disk.limit c.run_over-over.new.ledger.header.shape c.run_over-over.new.ledger.logs c.run_over-over.new.ledger.shards)) lent c.run_over-over.ensures.in_order)
+
+pub returns-clause-rests : goal.returns-clause-rests
+returns-clause-rests g c =
+    let back : c.run_over-over.new.ledger ≡ record { header = c.header.inside.header; logs = c.header.inside.logs.items; shards = c.header.inside.shards.items } = cc in
+    let lent : c.lend-lent.result ≡ record { header = c.args.nodes.header; logs = c.args.nodes.logs.items; shards = c.args.nodes.shards.items } = c.lend-lent.ensures in
+    let shape : c.run_over-over.new.ledger.header.shape ≡ c.args.nodes.header.shape = c.run_over-over.ensures.shape ∙ ap (λ l. l.header.shape) lent in
+    let entry = by_entry (λ o h. AllRestSince c.lend-lent.result.header.shape (journals_of g.D.Disk.count g.D.Disk.limit c.lend-lent.result.header.shape c.lend-lent.result.logs c.lend-lent.result.shards) (journals_of g.D.Disk.count g.D.Disk.limit c.run_over-over.new.ledger.header.shape c.run_over-over.new.ledger.logs c.run_over-over.new.ledger.shards) (HaveFailed o (faults_of g.D.Disk.count g.D.Disk.limit c.run_over-over.new.ledger.header.shape c.run_over-over.new.ledger.logs c.run_over-over.new.ledger.shards))) (opened_of g.D.Disk.count g.D.Disk.limit c.lend-lent.result.header.shape c.lend-lent.result.logs c.lend-lent.result.shards) (opened_of g.D.Disk.count g.D.Disk.limit c.run_over-over.new.ledger.header.shape c.run_over-over.new.ledger.logs c.run_over-over.new.ledger.shards) (capacity_of g.D.Disk.count g.D.Disk.limit c.lend-lent.result.header.shape c.lend-lent.result.logs c.lend-lent.result.shards) (capacity_of g.D.Disk.count g.D.Disk.limit c.run_over-over.new.ledger.header.shape c.run_over-over.new.ledger.logs c.run_over-over.new.ledger.shards)
+    c.run_over-over.ensures.opened_same c.run_over-over.ensures.capacity_same c.run_over-over.ensures.rests in
+    let own = subst (λ l. AllRestSince l.header.shape (journals_of g.D.Disk.count g.D.Disk.limit l.header.shape l.logs l.shards) (journals_of g.D.Disk.count g.D.Disk.limit c.run_over-over.new.ledger.header.shape c.run_over-over.new.ledger.logs c.run_over-over.new.ledger.shards) (HaveFailed (opened_of g.D.Disk.count g.D.Disk.limit l.header.shape l.logs l.shards) (faults_of g.D.Disk.count g.D.Disk.limit c.run_over-over.new.ledger.header.shape c.run_over-over.new.ledger.logs c.run_over-over.new.ledger.shards))) lent entry in
+    lent_both g.D.Disk.count g.D.Disk.limit (λ X F. AllRestSince c.args.nodes.header.shape (journals_of g.D.Disk.count g.D.Disk.limit c.args.nodes.header.shape c.args.nodes.logs.items c.args.nodes.shards.items) X (HaveFailed (opened_of g.D.Disk.count g.D.Disk.limit c.args.nodes.header.shape c.args.nodes.logs.items c.args.nodes.shards.items) F)) c.args.nodes.header.shape c.run_over-over.new.ledger _ back shape own

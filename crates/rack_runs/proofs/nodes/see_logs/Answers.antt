@@ -1,8 +1,9 @@
 use Rattle.std.proofs.Common.{◌≡◌, ◌+◌, ◌≤◌, take, subst, sym, arith}
 use Rattle.std.proofs.lemmas.List.Elements.{All-more, All-same}
-use Rattle.cbdc_model.specs.Room.{kept_room}
+use Rattle.std.specs.Prelude.{IfSome}
+use Rattle.cbdc_model.specs.Room.{kept_room, need_of}
 use Rattle.cbdc_model.specs.Due.{used_of}
-use Rattle.rack_laws.specs.Shown.{LogHasRoom}
+use Rattle.rack_laws.specs.Shown.{LogHasRoom, LogFits}
 use Rattle.ledger_nodes.proofs.Steps.{take_whole}
 use Rattle.rack_runs.specs.Kinds.{FliesBroken}
 use Rattle.rack_runs.proofs.Flown.{flies_broken}
@@ -18,6 +19,9 @@ logs-preserved g c =
       rooms = All-more (LogHasRoom g.D.Disk.limit) c.args.logs.now c.logs.log-index c.log-item.result c.logs-test.true c.logs.invariant.rooms (subst (LogHasRoom g.D.Disk.limit) c.log-item.is room);
       flown = All-more FliesBroken c.args.logs.now c.logs.log-index c.log-item.result c.logs-test.true c.logs.invariant.flown
           (subst FliesBroken c.log-item.is (flies_broken c.log-item.result.broken c.log-item.result.flight c.log-item.result.opened c.log-item.result.faults told.landed told.since_broken));
+      fits = All-more (LogFits g.D.Disk.limit) c.args.logs.now c.logs.log-index c.log-item.result c.logs-test.true c.logs.invariant.fits
+          (subst (LogFits g.D.Disk.limit) c.log-item.is
+          (subst (λ n. IfSome c.log-item.result.flight (λ r. used_of c.log-item.result.journal + need_of c.log-item.result.header.shape c.log-item.result.journal r ≤ n)) told.capacity told.fits));
     }
 
 pub returns : goal.returns
@@ -27,4 +31,5 @@ returns g c =
       counts = All-same (λ x. x.faults ≡ g.D.Disk.count x.disk) c.args.logs.now (take c.logs.log-index c.args.logs.now) whole c.logs.invariant.counts;
       rooms = All-same (LogHasRoom g.D.Disk.limit) c.args.logs.now (take c.logs.log-index c.args.logs.now) whole c.logs.invariant.rooms;
       flown = All-same FliesBroken c.args.logs.now (take c.logs.log-index c.args.logs.now) whole c.logs.invariant.flown;
+      fits = All-same (LogFits g.D.Disk.limit) c.args.logs.now (take c.logs.log-index c.args.logs.now) whole c.logs.invariant.fits;
     }

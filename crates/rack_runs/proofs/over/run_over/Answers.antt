@@ -3,7 +3,7 @@ use Rattle.std.proofs.lemmas.Bool.{eqb-true}
 use Rattle.ledger_runs.proofs.Keeping.{same_next}
 use Rattle.rack_runs.proofs.Resumed.{over_cut, over_keeps, flies_cut, flies_over, over_waves, over_none, over_cuts, none_of, some_of, over_told, over_told_none}
 use Rattle.ledger_laws.proofs.Cuts.{end_trans}
-use Rattle.ledger_runs.specs.Faults.{HaveFailed, MayHold}
+use Rattle.ledger_runs.specs.Faults.{HaveFailed, MayHold, AllRest}
 use Rattle.file_runs.specs.Endings.{EndsFiles}
 use Rattle.rack_runs.proofs.Answering.{resumed_begun, resumed_fault, filed_begun, filed_fault}
 use Rattle.rack_runs.proofs.over.run_over.Goals as goal
@@ -150,3 +150,17 @@ returns-in-Ok-run_files-clause-in_order g c = (g.L.Turns.journals c.resume_all.n
 
 pub returns-in-Err-run_files-clause-in_order : goal.returns-in-Err-run_files-clause-in_order
 returns-in-Err-run_files-clause-in_order g c = (g.L.Turns.journals c.resume_all.new.ledger, c.resume_all.ensures.order, inr (c.in-Ok.ensures.idle, c.run_files.ensures.grows))
+
+pub returns-in-Err-clause-rests : goal.returns-in-Err-clause-rests
+returns-in-Err-clause-rests g c lane inside = inr (c.resume_all.ensures.prepares lane)
+
+pub returns-then-is_empty-clause-rests : goal.returns-then-is_empty-clause-rests
+returns-then-is_empty-clause-rests g c lane inside = inl (inl (inl (c.in-Ok.ensures.idle lane inside)))
+
+pub returns-in-Ok-run_files-clause-rests : goal.returns-in-Ok-run_files-clause-rests
+returns-in-Ok-run_files-clause-rests g c lane inside =
+    inl (subst (λ k. AllRest k (g.L.Turns.journals c.run_files.new.ledger) (HaveFailed (g.L.Turns.opened c.run_files.new.ledger) (g.L.Turns.faults c.run_files.new.ledger))) c.resume_all.ensures.shape c.run_files.ensures.rests lane inside)
+
+pub returns-in-Err-run_files-clause-rests : goal.returns-in-Err-run_files-clause-rests
+returns-in-Err-run_files-clause-rests g c lane inside =
+    inl (subst (λ k. AllRest k (g.L.Turns.journals c.run_files.new.ledger) (HaveFailed (g.L.Turns.opened c.run_files.new.ledger) (g.L.Turns.faults c.run_files.new.ledger))) c.resume_all.ensures.shape c.run_files.ensures.rests lane inside)

@@ -6,11 +6,11 @@ use Rattle.rack_runs.proofs.racks.recover_on.Goals as goal
 
 pub returns-clause-recovered : goal.returns-clause-recovered
 returns-clause-recovered g c =
-    on_ok_by c.run_on.result (recovers g.R.Disk.Disk.content g.R.Disk.Disk.images (g.R.Rack.held c.args.rack.now) (g.R.Rack.held c.run_on.new.rack) _) c.run_on.ensures.ran
+    on_ok_by c.run_on.result (recovers g.R.Disk.Disk.content g.R.Disk.Disk.images g.R.Disk.Disk.limit (g.R.Rack.held c.args.rack.now) (g.R.Rack.held c.run_on.new.rack) _) c.run_on.ensures.ran
 
 pub returns-clause-told : goal.returns-clause-told
 returns-clause-told g c =
-    if_ok_by _ _ c.run_on.result c.run_on.ensures.told (λ ran shown. told_of_none g.R.Disk.Disk.content g.R.Disk.Disk.images (g.R.Rack.held c.args.rack.now) (g.R.Rack.held c.run_on.new.rack) _ ran shown)
+    if_ok_by _ _ c.run_on.result c.run_on.ensures.told (λ ran shown. told_of_none g.R.Disk.Disk.content g.R.Disk.Disk.images g.R.Disk.Disk.limit (g.R.Rack.held c.args.rack.now) (g.R.Rack.held c.run_on.new.rack) _ ran shown)
 
 pub returns-clause-stopped : goal.returns-clause-stopped
 returns-clause-stopped g c =

@@ -40,10 +40,13 @@ returns-in-Err-clause-shard g c =
 
 pub returns-in-Err-write-clause-shard : goal.returns-in-Err-write-clause-shard
 returns-in-Err-write-clause-shard g c =
+    let size = size_exact c.args.parts.now c.args.call.now c.args.replied c.requires.shard c.requires.call c.requires.whole c.requires.next (omega arith) c.in-Ok.next c.in-Ok.ensures c.size_of_record-size.result c.size_of_record-size.ensures in
+    let kept = kept_exact c.args.parts.now c.args.call.now c.args.replied c.requires.shard c.requires.call c.requires.whole c.requires.next (omega arith) c.in-Ok.next c.in-Ok.ensures c.kept_room.result c.kept_room.ensures in
     let taken : HasTaken c.args.parts.now c.take_memory.new.log c.take_memory.new.memory c.args.call.now.batch.lane =
     record { lanes = c.take_memory.ensures.lanes; others = c.take_memory.ensures.others; keeps = c.take_memory.ensures.keeps; untouched = c.take_memory.ensures.untouched; records = c.take_memory.ensures.records; header = c.take_memory.ensures.header } in
     lock_left c.args.parts.now c.args.call.now c.args.replied c.requires.shard c.requires.call c.requires.whole c.requires.next (omega arith) c.in-Ok.next c.in-Ok.ensures
-    c.take_memory.new.log c.take_memory.new.memory taken c.write.new.parts c.in-Err-write.ensures.failed
+    c.size_of_record-size.result c.len.result c.kept_room.result size.0 c.len.ensures kept.0 c.used-used.result c.capacity-capacity.result c.used-used.ensures c.capacity-capacity.ensures c.if-need-capacity.false
+    c.take_memory.new.log c.take_memory.new.memory taken c.max.result (omega arith) (omega arith) c.in-Ok-take_memory.ensures.room (λ m get. omega (arith, c.in-Ok-take_memory.ensures.decisions m get, c.len-2.ensures, c.len.ensures)) c.write.new.parts c.in-Err-write.ensures.failed
 
 pub write-requires-clause-memory : goal.write-requires-clause-memory
 write-requires-clause-memory g c =

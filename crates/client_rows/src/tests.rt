@@ -1,0 +1,7 @@
+mod batches;
+mod files;
+mod lines;
+mod sentinels;
+mod verdicts;
+mod words;
+mod workloads;

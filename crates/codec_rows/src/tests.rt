@@ -1,0 +1,6 @@
+mod compacts;
+mod fields;
+mod ids;
+mod ranges;
+mod records;
+mod transactions;
