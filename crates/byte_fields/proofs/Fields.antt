@@ -9,7 +9,7 @@ use Rattle.cbdc_types.specs.declared.tx.Input.{Input}
 use Rattle.byte_fields.specs.declared.fault.Fault.{Fault}
 use Rattle.cbdc_types.specs.declared.answer.InputKind.TheVariants.{Cut, TooLong}
 use Rattle.byte_fields.specs.Faults.{◌>>=◌, fault, IsBytes}
-use Rattle.byte_fields.specs.Spelling.{number, output, input, witness, FitsNumber, FitsHash, FitsOutput, FitsInput, FitsWitness}
+use Rattle.byte_spelling.specs.Spelling.{number, output, input, witness, FitsNumber, FitsHash, FitsOutput, FitsInput, FitsWitness}
 use Rattle.byte_fields.specs.Reading.{field_at, number_of, hash_of, number_at, hash_at}
 use Rattle.byte_fields.specs.Transactions.{point_of, output_of, input_of, output_at, input_at, witness_at}
 use Rattle.byte_fields.proofs.Lengths.{length-number}

@@ -1,6 +1,6 @@
 -- How long spellings are.
 use Rattle.std.proofs.Common.{◌≡◌, ℕ, length, refl}
-use Rattle.byte_fields.specs.Spelling.{number}
+use Rattle.byte_spelling.specs.Spelling.{number}
 
 pub length-number : (n : ℕ) → length (number n) ≡ 8
 unfolding number

@@ -8,7 +8,7 @@ use Rattle.cbdc_types.specs.declared.tx.FullTx.{FullTx}
 use Rattle.byte_fields.specs.declared.fault.Fault.{Fault}
 use Rattle.cbdc_types.specs.declared.answer.InputKind.TheVariants.{TooMany}
 use Rattle.byte_fields.specs.Faults.{◌>>=◌, fault, IsBytes}
-use Rattle.byte_fields.specs.Spelling.{number, counted, output, input, witness, transaction, FitsOutput, FitsInput, FitsWitness, FitsList, FitsTransaction}
+use Rattle.byte_spelling.specs.Spelling.{number, counted, output, input, witness, transaction, FitsOutput, FitsInput, FitsWitness, FitsList, FitsTransaction}
 use Rattle.byte_fields.specs.Reading.{number_at, items_at, list_at}
 use Rattle.byte_fields.specs.Transactions.{input_at, output_at, witness_at, transaction_at}
 use Rattle.byte_fields.proofs.Fields.{bind_ok, bind_err, guard_ok, guard_err, ok_is, Takes, Takes-then, length-rest, IsItem, IsRead, read_of, number_item, input_item, output_item, witness_item}

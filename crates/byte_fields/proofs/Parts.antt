@@ -12,7 +12,7 @@ use Rattle.cbdc_types.specs.declared.batch.Outcome.TheVariants as outcomes
 use Rattle.cbdc_types.specs.declared.answer.InputKind.TheVariants.{Form, Large}
 use Rattle.byte_fields.specs.declared.fault.Fault.{Fault}
 use Rattle.byte_fields.specs.Faults.{◌>>=◌, fault, IsBytes}
-use Rattle.byte_fields.specs.Spelling.{number, FitsNumber, FitsHash, FitsList}
+use Rattle.byte_spelling.specs.Spelling.{number, FitsNumber, FitsHash, FitsList}
 use Rattle.byte_fields.specs.Reading.{number_at, hash_at, list_at}
 use Rattle.byte_fields.specs.Records.{hashes, batch, compact, entry, reply, answered, outcome, decision, byte_of, byte_at, small_at, batch_at, compact_at, entry_at, missing_reply_at, locked_reply_at, reply_at, answered_at, missing_outcome_at, locked_outcome_at, outcome_at, decision_at}
 use Rattle.byte_fields.proofs.Fields.{bind_ok, ok_is, Takes, Takes-then, IsItem, IsRead, read_of, field_item, number_item, hash_item}

@@ -12,7 +12,7 @@ use Rattle.cbdc_types.specs.declared.answer.InputKind.TheVariants.{Form, Large}
 use Rattle.byte_fields.specs.declared.fault.Fault.{Fault}
 use Rattle.byte_fields.specs.Faults.{◌>>=◌, fault}
 use Rattle.byte_fields.specs.Reading.{field_at, number_at, hash_at, list_at}
-use Rattle.byte_fields.specs.Spelling.{number, counted}
+use Rattle.byte_spelling.specs.Spelling.{number, counted}
 
 abbrev pub hashes : List (List ℕ) → List ℕ
 hashes hs = counted (λ h. h) hs

@@ -2,13 +2,13 @@
 ghost use Rattle.std.specs.Prelude.{◌≡◌, ◌++◌, ◌+◌, ◌<◌, ◌≤◌, List, ℕ, length, OnOk, OnErr};
 ghost use Rattle.std.specs.List.{flat_map};
 ghost use Rattle.std.specs.Vec.{vec_len, vec_capacity};
-ghost use Rattle.byte_fields.specs.Spelling.{number, counted, output, input, witness};
+ghost use Rattle.byte_spelling.specs.Spelling.{number, counted, output, input, witness};
 
 use cbdc_types::{Hash, Input, List, Output};
 use std::alloc::AllocError;
 
 /// Puts a number's eight bytes at the end.
-#[tactic(auto, unfolding(crate::specs::Spelling::number))]
+#[tactic(auto, unfolding(byte_spelling::specs::Spelling::number))]
 pub fn put_number(out: &mut Vec<u8>, n: u64) -> Result<(), AllocError>
     ensures ok { OnOk result (out.new.items ≡ out.old.items ++ number n) }
     ensures len { OnOk result (vec_len out.new ≡ vec_len out.old + length (number n)) }

@@ -8,7 +8,7 @@ use Rattle.cbdc_types.specs.declared.tx.FullTx.{FullTx}
 use Rattle.byte_fields.specs.declared.fault.Fault.{Fault}
 use Rattle.byte_fields.specs.Faults.{◌>>=◌, fault, IsBytes}
 use Rattle.byte_fields.specs.Reading.{number_at, items_at, list_at}
-use Rattle.byte_fields.specs.Spelling.{counted, output, transaction, FitsList, FitsTransaction}
+use Rattle.byte_spelling.specs.Spelling.{counted, output, transaction, FitsList, FitsTransaction}
 use Rattle.byte_fields.specs.Transactions.{output_at, transaction_at}
 use Rattle.byte_fields.proofs.Fields.{bind_ok, guard_ok, ok_is, Takes, IsRead, read_of, output_item}
 use Rattle.byte_fields.proofs.Lists.{list_read, transaction_item}

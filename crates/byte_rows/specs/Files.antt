@@ -4,7 +4,7 @@ use Rattle.std.specs.List.{AllByRecursion}
 use Rattle.cbdc_types.specs.declared.tx.Output.{Output}
 use Rattle.cbdc_types.specs.declared.tx.FullTx.{FullTx}
 use Rattle.byte_fields.specs.Faults.{IsBytes}
-use Rattle.byte_fields.specs.Spelling.{counted, output, transaction, FitsList, FitsOutput, FitsTransaction}
+use Rattle.byte_spelling.specs.Spelling.{counted, output, transaction, FitsList, FitsOutput, FitsTransaction}
 use Rattle.client_files.specs.Files.{clients_in, mint_in}
 
 -- a client file is read just where it is the number of its transactions, then their spellings, and then its end, and they are at most

@@ -1,7 +1,7 @@
 -- Coins, ids of transactions and hashes of coins, and what coordinators and shards see of a transaction.
 use Rattle.std.specs.Prelude.{ℕ, suc, List, [], ◌∷◌, ◌++◌, map}
 use Rattle.sha2.specs.Sha256.{sha256}
-use Rattle.byte_fields.specs.Spelling.{input, output, counted}
+use Rattle.byte_spelling.specs.Spelling.{input, output, counted}
 use Rattle.cbdc_model.specs.Records.{Digest, Compact}
 pub use Rattle.cbdc_types.specs.declared.tx.OutPoint.{OutPoint}
 pub use Rattle.cbdc_types.specs.declared.tx.Output.{Output}

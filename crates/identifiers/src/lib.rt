@@ -3,14 +3,14 @@
 
 ghost use Rattle.std.specs.Prelude.{◌≡◌, ◌++◌, List, ℕ, length};
 ghost use Rattle.std.specs.List.{flat_map};
-ghost use Rattle.byte_fields.specs.Spelling.{number, output, input, counted};
+ghost use Rattle.byte_spelling.specs.Spelling.{number, output, input, counted};
 ghost use Rattle.cbdc_model.specs.Coins.{tx_id as id_of_tx, coin_hash};
 ghost use Rattle.sha2.specs.Hashers.{Holds256};
 
 use cbdc_types::{FullTx, Hash, Input, OutPoint, Output};
 use sha2::{Digest, Sha256};
 
-#[tactic(auto, unfolding(byte_fields::specs::Spelling::number))]
+#[tactic(auto, unfolding(byte_spelling::specs::Spelling::number))]
 fn feed_number(hasher: &mut Sha256, n: u64)
     ensures { (m : List ℕ) → Holds256 hasher.old m → Holds256 hasher.new (m ++ number n) }
 {

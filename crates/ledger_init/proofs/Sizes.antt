@@ -3,7 +3,7 @@ use Rattle.std.proofs.Common.{◌≡◌, ℕ, suc, ◌+◌, ◌-◌, ◌≤◌, 
 use Rattle.std.specs.Prelude.{nat_lt}
 use Rattle.std.specs.List.{AllByRecursion}
 use Rattle.sha2.proofs.Facts256.{length-sha256}
-use Rattle.byte_fields.specs.Spelling.{FitsHash}
+use Rattle.byte_spelling.specs.Spelling.{FitsHash}
 use Rattle.cbdc_types.specs.Limits.{IsWithinLimits}
 use Rattle.cbdc_model.specs.Records.{Digest, Shape, Header, Record, Genesis, Start}
 use Rattle.cbdc_model.specs.Coins.{Output, Coin, coin_hash, made_coins, id_of, genesis_id, genesis_hashes}

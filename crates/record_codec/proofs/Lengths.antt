@@ -6,7 +6,7 @@ use Rattle.std.proofs.lemmas.List.{length-append}
 use Rattle.std.proofs.lemmas.List.Sums.{sum_by-cons}
 use Rattle.cbdc_model.specs.Records.{Header, Batch, Compact, Reply, Outcome, Answered, Record, Held, Missing, Taken, Won, Lacks, Blocked, Genesis, Lock, Finish, Forget, Start, Prepare, Commit, Discard, Done}
 use Rattle.cbdc_model.specs.Room.{size_of, reply_size, outcome_size, compact_size, answered_size}
-use Rattle.byte_fields.specs.Spelling.{number, counted, FitsHash}
+use Rattle.byte_spelling.specs.Spelling.{number, counted, FitsHash}
 use Rattle.byte_fields.specs.Records.{hashes, batch, compact, entry, reply, answered, outcome, decision}
 use Rattle.byte_fields.proofs.Lengths.{length-number}
 use Rattle.byte_fields.proofs.Parts.{FitsCompact, FitsReply, FitsAnswered, FitsOutcome}

@@ -3,7 +3,7 @@ use Rattle.std.proofs.Common.{◌≡◌, ℕ, ◌+◌, List, ◌++◌, length, a
 use Rattle.std.specs.List.{flat_map}
 use Rattle.std.proofs.lemmas.List.{length-append}
 use Rattle.cbdc_model.specs.Records.{Header, Batch, Compact, Answered, Taken, Lacks, Blocked, Genesis, Start}
-use Rattle.byte_fields.specs.Spelling.{number, counted}
+use Rattle.byte_spelling.specs.Spelling.{number, counted}
 use Rattle.byte_fields.specs.Records.{hashes, batch, compact, entry, reply, answered, outcome}
 use Rattle.byte_fields.proofs.Lengths.{length-number}
 use Rattle.record_codec.specs.Bodies.{header, head, body_of}

@@ -14,7 +14,7 @@ use Rattle.cbdc_types.specs.declared.answer.InputKind.TheVariants.{Form}
 use Rattle.cbdc_model.specs.Records.{kind_of}
 use Rattle.byte_fields.specs.declared.fault.Fault.{Fault}
 use Rattle.byte_fields.specs.Faults.{fault, IsBytes}
-use Rattle.byte_fields.specs.Spelling.{number, counted, FitsNumber, FitsHash, FitsList}
+use Rattle.byte_spelling.specs.Spelling.{number, counted, FitsNumber, FitsHash, FitsList}
 use Rattle.byte_fields.specs.Reading.{field_at, number_at, hash_at, list_at}
 use Rattle.byte_fields.specs.Records.{hashes, batch, compact, answered, outcome, decision, small_at, batch_at, compact_at, answered_at, outcome_at, decision_at}
 use Rattle.byte_fields.proofs.Fields.{IsRead, Takes, read_of, field_item}

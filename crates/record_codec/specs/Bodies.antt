@@ -3,7 +3,7 @@ use Rattle.std.specs.Prelude.{ℕ, List, [], ◌∷◌, ◌++◌}
 use Rattle.cbdc_types.specs.declared.record.Header.{Header}
 use Rattle.cbdc_types.specs.declared.record.Record.{Record}
 use Rattle.cbdc_types.specs.declared.record.Record.TheVariants.{Genesis, Lock, Finish, Forget, Start, Prepare, Commit, Discard, Done}
-use Rattle.byte_fields.specs.Spelling.{number, counted}
+use Rattle.byte_spelling.specs.Spelling.{number, counted}
 use Rattle.byte_fields.specs.Records.{hashes, batch, compact, answered, outcome, decision}
 
 -- HAMJRNL1, which each journal begins with

@@ -1,7 +1,7 @@
 // How long a record's body is, before it is written.
 ghost use Rattle.std.specs.Prelude.{◌≡◌, ◌-◌, ◌^◌, length, min};
 ghost use Rattle.std.specs.List.{flat_map};
-ghost use Rattle.byte_fields.specs.Spelling.{counted};
+ghost use Rattle.byte_spelling.specs.Spelling.{counted};
 ghost use Rattle.byte_fields.specs.Records.{reply};
 ghost use Rattle.record_codec.specs.Bodies.{header, body_of};
 

@@ -4,7 +4,7 @@ use Rattle.std.specs.List.{AllByRecursion}
 use Rattle.std.proofs.lemmas.List.{length-map}
 use Rattle.std.proofs.lemmas.List.Elements.{All-from_recursion}
 use Rattle.sha2.proofs.Facts256.{length-sha256}
-use Rattle.byte_fields.specs.Spelling.{input, output, counted}
+use Rattle.byte_spelling.specs.Spelling.{input, output, counted}
 use Rattle.cbdc_model.specs.Records.{Digest}
 use Rattle.cbdc_model.specs.Coins.{Input, Output, Coin, coin_hash, id_of, tx_id, made_coins, tx_coins}
 use Rattle.cbdc_model.specs.Grammar.{IsHash, IsHashList}

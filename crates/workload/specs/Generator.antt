@@ -1,7 +1,7 @@
 -- A workload from a number: a mint, transactions that split each of its coins, and transactions that join the two halves again.
 use Rattle.std.specs.Prelude.{ℕ, ◌+◌, ◌-◌, ◌*◌, ◌/◌, ◌%◌, true, List, [], ◌∷◌, ◌++◌, map, length, replicate}
 use Rattle.std.specs.List.{flat_map, range_with_len}
-use Rattle.byte_fields.specs.Spelling.{number}
+use Rattle.byte_spelling.specs.Spelling.{number}
 use Rattle.cbdc_model.specs.Records.{Digest}
 use Rattle.cbdc_model.specs.Coins.{Output, FullTx, tx_id, genesis_id}
 use Rattle.verifier_port.specs.Lines.{spelled}

@@ -15,7 +15,7 @@ pub(crate) fn value(seed: u64, i: u64) -> u64
 }
 
 /// The program with a number.
-#[tactic(auto, unfolding(byte_fields::specs::Spelling::number))]
+#[tactic(auto, unfolding(byte_spelling::specs::Spelling::number))]
 pub(crate) fn program(k: u64) -> Hash
     ensures { result ≡ program_of k }
 {

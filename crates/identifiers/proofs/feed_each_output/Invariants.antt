@@ -1,7 +1,7 @@
 use Rattle.std.proofs.Common.{ℕ, List, ◌++◌, take}
 use Rattle.std.specs.List.{flat_map}
 use Rattle.sha2.specs.Hashers.{Holds256}
-use Rattle.byte_fields.specs.Spelling.{output}
+use Rattle.byte_spelling.specs.Spelling.{output}
 use Rattle.identifiers.proofs.feed_each_output.Given as goal
 
 abbrev pub invariant-items : goal.invariant-items
