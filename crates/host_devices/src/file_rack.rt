@@ -9,7 +9,8 @@ use std::fs::{File, OpenOptions};
 use std::rt::Files;
 use std::{fs, io};
 
-/// Node n is the file `rack/node-NNN`. There is one count of faults for all.
+/// Node n is the file `rack/node-NNN`, and one program's at a time: taking a node locks its file (`flock`, which the file system has to know)
+/// until its disk is put back or the program ends, and a file that another program holds can't be taken. There is one count of faults for all.
 #[derive(Drop)]
 pub struct FileRack<R: Files<File = File> + Drop> {
     rt: R,
@@ -54,6 +55,14 @@ fn named_file<R: Files<File = File>>(rt: &R, path: &str) -> io::Result<File> {
     Ok(file)
 }
 
+// The file under a lock that no other program shares; None where one holds it.
+fn own(file: File) -> Option<File> {
+    match file.try_lock() {
+        Ok(()) => Some(file),
+        Err(_) => None,
+    }
+}
+
 // The disk of a node, with a count of faults to begin with.
 fn open_node<R: Files<File = File>>(
     rt: &R,
@@ -67,7 +76,7 @@ fn open_node<R: Files<File = File>>(
         return None;
     };
     match named_file(rt, path.as_str()) {
-        Ok(file) => FileDisk::new(file, faults),
+        Ok(file) => FileDisk::new(own(file)?, faults),
         Err(_) => None,
     }
 }

@@ -18,7 +18,13 @@ fn real_files(rt: HostRuntime) -> Result<(), Fail> {
     assert_eq!(rt; disk.len(), 3);
     assert_eq!(rt; disk.capacity(), 1 << 40);
     assert_eq!(rt; disk.faults(), 0);
+    let mut other = FileRack::new(&rt, alloc);
+    assert!(rt; other.take(NodeId(987)).is_err());
     rack.put(NodeId(987), disk);
+    let disk = other.take(NodeId(987)).ok().ok_or("take again")?;
+    assert_eq!(rt; disk.len(), 3);
+    assert_eq!(rt; disk.faults(), 1);
+    other.put(NodeId(987), disk);
     let mut inbox = FileInbox::new(&rt);
     assert_eq!(rt; inbox.read("rack/node-987", 1, &mut buf).ok(), Some(2));
     assert_eq!(rt; &buf, b"bcc");
