@@ -12,7 +12,7 @@ use Rattle.lane_driver.specs.Told.{KeepsOthers}
 use Rattle.lane_driver.specs.declared.fault.LaneFault.{LaneFault}
 use Rattle.recovery.specs.declared.resumed.Resumed.{Resumed}
 use Rattle.recovery.specs.declared.resumed.ResumedBatch.{ResumedBatch}
-use Rattle.recovery.specs.Open.{KeepsUnlisted, IsResumed, AreResumed, IsUnfinished, HasItsOutcomes, IsResumeStopped, IsOneTaken, AreTakenUp, IsStoppedAmong, AreStopped}
+use Rattle.recovery.specs.Open.{KeepsUnlisted, IsResumed, AreResumed, IsUnfinished, HasItsOutcomes, IsResumeStopped, IsOneTaken, AreTakenUp, AreTried, IsStoppedAmong, AreStopped}
 use Rattle.ledger_nodes.specs.Ones.{IsOneOf}
 
 one_batch : (o : OpenLane) (rs : List ResumedBatch) → AreResumed (o ∷ []) rs → (b : ResumedBatch) × (rs ≡ b ∷ [])
@@ -46,20 +46,24 @@ one_idle phase o (Ok r) (Err f) is idle = absurd is
 one_idle phase o (Err e) (Ok b) is idle = absurd is
 one_idle phase o (Err e) (Err f) is idle = tt
 
--- it stopped, and nothing stands before it
+-- it stopped, and nothing stands before it or behind
 stopped_one : (K : Shape) (alone : Bool) (o : OpenLane) (log log' : Sight) (I J : ℕ → Sight) (e : LaneFault) → IsStoppedAmong K alone (o ∷ []) log I log' J e → IsResumeStopped K alone o log I log' J e
-stopped_one K alone o log log' I J e among = go among.before among.batches among.are among.taken
+stopped_one K alone o log log' I J e among = go among.before among.batches among.behind among.came among.are among.taken among.went_on
   where
-    go : (before : List OpenLane) (batches : List ResumedBatch) → o ∷ [] ≡ before ++ among.stopped_at ∷ among.behind → AreTakenUp K alone before batches log I among.log_there among.shards_there
-        → IsResumeStopped K alone o log I log' J e
-    go [] [] is (same, shards_same) =
+    go : (before : List OpenLane) (batches : List ResumedBatch) (behind : List OpenLane) (came : List (Result ResumedBatch LaneFault)) → o ∷ [] ≡ before ++ among.stopped_at ∷ behind
+        → AreTakenUp K alone before batches log I among.log_there among.shards_there → AreTried K alone behind came among.log_then among.shards_then log' J → IsResumeStopped K alone o log I log' J e
+    go [] [] [] [] is (same, shards_same) (still, shards_still) =
         subst (λ x. IsResumeStopped K alone x log I log' J e) (sym (head_is is))
-        (subst (λ x. IsResumeStopped K alone among.stopped_at x I log' J e) same (subst (λ x. IsResumeStopped K alone among.stopped_at among.log_there x log' J e) shards_same among.stopped))
+        (subst (λ x. IsResumeStopped K alone among.stopped_at x I log' J e) same (subst (λ x. IsResumeStopped K alone among.stopped_at among.log_there x log' J e) shards_same
+        (subst (λ x. IsResumeStopped K alone among.stopped_at among.log_there among.shards_there log' x e) (sym shards_still)
+        (subst (λ x. IsResumeStopped K alone among.stopped_at among.log_there among.shards_there x among.shards_then e) (sym still) among.stopped))))
       where
-        head_is : o ∷ [] ≡ among.stopped_at ∷ among.behind → o ≡ among.stopped_at
+        head_is : o ∷ [] ≡ among.stopped_at ∷ [] → o ≡ among.stopped_at
         head_is is_one = ap (λ l. get_or l 0 o) is_one
-    go [] (b ∷ bs) is taken = absurd taken
-    go (p ∷ ps) bs is taken = absurd (omega (arith, ap length is, length-append ps (among.stopped_at ∷ among.behind)))
+    go [] [] [] (c ∷ cs) is taken tried = absurd tried
+    go [] [] (p ∷ ps) came is taken tried = absurd (omega (arith, ap length is))
+    go [] (b ∷ bs) behind came is taken tried = absurd taken
+    go (p ∷ ps) bs behind came is taken tried = absurd (omega (arith, ap length is, length-append ps (among.stopped_at ∷ behind)))
 
 pub one_left : (K : Shape) (alone : Bool) (o : OpenLane) (log log' : Sight) (I J : ℕ → Sight) (came : Result Resumed LaneFault) (one : Result ResumedBatch LaneFault) → IsOneOf came one
     → IfErr came (AreStopped K alone (o ∷ []) log I log' J) → IfErr one (IsResumeStopped K alone o log I log' J)

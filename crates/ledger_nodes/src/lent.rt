@@ -101,6 +101,8 @@ impl<'r, W: Wait, D: Disk> Turns for LentLedger<'r, W, D> {
 
     ghost quiet = { λ l. AreQuiet l.logs l.shards };
 
+    ghost wanting = { λ l lane. Unit {0} };
+
     ghost holds = { λ l. AreStored D.content D.images l.logs l.shards };
 
     fn shape(&self) -> &Shape {

@@ -1,6 +1,6 @@
 -- The cause of a lane's fault stays while other lanes go on.
-use Rattle.std.proofs.Common.{◌≡◌, ◌≢◌, ◌⊎◌, inl, inr, Bool, true, false, ℕ, suc, ◌+◌, ◌*◌, ◌<◌, ◌≤◌, le_trans, List, refl, sym, ap, ◌∙◌, subst, arith, Some, None}
-use Rattle.std.specs.Prelude.{slice_get, is_some, length, take, drop, Option, Result, Ok, Err, IfErr, IsOk, OnOk}
+use Rattle.std.proofs.Common.{◌≡◌, ◌≢◌, ◌⊎◌, inl, inr, Bool, true, false, ℕ, suc, ◌+◌, ◌<◌, ◌≤◌, le_trans, List, refl, sym, ap, ◌∙◌, subst, arith, Some, None}
+use Rattle.std.specs.Prelude.{slice_get, is_some, length, take, drop, Option, Result, Err, IfErr, IsOk, OnOk}
 use Rattle.cbdc_model.specs.Records.{Shape, Batch, Compact, Record, record_of}
 use Rattle.cbdc_model.specs.Slots.{slot, Idle}
 use Rattle.cbdc_model.specs.Ranges.{home_of, shard_node}
@@ -12,11 +12,10 @@ use Rattle.run_laws.specs.Faults.{awaited, HasHeard, IsAsked, asks_prepare, asks
 use Rattle.lane_driver.specs.declared.fault.LaneFault.{LaneFault}
 use Rattle.lane_driver.specs.declared.fault.LaneFaultKind.{LaneFaultKind}
 use Rattle.lane_driver.specs.declared.fault.LaneFaultKind.TheVariants.{DiskFault as DiskStopped, Full as NoRoom, ClockEnd as NoStamp, Memory as NoMemory}
-use Rattle.ledger_runs.specs.Turning.{phase_at, IsLaneOf, KeepsLanes}
-use Rattle.ledger_runs.specs.Least.{IsLeastOpen}
+use Rattle.ledger_runs.specs.Turning.{phase_at, IsLaneOf}
 use Rattle.ledger_runs.specs.Waving.{NoFault, TurnsAt, taken_by}
 use Rattle.ledger_runs.specs.Pieces.{IsUnprepared, IsNextPiece, IsNextFrom, HaveTaken}
-use Rattle.ledger_runs.specs.Faults.{GrowBy, TookLanes, TakesInOrder, IsWanted, wants_prepare, wants_lock, HasNoDiskFor, LacksLock, IsBeforeLocks, IsCauseOf, IsLaneCause, IsSomeCauseOf, IsRunCause, IsOpenCause, HaveFailed, MayHold, Nothing, Rests, HaveCauses, IsTurnCause}
+use Rattle.ledger_runs.specs.Faults.{GrowBy, TookLanes, TakesInOrder, IsWanted, wants_prepare, wants_lock, HasNoDiskFor, LacksLock, IsBeforeLocks, IsCauseOf, IsLaneCause, IsSomeCauseOf, IsRunCause, HaveFailed, MayHold, Rests, HaveCauses, IsTurnCause}
 use Rattle.ledger_runs.specs.declared.lanes.Lane.{Lane}
 use Rattle.ledger_runs.proofs.Others.{slot_same, record_same}
 use Rattle.ledger_runs.proofs.Preparing.{same_prepared, next_piece, next_stays}
@@ -79,7 +78,7 @@ module _ (K : Shape) (lane : ℕ) (next due : List Compact → Type 0) (E F J X 
     (before : (n : ℕ) → IsEnd (F n) (E n)) (grows : (n : ℕ) → IsEnd (J n) (X n)) (slot_on : (n : ℕ) → slot (X n) lane ≡ slot (J n) lane)
     (wanted_on : (node : ℕ) (front : List Record) (r : Record) → IsWanted K lane next J node front r → IsWanted K lane due X node front r)
     (asked_on : (node : ℕ) → IsAsked K lane next J node → IsAsked K lane due X node) (before_on : IsBeforeLocks K lane J → IsBeforeLocks K lane X) (failed_on : (n : ℕ) → failed n → fails n) (held_on : (n c : ℕ) → holds n c → held n c) where
-  cause_moves : (node : ℕ) (kind : LaneFaultKind) → IsCauseOf K lane next E J failed holds node kind → IsCauseOf K lane due F X fails held node kind
+  pub cause_moves : (node : ℕ) (kind : LaneFaultKind) → IsCauseOf K lane next E J failed holds node kind → IsCauseOf K lane due F X fails held node kind
   cause_moves node DiskStopped h = record { inside = h.inside; asked = asked_on node h.asked; did = failed_on node h.did }
   cause_moves node (NoRoom used need capacity) h = record {
     front = h.front;
@@ -160,12 +159,6 @@ of_memory : (K : Shape) (lane : ℕ) (next : List Compact → Type 0) (E X : ℕ
     → IsLaneCause K lane next E X failed holds e
 of_memory K lane next E X failed holds e is idle = subst (λ k. IsCauseOf K lane next E X failed holds e.node k) (sym is) (inl idle)
 
--- or while an open batch was brought to its end
-pub memory_cause : {A : Type 0} (K : Shape) (lane : ℕ) (E X : ℕ → List Record) (failed : ℕ → Type 0) (holds : ℕ → ℕ → Type 0) (r : Result A LaneFault)
-    → IfErr r (λ e. e.fault ≡ NoMemory) → IfErr r (IsOpenCause K lane E X failed holds)
-memory_cause K lane E X failed holds (Ok a) h = tt
-memory_cause K lane E X failed holds (Err e) h = inl h
-
 -- a lane that has a fault with its cause rests
 pub rests_by : (K : Shape) (lane : ℕ) (next : List Compact → Type 0) (E X : ℕ → List Record) (failed : ℕ → Type 0) (holds : ℕ → ℕ → Type 0) (e : LaneFault) → IsLaneCause K lane next E X failed holds e → Rests K lane X failed
 rests_by K lane next E X failed holds e cause = go e.fault cause
@@ -195,25 +188,6 @@ none_taken K E = (0, omega arith, λ n. refl)
 
 pub one_more : (lane : ℕ) (E J L : ℕ → List Record) → TookLanes lane E J → GrowBy lane J L → TookLanes (lane + 1) E L
 one_more lane E J L took grown = subst (λ n. TookLanes n E L) (let e : suc lane ≡ lane + 1 = omega arith in e) (J, took, grown)
-
--- the fault of a lane that was resumed
-pub resumed_cause : (K H : Shape) (lane : ℕ) (E J L : ℕ → List Record) (failed : ℕ → Type 0) (holds : ℕ → ℕ → Type 0) → H ≡ K → IsLaneOf K lane → ((n : ℕ) → IsEnd (E n) (J n))
-    → (e : LaneFault) → IsOpenCause H lane J L failed holds e → IsRunCause K (λ _. Nothing) E L failed holds e
-resumed_cause K H lane E J L failed holds same inside since e (inl memory) = subst (λ k. IsSomeCauseOf K (λ _. Nothing) E L failed holds e.node k) (sym memory) tt
-resumed_cause K H lane E J L failed holds same inside since e (inr cause) =
-    cause_any K lane (λ _. Nothing) E L failed holds inside e
-    (cause_since K lane Nothing Nothing J E L failed holds since (λ txs n. n) e (subst (λ k. IsLaneCause k lane Nothing J L failed holds e) same cause))
-
--- the first fault of lanes that were open is the least lane's
-pub least_open : (K H : Shape) (lane : ℕ) (E J L : ℕ → List Record) (failed : ℕ → Type 0) (holds : ℕ → ℕ → Type 0) → H ≡ K → IsLaneOf K lane → ((n : ℕ) → IsEnd (E n) (J n))
-    → ((l : ℕ) → l < lane → phase_at K J l ≡ Idle) → KeepsLanes H lane J L → (e : LaneFault) → IsOpenCause H lane J L failed holds e → IsLeastOpen K E L failed holds e
-least_open K H lane E J L failed holds same inside since idle others e (inl memory) = inl memory
-least_open K H lane E J L failed holds same inside since idle others e (inr cause) = inr (
-  lane,
-  inside,
-  cause_since K lane Nothing Nothing J E L failed holds since (λ txs n. n) e (subst (λ k. IsLaneCause k lane Nothing J L failed holds e) same cause),
-  λ l low. subst (λ k. KeepsLanes k lane J L) same others l (omega (arith, low, inside)) (λ h. omega (arith, h, low)) ∙ idle l low,
-)
 
 -- ---- the lanes of a wave
 

@@ -9,9 +9,8 @@ use Rattle.recovery.specs.declared.resumed.ResumedBatch.{ResumedBatch}
 use Rattle.run_laws.specs.WaveSteps.{ResumedSo, ResumingStepLaw, ResumingSkipLaw}
 use Rattle.ledger_runs.specs.Turning.{phase_at, OfKept, StaysKept, KeepsLanes, listed, TookUp, TookUpOne}
 use Rattle.std.specs.Prelude.{Result, Ok, Err, OnOk, IsOk}
-use Rattle.lane_driver.specs.declared.fault.LaneFault.{LaneFault}
 
-lt_or_eq : (l lane : ℕ) → l < lane + 1 → (l < lane) ⊎ (l ≡ lane)
+pub lt_or_eq : (l lane : ℕ) → l < lane + 1 → (l < lane) ⊎ (l ≡ lane)
 lt_or_eq l lane low = go (eqb_tells l lane)
   where
     go : (((l == lane) ≡ true) × (l ≡ lane)) ⊎ (((l == lane) ≡ false) × (l ≢ lane)) → (l < lane) ⊎ (l ≡ lane)
@@ -50,10 +49,6 @@ pub of_ok : {A E : Type 0} (r : Result A E) (X : Type 0) → IsOk r → OnOk r X
 of_ok (Ok a) X ok so = so
 of_ok (Err e) X ok so = absurd (false≢true ok)
 
-pub on_ok : {A E : Type 0} (r : Result A E) (X : Type 0) → X → OnOk r X
-on_ok (Ok a) X so = so
-on_ok (Err e) X so = tt
-
 -- the lanes that have had their turn are idle
 pub idle_next : (K H : Shape) (lane : ℕ) (J L : ℕ → List Record) → H ≡ K → lane < K.coordinators * K.lanes
     → ((l : ℕ) → l < lane → phase_at K J l ≡ Idle) → KeepsLanes H lane J L → phase_at H L lane ≡ Idle → (l : ℕ) → l < lane + 1 → phase_at K L l ≡ Idle
@@ -70,7 +65,6 @@ so_next step skip K H lane E J L before after e keeps so took mint submissions k
     let now = subst (λ k. OfKept k J (λ _ _. TookUpOne k lane J L before after)) e took mint submissions (keeps mint submissions kept).kept in
     resumes_on step skip K lane E J L now.0 (so mint submissions kept) now.1
 
-pub keeps_found : (K : Shape) (lane : ℕ) (I J : ℕ → List Record) (found : Option ResumedBatch) (r : Result (Unit {0}) LaneFault) (before after : List ResumedBatch)
-    → OfKept K I (λ _ _. TookUp K lane I J found) → OnOk r (after ≡ before ++ listed found) → OnOk r (OfKept K I (λ _ _. TookUpOne K lane I J before after))
-keeps_found K lane I J found (Ok x) before after took e = λ mint submissions kept. (found, took mint submissions kept, e)
-keeps_found K lane I J found (Err f) before after took e = tt
+pub keeps_found : (K : Shape) (lane : ℕ) (I J : ℕ → List Record) (found : Option ResumedBatch) (before after : List ResumedBatch)
+    → OfKept K I (λ _ _. TookUp K lane I J found) → after ≡ before ++ listed found → OfKept K I (λ _ _. TookUpOne K lane I J before after)
+keeps_found K lane I J found before after took e mint submissions kept = (found, took mint submissions kept, e)

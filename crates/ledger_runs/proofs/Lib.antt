@@ -9,3 +9,4 @@ pub mod Preparing
 pub mod Faulting
 pub mod Least
 pub mod Flying
+pub mod Onward

@@ -1,8 +1,8 @@
 -- What the lanes of a wave have prepared, turn after turn, and which piece is the next of each.
-use Rattle.std.proofs.Common.{◌≡◌, ◌≢◌, ◌⊎◌, inl, inr, true, false, ◌==◌, ℕ, zero, suc, ◌+◌, ◌*◌, ◌<◌, ◌≤◌, List, [], ◌∷◌, ◌++◌, length, take, drop, refl, sym, ap, ◌∙◌, subst, arith, le_trans, length-take, length-drop, min, Option, Some, None}
-use Rattle.std.specs.Prelude.{slice_get, reverse, Result, Ok, Err, OnOk, IfErr, IsOk}
+use Rattle.std.proofs.Common.{◌≡◌, ◌≢◌, ◌⊎◌, inl, inr, true, false, ◌==◌, ℕ, zero, suc, ◌+◌, ◌<◌, ◌≤◌, List, [], ◌∷◌, ◌++◌, length, take, drop, refl, sym, ap, ◌∙◌, subst, arith, le_trans, length-take, length-drop, Option, Some, None}
+use Rattle.std.specs.Prelude.{slice_get, Result, Ok, Err, OnOk, IfErr, IsOk}
 use Rattle.std.proofs.lemmas.List.{reverse-append, drop-drop}
-use Rattle.std.proofs.lemmas.Option.{slice_get_cases, slice_get_within}
+use Rattle.std.proofs.lemmas.Option.{slice_get_within}
 use Rattle.std.proofs.lemmas.Bool.Decides.{eqb_tells}
 use Rattle.std.proofs.Math.ListN.{drop_of_length-le}
 use Rattle.cbdc_model.specs.Records.{Shape, Compact, Record}
@@ -14,10 +14,9 @@ use Rattle.run_laws.proofs.TurnKinds.{prepared_own}
 use Rattle.run_laws.proofs.WaveTurns.{cuts_more, cuts_all}
 use Rattle.lane_driver.specs.declared.fault.BatchReport.{BatchReport}
 use Rattle.lane_driver.specs.declared.fault.LaneFault.{LaneFault}
-use Rattle.ledger_runs.specs.Turning.{IsLaneOf}
 use Rattle.ledger_runs.specs.Telling.{SamePrepared}
-use Rattle.ledger_runs.specs.Waving.{EachLane, HaveSent, NoFault, AreShorter, TurnsAt, taken_by}
-use Rattle.ledger_runs.specs.Pieces.{HasPrepared, HasPreparedAll, HasPreparedAtMost, IsNextPiece, HasPreparedFrom, HasTriedFrom, IsNextFrom, HasBegun, HaveBegun, HaveTaken, HavePreparedAll}
+use Rattle.ledger_runs.specs.Waving.{HaveSent, NoFault, AreShorter, TurnsAt, taken_by}
+use Rattle.ledger_runs.specs.Pieces.{HasPrepared, HasPreparedAtMost, IsNextPiece, HasPreparedFrom, HasTriedFrom, IsNextFrom, HasBegun, HaveBegun, HaveTaken, HavePreparedAll}
 use Rattle.ledger_runs.specs.Faults.{GrowBy, IsTurnCause}
 use Rattle.ledger_runs.specs.declared.lanes.Lane.{Lane}
 use Rattle.ledger_runs.proofs.Keeping.{of_ok}

@@ -1,13 +1,11 @@
 -- What lanes tell, turn after turn.
-use Rattle.std.proofs.Common.{◌≡◌, ◌≢◌, ◌⊎◌, inl, inr, true, false, ◌==◌, ℕ, zero, suc, ◌+◌, ◌<◌, ◌≤◌, List, [], ◌++◌, length, refl, sym, ap, ◌∙◌, subst, add-one, arith, Some, None, Option}
-use Rattle.std.specs.Prelude.{slice_get, Result, Ok, Err, IfOk, OnOk, IsOk}
+use Rattle.std.proofs.Common.{◌≡◌, ◌≢◌, inl, inr, ℕ, zero, suc, ◌+◌, ◌<◌, ◌≤◌, List, [], ◌++◌, length, refl, sym, ap, ◌∙◌, subst, add-one, arith, Some, None, Option}
+use Rattle.std.specs.Prelude.{slice_get, Result, Ok, Err, IfOk, IsOk}
 use Rattle.std.proofs.lemmas.List.{append_cancel_right}
 use Rattle.std.proofs.lemmas.Bool.{false≢true}
-use Rattle.std.proofs.lemmas.Bool.Decides.{eqb_tells}
 use Rattle.cbdc_model.specs.Records.{Shape, Batch, Compact, Record}
 use Rattle.cbdc_model.specs.Slots.{slot}
 use Rattle.cbdc_model.specs.Ranges.{home_of}
-use Rattle.cbdc_model.specs.Waves.{prepared}
 use Rattle.cbdc_model.specs.Places.{sized_onto}
 use Rattle.lane_driver.specs.declared.fault.BatchReport.{BatchReport}
 use Rattle.lane_driver.specs.declared.fault.LaneFault.{LaneFault}
@@ -149,7 +147,6 @@ resumed_told K H lane E J L before after e keeps so told takes mint submissions 
     let now = subst (λ k. OfKept k J (λ _ _. TakesUp k lane J L before after)) e takes mint submissions (keeps mint submissions kept).kept in
     subst (λ n. TellResumed K E L n after) (sym (add-one lane)) (told_next K lane E J L before after (so mint submissions kept) (told mint submissions kept) now)
 
-pub takes_found : (K : Shape) (lane : ℕ) (I J : ℕ → List Record) (found : Option ResumedBatch) (r : Result (Unit {0}) LaneFault) (before after : List ResumedBatch)
-    → OfKept K I (λ _ _. TookUp K lane I J found) → IsOpened K lane I found → OnOk r (after ≡ before ++ listed found) → OnOk r (OfKept K I (λ _ _. TakesUp K lane I J before after))
-takes_found K lane I J found (Ok x) before after took opened e = λ mint submissions kept. (found, took mint submissions kept, opened, e)
-takes_found K lane I J found (Err f) before after took opened e = tt
+pub takes_found : (K : Shape) (lane : ℕ) (I J : ℕ → List Record) (found : Option ResumedBatch) (before after : List ResumedBatch)
+    → OfKept K I (λ _ _. TookUp K lane I J found) → IsOpened K lane I found → after ≡ before ++ listed found → OfKept K I (λ _ _. TakesUp K lane I J before after)
+takes_found K lane I J found before after took opened e mint submissions kept = (found, took mint submissions kept, opened, e)

@@ -7,6 +7,7 @@ use Rattle.cbdc_model.specs.Room.{need_of}
 use Rattle.cbdc_model.specs.Due.{used_of, prepare_record, lock_record}
 use Rattle.cbdc_model.specs.Lanes.{IsEnd}
 use Rattle.cbdc_model.specs.Sights.{HasRisen}
+use Rattle.lane_laws.specs.Batches.{own}
 use Rattle.lane_laws.specs.Calls.{is_concerned}
 use Rattle.lane_laws.specs.Faults.{HaveBelow}
 use Rattle.run_laws.specs.Faults.{IsAsked}
@@ -124,10 +125,6 @@ MayHold capacity n c = c ≡ capacity n
 abbrev pub Nothing : List Compact → Type 0
 Nothing txs = ⊥
 
--- the cause of the fault of a lane whose open batch is brought to its end, where want of memory is free
-abbrev pub IsOpenCause : Shape → ℕ → (ℕ → List Record) → (ℕ → List Record) → (ℕ → Type 0) → (ℕ → ℕ → Type 0) → LaneFault → Type 0
-IsOpenCause K lane E X failed may_hold e = (e.fault ≡ NoMemory) ⊎ IsLaneCause K lane Nothing E X failed may_hold e
-
 -- where a lane stands: between batches; its batch lacks a Lock; or it has an open batch, and the disk of a node that it asks has failed
 abbrev pub Rests : Shape → ℕ → (ℕ → List Record) → (ℕ → Type 0) → Type 0
 Rests K lane X failed = IsBeforeLocks K lane X ⊎ ((node : ℕ) × HasNoDiskFor K lane Nothing X failed node)
@@ -135,9 +132,28 @@ Rests K lane X failed = IsBeforeLocks K lane X ⊎ ((node : ℕ) × HasNoDiskFor
 abbrev pub AllRest : Shape → (ℕ → List Record) → (ℕ → Type 0) → Type 0
 AllRest K X failed = (lane : ℕ) → IsLaneOf K lane → Rests K lane X failed
 
--- or, from journals E to X, it has prepared nothing, so that its batch, if it has one, was open before
+-- nothing of the lane was written, from journals E to X
+abbrev pub IsUntouched : ℕ → (ℕ → List Record) → (ℕ → List Record) → Type 0
+IsUntouched lane E X = (n : ℕ) → own lane (X n) ≡ own lane (E n)
+
+-- the lane waits where it was: nothing of it was written; or its batch was prepared, and is so still
+abbrev pub Waits : Shape → ℕ → (ℕ → List Record) → (ℕ → List Record) → Type 0
+Waits K lane E X = IsUntouched lane E X ⊎ ((phase_at K X lane ≡ InPrepare) × HasPrepared K lane [] E X)
+
+-- the cause of the fault of a lane whose open batch is brought to its end; for want of memory it may wait, too
+abbrev pub IsOpenCause : Shape → ℕ → (ℕ → List Record) → (ℕ → List Record) → (ℕ → Type 0) → (ℕ → ℕ → Type 0) → LaneFault → Type 0
+IsOpenCause K lane E X failed may_hold e = ((e.fault ≡ NoMemory) × Waits K lane E X) ⊎ IsLaneCause K lane Nothing E X failed may_hold e
+
+-- or memory was wanting for it, and it waits
+abbrev pub RestsOrWaits : Shape → ℕ → (ℕ → List Record) → (ℕ → List Record) → (ℕ → Type 0) → Type 0 → Type 0
+RestsOrWaits K lane E X failed wanting = Rests K lane X failed ⊎ (wanting × Waits K lane E X)
+
+abbrev pub AllRestOrWait : Shape → (ℕ → List Record) → (ℕ → List Record) → (ℕ → Type 0) → (ℕ → Type 0) → Type 0
+AllRestOrWait K E X failed wanting = (lane : ℕ) → IsLaneOf K lane → RestsOrWaits K lane E X failed (wanting lane)
+
+-- the same where want of memory is told by nothing
 abbrev pub RestsSince : Shape → ℕ → (ℕ → List Record) → (ℕ → List Record) → (ℕ → Type 0) → Type 0
-RestsSince K lane E X failed = Rests K lane X failed ⊎ HasPrepared K lane [] E X
+RestsSince K lane E X failed = Rests K lane X failed ⊎ Waits K lane E X
 
 abbrev pub AllRestSince : Shape → (ℕ → List Record) → (ℕ → List Record) → (ℕ → Type 0) → Type 0
 AllRestSince K E X failed = (lane : ℕ) → IsLaneOf K lane → RestsSince K lane E X failed

@@ -7,7 +7,7 @@ use Rattle.lane_driver.specs.declared.fault.LaneFaultKind.TheVariants.{Memory as
 use Rattle.ledger_runs.specs.Turning.{phase_at, IsLaneOf}
 use Rattle.ledger_runs.specs.Waving.{EachLane}
 use Rattle.ledger_runs.specs.Pieces.{HasPreparedAll}
-use Rattle.ledger_runs.specs.Faults.{IsLaneCause, Nothing}
+use Rattle.ledger_runs.specs.Faults.{IsLaneCause, IsOpenCause}
 use Rattle.ledger_runs.specs.declared.lanes.Lane.{Lane}
 
 -- from journals I to J the lane has prepared all that it got, in pieces of a batch's size and in order, and is idle
@@ -25,11 +25,13 @@ pub record IsLeastFault (K : Shape) (sent : ℕ → List Compact) (next : ℕ �
   pub cause : IsLaneCause K lane (next lane) I J failed may_hold e
   pub lesser : (other : ℕ) → other < lane → HasRun K other (sent other) I J
 
--- of lanes that were open: the fault is a lane's, has its cause, and all lesser lanes are idle; or memory for what is told ran out
-abbrev pub IsLeastOpen : Shape → (ℕ → List Record) → (ℕ → List Record) → (ℕ → Type 0) → (ℕ → ℕ → Type 0) → LaneFault → Type 0
-IsLeastOpen K I J failed may_hold e =
-    (e.fault ≡ NoMemory) ⊎ ((lane : ℕ) × IsLaneOf K lane × IsLaneCause K lane Nothing I J failed may_hold e × ((other : ℕ) → other < lane → phase_at K J other ≡ Idle))
-
 -- memory ran out before anything was done
 abbrev pub IsUnbegun : (ℕ → List Record) → (ℕ → List Record) → LaneFault → Type 0
 IsUnbegun I J e = (e.fault ≡ NoMemory) × ((n : ℕ) → J n ≡ I n)
+
+-- of lanes that were open: the fault is a lane's, has its cause, and all lesser lanes are idle
+abbrev pub IsFirstOpen : Shape → (ℕ → List Record) → (ℕ → List Record) → (ℕ → Type 0) → (ℕ → ℕ → Type 0) → LaneFault → Type 0
+IsFirstOpen K I J failed may_hold e = (lane : ℕ) × IsLaneOf K lane × IsOpenCause K lane I J failed may_hold e × ((other : ℕ) → other < lane → phase_at K J other ≡ Idle)
+
+abbrev pub IsLeastOpen : Shape → (ℕ → List Record) → (ℕ → List Record) → (ℕ → Type 0) → (ℕ → ℕ → Type 0) → LaneFault → Type 0
+IsLeastOpen K I J failed may_hold e = IsUnbegun I J e ⊎ IsFirstOpen K I J failed may_hold e

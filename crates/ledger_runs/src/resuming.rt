@@ -1,5 +1,6 @@
 // Batches that an earlier run left open.
-ghost use Rattle.std.specs.Prelude.{◌≡◌, ◌≤◌, ◌*◌, ℕ, [], ◌++◌, IfOk, IfErr, OnOk};
+ghost use Rattle.std.specs.Prelude.{◌≡◌, ◌⊎◌, ◌≤◌, ◌<◌, ◌+◌, ◌*◌, ℕ, [], ◌++◌, IfOk, IfErr, OnOk};
+ghost use Rattle.std.specs.Vec.{vec_len, vec_capacity};
 ghost use Rattle.cbdc_model.specs.Lanes.{IsEnd};
 ghost use Rattle.lane_driver.specs.declared.fault.LaneFaultKind.TheVariants.{Memory};
 ghost use Rattle.cbdc_model.specs.World.{AreIdle};
@@ -7,10 +8,10 @@ ghost use Rattle.cbdc_model.specs.Waves.{IsResumed};
 ghost use Rattle.cbdc_model.specs.Slots.{Idle};
 ghost use Rattle.ledger_runs.specs.Turning.{phase_at, IsLaneOf, KeepsLanes, OfKept, StaysKept, listed, TookUpOne};
 ghost use Rattle.ledger_runs.specs.Flying.{FliesOn};
-ghost use Rattle.ledger_runs.specs.Least.{IsLeastOpen};
+ghost use Rattle.ledger_runs.specs.Least.{IsUnbegun, IsLeastOpen};
 ghost use Rattle.ledger_runs.specs.Telling.{TakesUp, TellResumed, SamePrepared};
 ghost use Rattle.ledger_runs.specs.Pieces.{HasPrepared};
-ghost use Rattle.ledger_runs.specs.Faults.{GrowBy, TakesInOrder, IsOpenCause, IsRunCause, HaveFailed, MayHold, Nothing};
+ghost use Rattle.ledger_runs.specs.Faults.{GrowBy, TakesInOrder, IsOpenCause, IsRunCause, AllRestOrWait, HaveFailed, MayHold, Nothing};
 
 use crate::Turns;
 use cbdc_types::LaneId;
@@ -20,16 +21,14 @@ use recovery::ResumedBatch;
 use std::alloc::Global;
 
 // Keeps what came of a lane behind what came of others.
-fn keep(batches: &mut Vec<ResumedBatch>, found: Option<ResumedBatch>) -> Result<(), LaneFault>
-    ensures kept { OnOk result (batches.new.items ≡ batches.old.items ++ listed found) }
-    ensures memory { IfErr result (λ e. e.fault ≡ Memory) }
+fn keep(batches: &mut Vec<ResumedBatch>, found: Option<ResumedBatch>)
+    requires room { vec_len batches.old < vec_capacity batches.old }
+    ensures kept { batches.new.items ≡ batches.old.items ++ listed found }
+    ensures len { vec_len batches.new ≤ vec_len batches.old + 1 }
+    ensures capacity { vec_capacity batches.new ≡ vec_capacity batches.old }
 {
-    let Some(batch) = found else {
-        return Ok(());
-    };
-    match batches.push(batch) {
-        Ok(()) => Ok(()),
-        Err(_) => Err(no_memory()),
+    if let Some(batch) = found {
+        batches.push_reserved(batch);
     }
 }
 
@@ -43,6 +42,9 @@ fn resume_next<L: Turns, G: Gate>(
 ) -> Result<(), LaneFault>
     requires lane { IsLaneOf (L.shape ledger.old) lane }
     requires checked { L.checked ledger.old }
+    requires room { vec_len batches.old < vec_capacity batches.old }
+    ensures len { vec_len batches.new ≤ vec_len batches.old + 1 }
+    ensures capacity { vec_capacity batches.new ≡ vec_capacity batches.old }
     ensures shape { L.shape ledger.new ≡ L.shape ledger.old }
     ensures idle { OnOk result (phase_at (L.shape ledger.old) (L.journals ledger.new) lane ≡ Idle) }
     ensures others { KeepsLanes (L.shape ledger.old) lane (L.journals ledger.old) (L.journals ledger.new) }
@@ -62,14 +64,20 @@ fn resume_next<L: Turns, G: Gate>(
     ensures unprepared { HasPrepared (L.shape ledger.old) lane [] (L.journals ledger.old) (L.journals ledger.new) }
     ensures fault { IfErr result (IsOpenCause (L.shape ledger.old) lane (L.journals ledger.old) (L.journals ledger.new)
         (HaveFailed (L.opened ledger.new) (L.faults ledger.new)) (MayHold (L.capacity ledger.new))) }
+    ensures wanting { IfErr result (λ e. e.fault ≡ Memory → L.wanting ledger.new lane) }
+    ensures wanting_same { (n : ℕ) → L.wanting ledger.old n → L.wanting ledger.new n }
 {
     match ledger.take_up(alloc, lane, gate) {
-        Ok(found) => keep(batches, found),
+        Ok(found) => {
+            keep(batches, found);
+            Ok(())
+        }
         Err(fault) => Err(fault),
     }
 }
 
-/// Brings the open batches of all lanes to their end, in rising order of the lanes. The first lane that meets a fault ends it.
+/// Brings the open batches of all lanes to their end, in rising order of the lanes. A lane that meets a fault ends; the others go
+/// on. The answer is then the least lane's fault.
 pub fn resume_all<L: Turns, G: Gate>(
     alloc: Global,
     ledger: &mut L,
@@ -101,18 +109,26 @@ pub fn resume_all<L: Turns, G: Gate>(
     ensures fault { IfErr result (IsRunCause (L.shape ledger.old) (λ _. Nothing) (L.journals ledger.old) (L.journals ledger.new)
         (HaveFailed (L.opened ledger.new) (L.faults ledger.new)) (MayHold (L.capacity ledger.new))) }
 
-    // It is that of the least lane that met one: all lesser lanes are idle.
+    // It is that of the least lane that met one: all lesser lanes are idle. Only where there is no memory for the list of batches is
+    // nothing done.
     ensures least { IfErr result (IsLeastOpen (L.shape ledger.old) (L.journals ledger.old) (L.journals ledger.new) (HaveFailed (L.opened ledger.new) (L.faults ledger.new)) (MayHold (L.capacity ledger.new))) }
+
+    // Behind the fault of a lane each lane was taken up: it is between batches, or its batch lacks a Lock, or the disk of a node that it
+    // asks has failed; or memory was wanting for it, and it waits where it was.
+    ensures rests { IfErr result (λ e. IsUnbegun (L.journals ledger.old) (L.journals ledger.new) e ⊎ AllRestOrWait (L.shape ledger.old) (L.journals ledger.old) (L.journals ledger.new)
+        (HaveFailed (L.opened ledger.new) (L.faults ledger.new)) (L.wanting ledger.new)) }
 {
     let count = ledger.shape().lane_count();
     let Ok(mut batches) = Vec::with_capacity(alloc, count as usize) else {
         return Err(no_memory());
     };
+    let mut first = None;
     'lanes: for lane in 0..count {
-        match resume_next(alloc, ledger, LaneId(lane), &mut batches, gate) {
-            Ok(()) => {}
-            Err(fault) => return Err(fault),
-        }
+        let came = resume_next(alloc, ledger, LaneId(lane), &mut batches, gate);
+        first = first.or(came.err());
     }
-    Ok(batches)
+    match first {
+        Some(fault) => Err(fault),
+        None => Ok(batches),
+    }
 }

@@ -3,6 +3,7 @@ ghost use Rattle.std.specs.Prelude.{◌≡◌, ◌≤◌, ℕ, List, Option, [],
 ghost use Rattle.cbdc_model.specs.Records.{Shape as ShapeOf, Record};
 ghost use Rattle.cbdc_model.specs.Slots.{Idle};
 ghost use Rattle.cbdc_model.specs.Grammar.{HasSize, IsCompact};
+ghost use Rattle.lane_driver.specs.declared.fault.LaneFaultKind.TheVariants.{Memory};
 ghost use Rattle.ledger_runs.specs.Turning.{phase_at, IsLaneOf, KeepsLanes, OfKept, StaysKept, StaysKeptBy, DidBatch, TookUp};
 ghost use Rattle.ledger_runs.specs.Flying.{FliesOn, FliesOnBy};
 ghost use Rattle.ledger_runs.specs.Telling.{IsOpened};
@@ -40,6 +41,10 @@ pub trait Turns {
 
     /// No node has a record in flight: one that a failed call may have left on its disk or not.
     ghost quiet: { Self → Type 0 };
+
+    /// Memory was wanting as the open batch of this lane was taken up. Nothing counts such refusals, so nodes may say it of any
+    /// lane; what runs over them learns it only from a call that says it.
+    ghost wanting: { Self → ℕ → Type 0 };
 
     /// What stays true of the nodes, whatever is asked of them.
     ghost holds: { Self → Type 0 };
@@ -107,7 +112,10 @@ pub trait Turns {
         ensures grows { GrowBy lane (journals self.old) (journals self.new) }
         ensures unprepared { HasPrepared (shape self.old) lane [] (journals self.old) (journals self.new) }
 
-        // Its fault has its cause, unless memory ran out.
+        // Its fault has its cause. Where memory was wanting the lane may wait where it was: nothing of it was written, or its batch is
+        // prepared still.
         ensures fault { IfErr result (IsOpenCause (shape self.old) lane (journals self.old) (journals self.new)
-            (HaveFailed (opened self.new) (faults self.new)) (MayHold (capacity self.new))) };
+            (HaveFailed (opened self.new) (faults self.new)) (MayHold (capacity self.new))) }
+        ensures wanting { IfErr result (λ e. e.fault ≡ Memory → wanting self.new lane) }
+        ensures wanting_same { (n : ℕ) → wanting self.old n → wanting self.new n };
 }

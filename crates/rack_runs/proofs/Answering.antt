@@ -197,8 +197,9 @@ module _ (K : Shape) (failed fails : ℕ → Type 0) (holds held : ℕ → ℕ �
   }
 
   open_by : (I J : ℕ → List Record) (e : LaneFault) → IsLeastOpen K I J failed holds e → IsLeastOpen K I J fails held e
-  open_by I J e (inl memory) = inl memory
-  open_by I J e (inr (lane, lt, cause, lesser)) = inr (lane, lt, cause_by lane Nothing I J lt e.node e.fault cause, lesser)
+  open_by I J e (inl unbegun) = inl unbegun
+  open_by I J e (inr (lane, lt, inl waits, lesser)) = inr (lane, lt, inl waits, lesser)
+  open_by I J e (inr (lane, lt, inr cause, lesser)) = inr (lane, lt, inr (cause_by lane Nothing I J lt e.node e.fault cause), lesser)
 
   first_by : (verdicts : VerdictsOf) (more : List (List FullTx)) (I J : ℕ → List Record) (e : LaneFault) → EndsFirst K verdicts more I J failed holds e → EndsFirst K verdicts more I J fails held e
   first_by verdicts [] I J e h = h
@@ -228,7 +229,7 @@ module _ (K : Shape) (failed fails : ℕ → Type 0) (holds held : ℕ → ℕ �
       go : RestsSince K lane E X failed → RestsSince K lane E X fails
       go (inl (inl before)) = inl (inl before)
       go (inl (inr (node, failure))) = inl (inr (node, record { inside = failure.inside; asked = failure.asked; did = failed_on node failure.inside failure.did }))
-      go (inr none) = inr none
+      go (inr waits) = inr waits
 
   pub answer_by : (verdicts : VerdictsOf) (files : List (List FullTx)) (E X : ℕ → List Record) (a : Answer) → IsLeastAnswer (EndsRun verdicts files K E X failed holds) a → IsLeastAnswer (EndsRun verdicts files K E X fails held) a
   answer_by verdicts files E X a (inl memory) = inl memory

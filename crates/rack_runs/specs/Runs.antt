@@ -86,7 +86,7 @@ KeepsFlights images held K X flights = (n : ℕ) → n < node_count K → OfTold
 -- began so far grows them; a record is in flight only at a node whose disk has failed since, and where the disks told all each keeps its journal, with
 -- what is in flight there or without; the answer has its cause, by the counts of
 -- faults before and now and by what the disks that were told may hold; it is the least lane's that met one; each lane is between
--- batches, or its batch lacks a Lock, or the disk of a node that it asks has failed, or it has prepared nothing, so that its batch was open before; each disk of the ledger
+-- batches, or its batch lacks a Lock, or the disk of a node that it asks has failed, or it waits where it was, for want of memory: nothing of it was written, or its batch was prepared and is so still; each disk of the ledger
 -- had room for its journal and for what is kept for the batches that were open there; where the ledger was kept it is cut short, and the disks that are no nodes of it are as before
 pub record IsLaneFault {D : Type 0} (content : D → Option (List ℕ)) (images : D → List ℕ → Type 0) (limit : D → ℕ) (held back : ℕ → Option D) (before now : ℕ → ℕ) (next : Shape → (ℕ → List Record) → (ℕ → List Record) → ℕ → List Compact → Type 0)
     (ends : Shape → (ℕ → List Record) → (ℕ → List Record) → (ℕ → Type 0) → (ℕ → ℕ → Type 0) → LaneFault → Type 0) (begun : Shape → (ℕ → List Record) → (ℕ → List Record) → Type 0) (files : List (List FullTx)) (answer : Answer) : Type 0 where

@@ -76,8 +76,8 @@ pub(crate) fn run_over<L: Turns, V: Verifier, G: Gate>(
     ensures fault { IfErr result (IsRunCause (L.shape ledger.old) (IsFilesPiece (L.shape ledger.old) (V.verdict_of verifier.now) files.now (L.journals ledger.old) (L.journals ledger.new)) (L.journals ledger.old) (L.journals ledger.new)
         (HaveFailed (L.opened ledger.new) (L.faults ledger.new)) (MayHold (L.capacity ledger.new))) }
 
-    // Whatever came, each lane is between batches, or its batch lacks a Lock, or the disk of a node that it asks has failed; or it has prepared
-    // nothing, so that its batch was open before.
+    // Whatever came, each lane is between batches, or its batch lacks a Lock, or the disk of a node that it asks has failed; or it waits where
+    // it was, for want of memory: nothing of it was written, or its batch was prepared and is so still.
     ensures rests { AllRestSince (L.shape ledger.old) (L.journals ledger.old) (L.journals ledger.new) (HaveFailed (L.opened ledger.new) (L.faults ledger.new)) }
 
     // And it is the least lane's that met one.

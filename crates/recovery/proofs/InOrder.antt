@@ -1,16 +1,18 @@
 -- Lanes that are resumed one behind the other.
-use Rattle.std.proofs.Common.{◌≡◌, ◌≢◌, ℕ, ◌+◌, ◌<◌, Bool, List, [], ◌∷◌, ◌++◌, length, get_or, take, drop, refl, sym, ap, ◌∙◌, subst, arith}
+use Rattle.std.proofs.Common.{◌≡◌, ◌≢◌, ℕ, ◌+◌, ◌<◌, Bool, List, [], ◌∷◌, ◌++◌, length, get_or, take, drop, refl, sym, ap, ◌∙◌, subst, append_assoc, arith, Some, None}
+use Rattle.std.specs.Prelude.{Option, Result, Ok, Err, OnOk, IfOk, IfErr}
 use Rattle.std.specs.List.{All}
-use Rattle.std.proofs.lemmas.List.{take_more, take-append-drop}
+use Rattle.std.proofs.lemmas.List.{take_more}
 use Rattle.std.proofs.lemmas.List.Elements.{All-nil, All-get_or, All-push, All-weaker}
 use Rattle.cbdc_types.specs.declared.batch.OpenLane.{OpenLane}
 use Rattle.cbdc_model.specs.Records.{Shape, Header, Compact}
 use Rattle.cbdc_model.specs.Slots.{Phase, Idle}
 use Rattle.cbdc_model.specs.Sights.{Sight}
+use Rattle.lane_laws.specs.Resuming.{IsTakenUp}
 use Rattle.lane_driver.specs.Told.{IsLane, KeepsOthers}
 use Rattle.recovery.specs.declared.resumed.ResumedBatch.{ResumedBatch}
 use Rattle.lane_driver.specs.declared.fault.LaneFault.{LaneFault}
-use Rattle.recovery.specs.Open.{IsOpen, LanesAbove, LanesRise, KeepsUnlisted, IsUnfinished, IsResumeStopped, IsResumeTold, IsOneTaken, AreTakenUp, IsStoppedAmong}
+use Rattle.recovery.specs.Open.{IsOpen, LanesAbove, LanesRise, KeepsUnlisted, IsResumed, IsUnfinished, HasItsOutcomes, IsResumeStopped, IsResumeTold, IsOneTaken, AreTakenUp, CameOf, AreTried, IsStoppedAmong, Keeps}
 use Rattle.recovery.proofs.Rest.{split_rest, open_here, more_before}
 
 -- ---- what was taken
@@ -24,6 +26,81 @@ taken_one_more K alone [] (q ∷ rs) o r log between log' I N J taken one = absu
 taken_one_more K alone (p ∷ os) [] o r log between log' I N J taken one = absurd taken
 taken_one_more K alone (p ∷ os) (q ∷ rs) o r log between log' I N J (first, shards_first, is, rest) one =
     (first, shards_first, is, taken_one_more K alone os rs o r first between log' shards_first N J rest one)
+
+-- what came of one, by what is told of it
+pub came_of : (K : Shape) (alone : Bool) (o : OpenLane) (c : Result ResumedBatch LaneFault) (log log' : Sight) (I J : ℕ → Sight) → IsUnfinished o.phase K o log I
+    → OnOk c (IsUnfinished o.phase K o log I → IsTakenUp K alone o.batch log I log' J) → IfOk c (IsResumed o) → IfOk c (λ r. IsUnfinished o.phase K o log I → HasItsOutcomes o.phase o log'.seen r)
+    → IfErr c (IsResumeStopped K alone o log I log' J) → IfErr c (IsResumeTold K alone o log I log' J) → CameOf K alone o c log I log' J
+came_of K alone o (Ok r) log log' I J stands taken resumed outcomes left told = record { taken = taken stands; resumed = resumed; outcomes = outcomes stands }
+came_of K alone o (Err e) log log' I J stands taken resumed outcomes left told = (stands, left, told)
+
+-- one more, whatever came of it
+tried_one_more : (K : Shape) (alone : Bool) (os : List OpenLane) (cs : List (Result ResumedBatch LaneFault)) (o : OpenLane) (c : Result ResumedBatch LaneFault) (log between log' : Sight) (I N J : ℕ → Sight)
+    → AreTried K alone os cs log I between N → CameOf K alone o c between N log' J → AreTried K alone (os ++ o ∷ []) (cs ++ c ∷ []) log I log' J
+tried_one_more K alone [] [] o c log between log' I N J (same, shards_same) one =
+    (log', J, subst (λ x. CameOf K alone o c x I log' J) same (subst (λ x. CameOf K alone o c between x log' J) shards_same one), (refl, refl))
+tried_one_more K alone [] (d ∷ cs) o c log between log' I N J tried one = absurd tried
+tried_one_more K alone (p ∷ os) [] o c log between log' I N J tried one = absurd tried
+tried_one_more K alone (p ∷ os) (d ∷ cs) o c log between log' I N J (first, shards_first, is, rest) one =
+    (first, shards_first, is, tried_one_more K alone os cs o c first between log' shards_first N J rest one)
+
+-- ---- what is kept of them: the batches while each is taken to its end, else the first fault
+
+abbrev pub CameSo : Shape → Bool → List OpenLane → List ResumedBatch → Option LaneFault → Sight → (ℕ → Sight) → Sight → (ℕ → Sight) → Type 0
+CameSo K alone os rs None log I log' J = AreTakenUp K alone os rs log I log' J
+CameSo K alone os rs (Some e) log I log' J = IsStoppedAmong K alone os log I log' J e
+
+pub kept_first : (before after : List ResumedBatch) (f : LaneFault) (now : Option LaneFault) (c : Result ResumedBatch LaneFault) → Keeps before (Some f) c after now → now ≡ Some f
+kept_first before after f now (Ok r) kept = kept.1
+kept_first before after f now (Err e) kept = kept.1
+
+pub kept_none : (before after : List ResumedBatch) (was now : Option LaneFault) (c : Result ResumedBatch LaneFault) → Keeps before was c after now → now ≡ None
+    → (was ≡ None) × (r : ResumedBatch) × (c ≡ Ok r) × (after ≡ before ++ r ∷ [])
+kept_none before after None now (Ok r) kept none = (refl, r, refl, kept.0)
+kept_none before after None now (Err e) kept none = absurd (let z : Some e ≡ None = sym kept.1 ∙ none in cc)
+kept_none before after (Some f) now c kept none = absurd (let z : Some f ≡ None = sym (kept_first before after f now c kept) ∙ none in cc)
+
+came_one_more : (K : Shape) (alone : Bool) (os : List OpenLane) (before after : List ResumedBatch) (was now : Option LaneFault) (o : OpenLane) (c : Result ResumedBatch LaneFault) (log between log' : Sight) (I N J : ℕ → Sight)
+    → CameSo K alone os before was log I between N → CameOf K alone o c between N log' J → Keeps before was c after now → CameSo K alone (os ++ o ∷ []) after now log I log' J
+came_one_more K alone os before after None now o (Ok r) log between log' I N J so one kept =
+    subst (λ f. CameSo K alone (os ++ o ∷ []) after f log I log' J) (sym kept.1)
+    (subst (λ rs. AreTakenUp K alone (os ++ o ∷ []) rs log I log' J) (sym kept.0) (taken_one_more K alone os before o r log between log' I N J so one))
+came_one_more K alone os before after None now o (Err e) log between log' I N J so one kept =
+    subst (λ f. CameSo K alone (os ++ o ∷ []) after f log I log' J) (sym kept.1) (record {
+      before = os;
+      stopped_at = o;
+      behind = [];
+      are = refl;
+      batches = before;
+      log_there = between;
+      shards_there = N;
+      taken = so;
+      stands = one.0;
+      log_then = log';
+      shards_then = J;
+      stopped = one.1;
+      told = one.2;
+      came = [];
+      went_on = (refl, refl);
+    })
+came_one_more K alone os before after (Some f) now o c log between log' I N J so one kept =
+    subst (λ f. CameSo K alone (os ++ o ∷ []) after f log I log' J) (sym (kept_first before after f now c kept)) (record {
+      before = so.before;
+      stopped_at = so.stopped_at;
+      behind = so.behind ++ o ∷ [];
+      are = ap (λ l. l ++ o ∷ []) so.are ∙ append_assoc so.before (so.stopped_at ∷ so.behind) (o ∷ []);
+      batches = so.batches;
+      log_there = so.log_there;
+      shards_there = so.shards_there;
+      taken = so.taken;
+      stands = so.stands;
+      log_then = so.log_then;
+      shards_then = so.shards_then;
+      stopped = so.stopped;
+      told = so.told;
+      came = so.came ++ c ∷ [];
+      went_on = tried_one_more K alone so.behind so.came o c so.log_then between log' so.shards_then N J so.went_on one;
+    })
 
 -- ---- the lanes so far are idle, and below those that are left
 
@@ -39,30 +116,13 @@ module _ (os : List OpenLane) (i : ℕ) (o : OpenLane) (lt : i < length os) (is 
   longer : take (i + 1) os ≡ take i os ++ o ∷ []
   longer = take_more os i o lt ∙ ap (λ x. take i os ++ x ∷ []) (sym is)
 
-  pub taken_more : (K : Shape) (alone : Bool) (rs : List ResumedBatch) (r : ResumedBatch) (log between log' : Sight) (I N J : ℕ → Sight)
-      → AreTakenUp K alone (take i os) rs log I between N → IsOneTaken K alone o between N log' J r → AreTakenUp K alone (take (i + 1) os) (rs ++ r ∷ []) log I log' J
-  taken_more K alone rs r log between log' I N J taken one =
-      subst (λ xs. AreTakenUp K alone xs (rs ++ r ∷ []) log I log' J) (sym longer) (taken_one_more K alone (take i os) rs o r log between log' I N J taken one)
+  pub came_more : (K : Shape) (alone : Bool) (before after : List ResumedBatch) (was now : Option LaneFault) (c : Result ResumedBatch LaneFault) (log between log' : Sight) (I N J : ℕ → Sight)
+      → CameSo K alone (take i os) before was log I between N → CameOf K alone o c between N log' J → Keeps before was c after now → CameSo K alone (take (i + 1) os) after now log I log' J
+  came_more K alone before after was now c log between log' I N J so one kept =
+      subst (λ xs. CameSo K alone xs after now log I log' J) (sym longer) (came_one_more K alone (take i os) before after was now o c log between log' I N J so one kept)
 
   split : drop i os ≡ o ∷ drop (i + 1) os
   split = split_rest os i o lt is
-
-  -- it stopped here
-  pub stopped_here : (K : Shape) (alone : Bool) (rs : List ResumedBatch) (log between log' : Sight) (I N J : ℕ → Sight) (e : LaneFault)
-      → AreTakenUp K alone (take i os) rs log I between N → IsUnfinished o.phase K o between N → IsResumeStopped K alone o between N log' J e → IsResumeTold K alone o between N log' J e → IsStoppedAmong K alone os log I log' J e
-  stopped_here K alone rs log between log' I N J e taken stands stopped told = record {
-    before = take i os;
-    stopped_at = o;
-    behind = drop (i + 1) os;
-    are = sym (take-append-drop i os) ∙ ap (λ xs. take i os ++ xs) split;
-    batches = rs;
-    log_there = between;
-    shards_there = N;
-    taken = taken;
-    stands = stands;
-    stopped = stopped;
-    told = told;
-  }
 
   pub over_more : (h k : Header) (p q : ℕ → Phase) (t u : ℕ → List Compact) → k ≡ h → (1 < length os → KeepsOthers h o.batch.lane p q t u) → q o.batch.lane ≡ Idle → LanesRise (drop i os) → All (IsOpen h p t) (drop i os)
       → All (IsOver h p (drop i os)) (take i os) → All (IsOver k q (drop (i + 1) os)) (take (i + 1) os)

@@ -1,4 +1,5 @@
 pub mod Rest
 mod Taking
 mod InOrder
+mod Onward
 mod Untouched

@@ -1,5 +1,5 @@
 -- A lane's turn leaves what is open of the other lanes as it stands.
-use Rattle.std.proofs.Common.{◌≡◌, ◌≢◌, inl, inr, ℕ, suc, ◌+◌, ◌<◌, Bool, true, false, ◌==◌, List, [], ◌∷◌, ◌++◌, length, get_or, drop, is_some, refl, sym, ap, ◌∙◌, subst, append_assoc, arith}
+use Rattle.std.proofs.Common.{◌≡◌, ◌≢◌, inl, inr, ℕ, ◌+◌, ◌<◌, Bool, true, false, ◌==◌, List, [], ◌∷◌, ◌++◌, length, get_or, drop, is_some, refl, sym, ap, ◌∙◌, subst, append_assoc, arith}
 use Rattle.std.proofs.lemmas.List.Elements.{All-nil, All-cons, All-head, All-tail}
 use Rattle.cbdc_types.specs.declared.batch.OpenLane.{OpenLane}
 use Rattle.cbdc_types.specs.declared.batch.Phase.{Phase as OpenPhase}
@@ -12,7 +12,7 @@ use Rattle.cbdc_model.specs.Ranges.{home_of, shard_node, part}
 use Rattle.cbdc_model.specs.Lanes.{may_come, Made}
 use Rattle.cbdc_model.specs.Sights.{Sight}
 use Rattle.lane_laws.specs.Batches.{own, view}
-use Rattle.lane_laws.specs.Resuming.{IsOpenAt, IsPreparedAt, IsCommittedAt, IsDiscardedAt, IsTakenUp}
+use Rattle.lane_laws.specs.Resuming.{IsOpenAt, IsPreparedAt, IsCommittedAt, IsDiscardedAt}
 use Rattle.lane_laws.proofs.Own.{own_out, slot_own, stamp_own}
 use Rattle.lane_laws.proofs.Views.{view_home, view_shard}
 use Rattle.lane_laws.proofs.Grants.{lock_on, finish_on, forget_on}
@@ -116,7 +116,8 @@ unfinished_on K o log log' I J shape log_same shard_same Discarded h = (h.0, dis
 
 -- ---- behind the turn of another lane
 
-module _ (K : Shape) (b : Batch) (log log' : Sight) (I J : ℕ → Sight) (home : home_of K b.lane < K.coordinators) (shape : log'.header.shape ≡ log.header.shape) (taken : IsTakenUp K true b log I log' J) where
+module _ (K : Shape) (b : Batch) (log log' : Sight) (I J : ℕ → Sight) (home : home_of K b.lane < K.coordinators) (shape : log'.header.shape ≡ log.header.shape)
+    (made : Made K [] true b.lane (view K b.lane log I) (view K b.lane log' J)) where
   untouched : (o : OpenLane) → b.lane < o.batch.lane → IsUnfinished o.phase K o log I → IsUnfinished o.phase K o log' J
   untouched o above h = unfinished_on K o log log' I J shape at_log at_shard o.phase h
     where
@@ -125,12 +126,12 @@ module _ (K : Shape) (b : Batch) (log log' : Sight) (I J : ℕ → Sight) (home 
 
       at_log : own o.batch.lane log'.seen ≡ own o.batch.lane log.seen
       at_log = ap (λ L. own o.batch.lane L) (sym (view_home K b.lane home log' J (home_of K b.lane) refl))
-          ∙ own_same K [] b.lane (view K b.lane log I) (view K b.lane log' J) taken.made (home_of K b.lane) o.batch.lane apart
+          ∙ own_same K [] b.lane (view K b.lane log I) (view K b.lane log' J) made (home_of K b.lane) o.batch.lane apart
           ∙ ap (λ L. own o.batch.lane L) (view_home K b.lane home log I (home_of K b.lane) refl)
 
       at_shard : (s : ℕ) → own o.batch.lane (J s).seen ≡ own o.batch.lane (I s).seen
       at_shard s = ap (λ L. own o.batch.lane L) (sym (view_shard K b.lane home log' J s))
-          ∙ own_same K [] b.lane (view K b.lane log I) (view K b.lane log' J) taken.made (shard_node K s) o.batch.lane apart
+          ∙ own_same K [] b.lane (view K b.lane log I) (view K b.lane log' J) made (shard_node K s) o.batch.lane apart
           ∙ ap (λ L. own o.batch.lane L) (view_shard K b.lane home log I s)
 
   all_untouched : (os : List OpenLane) → LanesAbove b.lane os → AreUnfinished K os log I → AreUnfinished K os log' J
@@ -148,8 +149,8 @@ stands_here K log I os i o lt e all =
 
 -- where there is more than one, no other lane writes meanwhile
 pub stand_rest : (K : Shape) (alone : Bool) (log log' : Sight) (I J : ℕ → Sight) (os : List OpenLane) (i : ℕ) (o : OpenLane) → (1 < length os → alone ≡ true) → i < length os → o ≡ get_or os i o → LanesRise (drop i os)
-    → home_of K o.batch.lane < K.coordinators → log'.header.shape ≡ log.header.shape → IsTakenUp K alone o.batch log I log' J → AreUnfinished K (drop i os) log I → AreUnfinished K (drop (i + 1) os) log' J
-stand_rest K alone log log' I J os i o quiet lt e rise home shape taken all = rest (drop (i + 1) os) refl
+    → home_of K o.batch.lane < K.coordinators → log'.header.shape ≡ log.header.shape → Made K [] alone o.batch.lane (view K o.batch.lane log I) (view K o.batch.lane log' J) → AreUnfinished K (drop i os) log I → AreUnfinished K (drop (i + 1) os) log' J
+stand_rest K alone log log' I J os i o quiet lt e rise home shape made all = rest (drop (i + 1) os) refl
   where
     split : drop i os ≡ o ∷ drop (i + 1) os
     split = split_rest os i o lt e
@@ -159,7 +160,7 @@ stand_rest K alone log log' I J os i o quiet lt e rise home shape taken all = re
 
     rest : (xs : List OpenLane) → drop (i + 1) os ≡ xs → AreUnfinished K (drop (i + 1) os) log' J
     rest [] d = let P : List OpenLane → Type 0 = λ ys. AreUnfinished K ys log' J in subst P (sym d) (All-nil (λ o. IsUnfinished o.phase K o log' J))
-    rest (x ∷ xs) d = all_untouched K o.batch log log' I J home shape (subst (λ a. IsTakenUp K a o.batch log I log' J) (quiet (more_behind os i x xs d)) taken) (drop (i + 1) os) (subst LanesRise split rise).0 here
+    rest (x ∷ xs) d = all_untouched K o.batch log log' I J home shape (subst (λ a. Made K [] a o.batch.lane (view K o.batch.lane log I) (view K o.batch.lane log' J)) (quiet (more_behind os i x xs d)) made) (drop (i + 1) os) (subst LanesRise split rise).0 here
 
 -- where its coordinator is, by what stands of it
 pub home_there : (K : Shape) (o : OpenLane) (log : Sight) (I : ℕ → Sight) (p : OpenPhase) → IsUnfinished p K o log I → home_of K o.batch.lane < K.coordinators

@@ -1,5 +1,5 @@
 -- The lanes that are open at a coordinator.
-use Rattle.std.specs.Prelude.{◌≡◌, ◌≢◌, ◌⊎◌, ℕ, ◌<◌, Bool, List, [], ◌∷◌, ◌++◌, length, map}
+use Rattle.std.specs.Prelude.{◌≡◌, ◌≢◌, ◌⊎◌, ℕ, ◌<◌, Bool, List, [], ◌∷◌, ◌++◌, length, map, Option, Some, None, Result, Ok, Err}
 use Rattle.std.specs.List.{All, AllZip}
 use Rattle.cbdc_types.specs.declared.batch.OpenLane.{OpenLane}
 use Rattle.cbdc_types.specs.declared.batch.Phase.{Phase as OpenPhase}
@@ -8,14 +8,16 @@ use Rattle.cbdc_model.specs.Records.{Header, Compact}
 use Rattle.cbdc_model.specs.Slots.{Phase, InPrepare, InCommit, InDiscard}
 use Rattle.cbdc_model.specs.Grammar.{HasSize, IsBatchOf, IsCompact}
 use Rattle.cbdc_model.specs.Records.{Shape, Entry, Record, outcomes_of}
+use Rattle.cbdc_model.specs.Lanes.{IsEnd}
 use Rattle.cbdc_model.specs.Sights.{Sight}
 use Rattle.cbdc_types.specs.declared.calls.NodeFault.{NodeFault}
 use Rattle.lane_laws.specs.Calls.{AreParts, lock_of}
 use Rattle.lane_laws.specs.Traces.{DiscardedStopped, CommittedStopped, PreparedStopped}
 use Rattle.lane_laws.specs.Resuming.{IsPreparedAt, IsCommittedAt, IsDiscardedAt, IsTakenUp, IsLeft}
 use Rattle.lane_driver.specs.declared.fault.LaneFault.{LaneFault}
+use Rattle.lane_driver.specs.Causes.{IsCausedFault}
 use Rattle.lane_driver.specs.Stops.{IsFaultOf, HasNoMemory}
-use Rattle.lane_driver.specs.Told.{IsLane, IsStamp}
+use Rattle.lane_driver.specs.Told.{IsLane, IsStamp, IsStillNode}
 use Rattle.recovery.specs.declared.resumed.ResumedBatch.{ResumedBatch}
 
 -- the phase of the lane's last record
@@ -111,7 +113,20 @@ AreTakenUp K alone (o ∷ os) [] log I log' J = ⊥
 AreTakenUp K alone (o ∷ os) (r ∷ rs) log I log' J =
     (between : Sight) × (shards_between : ℕ → Sight) × IsOneTaken K alone o log I between shards_between r × AreTakenUp K alone os rs between shards_between log' J
 
--- one of them stopped; those before it were taken to their end, and those behind it are untouched
+-- what came of one of them: it was taken to its end, or it stood open and stopped
+abbrev pub CameOf : Shape → Bool → OpenLane → Result ResumedBatch LaneFault → Sight → (ℕ → Sight) → Sight → (ℕ → Sight) → Type 0
+CameOf K alone o (Ok r) log I log' J = IsOneTaken K alone o log I log' J r
+CameOf K alone o (Err e) log I log' J = IsUnfinished o.phase K o log I × IsResumeStopped K alone o log I log' J e × IsResumeTold K alone o log I log' J e
+
+-- each of them was taken up, one behind the other, whatever came of those before it
+abbrev pub AreTried : Shape → Bool → List OpenLane → List (Result ResumedBatch LaneFault) → Sight → (ℕ → Sight) → Sight → (ℕ → Sight) → Type 0
+AreTried K alone [] [] log I log' J = (log' ≡ log) × (J ≡ I)
+AreTried K alone [] (c ∷ cs) log I log' J = ⊥
+AreTried K alone (o ∷ os) [] log I log' J = ⊥
+AreTried K alone (o ∷ os) (c ∷ cs) log I log' J =
+    (between : Sight) × (shards_between : ℕ → Sight) × CameOf K alone o c log I between shards_between × AreTried K alone os cs between shards_between log' J
+
+-- one of them stopped; those before it were taken to their end, and each of those behind it was taken up still
 pub record IsStoppedAmong (K : Shape) (alone : Bool) (os : List OpenLane) (log : Sight) (I : ℕ → Sight) (log' : Sight) (J : ℕ → Sight) (e : LaneFault) : Type 0 where
   pub before : List OpenLane
   pub stopped_at : OpenLane
@@ -122,9 +137,33 @@ pub record IsStoppedAmong (K : Shape) (alone : Bool) (os : List OpenLane) (log :
   pub shards_there : ℕ → Sight
   pub taken : AreTakenUp K alone before batches log I log_there shards_there
   pub stands : IsUnfinished stopped_at.phase K stopped_at log_there shards_there
-  pub stopped : IsResumeStopped K alone stopped_at log_there shards_there log' J e
-  pub told : IsResumeTold K alone stopped_at log_there shards_there log' J e
+  pub log_then : Sight
+  pub shards_then : ℕ → Sight
+  pub stopped : IsResumeStopped K alone stopped_at log_there shards_there log_then shards_then e
+  pub told : IsResumeTold K alone stopped_at log_there shards_there log_then shards_then e
+  pub came : List (Result ResumedBatch LaneFault)
+  pub went_on : AreTried K alone behind came log_then shards_then log' J
 
 -- that, or they were not begun for want of memory
 abbrev pub AreStopped : Shape → Bool → List OpenLane → Sight → (ℕ → Sight) → Sight → (ℕ → Sight) → LaneFault → Type 0
 AreStopped K alone os log I log' J e = HasNoMemory e log I log' J ⊎ IsStoppedAmong K alone os log I log' J e
+
+-- a node has gone on from how it stood: it is the same still, and its journal has grown at its end
+pub record HasGoneOn (old new : Sight) : Type 0 where
+  pub node : IsStillNode old new
+  pub grows : IsEnd old.seen new.seen
+
+-- the fault had its cause as the nodes stood when it came, from where they have gone on
+pub record WasCaused (K : Shape) (logs shards : ℕ → Sight) (e : LaneFault) : Type 0 where
+  pub logs_then : ℕ → Sight
+  pub shards_then : ℕ → Sight
+  pub logs_on : (n : ℕ) → HasGoneOn (logs_then n) (logs n)
+  pub shards_on : (n : ℕ) → HasGoneOn (shards_then n) (shards n)
+  pub cause : IsCausedFault K logs_then shards_then e
+
+-- a lane's batch is kept behind those before it, or its fault, where none came before
+abbrev pub Keeps : List ResumedBatch → Option LaneFault → Result ResumedBatch LaneFault → List ResumedBatch → Option LaneFault → Type 0
+Keeps before (Some f) (Ok r) after now = (after ≡ before ++ r ∷ []) × (now ≡ Some f)
+Keeps before None (Ok r) after now = (after ≡ before ++ r ∷ []) × (now ≡ None)
+Keeps before (Some f) (Err e) after now = (after ≡ before) × (now ≡ Some f)
+Keeps before None (Err e) after now = (after ≡ before) × (now ≡ Some e)

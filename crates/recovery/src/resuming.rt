@@ -1,12 +1,12 @@
 // Open batches are taken to their end.
-ghost use Rattle.std.specs.Prelude.{◌≡◌, ◌≢◌, ◌≤◌, ◌<◌, ℕ, true, [], length, IfOk, IfErr, OnOk, All};
-ghost use Rattle.std.specs.Vec.{vec_capacity};
+ghost use Rattle.std.specs.Prelude.{◌≡◌, ◌≢◌, ◌≤◌, ◌<◌, ◌+◌, ℕ, true, [], length, IfOk, IfErr, OnOk, All};
+ghost use Rattle.std.specs.Vec.{vec_capacity, vec_len};
 ghost use Rattle.cbdc_model.specs.Slots.{Idle};
 ghost use Rattle.cbdc_types.specs.declared.batch.Phase.TheVariants.{Prepared, Committed, Discarded};
 ghost use Rattle.lane_laws.specs.Resuming.{IsTakenUp};
 ghost use Rattle.lane_driver.specs.Told.{KeepsOthers, AreShardsOf, KeepNodes};
 ghost use Rattle.lane_driver.specs.Causes.{IsCausedFault};
-ghost use Rattle.recovery.specs.Open.{IsOpen, LanesRise, KeepsUnlisted, IsResumed, AreResumed, IsUnfinished, AreUnfinished, HasItsOutcomes, IsResumeStopped, IsResumeTold, AreTakenUp, AreStopped};
+ghost use Rattle.recovery.specs.Open.{IsOpen, LanesRise, KeepsUnlisted, IsResumed, AreResumed, IsUnfinished, AreUnfinished, HasItsOutcomes, IsResumeStopped, IsResumeTold, AreTakenUp, AreStopped, WasCaused, Keeps};
 
 use crate::resumed::{Resumed, ResumedBatch};
 use cbdc_types::{List, OpenLane, Outcome, Outcomes, Phase, Shape};
@@ -282,12 +282,31 @@ fn resume_lane<S: PortSet, L: LogPort, G: Gate>(
     }
 }
 
+// Keeps what came of a lane: its batch, or its fault, where none came before.
+fn keep(
+    batches: &mut Vec<ResumedBatch>,
+    first: Option<LaneFault>,
+    came: Result<ResumedBatch, LaneFault>,
+) -> Option<LaneFault>
+    requires room { vec_len batches.old < vec_capacity batches.old }
+    ensures kept { Keeps batches.old.items first came batches.new.items result }
+    ensures len { vec_len batches.new ≤ vec_len batches.old + 1 }
+    ensures capacity { vec_capacity batches.new ≡ vec_capacity batches.old }
+{
+    match came {
+        Ok(batch) => {
+            batches.push_reserved(batch);
+            first
+        }
+        Err(fault) => first.or(Some(fault)),
+    }
+}
+
 /// Takes each open batch of a coordinator's lanes to its end, in the list's order: a prepared batch asks Lock again at
 /// each concerned shard and goes on, a committed one asks Finish, a discarded one Forget. The list has lanes that are not
 /// idle, each once, in rising order. Where it has more than one, no other lane writes meanwhile: a port tells of the lane that
 /// it is called for and lets records of all others come, those of the list's later lanes too. Where none write, the lanes that
-/// are not listed are as before. The first lane that meets a fault ends it: the batches before are at their end, those
-/// behind are untouched.
+/// are not listed are as before. A lane that meets a fault ends; the others go on. The answer is then the least lane's fault.
 pub fn resume<S: PortSet, L: LogPort, G: Gate>(
     alloc: Global,
     shape: &Shape,
@@ -310,9 +329,9 @@ pub fn resume<S: PortSet, L: LogPort, G: Gate>(
     ensures idle { OnOk result (All (λ o. L.phase ports.new.log o.batch.lane ≡ Idle) lanes.now) }
 
     // Or one stopped, at the least shard's fault of a phase all of whose calls were made, or at its coordinator's; those before
-    // it are at their end, and those behind it untouched.
+    // it are at their end, and each of those behind it was taken up still, to its end or until it stopped too.
     ensures left { IfErr result (AreStopped shape.now L.alone lanes.now (L.sights ports.old.log (L.at ports.old.log)) (S.sights ports.old.shards) (L.sights ports.new.log (L.at ports.new.log)) (S.sights ports.new.shards)) }
-    ensures fault { IfErr result (IsCausedFault shape.now (L.sights ports.new.log) (S.sights ports.new.shards)) }
+    ensures fault { IfErr result (WasCaused shape.now (L.sights ports.new.log) (S.sights ports.new.shards)) }
     ensures others { L.alone ≡ true → KeepsUnlisted (L.header ports.old.log) lanes.now (L.phase ports.old.log) (L.phase ports.new.log) (L.open_txs ports.old.log) (L.open_txs ports.new.log) }
     ensures at_same { L.at ports.new.log ≡ L.at ports.old.log }
     ensures header { L.header ports.new.log ≡ L.header ports.old.log }
@@ -331,13 +350,15 @@ pub fn resume<S: PortSet, L: LogPort, G: Gate>(
         Ok(batches) => batches,
         Err(_) => return Err(no_memory()),
     };
+    let mut first = None;
     for unfinished in lanes {
-        match resume_lane(alloc, shape, unfinished, ports, gate) {
-            Ok(batch) => batches.push_reserved(batch),
-            Err(fault) => return Err(fault),
-        }
+        let came = resume_lane(alloc, shape, unfinished, ports, gate);
+        first = keep(&mut batches, first, came);
     }
-    Ok(Resumed {
-        batches: List::from_vec(batches),
-    })
+    match first {
+        Some(fault) => Err(fault),
+        None => Ok(Resumed {
+            batches: List::from_vec(batches),
+        }),
+    }
 }

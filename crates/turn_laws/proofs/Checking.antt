@@ -1,5 +1,6 @@
 -- A turn at checked journals: they are checked still, they have grown by records of the lane alone, and its fault has its cause.
-use Rattle.std.proofs.Common.{◌≡◌, ◌⊎◌, inl, inr, ℕ, ◌<◌, ◌≤◌, true, false, List, [], ◌∷◌, ◌++◌, Some, refl, sym, ap, ◌∙◌, subst, append_assoc, arith}
+use Rattle.std.proofs.Common.{◌≡◌, ◌≢◌, ◌⊎◌, ◌==◌, inl, inr, ℕ, ◌<◌, ◌≤◌, true, false, List, [], ◌∷◌, ◌++◌, Some, refl, sym, ap, ◌∙◌, subst, append_assoc, arith}
+use Rattle.std.proofs.lemmas.Bool.Decides.{eqb_tells}
 use Rattle.cbdc_types.specs.Limits.{IsWithinLimits}
 use Rattle.cbdc_types.specs.declared.batch.OpenLane.{OpenLane}
 use Rattle.cbdc_types.specs.declared.calls.NodeFault.{NodeFault}
@@ -40,7 +41,7 @@ use Rattle.run_laws.proofs.TurnKinds.{taken_law, prepared_law, prepared_own}
 use Rattle.run_laws.proofs.Stopping.{stop_law}
 use Rattle.ledger_runs.specs.Pieces.{HasPrepared, HasPreparedAtMost, IsUnprepared}
 use Rattle.ledger_runs.specs.Turning.{phase_at}
-use Rattle.ledger_runs.specs.Faults.{AreOfLane, GrowBy, IsWanted, wants_prepare, wants_lock, LacksLock, IsBeforeLocks, IsLaneCause, IsOpenCause, HaveFailed, MayHold, Nothing}
+use Rattle.ledger_runs.specs.Faults.{AreOfLane, GrowBy, IsWanted, wants_prepare, wants_lock, LacksLock, IsBeforeLocks, IsLaneCause, IsOpenCause, HaveFailed, MayHold, Nothing, Waits}
 use Rattle.turn_laws.specs.Nodes.{AreNodes}
 use Rattle.turn_laws.proofs.Headers.{are_journals}
 use Rattle.turn_laws.proofs.OpenThere.{told_lane, unfinished}
@@ -146,14 +147,14 @@ module _ (K : Shape) (lane : ℕ) (next : List Compact → Type 0) (I J : ℕ �
   fault_cause e node DiskFault is h short = failed e node is h
   fault_cause e node Memory is h short = subst Causes (sym is) (short refl)
 
-  -- where want of memory is free
-  free_cause : (e : LaneFault) (node : ℕ) (f : NodeFault) → IsFaultOf e node f → IsStopBy K lane next J opened faults capacity node f → (e.fault ≡ NoMemory) ⊎ Causes e
-  free_cause e node (Broken since) is h = inr (failed e node is h)
-  free_cause e node (Refuses why) is h = absurd h
-  free_cause e node (ClockEnd stamp) is h = inr (no_stamp e node stamp is h)
-  free_cause e node (Full used need limit) is h = inr (no_room e node used need limit is h)
-  free_cause e node DiskFault is h = inr (failed e node is h)
-  free_cause e node Memory is h = inl (ap (λ x. x.fault) is)
+  -- where the lane may wait for want of memory
+  free_cause : (e : LaneFault) (node : ℕ) (f : NodeFault) → IsFaultOf e node f → IsStopBy K lane next J opened faults capacity node f → (f ≡ Memory → Waits K lane I J) → ((e.fault ≡ NoMemory) × Waits K lane I J) ⊎ Causes e
+  free_cause e node (Broken since) is h waits = inr (failed e node is h)
+  free_cause e node (Refuses why) is h waits = absurd h
+  free_cause e node (ClockEnd stamp) is h waits = inr (no_stamp e node stamp is h)
+  free_cause e node (Full used need limit) is h waits = inr (no_room e node used need limit is h)
+  free_cause e node DiskFault is h waits = inr (failed e node is h)
+  free_cause e node Memory is h waits = inl (ap (λ x. x.fault) is, waits refl)
 
 -- ---- want of memory
 
@@ -205,6 +206,16 @@ module _ (K : Shape) (lane : ℕ) (logs shards logs' shards' : ℕ → Sight) (l
         (nodes_law K m I J (are_journals K logs shards logs' shards' nodes nodes' log_nodes shard_nodes m checked));
     grows = grow_by K pieces lane I J (lifted K pieces lane logs shards logs' shards' home turn);
   }
+
+  same_logs : log' ≡ log → (n : ℕ) → logs' n ≡ logs n
+  same_logs e n = go (eqb_tells n (home_of K lane))
+    where
+      go : (((n == home_of K lane) ≡ true) × (n ≡ home_of K lane)) ⊎ (((n == home_of K lane) ≡ false) × (n ≢ home_of K lane)) → logs' n ≡ logs n
+      go (inl (b, here)) = subst (λ m. logs' m ≡ logs m) (sym here) e
+      go (inr (b, other)) = elsewhere n other
+
+  same_journals : log' ≡ log → shards' ≡ shards → J ≡ I
+  same_journals e s = λ i. seen_by K (λ n. same_logs e n i) (s i)
 
   none_done : log' ≡ log → shards' ≡ shards → IsCheckedTurn K m lane I J
   none_done e s = turned [] ((taken_law K lane logs shards logs' shards' elsewhere).4 e s)
@@ -308,6 +319,10 @@ module _ (K : Shape) (lane : ℕ) (logs shards logs' shards' : ℕ → Sight) (l
     lane_is : o.batch.lane ≡ lane
     lane_is = told_lane log.seen lane o told
 
+    -- the phase is that of its journal
+    prepared_still : (slot log'.seen o.batch.lane).phase ≡ InPrepare → phase_at K J lane ≡ InPrepare
+    prepared_still phase = ap (λ L. (slot L lane).phase) (seen_log K logs' shards' (home_of K lane) home) ∙ subst (λ l. (slot log'.seen l).phase ≡ InPrepare) lane_is phase
+
     still : IsUnfinished o.phase K o log shards
     still = unfinished K lane log shards o told (checked_resume_law K m lane logs shards limits.some_shard home shape checked)
 
@@ -332,9 +347,10 @@ module _ (K : Shape) (lane : ℕ) (logs shards logs' shards' : ℕ → Sight) (l
 
     pub left_cause : (e : LaneFault) → IsResumeStopped K true o log shards log' shards' e
         → IsOpenCause K lane I J (HaveFailed (opened_by K logs' shards') (faults_by K logs' shards')) (MayHold (capacity_by K logs' shards')) e
-    left_cause e (inl none) = inl (ap (λ x. x.fault) none.0)
+    left_cause e (inl none) = inl (ap (λ x. x.fault) none.0, inl (λ n. ap (λ L. own lane (L n)) (same_journals none.1 none.2)))
     left_cause e (inr stop) =
         let s = stop still in
         let turn = left_checked e (inr stop) in
         free_cause K lane Nothing I J (opened_by K logs' shards') (faults_by K logs' shards') (capacity_by K logs' shards') turn.grows e s.0 s.1 s.2
         ((stop_law K m lane logs' shards' s.3.txs s.0 s.1 limits home shape_still shard_shapes turn.checked).1 o.batch lane_is s.3.fault)
+        (λ memory. inr (prepared_still (in_prepare K o.batch s.3.txs log' shards' s.0 s.1 memory s.3.fault.call), left_unprepared e (inr stop)))

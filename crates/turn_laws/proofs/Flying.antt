@@ -1,9 +1,9 @@
 -- What is in flight behind a turn may come next at its node.
-use Rattle.std.proofs.Common.{◌≡◌, ◌⊎◌, inl, inr, ℕ, ◌+◌, ◌-◌, ◌<◌, ◌≤◌, true, false, nat_lt, if◌then◌else◌, List, [], ◌∷◌, Option, Some, None, refl, sym, ap, ◌∙◌, subst, arith}
+use Rattle.std.proofs.Common.{◌≡◌, inl, inr, ℕ, ◌-◌, ◌<◌, ◌≤◌, true, false, nat_lt, if◌then◌else◌, List, [], ◌∷◌, Option, Some, None, sym, ap, ◌∙◌, subst, arith}
 use Rattle.std.specs.Prelude.{IfSome}
 use Rattle.std.proofs.lemmas.Bool.{lt-ltb, le-ltb}
 use Rattle.cbdc_types.specs.declared.batch.OpenLane.{OpenLane}
-use Rattle.cbdc_model.specs.Records.{Shape, Compact, Header, Record}
+use Rattle.cbdc_model.specs.Records.{Shape, Compact, Record}
 use Rattle.cbdc_model.specs.Ranges.{home_of, shard_node}
 use Rattle.cbdc_model.specs.Slots.{slot, Idle}
 use Rattle.cbdc_model.specs.After.{After, IsJournal}
@@ -11,7 +11,7 @@ use Rattle.cbdc_model.specs.Coins.{Output, FullTx}
 use Rattle.cbdc_model.specs.Clean.{IsProperCompact}
 use Rattle.cbdc_model.specs.History.{Minted, minted, header_of}
 use Rattle.cbdc_model.specs.World.{KeptJournals}
-use Rattle.cbdc_model.specs.Lanes.{AllPass, IsEnd, Seen}
+use Rattle.cbdc_model.specs.Lanes.{AllPass, Seen}
 use Rattle.cbdc_model.specs.Sights.{Sight}
 use Rattle.ledger_laws.proofs.Cuts.{seen_grows}
 use Rattle.lane_laws.specs.Batches.{Flown}
@@ -31,8 +31,8 @@ use Rattle.run_laws.proofs.Rests.{rest_law}
 use Rattle.run_laws.proofs.Seen.{seen_log, seen_shard}
 use Rattle.run_laws.proofs.OpenLanes.{resume_law}
 use Rattle.run_laws.proofs.Flights.{flown_law}
-use Rattle.ledger_runs.specs.Turning.{OfKept, StaysKept, StaysKeptBy}
-use Rattle.ledger_runs.specs.Flying.{AllMayCome, FliesOn, FliesOnBy}
+use Rattle.ledger_runs.specs.Turning.{OfKept, StaysKept}
+use Rattle.ledger_runs.specs.Flying.{FliesOn, FliesOnBy}
 use Rattle.turn_laws.specs.Nodes.{AreNodes, AreNext}
 use Rattle.turn_laws.proofs.Headers.{header_is, which_node}
 use Rattle.turn_laws.proofs.OpenThere.{told_lane, unfinished}

@@ -1,19 +1,19 @@
-use Rattle.std.proofs.Common.{◌*◌, ◌+◌, arith, refl, ap, ◌∙◌, subst}
+use Rattle.std.proofs.Common.{◌≡◌, ◌≢◌, inr, ◌*◌, arith, refl, sym, ap, ◌∙◌, subst, None}
+use Rattle.std.specs.Option.{option_or}
+use Rattle.std.specs.Result.{result_err}
 use Rattle.run_laws.specs.WaveSteps.{ResumedSo, ResumingStepLaw, ResumingSkipLaw, ResumingBeginsLaw, ResumingEndsLaw}
 use Rattle.run_laws.proofs.WaveTurns.{resuming_begins_law, resuming_step_law, resuming_skip_law, resuming_ends_law}
-use Rattle.ledger_runs.proofs.Keeping.{stays, stays_next, same_next, idle_next, so_next}
+use Rattle.ledger_runs.proofs.Keeping.{stays, stays_next, same_next, idle_next, so_next, of_ok}
 use Rattle.ledger_runs.specs.Telling.{TellResumed}
 use Rattle.ledger_laws.proofs.Cuts.{end_self, end_trans}
+use Rattle.ledger_runs.specs.Turning.{IsLaneOf}
 use Rattle.ledger_runs.specs.Faults.{HaveFailed, MayHold}
-use Rattle.ledger_runs.proofs.Faulting.{grown_end, resumed_cause, least_open, none_taken, one_more}
+use Rattle.ledger_runs.proofs.Faulting.{grown_end, none_taken, one_more, risen_later, holds_later}
+use Rattle.ledger_runs.proofs.Onward.{first_none, untouched_on, first_begin, rests_begin, first_next, rests_next, first_end, rests_end, first_cause}
 use Rattle.ledger_runs.proofs.Flying.{flies_next}
 use Rattle.ledger_runs.proofs.WaveTelling.{resumed_told}
 use Rattle.ledger_runs.proofs.Preparing.{resumed_none}
 use Rattle.ledger_runs.proofs.resuming.resume_all.Goals as goal
-
-pub returns-in-Err-clause-keeps : goal.returns-in-Err-clause-keeps
-returns-in-Err-clause-keeps g c =
-    stays_next (g.L.Turns.shape c.args.ledger.now) _ (g.L.Turns.journals c.args.ledger.now) _ _ c.lanes.invariant.shape c.lanes.invariant.keeps c.resume_next.ensures.keeps
 
 pub lanes-init : goal.lanes-init
 lanes-init g c =
@@ -23,12 +23,12 @@ lanes-init g c =
     record {
       shape = refl;
       count = c.lane_count-count.ensures.value ∙ ap (λ s. s.coordinators * s.lanes) c.shape.ensures;
-      idle = λ lane low. absurd (omega (arith, low));
+      idle = λ none lane low. absurd (omega (arith, low));
       keeps = stays K E;
-      so = λ _ _ _. begins K E;
-      told = λ _ _ _. c.in-Ok.ensures.items;
+      so = λ none _ _ _. begins K E;
+      told = λ none _ _ _. c.in-Ok.ensures.items;
       prepares = λ _. refl;
-      quiet = λ _ _ _ was. was;
+      quiet = λ none _ _ _ was. was;
       flies = λ _ _ _ may. may;
       holds = λ h. h;
       later = λ n. omega arith;
@@ -37,94 +37,94 @@ lanes-init g c =
       checked = c.requires;
       grows = λ n. end_self (E n);
       order = λ n. refl;
+      untouched = λ lane low n. refl;
+      first = first_begin K E (HaveFailed (g.L.Turns.opened c.args.ledger.now) (g.L.Turns.faults c.args.ledger.now)) (MayHold (g.L.Turns.capacity c.args.ledger.now));
+      rests = rests_begin K E (HaveFailed (g.L.Turns.opened c.args.ledger.now) (g.L.Turns.faults c.args.ledger.now)) (g.L.Turns.wanting c.args.ledger.now);
+      len = omega (arith, c.in-Ok.ensures.len);
+      room = c.in-Ok.ensures.exact;
     }
 
 pub lanes-preserved : goal.lanes-preserved
 lanes-preserved g c =
     let K = g.L.Turns.shape c.args.ledger.now in
+    let H = g.L.Turns.shape c.lanes.ledger in
     let E = g.L.Turns.journals c.args.ledger.now in
+    let J = g.L.Turns.journals c.lanes.ledger in
+    let L = g.L.Turns.journals c.resume_next-came.new.ledger in
+    let turn = c.lanes.lane in
     let so = c.lanes.invariant in
-    let did = c.resume_next.ensures in
+    let did = c.resume_next-came.ensures in
+    let came = c.resume_next-came.result in
     let step : ResumingStepLaw = resuming_step_law in
     let skip : ResumingSkipLaw = resuming_skip_law in
+    let inside : IsLaneOf K turn = omega (arith, c.lanes-test.true, so.count) in
+    let is : c.or-first.result ≡ option_or c.lanes.first (result_err came) = c.or-first.ensures ∙ ap (option_or c.lanes.first) c.err.ensures.value in
+    let failed_on = risen_later (g.L.Turns.opened c.lanes.ledger) (g.L.Turns.faults c.lanes.ledger) (g.L.Turns.opened c.resume_next-came.new.ledger) (g.L.Turns.faults c.resume_next-came.new.ledger) did.opened_same did.later in
+    let held_on = holds_later (g.L.Turns.capacity c.lanes.ledger) (g.L.Turns.capacity c.resume_next-came.new.ledger) did.capacity_same in
+    let failed = HaveFailed (g.L.Turns.opened c.lanes.ledger) (g.L.Turns.faults c.lanes.ledger) in
+    let fails = HaveFailed (g.L.Turns.opened c.resume_next-came.new.ledger) (g.L.Turns.faults c.resume_next-came.new.ledger) in
+    let holds = MayHold (g.L.Turns.capacity c.lanes.ledger) in
+    let held = MayHold (g.L.Turns.capacity c.resume_next-came.new.ledger) in
+    let none_of = λ (none : c.or-first.result ≡ None). first_none c.lanes.first came (sym is ∙ none) in
     record {
       shape = did.shape ∙ so.shape;
       count = so.count;
-      idle = idle_next K (g.L.Turns.shape c.lanes.ledger) c.lanes.lane (g.L.Turns.journals c.lanes.ledger) (g.L.Turns.journals c.resume_next.new.ledger) so.shape (omega (arith, c.lanes-test.true, so.count)) so.idle did.others c.in-Ok-resume_next.ensures.idle;
-      keeps = stays_next K _ E _ _ so.shape so.keeps did.keeps;
-      so = so_next step skip K _ c.lanes.lane E _ _ _ _ so.shape so.keeps so.so c.in-Ok-resume_next.ensures.took;
-      told = resumed_told K (g.L.Turns.shape c.lanes.ledger) c.lanes.lane E (g.L.Turns.journals c.lanes.ledger) (g.L.Turns.journals c.resume_next.new.ledger) c.lanes.batches.items c.resume_next.new.batches.items
-          so.shape so.keeps so.so so.told c.in-Ok-resume_next.ensures.told;
-      prepares = resumed_none K (g.L.Turns.shape c.lanes.ledger) c.lanes.lane E (g.L.Turns.journals c.lanes.ledger) (g.L.Turns.journals c.resume_next.new.ledger) so.shape so.prepares did.grows did.unprepared;
-      quiet = same_next K (g.L.Turns.shape c.lanes.ledger) E (g.L.Turns.journals c.lanes.ledger) (g.L.Turns.quiet c.args.ledger.now) (g.L.Turns.quiet c.lanes.ledger) (g.L.Turns.quiet c.resume_next.new.ledger)
-          so.shape so.keeps so.quiet c.in-Ok-resume_next.ensures.quiet;
-      flies = flies_next K (g.L.Turns.shape c.lanes.ledger) E (g.L.Turns.journals c.lanes.ledger) (g.L.Turns.journals c.resume_next.new.ledger) (g.L.Turns.flights c.args.ledger.now) (g.L.Turns.flights c.lanes.ledger) (g.L.Turns.flights c.resume_next.new.ledger)
-          so.shape so.keeps so.flies did.flies;
+      idle = λ none. idle_next K H turn J L so.shape inside (so.idle (none_of none).0) did.others (of_ok came _ (none_of none).1 did.idle);
+      keeps = stays_next K H E J L so.shape so.keeps did.keeps;
+      so = λ none. so_next step skip K H turn E J L c.lanes.batches.items c.resume_next-came.new.batches.items so.shape so.keeps (so.so (none_of none).0) (of_ok came _ (none_of none).1 did.took);
+      told = λ none. resumed_told K H turn E J L c.lanes.batches.items c.resume_next-came.new.batches.items so.shape so.keeps (so.so (none_of none).0) (so.told (none_of none).0) (of_ok came _ (none_of none).1 did.told);
+      prepares = resumed_none K H turn E J L so.shape so.prepares did.grows did.unprepared;
+      quiet = λ none. same_next K H E J (g.L.Turns.quiet c.args.ledger.now) (g.L.Turns.quiet c.lanes.ledger) (g.L.Turns.quiet c.resume_next-came.new.ledger)
+          so.shape so.keeps (so.quiet (none_of none).0) (of_ok came _ (none_of none).1 did.quiet);
+      flies = flies_next K H E J L (g.L.Turns.flights c.args.ledger.now) (g.L.Turns.flights c.lanes.ledger) (g.L.Turns.flights c.resume_next-came.new.ledger) so.shape so.keeps so.flies did.flies;
       holds = λ h. did.holds (so.holds h);
       later = λ n. omega (arith, did.later n, so.later n);
       opened = λ n. did.opened_same n ∙ so.opened n;
       capacity = λ n. did.capacity_same n ∙ so.capacity n;
       checked = did.checked;
-      grows = λ n. end_trans (E n) (g.L.Turns.journals c.lanes.ledger n) (g.L.Turns.journals c.resume_next.new.ledger n) (so.grows n) (grown_end c.lanes.lane _ _ did.grows n);
-      order = one_more c.lanes.lane (g.L.Turns.journals c.args.ledger.now) (g.L.Turns.journals c.lanes.ledger) (g.L.Turns.journals c.resume_next.new.ledger) so.order did.grows;
+      grows = λ n. end_trans (E n) (J n) (L n) (so.grows n) (grown_end turn J L did.grows n);
+      order = one_more turn E J L so.order did.grows;
+      untouched = λ lane low. untouched_on lane turn (let apart : turn ≢ lane = λ h. omega (arith, h, low) in apart) E J L did.grows (so.untouched lane (omega (arith, low)));
+      first = λ e some. first_next K H turn E J L failed fails holds held so.shape inside so.grows did.grows failed_on held_on (so.untouched turn (omega arith)) came did.fault did.others c.lanes.first so.idle so.first e (sym is ∙ some);
+      rests = rests_next K H turn E J L failed fails holds held so.shape inside so.grows did.grows failed_on held_on (so.untouched turn (omega arith)) came did.fault
+          (g.L.Turns.wanting c.lanes.ledger) (g.L.Turns.wanting c.resume_next-came.new.ledger) did.wanting_same did.idle did.wanting so.rests;
+      len = omega (arith, did.len, so.len);
+      room = did.capacity ∙ so.room;
     }
-
-pub returns-clause-resumed : goal.returns-clause-resumed
-returns-clause-resumed g c =
-    let ends : ResumingEndsLaw = resuming_ends_law in
-    λ mint submissions kept. ends _ _ _ (subst (λ n. ResumedSo (g.L.Turns.shape c.args.ledger.now) n (g.L.Turns.journals c.args.ledger.now) (g.L.Turns.journals c.lanes.ledger))
-    (omega (arith, c.lanes.invariant.count, c.lanes-test.false, c.lanes.auto.lane-end)) (c.lanes.invariant.so mint submissions kept))
-
-pub returns-clause-quiet : goal.returns-clause-quiet
-returns-clause-quiet g c = c.lanes.invariant.quiet
-
-pub returns-clause-told : goal.returns-clause-told
-returns-clause-told g c =
-    let K = g.L.Turns.shape c.args.ledger.now in
-    λ mint submissions kept. subst (λ n. TellResumed K (g.L.Turns.journals c.args.ledger.now) (g.L.Turns.journals c.lanes.ledger) n c.lanes.batches.items)
-    (omega (arith, c.lanes.invariant.count, c.lanes-test.false, c.lanes.auto.lane-end)) (c.lanes.invariant.told mint submissions kept)
-
-pub returns-clause-prepares : goal.returns-clause-prepares
-returns-clause-prepares g c = c.lanes.invariant.prepares
-
-pub returns-in-Err-clause-prepares : goal.returns-in-Err-clause-prepares
-returns-in-Err-clause-prepares g c =
-    resumed_none (g.L.Turns.shape c.args.ledger.now) (g.L.Turns.shape c.lanes.ledger) c.lanes.lane (g.L.Turns.journals c.args.ledger.now) (g.L.Turns.journals c.lanes.ledger) (g.L.Turns.journals c.resume_next.new.ledger)
-    c.lanes.invariant.shape c.lanes.invariant.prepares c.resume_next.ensures.grows c.resume_next.ensures.unprepared
-
-pub returns-in-Err-clause-grows : goal.returns-in-Err-clause-grows
-returns-in-Err-clause-grows g c n = end_trans (g.L.Turns.journals c.args.ledger.now n) (g.L.Turns.journals c.lanes.ledger n) (g.L.Turns.journals c.resume_next.new.ledger n)
-    (c.lanes.invariant.grows n) (grown_end c.lanes.lane _ _ c.resume_next.ensures.grows n)
-
-pub returns-in-Err-clause-fault : goal.returns-in-Err-clause-fault
-returns-in-Err-clause-fault g c =
-    resumed_cause (g.L.Turns.shape c.args.ledger.now) (g.L.Turns.shape c.lanes.ledger) c.lanes.lane (g.L.Turns.journals c.args.ledger.now) (g.L.Turns.journals c.lanes.ledger) (g.L.Turns.journals c.resume_next.new.ledger)
-    (HaveFailed (g.L.Turns.opened c.resume_next.new.ledger) (g.L.Turns.faults c.resume_next.new.ledger)) (MayHold (g.L.Turns.capacity c.resume_next.new.ledger))
-    c.lanes.invariant.shape (omega (arith, c.lanes-test.true, c.lanes.invariant.count)) c.lanes.invariant.grows c.in-Err.fault c.in-Err.ensures.fault
-
-pub returns-in-Err-clause-least : goal.returns-in-Err-clause-least
-returns-in-Err-clause-least g c =
-    least_open (g.L.Turns.shape c.args.ledger.now) (g.L.Turns.shape c.lanes.ledger) c.lanes.lane (g.L.Turns.journals c.args.ledger.now) (g.L.Turns.journals c.lanes.ledger) (g.L.Turns.journals c.resume_next.new.ledger)
-    (HaveFailed (g.L.Turns.opened c.resume_next.new.ledger) (g.L.Turns.faults c.resume_next.new.ledger)) (MayHold (g.L.Turns.capacity c.resume_next.new.ledger))
-    c.lanes.invariant.shape (omega (arith, c.lanes-test.true, c.lanes.invariant.count)) c.lanes.invariant.grows c.lanes.invariant.idle c.resume_next.ensures.others c.in-Err.fault c.in-Err.ensures.fault
-
-pub returns-in-Err-clause-flies : goal.returns-in-Err-clause-flies
-returns-in-Err-clause-flies g c =
-    flies_next (g.L.Turns.shape c.args.ledger.now) (g.L.Turns.shape c.lanes.ledger) (g.L.Turns.journals c.args.ledger.now) (g.L.Turns.journals c.lanes.ledger) (g.L.Turns.journals c.resume_next.new.ledger)
-    (g.L.Turns.flights c.args.ledger.now) (g.L.Turns.flights c.lanes.ledger) (g.L.Turns.flights c.resume_next.new.ledger) c.lanes.invariant.shape c.lanes.invariant.keeps c.lanes.invariant.flies c.resume_next.ensures.flies
-
-pub returns-clause-flies : goal.returns-clause-flies
-returns-clause-flies g c = c.lanes.invariant.flies
 
 pub returns-in_default-clause-order : goal.returns-in_default-clause-order
 returns-in_default-clause-order g c = none_taken (g.L.Turns.shape c.args.ledger.now) (g.L.Turns.journals c.args.ledger.now)
 
-pub returns-in-Err-clause-order : goal.returns-in-Err-clause-order
-returns-in-Err-clause-order g c = (
-  c.lanes.lane + 1,
-  omega (arith, c.lanes-test.true, c.lanes.invariant.count),
-  one_more c.lanes.lane (g.L.Turns.journals c.args.ledger.now) (g.L.Turns.journals c.lanes.ledger) (g.L.Turns.journals c.resume_next.new.ledger) c.lanes.invariant.order c.resume_next.ensures.grows,
-)
+pub returns-in-Some-clause-fault : goal.returns-in-Some-clause-fault
+returns-in-Some-clause-fault g c =
+    let K = g.L.Turns.shape c.args.ledger.now in
+    let E = g.L.Turns.journals c.args.ledger.now in
+    let X = g.L.Turns.journals c.lanes.ledger in
+    let failed = HaveFailed (g.L.Turns.opened c.lanes.ledger) (g.L.Turns.faults c.lanes.ledger) in
+    let holds = MayHold (g.L.Turns.capacity c.lanes.ledger) in
+    first_cause K E X failed holds c.in-Some.fault
+    (first_end K c.lanes.lane E X failed holds c.in-Some.fault (omega (arith, c.lanes.invariant.count, c.lanes.auto.lane-end)) (c.lanes.invariant.first c.in-Some.fault c.in-Some.is))
 
-pub returns-clause-order : goal.returns-clause-order
-returns-clause-order g c = (c.lanes.lane, omega (arith, c.lanes.invariant.count, c.lanes-test.false, c.lanes.auto.lane-end), c.lanes.invariant.order)
+pub returns-in-Some-clause-least : goal.returns-in-Some-clause-least
+returns-in-Some-clause-least g c = inr (first_end (g.L.Turns.shape c.args.ledger.now) c.lanes.lane (g.L.Turns.journals c.args.ledger.now) (g.L.Turns.journals c.lanes.ledger)
+    (HaveFailed (g.L.Turns.opened c.lanes.ledger) (g.L.Turns.faults c.lanes.ledger)) (MayHold (g.L.Turns.capacity c.lanes.ledger)) c.in-Some.fault
+    (omega (arith, c.lanes.invariant.count, c.lanes.auto.lane-end)) (c.lanes.invariant.first c.in-Some.fault c.in-Some.is))
+
+pub returns-in-Some-clause-rests : goal.returns-in-Some-clause-rests
+returns-in-Some-clause-rests g c = inr (rests_end (g.L.Turns.shape c.args.ledger.now) c.lanes.lane (g.L.Turns.journals c.args.ledger.now) (g.L.Turns.journals c.lanes.ledger)
+    (HaveFailed (g.L.Turns.opened c.lanes.ledger) (g.L.Turns.faults c.lanes.ledger)) (g.L.Turns.wanting c.lanes.ledger) (omega (arith, c.lanes.invariant.count, c.lanes-test.false)) c.lanes.invariant.rests)
+
+pub returns-in-None-clause-resumed : goal.returns-in-None-clause-resumed
+returns-in-None-clause-resumed g c =
+    let ends : ResumingEndsLaw = resuming_ends_law in
+    λ mint submissions kept. ends _ _ _ (subst (λ n. ResumedSo (g.L.Turns.shape c.args.ledger.now) n (g.L.Turns.journals c.args.ledger.now) (g.L.Turns.journals c.lanes.ledger))
+    (omega (arith, c.lanes.invariant.count, c.lanes-test.false, c.lanes.auto.lane-end)) (c.lanes.invariant.so c.in-None.is mint submissions kept))
+
+pub returns-in-None-clause-told : goal.returns-in-None-clause-told
+returns-in-None-clause-told g c =
+    let K = g.L.Turns.shape c.args.ledger.now in
+    λ mint submissions kept. subst (λ n. TellResumed K (g.L.Turns.journals c.args.ledger.now) (g.L.Turns.journals c.lanes.ledger) n c.lanes.batches.items)
+    (omega (arith, c.lanes.invariant.count, c.lanes-test.false, c.lanes.auto.lane-end)) (c.lanes.invariant.told c.in-None.is mint submissions kept)
+
+pub returns-in-None-clause-quiet : goal.returns-in-None-clause-quiet
+returns-in-None-clause-quiet g c = c.lanes.invariant.quiet c.in-None.is

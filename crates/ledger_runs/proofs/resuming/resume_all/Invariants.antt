@@ -1,11 +1,14 @@
-use Rattle.std.proofs.Common.{◌≡◌, ◌≤◌, ◌<◌, ◌*◌, ℕ}
+use Rattle.std.proofs.Common.{◌≡◌, ◌≤◌, ◌<◌, ◌*◌, ℕ, Some, None}
+use Rattle.std.specs.Vec.{vec_len, vec_capacity}
 use Rattle.cbdc_model.specs.Slots.{Idle}
 use Rattle.cbdc_model.specs.Lanes.{IsEnd}
 use Rattle.run_laws.specs.WaveSteps.{ResumedSo}
+use Rattle.lane_driver.specs.declared.fault.LaneFault.{LaneFault}
 use Rattle.ledger_runs.specs.Turning.{phase_at, OfKept, StaysKept}
 use Rattle.ledger_runs.specs.Flying.{FliesOn}
 use Rattle.ledger_runs.specs.Telling.{TellResumed, SamePrepared}
-use Rattle.ledger_runs.specs.Faults.{TookLanes}
+use Rattle.ledger_runs.specs.Faults.{TookLanes, HaveFailed, MayHold, IsUntouched, RestsOrWaits}
+use Rattle.ledger_runs.proofs.Onward.{FirstBelow}
 use Rattle.ledger_runs.proofs.resuming.resume_all.Given as goal
 
 abbrev pub invariant-lanes : goal.invariant-lanes
@@ -16,12 +19,12 @@ invariant-lanes g l =
     record {
       shape : g.L.Turns.shape l.ledger ≡ K;
       count : l.count ≡ K.coordinators * K.lanes;
-      idle : (lane : ℕ) → lane < l.lane → phase_at K J lane ≡ Idle;
+      idle : l.first ≡ None → (lane : ℕ) → lane < l.lane → phase_at K J lane ≡ Idle;
       keeps : OfKept K E (StaysKept K E J);
-      so : OfKept K E (λ _ _. ResumedSo K l.lane E J);
-      told : OfKept K E (λ _ _. TellResumed K E J l.lane l.batches.items);
+      so : l.first ≡ None → OfKept K E (λ _ _. ResumedSo K l.lane E J);
+      told : l.first ≡ None → OfKept K E (λ _ _. TellResumed K E J l.lane l.batches.items);
       prepares : SamePrepared K E J;
-      quiet : OfKept K E (λ _ _. g.L.Turns.quiet l.fn.ledger → g.L.Turns.quiet l.ledger);
+      quiet : l.first ≡ None → OfKept K E (λ _ _. g.L.Turns.quiet l.fn.ledger → g.L.Turns.quiet l.ledger);
       flies : OfKept K E (FliesOn K E J (g.L.Turns.flights l.fn.ledger) (g.L.Turns.flights l.ledger));
       holds : g.L.Turns.holds l.fn.ledger → g.L.Turns.holds l.ledger;
       later : (n : ℕ) → g.L.Turns.faults l.fn.ledger n ≤ g.L.Turns.faults l.ledger n;
@@ -30,4 +33,9 @@ invariant-lanes g l =
       checked : g.L.Turns.checked l.ledger;
       grows : (n : ℕ) → IsEnd (E n) (J n);
       order : TookLanes l.lane E J;
+      untouched : (lane : ℕ) → l.lane ≤ lane → IsUntouched lane E J;
+      first : (e : LaneFault) → l.first ≡ Some e → FirstBelow K l.lane E J (HaveFailed (g.L.Turns.opened l.ledger) (g.L.Turns.faults l.ledger)) (MayHold (g.L.Turns.capacity l.ledger)) e;
+      rests : (lane : ℕ) → lane < l.lane → RestsOrWaits K lane E J (HaveFailed (g.L.Turns.opened l.ledger) (g.L.Turns.faults l.ledger)) (g.L.Turns.wanting l.ledger lane);
+      len : vec_len l.batches ≤ l.lane;
+      room : vec_capacity l.batches ≡ l.count;
     }

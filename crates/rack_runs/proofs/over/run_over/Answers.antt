@@ -3,6 +3,7 @@ use Rattle.std.proofs.lemmas.Bool.{eqb-true}
 use Rattle.ledger_runs.proofs.Keeping.{same_next}
 use Rattle.rack_runs.proofs.Resumed.{over_cut, over_keeps, flies_cut, flies_over, over_waves, over_none, over_cuts, none_of, some_of, over_told, over_told_none}
 use Rattle.ledger_laws.proofs.Cuts.{end_trans}
+use Rattle.ledger_runs.proofs.Onward.{rests_told}
 use Rattle.ledger_runs.specs.Faults.{HaveFailed, MayHold, AllRest}
 use Rattle.file_runs.specs.Endings.{EndsFiles}
 use Rattle.rack_runs.proofs.Answering.{resumed_begun, resumed_fault, filed_begun, filed_fault}
@@ -152,7 +153,9 @@ pub returns-in-Err-run_files-clause-in_order : goal.returns-in-Err-run_files-cla
 returns-in-Err-run_files-clause-in_order g c = (g.L.Turns.journals c.resume_all.new.ledger, c.resume_all.ensures.order, inr (c.in-Ok.ensures.idle, c.run_files.ensures.grows))
 
 pub returns-in-Err-clause-rests : goal.returns-in-Err-clause-rests
-returns-in-Err-clause-rests g c lane inside = inr (c.resume_all.ensures.prepares lane)
+returns-in-Err-clause-rests g c =
+    rests_told (g.L.Turns.shape c.args.ledger.now) (g.L.Turns.journals c.args.ledger.now) (g.L.Turns.journals c.resume_all.new.ledger) (HaveFailed (g.L.Turns.opened c.resume_all.new.ledger) (g.L.Turns.faults c.resume_all.new.ledger))
+    (g.L.Turns.wanting c.resume_all.new.ledger) c.in-Err.fault c.in-Err.ensures.rests
 
 pub returns-then-is_empty-clause-rests : goal.returns-then-is_empty-clause-rests
 returns-then-is_empty-clause-rests g c lane inside = inl (inl (inl (c.in-Ok.ensures.idle lane inside)))

@@ -1,22 +1,45 @@
-use Rattle.std.proofs.Common.{inr, ◌∙◌, ◌+◌, sym, ap, subst, take, arith}
-use Rattle.recovery.specs.Open.{AreResumed, AreTakenUp}
+use Rattle.std.proofs.Common.{inl, ◌≡◌, ◌<◌, ◌∙◌, ◌+◌, [], refl, sym, ap, subst, take, arith}
+use Rattle.std.specs.Prelude.{OnOk, IfOk}
+use Rattle.cbdc_model.specs.Ranges.{home_of}
+use Rattle.cbdc_model.specs.Slots.{Idle}
+use Rattle.recovery.specs.Open.{IsResumed, AreResumed, IsUnfinished, CameOf}
 use Rattle.lane_driver.proofs.Fitting.{elsewhere_on, nodes_on, ledger_kept}
-use Rattle.lane_laws.specs.Resuming.{IsTakenUp}
+use Rattle.lane_laws.specs.Batches.{view}
+use Rattle.cbdc_model.specs.Lanes.{Made}
 use Rattle.recovery.proofs.Untouched.{stands_here, stand_rest, home_there, still_shape}
 use Rattle.recovery.proofs.Rest.{open_here, rise_rest, open_rest, resumed_more}
-use Rattle.recovery.proofs.InOrder.{taken_more, stopped_here, over_more, unlisted_more}
+use Rattle.recovery.proofs.InOrder.{came_of, came_more, kept_none, over_more, unlisted_more}
+use Rattle.recovery.proofs.Onward.{made_by, log_grows, shard_grows, logs_gone, shards_gone, caused_now, caused_more}
+use Rattle.cbdc_types.specs.declared.calls.NodeFault.TheVariants.{Memory}
 use Rattle.recovery.proofs.resuming.resume.Goals as goal
 
-pub resume_lane-requires-clause-is_open : goal.resume_lane-requires-clause-is_open
-resume_lane-requires-clause-is_open g c =
+pub resume_lane-came-requires-clause-is_open : goal.resume_lane-came-requires-clause-is_open
+resume_lane-came-requires-clause-is_open g c =
     open_here _ _ _ c.args.lanes.now c.loop-unfinished.unfinished-index _ c.loop-unfinished-test.true c.unfinished-item.is c.loop-unfinished.invariant.open_rest
 
 pub loop-unfinished-preserved : goal.loop-unfinished-preserved
 loop-unfinished-preserved g c =
+    let K = c.args.shape.now in
+    let alone = g.L.LogPort.alone in
     let inv = c.loop-unfinished.invariant in
     let i = c.loop-unfinished.unfinished-index in
-    let told = c.in-Ok-resume_lane.ensures in
-    let here = stands_here c.args.shape.now (g.L.LogPort.sights c.loop-unfinished.ports.log (g.L.LogPort.at c.loop-unfinished.ports.log)) (g.S.PortSet.sights c.loop-unfinished.ports.shards) c.args.lanes.now i c.unfinished-item.result c.loop-unfinished-test.true c.unfinished-item.is inv.stand in
+    let o = c.unfinished-item.result in
+    let inside = c.loop-unfinished-test.true in
+    let told = c.resume_lane-came.ensures in
+    let came = c.resume_lane-came.result in
+    let logs = g.L.LogPort.sights c.loop-unfinished.ports.log in
+    let logs' = g.L.LogPort.sights c.resume_lane-came.new.ports.log in
+    let at = g.L.LogPort.at c.loop-unfinished.ports.log in
+    let at' = g.L.LogPort.at c.resume_lane-came.new.ports.log in
+    let I = g.S.PortSet.sights c.loop-unfinished.ports.shards in
+    let J = g.S.PortSet.sights c.resume_lane-came.new.ports.shards in
+    let stands : IsUnfinished o.phase K o (logs at) I = stands_here K (logs at) I c.args.lanes.now i o inside c.unfinished-item.is inv.stand in
+    let home : home_of K o.batch.lane < K.coordinators = home_there K o (logs at) I o.phase stands in
+    let one : CameOf K alone o came (logs at) I (logs' at') J = came_of K alone o came (logs at) (logs' at') I J stands told.taken told.resumed told.outcomes told.left told.told in
+    let made : Made K [] alone o.batch.lane (view K o.batch.lane (logs at) I) (view K o.batch.lane (logs' at') J) = made_by K alone o came (logs at) (logs' at') I J one in
+    let kept = c.keep-first.ensures.kept in
+    let before = c.loop-unfinished.batches.items in
+    let after = c.keep-first.new.batches.items in
     record {
       at_same = told.at_same ∙ inv.at_same;
       header = told.header ∙ inv.header;
@@ -24,87 +47,44 @@ loop-unfinished-preserved g c =
       count = told.count ∙ inv.count;
       shard_later = λ n. omega (arith, inv.shard_later n, told.shard_later n);
       log_later = λ n. omega (arith, inv.log_later n, told.log_later n);
-      elsewhere = elsewhere_on (g.L.LogPort.at c.args.ports.now.log) (g.L.LogPort.at c.loop-unfinished.ports.log) (g.L.LogPort.sights c.args.ports.now.log) (g.L.LogPort.sights c.loop-unfinished.ports.log) (g.L.LogPort.sights c.resume_lane.new.ports.log) c.loop-unfinished.invariant.at_same c.loop-unfinished.invariant.elsewhere c.in-Ok-resume_lane.ensures.elsewhere;
-      nodes = nodes_on (g.S.PortSet.sights c.args.ports.now.shards) (g.S.PortSet.sights c.loop-unfinished.ports.shards) (g.S.PortSet.sights c.resume_lane.new.ports.shards) c.loop-unfinished.invariant.nodes c.in-Ok-resume_lane.ensures.nodes;
-      log_nodes = nodes_on (g.L.LogPort.sights c.args.ports.now.log) (g.L.LogPort.sights c.loop-unfinished.ports.log) (g.L.LogPort.sights c.resume_lane.new.ports.log) c.loop-unfinished.invariant.log_nodes c.in-Ok-resume_lane.ensures.log_nodes;
+      elsewhere = elsewhere_on (g.L.LogPort.at c.args.ports.now.log) at (g.L.LogPort.sights c.args.ports.now.log) logs logs' inv.at_same inv.elsewhere told.elsewhere;
+      nodes = nodes_on (g.S.PortSet.sights c.args.ports.now.shards) I J inv.nodes told.nodes;
+      log_nodes = nodes_on (g.L.LogPort.sights c.args.ports.now.log) logs logs' inv.log_nodes told.log_nodes;
       log_holds = λ h. told.log_holds (inv.log_holds h);
       shard_holds = λ h. told.shard_holds (inv.shard_holds h);
-      open_rest = open_rest _ _ _ _ _ _ c.args.lanes.now i c.unfinished-item.result c.loop-unfinished-test.true c.unfinished-item.is inv.rise inv.open_rest told.header (λ more. told.others (sym c.requires.same ∙ c.requires.alone more));
-      stand = stand_rest c.args.shape.now g.S.PortSet.alone (g.L.LogPort.sights c.loop-unfinished.ports.log (g.L.LogPort.at c.loop-unfinished.ports.log)) (g.L.LogPort.sights c.resume_lane.new.ports.log (g.L.LogPort.at c.resume_lane.new.ports.log)) (g.S.PortSet.sights c.loop-unfinished.ports.shards) (g.S.PortSet.sights c.resume_lane.new.ports.shards) c.args.lanes.now i c.unfinished-item.result c.requires.alone c.loop-unfinished-test.true c.unfinished-item.is inv.rise
-          (home_there c.args.shape.now c.unfinished-item.result (g.L.LogPort.sights c.loop-unfinished.ports.log (g.L.LogPort.at c.loop-unfinished.ports.log)) (g.S.PortSet.sights c.loop-unfinished.ports.shards) c.unfinished-item.result.phase here)
-          (still_shape (g.L.LogPort.sights c.loop-unfinished.ports.log) (g.L.LogPort.sights c.resume_lane.new.ports.log) (g.L.LogPort.at c.loop-unfinished.ports.log) (g.L.LogPort.at c.resume_lane.new.ports.log) told.at_same told.log_nodes)
-          (subst (λ a. IsTakenUp c.args.shape.now a c.unfinished-item.result.batch (g.L.LogPort.sights c.loop-unfinished.ports.log (g.L.LogPort.at c.loop-unfinished.ports.log)) (g.S.PortSet.sights c.loop-unfinished.ports.shards) (g.L.LogPort.sights c.resume_lane.new.ports.log (g.L.LogPort.at c.resume_lane.new.ports.log)) (g.S.PortSet.sights c.resume_lane.new.ports.shards)) (sym c.requires.same) (told.taken here)) inv.stand;
-      rise = rise_rest c.args.lanes.now i c.unfinished-item.result c.loop-unfinished-test.true c.unfinished-item.is inv.rise;
-      resumed = subst (λ batches. AreResumed (take (i + 1) c.args.lanes.now) batches) (sym c.push_reserved.ensures.items)
-          (resumed_more c.args.lanes.now c.loop-unfinished.batches.items i c.unfinished-item.result c.in-Ok-resume_lane.batch c.loop-unfinished-test.true c.unfinished-item.is inv.resumed told.resumed);
-      taken =
-          subst (λ batches. AreTakenUp c.args.shape.now g.L.LogPort.alone (take (i + 1) c.args.lanes.now) batches (g.L.LogPort.sights c.args.ports.now.log (g.L.LogPort.at c.args.ports.now.log)) (g.S.PortSet.sights c.args.ports.now.shards)
-          (g.L.LogPort.sights c.resume_lane.new.ports.log (g.L.LogPort.at c.resume_lane.new.ports.log)) (g.S.PortSet.sights c.resume_lane.new.ports.shards)) (sym c.push_reserved.ensures.items)
-          (taken_more c.args.lanes.now i c.unfinished-item.result c.loop-unfinished-test.true c.unfinished-item.is c.args.shape.now g.L.LogPort.alone c.loop-unfinished.batches.items c.in-Ok-resume_lane.batch
-          (g.L.LogPort.sights c.args.ports.now.log (g.L.LogPort.at c.args.ports.now.log)) (g.L.LogPort.sights c.loop-unfinished.ports.log (g.L.LogPort.at c.loop-unfinished.ports.log)) (g.L.LogPort.sights c.resume_lane.new.ports.log (g.L.LogPort.at c.resume_lane.new.ports.log))
-          (g.S.PortSet.sights c.args.ports.now.shards) (g.S.PortSet.sights c.loop-unfinished.ports.shards) (g.S.PortSet.sights c.resume_lane.new.ports.shards)
-          inv.taken (record { taken = told.taken here; resumed = told.resumed; outcomes = told.outcomes here }));
-      over = over_more c.args.lanes.now i c.unfinished-item.result c.loop-unfinished-test.true c.unfinished-item.is _ _ _ _ _ _ told.header (λ more. told.others (sym c.requires.same ∙ c.requires.alone more)) told.idle inv.rise inv.open_rest inv.over;
-      others = λ quiet. unlisted_more c.args.lanes.now i c.unfinished-item.result c.loop-unfinished-test.true c.unfinished-item.is _ _ _ _ _ _ _ _ inv.header (inv.others quiet) (told.others quiet);
-      len = c.push_reserved.ensures.len ∙ ap (λ n. n + 1) inv.len;
-      room = c.push_reserved.ensures.capacity ∙ inv.room;
+      open_rest = open_rest _ _ _ _ _ _ c.args.lanes.now i o inside c.unfinished-item.is inv.rise inv.open_rest told.header (λ more. told.others (sym c.requires.same ∙ c.requires.alone more));
+      stand = stand_rest K g.S.PortSet.alone (logs at) (logs' at') I J c.args.lanes.now i o c.requires.alone inside c.unfinished-item.is inv.rise home
+          (still_shape logs logs' at at' told.at_same told.log_nodes)
+          (subst (λ a. Made K [] a o.batch.lane (view K o.batch.lane (logs at) I) (view K o.batch.lane (logs' at') J)) (sym c.requires.same) made) inv.stand;
+      rise = rise_rest c.args.lanes.now i o inside c.unfinished-item.is inv.rise;
+      resumed = λ none.
+          let k = kept_none before after c.loop-unfinished.first c.keep-first.result came kept none in
+          subst (λ batches. AreResumed (take (i + 1) c.args.lanes.now) batches) (sym k.3)
+          (resumed_more c.args.lanes.now before i o k.1 inside c.unfinished-item.is (inv.resumed k.0) (subst (λ x. IfOk x (IsResumed o)) k.2 told.resumed));
+      came = came_more c.args.lanes.now i o inside c.unfinished-item.is K alone before after c.loop-unfinished.first c.keep-first.result came
+          (g.L.LogPort.sights c.args.ports.now.log (g.L.LogPort.at c.args.ports.now.log)) (logs at) (logs' at') (g.S.PortSet.sights c.args.ports.now.shards) I J inv.came one kept;
+      caused = caused_more K before after c.loop-unfinished.first c.keep-first.result came logs logs' I J
+          (logs_gone logs logs' at at' told.at_same told.log_nodes told.elsewhere (log_grows K o.batch.lane home alone (logs at) (logs' at') I J made))
+          (shards_gone I J told.nodes (shard_grows K o.batch.lane home alone (logs at) (logs' at') I J made)) inv.caused told.fault kept;
+      over = λ none.
+          let k = kept_none before after c.loop-unfinished.first c.keep-first.result came kept none in
+          over_more c.args.lanes.now i o inside c.unfinished-item.is _ _ _ _ _ _ told.header (λ more. told.others (sym c.requires.same ∙ c.requires.alone more))
+          (subst (λ x. OnOk x (g.L.LogPort.phase c.resume_lane-came.new.ports.log o.batch.lane ≡ Idle)) k.2 told.idle) inv.rise inv.open_rest (inv.over k.0);
+      others = λ quiet. unlisted_more c.args.lanes.now i o inside c.unfinished-item.is _ _ _ _ _ _ _ _ inv.header (inv.others quiet) (told.others quiet);
+      len = omega (arith, c.keep-first.ensures.len, inv.len);
+      room = c.keep-first.ensures.capacity ∙ inv.room;
     }
 
-pub resume_lane-requires-clause-at : goal.resume_lane-requires-clause-at
-resume_lane-requires-clause-at g c = c.loop-unfinished.invariant.at_same ∙ c.requires.at ∙ ap (λ h. h.node) (sym c.loop-unfinished.invariant.header)
+pub resume_lane-came-requires-clause-at : goal.resume_lane-came-requires-clause-at
+resume_lane-came-requires-clause-at g c = c.loop-unfinished.invariant.at_same ∙ c.requires.at ∙ ap (λ h. h.node) (sym c.loop-unfinished.invariant.header)
 
-pub returns-in-Err-resume_lane-clause-at_same : goal.returns-in-Err-resume_lane-clause-at_same
-returns-in-Err-resume_lane-clause-at_same g c = c.in-Err-resume_lane.ensures.at_same ∙ c.loop-unfinished.invariant.at_same
+pub resume_lane-came-requires-clause-ledger : goal.resume_lane-came-requires-clause-ledger
+resume_lane-came-requires-clause-ledger g c = ledger_kept c.args.shape.now (g.S.PortSet.sights c.args.ports.now.shards) (g.S.PortSet.sights c.loop-unfinished.ports.shards) c.requires.ledger c.loop-unfinished.invariant.nodes
 
-pub returns-clause-at_same : goal.returns-clause-at_same
-returns-clause-at_same g c = c.loop-unfinished.invariant.at_same
-
-pub resume_lane-requires-clause-ledger : goal.resume_lane-requires-clause-ledger
-resume_lane-requires-clause-ledger g c = ledger_kept c.args.shape.now (g.S.PortSet.sights c.args.ports.now.shards) (g.S.PortSet.sights c.loop-unfinished.ports.shards) c.requires.ledger c.loop-unfinished.invariant.nodes
-
-pub returns-in-Err-resume_lane-clause-elsewhere : goal.returns-in-Err-resume_lane-clause-elsewhere
-returns-in-Err-resume_lane-clause-elsewhere g c = elsewhere_on (g.L.LogPort.at c.args.ports.now.log) (g.L.LogPort.at c.loop-unfinished.ports.log) (g.L.LogPort.sights c.args.ports.now.log) (g.L.LogPort.sights c.loop-unfinished.ports.log) (g.L.LogPort.sights c.resume_lane.new.ports.log) c.loop-unfinished.invariant.at_same c.loop-unfinished.invariant.elsewhere c.in-Err-resume_lane.ensures.elsewhere
-
-pub returns-in-Err-resume_lane-clause-nodes : goal.returns-in-Err-resume_lane-clause-nodes
-returns-in-Err-resume_lane-clause-nodes g c = nodes_on (g.S.PortSet.sights c.args.ports.now.shards) (g.S.PortSet.sights c.loop-unfinished.ports.shards) (g.S.PortSet.sights c.resume_lane.new.ports.shards) c.loop-unfinished.invariant.nodes c.in-Err-resume_lane.ensures.nodes
-
-pub returns-in-Err-resume_lane-clause-log_nodes : goal.returns-in-Err-resume_lane-clause-log_nodes
-returns-in-Err-resume_lane-clause-log_nodes g c = nodes_on (g.L.LogPort.sights c.args.ports.now.log) (g.L.LogPort.sights c.loop-unfinished.ports.log) (g.L.LogPort.sights c.resume_lane.new.ports.log) c.loop-unfinished.invariant.log_nodes c.in-Err-resume_lane.ensures.log_nodes
-
-pub returns-in-Err-resume_lane-clause-log_holds : goal.returns-in-Err-resume_lane-clause-log_holds
-returns-in-Err-resume_lane-clause-log_holds g c h = c.in-Err-resume_lane.ensures.log_holds (c.loop-unfinished.invariant.log_holds h)
-
-pub returns-in-Err-resume_lane-clause-shard_holds : goal.returns-in-Err-resume_lane-clause-shard_holds
-returns-in-Err-resume_lane-clause-shard_holds g c h = c.in-Err-resume_lane.ensures.shard_holds (c.loop-unfinished.invariant.shard_holds h)
-
-pub returns-clause-elsewhere : goal.returns-clause-elsewhere
-returns-clause-elsewhere g c = c.loop-unfinished.invariant.elsewhere
-
-pub returns-clause-nodes : goal.returns-clause-nodes
-returns-clause-nodes g c = c.loop-unfinished.invariant.nodes
-
-pub returns-clause-log_nodes : goal.returns-clause-log_nodes
-returns-clause-log_nodes g c = c.loop-unfinished.invariant.log_nodes
-
-pub returns-clause-log_holds : goal.returns-clause-log_holds
-returns-clause-log_holds g c = c.loop-unfinished.invariant.log_holds
-
-pub returns-clause-shard_holds : goal.returns-clause-shard_holds
-returns-clause-shard_holds g c = c.loop-unfinished.invariant.shard_holds
-
-pub resume_lane-requires-clause-stands : goal.resume_lane-requires-clause-stands
-resume_lane-requires-clause-stands g c =
+pub resume_lane-came-requires-clause-stands : goal.resume_lane-came-requires-clause-stands
+resume_lane-came-requires-clause-stands g c =
     stands_here c.args.shape.now (g.L.LogPort.sights c.loop-unfinished.ports.log (g.L.LogPort.at c.loop-unfinished.ports.log)) (g.S.PortSet.sights c.loop-unfinished.ports.shards) c.args.lanes.now c.loop-unfinished.unfinished-index _ c.loop-unfinished-test.true c.unfinished-item.is c.loop-unfinished.invariant.stand
 
-pub returns-in-Err-resume_lane-clause-left : goal.returns-in-Err-resume_lane-clause-left
-returns-in-Err-resume_lane-clause-left g c =
-    let inv = c.loop-unfinished.invariant in
-    inr (stopped_here c.args.lanes.now c.loop-unfinished.unfinished-index c.unfinished-item.result c.loop-unfinished-test.true c.unfinished-item.is c.args.shape.now g.L.LogPort.alone c.loop-unfinished.batches.items
-    (g.L.LogPort.sights c.args.ports.now.log (g.L.LogPort.at c.args.ports.now.log)) (g.L.LogPort.sights c.loop-unfinished.ports.log (g.L.LogPort.at c.loop-unfinished.ports.log)) (g.L.LogPort.sights c.resume_lane.new.ports.log (g.L.LogPort.at c.resume_lane.new.ports.log))
-    (g.S.PortSet.sights c.args.ports.now.shards) (g.S.PortSet.sights c.loop-unfinished.ports.shards) (g.S.PortSet.sights c.resume_lane.new.ports.shards) c.in-Err-resume_lane.fault inv.taken
-    (stands_here c.args.shape.now (g.L.LogPort.sights c.loop-unfinished.ports.log (g.L.LogPort.at c.loop-unfinished.ports.log)) (g.S.PortSet.sights c.loop-unfinished.ports.shards) c.args.lanes.now c.loop-unfinished.unfinished-index c.unfinished-item.result c.loop-unfinished-test.true c.unfinished-item.is inv.stand)
-    c.in-Err-resume_lane.ensures.left c.in-Err-resume_lane.ensures.told)
-
-pub returns-in-Err-resume_lane-clause-others : goal.returns-in-Err-resume_lane-clause-others
-returns-in-Err-resume_lane-clause-others g c =
-    λ quiet. unlisted_more c.args.lanes.now c.loop-unfinished.unfinished-index c.unfinished-item.result c.loop-unfinished-test.true c.unfinished-item.is _ _ _ _ _ _ _ _ c.loop-unfinished.invariant.header (c.loop-unfinished.invariant.others quiet) (c.in-Err-resume_lane.ensures.others quiet)
+pub returns-in-Err-clause-fault : goal.returns-in-Err-clause-fault
+returns-in-Err-clause-fault g c =
+    caused_now c.args.shape.now (g.L.LogPort.sights c.args.ports.now.log) (g.S.PortSet.sights c.args.ports.now.shards) c.no_memory.result (0, Memory, c.no_memory.ensures, inl (refl, refl))

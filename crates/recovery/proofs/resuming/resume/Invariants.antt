@@ -1,9 +1,10 @@
-use Rattle.std.proofs.Common.{◌≡◌, ◌≢◌, ◌≤◌, ℕ, true, length, take, drop}
+use Rattle.std.proofs.Common.{◌≡◌, ◌≢◌, ◌≤◌, ℕ, true, length, take, drop, Some, None}
 use Rattle.std.specs.List.{All}
 use Rattle.std.specs.Vec.{vec_capacity, vec_len}
 use Rattle.lane_driver.specs.Told.{KeepNodes}
-use Rattle.recovery.specs.Open.{IsOpen, LanesRise, KeepsUnlisted, AreResumed, AreUnfinished, AreTakenUp}
-use Rattle.recovery.proofs.InOrder.{IsOver}
+use Rattle.lane_driver.specs.declared.fault.LaneFault.{LaneFault}
+use Rattle.recovery.specs.Open.{IsOpen, LanesRise, KeepsUnlisted, AreResumed, AreUnfinished, WasCaused}
+use Rattle.recovery.proofs.InOrder.{IsOver, CameSo}
 use Rattle.recovery.proofs.resuming.resume.Given as goal
 
 abbrev pub invariant-loop-unfinished : goal.invariant-loop-unfinished
@@ -22,11 +23,12 @@ invariant-loop-unfinished g l = record {
   open_rest : All (IsOpen (g.L.LogPort.header l.ports.log) (g.L.LogPort.phase l.ports.log) (g.L.LogPort.open_txs l.ports.log)) (drop l.unfinished-index l.lanes);
   stand : AreUnfinished l.shape (drop l.unfinished-index l.lanes) (g.L.LogPort.sights l.ports.log (g.L.LogPort.at l.ports.log)) (g.S.PortSet.sights l.ports.shards);
   rise : LanesRise (drop l.unfinished-index l.lanes);
-  resumed : AreResumed (take l.unfinished-index l.lanes) l.batches.items;
-  taken : AreTakenUp l.shape g.L.LogPort.alone (take l.unfinished-index l.lanes) l.batches.items (g.L.LogPort.sights l.initial.ports.log (g.L.LogPort.at l.initial.ports.log)) (g.S.PortSet.sights l.initial.ports.shards)
+  resumed : l.first ≡ None → AreResumed (take l.unfinished-index l.lanes) l.batches.items;
+  came : CameSo l.shape g.L.LogPort.alone (take l.unfinished-index l.lanes) l.batches.items l.first (g.L.LogPort.sights l.initial.ports.log (g.L.LogPort.at l.initial.ports.log)) (g.S.PortSet.sights l.initial.ports.shards)
       (g.L.LogPort.sights l.ports.log (g.L.LogPort.at l.ports.log)) (g.S.PortSet.sights l.ports.shards);
-  over : All (IsOver (g.L.LogPort.header l.ports.log) (g.L.LogPort.phase l.ports.log) (drop l.unfinished-index l.lanes)) (take l.unfinished-index l.lanes);
+  caused : (e : LaneFault) → l.first ≡ Some e → WasCaused l.shape (g.L.LogPort.sights l.ports.log) (g.S.PortSet.sights l.ports.shards) e;
+  over : l.first ≡ None → All (IsOver (g.L.LogPort.header l.ports.log) (g.L.LogPort.phase l.ports.log) (drop l.unfinished-index l.lanes)) (take l.unfinished-index l.lanes);
   others : g.L.LogPort.alone ≡ true → KeepsUnlisted (g.L.LogPort.header l.initial.ports.log) l.lanes (g.L.LogPort.phase l.initial.ports.log) (g.L.LogPort.phase l.ports.log) (g.L.LogPort.open_txs l.initial.ports.log) (g.L.LogPort.open_txs l.ports.log);
-  len : vec_len l.batches ≡ l.unfinished-index;
+  len : vec_len l.batches ≤ l.unfinished-index;
   room : vec_capacity l.batches ≡ length l.lanes;
 }

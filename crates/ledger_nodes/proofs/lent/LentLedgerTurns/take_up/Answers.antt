@@ -5,7 +5,7 @@ use Rattle.ledger_nodes.proofs.Turns.{none_open, told_there, resumed_keeps, resu
 use Rattle.ledger_nodes.proofs.lent.LentLedgerTurns.take_up.Goals as goal
 
 pub returns-in_default-clause-fault : goal.returns-in_default-clause-fault
-returns-in_default-clause-fault g c = inl (ap (λ e. e.fault) c.no_memory.ensures)
+returns-in_default-clause-fault g c = inl (ap (λ e. e.fault) c.no_memory.ensures, inl (λ n. refl))
 
 pub returns-in_default-found-clause-idle : goal.returns-in_default-found-clause-idle
 returns-in_default-found-clause-idle g c = rw (← c.self.view_is) (none_open g.D.Disk.count g.D.Disk.limit g.D.Disk.content g.D.Disk.images c.self.inside.header c.args.lane c.self.inside.ports.log.logs.items c.self.inside.ports.shards.nodes.items c.self.invariant (subst (λ v. IsLaneOf v.header.shape c.args.lane) (sym c.self.view_is) c.requires.lane) (told_there g.D.Disk.count g.D.Disk.limit g.D.Disk.content g.D.Disk.images c.self.inside.header c.args.lane c.self.inside.ports.log.logs.items c.self.inside.ports.shards.nodes.items c.self.invariant (subst (λ v. IsLaneOf v.header.shape c.args.lane) (sym c.self.view_is) c.requires.lane) c.home-at.result c.index.result.now c.home-at.ensures.place c.index.ensures c.in-Ok.found (None) c.in-Ok.ensures c.in_default-found.is))
