@@ -36,16 +36,20 @@ use Rattle.complete_laws.specs.Ready.{IsReady, limit_at}
 use Rattle.complete_laws.proofs.Audited.{audit_sound}
 use Rattle.complete_laws.proofs.Files.{read_once, not_read_none, clients_once, clients_none}
 use Rattle.complete_laws.proofs.Caused.{unsound_none}
-use Rattle.complete_laws.proofs.Lanes.{recovery_none, run_none}
+use Rattle.stopped_runs.proofs.Lanes.{recovery_none, run_none}
 use Rattle.complete_laws.proofs.Making.{made}
 use Rattle.complete_laws.proofs.Openings.{unopened_none}
 use Rattle.complete_laws.proofs.Rooms.{ample_rooms, idle_rooms}
 use Rattle.complete_laws.proofs.Verdicts.{verdicts_none, verdicts_once}
-use Rattle.commands.specs.Audits.{IsUnsoundBy, WasAudited, WhyUnopened, WhyUnaudited, WhyNoAudit}
-use Rattle.commands.specs.Causes.{IsTold}
+use Rattle.audit_command.specs.Audits.{IsUnsoundBy, WasAudited, WhyUnopened, WhyUnaudited, WhyNoAudit}
+use Rattle.command_answers.specs.Causes.{IsTold}
 use Rattle.commands.specs.Complete.{CanInit, CanRun, CanAudit, IsUnhindered, none_sound}
-use Rattle.commands.specs.Generated.{WhyNoWorkload}
-use Rattle.commands.specs.Outcomes.{WhyNoInit, WhyNoTurns, WhyNoRun, WhyNoStatus, Why}
+use Rattle.gen_command.specs.Generated.{WhyNoWorkload}
+use Rattle.init_command.specs.Outcomes.{WhyNoInit}
+use Rattle.stopped_runs.specs.Stops.{WhyNoTurns}
+use Rattle.run_command.specs.Outcomes.{WhyNoRun}
+use Rattle.status_command.specs.Outcomes.{WhyNoStatus}
+use Rattle.commands.specs.Outcomes.{Why}
 
 module _ {D : Type 0} (files : Text → Option (List ℕ)) (files_before files_now : Text → ℕ) (content : D → Option (List ℕ)) (images : D → List ℕ → Type 0) (limit count : D → ℕ) (held back : ℕ → Option D) (before now : ℕ → ℕ) where
   init_none : (shape : Shape) (file : FileWord) (answer : Answer) → CanInit files files_before files_now content limit held before now shape file.name.now

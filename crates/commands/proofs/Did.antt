@@ -8,12 +8,13 @@ use Rattle.command_line.specs.declared.request.Request.{Request}
 use Rattle.command_line.specs.declared.request.Request.TheVariants.{Init, Run, Recover, Status, Audit, Gen, Show}
 use Rattle.line_text.specs.Lines.{Text, Prints}
 use Rattle.line_text.specs.Faults.{fault_text}
+use Rattle.init_command.proofs.Did.{init_by}
 use Rattle.commands.specs.Outcomes.{Did}
-use Rattle.commands.specs.Texts.{IsPrinted}
+use Rattle.command_answers.specs.Texts.{IsPrinted}
 
 module _ {D : Type 0} (files : Text → Option (List ℕ)) (content : D → Option (List ℕ)) (images : D → List ℕ → Type 0) (limit : D → ℕ) (before now : ℕ → Option D) (P Q : Text → Type 0) (by : (text : Text) → P text → Q text) where
   pub did_by : (r : Request) → Did files content images limit before now P r → Did files content images limit before now Q r
-  did_by (Init shape mint) is = record { mint = is.mint; read = is.read; was = is.was; holds = is.holds; opens = is.opens; outside = is.outside; kept = is.kept; prints = by _ is.prints }
+  did_by (Init shape mint) is = init_by files content images before now P Q by shape mint is
   did_by (Run verdicts clients) is = record {
     handed = is.handed;
     known = is.known;

@@ -8,25 +8,8 @@ use Rattle.line_text.specs.Faults.{fault_text}
 use Rattle.line_text.specs.Lines.{Text, Prints}
 use Rattle.printed_lines.specs.Reports.{Names}
 use Rattle.commands.specs.Causes.{AskedName}
-use Rattle.commands.specs.Texts.{IsSilent, IsFaultPrinted}
-
--- what was not touched is as it was
-pub silent_same : (t : Option Text) (a : Answer) → IsSilent t t a
-silent_same t answers.Ok = tt
-silent_same t answers.BadWords = refl
-silent_same t (answers.BadInput file at kind) = refl
-silent_same t (answers.TooMuch total) = refl
-silent_same t (answers.NotReady k) = refl
-silent_same t (answers.Foreign k kept asked) = refl
-silent_same t (answers.NotEmpty k) = refl
-silent_same t (answers.Full k used need capacity) = refl
-silent_same t (answers.Unsound spot kind) = refl
-silent_same t (answers.ClockEnd k stamp) = refl
-silent_same t (answers.Damaged k at) = refl
-silent_same t (answers.ReadFault file) = refl
-silent_same t answers.WriteFault = tt
-silent_same t (answers.DiskFault k) = refl
-silent_same t answers.Memory = refl
+use Rattle.command_answers.specs.Texts.{IsSilent}
+use Rattle.commands.specs.Texts.{IsFaultPrinted}
 
 -- a text that was printed, or a front of it where the sink failed
 text_printed : {E : Type 0} (old mid new : Option Text) (text : Text) (failed : Type 0) (r : Result (Unit {0}) E) → mid ≡ old → Prints mid new text r → OnErr r failed → Tells old (λ t. (new ≡ Some (t ++ text)) ⊎ (failed × ((n : ℕ) × (new ≡ Some (t ++ take n text)))))

@@ -8,7 +8,8 @@ use Rattle.command_line.specs.Words.{StandsThere, IsGivenThere}
 use Rattle.command_line.specs.declared.request.FileWord.{FileWord}
 use Rattle.command_line.specs.declared.request.Request.{Request}
 use Rattle.command_line.specs.declared.request.Request.TheVariants.{Init, Run, Recover, Status, Audit, Gen, Show}
-use Rattle.commands.specs.Causes.{FileRose, RequestPlace, RequestRose, NamedRose, IsDone, IsAnswered}
+use Rattle.command_answers.specs.Causes.{FileRose, IsDone}
+use Rattle.commands.specs.Causes.{RequestPlace, RequestRose, NamedRose, IsAnswered}
 use Rattle.commands.proofs.Stands.{stands_at}
 
 given_named : (words : List Text) (b n : Text → ℕ) (file : FileWord) (place : ℕ) → IsGivenThere (codes "--verdicts") words file → FileRose b n file place → NamedRose words b n place

@@ -7,7 +7,8 @@ use Rattle.command_line.specs.Asked.{IsAsked}
 use Rattle.command_line.specs.declared.request.Request.{Request}
 use Rattle.command_line.specs.declared.request.Request.TheVariants.{Init, Run, Recover, Status, Audit, Gen, Show}
 use Rattle.printed_lines.specs.Reports.{Names}
-use Rattle.commands.specs.Causes.{IsDone, RequestPlace, RequestRose, RequestNames, AskedName}
+use Rattle.command_answers.specs.Causes.{IsDone}
+use Rattle.commands.specs.Causes.{RequestPlace, RequestRose, RequestNames, AskedName}
 
 -- a file whose count of faults rose has its place
 pub rose_placed : (r : Request) (b n : Text → ℕ) (place : ℕ) → RequestRose r b n place → RequestPlace r place

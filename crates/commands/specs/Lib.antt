@@ -1,9 +1,5 @@
 pub mod Causes
 pub mod Texts
-pub mod Told
-pub mod Audits
-pub mod Generated
-pub mod InMemory
 pub mod Outcomes
 pub mod Left
 pub mod Sizes

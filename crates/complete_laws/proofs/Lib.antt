@@ -1,7 +1,6 @@
 pub mod Audited
 pub mod Caused
 pub mod Files
-pub mod Lanes
 pub mod Making
 pub mod Openings
 pub mod Rooms

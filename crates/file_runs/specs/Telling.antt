@@ -1,10 +1,12 @@
--- What the waves of files tell of their submissions.
+-- What the waves of files tell of their submissions, and what a run tells of what it did.
 use Rattle.std.specs.Prelude.{◌≡◌, ℕ, ◌*◌, Bool, List, [], ◌∷◌, length}
 use Rattle.cbdc_model.specs.Records.{Shape, Record}
 use Rattle.cbdc_model.specs.Coins.{FullTx}
+use Rattle.cbdc_model.specs.Lanes.{IsEnd}
 use Rattle.cbdc_model.specs.Waves.{IsFileRun, sent_to}
 use Rattle.submissions.specs.Checks.{VerdictsOf, TellsSound, AreChecked}
-use Rattle.ledger_runs.specs.Telling.{AllTell}
+use Rattle.recovery.specs.declared.resumed.ResumedBatch.{ResumedBatch}
+use Rattle.ledger_runs.specs.Telling.{AllTell, TellResumed, SamePrepared}
 use Rattle.file_runs.specs.declared.waves.Wave.{Wave}
 
 -- of a file that was run from journals I to J: what a sentinel said of each submission, and what was decided of those that its lanes got
@@ -19,3 +21,11 @@ abbrev pub TellFiles : Shape → VerdictsOf → List (List FullTx) → (ℕ → 
 TellFiles K verdicts [] I J ws = (ws ≡ []) × ((n : ℕ) → J n ≡ I n)
 TellFiles K verdicts (file ∷ files) I J ws =
     (M : ℕ → List Record) × (w : Wave) × (more : List Wave) × (ws ≡ w ∷ more) × TellsFile K verdicts file I M w × TellFiles K verdicts files M J more
+
+-- from journals E at entry to X: the batches that were open, none of which was prepared newly, and of each file what came of its submissions
+pub record TellsRun (K : Shape) (verdicts : VerdictsOf) (files : List (List FullTx)) (E X : ℕ → List Record) (resumed : List ResumedBatch) (waves : List Wave) : Type 0 where
+  pub middle : ℕ → List Record
+  pub grows : (n : ℕ) → IsEnd (E n) (middle n)
+  pub batches : TellResumed K E middle (K.coordinators * K.lanes) resumed
+  pub unprepared : SamePrepared K E middle
+  pub told : TellFiles K verdicts files middle X waves

@@ -2,7 +2,9 @@
 #![tactic(auto)]
 
 mod files;
+mod ran;
 mod waves;
 
 pub use files::run_files;
+pub use ran::Ran;
 pub use waves::{Wave, run_file};

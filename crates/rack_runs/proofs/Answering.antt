@@ -43,7 +43,7 @@ use Rattle.rack_runs.specs.Kinds.{answer_at, answer_to, IsLaneAnswer}
 use Rattle.rack_runs.specs.Endings.{EndsRun, IsCut, IsInOrder, IsLeastAnswer}
 use Rattle.rack_runs.specs.Runs.{AddsOpen, IsCutWaves, IsCutShort, KeepsFlights, IsLaneFault, NonePrepared, NothingNext, PieceNext, PiecesPrepared, SparesOthers, TookLedger}
 use Rattle.rack_runs.specs.declared.over.Over.{Over}
-use Rattle.rack_runs.specs.declared.over.Ran.{Ran}
+use Rattle.file_runs.specs.declared.ran.Ran.{Ran}
 use Rattle.rack_runs.proofs.Checking.{same_journals}
 
 -- the cause of a fault is that of its answer

@@ -39,8 +39,9 @@ use Rattle.file_runs.specs.Runs.{joined, FliesWith}
 use Rattle.rack_runs.specs.Endings.{IsInOrder}
 use Rattle.rack_runs.specs.Runs.{IsGrown, IsRun, IsRecovered, IsCutShort, SparesOthers}
 use Rattle.printed_lines.specs.Unspent.{IsUnspentCount}
-use Rattle.rack_runs.specs.declared.over.Ran.{Ran}
-use Rattle.rack_runs.specs.Telling.{CountAll, TellsRun, IsTold}
+use Rattle.file_runs.specs.declared.ran.Ran.{Ran}
+use Rattle.rack_runs.specs.Telling.{CountAll, IsTold}
+use Rattle.file_runs.specs.Telling.{TellsRun}
 use Rattle.rack_runs.proofs.Unspent.{unspent_counted}
 use Rattle.std.specs.Prelude.{map, All, IfSome}
 

@@ -12,8 +12,8 @@ use Rattle.ledger_runs.specs.Telling.{TellResumed, SamePrepared}
 use Rattle.file_runs.specs.declared.waves.Wave.{Wave}
 use Rattle.file_runs.specs.Telling.{TellFiles}
 use Rattle.rack_runs.specs.declared.over.Over.{Over}
-use Rattle.rack_runs.specs.declared.over.Ran.{Ran}
-use Rattle.rack_runs.specs.Telling.{TellsRun}
+use Rattle.file_runs.specs.declared.ran.Ran.{Ran}
+use Rattle.file_runs.specs.Telling.{TellsRun}
 use Rattle.file_runs.specs.Runs.{joined, FliesWith}
 use Rattle.file_runs.specs.Endings.{AreCut}
 use Rattle.rack_runs.specs.Endings.{IsCut}

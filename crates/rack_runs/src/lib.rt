@@ -6,5 +6,4 @@ mod nodes;
 mod over;
 mod racks;
 
-pub use over::Ran;
 pub use racks::{recover_on, run_on};

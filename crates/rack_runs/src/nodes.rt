@@ -15,12 +15,14 @@ ghost use Rattle.ledger_nodes.specs.Ledgers.{IsLedger, journals_of, flights_of, 
 ghost use Rattle.rack_laws.specs.Shown.{LogHasRoom, ShardHasRoom, LogFits, ShardFits};
 ghost use Rattle.rack_runs.specs.Kinds.{answer_to, IsLaneAnswer, FliesBroken, ShardFliesBroken};
 ghost use Rattle.lane_driver.specs.declared.fault.LaneFault.{LaneFault as FaultOf};
-ghost use Rattle.rack_runs.specs.Telling.{CountAll, TellsRun};
+ghost use Rattle.rack_runs.specs.Telling.{CountAll};
+ghost use Rattle.file_runs.specs.Telling.{TellsRun};
 
 use crate::faults::answer_of;
-use crate::over::{Over, Ran, run_over};
+use crate::over::{Over, run_over};
 use cbdc_types::{Answer, FullTx, List};
 use coord_log::CoordLog;
+use file_runs::Ran;
 use lane_driver::LaneFault;
 use ledger_nodes::{Ledger, lend};
 use outside::{Disk, Gate};

@@ -10,7 +10,7 @@ ghost use Rattle.ledger_runs.specs.Turning.{OfKept, StaysKept};
 ghost use Rattle.ledger_runs.specs.Faults.{IsRunCause, HaveFailed, MayHold, AllRestSince};
 ghost use Rattle.file_runs.specs.Runs.{joined, HaveBegunFiles, IsFilesPiece, FliesWith};
 ghost use Rattle.rack_runs.specs.Endings.{EndsRun, IsCut, IsInOrder};
-ghost use Rattle.rack_runs.specs.Telling.{TellsRun};
+ghost use Rattle.file_runs.specs.Telling.{TellsRun};
 
 use cbdc_types::{FullTx, List};
 use file_runs::{Wave, run_files};
@@ -26,14 +26,6 @@ use verifier_port::Verifier;
 pub(crate) struct Over {
     pub resumed: Vec<ResumedBatch>,
     pub waves: Vec<Wave>,
-}
-
-/// What a run came to: what it did, and how many hashes are unspent then.
-#[derive(Drop)]
-pub struct Ran {
-    pub resumed: Vec<ResumedBatch>,
-    pub waves: Vec<Wave>,
-    pub unspent: u64,
 }
 
 /// Brings the open batches of a ledger to their end, and runs client files. The first fault ends it.

@@ -11,9 +11,9 @@ ghost use Rattle.rack_runs.specs.Telling.{IsTold};
 ghost use Rattle.submissions.specs.Checks.{VerdictsOf};
 
 use crate::nodes::{Behind, run_nodes};
-use crate::over::Ran;
 use caused_ledgers::open_caused;
 use cbdc_types::{Answer, FullTx, List};
+use file_runs::Ran;
 use outside::{Gate, Rack};
 use rack_ledgers::close_nodes;
 use std::alloc::Global;

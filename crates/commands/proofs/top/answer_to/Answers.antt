@@ -1,13 +1,14 @@
 use Rattle.std.proofs.Common.{inl, inr, ⊎_elim, refl, sym, subst}
 use Rattle.command_line.specs.declared.request.Request.{Request}
 use Rattle.command_line.specs.declared.request.Request.TheVariants.{Audit, Gen}
-use Rattle.commands.specs.Audits.{DidAudit, WhyNoAudit}
-use Rattle.commands.specs.Causes.{IsTold}
-use Rattle.commands.specs.Generated.{WhyNoWorkload}
-use Rattle.commands.specs.Left.{Leaves, RunLeaves}
+use Rattle.audit_command.specs.Audits.{DidAudit, WhyNoAudit}
+use Rattle.command_answers.specs.Causes.{IsTold}
+use Rattle.gen_command.specs.Generated.{WhyNoWorkload}
+use Rattle.commands.specs.Left.{Leaves}
+use Rattle.run_command.specs.Outcomes.{RunLeaves}
 use Rattle.commands.specs.Outcomes.{Did, Why}
-use Rattle.commands.specs.Texts.{IsPrinted}
-use Rattle.commands.proofs.Answers.{well_told, told_by}
+use Rattle.command_answers.specs.Texts.{IsPrinted}
+use Rattle.command_answers.proofs.Answers.{well_told, told_by}
 use Rattle.commands.proofs.top.answer_to.Goals as goal
 
 pub returns-in-Show-clause-why : goal.returns-in-Show-clause-why

@@ -4,7 +4,7 @@ use Rattle.command_line.specs.Asked.{IsAsked}
 use Rattle.command_line.specs.Words.{texts}
 use Rattle.command_line.specs.declared.request.Request.{Request}
 use Rattle.commands.specs.Outcomes.{Why}
-use Rattle.commands.proofs.Answers.{told_by}
+use Rattle.command_answers.proofs.Answers.{told_by}
 use Rattle.commands.proofs.Named.{answered}
 use Rattle.commands.proofs.Naming.{asked_name}
 use Rattle.commands.proofs.Spared.{of_no_rack, of_no_file}

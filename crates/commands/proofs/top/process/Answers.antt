@@ -3,9 +3,9 @@ use Rattle.std.proofs.lemmas.Result.{on_err_weaker}
 use Rattle.outside.specs.Counts.{Rose}
 use Rattle.command_line.specs.Words.{texts}
 use Rattle.commands.specs.Causes.{IsAnswered}
-use Rattle.commands.specs.Texts.{IsPrinted}
+use Rattle.command_answers.specs.Texts.{IsPrinted}
 use Rattle.commands.proofs.Complete.{complete}
-use Rattle.commands.proofs.Counts.{rose_later}
+use Rattle.command_answers.proofs.Counts.{rose_later}
 use Rattle.commands.proofs.Did.{did_by, printed_still}
 use Rattle.commands.proofs.Faults.{fault_printed}
 use Rattle.commands.proofs.top.process.Goals as goal

@@ -12,7 +12,8 @@ use Rattle.rack_runs.proofs.Answering.{came_cause, came_ends, by_entry}
 use Rattle.file_runs.specs.Runs.{joined, HaveBegunFiles, IsFilesPiece, FliesWith}
 use Rattle.ledger_nodes.specs.Ledgers.{journals_of, flights_of, faults_of, opened_of, capacity_of, AreChecked, AreStored, AreQuiet}
 use Rattle.rack_laws.specs.Shown.{LogHasRoom, ShardHasRoom, LogFits, ShardFits}
-use Rattle.rack_runs.specs.Telling.{CountAll, TellsRun}
+use Rattle.rack_runs.specs.Telling.{CountAll}
+use Rattle.file_runs.specs.Telling.{TellsRun}
 use Rattle.rack_runs.proofs.Resumed.{told_made}
 use Rattle.rack_runs.proofs.Lent.{if_made, on_ok, lent_journals, lent_faults, lent_both, lent_flights, lent_opened, on_ok_by}
 use Rattle.cbdc_model.specs.Sights.{HasRisen}

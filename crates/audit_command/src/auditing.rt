@@ -1,0 +1,109 @@
+// `audit`: the journals against a mint and the transactions that were handed in.
+ghost use Rattle.std.specs.Prelude.{◌≡◌, ◌⊎◌, ◌≤◌, ℕ, IfOk, IfErr};
+ghost use Rattle.outside.specs.Counts.{Rose};
+ghost use Rattle.rack_nodes.specs.Racked.{IsBack};
+ghost use Rattle.file_runs.specs.Runs.{joined as all_joined};
+ghost use Rattle.printed_lines.specs.Reports.{audit_lines};
+ghost use Rattle.command_answers.specs.Causes.{IsFault, IsDone, IsTold, IsWell, OnePlace, OneRose, FileRose};
+ghost use Rattle.audit_command.specs.Audits.{WasAudited, DidAudit, WhyUnaudited, WhyNoAudit};
+ghost use Rattle.command_answers.specs.Texts.{IsPrinted, IsSilent};
+ghost use Rattle.command_answers.specs.Left.{IsBeforeDisks};
+
+use audit::{Totals, Verdict};
+use audited_ledgers::audit_on;
+use cbdc_types::{Answer, FullTx, List};
+use command_line::FileWord;
+use input_files::{all_clients_in, mint_in};
+use line_text::{AuditSummary, write_audit};
+use outside::{Inbox, Rack, Sink};
+use std::alloc::{AllocError, Global};
+
+// The transactions of files in one list.
+pub fn joined(alloc: Global, files: Vec<List<FullTx>>) -> Result<Vec<FullTx>, AllocError>
+    ensures { IfOk result (λ v. v.items ≡ all_joined files.items) }
+{
+    let mut all = Vec::new(alloc);
+    'files: for file in files {
+        let mut txs = file.into_vec();
+        all.append(&mut txs)?;
+    }
+    Ok(all)
+}
+
+// Reads all files, and audits the ledger on the rack. All files are read before the rack is taken.
+fn audit_all<I: Inbox, R: Rack>(
+    alloc: Global,
+    mint: &FileWord,
+    clients: &[FileWord],
+    inbox: &mut I,
+    rack: &mut R,
+) -> Result<Verdict, Answer>
+    requires { (n : ℕ) → R.can_take rack.old n }
+    ensures did { IfOk result (WasAudited (I.file inbox.old) R.Disk.content R.Disk.limit (R.held rack.old) mint.now clients.now) }
+    ensures why { IfErr result (WhyUnaudited (I.file inbox.old) (I.count inbox.old) (I.count inbox.new) R.Disk.content R.Disk.images R.Disk.limit R.Disk.count (R.held rack.old) (R.count rack.old) (R.count rack.new) mint.now clients.now) }
+    ensures held { (n : ℕ) → IsBack R.Disk.images R.Disk.limit (R.held rack.old n) (R.held rack.new n) }
+    ensures fault { IfErr result (IsFault (λ place. (place ≡ mint.now.place) ⊎ OnePlace clients.now place) (λ place. FileRose (I.count inbox.old) (I.count inbox.new) mint.now place ⊎ OneRose (I.count inbox.old) (I.count inbox.new) clients.now place)) }
+    ensures untouched { IfErr result (λ e. IsBeforeDisks e → rack.new ≡ rack.old) }
+    ensures back { (n : ℕ) → R.can_take rack.new n }
+{
+    let mint = match mint_in(alloc, inbox, mint) {
+        Ok(mint) => mint,
+        Err(fault) => return Err(fault),
+    };
+    let files = match all_clients_in(alloc, inbox, clients) {
+        Ok(files) => files,
+        Err(fault) => return Err(fault),
+    };
+    let Ok(handed) = joined(alloc, files) else {
+        return Err(Answer::Memory);
+    };
+    audit_on(alloc, rack, mint.as_slice(), &handed)
+}
+
+// Prints what a sound ledger comes to.
+fn print<O: Sink>(out: &mut O, totals: &Totals) -> Answer
+    ensures cause { IsDone (λ file. ⊥) (λ file. ⊥) (Rose (O.count out.old) (O.count out.new)) result }
+    ensures shown { IsWell result }
+    ensures prints { IsPrinted (O.taken out.old) (O.taken out.new) result (audit_lines totals.now) }
+    ensures silent { IsSilent (O.taken out.old) (O.taken out.new) result }
+    ensures behind { IsBeforeDisks result → ⊥ }
+    ensures later { O.count out.old ≤ O.count out.new }
+{
+    let summary = AuditSummary {
+        coins: totals.coins,
+        value: totals.value,
+        minted: totals.minted,
+        committed: totals.committed,
+    };
+    match write_audit(out, &summary) {
+        Ok(()) => Answer::Ok,
+        Err(_) => Answer::WriteFault,
+    }
+}
+
+/// Checks the journals against a mint and the transactions that were handed in. No journal changes.
+pub fn audit<I: Inbox, R: Rack, O: Sink>(
+    alloc: Global,
+    mint: &FileWord,
+    clients: &[FileWord],
+    inbox: &mut I,
+    rack: &mut R,
+    out: &mut O,
+) -> Answer
+    requires { (n : ℕ) → R.can_take rack.old n }
+    ensures cause { IsDone (λ place. (place ≡ mint.now.place) ⊎ OnePlace clients.now place) (λ place. FileRose (I.count inbox.old) (I.count inbox.new) mint.now place ⊎ OneRose (I.count inbox.old) (I.count inbox.new) clients.now place)
+        (Rose (O.count out.old) (O.count out.new)) result }
+    ensures did { IsWell result → DidAudit (I.file inbox.old) R.Disk.content R.Disk.images R.Disk.limit (R.held rack.old) (R.held rack.new) (IsPrinted (O.taken out.old) (O.taken out.new) result) mint.now clients.now }
+    ensures why { IsTold (WhyNoAudit (I.file inbox.old) (I.count inbox.old) (I.count inbox.new) R.Disk.content R.Disk.images R.Disk.limit R.Disk.count (R.held rack.old) (R.held rack.new) (R.count rack.old) (R.count rack.new) mint.now clients.now) result }
+    ensures silent { IsSilent (O.taken out.old) (O.taken out.new) result }
+    ensures written_later { O.count out.old ≤ O.count out.new }
+    ensures untouched { IsBeforeDisks result → rack.new ≡ rack.old }
+    ensures left { (n : ℕ) → IsBack R.Disk.images R.Disk.limit (R.held rack.old n) (R.held rack.new n) }
+    ensures back { (n : ℕ) → R.can_take rack.new n }
+{
+    match audit_all(alloc, mint, clients, inbox, rack) {
+        Ok(Verdict::Sound(totals)) => print(out, &totals),
+        Ok(Verdict::Unsound { place, kind }) => Answer::Unsound { place, kind },
+        Err(fault) => fault,
+    }
+}

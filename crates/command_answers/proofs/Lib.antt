@@ -1,0 +1,6 @@
+pub mod Counts
+pub mod Answers
+pub mod Silent
+pub mod Refusals
+pub mod Results
+pub mod Parts

@@ -1,0 +1,50 @@
+-- Which answers a part of the work may give, and what must have happened for them.
+use Rattle.std.specs.Prelude.{◌≡◌, ℕ, List, Some, slice_get}
+use Rattle.line_text.specs.Lines.{Text}
+use Rattle.outside.specs.Counts.{Rose}
+use Rattle.cbdc_types.specs.declared.answer.Answer.{Answer}
+use Rattle.cbdc_types.specs.declared.answer.Answer.TheVariants as answers
+use Rattle.command_line.specs.declared.request.FileWord.{FileWord}
+
+-- the count of faults of this file's name rose, and the file has this place
+abbrev pub FileRose : (Text → ℕ) → (Text → ℕ) → FileWord → ℕ → Type 0
+FileRose before now file place = (place ≡ file.place) × Rose (before file.name.now) (now file.name.now)
+
+-- one of these files does so
+abbrev pub OneRose : (Text → ℕ) → (Text → ℕ) → List FileWord → ℕ → Type 0
+OneRose before now files place = (k : ℕ) × (file : FileWord) × (slice_get files k ≡ Some file) × FileRose before now file place
+
+-- one of these files has this place
+abbrev pub OnePlace : List FileWord → ℕ → Type 0
+OnePlace files place = (k : ℕ) × (file : FileWord) × (slice_get files k ≡ Some file) × (place ≡ file.place)
+
+-- reading and the work at the nodes: neither words nor the output are at fault, a bad file has a place, and a fault of reading has its cause
+abbrev pub IsFault : (ℕ → Type 0) → (ℕ → Type 0) → Answer → Type 0
+IsFault place read answers.Ok = ⊥
+IsFault place read answers.BadWords = ⊥
+IsFault place read answers.WriteFault = ⊥
+IsFault place read (answers.BadInput file at kind) = place file
+IsFault place read (answers.ReadFault file) = read file
+IsFault place read other = Unit {0}
+
+-- all was done, whether its lines could be written or not
+abbrev pub IsWell : Answer → Type 0
+IsWell answers.Ok = Unit {0}
+IsWell answers.WriteFault = Unit {0}
+IsWell other = ⊥
+
+-- what it was has its cause, unless all was done, the words are bad or memory ran out
+abbrev pub IsTold : (Answer → Type 0) → Answer → Type 0
+IsTold cause answers.Ok = Unit {0}
+IsTold cause answers.WriteFault = Unit {0}
+IsTold cause answers.BadWords = Unit {0}
+IsTold cause answers.Memory = Unit {0}
+IsTold cause other = cause other
+
+-- doing what is asked: a bad file has a place, and a fault of reading or writing has its cause
+abbrev pub IsDone : (ℕ → Type 0) → (ℕ → Type 0) → Type 0 → Answer → Type 0
+IsDone place read written answers.BadWords = ⊥
+IsDone place read written (answers.BadInput file at kind) = place file
+IsDone place read written (answers.ReadFault file) = read file
+IsDone place read written answers.WriteFault = written
+IsDone place read written other = Unit {0}

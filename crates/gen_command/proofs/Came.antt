@@ -1,0 +1,282 @@
+-- What a workload's run and audit come to, over nodes in memory.
+use Rattle.std.proofs.Common.{◌≡◌, ◌⊎◌, inl, inr, ◌<◌, ◌≤◌, ◌++◌, ℕ, List, [], length, reverse, Option, Some, None, refl, sym, ap, ◌∙◌, subst, arith}
+use Rattle.std.proofs.lemmas.Bool.{cases_lt}
+use Rattle.std.proofs.lemmas.List.FromFn.{length-map-range_with_len}
+use Rattle.cbdc_types.specs.Limits.{IsWithinLimits}
+use Rattle.cbdc_types.specs.declared.answer.Answer.{Answer}
+use Rattle.cbdc_types.specs.declared.answer.Answer.TheVariants as answers
+use Rattle.cbdc_types.specs.declared.answer.UnsoundKind.{UnsoundKind}
+use Rattle.cbdc_model.specs.Records.{Shape, Record, Row, journal}
+use Rattle.cbdc_model.specs.Coins.{Output, FullTx, genesis_id}
+use Rattle.cbdc_model.specs.Due.{used_of}
+use Rattle.cbdc_model.specs.History.{header_of}
+use Rattle.cbdc_model.specs.Lanes.{IsEnd}
+use Rattle.cbdc_model.specs.Ranges.{home_of}
+use Rattle.cbdc_model.specs.Slots.{slot}
+use Rattle.cbdc_model.specs.World.{KeptJournals, AreIdle}
+use Rattle.mem_devices.specs.declared.plain_disk.PlainDisk.{PlainDisk}
+use Rattle.plain_rack.specs.declared.plain_rack.PlainRack.{PlainRack}
+use Rattle.plain_rack.specs.Places.{faults_at}
+use Rattle.plain_rack.specs.Racks.{AllIn, disk_at, bytes_told, bytes_left, room_of, faults_of}
+use Rattle.ledger_laws.proofs.Recovery.{idle_law}
+use Rattle.ledger_init.specs.Made.{HoldsFirst, SameRoom, first_of}
+use Rattle.opening_laws.proofs.Once.{opens_once_law}
+use Rattle.sound_laws.specs.SoundTest.{sound_by}
+use Rattle.sound_laws.proofs.Telling.{is_sound_law}
+use Rattle.submissions.specs.Checks.{TellsSound}
+use Rattle.input_files.specs.Contents.{all_txs}
+use Rattle.audit.specs.declared.verdict.Totals.{Totals}
+use Rattle.audit.specs.declared.verdict.Verdict.{Verdict}
+use Rattle.audit.specs.declared.verdict.Verdict.TheVariants.{Sound, Unsound}
+use Rattle.audit.specs.Verdicts.{IsVerdict}
+use Rattle.caused_ledgers.specs.Caused.{IsToldHistory, IsUnresumed}
+use Rattle.audited_ledgers.specs.Audited.{IsAudited}
+use Rattle.rack_laws.specs.Shown.{Shows, HoldsEach, node_count}
+use Rattle.rack_nodes.specs.Racked.{IsBack}
+use Rattle.rack_runs.specs.Endings.{EndsRun}
+use Rattle.rack_runs.specs.Runs.{IsLaneFault, PieceNext, PiecesPrepared}
+use Rattle.file_runs.specs.declared.ran.Ran.{Ran}
+use Rattle.file_runs.specs.Telling.{TellsRun}
+use Rattle.line_text.specs.Lines.{summary_text}
+use Rattle.printed_lines.specs.Decided.{new_batches}
+use Rattle.printed_lines.specs.Reports.{audit_lines}
+use Rattle.printed_lines.specs.Runs.{is_confirmed, is_rejected, is_refused, count_in}
+use Rattle.printed_lines.specs.Unspent.{IsUnspentCount}
+use Rattle.workload.specs.Generator.{mint_of, minted_of, joined_of, split_of, join_of}
+use Rattle.audit_command.specs.Audits.{IsUnsoundBy}
+use Rattle.command_answers.specs.Causes.{IsDone}
+use Rattle.run_report.specs.Told.{IsCountable, numbers_of}
+use Rattle.gen_command.specs.Generated.{all_good, files_of, all_of, made_for, IsWorkloadRun, HasVerdictOf, EndsWorkload, batches_for, IsWorkloadText, IsUnsoundWorkload, WhyNoWorkload}
+use Rattle.workload_laws.specs.Files.{first_journals}
+use Rattle.gen_command.specs.InMemory.{AreReady, HaveRoom, TellsRunOf, CameTo, IsCheckedSound, IsUnchecked}
+use Rattle.gen_command.proofs.FirstShown.{kept_journal, kept_beyond, first_kept, first_shown}
+use Rattle.gen_command.proofs.Memory.{none_rose, there}
+use Rattle.complete_laws.specs.Ready.{NoneRises, ShowsKept, limit_at}
+use Rattle.complete_laws.proofs.Caused.{unsound_none}
+use Rattle.stopped_runs.proofs.Lanes.{run_none}
+use Rattle.complete_laws.proofs.Openings.{unopened_none}
+use Rattle.complete_laws.proofs.Rooms.{ample_rooms, idle_rooms, more_room, used_within}
+use Rattle.complete_laws.proofs.Sound.{never_unsound}
+use Rattle.run_report.proofs.Numbers.{run_numbers, countable}
+use Rattle.gen_command.proofs.Cut.{batches_are_cut}
+use Rattle.gen_command.proofs.Refused.{none_open, none_refused, all_decided}
+use Rattle.gen_command.proofs.Workloads.{few}
+use Rattle.gen_command.proofs.OneText.{one_text}
+
+-- a workload has so many transactions
+all_few : (seed n : ℕ) → n ≤ 10000 → all_txs (files_of seed n) ≤ 1000000
+all_few seed n small =
+    let a = length-map-range_with_len (split_of seed n (genesis_id (mint_of seed n))) 0 (minted_of n) in
+    let b = length-map-range_with_len (join_of seed n (genesis_id (mint_of seed n))) 0 (joined_of n) in
+    omega (arith, small, a, b)
+
+-- the ledger that disks show
+module _ {D : Type 0} (content : D → Option (List ℕ)) (images : D → List ℕ → Type 0) (held : ℕ → Option D) (K : Shape) (mint : List Output) (submissions : List FullTx) (X : ℕ → List Record)
+    (within : IsWithinLimits K) (minted_few : length mint ≤ 1000000) (kept : KeptJournals K mint submissions X) where
+  pub shown : HoldsEach images held K X → ((n : ℕ) → n < node_count K → (d : D) × (held n ≡ Some d) × ((c : List ℕ) × (content d ≡ Some c) × images d c)) → Shows content held K (genesis_id mint) X
+  shown disks tells n inside =
+      let t = tells n inside in
+      (t.0, t.1, (t.2.0, t.2.1, record { opens = disks n inside t.0 t.1 t.2.0 t.2.2; limits = within; journal = kept_journal K mint within minted_few submissions X kept n inside }))
+
+  -- the history that was told is that of its journals
+  module _ (shows : Shows content held K (genesis_id mint) X) (shape : Shape) (rows : List Row) (history : IsToldHistory content held shape (genesis_id mint) rows) where
+    same_at : (n : ℕ) → n < node_count K → n < node_count shape → (header_of shape (genesis_id mint) n ≡ header_of K (genesis_id mint) n) × (journal n (reverse rows) ≡ X n)
+    same_at n inside there =
+        let s = shows n inside in
+        let one = history.opened n there s.0 s.1 s.2.0 s.2.1 in
+        opens_once_law (header_of shape (genesis_id mint) n) (header_of K (genesis_id mint) n) (journal n (reverse rows)) (X n) s.2.0 history.limits within one.journal s.2.2.journal one.opens s.2.2.opens
+
+    pub shape_is : shape ≡ K
+    shape_is =
+        let limits = history.limits in
+        ap (λ h. h.shape) (same_at 0 (omega (arith, within.some_coordinator)) (omega (arith, limits.some_coordinator))).0
+
+    pub journals_are : (n : ℕ) → journal n (reverse rows) ≡ X n
+    journals_are n = elim (cases_lt n (node_count K)) [
+      | inl inside ↦ (same_at n inside (subst (λ k. n < node_count k) (sym shape_is) inside)).1
+      | inr past ↦ history.others n (subst (λ k. node_count k ≤ n) (sym shape_is) past) ∙ sym (kept_beyond K mint within minted_few submissions X kept n past)
+    ]
+
+  pub verdict_of : Shows content held K (genesis_id mint) X → (handed : List FullTx) (verdict : Verdict) → IsAudited content held mint handed verdict → HasVerdictOf K mint handed X verdict
+  verdict_of shows handed verdict audited = record {
+    rows = audited.rows;
+    journals_are = journals_are shows audited.shape audited.rows audited.history;
+    ordered = audited.history.ordered;
+    is = subst (λ k. IsVerdict k mint handed audited.rows verdict) (shape_is shows audited.shape audited.rows audited.history) audited.is;
+  }
+
+module _ (K : Shape) (seed n : ℕ) (within : IsWithinLimits K) (small : n ≤ 10000) (X : ℕ → List Record) (ran : Ran) (told : TellsRun K all_good (files_of seed n) (made_for K seed n) X ran.resumed.items ran.waves.items) where
+  tests : TellsSound all_good (sound_by all_good)
+  tests = is_sound_law all_good
+
+  pub is_countable : IsCountable ran
+  is_countable = countable K all_good (files_of seed n) (all_few seed n small) within (made_for K seed n) X ran told (sound_by all_good) tests
+
+  pub ends_run : ((node : ℕ) → IsEnd (made_for K seed n node) (X node)) → IsUnspentCount K X ran.unspent → EndsWorkload K seed n X (numbers_of ran)
+  ends_run grows counted =
+      let E = made_for K seed n in
+      let r = run_numbers K all_good (files_of seed n) (all_few seed n small) within (made_for K seed n) X ran told (sound_by all_good) tests in
+      record {
+        all = r.0;
+        are = r.1;
+        decided = all_decided K seed n (made_for K seed n) X r.0 r.1;
+        unspent = ran.unspent;
+        counted = counted;
+        text_is = r.2 ∙ ap (λ m. summary_text m (new_batches K E X) (count_in is_confirmed r.0) (count_in is_rejected r.0) (count_in is_refused r.0) ran.unspent) (none_open K seed n (omega (arith, within.some_shard)))
+            ∙ ap (λ m. summary_text 0 m (count_in is_confirmed r.0) (count_in is_rejected r.0) (count_in is_refused r.0) ran.unspent) (batches_are_cut K seed n within X ran grows told)
+            ∙ ap (λ m. summary_text 0 (batches_for K n) (count_in is_confirmed r.0) (count_in is_rejected r.0) m ran.unspent) (none_refused K seed n (made_for K seed n) X r.0 r.1);
+      }
+
+-- ---- over a rack in memory
+
+module _ (K : Shape) (mint : List Output) (few_coins : length mint ≤ 1000000) (limits : IsWithinLimits K) where
+  -- what is in place tells its bytes
+  pub told_there : (rack : PlainRack) → AllIn rack → (n : ℕ) → n < node_count K → (d : PlainDisk) × (disk_at rack n ≡ Some d) × ((c : List ℕ) × (bytes_told d ≡ Some c) × bytes_left d c)
+  told_there rack all n inside =
+      let d = there rack all n (omega (arith, inside, limits.coordinators, limits.shards)) in
+      (d.0, d.1, (d.0.bytes.items, refl, refl))
+
+  -- the ledger that was made
+  pub made_shown : (old mid : PlainRack) → AreReady K mint old → AllIn mid → ((n : ℕ) → n < node_count K → HoldsFirst bytes_told bytes_left (first_of K mint n) (disk_at old n) (disk_at mid n))
+      → Shows bytes_told (disk_at mid) K (genesis_id mint) (first_journals K mint)
+  made_shown old mid ready all holds =
+      first_shown K mint limits few_coins bytes_told bytes_left (disk_at old) (disk_at mid) (λ n inside. (let e = ready.empty n inside in (e.0, e.1, refl))) (λ n inside. (let d = told_there mid all n inside in (d.0, d.1))) holds
+
+  -- no node in memory fails
+  pub none_rises : (old new : PlainRack) → NoneRises K (faults_at old.misses) (faults_at new.misses)
+  none_rises old new n inside = none_rose old.misses new.misses n (omega (arith, inside, limits.coordinators, limits.shards))
+
+  -- the disks of a ledger that was made have as much room as before
+  pub room_still : (files : List (List FullTx)) (old mid : PlainRack) → AreReady K mint old → AllIn mid → ((n : ℕ) → n < node_count K → SameRoom room_of (disk_at old n) (disk_at mid n)) → HaveRoom K mint files old → HaveRoom K mint files mid
+  room_still files old mid ready all rooms ample =
+      more_room K (sound_by all_good) (λ n. limit_at room_of (disk_at old n)) (λ n. limit_at room_of (disk_at mid n)) files (first_journals K mint)
+      (λ n inside. (let was = ready.empty n inside in let is = told_there mid all n inside in omega (arith, ap (limit_at room_of) was.1, ap (limit_at room_of) is.1, rooms n inside was.0 was.1 is.0 is.1))) ample
+
+  module _ (files : List (List FullTx)) (mid new : PlainRack) (shows : Shows bytes_told (disk_at mid) K (genesis_id mint) (first_journals K mint)) (ample : HaveRoom K mint files mid) where
+    ready : ShowsKept bytes_told (disk_at mid) K mint [] (first_journals K mint)
+    ready = record { limits = limits; shown = shows; kept = first_kept K mint limits few_coins }
+
+    -- its files are run, unless memory runs out
+    pub unrun : (a : Answer)
+        → (IsUnresumed bytes_told bytes_left room_of faults_of (disk_at mid) (faults_at mid.misses) (faults_at new.misses) a × ((n : ℕ) → IsBack bytes_left room_of (disk_at mid n) (disk_at new n)))
+        ⊎ IsLaneFault bytes_told bytes_left room_of (disk_at mid) (disk_at new) (faults_at mid.misses) (faults_at new.misses) (PieceNext all_good files) (EndsRun all_good files) (PiecesPrepared all_good files) files a
+        → a ≡ answers.Memory
+    unrun a (inl (inl unopened, back)) =
+        unopened_none bytes_told bytes_left room_of faults_of (disk_at mid) (faults_at mid.misses) (faults_at new.misses) K mint [] (first_journals K mint) ready
+        (ample_rooms K mint [] (first_journals K mint) (λ n. limit_at room_of (disk_at mid n)) limits (first_kept K mint limits few_coins) (sound_by all_good) files ample) (none_rises mid new) None a tt unopened
+    unrun a (inl (inr (inl unsound), back)) = absurd (unsound_none bytes_told (disk_at mid) K mint [] (first_journals K mint) ready bytes_left room_of faults_of a unsound)
+    unrun a (inl (inr (inr memory), back)) = memory
+    unrun a (inr fault) =
+        run_none bytes_told bytes_left room_of (disk_at mid) (disk_at new) (faults_at mid.misses) (faults_at new.misses) K mint [] (first_journals K mint) ready (none_rises mid new) all_good files ample a fault
+
+-- ---- a workload's run and audit
+
+module _ (K : Shape) (seed n : ℕ) where
+  pub memory_why : (a : Answer) → a ≡ answers.Memory → WhyNoWorkload K seed n a
+  memory_why a memory = subst (WhyNoWorkload K seed n) (sym memory) tt
+
+  module _ (small : n ≤ 10000) (limits : IsWithinLimits K) (rack : PlainRack) (all : AllIn rack) (ran : Ran) (told : TellsRunOf K (mint_of seed n) (files_of seed n) rack ran) where
+    is_run : IsWorkloadRun K seed n told.run.exit
+    is_run = record { kept = told.run.grown.kept; waves = told.run.waves }
+
+    shows : Shows bytes_told (disk_at rack) K (genesis_id (mint_of seed n)) told.run.exit
+    shows = shown bytes_told bytes_left (disk_at rack) K (mint_of seed n) (all_of seed n) told.run.exit limits (few seed n small) told.run.grown.kept told.run.disks (told_there K (mint_of seed n) (few seed n small) limits rack all)
+
+    has_verdict : (verdict : Verdict) → IsAudited bytes_told (disk_at rack) (mint_of seed n) (all_of seed n) verdict → HasVerdictOf K (mint_of seed n) (all_of seed n) told.run.exit verdict
+    has_verdict verdict audited =
+        verdict_of bytes_told bytes_left (disk_at rack) K (mint_of seed n) (all_of seed n) told.run.exit limits (few seed n small) told.run.grown.kept shows (all_of seed n) verdict audited
+
+    idle : AreIdle K told.run.exit
+    idle lane low =
+        let last = told.run.waves.2.2 in
+        ap (λ J. (slot J lane).phase) (last.2 (home_of K lane)) ∙ last.1.idle lane low
+
+    -- what a disk holds is within its room
+    fits : (k : ℕ) → k < node_count K → used_of (told.run.exit k) ≤ limit_at room_of (disk_at rack k)
+    fits k inside =
+        let s = shows k inside in
+        let d : PlainDisk = s.0 in
+        let bytes : length s.2.0 ≡ length d.bytes.items = ap (λ (o : Option (List ℕ)). length (bytes_in o)) (sym s.2.1) in
+        omega (arith, used_within (header_of K (genesis_id (mint_of seed n)) k) (told.run.exit k) s.2.0 s.2.2, bytes, d.within, ap (limit_at room_of) s.1)
+      where
+        bytes_in : Option (List ℕ) → List ℕ
+        bytes_in None = []
+        bytes_in (Some c) = c
+
+    pub came_to : (totals : Totals) → IsCheckedSound rack (mint_of seed n) (all_of seed n) totals → CameTo K seed n ran totals
+    came_to totals audited = record {
+      limits = limits;
+      exit = told.run.exit;
+      run = is_run;
+      countable = is_countable K seed n limits small told.run.exit ran told.tells;
+      ends = ends_run K seed n limits small told.run.exit ran told.tells told.run.grown.grows told.unspent;
+      audited = has_verdict (Sound totals) audited;
+    }
+
+    unsound_why : (place : ℕ) (kind : UnsoundKind) → IsAudited bytes_told (disk_at rack) (mint_of seed n) (all_of seed n) (Unsound place kind) → IsUnsoundWorkload K seed n place kind
+    unsound_why place kind audited =
+        let v = has_verdict (Unsound place kind) audited in
+        record {
+          exit = told.run.exit;
+          run = is_run;
+          audited = v;
+          unclean = λ clean.
+              never_unsound K (mint_of seed n) (all_of seed n) told.run.exit limits (kept_journal K (mint_of seed n) limits (few seed n small) (all_of seed n) told.run.exit told.run.grown.kept) told.run.grown.kept v.rows v.journals_are v.ordered idle
+              (idle_law K (mint_of seed n) (all_of seed n) told.run.exit (omega (arith, limits.some_shard)) (omega (arith, limits.some_lane)) clean told.run.grown.kept idle) place kind v.is;
+        }
+
+    wrong_why : (a : Answer) → IsUnsoundBy (IsAudited bytes_told (disk_at rack) (mint_of seed n) (all_of seed n)) a → WhyNoWorkload K seed n a
+    wrong_why answers.Ok is = absurd is
+    wrong_why answers.BadWords is = absurd is
+    wrong_why (answers.BadInput file at what) is = absurd is
+    wrong_why (answers.TooMuch total) is = absurd is
+    wrong_why (answers.NotReady k) is = absurd is
+    wrong_why (answers.Foreign k kept asked) is = absurd is
+    wrong_why (answers.NotEmpty k) is = absurd is
+    wrong_why (answers.Full k used need capacity) is = absurd is
+    wrong_why (answers.Unsound place what) is = unsound_why place what is
+    wrong_why (answers.ClockEnd k stamp) is = absurd is
+    wrong_why (answers.Damaged k at) is = absurd is
+    wrong_why (answers.ReadFault file) is = absurd is
+    wrong_why answers.WriteFault is = absurd is
+    wrong_why (answers.DiskFault k) is = absurd is
+    wrong_why answers.Memory is = tt
+
+    pub unchecked_why : (new : PlainRack) (a : Answer) → IsUnchecked rack new (mint_of seed n) (all_of seed n) a → WhyNoWorkload K seed n a
+    unchecked_why new a (inl wrong) = wrong_why a wrong
+    unchecked_why new a (inr (inl unopened)) =
+        memory_why a (unopened_none bytes_told bytes_left room_of faults_of (disk_at rack) (faults_at rack.misses) (faults_at new.misses) K (mint_of seed n) (all_of seed n) told.run.exit
+        (record { limits = limits; shown = shows; kept = told.run.grown.kept }) (idle_rooms K (mint_of seed n) (all_of seed n) told.run.exit (λ k. limit_at room_of (disk_at rack k)) limits told.run.grown.kept idle fits)
+        (none_rises K (mint_of seed n) (few seed n small) limits rack new) (Some (genesis_id (mint_of seed n))) a refl unopened)
+    unchecked_why new a (inr (inr memory)) = memory_why a memory
+
+  -- what was done is told
+  pub why_done : (written : Type 0) (a : Answer) → WhyNoWorkload K seed n a → IsDone (λ file. ⊥) (λ file. ⊥) written a
+  why_done written answers.Ok is = absurd is
+  why_done written answers.BadWords is = absurd is
+  why_done written (answers.BadInput file at what) is = absurd is
+  why_done written (answers.TooMuch total) is = tt
+  why_done written (answers.NotReady k) is = tt
+  why_done written (answers.Foreign k kept asked) is = tt
+  why_done written (answers.NotEmpty k) is = tt
+  why_done written (answers.Full k used need capacity) is = tt
+  why_done written (answers.Unsound place what) is = tt
+  why_done written (answers.ClockEnd k stamp) is = tt
+  why_done written (answers.Damaged k at) is = tt
+  why_done written (answers.ReadFault file) is = absurd is
+  why_done written answers.WriteFault is = absurd is
+  why_done written (answers.DiskFault k) is = tt
+  why_done written answers.Memory is = tt
+
+  -- the text of a workload
+  pub text_of : (ran : Ran) (totals : Totals) → CameTo K seed n ran totals → IsWorkloadText K seed n (numbers_of ran ++ audit_lines totals)
+  text_of ran totals came = record {
+    exit = came.exit;
+    run = came.run;
+    summary = numbers_of ran;
+    ends = came.ends;
+    totals = totals;
+    audited = came.audited;
+    text_is = refl;
+    clean = λ clean. (let one = one_text K seed n came.limits clean came.exit came.run.kept came.run.waves in one (numbers_of ran) came.ends totals came.audited);
+  }

@@ -1,0 +1,7 @@
+pub mod Workloads
+pub mod FirstShown
+pub mod Memory
+pub mod Refused
+pub mod Cut
+pub mod OneText
+pub mod Came

@@ -1,0 +1,59 @@
+-- The parts of `gen`'s work over nodes in memory.
+use Rattle.std.specs.Prelude.{◌≡◌, ◌⊎◌, ◌+◌, ◌^◌, ◌<◌, ◌≤◌, ℕ, List, [], Some}
+use Rattle.cbdc_types.specs.Limits.{IsWithinLimits}
+use Rattle.cbdc_types.specs.declared.answer.Answer.{Answer}
+use Rattle.cbdc_model.specs.Records.{Shape, Record}
+use Rattle.cbdc_model.specs.Clean.{value_out}
+use Rattle.cbdc_model.specs.Coins.{Output, FullTx}
+use Rattle.cbdc_model.specs.Room.{size_of}
+use Rattle.mem_devices.specs.declared.plain_disk.PlainDisk.{PlainDisk}
+use Rattle.plain_rack.specs.declared.plain_rack.PlainRack.{PlainRack}
+use Rattle.plain_rack.specs.Places.{faults_at}
+use Rattle.plain_rack.specs.Racks.{disk_at, bytes_told, bytes_left, room_of, faults_of}
+use Rattle.ample_laws.specs.Ample.{Ample}
+use Rattle.sound_laws.specs.SoundTest.{sound_by}
+use Rattle.complete_laws.specs.Ready.{limit_at}
+use Rattle.ledger_init.specs.Made.{node_count, first_of}
+use Rattle.audit.specs.declared.verdict.Totals.{Totals}
+use Rattle.audit.specs.declared.verdict.Verdict.TheVariants.{Sound}
+use Rattle.audited_ledgers.specs.Audited.{IsAudited}
+use Rattle.rack_runs.specs.Telling.{IsTold}
+use Rattle.file_runs.specs.declared.ran.Ran.{Ran}
+use Rattle.workload.specs.Generator.{mint_of}
+use Rattle.audit_command.specs.Audits.{IsUnsoundBy, WhyUnopened}
+use Rattle.run_report.specs.Told.{IsCountable, numbers_of}
+use Rattle.gen_command.specs.Generated.{all_good, all_of, IsWorkloadRun, HasVerdictOf, EndsWorkload}
+use Rattle.workload_laws.specs.Files.{first_journals}
+
+-- empty disks, each with room for the first record of its node
+pub record AreReady (K : Shape) (mint : List Output) (rack : PlainRack) : Type 0 where
+  pub limits : IsWithinLimits K
+  pub fits : value_out mint < 2 ^ 64
+  pub empty : (node : ℕ) → node < node_count K → (d : PlainDisk) × (disk_at rack node ≡ Some d) × (d.bytes.items ≡ []) × (size_of (first_of K mint node) + 1 ≤ d.capacity)
+
+-- they have room and stamps for every record that is to come of files
+abbrev pub HaveRoom : Shape → List Output → List (List FullTx) → PlainRack → Type 0
+HaveRoom K mint files rack = Ample K (sound_by all_good) (λ n. limit_at room_of (disk_at rack n)) files (first_journals K mint)
+
+-- files were run over the ledger that a mint began in memory, and the run tells what it did
+abbrev pub TellsRunOf : Shape → List Output → List (List FullTx) → PlainRack → Ran → Type 0
+TellsRunOf K mint files rack ran = IsTold bytes_left room_of (disk_at rack) all_good files ran K mint [] (first_journals K mint)
+
+-- what a workload's run and audit tell is so
+pub record CameTo (K : Shape) (seed n : ℕ) (ran : Ran) (totals : Totals) : Type 0 where
+  pub limits : IsWithinLimits K
+  pub exit : ℕ → List Record
+  pub run : IsWorkloadRun K seed n exit
+  pub countable : IsCountable ran
+  pub ends : EndsWorkload K seed n exit (numbers_of ran)
+  pub audited : HasVerdictOf K (mint_of seed n) (all_of seed n) exit (Sound totals)
+
+-- the ledger of a mint was audited with the transactions that were handed in, and is sound with these totals
+abbrev pub IsCheckedSound : PlainRack → List Output → List FullTx → Totals → Type 0
+IsCheckedSound rack mint handed totals = IsAudited bytes_told (disk_at rack) mint handed (Sound totals)
+
+-- it is not: the audit found something wrong, or the ledger could not be opened
+abbrev pub IsUnchecked : PlainRack → PlainRack → List Output → List FullTx → Answer → Type 0
+IsUnchecked old new mint handed answer =
+    IsUnsoundBy (IsAudited bytes_told (disk_at old) mint handed) answer
+    ⊎ WhyUnopened bytes_told bytes_left room_of faults_of (disk_at old) (faults_at old.misses) (faults_at new.misses) mint answer

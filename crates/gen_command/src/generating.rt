@@ -1,0 +1,191 @@
+// `gen`: a workload from a number, run and checked over nodes in memory.
+ghost use Rattle.std.specs.Prelude.{◌≡◌, ◌≤◌, ◌+◌, ◌*◌, ◌<◌, ℕ, length, All, IfOk, IfErr};
+ghost use Rattle.outside.specs.Counts.{Rose};
+ghost use Rattle.cbdc_types.specs.Limits.{IsWithinLimits};
+ghost use Rattle.command_answers.specs.Causes.{IsDone, IsTold, IsWell};
+ghost use Rattle.gen_command.specs.Generated.{files_of as files_from, PrintsWorkload, WhyNoWorkload};
+ghost use Rattle.gen_command.specs.InMemory.{AreReady, HaveRoom, TellsRunOf, IsCheckedSound, IsUnchecked, CameTo};
+ghost use Rattle.command_answers.specs.Texts.{IsPrinted, IsSilent};
+ghost use Rattle.file_runs.specs.Runs.{joined as all_joined};
+ghost use Rattle.input_files.specs.Limits.{IsShort};
+ghost use Rattle.ledger_init.specs.Made.{node_count};
+ghost use Rattle.plain_rack.specs.Racks.{AllIn, IsEmptyAt};
+ghost use Rattle.workload.specs.Generator.{mint_of};
+
+use audit::{Totals, Verdict};
+use audit_command::joined;
+use audited_ledgers::audit_on;
+use cbdc_types::{Answer, FullTx, List, Mint, Output, Shape};
+use file_runs::Ran;
+use ledger_init::{Made, make_ledger};
+use outside::{Gate, Sink};
+use plain_rack::PlainRack;
+use rack_runs::run_on;
+use run_report::write_generated;
+use std::alloc::{AllocError, Global};
+use std::sync::Wait;
+use verifier_port::AllGood;
+use workload::{Workload, generate};
+
+// What the run and the audit of a workload come to.
+#[derive(Drop)]
+struct Came {
+    ran: Ran,
+    totals: Totals,
+}
+
+// A mint and the client files behind it.
+#[derive(Drop)]
+struct Files {
+    mint: Mint,
+    clients: Vec<List<FullTx>>,
+}
+
+// The files of the workload of so many transactions from a seed. Each input's witness is good in it.
+fn files_of(alloc: Global, seed: u64, count: u32) -> Result<Files, AllocError>
+    requires { count ≤ 10000 }
+    ensures mint { IfOk result (λ f. f.mint ≡ mint_of seed count) }
+    ensures clients { IfOk result (λ f. f.clients.items ≡ files_from seed count) }
+    ensures few { IfOk result (λ f. length f.mint ≤ 1000000) }
+    ensures short { IfOk result (λ f. All (λ txs. All IsShort txs) f.clients.items) }
+{
+    let Workload {
+        mint,
+        splits,
+        joins,
+        ..
+    } = generate(alloc, seed, u64::from(count))?;
+    let mut clients = Vec::with_capacity(alloc, 2)?;
+    clients.push(splits)?;
+    clients.push(joins)?;
+    Ok(Files { mint, clients })
+}
+
+// The empty nodes in memory of a ledger, with room for a workload of so many transactions.
+fn rack_of(alloc: Global, shape: &Shape, count: u32) -> Result<PlainRack, AllocError>
+    requires { count ≤ 10000 }
+    ensures limits { IsWithinLimits shape.now }
+    ensures all { IfOk result AllIn }
+    ensures empty { IfOk result (λ r. (n : ℕ) → n < node_count shape.now → IsEmptyAt r (4096 + 400 * count) n) }
+{
+    let nodes = shape.coordinators() + shape.shards();
+    PlainRack::new(alloc, nodes, 4096 + 400 * count as usize)
+}
+
+// Makes the ledger of a mint on empty disks, and runs client files over it.
+fn run_files<W: Wait, G: Gate>(
+    rt: &W,
+    alloc: Global,
+    shape: &Shape,
+    mint: Mint,
+    clients: &[List<FullTx>],
+    rack: &mut PlainRack,
+    gate: &G,
+) -> Result<Ran, Answer>
+    requires all { AllIn rack.old }
+    requires few { length mint ≤ 1000000 }
+    requires short { All (λ txs. All IsShort txs) clients.now }
+    requires ready { AreReady shape.now mint rack.old }
+    requires room { HaveRoom shape.now mint clients.now rack.old }
+    ensures did { IfOk result (TellsRunOf shape.now mint clients.now rack.new) }
+    ensures why { IfErr result (λ e. e ≡ Answer.Memory) }
+    ensures back { AllIn rack.new }
+{
+    let Made {
+        coins: _,
+        total: _,
+        genesis: _,
+    } = match make_ledger(alloc, rack, shape, mint) {
+        Ok(made) => made,
+        Err(fault) => return Err(fault),
+    };
+    run_on(rt, alloc, rack, clients, &AllGood, gate)
+}
+
+// Checks the ledger against its mint and client files.
+fn check_files(
+    alloc: Global,
+    mint: &[Output],
+    clients: Vec<List<FullTx>>,
+    rack: &mut PlainRack,
+) -> Result<Totals, Answer>
+    requires all { AllIn rack.old }
+    ensures did { IfOk result (IsCheckedSound rack.old mint.now (all_joined clients.items)) }
+    ensures why { IfErr result (IsUnchecked rack.old rack.new mint.now (all_joined clients.items)) }
+{
+    let Ok(handed) = joined(alloc, clients) else {
+        return Err(Answer::Memory);
+    };
+    match audit_on(alloc, rack, mint, &handed) {
+        Ok(Verdict::Sound(totals)) => Ok(totals),
+        Ok(Verdict::Unsound { place, kind }) => Err(Answer::Unsound { place, kind }),
+        Err(fault) => Err(fault),
+    }
+}
+
+// A mint once more.
+fn copied(mint: &Mint) -> Result<Mint, AllocError>
+    ensures { IfOk result (λ m. m ≡ mint.now) }
+{
+    mint.clone()
+}
+
+// Makes the workload, runs it over nodes in memory and checks what came of it.
+fn run_workload<W: Wait, G: Gate>(
+    rt: &W,
+    alloc: Global,
+    shape: &Shape,
+    seed: u64,
+    count: u32,
+    gate: &G,
+) -> Result<Came, Answer>
+    requires { count ≤ 10000 }
+    ensures did { IfOk result (λ c. CameTo shape.now seed count c.ran c.totals) }
+    ensures why { IfErr result (WhyNoWorkload shape.now seed count) }
+{
+    let Ok(Files { mint, clients }) = files_of(alloc, seed, count) else {
+        return Err(Answer::Memory);
+    };
+    let Ok(mut rack) = rack_of(alloc, shape, count) else {
+        return Err(Answer::Memory);
+    };
+    let Ok(kept) = copied(&mint) else {
+        return Err(Answer::Memory);
+    };
+    let ran = match run_files(rt, alloc, shape, mint, &clients, &mut rack, gate) {
+        Ok(ran) => ran,
+        Err(fault) => return Err(fault),
+    };
+    match check_files(alloc, kept.as_slice(), clients, &mut rack) {
+        Ok(totals) => Ok(Came { ran, totals }),
+        Err(fault) => Err(fault),
+    }
+}
+
+/// Makes the workload of so many transactions from a seed, runs it over nodes in memory and prints the numbers that
+/// end a run and those of an audit. The rack that the program was handed is not touched.
+pub fn generated<W: Wait, O: Sink, G: Gate>(
+    rt: &W,
+    alloc: Global,
+    shape: &Shape,
+    seed: u64,
+    count: u32,
+    out: &mut O,
+    gate: &G,
+) -> Answer
+    requires { count ≤ 10000 }
+    ensures cause { IsDone (λ file. ⊥) (λ file. ⊥) (Rose (O.count out.old) (O.count out.new)) result }
+    ensures did { IsWell result → PrintsWorkload (IsPrinted (O.taken out.old) (O.taken out.new) result) shape.now seed count }
+    ensures why { IsTold (WhyNoWorkload shape.now seed count) result }
+    ensures silent { IsSilent (O.taken out.old) (O.taken out.new) result }
+    ensures written_later { O.count out.old ≤ O.count out.new }
+{
+    let came = match run_workload(rt, alloc, shape, seed, count, gate) {
+        Ok(came) => came,
+        Err(fault) => return fault,
+    };
+    match write_generated(out, &came.ran, &came.totals) {
+        Ok(()) => Answer::Ok,
+        Err(_) => Answer::WriteFault,
+    }
+}

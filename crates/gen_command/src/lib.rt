@@ -1,0 +1,6 @@
+//! `gen`: makes a workload from a number, and runs and checks it over nodes in memory.
+#![tactic(auto)]
+
+mod generating;
+
+pub use generating::generated;

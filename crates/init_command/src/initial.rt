@@ -1,0 +1,71 @@
+// `init`: the first records of a ledger.
+ghost use Rattle.std.specs.Prelude.{◌≡◌, ◌≤◌, ◌⊎◌, ℕ, IfOk, IfErr};
+ghost use Rattle.outside.specs.Counts.{Rose};
+ghost use Rattle.command_answers.specs.Causes.{IsFault, IsDone, IsTold, IsWell, FileRose};
+ghost use Rattle.init_command.specs.Outcomes.{DidInit, WhyNoInit, InitLeaves};
+ghost use Rattle.command_answers.specs.Texts.{IsPrinted, IsSilent};
+ghost use Rattle.command_answers.specs.Left.{IsBeforeDisks};
+ghost use Rattle.line_text.specs.Lines.{init_text};
+
+use cbdc_types::{Answer, Shape};
+use command_line::FileWord;
+use input_files::mint_in;
+use ledger_init::{Made, make_ledger};
+use line_text::write_init;
+use outside::{Inbox, Rack, Sink};
+use std::alloc::Global;
+
+// Reads the mint and makes the ledger.
+fn make<I: Inbox, R: Rack>(
+    alloc: Global,
+    shape: &Shape,
+    file: &FileWord,
+    inbox: &mut I,
+    rack: &mut R,
+) -> Result<Made, Answer>
+    requires { (n : ℕ) → R.can_take rack.old n }
+    ensures made { IfOk result (λ m. DidInit (I.file inbox.old) R.Disk.content R.Disk.images (R.held rack.old) (R.held rack.new) (λ text. init_text m.coins m.total m.genesis ≡ text) shape.now file.now) }
+    ensures why { IfErr result (WhyNoInit (I.file inbox.old) (I.count inbox.old) (I.count inbox.new) R.Disk.content R.Disk.limit (R.held rack.old) (R.count rack.old) (R.count rack.new) shape.now file.now) }
+    ensures fault { IfErr result (IsFault (λ place. place ≡ file.now.place) (FileRose (I.count inbox.old) (I.count inbox.new) file.now)) }
+    ensures untouched { IfErr result (λ e. IsBeforeDisks e → rack.new ≡ rack.old) }
+    ensures left { IfErr result (λ e. (rack.new ≡ rack.old) ⊎ InitLeaves (I.file inbox.old) R.Disk.content R.Disk.images R.Disk.limit (R.held rack.old) (R.held rack.new) shape.now file.now e) }
+    ensures back { (n : ℕ) → R.can_take rack.new n }
+{
+    match mint_in(alloc, inbox, file) {
+        Ok(mint) => make_ledger(alloc, rack, shape, mint),
+        Err(fault) => Err(fault),
+    }
+}
+
+/// The first records of the ledger of a shape that a mint in a file begins, and its lines.
+pub fn init<I: Inbox, R: Rack, O: Sink>(
+    alloc: Global,
+    shape: &Shape,
+    file: &FileWord,
+    inbox: &mut I,
+    rack: &mut R,
+    out: &mut O,
+) -> Answer
+    requires { (n : ℕ) → R.can_take rack.old n }
+    ensures cause { IsDone (λ place. place ≡ file.now.place) (FileRose (I.count inbox.old) (I.count inbox.new) file.now) (Rose (O.count out.old) (O.count out.new)) result }
+    ensures did { IsWell result → DidInit (I.file inbox.old) R.Disk.content R.Disk.images (R.held rack.old) (R.held rack.new) (IsPrinted (O.taken out.old) (O.taken out.new) result) shape.now file.now }
+    ensures why { IsTold (WhyNoInit (I.file inbox.old) (I.count inbox.old) (I.count inbox.new) R.Disk.content R.Disk.limit (R.held rack.old) (R.count rack.old) (R.count rack.new) shape.now file.now) result }
+    ensures silent { IsSilent (O.taken out.old) (O.taken out.new) result }
+    ensures written_later { O.count out.old ≤ O.count out.new }
+    ensures untouched { IsBeforeDisks result → rack.new ≡ rack.old }
+    ensures left { (IsWell result → ⊥) → (rack.new ≡ rack.old) ⊎ InitLeaves (I.file inbox.old) R.Disk.content R.Disk.images R.Disk.limit (R.held rack.old) (R.held rack.new) shape.now file.now result }
+    ensures back { (n : ℕ) → R.can_take rack.new n }
+{
+    let Made {
+        coins,
+        total,
+        genesis,
+    } = match make(alloc, shape, file, inbox, rack) {
+        Ok(made) => made,
+        Err(fault) => return fault,
+    };
+    match write_init(out, coins, total, &genesis) {
+        Ok(()) => Answer::Ok,
+        Err(_) => Answer::WriteFault,
+    }
+}

@@ -1,0 +1,79 @@
+// `run`: the transactions of client files, file by file.
+ghost use Rattle.std.specs.Prelude.{◌≡◌, ◌≤◌, ◌⊎◌, ℕ, IfOk, IfErr};
+ghost use Rattle.outside.specs.Counts.{Rose};
+ghost use Rattle.command_answers.specs.Causes.{IsFault, IsDone, IsTold, IsWell, OnePlace, OneRose, FileRose};
+ghost use Rattle.run_command.specs.Outcomes.{DidRun, WhyNoRun, WasRun, RunLeaves};
+ghost use Rattle.command_answers.specs.Texts.{IsPrinted, IsSilent};
+ghost use Rattle.command_answers.specs.Left.{IsBeforeDisks};
+
+use cbdc_types::Answer;
+use command_line::FileWord;
+use file_runs::Ran;
+use input_files::{all_clients_in, verdicts_in};
+use outside::{Gate, Inbox, Rack, Sink};
+use rack_runs::run_on;
+use run_report::write_report;
+use std::alloc::Global;
+use std::sync::Wait;
+
+// Reads all files, and runs them over the ledger on the rack.
+fn run_all<W: Wait, I: Inbox, R: Rack, G: Gate>(
+    rt: &W,
+    alloc: Global,
+    clients: &[FileWord],
+    verdicts: &FileWord,
+    inbox: &mut I,
+    rack: &mut R,
+    gate: &G,
+) -> Result<Ran, Answer>
+    requires { (n : ℕ) → R.can_take rack.old n }
+    ensures did { IfOk result (WasRun (I.file inbox.old) R.Disk.content R.Disk.images R.Disk.limit (R.held rack.old) (R.held rack.new) verdicts.now clients.now) }
+    ensures why { IfErr result (WhyNoRun (I.file inbox.old) (I.count inbox.old) (I.count inbox.new) R.Disk.content R.Disk.images R.Disk.limit R.Disk.count (R.held rack.old) (R.held rack.new) (R.count rack.old) (R.count rack.new) verdicts.now clients.now) }
+    ensures fault { IfErr result (IsFault (λ place. OnePlace clients.now place ⊎ (place ≡ verdicts.now.place)) (λ place. OneRose (I.count inbox.old) (I.count inbox.new) clients.now place ⊎ FileRose (I.count inbox.old) (I.count inbox.new) verdicts.now place)) }
+    ensures untouched { IfErr result (λ e. IsBeforeDisks e → rack.new ≡ rack.old) }
+    ensures left { IfErr result (λ e. (rack.new ≡ rack.old) ⊎ RunLeaves (I.file inbox.old) R.Disk.content R.Disk.images R.Disk.limit (R.held rack.old) (R.held rack.new) (R.count rack.old) (R.count rack.new) verdicts.now clients.now e) }
+    ensures back { (n : ℕ) → R.can_take rack.new n }
+{
+    let files = match all_clients_in(alloc, inbox, clients) {
+        Ok(files) => files,
+        Err(fault) => return Err(fault),
+    };
+    let verdicts = match verdicts_in(alloc, inbox, verdicts) {
+        Ok(verdicts) => verdicts,
+        Err(fault) => return Err(fault),
+    };
+    run_on(rt, alloc, rack, &files, &verdicts, gate)
+}
+
+/// Runs client files, one after another: their transactions are checked by the verdicts and brought through their
+/// batches, and their lines printed. All files are read before the rack is taken.
+pub fn run<W: Wait, I: Inbox, R: Rack, O: Sink, G: Gate>(
+    rt: &W,
+    alloc: Global,
+    clients: &[FileWord],
+    verdicts: &FileWord,
+    inbox: &mut I,
+    rack: &mut R,
+    out: &mut O,
+    gate: &G,
+) -> Answer
+    requires { (n : ℕ) → R.can_take rack.old n }
+    ensures cause { IsDone (λ place. OnePlace clients.now place ⊎ (place ≡ verdicts.now.place)) (λ place. OneRose (I.count inbox.old) (I.count inbox.new) clients.now place ⊎ FileRose (I.count inbox.old) (I.count inbox.new) verdicts.now place)
+        (Rose (O.count out.old) (O.count out.new)) result }
+    ensures did { IsWell result → DidRun (I.file inbox.old) R.Disk.content R.Disk.images R.Disk.limit (R.held rack.old) (R.held rack.new) (IsPrinted (O.taken out.old) (O.taken out.new) result) verdicts.now clients.now }
+    ensures why { IsTold (WhyNoRun (I.file inbox.old) (I.count inbox.old) (I.count inbox.new) R.Disk.content R.Disk.images R.Disk.limit R.Disk.count (R.held rack.old) (R.held rack.new) (R.count rack.old) (R.count rack.new) verdicts.now clients.now) result }
+    ensures silent { IsSilent (O.taken out.old) (O.taken out.new) result }
+    ensures written_later { O.count out.old ≤ O.count out.new }
+    ensures untouched { IsBeforeDisks result → rack.new ≡ rack.old }
+    ensures left { (IsWell result → ⊥) → (rack.new ≡ rack.old) ⊎ RunLeaves (I.file inbox.old) R.Disk.content R.Disk.images R.Disk.limit (R.held rack.old) (R.held rack.new) (R.count rack.old) (R.count rack.new) verdicts.now clients.now result }
+    ensures back { (n : ℕ) → R.can_take rack.new n }
+{
+    let ran = match run_all(rt, alloc, clients, verdicts, inbox, rack, gate) {
+        Ok(ran) => ran,
+        Err(fault) => return fault,
+    };
+    match write_report(out, &ran) {
+        Ok(()) => Answer::Ok,
+        Err(_) => Answer::WriteFault,
+    }
+}

@@ -1,0 +1,86 @@
+// `status`: what a ledger knows, read from its open nodes.
+ghost use Rattle.std.specs.Prelude.{◌≡◌, ◌≤◌, ℕ, length, map, IfOk};
+ghost use Rattle.outside.specs.Counts.{Rose, HasCause};
+ghost use Rattle.line_text.specs.Lines.{Prints};
+ghost use Rattle.command_answers.specs.Causes.{IsDone, IsTold, IsWell};
+ghost use Rattle.status_command.specs.Outcomes.{DidStatus, WhyNoStatus};
+ghost use Rattle.command_answers.specs.Texts.{IsPrinted, IsSilent};
+ghost use Rattle.status_command.specs.Texts.{told_lines, status_among};
+ghost use Rattle.command_answers.specs.Left.{IsBeforeDisks};
+ghost use Rattle.rack_nodes.specs.Racked.{IsBack};
+
+use cbdc_types::{Answer, Hash, Status};
+use line_text::{WriteFault, write_status};
+use outside::{Disk, Rack, Sink};
+use rack_ledgers::{Nodes, close_nodes, open_nodes};
+use shard_node::ShardNode;
+use shard_ranges::shard_of;
+use std::alloc::{AllocError, Global};
+
+// What the shard of a hash knows of it.
+fn status_of<D: Disk>(shards: &[ShardNode<D>], hash: &Hash) -> Status
+    ensures { length shards.now ≤ 64 → result ≡ status_among shards.now hash.now }
+{
+    let count = shards.len().min(64) as u32;
+    match shards.get(shard_of(hash, count) as usize) {
+        Some(shard) => shard.check_unspent(hash),
+        None => Status::Absent,
+    }
+}
+
+// What is known of each hash.
+fn statuses<D: Disk>(
+    alloc: Global,
+    nodes: &Nodes<D>,
+    hashes: &[Hash],
+) -> Result<Vec<Status>, AllocError>
+    ensures { length nodes.now.shards.items ≤ 64 → IfOk result (λ v. v.items ≡ map (status_among nodes.now.shards.items) hashes.now) }
+{
+    let mut all = Vec::with_capacity(alloc, hashes.len())?;
+    'hashes: for hash in hashes {
+        all.push(status_of(&nodes.shards, hash))?;
+    }
+    Ok(all)
+}
+
+// Writes a line for each hash.
+fn write_statuses<O: Sink>(
+    out: &mut O,
+    hashes: &[Hash],
+    statuses: &[Status],
+) -> Result<(), WriteFault>
+    ensures prints { Prints (O.taken out.old) (O.taken out.new) (told_lines hashes.now statuses.now) result }
+    ensures cause { HasCause (O.count out.old) (O.count out.new) result }
+{
+    'hashes: for (hash, status) in hashes.iter().zip(statuses) {
+        write_status(out, hash, status)?;
+    }
+    Ok(())
+}
+
+/// Tells what is known of hashes, a line for each in order. No journal changes.
+pub fn status<R: Rack, O: Sink>(alloc: Global, hashes: &[Hash], rack: &mut R, out: &mut O) -> Answer
+    requires { (n : ℕ) → R.can_take rack.old n }
+    ensures cause { IsDone (λ file. ⊥) (λ file. ⊥) (Rose (O.count out.old) (O.count out.new)) result }
+    ensures did { IsWell result → DidStatus R.Disk.content R.Disk.images R.Disk.limit (R.held rack.old) (R.held rack.new) (IsPrinted (O.taken out.old) (O.taken out.new) result) hashes.now }
+    ensures why { IsTold (WhyNoStatus R.Disk.content R.Disk.images R.Disk.limit R.Disk.count (R.held rack.old) (R.held rack.new) (R.count rack.old) (R.count rack.new)) result }
+    ensures silent { IsSilent (O.taken out.old) (O.taken out.new) result }
+    ensures written_later { O.count out.old ≤ O.count out.new }
+    ensures untouched { IsBeforeDisks result → rack.new ≡ rack.old }
+    ensures left { (n : ℕ) → IsBack R.Disk.images R.Disk.limit (R.held rack.old n) (R.held rack.new n) }
+    ensures back { (n : ℕ) → R.can_take rack.new n }
+{
+    let nodes = match open_nodes(alloc, rack) {
+        Ok(nodes) => nodes,
+        Err(fault) => return fault,
+    };
+    let told = statuses(alloc, &nodes, hashes);
+    close_nodes(rack, nodes);
+    let Ok(told) = told else {
+        return Answer::Memory;
+    };
+    match write_statuses(out, hashes, &told) {
+        Ok(()) => Answer::Ok,
+        Err(_) => Answer::WriteFault,
+    }
+}
