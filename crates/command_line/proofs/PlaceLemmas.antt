@@ -1,99 +1,110 @@
--- Files at places that rise.
-use Rattle.std.proofs.Common.{rules, arith, ◌≡◌, ℕ, ◌+◌, ◌<◌, ◌≤◌, List, [], ◌∷◌, ◌++◌, length, map, take, get_or, refl, sym, ◌∙◌, ap, subst, inl, inr, length-append}
-use Rattle.std.specs.List.Sorted.{IsStrictlyIncreasing}
-use Rattle.std.specs.List.{AllByRecursion}
-use Rattle.std.proofs.lemmas.Bool.{cases_lt}
-use Rattle.std.proofs.lemmas.List.{get_or_append_left, map-append, take_more}
-use Rattle.std.specs.Borrow.{Bor}
-use Rattle.std.proofs.Math.Seq.{get_or-append_seam}
+-- Words at places, one place after another.
+use Rattle.std.proofs.Common.{rules, arith, ◌≡◌, ◌∙◌, ◌||◌, ℕ, zero, suc, ◌+◌, ◌-◌, ◌<◌, ◌≤◌, Bool, true, false, not, cond, List, [], ◌∷◌, ◌++◌, length, append-nil, Option, Some, None, refl, sym, ap}
+use Rattle.std.specs.Prelude.{find, is_some, nat_lt, string_bytes}
+use Rattle.std.specs.declared.string.String.{String}
+use Rattle.std.specs.declared.alloc.Global.{Global}
+use Rattle.std.specs.List.{filter, list_any, range_with_len}
+use Rattle.std.specs.Option.{option_map, option_map_or, option_or}
+use Rattle.std.specs.Str.{bytes_eq}
+use Rattle.std.proofs.lemmas.List.Folds.{find-append, list_any-append}
+use Rattle.std.proofs.lemmas.List.{length-map}
+use Rattle.std.proofs.lemmas.List.Elements.{filter-append}
+use Rattle.std.proofs.lemmas.Bool.Decides.{nat_tests}
+use Rattle.std.proofs.lemmas.Slice.Eq.{bytes_eq-Decides}
+use Rattle.clap.specs.Lexer.{long_of}
 use Rattle.clap.specs.Words.{Text}
-use Rattle.command_line.specs.Words.{AreFiles, StandsThere}
-use Rattle.command_line.specs.declared.request.FileWord.{FileWord}
+use Rattle.command_line.specs.Places.{is_dashes, is_given, is_positional, is_trailing, lacks_value, names_option, option_at, option_place, places_before, word_at}
+use Rattle.command_line.specs.Words.{texts}
 
-all_push : {X : Type 0} (P : X → Type 0) (xs : List X) (x : X) → AllByRecursion P xs → P x → AllByRecursion P (xs ++ x ∷ [])
-all_push P [] x all one = (one, tt)
-all_push P (y ∷ xs) x all one = (all.0, all_push P xs x all.1 one)
+range-append : (a n m : ℕ) → range_with_len a (n + m) ≡ range_with_len a n ++ range_with_len (a + n) m
+range-append a zero m = let here : a ≡ a + 0 = omega arith in let none : 0 + m ≡ m = omega arith in rw none (ap (λ k. range_with_len k m) here)
+range-append a (suc n) m =
+    let more : suc n + m ≡ suc (n + m) = omega arith in
+    let same : a + 1 + n ≡ a + suc n = omega arith in
+    ap (range_with_len a) more ∙ ap (λ l. a ∷ l) (range-append (a + 1) n m ∙ ap (λ k. range_with_len (a + 1) n ++ range_with_len k m) same)
 
--- every place is below this one
-abbrev pub AllBelow : List ℕ → ℕ → Type 0
-AllBelow xs p = (k : ℕ) → k < length xs → get_or xs k 0 < p
+-- the places before a later one
+pub places_parts : (p q : ℕ) → 2 ≤ p → p ≤ q → places_before q ≡ places_before p ++ range_with_len p (q - p)
+places_parts p q some le =
+    let parts : q - 2 ≡ (p - 2) + (q - p) = omega arith in
+    let here : 2 + (p - 2) ≡ p = omega arith in
+    ap (range_with_len 2) parts ∙ range-append 2 (p - 2) (q - p) ∙ ap (λ k. places_before p ++ range_with_len k (q - p)) here
 
-below_push : (xs : List ℕ) (p : ℕ) → AllBelow xs p → AllBelow (xs ++ p ∷ []) (p + 1)
-below_push xs p below k lt = elim (cases_lt k (length xs)) [
-  | inl inside ↦
-      let low = below k inside in
-      let same = get_or_append_left xs (p ∷ []) 0 k inside in
-      omega arith
-  | inr past ↦
-      let long = length-append xs (p ∷ []) in
-      let last : k ≡ length xs = omega arith in
-      let same : get_or (xs ++ p ∷ []) k 0 ≡ p = ap (λ (i : ℕ). get_or (xs ++ p ∷ []) i 0) last ∙ get_or-append_seam xs p [] 0 in
-      omega arith
-]
+pub places_more : (p : ℕ) → 2 ≤ p → places_before (p + 1) ≡ places_before p ++ p ∷ []
+places_more p some =
+    let one : p + 1 - p ≡ 1 = omega arith in
+    places_parts p (p + 1) some (omega arith) ∙ ap (λ n. places_before p ++ range_with_len p n) one
 
-rising_push : (xs : List ℕ) (p : ℕ) → IsStrictlyIncreasing xs → AllBelow xs p → IsStrictlyIncreasing (xs ++ p ∷ [])
-rising_push xs p rising below k lt = elim (cases_lt (k + 1) (length xs)) [
-  | inl inside ↦
-      let step = rising k inside in
-      let within : k < length xs = omega arith in
-      let here = get_or_append_left xs (p ∷ []) 0 k within in
-      let next = get_or_append_left xs (p ∷ []) 0 (k + 1) inside in
-      omega arith
-  | inr past ↦
-      let long = length-append xs (p ∷ []) in
-      let last : k + 1 ≡ length xs = omega arith in
-      let within : k < length xs = omega arith in
-      let low = below k within in
-      let here = get_or_append_left xs (p ∷ []) 0 k within in
-      let same : get_or (xs ++ p ∷ []) (k + 1) 0 ≡ p = ap (λ (i : ℕ). get_or (xs ++ p ∷ []) i 0) last ∙ get_or-append_seam xs p [] 0 in
-      omega arith
-]
+or_none : (a b : Bool) → (a || (b || false)) ≡ (a || b)
+or_none true b = refl
+or_none false true = refl
+or_none false false = refl
 
-abbrev pub places : List FileWord → List ℕ
-places files = map (λ (f : FileWord). f.place) files
+pub trailing_more : (words : List Text) (p : ℕ) → 2 ≤ p → is_trailing words (p + 1) ≡ (is_trailing words p || is_dashes (word_at words p))
+trailing_more words p some =
+    let test = λ (q : ℕ). is_dashes (word_at words q) in
+    ap (list_any test) (places_more p some) ∙ list_any-append test (places_before p) (p ∷ []) ∙ or_none (is_trailing words p) (test p)
 
--- files with these names, at places below this one
-pub record AreFilesBelow (words names : List Text) (files : List FileWord) (at : ℕ) : Type 0 where
-  pub are : AreFiles words names files
-  pub below : AllBelow (places files) at
+positional_more : (words : List Text) (p : ℕ) → 2 ≤ p
+    → filter (is_positional words) (places_before (p + 1)) ≡ filter (is_positional words) (places_before p) ++ cond (is_positional words p) (p ∷ []) []
+positional_more words p some = ap (filter (is_positional words)) (places_more p some) ∙ filter-append (is_positional words) (places_before p) (p ∷ [])
 
-pub no_files : (words : List Text) (at : ℕ) → AreFilesBelow words [] [] at
-no_files words at = record {
-  are = record { named = refl; there = tt; rising = λ k lt. absurd (omega arith) };
-  below = λ k lt. absurd (omega arith);
-}
+-- a value of its own joins those before it, and another word joins none
+pub positional_joins : (words : List Text) (p : ℕ) (before : List ℕ) → 2 ≤ p → before ≡ filter (is_positional words) (places_before p) → is_positional words p ≡ true
+    → before ++ p ∷ [] ≡ filter (is_positional words) (places_before (p + 1))
+positional_joins words p before some is here = ap (λ ps. ps ++ p ∷ []) is ∙ sym (positional_more words p some ∙ ap (λ (b : Bool). filter (is_positional words) (places_before p) ++ cond b (p ∷ []) []) here)
 
-lift : (xs : List ℕ) (p q : ℕ) → p ≤ q → AllBelow xs p → AllBelow xs q
-lift xs p q le below k lt = let low = below k lt in omega arith
+pub positional_stays : (words : List Text) (p : ℕ) (before : List ℕ) → 2 ≤ p → before ≡ filter (is_positional words) (places_before p) → is_positional words p ≡ false
+    → before ≡ filter (is_positional words) (places_before (p + 1))
+positional_stays words p before some is here =
+    is ∙ sym (positional_more words p some ∙ ap (λ (b : Bool). filter (is_positional words) (places_before p) ++ cond b (p ∷ []) []) here ∙ append-nil (filter (is_positional words) (places_before p)))
 
-pub one_more_file : (words names : List Text) (files : List FileWord) (at : ℕ) (file : FileWord) (name : Text) (place : ℕ)
-    → AreFilesBelow words names files at → StandsThere words file → file.name.now ≡ name → file.place ≡ place → at ≤ place
-    → AreFilesBelow words (names ++ name ∷ []) (files ++ file ∷ []) (place + 1)
-one_more_file words names files at file name place so_far there named placed onwards =
-    let all_names : map (λ (f : FileWord). f.name.now) (files ++ file ∷ []) ≡ names ++ name ∷ [] =
-    map-append (λ (f : FileWord). f.name.now) files (file ∷ []) ∙ ap (λ (ns : List Text). ns ++ file.name.now ∷ []) so_far.are.named ∙ ap (λ (n : Text). names ++ n ∷ []) named
-    in
-    let all_places : places (files ++ file ∷ []) ≡ places files ++ place ∷ [] =
-    map-append (λ (f : FileWord). f.place) files (file ∷ []) ∙ ap (λ (p : ℕ). places files ++ p ∷ []) placed
-    in
-    let low : AllBelow (places files) place = lift (places files) at place onwards so_far.below in
-    record {
-      are = record {
-        named = all_names;
-        there = all_push (StandsThere words) files file so_far.are.there there;
-        rising = subst IsStrictlyIncreasing (sym all_places) (rising_push (places files) place so_far.are.rising low);
-      };
-      below = subst (λ (xs : List ℕ). AllBelow xs (place + 1)) (sym all_places) (below_push (places files) place low);
-    }
+-- a walk over all places ends behind the last
+pub places_end : (words : List (String Global)) (p : ℕ) → 2 ≤ p → length words ≤ p → (length words < p → p ≡ 2) → places_before p ≡ places_before (length (texts words))
+places_end words p some past end =
+    let same : p - 2 ≡ length words - 2 = grind arith in
+    ap (range_with_len 2) (same ∙ ap (λ n. n - 2) (sym (length-map words string_bytes)))
 
--- the same, at the next of some names
-pub one_more_of : (words : List Text) (names : List (Bor Text)) (d : Bor Text) (i : ℕ) (files : List FileWord) (at : ℕ) (file : FileWord) (place : ℕ)
-    → i < length names → AreFilesBelow words (map (λ (n : Bor Text). n.now) (take i names)) files at
-    → StandsThere words file → file.name.now ≡ (get_or names i d).now → file.place ≡ place → at ≤ place
-    → AreFilesBelow words (map (λ (n : Bor Text). n.now) (take (i + 1) names)) (files ++ file ∷ []) (place + 1)
-one_more_of words names d i files at file place inside so_far there named placed onwards =
-    let more : map (λ (n : Bor Text). n.now) (take (i + 1) names) ≡ map (λ (n : Bor Text). n.now) (take i names) ++ (get_or names i d).now ∷ [] =
-    ap (map (λ (n : Bor Text). n.now)) (take_more names i d inside) ∙ map-append (λ (n : Bor Text). n.now) (take i names) (get_or names i d ∷ [])
-    in
-    subst (λ (ns : List Text). AreFilesBelow words ns (files ++ file ∷ []) (place + 1)) (sym more)
-    (one_more_file words (map (λ (n : Bor Text). n.now) (take i names)) files at file (get_or names i d).now place so_far there named placed onwards)
+-- no option of the name stands before the place, nor there
+pub none_more : (name : Text) (words : List Text) (p : ℕ) → 2 ≤ p → find (names_option name words) (places_before p) ≡ None → names_option name words p ≡ false
+    → find (names_option name words) (places_before (p + 1)) ≡ None
+none_more name words p some before here =
+    let test = names_option name words in
+    ap (find test) (places_more p some) ∙ find-append test (places_before p) (p ∷ []) ∙ ap (λ o. option_or o (find test (p ∷ []))) before ∙ ap (λ (b : Bool). cond b (Some p) None) here
+
+-- none stands before the place, and one there
+pub first_there : (name : Text) (words : List Text) (p : ℕ) → 2 ≤ p → p < length words → find (names_option name words) (places_before p) ≡ None
+    → names_option name words p ≡ true → option_place name words ≡ Some p
+first_there name words p some inside before here =
+    let test = names_option name words in
+    let n = length words - p in
+    let long : n ≡ suc (n - 1) = omega arith in
+    ap (find test) (places_parts p (length words) some (omega arith)) ∙ find-append test (places_before p) (range_with_len p n) ∙ ap (λ o. option_or o (find test (range_with_len p n))) before
+    ∙ ap (λ k. find test (range_with_len p k)) long ∙ ap (λ (b : Bool). cond b (Some p) (find test (range_with_len (p + 1) (n - 1)))) here
+
+not_trailing : (a b : Bool) → (a || b) ≡ false → a ≡ false
+not_trailing true b e = e
+not_trailing false b e = refl
+
+-- where no `--` stands before the place, none stands before the one before it
+pub trailing_less : (words : List Text) (p : ℕ) → 2 < p → is_trailing words p ≡ false → is_trailing words (p - 1) ≡ false
+trailing_less words p some e =
+    let same : p - 1 + 1 ≡ p = omega arith in
+    not_trailing (is_trailing words (p - 1)) (is_dashes (word_at words (p - 1))) (sym (trailing_more words (p - 1) (omega arith)) ∙ ap (is_trailing words) same ∙ e)
+
+-- the word at the place is neither `--` nor an option: it is a value of its own, but for an option's
+pub own_word : (words : List Text) (p : ℕ) → 2 < p → is_trailing words p ≡ false → is_dashes (word_at words p) ≡ false → is_some (long_of (word_at words p)) ≡ false
+    → not (lacks_value (long_of (word_at words (p - 1)))) ≡ is_positional words p
+own_word words p some free dashes none =
+    let before : is_trailing words (p - 1) ≡ false = trailing_less words p some free in
+    let behind : nat_lt 2 p ≡ true = grind (arith, nat_tests) in
+    rw (free, dashes, before, none, behind) refl
+
+-- what was mapped from nothing is nothing
+pub none_mapped : {X Y : Type 0} (f : X → Y) (o : Option X) (p : Option Y) → option_map f o ≡ p → is_some o ≡ false → is_some p ≡ false
+none_mapped f None p e none = ap is_some (sym e)
+none_mapped f (Some x) p e none = cc
+
+-- where a place has the option, or is told to have none
+pub is_named : (name : Text) (words : List Text) (p : ℕ) (value : Option Text) → option_at words p ≡ Some (name, value) → names_option name words p ≡ true
+is_named name words p value is = ap (λ o. option_map_or (λ (q : Text × Option Text). bytes_eq q.0 name) o false) is ∙ (bytes_eq-Decides name name).1 refl

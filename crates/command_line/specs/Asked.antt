@@ -1,5 +1,5 @@
 -- What the words ask for.
-use Rattle.std.specs.Prelude.{◌≡◌, ◌⊎◌, ℕ, Bool, true, false, IsTrue, List, [], ◌∷◌, Contains, Option, Some, None, Ok, codes, decimal, map, if◌then◌else◌}
+use Rattle.std.specs.Prelude.{◌≡◌, ◌⊎◌, ℕ, Bool, true, false, IsTrue, List, [], ◌∷◌, Contains, Option, Some, None, Ok, codes, decimal, drop, map, if◌then◌else◌}
 use Rattle.std.specs.Str.{bytes_eq}
 use Rattle.hex.specs.Hex.{decode_of}
 use Rattle.cbdc_types.specs.Limits.{ShapeOf}
@@ -9,7 +9,8 @@ use Rattle.clap.specs.declared.error.kind.ErrorKind.{ErrorKind}
 use Rattle.clap.specs.declared.error.kind.ErrorKind.TheVariants.{DisplayHelp, DisplayVersion, OutOfMemory}
 use Rattle.command_line.specs.Command.{hamilton}
 use Rattle.command_line.specs.Values.{IsHashText, IsNumber, IsWhole}
-use Rattle.command_line.specs.Words.{AreFiles, IsGivenThere, StandsThere}
+use Rattle.command_line.specs.Places.{positional_places}
+use Rattle.command_line.specs.Words.{AreFiles, IsFirst, IsGivenBy}
 use Rattle.command_line.specs.declared.request.FileWord.{FileWord}
 use Rattle.command_line.specs.declared.request.Request.{Request}
 use Rattle.command_line.specs.declared.request.Request.TheVariants.{Init, Run, Recover, Status, Audit, Gen, Show}
@@ -104,12 +105,12 @@ IsShow _ = ⊥
 -- what the matches of a command ask for
 abbrev pub IsInit : List Text → List Row → ShapeOf → FileWord → Type 0
 IsInit words rows shape mint =
-    Meets words (codes "init") rows × HasShape rows shape × (first_of (codes "mint") rows ≡ Some mint.name.now) × StandsThere words mint
+    Meets words (codes "init") rows × HasShape rows shape × (first_of (codes "mint") rows ≡ Some mint.name.now) × IsFirst words mint
 
 abbrev pub IsRun : List Text → List Row → FileWord → List FileWord → Type 0
 IsRun words rows verdicts clients =
-    Meets words (codes "run") rows × (first_of (codes "verdicts") rows ≡ Some verdicts.name.now) × IsGivenThere (codes "--verdicts") words verdicts
-    × ((names : List Text) × (all_of (codes "client") rows ≡ Some names) × AreFiles words names clients)
+    Meets words (codes "run") rows × (first_of (codes "verdicts") rows ≡ Some verdicts.name.now) × IsGivenBy (codes "verdicts") words verdicts
+    × ((names : List Text) × (all_of (codes "client") rows ≡ Some names) × AreFiles words (positional_places words) names clients)
 
 abbrev pub IsStatus : List Text → List Row → List (List ℕ) → Type 0
 IsStatus words rows hashes =
@@ -123,8 +124,8 @@ listed (Some names) = names
 
 abbrev pub IsAudit : List Text → List Row → FileWord → List FileWord → Type 0
 IsAudit words rows mint clients =
-    Meets words (codes "audit") rows × (first_of (codes "mint") rows ≡ Some mint.name.now) × StandsThere words mint
-    × AreFiles words (listed (all_of (codes "client") rows)) clients
+    Meets words (codes "audit") rows × (first_of (codes "mint") rows ≡ Some mint.name.now) × IsFirst words mint
+    × AreFiles words (drop 1 (positional_places words)) (listed (all_of (codes "client") rows)) clients
 
 abbrev pub IsGen : List Text → List Row → ShapeOf → ℕ → ℕ → Type 0
 IsGen words rows shape seed count = Meets words (codes "gen") rows × HasShape rows shape × HasSeed rows seed × HasNumber rows (codes "count") 10000 count

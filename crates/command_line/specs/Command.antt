@@ -96,12 +96,11 @@ audit_shape = (with_rule (with_rule (new_app (codes "audit")) mint_rule) rest_ru
 abbrev pub help_shape : Shape
 help_shape = (with_rule (new_app (codes "help")) topic_rule).top
 
--- The version is told behind each command too, and `help` is a command of the program's own.
+-- The version is told behind the program's name alone, and `help` is a command of the program's own.
 abbrev pub with_settings : App → App
 with_settings a = record a {
   top = record a.top {
     has_version = true;
-    propagate_version = true;
     subcommand_required = true;
     disable_help_subcommand = true;
   };

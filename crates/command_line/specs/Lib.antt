@@ -1,4 +1,5 @@
 pub mod Asked
 pub mod Command
+pub mod Places
 pub mod Values
 pub mod Words

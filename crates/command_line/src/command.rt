@@ -244,7 +244,6 @@ fn top<'a>(alloc: Global) -> Command<'a>
     Command::new(alloc, "hamilton")
         .about("Keeps a ledger of unspent outputs, and runs transactions on it")
         .version("0.1.0")
-        .propagate_version(true)
         .subcommand_required(true)
         .disable_help_subcommand(true)
 }

@@ -1,13 +1,14 @@
 // What the words ask for.
-ghost use Rattle.std.specs.Prelude.{◌≡◌, ◌≤◌, ◌<◌, [], codes, length, map, IsTrue, IfSome, IfOk, IfErr, IsErrOf, IsOk, Some, None, Ok};
+ghost use Rattle.std.specs.Prelude.{◌≡◌, ◌≤◌, [], codes, drop, length, map, IsTrue, IfSome, IfOk, IfErr, IsErrOf, IsOk, Some, None, Ok};
 ghost use Rattle.hex.specs.Hex.{decode_of};
 ghost use Rattle.clap.specs.Words.{all_of, fault_of, first_of, found_of, kind_of, rows_of, subcommand_of, subcommand_rows_of};
 ghost use Rattle.command_line.specs.Asked.{IsAsked, IsRefused, IsShow, HasMistake, HasWish, HasNumber, HasNoNumber, HasShape, HasNoShape, HasNoHashes, HasSeed, HasNoSeed, HasNoWorkload, Meets, is_mistake, is_wish, help_words, listed};
 ghost use Rattle.command_line.specs.Command.{hamilton};
-ghost use Rattle.command_line.specs.Words.{AreFiles, IsGivenThere, StandsThere, texts};
+ghost use Rattle.command_line.specs.Places.{positional_places};
+ghost use Rattle.command_line.specs.Words.{AreFiles, IsFirst, IsGivenBy, StandsThere, texts};
 
 use crate::command::program;
-use crate::places::{Place, next_value, value_place};
+use crate::places::{option_of, positional_places};
 use crate::values::{hash_in, number_in, whole_in};
 use cbdc_types::{Hash, Shape};
 use clap::error::ErrorKind;
@@ -170,42 +171,65 @@ fn shape_of<'a>(inner: &ArgMatches<'a>) -> Result<Shape, WordsFault>
     }
 }
 
-// The file that a word at a place names.
+// The file that the word at a place names.
 fn file_at<'a>(words: &'a [String], place: usize, name: &'a str) -> Option<FileWord<'a>>
-    requires { place < length words.now }
     ensures there { IfSome result (λ f. StandsThere (texts words.entry.now) f) }
     ensures name { IfSome result (λ f. f.name.now ≡ name.entry.now) }
     ensures place { IfSome result (λ f. f.place ≡ place) }
 {
-    if words[place].as_str() == name {
-        return Some(FileWord {
-            name,
-            place: place as u64,
-        });
+    let word = words.get(place)?;
+    if word.as_str() != name {
+        return None;
     }
-    None
+    Some(FileWord {
+        name,
+        place: place as u64,
+    })
 }
 
-// The first place behind the program's name and the command's.
-const FIRST: Place = Place {
-    at: 2,
-    trailing: false,
-};
+// The files that the words at these places name.
+fn files_at<'a>(
+    alloc: Global,
+    words: &'a [String],
+    places: &[usize],
+    names: &[&'a str],
+) -> Option<Vec<FileWord<'a>>>
+    ensures { IfSome result (λ files. AreFiles (texts words.entry.now) places.now (map (λ n. n.now) names.now) files.items) }
+{
+    if places.len() != names.len() {
+        return None;
+    }
+    let mut files = Vec::new(alloc);
+    'names: for (index, name) in names.iter().enumerate() {
+        let Some(file) = file_at(words, places[index], name) else {
+            return None;
+        };
+        let Ok(()) = files.push(file) else {
+            return None;
+        };
+    }
+    Some(files)
+}
 
-// The mint's file.
-fn mint_of<'a>(words: &'a [String], name: &'a str) -> Option<FileWord<'a>>
-    ensures there { IfSome result (λ f. StandsThere (texts words.entry.now) f) }
+// The file that the first word names that is a value of its own.
+fn first_file<'a>(words: &'a [String], places: &[usize], name: &'a str) -> Option<FileWord<'a>>
+    requires { places.now ≡ positional_places (texts words.now) }
+    ensures first { IfSome result (λ f. IsFirst (texts words.entry.now) f) }
     ensures name { IfSome result (λ f. f.name.now ≡ name.entry.now) }
 {
-    match next_value(words, FIRST) {
-        Some(place) => file_at(words, place.at, name),
+    match places.first() {
+        Some(place) => file_at(words, *place, name),
         None => None,
     }
 }
 
 // What the matches of `init` ask for.
 #[tactic(auto, using(crate::proofs::Rows::rows))]
-fn init_request<'a>(words: &'a [String], inner: &ArgMatches<'a>) -> Result<Request<'a>, WordsFault>
+fn init_request<'a>(
+    alloc: Global,
+    words: &'a [String],
+    inner: &ArgMatches<'a>,
+) -> Result<Request<'a>, WordsFault>
     requires { Meets (texts words.now) (codes "init") (rows_of (found_of inner.now)) }
     ensures asked { IfOk result (λ r. IsAsked (texts words.entry.now) r) }
     ensures refused { IfErr result (λ e. IsRefused (texts words.entry.now) e) }
@@ -217,75 +241,29 @@ fn init_request<'a>(words: &'a [String], inner: &ArgMatches<'a>) -> Result<Reque
     let Some(name) = inner.get_str("mint") else {
         return Err(WordsFault::Memory);
     };
-    match mint_of(words, name) {
+    let Ok(places) = positional_places(alloc, words) else {
+        return Err(WordsFault::Memory);
+    };
+    match first_file(words, places.as_slice(), name) {
         Some(mint) => Ok(Request::Init { shape, mint }),
         None => Err(WordsFault::Memory),
     }
 }
 
-// The file that a word at a place gives to `--verdicts`.
-fn given_at<'a>(words: &'a [String], place: usize, name: &'a str) -> Option<FileWord<'a>>
-    requires { place < length words.now }
-    ensures there { IfSome result (λ f. IsGivenThere (codes "--verdicts") (texts words.entry.now) f) }
-    ensures name { IfSome result (λ f. f.name.now ≡ name.entry.now) }
-{
-    let word = words[place].as_str();
-    if word == name {
-        return Some(FileWord {
-            name,
-            place: place as u64,
-        });
-    }
-    let Some(rest) = word.as_bytes().strip_prefix(b"--verdicts=") else {
-        return None;
-    };
-    if rest == name.as_bytes() {
-        return Some(FileWord {
-            name,
-            place: place as u64,
-        });
-    }
-    None
-}
-
 // The file of the verdicts.
 fn verdicts_of<'a>(words: &'a [String], name: &'a str) -> Option<FileWord<'a>>
-    ensures there { IfSome result (λ f. IsGivenThere (codes "--verdicts") (texts words.entry.now) f) }
+    ensures given { IfSome result (λ f. IsGivenBy (codes "verdicts") (texts words.entry.now) f) }
     ensures name { IfSome result (λ f. f.name.now ≡ name.entry.now) }
 {
-    match value_place(words, "--verdicts") {
-        Some(place) => given_at(words, place, name),
-        None => None,
+    let option = option_of(words, "verdicts")?;
+    match option.value {
+        Some(value) if value == name => Some(FileWord {
+            name,
+            place: option.place as u64,
+        }),
+        Some(_) => None,
+        None => file_at(words, option.place + 1, name),
     }
-}
-
-// The client files, from a place on.
-fn clients_of<'a>(
-    alloc: Global,
-    words: &'a [String],
-    start: Place,
-    names: &[&'a str],
-) -> Option<Vec<FileWord<'a>>>
-    ensures { IfSome result (λ files. AreFiles (texts words.entry.now) (map (λ n. n.now) names.entry.now) files.items) }
-{
-    let mut files = Vec::new(alloc);
-    let mut from = start;
-    'names: for name in names {
-        let Some(place) = next_value(words, from) else {
-            return None;
-        };
-        let Some(file) = file_at(words, place.at, name) else {
-            return None;
-        };
-        let Ok(()) = files.push(file) else {
-            return None;
-        };
-        from = Place {
-            at: place.at + 1,
-            trailing: place.trailing,
-        };
-    }
-    Some(files)
 }
 
 // What the matches of `run` ask for.
@@ -307,7 +285,10 @@ fn run_request<'a>(
     let Some(names) = inner.get_strs("client") else {
         return None;
     };
-    match clients_of(alloc, words, FIRST, names) {
+    let Ok(places) = positional_places(alloc, words) else {
+        return None;
+    };
+    match files_at(alloc, words, places.as_slice(), names) {
         Some(clients) => Some(Request::Run { verdicts, clients }),
         None => None,
     }
@@ -318,14 +299,14 @@ fn run_request<'a>(
 fn rest_of<'a>(
     alloc: Global,
     words: &'a [String],
-    start: Place,
+    places: &[usize],
     inner: &ArgMatches<'a>,
 ) -> Option<Vec<FileWord<'a>>>
-    ensures { IfSome result (λ files. AreFiles (texts words.entry.now) (listed (all_of (codes "client") (rows_of (found_of inner.now)))) files.items) }
+    ensures { IfSome result (λ files. AreFiles (texts words.entry.now) places.now (listed (all_of (codes "client") (rows_of (found_of inner.now)))) files.items) }
 {
     match inner.get_strs("client") {
-        Some(names) => clients_of(alloc, words, start, names),
-        None => Some(Vec::new(alloc)),
+        Some(names) => files_at(alloc, words, places, names),
+        None => files_at(alloc, words, places, &[]),
     }
 }
 
@@ -342,17 +323,16 @@ fn audit_request<'a>(
     let Some(name) = inner.get_str("mint") else {
         return None;
     };
-    let Some(place) = next_value(words, FIRST) else {
+    let Ok(places) = positional_places(alloc, words) else {
         return None;
     };
-    let Some(mint) = file_at(words, place.at, name) else {
+    let Some(mint) = first_file(words, places.as_slice(), name) else {
         return None;
     };
-    let start = Place {
-        at: place.at + 1,
-        trailing: place.trailing,
+    let Some((_, rest)) = places.split_first() else {
+        return None;
     };
-    match rest_of(alloc, words, start, inner) {
+    match rest_of(alloc, words, rest, inner) {
         Some(clients) => Some(Request::Audit { mint, clients }),
         None => None,
     }
@@ -462,7 +442,7 @@ fn asked_of<'a>(
         return Err(WordsFault::Memory);
     };
     if name == "init" {
-        return init_request(words, inner);
+        return init_request(alloc, words, inner);
     }
     if name == "run" {
         return run_request(alloc, words, inner).ok_or(WordsFault::Memory);

@@ -1,5 +1,7 @@
 -- Words ask for one thing.
-use Rattle.std.proofs.Common.{◌≡◌, ◌∙◌, ◌<◌, ◌^◌, ℕ, true, false, codes, List, [], ◌∷◌, map, Some, Result, Ok, refl, sym, ap, subst, arith}
+use Rattle.std.proofs.Common.{◌≡◌, ◌∙◌, ◌⊎◌, ◌+◌, ◌<◌, ◌^◌, ℕ, true, false, codes, List, [], ◌∷◌, map, Option, Some, None, Result, Ok, inl, inr, refl, sym, ap, subst, arith, true≢false}
+use Rattle.std.specs.Prelude.{is_some, slice_get}
+use Rattle.std.specs.Option.{option_map_or}
 use Rattle.std.specs.Str.{bytes_eq}
 use Rattle.std.proofs.lemmas.Fmt.{decimal_injective}
 use Rattle.hex.specs.Hex.{decode_of}
@@ -7,6 +9,9 @@ use Rattle.hex.specs.declared.error.FromHexError.{FromHexError}
 use Rattle.cbdc_types.specs.Limits.{ShapeOf}
 use Rattle.clap.specs.Words.{Text, Row, first_of}
 use Rattle.command_line.specs.Asked.{HasNumber, HasSeed, HasShape, IsAudit, IsGen, IsInit, IsRun, IsStatus, Meets}
+use Rattle.command_line.specs.Places.{option_at, option_place, positional_places}
+use Rattle.command_line.specs.Words.{IsFirst, IsGivenBy, StandsThere}
+use Rattle.command_line.specs.declared.request.FileWord.{FileWord}
 use Rattle.command_line.specs.declared.request.Request.TheVariants.{Init, Run, Recover, Status, Audit, Gen, Show}
 use Rattle.word_laws.specs.Single.{OneRequestLaw}
 use Rattle.word_laws.proofs.Refused.{one_list, one_met, one_text, no_wish, other_command, same_rows}
@@ -57,13 +62,39 @@ one_hashes (h ∷ hashes) (k ∷ sought) e =
     let rest : hashes ≡ sought = one_hashes hashes sought cc in
     λ i. first i ∷ rest i
 
+-- ---- places
+
+one_place : (o : Option ℕ) (p q : ℕ) → o ≡ Some p → o ≡ Some q → p ≡ q
+one_place o p q one other = ap (λ (x : Option ℕ). option_map_or (λ n. n) x 0) (sym one ∙ other)
+
+joined_or_not : (o : Option (Text × Option Text)) (s t : Text) (v : Text) → o ≡ Some (s, Some v) → o ≡ Some (t, None) → ⊥
+joined_or_not o s t v one other = true≢false (ap (λ (x : Option (Text × Option Text)). option_map_or (λ p. is_some p.1) x false) (sym one ∙ other))
+
+given_once : (name : Text) (words : List Text) (f g : FileWord) → IsGivenBy name words f → IsGivenBy name words g → f.place ≡ g.place
+given_once name words f g (at, is, how) (other, also, so) = go how so
+  where
+    same : at ≡ other
+    same = one_place (option_place name words) at other is also
+
+    Given : ℕ → FileWord → Type 0
+    Given p file = ((option_at words p ≡ Some (name, Some file.name.now)) × (file.place ≡ p)) ⊎ ((option_at words p ≡ Some (name, None)) × (file.place ≡ p + 1) × StandsThere words file)
+
+    go : Given at f → Given other g → f.place ≡ g.place
+    go (inl a) (inl b) = a.1 ∙ same ∙ sym b.1
+    go (inl a) (inr b) = absurd (joined_or_not (option_at words at) name name f.name.now a.0 (ap (option_at words) same ∙ b.0))
+    go (inr a) (inl b) = absurd (joined_or_not (option_at words at) name name g.name.now (ap (option_at words) same ∙ b.0) a.0)
+    go (inr a) (inr b) = a.1 ∙ ap (λ p. p + 1) same ∙ sym b.1
+
+first_once_placed : (words : List Text) (f g : FileWord) → IsFirst words f → IsFirst words g → f.place ≡ g.place
+first_once_placed words f g one other = one_place (slice_get (positional_places words) 0) f.place g.place one.0 other.0
+
 -- ---- the law
 
 pub one_request_law : OneRequestLaw
 one_request_law words (Init shape mint) (Init kind file) asked also =
     let same : asked.0 ≡ also.0 = rows_of words (codes "init") asked.0 also.0 asked.1.0 also.1.0 in
     let own : IsInit words also.0 shape mint = subst (λ (r : List Row). IsInit words r shape mint) same asked.1 in
-    (one_shape also.0 shape kind own.1 also.1.1, first_once also.0 (codes "mint") mint.name.now file.name.now own.2 also.1.2)
+    (one_shape also.0 shape kind own.1 also.1.1, first_once also.0 (codes "mint") mint.name.now file.name.now own.2 also.1.2, first_once_placed words mint file own.3 also.1.3)
 one_request_law words (Init shape mint) (Run told files) asked also = absurd (apart words (codes "init") (codes "run") asked.0 also.0 asked.1.0 also.1.0 refl refl)
 one_request_law words (Init shape mint) Recover asked also = absurd (apart words (codes "init") (codes "recover") asked.0 also.0 asked.1.0 also.1 refl refl)
 one_request_law words (Init shape mint) (Status sought) asked also = absurd (apart words (codes "init") (codes "status") asked.0 also.0 asked.1.0 also.1.0 refl refl)
@@ -74,8 +105,12 @@ one_request_law words (Run verdicts clients) (Init kind file) asked also = absur
 one_request_law words (Run verdicts clients) (Run told files) asked also =
     let same : asked.0 ≡ also.0 = rows_of words (codes "run") asked.0 also.0 asked.1.0 also.1.0 in
     let own : IsRun words also.0 verdicts clients.items = subst (λ (r : List Row). IsRun words r verdicts clients.items) same asked.1 in
-    let named : own.3.0 ≡ also.1.3.0 = one_list own.3.0 also.1.3.0 (sym own.3.1 ∙ also.1.3.1) in
-    (first_once also.0 (codes "verdicts") verdicts.name.now told.name.now own.1 also.1.1, own.3.2.named ∙ named ∙ sym also.1.3.2.named)
+    let named : own.3.0 ≡ also.1.3.0 = one_list own.3.0 also.1.3.0 (sym own.3.1 ∙ also.1.3.1) in (
+      first_once also.0 (codes "verdicts") verdicts.name.now told.name.now own.1 also.1.1,
+      own.3.2.named ∙ named ∙ sym also.1.3.2.named,
+      given_once (codes "verdicts") words verdicts told own.2 also.1.2,
+      own.3.2.placed ∙ sym also.1.3.2.placed,
+    )
 one_request_law words (Run verdicts clients) Recover asked also = absurd (apart words (codes "run") (codes "recover") asked.0 also.0 asked.1.0 also.1 refl refl)
 one_request_law words (Run verdicts clients) (Status sought) asked also = absurd (apart words (codes "run") (codes "status") asked.0 also.0 asked.1.0 also.1.0 refl refl)
 one_request_law words (Run verdicts clients) (Audit file files) asked also = absurd (apart words (codes "run") (codes "audit") asked.0 also.0 asked.1.0 also.1.0 refl refl)
@@ -105,8 +140,12 @@ one_request_law words (Audit mint clients) Recover asked also = absurd (apart wo
 one_request_law words (Audit mint clients) (Status sought) asked also = absurd (apart words (codes "audit") (codes "status") asked.0 also.0 asked.1.0 also.1.0 refl refl)
 one_request_law words (Audit mint clients) (Audit file files) asked also =
     let same : asked.0 ≡ also.0 = rows_of words (codes "audit") asked.0 also.0 asked.1.0 also.1.0 in
-    let own : IsAudit words also.0 mint clients.items = subst (λ (r : List Row). IsAudit words r mint clients.items) same asked.1 in
-    (first_once also.0 (codes "mint") mint.name.now file.name.now own.1 also.1.1, own.3.named ∙ sym also.1.3.named)
+    let own : IsAudit words also.0 mint clients.items = subst (λ (r : List Row). IsAudit words r mint clients.items) same asked.1 in (
+      first_once also.0 (codes "mint") mint.name.now file.name.now own.1 also.1.1,
+      own.3.named ∙ sym also.1.3.named,
+      first_once_placed words mint file own.2 also.1.2,
+      own.3.placed ∙ sym also.1.3.placed,
+    )
 one_request_law words (Audit mint clients) (Gen kind number size) asked also = absurd (apart words (codes "audit") (codes "gen") asked.0 also.0 asked.1.0 also.1.0 refl refl)
 one_request_law words (Audit mint clients) (Show other) asked also = absurd (no_wish words (codes "audit") asked.0 asked.1.0 refl also)
 one_request_law words (Gen shape seed count) (Init kind file) asked also = absurd (apart words (codes "gen") (codes "init") asked.0 also.0 asked.1.0 also.1.0 refl refl)

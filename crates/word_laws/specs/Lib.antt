@@ -1,2 +1,3 @@
 pub mod Refused
 pub mod Single
+pub mod Taken

@@ -1,22 +1,27 @@
 -- Words ask for one thing.
-use Rattle.std.specs.Prelude.{◌≡◌, List, map}
+use Rattle.std.specs.Prelude.{◌≡◌, ℕ, List, map}
 use Rattle.clap.specs.Words.{Text}
 use Rattle.command_line.specs.Asked.{IsAsked}
 use Rattle.command_line.specs.declared.request.FileWord.{FileWord}
 use Rattle.command_line.specs.declared.request.Request.{Request}
 use Rattle.command_line.specs.declared.request.Request.TheVariants.{Init, Run, Recover, Status, Audit, Gen, Show}
 
--- the names of files
+-- the names of files, and their places among the words
 abbrev pub names_of : List FileWord → List Text
 names_of files = map (λ (f : FileWord). f.name.now) files
 
--- requests for the same: of the same command with the same values, whose files have the same names, wherever these stand among the words
+abbrev pub places_of : List FileWord → List ℕ
+places_of files = map (λ (f : FileWord). f.place) files
+
+-- requests for the same: of the same command with the same values, whose files have the same names and the same places among the words
 abbrev pub AreAlike : Request → Request → Type 0
-AreAlike (Init shape mint) (Init kind file) = (shape ≡ kind) × (mint.name.now ≡ file.name.now)
-AreAlike (Run verdicts clients) (Run told files) = (verdicts.name.now ≡ told.name.now) × (names_of clients.items ≡ names_of files.items)
+AreAlike (Init shape mint) (Init kind file) = (shape ≡ kind) × (mint.name.now ≡ file.name.now) × (mint.place ≡ file.place)
+AreAlike (Run verdicts clients) (Run told files) =
+    (verdicts.name.now ≡ told.name.now) × (names_of clients.items ≡ names_of files.items) × (verdicts.place ≡ told.place) × (places_of clients.items ≡ places_of files.items)
 AreAlike Recover Recover = Unit {0}
 AreAlike (Status hashes) (Status sought) = hashes.items ≡ sought.items
-AreAlike (Audit mint clients) (Audit file files) = (mint.name.now ≡ file.name.now) × (names_of clients.items ≡ names_of files.items)
+AreAlike (Audit mint clients) (Audit file files) =
+    (mint.name.now ≡ file.name.now) × (names_of clients.items ≡ names_of files.items) × (mint.place ≡ file.place) × (places_of clients.items ≡ places_of files.items)
 AreAlike (Gen shape seed count) (Gen kind number size) = (shape ≡ kind) × (seed ≡ number) × (count ≡ size)
 AreAlike (Show text) (Show other) = Unit {0}
 AreAlike _ _ = ⊥

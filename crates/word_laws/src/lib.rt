@@ -4,6 +4,7 @@
 ghost use Rattle.std.specs.Prelude.{◌≡◌, length};
 ghost use Rattle.word_laws.specs.Refused.{AreWhole, AskedLaw, HasHashes};
 ghost use Rattle.word_laws.specs.Single.{OneRequestLaw};
+ghost use Rattle.word_laws.specs.Taken.{TakenLaw};
 
 use cbdc_types::Hash;
 use command_line::Request;
@@ -16,6 +17,11 @@ pub fn asked_law()
 /// Words ask for one thing.
 pub fn one_request_law()
     ensures { OneRequestLaw }
+{}
+
+/// What is taken of the words for files is what stands at their places.
+pub fn taken_law()
+    ensures { TakenLaw }
 {}
 
 // A hash has its 32 bytes.
