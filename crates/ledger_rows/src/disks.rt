@@ -1,0 +1,122 @@
+// Disks as bytes, and the journals that they hold: a record is a gate of 1, the length of its body in 8 bytes, and the body.
+use row_text::{put_count, put_word};
+use std::alloc::{AllocError, Global};
+
+/// A disk between two runs: its bytes, how many it may have, and which calls of the next run fail: so many from one on.
+#[derive(Drop)]
+pub struct DiskState {
+    pub bytes: Vec<u8>,
+    pub capacity: usize,
+    pub first_fault: u64,
+    pub faults: u64,
+}
+
+// A number in 8 bytes, the least first; 0 past the end.
+fn number_at(bytes: &[u8], at: usize) -> u64 {
+    let end = at.saturating_add(8);
+    match bytes.get(at..end) {
+        Some([a, b, c, d, e, f, g, h]) => u64::from_le_bytes([*a, *b, *c, *d, *e, *f, *g, *h]),
+        _ => 0,
+    }
+}
+
+// The gate behind the record at this one.
+fn next_gate(bytes: &[u8], gate: usize) -> usize {
+    let length = number_at(bytes, gate.saturating_add(1)) as usize;
+    gate.saturating_add(9).saturating_add(length)
+}
+
+// The gate behind a disk's first records.
+fn gate_behind(bytes: &[u8], records: usize) -> usize {
+    let mut at = 0usize;
+    for _ in 0..records {
+        at = next_gate(bytes, at);
+    }
+    at
+}
+
+/// Keeps a disk's first records alone, and the closed gate behind them.
+pub fn cut(bytes: &mut Vec<u8>, records: usize) -> Result<(), AllocError> {
+    bytes.truncate(gate_behind(bytes, records));
+    bytes.push(0)?;
+    Ok(())
+}
+
+// Whether an open gate stands there.
+fn is_open(bytes: &[u8], gate: usize) -> bool {
+    bytes.get(gate) == Some(&1)
+}
+
+/// Appends where the gates of a disk's records stand, and the closing one.
+pub fn put_gates(alloc: Global, text: &mut String, bytes: &[u8]) -> Result<(), AllocError> {
+    let mut at = 0usize;
+    for _ in bytes {
+        put_count(alloc, text, at as u64)?;
+        if !is_open(bytes, at) {
+            break;
+        }
+        at = next_gate(bytes, at);
+    }
+    Ok(())
+}
+
+/// The word of a record's kind.
+pub fn kind_word(kind: u8) -> &'static str {
+    match kind {
+        1 => "genesis",
+        2 => "lock",
+        3 => "finish",
+        4 => "forget",
+        5 => "start",
+        6 => "prepare",
+        7 => "commit",
+        8 => "discard",
+        9 => "done",
+        _ => "unknown",
+    }
+}
+
+// Appends the line of the record at a gate: its kind and stamp, and where it is of a batch that one's lane and number.
+fn put_record(
+    alloc: Global,
+    text: &mut String,
+    bytes: &[u8],
+    gate: usize,
+) -> Result<(), AllocError> {
+    let body = gate.saturating_add(9);
+    let kind = bytes.get(body).copied().unwrap_or(0);
+    put_word(text, kind_word(kind))?;
+    put_count(alloc, text, number_at(bytes, body.saturating_add(1)))?;
+    if kind != 1 && kind != 5 {
+        put_count(alloc, text, number_at(bytes, body.saturating_add(9)))?;
+        put_count(alloc, text, number_at(bytes, body.saturating_add(17)))?;
+    }
+    text.push('\n')
+}
+
+/// Appends a line for each of a disk's records.
+pub fn put_records(alloc: Global, text: &mut String, bytes: &[u8]) -> Result<(), AllocError> {
+    let mut at = 0usize;
+    for _ in bytes {
+        if !is_open(bytes, at) {
+            break;
+        }
+        put_record(alloc, text, bytes, at)?;
+        at = next_gate(bytes, at);
+    }
+    Ok(())
+}
+
+/// Appends bytes in digits, as a line.
+pub fn put_digits(alloc: Global, text: &mut String, bytes: &[u8]) -> Result<(), AllocError> {
+    text.push_str(hex::encode(alloc, bytes)?.as_str())?;
+    text.push('\n')
+}
+
+/// Appends all disks in digits, a line for each.
+pub fn put_disks(alloc: Global, text: &mut String, disks: &[DiskState]) -> Result<(), AllocError> {
+    for disk in disks {
+        put_digits(alloc, text, &disk.bytes)?;
+    }
+    Ok(())
+}

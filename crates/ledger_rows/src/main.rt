@@ -1,0 +1,26 @@
+//! Runs rows of whole runs of the program, told in text files, over devices in memory.
+#![tactic(auto)]
+
+mod disks;
+mod files;
+mod looking;
+mod noting;
+mod play;
+mod racks;
+mod state;
+mod subject;
+mod verbs;
+mod words;
+
+use row_text::run_files;
+use state::State;
+use std::io;
+use std::process::ExitCode;
+
+fn main(rt: HostRuntime) -> io::Result<ExitCode> {
+    if run_files::<HostRuntime, State>(&rt)? {
+        Ok(ExitCode::from(0))
+    } else {
+        Ok(ExitCode::from(1))
+    }
+}

@@ -1,0 +1,96 @@
+// Devices that note what is asked of them, in order. What there is no memory for is left out.
+ghost use Rattle.std.specs.Prelude.{◌≡◌};
+
+use cbdc_types::NodeId;
+use mem_devices::{FaultDisk, MemInbox, MemRack};
+use outside::{Failed, Gate, Inbox, Point, Rack};
+use std::alloc::Global;
+use std::cell::RefCell;
+use std::sync::Wait;
+
+/// A gate that notes the points that are passed.
+#[derive(Drop)]
+pub struct NotingGate {
+    points: RefCell<Vec<Point>>,
+}
+
+impl NotingGate {
+    pub fn new(alloc: Global) -> NotingGate {
+        NotingGate {
+            points: RefCell::new(Vec::new(alloc)),
+        }
+    }
+
+    /// The points that were passed.
+    pub fn into_points(self) -> Vec<Point> {
+        let NotingGate { points } = self;
+        points.into_inner()
+    }
+}
+
+impl Gate for NotingGate {
+    fn pass<W: Wait>(&self, _rt: &W, point: &Point) {
+        if let Ok(mut points) = self.points.try_borrow_mut() {
+            let _ = points.push(*point);
+        }
+    }
+}
+
+/// Files that note the names that are read from their beginning on.
+#[derive(Drop)]
+pub struct NotingInbox {
+    pub files: MemInbox,
+    pub names: Vec<String>,
+    pub alloc: Global,
+}
+
+impl NotingInbox {
+    fn note(&mut self, name: &str)
+        ensures { self.new.files ≡ self.old.files }
+    {
+        if let Ok(name) = String::from_str(self.alloc, name) {
+            let _ = self.names.push(name);
+        }
+    }
+}
+
+impl Inbox for NotingInbox {
+    ghost file = { λ i. ⟦<MemInbox as Inbox>⟧.file i.files };
+
+    ghost count = { λ i. ⟦<MemInbox as Inbox>⟧.count i.files };
+
+    fn read(&mut self, name: &str, at: u64, buf: &mut [u8]) -> Result<usize, Failed> {
+        if at == 0 {
+            self.note(name);
+        }
+        self.files.read(name, at, buf)
+    }
+}
+
+/// A rack that notes the nodes whose disks are taken.
+#[derive(Drop)]
+pub struct NotingRack {
+    pub disks: MemRack<FaultDisk>,
+    pub nodes: Vec<NodeId>,
+}
+
+impl Rack for NotingRack {
+    type Disk = FaultDisk;
+
+    ghost held = { λ r. ⟦<MemRack<FaultDisk> as Rack>⟧.held r.disks };
+
+    ghost count = { λ r. ⟦<MemRack<FaultDisk> as Rack>⟧.count r.disks };
+
+    ghost can_take = { λ r. ⟦<MemRack<FaultDisk> as Rack>⟧.can_take r.disks };
+
+    ghost can_put = { λ r. ⟦<MemRack<FaultDisk> as Rack>⟧.can_put r.disks };
+
+    fn take(&mut self, node: NodeId) -> Result<FaultDisk, Failed> {
+        let _ = self.nodes.push(node);
+        self.disks.take(node)
+    }
+
+    fn put(&mut self, node: NodeId, disk: FaultDisk) {
+        self.disks.put(node, disk);
+    }
+}

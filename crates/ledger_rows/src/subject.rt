@@ -1,0 +1,91 @@
+// What the steps of these rows do: whole runs of the program over disks.
+use crate::files::{name_file, name_hash, name_tx};
+use crate::looking::{check_run, look, same};
+use crate::play::{play, take_back};
+use crate::racks::{change_disk, crash, empty_rack, keep, load};
+use crate::state::{ROOM, State};
+use crate::verbs::{Verb, is_for, verb_of};
+use crate::words::count_at;
+use row_text::{Block, Names, Subject, Wrong, rest};
+use std::alloc::Global;
+use std::sync::Wait;
+
+// Runs the program over the disks, and checks its text and status.
+fn run<W: Wait>(
+    rt: &W,
+    state: &mut State,
+    alloc: Global,
+    words: &[&str],
+    block: &Block,
+) -> Result<(), Wrong> {
+    let ran = play(rt, alloc, state, words)?;
+    take_back(alloc, &mut state.disks, &ran)?;
+    let came = check_run(alloc, &ran, block);
+    state.ran = Some(ran);
+    state.room = ROOM;
+    came
+}
+
+// `room BYTES`: so many bytes the next run's output takes.
+fn room(state: &mut State, words: &[&str]) -> Result<(), Wrong> {
+    state.room = count_at(words, 0)?;
+    Ok(())
+}
+
+// Does a step that makes or changes something, or hands it on.
+fn do_step(
+    state: &mut State,
+    alloc: Global,
+    verb: Verb,
+    words: &[&str],
+    text: &str,
+) -> Result<(), Wrong> {
+    match verb {
+        Verb::Hash => name_hash(state, alloc, words),
+        Verb::Tx => name_tx(state, alloc, words),
+        Verb::File => name_file(state, alloc, words, text),
+        Verb::Rack => empty_rack(state, alloc, words),
+        Verb::Load => load(state, alloc, words),
+        Verb::Keep => keep(state, alloc, words),
+        Verb::Node => change_disk(state, alloc, words),
+        Verb::Crash => crash(state, alloc, words),
+        Verb::Room => room(state, words),
+        Verb::Same => same(state, alloc, words),
+        other => look(state, alloc, other, words, text),
+    }
+}
+
+impl Subject for State {
+    fn new(alloc: Global) -> State {
+        State::empty(alloc)
+    }
+
+    fn hashes(&self) -> &Names<String> {
+        &self.hashes
+    }
+
+    fn mark(&mut self) {
+        self.keep_names();
+    }
+
+    fn begin(&mut self) {
+        self.forget();
+    }
+
+    fn step<W: Wait>(
+        &mut self,
+        rt: &W,
+        alloc: Global,
+        words: &[&str],
+        block: &Block,
+    ) -> Result<(), Wrong> {
+        let (verb, behind) = (verb_of(words)?, rest(words, 1));
+        if !is_for(verb, block) {
+            return Err(Wrong::Line("what stands behind it is not for this step"));
+        }
+        match verb {
+            Verb::Run => run(rt, self, alloc, behind, block),
+            other => do_step(self, alloc, other, behind, block.text.as_str()),
+        }
+    }
+}
