@@ -1,6 +1,2 @@
 mod faults;
 mod looks;
-mod named;
-mod recoveries;
-mod refused;
-mod runs;

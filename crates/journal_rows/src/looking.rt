@@ -1,0 +1,262 @@
+// What the plain programs say of journals: of hashes and lanes behind each record, of sizes and room, of which record stands.
+use crate::calls::put_status;
+use crate::state::{State, journals_of};
+use cbdc_types::{LaneId, List, Outcome, Record, Shape};
+use model_check::{
+    Listed, Phase, Row, first_refusal_of, is_after, is_caused, is_in_grammar, is_ordered,
+    kept_room, lane_room, need_of, outcome_of, size_of, slot_of, slot_stamp, status_of, used_of,
+};
+use row_records::{batch_of, hash, put_hash_word, put_refusal, small, verdicts};
+use row_text::{
+    Wrong, check_text, check_words, check_yes, number, put_count, put_word, rest, word,
+};
+use std::alloc::{AllocError, Global};
+
+// Appends a stroke where a text goes on.
+fn put_stroke(text: &mut String) -> Result<(), AllocError> {
+    if text.is_empty() {
+        Ok(())
+    } else {
+        put_word(text, "/")
+    }
+}
+
+// Appends a number, or that there is none.
+fn put_told(alloc: Global, text: &mut String, told: Option<u64>) -> Result<(), AllocError> {
+    put_stroke(text)?;
+    match told {
+        Some(n) => put_count(alloc, text, n),
+        None => put_word(text, "none"),
+    }
+}
+
+// So many of the oldest of what stands with the newest first.
+fn oldest<T>(all: &[T], many: usize) -> &[T] {
+    let newer = all.len().saturating_sub(many);
+    &all[newer..]
+}
+
+/// `says LEDGER NODE HASH`, and what is known of the hash before the first record and behind each.
+pub fn says(state: &State, alloc: Global, words: &[&str], text: &str) -> Result<(), Wrong> {
+    let past = state.journal(alloc, words)?;
+    let x = hash(alloc, word(words, 2)?)?;
+    let mut came = String::new(alloc);
+    for many in 0..past.len().saturating_add(1) {
+        put_stroke(&mut came)?;
+        put_status(
+            alloc,
+            &mut came,
+            &status_of(oldest(past.as_slice(), many), &x),
+        )?;
+    }
+    check_words(alloc, text, came.as_str())
+}
+
+fn phase_word(phase: &Phase) -> &'static str {
+    match phase {
+        Phase::Idle => "idle",
+        Phase::InPrepare => "prepared",
+        Phase::InCommit => "committed",
+        Phase::InDiscard => "discarded",
+        Phase::InLock => "locked",
+        Phase::InFinish => "finished",
+    }
+}
+
+// Appends `PHASE NUMBER STAMP` of a lane.
+fn put_slot(
+    alloc: Global,
+    text: &mut String,
+    past: &[Record],
+    lane: LaneId,
+) -> Result<(), AllocError> {
+    let slot = slot_of(past, lane);
+    put_stroke(text)?;
+    put_word(text, phase_word(&slot.phase))?;
+    put_count(alloc, text, slot.number)?;
+    put_count(alloc, text, slot_stamp(past, lane).0)
+}
+
+/// `slots LEDGER NODE LANE`, and `PHASE NUMBER STAMP` of the lane before the first record and behind each.
+pub fn slots(state: &State, alloc: Global, words: &[&str], text: &str) -> Result<(), Wrong> {
+    let past = state.journal(alloc, words)?;
+    let lane = LaneId(small(word(words, 2)?)?);
+    let mut came = String::new(alloc);
+    for many in 0..past.len().saturating_add(1) {
+        put_slot(alloc, &mut came, oldest(past.as_slice(), many), lane)?;
+    }
+    check_words(alloc, text, came.as_str())
+}
+
+// A number of a journal's newest record: of its size, of what is used behind it, of what is kept.
+fn size_in(shape: &Shape, past: &[Record], kind: u8) -> Option<u64> {
+    match (kind, past.first()) {
+        (0, Some(record)) => size_of(record),
+        (1, _) => used_of(past),
+        _ => kept_room(shape, past),
+    }
+}
+
+// Appends a line of such a number for each record, the oldest first.
+fn put_sizes(
+    alloc: Global,
+    text: &mut String,
+    shape: &Shape,
+    past: &[Record],
+    kind: u8,
+) -> Result<(), AllocError> {
+    let mut line = String::new(alloc);
+    for many in 0..past.len() {
+        let records = oldest(past, many.saturating_add(1));
+        put_told(alloc, &mut line, size_in(shape, records, kind))?;
+    }
+    text.push_str(line.as_str())?;
+    text.push('\n')
+}
+
+/// `sizes LEDGER NODE`, and of each record, the oldest first, its size, what is used behind it and what is kept: three lines.
+pub fn sizes(state: &State, alloc: Global, words: &[&str], text: &str) -> Result<(), Wrong> {
+    let shape = state.known.shape()?;
+    let past = state.journal(alloc, words)?;
+    let mut came = String::new(alloc);
+    for kind in 0u8..3 {
+        put_sizes(alloc, &mut came, &shape, past.as_slice(), kind)?;
+    }
+    check_text(alloc, text, came.as_str())
+}
+
+/// `room LEDGER NODE LANE`, and how many bytes are kept free for the lane's batch.
+pub fn room(state: &State, alloc: Global, words: &[&str], text: &str) -> Result<(), Wrong> {
+    let past = state.journal(alloc, words)?;
+    let lane = LaneId(small(word(words, 2)?)?);
+    let mut came = String::new(alloc);
+    put_told(alloc, &mut came, lane_room(past.as_slice(), lane))?;
+    check_words(alloc, text, came.as_str())
+}
+
+/// `need LEDGER NODE RECORD`, and `SIZE / NEED` of that record there.
+pub fn need(state: &State, alloc: Global, words: &[&str], text: &str) -> Result<(), Wrong> {
+    let shape = state.known.shape()?;
+    let past = state.journal(alloc, words)?;
+    let next = state.row(alloc, rest(words, 1))?;
+    let mut came = String::new(alloc);
+    put_told(alloc, &mut came, size_of(&next.what))?;
+    put_told(
+        alloc,
+        &mut came,
+        need_of(&shape, past.as_slice(), &next.what),
+    )?;
+    check_words(alloc, text, came.as_str())
+}
+
+/// `may NODE RECORD`, and `yes` or `no`: whether it is in the grammar of that node, by the definition and by the ledger's own test.
+pub fn may(state: &State, alloc: Global, words: &[&str], text: &str) -> Result<(), Wrong> {
+    let row = state.row(alloc, words)?;
+    let header = state.header(row.node)?;
+    check_yes(alloc, text, is_in_grammar(&header, &row.what))?;
+    check_yes(
+        alloc,
+        text,
+        record_grammar::is_in_grammar(&header, &row.what),
+    )
+}
+
+// Whether a record may come next behind others, and whether they cause it.
+fn judged(state: &State, alloc: Global, rows: &[Row], next: &Row) -> Result<(bool, bool), Wrong> {
+    let header = state.header(next.node)?;
+    let shape = header.shape;
+    let all = journals_of(alloc, shape.node_count(), rows)?;
+    let own = model_check::journal_of(alloc, next.node, rows)?;
+    let after = is_after(alloc, &header, own.as_slice(), &next.what)?;
+    let caused = is_caused(alloc, all.as_slice(), &shape, next.node, &next.what)?;
+    Ok((after, caused))
+}
+
+/// `follows LEDGER NODE RECORD`, and two words: whether it may come next at the node, and whether it is caused there.
+pub fn follows(state: &State, alloc: Global, words: &[&str], text: &str) -> Result<(), Wrong> {
+    let rows = state.ledger(word(words, 0)?)?;
+    let next = state.row(alloc, rest(words, 1))?;
+    let (after, caused) = judged(state, alloc, rows, &next)?;
+    let mut came = String::new(alloc);
+    put_word(&mut came, if after { "after" } else { "not-after" })?;
+    put_word(&mut came, if caused { "caused" } else { "uncaused" })?;
+    check_words(alloc, text, came.as_str())
+}
+
+// Whether the newest of these records may come next behind the others, caused by them.
+fn newest_stands(state: &State, alloc: Global, rows: &[Row]) -> Result<bool, Wrong> {
+    let Some((newest, before)) = rows.split_first() else {
+        return Ok(true);
+    };
+    let (after, caused) = judged(state, alloc, before, newest)?;
+    Ok(after && caused)
+}
+
+// The place of the first record that does not stand on those before it.
+fn first_unsound(state: &State, alloc: Global, rows: &[Row]) -> Result<Option<u64>, Wrong> {
+    for place in 0..rows.len() {
+        if !newest_stands(state, alloc, oldest(rows, place.saturating_add(1)))? {
+            return Ok(Some(place as u64));
+        }
+    }
+    Ok(None)
+}
+
+/// `unsound LEDGER`, and the place of the first record, as they are written, that does not stand on those before it, or `none`.
+pub fn unsound(state: &State, alloc: Global, words: &[&str], text: &str) -> Result<(), Wrong> {
+    let rows = state.ledger(word(words, 0)?)?;
+    let mut came = String::new(alloc);
+    let told = first_unsound(state, alloc, rows.as_slice())?;
+    put_told(alloc, &mut came, told)?;
+    check_words(alloc, text, came.as_str())
+}
+
+/// `ordered LEDGER yes`: whether the records, as they are written, stand by stamp and node.
+pub fn ordered(state: &State, alloc: Global, words: &[&str]) -> Result<(), Wrong> {
+    let rows = state.ledger(word(words, 0)?)?;
+    check_yes(alloc, word(words, 1)?, is_ordered(rows.as_slice()))
+}
+
+// Appends an outcome.
+fn put_outcome(alloc: Global, text: &mut String, outcome: &Outcome) -> Result<(), AllocError> {
+    match outcome {
+        Outcome::Held => put_word(text, "held"),
+        Outcome::Missing(shard, x) => {
+            put_word(text, "missing")?;
+            put_count(alloc, text, *shard as u64)?;
+            put_hash_word(alloc, text, x)
+        }
+        Outcome::Locked(shard, x, by) => {
+            put_word(text, "locked")?;
+            put_count(alloc, text, *shard as u64)?;
+            put_hash_word(alloc, text, x)?;
+            put_count(alloc, text, by.lane.0 as u64)?;
+            put_count(alloc, text, by.number)
+        }
+    }
+}
+
+/// `outcome LEDGER LANE NUMBER PLACE`, and the outcome of that transaction by the Locks.
+pub fn outcome(state: &State, alloc: Global, words: &[&str], text: &str) -> Result<(), Wrong> {
+    let all = state.journals(alloc, word(words, 0)?)?;
+    let batch = batch_of(word(words, 1)?, word(words, 2)?)?;
+    let place = number(word(words, 3)?)?;
+    let told = outcome_of(all.as_slice(), &state.known.shape()?, &batch, place);
+    let mut came = String::new(alloc);
+    put_outcome(alloc, &mut came, &told)?;
+    check_words(alloc, text, came.as_str())
+}
+
+/// `refused TX VERDICT..`, and why, or `none`; behind the verdicts that are told all are absent.
+pub fn refused(state: &State, alloc: Global, words: &[&str], text: &str) -> Result<(), Wrong> {
+    let tx = state.known.full(word(words, 0)?)?;
+    let listed = Listed {
+        verdicts: List::from_vec(verdicts(alloc, rest(words, 1))?),
+    };
+    let mut came = String::new(alloc);
+    match first_refusal_of(tx, &listed) {
+        Some(why) => put_refusal(alloc, &mut came, &why)?,
+        None => put_word(&mut came, "none")?,
+    }
+    check_words(alloc, text, came.as_str())
+}

@@ -1,5 +1,0 @@
-mod faults;
-mod lanes;
-mod making;
-mod order;
-mod rows;
