@@ -1,0 +1,11 @@
+//! Laws of bytes, for all inputs: what client files and mint files are as bytes, that no body of a record is the front of another, and how
+//! long a record is in its journal.
+#![tactic(auto)]
+
+mod bodies;
+mod files;
+mod sizes;
+
+pub use bodies::{each_body_law, first_read_back};
+pub use files::{client_file_law, mint_file_law};
+pub use sizes::bytes_in_the_journal;

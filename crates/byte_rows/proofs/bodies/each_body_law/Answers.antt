@@ -1,5 +1,0 @@
-use Rattle.byte_rows.proofs.EachBody.{each_body}
-use Rattle.byte_rows.proofs.bodies.each_body_law.Goals as goal
-
-pub returns : goal.returns
-returns c = each_body

@@ -1,5 +1,0 @@
-use Rattle.byte_rows.proofs.FileBytes.{client_file}
-use Rattle.byte_rows.proofs.files.client_file_law.Goals as goal
-
-pub returns : goal.returns
-returns c = client_file

@@ -1,5 +1,0 @@
-use Rattle.byte_rows.proofs.FileBytes.{mint_file}
-use Rattle.byte_rows.proofs.files.mint_file_law.Goals as goal
-
-pub returns : goal.returns
-returns c = mint_file

@@ -1,6 +1,0 @@
-mod compacts;
-mod fields;
-mod ids;
-mod ranges;
-mod records;
-mod transactions;

@@ -1,0 +1,222 @@
+// Lines as they are printed.
+use crate::answers::{answer_of, totals, verdict_of};
+use crate::page::Page;
+use crate::reader::Reader;
+use crate::told::{Told, check_lines};
+use cbdc_types::{Header, Phase, Status};
+use line_text::{
+    AuditSummary, Summary, status_code, write_audit, write_confirmed, write_fault, write_init,
+    write_recovery, write_refused, write_rejected, write_resumed, write_status, write_summary,
+};
+use printed_lines::{fault_line, verdict_text};
+use row_text::{Block, Wrong, rest};
+use std::alloc::Global;
+
+// `FILE PLACE ID LANE NUMBER`
+fn confirmed(page: &mut Page, words: &mut Reader) -> bool {
+    let (file, place) = (words.number(), words.number());
+    let id = words.hash();
+    let batch = words.batch();
+    write_confirmed(page, file, place, &id, batch).is_ok()
+}
+
+// `FILE PLACE ID OUTCOME LANE NUMBER`
+fn rejected(page: &mut Page, words: &mut Reader) -> bool {
+    let (file, place) = (words.number(), words.number());
+    let id = words.hash();
+    let why = words.outcome();
+    let batch = words.batch();
+    write_rejected(page, file, place, &id, &why, batch).is_ok()
+}
+
+// `FILE PLACE ID REFUSAL`
+fn refused(page: &mut Page, words: &mut Reader) -> bool {
+    let (file, place) = (words.number(), words.number());
+    let id = words.hash();
+    let why = words.refusal();
+    write_refused(page, file, place, &id, &why).is_ok()
+}
+
+// `RESUMED BATCHES CONFIRMED REJECTED REFUSED UNSPENT`
+fn summary(page: &mut Page, words: &mut Reader) -> bool {
+    let (resumed, batches) = (words.number(), words.number());
+    let (confirmed, rejected) = (words.number(), words.number());
+    let (refused, unspent) = (words.number(), words.number());
+    let summary = Summary {
+        resumed,
+        batches,
+        confirmed,
+        rejected,
+        refused,
+        unspent,
+    };
+    write_summary(page, &summary).is_ok()
+}
+
+// `COINS MINTED GENESIS`
+fn init(page: &mut Page, words: &mut Reader) -> bool {
+    let (coins, minted) = (words.number(), words.number());
+    let genesis = words.hash();
+    write_init(page, coins, minted, &genesis).is_ok()
+}
+
+// `HASH unspent`, `HASH absent`, `HASH locked LANE NUMBER`
+fn status(page: &mut Page, words: &mut Reader) -> bool {
+    let x = words.hash();
+    let own = match words.word() {
+        "unspent" => Status::Unspent,
+        "absent" => Status::Absent,
+        _ => Status::Locked(words.batch()),
+    };
+    write_status(page, &x, &own).is_ok()
+}
+
+fn phase(words: &mut Reader) -> Phase {
+    match words.word() {
+        "prepared" => Phase::Prepared,
+        "committed" => Phase::Committed,
+        "discarded" => Phase::Discarded,
+        _ => {
+            words.refuse();
+            Phase::Prepared
+        }
+    }
+}
+
+// `LANE NUMBER PHASE CONFIRMED REJECTED`
+fn resumed(page: &mut Page, words: &mut Reader) -> bool {
+    let batch = words.batch();
+    let phase = phase(words);
+    let (confirmed, rejected) = (words.number(), words.number());
+    write_resumed(page, batch, phase, confirmed, rejected).is_ok()
+}
+
+// `RESUMED UNSPENT`
+fn recovery(page: &mut Page, words: &mut Reader) -> bool {
+    let (resumed, unspent) = (words.number(), words.number());
+    write_recovery(page, resumed, unspent).is_ok()
+}
+
+// `COINS VALUE MINTED COMMITTED`
+fn audit(page: &mut Page, words: &mut Reader) -> bool {
+    let totals = totals(words);
+    let summary = AuditSummary {
+        coins: totals.coins,
+        value: totals.value,
+        minted: totals.minted,
+        committed: totals.committed,
+    };
+    write_audit(page, &summary).is_ok()
+}
+
+// Prints a line that tells what came of a command; whether the page took it.
+fn print_line(page: &mut Page, kind: &str, words: &mut Reader) -> bool {
+    match kind {
+        "confirmed" => confirmed(page, words),
+        "rejected" => rejected(page, words),
+        "refused" => refused(page, words),
+        "summary" => summary(page, words),
+        "init" => init(page, words),
+        "status" => status(page, words),
+        "resumed" => resumed(page, words),
+        "recovery" => recovery(page, words),
+        "audit" => audit(page, words),
+        _ => {
+            words.refuse();
+            false
+        }
+    }
+}
+
+// `NAME ANSWER`
+fn answer(page: &mut Page, header: &Header, words: &mut Reader) -> bool {
+    let name = words.name();
+    let answer = answer_of(words, header);
+    write_fault(page, &answer, name.as_str()).is_ok()
+}
+
+// What a page with so much room takes of a line, and whether it takes all of it.
+fn printed(
+    header: &Header,
+    alloc: Global,
+    words: &[&str],
+    room: usize,
+) -> Result<(Page, bool), Wrong> {
+    let mut page = Page::new(alloc, room);
+    let mut words = Reader::new(alloc, words);
+    let kind = words.word();
+    let took = if kind == "fault" {
+        answer(&mut page, header, &mut words)
+    } else {
+        print_line(&mut page, kind, &mut words)
+    };
+    words.end()?;
+    Ok((page, took))
+}
+
+// The room of a page that takes each line.
+const ROOM: usize = 4096;
+
+// A page with so much room takes a front of the text, and says so where it is not all of it.
+fn check_front(
+    header: &Header,
+    alloc: Global,
+    words: &[&str],
+    text: &str,
+    room: usize,
+) -> Result<(), Wrong> {
+    let (page, took) = printed(header, alloc, words, room)?;
+    if took != (room == text.len()) {
+        return Err(Wrong::Line("a page says something else than that it has room, or none"));
+    }
+    if text.as_bytes().get(..room) != Some(page.bytes.as_slice()) {
+        return Err(Wrong::Line("a page with less room has no front of the line"));
+    }
+    Ok(())
+}
+
+/// `line KIND WORD..`, with its text; and a page with less room, whatever it is, takes a front of it and says so.
+pub fn line(header: &Header, alloc: Global, words: &[&str], text: &str) -> Result<(), Wrong> {
+    let (page, _) = printed(header, alloc, words, ROOM)?;
+    check_lines(alloc, text, page.bytes.as_slice())?;
+    for room in 0..text.len() {
+        check_front(header, alloc, words, text, room)?;
+    }
+    check_front(header, alloc, words, text, text.len())
+}
+
+// Nothing where two statuses are the same; else both are told.
+fn check_status(alloc: Global, wanted: u64, came: u8) -> Result<(), Wrong> {
+    let (mut told, mut own) = (Told::new(alloc), Told::new(alloc));
+    told.number(wanted);
+    own.number(came as u64);
+    own.check(told.as_str())
+}
+
+// Nothing where the plain program says this text; else both are told.
+fn check_plain(alloc: Global, text: &str, plain: Option<Vec<u8>>) -> Result<(), Wrong> {
+    match plain {
+        Some(plain) => check_lines(alloc, text, plain.as_slice()),
+        None => Err(Wrong::Memory),
+    }
+}
+
+/// `fault NAME ANSWER`, with its text and its status; the plain program says the same. `""` is an empty name, and `_` in a name
+/// a blank.
+pub fn fault(header: &Header, alloc: Global, words: &[&str], block: &Block) -> Result<(), Wrong> {
+    let text = block.text.as_str();
+    line(header, alloc, words, text)?;
+    let mut words = Reader::new(alloc, rest(words, 1));
+    let name = words.name();
+    let answer = answer_of(&mut words, header);
+    check_plain(alloc, text, fault_line(alloc, &answer, name.as_str()))?;
+    check_status(alloc, block.status, status_code(&answer))
+}
+
+/// `audited VERDICT`, and its text by the plain program.
+pub fn audited(alloc: Global, words: &[&str], text: &str) -> Result<(), Wrong> {
+    let mut words = Reader::new(alloc, words);
+    let verdict = verdict_of(&mut words);
+    words.end()?;
+    check_plain(alloc, text, verdict_text(alloc, &verdict))
+}

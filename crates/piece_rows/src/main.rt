@@ -1,0 +1,34 @@
+//! Runs rows on the pure parts: words, files, transactions and records as bytes, ids, ranges, refusals, lines and workloads.
+#![tactic(auto)]
+
+mod answers;
+mod batches;
+mod bytes;
+mod fields;
+mod files;
+mod hashes;
+mod kinds;
+mod lines;
+mod page;
+mod reader;
+mod records;
+mod repeats;
+mod state;
+mod subject;
+mod told;
+mod transactions;
+mod verbs;
+mod words;
+
+use row_text::run_files;
+use state::State;
+use std::io;
+use std::process::ExitCode;
+
+fn main(rt: HostRuntime) -> io::Result<ExitCode> {
+    if run_files::<HostRuntime, State>(&rt)? {
+        Ok(ExitCode::from(0))
+    } else {
+        Ok(ExitCode::from(1))
+    }
+}

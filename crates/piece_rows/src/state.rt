@@ -1,0 +1,52 @@
+// What a row has made so far: bytes, and what records speak of.
+use cbdc_types::{Header, NodeId};
+use row_records::Known;
+use row_text::{Names, Wrong};
+use std::alloc::Global;
+
+/// What a row has made so far.
+#[derive(Drop)]
+pub struct State {
+    pub known: Known,
+    pub bytes: Names<Vec<u8>>,
+    marked: usize,
+}
+
+impl State {
+    pub fn empty(alloc: Global) -> State {
+        State {
+            known: Known::empty(alloc),
+            bytes: Names::new(alloc),
+            marked: 0,
+        }
+    }
+
+    /// What was made so far stands for every row.
+    pub fn keep(&mut self) {
+        self.known.mark();
+        self.marked = self.bytes.len();
+    }
+
+    /// Keeps what stood before the first row alone.
+    pub fn forget(&mut self) {
+        self.known.forget();
+        self.bytes.forget(self.marked);
+    }
+
+    /// Bytes by their name.
+    pub fn bytes(&self, name: &str) -> Result<&[u8], Wrong> {
+        match self.bytes.get(name) {
+            Some(bytes) => Ok(bytes.as_slice()),
+            None => Err(Wrong::Line("no such bytes")),
+        }
+    }
+
+    /// The header of a node's journal.
+    pub fn header(&self, node: NodeId) -> Result<Header, Wrong> {
+        Ok(Header {
+            node,
+            shape: self.known.shape()?,
+            genesis: self.known.genesis(),
+        })
+    }
+}

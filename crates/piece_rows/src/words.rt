@@ -1,0 +1,112 @@
+// What words ask for.
+use crate::told::Told;
+use cbdc_types::{Hash, Shape};
+use command_line::{FileWord, Request, WordsFault, parse};
+use row_text::{Wrong, words_around};
+use std::alloc::{AllocError, Global};
+
+fn tell_shape(told: &mut Told, shape: &Shape) {
+    told.number(shape.shards() as u64);
+    told.number(shape.coordinators() as u64);
+    told.number(shape.lanes() as u64);
+    told.number(shape.batch() as u64);
+}
+
+// A file's name, `""` where it is empty, and which of the words it is.
+fn tell_file(told: &mut Told, file: &FileWord) {
+    let is_empty = file.name.is_empty();
+    told.word(if is_empty { "\"\"" } else { file.name });
+    told.number(file.place as u64);
+}
+
+fn tell_files(told: &mut Told, command: &str, first: &FileWord, others: &[FileWord]) {
+    told.word(command);
+    tell_file(told, first);
+    for file in others {
+        tell_file(told, file);
+    }
+}
+
+fn tell_init(told: &mut Told, shape: &Shape, mint: &FileWord) {
+    told.word("init");
+    tell_shape(told, shape);
+    tell_file(told, mint);
+}
+
+fn tell_status(told: &mut Told, hashes: &[Hash]) {
+    told.word("status");
+    for hash in hashes {
+        told.digits(hash.0.as_slice());
+    }
+}
+
+fn tell_gen(told: &mut Told, shape: &Shape, seed: u64, count: u32) {
+    told.word("gen");
+    tell_shape(told, shape);
+    told.number(seed);
+    told.number(count as u64);
+}
+
+// What a request is; of one to show a text, the text.
+fn tell_request(told: &mut Told, request: &Request) {
+    match request {
+        Request::Init { shape, mint } => tell_init(told, shape, mint),
+        Request::Run { verdicts, clients } => tell_files(told, "run", verdicts, clients),
+        Request::Recover => told.word("recover"),
+        Request::Status { hashes } => tell_status(told, hashes),
+        Request::Audit { mint, clients } => tell_files(told, "audit", mint, clients),
+        Request::Gen { shape, seed, count } => tell_gen(told, shape, *seed, *count),
+        Request::Show(shown) => told.text(shown.as_str()),
+    }
+}
+
+// The words of a program: `""` stands for an empty one.
+fn owned(alloc: Global, words: &[&str]) -> Result<Vec<String>, AllocError> {
+    let mut all = Vec::new(alloc);
+    for word in words {
+        let is_empty = *word == "\"\"";
+        all.push(String::from_str(alloc, if is_empty { "" } else { *word })?)?;
+    }
+    Ok(all)
+}
+
+/// `words WORD..`, and what they ask for, or the text that they show.
+pub fn words_ask(alloc: Global, words: &[&str], told: &mut Told) -> Result<(), Wrong> {
+    let own = owned(alloc, words)?;
+    match parse(alloc, own.as_slice()) {
+        Ok(request) => tell_request(told, &request),
+        Err(WordsFault::Bad) => told.word("bad"),
+        Err(WordsFault::Memory) => told.word("memory"),
+    }
+    Ok(())
+}
+
+fn has_line(text: &str, line: &str) -> bool {
+    for own in text.lines() {
+        if own == line {
+            return true;
+        }
+    }
+    false
+}
+
+/// `shows WORD..`, and lines that the text has which they show.
+pub fn shows(alloc: Global, words: &[&str], text: &str) -> Result<(), Wrong> {
+    let mut told = Told::new(alloc);
+    words_ask(alloc, words, &mut told)?;
+    for line in text.lines() {
+        if !has_line(told.as_str(), line) {
+            return told.check(line);
+        }
+    }
+    Ok(())
+}
+
+/// `shows-like WORD.. / WORD..`: both ask for the same.
+pub fn shows_like(alloc: Global, words: &[&str]) -> Result<(), Wrong> {
+    let (first, second) = words_around(words, "/");
+    let (mut told, mut own) = (Told::new(alloc), Told::new(alloc));
+    words_ask(alloc, first, &mut told)?;
+    words_ask(alloc, second, &mut own)?;
+    own.check(told.as_str())
+}
