@@ -1,7 +1,6 @@
 -- Which answers the words may have, and what must have happened for them.
 use Rattle.std.specs.Prelude.{◌≡◌, ◌⊎◌, ℕ, List, Some, slice_get}
 use Rattle.line_text.specs.Lines.{Text}
-use Rattle.outside.specs.Counts.{Rose}
 use Rattle.cbdc_types.specs.declared.answer.Answer.{Answer}
 use Rattle.cbdc_types.specs.declared.answer.Answer.TheVariants as answers
 use Rattle.command_line.specs.Asked.{IsAsked, IsRefused}
