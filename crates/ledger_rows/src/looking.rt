@@ -1,7 +1,6 @@
 // Steps that look at what is there: each appends what came, which is then compared with what the row says.
 use crate::disks::{DiskState, kind_word, put_digits, put_disks, put_gates, put_records};
 use crate::play::Ran;
-use crate::racks::line_of;
 use crate::state::State;
 use crate::verbs::Verb;
 use crate::words::{count_at, hex_at};
@@ -18,29 +17,26 @@ pub fn check_run(alloc: Global, ran: &Ran, block: &Block) -> Result<(), Wrong> {
     if block.is_any_status {
         return Ok(());
     }
-    check_count(alloc, block.status, ran.status)
+    check_status(alloc, ran, block.status)
 }
 
-// Nothing where a number is the one that is wanted.
-fn check_count(alloc: Global, wanted: u64, came: u64) -> Result<(), Wrong> {
-    if wanted == came {
+// Nothing where the status is the one that is wanted.
+fn check_status(alloc: Global, ran: &Ran, wanted: u64) -> Result<(), Wrong> {
+    let (text, came) = (ran.text()?, ran.status);
+    if came == wanted {
         return Ok(());
     }
+    let came = format!(in alloc; "{text}= {came}")?;
     let wanted = format!(in alloc; "= {wanted}")?;
-    let came = format!(in alloc; "= {came}")?;
     Err(differ(alloc, wanted.as_str(), came.as_str()))
 }
 
-/// `same RACK`: all disks have the bytes of those that were kept. `same RACK NODE`: that one's.
+/// `same RACK`: all disks have the bytes of those that were kept.
 pub fn same(state: &State, alloc: Global, words: &[&str]) -> Result<(), Wrong> {
     let wanted = state.rack(alloc, word(words, 0)?)?;
     let mut came = String::new(alloc);
     put_disks(alloc, &mut came, &state.disks)?;
-    let (wanted, came) = (wanted.as_str(), came.as_str());
-    match words.get(1) {
-        Some(node) => check_text(alloc, line_of(wanted, node)?, line_of(came, node)?),
-        None => check_text(alloc, wanted, came),
-    }
+    check_text(alloc, wanted.as_str(), came.as_str())
 }
 
 // `used BYTES..`: how many bytes each disk has.

@@ -66,17 +66,6 @@ impl Ran {
     }
 }
 
-/// Gives the disks the bytes that a run left; what was to fail in it alone fails no more.
-pub fn take_back(alloc: Global, disks: &mut [DiskState], ran: &Ran) -> Result<(), Wrong> {
-    let mut node = 0u32;
-    for disk in disks {
-        disk.bytes = ran.bytes(alloc, node)?;
-        disk.faults = 0;
-        node = node.saturating_add(1);
-    }
-    Ok(())
-}
-
 // What a crash leaves of a disk of so many bytes.
 fn choice(alloc: Global, left: Left, many: usize) -> Result<Choice, AllocError> {
     let mut bytes = Vec::new(alloc);

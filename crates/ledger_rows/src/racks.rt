@@ -55,8 +55,8 @@ pub fn keep(state: &mut State, alloc: Global, words: &[&str]) -> Result<(), Wron
     Ok(())
 }
 
-/// The line of a node's disk.
-pub fn line_of<'a>(rack: &'a str, node: &str) -> Result<&'a str, Wrong> {
+// The line of a node's disk.
+fn line_of<'a>(rack: &'a str, node: &str) -> Result<&'a str, Wrong> {
     match rack.lines().nth(count(node)?) {
         Some(line) => Ok(line),
         None => Err(Wrong::Line("no such disk")),
@@ -112,6 +112,20 @@ pub fn change_disk(state: &mut State, alloc: Global, words: &[&str]) -> Result<(
         }
         other => change(state.disk_mut(node)?, alloc, other, behind),
     }
+}
+
+/// Gives the disks the bytes that the last run left; what was to fail in it alone fails no more.
+pub fn take_back(state: &mut State, alloc: Global) -> Result<(), Wrong> {
+    let Some(ran) = &state.ran else {
+        return Ok(());
+    };
+    let mut node = 0u32;
+    for disk in state.disks.iter_mut() {
+        disk.bytes = ran.bytes(alloc, node)?;
+        disk.faults = 0;
+        node = node.saturating_add(1);
+    }
+    Ok(())
 }
 
 // The byte that two digits spell.

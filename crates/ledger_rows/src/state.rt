@@ -132,12 +132,16 @@ fn cut_all(alloc: Global, rack: &str, counts: &str) -> Result<String, Wrong> {
     let Some(counts) = counts.strip_suffix(']') else {
         return Err(Wrong::Line("no ] behind ["));
     };
-    if counts.split(',').count() != rack.lines().count() {
-        return Err(Wrong::Line("not a count for each disk"));
-    }
     let mut text = String::new(alloc);
-    for (line, records) in rack.lines().zip(counts.split(',')) {
-        put_cut(alloc, &mut text, line, records)?;
+    let mut lines = rack.lines();
+    for records in counts.split(',') {
+        match lines.next() {
+            Some(line) => put_cut(alloc, &mut text, line, records)?,
+            None => return Err(Wrong::Line("more counts than disks")),
+        }
     }
-    Ok(text)
+    match lines.next() {
+        Some(_) => Err(Wrong::Line("fewer counts than disks")),
+        None => Ok(text),
+    }
 }

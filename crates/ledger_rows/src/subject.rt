@@ -1,8 +1,8 @@
 // What the steps of these rows do: whole runs of the program over disks.
 use crate::files::{name_file, name_hash, name_tx};
 use crate::looking::{check_run, look, same};
-use crate::play::{play, take_back};
-use crate::racks::{change_disk, crash, empty_rack, keep, load};
+use crate::play::play;
+use crate::racks::{change_disk, crash, empty_rack, keep, load, take_back};
 use crate::state::{ROOM, State};
 use crate::verbs::{Verb, is_for, verb_of};
 use crate::words::count_at;
@@ -18,12 +18,10 @@ fn run<W: Wait>(
     words: &[&str],
     block: &Block,
 ) -> Result<(), Wrong> {
-    let ran = play(rt, alloc, state, words)?;
-    take_back(alloc, &mut state.disks, &ran)?;
-    let came = check_run(alloc, &ran, block);
-    state.ran = Some(ran);
+    state.ran = Some(play(rt, alloc, state, words)?);
     state.room = ROOM;
-    came
+    take_back(state, alloc)?;
+    check_run(alloc, state.last_run()?, block)
 }
 
 // `room BYTES`: so many bytes the next run's output takes.

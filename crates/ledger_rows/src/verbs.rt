@@ -54,7 +54,7 @@ const VERBS: [(&str, Verb, usize); 32] = [
     ("crash", Verb::Crash, 3),
     ("room", Verb::Room, 2),
     ("used", Verb::Used, ANY),
-    ("same", Verb::Same, 3),
+    ("same", Verb::Same, 2),
     ("gates", Verb::Gates, ANY),
     ("bytes", Verb::Bytes, 4),
     ("journal", Verb::Journal, 2),
