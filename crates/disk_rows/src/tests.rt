@@ -1,0 +1,5 @@
+mod devices;
+mod disks;
+mod journals;
+mod records;
+mod shards;

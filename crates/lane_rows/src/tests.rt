@@ -1,0 +1,4 @@
+mod batches;
+mod counting;
+mod lanes;
+mod ledgers;

@@ -1,0 +1,4 @@
+mod cores;
+mod logs;
+mod nodes;
+mod tables;

@@ -1,0 +1,4 @@
+mod entries;
+mod lanes;
+mod making;
+mod sets;
