@@ -1,5 +1,4 @@
 pub mod Counts
-pub mod Stands
 pub mod Named
 pub mod Naming
 pub mod Answers

@@ -1,5 +1,5 @@
 -- Which answers a part of the work may give, and what must have happened for them.
-use Rattle.std.specs.Prelude.{◌≡◌, ◌⊎◌, ◌++◌, ◌∷◌, ℕ, List, Some, codes, slice_get}
+use Rattle.std.specs.Prelude.{◌≡◌, ◌⊎◌, ℕ, List, Some, slice_get}
 use Rattle.line_text.specs.Lines.{Text}
 use Rattle.outside.specs.Counts.{Rose}
 use Rattle.cbdc_types.specs.declared.answer.Answer.{Answer}
@@ -82,16 +82,14 @@ IsDone place read written (answers.ReadFault file) = read file
 IsDone place read written answers.WriteFault = written
 IsDone place read written other = Unit {0}
 
--- the word at this place names a file, whose count of faults rose; verdicts may stand behind their option
+-- the words ask for a file with this place, whose count of faults rose
 abbrev pub NamedRose : List Text → (Text → ℕ) → (Text → ℕ) → ℕ → Type 0
-NamedRose words before now place =
-    (name : Text) × ((slice_get words place ≡ Some name) ⊎ (slice_get words place ≡ Some (codes "--verdicts" ++ 61 ∷ name)))
-    × Rose (before name) (now name)
+NamedRose words before now place = (r : Request) × IsAsked words r × RequestRose r before now place
 
--- doing what the words ask for: a bad file stands among them; words that are refused, and a fault of reading or writing, have their cause
+-- doing what the words ask for: a bad file is one that they ask for; words that are refused, and a fault of reading or writing, have their cause
 abbrev pub IsAnswered : List Text → (Text → ℕ) → (Text → ℕ) → Type 0 → Answer → Type 0
 IsAnswered words before now written answers.BadWords = IsRefused words Bad
-IsAnswered words before now written (answers.BadInput file at kind) = (word : Text) × (slice_get words file ≡ Some word)
+IsAnswered words before now written (answers.BadInput file at kind) = (r : Request) × IsAsked words r × RequestPlace r file
 IsAnswered words before now written (answers.ReadFault file) = NamedRose words before now file
 IsAnswered words before now written answers.WriteFault = written
 IsAnswered words before now written other = Unit {0}
