@@ -1,3 +1,4 @@
+pub mod Counts
 pub mod Named
 pub mod Naming
 pub mod Did
