@@ -1,4 +1,3 @@
-pub mod Counts
 pub mod Named
 pub mod Naming
 pub mod Did
