@@ -5,6 +5,7 @@ ghost use Rattle.byte_fields.specs.Faults.{Gives};
 ghost use Rattle.byte_fields.specs.Reading.{field_at, number_at, hash_at, items_at, list_at, number_of, hash_of};
 
 use crate::fault::{Fault, ReadError};
+use byteorder::{ByteOrder, LittleEndian};
 use cbdc_types::{Hash, InputKind, List};
 use std::alloc::Global;
 
@@ -27,9 +28,7 @@ pub fn number_in(bytes: &[u8]) -> u64
     requires { 8 ≤ length bytes.now }
     ensures { result ≡ number_of bytes.now }
 {
-    u64::from_le_bytes([
-        bytes[0], bytes[1], bytes[2], bytes[3], bytes[4], bytes[5], bytes[6], bytes[7],
-    ])
+    LittleEndian::read_u64(bytes)
 }
 
 /// The hash that the first 32 bytes are.

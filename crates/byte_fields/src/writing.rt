@@ -4,6 +4,7 @@ ghost use Rattle.std.specs.List.{flat_map};
 ghost use Rattle.std.specs.Vec.{vec_len, vec_capacity};
 ghost use Rattle.byte_spelling.specs.Spelling.{number, counted, output, input, witness};
 
+use byteorder::{ByteOrder, LittleEndian};
 use cbdc_types::{Hash, Input, List, Output};
 use std::alloc::AllocError;
 
@@ -15,7 +16,9 @@ pub fn put_number(out: &mut Vec<u8>, n: u64) -> Result<(), AllocError>
     ensures full { OnErr result (vec_capacity out.old < vec_len out.old + length (number n)) }
     ensures capacity { vec_capacity out.old ≤ vec_capacity out.new }
 {
-    out.extend_from_slice(&n.to_le_bytes())
+    let mut bytes = [0; 8];
+    LittleEndian::write_u64(&mut bytes, n);
+    out.extend_from_slice(&bytes)
 }
 
 /// Puts a hash's bytes at the end.

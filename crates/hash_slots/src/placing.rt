@@ -5,6 +5,7 @@ ghost use Rattle.hash_slots.specs.Entries.{lookup};
 ghost use Rattle.cbdc_model.specs.Records.{Digest, same_digest};
 
 use crate::Kept;
+use byteorder::{ByteOrder, LittleEndian};
 use cbdc_types::Hash;
 
 /// The slot that the search for a hash begins at.
@@ -17,11 +18,7 @@ pub fn home(homes: u64, x: &Hash) -> usize
     if homes == 0 {
         return 0;
     }
-    let bytes = &x.0;
-    let number = u64::from_le_bytes([
-        bytes[8], bytes[9], bytes[10], bytes[11], bytes[12], bytes[13], bytes[14], bytes[15],
-    ]);
-    (number % homes) as usize
+    (LittleEndian::read_u64(&x.0[8..16]) % homes) as usize
 }
 
 fn is_same_hash(x: &Hash, y: &Hash) -> bool

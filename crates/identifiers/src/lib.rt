@@ -7,6 +7,7 @@ ghost use Rattle.byte_spelling.specs.Spelling.{number, output, input, counted};
 ghost use Rattle.cbdc_model.specs.Coins.{tx_id as id_of_tx, coin_hash};
 ghost use Rattle.sha2.specs.Hashers.{Holds256};
 
+use byteorder::{ByteOrder, LittleEndian};
 use cbdc_types::{FullTx, Hash, Input, OutPoint, Output};
 use sha2::{Digest, Sha256};
 
@@ -14,7 +15,9 @@ use sha2::{Digest, Sha256};
 fn feed_number(hasher: &mut Sha256, n: u64)
     ensures { (m : List ℕ) → Holds256 hasher.old m → Holds256 hasher.new (m ++ number n) }
 {
-    hasher.update(n.to_le_bytes().as_slice());
+    let mut bytes = [0; 8];
+    LittleEndian::write_u64(&mut bytes, n);
+    hasher.update(bytes.as_slice());
 }
 
 fn feed_output(hasher: &mut Sha256, o: &Output)

@@ -3,6 +3,7 @@ ghost use Rattle.std.specs.Prelude.{◌≡◌, ◌+◌, ◌≤◌, ◌<◌, [], 
 ghost use Rattle.std.specs.List.{range_with_len};
 ghost use Rattle.workload.specs.Generator.{program as program_of, coin_value, coin as coin_of};
 
+use byteorder::{ByteOrder, LittleEndian};
 use cbdc_types::{FullTx, Hash, List, Mint, Output};
 use std::alloc::{AllocError, Global};
 
@@ -20,7 +21,7 @@ pub(crate) fn program(k: u64) -> Hash
     ensures { result ≡ program_of k }
 {
     let mut bytes = [0u8; 32];
-    bytes[..8].copy_from_slice(k.to_le_bytes().as_slice());
+    LittleEndian::write_u64(&mut bytes, k);
     Hash(bytes)
 }
 
