@@ -1,87 +1,119 @@
 // What the program answers.
 use crate::{Hash, Header, NodeId, Stamp};
+use thiserror::Error;
 
 /// Why a sentinel refuses a transaction. Places count from 0.
-#[derive(Clone, Copy, Debug, PartialEq, Eq)]
+#[derive(Clone, Copy, Debug, PartialEq, Eq, Error)]
 pub enum Refusal {
+    #[error("there are no inputs")]
     NoInputs,
+    #[error("there are no outputs")]
     NoOutputs,
     /// There are not as many witnesses as inputs.
+    #[error("there are not as many witnesses as inputs")]
     WitnessCount,
     /// This input's outpoint stands earlier.
+    #[error("input {0} repeats an earlier one")]
     RepeatedInput(u64),
     /// This input claims the value 0.
+    #[error("input {0} has the value 0")]
     ZeroInput(u64),
     /// This output has the value 0.
+    #[error("output {0} has the value 0")]
     ZeroOutput(u64),
     /// The inputs' values pass 2^64 - 1.
+    #[error("the inputs' values pass 2^64 - 1")]
     InputOverflow,
     /// The outputs' values pass 2^64 - 1.
+    #[error("the outputs' values pass 2^64 - 1")]
     OutputOverflow,
+    #[error("the inputs' values come to {ins}, the outputs' to {outs}")]
     Unbalanced { ins: u64, outs: u64 },
     /// The verdict on this input's witness is bad.
+    #[error("the witness of input {0} is bad")]
     BadWitness(u64),
     /// There is no verdict on this input's witness.
+    #[error("there is no verdict on the witness of input {0}")]
     Unverified(u64),
 }
 
 /// What is wrong with an input file.
-#[derive(Clone, Copy, Debug, PartialEq, Eq)]
+#[derive(Clone, Copy, Debug, PartialEq, Eq, Error)]
 pub enum InputKind {
     /// The file ends within a field.
+    #[error("the file ends within a field")]
     Cut,
     /// A count is above its limit.
+    #[error("a count is above its limit")]
     TooMany,
     /// A witness has more than 4,096 bytes.
+    #[error("a witness has more than 4096 bytes")]
     TooLong,
     /// A minted output has the value 0.
+    #[error("a minted output has the value 0")]
     Zero,
     /// The file goes on behind the last item.
+    #[error("the file goes on behind the last item")]
     Extra,
     /// A field reaches past the first 2^30 bytes of a file that goes on there.
+    #[error("a field is too large")]
     Large,
     /// A line of a verdict file is outside its form.
+    #[error("a field or line is outside its form")]
     Form,
     /// A line of a verdict file has the id and index of an earlier one.
+    #[error("a line repeats an earlier one")]
     Repeated,
 }
 
 /// What is wrong with a history.
-#[derive(Clone, Copy, Debug, PartialEq, Eq)]
+#[derive(Clone, Copy, Debug, PartialEq, Eq, Error)]
 pub enum UnsoundKind {
     /// A record is not caused by what stands before it.
+    #[error("it is not caused by what stands before it")]
     Cause,
     /// No transaction handed in has this compact form.
+    #[error("no transaction handed in has the form of {0}")]
     Unknown(Hash),
     /// An input of this transaction is not in the book.
+    #[error("an input of transaction {0} is not in the book")]
     Unfunded(Hash),
     /// A batch is not done.
+    #[error("a batch is not done")]
     Unfinished,
 }
 
 /// How a run of the program ended. A file is its place among the words.
-#[derive(Clone, Copy, Debug, PartialEq, Eq)]
+#[derive(Clone, Copy, Debug, PartialEq, Eq, Error)]
 pub enum Answer {
+    #[error("done")]
     Ok,
+    #[error("the words are outside the command line's form")]
     BadWords,
+    #[error("the file of word {file} is bad at {at}: {kind}")]
     BadInput {
         file: u64,
         at: u64,
         kind: InputKind,
     },
     /// The minted values pass 2^64 - 1.
+    #[error("the minted values come to {total}, past 2^64 - 1")]
     TooMuch {
         total: u128,
     },
+    #[error("node {} is not ready", .0.0)]
     NotReady(NodeId),
     /// The node's header is not the one asked for.
+    #[error("node {} has the header of another node or ledger", .node.0)]
     Foreign {
         node: NodeId,
         kept: Header,
         asked: Header,
     },
     /// The node has records already.
+    #[error("node {} has records already", .0.0)]
     NotEmpty(NodeId),
+    #[error("the disk of node {} is full: {used} bytes used, {need} needed, {capacity} in all", .node.0)]
     Full {
         node: NodeId,
         used: u64,
@@ -89,24 +121,31 @@ pub enum Answer {
         capacity: u64,
     },
     /// The record at this place of the history is wrong.
+    #[error("record {place} of the history is wrong: {kind}")]
     Unsound {
         place: u64,
         kind: UnsoundKind,
     },
+    #[error("the clock of node {} is at its end: its next stamp would be {}", .node.0, .stamp.0)]
     ClockEnd {
         node: NodeId,
         stamp: Stamp,
     },
+    #[error("the journal of node {} is damaged at byte {at}", .node.0)]
     Damaged {
         node: NodeId,
         at: u64,
     },
     /// The file could not be read.
+    #[error("the file of word {file} cannot be read")]
     ReadFault {
         file: u64,
     },
     /// The output could not be written.
+    #[error("the output cannot be written")]
     WriteFault,
+    #[error("the disk of node {} failed", .0.0)]
     DiskFault(NodeId),
+    #[error("out of memory")]
     Memory,
 }

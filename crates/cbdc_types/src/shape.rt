@@ -3,6 +3,7 @@ ghost use Rattle.std.specs.Prelude.{◌≡◌, ◌+◌, ◌*◌, ◌≤◌, ◌<
 ghost use Rattle.cbdc_types.specs.Fields.{IsFirstBad};
 
 use std::marker::Model;
+use thiserror::Error;
 
 /// How many shards, coordinators, lanes of each coordinator, and transactions of a batch at most.
 #[derive(Clone, Copy, Debug, PartialEq, Eq)]
@@ -35,10 +36,21 @@ pub enum ShapeField {
 }
 
 /// The first field that is outside its limit.
-#[derive(Clone, Copy, Debug, PartialEq, Eq)]
+#[derive(Clone, Copy, Debug, PartialEq, Eq, Error)]
+#[error("there may be {}, not {value}", limits(.field))]
 pub struct BadShape {
     pub field: ShapeField,
     pub value: u32,
+}
+
+// How many there may be.
+fn limits(field: &ShapeField) -> &'static str {
+    match field {
+        ShapeField::Shards => "1 to 64 shards",
+        ShapeField::Coordinators => "1 to 16 coordinators",
+        ShapeField::Lanes => "1 to 16 lanes",
+        ShapeField::Batch => "1 to 1024 transactions in a batch",
+    }
 }
 
 impl Shape {
