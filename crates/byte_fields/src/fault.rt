@@ -4,19 +4,23 @@ ghost use Rattle.byte_fields.specs.declared.fault.ReadError.TheVariants.{Memory}
 
 use cbdc_types::InputKind;
 use std::alloc::{AllocError, AllocFailed};
+use thiserror::Error;
 
 /// The first bad field: how many bytes are left at its first byte, and what is wrong.
-#[derive(Clone, Copy, Debug, PartialEq, Eq)]
+#[derive(Clone, Copy, Debug, PartialEq, Eq, Error)]
+#[error("{kind}, {left} bytes before the end")]
 pub struct Fault {
     pub left: usize,
     pub kind: InputKind,
 }
 
 /// Why nothing was read.
-#[derive(Clone, Copy, Debug, PartialEq, Eq)]
+#[derive(Clone, Copy, Debug, PartialEq, Eq, Error)]
 pub enum ReadError {
+    #[error("out of memory")]
     Memory,
     /// A field is bad.
+    #[error(transparent)]
     Bad(Fault),
 }
 

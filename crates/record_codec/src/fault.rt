@@ -3,12 +3,15 @@ ghost use Rattle.std.specs.Prelude.{◌≡◌};
 ghost use Rattle.record_codec.specs.Faults.{IsTaken};
 
 use byte_fields::ReadError;
+use thiserror::Error;
 
 /// Why no record was read.
-#[derive(Clone, Copy, Debug, PartialEq, Eq)]
+#[derive(Clone, Copy, Debug, PartialEq, Eq, Error)]
 pub enum RecordFault {
     /// The bytes are not the body of a record that may stand under the header.
+    #[error("the bytes are no record that may stand under the header")]
     NotARecord,
+    #[error("out of memory")]
     Memory,
 }
 

@@ -13,15 +13,20 @@ use gate_journal::{AppendFault, Journal};
 use outside::Disk;
 use record_codec::write_record;
 use std::alloc::AllocError;
+use thiserror::Error;
 
 /// Why a record was not appended.
-#[derive(Clone, Copy, Debug, PartialEq, Eq)]
+#[derive(Clone, Copy, Debug, PartialEq, Eq, Error)]
 pub enum LogFault {
     /// An append failed since the journal was opened.
+    #[error("an earlier append failed, at fault {since} of the disk")]
     Broken { since: u64 },
+    #[error("the disk is full: {used} bytes used, {need} needed, {capacity} in all")]
     Full { used: u64, need: u64, capacity: u64 },
+    #[error("the disk failed")]
     DiskFault,
     /// The memory for the record was not taken before.
+    #[error("no memory was taken for the record")]
     NoRoom,
 }
 

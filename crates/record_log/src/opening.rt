@@ -18,13 +18,16 @@ use gate_journal::{Journal, OpenFault};
 use outside::Disk;
 use record_codec::{RecordFault, read_first, read_record};
 use std::alloc::Global;
+use thiserror::Error;
 
 /// Why a disk is no journal of records.
-#[derive(Drop)]
+#[derive(Debug, Drop, Error)]
 pub enum NoLog {
     /// It failed, there is no whole first record, or memory ran out.
+    #[error(transparent)]
     Fault(NodeOpenFault),
     /// There are records, and at this place one that is open and not whole or not in the grammar.
+    #[error("the record at byte {at} is damaged, behind {} whole ones", .records.len())]
     Cut {
         header: Header,
         records: Vec<Record>,
