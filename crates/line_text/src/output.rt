@@ -4,9 +4,11 @@ ghost use Rattle.outside.specs.Counts.{HasCause};
 ghost use Rattle.line_text.specs.Lines.{Prints};
 
 use outside::Sink;
+use thiserror::Error;
 
 /// The sink failed. What went out is a front of the text.
-#[derive(Clone, Copy, Debug, PartialEq, Eq)]
+#[derive(Clone, Copy, Debug, PartialEq, Eq, Error)]
+#[error("the output cannot be written")]
 pub struct WriteFault;
 
 /// Writes a whole piece.

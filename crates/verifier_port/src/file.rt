@@ -6,20 +6,25 @@ use crate::{Verdict, Verifier};
 use cbdc_types::{Hash, InputKind};
 use std::alloc::Global;
 use std::collections::BTreeMap;
+use thiserror::Error;
 
 /// The first bad line of a verdict file, from 1, and what is wrong with it: Form or Repeated.
-#[derive(Clone, Copy, Debug, PartialEq, Eq)]
+#[derive(Clone, Copy, Debug, PartialEq, Eq, Error)]
+#[error("{kind}, in line {line}")]
 pub struct BadLine {
     pub line: u64,
     pub kind: InputKind,
 }
 
 /// Why a verdict file was not read.
-#[derive(Clone, Copy, Debug, PartialEq, Eq)]
+#[derive(Clone, Copy, Debug, PartialEq, Eq, Error)]
 pub enum VerdictFault {
+    #[error(transparent)]
     Bad(BadLine),
     /// The file goes on behind the bytes that were had, and no line in them is bad.
+    #[error("the file is too large")]
     Large,
+    #[error("out of memory")]
     Memory,
 }
 
