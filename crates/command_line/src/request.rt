@@ -16,10 +16,12 @@ use clap::{ArgMatches, Error};
 use std::alloc::Global;
 
 /// Why words are refused.
-#[derive(Clone, Copy, Debug, PartialEq, Eq)]
+#[derive(Clone, Copy, Debug, PartialEq, Eq, thiserror::Error)]
 pub enum WordsFault {
     /// They are outside the command line's form.
+    #[error("the words are outside the command line's form")]
     Bad,
+    #[error("out of memory")]
     Memory,
 }
 

@@ -5,9 +5,11 @@ ghost use Rattle.lane_driver.specs.Calls.{shard};
 ghost use Rattle.lane_driver.specs.Gathering.{Gathered, FirstFault, IsLatest};
 
 use cbdc_types::{List, LockCall, NodeFault, Replied, Replies, ShardReplies, Stamp};
+use thiserror::Error;
 
 /// The first shard that did not do what was asked, and why.
-#[derive(Clone, Copy, Debug, PartialEq, Eq)]
+#[derive(Clone, Copy, Debug, PartialEq, Eq, Error)]
+#[error("shard {shard}: {fault}")]
 pub struct ShardFault {
     pub shard: u32,
     pub fault: NodeFault,

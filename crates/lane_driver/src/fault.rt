@@ -4,6 +4,7 @@ ghost use Rattle.lane_laws.specs.Faults.{IsNoRefusal};
 ghost use Rattle.lane_driver.specs.Faults.{IsFaultOf};
 
 use cbdc_types::{BatchId, List, NodeFault, NodeId, Outcomes, Stamp};
+use thiserror::Error;
 
 /// A batch that is done, with the outcomes of its transactions.
 #[derive(Clone, Debug, PartialEq, Eq, Drop)]
@@ -19,26 +20,32 @@ pub struct LaneReport {
 }
 
 /// Why a lane stopped.
-#[derive(Clone, Copy, Debug, PartialEq, Eq)]
+#[derive(Clone, Copy, Debug, PartialEq, Eq, Error)]
 pub enum LaneFaultKind {
+    #[error("the disk failed")]
     DiskFault,
     /// `used + need` bytes do not fit the node's disk.
+    #[error("the disk is full: {used} bytes used, {need} needed, {capacity} in all")]
     Full { used: u64, need: u64, capacity: u64 },
     /// The next record's stamp would pass its bound.
+    #[error("the clock is at its end: its next stamp would be {}", .stamp.0)]
     ClockEnd { stamp: Stamp },
     /// The node, or the driver itself, got no memory.
+    #[error("out of memory")]
     Memory,
 }
 
 /// Where a lane stopped: the node, or 0 at the driver's own want of memory.
-#[derive(Clone, Copy, Debug, PartialEq, Eq)]
+#[derive(Clone, Copy, Debug, PartialEq, Eq, Error)]
+#[error("node {}: {fault}", .node.0)]
 pub struct LaneFault {
     pub node: NodeId,
     pub fault: LaneFaultKind,
 }
 
 /// Where a batch stopped: the node, and what it answered; node 0 and Memory at the driver's own want of memory.
-#[derive(Clone, Copy, Debug, PartialEq, Eq)]
+#[derive(Clone, Copy, Debug, PartialEq, Eq, Error)]
+#[error("node {}: {fault}", .node.0)]
 pub struct Stop {
     pub node: NodeId,
     pub fault: NodeFault,
