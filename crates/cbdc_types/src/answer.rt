@@ -67,53 +67,41 @@ pub enum InputKind {
 }
 
 /// What is wrong with a history.
-#[derive(Clone, Copy, Debug, PartialEq, Eq, Error)]
+#[derive(Clone, Copy, Debug, PartialEq, Eq)]
 pub enum UnsoundKind {
     /// A record is not caused by what stands before it.
-    #[error("it is not caused by what stands before it")]
     Cause,
     /// No transaction handed in has this compact form.
-    #[error("no transaction handed in has the form of {0}")]
     Unknown(Hash),
     /// An input of this transaction is not in the book.
-    #[error("an input of transaction {0} is not in the book")]
     Unfunded(Hash),
     /// A batch is not done.
-    #[error("a batch is not done")]
     Unfinished,
 }
 
 /// How a run of the program ended. A file is its place among the words.
-#[derive(Clone, Copy, Debug, PartialEq, Eq, Error)]
+#[derive(Clone, Copy, Debug, PartialEq, Eq)]
 pub enum Answer {
-    #[error("done")]
     Ok,
-    #[error("the words are outside the command line's form")]
     BadWords,
-    #[error("the file of word {file} is bad at {at}: {kind}")]
     BadInput {
         file: u64,
         at: u64,
         kind: InputKind,
     },
     /// The minted values pass 2^64 - 1.
-    #[error("the minted values come to {total}, past 2^64 - 1")]
     TooMuch {
         total: u128,
     },
-    #[error("node {} is not ready", .0.0)]
     NotReady(NodeId),
     /// The node's header is not the one asked for.
-    #[error("node {} has the header of another node or ledger", .node.0)]
     Foreign {
         node: NodeId,
         kept: Header,
         asked: Header,
     },
     /// The node has records already.
-    #[error("node {} has records already", .0.0)]
     NotEmpty(NodeId),
-    #[error("the disk of node {} is full: {used} bytes used, {need} needed, {capacity} in all", .node.0)]
     Full {
         node: NodeId,
         used: u64,
@@ -121,31 +109,24 @@ pub enum Answer {
         capacity: u64,
     },
     /// The record at this place of the history is wrong.
-    #[error("record {place} of the history is wrong: {kind}")]
     Unsound {
         place: u64,
         kind: UnsoundKind,
     },
-    #[error("the clock of node {} is at its end: its next stamp would be {}", .node.0, .stamp.0)]
     ClockEnd {
         node: NodeId,
         stamp: Stamp,
     },
-    #[error("the journal of node {} is damaged at byte {at}", .node.0)]
     Damaged {
         node: NodeId,
         at: u64,
     },
     /// The file could not be read.
-    #[error("the file of word {file} cannot be read")]
     ReadFault {
         file: u64,
     },
     /// The output could not be written.
-    #[error("the output cannot be written")]
     WriteFault,
-    #[error("the disk of node {} failed", .0.0)]
     DiskFault(NodeId),
-    #[error("out of memory")]
     Memory,
 }
