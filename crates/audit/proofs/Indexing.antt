@@ -7,7 +7,7 @@ use Rattle.cbdc_model.specs.Records.{Digest, same_digest, Compact}
 use Rattle.cbdc_model.specs.Coins.{FullTx, tx_id, compact}
 use Rattle.cbdc_model.specs.Next.{same_digests}
 use Rattle.cbdc_model.specs.History.{same_compact, first_with}
-use Rattle.model_check.proofs.Digests.{digest_is}
+use Rattle.same_records.proofs.Digests.{digest_is}
 use Rattle.ledger_laws.proofs.Counts.{same_digest_is}
 use Rattle.audit.specs.declared.handed.ById.{ById}
 use Rattle.audit.specs.Keeping.{no_tx, first_of, IsIndex}

@@ -6,8 +6,9 @@ ghost use Rattle.cbdc_model.specs.Book.{Book as ModelBook, key, take_out, take_a
 ghost use Rattle.cbdc_model.specs.Coins.{made_coins};
 
 use cbdc_types::{FullTx, Hash, Input, Output};
+use compact_tx::genesis_id;
 use identifiers::tx_id;
-use model_check::{genesis_id, is_same_output};
+use same_records::is_same_output;
 use std::alloc::{AllocError, Global};
 use std::collections::HashMap;
 

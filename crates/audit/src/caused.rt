@@ -10,9 +10,10 @@ ghost use Rattle.audit.specs.Knowing.{Knows};
 
 use crate::known::Known;
 use crate::outcomes::{are_decided, outcomes_by_locks};
+use batch_parts::{is_concerned, is_part_from};
 use cbdc_types::{Answered, BatchId, CompactTx, Outcome, Record, Shape};
 use history::stamp_of;
-use model_check::{are_outcomes, is_concerned, is_part_from};
+use same_records::are_outcomes;
 use std::alloc::{AllocError, Global};
 
 // The node of a batch's coordinator.

@@ -9,7 +9,7 @@ ghost use Rattle.audit.specs.Spending.{AreSpent, IsWrong, IsFirstWrong};
 use crate::book::Book;
 use crate::handed::ById;
 use cbdc_types::{CompactTx, FullTx, Outcome, Output, UnsoundKind};
-use model_check::is_won;
+use same_records::is_won;
 use std::alloc::{AllocError, Global};
 
 /// The book so far, and how many transactions were spent.

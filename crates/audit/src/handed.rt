@@ -7,7 +7,7 @@ ghost use Rattle.audit.specs.Keeping.{IsIndex};
 use cbdc_types::{CompactTx, FullTx, Hash};
 use compact_tx::compact;
 use identifiers::tx_id;
-use model_check::is_same_compact;
+use same_records::is_same_compact;
 use std::alloc::{AllocError, Global};
 use std::collections::HashMap;
 

@@ -9,7 +9,7 @@ ghost use Rattle.audit.specs.Knowing.{Knows, reply_with};
 
 use crate::known::Known;
 use cbdc_types::{Answered, BatchId, CompactTx, Outcome, Record, Reply, Shape};
-use model_check::is_won;
+use same_records::is_won;
 use std::alloc::{AllocError, Global};
 
 // Keeps an entry's reply at its place, unless an earlier entry's is there.

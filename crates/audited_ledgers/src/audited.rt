@@ -11,8 +11,8 @@ ghost use Rattle.audited_ledgers.specs.Audited.{HasVerdict, IsAudited, HistoryHa
 use audit::{Verdict, audit};
 use caused_ledgers::{lend_logs, lend_shards};
 use cbdc_types::{Answer, FullTx, Output};
+use compact_tx::genesis_id;
 use history::merge;
-use model_check::genesis_id;
 use outside::{Disk, Rack};
 use rack_ledgers::{Nodes, close_nodes, open_minted};
 use std::alloc::{AllocError, Global};

@@ -1,8 +1,8 @@
-//! What coordinators and shards see of a transaction: its id and the hashes of its coins.
+//! What coordinators and shards see of a transaction: its id and the hashes of its coins; and a mint as a transaction, with its id.
 #![tactic(auto)]
 
-ghost use Rattle.std.specs.Prelude.{◌≡◌, ◌≤◌, ◌+◌, length, map, take, IfOk};
-ghost use Rattle.cbdc_model.specs.Coins.{compact, coin_hash, made_coins, tx_id as spec_id};
+ghost use Rattle.std.specs.Prelude.{◌≡◌, map, IfOk};
+ghost use Rattle.cbdc_model.specs.Coins.{compact, coin_hash, made_coins, genesis_tx, genesis_id, tx_id as spec_id};
 
 use cbdc_types::{CompactTx, FullTx, Hash, Input, List, Output};
 use identifiers::{input_hash, tx_id, uhs_id};
@@ -66,4 +66,22 @@ pub fn compact(alloc: Global, tx: &FullTx) -> Result<CompactTx, AllocError>
         inputs,
         outputs,
     })
+}
+
+/// A mint as a transaction with no inputs.
+pub fn genesis_tx(alloc: Global, mint: &[Output]) -> Result<FullTx, AllocError>
+    ensures { IfOk result (λ t. t ≡ genesis_tx mint.now) }
+{
+    Ok(FullTx {
+        inputs: List::new(alloc),
+        outputs: List::from_vec(Vec::from_slice(alloc, mint)?),
+        witnesses: List::new(alloc),
+    })
+}
+
+/// The id of a mint.
+pub fn genesis_id(alloc: Global, mint: &[Output]) -> Result<Hash, AllocError>
+    ensures { IfOk result (λ x. x ≡ genesis_id mint.now) }
+{
+    Ok(tx_id(&genesis_tx(alloc, mint)?))
 }

@@ -1,6 +1,6 @@
 // What a row has made so far: transactions, files and ledgers.
 use cbdc_types::{FullTx, Header, List, NodeId, Record};
-use model_check::{Row, copy_of_full, copy_of_record, journal_of};
+use model_check::{Row, journal_of};
 use row_records::{Known, record, small};
 use row_text::{Names, Wrong, put_word, rest, word};
 use std::alloc::{AllocError, Global};
@@ -81,11 +81,11 @@ impl State {
     }
 
     // The transactions of these names; a stroke among them is passed over.
-    fn put_fulls(&self, alloc: Global, all: &mut List<FullTx>, names: &str) -> Result<(), Wrong> {
+    fn put_fulls(&self, all: &mut List<FullTx>, names: &str) -> Result<(), Wrong> {
         for name in names.split_whitespace() {
             if name != "/" {
                 let tx = self.known.full(name)?;
-                all.push(copy_of_full(alloc, tx)?)?;
+                all.push(tx.clone()?)?;
             }
         }
         Ok(())
@@ -102,7 +102,7 @@ impl State {
     // Appends the transactions of all files of a kind, one behind the other.
     fn put_files(&self, alloc: Global, all: &mut List<FullTx>, kind: &str) -> Result<(), Wrong> {
         match self.names_of(kind) {
-            Some(names) => self.put_fulls(alloc, all, names),
+            Some(names) => self.put_fulls(all, names),
             None => Ok(()),
         }
     }
@@ -110,7 +110,7 @@ impl State {
     // The transactions of one file.
     fn file(&self, alloc: Global, names: &str) -> Result<List<FullTx>, Wrong> {
         let mut txs = List::new(alloc);
-        self.put_fulls(alloc, &mut txs, names)?;
+        self.put_fulls(&mut txs, names)?;
         Ok(txs)
     }
 
@@ -154,7 +154,7 @@ pub fn copied(alloc: Global, rows: &[Row]) -> Result<Vec<Row>, AllocError> {
     for row in rows {
         all.push(Row {
             node: row.node,
-            what: copy_of_record(alloc, &row.what)?,
+            what: row.what.clone()?,
         })?;
     }
     Ok(all)

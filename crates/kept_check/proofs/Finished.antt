@@ -9,7 +9,7 @@ use Rattle.cbdc_model.specs.Ranges.{home_of, shard_node, on_shard, is_empty, ent
 use Rattle.cbdc_model.specs.Outcomes.{won_at, decisions}
 use Rattle.cbdc_model.specs.World.{count_of, IsAlike, Alike}
 use Rattle.model_check.specs.Journals.{journals_in}
-use Rattle.model_check.proofs.Alikeness.{same_batch_is}
+use Rattle.same_records.proofs.Alikeness.{same_batch_is}
 use Rattle.kept_check.specs.Alikes.{IsFinished, HasNone, IsAlikeAt, PreparedAlike}
 
 no_lie : IsTrue false → ⊥

@@ -6,7 +6,7 @@ ghost use Rattle.kept_check.specs.Agreeing.{Agree, CoinsAgree};
 
 use cbdc_types::{FullTx, Hash, Input, Output};
 use identifiers::{input_hash, tx_id};
-use model_check::is_hash;
+use same_records::is_hash;
 
 // Whether two outputs are the same.
 fn is_output(o: &Output, p: &Output) -> bool

@@ -7,10 +7,10 @@ ghost use Rattle.cbdc_model.specs.World.{count_of, IsAlike, Alike};
 ghost use Rattle.model_check.specs.Journals.{journals_in};
 ghost use Rattle.kept_check.specs.Alikes.{IsFinished, HasNone, IsAlikeAt, PreparedAlike};
 
+use batch_parts::{are_elsewhere, home_of, is_concerned};
 use cbdc_types::{BatchId, CompactTx, List, Outcome, Record, Shape};
 use model_check::{
-    are_elsewhere, finished_decisions, home_journal, home_of, is_concerned, is_of, journal_at,
-    kind_of, outcomes_of, txs_of, won_at,
+    finished_decisions, home_journal, is_of, journal_at, kind_of, outcomes_of, txs_of, won_at,
 };
 
 /// How many records of a kind of a batch a journal has.

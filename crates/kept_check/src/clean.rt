@@ -5,7 +5,8 @@ ghost use Rattle.kept_check.specs.Agreeing.{coins_in};
 
 use crate::agreeing::{agrees_with, all_agree, all_coins_agree};
 use cbdc_types::{FullTx, Input, Output};
-use model_check::{coins_of, genesis_tx};
+use compact_tx::genesis_tx;
+use model_check::coins_of;
 use std::alloc::{AllocError, Global};
 
 // Puts the coins that transactions spend and make behind those so far.

@@ -7,30 +7,21 @@ ghost use Rattle.cbdc_model.specs.Clean.{IsProperCompact};
 ghost use Rattle.kept_check.specs.Minting.{minted_by};
 
 use crate::proper::passes;
+use batch_parts::hashes_on;
 use cbdc_types::{CompactTx, FullTx, Hash, Header, List, NodeId, Output, Record, Shape};
-use compact_tx::compact;
-use model_check::{Row, copy_of_record, genesis_tx, hashes_on, is_after, is_caused_at, journal_of};
+use compact_tx::{compact, genesis_tx};
+use model_check::{Row, is_after, is_caused_at, journal_of};
 use std::alloc::{AllocError, Global};
 
-/// A copy of a row.
-pub fn copy_of_row(alloc: Global, row: &Row) -> Result<Row, AllocError>
-    ensures { IfOk result (λ t. t ≡ row.now) }
-{
-    Ok(Row {
-        node: row.node,
-        what: copy_of_record(alloc, &row.what)?,
-    })
-}
-
 /// Puts copies of rows behind those so far.
-pub fn add_rows(alloc: Global, rows: &[Row], out: &mut Vec<Row>) -> Result<(), AllocError>
+pub fn add_rows(rows: &[Row], out: &mut Vec<Row>) -> Result<(), AllocError>
     ensures { OnOk result (out.new.items ≡ out.old.items ++ rows.now) }
 {
     let Some((row, rest)) = rows.split_first() else {
         return Ok(());
     };
-    out.push(copy_of_row(alloc, row)?)?;
-    add_rows(alloc, rest, out)
+    out.push(row.clone()?)?;
+    add_rows(rest, out)
 }
 
 /// Rows with older ones below them.
@@ -38,8 +29,8 @@ pub fn rows_on(alloc: Global, later: &[Row], first: &[Row]) -> Result<List<Row>,
     ensures { IfOk result (λ l. l ≡ later.now ++ first.now) }
 {
     let mut out = Vec::new(alloc);
-    add_rows(alloc, later, &mut out)?;
-    add_rows(alloc, first, &mut out)?;
+    add_rows(later, &mut out)?;
+    add_rows(first, &mut out)?;
     Ok(List::from_vec(out))
 }
 

@@ -8,12 +8,10 @@ ghost use Rattle.kept_check.specs.Histories.{AreOnNodes, IsWholeHistory};
 ghost use Rattle.kept_check.specs.Merging.{put_row, put_records, behind_first, later_below};
 ghost use Rattle.kept_check.specs.Minting.{minted_by};
 
-use crate::kept::{add_rows, copy_of_row, first_rows, is_kept, rows_on};
+use crate::kept::{add_rows, first_rows, is_kept, rows_on};
 use cbdc_types::{CompactTx, FullTx, List, NodeId, Output, Record, Shape};
-use compact_tx::compact;
-use model_check::{
-    Row, copy_of_record, genesis_tx, goes_above, is_ordered, journal_at, journal_of,
-};
+use compact_tx::{compact, genesis_tx};
+use model_check::{Row, goes_above, is_ordered, journal_at, journal_of};
 use same_records::is_journal;
 use std::alloc::{AllocError, Global};
 
@@ -109,19 +107,19 @@ pub fn is_history(
 }
 
 // Puts rows with one more in its place behind those so far.
-fn add_with(alloc: Global, row: &Row, rows: &[Row], out: &mut Vec<Row>) -> Result<(), AllocError>
+fn add_with(row: &Row, rows: &[Row], out: &mut Vec<Row>) -> Result<(), AllocError>
     ensures { OnOk result (out.new.items ≡ out.old.items ++ put_row row.now rows.now) }
 {
     let Some((head, later)) = rows.split_first() else {
-        out.push(copy_of_row(alloc, row)?)?;
+        out.push(row.clone()?)?;
         return Ok(());
     };
     if goes_above(row, head) {
-        out.push(copy_of_row(alloc, row)?)?;
-        return add_rows(alloc, rows, out);
+        out.push(row.clone()?)?;
+        return add_rows(rows, out);
     }
-    out.push(copy_of_row(alloc, head)?)?;
-    add_with(alloc, row, later, out)
+    out.push(head.clone()?)?;
+    add_with(row, later, out)
 }
 
 // Rows with a node's record among them.
@@ -135,10 +133,10 @@ fn with_record(
 {
     let row = Row {
         node,
-        what: copy_of_record(alloc, r)?,
+        what: r.clone()?,
     };
     let mut out = Vec::new(alloc);
-    add_with(alloc, &row, rows, &mut out)?;
+    add_with(&row, rows, &mut out)?;
     Ok(List::from_vec(out))
 }
 

@@ -7,8 +7,7 @@ ghost use Rattle.cbdc_model.specs.History.{TxsPass};
 
 use cbdc_types::{CompactTx, FullTx, Input, Output, Record};
 use compact_tx::compact;
-use model_check::is_same_hash;
-use same_records::is_compact;
+use same_records::{is_compact, is_same_hash};
 use std::alloc::{AllocError, Global};
 
 // Whether two coins stand at one outpoint.

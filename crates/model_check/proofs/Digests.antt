@@ -1,29 +1,8 @@
--- The test of hashes.
-use Rattle.std.proofs.Common.{◌≡◌, ◌||◌, List, [], ◌∷◌, ◌++◌, refl, ℕ, arith}
-use Rattle.std.specs.Prelude.{bytes_eq}
+-- Whether a hash stands in lists joined.
+use Rattle.std.proofs.Common.{◌≡◌, ◌||◌, List, [], ◌∷◌, ◌++◌, refl, arith}
 use Rattle.std.proofs.lemmas.Grind.{common_steps}
 use Rattle.cbdc_model.specs.Status.{has}
-use lib.Dec.{eqb}
-use lib.Pointwise.{pointwise}
-use Rattle.cbdc_types.specs.contracts.hash.HashPartialEq.TheImpl.{eq-value}
-use Rattle.cbdc_model.specs.Records.{Digest, same_digest}
-use Rattle.cbdc_model.specs.Next.{same_digests}
-
-bytes_is : (x y : List ℕ) → pointwise eqb x y ≡ bytes_eq x y
-bytes_is [] [] = refl
-bytes_is [] (y ∷ ys) = refl
-bytes_is (x ∷ xs) [] = refl
-bytes_is (x ∷ xs) (y ∷ ys) = let rest = bytes_is xs ys in rw rest
-
-pub digest_is : (x y : Digest) → eq-value.it x y ≡ same_digest x y
-unfolding same_digest
-digest_is x y = bytes_is x y
-
-pub pointwise_is : (xs ys : List Digest) → pointwise eq-value.it xs ys ≡ same_digests xs ys
-pointwise_is [] [] = refl
-pointwise_is [] (y ∷ ys) = refl
-pointwise_is (x ∷ xs) [] = refl
-pointwise_is (x ∷ xs) (y ∷ ys) = let d = digest_is x y in let rest = pointwise_is xs ys in rw (d, rest)
+use Rattle.cbdc_model.specs.Records.{Digest}
 
 pub has_append : (xs ys : List Digest) (x : Digest) → has (xs ++ ys) x ≡ has xs x || has ys x
 has_append [] ys x = refl

@@ -7,7 +7,7 @@ use Rattle.cbdc_model.specs.Ranges.{shard_of, shard_node, first_byte}
 use Rattle.cbdc_model.specs.World.{IsUnspent}
 use Rattle.model_check.specs.Named.{entry_hashes, named, named_below, is_unspent, is_unspent_at, unspent_among}
 use Rattle.model_check.proofs.Digests.{has_append}
-use Rattle.model_check.proofs.Alikeness.{same_digest_is}
+use Rattle.same_records.proofs.Alikeness.{same_digest_is}
 
 made_in : (es : List Answered) (ds : List Bool) (x : Digest) → has (made_outputs es ds) x ≡ true → has (entry_hashes es) x ≡ true
 made_in [] ds x h = cc

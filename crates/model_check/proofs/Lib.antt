@@ -1,5 +1,4 @@
 pub mod Digests
-pub mod Alikeness
 pub mod Alls
 pub mod Keys
 pub mod Entitled

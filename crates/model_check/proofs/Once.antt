@@ -5,7 +5,7 @@ use Rattle.std.specs.List.{IsDistinct, AllByRecursion}
 use Rattle.cbdc_model.specs.Records.{Digest, same_digest, Shape, Record}
 use Rattle.cbdc_model.specs.Status.{has}
 use Rattle.model_check.specs.Named.{is_unspent_at, unspent_among}
-use Rattle.model_check.proofs.Alikeness.{same_digest_is, same_digest_self}
+use Rattle.same_records.proofs.Alikeness.{same_digest_is, same_digest_self}
 
 -- what does not stand in a list does not stand among its unspent ones
 not_among : (K : Shape) (J : ℕ → List Record) (xs : List Digest) (x : Digest) → has xs x ≡ false → has (unspent_among K J xs) x ≡ false

@@ -4,36 +4,15 @@ ghost use Rattle.std.specs.FinMap as book;
 ghost use Rattle.std.specs.Ordering.{eq_by_cmp, nat_cmp};
 ghost use Rattle.std.specs.Cmp.Lexicographic.{slice_cmp};
 ghost use Rattle.std.specs.FinMap.Entries.{find};
-ghost use Rattle.cbdc_model.specs.Records.{same_digest};
-ghost use Rattle.cbdc_model.specs.Book.{key, same_output, take_out, take_all, put_all, spend, fold_txs, value, genesis_book};
-ghost use Rattle.cbdc_model.specs.Coins.{made_coins, tx_coins, genesis_tx, genesis_id};
+ghost use Rattle.cbdc_model.specs.Book.{key, take_out, take_all, put_all, spend, fold_txs, value, genesis_book};
+ghost use Rattle.cbdc_model.specs.Coins.{made_coins, tx_coins, genesis_tx};
 ghost use Rattle.model_check.specs.Coins.{entry_of, book_of};
 
-use crate::records::is_same_hash;
 use cbdc_types::{FullTx, Hash, Input, List, OutPoint, Output};
+use compact_tx::genesis_tx;
 use identifiers::tx_id;
+use same_records::{is_same_output, is_same_point};
 use std::alloc::{AllocError, Global};
-
-// Whether two outpoints have the same index and the same id.
-fn has_same_fields(p: &OutPoint, q: &OutPoint) -> bool
-    ensures { result ≡ ((p.now.index == q.now.index) && same_digest p.now.tx q.now.tx) }
-{
-    p.index == q.index && is_same_hash(&p.tx, &q.tx)
-}
-
-/// Whether two outpoints are the same.
-pub fn is_same_point(p: &OutPoint, q: &OutPoint) -> bool
-    ensures { result ≡ eq_by_cmp (slice_cmp nat_cmp) (key p.now) (key q.now) }
-{
-    has_same_fields(p, q)
-}
-
-/// Whether two outputs are the same.
-pub fn is_same_output(o: &Output, p: &Output) -> bool
-    ensures { result ≡ same_output o.now p.now }
-{
-    is_same_hash(&o.program, &p.program) && o.value == p.value
-}
 
 // The output of the first of these coins with the outpoint.
 fn first_output(coins: &[Input], p: &OutPoint) -> Option<Output>
@@ -229,24 +208,6 @@ pub fn count_of_book(alloc: Global, coins: &[Input]) -> Result<usize, AllocError
     let others = without(alloc, rest, &c.point)?;
     let more = count_of_book(alloc, others.as_slice())?;
     Ok(more + 1)
-}
-
-/// A mint as a transaction with no inputs.
-pub fn genesis_tx(alloc: Global, mint: &[Output]) -> Result<FullTx, AllocError>
-    ensures { IfOk result (λ t. t ≡ genesis_tx mint.now) }
-{
-    Ok(FullTx {
-        inputs: List::new(alloc),
-        outputs: List::from_vec(Vec::from_slice(alloc, mint)?),
-        witnesses: List::new(alloc),
-    })
-}
-
-/// The id of a mint.
-pub fn genesis_id(alloc: Global, mint: &[Output]) -> Result<Hash, AllocError>
-    ensures { IfOk result (λ x. x ≡ genesis_id mint.now) }
-{
-    Ok(tx_id(&genesis_tx(alloc, mint)?))
 }
 
 /// The book that a mint is, as coins.

@@ -11,10 +11,10 @@ ghost use Rattle.model_check.specs.Journals.{journals_in};
 use crate::causes::{all_have, home_journal, is_stamped, last_of};
 use crate::copying::entries_in;
 use crate::outcomes::{decisions_of, journal_at, outcomes_by_locks};
-use crate::parts::is_part_from;
 use crate::records::{lock_of, outcomes_of, record_of, stamp_of, txs_of};
-use crate::same::{are_decisions, are_outcomes};
+use batch_parts::is_part_from;
 use cbdc_types::{Answered, BatchId, CompactTx, List, NodeId, Outcome, Record, Shape, Stamp};
+use same_records::{are_decisions, are_outcomes};
 use std::alloc::{AllocError, Global};
 
 // Whether the entries are the transactions' part at this node, where it is a shard.

@@ -1,14 +1,14 @@
 // What a record rests on.
-ghost use Rattle.std.specs.Prelude.{◌≡◌, ◌+◌, ◌<◌, ◌≤◌, ◌^◌, ◌↔◌, ℕ, true, is_some, length, IsTrue, IfOk};
+ghost use Rattle.std.specs.Prelude.{◌≡◌, ◌+◌, ◌<◌, ◌≤◌, ◌↔◌, ℕ, true, is_some, IsTrue};
 ghost use Rattle.cbdc_model.specs.Records.{record_of, stamp_in, txs_of};
 ghost use Rattle.cbdc_model.specs.Ranges.{home_of, Concerned};
-ghost use Rattle.cbdc_model.specs.Causes.{greatest, at_shards, AllHave, IsStamped, last_of, IsCaused};
+ghost use Rattle.cbdc_model.specs.Causes.{greatest, at_shards, AllHave, IsStamped, last_of};
 ghost use Rattle.model_check.specs.Journals.{journals_in};
 
 use crate::nexts::stamp_of_kind;
 use crate::outcomes::journal_at;
-use crate::parts::{home_of, is_concerned};
 use crate::records::{last_stamp, record_of, txs_of};
+use batch_parts::{home_of, is_concerned};
 use cbdc_types::{BatchId, List, Record, Shape, Stamp};
 
 /// The journal of a batch's coordinator.

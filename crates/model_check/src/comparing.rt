@@ -1,33 +1,10 @@
 // Where two lists first differ.
 ghost use Rattle.std.specs.Prelude.{◌≡◌, ◌≤◌, ◌<◌, ◌^◌, suc, option_map, IfSome, length};
 ghost use Rattle.cbdc_model.specs.Replies.{entries};
-ghost use Rattle.cbdc_model.specs.Next.{difference, same_digests, same_entry, same_decision, misfit};
+ghost use Rattle.cbdc_model.specs.Next.{difference, same_entry, same_decision, misfit};
 
-use crate::records::{is_held, is_same_hash};
-use cbdc_types::{Answered, Entry, Hash};
-
-/// Whether two lists of hashes are the same.
-pub fn are_same_hashes(xs: &[Hash], ys: &[Hash]) -> bool
-    ensures { result ≡ same_digests xs.now ys.now }
-{
-    match (xs.split_first(), ys.split_first()) {
-        (None, None) => true,
-        (Some((x, others)), Some((y, rest))) => {
-            is_same_hash(x, y) && are_same_hashes(others, rest)
-        }
-        _ => false,
-    }
-}
-
-/// Whether two entries are the same.
-pub fn is_same_entry(e: &Entry, f: &Entry) -> bool
-    ensures { result ≡ same_entry e.now f.now }
-{
-    e.place == f.place
-        && is_same_hash(&e.id, &f.id)
-        && are_same_hashes(e.inputs.as_slice(), f.inputs.as_slice())
-        && are_same_hashes(e.outputs.as_slice(), f.outputs.as_slice())
-}
+use cbdc_types::{Answered, Entry};
+use same_records::{is_held, is_same_entry};
 
 /// The first place at which a Lock's entries and a part disagree, or the shorter length.
 pub fn other_part(kept: &[Answered], part: &[Entry]) -> Option<u64>

@@ -9,12 +9,12 @@ ghost use Rattle.model_check.specs.Slots.{phase_in};
 
 use crate::copying::entries_in;
 use crate::grammar::is_in_grammar;
-use crate::parts::home_of;
-use crate::records::{is_held, last_stamp, lock_of, txs_of};
+use crate::records::{last_stamp, lock_of, txs_of};
 use crate::replying::replies_of;
-use crate::same::are_answered;
 use crate::slots::{Phase, slot_of};
+use batch_parts::home_of;
 use cbdc_types::{Answered, BatchId, Header, Record, Stamp};
+use same_records::{are_answered, is_held};
 use std::alloc::{AllocError, Global};
 
 /// Whether there are as many decisions as entries, and commits only for Held.

@@ -1,13 +1,13 @@
 // Which records may stand in a journal with a header.
-ghost use Rattle.std.specs.Prelude.{◌≡◌, ◌+◌, ◌<◌, ◌≤◌, ◌^◌, ◌↔◌, ℕ, length, IsTrue, All};
+ghost use Rattle.std.specs.Prelude.{◌≡◌, ◌+◌, ◌<◌, ◌≤◌, ◌↔◌, IsTrue, All};
 ghost use Rattle.cbdc_model.specs.Records.{Genesis, Lock, Prepare, Commit};
 ghost use Rattle.cbdc_model.specs.Ranges.{shard_of, shard_node};
 ghost use Rattle.cbdc_model.specs.Grammar.{IsEarly, IsLater, IsBatchOf, IsHashList, IsShard, AreHere, RisesFrom, IsReply, IsOutcome, IsHash, IsEntry, IsCompact, IsInGrammar};
 
-use crate::same::is_header;
 use cbdc_types::{
     Answered, BatchId, CompactTx, Hash, Header, NodeId, Outcome, Record, Reply, Shape, Stamp,
 };
+use same_records::is_header;
 use shard_ranges::shard_of;
 
 /// Whether a Lock or a Prepare may have this stamp.

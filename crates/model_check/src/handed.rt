@@ -1,24 +1,14 @@
 // The committed transactions as they were handed in.
-ghost use Rattle.std.specs.Prelude.{◌≡◌, ◌∷◌, List as Items, None, Some, IfOk, MatchOption};
+ghost use Rattle.std.specs.Prelude.{◌≡◌, List as Items, None, Some, IfOk, MatchOption};
 ghost use Rattle.cbdc_model.specs.Coins.{FullTx as ModelTx};
-ghost use Rattle.cbdc_model.specs.History.{same_compact, first_with, AreHandedIn, AreCommitted};
+ghost use Rattle.cbdc_model.specs.History.{first_with, AreHandedIn, AreCommitted};
 
-use crate::comparing::are_same_hashes;
-use crate::copying::{copy_of_full, with_front};
+use crate::copying::with_front;
 use crate::history::{Row, committed_compact};
-use crate::records::is_same_hash;
 use cbdc_types::{CompactTx, FullTx, List};
 use compact_tx::compact;
+use same_records::is_same_compact;
 use std::alloc::{AllocError, Global};
-
-/// Whether two compact transactions are the same.
-pub fn is_same_compact(a: &CompactTx, b: &CompactTx) -> bool
-    ensures { result ≡ same_compact a.now b.now }
-{
-    is_same_hash(&a.id, &b.id)
-        && are_same_hashes(a.inputs.as_slice(), b.inputs.as_slice())
-        && are_same_hashes(a.outputs.as_slice(), b.outputs.as_slice())
-}
 
 /// The first submission with a compact form.
 pub fn first_with<'a>(
@@ -54,7 +44,7 @@ fn handed_in(
     let Some(more) = handed_in(alloc, submissions, rest)? else {
         return Ok(None);
     };
-    Ok(Some(with_front(copy_of_full(alloc, t)?, more)?))
+    Ok(Some(with_front(t.clone()?, more)?))
 }
 
 /// The committed transactions of a history, in the order of their Commits, each the first submission with its compact

@@ -4,14 +4,14 @@ ghost use Rattle.cbdc_model.specs.Records.{journal};
 ghost use Rattle.cbdc_model.specs.Outcomes.{won_txs};
 ghost use Rattle.cbdc_model.specs.History.{goes_above, IsOrdered, committed};
 
-use crate::copying::{copy_of_compact, copy_of_record};
-use crate::records::{is_won, stamp_of, txs_of};
+use crate::records::{stamp_of, txs_of};
 use cbdc_types::{CompactTx, List, NodeId, Outcome, Record};
+use same_records::is_won;
 use std::alloc::{AllocError, Global};
 use std::marker::Model;
 
 /// A record with its node. Contracts see the definitions' row.
-#[derive(Debug, Drop)]
+#[derive(Clone, Debug, Drop)]
 pub struct Row {
     pub node: NodeId,
     pub what: Record,
@@ -48,21 +48,16 @@ pub fn is_ordered(rows: &[Row]) -> bool
 }
 
 // Puts a node's records behind those so far.
-fn add_journal(
-    alloc: Global,
-    node: NodeId,
-    rows: &[Row],
-    out: &mut Vec<Record>,
-) -> Result<(), AllocError>
+fn add_journal(node: NodeId, rows: &[Row], out: &mut Vec<Record>) -> Result<(), AllocError>
     ensures { OnOk result (out.new.items ≡ out.old.items ++ journal node rows.now) }
 {
     let Some((row, past)) = rows.split_first() else {
         return Ok(());
     };
     if row.node.0 == node.0 {
-        out.push(copy_of_record(alloc, &row.what)?)?;
+        out.push(row.what.clone()?)?;
     }
-    add_journal(alloc, node, past, out)
+    add_journal(node, past, out)
 }
 
 /// A node's journal, newest first, of a history.
@@ -70,13 +65,12 @@ pub fn journal_of(alloc: Global, node: NodeId, rows: &[Row]) -> Result<List<Reco
     ensures { IfOk result (λ l. l ≡ journal node rows.now) }
 {
     let mut out = Vec::new(alloc);
-    add_journal(alloc, node, rows, &mut out)?;
+    add_journal(node, rows, &mut out)?;
     Ok(List::from_vec(out))
 }
 
 // Puts those of the transactions that are committed behind those so far.
 fn add_won(
-    alloc: Global,
     txs: &[CompactTx],
     outcomes: &[Outcome],
     out: &mut Vec<CompactTx>,
@@ -87,9 +81,9 @@ fn add_won(
         return Ok(());
     };
     if is_won(o) {
-        out.push(copy_of_compact(alloc, t)?)?;
+        out.push(t.clone()?)?;
     }
-    add_won(alloc, others, rest, out)
+    add_won(others, rest, out)
 }
 
 // Puts the committed transactions of a history behind those so far.
@@ -109,12 +103,7 @@ fn add_committed(alloc: Global, rows: &[Row], out: &mut Vec<CompactTx>) -> Resul
         return Ok(());
     };
     let own = journal_of(alloc, row.node, past)?;
-    add_won(
-        alloc,
-        txs_of(own.as_slice(), batch),
-        outcomes.as_slice(),
-        out,
-    )
+    add_won(txs_of(own.as_slice(), batch), outcomes.as_slice(), out)
 }
 
 /// The committed compact transactions of a history, in the order of their Commits, the oldest first.

@@ -1,14 +1,15 @@
 // The outcome of a transaction over its shards.
-ghost use Rattle.std.specs.Prelude.{◌≡◌, ◌+◌, ◌<◌, ◌≤◌, ◌^◌, ◌++◌, IfOk, OnOk, ℕ, length};
+ghost use Rattle.std.specs.Prelude.{◌≡◌, ◌+◌, ◌<◌, ◌≤◌, ◌^◌, ◌++◌, IfOk, OnOk, length};
 ghost use Rattle.cbdc_model.specs.Records.{entries_in};
 ghost use Rattle.cbdc_model.specs.Outcomes.{reply_at, outcome_by, outcome, outcomes, won_at, decisions};
 ghost use Rattle.cbdc_model.specs.Causes.{at_shards};
 ghost use Rattle.model_check.specs.Journals.{journals_in};
 
-use crate::records::{is_won, lock_of};
+use crate::records::lock_of;
 use cbdc_types::{
     Answered, BatchId, CompactTx, Decisions, Entry, List, Outcome, Outcomes, Record, Reply, Shape,
 };
+use same_records::is_won;
 use std::alloc::{AllocError, Global};
 
 /// A node's journal, nothing past the last node.

@@ -1,45 +1,10 @@
 // What stands in records, and how one is found. A journal has its newest record first.
 ghost use Rattle.std.specs.Prelude.{◌≡◌, MatchOption};
-ghost use Rattle.cbdc_model.specs.Records.{same_digest, same_batch, is_held, is_won, stamp_of, kind_of, is_of, is_in_lane, record_of, lock_of, txs_of, outcomes_of, last_stamp};
+ghost use Rattle.cbdc_model.specs.Records.{stamp_of, kind_of, is_of, is_in_lane, record_of, lock_of, txs_of, outcomes_of, last_stamp};
 ghost use Rattle.cbdc_model.specs.Status.{has};
 
-use cbdc_types::{Answered, BatchId, CompactTx, Hash, LaneId, Outcome, Record, Reply, Stamp};
-
-/// Whether two hashes are the same.
-pub fn is_same_hash(x: &Hash, y: &Hash) -> bool
-    ensures { result ≡ same_digest x.now y.now }
-{
-    x == y
-}
-
-/// Whether two names of batches are the same.
-pub fn is_same_batch(a: &BatchId, b: &BatchId) -> bool
-    ensures { result ≡ same_batch a.now b.now }
-{
-    a.lane.0 == b.lane.0 && a.number == b.number
-}
-
-/// Whether a reply is Held.
-pub fn is_held(reply: &Reply) -> bool
-    ensures { result ≡ is_held reply.now }
-{
-    match reply {
-        Reply::Held => true,
-        Reply::Missing(_) => false,
-        Reply::Locked(_, _) => false,
-    }
-}
-
-/// Whether an outcome is Held: the transaction is committed.
-pub fn is_won(outcome: &Outcome) -> bool
-    ensures { result ≡ is_won outcome.now }
-{
-    match outcome {
-        Outcome::Held => true,
-        Outcome::Missing(_, _) => false,
-        Outcome::Locked(_, _, _) => false,
-    }
-}
+use cbdc_types::{Answered, BatchId, CompactTx, Hash, LaneId, Outcome, Record, Stamp};
+use same_records::{is_same_batch, is_same_hash};
 
 /// A record's stamp: 0 for a first record.
 pub fn stamp_of(r: &Record) -> Stamp

@@ -2,10 +2,10 @@
 ghost use Rattle.std.specs.Prelude.{◌≡◌, ◌++◌, [], IfOk, OnOk};
 ghost use Rattle.cbdc_model.specs.Replies.{refusal, reply_to, answered};
 
-use crate::copying::copy_of_entry;
-use crate::records::{has, is_held};
+use crate::records::has;
 use crate::status::status_of;
 use cbdc_types::{Answered, BatchId, Entry, Hash, List, Record, Reply, Status};
+use same_records::is_held;
 use std::alloc::{AllocError, Global};
 
 /// Why an input of this status can't be held, if it can't: the batch's own earlier Held entries may claim it.
@@ -64,7 +64,7 @@ fn answer(
     };
     let reply = reply_to(past, batch, claimed, e.inputs.as_slice());
     out.push(Answered {
-        entry: copy_of_entry(alloc, e)?,
+        entry: e.clone()?,
         reply,
     })?;
     if is_held(&reply) {

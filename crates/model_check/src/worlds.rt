@@ -5,8 +5,8 @@ ghost use Rattle.cbdc_model.specs.Slots.{slot, Idle};
 ghost use Rattle.cbdc_model.specs.World.{node_at, journals, AreIdle, IsRecovered};
 
 use crate::nexts::is_idle;
-use crate::parts::home_of;
 use crate::slots::slot_of;
+use batch_parts::home_of;
 use cbdc_types::{LaneId, List, Record, Shape};
 use std::marker::Model;
 

@@ -6,7 +6,6 @@ use crate::told::Told;
 use batcher::Batcher;
 use cbdc_types::{CompactTx, FullTx, Part};
 use identifiers::tx_id;
-use model_check::copy_of_compact;
 use row_records::{hash, small, txs};
 use row_text::{Wrong, count, number, word};
 use sentinel::check;
@@ -63,8 +62,8 @@ fn tell_batch(told: &mut Told, batch: &[CompactTx]) {
 }
 
 // Pushes a transaction where there is room.
-fn push(state: &State, alloc: Global, batcher: &mut Batcher, name: &str) -> Result<(), Wrong> {
-    let form = copy_of_compact(alloc, state.known.form(name)?)?;
+fn push(state: &State, batcher: &mut Batcher, name: &str) -> Result<(), Wrong> {
+    let form = state.known.form(name)?.clone()?;
     if batcher.is_full() {
         return Err(Wrong::Line("the batch is full"));
     }
@@ -83,7 +82,7 @@ pub fn batches(state: &State, alloc: Global, words: &[&str], told: &mut Told) ->
                 None => told.word("none"),
             }
         } else {
-            push(state, alloc, &mut batcher, step)?;
+            push(state, &mut batcher, step)?;
             told.word(if batcher.is_full() { "full" } else { "room" });
         }
     }

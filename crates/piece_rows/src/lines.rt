@@ -4,11 +4,11 @@ use crate::page::Page;
 use crate::reader::Reader;
 use crate::told::{Told, check_lines};
 use cbdc_types::{Header, Phase, Status};
+use line_check::{fault_line, verdict_text};
 use line_text::{
     AuditSummary, Summary, status_code, write_audit, write_confirmed, write_fault, write_init,
     write_recovery, write_refused, write_rejected, write_resumed, write_status, write_summary,
 };
-use printed_lines::{fault_line, verdict_text};
 use row_text::{Block, Wrong, rest};
 use std::alloc::Global;
 

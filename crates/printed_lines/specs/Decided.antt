@@ -3,9 +3,7 @@ use Rattle.std.specs.Prelude.{ℕ, zero, suc, ◌+◌, ◌-◌, ◌*◌, List, [
 use Rattle.cbdc_model.specs.Records.{Shape, Batch, Outcome, Record}
 use Rattle.cbdc_model.specs.Ranges.{home_of}
 use Rattle.cbdc_model.specs.Waves.{prepared}
-use Rattle.cbdc_model.specs.Places.{PlaceIn, Sized, sized_onto, place_of, outcome_in}
-use Rattle.printed_lines.specs.declared.deciding.Search.{Search}
-use Rattle.printed_lines.specs.declared.deciding.Search.TheVariants.{Found, Past}
+use Rattle.cbdc_model.specs.Places.{PlaceIn, sized_onto, place_of, outcome_in}
 
 -- those records of a journal J that came since it was I
 abbrev pub added : List Record → List Record → List Record
@@ -27,8 +25,3 @@ batches_below K E X (suc lane) = batches_below K E X lane + length (prepared lan
 
 abbrev pub new_batches : Shape → (ℕ → List Record) → (ℕ → List Record) → ℕ
 new_batches K E X = batches_below K E X (K.coordinators * K.lanes)
-
--- of a search among the batches before others: the place that was found, or one among the others
-abbrev pub place_by : Search → List Sized → Option PlaceIn
-place_by (Found batch at) others = Some (record { batch = batch; at = at })
-place_by (Past rest) others = place_of others rest

@@ -3,4 +3,3 @@ pub mod Unspent
 pub mod Recoveries
 pub mod Decided
 pub mod Runs
-pub mod Summaries

@@ -1,5 +1,5 @@
 -- How many hashes are unspent over all shards.
-use Rattle.std.specs.Prelude.{◌≡◌, ◌↔◌, ℕ, true, List, [], ◌∷◌, length, if◌then◌else◌}
+use Rattle.std.specs.Prelude.{◌≡◌, ◌↔◌, ℕ, true, List, length}
 use Rattle.cbdc_model.specs.Records.{Digest, Shape, Record}
 use Rattle.cbdc_model.specs.Status.{has}
 use Rattle.cbdc_model.specs.World.{IsUnspent}
@@ -11,8 +11,3 @@ pub record IsUnspentCount (K : Shape) (J : ℕ → List Record) (n : ℕ) : Type
   pub once : IsSet hashes
   pub all : (x : Digest) → (has hashes x ≡ true) ↔ IsUnspent K J x
   pub count : n ≡ length hashes
-
--- a list without those that stand again behind
-abbrev pub last_ones : List Digest → List Digest
-last_ones [] = []
-last_ones (x ∷ xs) = if has xs x then last_ones xs else x ∷ last_ones xs

@@ -1,7 +1,18 @@
-//! Whether compact transactions, records and journals are the same: slow functions on top of `model_check`, for the plain programs that
-//! compare them. Journals are lists whose newest record comes first.
+//! Whether hashes, entries, replies, outcomes, transactions, records and journals are the same, and whether a reply or an outcome is
+//! Held. Journals are lists whose newest record comes first.
 #![tactic(auto)]
 
+mod comparing;
 mod records;
+mod same;
+mod values;
 
+pub use comparing::{
+    are_same_hashes, is_same_compact, is_same_entry, is_same_output, is_same_point,
+};
 pub use records::{are_compacts, is_compact, is_journal, is_record};
+pub use same::{
+    are_answered, are_decisions, are_hashes, are_outcomes, is_batch, is_entry, is_hash, is_header,
+    is_outcome, is_part, is_reply,
+};
+pub use values::{is_held, is_same_batch, is_same_hash, is_won};

@@ -2,7 +2,7 @@
 use Rattle.std.proofs.Common.{◌≡◌, ◌↔◌, Bool, true, false, subst, sym, refl, rules}
 use Rattle.std.specs.Prelude.{IsTrue}
 use Rattle.cbdc_model.specs.Records.{Batch, Record, same_batch, is_of}
-use Rattle.model_check.proofs.Alikeness.{same_batch_is, same_batch_self}
+use Rattle.same_records.proofs.Alikeness.{same_batch_is, same_batch_self}
 use Rattle.wave_check.specs.Adding.{IsNew}
 
 pub batch_is : (own b : Batch) → (same_batch own b ≡ true) ↔ (own ≡ b)

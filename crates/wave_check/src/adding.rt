@@ -9,8 +9,9 @@ ghost use Rattle.cbdc_model.specs.Waves.{Adds};
 ghost use Rattle.model_check.specs.Journals.{journals_in};
 ghost use Rattle.wave_check.specs.Adding.{MayAdd, IsNew, Grows};
 
+use batch_parts::home_of;
 use cbdc_types::{BatchId, LaneId, List, Record, Shape};
-use model_check::{home_journal, home_of, is_idle, journal_at, record_of, slot_of};
+use model_check::{home_journal, is_idle, journal_at, record_of, slot_of};
 use same_records::is_journal;
 
 /// The batch of a record, none of a first record.

@@ -5,35 +5,14 @@ ghost use Rattle.wave_check.specs.Choices.{ends_of, each_before, choices};
 
 use crate::adding::journal_of;
 use cbdc_types::{List, Record};
-use model_check::copy_of_record;
 use same_records::is_journal;
 use std::alloc::{AllocError, Global};
-
-// Puts copies of records behind those so far.
-fn add_records(alloc: Global, past: &[Record], out: &mut Vec<Record>) -> Result<(), AllocError>
-    ensures { OnOk result (out.new.items ≡ out.old.items ++ past.now) }
-{
-    let Some((r, rest)) = past.split_first() else {
-        return Ok(());
-    };
-    out.push(copy_of_record(alloc, r)?)?;
-    add_records(alloc, rest, out)
-}
-
-// A copy of a journal.
-fn copy_of_journal(alloc: Global, past: &[Record]) -> Result<List<Record>, AllocError>
-    ensures { IfOk result (λ l. l ≡ past.now) }
-{
-    let mut all = Vec::new(alloc);
-    add_records(alloc, past, &mut all)?;
-    Ok(List::from_vec(all))
-}
 
 // Puts a journal and what it was before each of its records behind those so far.
 fn add_ends(alloc: Global, past: &[Record], out: &mut Vec<List<Record>>) -> Result<(), AllocError>
     ensures { OnOk result (out.new.items ≡ out.old.items ++ ends_of past.now) }
 {
-    out.push(copy_of_journal(alloc, past)?)?;
+    out.push(List::from_vec(past.to_vec(alloc)?))?;
     match past.split_first() {
         None => Ok(()),
         Some((_, rest)) => add_ends(alloc, rest, out),
@@ -58,24 +37,20 @@ fn with_journal(
     ensures { IfOk result (λ l. l ≡ first.now ∷ others.now) }
 {
     let mut all = Vec::new(alloc);
-    all.push(copy_of_journal(alloc, first)?)?;
-    add_copies(alloc, others, &mut all)?;
+    all.push(List::from_vec(first.to_vec(alloc)?))?;
+    add_copies(others, &mut all)?;
     Ok(List::from_vec(all))
 }
 
 // Puts copies of journals behind those so far.
-fn add_copies(
-    alloc: Global,
-    journals: &[List<Record>],
-    out: &mut Vec<List<Record>>,
-) -> Result<(), AllocError>
+fn add_copies(journals: &[List<Record>], out: &mut Vec<List<Record>>) -> Result<(), AllocError>
     ensures { OnOk result (out.new.items ≡ out.old.items ++ journals.now) }
 {
     let Some((first, rest)) = journals.split_first() else {
         return Ok(());
     };
-    out.push(copy_of_journal(alloc, first.as_slice())?)?;
-    add_copies(alloc, rest, out)
+    out.push(first.clone()?)?;
+    add_copies(rest, out)
 }
 
 // Puts a journal in front of each of those, behind what there is.

@@ -10,8 +10,9 @@ ghost use Rattle.wave_check.specs.Stages.{sent_in, StageRuns, RunsBy};
 use crate::adding::{adds, are_idle};
 use crate::choices::are_same;
 use crate::prepares::is_prepared;
+use batch_parts::home_of;
 use cbdc_types::{CompactTx, LaneId, List, Record, Shape};
-use model_check::{home_of, journal_at};
+use model_check::journal_at;
 use std::alloc::{AllocError, Global};
 
 /// A stage of a run.

@@ -1,5 +1,5 @@
 // Whether a run takes its files in waves.
-ghost use Rattle.std.specs.Prelude.{◌≡◌, ◌↔◌, Bool, IsTrue, IfOk, OnOk};
+ghost use Rattle.std.specs.Prelude.{◌↔◌, Bool, IsTrue, IfOk, OnOk};
 ghost use Rattle.cbdc_model.specs.Coins.{FullTx as ModelTx};
 ghost use Rattle.cbdc_model.specs.Waves.{Waves};
 ghost use Rattle.model_check.specs.Journals.{journals_in};

@@ -9,13 +9,14 @@ ghost use Rattle.world_core.specs.Events.{call_in};
 
 use crate::events::ShardCall;
 use crate::parts::is_own_part;
+use batch_parts::{home_of, is_concerned};
 use cbdc_types::{
     BatchId, FinishCall, ForgetCall, Hash, Header, List, LockCall, NodeId, Record, Shape,
 };
 use model_check::{
-    Node, are_decisions, copy_of_record, decisions_of, entries_in, home_of, is_after, is_batch,
-    is_caused, is_concerned, journal_in, lock_of, record_of, txs_of,
+    Node, decisions_of, entries_in, is_after, is_caused, journal_in, lock_of, record_of, txs_of,
 };
+use same_records::{are_decisions, is_batch};
 use std::alloc::{AllocError, Global};
 
 /// The header of a node's journal.
@@ -116,24 +117,13 @@ pub fn has_cause(
     }
 }
 
-// A copy of a journal.
-fn copy_of_journal(alloc: Global, past: &[Record]) -> Result<List<Record>, AllocError>
-    ensures { IfOk result (λ l. l ≡ past.now) }
-{
-    let mut all = Vec::with_capacity(alloc, past.len())?;
-    for r in past {
-        all.push(copy_of_record(alloc, r)?)?;
-    }
-    Ok(List::from_vec(all))
-}
-
 // Copies of the journals of all nodes.
 fn journals_of(alloc: Global, nodes: &[Node]) -> Result<List<List<Record>>, AllocError>
     ensures { IfOk result (λ l. l ≡ map (λ n. n.journal) nodes.now) }
 {
     let mut all = Vec::with_capacity(alloc, nodes.len())?;
     for own in nodes {
-        all.push(copy_of_journal(alloc, own.journal.as_slice())?)?;
+        all.push(own.journal.clone()?)?;
     }
     Ok(List::from_vec(all))
 }

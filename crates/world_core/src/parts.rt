@@ -2,8 +2,8 @@
 ghost use Rattle.std.specs.Prelude.{◌≡◌, ◌+◌, ◌<◌, ◌^◌, ◌↔◌, ℕ, length, IsTrue};
 ghost use Rattle.cbdc_model.specs.Ranges.{part, shard_node};
 
+use batch_parts::{are_elsewhere, is_entry_at};
 use cbdc_types::{CompactTx, Entry, NodeId, Shape};
-use model_check::{are_elsewhere, is_entry_at};
 
 // Whether entries are those of a shard's part of the transactions from this place on.
 fn is_part_of(shards: u32, shard: u32, place: u64, txs: &[CompactTx], entries: &[Entry]) -> bool

@@ -7,8 +7,9 @@ ghost use Rattle.world_core.specs.Events.{event_in, mint_of};
 use crate::causes::header_at;
 use crate::events::Event;
 use crate::turns::happen;
+use batch_parts::hashes_on;
 use cbdc_types::{Hash, List, NodeId, Record, Shape};
-use model_check::{Node, hashes_on};
+use model_check::Node;
 use std::alloc::{AllocError, Global};
 
 /// A ledger of a shape and a mint: its nodes, the coordinators first.

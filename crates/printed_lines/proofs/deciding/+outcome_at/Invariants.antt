@@ -1,4 +1,0 @@
-use Rattle.printed_lines.proofs.deciding.+outcome_at.Given as goal
-
-abbrev pub decreases-outcome_at : goal.decreases-outcome_at
-decreases-outcome_at l = l.k

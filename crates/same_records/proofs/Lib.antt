@@ -1,0 +1,4 @@
+pub mod Digests
+pub mod Alikeness
+pub mod Deciding
+pub mod Keys
