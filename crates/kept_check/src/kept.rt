@@ -13,6 +13,13 @@ use compact_tx::{compact, genesis_tx};
 use model_check::{Row, is_after, is_caused_at, journal_of};
 use std::alloc::{AllocError, Global};
 
+/// A copy of a row.
+pub fn copy_of_row(row: &Row) -> Result<Row, AllocError>
+    ensures { IfOk result (λ t. t ≡ row.now) }
+{
+    row.clone()
+}
+
 /// Puts copies of rows behind those so far.
 pub fn add_rows(rows: &[Row], out: &mut Vec<Row>) -> Result<(), AllocError>
     ensures { OnOk result (out.new.items ≡ out.old.items ++ rows.now) }
@@ -20,7 +27,7 @@ pub fn add_rows(rows: &[Row], out: &mut Vec<Row>) -> Result<(), AllocError>
     let Some((row, rest)) = rows.split_first() else {
         return Ok(());
     };
-    out.push(row.clone()?)?;
+    out.push(copy_of_row(row)?)?;
     add_rows(rest, out)
 }
 

@@ -8,10 +8,10 @@ ghost use Rattle.kept_check.specs.Histories.{AreOnNodes, IsWholeHistory};
 ghost use Rattle.kept_check.specs.Merging.{put_row, put_records, behind_first, later_below};
 ghost use Rattle.kept_check.specs.Minting.{minted_by};
 
-use crate::kept::{add_rows, first_rows, is_kept, rows_on};
+use crate::kept::{add_rows, copy_of_row, first_rows, is_kept, rows_on};
 use cbdc_types::{CompactTx, FullTx, List, NodeId, Output, Record, Shape};
 use compact_tx::{compact, genesis_tx};
-use model_check::{Row, goes_above, is_ordered, journal_at, journal_of};
+use model_check::{Row, copy_of_record, goes_above, is_ordered, journal_at, journal_of};
 use same_records::is_journal;
 use std::alloc::{AllocError, Global};
 
@@ -111,14 +111,14 @@ fn add_with(row: &Row, rows: &[Row], out: &mut Vec<Row>) -> Result<(), AllocErro
     ensures { OnOk result (out.new.items ≡ out.old.items ++ put_row row.now rows.now) }
 {
     let Some((head, later)) = rows.split_first() else {
-        out.push(row.clone()?)?;
+        out.push(copy_of_row(row)?)?;
         return Ok(());
     };
     if goes_above(row, head) {
-        out.push(row.clone()?)?;
+        out.push(copy_of_row(row)?)?;
         return add_rows(rows, out);
     }
-    out.push(head.clone()?)?;
+    out.push(copy_of_row(head)?)?;
     add_with(row, later, out)
 }
 
@@ -133,7 +133,7 @@ fn with_record(
 {
     let row = Row {
         node,
-        what: r.clone()?,
+        what: copy_of_record(r)?,
     };
     let mut out = Vec::new(alloc);
     add_with(&row, rows, &mut out)?;

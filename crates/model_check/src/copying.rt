@@ -1,9 +1,55 @@
-// Parts of what was given, in lists of their own.
+// Copies of what was given, and parts of it in lists of their own.
 ghost use Rattle.std.specs.Prelude.{◌≡◌, ◌∷◌, IfOk};
 ghost use Rattle.cbdc_model.specs.Replies.{entries, replies};
 
-use cbdc_types::{Answered, Entry, List, Reply};
+use cbdc_types::{Answered, CompactTx, Entry, FullTx, List, Record, Reply};
 use std::alloc::{AllocError, Global};
+
+/// A copy of an entry.
+pub fn copy_of_entry(x: &Entry) -> Result<Entry, AllocError>
+    ensures { IfOk result (λ y. y ≡ x.now) }
+{
+    x.clone()
+}
+
+/// A copy of a compact transaction.
+pub fn copy_of_compact(x: &CompactTx) -> Result<CompactTx, AllocError>
+    ensures { IfOk result (λ y. y ≡ x.now) }
+{
+    x.clone()
+}
+
+/// A copy of a transaction.
+pub fn copy_of_full(x: &FullTx) -> Result<FullTx, AllocError>
+    ensures { IfOk result (λ y. y ≡ x.now) }
+{
+    x.clone()
+}
+
+/// A copy of a record.
+pub fn copy_of_record(x: &Record) -> Result<Record, AllocError>
+    ensures { IfOk result (λ y. y ≡ x.now) }
+{
+    x.clone()
+}
+
+/// A copy of compact transactions, as a list.
+pub fn copy_of_txs(alloc: Global, xs: &[CompactTx]) -> Result<List<CompactTx>, AllocError>
+    ensures { IfOk result (λ l. l ≡ xs.now) }
+{
+    Ok(List::from_vec(xs.to_vec(alloc)?))
+}
+
+/// A copy of records, as a list.
+pub fn copy_of_records(alloc: Global, xs: &[Record]) -> Result<List<Record>, AllocError>
+    ensures { IfOk result (λ l. l ≡ xs.now) }
+{
+    let mut all = Vec::with_capacity(alloc, xs.len())?;
+    for x in xs {
+        all.push(copy_of_record(x)?)?;
+    }
+    Ok(List::from_vec(all))
+}
 
 /// The replies of answered entries.
 pub fn replies_in(alloc: Global, es: &[Answered]) -> Result<List<Reply>, AllocError>
@@ -22,7 +68,7 @@ pub fn entries_in(alloc: Global, es: &[Answered]) -> Result<List<Entry>, AllocEr
 {
     let mut all = Vec::with_capacity(alloc, es.len())?;
     for a in es {
-        all.push(a.entry.clone()?)?;
+        all.push(copy_of_entry(&a.entry)?)?;
     }
     Ok(List::from_vec(all))
 }

@@ -3,7 +3,7 @@ ghost use Rattle.std.specs.Prelude.{◌≡◌, List as Items, None, Some, IfOk, 
 ghost use Rattle.cbdc_model.specs.Coins.{FullTx as ModelTx};
 ghost use Rattle.cbdc_model.specs.History.{first_with, AreHandedIn, AreCommitted};
 
-use crate::copying::with_front;
+use crate::copying::{copy_of_full, with_front};
 use crate::history::{Row, committed_compact};
 use cbdc_types::{CompactTx, FullTx, List};
 use compact_tx::compact;
@@ -44,7 +44,7 @@ fn handed_in(
     let Some(more) = handed_in(alloc, submissions, rest)? else {
         return Ok(None);
     };
-    Ok(Some(with_front(t.clone()?, more)?))
+    Ok(Some(with_front(copy_of_full(t)?, more)?))
 }
 
 /// The committed transactions of a history, in the order of their Commits, each the first submission with its compact

@@ -4,6 +4,7 @@ ghost use Rattle.cbdc_model.specs.Records.{journal};
 ghost use Rattle.cbdc_model.specs.Outcomes.{won_txs};
 ghost use Rattle.cbdc_model.specs.History.{goes_above, IsOrdered, committed};
 
+use crate::copying::{copy_of_compact, copy_of_record};
 use crate::records::{stamp_of, txs_of};
 use cbdc_types::{CompactTx, List, NodeId, Outcome, Record};
 use same_records::is_won;
@@ -55,7 +56,7 @@ fn add_journal(node: NodeId, rows: &[Row], out: &mut Vec<Record>) -> Result<(), 
         return Ok(());
     };
     if row.node.0 == node.0 {
-        out.push(row.what.clone()?)?;
+        out.push(copy_of_record(&row.what)?)?;
     }
     add_journal(node, past, out)
 }
@@ -81,7 +82,7 @@ fn add_won(
         return Ok(());
     };
     if is_won(o) {
-        out.push(t.clone()?)?;
+        out.push(copy_of_compact(t)?)?;
     }
     add_won(others, rest, out)
 }

@@ -24,36 +24,106 @@ mod status;
 mod unspent;
 mod worlds;
 
-pub use books::{
-    coins_of, count_of_book, fold_of, genesis_book, output_at, put_all, spend, take_all, take_out,
-    value_of,
-};
+pub use books::coins_of;
+pub use books::count_of_book;
+pub use books::fold_of;
+pub use books::genesis_book;
+pub use books::output_at;
+pub use books::put_all;
+pub use books::spend;
+pub use books::take_all;
+pub use books::take_out;
+pub use books::value_of;
 pub use caused::is_caused;
-pub use causes::{all_have, home_journal, is_stamped, last_of};
-pub use comparing::{misfit, other_decisions, other_part};
-pub use copying::{entries_in, replies_in, with_front};
-pub use following::{fits_replies, follows, is_after};
-pub use grammar::{
-    are_here, is_batch_of, is_compact, is_early, is_entry_of, is_hash_list, is_in_grammar,
-    is_later, is_outcome_of, is_reply_of, is_shard, rises_from,
-};
-pub use handed::{committed_of, first_with};
-pub use history::{Row, committed_compact, goes_above, is_ordered, journal_of};
-pub use nexts::{
-    finished_decisions, is_idle, next_finish, next_forget, next_lock, next_stamp, stamp_of_kind,
-};
-pub use outcomes::{decisions_of, journal_at, outcome_of, outcomes_by_locks, reply_at, won_at};
-pub use plans::{LockPlan, StampPlan};
-pub use records::{
-    has, is_in_lane, is_of, kind_of, last_stamp, lock_of, outcomes_of, record_of, stamp_of, txs_of,
-};
-pub use refusals::{Listed, first_refusal_of};
-pub use replying::{refusal, replies_of, reply_to};
-pub use room::{kept_room, lane_room, need_of, size_of, used_of};
-pub use slots::{Phase, Slot, slot_of, slot_stamp};
-pub use standing::{are_on_nodes, is_caused_at, journals_of};
-pub use status::{
-    finished_status, is_held_input, is_made_output, is_returned_input, is_taken_input, status_of,
-};
-pub use unspent::{is_unspent, unspent_of};
-pub use worlds::{Node, are_idle, is_recovered, journal_in};
+pub use causes::all_have;
+pub use causes::home_journal;
+pub use causes::is_stamped;
+pub use causes::last_of;
+pub use comparing::misfit;
+pub use comparing::other_decisions;
+pub use comparing::other_part;
+pub use copying::copy_of_compact;
+pub use copying::copy_of_entry;
+pub use copying::copy_of_full;
+pub use copying::copy_of_record;
+pub use copying::copy_of_records;
+pub use copying::copy_of_txs;
+pub use copying::entries_in;
+pub use copying::replies_in;
+pub use copying::with_front;
+pub use following::fits_replies;
+pub use following::follows;
+pub use following::is_after;
+pub use grammar::are_here;
+pub use grammar::is_batch_of;
+pub use grammar::is_compact;
+pub use grammar::is_early;
+pub use grammar::is_entry_of;
+pub use grammar::is_hash_list;
+pub use grammar::is_in_grammar;
+pub use grammar::is_later;
+pub use grammar::is_outcome_of;
+pub use grammar::is_reply_of;
+pub use grammar::is_shard;
+pub use grammar::rises_from;
+pub use handed::committed_of;
+pub use handed::first_with;
+pub use history::Row;
+pub use history::committed_compact;
+pub use history::goes_above;
+pub use history::is_ordered;
+pub use history::journal_of;
+pub use nexts::finished_decisions;
+pub use nexts::is_idle;
+pub use nexts::next_finish;
+pub use nexts::next_forget;
+pub use nexts::next_lock;
+pub use nexts::next_stamp;
+pub use nexts::stamp_of_kind;
+pub use outcomes::decisions_of;
+pub use outcomes::journal_at;
+pub use outcomes::outcome_of;
+pub use outcomes::outcomes_by_locks;
+pub use outcomes::reply_at;
+pub use outcomes::won_at;
+pub use plans::LockPlan;
+pub use plans::StampPlan;
+pub use records::has;
+pub use records::is_in_lane;
+pub use records::is_of;
+pub use records::kind_of;
+pub use records::last_stamp;
+pub use records::lock_of;
+pub use records::outcomes_of;
+pub use records::record_of;
+pub use records::stamp_of;
+pub use records::txs_of;
+pub use refusals::Listed;
+pub use refusals::first_refusal_of;
+pub use replying::refusal;
+pub use replying::replies_of;
+pub use replying::reply_to;
+pub use room::kept_room;
+pub use room::lane_room;
+pub use room::need_of;
+pub use room::size_of;
+pub use room::used_of;
+pub use slots::Phase;
+pub use slots::Slot;
+pub use slots::slot_of;
+pub use slots::slot_stamp;
+pub use standing::are_on_nodes;
+pub use standing::is_caused_at;
+pub use standing::journals_of;
+pub use status::finished_status;
+pub use status::is_held_input;
+pub use status::is_made_output;
+pub use status::is_returned_input;
+pub use status::is_taken_input;
+pub use status::status_of;
+pub use unspent::is_unspent;
+pub use unspent::unspent_of;
+pub use worlds::Node;
+pub use worlds::are_idle;
+pub use worlds::is_recovered;
+pub use worlds::journal_in;

@@ -2,6 +2,7 @@
 ghost use Rattle.std.specs.Prelude.{◌≡◌, ◌++◌, [], IfOk, OnOk};
 ghost use Rattle.cbdc_model.specs.Replies.{refusal, reply_to, answered};
 
+use crate::copying::copy_of_entry;
 use crate::records::has;
 use crate::status::status_of;
 use cbdc_types::{Answered, BatchId, Entry, Hash, List, Record, Reply, Status};
@@ -64,7 +65,7 @@ fn answer(
     };
     let reply = reply_to(past, batch, claimed, e.inputs.as_slice());
     out.push(Answered {
-        entry: e.clone()?,
+        entry: copy_of_entry(e)?,
         reply,
     })?;
     if is_held(&reply) {

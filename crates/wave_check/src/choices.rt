@@ -5,6 +5,7 @@ ghost use Rattle.wave_check.specs.Choices.{ends_of, each_before, choices};
 
 use crate::adding::journal_of;
 use cbdc_types::{List, Record};
+use model_check::copy_of_records;
 use same_records::is_journal;
 use std::alloc::{AllocError, Global};
 
@@ -12,7 +13,7 @@ use std::alloc::{AllocError, Global};
 fn add_ends(alloc: Global, past: &[Record], out: &mut Vec<List<Record>>) -> Result<(), AllocError>
     ensures { OnOk result (out.new.items ≡ out.old.items ++ ends_of past.now) }
 {
-    out.push(List::from_vec(past.to_vec(alloc)?))?;
+    out.push(copy_of_records(alloc, past)?)?;
     match past.split_first() {
         None => Ok(()),
         Some((_, rest)) => add_ends(alloc, rest, out),
@@ -37,20 +38,24 @@ fn with_journal(
     ensures { IfOk result (λ l. l ≡ first.now ∷ others.now) }
 {
     let mut all = Vec::new(alloc);
-    all.push(List::from_vec(first.to_vec(alloc)?))?;
-    add_copies(others, &mut all)?;
+    all.push(copy_of_records(alloc, first)?)?;
+    add_copies(alloc, others, &mut all)?;
     Ok(List::from_vec(all))
 }
 
 // Puts copies of journals behind those so far.
-fn add_copies(journals: &[List<Record>], out: &mut Vec<List<Record>>) -> Result<(), AllocError>
+fn add_copies(
+    alloc: Global,
+    journals: &[List<Record>],
+    out: &mut Vec<List<Record>>,
+) -> Result<(), AllocError>
     ensures { OnOk result (out.new.items ≡ out.old.items ++ journals.now) }
 {
     let Some((first, rest)) = journals.split_first() else {
         return Ok(());
     };
-    out.push(first.clone()?)?;
-    add_copies(rest, out)
+    out.push(copy_of_records(alloc, first.as_slice())?)?;
+    add_copies(alloc, rest, out)
 }
 
 // Puts a journal in front of each of those, behind what there is.

@@ -4,11 +4,13 @@ ghost use Rattle.cbdc_model.specs.Waves.{IsCut, prepared};
 ghost use Rattle.wave_check.specs.Adding.{IsPrepared, AddsPieces};
 
 use cbdc_types::{CompactTx, LaneId, List, Record, Shape};
+use model_check::copy_of_txs;
 use same_records::are_compacts;
 use std::alloc::{AllocError, Global};
 
 // Puts what a lane prepared in a journal behind what there is.
 fn add_prepared(
+    alloc: Global,
     lane: LaneId,
     past: &[Record],
     out: &mut Vec<List<CompactTx>>,
@@ -20,10 +22,10 @@ fn add_prepared(
     };
     if let Record::Prepare { batch, txs, .. } = r {
         if batch.lane.0 == lane.0 {
-            out.push(txs.clone()?)?;
+            out.push(copy_of_txs(alloc, txs.as_slice())?)?;
         }
     }
-    add_prepared(lane, rest, out)
+    add_prepared(alloc, lane, rest, out)
 }
 
 /// The transactions of a lane's Prepares in a journal, the newest first.
@@ -35,7 +37,7 @@ pub fn prepared_of(
     ensures { IfOk result (λ l. l ≡ prepared lane past.now) }
 {
     let mut out = Vec::new(alloc);
-    add_prepared(lane, past, &mut out)?;
+    add_prepared(alloc, lane, past, &mut out)?;
     Ok(List::from_vec(out))
 }
 
@@ -54,7 +56,7 @@ fn add_pieces(
         return Ok(());
     }
     let (piece, rest) = txs.split_at(n.min(txs.len()));
-    out.push(List::from_vec(piece.to_vec(alloc)?))?;
+    out.push(copy_of_txs(alloc, piece)?)?;
     add_pieces(alloc, n, rest, out)
 }
 

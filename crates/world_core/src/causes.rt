@@ -14,7 +14,8 @@ use cbdc_types::{
     BatchId, FinishCall, ForgetCall, Hash, Header, List, LockCall, NodeId, Record, Shape,
 };
 use model_check::{
-    Node, decisions_of, entries_in, is_after, is_caused, journal_in, lock_of, record_of, txs_of,
+    Node, copy_of_records, decisions_of, entries_in, is_after, is_caused, journal_in, lock_of,
+    record_of, txs_of,
 };
 use same_records::{are_decisions, is_batch};
 use std::alloc::{AllocError, Global};
@@ -123,7 +124,7 @@ fn journals_of(alloc: Global, nodes: &[Node]) -> Result<List<List<Record>>, Allo
 {
     let mut all = Vec::with_capacity(alloc, nodes.len())?;
     for own in nodes {
-        all.push(own.journal.clone()?)?;
+        all.push(copy_of_records(alloc, own.journal.as_slice())?)?;
     }
     Ok(List::from_vec(all))
 }

@@ -9,7 +9,7 @@ use crate::causes::may_begin;
 use crate::events::{Event, ShardCall};
 use crate::nodes::{is_down, is_quiet, is_up, is_writing, land, lose, set_up};
 use cbdc_types::{Hash, NodeId, Record, Shape};
-use model_check::Node;
+use model_check::{Node, copy_of_record};
 use std::alloc::{AllocError, Global};
 
 // A record is begun.
@@ -30,7 +30,7 @@ fn begin(
     if !may_begin(alloc, nodes, shape, genesis, node, r)? {
         return Ok(());
     }
-    let flight = r.clone()?;
+    let flight = copy_of_record(r)?;
     set_up(nodes, node, Some(flight));
     Ok(())
 }
