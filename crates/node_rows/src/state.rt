@@ -1,0 +1,105 @@
+// What a row has made so far: names, nodes, what a lane asked of them, and a shard's tables.
+use crate::stores::Store;
+use coord_log::CoordLog;
+use dtx_replies::Slots;
+use gate_journal::Journal;
+use mem_devices::{FaultDisk, PlainDisk};
+use record_log::RecordLog;
+use row_records::Known;
+use row_text::{Names, Wrong};
+use shard_node::ShardNode;
+use std::alloc::{AllocError, Global};
+use std::mem;
+
+/// A disk, or what was opened on it.
+#[derive(Drop)]
+pub enum Node {
+    /// Nothing is there.
+    Gone,
+    Plain(PlainDisk),
+    Disk(FaultDisk),
+    Bodies(Journal<FaultDisk>),
+    Records(RecordLog<FaultDisk>),
+    Log(CoordLog<FaultDisk>),
+    Shard(ShardNode<FaultDisk>),
+}
+
+/// The kind of a record that was asked for, and its node.
+pub type Seen = (u8, u32);
+
+/// The tables of a shard, with the room that one had when it was told.
+#[derive(Drop)]
+pub struct Tables {
+    pub store: Store,
+    pub room: u64,
+    pub slots: Option<Slots>,
+}
+
+/// What a row has made so far.
+#[derive(Drop)]
+pub struct State {
+    pub known: Known,
+    pub nodes: Vec<Node>,
+    pub seen: Vec<Seen>,
+    pub kept: Names<String>,
+    pub tables: Tables,
+}
+
+/// No tables.
+fn no_tables() -> Tables {
+    Tables {
+        store: Store::Gone,
+        room: 0,
+        slots: None,
+    }
+}
+
+impl State {
+    pub fn empty(alloc: Global) -> State {
+        State {
+            known: Known::empty(alloc),
+            nodes: Vec::new(alloc),
+            seen: Vec::new(alloc),
+            kept: Names::new(alloc),
+            tables: no_tables(),
+        }
+    }
+
+    /// Keeps the names of what stood before the first row alone.
+    pub fn forget(&mut self) {
+        self.known.forget();
+        self.nodes.clear();
+        self.seen.clear();
+        self.kept.forget(0);
+        self.tables = no_tables();
+    }
+}
+
+// Has places for so many nodes at least.
+fn make_room(nodes: &mut Vec<Node>, count: usize) -> Result<(), AllocError> {
+    for _ in nodes.len()..count {
+        nodes.push(Node::Gone)?;
+    }
+    Ok(())
+}
+
+/// Puts a node in its place.
+pub fn put_node(nodes: &mut Vec<Node>, place: u32, node: Node) -> Result<(), Wrong> {
+    let place = place.min(99) as usize;
+    make_room(nodes, place + 1)?;
+    match nodes.get_mut(place) {
+        Some(old) => {
+            let _gone = mem::replace(old, node);
+            Ok(())
+        }
+        None => Err(Wrong::Line("no node has so great a number here")),
+    }
+}
+
+/// Takes a node out of its place.
+pub fn take_node(nodes: &mut Vec<Node>, place: u32) -> Node {
+    match nodes.get_mut(place as usize) {
+        Some(node) => mem::replace(node, Node::Gone),
+        None => Node::Gone,
+    }
+}
