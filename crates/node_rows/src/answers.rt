@@ -4,14 +4,12 @@ use gate_journal::{AppendFault, FormatFault, OpenFault};
 use lane_driver::LaneFaultKind;
 use record_log::{LogFault, NoLog};
 use row_records::word_of_refused;
-use row_text::{Wrong, check_words, put_count, put_word};
-use std::alloc::{AllocError, Global};
 
 /// A word, and the numbers behind it.
 #[derive(Clone, Copy, Drop)]
 pub struct Said {
-    word: &'static str,
-    numbers: [Option<u64>; 3],
+    pub word: &'static str,
+    pub numbers: [Option<u64>; 3],
 }
 
 /// A word alone.
@@ -147,37 +145,4 @@ pub fn of_bodies(fault: &OpenFault) -> Said {
         OpenFault::Damaged { at, before: _ } => with("damaged", *at),
         OpenFault::Memory => plain("memory"),
     }
-}
-
-/// Appends what was said.
-pub fn put_said(alloc: Global, text: &mut String, said: &Said) -> Result<(), AllocError> {
-    put_word(text, said.word)?;
-    for number in said.numbers.iter() {
-        if let Some(n) = number {
-            put_count(alloc, text, *n)?;
-        }
-    }
-    Ok(())
-}
-
-/// Nothing where this was said.
-pub fn check_said(alloc: Global, text: &str, said: &Said) -> Result<(), Wrong> {
-    let mut came = String::new(alloc);
-    put_said(alloc, &mut came, said)?;
-    check_words(alloc, text, came.as_str())
-}
-
-/// Appends numbers.
-pub fn put_numbers(alloc: Global, text: &mut String, numbers: &[u64]) -> Result<(), AllocError> {
-    for n in numbers {
-        put_count(alloc, text, *n)?;
-    }
-    Ok(())
-}
-
-/// Nothing where these numbers are told.
-pub fn check_numbers(alloc: Global, text: &str, numbers: &[u64]) -> Result<(), Wrong> {
-    let mut came = String::new(alloc);
-    put_numbers(alloc, &mut came, numbers)?;
-    check_words(alloc, text, came.as_str())
 }

@@ -1,54 +1,71 @@
 // Journals of bodies, and of records.
-use crate::answers::{Said, check_said, of_body, of_record, plain, put_numbers, put_said, with};
+use crate::answers::{of_body, of_record, plain, with};
 use crate::pieces::bytes_of;
 use crate::state::Node;
+use crate::told::Told;
 use gate_journal::Journal;
 use mem_devices::FaultDisk;
 use record_log::RecordLog;
 use row_records::{Known, record};
-use row_text::{Wrong, check_words, number, word};
+use row_text::{Wrong, number, word};
 use std::alloc::Global;
 
 // Takes memory for bodies of so many bytes.
-fn reserve(journal: &mut Journal<FaultDisk>, bytes: u64) -> Result<(), Wrong> {
+fn reserve(journal: &mut Journal<FaultDisk>, bytes: u64, told: &mut Told) {
     if bytes > 1 << 40 {
-        return Err(Wrong::Line("too long a body"));
+        told.refuse("too long a body");
+    } else if journal.reserve(bytes).is_err() {
+        told.no_memory();
+    } else if journal.reserved() < bytes {
+        told.refuse("less memory than was asked for");
     }
-    journal.reserve(bytes)?;
-    if journal.reserved() < bytes {
-        return Err(Wrong::Line("less memory than was asked for"));
+}
+
+/// `memory NODE BYTES`: a journal of bodies takes memory for bodies of so many bytes.
+pub fn memory(node: &mut Node, words: &[&str], told: &mut Told) -> Result<(), Wrong> {
+    let bytes = number(word(words, 0)?)?;
+    match node {
+        Node::Bodies(journal) => reserve(journal, bytes, told),
+        _ => told.refuse("no journal of bodies"),
     }
     Ok(())
 }
 
-// Appends a body for which there is memory.
-fn append_body(journal: &mut Journal<FaultDisk>, body: &[u8]) -> Option<Said> {
+// Appends a body where there is memory for it.
+fn append_body(journal: &mut Journal<FaultDisk>, body: &[u8], told: &mut Told) {
     if body.len() as u64 > journal.reserved() {
-        return None;
-    }
-    Some(of_body(&journal.append(body)))
-}
-
-/// `memory NODE BYTES`: a journal of bodies takes memory for bodies of so many bytes.
-pub fn memory(node: &mut Node, words: &[&str]) -> Result<(), Wrong> {
-    let bytes = number(word(words, 0)?)?;
-    match node {
-        Node::Bodies(journal) => reserve(journal, bytes),
-        _ => Err(Wrong::Line("no journal of bodies")),
+        told.refuse("no memory for such a body");
+    } else {
+        told.said(&of_body(&journal.append(body)));
     }
 }
 
 /// `append NODE PIECE..`, and what the journal of bodies says
-pub fn append(alloc: Global, node: &mut Node, words: &[&str], text: &str) -> Result<(), Wrong> {
+pub fn append(
+    alloc: Global,
+    node: &mut Node,
+    words: &[&str],
+    told: &mut Told,
+) -> Result<(), Wrong> {
     let body = bytes_of(alloc, words)?;
-    let said = match node {
-        Node::Bodies(journal) => append_body(journal, &body),
-        _ => None,
-    };
-    match said {
-        Some(said) => check_said(alloc, text, &said),
-        None => Err(Wrong::Line("no journal with memory for such a body")),
+    match node {
+        Node::Bodies(journal) => append_body(journal, &body, told),
+        _ => told.refuse("no journal of bodies"),
     }
+    Ok(())
+}
+
+// Appends a record.
+fn add_to(
+    known: &Known,
+    alloc: Global,
+    log: &mut RecordLog<FaultDisk>,
+    words: &[&str],
+    told: &mut Told,
+) -> Result<(), Wrong> {
+    let own = record(known, alloc, log.header.node.0, words)?;
+    told.said(&of_record(&log.append(own)));
+    Ok(())
 }
 
 /// `add NODE RECORD`, and what the journal of records says
@@ -57,13 +74,12 @@ pub fn add(
     alloc: Global,
     node: &mut Node,
     words: &[&str],
-    text: &str,
+    told: &mut Told,
 ) -> Result<(), Wrong> {
-    let Node::Records(log) = node else {
-        return Err(Wrong::Line("no journal of records"));
-    };
-    let own = record(known, alloc, log.header.node.0, words)?;
-    check_said(alloc, text, &of_record(&log.append(own)))
+    match node {
+        Node::Records(log) => add_to(known, alloc, log, words, told),
+        _ => Err(Wrong::Line("no journal of records")),
+    }
 }
 
 // Bytes used, free and in all, and the count of faults.
@@ -86,20 +102,20 @@ fn of_log(log: &RecordLog<FaultDisk>) -> [u64; 4] {
     ]
 }
 
+fn tell_used(told: &mut Told, numbers: &[u64], broken: Option<u64>) {
+    told.numbers(numbers);
+    match broken {
+        Some(since) => told.said(&with("broken", since)),
+        None => told.said(&plain("whole")),
+    }
+}
+
 /// `used NODE`, and of a journal of bodies how many bytes it takes, are free, and may be; of one of records how many bytes it takes, how many
 /// records it has, and how many bytes may be; then how often the disk has failed, and `whole`, or `broken` and the count of faults behind that
-pub fn used(alloc: Global, node: &Node, text: &str) -> Result<(), Wrong> {
-    let (numbers, broken) = match node {
-        Node::Bodies(journal) => (of_journal(journal), journal.is_broken()),
-        Node::Records(log) => (of_log(log), log.is_broken()),
-        _ => return Err(Wrong::Line("no journal")),
-    };
-    let said = match broken {
-        Some(since) => with("broken", since),
-        None => plain("whole"),
-    };
-    let mut came = String::new(alloc);
-    put_numbers(alloc, &mut came, &numbers)?;
-    put_said(alloc, &mut came, &said)?;
-    check_words(alloc, text, came.as_str())
+pub fn used(node: &Node, told: &mut Told) {
+    match node {
+        Node::Bodies(journal) => tell_used(told, &of_journal(journal), journal.is_broken()),
+        Node::Records(log) => tell_used(told, &of_log(log), log.is_broken()),
+        _ => told.refuse("no journal"),
+    }
 }

@@ -5,8 +5,9 @@ ghost use Rattle.coord_core.specs.Hashes.{NamesBatch, AllNameBatches};
 ghost use Rattle.coord_core.specs.Lanes.{IsOwn};
 ghost use Rattle.coord_log.specs.Logs.{IsShort};
 
-use crate::answers::{of_fault, put_said};
+use crate::answers::of_fault;
 use crate::state::Node;
+use crate::told::Told;
 use cbdc_types::{
     Answered, BatchId, CompactTx, FinishCall, ForgetCall, Hash, Header, LaneId, List, LockCall,
     NodeFault, Outcome, Record, Replied, Replies, Reply, Shape, ShardReplies, Stamp,
@@ -15,27 +16,15 @@ use coord_core::LanePhase;
 use coord_log::CoordLog;
 use mem_devices::FaultDisk;
 use model_check::is_batch_of;
-use row_records::{
-    Known, finish_call, forget_call, lock_call, put_batch, put_outcome, put_reply, record, small,
-    txs,
-};
-use row_text::{Wrong, check_words, number, put_count, put_word, rest, word};
+use row_records::{Known, finish_call, forget_call, lock_call, record, small, txs};
+use row_text::{Wrong, number, rest, word};
 use shard_node::{ShardNode, is_finish_call, is_forget_call, is_lock_call};
 use std::alloc::{AllocError, Global};
-
-/// Words in one line.
-pub fn joined(alloc: Global, words: &[&str]) -> Result<String, AllocError> {
-    let mut text = String::new(alloc);
-    for word in words {
-        put_word(&mut text, word)?;
-    }
-    Ok(text)
-}
 
 /// What a node answers, or nothing where it may not be asked.
 type Asked<A> = Option<Result<A, NodeFault>>;
 
-const NO_CALL: Wrong = Wrong::Line("no call that the node may be asked");
+const NO_CALL: &str = "no call that the node may be asked";
 
 // The calls at a shard.
 fn ask_lock(shard: &mut ShardNode<FaultDisk>, call: &LockCall) -> Asked<Replied> {
@@ -65,52 +54,76 @@ fn ask_forget(shard: &mut ShardNode<FaultDisk>, call: &ForgetCall) -> Asked<Stam
     }
 }
 
-// Appends a stamp and replies.
-fn put_replied(alloc: Global, text: &mut String, told: &Replied) -> Result<(), AllocError> {
-    put_count(alloc, text, told.stamp.0)?;
-    for reply in told.replies.as_slice() {
-        put_reply(alloc, text, reply)?;
+fn tell_locked(told: &mut Told, answer: &Asked<Replied>) {
+    match answer {
+        Some(Ok(replied)) => {
+            told.number(replied.stamp.0);
+            for reply in replied.replies.as_slice() {
+                told.reply(reply);
+            }
+        }
+        Some(Err(fault)) => told.said(&of_fault(fault)),
+        None => told.refuse(NO_CALL),
     }
+}
+
+// Tells a stamp, or why there is none.
+fn tell_stamped(told: &mut Told, answer: &Asked<Stamp>) {
+    match answer {
+        Some(Ok(stamp)) => told.number(stamp.0),
+        Some(Err(fault)) => told.said(&of_fault(fault)),
+        None => told.refuse(NO_CALL),
+    }
+}
+
+// `lock LANE NUMBER cause STAMP NAME@PLACE..`
+fn lock(
+    known: &Known,
+    alloc: Global,
+    shard: &mut ShardNode<FaultDisk>,
+    words: &[&str],
+    told: &mut Told,
+) -> Result<(), Wrong> {
+    let call = lock_call(known, alloc, shard.header().node.0, words)?;
+    tell_locked(told, &ask_lock(shard, &call));
     Ok(())
 }
 
-fn put_locked(alloc: Global, text: &mut String, answer: &Asked<Replied>) -> Result<(), Wrong> {
-    match answer {
-        Some(Ok(told)) => Ok(put_replied(alloc, text, told)?),
-        Some(Err(fault)) => Ok(put_said(alloc, text, &of_fault(fault))?),
-        None => Err(NO_CALL),
-    }
+// `finish LANE NUMBER cause STAMP +..`
+fn finish(
+    alloc: Global,
+    shard: &mut ShardNode<FaultDisk>,
+    words: &[&str],
+    told: &mut Told,
+) -> Result<(), Wrong> {
+    let call = finish_call(alloc, words)?;
+    tell_stamped(told, &ask_finish(shard, &call));
+    Ok(())
 }
 
-// Appends a stamp, or why there is none.
-fn put_stamped(alloc: Global, text: &mut String, answer: &Asked<Stamp>) -> Result<(), Wrong> {
-    match answer {
-        Some(Ok(stamp)) => Ok(put_count(alloc, text, stamp.0)?),
-        Some(Err(fault)) => Ok(put_said(alloc, text, &of_fault(fault))?),
-        None => Err(NO_CALL),
-    }
+// `forget LANE NUMBER cause STAMP`
+fn forget(
+    shard: &mut ShardNode<FaultDisk>,
+    words: &[&str],
+    told: &mut Told,
+) -> Result<(), Wrong> {
+    let call = forget_call(words)?;
+    tell_stamped(told, &ask_forget(shard, &call));
+    Ok(())
 }
 
-// `lock LANE NUMBER cause STAMP NAME@PLACE..`, `finish LANE NUMBER cause STAMP +..`, `forget LANE NUMBER cause STAMP`
 fn call_shard(
     known: &Known,
     alloc: Global,
-    text: &mut String,
     shard: &mut ShardNode<FaultDisk>,
     words: &[&str],
+    told: &mut Told,
 ) -> Result<(), Wrong> {
-    let (node, told) = (shard.header().node.0, rest(words, 1));
     match word(words, 0)? {
-        "lock" => {
-            let call = lock_call(known, alloc, node, told)?;
-            put_locked(alloc, text, &ask_lock(shard, &call))
-        }
-        "finish" => {
-            let call = finish_call(alloc, told)?;
-            put_stamped(alloc, text, &ask_finish(shard, &call))
-        }
-        "forget" => put_stamped(alloc, text, &ask_forget(shard, &forget_call(told)?)),
-        _ => Err(NO_CALL),
+        "lock" => lock(known, alloc, shard, rest(words, 1), told),
+        "finish" => finish(alloc, shard, rest(words, 1), told),
+        "forget" => forget(shard, rest(words, 1), told),
+        _ => Err(Wrong::Line(NO_CALL)),
     }
 }
 
@@ -240,65 +253,107 @@ fn shard_replies(known: &Known, alloc: Global, words: &[&str]) -> Result<ShardRe
     }
 }
 
-// Decides a batch. What stands in the outcomes before is gone behind it.
+// What the only shard replied.
+fn replies_told(known: &Known, alloc: Global, words: &[&str]) -> Result<Replies, Wrong> {
+    let own = shard_replies(known, alloc, words)?;
+    let mut replies = List::new(alloc);
+    replies.push(own)?;
+    Ok(replies)
+}
+
+// Room for outcomes, in which one stands that is gone where others are told.
+fn outcome_room(alloc: Global) -> Result<Vec<Outcome>, AllocError> {
+    let mut out = Vec::with_capacity(alloc, 16)?;
+    out.push(Outcome::Missing(0, Hash([7; 32])))?;
+    Ok(out)
+}
+
+// `decide LANE NODE lock ..` by the Lock of the only shard
 fn decide(
     known: &Known,
     alloc: Global,
-    text: &mut String,
     log: &mut CoordLog<FaultDisk>,
     lane: LaneId,
     words: &[&str],
+    told: &mut Told,
 ) -> Result<(), Wrong> {
-    let mut replies = List::new(alloc);
-    replies.push(shard_replies(known, alloc, words)?)?;
-    let mut out = Vec::with_capacity(alloc, 16)?;
-    out.push(Outcome::Missing(0, Hash([7; 32])))?;
-    put_stamped(alloc, text, &ask_decide(log, lane, &replies, &mut out))?;
+    let replies = replies_told(known, alloc, words)?;
+    let mut out = outcome_room(alloc)?;
+    tell_stamped(told, &ask_decide(log, lane, &replies, &mut out));
     for outcome in &out {
-        put_outcome(alloc, text, outcome)?;
+        told.outcome(outcome);
     }
     Ok(())
 }
 
-fn put_prepared(
-    alloc: Global,
-    text: &mut String,
-    answer: &Asked<(BatchId, Stamp)>,
-) -> Result<(), Wrong> {
+fn tell_prepared(told: &mut Told, answer: &Asked<(BatchId, Stamp)>) {
     match answer {
         Some(Ok((batch, stamp))) => {
-            put_count(alloc, text, stamp.0)?;
-            Ok(put_batch(alloc, text, batch)?)
+            told.number(stamp.0);
+            told.batch(batch);
         }
-        Some(Err(fault)) => Ok(put_said(alloc, text, &of_fault(fault))?),
-        None => Err(NO_CALL),
+        Some(Err(fault)) => told.said(&of_fault(fault)),
+        None => told.refuse(NO_CALL),
     }
 }
 
-// `prepare LANE TX..`, `decide LANE NODE lock ..` by the Lock of the only shard, `discard LANE cause STAMP`, `done LANE cause STAMP`
+// `prepare LANE TX..`
+fn prepare(
+    known: &Known,
+    alloc: Global,
+    log: &mut CoordLog<FaultDisk>,
+    lane: LaneId,
+    words: &[&str],
+    told: &mut Told,
+) -> Result<(), Wrong> {
+    let own = txs(known, alloc, words)?;
+    tell_prepared(told, &ask_prepare(log, lane, own.as_slice()));
+    Ok(())
+}
+
+// The cause that a call ends with: `cause STAMP`.
+fn cause_of(words: &[&str]) -> Result<Stamp, Wrong> {
+    Ok(Stamp(number(word(words, 1)?)?))
+}
+
+// `discard LANE cause STAMP`
+fn discard(
+    log: &mut CoordLog<FaultDisk>,
+    lane: LaneId,
+    words: &[&str],
+    told: &mut Told,
+) -> Result<(), Wrong> {
+    let cause = cause_of(words)?;
+    tell_stamped(told, &ask_discard(log, lane, cause));
+    Ok(())
+}
+
+// `done LANE cause STAMP`
+fn done(
+    log: &mut CoordLog<FaultDisk>,
+    lane: LaneId,
+    words: &[&str],
+    told: &mut Told,
+) -> Result<(), Wrong> {
+    let cause = cause_of(words)?;
+    tell_stamped(told, &ask_done(log, lane, cause));
+    Ok(())
+}
+
 fn call_log(
     known: &Known,
     alloc: Global,
-    text: &mut String,
     log: &mut CoordLog<FaultDisk>,
     words: &[&str],
+    told: &mut Told,
 ) -> Result<(), Wrong> {
-    let (lane, told) = (LaneId(small(word(words, 1)?)?), rest(words, 2));
+    let lane = LaneId(small(word(words, 1)?)?);
     match word(words, 0)? {
-        "prepare" => {
-            let own = txs(known, alloc, told)?;
-            put_prepared(alloc, text, &ask_prepare(log, lane, own.as_slice()))
-        }
-        "decide" => decide(known, alloc, text, log, lane, told),
-        "discard" => {
-            let cause = Stamp(number(word(told, 1)?)?);
-            put_stamped(alloc, text, &ask_discard(log, lane, cause))
-        }
-        "done" => {
-            let cause = Stamp(number(word(told, 1)?)?);
-            put_stamped(alloc, text, &ask_done(log, lane, cause))
-        }
-        _ => Err(NO_CALL),
+        "prepare" => prepare(known, alloc, log, lane, rest(words, 2), told),
+        "decide" => decide(known, alloc, log, lane, rest(words, 2), told),
+        "discard" => discard(log, lane, rest(words, 2), told),
+        "done" => done(log, lane, rest(words, 2), told),
+        _ => Err(Wrong::Line(NO_CALL)),
     }
 }
 
@@ -308,13 +363,11 @@ pub fn call(
     alloc: Global,
     node: &mut Node,
     words: &[&str],
-    text: &str,
+    told: &mut Told,
 ) -> Result<(), Wrong> {
-    let mut came = String::new(alloc);
     match node {
-        Node::Shard(shard) => call_shard(known, alloc, &mut came, shard, words)?,
-        Node::Log(log) => call_log(known, alloc, &mut came, log, words)?,
-        _ => return Err(Wrong::Line("no open node")),
+        Node::Shard(shard) => call_shard(known, alloc, shard, words, told),
+        Node::Log(log) => call_log(known, alloc, log, words, told),
+        _ => Err(Wrong::Line("no open node")),
     }
-    check_words(alloc, text, came.as_str())
 }

@@ -1,11 +1,11 @@
 // The lanes of a coordinator in memory, by its journal.
-use crate::answers::{put_numbers, put_said};
 use crate::looking::of_phase;
 use crate::state::Node;
+use crate::told::Told;
 use cbdc_types::{Header, LaneId, Record, Stamp};
 use coord_core::CoordCore;
 use row_records::{Known, record, small};
-use row_text::{Wrong, check_words, check_yes, number, put_word, word};
+use row_text::{Wrong, number, word};
 use std::alloc::Global;
 
 fn fresh(alloc: Global, header: &Header) -> Result<CoordCore, Wrong> {
@@ -16,42 +16,68 @@ fn fresh(alloc: Global, header: &Header) -> Result<CoordCore, Wrong> {
     }
 }
 
-// The lanes that have taken a journal in.
-fn core_of(alloc: Global, header: &Header, records: &[Record]) -> Result<CoordCore, Wrong> {
-    let mut core = fresh(alloc, header)?;
-    for next in records.iter().skip(1) {
-        if !core.admit(next)? {
-            return Err(Wrong::Line("the lanes do not admit a record of this journal"));
-        }
+// Takes a record in that may come next.
+fn take_in(core: &mut CoordCore, next: &Record) -> Result<(), Wrong> {
+    if core.admit(next)? {
         core.apply(next);
+        Ok(())
+    } else {
+        Err(Wrong::Line("the lanes do not admit a record of this journal"))
     }
-    Ok(core)
 }
 
-// The lanes of an open coordinator.
-fn core_at(alloc: Global, node: &Node) -> Result<CoordCore, Wrong> {
+// Takes in what stands behind the first record.
+fn take_all_in(core: &mut CoordCore, records: &[Record]) -> Result<(), Wrong> {
+    for next in records.iter().skip(1) {
+        take_in(core, next)?;
+    }
+    Ok(())
+}
+
+// The header and the records of an open coordinator.
+fn journal_of(node: &Node) -> Result<(Header, &[Record]), Wrong> {
     match node {
-        Node::Log(log) => core_of(alloc, log.header(), log.records()),
+        Node::Log(log) => Ok((*log.header(), log.records())),
         _ => Err(Wrong::Line("no open coordinator")),
+    }
+}
+
+// Tells where lanes stand.
+fn tell_core(core: &CoordCore, lane: LaneId, cause: Stamp, told: &mut Told) {
+    told.said(&of_phase(&core.phase(lane)));
+    told.word(if core.owns(lane) { "own" } else { "other" });
+    told.number(core.kept_room());
+    told.number(core.records_ahead() as u64);
+    if cause.0 < 1 << 63 {
+        told.number(core.after(cause).0);
+    } else {
+        told.refuse("a cause past 2^63");
     }
 }
 
 /// `core NODE LANE after CAUSE`, and where the lane stands, whether it is the coordinator's own, how many bytes are kept for later records and
 /// how many of these there are, and the stamp of a record with that cause
-pub fn core_stands(alloc: Global, node: &Node, words: &[&str], text: &str) -> Result<(), Wrong> {
+pub fn core_stands(
+    alloc: Global,
+    node: &Node,
+    words: &[&str],
+    told: &mut Told,
+) -> Result<(), Wrong> {
     let lane = LaneId(small(word(words, 0)?)?);
     let cause = Stamp(number(word(words, 2)?)?);
-    if cause.0 >= 1 << 63 {
-        return Err(Wrong::Line("a cause past 2^63"));
+    let (header, records) = journal_of(node)?;
+    let mut core = fresh(alloc, &header)?;
+    take_all_in(&mut core, records)?;
+    tell_core(&core, lane, cause, told);
+    Ok(())
+}
+
+fn tell_admits(core: &mut CoordCore, next: &Record, told: &mut Told) {
+    match core.admit(next) {
+        Ok(true) => told.word("yes"),
+        Ok(false) => told.word("no"),
+        Err(_) => told.no_memory(),
     }
-    let core = core_at(alloc, node)?;
-    let ahead = core.records_ahead() as u64;
-    let told = [core.kept_room(), ahead, core.after(cause).0];
-    let mut came = String::new(alloc);
-    put_said(alloc, &mut came, &of_phase(&core.phase(lane)))?;
-    put_word(&mut came, if core.owns(lane) { "own" } else { "other" })?;
-    put_numbers(alloc, &mut came, &told)?;
-    check_words(alloc, text, came.as_str())
 }
 
 /// `admits NODE RECORD`, and `yes` or `no`: whether it may come next
@@ -60,10 +86,12 @@ pub fn admits(
     alloc: Global,
     node: &Node,
     words: &[&str],
-    text: &str,
+    told: &mut Told,
 ) -> Result<(), Wrong> {
-    let mut core = core_at(alloc, node)?;
-    let next = record(known, alloc, core.header().node.0, words)?;
-    let came = core.admit(&next)?;
-    check_yes(alloc, text, came)
+    let (header, records) = journal_of(node)?;
+    let next = record(known, alloc, header.node.0, words)?;
+    let mut core = fresh(alloc, &header)?;
+    take_all_in(&mut core, records)?;
+    tell_admits(&mut core, &next, told);
+    Ok(())
 }

@@ -2,14 +2,15 @@
 ghost use Rattle.std.specs.Prelude.{IfOk};
 ghost use Rattle.mem_devices.specs.Racks.{AllIn};
 
-use crate::answers::{plain, put_said, with};
-use crate::pieces::{bytes_of, check_bytes};
+use crate::answers::with;
+use crate::pieces::{bytes_of, check_bytes, check_same};
+use crate::told::Told;
 use cbdc_types::{LaneId, NodeId};
 use mem_devices::{MemInbox, MemRack, MemSink, PlainDisk, TestGate};
 use outside::{Disk, Gate, Inbox, OpenGate, Point, Rack, Sink, When};
 use row_records::small;
-use row_text::{Wrong, check_words, count, number, put_word, rest, word, words_around};
-use std::alloc::{AllocError, Global};
+use row_text::{Wrong, count, number, rest, word, words_around};
+use std::alloc::Global;
 use std::sync::Wait;
 
 /// Decimal numbers.
@@ -32,68 +33,91 @@ fn rack_of(alloc: Global, capacities: &[&str]) -> Result<MemRack<PlainDisk>, Wro
     Ok(MemRack::new(alloc, disks)?)
 }
 
-// Appends for each node up to this one whether its disk is in its place.
-fn put_places(text: &mut String, rack: &MemRack<PlainDisk>, last: usize) -> Result<(), AllocError> {
+// Tells for each node up to this one whether its disk is in its place.
+fn tell_places(told: &mut Told, rack: &MemRack<PlainDisk>, last: usize) {
     for node in 0..last.min(64) as u32 + 1 {
         let is_in = rack.disk(NodeId(node)).is_some();
-        put_word(text, if is_in { "in" } else { "out" })?;
+        told.word(if is_in { "in" } else { "out" });
     }
-    Ok(())
+}
+
+// Takes a node's disk out and puts it back.
+fn take_out(rack: &mut MemRack<PlainDisk>, node: NodeId, last: usize, told: &mut Told)
+    requires all { AllIn rack.old }
+{
+    match rack.take(node) {
+        Ok(disk) => {
+            told.said(&with("took", disk.capacity()));
+            tell_places(told, rack, last);
+            told.word("back");
+            rack.put(node, disk);
+        }
+        Err(_) => told.word("none"),
+    }
+    tell_places(told, rack, last);
 }
 
 /// `rack CAPACITY.. take NODE`, and the capacity of the disk that is taken, or `none`; which nodes' disks are in their places while it is
 /// out, one more than there are, and which are when it is back.
-pub fn rack(alloc: Global, words: &[&str], text: &str) -> Result<(), Wrong> {
+pub fn rack(alloc: Global, words: &[&str], told: &mut Told) -> Result<(), Wrong> {
     let (capacities, taken) = words_around(words, "take");
     let node = NodeId(small(word(taken, 0)?)?);
     let mut rack = rack_of(alloc, capacities)?;
-    let mut came = String::new(alloc);
-    match rack.take(node) {
-        Ok(disk) => {
-            put_said(alloc, &mut came, &with("took", disk.capacity()))?;
-            put_places(&mut came, &rack, capacities.len())?;
-            put_word(&mut came, "back")?;
-            rack.put(node, disk);
-        }
-        Err(_) => put_word(&mut came, "none")?,
+    take_out(&mut rack, node, capacities.len(), told);
+    Ok(())
+}
+
+// Writes bytes to a sink.
+fn write(sink: &mut MemSink, bytes: &[u8], told: &mut Told) {
+    match sink.write(bytes) {
+        Ok(n) => told.said(&with("took", n as u64)),
+        Err(_) => told.word("fails"),
     }
-    put_places(&mut came, &rack, capacities.len())?;
-    check_words(alloc, text, came.as_str())
+}
+
+// A sink by its capacity and the calls that fail.
+fn sink_of(alloc: Global, words: &[&str]) -> Result<MemSink, Wrong> {
+    let (words, fails) = words_around(words, "fails");
+    Ok(MemSink::new(alloc, count(word(words, 0)?)?, numbers(alloc, fails)?)?)
 }
 
 /// `sink CAPACITY fails CALL.. takes PIECE.. has PIECE..`, and what each call takes, or `fails`; behind them it has those bytes.
-pub fn sink(alloc: Global, words: &[&str], text: &str) -> Result<(), Wrong> {
+pub fn sink(alloc: Global, words: &[&str], told: &mut Told) -> Result<(), Wrong> {
     let (words, held) = words_around(words, "has");
     let (words, pieces) = words_around(words, "takes");
-    let (words, fails) = words_around(words, "fails");
-    let mut sink = MemSink::new(alloc, count(word(words, 0)?)?, numbers(alloc, fails)?)?;
-    let mut came = String::new(alloc);
+    let mut sink = sink_of(alloc, words)?;
     for piece in pieces {
-        let bytes = bytes_of(alloc, &[*piece])?;
-        match sink.write(&bytes) {
-            Ok(n) => put_said(alloc, &mut came, &with("took", n as u64))?,
-            Err(_) => put_said(alloc, &mut came, &plain("fails"))?,
-        }
+        write(&mut sink, &bytes_of(alloc, &[*piece])?, told);
     }
-    check_words(alloc, text, came.as_str())?;
     check_bytes(alloc, held, sink.taken())
 }
 
-/// `inbox NAME PIECE.. read NAME AT PIECE..`, and how many bytes are read, or `fails`; the buffer has those bytes then, and had zeros.
-pub fn inbox(alloc: Global, words: &[&str], text: &str) -> Result<(), Wrong> {
-    let (own, asked) = words_around(words, "read");
+// An inbox with one file.
+fn inbox_of(alloc: Global, words: &[&str]) -> Result<MemInbox, Wrong> {
+    let name = String::from_str(alloc, word(words, 0)?)?;
+    let bytes = bytes_of(alloc, rest(words, 1))?;
     let mut files = Vec::new(alloc);
-    let name = String::from_str(alloc, word(own, 0)?)?;
-    files.push((name, bytes_of(alloc, rest(own, 1))?))?;
-    let mut inbox = MemInbox::new(files);
-    let mut buffer = vec![in alloc; 0u8; bytes_of(alloc, rest(asked, 2))?.len()]?;
-    let mut came = String::new(alloc);
-    match inbox.read(word(asked, 0)?, number(word(asked, 1)?)?, &mut buffer) {
-        Ok(n) => put_said(alloc, &mut came, &with("read", n as u64))?,
-        Err(_) => put_said(alloc, &mut came, &plain("fails"))?,
+    files.push((name, bytes))?;
+    Ok(MemInbox::new(files))
+}
+
+// Tells how many bytes are read.
+fn tell_read(inbox: &mut MemInbox, name: &str, at: u64, buffer: &mut [u8], told: &mut Told) {
+    match inbox.read(name, at, buffer) {
+        Ok(n) => told.said(&with("read", n as u64)),
+        Err(_) => told.word("fails"),
     }
-    check_words(alloc, text, came.as_str())?;
-    check_bytes(alloc, rest(asked, 2), &buffer)
+}
+
+/// `inbox NAME PIECE.. read NAME AT PIECE..`, and how many bytes are read, or `fails`; the buffer has those bytes then, and had zeros.
+pub fn inbox(alloc: Global, words: &[&str], told: &mut Told) -> Result<(), Wrong> {
+    let (own, asked) = words_around(words, "read");
+    let (name, at) = (word(asked, 0)?, number(word(asked, 1)?)?);
+    let wanted = bytes_of(alloc, rest(asked, 2))?;
+    let mut buffer = vec![in alloc; 0u8; wanted.len()]?;
+    let mut inbox = inbox_of(alloc, own)?;
+    tell_read(&mut inbox, name, at, &mut buffer, told);
+    check_same(alloc, &wanted, &buffer)
 }
 
 // A point of a lane.
@@ -106,24 +130,23 @@ fn point(lane: &str) -> Result<Point, Wrong> {
     })
 }
 
-// Appends which points came.
-fn put_came(text: &mut String, gate: &TestGate) -> Result<(), AllocError> {
+// Tells which points came.
+fn tell_came(told: &mut Told, gate: &TestGate) {
     let (held, awaited) = gate.came();
-    put_word(text, if held { "held" } else { "-" })?;
-    put_word(text, if awaited { "awaited" } else { "-" })
+    told.word(if held { "held" } else { "-" });
+    told.word(if awaited { "awaited" } else { "-" });
 }
 
 /// `gate HELD AWAITED passes LANE..`, of points by their lanes, and which of the two came, at first and behind each that passes. An open gate lets
 /// them by, too.
-pub fn gate<W: Wait>(rt: &W, alloc: Global, words: &[&str], text: &str) -> Result<(), Wrong> {
+pub fn gate<W: Wait>(rt: &W, words: &[&str], told: &mut Told) -> Result<(), Wrong> {
     let gate = TestGate::new(point(word(words, 0)?)?, point(word(words, 1)?)?);
-    let mut came = String::new(alloc);
-    put_came(&mut came, &gate)?;
+    tell_came(told, &gate);
     for lane in rest(words, 3) {
         let own = point(lane)?;
         OpenGate.pass(rt, &own);
         gate.pass(rt, &own);
-        put_came(&mut came, &gate)?;
+        tell_came(told, &gate);
     }
-    check_words(alloc, text, came.as_str())
+    Ok(())
 }

@@ -1,8 +1,9 @@
 // Disks in memory.
-use crate::answers::{check_numbers, check_said, plain, with};
+use crate::answers::with;
 use crate::devices::numbers;
-use crate::pieces::{bytes_of, check_bytes};
-use crate::state::Node;
+use crate::pieces::{bytes_of, check_bytes, check_same};
+use crate::state::{Node, put_node, take_node};
+use crate::told::Told;
 use crate::verbs::OnDisk;
 use cbdc_types::{Header, NodeId, Record};
 use mem_devices::{Choice, FaultDisk, PlainDisk};
@@ -103,27 +104,47 @@ pub fn plain_disk(alloc: Global, words: &[&str]) -> Result<Node, Wrong> {
     Ok(Node::Plain(PlainDisk::with_bytes(bytes, capacity)?))
 }
 
+// Tells whether a call was done.
+fn tell_done(told: &mut Told, is_done: bool) {
+    told.word(if is_done { "done" } else { "fails" });
+}
+
 // `write NODE AT PIECE..`, and `done` or `fails`
-fn write<D: Disk>(alloc: Global, disk: &mut D, words: &[&str], text: &str) -> Result<(), Wrong> {
+fn write<D: Disk>(
+    alloc: Global,
+    disk: &mut D,
+    words: &[&str],
+    told: &mut Told,
+) -> Result<(), Wrong> {
     let at = number(word(words, 0)?)?;
     let bytes = bytes_of(alloc, rest(words, 1))?;
     if at > disk.len() || at > disk.capacity() || bytes.len() as u64 > disk.capacity() - at {
         return Err(Wrong::Line("past the disk's end"));
     }
-    let is_done = disk.write_at(at, &bytes).is_ok();
-    check_said(alloc, text, &plain(if is_done { "done" } else { "fails" }))
+    tell_done(told, disk.write_at(at, &bytes).is_ok());
+    Ok(())
+}
+
+// Tells how many bytes are read.
+fn tell_read<D: Disk>(disk: &mut D, at: u64, buffer: &mut [u8], told: &mut Told) {
+    match disk.read(at, buffer) {
+        Ok(n) => told.said(&with("read", n as u64)),
+        Err(_) => told.word("fails"),
+    }
 }
 
 // `read NODE AT PIECE..`, and how many bytes are read, or `fails`; the buffer has those bytes then, and had zeros.
-fn read<D: Disk>(alloc: Global, disk: &mut D, words: &[&str], text: &str) -> Result<(), Wrong> {
-    let wanted = rest(words, 1);
-    let mut buffer = vec![in alloc; 0u8; bytes_of(alloc, wanted)?.len()]?;
-    let said = match disk.read(number(word(words, 0)?)?, &mut buffer) {
-        Ok(n) => with("read", n as u64),
-        Err(_) => plain("fails"),
-    };
-    check_said(alloc, text, &said)?;
-    check_bytes(alloc, wanted, &buffer)
+fn read<D: Disk>(
+    alloc: Global,
+    disk: &mut D,
+    words: &[&str],
+    told: &mut Told,
+) -> Result<(), Wrong> {
+    let at = number(word(words, 0)?)?;
+    let wanted = bytes_of(alloc, rest(words, 1))?;
+    let mut buffer = vec![in alloc; 0u8; wanted.len()]?;
+    tell_read(disk, at, &mut buffer, told);
+    check_same(alloc, &wanted, &buffer)
 }
 
 /// A step of a disk: `write`, `read`, `sync NODE` with `done` or `fails`, and `device NODE` with how many bytes the disk has, how many it may have, and how
@@ -133,20 +154,15 @@ pub fn on_disk<D: Disk>(
     disk: &mut D,
     verb: OnDisk,
     words: &[&str],
-    text: &str,
+    told: &mut Told,
 ) -> Result<(), Wrong> {
     match verb {
-        OnDisk::Write => write(alloc, disk, words, text),
-        OnDisk::Read => read(alloc, disk, words, text),
-        OnDisk::Sync => {
-            let is_done = disk.sync().is_ok();
-            check_said(alloc, text, &plain(if is_done { "done" } else { "fails" }))
-        }
-        OnDisk::Device => {
-            let told = [disk.len(), disk.capacity(), disk.faults()];
-            check_numbers(alloc, text, &told)
-        }
+        OnDisk::Write => return write(alloc, disk, words, told),
+        OnDisk::Read => return read(alloc, disk, words, told),
+        OnDisk::Sync => tell_done(told, disk.sync().is_ok()),
+        OnDisk::Device => told.numbers(&[disk.len(), disk.capacity(), disk.faults()]),
     }
+    Ok(())
 }
 
 /// `bytes NODE PIECE..`: what the disk holds.
@@ -160,25 +176,56 @@ pub fn bytes(alloc: Global, node: &Node, pieces: &[&str]) -> Result<(), Wrong> {
 }
 
 /// The disk of a node, which is closed.
-pub fn closed(node: Node) -> Result<FaultDisk, Wrong> {
+pub fn disk_in(node: Node) -> Option<FaultDisk> {
     match node {
-        Node::Disk(disk) => Ok(disk),
-        Node::Bodies(journal) => Ok(journal.into_disk()),
-        Node::Records(log) => Ok(log.into_disk()),
-        Node::Log(log) => Ok(log.into_disk()),
-        Node::Shard(shard) => Ok(shard.into_disk()),
+        Node::Disk(disk) => Some(disk),
+        Node::Bodies(journal) => Some(journal.into_disk()),
+        Node::Records(log) => Some(log.into_disk()),
+        Node::Log(log) => Some(log.into_disk()),
+        Node::Shard(shard) => Some(shard.into_disk()),
+        _ => None,
+    }
+}
+
+/// `close NODE`: its disk alone is left.
+pub fn close(nodes: &mut Vec<Node>, place: u32, told: &mut Told) {
+    let node = take_node(nodes, place);
+    match disk_in(node) {
+        Some(disk) => put_node(nodes, place, Node::Disk(disk)),
+        None => told.refuse("no disk that may fail"),
+    }
+}
+
+// The disk of a node that is closed.
+fn closed_disk(nodes: &[Node], place: u32) -> Result<&FaultDisk, Wrong> {
+    match nodes.get(place as usize) {
+        Some(Node::Disk(disk)) => Ok(disk),
         _ => Err(Wrong::Line("no disk that may fail")),
     }
 }
 
-/// `crash NODE LENGTH PIECE..`: the disk becomes what a crash leaves, which is so long where it may, and has these bytes in the places that
-/// it may change.
-pub fn crash(alloc: Global, disk: &FaultDisk, words: &[&str]) -> Result<Node, Wrong> {
+// What a crash leaves of a disk.
+fn crashed(alloc: Global, disk: &FaultDisk, words: &[&str]) -> Result<FaultDisk, Wrong> {
     let choice = Choice {
         len: count(word(words, 0)?)?,
         bytes: bytes_of(alloc, rest(words, 1))?,
     };
-    Ok(Node::Disk(disk.crash(&choice)?))
+    Ok(disk.crash(&choice)?)
+}
+
+/// `crash NODE LENGTH PIECE..`: the disk becomes what a crash leaves, which is so long where it may, and has these bytes in the places that
+/// it may change.
+pub fn crash(
+    alloc: Global,
+    nodes: &mut Vec<Node>,
+    place: u32,
+    words: &[&str],
+    told: &mut Told,
+) -> Result<(), Wrong> {
+    close(nodes, place, told);
+    let disk = crashed(alloc, closed_disk(nodes, place)?, words)?;
+    put_node(nodes, place, Node::Disk(disk));
+    Ok(())
 }
 
 // Appends a line of a ledger where it is the node's, without its number.

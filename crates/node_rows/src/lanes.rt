@@ -1,114 +1,93 @@
 // Lanes over the nodes, and what they asked of them.
-use crate::answers::{of_lane, put_said, with};
-use crate::calls::joined;
-use crate::ledgers::{Plan, Ran, run_over};
+use crate::answers::with;
+use crate::ledgers::{Apart, Plan, run_over};
 use crate::state::{Node, Seen, State};
-use cbdc_types::LaneId;
-use coord_log::CoordLog;
-use lane_driver::{LaneFault, LaneReport};
-use mem_devices::FaultDisk;
-use row_records::{put_outcome, small, txs};
-use row_text::{
-    Wrong, check_text, check_words, count, put_count, put_word, rest, word, words_around,
-};
-use shard_node::ShardNode;
-use std::alloc::{AllocError, Global};
+use crate::told::Told;
+use cbdc_types::{CompactTx, LaneId};
+use row_records::{small, txs};
+use row_text::{Wrong, check_text, count, put_count, rest, word, words_around};
+use std::alloc::Global;
 use std::mem;
 use std::sync::Wait;
 
-// The open nodes, coordinators and shards apart.
-#[derive(Drop)]
-struct Nodes {
-    logs: Vec<CoordLog<FaultDisk>>,
-    shards: Vec<ShardNode<FaultDisk>>,
-}
-
-fn apart(alloc: Global, nodes: Vec<Node>) -> Result<Nodes, Wrong> {
-    let mut logs = Vec::new(alloc);
-    let mut shards = Vec::new(alloc);
-    for node in nodes {
-        match node {
-            Node::Log(log) => logs.push(log)?,
-            Node::Shard(shard) => shards.push(shard)?,
-            _ => return Err(Wrong::Line("a node is not open")),
+// Puts an open node with the coordinators or with the shards.
+fn sort(all: &mut Apart, node: Node, told: &mut Told) {
+    match node {
+        Node::Log(log) => {
+            if all.logs.push(log).is_err() {
+                told.no_memory();
+            }
         }
+        Node::Shard(shard) => {
+            if all.shards.push(shard).is_err() {
+                told.no_memory();
+            }
+        }
+        _ => told.refuse("a node is not open"),
     }
-    Ok(Nodes { logs, shards })
 }
 
-// Puts the nodes back.
-fn put_back(
-    nodes: &mut Vec<Node>,
-    logs: Vec<CoordLog<FaultDisk>>,
-    shards: Vec<ShardNode<FaultDisk>>,
-) -> Result<(), AllocError> {
+// The coordinators and the shards.
+fn apart(alloc: Global, nodes: Vec<Node>, told: &mut Told) -> Apart {
+    let mut all = Apart {
+        logs: Vec::new(alloc),
+        shards: Vec::new(alloc),
+    };
+    for node in nodes {
+        sort(&mut all, node, told);
+    }
+    all
+}
+
+// Puts a node behind others.
+fn push(nodes: &mut Vec<Node>, node: Node, told: &mut Told) {
+    if nodes.push(node).is_err() {
+        told.no_memory();
+    }
+}
+
+// The nodes in their places.
+fn together(alloc: Global, all: Apart, told: &mut Told) -> Vec<Node> {
+    let mut nodes = Vec::new(alloc);
+    let Apart { logs, shards } = all;
     for log in logs {
-        nodes.push(Node::Log(log))?;
+        push(&mut nodes, Node::Log(log), told);
     }
     for shard in shards {
-        nodes.push(Node::Shard(shard))?;
+        push(&mut nodes, Node::Shard(shard), told);
     }
-    Ok(())
+    nodes
 }
 
-// Appends a line for each batch: its number and its outcomes.
-fn put_report(alloc: Global, text: &mut String, report: &LaneReport) -> Result<(), AllocError> {
-    for done in report.batches.as_slice() {
-        put_count(alloc, text, done.batch.number)?;
-        for outcome in done.outcomes.as_slice() {
-            put_outcome(alloc, text, outcome)?;
-        }
-        text.push('\n')?;
-    }
-    Ok(())
-}
-
-/// Appends where a lane stopped, and why.
-pub fn put_stop(alloc: Global, text: &mut String, fault: &LaneFault) -> Result<(), AllocError> {
-    put_word(text, "fault")?;
-    put_count(alloc, text, u64::from(fault.node.0))?;
-    put_said(alloc, text, &of_lane(&fault.fault))?;
-    text.push('\n')
-}
-
-fn put_came(
-    alloc: Global,
-    text: &mut String,
-    came: &Result<LaneReport, LaneFault>,
-) -> Result<(), AllocError> {
-    match came {
-        Ok(report) => put_report(alloc, text, report),
-        Err(fault) => put_stop(alloc, text, fault),
-    }
-}
-
-// Runs a lane, and notes what it asks.
+// Runs a lane over all nodes.
 fn run<W: Wait>(
     rt: &W,
     state: &mut State,
     alloc: Global,
+    plan: &Plan,
+    told: &mut Told,
+) -> Result<(), Wrong> {
+    let shape = state.known.shape()?;
+    let nodes = mem::replace(&mut state.nodes, Vec::new(alloc));
+    let all = apart(alloc, nodes, told);
+    let left = run_over(rt, alloc, &shape, plan, all, &mut state.seen, told);
+    state.nodes = together(alloc, left, told);
+    Ok(())
+}
+
+// How a lane is run: `LANE TX.. [repeats N]`.
+fn plan_of<'t>(
     words: &[&str],
+    repeats: &[&str],
+    txs: &'t [CompactTx],
     is_whole: bool,
-) -> Result<Result<LaneReport, LaneFault>, Wrong> {
-    let (own, repeats) = words_around(words, "repeats");
-    let batch = txs(&state.known, alloc, rest(own, 1))?;
-    let plan = Plan {
-        lane: LaneId(small(word(own, 0)?)?),
-        txs: batch.as_slice(),
+) -> Result<Plan<'t>, Wrong> {
+    Ok(Plan {
+        lane: LaneId(small(word(words, 0)?)?),
+        txs,
         is_whole,
         repeats: small(repeats.first().copied().unwrap_or("0"))?,
-    };
-    let shape = state.known.shape()?;
-    let Nodes { logs, shards } = apart(alloc, mem::replace(&mut state.nodes, Vec::new(alloc)))?;
-    let Ran {
-        came,
-        seen,
-        logs,
-        shards,
-    } = run_over(rt, alloc, &shape, &plan, logs, shards)?;
-    put_back(&mut state.nodes, logs, shards)?;
-    state.seen = seen;
-    Ok(came)
+    })
 }
 
 /// `lane LANE TX.. [repeats N]`, and a line for each batch, its number and outcomes, or `fault NODE` and why; `batch`: the same of one batch.
@@ -118,12 +97,12 @@ pub fn lane<W: Wait>(
     alloc: Global,
     words: &[&str],
     is_whole: bool,
-    text: &str,
+    told: &mut Told,
 ) -> Result<(), Wrong> {
-    let told = run(rt, state, alloc, words, is_whole)?;
-    let mut came = String::new(alloc);
-    put_came(alloc, &mut came, &told)?;
-    check_text(alloc, text, came.as_str())
+    let (own, repeats) = words_around(words, "repeats");
+    let batch = txs(&state.known, alloc, rest(own, 1))?;
+    let plan = plan_of(own, repeats, batch.as_slice(), is_whole)?;
+    run(rt, state, alloc, &plan, told)
 }
 
 /// The word of a record's kind.
@@ -140,37 +119,45 @@ fn kind_word(kind: u8) -> &'static str {
     }
 }
 
-// Appends `KIND:NODE`.
-fn put_seen(alloc: Global, text: &mut String, seen: &Seen) -> Result<(), AllocError> {
-    let (kind, node) = *seen;
-    put_word(text, kind_word(kind))?;
-    text.push(':')?;
-    let digits = format!(in alloc; "{node}")?;
-    text.push_str(digits.as_str())
+// The digits of a number.
+fn digits_of(alloc: Global, n: u64) -> Result<String, Wrong> {
+    let mut digits = String::new(alloc);
+    put_count(alloc, &mut digits, n)?;
+    Ok(digits)
 }
 
-// Appends what a line says that was asked: a number of times, and what.
-fn put_line(alloc: Global, text: &mut String, line: &str) -> Result<(), Wrong> {
+// Tells `KIND:NODE`.
+fn tell_seen(alloc: Global, told: &mut Told, seen: &Seen) -> Result<(), Wrong> {
+    let (kind, node) = *seen;
+    let digits = digits_of(alloc, u64::from(node))?;
+    told.word(kind_word(kind));
+    told.put(":");
+    told.put(digits.as_str());
+    Ok(())
+}
+
+// Tells what a line says that was asked: a number of times, and what.
+fn tell_line(told: &mut Told, line: &str) -> Result<(), Wrong> {
     let Some((times, asked)) = line.trim().split_once(' ') else {
         return Err(Wrong::Line("a line says how often what was asked"));
     };
     for _ in 0..count(times)? {
-        put_word(text, asked)?;
+        told.word(asked);
     }
     Ok(())
 }
 
 /// `asked`, and lines `TIMES KIND:NODE..`: what the last lane asked of nodes, in order.
 pub fn asked(alloc: Global, seen: &[Seen], text: &str) -> Result<(), Wrong> {
-    let mut wanted = String::new(alloc);
+    let mut wanted = Told::new(alloc);
     for line in text.lines() {
-        put_line(alloc, &mut wanted, line)?;
+        tell_line(&mut wanted, line)?;
     }
-    let mut came = String::new(alloc);
+    let mut came = Told::new(alloc);
     for one in seen {
-        put_seen(alloc, &mut came, one)?;
+        tell_seen(alloc, &mut came, one)?;
     }
-    check_text(alloc, wanted.as_str(), came.as_str())
+    check_text(alloc, wanted.text()?.as_str(), came.text()?.as_str())
 }
 
 // How often a kind was asked for.
@@ -186,9 +173,13 @@ fn times_of(seen: &[Seen], kind: u8) -> u64 {
 
 /// `asks lock N finish N forget N`: how often the last lane asked for each, over all nodes.
 pub fn asks(alloc: Global, seen: &[Seen], words: &[&str]) -> Result<(), Wrong> {
-    let mut came = String::new(alloc);
-    put_said(alloc, &mut came, &with("lock", times_of(seen, 2)))?;
-    put_said(alloc, &mut came, &with("finish", times_of(seen, 3)))?;
-    put_said(alloc, &mut came, &with("forget", times_of(seen, 4)))?;
-    check_words(alloc, joined(alloc, words)?.as_str(), came.as_str())
+    let mut wanted = Told::new(alloc);
+    for word in words {
+        wanted.word(word);
+    }
+    let mut came = Told::new(alloc);
+    came.said(&with("lock", times_of(seen, 2)));
+    came.said(&with("finish", times_of(seen, 3)));
+    came.said(&with("forget", times_of(seen, 4)));
+    came.check(wanted.as_str())
 }

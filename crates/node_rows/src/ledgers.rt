@@ -4,7 +4,9 @@ ghost use Rattle.cbdc_model.specs.Ranges.{home_of};
 ghost use Rattle.cbdc_model.specs.Grammar.{HasSize, IsCompact};
 ghost use Rattle.node_rows.specs.Resting.{number_in as number_of_lane, RestsAt, AllRest, LogRests, MayRun};
 
+use crate::answers::of_lane;
 use crate::state::Seen;
+use crate::told::Told;
 use cbdc_types::{BatchId, CompactTx, LaneId, Record, Shape, Stamp};
 use coord_core::LanePhase;
 use coord_log::CoordLog;
@@ -237,63 +239,119 @@ pub struct Ran {
     pub shards: Vec<ShardNode<FaultDisk>>,
 }
 
-// Runs a lane over ports.
+// Tells a line for each batch: its number and its outcomes.
+fn tell_report(told: &mut Told, report: &LaneReport) {
+    for done in report.batches.as_slice() {
+        told.number(done.batch.number);
+        for outcome in done.outcomes.as_slice() {
+            told.outcome(outcome);
+        }
+        told.line();
+    }
+}
+
+/// Tells where a lane stopped, and why.
+pub fn tell_stop(told: &mut Told, fault: &LaneFault) {
+    told.word("fault");
+    told.number(u64::from(fault.node.0));
+    told.said(&of_lane(&fault.fault));
+    told.line();
+}
+
+fn tell_came(told: &mut Told, came: &Result<LaneReport, LaneFault>) {
+    match came {
+        Ok(report) => tell_report(told, report),
+        Err(fault) => tell_stop(told, fault),
+    }
+}
+
+// Runs a lane over ports, and tells what it came to.
 fn run_ports<W: Wait>(
     alloc: Global,
     shape: &Shape,
     plan: &Plan,
     ports: &mut Lent<W>,
     gate: &Noting,
-) -> Result<Result<LaneReport, LaneFault>, Wrong>
+    told: &mut Told,
+)
     requires place { ports.old.log.at ≡ home_of shape.now plan.now.lane }
     requires rests { MayRun shape.now plan.now.lane ports.old.log.at ports.old.log.logs.items ports.old.shards.nodes.items }
 {
     let (lane, txs, repeats) = (plan.lane, plan.txs, plan.repeats);
     if !are_compact(txs) {
-        return Err(Wrong::Line("a transaction with more hashes than it may have"));
+        told.refuse("a transaction with more hashes than it may have");
+    } else if plan.is_whole {
+        tell_came(told, &run_all(alloc, shape, lane, txs, ports, repeats, gate));
+    } else if txs.is_empty() || txs.len() > shape.batch() as usize {
+        told.refuse("no batch");
+    } else {
+        tell_came(told, &run_one(alloc, shape, lane, txs, ports, repeats, gate));
     }
-    if plan.is_whole {
-        return Ok(run_all(alloc, shape, lane, txs, ports, repeats, gate));
-    }
-    if txs.is_empty() || txs.len() > shape.batch() as usize {
-        return Err(Wrong::Line("no batch"));
-    }
-    Ok(run_one(alloc, shape, lane, txs, ports, repeats, gate))
 }
 
-/// Runs a lane over nodes at which it rests.
-pub fn run_over<W: Wait>(
+/// The open nodes, coordinators and shards apart.
+#[derive(Drop)]
+pub struct Apart {
+    pub logs: Vec<CoordLog<FaultDisk>>,
+    pub shards: Vec<ShardNode<FaultDisk>>,
+}
+
+// Runs a lane over nodes at which it rests, tells what it came to, and notes what it asks.
+fn run_rested<W: Wait>(
     rt: &W,
     alloc: Global,
     shape: &Shape,
     plan: &Plan,
-    logs: Vec<CoordLog<FaultDisk>>,
-    shards: Vec<ShardNode<FaultDisk>>,
-) -> Result<Ran, Wrong> {
-    let lane = plan.lane;
-    let at = lane.0 / shape.lanes();
-    check_rest(alloc, shape, lane, at, &logs, &shards)?;
+    at: u32,
+    nodes: Apart,
+    seen: &mut Vec<Seen>,
+    told: &mut Told,
+) -> Apart
+    requires place { at ≡ home_of shape.now plan.now.lane }
+    requires rests { MayRun shape.now plan.now.lane at nodes.logs.items nodes.shards.items }
+{
+    let Apart { logs, shards } = nodes;
     let gate = Noting {
         notes: RefCell::new(Vec::new(alloc)),
     };
     let mut ports = Ports {
         shards: NodeShards {
             rt,
-            lane,
+            lane: plan.lane,
             first: shape.coordinators(),
             nodes: shards,
         },
         log: NodeLogs { rt, logs, at },
     };
-    let came = run_ports(alloc, shape, plan, &mut ports, &gate)?;
+    run_ports(alloc, shape, plan, &mut ports, &gate, told);
+    let Noting { notes } = gate;
+    *seen = notes.into_inner();
     let Ports { shards, log } = ports;
     let NodeShards { nodes, .. } = shards;
     let NodeLogs { logs, .. } = log;
-    let Noting { notes } = gate;
-    Ok(Ran {
-        came,
-        seen: notes.into_inner(),
+    Apart {
         logs,
         shards: nodes,
-    })
+    }
+}
+
+/// Runs a lane over nodes where it rests at them.
+pub fn run_over<W: Wait>(
+    rt: &W,
+    alloc: Global,
+    shape: &Shape,
+    plan: &Plan,
+    nodes: Apart,
+    seen: &mut Vec<Seen>,
+    told: &mut Told,
+) -> Apart {
+    let lane = plan.lane;
+    let at = lane.0 / shape.lanes();
+    match check_rest(alloc, shape, lane, at, &nodes.logs, &nodes.shards) {
+        Ok(()) => run_rested(rt, alloc, shape, plan, at, nodes, seen, told),
+        Err(wrong) => {
+            told.fail(wrong);
+            nodes
+        }
+    }
 }

@@ -1,17 +1,16 @@
 // What open nodes hold and know.
-use crate::answers::{Said, put_numbers, put_said, with};
+use crate::answers::{Said, with};
 use crate::state::Node;
-use cbdc_types::{BatchId, LaneId, OpenLane, Phase, Record, Status};
+use crate::told::Told;
+use cbdc_types::{BatchId, Hash, LaneId, OpenLane, Phase, Record, Status};
 use coord_core::LanePhase;
 use coord_log::CoordLog;
 use mem_devices::FaultDisk;
-use row_records::{Known, hash, put_batch, record, small};
-use row_text::{
-    Names, Wrong, check_text, check_words, differ, put_count, put_word, word, words_around,
-};
+use row_records::{Known, hashes, record, small};
+use row_text::{Names, Wrong, check_text, differ, word, words_around};
 use shard_core::Remembered;
 use shard_node::ShardNode;
-use std::alloc::{AllocError, Global};
+use std::alloc::Global;
 
 // The number and the records of an open node, the newest last.
 fn records_of(node: &Node) -> Result<(u32, &[Record]), Wrong> {
@@ -38,22 +37,22 @@ fn told_by(own: &Record) -> (&'static str, u64, Option<BatchId>) {
     }
 }
 
-// Appends a line for a record, without its lists.
-fn put_record(alloc: Global, text: &mut String, own: &Record) -> Result<(), AllocError> {
+// Tells a record in a line, without its lists.
+fn tell_record(told: &mut Told, own: &Record) {
     let (kind, stamp, batch) = told_by(own);
-    put_said(alloc, text, &with(kind, stamp))?;
+    told.said(&with(kind, stamp));
     if let Some(batch) = batch {
-        put_batch(alloc, text, &batch)?;
+        told.batch(&batch);
     }
-    text.push('\n')
+    told.line();
 }
 
-fn records_differ(alloc: Global, text: &str, came: &[Record]) -> Result<Wrong, AllocError> {
-    let mut told = String::new(alloc);
+fn records_differ(alloc: Global, text: &str, came: &[Record]) -> Wrong {
+    let mut told = Told::new(alloc);
     for own in came {
-        put_record(alloc, &mut told, own)?;
+        tell_record(&mut told, own);
     }
-    Ok(differ(alloc, text, told.as_str()))
+    differ(alloc, text, told.as_str())
 }
 
 // The records that lines spell.
@@ -73,63 +72,54 @@ pub fn journal(known: &Known, alloc: Global, node: &Node, text: &str) -> Result<
     if wanted.as_slice() == came {
         return Ok(());
     }
-    Err(records_differ(alloc, text, came)?)
+    Err(records_differ(alloc, text, came))
 }
 
-// Appends what is known of a hash.
-fn put_status(alloc: Global, text: &mut String, status: &Status) -> Result<(), AllocError> {
+// Tells what is known of a hash.
+fn tell_status(told: &mut Told, status: &Status) {
     match status {
-        Status::Unspent => put_word(text, "unspent /"),
-        Status::Absent => put_word(text, "absent /"),
+        Status::Unspent => told.word("unspent"),
+        Status::Absent => told.word("absent"),
         Status::Locked(by) => {
-            put_word(text, "locked")?;
-            put_batch(alloc, text, by)?;
-            put_word(text, "/")
+            told.word("locked");
+            told.batch(by);
         }
     }
+    told.word("/");
 }
 
-fn word_of_remembered(told: Option<Remembered>) -> &'static str {
-    match told {
-        None => "none /",
-        Some(Remembered::Waiting) => "waiting /",
-        Some(Remembered::Committed) => "committed /",
-        Some(Remembered::Rejected) => "rejected /",
-    }
+// Tells what is remembered of a transaction.
+fn tell_remembered(told: &mut Told, own: Option<Remembered>) {
+    told.word(match own {
+        None => "none",
+        Some(Remembered::Waiting) => "waiting",
+        Some(Remembered::Committed) => "committed",
+        Some(Remembered::Rejected) => "rejected",
+    });
+    told.word("/");
 }
 
-// Appends what a shard knows of a hash, or remembers of a transaction.
-fn put_known(
-    alloc: Global,
-    text: &mut String,
-    shard: &ShardNode<FaultDisk>,
-    word: &str,
-    is_tx: bool,
-) -> Result<(), Wrong> {
-    let own = hash(alloc, word)?;
-    if is_tx {
-        put_word(text, word_of_remembered(shard.check_tx(&own)))?;
-    } else {
-        put_status(alloc, text, &shard.check_unspent(&own))?;
+// Tells what a shard knows of hashes, and what it remembers of transactions.
+fn tell_known(told: &mut Told, shard: &ShardNode<FaultDisk>, hashes: &[Hash], ids: &[Hash]) {
+    for x in hashes {
+        tell_status(told, &shard.check_unspent(x));
     }
-    Ok(())
+    for id in ids {
+        tell_remembered(told, shard.check_tx(id));
+    }
+    told.number(shard.unspent_len());
 }
 
 /// `knows NODE HASH.. tx ID..`, and what the shard knows of the hashes and remembers of the transactions, and how many hashes are unspent
-pub fn knows(alloc: Global, node: &Node, words: &[&str], text: &str) -> Result<(), Wrong> {
-    let Node::Shard(shard) = node else {
-        return Err(Wrong::Line("no open shard"));
-    };
-    let (hashes, ids) = words_around(words, "tx");
-    let mut came = String::new(alloc);
-    for word in hashes {
-        put_known(alloc, &mut came, shard, word, false)?;
+pub fn knows(alloc: Global, node: &Node, words: &[&str], told: &mut Told) -> Result<(), Wrong> {
+    let (own, ids) = words_around(words, "tx");
+    let own = hashes(alloc, own)?;
+    let ids = hashes(alloc, ids)?;
+    match node {
+        Node::Shard(shard) => tell_known(told, shard, own.as_slice(), ids.as_slice()),
+        _ => told.refuse("no open shard"),
     }
-    for word in ids {
-        put_known(alloc, &mut came, shard, word, true)?;
-    }
-    put_count(alloc, &mut came, shard.unspent_len())?;
-    check_words(alloc, text, came.as_str())
+    Ok(())
 }
 
 /// Where a lane stands.
@@ -150,49 +140,41 @@ fn word_of_open(phase: &Phase) -> &'static str {
     }
 }
 
-// Appends the phase and the stamp of an open batch, and how many transactions and outcomes it has.
-fn put_open(alloc: Global, text: &mut String, own: &OpenLane) -> Result<(), AllocError> {
-    put_word(text, word_of_open(&own.phase))?;
-    let (many, decided) = (own.txs.len() as u64, own.outcomes.len() as u64);
-    put_numbers(alloc, text, &[own.batch.number, own.stamp.0, many, decided])
+// Tells the phase and the stamp of an open batch, and how many transactions and outcomes it has.
+fn tell_open(told: &mut Told, own: &OpenLane) {
+    told.word(word_of_open(&own.phase));
+    told.number(own.batch.number);
+    told.number(own.stamp.0);
+    told.number(own.txs.len() as u64);
+    told.number(own.outcomes.len() as u64);
 }
 
-// Appends where a lane stands at its coordinator.
-fn put_lane(
-    alloc: Global,
-    text: &mut String,
-    log: &CoordLog<FaultDisk>,
-    lane: LaneId,
-) -> Result<(), AllocError> {
-    match log.open_lane(lane)? {
-        Some(own) => put_open(alloc, text, &own),
-        None => put_said(alloc, text, &of_phase(&log.phase(lane))),
+// Tells where a lane stands at its coordinator.
+fn tell_lane(told: &mut Told, log: &CoordLog<FaultDisk>, lane: LaneId) {
+    match log.open_lane(lane) {
+        Ok(Some(own)) => tell_open(told, &own),
+        Ok(None) => told.said(&of_phase(&log.phase(lane))),
+        Err(_) => told.no_memory(),
     }
 }
 
 /// `stands NODE LANE`, and `idle NUMBER`, or the phase, number and stamp of the lane's open batch, and how many transactions and outcomes it has
-pub fn stands(alloc: Global, node: &Node, words: &[&str], text: &str) -> Result<(), Wrong> {
+pub fn stands(node: &Node, words: &[&str], told: &mut Told) -> Result<(), Wrong> {
     let lane = LaneId(small(word(words, 0)?)?);
-    let mut came = String::new(alloc);
     match node {
-        Node::Log(log) => put_lane(alloc, &mut came, log, lane)?,
-        _ => return Err(Wrong::Line("no open coordinator")),
+        Node::Log(log) => tell_lane(told, log, lane),
+        _ => told.refuse("no open coordinator"),
     }
-    check_words(alloc, text, came.as_str())
+    Ok(())
 }
 
-// The bytes of all disks, a line of digits each.
-fn all_bytes(alloc: Global, nodes: &[Node]) -> Result<String, Wrong> {
-    let mut text = String::new(alloc);
-    for node in nodes {
-        let Node::Disk(disk) = node else {
-            return Err(Wrong::Line("a node is not closed"));
-        };
-        let digits = hex::encode(alloc, disk.bytes())?;
-        text.push_str(digits.as_str())?;
-        text.push('\n')?;
+// Tells the bytes of a disk, in a line of digits.
+fn tell_bytes(told: &mut Told, node: &Node) {
+    match node {
+        Node::Disk(disk) => told.digits(disk.bytes()),
+        _ => told.refuse("a node is not closed"),
     }
-    Ok(text)
+    told.line();
 }
 
 /// `keep NAME`: the bytes of all disks have this name.
@@ -202,7 +184,12 @@ pub fn keep(
     kept: &mut Names<String>,
     words: &[&str],
 ) -> Result<(), Wrong> {
-    kept.put(alloc, word(words, 0)?, all_bytes(alloc, nodes)?)?;
+    let name = word(words, 0)?;
+    let mut told = Told::new(alloc);
+    for node in nodes {
+        tell_bytes(&mut told, node);
+    }
+    kept.put(alloc, name, told.text()?)?;
     Ok(())
 }
 
@@ -213,9 +200,12 @@ pub fn same(
     kept: &Names<String>,
     words: &[&str],
 ) -> Result<(), Wrong> {
-    let came = all_bytes(alloc, nodes)?;
-    match kept.get(word(words, 0)?) {
-        Some(wanted) => check_text(alloc, wanted.as_str(), came.as_str()),
-        None => Err(Wrong::Line("nothing was kept under that name")),
+    let Some(wanted) = kept.get(word(words, 0)?) else {
+        return Err(Wrong::Line("nothing was kept under that name"));
+    };
+    let mut told = Told::new(alloc);
+    for node in nodes {
+        tell_bytes(&mut told, node);
     }
+    told.check(wanted.as_str())
 }

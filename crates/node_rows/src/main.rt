@@ -17,6 +17,7 @@ mod slots;
 mod state;
 mod stores;
 mod subject;
+mod told;
 mod verbs;
 
 use row_text::run_files;

@@ -1,23 +1,19 @@
-// What a driver takes and makes of a batch's parts, and a batcher before it.
+// What a driver takes and makes of a batch's parts.
 ghost use Rattle.std.specs.Prelude.{◌≤◌, ◌↔◌, IsTrue, length, All};
 
-use crate::answers::{of_fault, put_said};
-use crate::calls::joined;
-use crate::lanes::put_stop;
-use batcher::Batcher;
+use crate::answers::of_fault;
+use crate::ledgers::tell_stop;
+use crate::told::Told;
 use cbdc_types::{
-    Batch, BatchId, CompactTx, FinishCall, ForgetCall, Hash, LaneId, List, LockCall, NodeFault,
+    BatchId, CompactTx, FinishCall, ForgetCall, Hash, LaneId, List, LockCall, NodeFault,
     Outcome, Record, Replied, Replies, Reply, Shape, Stamp,
 };
 use lane_driver::{
     BatchRoom, LaterRoom, ShardFault, finish_calls, forget_calls, gather, latest, lock_calls,
     no_memory,
 };
-use model_check::copy_of_compact;
-use row_records::{Known, finish_call, forget_call, lock_call, put_hash_word, record, small, txs};
-use row_text::{
-    Wrong, check_words, check_yes, count, number, put_count, put_word, rest, word, words_around,
-};
+use row_records::{Known, finish_call, forget_call, lock_call, record, small, txs};
+use row_text::{Wrong, check_yes, number, rest, word, words_around};
 use std::alloc::{AllocError, Global};
 
 // Whether no part has more entries than that.
@@ -100,27 +96,45 @@ fn is_call(
     place: usize,
     words: &[&str],
 ) -> Result<bool, Wrong> {
+    let many = calls.locks.len();
+    if place < many {
+        return is_lock(known, alloc, &calls.locks, place, words);
+    }
+    let place = place - many;
+    if place < many {
+        return is_finish(alloc, &calls.finishes, place, words);
+    }
+    is_forget(&calls.forgets, place - many, words)
+}
+
+fn is_lock(
+    known: &Known,
+    alloc: Global,
+    calls: &[(u32, LockCall)],
+    place: usize,
+    words: &[&str],
+) -> Result<bool, Wrong> {
     let shard = small(word(words, 0)?)?;
     let node = known.shape()?.coordinators().saturating_add(shard);
-    let (many, told) = (calls.locks.len(), rest(words, 2));
-    if place < many {
-        let wanted = lock_call(known, alloc, node, told)?;
-        return Ok(has(&calls.locks, place, shard, &wanted));
-    }
-    if place - many < many {
-        return Ok(has(
-            &calls.finishes,
-            place - many,
-            shard,
-            &finish_call(alloc, told)?,
-        ));
-    }
-    Ok(has(
-        &calls.forgets,
-        (place - many) - many,
-        shard,
-        &forget_call(told)?,
-    ))
+    let wanted = lock_call(known, alloc, node, rest(words, 2))?;
+    Ok(has(calls, place, shard, &wanted))
+}
+
+fn is_finish(
+    alloc: Global,
+    calls: &[(u32, FinishCall)],
+    place: usize,
+    words: &[&str],
+) -> Result<bool, Wrong> {
+    let shard = small(word(words, 0)?)?;
+    let wanted = finish_call(alloc, rest(words, 2))?;
+    Ok(has(calls, place, shard, &wanted))
+}
+
+fn is_forget(calls: &[(u32, ForgetCall)], place: usize, words: &[&str]) -> Result<bool, Wrong> {
+    let shard = small(word(words, 0)?)?;
+    let wanted = forget_call(rest(words, 2))?;
+    Ok(has(calls, place, shard, &wanted))
 }
 
 // Whether the lines tell all calls of a batch.
@@ -140,25 +154,28 @@ fn are_calls(known: &Known, alloc: Global, calls: &BatchCalls, text: &str) -> Re
 /// and whose Discard has 5: `SHARD lock ..`, `SHARD finish ..`, `SHARD forget ..`.
 pub fn calls(known: &Known, alloc: Global, words: &[&str], text: &str) -> Result<(), Wrong> {
     let (names, told) = words_around(words, "/");
-    let batch = txs(known, alloc, names)?;
     let shape = known.shape()?;
-    let Record::Commit {
-        stamp,
-        batch: own,
-        outcomes,
-    } = record(known, alloc, 0, told)?
-    else {
-        return Err(Wrong::Line("no Commit"));
-    };
-    let all = calls_of(
-        alloc,
-        &shape,
-        batch.as_slice(),
-        &own,
-        stamp,
-        outcomes.as_slice(),
-    )?;
+    let batch = txs(known, alloc, names)?;
+    let commit = record(known, alloc, 0, told)?;
+    let all = calls_by(alloc, &shape, batch.as_slice(), &commit)?;
     check_yes(alloc, "yes", are_calls(known, alloc, &all, text)?)
+}
+
+// The calls of a batch by its Commit.
+fn calls_by(
+    alloc: Global,
+    shape: &Shape,
+    txs: &[CompactTx],
+    commit: &Record,
+) -> Result<BatchCalls, Wrong> {
+    match commit {
+        Record::Commit {
+            stamp,
+            batch,
+            outcomes,
+        } => calls_of(alloc, shape, txs, batch, *stamp, outcomes.as_slice()),
+        _ => Err(Wrong::Line("no Commit")),
+    }
 }
 
 /// What a shard answered: a stamp, or a fault.
@@ -176,26 +193,50 @@ fn answer_of(words: &[&str]) -> Result<Stamped, Wrong> {
     }
 }
 
+// `SHARD ANSWER`
+fn told_answer(alloc: Global, piece: &str) -> Result<(u32, Stamped), Wrong> {
+    let own = piece.split_whitespace().collect::<Vec<&str>>(alloc)?;
+    Ok((small(word(&own, 0)?)?, answer_of(&own)?))
+}
+
 // `SHARD ANSWER`, with strokes between them.
 fn answers_of(alloc: Global, words: &[&str]) -> Result<Vec<(u32, Stamped)>, Wrong> {
-    let text = joined(alloc, words)?;
+    let mut text = Told::new(alloc);
+    for word in words {
+        text.word(word);
+    }
     let mut all = Vec::new(alloc);
     for piece in text.as_str().split('/') {
-        let own = piece.split_whitespace().collect::<Vec<&str>>(alloc)?;
-        all.push((small(word(own.as_slice(), 0)?)?, answer_of(own.as_slice())?))?;
+        all.push(told_answer(alloc, piece)?)?;
     }
     Ok(all)
 }
 
-// The answer to a lock: the hash 04 is missing, under a stamp.
-fn replied(alloc: Global, answer: Stamped) -> Result<Result<Replied, NodeFault>, AllocError> {
-    let stamp = match answer {
-        Ok(stamp) => stamp,
-        Err(fault) => return Ok(Err(fault)),
-    };
+// The reply that the hash 04 is missing, under a stamp.
+fn missing(alloc: Global, stamp: Stamp) -> Result<Replied, AllocError> {
     let mut replies = List::new(alloc);
     replies.push(Reply::Missing(Hash([4; 32])))?;
-    Ok(Ok(Replied { replies, stamp }))
+    Ok(Replied { replies, stamp })
+}
+
+// The answer to a lock.
+fn replied(alloc: Global, answer: &Stamped) -> Result<Result<Replied, NodeFault>, AllocError> {
+    match answer {
+        Ok(stamp) => Ok(Ok(missing(alloc, *stamp)?)),
+        Err(fault) => Ok(Err(*fault)),
+    }
+}
+
+// Calls to lock nothing.
+fn empty_calls(
+    alloc: Global,
+    told: &[(u32, Stamped)],
+) -> Result<Vec<(u32, LockCall)>, AllocError> {
+    let mut calls = Vec::new(alloc);
+    for (shard, _) in told {
+        calls.push((*shard, empty_call(alloc)))?;
+    }
+    Ok(calls)
 }
 
 // A call to lock nothing.
@@ -210,93 +251,76 @@ fn empty_call(alloc: Global) -> LockCall {
     }
 }
 
-// Appends the first fault.
-fn put_first(alloc: Global, text: &mut String, first: &ShardFault) -> Result<(), AllocError> {
-    put_word(text, "fault")?;
-    put_count(alloc, text, u64::from(first.shard))?;
-    put_said(alloc, text, &of_fault(&first.fault))
+// What shards answer to locks.
+fn all_replied(
+    alloc: Global,
+    told: &[(u32, Stamped)],
+) -> Result<Vec<Result<Replied, NodeFault>>, AllocError> {
+    let mut answers = Vec::new(alloc);
+    for (_, answer) in told {
+        answers.push(replied(alloc, answer)?)?;
+    }
+    Ok(answers)
 }
 
-// Appends the shards that replied, and their stamps.
-fn put_gathered(alloc: Global, text: &mut String, replies: &Replies) -> Result<(), AllocError> {
-    for one in replies.as_slice() {
-        put_count(alloc, text, u64::from(one.shard))?;
-        put_count(alloc, text, one.stamp.0)?;
+// Tells the first fault.
+fn tell_first(told: &mut Told, first: &ShardFault) {
+    told.word("fault");
+    told.number(u64::from(first.shard));
+    told.said(&of_fault(&first.fault));
+}
+
+// Tells the shards that replied, and their stamps.
+fn tell_gathered(told: &mut Told, came: &Result<Replies, ShardFault>) {
+    match came {
+        Ok(replies) => {
+            for one in replies.as_slice() {
+                told.number(u64::from(one.shard));
+                told.number(one.stamp.0);
+            }
+        }
+        Err(first) => tell_first(told, first),
     }
-    Ok(())
 }
 
 /// `gather SHARD ANSWER / SHARD ANSWER ..`, each answer a stamp, with the reply that 04 is missing, or a fault; and the shards and stamps of all replies, or the first fault
-pub fn gathers(alloc: Global, words: &[&str], text: &str) -> Result<(), Wrong> {
-    let told = answers_of(alloc, words)?;
-    let mut calls = Vec::new(alloc);
-    let mut answers = Vec::new(alloc);
-    for (shard, answer) in told {
-        calls.push((shard, empty_call(alloc)))?;
-        answers.push(replied(alloc, answer)?)?;
-    }
+pub fn gathers(alloc: Global, words: &[&str], told: &mut Told) -> Result<(), Wrong> {
+    let own = answers_of(alloc, words)?;
+    let calls = empty_calls(alloc, &own)?;
     let replies = Vec::with_capacity(alloc, calls.len())?;
-    if answers.len() != calls.len() {
-        return Err(Wrong::Line("an answer is missing"));
-    }
-    let mut came = String::new(alloc);
-    match gather(&calls, answers, replies) {
-        Ok(replies) => put_gathered(alloc, &mut came, &replies)?,
-        Err(first) => put_first(alloc, &mut came, &first)?,
-    }
-    check_words(alloc, text, came.as_str())
-}
-
-/// `latest SHARD ANSWER / SHARD ANSWER ..`, each answer a stamp or a fault, and the greatest stamp, or the first fault
-pub fn latest_of(alloc: Global, words: &[&str], text: &str) -> Result<(), Wrong> {
-    let told = answers_of(alloc, words)?;
-    let mut stamps = Vec::new(alloc);
-    for (_, answer) in &told {
-        stamps.push(*answer)?;
-    }
-    if stamps.len() != told.len() {
-        return Err(Wrong::Line("an answer is missing"));
-    }
-    let mut came = String::new(alloc);
-    match latest(&told, &stamps) {
-        Ok(stamp) => put_count(alloc, &mut came, stamp.0)?,
-        Err(first) => put_first(alloc, &mut came, &first)?,
-    }
-    check_words(alloc, text, came.as_str())
-}
-
-/// `no-memory`, and where a lane stops whose driver has none
-pub fn without_memory(alloc: Global, text: &str) -> Result<(), Wrong> {
-    let mut came = String::new(alloc);
-    put_stop(alloc, &mut came, &no_memory())?;
-    check_words(alloc, text, came.as_str().trim())
-}
-
-// Appends the ids of a batch that is taken, in order.
-fn put_taken(alloc: Global, text: &mut String, taken: &Option<Batch>) -> Result<(), AllocError> {
-    let Some(batch) = taken else {
-        return put_word(text, "none");
-    };
-    for tx in batch.as_slice() {
-        put_hash_word(alloc, text, &tx.id)?;
+    let answers = all_replied(alloc, &own)?;
+    if answers.len() == calls.len() {
+        tell_gathered(told, &gather(&calls, answers, replies));
+    } else {
+        told.refuse("an answer is missing");
     }
     Ok(())
 }
 
-/// `batcher LIMIT STEP..`, each a transaction that is pushed, or `take`, and what it says behind each: `full` or `room`, and the ids that are taken, or `none`.
-pub fn batches(known: &Known, alloc: Global, words: &[&str], text: &str) -> Result<(), Wrong> {
-    let mut batcher = Batcher::new(alloc, count(word(words, 0)?)?);
-    let mut came = String::new(alloc);
-    for step in rest(words, 1) {
-        if *step == "take" {
-            put_taken(alloc, &mut came, &batcher.take())?;
-        } else {
-            if batcher.is_full() {
-                return Err(Wrong::Line("the batch is full"));
-            }
-            batcher.push(copy_of_compact(known.form(step)?)?)?;
-        }
-        put_word(&mut came, if batcher.is_full() { "full" } else { "room" })?;
+// The answers without their shards.
+fn stamps_of(alloc: Global, told: &[(u32, Stamped)]) -> Result<Vec<Stamped>, AllocError> {
+    let mut stamps = Vec::new(alloc);
+    for (_, answer) in told {
+        stamps.push(*answer)?;
     }
-    check_words(alloc, text, came.as_str())
+    Ok(stamps)
+}
+
+/// `latest SHARD ANSWER / SHARD ANSWER ..`, each answer a stamp or a fault, and the greatest stamp, or the first fault
+pub fn latest_of(alloc: Global, words: &[&str], told: &mut Told) -> Result<(), Wrong> {
+    let own = answers_of(alloc, words)?;
+    let stamps = stamps_of(alloc, &own)?;
+    if stamps.len() != own.len() {
+        return Err(Wrong::Line("an answer is missing"));
+    }
+    match latest(&own, &stamps) {
+        Ok(stamp) => told.number(stamp.0),
+        Err(first) => tell_first(told, &first),
+    }
+    Ok(())
+}
+
+/// `no-memory`, and where a lane stops whose driver has none
+pub fn without_memory(told: &mut Told) {
+    tell_stop(told, &no_memory());
 }

@@ -39,10 +39,15 @@ pub fn bytes_of(alloc: Global, pieces: &[&str]) -> Result<Vec<u8>, Wrong> {
 /// Nothing where these are the bytes of the pieces.
 pub fn check_bytes(alloc: Global, pieces: &[&str], came: &[u8]) -> Result<(), Wrong> {
     let wanted = bytes_of(alloc, pieces)?;
-    if wanted.as_slice() == came {
+    check_same(alloc, &wanted, came)
+}
+
+/// Nothing where bytes are the same; else both are told by their digits.
+pub fn check_same(alloc: Global, wanted: &[u8], came: &[u8]) -> Result<(), Wrong> {
+    if wanted == came {
         return Ok(());
     }
-    Err(bytes_differ(alloc, &wanted, came)?)
+    Err(bytes_differ(alloc, wanted, came)?)
 }
 
 // Two rows of bytes that differ.

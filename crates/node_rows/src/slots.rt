@@ -1,11 +1,11 @@
 // What a shard remembers of each lane, and the entries of a part with their replies.
-use crate::answers::check_numbers;
 use crate::state::Tables;
+use crate::told::Told;
 use cbdc_types::{Answered, Entry, LaneId, List, Record, Reply, Stamp};
 use dtx_replies::{Slot, Slots};
 use model_check::copy_of_entry;
 use row_records::{Known, part, record, small};
-use row_text::{Wrong, check_yes, number, rest, word};
+use row_text::{Wrong, number, rest, word};
 use shard_core::answered;
 use std::alloc::{AllocError, Global};
 
@@ -42,45 +42,55 @@ fn slot(known: &Known, alloc: Global, words: &[&str]) -> Result<Slot, Wrong> {
     Ok(Slot::Finished(its_number, own, held, given, stamp, later))
 }
 
-// Puts a slot in a lane, or looks at what stands there, or takes it out.
-fn at_slot(
-    alloc: Global,
-    slots: &mut Slots,
-    action: &str,
-    lane: LaneId,
-    own: Slot,
-) -> Result<(), Wrong> {
-    if lane.0 as usize >= slots.len() {
-        return Err(Wrong::Line("no such lane"));
-    }
-    match action {
-        "put" => {
-            slots.put(lane, own);
-            Ok(())
-        }
-        "at" => check_yes(alloc, "yes", *slots.slot(lane) == own),
-        _ => check_yes(alloc, "yes", slots.take(lane) == own),
+// Tells where a slot is another one.
+fn tell_same(told: &mut Told, is_same: bool) {
+    if !is_same {
+        told.word("another slot");
     }
 }
 
-/// `slot count N`, `slot put LANE SLOT`, `slot at LANE SLOT`, `slot take LANE SLOT`: how many there are; one is put in a lane, stands there, or
-/// stands there and is taken out.
+// Puts a slot in a lane, or looks at what stands there, or takes it out.
+fn at_slot(slots: &mut Slots, action: &str, lane: LaneId, own: Slot, told: &mut Told) {
+    if lane.0 as usize >= slots.len() {
+        told.refuse("no such lane");
+        return;
+    }
+    match action {
+        "put" => slots.put(lane, own),
+        "at" => tell_same(told, *slots.slot(lane) == own),
+        _ => tell_same(told, slots.take(lane) == own),
+    }
+}
+
+// Tells how many slots there are.
+fn count_slots(slots: &Slots, told: &mut Told) {
+    told.number(slots.len() as u64);
+    if slots.is_empty() {
+        told.refuse("no slot");
+    }
+}
+
+/// `slot count`, and how many there are; `slot put LANE SLOT`, `slot at LANE SLOT`, `slot take LANE SLOT`: one is put in a lane, stands there, or stands
+/// there and is taken out.
 pub fn slot_step(
     known: &Known,
     alloc: Global,
     tables: &mut Tables,
     words: &[&str],
+    told: &mut Told,
 ) -> Result<(), Wrong> {
     let Some(slots) = &mut tables.slots else {
         return Err(Wrong::Line("no slots were made"));
     };
-    let (action, second) = (word(words, 0)?, word(words, 1)?);
+    let action = word(words, 0)?;
     if action == "count" {
-        check_yes(alloc, "no", slots.is_empty())?;
-        return check_numbers(alloc, second, &[slots.len() as u64]);
+        count_slots(slots, told);
+        return Ok(());
     }
+    let lane = LaneId(small(word(words, 1)?)?);
     let own = slot(known, alloc, rest(words, 2))?;
-    at_slot(alloc, slots, action, LaneId(small(second)?), own)
+    at_slot(slots, action, lane, own, told);
+    Ok(())
 }
 
 // The entries alone.
@@ -101,18 +111,32 @@ fn replies_of(alloc: Global, entries: &[Answered]) -> Result<Vec<Reply>, AllocEr
     Ok(all)
 }
 
-/// `answered LOCK`, and how many entries it has: the entries of the Lock's part, each with its reply, are those of the Lock.
-pub fn entries(known: &Known, alloc: Global, words: &[&str], text: &str) -> Result<(), Wrong> {
-    let node = known.shape()?.coordinators();
-    let Record::Lock { entries, .. } = record(known, alloc, node, words)? else {
-        return Err(Wrong::Line("no Lock"));
-    };
-    let part = part_of(alloc, entries.as_slice())?;
-    let replies = replies_of(alloc, entries.as_slice())?;
+// Tells how many entries there are, where they are those of a Lock with their replies.
+fn tell_answered(alloc: Global, entries: &[Answered], told: &mut Told) -> Result<(), Wrong> {
+    let part = part_of(alloc, entries)?;
+    let replies = replies_of(alloc, entries)?;
     if part.len() != replies.len() {
         return Err(Wrong::Line("a reply is missing"));
     }
     let came = answered(alloc, &part, &replies)?;
-    check_yes(alloc, "yes", came.as_slice() == entries.as_slice())?;
-    check_numbers(alloc, text, &[came.len() as u64])
+    told.number(came.len() as u64);
+    if came.as_slice() != entries {
+        told.word("other entries");
+    }
+    Ok(())
+}
+
+/// `answered LOCK`, and how many entries it has: the entries of the Lock's part, each with its reply, are those of the Lock.
+pub fn entries(
+    known: &Known,
+    alloc: Global,
+    words: &[&str],
+    told: &mut Told,
+) -> Result<(), Wrong> {
+    let node = known.shape()?.coordinators();
+    let own = record(known, alloc, node, words)?;
+    match &own {
+        Record::Lock { entries, .. } => tell_answered(alloc, entries.as_slice(), told),
+        _ => Err(Wrong::Line("no Lock")),
+    }
 }

@@ -8,7 +8,7 @@ use record_log::RecordLog;
 use row_records::Known;
 use row_text::{Names, Wrong};
 use shard_node::ShardNode;
-use std::alloc::{AllocError, Global};
+use std::alloc::Global;
 use std::mem;
 
 /// A disk, or what was opened on it.
@@ -75,24 +75,21 @@ impl State {
     }
 }
 
-// Has places for so many nodes at least.
-fn make_room(nodes: &mut Vec<Node>, count: usize) -> Result<(), AllocError> {
-    for _ in nodes.len()..count {
+/// Makes places up to this one.
+pub fn make_place(nodes: &mut Vec<Node>, place: u32) -> Result<(), Wrong> {
+    if place > 98 {
+        return Err(Wrong::Line("no node has so great a number here"));
+    }
+    for _ in nodes.len()..place as usize + 1 {
         nodes.push(Node::Gone)?;
     }
     Ok(())
 }
 
-/// Puts a node in its place.
-pub fn put_node(nodes: &mut Vec<Node>, place: u32, node: Node) -> Result<(), Wrong> {
-    let place = place.min(99) as usize;
-    make_room(nodes, place + 1)?;
-    match nodes.get_mut(place) {
-        Some(old) => {
-            let _gone = mem::replace(old, node);
-            Ok(())
-        }
-        None => Err(Wrong::Line("no node has so great a number here")),
+/// Puts a node in a place that was made.
+pub fn put_node(nodes: &mut Vec<Node>, place: u32, node: Node) {
+    if let Some(old) = nodes.get_mut(place as usize) {
+        let _gone = mem::replace(old, node);
     }
 }
 

@@ -1,13 +1,14 @@
 // The tables of a shard: a set of hashes, a map of locks, and values under hashes.
-use crate::answers::{check_numbers, check_said, plain, put_said, with};
+use crate::answers::with;
 use crate::state::Tables;
-use cbdc_types::Hash;
+use crate::told::Told;
+use cbdc_types::{BatchId, Hash};
 use hash_slots::HashSlots;
-use row_records::{batch_of, hash, put_batch, small};
-use row_text::{Wrong, check_words, check_yes, number, put_count, rest, word};
+use row_records::{batch_of, hash, small};
+use row_text::{Wrong, check_yes, number, rest, word};
 use shard_locks::Locks;
 use shard_table::Table;
-use std::alloc::{AllocError, Global};
+use std::alloc::Global;
 
 /// A table.
 #[derive(Drop)]
@@ -19,7 +20,7 @@ pub enum Store {
     Values(HashSlots<u64>),
 }
 
-const NO_STORE: Wrong = Wrong::Line("no such table was made");
+const NO_STORE: &str = "no such table was made";
 
 /// `store set`, `store locks`, `store values`: an empty one.
 pub fn make_store(tables: &mut Tables, alloc: Global, words: &[&str]) -> Result<(), Wrong> {
@@ -43,13 +44,16 @@ fn spare_of(store: &Store) -> u64 {
 }
 
 /// `reserve N`: makes room for so many more.
-pub fn reserve(store: &mut Store, words: &[&str]) -> Result<(), Wrong> {
+pub fn reserve(store: &mut Store, words: &[&str], told: &mut Told) -> Result<(), Wrong> {
     let n = number(word(words, 0)?)?;
-    match store {
-        Store::Gone => return Err(NO_STORE),
-        Store::Set(set) => set.reserve(n)?,
-        Store::Locks(locks) => locks.reserve(n)?,
-        Store::Values(values) => values.reserve(n)?,
+    let is_done = match store {
+        Store::Gone => false,
+        Store::Set(set) => set.reserve(n).is_ok(),
+        Store::Locks(locks) => locks.reserve(n).is_ok(),
+        Store::Values(values) => values.reserve(n).is_ok(),
+    };
+    if !is_done {
+        told.refuse("no table, or no memory for so many");
     }
     Ok(())
 }
@@ -61,25 +65,36 @@ pub fn room(tables: &mut Tables, alloc: Global, words: &[&str]) -> Result<(), Wr
     check_yes(alloc, "yes", tables.room >= least)
 }
 
-/// `spare N`: for how many more there is room; `spare N less`: for so many less than the room.
-pub fn spare(tables: &Tables, alloc: Global, words: &[&str]) -> Result<(), Wrong> {
+/// `spare`, and for how many more there is room; `spare N less`: for so many less than the room.
+pub fn spare(
+    tables: &Tables,
+    alloc: Global,
+    words: &[&str],
+    told: &mut Told,
+) -> Result<(), Wrong> {
     let came = spare_of(&tables.store);
-    if words.len() < 2 {
-        return check_numbers(alloc, word(words, 0)?, &[came]);
+    if words.is_empty() {
+        told.number(came);
+        return Ok(());
     }
     let less = number(word(words, 0)?)?;
     check_yes(alloc, "yes", came.saturating_add(less) == tables.room)
 }
 
-/// `len N`, and `len 0 empty` of one that says that it has nothing
-pub fn len(store: &Store, alloc: Global, words: &[&str]) -> Result<(), Wrong> {
-    let (many, is_empty) = match store {
-        Store::Set(set) => (set.len(), set.is_empty()),
-        Store::Values(values) => (values.len(), values.is_empty()),
-        _ => return Err(NO_STORE),
-    };
-    check_numbers(alloc, word(words, 0)?, &[many])?;
-    check_yes(alloc, if words.len() > 1 { "yes" } else { "no" }, is_empty)
+fn tell_len(told: &mut Told, many: u64, is_empty: bool) {
+    told.number(many);
+    if is_empty {
+        told.word("empty");
+    }
+}
+
+/// `len`, and how many there are, with `empty` of one that says that it has nothing
+pub fn len(store: &Store, told: &mut Told) {
+    match store {
+        Store::Set(set) => tell_len(told, set.len(), set.is_empty()),
+        Store::Values(values) => tell_len(told, values.len(), values.is_empty()),
+        _ => told.refuse(NO_STORE),
+    }
 }
 
 fn put_member(set: &mut Table, x: Hash) -> Result<(), Wrong> {
@@ -113,7 +128,7 @@ fn put_value(values: &mut HashSlots<u64>, x: Hash, words: &[&str]) -> Result<(),
 pub fn put(store: &mut Store, alloc: Global, words: &[&str]) -> Result<(), Wrong> {
     let x = hash(alloc, word(words, 0)?)?;
     match store {
-        Store::Gone => Err(NO_STORE),
+        Store::Gone => Err(Wrong::Line(NO_STORE)),
         Store::Set(set) => put_member(set, x),
         Store::Locks(locks) => put_lock(locks, x, rest(words, 1)),
         Store::Values(values) => put_value(values, x, rest(words, 1)),
@@ -144,51 +159,54 @@ pub fn put_all(store: &mut Store, words: &[&str]) -> Result<(), Wrong> {
     let (many, home) = (byte(word(words, 0)?)?, byte(word(words, 1)?)?);
     match store {
         Store::Set(set) => put_members(set, many, home),
-        _ => Err(NO_STORE),
+        _ => Err(Wrong::Line(NO_STORE)),
     }
 }
 
-/// `out HASH`, and `done`, or the value that was there or `none`
-pub fn take_out(store: &mut Store, alloc: Global, words: &[&str], text: &str) -> Result<(), Wrong> {
+// Tells a value, or that there is none.
+fn tell_value(told: &mut Told, found: Option<u64>) {
+    match found {
+        Some(value) => told.said(&with("value", value)),
+        None => told.word("none"),
+    }
+}
+
+/// `out HASH`, and of values the one that was there or `none`
+pub fn take_out(
+    store: &mut Store,
+    alloc: Global,
+    words: &[&str],
+    told: &mut Told,
+) -> Result<(), Wrong> {
     let x = hash(alloc, word(words, 0)?)?;
-    let mut said = plain("done");
     match store {
-        Store::Gone => return Err(NO_STORE),
+        Store::Gone => told.refuse(NO_STORE),
         Store::Set(set) => set.remove(&x),
         Store::Locks(locks) => locks.release(&x),
-        Store::Values(values) => {
-            said = match values.remove(&x) {
-                Some(value) => with("value", value),
-                None => plain("none"),
-            }
-        }
+        Store::Values(values) => tell_value(told, values.remove(&x)),
     }
-    check_said(alloc, text, &said)
+    Ok(())
 }
 
-// Appends what is found under a hash.
-fn put_found(alloc: Global, text: &mut String, store: &Store, x: &Hash) -> Result<(), AllocError> {
-    match store {
-        Store::Set(set) if set.contains(x) => put_said(alloc, text, &plain("there")),
-        Store::Locks(locks) => match locks.holder(x) {
-            Some((by, place)) => {
-                put_batch(alloc, text, &by)?;
-                put_count(alloc, text, u64::from(place))
-            }
-            None => put_said(alloc, text, &plain("none")),
-        },
-        Store::Values(values) => match values.get(x) {
-            Some(value) => put_said(alloc, text, &with("value", value)),
-            None => put_said(alloc, text, &plain("none")),
-        },
-        _ => put_said(alloc, text, &plain("none")),
+// Tells who holds a lock.
+fn tell_holder(told: &mut Told, found: Option<(BatchId, u32)>) {
+    match found {
+        Some((by, place)) => {
+            told.batch(&by);
+            told.number(u64::from(place));
+        }
+        None => told.word("none"),
     }
 }
 
 /// `find HASH`, and `there`, `LANE NUMBER PLACE` or `value VALUE`, or `none`
-pub fn find(store: &Store, alloc: Global, words: &[&str], text: &str) -> Result<(), Wrong> {
+pub fn find(store: &Store, alloc: Global, words: &[&str], told: &mut Told) -> Result<(), Wrong> {
     let x = hash(alloc, word(words, 0)?)?;
-    let mut came = String::new(alloc);
-    put_found(alloc, &mut came, store, &x)?;
-    check_words(alloc, text, came.as_str())
+    match store {
+        Store::Gone => told.refuse(NO_STORE),
+        Store::Set(set) => told.word(if set.contains(&x) { "there" } else { "none" }),
+        Store::Locks(locks) => tell_holder(told, locks.holder(&x)),
+        Store::Values(values) => tell_value(told, values.get(&x)),
+    }
+    Ok(())
 }

@@ -1,30 +1,32 @@
 // The steps, by their first words.
 
+/// Steps that take the text behind them in.
+#[derive(Clone, Copy, Drop)]
+pub enum Reading {
+    Ledger,
+    Disk,
+    Journal,
+    Calls,
+    Asked,
+}
+
 /// Steps of names, and of all nodes.
 #[derive(Clone, Copy, Drop)]
 pub enum Whole {
     Shape,
     Form,
     Gate,
-    Ledger,
     Lane,
     Batch,
-    Asked,
     Asks,
     Keep,
     Same,
 }
 
-/// Steps that make a disk.
-#[derive(Clone, Copy, Drop)]
-pub enum Making {
-    Disk,
-    Plain,
-}
-
 /// Steps that make another of what a node has.
 #[derive(Clone, Copy, Drop)]
 pub enum Turning {
+    Plain,
     Crash,
     Close,
     Format,
@@ -54,7 +56,6 @@ pub enum Acting {
 pub enum Looking {
     Bytes,
     Used,
-    Journal,
     Knows,
     Stands,
     Core,
@@ -83,8 +84,6 @@ pub enum Alone {
     Rack,
     Sink,
     Inbox,
-    Batcher,
-    Calls,
     Gather,
     Latest,
     NoMemory,
@@ -94,8 +93,8 @@ pub enum Alone {
 /// What a step does.
 #[derive(Clone, Copy, Drop)]
 pub enum Verb {
+    Reading(Reading),
     Whole(Whole),
-    Making(Making),
     Turning(Turning),
     OnDisk(OnDisk),
     Acting(Acting),
@@ -104,19 +103,19 @@ pub enum Verb {
     Alone(Alone),
 }
 
-const VERBS: [(&str, Verb); 51] = [
+const VERBS: [(&str, Verb); 50] = [
     ("shape", Verb::Whole(Whole::Shape)),
     ("form", Verb::Whole(Whole::Form)),
     ("gate", Verb::Whole(Whole::Gate)),
-    ("ledger", Verb::Whole(Whole::Ledger)),
+    ("ledger", Verb::Reading(Reading::Ledger)),
     ("lane", Verb::Whole(Whole::Lane)),
     ("batch", Verb::Whole(Whole::Batch)),
-    ("asked", Verb::Whole(Whole::Asked)),
+    ("asked", Verb::Reading(Reading::Asked)),
     ("asks", Verb::Whole(Whole::Asks)),
     ("keep", Verb::Whole(Whole::Keep)),
     ("same", Verb::Whole(Whole::Same)),
-    ("disk", Verb::Making(Making::Disk)),
-    ("plain", Verb::Making(Making::Plain)),
+    ("disk", Verb::Reading(Reading::Disk)),
+    ("plain", Verb::Turning(Turning::Plain)),
     ("crash", Verb::Turning(Turning::Crash)),
     ("close", Verb::Turning(Turning::Close)),
     ("format", Verb::Turning(Turning::Format)),
@@ -131,7 +130,7 @@ const VERBS: [(&str, Verb); 51] = [
     ("call", Verb::Acting(Acting::Call)),
     ("bytes", Verb::Looking(Looking::Bytes)),
     ("used", Verb::Looking(Looking::Used)),
-    ("journal", Verb::Looking(Looking::Journal)),
+    ("journal", Verb::Reading(Reading::Journal)),
     ("knows", Verb::Looking(Looking::Knows)),
     ("stands", Verb::Looking(Looking::Stands)),
     ("core", Verb::Looking(Looking::Core)),
@@ -150,8 +149,7 @@ const VERBS: [(&str, Verb); 51] = [
     ("rack", Verb::Alone(Alone::Rack)),
     ("sink", Verb::Alone(Alone::Sink)),
     ("inbox", Verb::Alone(Alone::Inbox)),
-    ("batcher", Verb::Alone(Alone::Batcher)),
-    ("calls", Verb::Alone(Alone::Calls)),
+    ("calls", Verb::Reading(Reading::Calls)),
     ("gather", Verb::Alone(Alone::Gather)),
     ("latest", Verb::Alone(Alone::Latest)),
     ("no-memory", Verb::Alone(Alone::NoMemory)),
