@@ -117,17 +117,19 @@ impl Told {
 
     /// The whole answer.
     pub fn text(self) -> Result<String, Wrong> {
-        match self.wrong {
+        let Told { text, wrong, .. } = self;
+        match wrong {
             Some(wrong) => Err(wrong),
-            None => Ok(self.text),
+            None => Ok(text),
         }
     }
 
     /// Nothing where the answer is the text that is wanted; else both are told.
     pub fn check(self, wanted: &str) -> Result<(), Wrong> {
-        match self.wrong {
+        let Told { alloc, text, wrong } = self;
+        match wrong {
             Some(wrong) => Err(wrong),
-            None => check_text(self.alloc, wanted.trim(), self.text.as_str().trim()),
+            None => check_text(alloc, wanted.trim(), text.as_str().trim()),
         }
     }
 }
