@@ -102,11 +102,7 @@ fn finish(
 }
 
 // `forget LANE NUMBER cause STAMP`
-fn forget(
-    shard: &mut ShardNode<FaultDisk>,
-    words: &[&str],
-    told: &mut Told,
-) -> Result<(), Wrong> {
+fn forget(shard: &mut ShardNode<FaultDisk>, words: &[&str], told: &mut Told) -> Result<(), Wrong> {
     let call = forget_call(words)?;
     tell_stamped(told, &ask_forget(shard, &call));
     Ok(())

@@ -230,15 +230,6 @@ pub struct Plan<'t> {
     pub repeats: u32,
 }
 
-/// What a lane came to, what it asked, and the nodes that it ran over.
-#[derive(Drop)]
-pub struct Ran {
-    pub came: Result<LaneReport, LaneFault>,
-    pub seen: Vec<Seen>,
-    pub logs: Vec<CoordLog<FaultDisk>>,
-    pub shards: Vec<ShardNode<FaultDisk>>,
-}
-
 // Tells a line for each batch: its number and its outcomes.
 fn tell_report(told: &mut Told, report: &LaneReport) {
     for done in report.batches.as_slice() {
@@ -281,11 +272,17 @@ fn run_ports<W: Wait>(
     if !are_compact(txs) {
         told.refuse("a transaction with more hashes than it may have");
     } else if plan.is_whole {
-        tell_came(told, &run_all(alloc, shape, lane, txs, ports, repeats, gate));
+        tell_came(
+            told,
+            &run_all(alloc, shape, lane, txs, ports, repeats, gate),
+        );
     } else if txs.is_empty() || txs.len() > shape.batch() as usize {
         told.refuse("no batch");
     } else {
-        tell_came(told, &run_one(alloc, shape, lane, txs, ports, repeats, gate));
+        tell_came(
+            told,
+            &run_one(alloc, shape, lane, txs, ports, repeats, gate),
+        );
     }
 }
 

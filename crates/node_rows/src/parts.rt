@@ -5,8 +5,8 @@ use crate::answers::of_fault;
 use crate::ledgers::tell_stop;
 use crate::told::Told;
 use cbdc_types::{
-    BatchId, CompactTx, FinishCall, ForgetCall, Hash, LaneId, List, LockCall, NodeFault,
-    Outcome, Record, Replied, Replies, Reply, Shape, Stamp,
+    BatchId, CompactTx, FinishCall, ForgetCall, Hash, LaneId, List, LockCall, NodeFault, Outcome,
+    Record, Replied, Replies, Reply, Shape, Stamp,
 };
 use lane_driver::{
     BatchRoom, LaterRoom, ShardFault, finish_calls, forget_calls, gather, latest, lock_calls,
@@ -228,10 +228,7 @@ fn replied(alloc: Global, answer: &Stamped) -> Result<Result<Replied, NodeFault>
 }
 
 // Calls to lock nothing.
-fn empty_calls(
-    alloc: Global,
-    told: &[(u32, Stamped)],
-) -> Result<Vec<(u32, LockCall)>, AllocError> {
+fn empty_calls(alloc: Global, told: &[(u32, Stamped)]) -> Result<Vec<(u32, LockCall)>, AllocError> {
     let mut calls = Vec::new(alloc);
     for (shard, _) in told {
         calls.push((*shard, empty_call(alloc)))?;

@@ -127,12 +127,7 @@ fn tell_answered(alloc: Global, entries: &[Answered], told: &mut Told) -> Result
 }
 
 /// `answered LOCK`, and how many entries it has: the entries of the Lock's part, each with its reply, are those of the Lock.
-pub fn entries(
-    known: &Known,
-    alloc: Global,
-    words: &[&str],
-    told: &mut Told,
-) -> Result<(), Wrong> {
+pub fn entries(known: &Known, alloc: Global, words: &[&str], told: &mut Told) -> Result<(), Wrong> {
     let node = known.shape()?.coordinators();
     let own = record(known, alloc, node, words)?;
     match &own {

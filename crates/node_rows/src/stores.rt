@@ -66,12 +66,7 @@ pub fn room(tables: &mut Tables, alloc: Global, words: &[&str]) -> Result<(), Wr
 }
 
 /// `spare`, and for how many more there is room; `spare N less`: for so many less than the room.
-pub fn spare(
-    tables: &Tables,
-    alloc: Global,
-    words: &[&str],
-    told: &mut Told,
-) -> Result<(), Wrong> {
+pub fn spare(tables: &Tables, alloc: Global, words: &[&str], told: &mut Told) -> Result<(), Wrong> {
     let came = spare_of(&tables.store);
     if words.is_empty() {
         told.number(came);

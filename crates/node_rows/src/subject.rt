@@ -12,7 +12,9 @@ use crate::slots::{entries, make_slots, slot_step};
 use crate::state::{Node, State, Tables, make_place, put_node};
 use crate::stores::{find, len, make_store, put, put_all, reserve, room, spare, take_out};
 use crate::told::Told;
-use crate::verbs::{Acting, Alone, Looking, OnDisk, Reading, Tabling, Turning, Verb, Whole, verb_of};
+use crate::verbs::{
+    Acting, Alone, Looking, OnDisk, Reading, Tabling, Turning, Verb, Whole, verb_of,
+};
 use row_records::{Known, name_form, shape, small};
 use row_text::{Block, Names, Subject, Wrong, rest, word};
 use std::alloc::Global;
