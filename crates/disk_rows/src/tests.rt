@@ -1,5 +1,0 @@
-mod devices;
-mod disks;
-mod journals;
-mod records;
-mod shards;

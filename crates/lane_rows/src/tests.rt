@@ -1,4 +1,0 @@
-mod batches;
-mod counting;
-mod lanes;
-mod ledgers;

@@ -1,0 +1,102 @@
+// What a row has made so far: names, nodes, what a lane asked of them, and a shard's tables.
+use crate::stores::Store;
+use coord_log::CoordLog;
+use dtx_replies::Slots;
+use gate_journal::Journal;
+use mem_devices::{FaultDisk, PlainDisk};
+use record_log::RecordLog;
+use row_records::Known;
+use row_text::{Names, Wrong};
+use shard_node::ShardNode;
+use std::alloc::Global;
+use std::mem;
+
+/// A disk, or what was opened on it.
+#[derive(Drop)]
+pub enum Node {
+    /// Nothing is there.
+    Gone,
+    Plain(PlainDisk),
+    Disk(FaultDisk),
+    Bodies(Journal<FaultDisk>),
+    Records(RecordLog<FaultDisk>),
+    Log(CoordLog<FaultDisk>),
+    Shard(ShardNode<FaultDisk>),
+}
+
+/// The kind of a record that was asked for, and its node.
+pub type Seen = (u8, u32);
+
+/// The tables of a shard, with the room that one had when it was told.
+#[derive(Drop)]
+pub struct Tables {
+    pub store: Store,
+    pub room: u64,
+    pub slots: Option<Slots>,
+}
+
+/// What a row has made so far.
+#[derive(Drop)]
+pub struct State {
+    pub known: Known,
+    pub nodes: Vec<Node>,
+    pub seen: Vec<Seen>,
+    pub kept: Names<String>,
+    pub tables: Tables,
+}
+
+/// No tables.
+fn no_tables() -> Tables {
+    Tables {
+        store: Store::Gone,
+        room: 0,
+        slots: None,
+    }
+}
+
+impl State {
+    pub fn empty(alloc: Global) -> State {
+        State {
+            known: Known::empty(alloc),
+            nodes: Vec::new(alloc),
+            seen: Vec::new(alloc),
+            kept: Names::new(alloc),
+            tables: no_tables(),
+        }
+    }
+
+    /// Keeps the names of what stood before the first row alone.
+    pub fn forget(&mut self) {
+        self.known.forget();
+        self.nodes.clear();
+        self.seen.clear();
+        self.kept.forget(0);
+        self.tables = no_tables();
+    }
+}
+
+/// Makes places up to this one.
+pub fn make_place(nodes: &mut Vec<Node>, place: u32) -> Result<(), Wrong> {
+    if place > 98 {
+        return Err(Wrong::Line("no node has so great a number here"));
+    }
+    for _ in nodes.len()..place as usize + 1 {
+        nodes.push(Node::Gone)?;
+    }
+    Ok(())
+}
+
+/// Puts a node in a place that was made.
+pub fn put_node(nodes: &mut Vec<Node>, place: u32, node: Node) {
+    if let Some(old) = nodes.get_mut(place as usize) {
+        let _gone = mem::replace(old, node);
+    }
+}
+
+/// Takes a node out of its place.
+pub fn take_node(nodes: &mut Vec<Node>, place: u32) -> Node {
+    match nodes.get_mut(place as usize) {
+        Some(node) => mem::replace(node, Node::Gone),
+        None => Node::Gone,
+    }
+}

@@ -1,4 +1,0 @@
-mod cores;
-mod logs;
-mod nodes;
-mod tables;

@@ -1,4 +1,0 @@
-mod entries;
-mod lanes;
-mod making;
-mod sets;
