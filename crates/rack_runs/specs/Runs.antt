@@ -72,10 +72,15 @@ abbrev pub SparesOthers : {D : Type 0} → (D → Option (List ℕ)) → (ℕ �
 SparesOthers content held back = OfShown content held (λ K mint submissions E. (n : ℕ) → node_count K ≤ n → back n ≡ held n)
 
 -- the disks told a ledger in which each record was caused; each of its disks had room for its journal and for what is kept for the batches that were
--- open there; and where the ledger was kept all other disks are as before
-pub record TookLedger {D : Type 0} (content : D → Option (List ℕ)) (limit : D → ℕ) (held back : ℕ → Option D) : Type 0 where
+-- open there, and has room so for its journal at exit, which has grown at its end from that at entry; where the disks told all each keeps its journal,
+-- with one record more or without; and where the ledger was kept all other disks are as before
+pub record TookLedger {D : Type 0} (content : D → Option (List ℕ)) (images : D → List ℕ → Type 0) (limit : D → ℕ) (held back : ℕ → Option D) : Type 0 where
   pub ledger : IsCausedLedger content held
   pub room : HaveRoom limit held ledger.shape (λ n. journal n (reverse ledger.rows))
+  pub exit : ℕ → List Record
+  pub grows : (n : ℕ) → IsEnd (journal n (reverse ledger.rows)) (exit n)
+  pub disks : AllTell content held ledger.shape → KeepsEach images back ledger.shape exit
+  pub rooms : HaveRoom limit back ledger.shape exit
   pub spared : SparesOthers content held back
 
 -- whatever a crash may leave of a node's disk that is told opens to this journal, with what is in flight there or without
@@ -87,7 +92,7 @@ KeepsFlights images held K X flights = (n : ℕ) → n < node_count K → OfTold
 -- what is in flight there or without; the answer has its cause, by the counts of
 -- faults before and now and by what the disks that were told may hold; it is the least lane's that met one; each lane is between
 -- batches, or its batch lacks a Lock, or the disk of a node that it asks has failed, or it waits where it was, for want of memory: nothing of it was written, or its batch was prepared and is so still; each disk of the ledger
--- had room for its journal and for what is kept for the batches that were open there; where the ledger was kept it is cut short, and the disks that are no nodes of it are as before
+-- had room for its journal and for what is kept for the batches that were open there, and has room so for its journal at exit; where the ledger was kept it is cut short, and the disks that are no nodes of it are as before
 pub record IsLaneFault {D : Type 0} (content : D → Option (List ℕ)) (images : D → List ℕ → Type 0) (limit : D → ℕ) (held back : ℕ → Option D) (before now : ℕ → ℕ) (next : Shape → (ℕ → List Record) → (ℕ → List Record) → ℕ → List Compact → Type 0)
     (ends : Shape → (ℕ → List Record) → (ℕ → List Record) → (ℕ → Type 0) → (ℕ → ℕ → Type 0) → LaneFault → Type 0) (begun : Shape → (ℕ → List Record) → (ℕ → List Record) → Type 0) (files : List (List FullTx)) (answer : Answer) : Type 0 where
   pub ledger : IsCausedLedger content held
@@ -97,10 +102,11 @@ pub record IsLaneFault {D : Type 0} (content : D → Option (List ℕ)) (images 
   pub flights : ℕ → Option Record
   pub in_flight : (n : ℕ) (r : Record) → n < node_count ledger.shape → flights n ≡ Some r → Rose (before n) (now n)
   pub disks : AllTell content held ledger.shape → KeepsFlights images back ledger.shape exit flights
-  pub cause : IsLaneAnswer ledger.shape (next ledger.shape (λ n. journal n (reverse ledger.rows)) exit) (λ n. journal n (reverse ledger.rows)) exit (λ n. Rose (before n) (now n)) (λ n c. OfTold (held n) (λ d. c ≡ limit d)) answer
+  pub cause : IsLaneAnswer ledger.shape ledger.genesis (next ledger.shape (λ n. journal n (reverse ledger.rows)) exit) (λ n. journal n (reverse ledger.rows)) exit (λ n. Rose (before n) (now n)) (λ n c. OfTold (held n) (λ d. c ≡ limit d)) answer
   pub least : IsLeastAnswer (ends ledger.shape (λ n. journal n (reverse ledger.rows)) exit (λ n. Rose (before n) (now n)) (λ n c. OfTold (held n) (λ d. c ≡ limit d))) answer
   pub rests : AllRestSince ledger.shape (λ n. journal n (reverse ledger.rows)) exit (λ n. Rose (before n) (now n))
   pub room : HaveRoom limit held ledger.shape (λ n. journal n (reverse ledger.rows))
+  pub rooms : HaveRoom limit back ledger.shape exit
   pub kept : OfShown content held (IsCutShort images limit back files exit)
   pub spared : SparesOthers content held back
 
