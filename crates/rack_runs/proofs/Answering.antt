@@ -1,12 +1,12 @@
 -- What a lane's fault answers has its cause.
-use Rattle.std.proofs.Common.{◌≡◌, ◌⊎◌, inl, inr, ℕ, zero, suc, ◌+◌, ◌*◌, ◌/◌, ◌<◌, ◌≤◌, Bool, true, List, [], ◌∷◌, ◌++◌, length, reverse, Option, Some, refl, sym, ap, ◌∙◌, subst, arith}
+use Rattle.std.proofs.Common.{◌≡◌, ◌⊎◌, inl, inr, ℕ, zero, suc, ◌+◌, ◌*◌, ◌/◌, ◌<◌, ◌≤◌, Bool, true, List, [], ◌∷◌, ◌++◌, length, reverse, Option, Some, None, refl, sym, ap, ◌∙◌, subst, arith}
 use Rattle.std.specs.Prelude.{Result, Ok, Err, IfErr, All}
 use Rattle.std.proofs.lemmas.Nat.{div_below}
 use Rattle.std.proofs.lemmas.List.{length-append}
 use Rattle.outside.specs.Counts.{Rose}
 use Rattle.cbdc_types.specs.declared.answer.Answer.{Answer}
 use Rattle.cbdc_types.specs.declared.answer.Answer.TheVariants as answers
-use Rattle.cbdc_model.specs.Records.{Digest, Shape, Header, Compact, Record, Row, journal}
+use Rattle.cbdc_model.specs.Records.{Digest, Shape, Header, Batch, Compact, Record, Row, journal, Prepare}
 use Rattle.cbdc_model.specs.Ranges.{home_of}
 use Rattle.cbdc_model.specs.Lanes.{IsEnd}
 use Rattle.cbdc_model.specs.Coins.{Output, FullTx}
@@ -31,14 +31,16 @@ use Rattle.ledger_runs.specs.Pieces.{HasPrepared, IsNextOf}
 use Rattle.run_laws.specs.Faults.{IsAsked, asks_prepare, asks_log, asks_shard}
 use Rattle.ledger_runs.specs.Faults.{IsWanted, wants_prepare, wants_lock, IsCauseOf, IsSomeCauseOf, IsRunCause, HaveFailed, MayHold, Nothing, RestsSince, AllRestSince}
 use Rattle.ledger_runs.specs.Least.{IsLeastFault, IsLeastOpen}
+use Rattle.ledger_runs.specs.Flying.{Launches}
 use Rattle.ledger_runs.proofs.Faulting.{run_moves}
+use Rattle.ledger_runs.proofs.Launching.{launches_by, launches_on}
 use Rattle.run_laws.proofs.NewBatches.{new_batches, open_batches}
 use Rattle.file_runs.specs.Runs.{joined, IsSentPiece, AreFilesPieces, HaveBegunFiles, IsFilesPiece}
 use Rattle.file_runs.proofs.Pieces.{files_unbegun}
 use Rattle.file_runs.specs.Endings.{EndsFirst, EndsFiles}
-use Rattle.ledger_nodes.specs.Ledgers.{IsLedger, journals_of, flights_of, faults_of, opened_of, capacity_of, AreStored}
-use Rattle.rack_laws.specs.Shown.{OfShown, KeepsEach, LogHasRoom, ShardHasRoom, HaveRoom, node_count}
-use Rattle.rack_laws.proofs.Behind.{keeps_each, keeps_flights, rooms_each, told_stored, may_hold, have_risen}
+use Rattle.ledger_nodes.specs.Ledgers.{IsLedger, journals_of, flights_of, faults_of, opened_of, capacity_of, AreStored, AreQuiet}
+use Rattle.rack_laws.specs.Shown.{OfShown, HoldsEach, LogHasRoom, ShardHasRoom, HaveRoom, node_count}
+use Rattle.rack_laws.proofs.Behind.{are_quiet, none_fly, keeps_flights, holds_each, rooms_each, told_stored, may_hold, have_risen}
 use Rattle.rack_runs.specs.Kinds.{answer_at, answer_to, IsLaneAnswer}
 use Rattle.rack_runs.specs.Endings.{EndsRun, IsCut, IsInOrder, IsLeastAnswer}
 use Rattle.rack_runs.specs.Runs.{AddsOpen, IsCutWaves, IsCutShort, KeepsFlights, IsLaneFault, NonePrepared, NothingNext, PieceNext, PiecesPrepared, SparesOthers, TookLedger}
@@ -234,6 +236,11 @@ no_files verdicts K E X failed holds a (inr (e, is, inr (middle, grows, unprepar
     memory [] done none unbegun = unbegun.0
     memory (file ∷ more) done none first = absurd (omega (arith, ap length none, length-append done (file ∷ more)))
 
+-- what was in flight before was nothing
+none_before : {A X Y : Type 0} (o : Option A) (x : A) → o ≡ None → ((o ≡ Some x) × X) ⊎ Y → Y
+none_before o x none (inl was) = absurd (let z : None ≡ Some x = sym none ∙ was.0 in cc)
+none_before o x none (inr now) = now
+
 -- ---- on a rack
 
 module _ {D : Type 0} (content : D → Option (List ℕ)) (images : D → List ℕ → Type 0) (limit count : D → ℕ) (held back : ℕ → Option D) (h g : Header)
@@ -268,8 +275,8 @@ module _ {D : Type 0} (content : D → Option (List ℕ)) (images : D → List �
 
   -- what was taken, and how it was left
   pub took : HaveRoom limit held h.shape (journals_of count limit h.shape logs shards) → SparesOthers content held back
-      → ((n : ℕ) → IsEnd (journals_of count limit h.shape logs shards n) (journals_of count limit h.shape now after n)) → All (LogHasRoom limit) now → All (ShardHasRoom limit) after → TookLedger content images limit held back
-  took room spared grows log_rooms shard_rooms = record {
+      → ((n : ℕ) → IsEnd (journals_of count limit h.shape logs shards n) (journals_of count limit h.shape now after n)) → All (LogHasRoom limit) now → All (ShardHasRoom limit) after → AreQuiet now after → TookLedger content images limit held back
+  took room spared grows log_rooms shard_rooms quiet = record {
     ledger = record {
       shape = h.shape;
       genesis = h.genesis;
@@ -281,8 +288,8 @@ module _ {D : Type 0} (content : D → Option (List ℕ)) (images : D → List �
     exit = journals_of count limit h.shape now after;
     grows = subst (λ L. (n : ℕ) → IsEnd (L n) (journals_of count limit h.shape now after n)) entry grows;
     disks = λ tells.
-        subst (λ k. KeepsEach images back k (journals_of count limit k now after)) shape
-        (keeps_each content images limit count back g now after is (stored (told_stored content images limit count held h logs shards are tells)) logs_back shards_back);
+        subst (λ k. HoldsEach images back k (journals_of count limit k now after)) shape
+        (holds_each content images limit count back g now after is (stored (told_stored content images limit count held h logs shards are tells)) logs_back shards_back quiet);
     rooms = rooms_back log_rooms shard_rooms;
     spared = spared;
   }
@@ -299,10 +306,12 @@ module _ {D : Type 0} (content : D → Option (List ℕ)) (images : D → List �
       (λ mint _. (sound : FullTx → Bool) → TellsSound verdicts sound → IsCut h.shape sound files mint (journals_of count limit h.shape logs shards) (journals_of count limit h.shape now after))
       → IsInOrder h.shape (journals_of count limit h.shape logs shards) (journals_of count limit h.shape now after)
       → ((n : ℕ) (r : Record) → flights_of count limit h.shape now after n ≡ Some r → HaveFailed (opened_of count limit h.shape logs shards) (faults_of count limit h.shape now after) n)
+      → Launches h.shape (IsFilesPiece h.shape verdicts files (journals_of count limit h.shape logs shards) (journals_of count limit h.shape now after)) (journals_of count limit h.shape logs shards) (journals_of count limit h.shape now after)
+      (flights_of count limit h.shape logs shards) (flights_of count limit h.shape now after)
       → AllRestSince h.shape (journals_of count limit h.shape logs shards) (journals_of count limit h.shape now after) (HaveFailed (opened_of count limit h.shape logs shards) (faults_of count limit h.shape now after))
       → HaveRoom limit held h.shape (journals_of count limit h.shape logs shards) → All (LogHasRoom limit) now → All (ShardHasRoom limit) after → OfShown content held (IsCutShort images limit back files (journals_of count limit h.shape now after)) → SparesOthers content held back
       → IsLaneFault content images limit held back before behind (PieceNext verdicts files) (EndsRun verdicts files) (PiecesPrepared verdicts files) files a
-  lane_fault verdicts files begun grows a cause least keeps cut orders flown rests room log_rooms shard_rooms kept spared = record {
+  lane_fault verdicts files begun grows a cause least keeps cut orders flown launches rests room log_rooms shard_rooms kept spared = record {
     ledger = record {
       shape = h.shape;
       genesis = h.genesis;
@@ -319,6 +328,9 @@ module _ {D : Type 0} (content : D → Option (List ℕ)) (images : D → List �
     );
     flights = flights_of count limit h.shape now after;
     in_flight = λ n r inside there. risen n inside (flown n r there);
+    prepares = subst (λ L. (n t : ℕ) (b : Batch) (txs : List Compact) → n < node_count h.shape → flights_of count limit h.shape now after n ≡ Some (Prepare t b txs)
+        → IsLaneOf h.shape b.lane × IsFilesPiece h.shape verdicts files L (journals_of count limit h.shape now after) b.lane txs) entry
+        (λ n t b txs inside there. none_before (flights_of count limit h.shape logs shards n) (Prepare t b txs) (none_fly content images limit count h.shape logs shards (are_quiet content images limit count held h logs shards are) n) (launches n t b txs there));
     disks = λ tells.
         subst (λ k. KeepsFlights images back k (journals_of count limit k now after) (flights_of count limit k now after)) shape
         (keeps_flights content images limit count back g now after is (stored (told_stored content images limit count held h logs shards are tells)) logs_back shards_back);
@@ -381,6 +393,7 @@ of_nothing content images limit held back before now verdicts a f =
       prepared = no_pieces verdicts f.ledger.shape E f.exit f.prepared;
       flights = f.flights;
       in_flight = f.in_flight;
+      prepares = λ n t b txs inside there. (let p = f.prepares n t b txs inside there in (p.0, no_piece verdicts f.ledger.shape E f.exit b.lane txs p.1));
       disks = f.disks;
       cause = answer_moves f.ledger.shape f.ledger.genesis (PieceNext verdicts [] f.ledger.shape E f.exit) (NothingNext f.ledger.shape E f.exit) E f.exit (λ n. Rose (before n) (now n)) (λ n. Rose (before n) (now n))
           (λ n c. OfTold (held n) (λ d. c ≡ limit d)) (λ n c. OfTold (held n) (λ d. c ≡ limit d)) (no_piece verdicts f.ledger.shape E f.exit) (λ n inside did. did) (λ n c inside may. may) a f.cause;
@@ -423,6 +436,18 @@ filed_fault K H verdicts files E M X failed holds same since unprepared e h =
     since_entry lane txs inside piece sound tells =
         let p = piece sound tells in
         (p.0, p.1, (p.2.0, p.2.1, p.2.2, p.2.3 ∙ ap (λ ps. reverse p.2.0 ++ ps) (unprepared lane)))
+
+-- so of Prepares in flight
+pub resumed_launches : (K : Shape) (verdicts : VerdictsOf) (files : List (List FullTx)) (E X : ℕ → List Record) (F G : ℕ → Option Record)
+    → Launches K (λ _. Nothing) E X F G → Launches K (IsFilesPiece K verdicts files E X) E X F G
+resumed_launches K verdicts files E X F G = launches_by K (λ _. Nothing) (IsFilesPiece K verdicts files E X) E X F G (λ lane txs inside none. absurd none)
+
+pub filed_launches : (K H : Shape) (verdicts : VerdictsOf) (files : List (List FullTx)) (E M X : ℕ → List Record) (F G L : ℕ → Option Record) → H ≡ K → SamePrepared K E M
+    → Launches K (λ _. Nothing) E M F G → Launches H (IsFilesPiece H verdicts files M X) M X G L → Launches K (IsFilesPiece K verdicts files E X) E X F L
+filed_launches K H verdicts files E M X F G L same unprepared one two =
+    launches_on K (λ _. Nothing) (IsFilesPiece K verdicts files M X) (IsFilesPiece K verdicts files E X) E M X F G L (λ lane txs inside still none. absurd none)
+    (λ lane txs inside piece sound tells. (let p = piece sound tells in (p.0, p.1, (p.2.0, p.2.1, p.2.2, p.2.3 ∙ ap (λ ps. reverse p.2.0 ++ ps) (unprepared lane))))) one
+    (subst (λ k. Launches k (IsFilesPiece k verdicts files M X) M X G L) same two)
 
 -- by what was known of the nodes before
 pub by_entry : (P : (ℕ → ℕ) → (ℕ → ℕ) → Type 0) (opened opens capacity holds : ℕ → ℕ) → ((n : ℕ) → opens n ≡ opened n) → ((n : ℕ) → holds n ≡ capacity n) → P opens holds → P opened capacity

@@ -150,11 +150,11 @@ module _ (K : Shape) (lane : ℕ) (logs shards logs' shards' : ℕ → Sight) (l
     stopped_at : CheckedJournals K m J → (node : ℕ) (f : NodeFault) → BatchStopped K true lane these log shards log' shards' node f → Launches K (IsOwnNext K lane these I J) I J F G
     stopped_at now node f stop n t b txs is = elim (flown_here now n t b txs is (these ∷ []) stop.flown) [
       | inl was ↦ inl (was, was_there now n t b txs is was)
-      | inr new ↦ inr (inside now n t b txs is, new.0, one_piece txs these new.1, (elim stop.begun [
+      | inr new ↦ inr (inside now n t b txs is, (new.0, (one_piece txs these new.1, elim stop.begun [
         | inl same ↦ unbegun K lane logs shards logs' shards' limits home shape shard_shapes elsewhere nodes nodes' log_nodes shard_nodes m checked idle these same
         | inr behind ↦ absurd (behind.3.busy (subst (λ l. (slot log'.seen l).phase ≡ Idle) (sym behind.1) (ap (λ L. (slot L lane).phase) (sym (seen_log K logs' shards' (home_of K lane) home))
             ∙ subst (λ l. (slot (J (home_of K l)) l).phase ≡ Idle) new.0 (idle_there now n t b txs is))))
-      ]))
+      ])))
     ]
 
     pub stopped_launches : (e : LaneFault) → IsBatchStopped K true lane these log shards log' shards' e → Launches K (IsOwnNext K lane these I J) I J F G

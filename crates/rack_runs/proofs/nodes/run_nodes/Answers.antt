@@ -6,6 +6,7 @@ use Rattle.cbdc_model.specs.Waves.{IsResumed, Waves}
 use Rattle.submissions.specs.Checks.{TellsSound}
 use Rattle.ledger_runs.specs.Turning.{OfKept, StaysKept}
 use Rattle.cbdc_model.specs.Lanes.{IsEnd}
+use Rattle.ledger_runs.specs.Flying.{Launches}
 use Rattle.ledger_runs.specs.Faults.{IsRunCause, HaveFailed, MayHold, AllRestSince}
 use Rattle.rack_runs.specs.Endings.{EndsRun, IsCut, IsInOrder}
 use Rattle.rack_runs.proofs.Answering.{came_cause, came_ends, by_entry}
@@ -114,13 +115,9 @@ pub returns-clause-quiet : goal.returns-clause-quiet
 returns-clause-quiet g c =
     let back : c.run_over-over.new.ledger ≡ record { header = c.header.inside.header; logs = c.header.inside.logs.items; shards = c.header.inside.shards.items } = cc in
     let lent : c.lend-lent.result ≡ record { header = c.args.nodes.header; logs = c.args.nodes.logs.items; shards = c.args.nodes.shards.items } = c.lend-lent.ensures in
-    let own = on_ok_by c.run_over-over.result
-    (subst (λ l. OfKept l.header.shape (journals_of g.D.Disk.count g.D.Disk.limit l.header.shape l.logs l.shards)
-    (λ _ _. AreQuiet l.logs l.shards → AreQuiet c.run_over-over.new.ledger.logs c.run_over-over.new.ledger.shards)) lent) c.run_over-over.ensures.quiet in
+    let own = on_ok_by c.run_over-over.result (subst (λ l. AreQuiet l.logs l.shards → AreQuiet c.run_over-over.new.ledger.logs c.run_over-over.new.ledger.shards) lent) c.run_over-over.ensures.quiet in
     on_ok _ c.came_of-came.result c.run_over-over.result c.came_of-came.ensures.whole
-    (on_ok_by c.run_over-over.result
-    (subst (λ l. OfKept c.args.nodes.header.shape (journals_of g.D.Disk.count g.D.Disk.limit c.args.nodes.header.shape c.args.nodes.logs.items c.args.nodes.shards.items)
-    (λ _ _. AreQuiet c.args.nodes.logs.items c.args.nodes.shards.items → AreQuiet l.logs l.shards)) back) own)
+    (on_ok_by c.run_over-over.result (subst (λ l. AreQuiet c.args.nodes.logs.items c.args.nodes.shards.items → AreQuiet l.logs l.shards) back) own)
 
 pub returns-clause-told : goal.returns-clause-told
 returns-clause-told g c =
@@ -191,6 +188,20 @@ returns-clause-flies g c =
     let shape : c.run_over-over.new.ledger.header.shape ≡ c.args.nodes.header.shape = c.run_over-over.ensures.shape ∙ ap (λ l. l.header.shape) lent in
     lent_flights g.D.Disk.count g.D.Disk.limit (λ X G. OfKept c.args.nodes.header.shape (journals_of g.D.Disk.count g.D.Disk.limit c.args.nodes.header.shape c.args.nodes.logs.items c.args.nodes.shards.items) (FliesWith c.args.nodes.header.shape (joined c.args.files.now) (journals_of g.D.Disk.count g.D.Disk.limit c.args.nodes.header.shape c.args.nodes.logs.items c.args.nodes.shards.items) X (flights_of g.D.Disk.count g.D.Disk.limit c.args.nodes.header.shape c.args.nodes.logs.items c.args.nodes.shards.items) G)) c.args.nodes.header.shape c.run_over-over.new.ledger _ back shape
     (subst (λ l. OfKept l.header.shape (journals_of g.D.Disk.count g.D.Disk.limit l.header.shape l.logs l.shards) (FliesWith l.header.shape (joined c.args.files.now) (journals_of g.D.Disk.count g.D.Disk.limit l.header.shape l.logs l.shards) (journals_of g.D.Disk.count g.D.Disk.limit c.run_over-over.new.ledger.header.shape c.run_over-over.new.ledger.logs c.run_over-over.new.ledger.shards) (flights_of g.D.Disk.count g.D.Disk.limit l.header.shape l.logs l.shards) (flights_of g.D.Disk.count g.D.Disk.limit c.run_over-over.new.ledger.header.shape c.run_over-over.new.ledger.logs c.run_over-over.new.ledger.shards))) lent c.run_over-over.ensures.flies)
+
+pub returns-clause-launches : goal.returns-clause-launches
+returns-clause-launches g c =
+    let back : c.run_over-over.new.ledger ≡ record { header = c.header.inside.header; logs = c.header.inside.logs.items; shards = c.header.inside.shards.items } = cc in
+    let lent : c.lend-lent.result ≡ record { header = c.args.nodes.header; logs = c.args.nodes.logs.items; shards = c.args.nodes.shards.items } = c.lend-lent.ensures in
+    let shape : c.run_over-over.new.ledger.header.shape ≡ c.args.nodes.header.shape = c.run_over-over.ensures.shape ∙ ap (λ l. l.header.shape) lent in
+    let K = c.args.nodes.header.shape in
+    let verdicts = g.V.Verifier.verdict_of c.args.verifier.now in
+    let E = journals_of g.D.Disk.count g.D.Disk.limit K c.args.nodes.logs.items c.args.nodes.shards.items in
+    lent_flights g.D.Disk.count g.D.Disk.limit (λ X G. Launches K (IsFilesPiece K verdicts c.args.files.now E X) E X (flights_of g.D.Disk.count g.D.Disk.limit K c.args.nodes.logs.items c.args.nodes.shards.items) G) K c.run_over-over.new.ledger _ back shape
+    (subst (λ l. Launches l.header.shape (IsFilesPiece l.header.shape verdicts c.args.files.now (journals_of g.D.Disk.count g.D.Disk.limit l.header.shape l.logs l.shards)
+    (journals_of g.D.Disk.count g.D.Disk.limit c.run_over-over.new.ledger.header.shape c.run_over-over.new.ledger.logs c.run_over-over.new.ledger.shards)) (journals_of g.D.Disk.count g.D.Disk.limit l.header.shape l.logs l.shards)
+    (journals_of g.D.Disk.count g.D.Disk.limit c.run_over-over.new.ledger.header.shape c.run_over-over.new.ledger.logs c.run_over-over.new.ledger.shards) (flights_of g.D.Disk.count g.D.Disk.limit l.header.shape l.logs l.shards)
+    (flights_of g.D.Disk.count g.D.Disk.limit c.run_over-over.new.ledger.header.shape c.run_over-over.new.ledger.logs c.run_over-over.new.ledger.shards)) lent c.run_over-over.ensures.launches)
 
 pub returns-clause-begun : goal.returns-clause-begun
 returns-clause-begun g c =
