@@ -56,8 +56,8 @@ answered K genesis next E X failed holds wants e h = go e.fault h
   where
     go : (kind : LaneFaultKind) → IsSomeCauseOf K next E X failed holds e.node kind → IsLaneAnswer K genesis next E X failed holds (answer_at e.node kind)
     go DiskStopped h = h
-    go (NoRoom used need capacity) (lane, lt, no) = (lane, lt, no, (wants lane e.node no.front no.wanted lt no.since no.within no.still no.is_wanted).1 no.early)
-    go (NoStamp stamp) (lane, lt, no) = (lane, lt, no, (wants lane e.node no.front no.wanted lt no.since no.within no.still no.is_wanted).0)
+    go (NoRoom used need capacity) (lane, lt, h) = (lane, lt, h, (wants lane e.node h.front h.wanted lt h.since h.within h.still h.is_wanted).1 h.early)
+    go (NoStamp stamp) (lane, lt, h) = (lane, lt, h, (wants lane e.node h.front h.wanted lt h.since h.within h.still h.is_wanted).0)
     go NoMemory h = tt
 
 pub came_cause : (K : Shape) (genesis : Digest) (next : ℕ → List Compact → Type 0) (E X : ℕ → List Record) (failed : ℕ → Type 0) (holds : ℕ → ℕ → Type 0) (came : Result Ran Answer) (over : Result Over LaneFault) → WantsNext K genesis next E X

@@ -118,7 +118,7 @@ number_low h (r ∷ (q ∷ past)) low j lane = number_next h (q ∷ past) r (λ 
 abbrev pub FitsBatch : Shape → List Compact → Type 0
 FitsBatch K txs = HasSize K txs × All IsCompact txs
 
-EachFits : Shape → List (List Compact) → Type 0
+abbrev EachFits : Shape → List (List Compact) → Type 0
 EachFits K [] = Unit {0}
 EachFits K (p ∷ ps) = FitsBatch K p × EachFits K ps
 
