@@ -208,7 +208,8 @@ pub fn process<W: Wait, I: Inbox, R: Rack, O: Sink, G: Gate>(
     // And why not: a file that is not read, a ledger that can't be made or opened, a record that is not caused, a fault of a lane of a ledger in
     // which each is, with its cause and what it leaves, or the first place at which an audit finds something wrong, and what it is; of a
     // workload only where two of its outputs share a hash, or two transactions an id. Where there was no room, the record that found none
-    // may come next at its node; where there was no stamp, but for that. What a lane's fault leaves lies within the disks' capacities.
+    // may come next at its node; where there was no stamp, but for that. What a lane's fault leaves lies within the disks' capacities; a
+    // Prepare that it may have left on a disk or not is that of its lane's next piece.
     ensures why { IsTold (λ a. (r : Asked) × IsAsked (texts words.now) r × Why (I.file inbox.old) (I.count inbox.old) (I.count inbox.new) R.Disk.content R.Disk.images R.Disk.limit R.Disk.count (R.held rack) (R.held result.rack) (R.count rack) (R.count result.rack) r a) result.status }
 
     // Where words are bad, a file is not read or a mint is too much, the rack is as it was.
