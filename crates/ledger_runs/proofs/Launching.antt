@@ -1,13 +1,13 @@
 -- Prepares in flight are those of next pieces, turn after turn.
-use Rattle.std.proofs.Common.{◌≡◌, ◌≢◌, ◌⊎◌, ◌==◌, inl, inr, true, false, ℕ, ◌+◌, ◌<◌, List, [], length, take, drop, Option, Some, None, refl, sym, ap, ◌∙◌, subst, arith}
+use Rattle.std.proofs.Common.{◌≡◌, ◌≢◌, ◌⊎◌, ◌==◌, inl, inr, true, false, ℕ, ◌<◌, List, [], length, take, drop, Option, Some, None, refl, sym, ◌∙◌, subst, arith}
 use Rattle.std.specs.Prelude.{slice_get}
 use Rattle.std.proofs.lemmas.Bool.Decides.{eqb_tells}
-use Rattle.cbdc_model.specs.Records.{Shape, Batch, Compact, Record, Prepare}
+use Rattle.cbdc_model.specs.Records.{Shape, Compact, Record, Prepare}
 use Rattle.cbdc_model.specs.Ranges.{home_of}
 use Rattle.run_laws.specs.WaveSteps.{LaneTook}
 use Rattle.ledger_runs.specs.Turning.{IsLaneOf}
-use Rattle.ledger_runs.specs.Waving.{NoFault, TurnsAt, taken_by}
-use Rattle.ledger_runs.specs.Pieces.{HasPrepared, IsUnprepared, IsNextPiece, IsNextFrom, HaveTaken}
+use Rattle.ledger_runs.specs.Waving.{TurnsAt, taken_by}
+use Rattle.ledger_runs.specs.Pieces.{HasPrepared, IsNextPiece, HaveTaken}
 use Rattle.ledger_runs.specs.Faults.{Nothing}
 use Rattle.ledger_runs.specs.Flying.{Launches, IsOwnNext, IsTurnNext, AreNextPieces}
 use Rattle.ledger_runs.specs.declared.lanes.Lane.{Lane}

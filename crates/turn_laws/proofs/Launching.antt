@@ -1,5 +1,5 @@
 -- A Prepare that is in flight behind a turn was so before, or is that of the turn's batch, of which the lane has prepared nothing.
-use Rattle.std.proofs.Common.{◌≡◌, ◌≢◌, ◌⊎◌, ◌==◌, inl, inr, ℕ, zero, suc, ◌*◌, ◌/◌, ◌<◌, true, false, List, [], ◌∷◌, Option, Some, refl, sym, ap, ◌∙◌, subst, slice_index_or, arith, Contains}
+use Rattle.std.proofs.Common.{◌≡◌, ◌≢◌, ◌⊎◌, ◌==◌, inl, inr, ℕ, zero, suc, ◌*◌, ◌/◌, ◌<◌, true, false, List, [], ◌∷◌, Option, Some, sym, ap, ◌∙◌, subst, slice_index_or, arith, Contains}
 use Rattle.std.proofs.lemmas.Nat.{div_below}
 use Rattle.std.proofs.lemmas.Bool.Decides.{eqb_tells}
 use Rattle.cbdc_types.specs.Limits.{IsWithinLimits}
@@ -27,13 +27,13 @@ use Rattle.run_laws.specs.Turns.{Elsewhere}
 use Rattle.run_laws.specs.Flights.{flying}
 use Rattle.run_laws.proofs.Seen.{seen_log}
 use Rattle.ledger_runs.specs.Turning.{IsLaneOf}
-use Rattle.ledger_runs.specs.Pieces.{HasPrepared, IsUnprepared}
+use Rattle.ledger_runs.specs.Pieces.{HasPrepared}
 use Rattle.ledger_runs.specs.Faults.{Nothing}
 use Rattle.ledger_runs.specs.Flying.{Launches, IsOwnNext}
 use Rattle.turn_laws.specs.Nodes.{AreNodes, AreNext, SameFlights}
 use Rattle.turn_laws.proofs.OpenThere.{told_lane}
 use Rattle.turn_laws.proofs.Turned.{same_flights}
-use Rattle.turn_laws.proofs.Checking.{IsCheckedTurn, settled, unbegun, still, batch_checked, stopped_checked, taken_checked, left_checked}
+use Rattle.turn_laws.proofs.Checking.{settled, unbegun, still, batch_checked, stopped_checked, taken_checked, left_checked}
 use Rattle.turn_laws.proofs.Flying.{log_flight, after_here, still_here, none_new, none_done}
 
 home_inside : (lane coordinators lanes : ℕ) → lane < coordinators * lanes → lane / lanes < coordinators
@@ -150,11 +150,20 @@ module _ (K : Shape) (lane : ℕ) (logs shards logs' shards' : ℕ → Sight) (l
     stopped_at : CheckedJournals K m J → (node : ℕ) (f : NodeFault) → BatchStopped K true lane these log shards log' shards' node f → Launches K (IsOwnNext K lane these I J) I J F G
     stopped_at now node f stop n t b txs is = elim (flown_here now n t b txs is (these ∷ []) stop.flown) [
       | inl was ↦ inl (was, was_there now n t b txs is was)
-      | inr new ↦ inr (inside now n t b txs is, (new.0, (one_piece txs these new.1, elim stop.begun [
-        | inl same ↦ unbegun K lane logs shards logs' shards' limits home shape shard_shapes elsewhere nodes nodes' log_nodes shard_nodes m checked idle these same
-        | inr behind ↦ absurd (behind.3.busy (subst (λ l. (slot log'.seen l).phase ≡ Idle) (sym behind.1) (ap (λ L. (slot L lane).phase) (sym (seen_log K logs' shards' (home_of K lane) home))
-            ∙ subst (λ l. (slot (J (home_of K l)) l).phase ≡ Idle) new.0 (idle_there now n t b txs is))))
-      ])))
+      | inr new ↦ inr (
+        inside now n t b txs is,
+        (
+          new.0,
+          (
+            one_piece txs these new.1,
+            elim stop.begun [
+              | inl same ↦ unbegun K lane logs shards logs' shards' limits home shape shard_shapes elsewhere nodes nodes' log_nodes shard_nodes m checked idle these same
+              | inr behind ↦ absurd (behind.3.busy (subst (λ l. (slot log'.seen l).phase ≡ Idle) (sym behind.1) (ap (λ L. (slot L lane).phase) (sym (seen_log K logs' shards' (home_of K lane) home))
+                  ∙ subst (λ l. (slot (J (home_of K l)) l).phase ≡ Idle) new.0 (idle_there now n t b txs is))))
+            ],
+          ),
+        ),
+      )
     ]
 
     pub stopped_launches : (e : LaneFault) → IsBatchStopped K true lane these log shards log' shards' e → Launches K (IsOwnNext K lane these I J) I J F G

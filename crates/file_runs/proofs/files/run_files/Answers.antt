@@ -1,4 +1,4 @@
-use Rattle.std.proofs.Common.{inl, ◌≡◌, ◌∙◌, refl, sym, ap, subst, arith, get_or, take, [], ◌+◌}
+use Rattle.std.proofs.Common.{inl, ◌≡◌, ◌∙◌, refl, sym, ap, subst, arith, get_or, [], ◌+◌}
 use Rattle.file_runs.proofs.Joining.{files_begin, files_step, files_end, keeps_none, keeps_fault}
 use Rattle.file_runs.proofs.Cutting.{cut_none, cut_behind, cut_at}
 use Rattle.file_runs.proofs.FileTelling.{told_files, told_all}

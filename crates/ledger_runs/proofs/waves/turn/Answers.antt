@@ -3,7 +3,7 @@ use Rattle.ledger_runs.proofs.WaveTelling.{tells_turn}
 use Rattle.ledger_runs.proofs.Keeping.{of_ok}
 use Rattle.ledger_runs.proofs.WaveKeeping.{by_piece, took_of}
 use Rattle.ledger_runs.proofs.Flying.{flies_piece}
-use Rattle.ledger_runs.proofs.Launching.{launches_begin, launches_piece}
+use Rattle.ledger_runs.proofs.Launching.{launches_piece}
 use Rattle.ledger_runs.specs.Faults.{HaveFailed, MayHold}
 use Rattle.ledger_runs.proofs.Faulting.{turn_cause, none_by}
 use Rattle.ledger_runs.proofs.Preparing.{turn_prepared, turn_tried}
