@@ -30,8 +30,8 @@ pub record IsGrown (K : Shape) (mint : List Output) (submissions : List FullTx) 
   pub grows : (n : ℕ) → IsEnd (E n) (X n)
   pub kept : KeptJournals K mint submissions X
 
--- a run: the open batches are brought to their end, lane by lane in rising order, one file's wave after another follows, each disk holds its journal and no record more
--- and has room for it and for what is kept, and the sentence holds of the journals
+-- a run: the open batches are brought to their end, lane by lane in rising order, one file's wave after another follows, each disk holds its journal and
+-- no record more and has room for it and for what is kept, and the sentence holds of the journals
 pub record IsRun {D : Type 0} (images : D → List ℕ → Type 0) (limit : D → ℕ) (held : ℕ → Option D) (verdicts : VerdictsOf) (files : List (List FullTx)) (K : Shape) (mint : List Output) (submissions : List FullTx) (E : ℕ → List Record) : Type 0 where
   pub exit : ℕ → List Record
   pub grown : IsGrown K mint (submissions ++ joined files) E exit
@@ -42,8 +42,8 @@ pub record IsRun {D : Type 0} (images : D → List ℕ → Type 0) (limit : D �
   pub in_order : IsInOrder K E exit
   pub headline : Clean mint (submissions ++ joined files) → Headline K mint (submissions ++ joined files) exit
 
--- a recovery: the open batches are brought to their end, lane by lane in rising order, nothing else is done, each disk holds its journal and no record more and
--- has room for it and for what is kept, and the sentence holds of the journals
+-- a recovery: the open batches are brought to their end, lane by lane in rising order, nothing else is done, each disk holds its journal and no record
+-- more and has room for it and for what is kept, and the sentence holds of the journals
 pub record IsRecovered {D : Type 0} (images : D → List ℕ → Type 0) (limit : D → ℕ) (held : ℕ → Option D) (K : Shape) (mint : List Output) (submissions : List FullTx) (E : ℕ → List Record) : Type 0 where
   pub exit : ℕ → List Record
   pub grown : IsGrown K mint submissions E exit
@@ -88,11 +88,12 @@ abbrev pub KeepsFlights : {D : Type 0} → (D → List ℕ → Type 0) → (ℕ 
 KeepsFlights images held K X flights = (n : ℕ) → n < node_count K → OfTold (held n) (λ d. (c : List ℕ) → images d c → OpensToEither (reverse (X n)) (flights n) c)
 
 -- a lane's fault ended a run over the ledger that the disks told, in which each record was caused: its journals have grown at their ends, as a run that
--- began so far grows them; a record is in flight only at a node whose disk has failed since, a Prepare only of transactions that are next for its lane, and where the disks told all each keeps its journal, with
--- what is in flight there or without; the answer has its cause, by the counts of
--- faults before and now and by what the disks that were told may hold; it is the least lane's that met one; each lane is between
--- batches, or its batch lacks a Lock, or the disk of a node that it asks has failed, or it waits where it was, for want of memory: nothing of it was written, or its batch was prepared and is so still; each disk of the ledger
--- had room for its journal and for what is kept for the batches that were open there, and has room so for its journal at exit; where the ledger was kept it is cut short, and the disks that are no nodes of it are as before
+-- began so far grows them; a record is in flight only at a node whose disk has failed since, a Prepare only of transactions that are next for its lane,
+-- and where the disks told all each keeps its journal, with what is in flight there or without; the answer has its cause, by the counts of faults before
+-- and now and by what the disks that were told may hold; it is the least lane's that met one; each lane is between batches, or its batch lacks a Lock,
+-- or the disk of a node that it asks has failed, or it waits where it was, for want of memory: nothing of it was written, or its batch was prepared and
+-- is so still; each disk of the ledger had room for its journal and for what is kept for the batches that were open there, and has room so for its
+-- journal at exit; where the ledger was kept it is cut short, and the disks that are no nodes of it are as before
 pub record IsLaneFault {D : Type 0} (content : D → Option (List ℕ)) (images : D → List ℕ → Type 0) (limit : D → ℕ) (held back : ℕ → Option D) (before now : ℕ → ℕ) (next : Shape → (ℕ → List Record) → (ℕ → List Record) → ℕ → List Compact → Type 0)
     (ends : Shape → (ℕ → List Record) → (ℕ → List Record) → (ℕ → Type 0) → (ℕ → ℕ → Type 0) → LaneFault → Type 0) (begun : Shape → (ℕ → List Record) → (ℕ → List Record) → Type 0) (files : List (List FullTx)) (answer : Answer) : Type 0 where
   pub ledger : IsCausedLedger content held
