@@ -30,8 +30,8 @@ pub record IsGrown (K : Shape) (mint : List Output) (submissions : List FullTx) 
   pub grows : (n : ℕ) → IsEnd (E n) (X n)
   pub kept : KeptJournals K mint submissions X
 
--- a run: the open batches are brought to their end, lane by lane in rising order, one file's wave after another follows, each disk holds its journal and
--- no record more and has room for it and for what is kept, and the sentence holds of the journals
+-- a run: the open batches are brought to their end, lane by lane in rising order, one file's wave after another follows, each disk holds its journal and no record more
+-- and has room for it and for what is kept, and the sentence holds of the journals
 pub record IsRun {D : Type 0} (images : D → List ℕ → Type 0) (limit : D → ℕ) (held : ℕ → Option D) (verdicts : VerdictsOf) (files : List (List FullTx)) (K : Shape) (mint : List Output) (submissions : List FullTx) (E : ℕ → List Record) : Type 0 where
   pub exit : ℕ → List Record
   pub grown : IsGrown K mint (submissions ++ joined files) E exit
@@ -42,8 +42,8 @@ pub record IsRun {D : Type 0} (images : D → List ℕ → Type 0) (limit : D �
   pub in_order : IsInOrder K E exit
   pub headline : Clean mint (submissions ++ joined files) → Headline K mint (submissions ++ joined files) exit
 
--- a recovery: the open batches are brought to their end, lane by lane in rising order, nothing else is done, each disk holds its journal and no record
--- more and has room for it and for what is kept, and the sentence holds of the journals
+-- a recovery: the open batches are brought to their end, lane by lane in rising order, nothing else is done, each disk holds its journal and no record more and
+-- has room for it and for what is kept, and the sentence holds of the journals
 pub record IsRecovered {D : Type 0} (images : D → List ℕ → Type 0) (limit : D → ℕ) (held : ℕ → Option D) (K : Shape) (mint : List Output) (submissions : List FullTx) (E : ℕ → List Record) : Type 0 where
   pub exit : ℕ → List Record
   pub grown : IsGrown K mint submissions E exit
