@@ -193,6 +193,8 @@ pub fn process<W: Wait, I: Inbox, R: Rack, O: Sink, G: Gate>(
     // batches were brought to their end, hashes were looked up, or its journals were audited and are sound. What was run over or brought to
     // an end was a ledger that the disks told, each record of which was caused by what stood before it. Whatever a crash leaves of a
     // disk then opens to exactly its node's journal, and where no two outputs share a hash, the headline holds of the journals at exit. The
+    // journals of that ledger, kept or not, have grown at their ends, and its disks have room for them and for what is kept for the
+    // batches open there. The
     // lines of each command are those of the mint and of the journals (of `run` and `recover` at that exit too; of `gen` those of a run of its workload in
     // memory and of the audit behind it), or at WriteFault a front. Each sound submission of a run has its one place in one new Prepare, and
     // nothing else has one; its line confirms it exactly where every shard held it, and always where its inputs are unspent when its
@@ -206,7 +208,9 @@ pub fn process<W: Wait, I: Inbox, R: Rack, O: Sink, G: Gate>(
 
     // And why not: a file that is not read, a ledger that can't be made or opened, a record that is not caused, a fault of a lane of a ledger in
     // which each is, with its cause and what it leaves, or the first place at which an audit finds something wrong, and what it is; of a
-    // workload only where two of its outputs share a hash, or two transactions an id.
+    // workload only where two of its outputs share a hash, or two transactions an id. Where there was no room, the record that found none
+    // may come next at its node; where there was no stamp, but for that. What a lane's fault leaves lies within the disks' capacities; a
+    // Prepare that it may have left on a disk or not is that of its lane's next piece.
     ensures why { IsTold (λ a. (r : Asked) × IsAsked (texts words.now) r × Why (I.file inbox.old) (I.count inbox.old) (I.count inbox.new) R.Disk.content R.Disk.images R.Disk.limit R.Disk.count (R.held rack) (R.held result.rack) (R.count rack) (R.count result.rack) r a) result.status }
 
     // Where words are bad, a file is not read or a mint is too much, the rack is as it was.

@@ -63,12 +63,6 @@ keeps_fault K H files i file I J L e low is one two =
     (keeps_all K (take i files ++ file ∷ []) (drop (i + 1) files) I L
     (keeps_on K (take i files) file I J L one (subst (λ k. OfKept k J (λ mint submissions. StaysKept k J L mint (submissions ++ file))) e two)))
 
--- what the files so far left as it was, and one more
-pub same_file : (K H : Shape) (done : List (List FullTx)) (I J : ℕ → List Record) (P Q R : Type 0) → H ≡ K → KeepsFiles K done I J
-    → OfKept K I (λ _ _. P → Q) → OfKept H J (λ _ _. Q → R) → OfKept K I (λ _ _. P → R)
-same_file K H done I J P Q R e keeps one two mint submissions kept was =
-    subst (λ k. OfKept k J (λ _ _. Q → R)) e two mint (submissions ++ joined done) (keeps mint submissions kept).kept (one mint submissions kept was)
-
 -- nothing was done of any file
 pub keeps_none : (K : Shape) (files : List (List FullTx)) (I : ℕ → List Record) → KeepsFiles K files I I
 keeps_none K files I = stays_more K I (joined files)

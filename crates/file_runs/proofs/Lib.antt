@@ -6,3 +6,4 @@ pub mod Causing
 pub mod Flying
 pub mod Ending
 pub mod Cutting
+pub mod Launching

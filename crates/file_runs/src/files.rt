@@ -8,6 +8,7 @@ ghost use Rattle.cbdc_model.specs.Waves.{IsResumed, Waves};
 ghost use Rattle.input_files.specs.Limits.{IsShort};
 ghost use Rattle.submissions.specs.Checks.{TellsSound};
 ghost use Rattle.ledger_runs.specs.Turning.{OfKept, StaysKept};
+ghost use Rattle.ledger_runs.specs.Flying.{Launches};
 ghost use Rattle.ledger_runs.specs.Faults.{IsRunCause, HaveFailed, MayHold, AllRest};
 ghost use Rattle.file_runs.specs.Runs.{joined, IsFilesPiece, FliesWith, HaveBegunFiles};
 ghost use Rattle.file_runs.specs.Endings.{EndsFiles, AreCut};
@@ -50,9 +51,12 @@ pub fn run_files<L: Turns, V: Verifier, G: Gate>(
     ensures cut { OfKept (L.shape ledger.old) (L.journals ledger.old) (λ mint _. (sound : TxOf → Bool) (E : ℕ → List Record)
         → TellsSound (V.verdict_of verifier.now) sound → IsResumed (L.shape ledger.old) E (L.journals ledger.old) → AreCut (L.shape ledger.old) sound files.now mint E (L.journals ledger.new)) }
 
-    ensures quiet { OnOk result (OfKept (L.shape ledger.old) (L.journals ledger.old) (λ _ _. L.quiet ledger.old → L.quiet ledger.new)) }
+    ensures quiet { OnOk result (L.quiet ledger.old → L.quiet ledger.new) }
     // What is in flight may come next at its node, as before.
     ensures flies { OfKept (L.shape ledger.old) (L.journals ledger.old) (FliesWith (L.shape ledger.old) (joined files.now) (L.journals ledger.old) (L.journals ledger.new) (L.flights ledger.old) (L.flights ledger.new)) }
+
+    // A Prepare that is in flight was so before, or is that of the next piece of what the files send to its lane.
+    ensures launches { Launches (L.shape ledger.old) (IsFilesPiece (L.shape ledger.old) (V.verdict_of verifier.now) files.now (L.journals ledger.old) (L.journals ledger.new)) (L.journals ledger.old) (L.journals ledger.new) (L.flights ledger.old) (L.flights ledger.new) }
 
     ensures holds { L.holds ledger.old → L.holds ledger.new }
     ensures later { (n : ℕ) → L.faults ledger.old n ≤ L.faults ledger.new n }

@@ -7,6 +7,7 @@ ghost use Rattle.cbdc_model.specs.Waves.{IsFileRun, sent_to};
 ghost use Rattle.input_files.specs.Limits.{IsShort};
 ghost use Rattle.submissions.specs.Checks.{TellsSound, AreChecked};
 ghost use Rattle.ledger_runs.specs.Turning.{OfKept, StaysKept};
+ghost use Rattle.ledger_runs.specs.Flying.{Launches};
 ghost use Rattle.ledger_runs.specs.Faults.{IsRunCause, HaveFailed, MayHold, AllRest};
 ghost use Rattle.file_runs.specs.Runs.{AreLanesOf, HavePreparedFile, IsSentPiece, FliesWith, HaveBegunFile};
 ghost use Rattle.file_runs.specs.Endings.{EndsFile};
@@ -60,7 +61,7 @@ pub fn run_file<L: Turns, V: Verifier, G: Gate>(
     // Without a fault each lane took what the sound submissions send it, in order, and nothing else was done.
     ensures runs { OnOk result (OfKept (L.shape ledger.old) (L.journals ledger.old) (λ _ _. (sound : TxOf → Bool) → TellsSound (V.verdict_of verifier.now) sound
         → IsFileRun (L.shape ledger.old) (sent_to (L.shape ledger.old) sound txs.now) (L.journals ledger.old) (L.journals ledger.new))) }
-    ensures quiet { OnOk result (OfKept (L.shape ledger.old) (L.journals ledger.old) (λ _ _. L.quiet ledger.old → L.quiet ledger.new)) }
+    ensures quiet { OnOk result (L.quiet ledger.old → L.quiet ledger.new) }
     ensures checked { IfOk result (λ w. AreChecked (L.shape ledger.old) (V.verdict_of verifier.now) txs.now w.checked.items) }
 
     // And what was decided of each that was sent to its lane.
@@ -68,6 +69,9 @@ pub fn run_file<L: Turns, V: Verifier, G: Gate>(
 
     // What is in flight may come next at its node, as before.
     ensures flies { OfKept (L.shape ledger.old) (L.journals ledger.old) (FliesWith (L.shape ledger.old) txs.now (L.journals ledger.old) (L.journals ledger.new) (L.flights ledger.old) (L.flights ledger.new)) }
+
+    // A Prepare that is in flight was so before, or is that of the next piece of what the file sends to its lane.
+    ensures launches { Launches (L.shape ledger.old) (IsSentPiece (L.shape ledger.old) (V.verdict_of verifier.now) txs.now (L.journals ledger.old) (L.journals ledger.new)) (L.journals ledger.old) (L.journals ledger.new) (L.flights ledger.old) (L.flights ledger.new) }
 
     ensures holds { L.holds ledger.old → L.holds ledger.new }
     ensures later { (n : ℕ) → L.faults ledger.old n ≤ L.faults ledger.new n }

@@ -28,11 +28,12 @@ use Rattle.run_laws.proofs.OpenLanes.{checked_resume_law}
 use Rattle.turn_laws.proofs.OpenThere.{is_idle, unfinished}
 use Rattle.turn_laws.specs.Nodes.{SameFlights}
 use Rattle.turn_laws.proofs.Checking.{IsCheckedTurn, batch_checked, batch_prepared, stopped_checked, stopped_cause, stopped_tried, taken_checked, taken_unprepared, left_checked, left_unprepared, left_cause}
-use Rattle.turn_laws.proofs.Turned.{batch_keeps, batch_same, stopped_keeps, batch_does, resume_keeps, resume_same, left_keeps, resume_took}
+use Rattle.turn_laws.proofs.Turned.{batch_keeps, stopped_keeps, batch_does, resume_keeps, left_keeps, resume_took}
 use Rattle.turn_laws.proofs.Flying.{batch_flies, stopped_flies, resume_flies, left_flies}
-use Rattle.ledger_runs.specs.Flying.{FliesOn, FliesOnBy}
+use Rattle.turn_laws.proofs.Launching.{batch_same, batch_launches, stopped_launches, resume_same, resume_launches, left_launches}
+use Rattle.ledger_runs.specs.Flying.{FliesOn, FliesOnBy, Launches, IsOwnNext}
 use Rattle.ledger_runs.specs.Pieces.{HasPrepared, HasPreparedAtMost, IsUnprepared}
-use Rattle.ledger_runs.specs.Faults.{IsLaneCause, IsOpenCause, HaveFailed, MayHold}
+use Rattle.ledger_runs.specs.Faults.{IsLaneCause, IsOpenCause, HaveFailed, MayHold, Nothing}
 use Rattle.ledger_nodes.specs.Ledgers.{IsLedger, journals_of, flights_of, faults_of, opened_of, capacity_of, AreChecked, AreQuiet}
 use Rattle.ledger_nodes.specs.Steps.{IsStep}
 use Rattle.ledger_nodes.proofs.Steps.{home_inside, are_nodes, are_shards, is_lane, log_is, same_flight}
@@ -203,10 +204,14 @@ module _ {D : Type 0} (count limit : D → ℕ) (content : D → Option (List �
       came_prepared reports done c =
           batch_prepared K lane L S L' S' ledger.limits home shape shard_shapes step.elsewhere (are_nodes count limit h logs shards ledger) (are_nodes count limit h logs' shards' step.ledger) step.log_nodes step.shard_nodes c.0 c.1 idle_there txs reports done
 
-      pub came_quiet : (reports : List BatchReport) → IsOneBatch K true lane txs (L (home_of K lane)) S (L' (home_of K lane)) S' reports → OfKept K I (λ _ _. AreQuiet logs shards → AreQuiet logs' shards')
-      came_quiet reports done mint submissions kept =
-          quiet_on (batch_same K lane L S L' S' some home shape step.elsewhere (are_nodes count limit h logs shards ledger) (are_nodes count limit h logs' shards' step.ledger) step.log_nodes step.shard_nodes idle_there txs reports done
-          mint submissions kept)
+      pub came_quiet : (reports : List BatchReport) → IsOneBatch K true lane txs (L (home_of K lane)) S (L' (home_of K lane)) S' reports → AreChecked count limit K logs shards → AreQuiet logs shards → AreQuiet logs' shards'
+      came_quiet reports done c = quiet_on (batch_same K lane L S L' S' ledger.limits home shape shard_shapes step.elsewhere (are_nodes count limit h logs shards ledger) (are_nodes count limit h logs' shards' step.ledger) step.log_nodes step.shard_nodes step.next c.0 c.1 idle_there txs reports done)
+
+      -- a Prepare that is in flight was so before, or is that of these transactions
+      pub came_launches : (came : Result LaneReport LaneFault) → IfOk came (λ r. IsOneBatch K true lane txs (L (home_of K lane)) S (L' (home_of K lane)) S' r.batches)
+          → IfErr came (IsBatchStopped K true lane txs (L (home_of K lane)) S (L' (home_of K lane)) S') → AreChecked count limit K logs shards → Launches K (IsOwnNext K lane txs I J) I J (flights_of count limit K logs shards) (flights_of count limit K logs' shards')
+      came_launches (Ok r) done stop c = batch_launches K lane L S L' S' ledger.limits home shape shard_shapes step.elsewhere (are_nodes count limit h logs shards ledger) (are_nodes count limit h logs' shards' step.ledger) step.log_nodes step.shard_nodes step.next c.0 c.1 idle_there txs r.batches done
+      came_launches (Err e) done stop c = stopped_launches K lane L S L' S' ledger.limits home shape shard_shapes step.elsewhere (are_nodes count limit h logs shards ledger) (are_nodes count limit h logs' shards' step.ledger) step.log_nodes step.shard_nodes step.next c.0 c.1 idle_there txs e stop
 
       pub came_does : (reports : List BatchReport) (report : BatchReport) → reports ≡ report ∷ [] → IsOneBatch K true lane txs (L (home_of K lane)) S (L' (home_of K lane)) S' reports
           → AreReports lane reports (txs ∷ []) → OfKept K I (λ _ _. DidBatch K lane txs I J report)
@@ -256,10 +261,13 @@ module _ {D : Type 0} (count limit : D → ℕ) (content : D → Option (List �
       resumed_cause e stop c =
           left_cause K lane L S L' S' ledger.limits home shape shard_shapes step.elsewhere (are_nodes count limit h logs shards ledger) (are_nodes count limit h logs' shards' step.ledger) step.log_nodes step.shard_nodes c.0 c.1 o told e stop
 
-      pub resumed_quiet : (IsUnfinished o.phase K o (L (home_of K lane)) S → IsTakenUp K true o.batch (L (home_of K lane)) S (L' (home_of K lane)) S') → OfKept K I (λ _ _. AreQuiet logs shards → AreQuiet logs' shards')
-      resumed_quiet taken mint submissions kept =
-          quiet_on (resume_same K lane L S L' S' some home shape step.elsewhere (are_nodes count limit h logs shards ledger) (are_nodes count limit h logs' shards' step.ledger) step.log_nodes step.shard_nodes o told taken
-          mint submissions kept)
+      pub resumed_quiet : (IsUnfinished o.phase K o (L (home_of K lane)) S → IsTakenUp K true o.batch (L (home_of K lane)) S (L' (home_of K lane)) S') → AreChecked count limit K logs shards → AreQuiet logs shards → AreQuiet logs' shards'
+      resumed_quiet taken c = quiet_on (resume_same K lane L S L' S' ledger.limits home shape shard_shapes step.elsewhere (are_nodes count limit h logs shards ledger) (are_nodes count limit h logs' shards' step.ledger) step.log_nodes step.shard_nodes step.next c.0 c.1 o told taken)
+
+      pub resumed_launches : (came : Result ResumedBatch LaneFault) → OnOk came (IsUnfinished o.phase K o (L (home_of K lane)) S → IsTakenUp K true o.batch (L (home_of K lane)) S (L' (home_of K lane)) S')
+          → IfErr came (IsResumeStopped K true o (L (home_of K lane)) S (L' (home_of K lane)) S') → AreChecked count limit K logs shards → Launches K (λ _. Nothing) I J (flights_of count limit K logs shards) (flights_of count limit K logs' shards')
+      resumed_launches (Ok r) taken stop c = resume_launches K lane L S L' S' ledger.limits home shape shard_shapes step.elsewhere (are_nodes count limit h logs shards ledger) (are_nodes count limit h logs' shards' step.ledger) step.log_nodes step.shard_nodes step.next c.0 c.1 o told taken
+      resumed_launches (Err e) taken stop c = left_launches K lane L S L' S' ledger.limits home shape shard_shapes step.elsewhere (are_nodes count limit h logs shards ledger) (are_nodes count limit h logs' shards' step.ledger) step.log_nodes step.shard_nodes step.next c.0 c.1 o told e stop
 
       pub resumed_took : (r : ResumedBatch) → IsResumed o r → (IsUnfinished o.phase K o (L (home_of K lane)) S → IsTakenUp K true o.batch (L (home_of K lane)) S (L' (home_of K lane)) S')
           → (IsUnfinished o.phase K o (L (home_of K lane)) S → HasItsOutcomes o.phase o (L' (home_of K lane)).seen r) → OfKept K I (λ _ _. TookUp K lane I J (Some r))

@@ -38,12 +38,6 @@ resumes_on step skip K lane E J L None so (idle, same) =
 pub stays_next : (K H : Shape) (I J L : ℕ → List Record) → H ≡ K → OfKept K I (StaysKept K I J) → OfKept H J (StaysKept H J L) → OfKept K I (StaysKept K I L)
 stays_next K H I J L e one two = stays_on K I J L one (subst (λ k. OfKept k J (StaysKept k J L)) e two)
 
--- what one turn leaves as it was, and the next one too
-pub same_next : (K H : Shape) (I J : ℕ → List Record) (P Q R : Type 0) → H ≡ K → OfKept K I (StaysKept K I J)
-    → OfKept K I (λ _ _. P → Q) → OfKept H J (λ _ _. Q → R) → OfKept K I (λ _ _. P → R)
-same_next K H I J P Q R e keeps one two mint submissions kept so =
-    subst (λ k. OfKept k J (λ _ _. Q → R)) e two mint submissions (keeps mint submissions kept).kept (one mint submissions kept so)
-
 -- what holds where it is whole holds of it
 pub of_ok : {A E : Type 0} (r : Result A E) (X : Type 0) → IsOk r → OnOk r X → X
 of_ok (Ok a) X ok so = so

@@ -10,3 +10,4 @@ pub mod Faulting
 pub mod Least
 pub mod Flying
 pub mod Onward
+pub mod Launching

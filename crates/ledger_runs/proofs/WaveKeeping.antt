@@ -203,6 +203,12 @@ same_turn K H start turn I J before now next P Q R same inside so turned one two
     subst (λ k. OfKept k J (λ _ _. Q → R)) same (two after.0 after.1 (none turn after.0 after.1)) mint submissions mid.kept
     (one sent have (none_before turn now next inside turned none) mint submissions kept proper was)
 
+-- the same of any journals
+pub quiet_turn : (turn : ℕ) (now next : List Lane) (P Q R : Type 0) → turn < length now → TurnsAt turn now next → (NoFault now → P → Q) → ((y : Lane) → slice_get next turn ≡ Some y → y.fault ≡ None → Q → R) → NoFault next → P → R
+quiet_turn turn now next P Q R inside turned one two none was =
+    let after : (y : Lane) × (slice_get next turn ≡ Some y) = at_place next turn (omega (arith, turned.count, inside)) in
+    two after.0 after.1 (none turn after.0 after.1) (one (none_before turn now next inside turned none) was)
+
 -- when all lanes have had their turns
 pub turns_end : (K : Shape) (start turn : ℕ) (I J : ℕ → List Record) (before now : List Lane) → K.coordinators * K.lanes ≤ turn → TurnsSo K start turn I J before now
     → (sent : ℕ → List Compact) → HaveSent sent before → NoFault now

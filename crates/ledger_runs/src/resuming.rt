@@ -7,7 +7,7 @@ ghost use Rattle.cbdc_model.specs.World.{AreIdle};
 ghost use Rattle.cbdc_model.specs.Waves.{IsResumed};
 ghost use Rattle.cbdc_model.specs.Slots.{Idle};
 ghost use Rattle.ledger_runs.specs.Turning.{phase_at, IsLaneOf, KeepsLanes, OfKept, StaysKept, listed, TookUpOne};
-ghost use Rattle.ledger_runs.specs.Flying.{FliesOn};
+ghost use Rattle.ledger_runs.specs.Flying.{FliesOn, Launches};
 ghost use Rattle.ledger_runs.specs.Least.{IsUnbegun, IsLeastOpen};
 ghost use Rattle.ledger_runs.specs.Telling.{TakesUp, TellResumed, SamePrepared};
 ghost use Rattle.ledger_runs.specs.Pieces.{HasPrepared};
@@ -53,8 +53,9 @@ fn resume_next<L: Turns, G: Gate>(
         (λ _ _. TookUpOne (L.shape ledger.old) lane (L.journals ledger.old) (L.journals ledger.new) batches.old.items batches.new.items)) }
     ensures told { OnOk result (OfKept (L.shape ledger.old) (L.journals ledger.old)
         (λ _ _. TakesUp (L.shape ledger.old) lane (L.journals ledger.old) (L.journals ledger.new) batches.old.items batches.new.items)) }
-    ensures quiet { OnOk result (OfKept (L.shape ledger.old) (L.journals ledger.old) (λ _ _. L.quiet ledger.old → L.quiet ledger.new)) }
+    ensures quiet { OnOk result (L.quiet ledger.old → L.quiet ledger.new) }
     ensures flies { OfKept (L.shape ledger.old) (L.journals ledger.old) (FliesOn (L.shape ledger.old) (L.journals ledger.old) (L.journals ledger.new) (L.flights ledger.old) (L.flights ledger.new)) }
+    ensures launches { Launches (L.shape ledger.old) (λ _. Nothing) (L.journals ledger.old) (L.journals ledger.new) (L.flights ledger.old) (L.flights ledger.new) }
     ensures holds { L.holds ledger.old → L.holds ledger.new }
     ensures later { (n : ℕ) → L.faults ledger.old n ≤ L.faults ledger.new n }
     ensures opened_same { (n : ℕ) → L.opened ledger.new n ≡ L.opened ledger.old n }
@@ -93,8 +94,9 @@ pub fn resume_all<L: Turns, G: Gate>(
     ensures told { IfOk result (λ rs. OfKept (L.shape ledger.old) (L.journals ledger.old)
         (λ _ _. TellResumed (L.shape ledger.old) (L.journals ledger.old) (L.journals ledger.new) ((L.shape ledger.old).coordinators * (L.shape ledger.old).lanes) rs.items)) }
     ensures prepares { SamePrepared (L.shape ledger.old) (L.journals ledger.old) (L.journals ledger.new) }
-    ensures quiet { OnOk result (OfKept (L.shape ledger.old) (L.journals ledger.old) (λ _ _. L.quiet ledger.old → L.quiet ledger.new)) }
+    ensures quiet { OnOk result (L.quiet ledger.old → L.quiet ledger.new) }
     ensures flies { OfKept (L.shape ledger.old) (L.journals ledger.old) (FliesOn (L.shape ledger.old) (L.journals ledger.old) (L.journals ledger.new) (L.flights ledger.old) (L.flights ledger.new)) }
+    ensures launches { Launches (L.shape ledger.old) (λ _. Nothing) (L.journals ledger.old) (L.journals ledger.new) (L.flights ledger.old) (L.flights ledger.new) }
     ensures holds { L.holds ledger.old → L.holds ledger.new }
     ensures later { (n : ℕ) → L.faults ledger.old n ≤ L.faults ledger.new n }
     ensures opened_same { (n : ℕ) → L.opened ledger.new n ≡ L.opened ledger.old n }

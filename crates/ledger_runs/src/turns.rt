@@ -5,10 +5,10 @@ ghost use Rattle.cbdc_model.specs.Slots.{Idle};
 ghost use Rattle.cbdc_model.specs.Grammar.{HasSize, IsCompact};
 ghost use Rattle.lane_driver.specs.declared.fault.LaneFaultKind.TheVariants.{Memory};
 ghost use Rattle.ledger_runs.specs.Turning.{phase_at, IsLaneOf, KeepsLanes, OfKept, StaysKept, StaysKeptBy, DidBatch, TookUp};
-ghost use Rattle.ledger_runs.specs.Flying.{FliesOn, FliesOnBy};
+ghost use Rattle.ledger_runs.specs.Flying.{FliesOn, FliesOnBy, Launches, IsOwnNext};
 ghost use Rattle.ledger_runs.specs.Telling.{IsOpened};
 ghost use Rattle.ledger_runs.specs.Pieces.{HasPrepared, HasPreparedAtMost, IsUnprepared};
-ghost use Rattle.ledger_runs.specs.Faults.{GrowBy, IsLaneCause, IsOpenCause, HaveFailed, MayHold};
+ghost use Rattle.ledger_runs.specs.Faults.{GrowBy, IsLaneCause, IsOpenCause, HaveFailed, MayHold, Nothing};
 
 use cbdc_types::{CompactTx, LaneId, Shape};
 use lane_driver::{BatchReport, LaneFault};
@@ -72,8 +72,9 @@ pub trait Turns {
         ensures keeps { OfKept (shape self.old) (journals self.old) (StaysKeptBy (shape self.old) txs.now (journals self.old) (journals self.new)) }
         ensures does { IfOk result (λ r. OfKept (shape self.old) (journals self.old) (λ _ _. DidBatch (shape self.old) lane txs.now (journals self.old) (journals self.new) r)) }
         ensures full { IfOk result (λ r. length r.outcomes ≡ length txs.now) }
-        ensures quiet { OnOk result (OfKept (shape self.old) (journals self.old) (λ _ _. quiet self.old → quiet self.new)) }
+        ensures quiet { OnOk result (quiet self.old → quiet self.new) }
         ensures flies { OfKept (shape self.old) (journals self.old) (FliesOnBy (shape self.old) txs.now (journals self.old) (journals self.new) (flights self.old) (flights self.new)) }
+        ensures launches { Launches (shape self.old) (IsOwnNext (shape self.old) lane txs.now (journals self.old) (journals self.new)) (journals self.old) (journals self.new) (flights self.old) (flights self.new) }
         ensures holds { holds self.old → holds self.new }
         ensures later { (n : ℕ) → faults self.old n ≤ faults self.new n }
         ensures opened_same { (n : ℕ) → opened self.new n ≡ opened self.old n }
@@ -102,8 +103,9 @@ pub trait Turns {
         ensures keeps { OfKept (shape self.old) (journals self.old) (StaysKept (shape self.old) (journals self.old) (journals self.new)) }
         ensures took { IfOk result (λ found. OfKept (shape self.old) (journals self.old) (λ _ _. TookUp (shape self.old) lane (journals self.old) (journals self.new) found)) }
         ensures opened { IfOk result (IsOpened (shape self.old) lane (journals self.old)) }
-        ensures quiet { OnOk result (OfKept (shape self.old) (journals self.old) (λ _ _. quiet self.old → quiet self.new)) }
+        ensures quiet { OnOk result (quiet self.old → quiet self.new) }
         ensures flies { OfKept (shape self.old) (journals self.old) (FliesOn (shape self.old) (journals self.old) (journals self.new) (flights self.old) (flights self.new)) }
+        ensures launches { Launches (shape self.old) (λ _. Nothing) (journals self.old) (journals self.new) (flights self.old) (flights self.new) }
         ensures holds { holds self.old → holds self.new }
         ensures later { (n : ℕ) → faults self.old n ≤ faults self.new n }
         ensures opened_same { (n : ℕ) → opened self.new n ≡ opened self.old n }

@@ -1,5 +1,5 @@
 // Waves: the lanes take turns, one batch a turn, in rising order.
-ghost use Rattle.std.specs.Prelude.{◌≡◌, ◌≤◌, ◌<◌, ◌+◌, ◌*◌, ℕ, List, length, take, drop, All, None, Some, slice_get};
+ghost use Rattle.std.specs.Prelude.{◌≡◌, ◌≤◌, ◌<◌, ◌+◌, ◌*◌, ℕ, List, length, take, drop, All, Option, None, Some, slice_get};
 ghost use Rattle.cbdc_model.specs.Records.{Compact, Record};
 ghost use Rattle.cbdc_model.specs.Slots.{Idle};
 ghost use Rattle.cbdc_model.specs.Grammar.{IsCompact};
@@ -10,7 +10,7 @@ ghost use Rattle.ledger_runs.specs.Turning.{phase_at, IsLaneOf, KeepsLanes, OfKe
 ghost use Rattle.ledger_runs.specs.Waving.{HaveSent, AreWithin, NoFault, AreReady, AllProper, TookTurn, KeepsSent, OfSent, GoesOn, AreShorter, TurnsAt};
 ghost use Rattle.ledger_runs.specs.Pieces.{HasPreparedFrom, HasTriedFrom, HaveBegun, HaveTaken, HavePreparedAll};
 ghost use Rattle.ledger_runs.specs.Faults.{GrowBy, HaveFailed, MayHold, HaveCauses, IsTurnCause};
-ghost use Rattle.ledger_runs.specs.Flying.{FliesOnBy, FliesSent};
+ghost use Rattle.ledger_runs.specs.Flying.{FliesOnBy, FliesSent, Launches, IsTurnNext, AreNextPieces};
 ghost use Rattle.ledger_runs.specs.Least.{RunTheirs};
 ghost use Rattle.ledger_runs.specs.Telling.{TellsTurn, TellSince, AllTell, AreFresh};
 ghost use Rattle.ledger_runs.specs.declared.lanes.Lane.{Lane as LaneOf};
@@ -52,8 +52,9 @@ fn turn<L: Turns, G: Gate>(
         (λ _ _. TookTurn (L.shape ledger.old) number start lane.old.txs.items (L.journals ledger.old) (L.journals ledger.new)) }
     ensures told { lane.new.fault ≡ None → OfKept (L.shape ledger.old) (L.journals ledger.old)
         (λ _ _. TellsTurn (L.shape ledger.old) number lane.old lane.new (L.journals ledger.old) (L.journals ledger.new)) }
-    ensures quiet { lane.new.fault ≡ None → OfKept (L.shape ledger.old) (L.journals ledger.old) (λ _ _. L.quiet ledger.old → L.quiet ledger.new) }
+    ensures quiet { lane.new.fault ≡ None → L.quiet ledger.old → L.quiet ledger.new }
     ensures flies { OfKept (L.shape ledger.old) (L.journals ledger.old) (FliesOnBy (L.shape ledger.old) lane.old.txs.items (L.journals ledger.old) (L.journals ledger.new) (L.flights ledger.old) (L.flights ledger.new)) }
+    ensures launches { Launches (L.shape ledger.old) (IsTurnNext (L.shape ledger.old) number start lane.old (L.journals ledger.old) (L.journals ledger.new)) (L.journals ledger.old) (L.journals ledger.new) (L.flights ledger.old) (L.flights ledger.new) }
     ensures holds { L.holds ledger.old → L.holds ledger.new }
     ensures later { (n : ℕ) → L.faults ledger.old n ≤ L.faults ledger.new n }
     ensures opened_same { (n : ℕ) → L.opened ledger.new n ≡ L.opened ledger.old n }
@@ -96,10 +97,10 @@ fn turn_at<L: Turns, G: Gate>(
         → OfKept (L.shape ledger.old) (L.journals ledger.old) (λ _ _. TookTurn (L.shape ledger.old) number start x.txs.items (L.journals ledger.old) (L.journals ledger.new)) }
     ensures told { (x y : LaneOf) → slice_get lanes.old.items number ≡ Some x → slice_get lanes.new.items number ≡ Some y → y.fault ≡ None
         → OfKept (L.shape ledger.old) (L.journals ledger.old) (λ _ _. TellsTurn (L.shape ledger.old) number x y (L.journals ledger.old) (L.journals ledger.new)) }
-    ensures quiet { (y : LaneOf) → slice_get lanes.new.items number ≡ Some y → y.fault ≡ None
-        → OfKept (L.shape ledger.old) (L.journals ledger.old) (λ _ _. L.quiet ledger.old → L.quiet ledger.new) }
+    ensures quiet { (y : LaneOf) → slice_get lanes.new.items number ≡ Some y → y.fault ≡ None → L.quiet ledger.old → L.quiet ledger.new }
     ensures flies { (x : LaneOf) → slice_get lanes.old.items number ≡ Some x
         → OfKept (L.shape ledger.old) (L.journals ledger.old) (FliesOnBy (L.shape ledger.old) x.txs.items (L.journals ledger.old) (L.journals ledger.new) (L.flights ledger.old) (L.flights ledger.new)) }
+    ensures launches { (x : LaneOf) → slice_get lanes.old.items number ≡ Some x → Launches (L.shape ledger.old) (IsTurnNext (L.shape ledger.old) number start x (L.journals ledger.old) (L.journals ledger.new)) (L.journals ledger.old) (L.journals ledger.new) (L.flights ledger.old) (L.flights ledger.new) }
     ensures holds { L.holds ledger.old → L.holds ledger.new }
     ensures later { (n : ℕ) → L.faults ledger.old n ≤ L.faults ledger.new n }
     ensures opened_same { (n : ℕ) → L.opened ledger.new n ≡ L.opened ledger.old n }
@@ -147,9 +148,11 @@ fn turns<L: Turns, G: Gate>(
         → GoesOn (L.shape ledger.old) sent (λ _. start) (λ _. start + (L.shape ledger.old).batch) (L.journals ledger.old) (L.journals ledger.new)) }
     ensures told { (E : ℕ → List Record) → OfSent (L.shape ledger.old) (L.journals ledger.old) lanes.old.items lanes.new.items
         (TellSince (L.shape ledger.old) E (L.journals ledger.old) lanes.old.items → TellSince (L.shape ledger.old) E (L.journals ledger.new) lanes.new.items) }
-    ensures quiet { OfSent (L.shape ledger.old) (L.journals ledger.old) lanes.old.items lanes.new.items (L.quiet ledger.old → L.quiet ledger.new) }
+    ensures quiet { NoFault lanes.new.items → L.quiet ledger.old → L.quiet ledger.new }
     ensures flies { (sent : ℕ → List Compact) → HaveSent sent lanes.old.items
         → OfKept (L.shape ledger.old) (L.journals ledger.old) (FliesSent (L.shape ledger.old) sent (L.journals ledger.old) (L.journals ledger.new) (L.flights ledger.old) (L.flights ledger.new)) }
+    ensures launches { (E : ℕ → List Record) (flights : ℕ → Option Record) → HaveTaken (L.shape ledger.old) E (L.journals ledger.old) (λ _. start) lanes.old.items
+        → Launches (L.shape ledger.old) (AreNextPieces (L.shape ledger.old) lanes.old.items E (L.journals ledger.old)) E (L.journals ledger.old) flights (L.flights ledger.old) → Launches (L.shape ledger.old) (AreNextPieces (L.shape ledger.old) lanes.new.items E (L.journals ledger.new)) E (L.journals ledger.new) flights (L.flights ledger.new) }
     ensures holds { L.holds ledger.old → L.holds ledger.new }
     ensures later { (n : ℕ) → L.faults ledger.old n ≤ L.faults ledger.new n }
     ensures opened_same { (n : ℕ) → L.opened ledger.new n ≡ L.opened ledger.old n }
@@ -204,9 +207,13 @@ pub fn run_wave<L: Turns, G: Gate>(alloc: Global, ledger: &mut L, lanes: &mut Ve
     // Each lane tells what was decided of its transactions, where none had a turn before.
     ensures told { OfSent (L.shape ledger.old) (L.journals ledger.old) lanes.old.items lanes.new.items
         (AreFresh lanes.old.items → AllTell (L.shape ledger.old) (L.journals ledger.old) (L.journals ledger.new) lanes.new.items) }
-    ensures quiet { OfSent (L.shape ledger.old) (L.journals ledger.old) lanes.old.items lanes.new.items (L.quiet ledger.old → L.quiet ledger.new) }
+    ensures quiet { NoFault lanes.new.items → L.quiet ledger.old → L.quiet ledger.new }
     ensures flies { (sent : ℕ → List Compact) → HaveSent sent lanes.old.items
         → OfKept (L.shape ledger.old) (L.journals ledger.old) (FliesSent (L.shape ledger.old) sent (L.journals ledger.old) (L.journals ledger.new) (L.flights ledger.old) (L.flights ledger.new)) }
+
+    // A Prepare that is in flight was so before, or is that of its lane's next piece.
+    ensures launches { Launches (L.shape ledger.old) (AreNextPieces (L.shape ledger.old) lanes.new.items (L.journals ledger.old) (L.journals ledger.new)) (L.journals ledger.old) (L.journals ledger.new) (L.flights ledger.old) (L.flights ledger.new) }
+
     ensures holds { L.holds ledger.old → L.holds ledger.new }
     ensures later { (n : ℕ) → L.faults ledger.old n ≤ L.faults ledger.new n }
     ensures opened_same { (n : ℕ) → L.opened ledger.new n ≡ L.opened ledger.old n }

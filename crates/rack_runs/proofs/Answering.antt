@@ -1,18 +1,15 @@
 -- What a lane's fault answers has its cause.
-use Rattle.std.proofs.Common.{◌≡◌, ◌⊎◌, inl, inr, ℕ, zero, suc, ◌+◌, ◌*◌, ◌/◌, ◌<◌, ◌≤◌, Bool, true, List, [], ◌∷◌, ◌++◌, length, reverse, Option, Some, refl, sym, ap, ◌∙◌, subst, arith}
+use Rattle.std.proofs.Common.{◌≡◌, ◌⊎◌, inl, inr, ℕ, ◌+◌, ◌<◌, ◌≤◌, Bool, List, [], ◌∷◌, ◌++◌, length, reverse, Option, Some, None, refl, sym, ap, ◌∙◌, subst, arith}
 use Rattle.std.specs.Prelude.{Result, Ok, Err, IfErr, All}
-use Rattle.std.proofs.lemmas.Nat.{div_below}
 use Rattle.std.proofs.lemmas.List.{length-append}
 use Rattle.outside.specs.Counts.{Rose}
 use Rattle.cbdc_types.specs.declared.answer.Answer.{Answer}
 use Rattle.cbdc_types.specs.declared.answer.Answer.TheVariants as answers
-use Rattle.cbdc_model.specs.Records.{Shape, Header, Compact, Record, Row, journal}
-use Rattle.cbdc_model.specs.Ranges.{home_of}
+use Rattle.cbdc_model.specs.Records.{Digest, Shape, Header, Batch, Compact, Record, Row, journal, Prepare}
 use Rattle.cbdc_model.specs.Lanes.{IsEnd}
 use Rattle.cbdc_model.specs.Coins.{Output, FullTx}
 use Rattle.cbdc_model.specs.Waves.{sent_to}
 use Rattle.ledger_laws.proofs.Cuts.{end_self}
-use Rattle.lane_laws.specs.Calls.{is_concerned}
 use Rattle.lane_driver.specs.declared.fault.LaneFault.{LaneFault}
 use Rattle.lane_driver.specs.declared.fault.LaneFaultKind.{LaneFaultKind}
 use Rattle.lane_driver.specs.declared.fault.LaneFaultKind.TheVariants.{DiskFault as DiskStopped, Full as NoRoom, ClockEnd as NoStamp, Memory as NoMemory}
@@ -31,38 +28,41 @@ use Rattle.ledger_runs.specs.Pieces.{HasPrepared, IsNextOf}
 use Rattle.run_laws.specs.Faults.{IsAsked, asks_prepare, asks_log, asks_shard}
 use Rattle.ledger_runs.specs.Faults.{IsWanted, wants_prepare, wants_lock, IsCauseOf, IsSomeCauseOf, IsRunCause, HaveFailed, MayHold, Nothing, RestsSince, AllRestSince}
 use Rattle.ledger_runs.specs.Least.{IsLeastFault, IsLeastOpen}
+use Rattle.ledger_runs.specs.Flying.{Launches}
 use Rattle.ledger_runs.proofs.Faulting.{run_moves}
+use Rattle.ledger_runs.proofs.Launching.{launches_by, launches_on}
 use Rattle.run_laws.proofs.NewBatches.{new_batches, open_batches}
 use Rattle.file_runs.specs.Runs.{joined, IsSentPiece, AreFilesPieces, HaveBegunFiles, IsFilesPiece}
 use Rattle.file_runs.proofs.Pieces.{files_unbegun}
 use Rattle.file_runs.specs.Endings.{EndsFirst, EndsFiles}
-use Rattle.ledger_nodes.specs.Ledgers.{IsLedger, journals_of, flights_of, faults_of, opened_of, capacity_of, AreStored}
-use Rattle.rack_laws.specs.Shown.{OfShown, HaveRoom, node_count}
-use Rattle.rack_laws.proofs.Behind.{keeps_flights, told_stored, may_hold, have_risen}
+use Rattle.ledger_nodes.specs.Ledgers.{IsLedger, journals_of, flights_of, faults_of, opened_of, capacity_of, AreStored, AreQuiet}
+use Rattle.rack_laws.specs.Shown.{OfShown, HoldsEach, LogHasRoom, ShardHasRoom, HaveRoom, node_count}
+use Rattle.rack_laws.proofs.Behind.{are_quiet, none_fly, keeps_flights, holds_each, rooms_each, told_stored, may_hold, have_risen}
 use Rattle.rack_runs.specs.Kinds.{answer_at, answer_to, IsLaneAnswer}
 use Rattle.rack_runs.specs.Endings.{EndsRun, IsCut, IsInOrder, IsLeastAnswer}
 use Rattle.rack_runs.specs.Runs.{AddsOpen, IsCutWaves, IsCutShort, KeepsFlights, IsLaneFault, NonePrepared, NothingNext, PieceNext, PiecesPrepared, SparesOthers, TookLedger}
 use Rattle.rack_runs.specs.declared.over.Over.{Over}
 use Rattle.file_runs.specs.declared.ran.Ran.{Ran}
 use Rattle.rack_runs.proofs.Checking.{same_journals}
+use Rattle.rack_runs.proofs.Wanted.{WantsNext, wanted_inside}
 
 -- the cause of a fault is that of its answer
-answered : (K : Shape) (next : ℕ → List Compact → Type 0) (E X : ℕ → List Record) (failed : ℕ → Type 0) (holds : ℕ → ℕ → Type 0) (e : LaneFault) → IsRunCause K next E X failed holds e
-    → IsLaneAnswer K next E X failed holds (answer_to e)
-answered K next E X failed holds e h = go e.fault h
+answered : (K : Shape) (genesis : Digest) (next : ℕ → List Compact → Type 0) (E X : ℕ → List Record) (failed : ℕ → Type 0) (holds : ℕ → ℕ → Type 0) → WantsNext K genesis next E X
+    → (e : LaneFault) → IsRunCause K next E X failed holds e → IsLaneAnswer K genesis next E X failed holds (answer_to e)
+answered K genesis next E X failed holds wants e h = go e.fault h
   where
-    go : (kind : LaneFaultKind) → IsSomeCauseOf K next E X failed holds e.node kind → IsLaneAnswer K next E X failed holds (answer_at e.node kind)
+    go : (kind : LaneFaultKind) → IsSomeCauseOf K next E X failed holds e.node kind → IsLaneAnswer K genesis next E X failed holds (answer_at e.node kind)
     go DiskStopped h = h
-    go (NoRoom used need capacity) h = h
-    go (NoStamp stamp) h = h
+    go (NoRoom used need capacity) (lane, lt, h) = (lane, lt, h, (wants lane e.node h.front h.wanted lt h.since h.within h.still h.is_wanted).1 h.early)
+    go (NoStamp stamp) (lane, lt, h) = (lane, lt, h, (wants lane e.node h.front h.wanted lt h.since h.within h.still h.is_wanted).0)
     go NoMemory h = tt
 
-pub came_cause : (K : Shape) (next : ℕ → List Compact → Type 0) (E X : ℕ → List Record) (failed : ℕ → Type 0) (holds : ℕ → ℕ → Type 0) (came : Result Ran Answer) (over : Result Over LaneFault)
-    → IfErr came (λ a. (a ≡ answers.Memory) ⊎ ((e : LaneFault) × (over ≡ Err e) × (a ≡ answer_to e))) → IfErr over (IsRunCause K next E X failed holds) → IfErr came (IsLaneAnswer K next E X failed holds)
-came_cause K next E X failed holds (Ok r) over told cause = tt
-came_cause K next E X failed holds (Err a) over (inl memory) cause = subst (λ x. IsLaneAnswer K next E X failed holds x) (sym memory) tt
-came_cause K next E X failed holds (Err a) over (inr (e, err, is)) cause =
-    subst (λ x. IsLaneAnswer K next E X failed holds x) (sym is) (answered K next E X failed holds e (subst (λ o. IfErr o (IsRunCause K next E X failed holds)) err cause))
+pub came_cause : (K : Shape) (genesis : Digest) (next : ℕ → List Compact → Type 0) (E X : ℕ → List Record) (failed : ℕ → Type 0) (holds : ℕ → ℕ → Type 0) (came : Result Ran Answer) (over : Result Over LaneFault) → WantsNext K genesis next E X
+    → IfErr came (λ a. (a ≡ answers.Memory) ⊎ ((e : LaneFault) × (over ≡ Err e) × (a ≡ answer_to e))) → IfErr over (IsRunCause K next E X failed holds) → IfErr came (IsLaneAnswer K genesis next E X failed holds)
+came_cause K genesis next E X failed holds (Ok r) over wants told cause = tt
+came_cause K genesis next E X failed holds (Err a) over wants (inl memory) cause = subst (λ x. IsLaneAnswer K genesis next E X failed holds x) (sym memory) tt
+came_cause K genesis next E X failed holds (Err a) over wants (inr (e, err, is)) cause =
+    subst (λ x. IsLaneAnswer K genesis next E X failed holds x) (sym is) (answered K genesis next E X failed holds wants e (subst (λ o. IfErr o (IsRunCause K next E X failed holds)) err cause))
 
 -- kept journals that were cut short have grown in the order of open batches and files
 cut_waves : (K : Shape) (verdicts : VerdictsOf) (files : List (List FullTx)) (E X : ℕ → List Record) → 0 < K.shards → 0 < K.lanes → OfKept K E (λ mint submissions. StaysKept K E X mint (submissions ++ joined files))
@@ -77,22 +77,7 @@ cut_waves K verdicts files E X shards lanes keeps cut mint submissions kept soun
     stays : StaysKept K E X mint (submissions ++ joined files)
     stays = keeps mint submissions kept
 
--- what a lane wants it wants at a node of the ledger
-home_inside : (K : Shape) (lane : ℕ) → IsLaneOf K lane → home_of K lane < K.coordinators
-home_inside K lane lt = go K.lanes lt
-  where
-    go : (lanes : ℕ) → lane < K.coordinators * lanes → lane / lanes < K.coordinators
-    go zero low = absurd (omega (arith, low))
-    go (suc lanes) low = div_below lane (suc lanes) K.coordinators (omega arith) low
-
-concerned_inside : (K : Shape) (txs : List Compact) (s : ℕ) → is_concerned K txs s ≡ true → s < K.shards
-concerned_inside K txs s h = grind (arith, h)
-
-pub wanted_inside : (K : Shape) (lane : ℕ) (next : List Compact → Type 0) (X : ℕ → List Record) (node : ℕ) (front : List Record) (r : Record) → IsLaneOf K lane → IsWanted K lane next X node front r → node < node_count K
-wanted_inside K lane next X node front r lt (wants_prepare txs due at idle e) = omega (arith, at, home_inside K lane lt)
-wanted_inside K lane next X node front r lt (wants_lock b t txs s is at concerned phase stands have behind e) = omega (arith, at, concerned_inside K txs s concerned)
-
-module _ (K : Shape) (next due : ℕ → List Compact → Type 0) (E X : ℕ → List Record) (failed fails : ℕ → Type 0) (holds held : ℕ → ℕ → Type 0)
+module _ (K : Shape) (genesis : Digest) (next due : ℕ → List Compact → Type 0) (E X : ℕ → List Record) (failed fails : ℕ → Type 0) (holds held : ℕ → ℕ → Type 0)
     (on : (lane : ℕ) (txs : List Compact) → next lane txs → due lane txs) (failed_on : (n : ℕ) → n < node_count K → failed n → fails n) (held_on : (n c : ℕ) → n < node_count K → holds n c → held n c) where
   still_wanted : (lane node : ℕ) (front : List Record) (r : Record) → IsWanted K lane (next lane) X node front r → IsWanted K lane (due lane) X node front r
   still_wanted lane node front r (wants_prepare txs is at idle e) = wants_prepare txs (on lane txs is) at idle e
@@ -104,9 +89,9 @@ module _ (K : Shape) (next due : ℕ → List Compact → Type 0) (E X : ℕ →
   still_asked lane node (asks_shard b txs s at concerned heard) = asks_shard b txs s at concerned heard
 
   -- by what is known of the nodes of the ledger otherwise
-  pub answer_moves : (a : Answer) → IsLaneAnswer K next E X failed holds a → IsLaneAnswer K due E X fails held a
+  pub answer_moves : (a : Answer) → IsLaneAnswer K genesis next E X failed holds a → IsLaneAnswer K genesis due E X fails held a
   answer_moves (answers.DiskFault node) (lane, lt, h) = (lane, lt, record { inside = h.inside; asked = still_asked lane node h.asked; did = failed_on node h.inside h.did })
-  answer_moves (answers.Full node used need capacity) (lane, lt, h) = (
+  answer_moves (answers.Full node used need capacity) (lane, lt, h, after) = (
     lane,
     lt,
     record {
@@ -122,8 +107,9 @@ module _ (K : Shape) (next due : ℕ → List Compact → Type 0) (E X : ℕ →
       need_is = h.need_is;
       above = h.above;
     },
+    after,
   )
-  answer_moves (answers.ClockEnd node stamp) (lane, lt, h) = (
+  answer_moves (answers.ClockEnd node stamp) (lane, lt, h, after) = (
     lane,
     lt,
     record {
@@ -136,6 +122,7 @@ module _ (K : Shape) (next due : ℕ → List Compact → Type 0) (E X : ℕ →
       stamp_is = h.stamp_is;
       above = h.above;
     },
+    after,
   )
   answer_moves answers.Memory h = tt
   answer_moves answers.Ok h = absurd h
@@ -246,6 +233,11 @@ no_files verdicts K E X failed holds a (inr (e, is, inr (middle, grows, unprepar
     memory [] done none unbegun = unbegun.0
     memory (file ∷ more) done none first = absurd (omega (arith, ap length none, length-append done (file ∷ more)))
 
+-- what was in flight before was nothing
+none_before : {A X Y : Type 0} (o : Option A) (x : A) → o ≡ None → ((o ≡ Some x) × X) ⊎ Y → Y
+none_before o x none (inl was) = absurd (let z : None ≡ Some x = sym none ∙ was.0 in cc)
+none_before o x none (inr now) = now
+
 -- ---- on a rack
 
 module _ {D : Type 0} (content : D → Option (List ℕ)) (images : D → List ℕ → Type 0) (limit count : D → ℕ) (held back : ℕ → Option D) (h g : Header)
@@ -274,9 +266,14 @@ module _ {D : Type 0} (content : D → Option (List ℕ)) (images : D → List �
   may : (n c : ℕ) → n < node_count h.shape → MayHold (capacity_of count limit h.shape logs shards) n c → Holds n c
   may n c inside is_so = may_hold content images limit count held h logs shards are n c inside is_so
 
-  -- what was taken
-  pub took : HaveRoom limit held h.shape (journals_of count limit h.shape logs shards) → SparesOthers content held back → TookLedger content limit held back
-  took room spared = record {
+  -- what the disks that are back have room for
+  rooms_back : All (LogHasRoom limit) now → All (ShardHasRoom limit) after → HaveRoom limit back h.shape (journals_of count limit h.shape now after)
+  rooms_back log_rooms shard_rooms = subst (λ k. HaveRoom limit back k (journals_of count limit k now after)) shape (rooms_each content images limit count back g now after is log_rooms shard_rooms logs_back shards_back)
+
+  -- what was taken, and how it was left
+  pub took : HaveRoom limit held h.shape (journals_of count limit h.shape logs shards) → SparesOthers content held back
+      → ((n : ℕ) → IsEnd (journals_of count limit h.shape logs shards n) (journals_of count limit h.shape now after n)) → All (LogHasRoom limit) now → All (ShardHasRoom limit) after → AreQuiet now after → TookLedger content images limit held back
+  took room spared grows log_rooms shard_rooms quiet = record {
     ledger = record {
       shape = h.shape;
       genesis = h.genesis;
@@ -285,13 +282,19 @@ module _ {D : Type 0} (content : D → Option (List ℕ)) (images : D → List �
       caused = caused.caused;
     };
     room = subst (λ L. HaveRoom limit held h.shape L) entry room;
+    exit = journals_of count limit h.shape now after;
+    grows = subst (λ L. (n : ℕ) → IsEnd (L n) (journals_of count limit h.shape now after n)) entry grows;
+    disks = λ tells.
+        subst (λ k. HoldsEach images back k (journals_of count limit k now after)) shape
+        (holds_each content images limit count back g now after is (stored (told_stored content images limit count held h logs shards are tells)) logs_back shards_back quiet);
+    rooms = rooms_back log_rooms shard_rooms;
     spared = spared;
   }
 
   pub lane_fault : (verdicts : VerdictsOf) (files : List (List FullTx))
       → (0 < h.shape.batch → HaveBegunFiles h.shape verdicts files (journals_of count limit h.shape logs shards) (journals_of count limit h.shape now after))
       → ((n : ℕ) → IsEnd (journals_of count limit h.shape logs shards n) (journals_of count limit h.shape now after n)) → (a : Answer)
-      → IsLaneAnswer h.shape (IsFilesPiece h.shape verdicts files (journals_of count limit h.shape logs shards) (journals_of count limit h.shape now after)) (journals_of count limit h.shape logs shards) (journals_of count limit h.shape now after)
+      → IsLaneAnswer h.shape h.genesis (IsFilesPiece h.shape verdicts files (journals_of count limit h.shape logs shards) (journals_of count limit h.shape now after)) (journals_of count limit h.shape logs shards) (journals_of count limit h.shape now after)
       (HaveFailed (opened_of count limit h.shape logs shards) (faults_of count limit h.shape now after)) (MayHold (capacity_of count limit h.shape logs shards)) a
       → IsLeastAnswer (EndsRun verdicts files h.shape (journals_of count limit h.shape logs shards) (journals_of count limit h.shape now after)
       (HaveFailed (opened_of count limit h.shape logs shards) (faults_of count limit h.shape now after)) (MayHold (capacity_of count limit h.shape logs shards))) a
@@ -300,10 +303,12 @@ module _ {D : Type 0} (content : D → Option (List ℕ)) (images : D → List �
       (λ mint _. (sound : FullTx → Bool) → TellsSound verdicts sound → IsCut h.shape sound files mint (journals_of count limit h.shape logs shards) (journals_of count limit h.shape now after))
       → IsInOrder h.shape (journals_of count limit h.shape logs shards) (journals_of count limit h.shape now after)
       → ((n : ℕ) (r : Record) → flights_of count limit h.shape now after n ≡ Some r → HaveFailed (opened_of count limit h.shape logs shards) (faults_of count limit h.shape now after) n)
+      → Launches h.shape (IsFilesPiece h.shape verdicts files (journals_of count limit h.shape logs shards) (journals_of count limit h.shape now after)) (journals_of count limit h.shape logs shards) (journals_of count limit h.shape now after)
+      (flights_of count limit h.shape logs shards) (flights_of count limit h.shape now after)
       → AllRestSince h.shape (journals_of count limit h.shape logs shards) (journals_of count limit h.shape now after) (HaveFailed (opened_of count limit h.shape logs shards) (faults_of count limit h.shape now after))
-      → HaveRoom limit held h.shape (journals_of count limit h.shape logs shards) → OfShown content held (IsCutShort images limit back files (journals_of count limit h.shape now after)) → SparesOthers content held back
+      → HaveRoom limit held h.shape (journals_of count limit h.shape logs shards) → All (LogHasRoom limit) now → All (ShardHasRoom limit) after → OfShown content held (IsCutShort images limit back files (journals_of count limit h.shape now after)) → SparesOthers content held back
       → IsLaneFault content images limit held back before behind (PieceNext verdicts files) (EndsRun verdicts files) (PiecesPrepared verdicts files) files a
-  lane_fault verdicts files begun grows a cause least keeps cut orders flown rests room kept spared = record {
+  lane_fault verdicts files begun grows a cause least keeps cut orders flown launches rests room log_rooms shard_rooms kept spared = record {
     ledger = record {
       shape = h.shape;
       genesis = h.genesis;
@@ -320,11 +325,14 @@ module _ {D : Type 0} (content : D → Option (List ℕ)) (images : D → List �
     );
     flights = flights_of count limit h.shape now after;
     in_flight = λ n r inside there. risen n inside (flown n r there);
+    prepares = subst (λ L. (n t : ℕ) (b : Batch) (txs : List Compact) → n < node_count h.shape → flights_of count limit h.shape now after n ≡ Some (Prepare t b txs)
+        → IsLaneOf h.shape b.lane × IsFilesPiece h.shape verdicts files L (journals_of count limit h.shape now after) b.lane txs) entry
+        (λ n t b txs inside there. none_before (flights_of count limit h.shape logs shards n) (Prepare t b txs) (none_fly content images limit count h.shape logs shards (are_quiet content images limit count held h logs shards are) n) (launches n t b txs there));
     disks = λ tells.
         subst (λ k. KeepsFlights images back k (journals_of count limit k now after) (flights_of count limit k now after)) shape
         (keeps_flights content images limit count back g now after is (stored (told_stored content images limit count held h logs shards are tells)) logs_back shards_back);
-    cause = subst (λ L. IsLaneAnswer h.shape (IsFilesPiece h.shape verdicts files L (journals_of count limit h.shape now after)) L (journals_of count limit h.shape now after) Rises Holds a) entry
-        (answer_moves h.shape (IsFilesPiece h.shape verdicts files (journals_of count limit h.shape logs shards) (journals_of count limit h.shape now after))
+    cause = subst (λ L. IsLaneAnswer h.shape h.genesis (IsFilesPiece h.shape verdicts files L (journals_of count limit h.shape now after)) L (journals_of count limit h.shape now after) Rises Holds a) entry
+        (answer_moves h.shape h.genesis (IsFilesPiece h.shape verdicts files (journals_of count limit h.shape logs shards) (journals_of count limit h.shape now after))
         (IsFilesPiece h.shape verdicts files (journals_of count limit h.shape logs shards) (journals_of count limit h.shape now after)) (journals_of count limit h.shape logs shards) (journals_of count limit h.shape now after)
         (HaveFailed (opened_of count limit h.shape logs shards) (faults_of count limit h.shape now after)) Rises (MayHold (capacity_of count limit h.shape logs shards)) Holds (λ lane txs piece. piece) risen may a cause);
     least = subst (λ L. IsLeastAnswer (EndsRun verdicts files h.shape L (journals_of count limit h.shape now after) Rises Holds) a) entry
@@ -334,6 +342,7 @@ module _ {D : Type 0} (content : D → Option (List ℕ)) (images : D → List �
         (rest_by h.shape (HaveFailed (opened_of count limit h.shape logs shards) (faults_of count limit h.shape now after)) Rises (MayHold (capacity_of count limit h.shape logs shards)) Holds risen may
         (journals_of count limit h.shape logs shards) (journals_of count limit h.shape now after) rests);
     room = subst (λ L. HaveRoom limit held h.shape L) entry room;
+    rooms = rooms_back log_rooms shard_rooms;
     kept = kept;
     spared = spared;
   }
@@ -381,12 +390,14 @@ of_nothing content images limit held back before now verdicts a f =
       prepared = no_pieces verdicts f.ledger.shape E f.exit f.prepared;
       flights = f.flights;
       in_flight = f.in_flight;
+      prepares = λ n t b txs inside there. (let p = f.prepares n t b txs inside there in (p.0, no_piece verdicts f.ledger.shape E f.exit b.lane txs p.1));
       disks = f.disks;
-      cause = answer_moves f.ledger.shape (PieceNext verdicts [] f.ledger.shape E f.exit) (NothingNext f.ledger.shape E f.exit) E f.exit (λ n. Rose (before n) (now n)) (λ n. Rose (before n) (now n))
+      cause = answer_moves f.ledger.shape f.ledger.genesis (PieceNext verdicts [] f.ledger.shape E f.exit) (NothingNext f.ledger.shape E f.exit) E f.exit (λ n. Rose (before n) (now n)) (λ n. Rose (before n) (now n))
           (λ n c. OfTold (held n) (λ d. c ≡ limit d)) (λ n c. OfTold (held n) (λ d. c ≡ limit d)) (no_piece verdicts f.ledger.shape E f.exit) (λ n inside did. did) (λ n c inside may. may) a f.cause;
       least = no_files verdicts f.ledger.shape E f.exit (λ n. Rose (before n) (now n)) (λ n c. OfTold (held n) (λ d. c ≡ limit d)) a f.least;
       rests = f.rests;
       room = f.room;
+      rooms = f.rooms;
       kept = f.kept;
       spared = f.spared;
     }
@@ -422,6 +433,18 @@ filed_fault K H verdicts files E M X failed holds same since unprepared e h =
     since_entry lane txs inside piece sound tells =
         let p = piece sound tells in
         (p.0, p.1, (p.2.0, p.2.1, p.2.2, p.2.3 ∙ ap (λ ps. reverse p.2.0 ++ ps) (unprepared lane)))
+
+-- so of Prepares in flight
+pub resumed_launches : (K : Shape) (verdicts : VerdictsOf) (files : List (List FullTx)) (E X : ℕ → List Record) (F G : ℕ → Option Record)
+    → Launches K (λ _. Nothing) E X F G → Launches K (IsFilesPiece K verdicts files E X) E X F G
+resumed_launches K verdicts files E X F G = launches_by K (λ _. Nothing) (IsFilesPiece K verdicts files E X) E X F G (λ lane txs inside none. absurd none)
+
+pub filed_launches : (K H : Shape) (verdicts : VerdictsOf) (files : List (List FullTx)) (E M X : ℕ → List Record) (F G L : ℕ → Option Record) → H ≡ K → SamePrepared K E M
+    → Launches K (λ _. Nothing) E M F G → Launches H (IsFilesPiece H verdicts files M X) M X G L → Launches K (IsFilesPiece K verdicts files E X) E X F L
+filed_launches K H verdicts files E M X F G L same unprepared one two =
+    launches_on K (λ _. Nothing) (IsFilesPiece K verdicts files M X) (IsFilesPiece K verdicts files E X) E M X F G L (λ lane txs inside still none. absurd none)
+    (λ lane txs inside piece sound tells. (let p = piece sound tells in (p.0, p.1, (p.2.0, p.2.1, p.2.2, p.2.3 ∙ ap (λ ps. reverse p.2.0 ++ ps) (unprepared lane))))) one
+    (subst (λ k. Launches k (IsFilesPiece k verdicts files M X) M X G L) same two)
 
 -- by what was known of the nodes before
 pub by_entry : (P : (ℕ → ℕ) → (ℕ → ℕ) → Type 0) (opened opens capacity holds : ℕ → ℕ) → ((n : ℕ) → opens n ≡ opened n) → ((n : ℕ) → holds n ≡ capacity n) → P opens holds → P opened capacity

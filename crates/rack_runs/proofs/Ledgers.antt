@@ -89,7 +89,7 @@ module _ {D : Type 0} (content : D → Option (List ℕ)) (images : D → List �
     pub idle : AreIdle S (journals_of count limit S now after)
     pub resumed : OfKept S (journals_of count limit S logs shards) (λ _ _. files ≡ [] → IsResumed S (journals_of count limit S logs shards) (journals_of count limit S now after))
     pub waves : OfKept S (journals_of count limit S logs shards) (λ _ _. (sound : FullTx → Bool) → TellsSound verdicts sound → Waves S sound files (journals_of count limit S logs shards) (journals_of count limit S now after))
-    pub quiet : OfKept S (journals_of count limit S logs shards) (λ _ _. AreQuiet logs shards → AreQuiet now after)
+    pub quiet : AreQuiet logs shards → AreQuiet now after
 
   -- each disk that was told had room for its journal and for what is kept for its open batches
   pub opened_room : HaveRoom limit held h.shape (journals_of count limit h.shape logs shards)
@@ -165,7 +165,7 @@ module _ {D : Type 0} (content : D → Option (List ℕ)) (images : D → List �
         record {
           exit = journals_of count limit K now after;
           grown = grown;
-          disks = disks_hold (e.quiet mint submissions kept_there (are_quiet content images limit count held h logs shards are));
+          disks = disks_hold (e.quiet (are_quiet content images limit count held h logs shards are));
           rooms = rooms_there log_rooms shard_rooms;
           resumed = λ none. subst (λ L. IsResumed K L (journals_of count limit K now after)) journals_are (e.resumed mint submissions kept_there none);
           waves = subst (λ L. Waves K (sound_by verdicts) files L (journals_of count limit K now after)) journals_are (e.waves mint submissions kept_there (sound_by verdicts) (is_sound_law verdicts));
@@ -190,7 +190,7 @@ module _ {D : Type 0} (content : D → Option (List ℕ)) (images : D → List �
   pub ends : (verdicts : VerdictsOf) → AreIdle h.shape (journals_of count limit h.shape now after)
       → OfKept h.shape (journals_of count limit h.shape logs shards) (λ _ _. files ≡ [] → IsResumed h.shape (journals_of count limit h.shape logs shards) (journals_of count limit h.shape now after))
       → OfKept h.shape (journals_of count limit h.shape logs shards) (λ _ _. (sound : FullTx → Bool) → TellsSound verdicts sound → Waves h.shape sound files (journals_of count limit h.shape logs shards) (journals_of count limit h.shape now after))
-      → OfKept h.shape (journals_of count limit h.shape logs shards) (λ _ _. AreQuiet logs shards → AreQuiet now after)
+      → (AreQuiet logs shards → AreQuiet now after)
       → Ends verdicts h.shape
   ends verdicts idle resumed waves quiet = record { idle = idle; resumed = resumed; waves = waves; quiet = quiet }
 

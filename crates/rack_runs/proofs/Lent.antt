@@ -14,10 +14,6 @@ pub on_ok_by : {B F : Type 0} {X Y : Type 0} (o : Result B F) → (X → Y) → 
 on_ok_by (Ok b) f so = f so
 on_ok_by (Err e) f so = tt
 
-pub on_ok_always : {B F : Type 0} {X : Type 0} (o : Result B F) → X → OnOk o X
-on_ok_always (Ok b) x = x
-on_ok_always (Err e) x = tt
-
 pub on_ok_all : {B F : Type 0} {X Y Z V W : Type 0} (o : Result B F) → (X → Y → Z → V → W) → OnOk o X → OnOk o Y → OnOk o Z → OnOk o V → OnOk o W
 on_ok_all (Ok b) f x y z v = f x y z v
 on_ok_all (Err e) f x y z v = tt

@@ -5,3 +5,4 @@ pub mod Unspent
 pub mod Checking
 pub mod Answering
 pub mod Flown
+pub mod Wanted

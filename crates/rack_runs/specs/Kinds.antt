@@ -2,7 +2,9 @@
 use Rattle.std.specs.Prelude.{◌≡◌, ℕ, List, Some}
 use Rattle.cbdc_types.specs.declared.answer.Answer.{Answer}
 use Rattle.cbdc_types.specs.declared.answer.Answer.TheVariants as answers
-use Rattle.cbdc_model.specs.Records.{Shape, Compact, Record}
+use Rattle.cbdc_model.specs.Records.{Digest, Shape, Compact, Record}
+use Rattle.cbdc_model.specs.After.{After, Follows}
+use Rattle.cbdc_model.specs.History.{header_of}
 use Rattle.cbdc_model.specs.Sights.{HasRisen}
 use Rattle.coord_log.specs.Logs.{LogOf}
 use Rattle.shard_node.specs.Shards.{ShardOf}
@@ -23,13 +25,14 @@ abbrev pub answer_to : LaneFault → Answer
 answer_to e = answer_at e.node e.fault
 
 -- the cause of an answer to a lane's fault, from journals E to X, by the nodes whose disks have failed and what disks may hold: a node that a lane
--- asks has a disk that failed, or no room or no stamp for what a lane wants; or memory ran out
-abbrev pub IsLaneAnswer : Shape → (ℕ → List Compact → Type 0) → (ℕ → List Record) → (ℕ → List Record) → (ℕ → Type 0) → (ℕ → ℕ → Type 0) → Answer → Type 0
-IsLaneAnswer K next E X failed may_hold (answers.DiskFault node) = (lane : ℕ) × IsLaneOf K lane × HasNoDiskFor K lane (next lane) X failed node
-IsLaneAnswer K next E X failed may_hold (answers.Full node used need capacity) = (lane : ℕ) × IsLaneOf K lane × HasNoRoomFor K lane (next lane) E X may_hold node used need capacity
-IsLaneAnswer K next E X failed may_hold (answers.ClockEnd node stamp) = (lane : ℕ) × IsLaneOf K lane × HasNoStampFor K lane (next lane) E X node stamp
-IsLaneAnswer K next E X failed may_hold answers.Memory = Unit {0}
-IsLaneAnswer K next E X failed may_hold other = ⊥
+-- asks has a disk that failed, or no room or no stamp for what a lane wants; or memory ran out. The record that found no room may come next at that
+-- node of the ledger with this genesis, behind the front at which it did; so may one that found no stamp, but for its stamp
+abbrev pub IsLaneAnswer : Shape → Digest → (ℕ → List Compact → Type 0) → (ℕ → List Record) → (ℕ → List Record) → (ℕ → Type 0) → (ℕ → ℕ → Type 0) → Answer → Type 0
+IsLaneAnswer K genesis next E X failed may_hold (answers.DiskFault node) = (lane : ℕ) × IsLaneOf K lane × HasNoDiskFor K lane (next lane) X failed node
+IsLaneAnswer K genesis next E X failed may_hold (answers.Full node used need capacity) = (lane : ℕ) × IsLaneOf K lane × (no : HasNoRoomFor K lane (next lane) E X may_hold node used need capacity) × After (header_of K genesis node) no.front no.wanted
+IsLaneAnswer K genesis next E X failed may_hold (answers.ClockEnd node stamp) = (lane : ℕ) × IsLaneOf K lane × (no : HasNoStampFor K lane (next lane) E X node stamp) × Follows (header_of K genesis node) no.front no.wanted
+IsLaneAnswer K genesis next E X failed may_hold answers.Memory = Unit {0}
+IsLaneAnswer K genesis next E X failed may_hold other = ⊥
 
 -- a record is in flight at a coordinator, and at a shard, only where its disk has failed since it was opened
 abbrev pub FliesBroken : {D : Type 0} → LogOf D → Type 0

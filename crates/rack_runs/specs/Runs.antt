@@ -2,7 +2,7 @@
 use Rattle.std.specs.Prelude.{◌≤◌, ◌≡◌, ◌⊎◌, ℕ, ◌<◌, Bool, true, false, List, [], ◌++◌, length, reverse, Option, Some}
 use Rattle.outside.specs.Counts.{Rose}
 use Rattle.cbdc_types.specs.declared.answer.Answer.{Answer}
-use Rattle.cbdc_model.specs.Records.{Shape, Batch, Compact, Record, journal}
+use Rattle.cbdc_model.specs.Records.{Shape, Batch, Compact, Record, Prepare, journal}
 use Rattle.cbdc_model.specs.Coins.{Output, FullTx}
 use Rattle.cbdc_model.specs.Clean.{Clean}
 use Rattle.cbdc_model.specs.Lanes.{IsEnd}
@@ -72,10 +72,15 @@ abbrev pub SparesOthers : {D : Type 0} → (D → Option (List ℕ)) → (ℕ �
 SparesOthers content held back = OfShown content held (λ K mint submissions E. (n : ℕ) → node_count K ≤ n → back n ≡ held n)
 
 -- the disks told a ledger in which each record was caused; each of its disks had room for its journal and for what is kept for the batches that were
--- open there; and where the ledger was kept all other disks are as before
-pub record TookLedger {D : Type 0} (content : D → Option (List ℕ)) (limit : D → ℕ) (held back : ℕ → Option D) : Type 0 where
+-- open there, and has room so for its journal at exit, which has grown at its end from that at entry; where the disks told all each holds its journal
+-- and no record more; and where the ledger was kept all other disks are as before
+pub record TookLedger {D : Type 0} (content : D → Option (List ℕ)) (images : D → List ℕ → Type 0) (limit : D → ℕ) (held back : ℕ → Option D) : Type 0 where
   pub ledger : IsCausedLedger content held
   pub room : HaveRoom limit held ledger.shape (λ n. journal n (reverse ledger.rows))
+  pub exit : ℕ → List Record
+  pub grows : (n : ℕ) → IsEnd (journal n (reverse ledger.rows)) (exit n)
+  pub disks : AllTell content held ledger.shape → HoldsEach images back ledger.shape exit
+  pub rooms : HaveRoom limit back ledger.shape exit
   pub spared : SparesOthers content held back
 
 -- whatever a crash may leave of a node's disk that is told opens to this journal, with what is in flight there or without
@@ -83,11 +88,12 @@ abbrev pub KeepsFlights : {D : Type 0} → (D → List ℕ → Type 0) → (ℕ 
 KeepsFlights images held K X flights = (n : ℕ) → n < node_count K → OfTold (held n) (λ d. (c : List ℕ) → images d c → OpensToEither (reverse (X n)) (flights n) c)
 
 -- a lane's fault ended a run over the ledger that the disks told, in which each record was caused: its journals have grown at their ends, as a run that
--- began so far grows them; a record is in flight only at a node whose disk has failed since, and where the disks told all each keeps its journal, with
--- what is in flight there or without; the answer has its cause, by the counts of
--- faults before and now and by what the disks that were told may hold; it is the least lane's that met one; each lane is between
--- batches, or its batch lacks a Lock, or the disk of a node that it asks has failed, or it waits where it was, for want of memory: nothing of it was written, or its batch was prepared and is so still; each disk of the ledger
--- had room for its journal and for what is kept for the batches that were open there; where the ledger was kept it is cut short, and the disks that are no nodes of it are as before
+-- began so far grows them; a record is in flight only at a node whose disk has failed since, a Prepare only of transactions that are next for its lane,
+-- and where the disks told all each keeps its journal, with what is in flight there or without; the answer has its cause, by the counts of faults before
+-- and now and by what the disks that were told may hold; it is the least lane's that met one; each lane is between batches, or its batch lacks a Lock,
+-- or the disk of a node that it asks has failed, or it waits where it was, for want of memory: nothing of it was written, or its batch was prepared and
+-- is so still; each disk of the ledger had room for its journal and for what is kept for the batches that were open there, and has room so for its
+-- journal at exit; where the ledger was kept it is cut short, and the disks that are no nodes of it are as before
 pub record IsLaneFault {D : Type 0} (content : D → Option (List ℕ)) (images : D → List ℕ → Type 0) (limit : D → ℕ) (held back : ℕ → Option D) (before now : ℕ → ℕ) (next : Shape → (ℕ → List Record) → (ℕ → List Record) → ℕ → List Compact → Type 0)
     (ends : Shape → (ℕ → List Record) → (ℕ → List Record) → (ℕ → Type 0) → (ℕ → ℕ → Type 0) → LaneFault → Type 0) (begun : Shape → (ℕ → List Record) → (ℕ → List Record) → Type 0) (files : List (List FullTx)) (answer : Answer) : Type 0 where
   pub ledger : IsCausedLedger content held
@@ -96,11 +102,13 @@ pub record IsLaneFault {D : Type 0} (content : D → Option (List ℕ)) (images 
   pub prepared : begun ledger.shape (λ n. journal n (reverse ledger.rows)) exit
   pub flights : ℕ → Option Record
   pub in_flight : (n : ℕ) (r : Record) → n < node_count ledger.shape → flights n ≡ Some r → Rose (before n) (now n)
+  pub prepares : (n t : ℕ) (b : Batch) (txs : List Compact) → n < node_count ledger.shape → flights n ≡ Some (Prepare t b txs) → IsLaneOf ledger.shape b.lane × next ledger.shape (λ n. journal n (reverse ledger.rows)) exit b.lane txs
   pub disks : AllTell content held ledger.shape → KeepsFlights images back ledger.shape exit flights
-  pub cause : IsLaneAnswer ledger.shape (next ledger.shape (λ n. journal n (reverse ledger.rows)) exit) (λ n. journal n (reverse ledger.rows)) exit (λ n. Rose (before n) (now n)) (λ n c. OfTold (held n) (λ d. c ≡ limit d)) answer
+  pub cause : IsLaneAnswer ledger.shape ledger.genesis (next ledger.shape (λ n. journal n (reverse ledger.rows)) exit) (λ n. journal n (reverse ledger.rows)) exit (λ n. Rose (before n) (now n)) (λ n c. OfTold (held n) (λ d. c ≡ limit d)) answer
   pub least : IsLeastAnswer (ends ledger.shape (λ n. journal n (reverse ledger.rows)) exit (λ n. Rose (before n) (now n)) (λ n c. OfTold (held n) (λ d. c ≡ limit d))) answer
   pub rests : AllRestSince ledger.shape (λ n. journal n (reverse ledger.rows)) exit (λ n. Rose (before n) (now n))
   pub room : HaveRoom limit held ledger.shape (λ n. journal n (reverse ledger.rows))
+  pub rooms : HaveRoom limit back ledger.shape exit
   pub kept : OfShown content held (IsCutShort images limit back files exit)
   pub spared : SparesOthers content held back
 

@@ -8,6 +8,7 @@ ghost use Rattle.cbdc_model.specs.Waves.{IsResumed, Waves};
 ghost use Rattle.input_files.specs.Limits.{IsShort};
 ghost use Rattle.submissions.specs.Checks.{TellsSound};
 ghost use Rattle.ledger_runs.specs.Turning.{OfKept, StaysKept};
+ghost use Rattle.ledger_runs.specs.Flying.{Launches};
 ghost use Rattle.ledger_runs.specs.Faults.{HaveFailed, MayHold, AllRestSince};
 ghost use Rattle.file_runs.specs.Runs.{joined, HaveBegunFiles, IsFilesPiece, FliesWith};
 ghost use Rattle.rack_runs.specs.Endings.{EndsRun, IsCut, IsInOrder, IsLeastAnswer};
@@ -125,8 +126,7 @@ pub(crate) fn run_nodes<W: Wait, D: Disk, V: Verifier, G: Gate>(
     ensures resumed { OnOk result.came (OfKept nodes.header.shape (journals_of D.count D.limit nodes.header.shape nodes.logs.items nodes.shards.items)
         (λ _ _. files.now ≡ [] → IsResumed nodes.header.shape (journals_of D.count D.limit nodes.header.shape nodes.logs.items nodes.shards.items)
         (journals_of D.count D.limit nodes.header.shape result.nodes.logs.items result.nodes.shards.items))) }
-    ensures quiet { OnOk result.came (OfKept nodes.header.shape (journals_of D.count D.limit nodes.header.shape nodes.logs.items nodes.shards.items)
-        (λ _ _. AreQuiet nodes.logs.items nodes.shards.items → AreQuiet result.nodes.logs.items result.nodes.shards.items)) }
+    ensures quiet { OnOk result.came (AreQuiet nodes.logs.items nodes.shards.items → AreQuiet result.nodes.logs.items result.nodes.shards.items) }
     ensures told { IfOk result.came (λ r. OfKept nodes.header.shape (journals_of D.count D.limit nodes.header.shape nodes.logs.items nodes.shards.items)
         (λ _ _. TellsRun nodes.header.shape (V.verdict_of verifier.now) files.now (journals_of D.count D.limit nodes.header.shape nodes.logs.items nodes.shards.items)
         (journals_of D.count D.limit nodes.header.shape result.nodes.logs.items result.nodes.shards.items) r.resumed.items r.waves.items)) }
@@ -152,6 +152,11 @@ pub(crate) fn run_nodes<W: Wait, D: Disk, V: Verifier, G: Gate>(
         (journals_of D.count D.limit nodes.header.shape result.nodes.logs.items result.nodes.shards.items)
         (flights_of D.count D.limit nodes.header.shape nodes.logs.items nodes.shards.items) (flights_of D.count D.limit nodes.header.shape result.nodes.logs.items result.nodes.shards.items)) }
 
+    // Each Prepare was so before, or is that of the next piece of what the files send to its lane.
+    ensures launches { Launches nodes.header.shape (IsFilesPiece nodes.header.shape (V.verdict_of verifier.now) files.now (journals_of D.count D.limit nodes.header.shape nodes.logs.items nodes.shards.items)
+        (journals_of D.count D.limit nodes.header.shape result.nodes.logs.items result.nodes.shards.items)) (journals_of D.count D.limit nodes.header.shape nodes.logs.items nodes.shards.items) (journals_of D.count D.limit nodes.header.shape result.nodes.logs.items result.nodes.shards.items)
+        (flights_of D.count D.limit nodes.header.shape nodes.logs.items nodes.shards.items) (flights_of D.count D.limit nodes.header.shape result.nodes.logs.items result.nodes.shards.items) }
+
     // Only where the disk has failed since its node was opened.
     ensures flown { (n : ℕ) (r : Record) → flights_of D.count D.limit nodes.header.shape result.nodes.logs.items result.nodes.shards.items n ≡ Some r
         → HaveFailed (opened_of D.count D.limit nodes.header.shape nodes.logs.items nodes.shards.items) (faults_of D.count D.limit nodes.header.shape result.nodes.logs.items result.nodes.shards.items) n }
@@ -163,7 +168,7 @@ pub(crate) fn run_nodes<W: Wait, D: Disk, V: Verifier, G: Gate>(
         (HaveFailed (opened_of D.count D.limit nodes.header.shape nodes.logs.items nodes.shards.items) (faults_of D.count D.limit nodes.header.shape result.nodes.logs.items result.nodes.shards.items)) }
 
     // What a fault answers has its cause.
-    ensures fault { IfErr result.came (IsLaneAnswer nodes.header.shape (IsFilesPiece nodes.header.shape (V.verdict_of verifier.now) files.now
+    ensures fault { IfErr result.came (IsLaneAnswer nodes.header.shape nodes.header.genesis (IsFilesPiece nodes.header.shape (V.verdict_of verifier.now) files.now
         (journals_of D.count D.limit nodes.header.shape nodes.logs.items nodes.shards.items) (journals_of D.count D.limit nodes.header.shape result.nodes.logs.items result.nodes.shards.items))
         (journals_of D.count D.limit nodes.header.shape nodes.logs.items nodes.shards.items) (journals_of D.count D.limit nodes.header.shape result.nodes.logs.items result.nodes.shards.items)
         (HaveFailed (opened_of D.count D.limit nodes.header.shape nodes.logs.items nodes.shards.items) (faults_of D.count D.limit nodes.header.shape result.nodes.logs.items result.nodes.shards.items))

@@ -7,6 +7,7 @@ ghost use Rattle.cbdc_model.specs.Waves.{IsResumed, Waves};
 ghost use Rattle.input_files.specs.Limits.{IsShort};
 ghost use Rattle.submissions.specs.Checks.{TellsSound};
 ghost use Rattle.ledger_runs.specs.Turning.{OfKept, StaysKept};
+ghost use Rattle.ledger_runs.specs.Flying.{Launches};
 ghost use Rattle.ledger_runs.specs.Faults.{IsRunCause, HaveFailed, MayHold, AllRestSince};
 ghost use Rattle.file_runs.specs.Runs.{joined, HaveBegunFiles, IsFilesPiece, FliesWith};
 ghost use Rattle.rack_runs.specs.Endings.{EndsRun, IsCut, IsInOrder};
@@ -53,12 +54,17 @@ pub(crate) fn run_over<L: Turns, V: Verifier, G: Gate>(
         → TellsSound (V.verdict_of verifier.now) sound → IsCut (L.shape ledger.old) sound files.now mint (L.journals ledger.old) (L.journals ledger.new)) }
 
     ensures in_order { IsInOrder (L.shape ledger.old) (L.journals ledger.old) (L.journals ledger.new) }
-    ensures quiet { OnOk result (OfKept (L.shape ledger.old) (L.journals ledger.old) (λ _ _. L.quiet ledger.old → L.quiet ledger.new)) }
+    ensures quiet { OnOk result (L.quiet ledger.old → L.quiet ledger.new) }
     ensures flies { OfKept (L.shape ledger.old) (L.journals ledger.old) (FliesWith (L.shape ledger.old) (joined files.now) (L.journals ledger.old) (L.journals ledger.new) (L.flights ledger.old) (L.flights ledger.new)) }
+
+    // A Prepare that is in flight was so before, or is that of the next piece of what the files send to its lane.
+    ensures launches { Launches (L.shape ledger.old) (IsFilesPiece (L.shape ledger.old) (V.verdict_of verifier.now) files.now (L.journals ledger.old) (L.journals ledger.new)) (L.journals ledger.old) (L.journals ledger.new) (L.flights ledger.old) (L.flights ledger.new) }
+
     ensures holds { L.holds ledger.old → L.holds ledger.new }
     ensures later { (n : ℕ) → L.faults ledger.old n ≤ L.faults ledger.new n }
     ensures opened_same { (n : ℕ) → L.opened ledger.new n ≡ L.opened ledger.old n }
     ensures capacity_same { (n : ℕ) → L.capacity ledger.new n ≡ L.capacity ledger.old n }
+    ensures checked { L.checked ledger.new }
     ensures grows { (n : ℕ) → IsEnd (L.journals ledger.old n) (L.journals ledger.new n) }
 
     // With a fault or without, no lane has prepared anything but the first pieces of what the files send it.

@@ -33,7 +33,7 @@ pub fn run_on<W: Wait, R: Rack, V: Verifier, G: Gate>(
     requires short { All (λ txs. All IsShort txs) files.now }
     // The rack showed a ledger, each record of its history is caused by what stands before it, and the disks had the room that is kept for its
     // open batches. The disks that are no nodes of it are as they were.
-    ensures caused { OnOk result (TookLedger R.Disk.content R.Disk.limit (R.held rack.old) (R.held rack.new)) }
+    ensures caused { OnOk result (TookLedger R.Disk.content R.Disk.images R.Disk.limit (R.held rack.old) (R.held rack.new)) }
 
     // The ledger that the rack showed has its open batches at their end and the files' waves behind them, and each disk holds its journal.
     ensures ran { OnOk result (OfShown R.Disk.content (R.held rack.old) (IsRun R.Disk.images R.Disk.limit (R.held rack.new) (V.verdict_of verifier.now) files.now)) }
@@ -68,7 +68,7 @@ pub fn recover_on<W: Wait, R: Rack, G: Gate>(
     gate: &G,
 ) -> Result<Ran, Answer>
     requires all { (n : ℕ) → R.can_take rack.old n }
-    ensures caused { OnOk result (TookLedger R.Disk.content R.Disk.limit (R.held rack.old) (R.held rack.new)) }
+    ensures caused { OnOk result (TookLedger R.Disk.content R.Disk.images R.Disk.limit (R.held rack.old) (R.held rack.new)) }
     ensures recovered { OnOk result (OfShown R.Disk.content (R.held rack.old) (IsRecovered R.Disk.images R.Disk.limit (R.held rack.new))) }
     ensures told { IfOk result (λ r. (verdicts : VerdictsOf) × OfShown R.Disk.content (R.held rack.old) (IsTold R.Disk.images R.Disk.limit (R.held rack.new) verdicts [] r)) }
     ensures stopped { IfErr result (λ e. (IsUnresumed R.Disk.content R.Disk.images R.Disk.limit R.Disk.count (R.held rack.old) (R.count rack.old) (R.count rack.new) e

@@ -22,4 +22,4 @@ PrintsRecovery content images limit before now printed = OfShown content before 
 -- the disks told a ledger in which each record was caused, and its open batches were brought to their end; each disk holds exactly its journal, and this
 -- was printed
 abbrev pub DidRecover : {D : Type 0} → (D → Option (List ℕ)) → (D → List ℕ → Type 0) → (D → ℕ) → (ℕ → Option D) → (ℕ → Option D) → (Text → Type 0) → Type 0
-DidRecover content images limit before now printed = TookLedger content limit before now × PrintsRecovery content images limit before now printed
+DidRecover content images limit before now printed = TookLedger content images limit before now × PrintsRecovery content images limit before now printed

@@ -27,7 +27,7 @@ pub record WasRun {D : Type 0} (files : Text → Option (List ℕ)) (content : D
   pub read : AreRead files 0 clients handed
   pub verdicts_read : AreVerdicts (files verdicts.name.now) known
   pub few : all_txs handed ≤ 1000000
-  pub caused : TookLedger content limit before now
+  pub caused : TookLedger content images limit before now
   pub tells : OfShown content before (IsTold images limit now (told known) handed ran)
 
 -- a run of these transactions over a kept ledger, which was printed: the lines are those of this run, from the journals at entry to those at its exit,
@@ -53,7 +53,7 @@ pub record DidRun {D : Type 0} (files : Text → Option (List ℕ)) (content : D
   pub known : VerdictFile
   pub read : AreRead files 0 clients handed
   pub verdicts_read : AreVerdicts (files verdicts.name.now) known
-  pub caused : TookLedger content limit before now
+  pub caused : TookLedger content images limit before now
   pub ran : PrintsRun content images limit before now printed (told known) handed
 
 -- a client file is the first that is not read; or all client files were read, and the verdicts are not; or all were read and could not be run

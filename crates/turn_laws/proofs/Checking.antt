@@ -229,7 +229,7 @@ module _ (K : Shape) (lane : ℕ) (logs shards logs' shards' : ℕ → Sight) (l
   shape_still = ap (λ h. h.shape) (log_nodes (home_of K lane)).header ∙ shape
 
   module _ (idle : (slot log.seen lane).phase ≡ Idle) (txs : List Compact) where
-    settled : Settled K lane (slot log.seen lane).number log shards
+    pub settled : Settled K lane (slot log.seen lane).number log shards
     settled = checked_rest_law K m lane logs shards limits.some_shard home shape checked idle
 
     pub batch_checked : (reports : List BatchReport) → IsOneBatch K true lane txs log shards log' shards' reports → IsCheckedTurn K m lane I J
@@ -243,7 +243,7 @@ module _ (K : Shape) (lane : ℕ) (logs shards logs' shards' : ℕ → Sight) (l
         turned (txs ∷ []) ((taken_law K lane logs shards logs' shards' elsewhere).1 txs s.0 s.1 s.3)
 
     -- without a record of the lane at its coordinator it has prepared nothing
-    unbegun : own lane log'.seen ≡ own lane log.seen → HasPrepared K lane [] I J
+    pub unbegun : own lane log'.seen ≡ own lane log.seen → HasPrepared K lane [] I J
     unbegun same =
         ap (prepared lane) (seen_log K logs' shards' (home_of K lane) home) ∙ prepared_own lane log'.seen ∙ ap batches.prepared same ∙ sym (prepared_own lane log.seen)
         ∙ ap (prepared lane) (sym (seen_log K logs shards (home_of K lane) home))
@@ -323,7 +323,7 @@ module _ (K : Shape) (lane : ℕ) (logs shards logs' shards' : ℕ → Sight) (l
     prepared_still : (slot log'.seen o.batch.lane).phase ≡ InPrepare → phase_at K J lane ≡ InPrepare
     prepared_still phase = ap (λ L. (slot L lane).phase) (seen_log K logs' shards' (home_of K lane) home) ∙ subst (λ l. (slot log'.seen l).phase ≡ InPrepare) lane_is phase
 
-    still : IsUnfinished o.phase K o log shards
+    pub still : IsUnfinished o.phase K o log shards
     still = unfinished K lane log shards o told (checked_resume_law K m lane logs shards limits.some_shard home shape checked)
 
     pub taken_checked : (IsUnfinished o.phase K o log shards → IsTakenUp K true o.batch log shards log' shards') → IsCheckedTurn K m lane I J

@@ -39,7 +39,7 @@ use Rattle.turn_laws.proofs.OpenThere.{told_lane, unfinished}
 use Rattle.turn_laws.proofs.Turned.{pass_one, pass_none, batch_keeps, stopped_keeps, resume_keeps, left_keeps}
 
 -- what is in flight at a node, by its place
-log_flight : (K : Shape) (logs shards : ℕ → Sight) (n : ℕ) → n < K.coordinators → flying K logs shards n ≡ (logs n).flight
+pub log_flight : (K : Shape) (logs shards : ℕ → Sight) (n : ℕ) → n < K.coordinators → flying K logs shards n ≡ (logs n).flight
 log_flight K logs shards n lt = ap (λ c. if c then (logs n).flight else (shards (n - K.coordinators)).flight) (lt-ltb n K.coordinators lt)
 
 shard_flight : (K : Shape) (logs shards : ℕ → Sight) (n : ℕ) → K.coordinators ≤ n → flying K logs shards n ≡ (shards (n - K.coordinators)).flight
@@ -103,7 +103,7 @@ module _ (K : Shape) (lane : ℕ) (logs shards logs' shards' : ℕ → Sight) (s
   log' = logs' (home_of K lane)
 
   -- where a record was in flight nothing was written
-  still_here : (n : ℕ) (r : Record) → F n ≡ Some r → J n ≡ I n
+  pub still_here : (n : ℕ) (r : Record) → F n ≡ Some r → J n ≡ I n
   still_here n r = elim (nat_lt n K.coordinators) as (λ c. (if c then (logs n).flight else (shards (n - K.coordinators)).flight) ≡ Some r
       → (if c then (logs' n).seen else (shards' (n - K.coordinators)).seen) ≡ (if c then (logs n).seen else (shards (n - K.coordinators)).seen)) [
         | true ↦ λ e. ((log_nodes n).flying r e).1
@@ -122,10 +122,10 @@ module _ (K : Shape) (lane : ℕ) (logs shards logs' shards' : ℕ → Sight) (s
       ]
 
   -- nothing new was left in flight
-  none_new : (pieces : List (List Compact)) → log'.flight ≡ log.flight → ((s : ℕ) → (shards' s).flight ≡ (shards s).flight) → Flown K pieces lane log shards log' shards'
+  pub none_new : (pieces : List (List Compact)) → log'.flight ≡ log.flight → ((s : ℕ) → (shards' s).flight ≡ (shards s).flight) → Flown K pieces lane log shards log' shards'
   none_new pieces here there = record { log_flown = inl here; shard_flown = λ s. inl (there s) }
 
-  none_done : (pieces : List (List Compact)) → log' ≡ log → shards' ≡ shards → Flown K pieces lane log shards log' shards'
+  pub none_done : (pieces : List (List Compact)) → log' ≡ log → shards' ≡ shards → Flown K pieces lane log shards log' shards'
   none_done pieces here there = none_new pieces (ap (λ s. s.flight) here) (λ s. ap (λ S. (S s).flight) there)
 
   module _ (idle : (slot log.seen lane).phase ≡ Idle) (txs : List Compact) where

@@ -4,3 +4,4 @@ pub mod Headers
 pub mod Turned
 pub mod Checking
 pub mod Flying
+pub mod Launching

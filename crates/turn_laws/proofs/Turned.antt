@@ -89,7 +89,7 @@ module _ (K : Shape) (lane : ℕ) (logs shards logs' shards' : ℕ → Sight) (s
   none_done e s mint submissions kept = stays [] mint submissions (pass_none (IsProperCompact submissions)) ((taken_law K lane logs shards logs' shards' elsewhere).4 e s) kept
 
   -- so is what is in flight, where it is so at the lane's coordinator and at the shards
-  same_flights : log'.flight ≡ log.flight → ((s : ℕ) → (shards' s).flight ≡ (shards s).flight) → SameFlights logs shards logs' shards'
+  pub same_flights : log'.flight ≡ log.flight → ((s : ℕ) → (shards' s).flight ≡ (shards s).flight) → SameFlights logs shards logs' shards'
   same_flights here there = record { logs_same = λ n. go n (eqb_tells n (home_of K lane)); shards_same = there }
     where
       go : (n : ℕ) → (((n == home_of K lane) ≡ true) × (n ≡ home_of K lane)) ⊎ (((n == home_of K lane) ≡ false) × (n ≢ home_of K lane)) → (logs' n).flight ≡ (logs n).flight
@@ -104,11 +104,6 @@ module _ (K : Shape) (lane : ℕ) (logs shards logs' shards' : ℕ → Sight) (s
     batch_keeps reports (r, is, done) mint submissions kept all =
         stays (txs ∷ []) mint submissions (pass_one (IsProperCompact submissions) txs all)
         ((taken_law K lane logs shards logs' shards' elsewhere).0 (slot log.seen lane).number txs r.batch r.outcomes (done (slot log.seen lane).number (settled mint submissions kept))) kept
-
-    pub batch_same : (reports : List BatchReport) → IsOneBatch K true lane txs log shards log' shards' reports → OfKept K I (λ _ _. SameFlights logs shards logs' shards')
-    batch_same reports (r, is, done) mint submissions kept =
-        let d = done (slot log.seen lane).number (settled mint submissions kept) in
-        same_flights d.log_same d.shard_same
 
     pub stopped_keeps : (e : LaneFault) → IsBatchStopped K true lane txs log shards log' shards' e → OfKept K I (StaysKeptBy K txs I J)
     stopped_keeps e (inl none) mint submissions kept all = none_done none.1 none.2 mint submissions kept
@@ -144,11 +139,6 @@ module _ (K : Shape) (lane : ℕ) (logs shards logs' shards' : ℕ → Sight) (s
     pub resume_keeps : (IsUnfinished o.phase K o log shards → IsTakenUp K true o.batch log shards log' shards') → OfKept K I (StaysKept K I J)
     resume_keeps taken mint submissions kept = stays [] mint submissions (pass_none (IsProperCompact submissions))
         ((taken_law K lane logs shards logs' shards' elsewhere).2 o.batch lane_is (taken (still mint submissions kept))) kept
-
-    pub resume_same : (IsUnfinished o.phase K o log shards → IsTakenUp K true o.batch log shards log' shards') → OfKept K I (λ _ _. SameFlights logs shards logs' shards')
-    resume_same taken mint submissions kept =
-        let t = taken (still mint submissions kept) in
-        same_flights t.log_same t.shard_same
 
     pub left_keeps : (e : LaneFault) → IsResumeStopped K true o log shards log' shards' e → OfKept K I (StaysKept K I J)
     left_keeps e (inl none) mint submissions kept = none_done none.1 none.2 mint submissions kept

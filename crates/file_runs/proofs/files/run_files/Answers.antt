@@ -1,11 +1,13 @@
-use Rattle.std.proofs.Common.{inl, ◌≡◌, ◌∙◌, refl, sym, ap, subst, arith, get_or, take, [], ◌+◌}
-use Rattle.file_runs.proofs.Joining.{files_begin, files_step, files_end, same_file, keeps_none, keeps_fault}
+use Rattle.std.proofs.Common.{inl, ◌≡◌, ◌∙◌, refl, sym, ap, subst, arith, get_or, [], ◌+◌}
+use Rattle.file_runs.proofs.Joining.{files_begin, files_step, files_end, keeps_none, keeps_fault}
 use Rattle.file_runs.proofs.Cutting.{cut_none, cut_behind, cut_at}
 use Rattle.file_runs.proofs.FileTelling.{told_files, told_all}
 use Rattle.ledger_laws.proofs.Cuts.{end_self, end_trans}
 use Rattle.cbdc_model.specs.World.{AreIdle}
 use Rattle.ledger_runs.specs.Faults.{HaveFailed, MayHold, AllRest}
-use Rattle.file_runs.specs.Runs.{joined}
+use Rattle.file_runs.specs.Runs.{joined, IsFilesPiece}
+use Rattle.ledger_runs.proofs.Launching.{launches_begin}
+use Rattle.file_runs.proofs.Launching.{files_launch}
 use Rattle.file_runs.proofs.Pieces.{none_prepared, file_prepared, files_all_begun, files_begun, files_unbegun}
 use Rattle.file_runs.proofs.Causing.{files_cause}
 use Rattle.file_runs.proofs.Flying.{flies_none, flies_more, flies_fault, flies_all}
@@ -30,13 +32,15 @@ files-init g c = record {
   shape = refl;
   so = files_begin (g.L.Turns.shape c.args.ledger.now) (g.V.Verifier.verdict_of c.args.verifier.now) (g.L.Turns.journals c.args.ledger.now) c.requires.idle;
   told = λ _ _ _. (c.in-Ok.ensures.items, λ n. refl);
-  quiet = λ _ _ _ was. was;
+  quiet = λ was. was;
   holds = λ h. h;
   later = λ n. omega arith;
   opened = λ n. refl;
   capacity = λ n. refl;
   checked = c.requires.checked;
   flies = flies_none (g.L.Turns.shape c.args.ledger.now) [] (g.L.Turns.journals c.args.ledger.now) (g.L.Turns.flights c.args.ledger.now);
+  launches = launches_begin (g.L.Turns.shape c.args.ledger.now) (IsFilesPiece (g.L.Turns.shape c.args.ledger.now) (g.V.Verifier.verdict_of c.args.verifier.now) c.args.files.now (g.L.Turns.journals c.args.ledger.now) (g.L.Turns.journals c.args.ledger.now))
+      (g.L.Turns.journals c.args.ledger.now) (g.L.Turns.flights c.args.ledger.now);
   grows = λ n. end_self (g.L.Turns.journals c.args.ledger.now n);
   prepared = none_prepared (g.L.Turns.shape c.args.ledger.now) (g.V.Verifier.verdict_of c.args.verifier.now) (g.L.Turns.journals c.args.ledger.now);
 }
@@ -53,8 +57,7 @@ files-preserved g c =
       told = told_files (g.L.Turns.shape c.args.ledger.now) (g.L.Turns.shape c.files.ledger) (g.V.Verifier.verdict_of c.args.verifier.now) c.args.files.now c.files.txs-index c.as_slice.result.now
           (g.L.Turns.journals c.args.ledger.now) (g.L.Turns.journals c.files.ledger) (g.L.Turns.journals c.run_file.new.ledger) c.files.waves.items c.push.new.self.items c.in-Ok-run_file.wave
           is.shape c.files-test.true (subst (λ f. f ≡ get_or c.args.files.now c.files.txs-index f) (sym c.as_slice.ensures) c.txs-item.is) is.so.keeps c.in-Ok-push.ensures.items is.told c.in-Ok-run_file.ensures.told;
-      quiet = same_file (g.L.Turns.shape c.args.ledger.now) (g.L.Turns.shape c.files.ledger) (take c.files.txs-index c.args.files.now) (g.L.Turns.journals c.args.ledger.now) (g.L.Turns.journals c.files.ledger)
-          (g.L.Turns.quiet c.args.ledger.now) (g.L.Turns.quiet c.files.ledger) (g.L.Turns.quiet c.run_file.new.ledger) is.shape is.so.keeps is.quiet c.in-Ok-run_file.ensures.quiet;
+      quiet = λ was. c.in-Ok-run_file.ensures.quiet (is.quiet was);
       holds = λ h. did.holds (is.holds h);
       later = λ n. omega (arith, did.later n, is.later n);
       opened = λ n. did.opened_same n ∙ is.opened n;
@@ -63,6 +66,9 @@ files-preserved g c =
       flies = flies_more (g.L.Turns.shape c.args.ledger.now) (g.L.Turns.shape c.files.ledger) c.args.files.now c.files.txs-index c.as_slice.result.now
           (g.L.Turns.journals c.args.ledger.now) (g.L.Turns.journals c.files.ledger) (g.L.Turns.journals c.run_file.new.ledger) (g.L.Turns.flights c.args.ledger.now) (g.L.Turns.flights c.files.ledger) (g.L.Turns.flights c.run_file.new.ledger)
           is.shape c.files-test.true (subst (λ f. f ≡ get_or c.args.files.now c.files.txs-index f) (sym c.as_slice.ensures) c.txs-item.is) is.so.keeps is.flies did.flies;
+      launches = files_launch (g.L.Turns.shape c.args.ledger.now) (g.L.Turns.shape c.files.ledger) (g.V.Verifier.verdict_of c.args.verifier.now) c.args.files.now c.files.txs-index c.as_slice.result.now
+          (g.L.Turns.journals c.args.ledger.now) (g.L.Turns.journals c.files.ledger) (g.L.Turns.journals c.run_file.new.ledger) (g.L.Turns.flights c.args.ledger.now) (g.L.Turns.flights c.files.ledger) (g.L.Turns.flights c.run_file.new.ledger)
+          is.shape c.files-test.true (subst (λ f. f ≡ get_or c.args.files.now c.files.txs-index f) (sym c.as_slice.ensures) c.txs-item.is) is.prepared is.launches did.launches;
       grows = λ n. end_trans (g.L.Turns.journals c.args.ledger.now n) (g.L.Turns.journals c.files.ledger n) (g.L.Turns.journals c.run_file.new.ledger n) (is.grows n) (did.grows n);
       prepared = file_prepared (g.L.Turns.shape c.args.ledger.now) (g.L.Turns.shape c.files.ledger) (g.V.Verifier.verdict_of c.args.verifier.now) c.args.files.now c.files.txs-index c.as_slice.result.now
           (g.L.Turns.journals c.args.ledger.now) (g.L.Turns.journals c.files.ledger) (g.L.Turns.journals c.run_file.new.ledger)
@@ -196,3 +202,20 @@ returns-in-Err-push-clause-rests g c =
 
 pub returns-clause-rests : goal.returns-clause-rests
 returns-clause-rests g c lane inside = inl (inl (c.files.invariant.so.idle lane inside))
+
+pub returns-in_default-clause-launches : goal.returns-in_default-clause-launches
+returns-in_default-clause-launches g c =
+    launches_begin (g.L.Turns.shape c.args.ledger.now) (IsFilesPiece (g.L.Turns.shape c.args.ledger.now) (g.V.Verifier.verdict_of c.args.verifier.now) c.args.files.now (g.L.Turns.journals c.args.ledger.now) (g.L.Turns.journals c.args.ledger.now))
+    (g.L.Turns.journals c.args.ledger.now) (g.L.Turns.flights c.args.ledger.now)
+
+pub returns-in-Err-clause-launches : goal.returns-in-Err-clause-launches
+returns-in-Err-clause-launches g c =
+    files_launch (g.L.Turns.shape c.args.ledger.now) (g.L.Turns.shape c.files.ledger) (g.V.Verifier.verdict_of c.args.verifier.now) c.args.files.now c.files.txs-index c.as_slice.result.now
+    (g.L.Turns.journals c.args.ledger.now) (g.L.Turns.journals c.files.ledger) (g.L.Turns.journals c.run_file.new.ledger) (g.L.Turns.flights c.args.ledger.now) (g.L.Turns.flights c.files.ledger) (g.L.Turns.flights c.run_file.new.ledger)
+    c.files.invariant.shape c.files-test.true (subst (λ f. f ≡ get_or c.args.files.now c.files.txs-index f) (sym c.as_slice.ensures) c.txs-item.is) c.files.invariant.prepared c.files.invariant.launches c.run_file.ensures.launches
+
+pub returns-in-Err-push-clause-launches : goal.returns-in-Err-push-clause-launches
+returns-in-Err-push-clause-launches g c =
+    files_launch (g.L.Turns.shape c.args.ledger.now) (g.L.Turns.shape c.files.ledger) (g.V.Verifier.verdict_of c.args.verifier.now) c.args.files.now c.files.txs-index c.as_slice.result.now
+    (g.L.Turns.journals c.args.ledger.now) (g.L.Turns.journals c.files.ledger) (g.L.Turns.journals c.run_file.new.ledger) (g.L.Turns.flights c.args.ledger.now) (g.L.Turns.flights c.files.ledger) (g.L.Turns.flights c.run_file.new.ledger)
+    c.files.invariant.shape c.files-test.true (subst (λ f. f ≡ get_or c.args.files.now c.files.txs-index f) (sym c.as_slice.ensures) c.txs-item.is) c.files.invariant.prepared c.files.invariant.launches c.run_file.ensures.launches

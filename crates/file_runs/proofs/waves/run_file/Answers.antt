@@ -7,6 +7,9 @@ use Rattle.ledger_runs.specs.Faults.{HaveFailed, MayHold}
 use Rattle.file_runs.proofs.Causing.{file_begun, file_cause, file_done, wave_rests}
 use Rattle.file_runs.proofs.Pieces.{file_unbegun}
 use Rattle.file_runs.proofs.Flying.{flies_none, flies_file}
+use Rattle.ledger_runs.proofs.Launching.{launches_begin}
+use Rattle.file_runs.specs.Runs.{IsSentPiece}
+use Rattle.file_runs.proofs.Launching.{file_launches}
 use Rattle.file_runs.proofs.Ending.{file_ends}
 use Rattle.file_runs.proofs.waves.run_file.Goals as goal
 
@@ -41,8 +44,7 @@ returns-in-None-clause-runs g c =
 pub returns-in-None-clause-quiet : goal.returns-in-None-clause-quiet
 returns-in-None-clause-quiet g c =
     let none = subst (λ o. FirstFaultIs c.deref.result.now o) c.in-None.is c.first_fault.ensures in
-    of_wave (g.L.Turns.shape c.args.ledger.now) (g.V.Verifier.verdict_of c.args.verifier.now) c.args.txs.now c.in-Ok.field-0.lanes.items c.in-Ok-lanes_of.lanes.items c.run_wave.new.lanes.items
-    (g.L.Turns.journals c.args.ledger.now) (g.L.Turns.quiet c.args.ledger.now → g.L.Turns.quiet c.run_wave.new.ledger) c.in-Ok.ensures.sound c.in-Ok-lanes_of.ensures (subst (λ ls. NoFault ls) c.deref.ensures.value none) c.run_wave.ensures.quiet
+    c.run_wave.ensures.quiet (subst (λ ls. NoFault ls) c.deref.ensures.value none)
 
 pub returns-in-None-clause-told : goal.returns-in-None-clause-told
 returns-in-None-clause-told g c mint submissions kept =
@@ -102,6 +104,36 @@ returns-in-None-clause-flies g c =
     flies_file (g.L.Turns.shape c.args.ledger.now) (g.V.Verifier.verdict_of c.args.verifier.now) c.args.txs.now c.in-Ok.field-0.lanes.items c.in-Ok-lanes_of.lanes.items
     (g.L.Turns.journals c.args.ledger.now) (g.L.Turns.journals c.run_wave.new.ledger) (g.L.Turns.flights c.args.ledger.now) (g.L.Turns.flights c.run_wave.new.ledger)
     c.in-Ok.ensures.sound c.in-Ok-lanes_of.ensures c.run_wave.ensures.flies
+
+pub returns-in_default-clause-launches : goal.returns-in_default-clause-launches
+returns-in_default-clause-launches g c =
+    launches_begin (g.L.Turns.shape c.args.ledger.now) (IsSentPiece (g.L.Turns.shape c.args.ledger.now) (g.V.Verifier.verdict_of c.args.verifier.now) c.args.txs.now (g.L.Turns.journals c.args.ledger.now) (g.L.Turns.journals c.args.ledger.now))
+    (g.L.Turns.journals c.args.ledger.now) (g.L.Turns.flights c.args.ledger.now)
+
+pub returns-in_default-lanes_of-clause-launches : goal.returns-in_default-lanes_of-clause-launches
+returns-in_default-lanes_of-clause-launches g c =
+    launches_begin (g.L.Turns.shape c.args.ledger.now) (IsSentPiece (g.L.Turns.shape c.args.ledger.now) (g.V.Verifier.verdict_of c.args.verifier.now) c.args.txs.now (g.L.Turns.journals c.args.ledger.now) (g.L.Turns.journals c.args.ledger.now))
+    (g.L.Turns.journals c.args.ledger.now) (g.L.Turns.flights c.args.ledger.now)
+
+pub returns-in-Some-clause-launches : goal.returns-in-Some-clause-launches
+returns-in-Some-clause-launches g c =
+    let K = g.L.Turns.shape c.args.ledger.now in
+    let verdicts = g.V.Verifier.verdict_of c.args.verifier.now in
+    let sent = subst (λ k. AreSent k verdicts c.args.txs.now c.in-Ok.field-0.lanes.items) c.shape.ensures c.in-Ok.ensures.sent in
+    let count = subst (λ k. length c.in-Ok.field-0.lanes.items ≡ k.coordinators * k.lanes) c.shape.ensures c.in-Ok.ensures.lanes in
+    let are = c.in-Ok-lanes_of.ensures in
+    file_launches K verdicts c.args.txs.now c.in-Ok.field-0.lanes.items c.in-Ok-lanes_of.lanes.items c.run_wave.new.lanes.items (g.L.Turns.journals c.args.ledger.now) (g.L.Turns.journals c.run_wave.new.ledger)
+    (g.L.Turns.flights c.args.ledger.now) (g.L.Turns.flights c.run_wave.new.ledger) (c.run_wave.ensures.count ∙ are.count ∙ count) sent are c.run_wave.ensures.sent c.run_wave.ensures.launches
+
+pub returns-in-None-clause-launches : goal.returns-in-None-clause-launches
+returns-in-None-clause-launches g c =
+    let K = g.L.Turns.shape c.args.ledger.now in
+    let verdicts = g.V.Verifier.verdict_of c.args.verifier.now in
+    let sent = subst (λ k. AreSent k verdicts c.args.txs.now c.in-Ok.field-0.lanes.items) c.shape.ensures c.in-Ok.ensures.sent in
+    let count = subst (λ k. length c.in-Ok.field-0.lanes.items ≡ k.coordinators * k.lanes) c.shape.ensures c.in-Ok.ensures.lanes in
+    let are = c.in-Ok-lanes_of.ensures in
+    file_launches K verdicts c.args.txs.now c.in-Ok.field-0.lanes.items c.in-Ok-lanes_of.lanes.items c.run_wave.new.lanes.items (g.L.Turns.journals c.args.ledger.now) (g.L.Turns.journals c.run_wave.new.ledger)
+    (g.L.Turns.flights c.args.ledger.now) (g.L.Turns.flights c.run_wave.new.ledger) (c.run_wave.ensures.count ∙ are.count ∙ count) sent are c.run_wave.ensures.sent c.run_wave.ensures.launches
 
 pub returns-in_default-clause-least : goal.returns-in_default-clause-least
 returns-in_default-clause-least g c = inl (ap (λ e. e.fault) c.no_memory.ensures, λ n. refl)

@@ -3,14 +3,15 @@ use Rattle.std.specs.Option.{option_or}
 use Rattle.std.specs.Result.{result_err}
 use Rattle.run_laws.specs.WaveSteps.{ResumedSo, ResumingStepLaw, ResumingSkipLaw, ResumingBeginsLaw, ResumingEndsLaw}
 use Rattle.run_laws.proofs.WaveTurns.{resuming_begins_law, resuming_step_law, resuming_skip_law, resuming_ends_law}
-use Rattle.ledger_runs.proofs.Keeping.{stays, stays_next, same_next, idle_next, so_next, of_ok}
+use Rattle.ledger_runs.proofs.Keeping.{stays, stays_next, idle_next, so_next, of_ok}
 use Rattle.ledger_runs.specs.Telling.{TellResumed}
 use Rattle.ledger_laws.proofs.Cuts.{end_self, end_trans}
 use Rattle.ledger_runs.specs.Turning.{IsLaneOf}
-use Rattle.ledger_runs.specs.Faults.{HaveFailed, MayHold}
+use Rattle.ledger_runs.specs.Faults.{HaveFailed, MayHold, Nothing}
 use Rattle.ledger_runs.proofs.Faulting.{grown_end, none_taken, one_more, risen_later, holds_later}
 use Rattle.ledger_runs.proofs.Onward.{first_none, untouched_on, first_begin, rests_begin, first_next, rests_next, first_end, rests_end, first_cause}
 use Rattle.ledger_runs.proofs.Flying.{flies_next}
+use Rattle.ledger_runs.proofs.Launching.{launches_begin, launches_next}
 use Rattle.ledger_runs.proofs.WaveTelling.{resumed_told}
 use Rattle.ledger_runs.proofs.Preparing.{resumed_none}
 use Rattle.ledger_runs.proofs.resuming.resume_all.Goals as goal
@@ -28,8 +29,9 @@ lanes-init g c =
       so = λ none _ _ _. begins K E;
       told = λ none _ _ _. c.in-Ok.ensures.items;
       prepares = λ _. refl;
-      quiet = λ none _ _ _ was. was;
+      quiet = λ none was. was;
       flies = λ _ _ _ may. may;
+      launches = launches_begin K (λ _. Nothing) E (g.L.Turns.flights c.args.ledger.now);
       holds = λ h. h;
       later = λ n. omega arith;
       opened = λ n. refl;
@@ -74,9 +76,9 @@ lanes-preserved g c =
       so = λ none. so_next step skip K H turn E J L c.lanes.batches.items c.resume_next-came.new.batches.items so.shape so.keeps (so.so (none_of none).0) (of_ok came _ (none_of none).1 did.took);
       told = λ none. resumed_told K H turn E J L c.lanes.batches.items c.resume_next-came.new.batches.items so.shape so.keeps (so.so (none_of none).0) (so.told (none_of none).0) (of_ok came _ (none_of none).1 did.told);
       prepares = resumed_none K H turn E J L so.shape so.prepares did.grows did.unprepared;
-      quiet = λ none. same_next K H E J (g.L.Turns.quiet c.args.ledger.now) (g.L.Turns.quiet c.lanes.ledger) (g.L.Turns.quiet c.resume_next-came.new.ledger)
-          so.shape so.keeps (so.quiet (none_of none).0) (of_ok came _ (none_of none).1 did.quiet);
+      quiet = λ none was. of_ok came _ (none_of none).1 did.quiet (so.quiet (none_of none).0 was);
       flies = flies_next K H E J L (g.L.Turns.flights c.args.ledger.now) (g.L.Turns.flights c.lanes.ledger) (g.L.Turns.flights c.resume_next-came.new.ledger) so.shape so.keeps so.flies did.flies;
+      launches = launches_next K H E J L (g.L.Turns.flights c.args.ledger.now) (g.L.Turns.flights c.lanes.ledger) (g.L.Turns.flights c.resume_next-came.new.ledger) so.shape so.launches did.launches;
       holds = λ h. did.holds (so.holds h);
       later = λ n. omega (arith, did.later n, so.later n);
       opened = λ n. did.opened_same n ∙ so.opened n;
@@ -128,3 +130,6 @@ returns-in-None-clause-told g c =
 
 pub returns-in-None-clause-quiet : goal.returns-in-None-clause-quiet
 returns-in-None-clause-quiet g c = c.lanes.invariant.quiet c.in-None.is
+
+pub returns-in_default-clause-launches : goal.returns-in_default-clause-launches
+returns-in_default-clause-launches g c = launches_begin (g.L.Turns.shape c.args.ledger.now) (λ _. Nothing) (g.L.Turns.journals c.args.ledger.now) (g.L.Turns.flights c.args.ledger.now)

@@ -5,9 +5,9 @@ use Rattle.cbdc_model.specs.Lanes.{IsEnd}
 use Rattle.run_laws.specs.WaveSteps.{ResumedSo}
 use Rattle.lane_driver.specs.declared.fault.LaneFault.{LaneFault}
 use Rattle.ledger_runs.specs.Turning.{phase_at, OfKept, StaysKept}
-use Rattle.ledger_runs.specs.Flying.{FliesOn}
+use Rattle.ledger_runs.specs.Flying.{FliesOn, Launches}
 use Rattle.ledger_runs.specs.Telling.{TellResumed, SamePrepared}
-use Rattle.ledger_runs.specs.Faults.{TookLanes, HaveFailed, MayHold, IsUntouched, RestsOrWaits}
+use Rattle.ledger_runs.specs.Faults.{TookLanes, HaveFailed, MayHold, Nothing, IsUntouched, RestsOrWaits}
 use Rattle.ledger_runs.proofs.Onward.{FirstBelow}
 use Rattle.ledger_runs.proofs.resuming.resume_all.Given as goal
 
@@ -24,8 +24,9 @@ invariant-lanes g l =
       so : l.first ≡ None → OfKept K E (λ _ _. ResumedSo K l.lane E J);
       told : l.first ≡ None → OfKept K E (λ _ _. TellResumed K E J l.lane l.batches.items);
       prepares : SamePrepared K E J;
-      quiet : l.first ≡ None → OfKept K E (λ _ _. g.L.Turns.quiet l.fn.ledger → g.L.Turns.quiet l.ledger);
+      quiet : l.first ≡ None → g.L.Turns.quiet l.fn.ledger → g.L.Turns.quiet l.ledger;
       flies : OfKept K E (FliesOn K E J (g.L.Turns.flights l.fn.ledger) (g.L.Turns.flights l.ledger));
+      launches : Launches K (λ _. Nothing) E J (g.L.Turns.flights l.fn.ledger) (g.L.Turns.flights l.ledger);
       holds : g.L.Turns.holds l.fn.ledger → g.L.Turns.holds l.ledger;
       later : (n : ℕ) → g.L.Turns.faults l.fn.ledger n ≤ g.L.Turns.faults l.ledger n;
       opened : (n : ℕ) → g.L.Turns.opened l.ledger n ≡ g.L.Turns.opened l.fn.ledger n;

@@ -9,6 +9,8 @@ use Rattle.ledger_runs.proofs.Preparing.{none_begun, none_taken, taken_next, sti
 use Rattle.ledger_runs.proofs.WaveTelling.{tells_begin, tells_all}
 use Rattle.ledger_runs.proofs.Least.{run_theirs}
 use Rattle.ledger_runs.proofs.Flying.{flies_round}
+use Rattle.ledger_runs.specs.Flying.{Launches, AreNextPieces}
+use Rattle.ledger_runs.proofs.Launching.{launches_begin}
 use Rattle.ledger_runs.proofs.WaveKeeping.{rounds_begin, rounds_step, same_round, rounds_end, all_idle, next_start}
 use Rattle.ledger_runs.proofs.waves.run_wave.Goals as goal
 
@@ -17,8 +19,9 @@ rounds-init g c = record {
   shape = refl;
   so = rounds_begin (g.L.Turns.shape c.args.ledger.now) (g.L.Turns.journals c.args.ledger.now) c.args.lanes.now.items c.requires.count c.requires.idle c.requires.limits;
   told = λ _ _ _ _ _ _ _ fresh. tells_begin (g.L.Turns.shape c.args.ledger.now) (g.L.Turns.journals c.args.ledger.now) c.args.lanes.now.items fresh;
-  quiet = λ _ _ _ _ _ _ _ was. was;
+  quiet = λ _ was. was;
   flies = λ _ _ _ _ _ _ may. may;
+  launches = launches_begin (g.L.Turns.shape c.args.ledger.now) (AreNextPieces (g.L.Turns.shape c.args.ledger.now) c.args.lanes.now.items (g.L.Turns.journals c.args.ledger.now) (g.L.Turns.journals c.args.ledger.now)) (g.L.Turns.journals c.args.ledger.now) (g.L.Turns.flights c.args.ledger.now);
   holds = λ h. h;
   later = λ n. omega arith;
   opened = λ n. refl;
@@ -50,10 +53,16 @@ rounds-preserved g c =
           same_round K (g.L.Turns.shape c.rounds.ledger) c.rounds.start E J c.args.lanes.now.items c.rounds.lanes.items c.turns.new.lanes.items
           (AreFresh c.args.lanes.now.items) (TellSince K E J c.rounds.lanes.items) (TellSince K E L c.turns.new.lanes.items) is.shape is.so did.stopped is.told
           (subst (λ k. OfSent (g.L.Turns.shape c.rounds.ledger) J c.rounds.lanes.items c.turns.new.lanes.items (TellSince k E J c.rounds.lanes.items → TellSince k E L c.turns.new.lanes.items)) is.shape (did.told E));
-      quiet = same_round K (g.L.Turns.shape c.rounds.ledger) c.rounds.start (g.L.Turns.journals c.args.ledger.now) (g.L.Turns.journals c.rounds.ledger) c.args.lanes.now.items c.rounds.lanes.items c.turns.new.lanes.items
-          (g.L.Turns.quiet c.args.ledger.now) (g.L.Turns.quiet c.rounds.ledger) (g.L.Turns.quiet c.turns.new.ledger) is.shape is.so did.stopped is.quiet did.quiet;
+      quiet = λ none was. did.quiet none (is.quiet (did.stopped none) was);
       flies = flies_round K (g.L.Turns.shape c.rounds.ledger) c.rounds.start (g.L.Turns.journals c.args.ledger.now) (g.L.Turns.journals c.rounds.ledger) (g.L.Turns.journals c.turns.new.ledger)
           (g.L.Turns.flights c.args.ledger.now) (g.L.Turns.flights c.rounds.ledger) (g.L.Turns.flights c.turns.new.ledger) c.args.lanes.now.items c.rounds.lanes.items is.shape is.so is.flies did.flies;
+      launches =
+          let E = g.L.Turns.journals c.args.ledger.now in
+          let J = g.L.Turns.journals c.rounds.ledger in
+          let L = g.L.Turns.journals c.turns.new.ledger in
+          let F = g.L.Turns.flights c.args.ledger.now in
+          subst (λ k. HaveTaken k E J (λ _. c.rounds.start) c.rounds.lanes.items → Launches k (AreNextPieces k c.rounds.lanes.items E J) E J F (g.L.Turns.flights c.rounds.ledger)
+          → Launches k (AreNextPieces k c.turns.new.lanes.items E L) E L F (g.L.Turns.flights c.turns.new.ledger)) is.shape (did.launches E F) is.taken is.launches;
       holds = λ h. did.holds (is.holds h);
       later = λ n. omega (arith, did.later n, is.later n);
       opened = λ n. did.opened_same n ∙ is.opened n;
@@ -120,3 +129,6 @@ returns-clause-theirs g c =
     let short = subst (λ ls. AreShorter ls c.longest-most.result) c.deref.ensures.value c.longest-most.ensures in
     run_theirs K c.rounds.start c.longest-most.result (g.L.Turns.journals c.args.ledger.now) (g.L.Turns.journals c.rounds.ledger) c.rounds.lanes.items
     (still_short c.args.lanes.now.items c.rounds.lanes.items c.longest-most.result short c.rounds.invariant.so.sent) c.rounds-test.false c.rounds.invariant.so.ready c.rounds.invariant.taken
+
+pub returns-clause-launches : goal.returns-clause-launches
+returns-clause-launches g c = c.rounds.invariant.launches

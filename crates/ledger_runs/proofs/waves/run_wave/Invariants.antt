@@ -2,7 +2,7 @@ use Rattle.std.proofs.Common.{◌≡◌, ◌≤◌, ◌-◌, ℕ, List}
 use Rattle.cbdc_model.specs.Records.{Compact}
 use Rattle.cbdc_model.specs.Lanes.{IsEnd}
 use Rattle.ledger_runs.specs.Turning.{OfKept}
-use Rattle.ledger_runs.specs.Flying.{FliesSent}
+use Rattle.ledger_runs.specs.Flying.{FliesSent, Launches, AreNextPieces}
 use Rattle.ledger_runs.specs.Waving.{HaveSent, OfSent, NoFault}
 use Rattle.ledger_runs.specs.Pieces.{HaveBegun, HaveTaken}
 use Rattle.ledger_runs.specs.Faults.{HaveFailed, MayHold, HaveCauses}
@@ -17,8 +17,9 @@ invariant-rounds g l =
       shape : g.L.Turns.shape l.ledger ≡ K;
       so : RoundsSo K l.start (g.L.Turns.journals l.fn.ledger) (g.L.Turns.journals l.ledger) l.fn.lanes.items l.lanes.items;
       told : OfSent K (g.L.Turns.journals l.fn.ledger) l.fn.lanes.items l.lanes.items (AreFresh l.fn.lanes.items → TellSince K (g.L.Turns.journals l.fn.ledger) (g.L.Turns.journals l.ledger) l.lanes.items);
-      quiet : OfSent K (g.L.Turns.journals l.fn.ledger) l.fn.lanes.items l.lanes.items (g.L.Turns.quiet l.fn.ledger → g.L.Turns.quiet l.ledger);
+      quiet : NoFault l.lanes.items → g.L.Turns.quiet l.fn.ledger → g.L.Turns.quiet l.ledger;
       flies : (sent : ℕ → List Compact) → HaveSent sent l.fn.lanes.items → OfKept K (g.L.Turns.journals l.fn.ledger) (FliesSent K sent (g.L.Turns.journals l.fn.ledger) (g.L.Turns.journals l.ledger) (g.L.Turns.flights l.fn.ledger) (g.L.Turns.flights l.ledger));
+      launches : Launches K (AreNextPieces K l.lanes.items (g.L.Turns.journals l.fn.ledger) (g.L.Turns.journals l.ledger)) (g.L.Turns.journals l.fn.ledger) (g.L.Turns.journals l.ledger) (g.L.Turns.flights l.fn.ledger) (g.L.Turns.flights l.ledger);
       holds : g.L.Turns.holds l.fn.ledger → g.L.Turns.holds l.ledger;
       later : (n : ℕ) → g.L.Turns.faults l.fn.ledger n ≤ g.L.Turns.faults l.ledger n;
       opened : (n : ℕ) → g.L.Turns.opened l.ledger n ≡ g.L.Turns.opened l.fn.ledger n;

@@ -3,6 +3,7 @@ use Rattle.ledger_runs.proofs.WaveTelling.{tells_turn}
 use Rattle.ledger_runs.proofs.Keeping.{of_ok}
 use Rattle.ledger_runs.proofs.WaveKeeping.{by_piece, took_of}
 use Rattle.ledger_runs.proofs.Flying.{flies_piece}
+use Rattle.ledger_runs.proofs.Launching.{launches_piece}
 use Rattle.ledger_runs.specs.Faults.{HaveFailed, MayHold}
 use Rattle.ledger_runs.proofs.Faulting.{turn_cause, none_by}
 use Rattle.ledger_runs.proofs.Preparing.{turn_prepared, turn_tried}
@@ -57,3 +58,11 @@ returns-clause-cause g c =
     (c.piece.ensures ∙ ap (λ l. take c.batch-size.result (drop c.args.start l)) c.deref.ensures.value
     ∙ ap (λ n. take n (drop c.args.start c.args.lane.now.txs.items)) (c.batch-size.ensures.value ∙ ap (λ s. s.batch) c.shape.ensures))
     c.take_in.ensures.cause c.run_batch-came.ensures.idle c.run_batch-came.ensures.fault
+
+pub returns-clause-launches : goal.returns-clause-launches
+returns-clause-launches g c =
+    launches_piece (g.L.Turns.shape c.args.ledger.now) c.args.number c.args.start c.args.lane.now c.piece.result.now (g.L.Turns.journals c.args.ledger.now) (g.L.Turns.journals c.run_batch-came.new.self)
+    (g.L.Turns.flights c.args.ledger.now) (g.L.Turns.flights c.run_batch-came.new.self)
+    (none_by c.args.lane.now.fault c.is_some.result c.is_some.ensures c.if-is_some.false) (omega (arith, c.if-start-len.false, c.len.ensures))
+    (c.piece.ensures ∙ ap (λ l. take c.batch-size.result (drop c.args.start l)) c.deref.ensures.value
+    ∙ ap (λ n. take n (drop c.args.start c.args.lane.now.txs.items)) (c.batch-size.ensures.value ∙ ap (λ s. s.batch) c.shape.ensures)) c.run_batch-came.ensures.launches

@@ -3,7 +3,7 @@ use Rattle.std.specs.Prelude.{slice_set}
 use Rattle.std.proofs.lemmas.List.{get_or-set_same}
 use Rattle.std.proofs.lemmas.Option.{get_or_from_slice_get}
 use Rattle.ledger_runs.specs.Turning.{OfKept, StaysKeptBy}
-use Rattle.ledger_runs.specs.Flying.{FliesOnBy}
+use Rattle.ledger_runs.specs.Flying.{FliesOnBy, Launches, IsTurnNext}
 use Rattle.ledger_runs.specs.Waving.{TookTurn}
 use Rattle.ledger_runs.specs.Telling.{TellsTurn}
 use Rattle.ledger_runs.specs.Pieces.{HasPreparedFrom, HasTriedFrom}
@@ -21,6 +21,14 @@ returns-clause-flies g c x there =
     let e = c.index_mut.ensures.value ∙ get_or_from_slice_get c.args.lanes.now.items c.args.number x c.index_mut.result.now there in
     let K = g.L.Turns.shape c.args.ledger.now in
     subst (λ y. OfKept K (g.L.Turns.journals c.args.ledger.now) (FliesOnBy K y.txs.items (g.L.Turns.journals c.args.ledger.now) (g.L.Turns.journals c.turn.new.ledger) (g.L.Turns.flights c.args.ledger.now) (g.L.Turns.flights c.turn.new.ledger))) e c.turn.ensures.flies
+
+pub returns-clause-launches : goal.returns-clause-launches
+returns-clause-launches g c x there =
+    let e = c.index_mut.ensures.value ∙ get_or_from_slice_get c.args.lanes.now.items c.args.number x c.index_mut.result.now there in
+    let K = g.L.Turns.shape c.args.ledger.now in
+    let I = g.L.Turns.journals c.args.ledger.now in
+    let J = g.L.Turns.journals c.turn.new.ledger in
+    subst (λ y. Launches K (IsTurnNext K c.args.number c.args.start y I J) I J (g.L.Turns.flights c.args.ledger.now) (g.L.Turns.flights c.turn.new.ledger)) e c.turn.ensures.launches
 
 pub returns-clause-took : goal.returns-clause-took
 returns-clause-took g c x y there after =

@@ -1,5 +1,5 @@
 use Rattle.std.proofs.Common.{◌≡◌, ◌<◌, ◌*◌, length, refl, ap, ◌∙◌, subst, arith}
-use Rattle.ledger_runs.proofs.WaveKeeping.{turns_begin, turns_step, same_turn, turns_end}
+use Rattle.ledger_runs.proofs.WaveKeeping.{turns_begin, turns_step, same_turn, quiet_turn, turns_end}
 use Rattle.ledger_runs.specs.Telling.{TellSince}
 use Rattle.ledger_runs.specs.Faults.{HaveFailed, MayHold}
 use Rattle.ledger_laws.proofs.Cuts.{end_self, end_trans}
@@ -7,6 +7,7 @@ use Rattle.ledger_runs.proofs.Faulting.{grown_end, causes_step, risen_later, hol
 use Rattle.ledger_runs.proofs.WaveTelling.{tells_step}
 use Rattle.ledger_runs.proofs.Preparing.{taken_begin, taken_step, begun_step, taken_end}
 use Rattle.ledger_runs.proofs.Flying.{flies_turn}
+use Rattle.ledger_runs.proofs.Launching.{launches_turn}
 use Rattle.ledger_runs.proofs.waves.turns.Goals as goal
 
 pub lanes-init : goal.lanes-init
@@ -17,8 +18,9 @@ lanes-init g c =
       count = c.lane_count-count.ensures.value ∙ ap (λ s. s.coordinators * s.lanes) c.shape.ensures;
       so = turns_begin K c.args.start (g.L.Turns.journals c.args.ledger.now) c.args.lanes.now.items c.requires.ready c.requires.limits;
       told = λ _ _ _ _ _ _ _ _ was. was;
-      quiet = λ _ _ _ _ _ _ _ was. was;
+      quiet = λ _ was. was;
       flies = λ _ _ _ _ _ _ may. may;
+      launches = λ E flights taken have. have;
       holds = λ h. h;
       later = λ n. omega arith;
       opened = λ n. refl;
@@ -51,11 +53,14 @@ lanes-preserved g c =
           same_turn K (g.L.Turns.shape c.lanes.ledger) c.args.start c.lanes.number I J c.args.lanes.now.items c.lanes.lanes.items c.turn_at.new.lanes.items
           (TellSince K E I c.args.lanes.now.items) (TellSince K E J c.lanes.lanes.items) (TellSince K E L c.turn_at.new.lanes.items) is.shape inside is.so did.turned (is.told E)
           (tells_step K (g.L.Turns.shape c.lanes.ledger) E J L c.lanes.number c.lanes.lanes.items c.turn_at.new.lanes.items is.shape inside did.turned did.told);
-      quiet = same_turn K (g.L.Turns.shape c.lanes.ledger) c.args.start c.lanes.number (g.L.Turns.journals c.args.ledger.now) (g.L.Turns.journals c.lanes.ledger) c.args.lanes.now.items c.lanes.lanes.items c.turn_at.new.lanes.items
-          (g.L.Turns.quiet c.args.ledger.now) (g.L.Turns.quiet c.lanes.ledger) (g.L.Turns.quiet c.turn_at.new.ledger) is.shape (omega (arith, c.lanes-test.true, is.count, many)) is.so did.turned is.quiet did.quiet;
+      quiet = quiet_turn c.lanes.number c.lanes.lanes.items c.turn_at.new.lanes.items (g.L.Turns.quiet c.args.ledger.now) (g.L.Turns.quiet c.lanes.ledger) (g.L.Turns.quiet c.turn_at.new.ledger)
+          (omega (arith, c.lanes-test.true, is.count, many)) did.turned is.quiet did.quiet;
       flies = flies_turn K (g.L.Turns.shape c.lanes.ledger) c.args.start c.lanes.number (g.L.Turns.journals c.args.ledger.now) (g.L.Turns.journals c.lanes.ledger) (g.L.Turns.journals c.turn_at.new.ledger)
           (g.L.Turns.flights c.args.ledger.now) (g.L.Turns.flights c.lanes.ledger) (g.L.Turns.flights c.turn_at.new.ledger) c.args.lanes.now.items c.lanes.lanes.items is.shape (omega (arith, c.lanes-test.true, is.count))
           (omega (arith, c.lanes-test.true, is.count, many)) is.so is.flies did.flies;
+      launches = λ E flights was have.
+          launches_turn K (g.L.Turns.shape c.lanes.ledger) c.args.start c.lanes.number E (g.L.Turns.journals c.lanes.ledger) (g.L.Turns.journals c.turn_at.new.ledger) flights (g.L.Turns.flights c.lanes.ledger) (g.L.Turns.flights c.turn_at.new.ledger)
+          c.lanes.lanes.items c.turn_at.new.lanes.items is.shape some (omega (arith, c.lanes-test.true, is.count, many)) did.turned (is.taken E was) did.launches (is.launches E flights was have);
       holds = λ h. did.holds (is.holds h);
       later = λ n. omega (arith, did.later n, is.later n);
       opened = λ n. did.opened_same n ∙ is.opened n;
@@ -103,3 +108,6 @@ returns-clause-begun g c = c.lanes.invariant.begun
 
 pub returns-clause-flies : goal.returns-clause-flies
 returns-clause-flies g c = c.lanes.invariant.flies
+
+pub returns-clause-launches : goal.returns-clause-launches
+returns-clause-launches g c = c.lanes.invariant.launches

@@ -6,6 +6,7 @@ use Rattle.cbdc_model.specs.Waves.{IsResumed, Waves}
 use Rattle.submissions.specs.Checks.{TellsSound}
 use Rattle.ledger_runs.specs.Turning.{OfKept, StaysKept}
 use Rattle.cbdc_model.specs.Lanes.{IsEnd}
+use Rattle.ledger_runs.specs.Flying.{Launches}
 use Rattle.ledger_runs.specs.Faults.{IsRunCause, HaveFailed, MayHold, AllRestSince}
 use Rattle.rack_runs.specs.Endings.{EndsRun, IsCut, IsInOrder}
 use Rattle.rack_runs.proofs.Answering.{came_cause, came_ends, by_entry}
@@ -19,6 +20,7 @@ use Rattle.rack_runs.proofs.Lent.{if_made, on_ok, lent_journals, lent_faults, le
 use Rattle.cbdc_model.specs.Sights.{HasRisen}
 use Rattle.rack_runs.specs.Kinds.{FliesBroken, ShardFliesBroken}
 use Rattle.rack_runs.proofs.Flown.{all_flown}
+use Rattle.rack_runs.proofs.Wanted.{wants_there}
 use Rattle.rack_runs.proofs.nodes.run_nodes.Goals as goal
 
 pub returns-clause-counts : goal.returns-clause-counts
@@ -113,13 +115,9 @@ pub returns-clause-quiet : goal.returns-clause-quiet
 returns-clause-quiet g c =
     let back : c.run_over-over.new.ledger ≡ record { header = c.header.inside.header; logs = c.header.inside.logs.items; shards = c.header.inside.shards.items } = cc in
     let lent : c.lend-lent.result ≡ record { header = c.args.nodes.header; logs = c.args.nodes.logs.items; shards = c.args.nodes.shards.items } = c.lend-lent.ensures in
-    let own = on_ok_by c.run_over-over.result
-    (subst (λ l. OfKept l.header.shape (journals_of g.D.Disk.count g.D.Disk.limit l.header.shape l.logs l.shards)
-    (λ _ _. AreQuiet l.logs l.shards → AreQuiet c.run_over-over.new.ledger.logs c.run_over-over.new.ledger.shards)) lent) c.run_over-over.ensures.quiet in
+    let own = on_ok_by c.run_over-over.result (subst (λ l. AreQuiet l.logs l.shards → AreQuiet c.run_over-over.new.ledger.logs c.run_over-over.new.ledger.shards) lent) c.run_over-over.ensures.quiet in
     on_ok _ c.came_of-came.result c.run_over-over.result c.came_of-came.ensures.whole
-    (on_ok_by c.run_over-over.result
-    (subst (λ l. OfKept c.args.nodes.header.shape (journals_of g.D.Disk.count g.D.Disk.limit c.args.nodes.header.shape c.args.nodes.logs.items c.args.nodes.shards.items)
-    (λ _ _. AreQuiet c.args.nodes.logs.items c.args.nodes.shards.items → AreQuiet l.logs l.shards)) back) own)
+    (on_ok_by c.run_over-over.result (subst (λ l. AreQuiet c.args.nodes.logs.items c.args.nodes.shards.items → AreQuiet l.logs l.shards) back) own)
 
 pub returns-clause-told : goal.returns-clause-told
 returns-clause-told g c =
@@ -157,12 +155,17 @@ returns-clause-fault g c =
     let back : c.run_over-over.new.ledger ≡ record { header = c.header.inside.header; logs = c.header.inside.logs.items; shards = c.header.inside.shards.items } = cc in
     let lent : c.lend-lent.result ≡ record { header = c.args.nodes.header; logs = c.args.nodes.logs.items; shards = c.args.nodes.shards.items } = c.lend-lent.ensures in
     let shape : c.run_over-over.new.ledger.header.shape ≡ c.args.nodes.header.shape = c.run_over-over.ensures.shape ∙ ap (λ l. l.header.shape) lent in
+    let still : c.header.inside.header.shape ≡ c.args.nodes.header.shape = ap (λ l. l.header.shape) (sym back) ∙ shape in
     let verdicts = g.V.Verifier.verdict_of c.args.verifier.now in
     let entry = by_entry (λ o h. IfErr c.run_over-over.result (IsRunCause c.lend-lent.result.header.shape (IsFilesPiece c.lend-lent.result.header.shape verdicts c.args.files.now (journals_of g.D.Disk.count g.D.Disk.limit c.lend-lent.result.header.shape c.lend-lent.result.logs c.lend-lent.result.shards) (journals_of g.D.Disk.count g.D.Disk.limit c.run_over-over.new.ledger.header.shape c.run_over-over.new.ledger.logs c.run_over-over.new.ledger.shards)) (journals_of g.D.Disk.count g.D.Disk.limit c.lend-lent.result.header.shape c.lend-lent.result.logs c.lend-lent.result.shards) (journals_of g.D.Disk.count g.D.Disk.limit c.run_over-over.new.ledger.header.shape c.run_over-over.new.ledger.logs c.run_over-over.new.ledger.shards) (HaveFailed o (faults_of g.D.Disk.count g.D.Disk.limit c.run_over-over.new.ledger.header.shape c.run_over-over.new.ledger.logs c.run_over-over.new.ledger.shards)) (MayHold h))) (opened_of g.D.Disk.count g.D.Disk.limit c.lend-lent.result.header.shape c.lend-lent.result.logs c.lend-lent.result.shards) (opened_of g.D.Disk.count g.D.Disk.limit c.run_over-over.new.ledger.header.shape c.run_over-over.new.ledger.logs c.run_over-over.new.ledger.shards) (capacity_of g.D.Disk.count g.D.Disk.limit c.lend-lent.result.header.shape c.lend-lent.result.logs c.lend-lent.result.shards) (capacity_of g.D.Disk.count g.D.Disk.limit c.run_over-over.new.ledger.header.shape c.run_over-over.new.ledger.logs c.run_over-over.new.ledger.shards)
     c.run_over-over.ensures.opened_same c.run_over-over.ensures.capacity_same c.run_over-over.ensures.fault in
     let own = subst (λ l. IfErr c.run_over-over.result (IsRunCause l.header.shape (IsFilesPiece l.header.shape verdicts c.args.files.now (journals_of g.D.Disk.count g.D.Disk.limit l.header.shape l.logs l.shards) (journals_of g.D.Disk.count g.D.Disk.limit c.run_over-over.new.ledger.header.shape c.run_over-over.new.ledger.logs c.run_over-over.new.ledger.shards)) (journals_of g.D.Disk.count g.D.Disk.limit l.header.shape l.logs l.shards) (journals_of g.D.Disk.count g.D.Disk.limit c.run_over-over.new.ledger.header.shape c.run_over-over.new.ledger.logs c.run_over-over.new.ledger.shards) (HaveFailed (opened_of g.D.Disk.count g.D.Disk.limit l.header.shape l.logs l.shards) (faults_of g.D.Disk.count g.D.Disk.limit c.run_over-over.new.ledger.header.shape c.run_over-over.new.ledger.logs c.run_over-over.new.ledger.shards)) (MayHold (capacity_of g.D.Disk.count g.D.Disk.limit l.header.shape l.logs l.shards)))) lent entry in
-    came_cause c.args.nodes.header.shape (IsFilesPiece c.args.nodes.header.shape verdicts c.args.files.now (journals_of g.D.Disk.count g.D.Disk.limit c.args.nodes.header.shape c.args.nodes.logs.items c.args.nodes.shards.items) (journals_of g.D.Disk.count g.D.Disk.limit c.args.nodes.header.shape c.header.inside.logs.items c.header.inside.shards.items)) (journals_of g.D.Disk.count g.D.Disk.limit c.args.nodes.header.shape c.args.nodes.logs.items c.args.nodes.shards.items) (journals_of g.D.Disk.count g.D.Disk.limit c.args.nodes.header.shape c.header.inside.logs.items c.header.inside.shards.items) (HaveFailed (opened_of g.D.Disk.count g.D.Disk.limit c.args.nodes.header.shape c.args.nodes.logs.items c.args.nodes.shards.items) (faults_of g.D.Disk.count g.D.Disk.limit c.args.nodes.header.shape c.header.inside.logs.items c.header.inside.shards.items)) (MayHold (capacity_of g.D.Disk.count g.D.Disk.limit c.args.nodes.header.shape c.args.nodes.logs.items c.args.nodes.shards.items))
-    c.came_of-came.result c.run_over-over.result c.came_of-came.ensures.fault
+    came_cause c.args.nodes.header.shape c.args.nodes.header.genesis (IsFilesPiece c.args.nodes.header.shape verdicts c.args.files.now (journals_of g.D.Disk.count g.D.Disk.limit c.args.nodes.header.shape c.args.nodes.logs.items c.args.nodes.shards.items) (journals_of g.D.Disk.count g.D.Disk.limit c.args.nodes.header.shape c.header.inside.logs.items c.header.inside.shards.items)) (journals_of g.D.Disk.count g.D.Disk.limit c.args.nodes.header.shape c.args.nodes.logs.items c.args.nodes.shards.items) (journals_of g.D.Disk.count g.D.Disk.limit c.args.nodes.header.shape c.header.inside.logs.items c.header.inside.shards.items) (HaveFailed (opened_of g.D.Disk.count g.D.Disk.limit c.args.nodes.header.shape c.args.nodes.logs.items c.args.nodes.shards.items) (faults_of g.D.Disk.count g.D.Disk.limit c.args.nodes.header.shape c.header.inside.logs.items c.header.inside.shards.items)) (MayHold (capacity_of g.D.Disk.count g.D.Disk.limit c.args.nodes.header.shape c.args.nodes.logs.items c.args.nodes.shards.items))
+    c.came_of-came.result c.run_over-over.result
+    (wants_there g.D.Disk.content g.D.Disk.images g.D.Disk.limit g.D.Disk.count c.args.nodes.header c.header.inside.header c.args.nodes.logs.items c.header.inside.logs.items c.args.nodes.shards.items c.header.inside.shards.items c.requires.ledger c.header.invariant still
+    (subst (λ k. AreChecked g.D.Disk.count g.D.Disk.limit k c.header.inside.logs.items c.header.inside.shards.items) still (subst (λ l. AreChecked g.D.Disk.count g.D.Disk.limit l.header.shape l.logs l.shards) back c.run_over-over.ensures.checked))
+    verdicts c.args.files.now c.requires.short)
+    c.came_of-came.ensures.fault
     (lent_both g.D.Disk.count g.D.Disk.limit (λ X F. IfErr c.run_over-over.result (IsRunCause c.args.nodes.header.shape (IsFilesPiece c.args.nodes.header.shape verdicts c.args.files.now (journals_of g.D.Disk.count g.D.Disk.limit c.args.nodes.header.shape c.args.nodes.logs.items c.args.nodes.shards.items) X) (journals_of g.D.Disk.count g.D.Disk.limit c.args.nodes.header.shape c.args.nodes.logs.items c.args.nodes.shards.items) X (HaveFailed (opened_of g.D.Disk.count g.D.Disk.limit c.args.nodes.header.shape c.args.nodes.logs.items c.args.nodes.shards.items) F) (MayHold (capacity_of g.D.Disk.count g.D.Disk.limit c.args.nodes.header.shape c.args.nodes.logs.items c.args.nodes.shards.items)))) c.args.nodes.header.shape c.run_over-over.new.ledger _ back shape own)
 
 pub returns-clause-least : goal.returns-clause-least
@@ -185,6 +188,20 @@ returns-clause-flies g c =
     let shape : c.run_over-over.new.ledger.header.shape ≡ c.args.nodes.header.shape = c.run_over-over.ensures.shape ∙ ap (λ l. l.header.shape) lent in
     lent_flights g.D.Disk.count g.D.Disk.limit (λ X G. OfKept c.args.nodes.header.shape (journals_of g.D.Disk.count g.D.Disk.limit c.args.nodes.header.shape c.args.nodes.logs.items c.args.nodes.shards.items) (FliesWith c.args.nodes.header.shape (joined c.args.files.now) (journals_of g.D.Disk.count g.D.Disk.limit c.args.nodes.header.shape c.args.nodes.logs.items c.args.nodes.shards.items) X (flights_of g.D.Disk.count g.D.Disk.limit c.args.nodes.header.shape c.args.nodes.logs.items c.args.nodes.shards.items) G)) c.args.nodes.header.shape c.run_over-over.new.ledger _ back shape
     (subst (λ l. OfKept l.header.shape (journals_of g.D.Disk.count g.D.Disk.limit l.header.shape l.logs l.shards) (FliesWith l.header.shape (joined c.args.files.now) (journals_of g.D.Disk.count g.D.Disk.limit l.header.shape l.logs l.shards) (journals_of g.D.Disk.count g.D.Disk.limit c.run_over-over.new.ledger.header.shape c.run_over-over.new.ledger.logs c.run_over-over.new.ledger.shards) (flights_of g.D.Disk.count g.D.Disk.limit l.header.shape l.logs l.shards) (flights_of g.D.Disk.count g.D.Disk.limit c.run_over-over.new.ledger.header.shape c.run_over-over.new.ledger.logs c.run_over-over.new.ledger.shards))) lent c.run_over-over.ensures.flies)
+
+pub returns-clause-launches : goal.returns-clause-launches
+returns-clause-launches g c =
+    let back : c.run_over-over.new.ledger ≡ record { header = c.header.inside.header; logs = c.header.inside.logs.items; shards = c.header.inside.shards.items } = cc in
+    let lent : c.lend-lent.result ≡ record { header = c.args.nodes.header; logs = c.args.nodes.logs.items; shards = c.args.nodes.shards.items } = c.lend-lent.ensures in
+    let shape : c.run_over-over.new.ledger.header.shape ≡ c.args.nodes.header.shape = c.run_over-over.ensures.shape ∙ ap (λ l. l.header.shape) lent in
+    let K = c.args.nodes.header.shape in
+    let verdicts = g.V.Verifier.verdict_of c.args.verifier.now in
+    let E = journals_of g.D.Disk.count g.D.Disk.limit K c.args.nodes.logs.items c.args.nodes.shards.items in
+    lent_flights g.D.Disk.count g.D.Disk.limit (λ X G. Launches K (IsFilesPiece K verdicts c.args.files.now E X) E X (flights_of g.D.Disk.count g.D.Disk.limit K c.args.nodes.logs.items c.args.nodes.shards.items) G) K c.run_over-over.new.ledger _ back shape
+    (subst (λ l. Launches l.header.shape (IsFilesPiece l.header.shape verdicts c.args.files.now (journals_of g.D.Disk.count g.D.Disk.limit l.header.shape l.logs l.shards)
+    (journals_of g.D.Disk.count g.D.Disk.limit c.run_over-over.new.ledger.header.shape c.run_over-over.new.ledger.logs c.run_over-over.new.ledger.shards)) (journals_of g.D.Disk.count g.D.Disk.limit l.header.shape l.logs l.shards)
+    (journals_of g.D.Disk.count g.D.Disk.limit c.run_over-over.new.ledger.header.shape c.run_over-over.new.ledger.logs c.run_over-over.new.ledger.shards) (flights_of g.D.Disk.count g.D.Disk.limit l.header.shape l.logs l.shards)
+    (flights_of g.D.Disk.count g.D.Disk.limit c.run_over-over.new.ledger.header.shape c.run_over-over.new.ledger.logs c.run_over-over.new.ledger.shards)) lent c.run_over-over.ensures.launches)
 
 pub returns-clause-begun : goal.returns-clause-begun
 returns-clause-begun g c =

@@ -1,12 +1,11 @@
 use Rattle.std.proofs.Common.{inl, inr, length, refl, sym, subst, ◌∙◌}
 use Rattle.std.proofs.lemmas.Bool.{eqb-true}
-use Rattle.ledger_runs.proofs.Keeping.{same_next}
 use Rattle.rack_runs.proofs.Resumed.{over_cut, over_keeps, flies_cut, flies_over, over_waves, over_none, over_cuts, none_of, some_of, over_told, over_told_none}
 use Rattle.ledger_laws.proofs.Cuts.{end_trans}
 use Rattle.ledger_runs.proofs.Onward.{rests_told}
 use Rattle.ledger_runs.specs.Faults.{HaveFailed, MayHold, AllRest}
 use Rattle.file_runs.specs.Endings.{EndsFiles}
-use Rattle.rack_runs.proofs.Answering.{resumed_begun, resumed_fault, filed_begun, filed_fault}
+use Rattle.rack_runs.proofs.Answering.{resumed_begun, resumed_fault, resumed_launches, filed_begun, filed_fault, filed_launches}
 use Rattle.rack_runs.proofs.over.run_over.Goals as goal
 
 pub returns-in-Err-clause-keeps : goal.returns-in-Err-clause-keeps
@@ -43,10 +42,7 @@ pub returns-then-is_empty-clause-quiet : goal.returns-then-is_empty-clause-quiet
 returns-then-is_empty-clause-quiet g c = c.in-Ok.ensures.quiet
 
 pub returns-in-Ok-run_files-clause-quiet : goal.returns-in-Ok-run_files-clause-quiet
-returns-in-Ok-run_files-clause-quiet g c =
-    same_next (g.L.Turns.shape c.args.ledger.now) (g.L.Turns.shape c.resume_all.new.ledger) (g.L.Turns.journals c.args.ledger.now) (g.L.Turns.journals c.resume_all.new.ledger)
-    (g.L.Turns.quiet c.args.ledger.now) (g.L.Turns.quiet c.resume_all.new.ledger) (g.L.Turns.quiet c.run_files.new.ledger)
-    c.resume_all.ensures.shape c.resume_all.ensures.keeps c.in-Ok.ensures.quiet c.in-Ok-run_files.ensures.quiet
+returns-in-Ok-run_files-clause-quiet g c = λ was. c.in-Ok-run_files.ensures.quiet (c.in-Ok.ensures.quiet was)
 
 pub returns-then-is_empty-clause-told : goal.returns-then-is_empty-clause-told
 returns-then-is_empty-clause-told g c =
@@ -92,6 +88,28 @@ pub returns-in-Err-run_files-clause-flies : goal.returns-in-Err-run_files-clause
 returns-in-Err-run_files-clause-flies g c =
     flies_over (g.L.Turns.shape c.args.ledger.now) (g.L.Turns.shape c.resume_all.new.ledger) c.args.files.now (g.L.Turns.journals c.args.ledger.now) (g.L.Turns.journals c.resume_all.new.ledger) (g.L.Turns.journals c.run_files.new.ledger)
     (g.L.Turns.flights c.args.ledger.now) (g.L.Turns.flights c.resume_all.new.ledger) (g.L.Turns.flights c.run_files.new.ledger) c.resume_all.ensures.shape c.resume_all.ensures.keeps c.resume_all.ensures.flies c.run_files.ensures.flies
+
+pub returns-in-Err-clause-launches : goal.returns-in-Err-clause-launches
+returns-in-Err-clause-launches g c =
+    resumed_launches (g.L.Turns.shape c.args.ledger.now) (g.V.Verifier.verdict_of c.args.verifier.now) c.args.files.now (g.L.Turns.journals c.args.ledger.now) (g.L.Turns.journals c.resume_all.new.ledger)
+    (g.L.Turns.flights c.args.ledger.now) (g.L.Turns.flights c.resume_all.new.ledger) c.resume_all.ensures.launches
+
+pub returns-then-is_empty-clause-launches : goal.returns-then-is_empty-clause-launches
+returns-then-is_empty-clause-launches g c =
+    resumed_launches (g.L.Turns.shape c.args.ledger.now) (g.V.Verifier.verdict_of c.args.verifier.now) c.args.files.now (g.L.Turns.journals c.args.ledger.now) (g.L.Turns.journals c.resume_all.new.ledger)
+    (g.L.Turns.flights c.args.ledger.now) (g.L.Turns.flights c.resume_all.new.ledger) c.resume_all.ensures.launches
+
+pub returns-in-Ok-run_files-clause-launches : goal.returns-in-Ok-run_files-clause-launches
+returns-in-Ok-run_files-clause-launches g c =
+    filed_launches (g.L.Turns.shape c.args.ledger.now) (g.L.Turns.shape c.resume_all.new.ledger) (g.V.Verifier.verdict_of c.args.verifier.now) c.args.files.now
+    (g.L.Turns.journals c.args.ledger.now) (g.L.Turns.journals c.resume_all.new.ledger) (g.L.Turns.journals c.run_files.new.ledger)
+    (g.L.Turns.flights c.args.ledger.now) (g.L.Turns.flights c.resume_all.new.ledger) (g.L.Turns.flights c.run_files.new.ledger) c.resume_all.ensures.shape c.resume_all.ensures.prepares c.resume_all.ensures.launches c.run_files.ensures.launches
+
+pub returns-in-Err-run_files-clause-launches : goal.returns-in-Err-run_files-clause-launches
+returns-in-Err-run_files-clause-launches g c =
+    filed_launches (g.L.Turns.shape c.args.ledger.now) (g.L.Turns.shape c.resume_all.new.ledger) (g.V.Verifier.verdict_of c.args.verifier.now) c.args.files.now
+    (g.L.Turns.journals c.args.ledger.now) (g.L.Turns.journals c.resume_all.new.ledger) (g.L.Turns.journals c.run_files.new.ledger)
+    (g.L.Turns.flights c.args.ledger.now) (g.L.Turns.flights c.resume_all.new.ledger) (g.L.Turns.flights c.run_files.new.ledger) c.resume_all.ensures.shape c.resume_all.ensures.prepares c.resume_all.ensures.launches c.run_files.ensures.launches
 
 pub returns-in-Err-clause-least : goal.returns-in-Err-clause-least
 returns-in-Err-clause-least g c = inl (c.resume_all.ensures.prepares, c.in-Err.ensures.least)

@@ -1,8 +1,8 @@
 use Rattle.std.proofs.Common.{◌≡◌, ◌∙◌, inl, inr, length, sym, ap, arith}
-use Rattle.rack_laws.proofs.Behind.{is_ledger, logs_return, shards_return}
+use Rattle.rack_laws.proofs.Behind.{are_quiet, is_ledger, logs_return, shards_return}
 use Rattle.rack_runs.proofs.Checking.{opened_checked}
 use Rattle.rack_runs.proofs.Answering.{lane_fault, took}
-use Rattle.rack_runs.proofs.Lent.{on_ok_by, on_ok_always, on_ok_all, if_err_by, if_err_both, if_ok_all}
+use Rattle.rack_runs.proofs.Lent.{on_ok_by, on_ok_all, if_err_by, if_err_both, if_ok_all}
 use Rattle.rack_runs.proofs.Ledgers.{ends, runs, cut_short, tells, spares, opened_room}
 use Rattle.rack_runs.proofs.racks.run_on.Goals as goal
 
@@ -39,8 +39,8 @@ returns-clause-caused g c =
     let are = c.in-Ok.ensures.opened in
     let logs : length c.run_nodes-nodes.result.nodes.logs.items ≡ length c.in-Ok.nodes.logs.items = ran.ledger.coordinators ∙ (ap (λ k. k.coordinators) ran.shape ∙ sym are.coordinators) in
     let shards : length c.run_nodes-nodes.result.nodes.shards.items ≡ length c.in-Ok.nodes.shards.items = ran.ledger.shards_are ∙ (ap (λ k. k.shards) ran.shape ∙ sym are.shards_are) in
-    on_ok_always c.run_nodes-nodes.result.came
-    (took g.R.Disk.Disk.content g.R.Disk.Disk.images g.R.Disk.Disk.limit g.R.Disk.Disk.count (g.R.Rack.held c.args.rack.now) (g.R.Rack.held c.close_nodes.new.rack) c.in-Ok.nodes.header
+    on_ok_by c.run_nodes-nodes.result.came
+    (λ quiet. took g.R.Disk.Disk.content g.R.Disk.Disk.images g.R.Disk.Disk.limit g.R.Disk.Disk.count (g.R.Rack.held c.args.rack.now) (g.R.Rack.held c.close_nodes.new.rack) c.in-Ok.nodes.header
     c.run_nodes-nodes.result.nodes.header c.in-Ok.nodes.logs.items c.run_nodes-nodes.result.nodes.logs.items c.in-Ok.nodes.shards.items c.run_nodes-nodes.result.nodes.shards.items c.in-Ok.ensures.opened c.in-Ok.ensures.caused
     ran.ledger ran.shape c.close_nodes.ensures.closed_logs c.close_nodes.ensures.closed_shards ran.stored ran.counts (g.R.Rack.count c.args.rack.now) (g.R.Rack.count c.close_nodes.new.rack)
     c.in-Ok.ensures.logs_since c.in-Ok.ensures.shards_since c.close_nodes.ensures.counted_logs c.close_nodes.ensures.counted_shards
@@ -50,7 +50,10 @@ returns-clause-caused g c =
     (spares g.R.Disk.Disk.content g.R.Disk.Disk.images g.R.Disk.Disk.limit g.R.Disk.Disk.count (g.R.Rack.held c.args.rack.now) (g.R.Rack.held c.close_nodes.new.rack) c.in-Ok.nodes.header c.run_nodes-nodes.result.nodes.header
     c.in-Ok.nodes.logs.items c.run_nodes-nodes.result.nodes.logs.items c.in-Ok.nodes.shards.items c.run_nodes-nodes.result.nodes.shards.items c.args.files.now c.in-Ok.ensures.opened ran.ledger ran.shape
     c.close_nodes.ensures.closed_logs c.close_nodes.ensures.closed_shards ran.stored
-    (λ n le. c.close_nodes.ensures.others_held n (omega (arith, le, logs, shards)) ∙ c.in-Ok.ensures.others_held n le)))
+    (λ n le. c.close_nodes.ensures.others_held n (omega (arith, le, logs, shards)) ∙ c.in-Ok.ensures.others_held n le))
+    ran.grows ran.log_rooms ran.shard_rooms
+    (quiet (are_quiet g.R.Disk.Disk.content g.R.Disk.Disk.images g.R.Disk.Disk.limit g.R.Disk.Disk.count (g.R.Rack.held c.args.rack.now) c.in-Ok.nodes.header c.in-Ok.nodes.logs.items c.in-Ok.nodes.shards.items are)))
+    ran.quiet
 
 pub returns-clause-ran : goal.returns-clause-ran
 returns-clause-ran g c =
@@ -80,10 +83,11 @@ returns-clause-stopped g c =
     (lane_fault g.R.Disk.Disk.content g.R.Disk.Disk.images g.R.Disk.Disk.limit g.R.Disk.Disk.count (g.R.Rack.held c.args.rack.now) (g.R.Rack.held c.close_nodes.new.rack) c.in-Ok.nodes.header
     c.run_nodes-nodes.result.nodes.header c.in-Ok.nodes.logs.items c.run_nodes-nodes.result.nodes.logs.items c.in-Ok.nodes.shards.items c.run_nodes-nodes.result.nodes.shards.items c.in-Ok.ensures.opened c.in-Ok.ensures.caused
     ran.ledger ran.shape c.close_nodes.ensures.closed_logs c.close_nodes.ensures.closed_shards ran.stored ran.counts (g.R.Rack.count c.args.rack.now) (g.R.Rack.count c.close_nodes.new.rack)
-    c.in-Ok.ensures.logs_since c.in-Ok.ensures.shards_since c.close_nodes.ensures.counted_logs c.close_nodes.ensures.counted_shards (g.V.Verifier.verdict_of c.args.verifier.now) c.args.files.now ran.begun ran.grows e came.0 came.1 ran.keeps ran.cut ran.in_order ran.flown ran.rests
+    c.in-Ok.ensures.logs_since c.in-Ok.ensures.shards_since c.close_nodes.ensures.counted_logs c.close_nodes.ensures.counted_shards (g.V.Verifier.verdict_of c.args.verifier.now) c.args.files.now ran.begun ran.grows e came.0 came.1 ran.keeps ran.cut ran.in_order ran.flown ran.launches ran.rests
     (opened_room g.R.Disk.Disk.content g.R.Disk.Disk.images g.R.Disk.Disk.limit g.R.Disk.Disk.count (g.R.Rack.held c.args.rack.now) (g.R.Rack.held c.close_nodes.new.rack) c.in-Ok.nodes.header c.run_nodes-nodes.result.nodes.header
     c.in-Ok.nodes.logs.items c.run_nodes-nodes.result.nodes.logs.items c.in-Ok.nodes.shards.items c.run_nodes-nodes.result.nodes.shards.items c.args.files.now c.in-Ok.ensures.opened ran.ledger ran.shape
     c.close_nodes.ensures.closed_logs c.close_nodes.ensures.closed_shards ran.stored)
+    ran.log_rooms ran.shard_rooms
     (cut_short g.R.Disk.Disk.content g.R.Disk.Disk.images g.R.Disk.Disk.limit g.R.Disk.Disk.count (g.R.Rack.held c.args.rack.now) (g.R.Rack.held c.close_nodes.new.rack) c.in-Ok.nodes.header
     c.run_nodes-nodes.result.nodes.header c.in-Ok.nodes.logs.items c.run_nodes-nodes.result.nodes.logs.items c.in-Ok.nodes.shards.items c.run_nodes-nodes.result.nodes.shards.items c.args.files.now c.in-Ok.ensures.opened
     ran.ledger ran.shape c.close_nodes.ensures.closed_logs c.close_nodes.ensures.closed_shards ran.stored ran.keeps ran.flies ran.log_rooms ran.shard_rooms ran.log_fits ran.shard_fits)

@@ -4,7 +4,7 @@ use Rattle.ledger_runs.specs.Turning.{phase_at, IsLaneOf, OfKept, DidBatch}
 use Rattle.ledger_runs.specs.Pieces.{HasPrepared, HasPreparedAtMost, IsUnprepared}
 use Rattle.ledger_runs.specs.Faults.{IsLaneCause, HaveFailed, MayHold}
 use Rattle.ledger_nodes.specs.Ledgers.{journals_of, faults_of, opened_of, capacity_of, AreChecked, AreQuiet}
-use Rattle.ledger_nodes.proofs.Turns.{on_ok, on_err, if_ok, if_err, came_keeps, came_flies, came_quiet, came_prepared, came_does, came_full, came_checked, came_cause, came_tried, opened_same, capacity_same, ok_err, err_by}
+use Rattle.ledger_nodes.proofs.Turns.{on_ok, on_err, if_ok, if_err, came_keeps, came_flies, came_launches, came_quiet, came_prepared, came_does, came_full, came_checked, came_cause, came_tried, opened_same, capacity_same, ok_err, err_by}
 use Rattle.ledger_nodes.proofs.lent.LentLedgerTurns.run_batch.Goals.{in-Ok, in-Err}
 use Rattle.ledger_nodes.proofs.lent.LentLedgerTurns.run_batch.Goals as goal
 
@@ -29,6 +29,13 @@ returns-clause-flies g c = rw (← c.self.view_is)
     c.drive_batch.new.ports.log.logs.items c.drive_batch.new.ports.shards.nodes.items c.drive_batch.ensures.step
     (subst (λ v. phase_at v.header.shape (journals_of g.D.Disk.count g.D.Disk.limit v.header.shape v.logs v.shards) c.args.lane ≡ Idle) (sym c.self.view_is) c.requires.idle) c.args.txs.now c.drive_batch.result c.drive_batch.ensures.done c.drive_batch.ensures.stopped)
 
+pub returns-clause-launches : goal.returns-clause-launches
+returns-clause-launches g c = rw (← c.self.view_is)
+    (came_launches g.D.Disk.count g.D.Disk.limit g.D.Disk.content g.D.Disk.images c.self.inside.header c.args.lane c.self.inside.ports.log.logs.items c.self.inside.ports.shards.nodes.items c.self.invariant (subst (λ v. IsLaneOf v.header.shape c.args.lane) (sym c.self.view_is) c.requires.lane)
+    c.drive_batch.new.ports.log.logs.items c.drive_batch.new.ports.shards.nodes.items c.drive_batch.ensures.step
+    (subst (λ v. phase_at v.header.shape (journals_of g.D.Disk.count g.D.Disk.limit v.header.shape v.logs v.shards) c.args.lane ≡ Idle) (sym c.self.view_is) c.requires.idle) c.args.txs.now c.drive_batch.result c.drive_batch.ensures.done c.drive_batch.ensures.stopped
+    (subst (λ v. AreChecked g.D.Disk.count g.D.Disk.limit v.header.shape v.logs v.shards) (sym c.self.view_is) c.requires.checked))
+
 pub returns-clause-does : goal.returns-clause-does
 returns-clause-does g c = rw (← c.self.view_is) (elim c.match-drive_batch.branch [
   | in-Ok w ↦ if_ok c.match-drive_batch.result w.only.result (λ r. OfKept c.self.inside.header.shape (journals_of g.D.Disk.count g.D.Disk.limit c.self.inside.header.shape c.self.inside.ports.log.logs.items c.self.inside.ports.shards.nodes.items) (λ _ _. DidBatch c.self.inside.header.shape c.args.lane c.args.txs.now (journals_of g.D.Disk.count g.D.Disk.limit c.self.inside.header.shape c.self.inside.ports.log.logs.items c.self.inside.ports.shards.nodes.items) (journals_of g.D.Disk.count g.D.Disk.limit c.self.inside.header.shape c.drive_batch.new.ports.log.logs.items c.drive_batch.new.ports.shards.nodes.items) r)) w.result-is
@@ -43,11 +50,12 @@ returns-clause-later g c = rw (← c.self.view_is) c.drive_batch.ensures.step.la
 
 pub returns-clause-quiet : goal.returns-clause-quiet
 returns-clause-quiet g c = rw (← c.self.view_is) (elim c.match-drive_batch.branch [
-  | in-Ok w ↦ on_ok c.match-drive_batch.result w.only.result (OfKept c.self.inside.header.shape (journals_of g.D.Disk.count g.D.Disk.limit c.self.inside.header.shape c.self.inside.ports.log.logs.items c.self.inside.ports.shards.nodes.items) (λ _ _. AreQuiet c.self.inside.ports.log.logs.items c.self.inside.ports.shards.nodes.items → AreQuiet c.drive_batch.new.ports.log.logs.items c.drive_batch.new.ports.shards.nodes.items)) w.result-is
+  | in-Ok w ↦ on_ok c.match-drive_batch.result w.only.result (AreQuiet c.self.inside.ports.log.logs.items c.self.inside.ports.shards.nodes.items → AreQuiet c.drive_batch.new.ports.log.logs.items c.drive_batch.new.ports.shards.nodes.items) w.result-is
       (came_quiet g.D.Disk.count g.D.Disk.limit g.D.Disk.content g.D.Disk.images c.self.inside.header c.args.lane c.self.inside.ports.log.logs.items c.self.inside.ports.shards.nodes.items c.self.invariant (subst (λ v. IsLaneOf v.header.shape c.args.lane) (sym c.self.view_is) c.requires.lane)
       c.drive_batch.new.ports.log.logs.items c.drive_batch.new.ports.shards.nodes.items c.drive_batch.ensures.step
-      (subst (λ v. phase_at v.header.shape (journals_of g.D.Disk.count g.D.Disk.limit v.header.shape v.logs v.shards) c.args.lane ≡ Idle) (sym c.self.view_is) c.requires.idle) c.args.txs.now w.in-Ok.report.batches w.in-Ok.ensures.done)
-  | in-Err w ↦ on_err c.match-drive_batch.result w.in-Err.fault (OfKept c.self.inside.header.shape (journals_of g.D.Disk.count g.D.Disk.limit c.self.inside.header.shape c.self.inside.ports.log.logs.items c.self.inside.ports.shards.nodes.items) (λ _ _. AreQuiet c.self.inside.ports.log.logs.items c.self.inside.ports.shards.nodes.items → AreQuiet c.drive_batch.new.ports.log.logs.items c.drive_batch.new.ports.shards.nodes.items)) w.result-is
+      (subst (λ v. phase_at v.header.shape (journals_of g.D.Disk.count g.D.Disk.limit v.header.shape v.logs v.shards) c.args.lane ≡ Idle) (sym c.self.view_is) c.requires.idle) c.args.txs.now w.in-Ok.report.batches w.in-Ok.ensures.done
+      (subst (λ v. AreChecked g.D.Disk.count g.D.Disk.limit v.header.shape v.logs v.shards) (sym c.self.view_is) c.requires.checked))
+  | in-Err w ↦ on_err c.match-drive_batch.result w.in-Err.fault (AreQuiet c.self.inside.ports.log.logs.items c.self.inside.ports.shards.nodes.items → AreQuiet c.drive_batch.new.ports.log.logs.items c.drive_batch.new.ports.shards.nodes.items) w.result-is
 ])
 
 pub returns-clause-full : goal.returns-clause-full

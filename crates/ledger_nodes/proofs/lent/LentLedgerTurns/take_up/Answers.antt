@@ -1,7 +1,7 @@
 use Rattle.std.proofs.Common.{inl, Some, None, refl, sym, ap, subst}
 use Rattle.ledger_runs.specs.Turning.{IsLaneOf}
 use Rattle.ledger_nodes.specs.Ledgers.{AreChecked}
-use Rattle.ledger_nodes.proofs.Turns.{none_open, told_there, resumed_keeps, resumed_flies, resumed_quiet, resumed_took, is_opened, resumed_checked, resumed_unprepared, resumed_cause, opened_same, capacity_same}
+use Rattle.ledger_nodes.proofs.Turns.{none_open, told_there, resumed_keeps, resumed_flies, resumed_launches, resumed_quiet, resumed_took, is_opened, resumed_checked, resumed_unprepared, resumed_cause, opened_same, capacity_same}
 use Rattle.ledger_nodes.proofs.lent.LentLedgerTurns.take_up.Goals as goal
 
 pub returns-in_default-clause-fault : goal.returns-in_default-clause-fault
@@ -65,7 +65,7 @@ returns-in-Ok-drive_resume-clause-took g c = rw (← c.self.view_is)
     (told_there g.D.Disk.count g.D.Disk.limit g.D.Disk.content g.D.Disk.images c.self.inside.header c.args.lane c.self.inside.ports.log.logs.items c.self.inside.ports.shards.nodes.items c.self.invariant (subst (λ v. IsLaneOf v.header.shape c.args.lane) (sym c.self.view_is) c.requires.lane) c.home-at.result c.index.result.now c.home-at.ensures.place c.index.ensures c.in-Ok.found (Some c.in-Some.unfinished) c.in-Ok.ensures c.in-Some.is) c.in-Ok-drive_resume.batch c.in-Ok-drive_resume.ensures.resumed c.in-Ok-drive_resume.ensures.taken c.in-Ok-drive_resume.ensures.outcomes)
 
 pub returns-in_default-found-clause-quiet : goal.returns-in_default-found-clause-quiet
-returns-in_default-found-clause-quiet g c = rw (← c.self.view_is) (λ mint submissions kept was. was)
+returns-in_default-found-clause-quiet g c = rw (← c.self.view_is) (λ was. was)
 
 pub returns-in_default-found-clause-flies : goal.returns-in_default-found-clause-flies
 returns-in_default-found-clause-flies g c = rw (← c.self.view_is) (λ mint submissions kept may. may)
@@ -74,7 +74,8 @@ pub returns-in-Ok-drive_resume-clause-quiet : goal.returns-in-Ok-drive_resume-cl
 returns-in-Ok-drive_resume-clause-quiet g c = rw (← c.self.view_is)
     (resumed_quiet g.D.Disk.count g.D.Disk.limit g.D.Disk.content g.D.Disk.images c.self.inside.header c.args.lane c.self.inside.ports.log.logs.items c.self.inside.ports.shards.nodes.items c.self.invariant (subst (λ v. IsLaneOf v.header.shape c.args.lane) (sym c.self.view_is) c.requires.lane)
     c.drive_resume.new.ports.log.logs.items c.drive_resume.new.ports.shards.nodes.items c.drive_resume.ensures.step c.in-Some.unfinished
-    (told_there g.D.Disk.count g.D.Disk.limit g.D.Disk.content g.D.Disk.images c.self.inside.header c.args.lane c.self.inside.ports.log.logs.items c.self.inside.ports.shards.nodes.items c.self.invariant (subst (λ v. IsLaneOf v.header.shape c.args.lane) (sym c.self.view_is) c.requires.lane) c.home-at.result c.index.result.now c.home-at.ensures.place c.index.ensures c.in-Ok.found (Some c.in-Some.unfinished) c.in-Ok.ensures c.in-Some.is) c.in-Ok-drive_resume.ensures.taken)
+    (told_there g.D.Disk.count g.D.Disk.limit g.D.Disk.content g.D.Disk.images c.self.inside.header c.args.lane c.self.inside.ports.log.logs.items c.self.inside.ports.shards.nodes.items c.self.invariant (subst (λ v. IsLaneOf v.header.shape c.args.lane) (sym c.self.view_is) c.requires.lane) c.home-at.result c.index.result.now c.home-at.ensures.place c.index.ensures c.in-Ok.found (Some c.in-Some.unfinished) c.in-Ok.ensures c.in-Some.is) c.in-Ok-drive_resume.ensures.taken
+    (subst (λ v. AreChecked g.D.Disk.count g.D.Disk.limit v.header.shape v.logs v.shards) (sym c.self.view_is) c.requires.checked))
 
 pub returns-in-Ok-drive_resume-clause-opened : goal.returns-in-Ok-drive_resume-clause-opened
 returns-in-Ok-drive_resume-clause-opened g c = rw (← c.self.view_is)
@@ -148,3 +149,23 @@ returns-clause-fault g c = rw (← c.self.view_is)
 
 pub drive_resume-requires-clause-checked : goal.drive_resume-requires-clause-checked
 drive_resume-requires-clause-checked g c = (subst (λ v. AreChecked g.D.Disk.count g.D.Disk.limit v.header.shape v.logs v.shards) (sym c.self.view_is) c.requires.checked)
+
+pub returns-in-Ok-drive_resume-clause-launches : goal.returns-in-Ok-drive_resume-clause-launches
+returns-in-Ok-drive_resume-clause-launches g c = rw (← c.self.view_is)
+    (resumed_launches g.D.Disk.count g.D.Disk.limit g.D.Disk.content g.D.Disk.images c.self.inside.header c.args.lane c.self.inside.ports.log.logs.items c.self.inside.ports.shards.nodes.items c.self.invariant (subst (λ v. IsLaneOf v.header.shape c.args.lane) (sym c.self.view_is) c.requires.lane)
+    c.drive_resume.new.ports.log.logs.items c.drive_resume.new.ports.shards.nodes.items c.drive_resume.ensures.step c.in-Some.unfinished
+    (told_there g.D.Disk.count g.D.Disk.limit g.D.Disk.content g.D.Disk.images c.self.inside.header c.args.lane c.self.inside.ports.log.logs.items c.self.inside.ports.shards.nodes.items c.self.invariant (subst (λ v. IsLaneOf v.header.shape c.args.lane) (sym c.self.view_is) c.requires.lane) c.home-at.result c.index.result.now c.home-at.ensures.place c.index.ensures c.in-Ok.found (Some c.in-Some.unfinished) c.in-Ok.ensures c.in-Some.is) c.drive_resume.result c.drive_resume.ensures.taken c.drive_resume.ensures.left
+    (subst (λ v. AreChecked g.D.Disk.count g.D.Disk.limit v.header.shape v.logs v.shards) (sym c.self.view_is) c.requires.checked))
+
+pub returns-clause-launches : goal.returns-clause-launches
+returns-clause-launches g c = rw (← c.self.view_is)
+    (resumed_launches g.D.Disk.count g.D.Disk.limit g.D.Disk.content g.D.Disk.images c.self.inside.header c.args.lane c.self.inside.ports.log.logs.items c.self.inside.ports.shards.nodes.items c.self.invariant (subst (λ v. IsLaneOf v.header.shape c.args.lane) (sym c.self.view_is) c.requires.lane)
+    c.drive_resume.new.ports.log.logs.items c.drive_resume.new.ports.shards.nodes.items c.drive_resume.ensures.step c.in-Some.unfinished
+    (told_there g.D.Disk.count g.D.Disk.limit g.D.Disk.content g.D.Disk.images c.self.inside.header c.args.lane c.self.inside.ports.log.logs.items c.self.inside.ports.shards.nodes.items c.self.invariant (subst (λ v. IsLaneOf v.header.shape c.args.lane) (sym c.self.view_is) c.requires.lane) c.home-at.result c.index.result.now c.home-at.ensures.place c.index.ensures c.in-Ok.found (Some c.in-Some.unfinished) c.in-Ok.ensures c.in-Some.is) c.drive_resume.result c.drive_resume.ensures.taken c.drive_resume.ensures.left
+    (subst (λ v. AreChecked g.D.Disk.count g.D.Disk.limit v.header.shape v.logs v.shards) (sym c.self.view_is) c.requires.checked))
+
+pub returns-in_default-found-clause-launches : goal.returns-in_default-found-clause-launches
+returns-in_default-found-clause-launches g c = rw (← c.self.view_is) (λ n t b txs is. inl (is, refl))
+
+pub returns-in_default-clause-launches : goal.returns-in_default-clause-launches
+returns-in_default-clause-launches g c = rw (← c.self.view_is) (λ n t b txs is. inl (is, refl))
