@@ -3,4 +3,5 @@ pub mod Texts
 pub mod Outcomes
 pub mod Left
 pub mod Sizes
+pub mod Spared
 pub mod Complete

@@ -13,6 +13,7 @@ ghost use Rattle.commands.specs.Sizes.{IsSized};
 ghost use Rattle.commands.specs.Outcomes.{Did, Why};
 ghost use Rattle.command_answers.specs.Left.{IsBeforeDisks};
 ghost use Rattle.commands.specs.Left.{IsOfNoFile, IsOfNoRack, Leaves};
+ghost use Rattle.commands.specs.Spared.{AreBadOr};
 ghost use Rattle.outside.specs.Counts.{Rose};
 ghost use Rattle.printed_lines.specs.Reports.{Names};
 
@@ -152,8 +153,8 @@ fn answer_words<'a, W: Wait, I: Inbox, R: Rack, O: Sink, G: Gate>(
     ensures did { IsWell result.status → (r : Asked) × IsAsked (texts words.entry.now) r × Did (I.file inbox.old) R.Disk.content R.Disk.images R.Disk.limit (R.held rack.old) (R.held rack.new) (IsPrinted (O.taken out.old) (O.taken out.new) result.status) r }
     ensures why { IsTold (λ a. (r : Asked) × IsAsked (texts words.entry.now) r × Why (I.file inbox.old) (I.count inbox.old) (I.count inbox.new) R.Disk.content R.Disk.images R.Disk.limit R.Disk.count (R.held rack.old) (R.held rack.new) (R.count rack.old) (R.count rack.new) r a) result.status }
     ensures untouched { IsBeforeDisks result.status → rack.new ≡ rack.old }
-    ensures spared { (r : Asked) → IsAsked (texts words.entry.now) r → IsOfNoRack r → rack.new ≡ rack.old }
-    ensures unread { (r : Asked) → IsAsked (texts words.entry.now) r → IsOfNoFile r → inbox.new ≡ inbox.old }
+    ensures spared { AreBadOr IsOfNoRack (texts words.entry.now) → rack.new ≡ rack.old }
+    ensures unread { AreBadOr IsOfNoFile (texts words.entry.now) → inbox.new ≡ inbox.old }
     ensures left { (IsWell result.status → ⊥) → (rack.new ≡ rack.old) ⊎ ((r : Asked) × IsAsked (texts words.entry.now) r × Leaves (I.file inbox.old) R.Disk.content R.Disk.images R.Disk.limit (R.held rack.old) (R.held rack.new) (R.count rack.old) (R.count rack.new) r result.status) }
     ensures named { Names (AskedName (texts words.entry.now)) result.status result.name.now }
     ensures silent { IsSilent (O.taken out.old) (O.taken out.new) result.status }
@@ -212,11 +213,11 @@ pub fn process<W: Wait, I: Inbox, R: Rack, O: Sink, G: Gate>(
     // Where words are bad, a file is not read or a mint is too much, the rack is as it was.
     ensures untouched { IsBeforeDisks result.status → result.rack ≡ rack }
 
-    // A workload and a text that is shown leave the rack as it was, whatever is answered.
-    ensures spared { (r : Asked) → IsAsked (texts words.now) r → IsOfNoRack r → result.rack ≡ rack }
+    // Bad words, a workload and a text that is shown leave the rack as it was, whatever is answered.
+    ensures spared { AreBadOr IsOfNoRack (texts words.now) → result.rack ≡ rack }
 
-    // A recovery, a look at hashes, a workload and a text that is shown read no file.
-    ensures unread { (r : Asked) → IsAsked (texts words.now) r → IsOfNoFile r → inbox.new ≡ inbox.old }
+    // Where words are bad no file is read, whatever is answered, and none by a recovery, a look at hashes, a workload and a text that is shown.
+    ensures unread { AreBadOr IsOfNoFile (texts words.now) → inbox.new ≡ inbox.old }
 
     // Behind `status` and `audit` all disks are as they were read, whatever was answered.
     // Where a run or a recovery did not come through, whatever the answer, want of memory too, all disks are as they were or as they were
