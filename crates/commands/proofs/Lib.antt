@@ -3,4 +3,5 @@ pub mod Naming
 pub mod Did
 pub mod Faults
 pub mod Complete
+mod Exact
 pub mod Spared

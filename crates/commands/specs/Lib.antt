@@ -5,3 +5,4 @@ pub mod Left
 pub mod Sizes
 pub mod Spared
 pub mod Complete
+pub mod Exact

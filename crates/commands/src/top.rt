@@ -9,6 +9,7 @@ ghost use Rattle.command_line.specs.declared.request.Request.{Request as Asked};
 ghost use Rattle.commands.specs.Causes.{IsAnswered, NamedRose, RequestPlace, RequestRose, AskedName, OneNamed, RequestNames};
 ghost use Rattle.command_answers.specs.Causes.{IsDone, IsTold, IsWell, OnePlace};
 ghost use Rattle.commands.specs.Complete.{IsUnhindered};
+ghost use Rattle.commands.specs.Exact.{IsEndedLater, IsExact};
 ghost use Rattle.commands.specs.Sizes.{IsSized};
 ghost use Rattle.commands.specs.Outcomes.{Did, Why};
 ghost use Rattle.command_answers.specs.Left.{IsBeforeDisks};
@@ -227,6 +228,12 @@ pub fn process<W: Wait, I: Inbox, R: Rack, O: Sink, G: Gate>(
     // has no room or whose disk failed: those below it are as they were read, those above it hold their first records, and a crash leaves of
     // its own no first record, or what it might have left before, or, where the disk failed, the new one alone.
     ensures left { (IsWell result.status → ⊥) → (result.rack ≡ rack) ⊎ ((r : Asked) × IsAsked (texts words.now) r × Leaves (I.file inbox.old) R.Disk.content R.Disk.images R.Disk.limit (R.held rack) (R.held result.rack) (R.count rack) (R.count result.rack) r result.status) }
+
+    // Where it came through, and where it ended behind the opening of the ledger by a lane's fault or what an audit found wrong, no refusal of the opening
+    // has its cause in the disks at entry, if they tell all of that ledger. So a node is refused as NotReady, Damaged, Foreign or Full, or a record
+    // as not caused, only where it is so, and nothing is done over a ledger where it is so.
+    ensures exact { (r : Asked) → IsAsked (texts words.now) r → IsWell result.status ⊎ IsEndedLater (I.file inbox.old) R.Disk.content R.Disk.images R.Disk.limit (R.held rack) (R.held result.rack) (R.count rack) (R.count result.rack) r result.status
+        → IsExact (I.file inbox.old) R.Disk.content R.Disk.images R.Disk.limit R.Disk.count (R.held rack) r }
 
     // Where nothing hinders what is asked, it was done, unless memory ran out.
     ensures complete { (r : Asked) → IsAsked (texts words.now) r → IsUnhindered (I.file inbox.old) (I.count inbox.old) (I.count inbox.new) R.Disk.content R.Disk.limit (R.held rack) (R.count rack) (R.count result.rack) r
