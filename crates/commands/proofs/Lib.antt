@@ -4,4 +4,5 @@ pub mod Did
 pub mod Faults
 pub mod Complete
 mod Exact
+mod InMemory
 pub mod Spared

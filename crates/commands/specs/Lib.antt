@@ -6,3 +6,4 @@ pub mod Sizes
 pub mod Spared
 pub mod Complete
 pub mod Exact
+pub mod InMemory

@@ -15,6 +15,7 @@ ghost use Rattle.commands.specs.Outcomes.{Did, Why};
 ghost use Rattle.command_answers.specs.Left.{IsBeforeDisks};
 ghost use Rattle.commands.specs.Left.{IsOfNoFile, IsOfNoRack, Leaves};
 ghost use Rattle.commands.specs.Spared.{AreBadOr};
+ghost use Rattle.line_text.specs.Lines.{Text};
 ghost use Rattle.outside.specs.Counts.{Rose};
 ghost use Rattle.printed_lines.specs.Reports.{Names};
 
@@ -118,6 +119,7 @@ fn answer_to<W: Wait, I: Inbox, R: Rack, O: Sink, G: Gate>(
     ensures untouched { IsBeforeDisks result → rack.new ≡ rack.old }
     ensures spared { IsOfNoRack request.now → rack.new ≡ rack.old }
     ensures unread { IsOfNoFile request.now → inbox.new ≡ inbox.old }
+    ensures files { (name : Text) → I.file inbox.new name ≡ I.file inbox.old name }
     ensures left { (IsWell result → ⊥) → (rack.new ≡ rack.old) ⊎ Leaves (I.file inbox.old) R.Disk.content R.Disk.images R.Disk.limit (R.held rack.old) (R.held rack.new) (R.count rack.old) (R.count rack.new) request.now result }
     ensures silent { IsSilent (O.taken out.old) (O.taken out.new) result }
     ensures written_later { O.count out.old ≤ O.count out.new }
@@ -156,6 +158,7 @@ fn answer_words<'a, W: Wait, I: Inbox, R: Rack, O: Sink, G: Gate>(
     ensures untouched { IsBeforeDisks result.status → rack.new ≡ rack.old }
     ensures spared { AreBadOr IsOfNoRack (texts words.entry.now) → rack.new ≡ rack.old }
     ensures unread { AreBadOr IsOfNoFile (texts words.entry.now) → inbox.new ≡ inbox.old }
+    ensures files { (name : Text) → I.file inbox.new name ≡ I.file inbox.old name }
     ensures left { (IsWell result.status → ⊥) → (rack.new ≡ rack.old) ⊎ ((r : Asked) × IsAsked (texts words.entry.now) r × Leaves (I.file inbox.old) R.Disk.content R.Disk.images R.Disk.limit (R.held rack.old) (R.held rack.new) (R.count rack.old) (R.count rack.new) r result.status) }
     ensures named { Names (AskedName (texts words.entry.now)) result.status result.name.now }
     ensures silent { IsSilent (O.taken out.old) (O.taken out.new) result.status }
@@ -220,6 +223,9 @@ pub fn process<W: Wait, I: Inbox, R: Rack, O: Sink, G: Gate>(
     // Where words are bad no file is read, whatever is answered, and none by a recovery, a look at hashes, a workload and a text that is shown.
     ensures unread { AreBadOr IsOfNoFile (texts words.now) → inbox.new ≡ inbox.old }
 
+    // What the files hold is as before.
+    ensures files { (name : Text) → I.file inbox.new name ≡ I.file inbox.old name }
+
     // Behind `status` and `audit` all disks are as they were read, whatever was answered.
     // Where a run or a recovery did not come through, whatever the answer, want of memory too, all disks are as they were or as they were
     // read, or all is as a lane's fault leaves it: the journals of a kept ledger have grown at their ends, each lane by the first pieces
@@ -235,9 +241,9 @@ pub fn process<W: Wait, I: Inbox, R: Rack, O: Sink, G: Gate>(
     ensures exact { (r : Asked) → IsAsked (texts words.now) r → IsWell result.status ⊎ IsEndedLater (I.file inbox.old) R.Disk.content R.Disk.images R.Disk.limit (R.held rack) (R.held result.rack) (R.count rack) (R.count result.rack) r result.status
         → IsExact (I.file inbox.old) R.Disk.content R.Disk.images R.Disk.limit R.Disk.count (R.held rack) r }
 
-    // Where nothing hinders what is asked, it was done, unless memory ran out.
+    // Where nothing hinders what is asked, it was done, unless memory ran out; and its lines were written, unless the sink's count rose (`written`).
     ensures complete { (r : Asked) → IsAsked (texts words.now) r → IsUnhindered (I.file inbox.old) (I.count inbox.old) (I.count inbox.new) R.Disk.content R.Disk.limit (R.held rack) (R.count rack) (R.count result.rack) r
-        → (Rose (O.count out.old) (O.count out.new) → ⊥) → (result.status ≡ Answer.Ok) ⊎ (result.status ≡ Answer.Memory) }
+        → IsWell result.status ⊎ (result.status ≡ Answer.Memory) }
 
     ensures bad_words { result.status ≡ Answer.BadWords → IsRefused (texts words.now) WordsFault.Bad }
     ensures told { IsRefused (texts words.now) WordsFault.Bad → (result.status ≡ Answer.BadWords) ⊎ (result.status ≡ Answer.Memory) }
