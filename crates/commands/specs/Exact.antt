@@ -41,7 +41,7 @@ IsUnopenedOf files content images limit count held name before now answer =
     × IsUnopenedBy content images limit count held before now (Some (genesis_id mint)) answer
 
 -- no refusal of what is asked has its cause in the disks: of the ledger that `run` and `recover` resume, that `status` opens, and that `audit` opens by
--- its mint
+-- its mint; of other requests nothing is said
 abbrev pub IsExact : {D : Type 0} → (Text → Option (List ℕ)) → (D → Option (List ℕ)) → (D → List ℕ → Type 0) → (D → ℕ) → (D → ℕ) → (ℕ → Option D) → Request → Type 0
 IsExact files content images limit count held (Run verdicts clients) = HasNoCause content held (IsUnresumed content images limit count held)
 IsExact files content images limit count held Recover = HasNoCause content held (IsUnresumed content images limit count held)

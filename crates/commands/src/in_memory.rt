@@ -18,8 +18,9 @@ use plain_rack::{PlainRack, PlainSink};
 use std::alloc::Global;
 use std::sync::Wait;
 
-/// The same over files, nodes and an output in memory: a file that is there is read, each node that a ledger may have has a place, whose disk never
-/// fails, and the output, which takes `N` bytes, fails only where it is full. So no count of faults rises by itself.
+/// The same over files, nodes and an output in memory: a file that is there is read; the rack, which has a place for each node that a ledger may have, with
+/// a disk that never fails, stands for any rack of plain disks for all nodes of a ledger; and the output, which takes `N` bytes, fails only where it is
+/// full. So none of their counts of faults rises, but the output's at its end.
 pub fn process_in_memory<const N: usize, W: Wait, G: Gate>(
     rt: &W,
     alloc: Global,
