@@ -7,6 +7,7 @@ ghost use Rattle.printed_lines.specs.Reports.{audit_lines};
 ghost use Rattle.command_answers.specs.Causes.{IsFault, IsDone, IsTold, IsWell, OnePlace, OneRose, FileRose};
 ghost use Rattle.audit_command.specs.Audits.{WasAudited, DidAudit, WhyUnaudited, WhyNoAudit};
 ghost use Rattle.command_answers.specs.Texts.{IsPrinted, IsSilent};
+ghost use Rattle.line_text.specs.Lines.{Text};
 ghost use Rattle.command_answers.specs.Left.{IsBeforeDisks};
 
 use audit::{Totals, Verdict};
@@ -44,6 +45,7 @@ fn audit_all<I: Inbox, R: Rack>(
     ensures held { (n : ℕ) → IsBack R.Disk.images R.Disk.limit (R.held rack.old n) (R.held rack.new n) }
     ensures fault { IfErr result (IsFault (λ place. (place ≡ mint.now.place) ⊎ OnePlace clients.now place) (λ place. FileRose (I.count inbox.old) (I.count inbox.new) mint.now place ⊎ OneRose (I.count inbox.old) (I.count inbox.new) clients.now place)) }
     ensures untouched { IfErr result (λ e. IsBeforeDisks e → rack.new ≡ rack.old) }
+    ensures files { (name : Text) → I.file inbox.new name ≡ I.file inbox.old name }
     ensures back { (n : ℕ) → R.can_take rack.new n }
 {
     let mint = match mint_in(alloc, inbox, mint) {
@@ -99,6 +101,7 @@ pub fn audit<I: Inbox, R: Rack, O: Sink>(
     ensures written_later { O.count out.old ≤ O.count out.new }
     ensures untouched { IsBeforeDisks result → rack.new ≡ rack.old }
     ensures left { (n : ℕ) → IsBack R.Disk.images R.Disk.limit (R.held rack.old n) (R.held rack.new n) }
+    ensures files { (name : Text) → I.file inbox.new name ≡ I.file inbox.old name }
     ensures back { (n : ℕ) → R.can_take rack.new n }
 {
     match audit_all(alloc, mint, clients, inbox, rack) {

@@ -42,7 +42,7 @@ use Rattle.complete_laws.proofs.Openings.{unopened_none}
 use Rattle.complete_laws.proofs.Rooms.{ample_rooms, idle_rooms}
 use Rattle.complete_laws.proofs.Verdicts.{verdicts_none, verdicts_once}
 use Rattle.audit_command.specs.Audits.{IsUnsoundBy, WasAudited, WhyUnopened, WhyUnaudited, WhyNoAudit}
-use Rattle.command_answers.specs.Causes.{IsTold}
+use Rattle.command_answers.specs.Causes.{IsTold, IsWell}
 use Rattle.commands.specs.Complete.{CanInit, CanRun, CanAudit, IsUnhindered, none_sound}
 use Rattle.gen_command.specs.Generated.{WhyNoWorkload}
 use Rattle.init_command.specs.Outcomes.{WhyNoInit}
@@ -208,20 +208,19 @@ module _ {D : Type 0} (files : Text → Option (List ℕ)) (files_before files_n
     told_none : (answer : Answer) → (other : Request) × IsAsked words other × Caused other answer → answer ≡ answers.Memory
     told_none answer told = why_none told.0 answer (free_alike r told.0 (one_request_law words r told.0 asked told.1) free) told.2
 
-    pub complete : (failed : Type 0) (answer : Answer) → IsTold (λ a. (other : Request) × IsAsked words other × Caused other a) answer → (answer ≡ answers.BadWords → IsRefused words Bad)
-        → (answer ≡ answers.WriteFault → failed) → (failed → ⊥) → (answer ≡ answers.Ok) ⊎ (answer ≡ answers.Memory)
-    complete failed answers.Ok told bad written steady = inl refl
-    complete failed answers.Memory told bad written steady = inr refl
-    complete failed answers.BadWords told bad written steady = absurd (asked_law words r (has_hashes r free) asked (bad refl))
-    complete failed answers.WriteFault told bad written steady = absurd (steady (written refl))
-    complete failed (answers.BadInput file at kind) told bad written steady = inr (told_none (answers.BadInput file at kind) told)
-    complete failed (answers.TooMuch total) told bad written steady = inr (told_none (answers.TooMuch total) told)
-    complete failed (answers.NotReady n) told bad written steady = inr (told_none (answers.NotReady n) told)
-    complete failed (answers.Foreign n kept other) told bad written steady = inr (told_none (answers.Foreign n kept other) told)
-    complete failed (answers.NotEmpty n) told bad written steady = inr (told_none (answers.NotEmpty n) told)
-    complete failed (answers.Full n used need capacity) told bad written steady = inr (told_none (answers.Full n used need capacity) told)
-    complete failed (answers.Unsound place kind) told bad written steady = inr (told_none (answers.Unsound place kind) told)
-    complete failed (answers.ClockEnd n stamp) told bad written steady = inr (told_none (answers.ClockEnd n stamp) told)
-    complete failed (answers.Damaged n at) told bad written steady = inr (told_none (answers.Damaged n at) told)
-    complete failed (answers.ReadFault file) told bad written steady = inr (told_none (answers.ReadFault file) told)
-    complete failed (answers.DiskFault n) told bad written steady = inr (told_none (answers.DiskFault n) told)
+    pub complete : (answer : Answer) → IsTold (λ a. (other : Request) × IsAsked words other × Caused other a) answer → (answer ≡ answers.BadWords → IsRefused words Bad) → IsWell answer ⊎ (answer ≡ answers.Memory)
+    complete answers.Ok told bad = inl tt
+    complete answers.Memory told bad = inr refl
+    complete answers.BadWords told bad = absurd (asked_law words r (has_hashes r free) asked (bad refl))
+    complete answers.WriteFault told bad = inl tt
+    complete (answers.BadInput file at kind) told bad = inr (told_none (answers.BadInput file at kind) told)
+    complete (answers.TooMuch total) told bad = inr (told_none (answers.TooMuch total) told)
+    complete (answers.NotReady n) told bad = inr (told_none (answers.NotReady n) told)
+    complete (answers.Foreign n kept other) told bad = inr (told_none (answers.Foreign n kept other) told)
+    complete (answers.NotEmpty n) told bad = inr (told_none (answers.NotEmpty n) told)
+    complete (answers.Full n used need capacity) told bad = inr (told_none (answers.Full n used need capacity) told)
+    complete (answers.Unsound place kind) told bad = inr (told_none (answers.Unsound place kind) told)
+    complete (answers.ClockEnd n stamp) told bad = inr (told_none (answers.ClockEnd n stamp) told)
+    complete (answers.Damaged n at) told bad = inr (told_none (answers.Damaged n at) told)
+    complete (answers.ReadFault file) told bad = inr (told_none (answers.ReadFault file) told)
+    complete (answers.DiskFault n) told bad = inr (told_none (answers.DiskFault n) told)

@@ -3,4 +3,6 @@ pub mod Naming
 pub mod Did
 pub mod Faults
 pub mod Complete
+mod Exact
+mod InMemory
 pub mod Spared

@@ -1,5 +1,5 @@
 -- The name of a file that is asked for.
-use Rattle.std.proofs.Common.{◌⊎◌, ⊎_elim, inl, inr, ℕ, List}
+use Rattle.std.proofs.Common.{⊎_elim, inl, inr, ℕ, List}
 use Rattle.line_text.specs.Lines.{Text}
 use Rattle.cbdc_types.specs.declared.answer.Answer.{Answer}
 use Rattle.cbdc_types.specs.declared.answer.Answer.TheVariants as answers

@@ -9,10 +9,13 @@ ghost use Rattle.command_line.specs.declared.request.Request.{Request as Asked};
 ghost use Rattle.commands.specs.Causes.{IsAnswered, NamedRose, RequestPlace, RequestRose, AskedName, OneNamed, RequestNames};
 ghost use Rattle.command_answers.specs.Causes.{IsDone, IsTold, IsWell, OnePlace};
 ghost use Rattle.commands.specs.Complete.{IsUnhindered};
+ghost use Rattle.commands.specs.Exact.{IsEndedLater, IsExact};
 ghost use Rattle.commands.specs.Sizes.{IsSized};
 ghost use Rattle.commands.specs.Outcomes.{Did, Why};
 ghost use Rattle.command_answers.specs.Left.{IsBeforeDisks};
 ghost use Rattle.commands.specs.Left.{IsOfNoFile, IsOfNoRack, Leaves};
+ghost use Rattle.commands.specs.Spared.{AreBadOr};
+ghost use Rattle.line_text.specs.Lines.{Text};
 ghost use Rattle.outside.specs.Counts.{Rose};
 ghost use Rattle.printed_lines.specs.Reports.{Names};
 
@@ -116,6 +119,7 @@ fn answer_to<W: Wait, I: Inbox, R: Rack, O: Sink, G: Gate>(
     ensures untouched { IsBeforeDisks result → rack.new ≡ rack.old }
     ensures spared { IsOfNoRack request.now → rack.new ≡ rack.old }
     ensures unread { IsOfNoFile request.now → inbox.new ≡ inbox.old }
+    ensures files { (name : Text) → I.file inbox.new name ≡ I.file inbox.old name }
     ensures left { (IsWell result → ⊥) → (rack.new ≡ rack.old) ⊎ Leaves (I.file inbox.old) R.Disk.content R.Disk.images R.Disk.limit (R.held rack.old) (R.held rack.new) (R.count rack.old) (R.count rack.new) request.now result }
     ensures silent { IsSilent (O.taken out.old) (O.taken out.new) result }
     ensures written_later { O.count out.old ≤ O.count out.new }
@@ -152,8 +156,9 @@ fn answer_words<'a, W: Wait, I: Inbox, R: Rack, O: Sink, G: Gate>(
     ensures did { IsWell result.status → (r : Asked) × IsAsked (texts words.entry.now) r × Did (I.file inbox.old) R.Disk.content R.Disk.images R.Disk.limit (R.held rack.old) (R.held rack.new) (IsPrinted (O.taken out.old) (O.taken out.new) result.status) r }
     ensures why { IsTold (λ a. (r : Asked) × IsAsked (texts words.entry.now) r × Why (I.file inbox.old) (I.count inbox.old) (I.count inbox.new) R.Disk.content R.Disk.images R.Disk.limit R.Disk.count (R.held rack.old) (R.held rack.new) (R.count rack.old) (R.count rack.new) r a) result.status }
     ensures untouched { IsBeforeDisks result.status → rack.new ≡ rack.old }
-    ensures spared { (r : Asked) → IsAsked (texts words.entry.now) r → IsOfNoRack r → rack.new ≡ rack.old }
-    ensures unread { (r : Asked) → IsAsked (texts words.entry.now) r → IsOfNoFile r → inbox.new ≡ inbox.old }
+    ensures spared { AreBadOr IsOfNoRack (texts words.entry.now) → rack.new ≡ rack.old }
+    ensures unread { AreBadOr IsOfNoFile (texts words.entry.now) → inbox.new ≡ inbox.old }
+    ensures files { (name : Text) → I.file inbox.new name ≡ I.file inbox.old name }
     ensures left { (IsWell result.status → ⊥) → (rack.new ≡ rack.old) ⊎ ((r : Asked) × IsAsked (texts words.entry.now) r × Leaves (I.file inbox.old) R.Disk.content R.Disk.images R.Disk.limit (R.held rack.old) (R.held rack.new) (R.count rack.old) (R.count rack.new) r result.status) }
     ensures named { Names (AskedName (texts words.entry.now)) result.status result.name.now }
     ensures silent { IsSilent (O.taken out.old) (O.taken out.new) result.status }
@@ -216,11 +221,14 @@ pub fn process<W: Wait, I: Inbox, R: Rack, O: Sink, G: Gate>(
     // Where words are bad, a file is not read or a mint is too much, the rack is as it was.
     ensures untouched { IsBeforeDisks result.status → result.rack ≡ rack }
 
-    // A workload and a text that is shown leave the rack as it was, whatever is answered.
-    ensures spared { (r : Asked) → IsAsked (texts words.now) r → IsOfNoRack r → result.rack ≡ rack }
+    // Bad words, a workload and a text that is shown leave the rack as it was, whatever is answered.
+    ensures spared { AreBadOr IsOfNoRack (texts words.now) → result.rack ≡ rack }
 
-    // A recovery, a look at hashes, a workload and a text that is shown read no file.
-    ensures unread { (r : Asked) → IsAsked (texts words.now) r → IsOfNoFile r → inbox.new ≡ inbox.old }
+    // Where words are bad no file is read, whatever is answered, and none by a recovery, a look at hashes, a workload and a text that is shown.
+    ensures unread { AreBadOr IsOfNoFile (texts words.now) → inbox.new ≡ inbox.old }
+
+    // What the files hold is as before.
+    ensures files { (name : Text) → I.file inbox.new name ≡ I.file inbox.old name }
 
     // Behind `status` and `audit` all disks are as they were read, whatever was answered.
     // Where a run or a recovery did not come through, whatever the answer, want of memory too, all disks are as they were or as they were
@@ -231,9 +239,15 @@ pub fn process<W: Wait, I: Inbox, R: Rack, O: Sink, G: Gate>(
     // its own no first record, or what it might have left before, or, where the disk failed, the new one alone.
     ensures left { (IsWell result.status → ⊥) → (result.rack ≡ rack) ⊎ ((r : Asked) × IsAsked (texts words.now) r × Leaves (I.file inbox.old) R.Disk.content R.Disk.images R.Disk.limit (R.held rack) (R.held result.rack) (R.count rack) (R.count result.rack) r result.status) }
 
-    // Where nothing hinders what is asked, it was done, unless memory ran out.
+    // Where it came through, and where it ended behind the opening of the ledger by a lane's fault or what an audit found wrong, no refusal of the opening
+    // has its cause in the disks at entry, if they tell all of that ledger. So a node is refused as NotReady, Damaged, Foreign or Full, or a record
+    // as not caused, only where it is so, and nothing is done over a ledger where it is so.
+    ensures exact { (r : Asked) → IsAsked (texts words.now) r → IsWell result.status ⊎ IsEndedLater (I.file inbox.old) R.Disk.content R.Disk.images R.Disk.limit (R.held rack) (R.held result.rack) (R.count rack) (R.count result.rack) r result.status
+        → IsExact (I.file inbox.old) R.Disk.content R.Disk.images R.Disk.limit R.Disk.count (R.held rack) r }
+
+    // Where nothing hinders what is asked, it was done, unless memory ran out; and its lines were written, unless the sink's count rose (`written`).
     ensures complete { (r : Asked) → IsAsked (texts words.now) r → IsUnhindered (I.file inbox.old) (I.count inbox.old) (I.count inbox.new) R.Disk.content R.Disk.limit (R.held rack) (R.count rack) (R.count result.rack) r
-        → (Rose (O.count out.old) (O.count out.new) → ⊥) → (result.status ≡ Answer.Ok) ⊎ (result.status ≡ Answer.Memory) }
+        → IsWell result.status ⊎ (result.status ≡ Answer.Memory) }
 
     ensures bad_words { result.status ≡ Answer.BadWords → IsRefused (texts words.now) WordsFault.Bad }
     ensures told { IsRefused (texts words.now) WordsFault.Bad → (result.status ≡ Answer.BadWords) ⊎ (result.status ≡ Answer.Memory) }

@@ -4,6 +4,7 @@ ghost use Rattle.outside.specs.Counts.{Rose};
 ghost use Rattle.command_answers.specs.Causes.{IsFault, IsDone, IsTold, IsWell, FileRose};
 ghost use Rattle.init_command.specs.Outcomes.{DidInit, WhyNoInit, InitLeaves};
 ghost use Rattle.command_answers.specs.Texts.{IsPrinted, IsSilent};
+ghost use Rattle.line_text.specs.Lines.{Text};
 ghost use Rattle.command_answers.specs.Left.{IsBeforeDisks};
 ghost use Rattle.line_text.specs.Lines.{init_text};
 
@@ -29,6 +30,7 @@ fn make<I: Inbox, R: Rack>(
     ensures fault { IfErr result (IsFault (λ place. place ≡ file.now.place) (FileRose (I.count inbox.old) (I.count inbox.new) file.now)) }
     ensures untouched { IfErr result (λ e. IsBeforeDisks e → rack.new ≡ rack.old) }
     ensures left { IfErr result (λ e. (rack.new ≡ rack.old) ⊎ InitLeaves (I.file inbox.old) R.Disk.content R.Disk.images R.Disk.limit (R.held rack.old) (R.held rack.new) shape.now file.now e) }
+    ensures files { (name : Text) → I.file inbox.new name ≡ I.file inbox.old name }
     ensures back { (n : ℕ) → R.can_take rack.new n }
 {
     match mint_in(alloc, inbox, file) {
@@ -54,6 +56,7 @@ pub fn init<I: Inbox, R: Rack, O: Sink>(
     ensures written_later { O.count out.old ≤ O.count out.new }
     ensures untouched { IsBeforeDisks result → rack.new ≡ rack.old }
     ensures left { (IsWell result → ⊥) → (rack.new ≡ rack.old) ⊎ InitLeaves (I.file inbox.old) R.Disk.content R.Disk.images R.Disk.limit (R.held rack.old) (R.held rack.new) shape.now file.now result }
+    ensures files { (name : Text) → I.file inbox.new name ≡ I.file inbox.old name }
     ensures back { (n : ℕ) → R.can_take rack.new n }
 {
     let Made {

@@ -10,19 +10,18 @@ use row_text::{Block, Wrong, check_text, differ, put_count, put_word, rest, word
 use std::alloc::{AllocError, Global};
 
 /// What stands behind `$`: the text that is printed, or `~` for any, and the status, or `any`.
-pub fn check_run(alloc: Global, ran: &Ran, block: &Block) -> Result<(), Wrong> {
+pub fn check_run(alloc: Global, text: &str, status: u64, block: &Block) -> Result<(), Wrong> {
     if !block.is_any {
-        check_text(alloc, block.text.as_str(), ran.text()?)?;
+        check_text(alloc, block.text.as_str(), text)?;
     }
     if block.is_any_status {
         return Ok(());
     }
-    check_status(alloc, ran, block.status)
+    check_status(alloc, text, status, block.status)
 }
 
 // Nothing where the status is the one that is wanted.
-fn check_status(alloc: Global, ran: &Ran, wanted: u64) -> Result<(), Wrong> {
-    let (text, came) = (ran.text()?, ran.status);
+fn check_status(alloc: Global, text: &str, came: u64, wanted: u64) -> Result<(), Wrong> {
     if came == wanted {
         return Ok(());
     }

@@ -5,6 +5,7 @@ mod disks;
 mod files;
 mod looking;
 mod noting;
+mod plain;
 mod play;
 mod racks;
 mod state;

@@ -80,8 +80,8 @@ fn choice(alloc: Global, left: Left, many: usize) -> Result<Choice, AllocError> 
     })
 }
 
-// The words, the program's name first.
-fn owned(alloc: Global, words: &[&str]) -> Result<Vec<String>, AllocError> {
+/// The words, the program's name first.
+pub fn owned(alloc: Global, words: &[&str]) -> Result<Vec<String>, AllocError> {
     let mut all = Vec::new(alloc);
     for word in words {
         all.push(String::from_str(alloc, word)?)?;

@@ -1,6 +1,7 @@
 // What the steps of these rows do: whole runs of the program over disks.
 use crate::files::{name_file, name_hash, name_tx};
 use crate::looking::{check_run, look, same};
+use crate::plain::play_plain;
 use crate::play::play;
 use crate::racks::{change_disk, crash, empty_rack, keep, load, take_back};
 use crate::state::{ROOM, State};
@@ -21,7 +22,20 @@ fn run<W: Wait>(
     state.ran = Some(play(rt, alloc, state, words)?);
     state.room = ROOM;
     take_back(state, alloc)?;
-    check_run(alloc, state.last_run()?, block)
+    let ran = state.last_run()?;
+    check_run(alloc, ran.text()?, ran.status, block)
+}
+
+// Runs the program twice over devices that never fail, and checks the text of both and the status of the second.
+fn run_plain<W: Wait>(
+    rt: &W,
+    state: &State,
+    alloc: Global,
+    words: &[&str],
+    block: &Block,
+) -> Result<(), Wrong> {
+    let ran = play_plain(rt, alloc, state, words)?;
+    check_run(alloc, ran.text()?, ran.status, block)
 }
 
 // `room BYTES`: so many bytes the next run's output takes.
@@ -83,6 +97,7 @@ impl Subject for State {
         }
         match verb {
             Verb::Run => run(rt, self, alloc, behind, block),
+            Verb::Plain => run_plain(rt, self, alloc, behind, block),
             other => do_step(self, alloc, other, behind, block.text.as_str()),
         }
     }

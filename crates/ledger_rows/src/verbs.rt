@@ -5,6 +5,7 @@ use row_text::{Block, Wrong, word};
 #[derive(Clone, Copy, Drop)]
 pub enum Verb {
     Run,
+    Plain,
     Hash,
     Tx,
     File,
@@ -42,8 +43,9 @@ pub enum Verb {
 const ANY: usize = usize::MAX;
 
 // Each with how many words there may be, itself counted.
-const VERBS: [(&str, Verb, usize); 32] = [
+const VERBS: [(&str, Verb, usize); 33] = [
     ("$", Verb::Run, ANY),
+    ("plain", Verb::Plain, ANY),
     ("hash", Verb::Hash, 3),
     ("tx", Verb::Tx, ANY),
     ("file", Verb::File, ANY),
@@ -96,7 +98,7 @@ pub fn verb_of(words: &[&str]) -> Result<Verb, Wrong> {
 pub fn is_for(verb: Verb, block: &Block) -> bool {
     let is_of_run = block.is_any || block.is_any_status || block.status != 0;
     match verb {
-        Verb::Run => true,
+        Verb::Run | Verb::Plain => true,
         Verb::File | Verb::Journal | Verb::Passed => !is_of_run,
         _ => !is_of_run && block.text.is_empty(),
     }

@@ -1,4 +1,4 @@
--- A shard's disk is refused in one way at most.
+-- A node's disk is refused in one way at most.
 use Rattle.std.specs.Prelude.{◌≡◌, ◌+◌, ◌≤◌, ℕ, List}
 use Rattle.cbdc_types.specs.declared.calls.NodeOpenFault.{NodeOpenFault}
 use Rattle.cbdc_types.specs.declared.calls.NodeOpenFault.TheVariants.{DiskFault, NotReady, OtherKind, Damaged, Full, Memory}
@@ -6,6 +6,7 @@ use Rattle.cbdc_model.specs.Records.{Header, Record}
 use Rattle.cbdc_model.specs.Room.{kept_room}
 use Rattle.cbdc_model.specs.Due.{used_of}
 use Rattle.shard_node.specs.Opening.{IsShardJournal, IsNoShard}
+use Rattle.coord_log.specs.Opening.{IsCoordJournal, IsNoCoord}
 
 -- the bytes and the capacity alone decide this refusal
 abbrev pub IsOfBytes : NodeOpenFault → Type 0
@@ -16,11 +17,18 @@ IsOfBytes OtherKind = Unit {0}
 IsOfBytes (Damaged at) = Unit {0}
 IsOfBytes (Full used need capacity) = Unit {0}
 
--- two such refusals of a disk are one
-abbrev pub OneRefusalLaw : Type 0
-OneRefusalLaw = (limit : ℕ) (bytes : List ℕ) (e f : NodeOpenFault) → IsOfBytes e → IsOfBytes f → IsNoShard limit bytes e → IsNoShard limit bytes f → e ≡ f
+-- two such refusals of a disk are one, where this tells for what a disk with such room and bytes is refused
+abbrev pub OneRefusal : (ℕ → List ℕ → NodeOpenFault → Type 0) → Type 0
+OneRefusal IsNo = (limit : ℕ) (bytes : List ℕ) (e f : NodeOpenFault) → IsOfBytes e → IsOfBytes f → IsNo limit bytes e → IsNo limit bytes f → e ≡ f
 
--- a disk that holds a shard's journal, with the room that it needs, has none
+-- a disk whose bytes are such a journal, with the room that it needs, has none
+abbrev pub NoRefusal : (Header → List Record → List ℕ → Type 0) → (ℕ → List ℕ → NodeOpenFault → Type 0) → Type 0
+NoRefusal Is IsNo = (h : Header) (J : List Record) (limit : ℕ) (bytes : List ℕ) (e : NodeOpenFault) → IsOfBytes e → Is h J bytes
+    → used_of J + kept_room h.shape J ≤ limit → IsNo limit bytes e → ⊥
+
+-- of shards and of coordinators
+abbrev pub OneRefusalLaw : Type 0
+OneRefusalLaw = OneRefusal IsNoShard × OneRefusal IsNoCoord
+
 abbrev pub NoRefusalLaw : Type 0
-NoRefusalLaw = (h : Header) (J : List Record) (limit : ℕ) (bytes : List ℕ) (e : NodeOpenFault) → IsOfBytes e → IsShardJournal h J bytes
-    → used_of J + kept_room h.shape J ≤ limit → IsNoShard limit bytes e → ⊥
+NoRefusalLaw = NoRefusal IsShardJournal IsNoShard × NoRefusal IsCoordJournal IsNoCoord

@@ -9,7 +9,7 @@ pub fn opens_once_law()
     ensures { OpensOnceLaw }
 {}
 
-/// A shard's disk is refused in one way at most, and in none where it holds a shard's journal and has the room.
+/// A shard's disk is refused in one way at most, and in none where it holds a shard's journal and has the room; and so is a coordinator's.
 pub fn one_answer_law()
     ensures one { OneRefusalLaw }
     ensures none { NoRefusalLaw }

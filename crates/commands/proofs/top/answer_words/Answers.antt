@@ -35,7 +35,11 @@ returns-in-Ok-clause-named g c =
     c.in-Ok.ensures.asked c.answer_to-status.ensures.cause c.name_of-name.ensures
 
 pub returns-in-Ok-clause-spared : goal.returns-in-Ok-clause-spared
-returns-in-Ok-clause-spared g c r asked of = c.answer_to-status.ensures.spared (of_no_rack (texts c.args.words.now) r c.in-Ok.request asked c.in-Ok.ensures.asked of)
+returns-in-Ok-clause-spared g c of =
+    ⊎_elim (λ bad. absurd (asked_law (texts c.args.words.now) c.in-Ok.request c.see_request.ensures c.in-Ok.ensures.asked bad))
+    (λ so. c.answer_to-status.ensures.spared (of_no_rack (texts c.args.words.now) so.0 c.in-Ok.request so.1 c.in-Ok.ensures.asked so.2)) of
 
 pub returns-in-Ok-clause-unread : goal.returns-in-Ok-clause-unread
-returns-in-Ok-clause-unread g c r asked of = c.answer_to-status.ensures.unread (of_no_file (texts c.args.words.now) r c.in-Ok.request asked c.in-Ok.ensures.asked of)
+returns-in-Ok-clause-unread g c of =
+    ⊎_elim (λ bad. absurd (asked_law (texts c.args.words.now) c.in-Ok.request c.see_request.ensures c.in-Ok.ensures.asked bad))
+    (λ so. c.answer_to-status.ensures.unread (of_no_file (texts c.args.words.now) so.0 c.in-Ok.request so.1 c.in-Ok.ensures.asked so.2)) of

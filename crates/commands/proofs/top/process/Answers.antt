@@ -1,10 +1,11 @@
-use Rattle.std.proofs.Common.{subst, arith}
+use Rattle.std.proofs.Common.{inl, inr, ⊎_elim, subst, arith}
 use Rattle.std.proofs.lemmas.Result.{on_err_weaker}
 use Rattle.outside.specs.Counts.{Rose}
 use Rattle.command_line.specs.Words.{texts}
 use Rattle.commands.specs.Causes.{IsAnswered}
 use Rattle.command_answers.specs.Texts.{IsPrinted}
 use Rattle.commands.proofs.Complete.{complete}
+use Rattle.commands.proofs.Exact.{exact}
 use Rattle.command_answers.proofs.Counts.{rose_later}
 use Rattle.commands.proofs.Did.{did_by, printed_still}
 use Rattle.commands.proofs.Faults.{fault_printed}
@@ -50,13 +51,15 @@ returns-clause-fault_line g c =
     (on_err_weaker c.write_fault.result (rose_later before mid now now c.answer_words-status.ensures.written_later (omega arith)) c.write_fault.ensures.cause.failed)
 
 pub returns-clause-complete : goal.returns-clause-complete
-returns-clause-complete g c r asked free steady =
+returns-clause-complete g c r asked free =
     let status = c.answer_words-status.result.status in
-    let failed = Rose (g.O.Sink.count c.args.out.now) (g.O.Sink.count c.write_fault.new.out) in
     complete (g.I.Inbox.file c.args.inbox.now) (g.I.Inbox.count c.args.inbox.now) (g.I.Inbox.count c.answer_words-status.new.inbox) g.R.Disk.Disk.content g.R.Disk.Disk.images g.R.Disk.Disk.limit g.R.Disk.Disk.count
     (g.R.Rack.held c.args.rack) (g.R.Rack.held c.answer_words-status.new.rack) (g.R.Rack.count c.args.rack) (g.R.Rack.count c.answer_words-status.new.rack)
-    (texts c.args.words.now) r asked free failed status c.answer_words-status.ensures.why
+    (texts c.args.words.now) r asked free status c.answer_words-status.ensures.why
     (λ is. subst (λ a. IsAnswered (texts c.args.words.now) (g.I.Inbox.count c.args.inbox.now) (g.I.Inbox.count c.answer_words-status.new.inbox) (Rose (g.O.Sink.count c.args.out.now) (g.O.Sink.count c.answer_words-status.new.out)) a) is c.answer_words-status.ensures.cause)
-    (λ is. rose_later (g.O.Sink.count c.args.out.now) (g.O.Sink.count c.args.out.now) (g.O.Sink.count c.answer_words-status.new.out) (g.O.Sink.count c.write_fault.new.out) (omega arith) c.write_fault.ensures.cause.later
-    (subst (λ a. IsAnswered (texts c.args.words.now) (g.I.Inbox.count c.args.inbox.now) (g.I.Inbox.count c.answer_words-status.new.inbox) (Rose (g.O.Sink.count c.args.out.now) (g.O.Sink.count c.answer_words-status.new.out)) a) is c.answer_words-status.ensures.cause))
-    steady
+
+pub returns-clause-exact : goal.returns-clause-exact
+returns-clause-exact g c r asked came =
+    exact g.R.Disk.Disk.content g.R.Disk.Disk.images g.R.Disk.Disk.limit g.R.Disk.Disk.count (g.R.Rack.held c.args.rack) (g.I.Inbox.file c.args.inbox.now) (g.R.Rack.held c.answer_words-status.new.rack) (g.R.Rack.count c.args.rack) (g.R.Rack.count c.answer_words-status.new.rack)
+    (IsPrinted (g.O.Sink.taken c.args.out.now) (g.O.Sink.taken c.answer_words-status.new.out) c.answer_words-status.result.status) (texts c.args.words.now) r c.answer_words-status.result.status asked
+    (⊎_elim (λ well. inl (c.answer_words-status.ensures.did well)) (λ later. inr later) came)

@@ -1,0 +1,121 @@
+-- Of a ledger that was opened, none of whose records is not caused, no refusal has its cause in the disks.
+use Rattle.std.proofs.Common.{◌≡◌, ◌⊎◌, inl, inr, ⊎_elim, ℕ, List, reverse, Option, Some, None, Result, Ok, sym, ◌∙◌, subst, ap}
+use Rattle.line_text.specs.Lines.{Text}
+use Rattle.client_files.specs.declared.fault.BadFile.{BadFile}
+use Rattle.cbdc_types.specs.Limits.{IsWithinLimits}
+use Rattle.cbdc_types.specs.declared.answer.Answer.{Answer}
+use Rattle.cbdc_types.specs.declared.answer.Answer.TheVariants as answers
+use Rattle.cbdc_types.specs.declared.answer.UnsoundKind.{UnsoundKind}
+use Rattle.cbdc_model.specs.Records.{Digest, Shape, Record, journal}
+use Rattle.cbdc_model.specs.Coins.{Output, genesis_id}
+use Rattle.cbdc_model.specs.History.{header_of}
+use Rattle.command_line.specs.Asked.{IsAsked}
+use Rattle.command_line.specs.declared.request.FileWord.{FileWord}
+use Rattle.command_line.specs.declared.request.Request.{Request}
+use Rattle.command_line.specs.declared.request.Request.TheVariants.{Init, Run, Recover, Status, Audit, Gen, Show}
+use Rattle.word_laws.specs.Single.{AreAlike}
+use Rattle.word_laws.proofs.Single.{one_request_law}
+use Rattle.input_files.specs.Contents.{mint_of_file}
+use Rattle.audit.specs.declared.verdict.Verdict.{Verdict}
+use Rattle.audit.specs.declared.verdict.Verdict.TheVariants.{Sound, Unsound}
+use Rattle.audit_command.specs.Audits.{IsUnsoundBy, WasAudited}
+use Rattle.rack_ledgers.specs.Ledgers.{IsUnopenedBy, IsMintOf}
+use Rattle.caused_ledgers.specs.Caused.{IsCausedLedger, IsUnresumed}
+use Rattle.caused_ledgers.specs.Laws.{AllTell, EachOpens, AllHaveRoom}
+use Rattle.caused_ledgers.proofs.Refused.{none_refused, tell_told}
+use Rattle.caused_ledgers.proofs.Once.{not_both}
+use Rattle.commands.specs.Exact.{IsOfDisks, HasNoCause, IsUnopenedOf, IsExact, IsEndedLater}
+use Rattle.commands.specs.Outcomes.{Did}
+
+same_mint : (r : Result (List Output) BadFile) (a b : List Output) → r ≡ Ok a → r ≡ Ok b → a ≡ b
+same_mint r a b is also = let same = sym is ∙ also in cc
+
+module _ {D : Type 0} (content : D → Option (List ℕ)) (images : D → List ℕ → Type 0) (limit count : D → ℕ) (held : ℕ → Option D) where
+  -- what is not opened is answered by no place of a history
+  no_place : (before now : ℕ → ℕ) (id : Option Digest) (place : ℕ) (kind : UnsoundKind) → IsUnopenedBy content images limit count held before now id (answers.Unsound place kind) → ⊥
+  no_place before now id place kind (inl (inl refused)) = refused.kind
+  no_place before now None place kind (inl (inr (inl other))) = other.other
+  no_place before now (Some id) place kind (inl (inr (inl other))) = let same = other.other.1 in absurd cc
+  no_place before now id place kind (inl (inr (inr lacks))) = lacks.refused.kind
+  no_place before now id place kind (inr lacks) = lacks.refused.kind
+
+  module _ (K : Shape) (g : Digest) (J : ℕ → List Record) (limits : IsWithinLimits K) (opens : EachOpens content held K g J) (room : AllHaveRoom limit held K J) (tell : AllTell content held K) where
+    opened : (id : Option Digest) → IsMintOf id (header_of K g 0) → (before now : ℕ → ℕ) (answer : Answer) → IsOfDisks answer → IsUnopenedBy content images limit count held before now id answer → ⊥
+    opened id mint before now (answers.Unsound place kind) of cause = no_place before now id place kind cause
+    opened id mint before now answer of cause =
+        none_refused content images limit count held before now K g J (tell_told content held K g J limits opens tell) answer of (λ full. room) id mint cause
+
+  resumed : (ledger : IsCausedLedger content held) → AllHaveRoom limit held ledger.shape (λ n. journal n (reverse ledger.rows)) → HasNoCause content held (IsUnresumed content images limit count held)
+  resumed ledger room = record {
+    shape = ledger.shape;
+    genesis = ledger.genesis;
+    journals = λ n. journal n (reverse ledger.rows);
+    limits = ledger.history.limits;
+    opens = ledger.history.opened;
+    none = λ tell before now answer of cause. elim cause [
+      | inl unopened ↦ opened ledger.shape ledger.genesis (λ n. journal n (reverse ledger.rows)) ledger.history.limits ledger.history.opened room tell None tt before now answer of unopened
+      | inr later ↦ ⊎_elim (λ unsound. not_both content images limit count held ledger answer tell unsound) (λ memory. subst IsOfDisks memory of) later
+    ];
+  }
+
+  module _ (files : Text → Option (List ℕ)) where
+    audited : (file : FileWord) (clients : List FileWord) (verdict : Verdict) → WasAudited files content limit held file clients verdict → HasNoCause content held (IsUnopenedOf files content images limit count held file.name.now)
+    audited file clients verdict was =
+        let is = was.audited in
+        let J : ℕ → List Record = λ n. journal n (reverse is.rows) in
+        record {
+          shape = is.shape;
+          genesis = genesis_id was.mint;
+          journals = J;
+          limits = is.history.limits;
+          opens = is.history.opened;
+          none = λ tell before now answer of cause.
+              let (bytes, other, told, reads, unopened) = cause in
+              let same : was.mint ≡ other = same_mint (mint_of_file bytes) was.mint other (was.read bytes told) reads in
+              opened is.shape (genesis_id was.mint) J is.history.limits is.history.opened was.room tell (Some (genesis_id other)) (ap genesis_id same) before now answer of unopened;
+        }
+
+    -- what was done
+    did_exact : (now : ℕ → Option D) (printed : Text → Type 0) (r : Request) → Did files content images limit held now printed r → IsExact files content images limit count held r
+    did_exact now printed (Run verdicts clients) did = resumed did.caused.ledger did.caused.room
+    did_exact now printed Recover did = resumed did.0.ledger did.0.room
+    did_exact now printed (Status hashes) did = record {
+      shape = did.shape;
+      genesis = did.genesis;
+      journals = did.journals;
+      limits = did.limits;
+      opens = did.opened;
+      none = λ tell before now answer of cause. opened did.shape did.genesis did.journals did.limits did.opened did.room tell None tt before now answer of cause;
+    }
+    did_exact now printed (Audit mint clients) did = audited mint clients.items (Sound did.totals) did.was
+    did_exact now printed (Init shape mint) did = tt
+    did_exact now printed (Gen shape seed size) did = tt
+    did_exact now printed (Show text) did = tt
+
+    -- what ended later
+    unsound_exact : (file : FileWord) (clients : List FileWord) (answer : Answer) → IsUnsoundBy (WasAudited files content limit held file clients) answer → HasNoCause content held (IsUnopenedOf files content images limit count held file.name.now)
+    unsound_exact file clients (answers.Unsound place kind) was = audited file clients (Unsound place kind) was
+    unsound_exact file clients answer was = absurd was
+
+    later_exact : (now : ℕ → Option D) (disks_before disks_now : ℕ → ℕ) (r : Request) (answer : Answer) → IsEndedLater files content images limit held now disks_before disks_now r answer → IsExact files content images limit count held r
+    later_exact now disks_before disks_now (Run verdicts clients) answer later = let lane = later.2 in resumed lane.ledger lane.room
+    later_exact now disks_before disks_now Recover answer lane = resumed lane.ledger lane.room
+    later_exact now disks_before disks_now (Audit mint clients) answer was = unsound_exact mint clients.items answer was
+    later_exact now disks_before disks_now r answer later = absurd later
+
+    -- the same request
+    exact_alike : (r other : Request) → AreAlike r other → IsExact files content images limit count held r → IsExact files content images limit count held other
+    exact_alike (Init shape mint) (Init kind file) alike exact = tt
+    exact_alike (Run verdicts clients) (Run told words) alike exact = exact
+    exact_alike Recover Recover alike exact = exact
+    exact_alike (Status hashes) (Status sought) alike exact = exact
+    exact_alike (Audit mint clients) (Audit file words) alike exact = subst (λ (name : Text). HasNoCause content held (IsUnopenedOf files content images limit count held name)) alike.0 exact
+    exact_alike (Gen shape seed size) (Gen kind number count) alike exact = tt
+    exact_alike (Show text) (Show other) alike exact = tt
+    exact_alike _ _ alike exact = absurd alike
+
+    pub exact : (now : ℕ → Option D) (disks_before disks_now : ℕ → ℕ) (printed : Text → Type 0) (words : List Text) (r : Request) (answer : Answer) → IsAsked words r
+        → ((other : Request) × IsAsked words other × Did files content images limit held now printed other) ⊎ IsEndedLater files content images limit held now disks_before disks_now r answer
+        → IsExact files content images limit count held r
+    exact now disks_before disks_now printed words r answer asked (inl did) = exact_alike did.0 r (one_request_law words did.0 r did.1 asked) (did_exact now printed did.0 did.2)
+    exact now disks_before disks_now printed words r answer asked (inr later) = later_exact now disks_before disks_now r answer later

@@ -1,0 +1,110 @@
+-- What nothing hinders is unhindered, where no count of a file that is told rises, nor of a node that a ledger may have.
+use Rattle.std.proofs.Common.{◌≡◌, ◌⊎◌, ◌<◌, ◌≤◌, ◌+◌, inl, inr, ⊎_elim, ℕ, Bool, true, nat_lt, if◌then◌else◌, List, [], ◌∷◌, length, Option, Some, None, Result, refl, ap, arith}
+use Rattle.std.specs.Prelude.{is_some}
+use Rattle.std.proofs.lemmas.Bool.{cases_lt}
+use Rattle.outside.specs.Counts.{Rose}
+use Rattle.line_text.specs.Lines.{Text}
+use Rattle.cbdc_types.specs.declared.answer.Answer.{Answer}
+use Rattle.cbdc_types.specs.declared.answer.Answer.TheVariants as answers
+use Rattle.client_files.specs.declared.fault.BadFile.{BadFile}
+use Rattle.cbdc_model.specs.Records.{Shape}
+use Rattle.cbdc_model.specs.Coins.{FullTx}
+use Rattle.command_line.specs.Asked.{IsAsked}
+use Rattle.command_line.specs.declared.request.Request.{Request}
+use Rattle.command_line.specs.declared.request.Request.TheVariants.{Init, Run, Recover, Status, Audit, Gen, Show}
+use Rattle.verifier_port.specs.declared.file.VerdictFile.{VerdictFile}
+use Rattle.complete_laws.specs.Files.{HoldsFile, HoldsVerdicts, HoldClients}
+use Rattle.complete_laws.specs.Ready.{IsReady, NoneRises}
+use Rattle.plain_rack.specs.Sinks.{misses_at}
+use Rattle.command_answers.specs.Causes.{IsWell}
+use Rattle.commands.specs.Complete.{IsUnhindered}
+use Rattle.commands.specs.InMemory.{IsFree}
+
+module _ {D : Type 0} (files : Text → Option (List ℕ)) (files_before files_now : Text → ℕ) (content : D → Option (List ℕ)) (limit : D → ℕ) (held : ℕ → Option D) (before now : ℕ → ℕ)
+    (files_steady : (name : Text) (bytes : List ℕ) → files name ≡ Some bytes → Rose (files_before name) (files_now name) → ⊥) (nodes_steady : (n : ℕ) → n < 80 → Rose (before n) (now n) → ⊥) where
+  holds_file : {X : Type 0} (read : List ℕ → Result X BadFile) (name : Text) (held : X) → HoldsFile files (λ _. 0) (λ _. 0) read name held → HoldsFile files files_before files_now read name held
+  holds_file read name held holds = record { bytes = holds.bytes; told = holds.told; reads = holds.reads; steady = files_steady name holds.bytes holds.told }
+
+  holds_verdicts : (name : Text) (known : VerdictFile) → HoldsVerdicts files (λ _. 0) (λ _. 0) name known → HoldsVerdicts files files_before files_now name known
+  holds_verdicts name known holds = record { bytes = holds.bytes; told = holds.told; reads = holds.reads; steady = files_steady name holds.bytes holds.told }
+
+  hold_clients : (count : ℕ) (names : List Text) (handed : List (List FullTx)) → HoldClients files (λ _. 0) (λ _. 0) count names handed → HoldClients files files_before files_now count names handed
+  hold_clients count [] [] holds = holds
+  hold_clients count [] (txs ∷ more) holds = holds
+  hold_clients count (name ∷ names) [] holds = holds
+  hold_clients count (name ∷ names) (txs ∷ more) holds = (
+    record { bytes = holds.0.bytes; told = holds.0.told; reads = holds.0.reads; steady = files_steady name holds.0.bytes holds.0.told },
+    hold_clients (count + length txs) names more holds.1,
+  )
+
+  steady : (K : Shape) → K.shards ≤ 64 → K.coordinators ≤ 16 → NoneRises K before now
+  steady K shards coordinators n low = nodes_steady n (omega (arith, low, shards, coordinators))
+
+  ready : (sound : FullTx → Bool) (handed : List (List FullTx)) → IsReady content limit held (λ _. 0) (λ _. 0) sound handed → IsReady content limit held before now sound handed
+  ready sound handed is = record {
+    shape = is.shape;
+    mint = is.mint;
+    submissions = is.submissions;
+    journals = is.journals;
+    shows = is.shows;
+    ample = is.ample;
+    steady = steady is.shape is.shows.limits.shards is.shows.limits.coordinators;
+  }
+
+  pub unhindered : (words : List Text) (r : Request) → IsAsked words r → IsFree files content limit held r → IsUnhindered files files_before files_now content limit held before now r
+  unhindered words (Init shape mint) asked free =
+      let shaped = asked.1.1 in
+      record {
+        mint = free.mint;
+        holds = record { bytes = free.holds.bytes; told = free.holds.told; reads = free.holds.reads; steady = files_steady mint.name.now free.holds.bytes free.holds.told };
+        can = free.can;
+        steady = steady shape shaped.shards.2.bound shaped.coordinators.2.bound;
+      }
+  unhindered words (Run verdicts clients) asked free = record {
+    known = free.known;
+    handed = free.handed;
+    knows = holds_verdicts verdicts.name.now free.known free.knows;
+    holds = hold_clients 0 _ free.handed free.holds;
+    ready = ready _ free.handed free.ready;
+  }
+  unhindered words Recover asked free = ready _ [] free
+  unhindered words (Status hashes) asked free = (free.0, ready _ [] free.1)
+  unhindered words (Audit mint clients) asked free = record {
+    mint = free.mint;
+    handed = free.handed;
+    holds = record { bytes = free.holds.bytes; told = free.holds.told; reads = free.holds.reads; steady = files_steady mint.name.now free.holds.bytes free.holds.told };
+    clients_hold = hold_clients 0 _ free.handed free.clients_hold;
+    clean = free.clean;
+    shape = free.shape;
+    journals = free.journals;
+    shows = free.shows;
+    idle = free.idle;
+    fits = free.fits;
+    steady = steady free.shape free.shows.limits.shards free.shows.limits.coordinators;
+  }
+  unhindered words (Gen shape seed size) asked free = free
+  unhindered words (Show text) asked free = free
+
+-- ---- devices in memory
+
+-- a file that is there, and is there still, has no faults
+pub steady_file : (here still : Option (List ℕ)) (bytes : List ℕ) (old new : ℕ) → here ≡ Some bytes → still ≡ here → Rose (if is_some here then 0 else old) (if is_some still then 0 else new) → ⊥
+steady_file (Some held) (Some kept) bytes old new is same rose = omega (arith, rose)
+steady_file (Some held) None bytes old new is same rose = absurd cc
+steady_file None still bytes old new is same rose = absurd cc
+
+-- an output whose count rose is full
+pub rose_full : (most taken now before misses : ℕ) → Rose (misses_at most taken before) (misses_at most now misses) → most ≤ now
+rose_full most taken now before misses rose = elim (cases_lt now most) [
+  | inl low ↦
+      let t : nat_lt now most ≡ true = grind (arith, low) in
+      let none : misses_at most now misses ≡ 0 = ap (λ (b : Bool). if b then 0 else misses) t in
+      absurd (omega (arith, rose, none))
+  | inr past ↦ past
+]
+
+-- how it ends, where the output fails only for this
+pub ended : (full : Type 0) (a : Answer) → IsWell a ⊎ (a ≡ answers.Memory) → (a ≡ answers.WriteFault → full) → (a ≡ answers.Ok) ⊎ ((a ≡ answers.Memory) ⊎ ((a ≡ answers.WriteFault) × full))
+ended full answers.Ok came written = inl refl
+ended full answers.WriteFault came written = inr (inr (refl, written refl))
+ended full a came written = ⊎_elim (λ well. absurd well) (λ memory. inr (inl memory)) came

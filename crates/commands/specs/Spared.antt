@@ -1,0 +1,10 @@
+-- Words for which nothing is taken or read.
+use Rattle.std.specs.Prelude.{◌⊎◌, List}
+use Rattle.line_text.specs.Lines.{Text}
+use Rattle.command_line.specs.Asked.{IsAsked, IsRefused}
+use Rattle.command_line.specs.declared.request.Request.{Request}
+use Rattle.command_line.specs.declared.request.WordsFault.TheVariants.{Bad}
+
+-- the words are bad, or ask for what has this property
+abbrev pub AreBadOr : (Request → Type 0) → List Text → Type 0
+AreBadOr P words = IsRefused words Bad ⊎ ((r : Request) × IsAsked words r × P r)

@@ -1,0 +1,45 @@
+// The top call over devices in memory.
+ghost use Rattle.std.specs.Prelude.{◌≡◌, ◌≤◌, ◌⊎◌, Some, length};
+ghost use Rattle.command_answers.specs.Causes.{IsWell};
+ghost use Rattle.command_answers.specs.Texts.{IsPrinted};
+ghost use Rattle.command_line.specs.Asked.{IsAsked};
+ghost use Rattle.command_line.specs.Words.{texts};
+ghost use Rattle.command_line.specs.declared.request.Request.{Request as Asked};
+ghost use Rattle.commands.specs.InMemory.{IsFree};
+ghost use Rattle.commands.specs.Outcomes.{Did};
+ghost use Rattle.mem_devices.specs.Named.{file_of};
+ghost use Rattle.plain_rack.specs.Racks.{AllIn, bytes_told, bytes_left, room_of, disk_at};
+
+use crate::top::{Done, process};
+use cbdc_types::Answer;
+use mem_devices::MemInbox;
+use outside::Gate;
+use plain_rack::{PlainRack, PlainSink};
+use std::alloc::Global;
+use std::sync::Wait;
+
+/// The same over files, nodes and an output in memory: a file that is there is read; the rack, which has a place for each node that a ledger may have, with
+/// a disk that never fails, stands for any rack of plain disks for all nodes of a ledger; and the output, which takes `N` bytes, fails only where it is
+/// full. So none of their counts of faults rises, but the output's at its end.
+pub fn process_in_memory<const N: usize, W: Wait, G: Gate>(
+    rt: &W,
+    alloc: Global,
+    words: &[String],
+    inbox: &mut MemInbox,
+    rack: PlainRack,
+    out: &mut PlainSink<N>,
+    gate: &G,
+) -> Done<PlainRack>
+    requires { AllIn rack }
+    ensures back { AllIn result.rack }
+
+    // What was done, as `process` says it.
+    ensures did { IsWell result.status → (r : Asked) × IsAsked (texts words.now) r × Did (λ name. file_of inbox.old.files.items name) bytes_told bytes_left room_of (disk_at rack) (disk_at result.rack)
+        (IsPrinted (Some out.old.bytes.items) (Some out.new.bytes.items) result.status) r }
+
+    // Where nothing hinders what is asked, it was done, unless memory ran out, and its lines were written, unless the output is full.
+    ensures complete { (r : Asked) → IsAsked (texts words.now) r → IsFree (λ name. file_of inbox.old.files.items name) bytes_told room_of (disk_at rack) r
+        → (result.status ≡ Answer.Ok) ⊎ ((result.status ≡ Answer.Memory) ⊎ ((result.status ≡ Answer.WriteFault) × (N ≤ length out.new.bytes.items))) }
+{
+    process(rt, alloc, words, inbox, rack, out, gate)
+}
