@@ -14,7 +14,6 @@ use Rattle.line_text.specs.Reports.{status_line}
 use Rattle.ledger_init.specs.Made.{node_count}
 use Rattle.caused_ledgers.proofs.Closed.{all_same, log_holds, shard_holds}
 use Rattle.printed_lines.specs.Reports.{status_lines, status_at}
-use Rattle.rack_laws.proofs.Opened.{at_place}
 use Rattle.rack_ledgers.specs.Ledgers.{AreOpened, ByPlace}
 use Rattle.rack_nodes.specs.Racked.{OfTold, AreUnchanged, AreBack, StillHolds}
 use Rattle.rack_nodes.specs.Refused.{IsNodeJournal}
@@ -22,7 +21,7 @@ use Rattle.rack_nodes.proofs.Told.{same_back}
 use Rattle.shard_node.specs.Shards.{ShardOf}
 use Rattle.status_command.specs.Outcomes.{DidStatus}
 use Rattle.status_command.specs.Texts.{told_lines, journal_there, journals_at, status_among}
-use Rattle.status_command.proofs.Items.{journal_some}
+use Rattle.status_command.proofs.Items.{at_place, journal_some}
 
 module _ {D : Type 0} (K : Shape) (logs : List (LogOf D)) (shards : List (ShardOf D)) where
   pub journal_low : (n : ℕ) → n < K.coordinators → journals_at K logs shards n ≡ journal_there (λ (l : LogOf D). l.journal) logs n
