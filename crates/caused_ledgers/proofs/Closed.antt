@@ -46,10 +46,10 @@ module _ {D : Type 0} (content : D → Option (List ℕ)) (images : D → List �
   log_holds held now h n l is put was told some d is_now c image =
       told_some (content was) (IsNodeJournal (header_of h.shape h.genesis n) l.journal c)
       (λ bytes reads.
-          let found = (is.opened was told).stands bytes reads in
-          let opens : OpensTo (reverse l.journal) c = subst (λ (o : Option Record). OpensToEither (reverse l.journal) o c) is.flight (found.1.each c (subst (λ (x : D). images x c) (put d is_now) image)) in
-          let own : IsNodeJournal l.header l.journal c = record { opens = opens; limits = found.0.limits; journal = is.journal } in
-          subst (λ (k : Header). IsNodeJournal k l.journal c) is.header own)
+      let found = (is.opened was told).stands bytes reads in
+      let opens : OpensTo (reverse l.journal) c = subst (λ (o : Option Record). OpensToEither (reverse l.journal) o c) is.flight (found.1.each c (subst (λ (x : D). images x c) (put d is_now) image)) in
+      let own : IsNodeJournal l.header l.journal c = record { opens = opens; limits = found.0.limits; journal = is.journal } in
+      subst (λ (k : Header). IsNodeJournal k l.journal c) is.header own)
       some
 
   -- so does a shard
@@ -58,9 +58,9 @@ module _ {D : Type 0} (content : D → Option (List ℕ)) (images : D → List �
   shard_holds held now h n s is put was told some d is_now c image =
       told_some (content was) (IsNodeJournal (header_of h.shape h.genesis n) s.journal c)
       (λ bytes reads.
-          let found = (is.opened was told).stands bytes reads in
-          let whole = subst (λ (o : Option Record). HoldsWith o (content s.disk) (images s.disk) s.gate s.journal) is.flight found.1 in
-          let opens : OpensTo (reverse s.journal) c = subst (λ (b : List ℕ). OpensTo (reverse s.journal) b) (sym (whole.durable c (subst (λ (x : D). images x c) (put d is_now) image))) whole.opens in
-          let own : IsNodeJournal s.header s.journal c = record { opens = opens; limits = found.0.limits; journal = is.journal } in
-          subst (λ (k : Header). IsNodeJournal k s.journal c) is.header own)
+      let found = (is.opened was told).stands bytes reads in
+      let whole = subst (λ (o : Option Record). HoldsWith o (content s.disk) (images s.disk) s.gate s.journal) is.flight found.1 in
+      let opens : OpensTo (reverse s.journal) c = subst (λ (b : List ℕ). OpensTo (reverse s.journal) b) (sym (whole.durable c (subst (λ (x : D). images x c) (put d is_now) image))) whole.opens in
+      let own : IsNodeJournal s.header s.journal c = record { opens = opens; limits = found.0.limits; journal = is.journal } in
+      subst (λ (k : Header). IsNodeJournal k s.journal c) is.header own)
       some
