@@ -146,8 +146,9 @@ impl<D: Disk> CoordLog<D> {
         ensures limit { MatchResult result (λ l. l.capacity ≡ D.limit disk) (λ e. D.limit e.0 ≡ D.limit disk) }
         ensures shows { IfOk result (λ l. (l.faults ≡ D.count l.disk) × (l.capacity ≡ D.limit l.disk)) }
 
-        // Unless it failed, a disk that is handed back reads as before, and a crash may leave nothing more than before.
-        ensures same { IfErr result (λ e. e.1 ≢ NodeOpenFault.DiskFault → D.content e.0 ≡ D.content disk) }
+        // Unless it failed, the disk reads as before, and a crash may leave nothing more than before.
+        ensures same { MatchResult result (λ l. D.content l.disk ≡ D.content disk)
+            (λ e. e.1 ≢ NodeOpenFault.DiskFault → D.content e.0 ≡ D.content disk) }
         ensures leaves { MatchResult result
             (λ l. Leaves D.tells_past D.moment D.images_since D.images disk l.disk (D.images disk))
             (λ e. Leaves D.tells_past D.moment D.images_since D.images disk e.0 (D.images disk)) }

@@ -15,7 +15,7 @@ use Rattle.lane_driver.specs.declared.fault.LaneFaultKind.{LaneFaultKind}
 use Rattle.lane_driver.specs.declared.fault.LaneFaultKind.TheVariants.{DiskFault as DiskStopped, Full as NoRoom, ClockEnd as NoStamp, Memory as NoMemory}
 use Rattle.coord_log.specs.Logs.{LogOf}
 use Rattle.shard_node.specs.Shards.{ShardOf}
-use Rattle.rack_nodes.specs.Racked.{OfTold}
+use Rattle.rack_nodes.specs.Racked.{OfTold, SameRoom}
 use Rattle.rack_ledgers.specs.Ledgers.{ByPlace, AreOpened}
 use Rattle.caused_ledgers.specs.Caused.{journals_of as lent_journals, AreCaused}
 use Rattle.caused_ledgers.proofs.Told.{told_history}
@@ -271,9 +271,9 @@ module _ {D : Type 0} (content : D → Option (List ℕ)) (images : D → List �
   rooms_back log_rooms shard_rooms = subst (λ k. HaveRoom limit back k (journals_of count limit k now after)) shape (rooms_each content images limit count back g now after is log_rooms shard_rooms logs_back shards_back)
 
   -- what was taken, and how it was left
-  pub took : HaveRoom limit held h.shape (journals_of count limit h.shape logs shards) → SparesOthers content held back
+  pub took : HaveRoom limit held h.shape (journals_of count limit h.shape logs shards) → ((n : ℕ) → n < node_count h.shape → SameRoom limit (held n) (back n)) → SparesOthers content held back
       → ((n : ℕ) → IsEnd (journals_of count limit h.shape logs shards n) (journals_of count limit h.shape now after n)) → All (LogHasRoom limit) now → All (ShardHasRoom limit) after → AreQuiet now after → TookLedger content images limit held back
-  took room spared grows log_rooms shard_rooms quiet = record {
+  took room same_room spared grows log_rooms shard_rooms quiet = record {
     ledger = record {
       shape = h.shape;
       genesis = h.genesis;
@@ -288,6 +288,7 @@ module _ {D : Type 0} (content : D → Option (List ℕ)) (images : D → List �
         subst (λ k. HoldsEach images back k (journals_of count limit k now after)) shape
         (holds_each content images limit count back g now after is (stored (told_stored content images limit count held h logs shards are tells)) logs_back shards_back quiet);
     rooms = rooms_back log_rooms shard_rooms;
+    same_room = same_room;
     spared = spared;
   }
 
