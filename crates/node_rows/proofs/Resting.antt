@@ -1,9 +1,9 @@
 -- A lane that rests at its coordinator and at all shards is settled there.
-use Rattle.std.proofs.Common.{◌≡◌, ℕ, zero, suc, ◌+◌, ◌*◌, ◌<◌, ◌≤◌, ◌==◌, Bool, true, false, ◌&&◌, if◌then◌else◌, List, [], ◌∷◌, length, Option, Some, None, refl, sym, ap, subst, ◌∙◌, arith}
+use Rattle.std.proofs.Common.{◌≡◌, ℕ, zero, suc, ◌+◌, ◌*◌, ◌<◌, ◌≤◌, ◌==◌, Bool, true, false, ◌&&◌, if◌then◌else◌, List, [], ◌∷◌, length, None, refl, sym, ap, subst, arith}
 use Rattle.std.specs.Prelude.{All, get_or}
 use Rattle.std.proofs.lemmas.List.Elements.{All-nil, All-head, All-tail}
 use Rattle.cbdc_model.specs.Records.{Shape, Batch, Record, same_batch, kind_of, is_of, record_of, last_stamp, Genesis, Lock, Finish, Forget, Start, Prepare, Commit, Discard, Done}
-use Rattle.cbdc_model.specs.Ranges.{home_of, shard_node}
+use Rattle.cbdc_model.specs.Ranges.{home_of}
 use Rattle.cbdc_model.specs.Slots.{slot, slot_stamp, Idle}
 use Rattle.cbdc_model.specs.Sights.{Sight}
 use Rattle.lane_laws.specs.Batches.{Settled}
@@ -12,7 +12,7 @@ use Rattle.lane_driver.specs.Stops.{IsSettled}
 use Rattle.coord_log.specs.Logs.{LogOf, sight}
 use Rattle.shard_node.specs.Shards.{ShardOf, sight_of}
 use Rattle.node_ports.specs.Nodes.{sight_at}
-use Rattle.node_rows.specs.Resting.{number_in, RestsAt, AllRest, LogRests, MayRun}
+use Rattle.node_rows.specs.Resting.{number_in, AllRest, LogRests, MayRun}
 
 -- ---- records of batches up to a number
 

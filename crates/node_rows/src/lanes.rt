@@ -10,19 +10,18 @@ use std::alloc::Global;
 use std::mem;
 use std::sync::Wait;
 
+// Puts a thing behind others.
+fn push<T: Drop>(all: &mut Vec<T>, one: T, told: &mut Told) {
+    if all.push(one).is_err() {
+        told.no_memory();
+    }
+}
+
 // Puts an open node with the coordinators or with the shards.
 fn sort(all: &mut Apart, node: Node, told: &mut Told) {
     match node {
-        Node::Log(log) => {
-            if all.logs.push(log).is_err() {
-                told.no_memory();
-            }
-        }
-        Node::Shard(shard) => {
-            if all.shards.push(shard).is_err() {
-                told.no_memory();
-            }
-        }
+        Node::Log(log) => push(&mut all.logs, log, told),
+        Node::Shard(shard) => push(&mut all.shards, shard, told),
         _ => told.refuse("a node is not open"),
     }
 }
@@ -37,13 +36,6 @@ fn apart(alloc: Global, nodes: Vec<Node>, told: &mut Told) -> Apart {
         sort(&mut all, node, told);
     }
     all
-}
-
-// Puts a node behind others.
-fn push(nodes: &mut Vec<Node>, node: Node, told: &mut Told) {
-    if nodes.push(node).is_err() {
-        told.no_memory();
-    }
 }
 
 // The nodes in their places.

@@ -86,11 +86,16 @@ pub fn make_place(nodes: &mut Vec<Node>, place: u32) -> Result<(), Wrong> {
     Ok(())
 }
 
+// Puts a thing in the place of another.
+fn put_at<T: Drop>(all: &mut Vec<T>, place: usize, one: T) {
+    if let Some(old) = all.get_mut(place) {
+        let _gone = mem::replace(old, one);
+    }
+}
+
 /// Puts a node in a place that was made.
 pub fn put_node(nodes: &mut Vec<Node>, place: u32, node: Node) {
-    if let Some(old) = nodes.get_mut(place as usize) {
-        let _gone = mem::replace(old, node);
-    }
+    put_at(nodes, place as usize, node);
 }
 
 /// Takes a node out of its place.

@@ -1,5 +1,5 @@
 use Rattle.std.proofs.Common.{◌≡◌, ◌∙◌, ◌<◌, length, ap, subst, arith}
-use Rattle.cbdc_model.specs.Records.{Record, last_stamp}
+use Rattle.cbdc_model.specs.Records.{last_stamp}
 use Rattle.node_rows.specs.Resting.{AllRest}
 use Rattle.node_rows.proofs.Resting.{rests}
 use Rattle.node_rows.proofs.ledgers.check_rest.Goals as goal
