@@ -10,29 +10,30 @@ use Rattle.input_files.specs.Contents.{mint_of_file, AreRead, IsNotRead, FirstNo
 use Rattle.audit.specs.declared.verdict.Totals.{Totals}
 use Rattle.audit.specs.declared.verdict.Verdict.{Verdict}
 use Rattle.audit.specs.declared.verdict.Verdict.TheVariants.{Sound, Unsound}
-use Rattle.audited_ledgers.specs.Audited.{IsAudited, HistoryHasRoom, IsAccountedFor}
+use Rattle.audited_ledgers.specs.Audited.{IsAudited, HistoryHasRoom, HistoryIsHeld, IsAccountedFor}
 use Rattle.file_runs.specs.Runs.{joined}
 use Rattle.printed_lines.specs.Reports.{audit_lines}
-use Rattle.rack_nodes.specs.Racked.{IsBack}
+use Rattle.rack_nodes.specs.Racked.{AreUnchanged, AreBack}
 use Rattle.rack_ledgers.specs.Ledgers.{IsUnopenedBy}
 
 -- the files held this mint and these transactions, with which an audit of the history of the ledger that the disks tell has this verdict; each of those
--- disks had room for its journal of that history and for what is kept for the batches that are open there
-pub record WasAudited {D : Type 0} (files : Text → Option (List ℕ)) (content : D → Option (List ℕ)) (limit : D → ℕ) (disks : ℕ → Option D) (file : FileWord) (clients : List FileWord) (verdict : Verdict) : Type 0 where
+-- disks had room for its journal of that history and for what is kept for the batches that are open there, and still holds that journal
+pub record WasAudited {D : Type 0} (files : Text → Option (List ℕ)) (content : D → Option (List ℕ)) (images : D → List ℕ → Type 0) (limit : D → ℕ) (disks now : ℕ → Option D) (file : FileWord) (clients : List FileWord) (verdict : Verdict) : Type 0 where
   pub mint : List Output
   pub handed : List (List FullTx)
   pub read : Tells (files file.name.now) (λ c. mint_of_file c ≡ Ok mint)
   pub clients_read : AreRead files 0 clients handed
   pub audited : IsAudited content disks mint (joined handed) verdict
   pub room : HistoryHasRoom limit disks audited.shape audited.rows
+  pub holds : HistoryIsHeld content images disks now audited.shape (genesis_id mint) audited.rows
 
 -- the verdict is that all is sound; the money of the ledger that the disks tell is accounted for, if its first records are those of the mint, no hashes
--- clash and each committed transaction has an input; what it comes to was printed, and the disks are back as they were read
+-- clash and each committed transaction has an input; what it comes to was printed, and the disks are back unchanged
 pub record DidAudit {D : Type 0} (files : Text → Option (List ℕ)) (content : D → Option (List ℕ)) (images : D → List ℕ → Type 0) (limit : D → ℕ) (before now : ℕ → Option D) (printed : Text → Type 0) (file : FileWord) (clients : List FileWord) : Type 0 where
   pub totals : Totals
-  pub was : WasAudited files content limit before file clients (Sound totals)
+  pub was : WasAudited files content images limit before now file clients (Sound totals)
   pub sentence : IsAccountedFor content before was.mint (joined was.handed) totals
-  pub back : (n : ℕ) → IsBack images limit (before n) (now n)
+  pub back : AreUnchanged content images limit before now
   pub prints : printed (audit_lines totals)
 
 -- the ledger of this mint could not be opened: the first node that can't be, or node 0 where another mint began it; or memory ran out
@@ -58,6 +59,6 @@ IsUnsoundBy was other = ⊥
 abbrev pub WhyNoAudit : {D : Type 0} → (Text → Option (List ℕ)) → (Text → ℕ) → (Text → ℕ) → (D → Option (List ℕ)) → (D → List ℕ → Type 0) → (D → ℕ) → (D → ℕ) → (ℕ → Option D) → (ℕ → Option D) → (ℕ → ℕ) → (ℕ → ℕ)
     → FileWord → List FileWord → Answer → Type 0
 WhyNoAudit files files_before files_now content images limit count disks now disks_before disks_now file clients answer =
-    ((n : ℕ) → IsBack images limit (disks n) (now n))
-    × (IsUnsoundBy (WasAudited files content limit disks file clients) answer
+    AreBack content images limit disks_before disks_now disks now
+    × (IsUnsoundBy (WasAudited files content images limit disks now file clients) answer
     ⊎ WhyUnaudited files files_before files_now content images limit count disks disks_before disks_now file clients answer)

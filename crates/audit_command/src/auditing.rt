@@ -1,7 +1,7 @@
 // `audit`: the journals against a mint and the transactions that were handed in.
-ghost use Rattle.std.specs.Prelude.{◌≡◌, ◌⊎◌, ◌≤◌, ℕ, IfOk, IfErr};
+ghost use Rattle.std.specs.Prelude.{◌≡◌, ◌⊎◌, ◌≤◌, ℕ, IfOk, IfErr, OnOk};
 ghost use Rattle.outside.specs.Counts.{Rose};
-ghost use Rattle.rack_nodes.specs.Racked.{IsBack};
+ghost use Rattle.rack_nodes.specs.Racked.{AreUnchanged, AreBack};
 ghost use Rattle.file_runs.specs.Runs.{joined as all_joined};
 ghost use Rattle.printed_lines.specs.Reports.{audit_lines};
 ghost use Rattle.command_answers.specs.Causes.{IsFault, IsDone, IsTold, IsWell, OnePlace, OneRose, FileRose};
@@ -39,9 +39,10 @@ fn audit_all<I: Inbox, R: Rack>(
     rack: &mut R,
 ) -> Result<Verdict, Answer>
     requires { (n : ℕ) → R.can_take rack.old n }
-    ensures did { IfOk result (WasAudited (I.file inbox.old) R.Disk.content R.Disk.limit (R.held rack.old) mint.now clients.now) }
+    ensures did { IfOk result (WasAudited (I.file inbox.old) R.Disk.content R.Disk.images R.Disk.limit (R.held rack.old) (R.held rack.new) mint.now clients.now) }
     ensures why { IfErr result (WhyUnaudited (I.file inbox.old) (I.count inbox.old) (I.count inbox.new) R.Disk.content R.Disk.images R.Disk.limit R.Disk.count (R.held rack.old) (R.count rack.old) (R.count rack.new) mint.now clients.now) }
-    ensures held { (n : ℕ) → IsBack R.Disk.images R.Disk.limit (R.held rack.old n) (R.held rack.new n) }
+    ensures unchanged { OnOk result (AreUnchanged R.Disk.content R.Disk.images R.Disk.limit (R.held rack.old) (R.held rack.new)) }
+    ensures held { AreBack R.Disk.content R.Disk.images R.Disk.limit (R.count rack.old) (R.count rack.new) (R.held rack.old) (R.held rack.new) }
     ensures fault { IfErr result (IsFault (λ place. (place ≡ mint.now.place) ⊎ OnePlace clients.now place) (λ place. FileRose (I.count inbox.old) (I.count inbox.new) mint.now place ⊎ OneRose (I.count inbox.old) (I.count inbox.new) clients.now place)) }
     ensures untouched { IfErr result (λ e. IsBeforeDisks e → rack.new ≡ rack.old) }
     ensures back { (n : ℕ) → R.can_take rack.new n }
@@ -98,7 +99,7 @@ pub fn audit<I: Inbox, R: Rack, O: Sink>(
     ensures silent { IsSilent (O.taken out.old) (O.taken out.new) result }
     ensures written_later { O.count out.old ≤ O.count out.new }
     ensures untouched { IsBeforeDisks result → rack.new ≡ rack.old }
-    ensures left { (n : ℕ) → IsBack R.Disk.images R.Disk.limit (R.held rack.old n) (R.held rack.new n) }
+    ensures left { AreBack R.Disk.content R.Disk.images R.Disk.limit (R.count rack.old) (R.count rack.new) (R.held rack.old) (R.held rack.new) }
     ensures back { (n : ℕ) → R.can_take rack.new n }
 {
     match audit_all(alloc, mint, clients, inbox, rack) {

@@ -1,12 +1,12 @@
 -- What an audit finds of the ledger that a rack's disks tell.
 use Rattle.std.specs.Prelude.{◌+◌, ◌<◌, ◌≤◌, ℕ, List, reverse, Option}
-use Rattle.cbdc_model.specs.Records.{Shape, Record, Row, journal}
+use Rattle.cbdc_model.specs.Records.{Digest, Shape, Record, Row, journal}
 use Rattle.cbdc_model.specs.Coins.{Output, FullTx, genesis_id}
 use Rattle.cbdc_model.specs.Clean.{Clean}
-use Rattle.cbdc_model.specs.History.{minted}
+use Rattle.cbdc_model.specs.History.{header_of, minted}
 use Rattle.cbdc_model.specs.Room.{kept_room}
 use Rattle.cbdc_model.specs.Due.{used_of}
-use Rattle.rack_nodes.specs.Racked.{OfTold}
+use Rattle.rack_nodes.specs.Racked.{OfTold, StillHolds}
 use Rattle.caused_ledgers.specs.Caused.{AreMerged, IsToldHistory}
 use Rattle.audit.specs.declared.verdict.Totals.{Totals}
 use Rattle.audit.specs.declared.verdict.Verdict.{Verdict}
@@ -33,6 +33,11 @@ pub record IsAudited {D : Type 0} (content : D → Option (List ℕ)) (held : �
 abbrev pub HistoryHasRoom : {D : Type 0} → (D → ℕ) → (ℕ → Option D) → Shape → List Row → Type 0
 HistoryHasRoom limit held K rows =
     (n : ℕ) → n < K.coordinators + K.shards → OfTold (held n) (λ was. used_of (journal n (reverse rows)) + kept_room K (journal n (reverse rows)) ≤ limit was)
+
+-- each disk that told its content still holds its journal of this history: whatever a crash may leave of it opens to just that journal
+abbrev pub HistoryIsHeld : {D : Type 0} → (D → Option (List ℕ)) → (D → List ℕ → Type 0) → (ℕ → Option D) → (ℕ → Option D) → Shape → Digest → List Row → Type 0
+HistoryIsHeld content images before now K genesis rows =
+    (n : ℕ) → n < K.coordinators + K.shards → StillHolds content images (before n) (now n) (header_of K genesis n) (journal n (reverse rows))
 
 -- of the ledger that the disks tell, if its first records are those of the mint, no hashes clash and each committed transaction has an input, all
 -- money is accounted for, with these totals

@@ -1,12 +1,12 @@
 // The audit of the ledger on a rack.
-ghost use Rattle.std.specs.Prelude.{◌≡◌, ◌⊎◌, ◌+◌, ◌≤◌, ◌<◌, ◌^◌, ℕ, length, Some, IfOk, IfErr};
+ghost use Rattle.std.specs.Prelude.{◌≡◌, ◌⊎◌, ◌+◌, ◌≤◌, ◌<◌, ◌^◌, ℕ, length, Some, IfOk, IfErr, OnOk};
 ghost use Rattle.cbdc_model.specs.After.{IsJournal};
 ghost use Rattle.cbdc_model.specs.Coins.{genesis_id as mint_id};
-ghost use Rattle.rack_nodes.specs.Racked.{IsBack};
+ghost use Rattle.rack_nodes.specs.Racked.{AreUnchanged, AreBack};
 ghost use Rattle.rack_nodes.specs.Refused.{IsNodeRefusal};
 ghost use Rattle.rack_ledgers.specs.Ledgers.{ByPlace, IsUnopenedBy};
 ghost use Rattle.caused_ledgers.specs.Caused.{journals_of};
-ghost use Rattle.audited_ledgers.specs.Audited.{HasVerdict, IsAudited, HistoryHasRoom, Accounts};
+ghost use Rattle.audited_ledgers.specs.Audited.{HasVerdict, IsAudited, HistoryHasRoom, HistoryIsHeld, Accounts};
 
 use audit::{Verdict, audit};
 use caused_ledgers::{lend_logs, lend_shards};
@@ -54,8 +54,10 @@ pub fn audit_on<R: Rack>(
     requires { (n : ℕ) → R.can_take rack.old n }
     ensures audited { IfOk result (IsAudited R.Disk.content (R.held rack.old) mint.now handed.now) }
 
-    // Whatever the verdict, each disk had room for its journal of the history that was audited, and for what is kept for the batches open there.
-    ensures room { IfOk result (λ v. (was : IsAudited R.Disk.content (R.held rack.old) mint.now handed.now v) × HistoryHasRoom R.Disk.limit (R.held rack.old) was.shape was.rows) }
+    // Whatever the verdict, each disk had room for its journal of the history that was audited, and for what is kept for the batches open there, and it
+    // still holds that journal.
+    ensures room { IfOk result (λ v. (was : IsAudited R.Disk.content (R.held rack.old) mint.now handed.now v) × HistoryHasRoom R.Disk.limit (R.held rack.old) was.shape was.rows
+        × HistoryIsHeld R.Disk.content R.Disk.images (R.held rack.old) (R.held rack.new) was.shape (mint_id mint.now) was.rows) }
 
     // Where all is sound, no money was made, lost or spent twice, and the shards hold just what is left: the sentence.
     ensures sentence { IfOk result (Accounts R.Disk.content (R.held rack.old) mint.now handed.now) }
@@ -64,7 +66,8 @@ pub fn audit_on<R: Rack>(
     ensures refusal { IfErr result (λ a. IsUnopenedBy R.Disk.content R.Disk.images R.Disk.limit R.Disk.count (R.held rack.old) (R.count rack.old) (R.count rack.new) (Some (mint_id mint.now)) a
         ⊎ (a ≡ Answer.Memory)) }
     ensures kind { IfErr result IsNodeRefusal }
-    ensures held { (n : ℕ) → IsBack R.Disk.images R.Disk.limit (R.held rack.old n) (R.held rack.new n) }
+    ensures unchanged { OnOk result (AreUnchanged R.Disk.content R.Disk.images R.Disk.limit (R.held rack.old) (R.held rack.new)) }
+    ensures held { AreBack R.Disk.content R.Disk.images R.Disk.limit (R.count rack.old) (R.count rack.new) (R.held rack.old) (R.held rack.new) }
     ensures back { (n : ℕ) → R.can_take rack.new n }
     ensures later { (n : ℕ) → R.count rack.old n ≤ R.count rack.new n }
 {

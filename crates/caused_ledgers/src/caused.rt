@@ -2,7 +2,7 @@
 ghost use Rattle.std.specs.Prelude.{◌≡◌, ◌+◌, ◌≤◌, ◌<◌, ◌^◌, ℕ, length, IfOk, IfErr, OnErr, MatchOption};
 ghost use Rattle.cbdc_model.specs.After.{IsJournal};
 ghost use Rattle.rack_nodes.specs.Places.{EachFrom, MayReturn};
-ghost use Rattle.rack_nodes.specs.Racked.{IsBack};
+ghost use Rattle.rack_nodes.specs.Racked.{AreBack};
 ghost use Rattle.rack_ledgers.specs.Ledgers.{ByPlace, AreOpened};
 ghost use Rattle.caused_ledgers.specs.Caused.{journals_of, AreCaused, HasUncaused, IsUnresumed};
 
@@ -41,7 +41,7 @@ pub fn open_caused<R: Rack>(alloc: Global, rack: &mut R) -> Result<Nodes<R::Disk
 
     // Why they are not, and the disks are back.
     ensures refusal { IfErr result (IsUnresumed R.Disk.content R.Disk.images R.Disk.limit R.Disk.count (R.held rack.old) (R.count rack.old) (R.count rack.new)) }
-    ensures held { OnErr result ((n : ℕ) → IsBack R.Disk.images R.Disk.limit (R.held rack.old n) (R.held rack.new n)) }
+    ensures held { OnErr result (AreBack R.Disk.content R.Disk.images R.Disk.limit (R.count rack.old) (R.count rack.new) (R.held rack.old) (R.held rack.new)) }
     ensures others_held { IfOk result (λ l. (n : ℕ) → length l.logs.items + length l.shards.items ≤ n → R.held rack.new n ≡ R.held rack.old n) }
 
     ensures few { IfOk result (λ l. length l.logs.items + length l.shards.items < 2 ^ 32) }

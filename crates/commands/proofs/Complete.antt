@@ -116,13 +116,13 @@ module _ {D : Type 0} (files : Text → Option (List ℕ)) (files_before files_n
     unaudited answer (inr (mint, read, inl not_read)) = clients_none files files_before files_now clients can.handed answer can.clients_hold not_read
     unaudited answer (inr (mint, read, inr (handed, are_read, why))) = unopened mint answer (this_mint mint read) why
 
-    never_wrong : (place : ℕ) (kind : UnsoundKind) → WasAudited files content limit held file clients (Unsound place kind) → ⊥
+    never_wrong : (place : ℕ) (kind : UnsoundKind) → WasAudited files content images limit held back file clients (Unsound place kind) → ⊥
     never_wrong place kind was =
         audit_sound content held can.shape can.mint (joined can.handed) can.journals can.shows can.idle can.clean place kind
         (subst (λ (m : List Output). IsAudited content held m (joined can.handed) (Unsound place kind)) (this_mint was.mint was.read)
         (subst (λ (hs : List (List FullTx)). IsAudited content held was.mint (joined hs) (Unsound place kind)) (these_files was.handed was.clients_read) was.audited))
 
-    unsound : (answer : Answer) → IsUnsoundBy (WasAudited files content limit held file clients) answer → answer ≡ answers.Memory
+    unsound : (answer : Answer) → IsUnsoundBy (WasAudited files content images limit held back file clients) answer → answer ≡ answers.Memory
     unsound (answers.Unsound place kind) was = absurd (never_wrong place kind was)
     unsound answers.Ok was = absurd was
     unsound answers.BadWords was = absurd was

@@ -4,7 +4,7 @@ use Rattle.line_text.specs.Lines.{Text}
 use Rattle.cbdc_types.specs.declared.answer.Answer.{Answer}
 use Rattle.command_line.specs.declared.request.Request.{Request}
 use Rattle.command_line.specs.declared.request.Request.TheVariants.{Init, Run, Recover, Status, Audit, Gen, Show}
-use Rattle.rack_nodes.specs.Racked.{IsBack}
+use Rattle.rack_nodes.specs.Racked.{AreBack}
 use Rattle.ledger_runs.specs.Least.{IsLeastOpen}
 use Rattle.rack_runs.specs.Runs.{NonePrepared, NothingNext}
 use Rattle.init_command.specs.Outcomes.{InitLeaves}
@@ -15,11 +15,11 @@ use Rattle.run_command.specs.Outcomes.{RunLeaves}
 -- the nodes above the one at which their writing stopped; by `run` of transactions that its files hold, and by `recover`, all disks as they were read, or
 -- as a lane's fault leaves them; by `status` and `audit` all disks as they were read; of a workload and of a text that is shown nothing is said here
 abbrev pub Leaves : {D : Type 0} → (Text → Option (List ℕ)) → (D → Option (List ℕ)) → (D → List ℕ → Type 0) → (D → ℕ) → (ℕ → Option D) → (ℕ → Option D) → (ℕ → ℕ) → (ℕ → ℕ) → Request → Answer → Type 0
-Leaves files content images limit before now disks_before disks_now (Init shape mint) answer = InitLeaves files content images limit before now shape mint answer
+Leaves files content images limit before now disks_before disks_now (Init shape mint) answer = InitLeaves files content images limit before now disks_before disks_now shape mint answer
 Leaves files content images limit before now disks_before disks_now (Run verdicts clients) answer = RunLeaves files content images limit before now disks_before disks_now verdicts clients.items answer
 Leaves files content images limit before now disks_before disks_now Recover answer = TurnsLeave content images limit before now disks_before disks_now NothingNext IsLeastOpen NonePrepared [] answer
-Leaves files content images limit before now disks_before disks_now (Status hashes) answer = (n : ℕ) → IsBack images limit (before n) (now n)
-Leaves files content images limit before now disks_before disks_now (Audit mint clients) answer = (n : ℕ) → IsBack images limit (before n) (now n)
+Leaves files content images limit before now disks_before disks_now (Status hashes) answer = AreBack content images limit disks_before disks_now before now
+Leaves files content images limit before now disks_before disks_now (Audit mint clients) answer = AreBack content images limit disks_before disks_now before now
 Leaves files content images limit before now disks_before disks_now other answer = Unit {0}
 
 -- what is asked is about no rack: a workload in memory, or a text that is shown

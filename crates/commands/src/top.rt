@@ -198,7 +198,8 @@ pub fn process<W: Wait, I: Inbox, R: Rack, O: Sink, G: Gate>(
     // nothing else has one; its line confirms it exactly where every shard held it, and always where its inputs are unspent when its
     // file's wave begins and no other sound one of the file spends them. The text of a workload is one, where no hashes of it clash. Each
     // disk of a ledger that was looked at or audited, and of a kept one that was run over or brought to an end, had room for its journal
-    // and for what is kept for the batches open there.
+    // and for what is kept for the batches open there. A look and an audit change nothing: each disk reads as it did, and whatever a crash
+    // leaves of one that told its content opens to exactly the journal that was read.
     ensures did { IsWell result.status → (r : Asked) × IsAsked (texts words.now) r × Did (I.file inbox.old) R.Disk.content R.Disk.images R.Disk.limit (R.held rack) (R.held result.rack) (IsPrinted (O.taken out.old) (O.taken out.new) result.status) r }
 
     // Else the line of the fault is printed and nothing else, or a front of it where the sink's count rose.
@@ -218,7 +219,8 @@ pub fn process<W: Wait, I: Inbox, R: Rack, O: Sink, G: Gate>(
     // A recovery, a look at hashes, a workload and a text that is shown read no file.
     ensures unread { (r : Asked) → IsAsked (texts words.now) r → IsOfNoFile r → inbox.new ≡ inbox.old }
 
-    // Behind `status` and `audit` all disks are as they were read, whatever was answered.
+    // Behind `status` and `audit` all disks are as they were read, whatever was answered: a crash leaves nothing of a disk that it could not
+    // leave before, and the disk reads as it did wherever its node's count of faults did not rise in this call.
     // Where a run or a recovery did not come through, whatever the answer, want of memory too, all disks are as they were or as they were
     // read, or all is as a lane's fault leaves it: the journals of a kept ledger have grown at their ends, each lane by the first pieces
     // that it got, and are kept, whatever a crash leaves of the disks.

@@ -32,7 +32,7 @@ use Rattle.audit.specs.Verdicts.{IsVerdict}
 use Rattle.caused_ledgers.specs.Caused.{IsToldHistory, IsUnresumed}
 use Rattle.audited_ledgers.specs.Audited.{IsAudited}
 use Rattle.rack_laws.specs.Shown.{Shows, HoldsEach, node_count}
-use Rattle.rack_nodes.specs.Racked.{IsBack}
+use Rattle.rack_nodes.specs.Racked.{AreBack}
 use Rattle.rack_runs.specs.Endings.{EndsRun}
 use Rattle.rack_runs.specs.Runs.{IsLaneFault, PieceNext, PiecesPrepared}
 use Rattle.file_runs.specs.declared.ran.Ran.{Ran}
@@ -158,7 +158,7 @@ module _ (K : Shape) (mint : List Output) (few_coins : length mint ≤ 1000000) 
 
     -- its files are run, unless memory runs out
     pub unrun : (a : Answer)
-        → (IsUnresumed bytes_told bytes_left room_of faults_of (disk_at mid) (faults_at mid.misses) (faults_at new.misses) a × ((n : ℕ) → IsBack bytes_left room_of (disk_at mid n) (disk_at new n)))
+        → (IsUnresumed bytes_told bytes_left room_of faults_of (disk_at mid) (faults_at mid.misses) (faults_at new.misses) a × AreBack bytes_told bytes_left room_of (faults_at mid.misses) (faults_at new.misses) (disk_at mid) (disk_at new))
         ⊎ IsLaneFault bytes_told bytes_left room_of (disk_at mid) (disk_at new) (faults_at mid.misses) (faults_at new.misses) (PieceNext all_good files) (EndsRun all_good files) (PiecesPrepared all_good files) files a
         → a ≡ answers.Memory
     unrun a (inl (inl unopened, back)) =

@@ -37,7 +37,7 @@ pub unmade_same : {D T : Type 0} (K : Shape) (mint : List Output) (content : D �
 unmade_same K mint content limit held before now P (Ok made) un same = tt
 unmade_same K mint content limit held before now P (Err e) un same = too_much_alone K mint content limit held before now P e un same
 
-pub unmade_left : {D T : Type 0} (files : Text → Option (List ℕ)) (content : D → Option (List ℕ)) (images : D → List ℕ → Type 0) (limit : D → ℕ) (before now : ℕ → Option D) (shape : Shape) (file : FileWord) (mint : List Output) (P : Type 0) (r : Result T Answer)
-    → Tells (files file.name.now) (λ c. mint_of_file c ≡ Ok mint) → IfErr r (IsLeft shape mint content images limit before now) → IfErr r (λ e. P ⊎ InitLeaves files content images limit before now shape file e)
-unmade_left files content images limit before now shape file mint P (Ok made) read left = tt
-unmade_left files content images limit before now shape file mint P (Err e) read left = inr (mint, read, left)
+pub unmade_left : {D T : Type 0} (files : Text → Option (List ℕ)) (content : D → Option (List ℕ)) (images : D → List ℕ → Type 0) (limit : D → ℕ) (before now : ℕ → Option D) (disks_before disks_now : ℕ → ℕ) (shape : Shape) (file : FileWord) (mint : List Output) (P : Type 0) (r : Result T Answer)
+    → Tells (files file.name.now) (λ c. mint_of_file c ≡ Ok mint) → IfErr r (IsLeft shape mint content images limit before now disks_before disks_now) → IfErr r (λ e. P ⊎ InitLeaves files content images limit before now disks_before disks_now shape file e)
+unmade_left files content images limit before now disks_before disks_now shape file mint P (Ok made) read left = tt
+unmade_left files content images limit before now disks_before disks_now shape file mint P (Err e) read left = inr (mint, read, left)

@@ -34,6 +34,6 @@ WhyNoInit files files_before files_now content limit disks disks_before disks_no
     ⊎ ((mint : List Output) × Tells (files file.name.now) (λ c. mint_of_file c ≡ Ok mint) × IsUnmade shape mint content limit disks disks_before disks_now answer)
 
 -- the file holds a mint, whose ledger was not made: all disks are as they were read, or the writing of first records stopped at a node
-abbrev pub InitLeaves : {D : Type 0} → (Text → Option (List ℕ)) → (D → Option (List ℕ)) → (D → List ℕ → Type 0) → (D → ℕ) → (ℕ → Option D) → (ℕ → Option D) → Shape → FileWord → Answer → Type 0
-InitLeaves files content images limit before now shape file answer =
-    (mint : List Output) × Tells (files file.name.now) (λ c. mint_of_file c ≡ Ok mint) × IsLeft shape mint content images limit before now answer
+abbrev pub InitLeaves : {D : Type 0} → (Text → Option (List ℕ)) → (D → Option (List ℕ)) → (D → List ℕ → Type 0) → (D → ℕ) → (ℕ → Option D) → (ℕ → Option D) → (ℕ → ℕ) → (ℕ → ℕ) → Shape → FileWord → Answer → Type 0
+InitLeaves files content images limit before now disks_before disks_now shape file answer =
+    (mint : List Output) × Tells (files file.name.now) (λ c. mint_of_file c ≡ Ok mint) × IsLeft shape mint content images limit before now disks_before disks_now answer

@@ -28,7 +28,7 @@ fn make<I: Inbox, R: Rack>(
     ensures why { IfErr result (WhyNoInit (I.file inbox.old) (I.count inbox.old) (I.count inbox.new) R.Disk.content R.Disk.limit (R.held rack.old) (R.count rack.old) (R.count rack.new) shape.now file.now) }
     ensures fault { IfErr result (IsFault (λ place. place ≡ file.now.place) (FileRose (I.count inbox.old) (I.count inbox.new) file.now)) }
     ensures untouched { IfErr result (λ e. IsBeforeDisks e → rack.new ≡ rack.old) }
-    ensures left { IfErr result (λ e. (rack.new ≡ rack.old) ⊎ InitLeaves (I.file inbox.old) R.Disk.content R.Disk.images R.Disk.limit (R.held rack.old) (R.held rack.new) shape.now file.now e) }
+    ensures left { IfErr result (λ e. (rack.new ≡ rack.old) ⊎ InitLeaves (I.file inbox.old) R.Disk.content R.Disk.images R.Disk.limit (R.held rack.old) (R.held rack.new) (R.count rack.old) (R.count rack.new) shape.now file.now e) }
     ensures back { (n : ℕ) → R.can_take rack.new n }
 {
     match mint_in(alloc, inbox, file) {
@@ -53,7 +53,7 @@ pub fn init<I: Inbox, R: Rack, O: Sink>(
     ensures silent { IsSilent (O.taken out.old) (O.taken out.new) result }
     ensures written_later { O.count out.old ≤ O.count out.new }
     ensures untouched { IsBeforeDisks result → rack.new ≡ rack.old }
-    ensures left { (IsWell result → ⊥) → (rack.new ≡ rack.old) ⊎ InitLeaves (I.file inbox.old) R.Disk.content R.Disk.images R.Disk.limit (R.held rack.old) (R.held rack.new) shape.now file.now result }
+    ensures left { (IsWell result → ⊥) → (rack.new ≡ rack.old) ⊎ InitLeaves (I.file inbox.old) R.Disk.content R.Disk.images R.Disk.limit (R.held rack.old) (R.held rack.new) (R.count rack.old) (R.count rack.new) shape.now file.now result }
     ensures back { (n : ℕ) → R.can_take rack.new n }
 {
     let Made {

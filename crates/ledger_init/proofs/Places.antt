@@ -15,12 +15,12 @@ use Rattle.cbdc_model.specs.World.{first_record}
 use Rattle.cbdc_model.specs.Room.{size_of}
 use Rattle.gate_journal.specs.Formatting.{IsEmptied}
 use Rattle.rack_nodes.specs.Places.{EachFrom, IsOpening}
-use Rattle.rack_nodes.specs.Racked.{OfTold, IsRead, IsBack, IsOpened, FailsFirst}
+use Rattle.rack_nodes.specs.Racked.{OfTold, IsUnchanged, IsBack, AreBack, IsOpened, FailsFirst}
 use Rattle.rack_nodes.specs.Blank.{IsUnused, IsNoBlank, IsBlankRefusal}
 use Rattle.rack_nodes.specs.First.{IsBegun, IsUnwritten, first_need}
 use Rattle.rack_nodes.proofs.Each.{each_two, each_weaker, each_split}
 use Rattle.rack_nodes.proofs.Range.{opening_later}
-use Rattle.rack_nodes.proofs.Told.{back_same}
+use Rattle.rack_nodes.proofs.Told.{still_told, same_opened, back_same}
 use Rattle.ledger_init.specs.Made.{node_count, first_of, HoldsFirst, LeavesBut, SameRoom, ToldUnused, MayBeMade, IsFirstInUse, HasPlaceFor, IsLastFull, IsUnmade, IsOfNode, StoppedAt}
 use Rattle.ledger_init.specs.Places.{minted_by, HoldsOf, LeavesOf, IsDone, IsStopped, StopsAt}
 use Rattle.ledger_init.proofs.Sizes.{first_size}
@@ -40,11 +40,11 @@ each_join P i [] ys one other = subst (λ (k : ℕ). EachFrom P k ys) (omega ari
 each_join P i (x ∷ xs) ys one other = (one.0, each_join P (suc i) xs ys one.1 (subst (λ (k : ℕ). EachFrom P k ys) (omega arith) other))
 
 -- all disks are back, those of some nodes and those that were not touched
-pub back_all : {D : Type 0} (images : D → List ℕ → Type 0) (limit : D → ℕ) (old new : ℕ → Option D) (end : ℕ) → ((n : ℕ) → n < end → IsBack images limit (old n) (new n))
-    → ((n : ℕ) → end ≤ n → new n ≡ old n) → (n : ℕ) → IsBack images limit (old n) (new n)
-back_all images limit old new end inside outside n = elim (cases_lt n end) [
+pub back_all : {D : Type 0} (content : D → Option (List ℕ)) (images : D → List ℕ → Type 0) (limit : D → ℕ) (before now : ℕ → ℕ) (old new : ℕ → Option D) (end : ℕ) → ((n : ℕ) → n < end → IsBack content images limit (before n) (now n) (old n) (new n))
+    → ((n : ℕ) → end ≤ n → new n ≡ old n) → AreBack content images limit before now old new
+back_all content images limit before now old new end inside outside n = elim (cases_lt n end) [
   | inl small ↦ inside n small
-  | inr large ↦ back_same images limit (old n) (new n) (outside n large)
+  | inr large ↦ back_same content images limit (before n) (now n) (old n) (new n) (outside n large)
 ]
 
 -- a first record is not written for a reason that speaks of its node
@@ -77,25 +77,25 @@ module _ {D B : Type 0} (content : D → Option (List ℕ)) (images : D → List
   pub left_at : (n : ℕ) (b : B) → IsBlankAt n b → OfTold (new n) (LeavesOf content images (λ was. IsBegun was (first_of K mint n)) (disk_of b)) → LeavesBut content images (λ was. IsBegun was (first_of K mint n)) (old n) (new n)
   left_at n b blank left = λ was is d is_now some c image.
       let opened = blank.1 was is in
-      begun_weaker (images (disk_of b)) (images was) (first_of K mint n) c opened.read.leaves (left d is_now (opened.told some) c image)
+      begun_weaker (images (disk_of b)) (images was) (first_of K mint n) c opened.read.leaves (left d is_now (still_told (content was) (content (disk_of b)) opened.same some) c image)
 
   pub emptied_at : (n : ℕ) (b : B) → IsBlankAt n b → OfTold (new n) (LeavesOf content images IsEmptied (disk_of b)) → LeavesBut content images IsEmptied (old n) (new n)
   emptied_at n b blank left = λ was is d is_now some c image.
       let opened = blank.1 was is in
-      emptied_weaker (images (disk_of b)) (images was) c opened.read.leaves (left d is_now (opened.told some) c image)
+      emptied_weaker (images (disk_of b)) (images was) c opened.read.leaves (left d is_now (still_told (content was) (content (disk_of b)) opened.same some) c image)
 
   holds_at : (n : ℕ) (b : B) → IsBlankAt n b → IsDone content images limit (first_of K mint n) (disk_of b) (new n) → HoldsFirst content images (first_of K mint n) (old n) (new n)
-  holds_at n b blank done = λ was is d is_now some. done.holds d is_now ((blank.1 was is).told some)
+  holds_at n b blank done = λ was is d is_now some. done.holds d is_now (still_told (content was) (content (disk_of b)) (blank.1 was is).same some)
 
   room_at : (n : ℕ) (b : B) → IsBlankAt n b → IsDone content images limit (first_of K mint n) (disk_of b) (new n) → SameRoom limit (old n) (new n)
   room_at n b blank done = λ was is d is_now. let opened = blank.1 was is in done.same d is_now ∙ opened.read.room
 
   -- a disk that is back as it was
-  pub back_emptied : (n : ℕ) → IsBack images limit (old n) (new n) → LeavesBut content images IsEmptied (old n) (new n)
-  back_emptied n back = λ was is d is_now some c image. inr ((back was is d is_now).leaves c image)
+  pub back_emptied : (n : ℕ) → IsBack content images limit (before n) (now n) (old n) (new n) → LeavesBut content images IsEmptied (old n) (new n)
+  back_emptied n back = λ was is d is_now some c image. inr ((back was is d is_now).read.leaves c image)
 
-  pub back_begun : (n : ℕ) → IsBack images limit (old n) (new n) → LeavesBut content images (λ was. IsBegun was (first_of K mint n)) (old n) (new n)
-  back_begun n back = λ was is d is_now some c image. inl (inr ((back was is d is_now).leaves c image))
+  pub back_begun : (n : ℕ) → IsBack content images limit (before n) (now n) (old n) (new n) → LeavesBut content images (λ was. IsBegun was (first_of K mint n)) (old n) (new n)
+  back_begun n back = λ was is d is_now some c image. inl (inr ((back was is d is_now).read.leaves c image))
 
   module _ (blanks : List B) (all : length blanks ≡ node_count K) (opened : EachFrom IsBlankAt 0 blanks) where
     inside : (n : ℕ) → n < node_count K → n < 0 + length blanks
@@ -159,8 +159,8 @@ module _ {D B : Type 0} (content : D → Option (List ℕ)) (images : D → List
       here_inside : length stopped.front < node_count K
       here_inside = omega (arith, long, all)
 
-      back_there : (n : ℕ) (b : B) → IsBlankAt n b → OfTold (new n) (λ d. d ≡ disk_of b) → IsBack images limit (old n) (new n)
-      back_there n b blank same = λ was is d is_now. subst (λ (x : D). IsRead images limit was x) (sym (same d is_now)) (blank.1 was is).read
+      same_there : (n : ℕ) (b : B) → IsBlankAt n b → OfTold (new n) (λ d. d ≡ disk_of b) → IsUnchanged content images limit (old n) (new n)
+      same_there n b blank same = same_opened content images limit disk_of (λ x c. IsUnused (node_of x) c) (old n) (new n) b blank.1 same
 
       front_parts : EachFrom IsBlankAt 0 stopped.front
       front_parts = (each_split IsBlankAt 0 stopped.front (stopped.x ∷ stopped.done) (subst (λ (l : List B). EachFrom IsBlankAt 0 l) stopped.parts opened)).0
@@ -171,7 +171,7 @@ module _ {D B : Type 0} (content : D → Option (List ℕ)) (images : D → List
         was = may_be_made fits;
         inside = here_inside;
         told = of_node (length stopped.front) (limit (disk_of stopped.x)) (first_of K mint (length stopped.front)) answer stopped.fails.refusal;
-        below = λ n lt. each_two IsBlankAt (λ k b. OfTold (new k) (λ d. d ≡ disk_of b)) (λ k. IsBack images limit (old k) (new k)) 0 stopped.front back_there front_parts stopped.waiting n (omega arith) (omega (arith, lt));
+        below = λ n lt. each_two IsBlankAt (λ k b. OfTold (new k) (λ d. d ≡ disk_of b)) (λ k. IsUnchanged content images limit (old k) (new k)) 0 stopped.front same_there front_parts stopped.waiting n (omega arith) (omega (arith, lt));
         begun = left_at (length stopped.front) stopped.x opened_parts.0 (λ d is_now. (stopped.fails.safe d is_now).begun);
         emptied = λ other. emptied_at (length stopped.front) stopped.x opened_parts.0 (λ d is_now. (stopped.fails.safe d is_now).emptied other);
         above = λ n gt lt. each_two IsBlankAt (λ k b. IsDone content images limit (first_of K mint k) (disk_of b) (new k)) (λ k. HoldsFirst content images (first_of K mint k) (old k) (new k)) (suc (length stopped.front)) stopped.done holds_at opened_parts.1 stopped.behind n (omega (arith, gt)) (omega (arith, long, all, lt));

@@ -13,7 +13,7 @@ use Rattle.cbdc_model.specs.Room.{size_of}
 use Rattle.record_codec.specs.Bodies.{body_of}
 use Rattle.record_log.specs.Held.{Holds}
 use Rattle.gate_journal.specs.Formatting.{IsEmptied}
-use Rattle.rack_nodes.specs.Racked.{OfTold, IsBack}
+use Rattle.rack_nodes.specs.Racked.{OfTold, IsUnchanged, AreBack}
 use Rattle.rack_nodes.specs.Blank.{IsInUse, IsUnused}
 use Rattle.rack_nodes.specs.First.{IsBegun}
 
@@ -86,19 +86,19 @@ IsOfNode k (answers.DiskFault n) = n ≡ k
 IsOfNode k answers.Memory = Unit {0}
 IsOfNode k other = ⊥
 
--- No node was in use, and the writing, from the highest node down, stopped at this one. The disks of those below it are as they were read. A crash leaves of its own no
+-- No node was in use, and the writing, from the highest node down, stopped at this one. The disks of those below it are unchanged. A crash leaves of its own no
 -- first record, or what it might have left before, or, where the disk failed, its first record alone. Those above it hold their first records.
 pub record StoppedAt {D : Type 0} (K : Shape) (mint : List Output) (content : D → Option (List ℕ)) (images : D → List ℕ → Type 0) (limit : D → ℕ) (before now : ℕ → Option D) (answer : Answer) (k : ℕ) : Type 0 where
   pub was : MayBeMade K mint content before
   pub inside : k < node_count K
   pub told : IsOfNode k answer
-  pub below : (n : ℕ) → n < k → IsBack images limit (before n) (now n)
+  pub below : (n : ℕ) → n < k → IsUnchanged content images limit (before n) (now n)
   pub begun : LeavesBut content images (λ was. IsBegun was (first_of K mint k)) (before k) (now k)
   pub emptied : answer ≢ answers.DiskFault k → LeavesBut content images IsEmptied (before k) (now k)
   pub above : (n : ℕ) → k < n → n < node_count K → HoldsFirst content images (first_of K mint n) (before n) (now n)
   pub outside : (n : ℕ) → node_count K ≤ n → now n ≡ before n
 
 -- all disks are as they were read, or the writing stopped at a node
-abbrev pub IsLeft : {D : Type 0} → Shape → List Output → (D → Option (List ℕ)) → (D → List ℕ → Type 0) → (D → ℕ) → (ℕ → Option D) → (ℕ → Option D) → Answer → Type 0
-IsLeft K mint content images limit before now answer =
-    ((n : ℕ) → IsBack images limit (before n) (now n)) ⊎ ((k : ℕ) × StoppedAt K mint content images limit before now answer k)
+abbrev pub IsLeft : {D : Type 0} → Shape → List Output → (D → Option (List ℕ)) → (D → List ℕ → Type 0) → (D → ℕ) → (ℕ → Option D) → (ℕ → Option D) → (ℕ → ℕ) → (ℕ → ℕ) → Answer → Type 0
+IsLeft K mint content images limit before now disks_before disks_now answer =
+    AreBack content images limit disks_before disks_now before now ⊎ ((k : ℕ) × StoppedAt K mint content images limit before now answer k)

@@ -53,7 +53,7 @@ fn make_nodes<R: Rack>(
     ensures left { (n : ℕ) → n < node_count shape.now
         → LeavesBut R.Disk.content R.Disk.images (λ before. IsBegun before (first_of shape.now mint n)) (R.held rack.old n) (R.held rack.new n) }
     ensures lead { IfErr result (λ e. e ≢ Answer.DiskFault 0 → LeavesBut R.Disk.content R.Disk.images IsEmptied (R.held rack.old 0) (R.held rack.new 0)) }
-    ensures stops { IfErr result (IsLeft shape.now mint R.Disk.content R.Disk.images R.Disk.limit (R.held rack.old) (R.held rack.new)) }
+    ensures stops { IfErr result (IsLeft shape.now mint R.Disk.content R.Disk.images R.Disk.limit (R.held rack.old) (R.held rack.new) (R.count rack.old) (R.count rack.new)) }
     ensures others_held { (n : ℕ) → node_count shape.now ≤ n → R.held rack.new n ≡ R.held rack.old n }
     ensures back { (n : ℕ) → R.can_take rack.new n }
     ensures later { (n : ℕ) → R.count rack.old n ≤ R.count rack.new n }
@@ -100,7 +100,7 @@ pub fn make_ledger<R: Rack>(
 
     // Where a node is in use, all disks are as they were read. Where one has no room, or fails, those of the nodes below it are, and those
     // above it hold their first records.
-    ensures stops { IfErr result (IsLeft shape.now mint R.Disk.content R.Disk.images R.Disk.limit (R.held rack.old) (R.held rack.new)) }
+    ensures stops { IfErr result (IsLeft shape.now mint R.Disk.content R.Disk.images R.Disk.limit (R.held rack.old) (R.held rack.new) (R.count rack.old) (R.count rack.new)) }
 
     // Where the sum is too much, the rack is as it was.
     ensures untouched { IfErr result (λ e. (total : ℕ) → e ≡ Answer.TooMuch total → rack.new ≡ rack.old) }

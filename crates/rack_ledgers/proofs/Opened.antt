@@ -98,6 +98,6 @@ module _ {D : Type 0} (content : D → Option (List ℕ)) (images : D → List �
       (each_weaker (OpensShard mid between h) (λ (n : ℕ) (y : ShardOf D). before n ≤ count y.disk) first shards (λ k y ge lt is. le_trans (later k) is.0.1) all) s x is
 
   -- the disk of a coordinator that was opened, put back
-  pub log_back : (held now : ℕ → Option D) (h : Header) (n : ℕ) (l : LogOf D) → IsLogAt content images limit count held h n l
-      → OfTold (now n) (λ d. d ≡ l.disk) → IsBack images limit (held n) (now n)
-  log_back held now h n l is put = back_opened images limit content (λ x. x.disk) StandsLog (held n) (now n) l is.opened put
+  pub log_back : (held now : ℕ → Option D) (before after : ℕ) (h : Header) (n : ℕ) (l : LogOf D) → IsLogAt content images limit count held h n l
+      → OfTold (now n) (λ d. d ≡ l.disk) → IsBack content images limit before after (held n) (now n)
+  log_back held now before after h n l is put = back_opened content images limit before after (λ x. x.disk) StandsLog (held n) (now n) l is.opened put

@@ -3,7 +3,7 @@ ghost use Rattle.std.specs.Prelude.{◌≡◌, ◌≢◌, ◌∷◌, [], ◌+◌
 ghost use Rattle.std.specs.Option.{option_copied};
 ghost use Rattle.cbdc_types.specs.Limits.{IsWithinLimits};
 ghost use Rattle.rack_nodes.specs.Places.{EachFrom, MayReturn};
-ghost use Rattle.rack_nodes.specs.Racked.{OfTold, IsBack};
+ghost use Rattle.rack_nodes.specs.Racked.{OfTold, IsBack, AreBack};
 ghost use Rattle.rack_nodes.specs.Refused.{IsNodeRefusal};
 ghost use Rattle.rack_ledgers.specs.Ledgers.{ByPlace, IsLogAt, AreOpened, IsMintOf, IsOtherMint, IsUnledBy, IsUnopened, IsUnopenedBy};
 
@@ -46,7 +46,7 @@ fn open_lead<R: Rack>(
     ensures since { IfOk result (λ l. R.count rack.old 0 ≤ R.Disk.count l.disk) }
     ensures refusal { IfErr result (IsUnledBy R.Disk.content R.Disk.images R.Disk.limit R.Disk.count (R.held rack.old) (R.count rack.old) (R.count rack.new) (option_copied id.entry)) }
     ensures kind { IfErr result IsNodeRefusal }
-    ensures held { OnErr result (IsBack R.Disk.images R.Disk.limit (R.held rack.old 0) (R.held rack.new 0)) }
+    ensures held { OnErr result (IsBack R.Disk.content R.Disk.images R.Disk.limit (R.count rack.old 0) (R.count rack.new 0) (R.held rack.old 0) (R.held rack.new 0)) }
     ensures others_held { (n : ℕ) → n ≢ 0 → R.held rack.new n ≡ R.held rack.old n }
     ensures out { IfOk result (MayReturn (λ x. R.Disk.count x.disk) (R.can_put rack.new) 0) }
     ensures back { OnErr result (R.can_take rack.new 0) }
@@ -106,7 +106,7 @@ fn open_logs<R: Rack>(
     ensures since { IfOk result (λ l. ByPlace (λ n x. R.count rack.old n ≤ R.Disk.count x.disk) l.1.items) }
     ensures refusal { IfErr result (IsUnledBy R.Disk.content R.Disk.images R.Disk.limit R.Disk.count (R.held rack.old) (R.count rack.old) (R.count rack.new) (option_copied id.entry)) }
     ensures kind { IfErr result IsNodeRefusal }
-    ensures held { OnErr result ((n : ℕ) → IsBack R.Disk.images R.Disk.limit (R.held rack.old n) (R.held rack.new n)) }
+    ensures held { OnErr result (AreBack R.Disk.content R.Disk.images R.Disk.limit (R.count rack.old) (R.count rack.new) (R.held rack.old) (R.held rack.new)) }
     ensures others_held { IfOk result (λ l. (n : ℕ) → l.0.shape.coordinators ≤ n → R.held rack.new n ≡ R.held rack.old n) }
     ensures few { IfOk result (λ l. l.0.shape.coordinators + l.0.shape.shards < 2 ^ 32) }
     ensures logs { IfOk result (λ l. (length l.1.items ≡ l.0.shape.coordinators) × EachFrom (MayReturn (λ x. R.Disk.count x.disk) (R.can_put rack.new)) 0 l.1.items) }
@@ -144,7 +144,7 @@ fn open_ledger<R: Rack>(
     ensures shards_since { IfOk result (λ l. ByPlace (λ s x. R.count rack.old (l.header.shape.coordinators + s) ≤ R.Disk.count x.disk) l.shards.items) }
     ensures refusal { IfErr result (IsUnopenedBy R.Disk.content R.Disk.images R.Disk.limit R.Disk.count (R.held rack.old) (R.count rack.old) (R.count rack.new) (option_copied id.entry)) }
     ensures kind { IfErr result IsNodeRefusal }
-    ensures held { OnErr result ((n : ℕ) → IsBack R.Disk.images R.Disk.limit (R.held rack.old n) (R.held rack.new n)) }
+    ensures held { OnErr result (AreBack R.Disk.content R.Disk.images R.Disk.limit (R.count rack.old) (R.count rack.new) (R.held rack.old) (R.held rack.new)) }
     ensures others_held { IfOk result (λ l. (n : ℕ) → length l.logs.items + length l.shards.items ≤ n → R.held rack.new n ≡ R.held rack.old n) }
     ensures few { IfOk result (λ l. length l.logs.items + length l.shards.items < 2 ^ 32) }
     ensures logs { IfOk result (λ l. EachFrom (MayReturn (λ x. R.Disk.count x.disk) (R.can_put rack.new)) 0 l.logs.items) }
@@ -185,7 +185,7 @@ pub fn open_nodes<R: Rack>(alloc: Global, rack: &mut R) -> Result<Nodes<R::Disk>
     // Why the first that can't be opened is not, and the disks are back.
     ensures refusal { IfErr result (IsUnopened R.Disk.content R.Disk.images R.Disk.limit R.Disk.count (R.held rack.old) (R.count rack.old) (R.count rack.new)) }
     ensures kind { IfErr result IsNodeRefusal }
-    ensures held { OnErr result ((n : ℕ) → IsBack R.Disk.images R.Disk.limit (R.held rack.old n) (R.held rack.new n)) }
+    ensures held { OnErr result (AreBack R.Disk.content R.Disk.images R.Disk.limit (R.count rack.old) (R.count rack.new) (R.held rack.old) (R.held rack.new)) }
     ensures others_held { IfOk result (λ l. (n : ℕ) → length l.logs.items + length l.shards.items ≤ n → R.held rack.new n ≡ R.held rack.old n) }
 
     ensures few { IfOk result (λ l. length l.logs.items + length l.shards.items < 2 ^ 32) }
@@ -213,7 +213,7 @@ pub fn open_minted<R: Rack>(
     // Why the first that can't be opened is not, and the disks are back.
     ensures refusal { IfErr result (IsUnopenedBy R.Disk.content R.Disk.images R.Disk.limit R.Disk.count (R.held rack.old) (R.count rack.old) (R.count rack.new) (Some id.now)) }
     ensures kind { IfErr result IsNodeRefusal }
-    ensures held { OnErr result ((n : ℕ) → IsBack R.Disk.images R.Disk.limit (R.held rack.old n) (R.held rack.new n)) }
+    ensures held { OnErr result (AreBack R.Disk.content R.Disk.images R.Disk.limit (R.count rack.old) (R.count rack.new) (R.held rack.old) (R.held rack.new)) }
     ensures others_held { IfOk result (λ l. (n : ℕ) → length l.logs.items + length l.shards.items ≤ n → R.held rack.new n ≡ R.held rack.old n) }
 
     ensures few { IfOk result (λ l. length l.logs.items + length l.shards.items < 2 ^ 32) }

@@ -1,6 +1,6 @@
 -- A disk that is blank, or in use.
 use Rattle.std.proofs.Common.{◌≡◌, ℕ, List, Option, Some, Result, Ok, Err, refl, sym, ◌∙◌, ap, subst, rules}
-use Rattle.std.specs.Prelude.{IfOk, IfErr, IsSome, MatchResult}
+use Rattle.std.specs.Prelude.{IfOk, IfErr, MatchResult}
 use Rattle.outside.specs.Images.{Tells}
 use Rattle.cbdc_types.specs.declared.answer.Answer.{Answer}
 use Rattle.cbdc_types.specs.declared.answer.Answer.TheVariants as answers
@@ -17,10 +17,11 @@ module _ {B D : Type 0} (node_of : B → ℕ) (disk_of : B → D) (told : Option
   blank_refused (Ok b) is unused = search rules
   blank_refused (Err e) is unused = λ c told_is. subst (λ (a : Answer). IsNoBlank node c a) (sym is.1) (refl, unused c (whole c told_is))
 
-pub blank_told : {B D : Type 0} (node_of : B → ℕ) (disk_of : B → D) (content : D → Option (List ℕ)) (told : Option (List ℕ)) (d : D) (node : ℕ) (r : Result B (D × Answer)) → content d ≡ told
-    → MatchResult r (λ b. (disk_of b ≡ d) × (node_of b ≡ node)) (λ e. (e.0 ≡ d) × (e.1 ≡ answers.NotEmpty node)) → IfOk r (λ b. IsSome told → IsSome (content (disk_of b)))
-blank_told node_of disk_of content told d node (Ok b) same is = λ some. subst (λ (o : Option (List ℕ)). IsSome o) (sym (ap content is.0 ∙ same)) some
-blank_told node_of disk_of content told d node (Err e) same is = search rules
+-- a disk that was handed on reads as it did
+pub blank_same : {B D : Type 0} (node_of : B → ℕ) (disk_of : B → D) (content : D → Option (List ℕ)) (told : Option (List ℕ)) (failed : D → Type 0) (d : D) (node : ℕ) (r : Result B (D × Answer)) → content d ≡ told
+    → MatchResult r (λ b. (disk_of b ≡ d) × (node_of b ≡ node)) (λ e. (e.0 ≡ d) × (e.1 ≡ answers.NotEmpty node)) → MatchResult r (λ b. content (disk_of b) ≡ told) (λ e. (failed e.0 → ⊥) → content e.0 ≡ told)
+blank_same node_of disk_of content told failed d node (Ok b) same is = ap content is.0 ∙ same
+blank_same node_of disk_of content told failed d node (Err e) same is = λ none. ap content is.0 ∙ same
 
 pub blank_kind : {B D : Type 0} (node_of : B → ℕ) (disk_of : B → D) (d : D) (node : ℕ) (r : Result B (D × Answer)) → MatchResult r (λ b. (disk_of b ≡ d) × (node_of b ≡ node)) (λ e. (e.0 ≡ d) × (e.1 ≡ answers.NotEmpty node))
     → IfErr r (λ e. IsBlankRefusal e.1)

@@ -30,6 +30,7 @@ fn shard_instead<D: Disk>(
     ensures fault { IsOpening node (D.count disk) (D.count result.0) result.1 }
     ensures later { D.count disk ≤ D.count result.0 }
     ensures limit { D.limit result.0 ≡ D.limit disk }
+    ensures same { (Rose (D.count disk) (D.count result.0) → ⊥) → D.content result.0 ≡ D.content disk }
     ensures leaves { Leaves D.tells_past D.moment D.images_since D.images disk result.0 (D.images disk) }
 {
     match ShardNode::open(alloc, disk) {
@@ -53,6 +54,7 @@ fn coordinator_instead<D: Disk>(
     ensures fault { IsOpening node (D.count disk) (D.count result.0) result.1 }
     ensures later { D.count disk ≤ D.count result.0 }
     ensures limit { D.limit result.0 ≡ D.limit disk }
+    ensures same { (Rose (D.count disk) (D.count result.0) → ⊥) → D.content result.0 ≡ D.content disk }
     ensures leaves { Leaves D.tells_past D.moment D.images_since D.images disk result.0 (D.images disk) }
 {
     match CoordLog::open(alloc, disk) {

@@ -1,6 +1,7 @@
 // What stands on a disk of the rack.
-ghost use Rattle.std.specs.Prelude.{◌≡◌, ◌≤◌, ℕ, List, Option, IsSome, IfOk, IfErr, MatchResult};
+ghost use Rattle.std.specs.Prelude.{◌≡◌, ◌≤◌, ℕ, List, Option, IfOk, IfErr, MatchResult};
 ghost use Rattle.std.specs.Option.{option_copied};
+ghost use Rattle.outside.specs.Counts.{Rose};
 ghost use Rattle.outside.specs.Images.{Tells, Leaves};
 ghost use Rattle.cbdc_types.specs.declared.answer.Answer.{Answer as Told};
 ghost use Rattle.cbdc_types.specs.declared.answer.Answer.TheVariants.{Memory, DiskFault};
@@ -42,7 +43,6 @@ pub trait OnDisk<D: Disk>: Sized {
         disk: D,
     ) -> Result<Self, (D, Answer)>
         ensures opens { IfOk result (λ n. Tells (D.content disk) (opens n)) }
-        ensures told { IfOk result (λ n. IsSome (D.content disk) → IsSome (D.content (disk_of n))) }
         ensures fits { IfOk result (fits node (option_copied ledger.entry)) }
 
         // Which refusal it is.
@@ -52,7 +52,9 @@ pub trait OnDisk<D: Disk>: Sized {
         ensures later { MatchResult result (λ n. D.count disk ≤ D.count (disk_of n)) (λ e. D.count disk ≤ D.count e.0) }
         ensures limit { MatchResult result (λ n. D.limit (disk_of n) ≡ D.limit disk) (λ e. D.limit e.0 ≡ D.limit disk) }
 
-        // It changes nothing that a crash may leave.
+        // Unless it failed, it reads as before, and it changes nothing that a crash may leave.
+        ensures same { MatchResult result (λ n. D.content (disk_of n) ≡ D.content disk)
+            (λ e. (Rose (D.count disk) (D.count e.0) → ⊥) → D.content e.0 ≡ D.content disk) }
         ensures leaves { MatchResult result
             (λ n. Leaves D.tells_past D.moment D.images_since D.images disk (disk_of n) (D.images disk))
             (λ e. Leaves D.tells_past D.moment D.images_since D.images disk e.0 (D.images disk)) };

@@ -28,7 +28,7 @@ pub fn open_one<R: Rack, N: OnDisk<R::Disk>>(
     ensures refusal { IfErr result (λ e. OfTold (R.held rack.old node) (λ was. Tells (R.Disk.content was) (λ c.
         N.refused node (option_copied ledger.entry) (R.Disk.limit was) c e))) }
     ensures kind { IfErr result N.refusals }
-    ensures held { OnErr result (IsBack R.Disk.images R.Disk.limit (R.held rack.old node) (R.held rack.new node)) }
+    ensures held { OnErr result (IsBack R.Disk.content R.Disk.images R.Disk.limit (R.count rack.old node) (R.count rack.new node) (R.held rack.old node) (R.held rack.new node)) }
     ensures others_held { (n : ℕ) → n ≢ node → R.held rack.new n ≡ R.held rack.old n }
 
     ensures out { IfOk result (λ n. MayReturn (λ n. R.Disk.count (N.disk_of n)) (R.can_put rack.new) node n) }
@@ -79,7 +79,7 @@ pub fn open_all<R: Rack, N: OnDisk<R::Disk>>(
         (first + length nodes.items) (first + count)) }
     ensures closed { OnErr result (EachFrom (λ n x. OfTold (R.held rack.new n) (λ now. now ≡ N.disk_of x)) first nodes.items) }
     ensures held { OnErr result ((n : ℕ) → first + length nodes.items ≤ n → n < first + count
-        → IsBack R.Disk.images R.Disk.limit (R.held rack.old n) (R.held rack.new n)) }
+        → IsBack R.Disk.content R.Disk.images R.Disk.limit (R.count rack.old n) (R.count rack.new n) (R.held rack.old n) (R.held rack.new n)) }
     ensures others_held { (n : ℕ) → IsOutside first (first + count) n → R.held rack.new n ≡ R.held rack.old n }
 
     ensures all { IfOk result (λ v. length v.items ≡ count) }

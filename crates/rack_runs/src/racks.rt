@@ -1,7 +1,7 @@
 // Runs over the ledger on a rack.
 ghost use Rattle.std.specs.Prelude.{◌≤◌, ◌⊎◌, ℕ, [], All, IfOk, OnOk, IfErr};
 ghost use Rattle.input_files.specs.Limits.{IsShort};
-ghost use Rattle.rack_nodes.specs.Racked.{IsBack};
+ghost use Rattle.rack_nodes.specs.Racked.{AreBack};
 ghost use Rattle.caused_ledgers.specs.Caused.{IsUnresumed};
 ghost use Rattle.rack_laws.specs.Shown.{OfShown};
 ghost use Rattle.ledger_runs.specs.Least.{IsLeastOpen};
@@ -44,7 +44,7 @@ pub fn run_on<W: Wait, R: Rack, V: Verifier, G: Gate>(
     // The nodes could not be opened, or a record is not caused, and the disks are back; or the rack showed such a ledger and a lane met a
     // fault, which has its cause and is that of the least lane that met one: journals have grown at their ends, and are kept whatever a crash leaves.
     ensures stopped { IfErr result (λ e. (IsUnresumed R.Disk.content R.Disk.images R.Disk.limit R.Disk.count (R.held rack.old) (R.count rack.old) (R.count rack.new) e
-        × ((n : ℕ) → IsBack R.Disk.images R.Disk.limit (R.held rack.old n) (R.held rack.new n)))
+        × AreBack R.Disk.content R.Disk.images R.Disk.limit (R.count rack.old) (R.count rack.new) (R.held rack.old) (R.held rack.new))
         ⊎ (IsLaneFault R.Disk.content R.Disk.images R.Disk.limit (R.held rack.old) (R.held rack.new) (R.count rack.old) (R.count rack.new) (PieceNext (V.verdict_of verifier.now) files.now)
         (EndsRun (V.verdict_of verifier.now) files.now) (PiecesPrepared (V.verdict_of verifier.now) files.now) files.now e)) }
 
@@ -72,7 +72,7 @@ pub fn recover_on<W: Wait, R: Rack, G: Gate>(
     ensures recovered { OnOk result (OfShown R.Disk.content (R.held rack.old) (IsRecovered R.Disk.images R.Disk.limit (R.held rack.new))) }
     ensures told { IfOk result (λ r. (verdicts : VerdictsOf) × OfShown R.Disk.content (R.held rack.old) (IsTold R.Disk.images R.Disk.limit (R.held rack.new) verdicts [] r)) }
     ensures stopped { IfErr result (λ e. (IsUnresumed R.Disk.content R.Disk.images R.Disk.limit R.Disk.count (R.held rack.old) (R.count rack.old) (R.count rack.new) e
-        × ((n : ℕ) → IsBack R.Disk.images R.Disk.limit (R.held rack.old n) (R.held rack.new n)))
+        × AreBack R.Disk.content R.Disk.images R.Disk.limit (R.count rack.old) (R.count rack.new) (R.held rack.old) (R.held rack.new))
         ⊎ (IsLaneFault R.Disk.content R.Disk.images R.Disk.limit (R.held rack.old) (R.held rack.new) (R.count rack.old) (R.count rack.new) NothingNext IsLeastOpen NonePrepared [] e)) }
     ensures back { (n : ℕ) → R.can_take rack.new n }
     ensures later { (n : ℕ) → R.count rack.old n ≤ R.count rack.new n }

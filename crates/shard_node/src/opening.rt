@@ -173,8 +173,9 @@ impl<D: Disk> ShardNode<D> {
         // It fits on the disk with all that its batches still need.
         ensures room { IfOk result (λ n. used_of n.journal + kept_room n.header.shape n.journal ≤ D.limit n.disk) }
 
-        // Unless it failed, a disk that is handed back reads as before, and a crash may leave nothing more than before.
-        ensures same { IfErr result (λ e. e.1 ≢ NodeOpenFault.DiskFault → D.content e.0 ≡ D.content disk) }
+        // Unless it failed, the disk reads as before, and a crash may leave nothing more than before.
+        ensures same { MatchResult result (λ n. D.content n.disk ≡ D.content disk)
+            (λ e. e.1 ≢ NodeOpenFault.DiskFault → D.content e.0 ≡ D.content disk) }
         ensures leaves { MatchResult result
             (λ n. Leaves D.tells_past D.moment D.images_since D.images disk n.disk (D.images disk))
             (λ e. Leaves D.tells_past D.moment D.images_since D.images disk e.0 (D.images disk)) }

@@ -12,17 +12,16 @@ use Rattle.coord_log.specs.Logs.{LogOf}
 use Rattle.line_text.specs.Lines.{Text}
 use Rattle.line_text.specs.Reports.{status_line}
 use Rattle.ledger_init.specs.Made.{node_count}
-use Rattle.caused_ledgers.proofs.Closed.{nodes_back}
+use Rattle.caused_ledgers.proofs.Closed.{all_same, log_holds, shard_holds}
 use Rattle.printed_lines.specs.Reports.{status_lines, status_at}
-use Rattle.rack_laws.proofs.Opened.{at_place}
 use Rattle.rack_ledgers.specs.Ledgers.{AreOpened, ByPlace}
-use Rattle.rack_ledgers.proofs.Backs.{back_parts}
-use Rattle.rack_nodes.specs.Racked.{OfTold, IsBack}
+use Rattle.rack_nodes.specs.Racked.{OfTold, AreUnchanged, AreBack, StillHolds}
 use Rattle.rack_nodes.specs.Refused.{IsNodeJournal}
+use Rattle.rack_nodes.proofs.Told.{same_back}
 use Rattle.shard_node.specs.Shards.{ShardOf}
 use Rattle.status_command.specs.Outcomes.{DidStatus}
 use Rattle.status_command.specs.Texts.{told_lines, journal_there, journals_at, status_among}
-use Rattle.status_command.proofs.Items.{journal_some}
+use Rattle.status_command.proofs.Items.{at_place, journal_some}
 
 module _ {D : Type 0} (K : Shape) (logs : List (LogOf D)) (shards : List (ShardOf D)) where
   pub journal_low : (n : ℕ) → n < K.coordinators → journals_at K logs shards n ≡ journal_there (λ (l : LogOf D). l.journal) logs n
@@ -106,10 +105,32 @@ module _ {D : Type 0} (content : D → Option (List ℕ)) (images : D → List �
 
   module _ (mid now : ℕ → Option D) (kept : (n : ℕ) → length logs + length shards ≤ n → mid n ≡ held n) (closed_logs : ByPlace (λ n l. OfTold (now n) (λ d. d ≡ l.disk)) logs)
       (closed_shards : ByPlace (λ s x. OfTold (now (length logs + s)) (λ d. d ≡ x.disk)) shards) (others : (n : ℕ) → length logs + length shards ≤ n → now n ≡ mid n) where
-    pub all_back : (n : ℕ) → IsBack images limit (held n) (now n)
-    all_back =
-        back_parts images limit held mid now (length logs + length shards) (length logs + length shards) kept (nodes_back content images limit count held now h logs shards are closed_logs closed_shards)
-        (λ n ge lt. absurd (omega (arith, ge, lt))) (λ n ge above. others n ge)
+    pub all_unchanged : AreUnchanged content images limit held now
+    all_unchanged = all_same content images limit count held mid now h logs shards are kept closed_logs closed_shards others
+
+    pub all_back : (before after : ℕ → ℕ) → AreBack content images limit before after held now
+    all_back before after n = same_back content images limit (before n) (after n) (held n) (now n) (all_unchanged n)
+
+    -- and each holds its journal still
+    node_holds : (n : ℕ) → n < node_count h.shape → StillHolds content images (held n) (now n) (header_of h.shape h.genesis n) (journals_at h.shape logs shards n)
+    node_holds n inside = go (nat_lt n h.shape.coordinators) refl
+      where
+        go : (b : _) → nat_lt n h.shape.coordinators ≡ b → StillHolds content images (held n) (now n) (header_of h.shape h.genesis n) (journals_at h.shape logs shards n)
+        go true t =
+            let low : n < h.shape.coordinators = ltb-true n h.shape.coordinators t in
+            let x = at_place logs n (omega (arith, low, are.coordinators)) in
+            subst (λ (J : List Record). StillHolds content images (held n) (now n) (header_of h.shape h.genesis n) J) (sym (journal_low h.shape logs shards n low ∙ journal_some (λ (l : LogOf D). l.journal) logs n x.0 x.1))
+            (log_holds content images limit count held now h n x.0 (are.logs_at n x.0 x.1) (closed_logs n x.0 x.1))
+        go false t =
+            let high : h.shape.coordinators ≤ n = ltb-false n h.shape.coordinators t in
+            let k : ℕ = n - h.shape.coordinators in
+            let place : h.shape.coordinators + k ≡ n = omega (arith, high) in
+            let x = at_place shards k (omega (arith, high, inside, are.shards_are)) in
+            let closed = subst (λ (m : ℕ). OfTold (now (m + k)) (λ d. d ≡ x.0.disk)) are.coordinators (closed_shards k x.0 x.1) in
+            subst (λ (J : List Record). StillHolds content images (held n) (now n) (header_of h.shape h.genesis n) J)
+            (sym (journal_high h.shape logs shards n high ∙ journal_some (λ (s : ShardOf D). s.journal) shards k x.0 x.1))
+            (subst (λ (m : ℕ). StillHolds content images (held m) (now m) (header_of h.shape h.genesis m) x.0.journal) place
+            (shard_holds content images limit count held now h (h.shape.coordinators + k) x.0 (are.shards_at k x.0 x.1) closed))
 
     -- the lines that were printed tell what the ledger knows
     pub did_status : (printed : Text → Type 0) (hashes : List Digest) → printed (told_lines hashes (map (status_among shards) hashes)) → DidStatus content images limit held now printed hashes
@@ -120,6 +141,7 @@ module _ {D : Type 0} (content : D → Option (List ℕ)) (images : D → List �
       limits = are.limits;
       opened = node_opens;
       room = node_room;
-      back = all_back;
+      back = all_unchanged;
+      holds = node_holds;
       prints = subst printed (lines_are h.shape logs shards are.shards_are hashes) told;
     }

@@ -10,13 +10,13 @@ use Rattle.cbdc_model.specs.Room.{kept_room}
 use Rattle.cbdc_model.specs.Due.{used_of}
 use Rattle.ledger_init.specs.Made.{node_count}
 use Rattle.printed_lines.specs.Reports.{status_lines}
-use Rattle.rack_nodes.specs.Racked.{OfTold, IsBack}
+use Rattle.rack_nodes.specs.Racked.{OfTold, AreUnchanged, AreBack, StillHolds}
 use Rattle.rack_nodes.specs.Refused.{IsNodeJournal}
 use Rattle.rack_ledgers.specs.Ledgers.{IsUnopened}
 
 -- what the disks told opened to journals of all nodes of a ledger, each disk having room for its journal and for what is kept for the batches that are
--- open there; the disks are back as they were read, and a line was printed for each hash, in order, with its status in the journal of the shard that
--- holds it
+-- open there; the disks are back unchanged, each of these holds its journal still, and a line was printed for each hash, in order, with its status in the
+-- journal of the shard that holds it
 pub record DidStatus {D : Type 0} (content : D → Option (List ℕ)) (images : D → List ℕ → Type 0) (limit : D → ℕ) (before now : ℕ → Option D) (printed : Text → Type 0) (hashes : List Digest) : Type 0 where
   pub shape : Shape
   pub genesis : Digest
@@ -24,10 +24,11 @@ pub record DidStatus {D : Type 0} (content : D → Option (List ℕ)) (images : 
   pub limits : IsWithinLimits shape
   pub opened : (n : ℕ) → n < node_count shape → OfTold (before n) (λ was. Tells (content was) (IsNodeJournal (header_of shape genesis n) (journals n)))
   pub room : (n : ℕ) → n < node_count shape → OfTold (before n) (λ was. used_of (journals n) + kept_room shape (journals n) ≤ limit was)
-  pub back : (n : ℕ) → IsBack images limit (before n) (now n)
+  pub back : AreUnchanged content images limit before now
+  pub holds : (n : ℕ) → n < node_count shape → StillHolds content images (before n) (now n) (header_of shape genesis n) (journals n)
   pub prints : printed (status_lines shape journals hashes)
 
 -- the ledger could not be opened, and the disks are back as they were read
 abbrev pub WhyNoStatus : {D : Type 0} → (D → Option (List ℕ)) → (D → List ℕ → Type 0) → (D → ℕ) → (D → ℕ) → (ℕ → Option D) → (ℕ → Option D) → (ℕ → ℕ) → (ℕ → ℕ) → Answer → Type 0
 WhyNoStatus content images limit count disks now disks_before disks_now answer =
-    IsUnopened content images limit count disks disks_before disks_now answer × ((n : ℕ) → IsBack images limit (disks n) (now n))
+    IsUnopened content images limit count disks disks_before disks_now answer × AreBack content images limit disks_before disks_now disks now

@@ -7,7 +7,7 @@ ghost use Rattle.status_command.specs.Outcomes.{DidStatus, WhyNoStatus};
 ghost use Rattle.command_answers.specs.Texts.{IsPrinted, IsSilent};
 ghost use Rattle.status_command.specs.Texts.{told_lines, status_among};
 ghost use Rattle.command_answers.specs.Left.{IsBeforeDisks};
-ghost use Rattle.rack_nodes.specs.Racked.{IsBack};
+ghost use Rattle.rack_nodes.specs.Racked.{AreBack};
 
 use cbdc_types::{Answer, Hash, Status};
 use line_text::{WriteFault, write_status};
@@ -67,7 +67,7 @@ pub fn status<R: Rack, O: Sink>(alloc: Global, hashes: &[Hash], rack: &mut R, ou
     ensures silent { IsSilent (O.taken out.old) (O.taken out.new) result }
     ensures written_later { O.count out.old ≤ O.count out.new }
     ensures untouched { IsBeforeDisks result → rack.new ≡ rack.old }
-    ensures left { (n : ℕ) → IsBack R.Disk.images R.Disk.limit (R.held rack.old n) (R.held rack.new n) }
+    ensures left { AreBack R.Disk.content R.Disk.images R.Disk.limit (R.count rack.old) (R.count rack.new) (R.held rack.old) (R.held rack.new) }
     ensures back { (n : ℕ) → R.can_take rack.new n }
 {
     let nodes = match open_nodes(alloc, rack) {

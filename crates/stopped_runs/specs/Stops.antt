@@ -3,7 +3,7 @@ use Rattle.std.specs.Prelude.{◌⊎◌, ℕ, List, Option}
 use Rattle.cbdc_types.specs.declared.answer.Answer.{Answer}
 use Rattle.cbdc_model.specs.Records.{Shape, Compact, Record}
 use Rattle.cbdc_model.specs.Coins.{FullTx}
-use Rattle.rack_nodes.specs.Racked.{IsBack}
+use Rattle.rack_nodes.specs.Racked.{AreBack}
 use Rattle.caused_ledgers.specs.Caused.{IsUnresumed}
 use Rattle.lane_driver.specs.declared.fault.LaneFault.{LaneFault}
 use Rattle.rack_runs.specs.Runs.{IsLaneFault}
@@ -15,7 +15,7 @@ abbrev pub WhyNoTurns : {D : Type 0} → (D → Option (List ℕ)) → (D → Li
     → (Shape → (ℕ → List Record) → (ℕ → List Record) → (ℕ → Type 0) → (ℕ → ℕ → Type 0) → LaneFault → Type 0)
     → (Shape → (ℕ → List Record) → (ℕ → List Record) → Type 0) → List (List FullTx) → Answer → Type 0
 WhyNoTurns content images limit count disks now disks_before disks_now next ends begun handed answer =
-    (IsUnresumed content images limit count disks disks_before disks_now answer × ((n : ℕ) → IsBack images limit (disks n) (now n)))
+    (IsUnresumed content images limit count disks disks_before disks_now answer × AreBack content images limit disks_before disks_now disks now)
     ⊎ IsLaneFault content images limit disks now disks_before disks_now next ends begun handed answer
 
 -- transactions over a ledger that did not come through: all disks are as they were read, or as a lane's fault leaves them, and as its want of memory does
@@ -23,4 +23,4 @@ abbrev pub TurnsLeave : {D : Type 0} → (D → Option (List ℕ)) → (D → Li
     → (Shape → (ℕ → List Record) → (ℕ → List Record) → (ℕ → Type 0) → (ℕ → ℕ → Type 0) → LaneFault → Type 0)
     → (Shape → (ℕ → List Record) → (ℕ → List Record) → Type 0) → List (List FullTx) → Answer → Type 0
 TurnsLeave content images limit before now disks_before disks_now next ends begun handed answer =
-    ((n : ℕ) → IsBack images limit (before n) (now n)) ⊎ IsLaneFault content images limit before now disks_before disks_now next ends begun handed answer
+    AreBack content images limit disks_before disks_now before now ⊎ IsLaneFault content images limit before now disks_before disks_now next ends begun handed answer

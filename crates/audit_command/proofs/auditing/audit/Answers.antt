@@ -26,12 +26,12 @@ returns-in-Err-clause-silent g c = silent_same (g.O.Sink.taken c.args.out.now) c
 
 pub returns-in-Ok-Sound-clause-did : goal.returns-in-Ok-Sound-clause-did
 returns-in-Ok-Sound-clause-did g c = λ well.
-    let was = subst (λ v. WasAudited (g.I.Inbox.file c.args.inbox.now) g.R.Disk.Disk.content g.R.Disk.Disk.limit (g.R.Rack.held c.args.rack.now) c.args.mint.now c.args.clients.now v) c.in-Ok-Sound.field-0-is c.in-Ok-Sound.ensures.did in
+    let was = subst (λ v. WasAudited (g.I.Inbox.file c.args.inbox.now) g.R.Disk.Disk.content g.R.Disk.Disk.images g.R.Disk.Disk.limit (g.R.Rack.held c.args.rack.now) (g.R.Rack.held c.audit_all.new.rack) c.args.mint.now c.args.clients.now v) c.in-Ok-Sound.field-0-is c.in-Ok-Sound.ensures.did in
     record {
       totals = c.in-Ok-Sound.totals;
       was = was;
       sentence = verdicts_account g.R.Disk.Disk.content (g.R.Rack.held c.args.rack.now) was.mint (joined was.handed) (Sound c.in-Ok-Sound.totals) was.audited;
-      back = c.audit_all.ensures.held;
+      back = c.in-Ok-Sound.ensures.unchanged;
       prints = c.print.ensures.prints;
     }
 
@@ -44,5 +44,5 @@ returns-in-Ok-Sound-clause-why g c =
 pub returns-in-Ok-Unsound-clause-why : goal.returns-in-Ok-Unsound-clause-why
 returns-in-Ok-Unsound-clause-why g c = (
   c.audit_all.ensures.held,
-  inl (subst (λ v. WasAudited (g.I.Inbox.file c.args.inbox.now) g.R.Disk.Disk.content g.R.Disk.Disk.limit (g.R.Rack.held c.args.rack.now) c.args.mint.now c.args.clients.now v) c.in-Ok-Unsound.field-0-is c.in-Ok-Unsound.ensures.did),
+  inl (subst (λ v. WasAudited (g.I.Inbox.file c.args.inbox.now) g.R.Disk.Disk.content g.R.Disk.Disk.images g.R.Disk.Disk.limit (g.R.Rack.held c.args.rack.now) (g.R.Rack.held c.audit_all.new.rack) c.args.mint.now c.args.clients.now v) c.in-Ok-Unsound.field-0-is c.in-Ok-Unsound.ensures.did),
 )

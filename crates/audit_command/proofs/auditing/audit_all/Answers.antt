@@ -1,9 +1,9 @@
 use Rattle.command_answers.proofs.Refusals.{not_refused, refusal_fault}
 use Rattle.std.proofs.Common.{◌∙◌, List, inl, inr, subst, refl}
-use Rattle.cbdc_model.specs.Coins.{Output, FullTx}
+use Rattle.cbdc_model.specs.Coins.{Output, FullTx, genesis_id}
 use Rattle.input_files.specs.Contents.{mint_of_file}
 use Rattle.file_runs.specs.Runs.{joined}
-use Rattle.audited_ledgers.specs.Audited.{IsAudited, HistoryHasRoom}
+use Rattle.audited_ledgers.specs.Audited.{IsAudited, HistoryHasRoom, HistoryIsHeld}
 use Rattle.rack_nodes.proofs.Told.{back_same}
 use Rattle.audit_command.specs.Audits.{WhyUnopened}
 use Rattle.command_answers.proofs.Answers.{first_fault, not_read_fault, one_later}
@@ -35,13 +35,13 @@ returns-in-Err-clause-fault g c =
     (λ file at. inl at) (λ file at rose. inl (at, rose)) c.in-Err.fault c.in-Err.ensures.fault
 
 pub returns-in-Err-clause-held : goal.returns-in-Err-clause-held
-returns-in-Err-clause-held g c n = back_same g.R.Disk.Disk.images g.R.Disk.Disk.limit (g.R.Rack.held c.args.rack.now n) (g.R.Rack.held c.args.rack.now n) refl
+returns-in-Err-clause-held g c n = back_same g.R.Disk.Disk.content g.R.Disk.Disk.images g.R.Disk.Disk.limit _ _ (g.R.Rack.held c.args.rack.now n) (g.R.Rack.held c.args.rack.now n) refl
 
 pub returns-in-Err-all_clients_in-clause-held : goal.returns-in-Err-all_clients_in-clause-held
-returns-in-Err-all_clients_in-clause-held g c n = back_same g.R.Disk.Disk.images g.R.Disk.Disk.limit (g.R.Rack.held c.args.rack.now n) (g.R.Rack.held c.args.rack.now n) refl
+returns-in-Err-all_clients_in-clause-held g c n = back_same g.R.Disk.Disk.content g.R.Disk.Disk.images g.R.Disk.Disk.limit _ _ (g.R.Rack.held c.args.rack.now n) (g.R.Rack.held c.args.rack.now n) refl
 
 pub returns-in_default-clause-held : goal.returns-in_default-clause-held
-returns-in_default-clause-held g c n = back_same g.R.Disk.Disk.images g.R.Disk.Disk.limit (g.R.Rack.held c.args.rack.now n) (g.R.Rack.held c.args.rack.now n) refl
+returns-in_default-clause-held g c n = back_same g.R.Disk.Disk.content g.R.Disk.Disk.images g.R.Disk.Disk.limit _ _ (g.R.Rack.held c.args.rack.now n) (g.R.Rack.held c.args.rack.now n) refl
 
 pub returns-in_default-clause-why : goal.returns-in_default-clause-why
 returns-in_default-clause-why g c = inl tt
@@ -50,11 +50,12 @@ pub returns-clause-did : goal.returns-clause-did
 returns-clause-did g c =
     let all = c.deref.ensures.value ∙ c.in-Ok-joined.ensures in
     let held = g.R.Rack.held c.args.rack.now in
+    let now = g.R.Rack.held c.audit_on.new.rack in
     if_ok_by _ _ c.audit_on.result
     (λ v is.
-    let found : (was : IsAudited g.R.Disk.Disk.content held c.in-Ok.mint (joined c.in-Ok-all_clients_in.files.items) v) × HistoryHasRoom g.R.Disk.Disk.limit held was.shape was.rows =
-    subst (λ (m : List Output). (was : IsAudited g.R.Disk.Disk.content held m (joined c.in-Ok-all_clients_in.files.items) v) × HistoryHasRoom g.R.Disk.Disk.limit held was.shape was.rows) c.as_slice.ensures
-    (subst (λ (h : List FullTx). (was : IsAudited g.R.Disk.Disk.content held c.as_slice.result.now h v) × HistoryHasRoom g.R.Disk.Disk.limit held was.shape was.rows) all is) in
+    let found : (was : IsAudited g.R.Disk.Disk.content held c.in-Ok.mint (joined c.in-Ok-all_clients_in.files.items) v) × HistoryHasRoom g.R.Disk.Disk.limit held was.shape was.rows × HistoryIsHeld g.R.Disk.Disk.content g.R.Disk.Disk.images held now was.shape (genesis_id c.in-Ok.mint) was.rows =
+    subst (λ (m : List Output). (was : IsAudited g.R.Disk.Disk.content held m (joined c.in-Ok-all_clients_in.files.items) v) × HistoryHasRoom g.R.Disk.Disk.limit held was.shape was.rows × HistoryIsHeld g.R.Disk.Disk.content g.R.Disk.Disk.images held now was.shape (genesis_id m) was.rows) c.as_slice.ensures
+    (subst (λ (h : List FullTx). (was : IsAudited g.R.Disk.Disk.content held c.as_slice.result.now h v) × HistoryHasRoom g.R.Disk.Disk.limit held was.shape was.rows × HistoryIsHeld g.R.Disk.Disk.content g.R.Disk.Disk.images held now was.shape (genesis_id c.as_slice.result.now) was.rows) all is) in
     record {
       mint = c.in-Ok.mint;
       handed = c.in-Ok-all_clients_in.files.items;
@@ -62,6 +63,7 @@ returns-clause-did g c =
       clients_read = are_read_same (g.I.Inbox.file c.mint_in.new.inbox) (g.I.Inbox.file c.args.inbox.now) c.mint_in.ensures.same c.args.clients.now c.in-Ok-all_clients_in.files.items 0 c.in-Ok-all_clients_in.ensures.read;
       audited = found.0;
       room = found.1;
+      holds = found.2;
     })
     c.audit_on.ensures.room
 

@@ -1,8 +1,8 @@
-use Rattle.std.proofs.Common.{◌+◌, ℕ, length, Option, subst, arith, inl, inr}
+use Rattle.std.proofs.Common.{ℕ, Option, subst, inl, inr}
 use Rattle.std.specs.Prelude.{MatchOption}
 use Rattle.caused_ledgers.specs.Caused.{journals_of, AreCaused, HasUncaused}
-use Rattle.rack_ledgers.proofs.Backs.{back_parts}
-use Rattle.caused_ledgers.proofs.Closed.{nodes_back}
+use Rattle.rack_nodes.proofs.Told.{same_back}
+use Rattle.caused_ledgers.proofs.Closed.{all_same}
 use Rattle.caused_ledgers.proofs.caused.open_caused.Goals as goal
 use Rattle.caused_ledgers.proofs.caused.open_caused.Goals.{in-Ok-Some, in-Err-first_uncaused}
 
@@ -27,11 +27,9 @@ returns-clause-refusal g c = elim c.match-first_uncaused.branch [
 ]
 
 pub returns-clause-held : goal.returns-clause-held
-returns-clause-held g c =
-    let whole = length c.in-Ok.nodes.logs.items + length c.in-Ok.nodes.shards.items in
-    back_parts g.R.Disk.Disk.images g.R.Disk.Disk.limit (g.R.Rack.held c.args.rack.now) (g.R.Rack.held c.open_nodes.new.rack) (g.R.Rack.held c.close_nodes.new.rack) whole whole
-    c.in-Ok.ensures.others_held
-    (nodes_back g.R.Disk.Disk.content g.R.Disk.Disk.images g.R.Disk.Disk.limit g.R.Disk.Disk.count (g.R.Rack.held c.args.rack.now) (g.R.Rack.held c.close_nodes.new.rack) c.in-Ok.nodes.header c.in-Ok.nodes.logs.items c.in-Ok.nodes.shards.items
-    c.in-Ok.ensures.opened c.close_nodes.ensures.closed_logs c.close_nodes.ensures.closed_shards)
-    (λ n ge lt. absurd (omega (arith, ge, lt)))
-    (λ n ge above. c.close_nodes.ensures.others_held n ge)
+returns-clause-held g c n =
+    let held = g.R.Rack.held c.args.rack.now in
+    let now = g.R.Rack.held c.close_nodes.new.rack in
+    same_back g.R.Disk.Disk.content g.R.Disk.Disk.images g.R.Disk.Disk.limit (g.R.Rack.count c.args.rack.now n) (g.R.Rack.count c.close_nodes.new.rack n) (held n) (now n)
+    (all_same g.R.Disk.Disk.content g.R.Disk.Disk.images g.R.Disk.Disk.limit g.R.Disk.Disk.count held (g.R.Rack.held c.open_nodes.new.rack) now c.in-Ok.nodes.header c.in-Ok.nodes.logs.items c.in-Ok.nodes.shards.items
+    c.in-Ok.ensures.opened c.in-Ok.ensures.others_held c.close_nodes.ensures.closed_logs c.close_nodes.ensures.closed_shards c.close_nodes.ensures.others_held n)

@@ -15,5 +15,5 @@ returns-in-Ok-clause-untouched g c =
 
 pub returns-in-Ok-clause-left : goal.returns-in-Ok-clause-left
 returns-in-Ok-clause-left g c =
-    unmade_left (g.I.Inbox.file c.args.inbox.now) g.R.Disk.Disk.content g.R.Disk.Disk.images g.R.Disk.Disk.limit (g.R.Rack.held c.args.rack.now) (g.R.Rack.held c.make_ledger.new.rack) c.args.shape.now c.args.file.now c.in-Ok.mint (c.make_ledger.new.rack ≡ c.args.rack.now)
+    unmade_left (g.I.Inbox.file c.args.inbox.now) g.R.Disk.Disk.content g.R.Disk.Disk.images g.R.Disk.Disk.limit (g.R.Rack.held c.args.rack.now) (g.R.Rack.held c.make_ledger.new.rack) (g.R.Rack.count c.args.rack.now) (g.R.Rack.count c.make_ledger.new.rack) c.args.shape.now c.args.file.now c.in-Ok.mint (c.make_ledger.new.rack ≡ c.args.rack.now)
     c.make_ledger.result c.in-Ok.ensures.read c.make_ledger.ensures.stops

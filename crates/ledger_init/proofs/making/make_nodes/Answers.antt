@@ -93,7 +93,7 @@ returns-clause-lead g c =
 
 pub returns-in-Err-clause-stops : goal.returns-in-Err-clause-stops
 returns-in-Err-clause-stops g c =
-    inl (back_all g.R.Disk.Disk.images g.R.Disk.Disk.limit (λ n. g.R.Rack.held c.args.rack.now n) (λ n. g.R.Rack.held c.open_all.new.rack n) (node_count c.args.shape.now)
+    inl (back_all g.R.Disk.Disk.content g.R.Disk.Disk.images g.R.Disk.Disk.limit (g.R.Rack.count c.args.rack.now) (g.R.Rack.count c.open_all.new.rack) (λ n. g.R.Rack.held c.args.rack.now n) (λ n. g.R.Rack.held c.open_all.new.rack n) (node_count c.args.shape.now)
     (λ n lt. c.in-Err.ensures.held n (omega (arith, ap length c.new.ensures.items)) (omega (arith, lt, c.coordinators.ensures.value, c.shards.ensures.value)))
     (λ n ge. c.open_all.ensures.others_held n (inr (omega (arith, ge, c.coordinators.ensures.value, c.shards.ensures.value)))))
 

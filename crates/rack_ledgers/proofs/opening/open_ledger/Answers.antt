@@ -74,12 +74,15 @@ returns-in-Err-open_all-clause-held g c =
     let Q : ℕ → LogOf g.row.R-Disk.Denot → Type 0 = λ n x. OfTold (g.R.Rack.held c.close_all.new.rack n) (λ now. now ≡ x.disk) in
     let count = c.in-Ok.ensures.logs.0 in
     let first = c.coordinators-first.ensures.value in
-    back_parts g.R.Disk.Disk.images g.R.Disk.Disk.limit (g.R.Rack.held c.args.rack.now) (g.R.Rack.held c.open_logs.new.rack) (g.R.Rack.held c.close_all.new.rack)
+    let before = g.R.Rack.count c.args.rack.now in
+    let after = g.R.Rack.count c.close_all.new.rack in
+    back_parts g.R.Disk.Disk.content g.R.Disk.Disk.images g.R.Disk.Disk.limit before after (g.R.Rack.count c.open_logs.new.rack) (g.R.Rack.count c.open_all.new.rack) (g.R.Rack.held c.args.rack.now) (g.R.Rack.held c.open_logs.new.rack) (g.R.Rack.held c.close_all.new.rack)
     c.in-Ok.opened.0.shape.coordinators (c.coordinators-first.result + c.shards-count.result)
+    c.in-Ok.ensures.later c.close_all.ensures.later
     c.in-Ok.ensures.others_held
     (λ n small. by_two (IsLogAt g.R.Disk.Disk.content g.R.Disk.Disk.images g.R.Disk.Disk.limit g.R.Disk.Disk.count (g.R.Rack.held c.args.rack.now) c.in-Ok.opened.0) Q
-    (λ k. IsBack g.R.Disk.Disk.images g.R.Disk.Disk.limit (g.R.Rack.held c.args.rack.now k) (g.R.Rack.held c.close_all.new.rack k)) c.in-Ok.opened.1.items
-    (λ k x is put. log_back g.R.Disk.Disk.content g.R.Disk.Disk.images g.R.Disk.Disk.limit g.R.Disk.Disk.count (g.R.Rack.held c.args.rack.now) (g.R.Rack.held c.close_all.new.rack) c.in-Ok.opened.0 k x is put)
+    (λ k. IsBack g.R.Disk.Disk.content g.R.Disk.Disk.images g.R.Disk.Disk.limit (before k) (after k) (g.R.Rack.held c.args.rack.now k) (g.R.Rack.held c.close_all.new.rack k)) c.in-Ok.opened.1.items
+    (λ k x is put. log_back g.R.Disk.Disk.content g.R.Disk.Disk.images g.R.Disk.Disk.limit g.R.Disk.Disk.count (g.R.Rack.held c.args.rack.now) (g.R.Rack.held c.close_all.new.rack) (before k) (after k) c.in-Ok.opened.0 k x is put)
     c.in-Ok.ensures.opened (by_place Q c.in-Ok.opened.1.items c.close_all.ensures.closed) n (omega (arith, small, count)))
     (λ n ge lt was is now is_now. c.in-Err-open_all.ensures.held n (omega (arith, ge, first, ap length c.new.ensures.items)) lt was is now
     (sym (c.close_all.ensures.others_held n (inr (omega (arith, ge, count)))) ∙ is_now))

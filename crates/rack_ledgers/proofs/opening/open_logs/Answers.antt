@@ -11,7 +11,7 @@ use Rattle.rack_ledgers.proofs.Lacks.{lacks_log}
 use Rattle.rack_ledgers.proofs.opening.open_logs.Goals as goal
 
 pub returns-in-Err-clause-held : goal.returns-in-Err-clause-held
-returns-in-Err-clause-held g c = back_one g.R.Disk.Disk.images g.R.Disk.Disk.limit (λ n. g.R.Rack.held c.args.rack.now n) (λ n. g.R.Rack.held c.open_lead.new.rack n) c.in-Err.ensures.held c.in-Err.ensures.others_held
+returns-in-Err-clause-held g c = back_one g.R.Disk.Disk.content g.R.Disk.Disk.images g.R.Disk.Disk.limit (g.R.Rack.count c.args.rack.now) (g.R.Rack.count c.open_lead.new.rack) (λ n. g.R.Rack.held c.args.rack.now n) (λ n. g.R.Rack.held c.open_lead.new.rack n) c.in-Err.ensures.held c.in-Err.ensures.others_held
 
 pub open_all-requires-clause-waiting : goal.open_all-requires-clause-waiting
 open_all-requires-clause-waiting g c = λ n ge lt.
@@ -62,11 +62,14 @@ returns-in-Err-open_all-clause-held g c =
     let Q : ℕ → LogOf g.row.R-Disk.Denot → Type 0 = λ n x. OfTold (g.R.Rack.held c.open_all.new.rack n) (λ now. now ≡ x.disk) in
     let put : OfTold (g.R.Rack.held c.open_all.new.rack 0) (λ now. now ≡ c.in-Ok.lead.disk) =
     (subst (λ (l : List (LogOf g.row.R-Disk.Denot)). EachFrom Q 0 l) c.in-Ok-lead_alone.ensures.alone c.in-Err-open_all.ensures.closed).0 in
-    let here : IsBack g.R.Disk.Disk.images g.R.Disk.Disk.limit (g.R.Rack.held c.args.rack.now 0) (g.R.Rack.held c.open_all.new.rack 0) =
-    log_back g.R.Disk.Disk.content g.R.Disk.Disk.images g.R.Disk.Disk.limit g.R.Disk.Disk.count (g.R.Rack.held c.args.rack.now) (g.R.Rack.held c.open_all.new.rack) c.header.result.now 0 c.in-Ok.lead lead put in
-    back_parts g.R.Disk.Disk.images g.R.Disk.Disk.limit (g.R.Rack.held c.args.rack.now) (g.R.Rack.held c.lead_alone.new.rack) (g.R.Rack.held c.open_all.new.rack) 1 c.coordinators-count.result
+    let before = g.R.Rack.count c.args.rack.now in
+    let after = g.R.Rack.count c.open_all.new.rack in
+    let here : IsBack g.R.Disk.Disk.content g.R.Disk.Disk.images g.R.Disk.Disk.limit (before 0) (after 0) (g.R.Rack.held c.args.rack.now 0) (g.R.Rack.held c.open_all.new.rack 0) =
+    log_back g.R.Disk.Disk.content g.R.Disk.Disk.images g.R.Disk.Disk.limit g.R.Disk.Disk.count (g.R.Rack.held c.args.rack.now) (g.R.Rack.held c.open_all.new.rack) (before 0) (after 0) c.header.result.now 0 c.in-Ok.lead lead put in
+    back_parts g.R.Disk.Disk.content g.R.Disk.Disk.images g.R.Disk.Disk.limit before after (g.R.Rack.count c.lead_alone.new.rack) after (g.R.Rack.held c.args.rack.now) (g.R.Rack.held c.lead_alone.new.rack) (g.R.Rack.held c.open_all.new.rack) 1 c.coordinators-count.result
+    (λ n. omega (arith, c.in-Ok.ensures.later n, c.in-Ok-lead_alone.ensures.later n)) (λ n. omega arith)
     (λ n some. c.in-Ok-lead_alone.ensures.others_held n some ∙ c.in-Ok.ensures.others_held n (omega (arith, some)))
-    (λ n small. let none : 0 ≡ n = omega (arith, small) in subst (λ (k : ℕ). IsBack g.R.Disk.Disk.images g.R.Disk.Disk.limit (g.R.Rack.held c.args.rack.now k) (g.R.Rack.held c.open_all.new.rack k)) none here)
+    (λ n small. let none : 0 ≡ n = omega (arith, small) in subst (λ (k : ℕ). IsBack g.R.Disk.Disk.content g.R.Disk.Disk.images g.R.Disk.Disk.limit (before k) (after k) (g.R.Rack.held c.args.rack.now k) (g.R.Rack.held c.open_all.new.rack k)) none here)
     (λ n ge lt. c.in-Err-open_all.ensures.held n (omega (arith, ge, ap length c.in-Ok-lead_alone.ensures.alone)) (omega (arith, lt)))
     (λ n ge above. c.in-Err-open_all.ensures.others_held n (inr (omega (arith, above))))
 

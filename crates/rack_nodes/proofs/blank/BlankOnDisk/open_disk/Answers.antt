@@ -1,7 +1,8 @@
 use Rattle.std.proofs.Common.{◌≡◌, ℕ, length, subst, arith}
+use Rattle.outside.specs.Counts.{Rose}
 use Rattle.rack_nodes.specs.Blank.{AreWhole}
 use Rattle.rack_nodes.proofs.Wholes.{opened_whole}
-use Rattle.rack_nodes.proofs.Blanks.{blank_opens, blank_refused, blank_told}
+use Rattle.rack_nodes.proofs.Blanks.{blank_opens, blank_refused, blank_same}
 use Rattle.rack_nodes.proofs.blank.BlankOnDisk.open_disk.Goals as goal
 
 pub returns-in-Ok-clause-opens : goal.returns-in-Ok-clause-opens
@@ -24,10 +25,13 @@ returns-in-Ok-records_of-clause-opens g c =
     (λ bytes told. c.in-Ok-records_of.ensures.whole bytes (c.in-Err.ensures.refusal bytes told))
     c.blank_of-in-Ok-records_of.result c.blank_of-in-Ok-records_of.ensures.blank c.blank_of-in-Ok-records_of.ensures.unused
 
-pub returns-in-Ok-records_of-clause-told : goal.returns-in-Ok-records_of-clause-told
-returns-in-Ok-records_of-clause-told g c =
-    blank_told (λ b. b.node) (λ b. b.disk) g.D.Disk.content (g.D.Disk.content c.args.disk) c.in-Err.disk c.args.node
+pub returns-in-Ok-records_of-clause-same : goal.returns-in-Ok-records_of-clause-same
+returns-in-Ok-records_of-clause-same g c =
+    blank_same (λ b. b.node) (λ b. b.disk) g.D.Disk.content (g.D.Disk.content c.args.disk) (λ d. Rose (g.D.Disk.count c.args.disk) (g.D.Disk.count d)) c.in-Err.disk c.args.node
     c.blank_of-in-Ok-records_of.result (c.in-Err.ensures.same c.in-Ok-records_of.ensures.kept) c.blank_of-in-Ok-records_of.ensures.blank
+
+pub returns-in-Err-records_of-clause-same : goal.returns-in-Err-records_of-clause-same
+returns-in-Err-records_of-clause-same g c = λ none. c.in-Err.ensures.same (λ is. none (c.in-Err.ensures.fault is))
 
 pub returns-in-Ok-records_of-clause-refusal : goal.returns-in-Ok-records_of-clause-refusal
 returns-in-Ok-records_of-clause-refusal g c =
