@@ -14,7 +14,7 @@ use Rattle.command_answers.specs.Texts.{IsPrinted}
 
 module _ {D : Type 0} (files : Text → Option (List ℕ)) (content : D → Option (List ℕ)) (images : D → List ℕ → Type 0) (limit : D → ℕ) (before now : ℕ → Option D) (P Q : Text → Type 0) (by : (text : Text) → P text → Q text) where
   pub did_by : (r : Request) → Did files content images limit before now P r → Did files content images limit before now Q r
-  did_by (Init shape mint) is = init_by files content images before now P Q by shape mint is
+  did_by (Init shape mint) is = init_by files content images limit before now P Q by shape mint is
   did_by (Run verdicts clients) is = record {
     handed = is.handed;
     known = is.known;
@@ -32,7 +32,7 @@ module _ {D : Type 0} (files : Text → Option (List ℕ)) (content : D → Opti
         record { recovered = told.recovered; text = told.text; lines = told.lines; prints = by told.text told.prints },
   )
   did_by (Status hashes) is =
-      record { shape = is.shape; genesis = is.genesis; journals = is.journals; limits = is.limits; opened = is.opened; room = is.room; back = is.back; prints = by _ is.prints }
+      record { shape = is.shape; genesis = is.genesis; journals = is.journals; limits = is.limits; opened = is.opened; room = is.room; back = is.back; holds = is.holds; prints = by _ is.prints }
   did_by (Audit mint clients) is = record { totals = is.totals; was = is.was; sentence = is.sentence; back = is.back; prints = by _ is.prints }
   did_by (Gen shape seed count) is = (is.0, (is.1.0, is.1.1, by is.1.0 is.1.2))
   did_by (Show text) is = by _ is

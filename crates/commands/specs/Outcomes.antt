@@ -16,7 +16,7 @@ use Rattle.run_command.specs.Outcomes.{DidRun, WhyNoRun}
 
 -- what was asked for was done, and this was printed
 abbrev pub Did : {D : Type 0} → (Text → Option (List ℕ)) → (D → Option (List ℕ)) → (D → List ℕ → Type 0) → (D → ℕ) → (ℕ → Option D) → (ℕ → Option D) → (Text → Type 0) → Request → Type 0
-Did files content images limit before now printed (Init shape mint) = DidInit files content images before now printed shape mint
+Did files content images limit before now printed (Init shape mint) = DidInit files content images limit before now printed shape mint
 Did files content images limit before now printed (Run verdicts clients) = DidRun files content images limit before now printed verdicts clients.items
 Did files content images limit before now printed Recover = DidRecover content images limit before now printed
 Did files content images limit before now printed (Status hashes) = DidStatus content images limit before now printed hashes.items

@@ -198,7 +198,8 @@ pub fn process<W: Wait, I: Inbox, R: Rack, O: Sink, G: Gate>(
     // nothing else has one; its line confirms it exactly where every shard held it, and always where its inputs are unspent when its
     // file's wave begins and no other sound one of the file spends them. The text of a workload is one, where no hashes of it clash. Each
     // disk of a ledger that was looked at or audited, and of a kept one that was run over or brought to an end, had room for its journal
-    // and for what is kept for the batches open there. A look and an audit change nothing: each disk reads as it did, and whatever a crash
+    // and for what is kept for the batches open there. Each disk of a ledger that was made, run over or brought to an end is back in its own
+    // place: what is there now has as much room as what was. A look and an audit change nothing: each disk reads as it did, and whatever a crash
     // leaves of one that told its content opens to exactly the journal that was read.
     ensures did { IsWell result.status → (r : Asked) × IsAsked (texts words.now) r × Did (I.file inbox.old) R.Disk.content R.Disk.images R.Disk.limit (R.held rack) (R.held result.rack) (IsPrinted (O.taken out.old) (O.taken out.new) result.status) r }
 

@@ -19,7 +19,7 @@ use Rattle.plain_rack.specs.declared.plain_rack.PlainRack.{PlainRack}
 use Rattle.plain_rack.specs.Places.{faults_at}
 use Rattle.plain_rack.specs.Racks.{AllIn, disk_at, bytes_told, bytes_left, room_of, faults_of}
 use Rattle.ledger_laws.proofs.Recovery.{idle_law}
-use Rattle.ledger_init.specs.Made.{HoldsFirst, SameRoom, first_of}
+use Rattle.ledger_init.specs.Made.{HoldsFirst, first_of}
 use Rattle.opening_laws.proofs.Once.{opens_once_law}
 use Rattle.sound_laws.specs.SoundTest.{sound_by}
 use Rattle.sound_laws.proofs.Telling.{is_sound_law}
@@ -32,7 +32,7 @@ use Rattle.audit.specs.Verdicts.{IsVerdict}
 use Rattle.caused_ledgers.specs.Caused.{IsToldHistory, IsUnresumed}
 use Rattle.audited_ledgers.specs.Audited.{IsAudited}
 use Rattle.rack_laws.specs.Shown.{Shows, HoldsEach, node_count}
-use Rattle.rack_nodes.specs.Racked.{AreBack}
+use Rattle.rack_nodes.specs.Racked.{AreBack, SameRoom}
 use Rattle.rack_runs.specs.Endings.{EndsRun}
 use Rattle.rack_runs.specs.Runs.{IsLaneFault, PieceNext, PiecesPrepared}
 use Rattle.file_runs.specs.declared.ran.Ran.{Ran}

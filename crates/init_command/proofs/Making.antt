@@ -12,17 +12,18 @@ use Rattle.ledger_init.specs.declared.making.Made.{Made}
 use Rattle.line_text.specs.Lines.{Text, init_text}
 use Rattle.cbdc_model.specs.History.{minted}
 use Rattle.record_log.specs.Held.{OpensTo}
+use Rattle.rack_nodes.specs.Racked.{SameRoom}
 use Rattle.ledger_laws.proofs.FirstJournals.{first_is}
 use Rattle.init_command.specs.Outcomes.{DidInit}
 use Rattle.workload_laws.specs.Files.{first_journals}
 
-module _ {D : Type 0} (files : Text → Option (List ℕ)) (content : D → Option (List ℕ)) (images : D → List ℕ → Type 0) (before now : ℕ → Option D) (shape : Shape) (file : FileWord) (mint : List Output)
+module _ {D : Type 0} (files : Text → Option (List ℕ)) (content : D → Option (List ℕ)) (images : D → List ℕ → Type 0) (limit : D → ℕ) (before now : ℕ → Option D) (shape : Shape) (file : FileWord) (mint : List Output)
     (read : Tells (files file.name.now) (λ c. mint_of_file c ≡ Ok mint)) where
   pub made_did : {E : Type 0} (r : Result Made E) → IfOk r (λ m. (m.coins ≡ length mint) × (m.total ≡ value_out mint) × (m.genesis ≡ genesis_id mint)) → OnOk r (MayBeMade shape mint content before)
       → OnOk r ((n : ℕ) → n < node_count shape → HoldsFirst content images (first_of shape mint n) (before n) (now n))
-      → ((n : ℕ) → node_count shape ≤ n → now n ≡ before n)
-      → IfOk r (λ m. DidInit files content images before now (λ text. init_text m.coins m.total m.genesis ≡ text) shape file)
-  made_did (Ok m) made was holds outside = record {
+      → OnOk r ((n : ℕ) → n < node_count shape → SameRoom limit (before n) (now n)) → ((n : ℕ) → node_count shape ≤ n → now n ≡ before n)
+      → IfOk r (λ m. DidInit files content images limit before now (λ text. init_text m.coins m.total m.genesis ≡ text) shape file)
+  made_did (Ok m) made was holds rooms outside = record {
     mint = mint;
     read = read;
     was = was;
@@ -31,8 +32,9 @@ module _ {D : Type 0} (files : Text → Option (List ℕ)) (content : D → Opti
         let h = holds n lt was told d held some in
         subst (λ bytes. OpensTo (reverse (first_journals shape mint n)) bytes) (sym (h.durable c left))
         (subst (λ J. OpensTo (reverse J) h.bytes) (sym (first_is shape (minted mint) n lt)) h.opens);
+    rooms = rooms;
     outside = outside;
     kept = record { later = []; history = record { ordered = tt; journals_are = λ n. refl }; kept = tt };
     prints = ap (λ (n : ℕ). init_text n m.total m.genesis) made.0 ∙ ap (λ (n : ℕ). init_text (length mint) n m.genesis) made.1 ∙ ap (init_text (length mint) (value_out mint)) made.2;
   }
-  made_did (Err e) made was holds outside = tt
+  made_did (Err e) made was holds rooms outside = tt

@@ -33,10 +33,6 @@ HoldsFirst content images first old new = OfTold old (λ was. OfTold new (λ now
 abbrev pub LeavesBut : {D : Type 0} → (D → Option (List ℕ)) → (D → List ℕ → Type 0) → ((List ℕ → Type 0) → List ℕ → Type 0) → Option D → Option D → Type 0
 LeavesBut content images P old new = OfTold old (λ was. OfTold new (λ now. IsSome (content was) → (c : List ℕ) → images now c → P (images was) c))
 
--- the disk has as much room as it had
-abbrev pub SameRoom : {D : Type 0} → (D → ℕ) → Option D → Option D → Type 0
-SameRoom limit old new = OfTold old (λ was. OfTold new (λ now. limit now ≡ limit was))
-
 -- the node's disk tells that it is in use, or that it is not
 abbrev pub ToldInUse : {D : Type 0} → (D → Option (List ℕ)) → (ℕ → Option D) → ℕ → Type 0
 ToldInUse content held n = OfTold (held n) (λ was. Tells (content was) (IsInUse n))

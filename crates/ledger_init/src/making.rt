@@ -4,8 +4,9 @@ ghost use Rattle.outside.specs.Counts.{Rose};
 ghost use Rattle.cbdc_model.specs.Coins.{genesis_tx, genesis_id, genesis_hashes};
 ghost use Rattle.cbdc_model.specs.Clean.{value_out};
 ghost use Rattle.gate_journal.specs.Formatting.{IsEmptied};
+ghost use Rattle.rack_nodes.specs.Racked.{SameRoom};
 ghost use Rattle.rack_nodes.specs.First.{IsBegun};
-ghost use Rattle.ledger_init.specs.Made.{node_count, first_of, HoldsFirst, LeavesBut, SameRoom, MayBeMade, IsUnmade, IsLeft};
+ghost use Rattle.ledger_init.specs.Made.{node_count, first_of, HoldsFirst, LeavesBut, MayBeMade, IsUnmade, IsLeft};
 
 use crate::dealing::total_of;
 use crate::writing::write_firsts;

@@ -15,7 +15,7 @@ use Rattle.cbdc_model.specs.Sights.{Sight, HasRisen}
 use Rattle.ledger_runs.specs.Faults.{HaveFailed}
 use Rattle.node_ports.specs.Nodes.{sight_at}
 use Rattle.rack_nodes.specs.Places.{EachFrom, MayReturn}
-use Rattle.rack_nodes.specs.Racked.{OfTold}
+use Rattle.rack_nodes.specs.Racked.{OfTold, SameRoom}
 use Rattle.rack_ledgers.specs.Ledgers.{ByPlace, AreOpened}
 use Rattle.rack_laws.specs.Shown.{KeepsEach, HoldsEach, LogHasRoom, ShardHasRoom, LogFits, ShardFits, HaveRoom, node_count}
 use Rattle.rack_laws.proofs.Opened.{at_place, sight_there, all_by}
@@ -347,6 +347,36 @@ module _ {D : Type 0} (content : D → Option (List ℕ)) (images : D → List �
       at_shard s low is d told =
           let x = at_place shards s (omega (arith, low, are.shards_are)) in
           is ∙ shard_capacity h.shape logs shards s x.0 x.1 ∙ ((are.shards_at s x.0 x.1).opened d told).read.room
+
+  -- a disk that is back behind a run has as much room as the one that was told there
+  pub rooms_same : (held back : ℕ → Option D) (h : Header) (logs now : List (LogOf D)) (shards after : List (ShardOf D)) → AreOpened content images limit count held h logs shards
+      → (g : Header) → g.shape ≡ h.shape → IsLedger g now after → All (λ l. l.capacity ≡ limit l.disk) now
+      → ByPlace (λ n l. OfTold (back n) (λ d. d ≡ l.disk)) now → ByPlace (λ s x. OfTold (back (length now + s)) (λ d. d ≡ x.disk)) after
+      → ((n : ℕ) → capacity_of count limit h.shape now after n ≡ capacity_of count limit h.shape logs shards n)
+      → (n : ℕ) → n < node_count h.shape → SameRoom limit (held n) (back n)
+  rooms_same held back h logs now shards after are g shape is capacities logs_back shards_back same n inside =
+      by_node h.shape (λ k. SameRoom limit (held k) (back k)) at_log at_shard n inside
+    where
+      logs_are : length now ≡ h.shape.coordinators
+      logs_are = is.coordinators ∙ ap (λ k. k.coordinators) shape
+
+      shards_are : length after ≡ h.shape.shards
+      shards_are = is.shards_are ∙ ap (λ k. k.shards) shape
+
+      at_log : (k : ℕ) → k < h.shape.coordinators → SameRoom limit (held k) (back k)
+      at_log k low was told d is_now =
+          let y = at_place now k (omega (arith, low, logs_are)) in
+          let now_is : limit d ≡ capacity_of count limit h.shape now after k =
+          ap limit (logs_back k y.0 y.1 d is_now) ∙ sym (by_all (λ l. l.capacity ≡ limit l.disk) now capacities k y.0 y.1) ∙ sym (log_capacity h.shape now after k y.0 low y.1) in
+          now_is ∙ same k ∙ may_hold held h logs shards are k (capacity_of count limit h.shape logs shards k) (omega (arith, low)) refl was told
+
+      at_shard : (s : ℕ) → s < h.shape.shards → SameRoom limit (held (h.shape.coordinators + s)) (back (h.shape.coordinators + s))
+      at_shard s low was told d is_now =
+          let y = at_place after s (omega (arith, low, shards_are)) in
+          let put : d ≡ y.0.disk = subst (λ k. OfTold (back (k + s)) (λ x. x ≡ y.0.disk)) logs_are (shards_back s y.0 y.1) d is_now in
+          let now_is : limit d ≡ capacity_of count limit h.shape now after (h.shape.coordinators + s) = ap limit put ∙ sym (shard_capacity h.shape now after s y.0 y.1) in
+          now_is ∙ same (h.shape.coordinators + s)
+          ∙ may_hold held h logs shards are (h.shape.coordinators + s) (capacity_of count limit h.shape logs shards (h.shape.coordinators + s)) (omega (arith, low)) refl was told
 
   -- a count that had not fallen before it rose
   rose_by : (opened faults before behind : ℕ) → HasRisen opened faults → before ≤ opened → faults ≤ behind → Rose before behind

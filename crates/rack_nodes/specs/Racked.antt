@@ -41,6 +41,10 @@ IsBack content images limit before now old new = OfTold old (λ was. OfTold new 
 abbrev pub AreBack : {D : Type 0} → (D → Option (List ℕ)) → (D → List ℕ → Type 0) → (D → ℕ) → (ℕ → ℕ) → (ℕ → ℕ) → (ℕ → Option D) → (ℕ → Option D) → Type 0
 AreBack content images limit before now old new = (n : ℕ) → IsBack content images limit (before n) (now n) (old n) (new n)
 
+-- the disk that is told has as much room as the one that was told
+abbrev pub SameRoom : {D : Type 0} → (D → ℕ) → Option D → Option D → Type 0
+SameRoom limit old new = OfTold old (λ was. OfTold new (λ is. limit is ≡ limit was))
+
 -- where the disk that was told tells its content, whatever a crash may leave of the one that is told opens to just this journal
 abbrev pub StillHolds : {D : Type 0} → (D → Option (List ℕ)) → (D → List ℕ → Type 0) → Option D → Option D → Header → List Record → Type 0
 StillHolds content images old new h J = OfTold old (λ was. IsSome (content was) → OfTold new (λ is. (c : List ℕ) → images is c → IsNodeJournal h J c))

@@ -18,7 +18,7 @@ use Rattle.lane_driver.specs.declared.fault.LaneFaultKind.{LaneFaultKind}
 use Rattle.lane_driver.specs.declared.fault.LaneFaultKind.TheVariants.{DiskFault as DiskStopped, Full as NoRoom, ClockEnd as NoStamp, Memory as NoMemory}
 use Rattle.coord_log.specs.Logs.{LogOf}
 use Rattle.shard_node.specs.Shards.{ShardOf}
-use Rattle.rack_nodes.specs.Racked.{OfTold}
+use Rattle.rack_nodes.specs.Racked.{OfTold, SameRoom}
 use Rattle.rack_ledgers.specs.Ledgers.{ByPlace, AreOpened}
 use Rattle.caused_ledgers.specs.Caused.{journals_of as lent_journals, AreCaused}
 use Rattle.caused_ledgers.proofs.Told.{told_history}
@@ -275,8 +275,8 @@ module _ {D : Type 0} (content : D → Option (List ℕ)) (images : D → List �
   may n c inside is_so = may_hold content images limit count held h logs shards are n c inside is_so
 
   -- what was taken
-  pub took : HaveRoom limit held h.shape (journals_of count limit h.shape logs shards) → SparesOthers content held back → TookLedger content limit held back
-  took room spared = record {
+  pub took : HaveRoom limit held h.shape (journals_of count limit h.shape logs shards) → ((n : ℕ) → n < node_count h.shape → SameRoom limit (held n) (back n)) → SparesOthers content held back → TookLedger content limit held back
+  took room same_room spared = record {
     ledger = record {
       shape = h.shape;
       genesis = h.genesis;
@@ -285,6 +285,7 @@ module _ {D : Type 0} (content : D → Option (List ℕ)) (images : D → List �
       caused = caused.caused;
     };
     room = subst (λ L. HaveRoom limit held h.shape L) entry room;
+    same_room = same_room;
     spared = spared;
   }
 

@@ -2,7 +2,7 @@
 use Rattle.std.proofs.Common.{◌≡◌, ℕ, List, Option, Result, Ok, Err, subst}
 use Rattle.std.specs.Prelude.{OnOk, IfOk, IsOk, IfErr}
 use Rattle.cbdc_model.specs.Records.{Shape, Record}
-use Rattle.ledger_nodes.specs.Ledgers.{LedgerOf, journals_of, flights_of, faults_of, opened_of}
+use Rattle.ledger_nodes.specs.Ledgers.{LedgerOf, journals_of, flights_of, faults_of, opened_of, capacity_of}
 
 -- what a whole run says is so where its answer is whole
 pub on_ok : {A B E F : Type 0} (X : Type 0) (r : Result A E) (o : Result B F) → OnOk r (IsOk o) → OnOk o X → OnOk r X
@@ -64,6 +64,11 @@ module _ {D : Type 0} (count limit : D → ℕ) where
       → P (opened_of count limit b.header.shape b.logs b.shards) → P (opened_of count limit S back.logs back.shards)
   lent_opened P S b back same shape so =
       subst (λ l. P (opened_of count limit S l.logs l.shards)) same (subst (λ k. P (opened_of count limit k b.logs b.shards)) shape so)
+
+  pub lent_capacity : (P : (ℕ → ℕ) → Type 0) (S : Shape) (b back : LedgerOf D) → b ≡ back → b.header.shape ≡ S
+      → P (capacity_of count limit b.header.shape b.logs b.shards) → P (capacity_of count limit S back.logs back.shards)
+  lent_capacity P S b back same shape so =
+      subst (λ l. P (capacity_of count limit S l.logs l.shards)) same (subst (λ k. P (capacity_of count limit k b.logs b.shards)) shape so)
 
   pub lent_both : (P : (ℕ → List Record) → (ℕ → ℕ) → Type 0) (S : Shape) (b back : LedgerOf D) → b ≡ back → b.header.shape ≡ S
       → P (journals_of count limit b.header.shape b.logs b.shards) (faults_of count limit b.header.shape b.logs b.shards) → P (journals_of count limit S back.logs back.shards) (faults_of count limit S back.logs back.shards)

@@ -14,7 +14,7 @@ use Rattle.record_log.specs.Held.{OpensToEither}
 use Rattle.rack_laws.specs.Shown.{OfShown, KeepsEach, HoldsEach, AreLeft, OpenTo, HaveRoom, node_count}
 use Rattle.submissions.specs.Checks.{VerdictsOf, TellsSound}
 use Rattle.sound_laws.specs.SoundTest.{sound_by}
-use Rattle.rack_nodes.specs.Racked.{OfTold}
+use Rattle.rack_nodes.specs.Racked.{OfTold, SameRoom}
 use Rattle.caused_ledgers.specs.Caused.{IsCausedLedger}
 use Rattle.caused_ledgers.specs.Laws.{AllTell}
 use Rattle.ledger_runs.specs.Turning.{IsLaneOf, OfKept}
@@ -72,10 +72,11 @@ abbrev pub SparesOthers : {D : Type 0} → (D → Option (List ℕ)) → (ℕ �
 SparesOthers content held back = OfShown content held (λ K mint submissions E. (n : ℕ) → node_count K ≤ n → back n ≡ held n)
 
 -- the disks told a ledger in which each record was caused; each of its disks had room for its journal and for what is kept for the batches that were
--- open there; and where the ledger was kept all other disks are as before
+-- open there, and the one that is back in its place has as much room; and where the ledger was kept all other disks are as before
 pub record TookLedger {D : Type 0} (content : D → Option (List ℕ)) (limit : D → ℕ) (held back : ℕ → Option D) : Type 0 where
   pub ledger : IsCausedLedger content held
   pub room : HaveRoom limit held ledger.shape (λ n. journal n (reverse ledger.rows))
+  pub same_room : (n : ℕ) → n < node_count ledger.shape → SameRoom limit (held n) (back n)
   pub spared : SparesOthers content held back
 
 -- whatever a crash may leave of a node's disk that is told opens to this journal, with what is in flight there or without

@@ -38,9 +38,10 @@ pub(crate) struct Behind<D: Disk> {
     pub came: Result<Ran, Answer>,
 }
 
-// Each coordinator's count of faults is its disk's, which has room for what is kept for its open batches; a record is in flight only where the disk failed.
+// Each coordinator's count of faults and its capacity are its disk's, which has room for what is kept for its open batches; a record is in flight only where the disk failed.
 fn see_logs<D: Disk>(logs: &[CoordLog<D>])
     ensures counts { All (λ l. l.faults ≡ D.count l.disk) logs.now }
+    ensures capacities { All (λ l. l.capacity ≡ D.limit l.disk) logs.now }
     ensures rooms { All (LogHasRoom D.limit) logs.now }
     ensures flown { All FliesBroken logs.now }
     ensures fits { All (LogFits D.limit) logs.now }
@@ -110,6 +111,9 @@ pub(crate) fn run_nodes<W: Wait, D: Disk, V: Verifier, G: Gate>(
     ensures ledger { IsLedger result.nodes.header result.nodes.logs.items result.nodes.shards.items }
     ensures shape { result.nodes.header.shape ≡ nodes.header.shape }
     ensures counts { All (λ l. l.faults ≡ D.count l.disk) result.nodes.logs.items }
+    ensures capacities { All (λ l. l.capacity ≡ D.limit l.disk) result.nodes.logs.items }
+    ensures holds_as_much { (n : ℕ) → capacity_of D.count D.limit nodes.header.shape result.nodes.logs.items result.nodes.shards.items n
+        ≡ capacity_of D.count D.limit nodes.header.shape nodes.logs.items nodes.shards.items n }
     ensures log_rooms { All (LogHasRoom D.limit) result.nodes.logs.items }
     ensures shard_rooms { All (ShardHasRoom D.limit) result.nodes.shards.items }
     ensures log_fits { All (LogFits D.limit) result.nodes.logs.items }

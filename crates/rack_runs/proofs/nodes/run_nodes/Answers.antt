@@ -15,7 +15,7 @@ use Rattle.rack_laws.specs.Shown.{LogHasRoom, ShardHasRoom, LogFits, ShardFits}
 use Rattle.rack_runs.specs.Telling.{CountAll}
 use Rattle.file_runs.specs.Telling.{TellsRun}
 use Rattle.rack_runs.proofs.Resumed.{told_made}
-use Rattle.rack_runs.proofs.Lent.{if_made, on_ok, lent_journals, lent_faults, lent_both, lent_flights, lent_opened, on_ok_by}
+use Rattle.rack_runs.proofs.Lent.{if_made, on_ok, lent_journals, lent_faults, lent_both, lent_flights, lent_opened, lent_capacity, on_ok_by}
 use Rattle.cbdc_model.specs.Sights.{HasRisen}
 use Rattle.rack_runs.specs.Kinds.{FliesBroken, ShardFliesBroken}
 use Rattle.rack_runs.proofs.Flown.{all_flown}
@@ -23,6 +23,19 @@ use Rattle.rack_runs.proofs.nodes.run_nodes.Goals as goal
 
 pub returns-clause-counts : goal.returns-clause-counts
 returns-clause-counts g c = subst (λ xs. All (λ x. x.faults ≡ g.D.Disk.count x.disk) xs) c.as_slice.ensures.value c.see_logs.ensures.counts
+
+pub returns-clause-capacities : goal.returns-clause-capacities
+returns-clause-capacities g c = subst (λ xs. All (λ x. x.capacity ≡ g.D.Disk.limit x.disk) xs) c.as_slice.ensures.value c.see_logs.ensures.capacities
+
+pub returns-clause-holds_as_much : goal.returns-clause-holds_as_much
+returns-clause-holds_as_much g c =
+    let back : c.run_over-over.new.ledger ≡ record { header = c.header.inside.header; logs = c.header.inside.logs.items; shards = c.header.inside.shards.items } = cc in
+    let lent : c.lend-lent.result ≡ record { header = c.args.nodes.header; logs = c.args.nodes.logs.items; shards = c.args.nodes.shards.items } = c.lend-lent.ensures in
+    let shape : c.run_over-over.new.ledger.header.shape ≡ c.args.nodes.header.shape = c.run_over-over.ensures.shape ∙ ap (λ l. l.header.shape) lent in
+    lent_capacity g.D.Disk.count g.D.Disk.limit
+    (λ C. (n : ℕ) → C n ≡ capacity_of g.D.Disk.count g.D.Disk.limit c.args.nodes.header.shape c.args.nodes.logs.items c.args.nodes.shards.items n) c.args.nodes.header.shape c.run_over-over.new.ledger _ back shape
+    (subst (λ l. (n : ℕ) → capacity_of g.D.Disk.count g.D.Disk.limit c.run_over-over.new.ledger.header.shape c.run_over-over.new.ledger.logs c.run_over-over.new.ledger.shards n
+    ≡ capacity_of g.D.Disk.count g.D.Disk.limit l.header.shape l.logs l.shards n) lent c.run_over-over.ensures.capacity_same)
 
 pub returns-clause-log_rooms : goal.returns-clause-log_rooms
 returns-clause-log_rooms g c = subst (λ xs. All (LogHasRoom g.D.Disk.limit) xs) c.as_slice.ensures.value c.see_logs.ensures.rooms

@@ -16,6 +16,8 @@ logs-preserved g c =
     record {
       counts = All-more (λ x. x.faults ≡ g.D.Disk.count x.disk) c.args.logs.now c.logs.log-index c.log-item.result c.logs-test.true c.logs.invariant.counts
           (subst (λ x. x.faults ≡ g.D.Disk.count x.disk) c.log-item.is told.count);
+      capacities = All-more (λ x. x.capacity ≡ g.D.Disk.limit x.disk) c.args.logs.now c.logs.log-index c.log-item.result c.logs-test.true c.logs.invariant.capacities
+          (subst (λ x. x.capacity ≡ g.D.Disk.limit x.disk) c.log-item.is told.capacity);
       rooms = All-more (LogHasRoom g.D.Disk.limit) c.args.logs.now c.logs.log-index c.log-item.result c.logs-test.true c.logs.invariant.rooms (subst (LogHasRoom g.D.Disk.limit) c.log-item.is room);
       flown = All-more FliesBroken c.args.logs.now c.logs.log-index c.log-item.result c.logs-test.true c.logs.invariant.flown
           (subst FliesBroken c.log-item.is (flies_broken c.log-item.result.broken c.log-item.result.flight c.log-item.result.opened c.log-item.result.faults told.landed told.since_broken));
@@ -29,6 +31,7 @@ returns g c =
     let whole = sym (take_whole c.args.logs.now c.logs.log-index (omega (arith, c.logs-test.false))) in
     record {
       counts = All-same (λ x. x.faults ≡ g.D.Disk.count x.disk) c.args.logs.now (take c.logs.log-index c.args.logs.now) whole c.logs.invariant.counts;
+      capacities = All-same (λ x. x.capacity ≡ g.D.Disk.limit x.disk) c.args.logs.now (take c.logs.log-index c.args.logs.now) whole c.logs.invariant.capacities;
       rooms = All-same (LogHasRoom g.D.Disk.limit) c.args.logs.now (take c.logs.log-index c.args.logs.now) whole c.logs.invariant.rooms;
       flown = All-same FliesBroken c.args.logs.now (take c.logs.log-index c.args.logs.now) whole c.logs.invariant.flown;
       fits = All-same (LogFits g.D.Disk.limit) c.args.logs.now (take c.logs.log-index c.args.logs.now) whole c.logs.invariant.fits;

@@ -1,5 +1,5 @@
 use Rattle.std.proofs.Common.{◌≡◌, ◌∙◌, inl, inr, length, sym, ap, arith}
-use Rattle.rack_laws.proofs.Behind.{is_ledger, logs_return, shards_return}
+use Rattle.rack_laws.proofs.Behind.{is_ledger, logs_return, shards_return, rooms_same}
 use Rattle.rack_runs.proofs.Checking.{opened_checked}
 use Rattle.rack_runs.proofs.Answering.{lane_fault, took}
 use Rattle.rack_runs.proofs.Lent.{on_ok_by, on_ok_always, on_ok_all, if_err_by, if_err_both, if_ok_all}
@@ -47,6 +47,9 @@ returns-clause-caused g c =
     (opened_room g.R.Disk.Disk.content g.R.Disk.Disk.images g.R.Disk.Disk.limit g.R.Disk.Disk.count (g.R.Rack.held c.args.rack.now) (g.R.Rack.held c.close_nodes.new.rack) c.in-Ok.nodes.header c.run_nodes-nodes.result.nodes.header
     c.in-Ok.nodes.logs.items c.run_nodes-nodes.result.nodes.logs.items c.in-Ok.nodes.shards.items c.run_nodes-nodes.result.nodes.shards.items c.args.files.now c.in-Ok.ensures.opened ran.ledger ran.shape
     c.close_nodes.ensures.closed_logs c.close_nodes.ensures.closed_shards ran.stored)
+    (rooms_same g.R.Disk.Disk.content g.R.Disk.Disk.images g.R.Disk.Disk.limit g.R.Disk.Disk.count (g.R.Rack.held c.args.rack.now) (g.R.Rack.held c.close_nodes.new.rack) c.in-Ok.nodes.header
+    c.in-Ok.nodes.logs.items c.run_nodes-nodes.result.nodes.logs.items c.in-Ok.nodes.shards.items c.run_nodes-nodes.result.nodes.shards.items c.in-Ok.ensures.opened c.run_nodes-nodes.result.nodes.header ran.shape ran.ledger
+    ran.capacities c.close_nodes.ensures.closed_logs c.close_nodes.ensures.closed_shards ran.holds_as_much)
     (spares g.R.Disk.Disk.content g.R.Disk.Disk.images g.R.Disk.Disk.limit g.R.Disk.Disk.count (g.R.Rack.held c.args.rack.now) (g.R.Rack.held c.close_nodes.new.rack) c.in-Ok.nodes.header c.run_nodes-nodes.result.nodes.header
     c.in-Ok.nodes.logs.items c.run_nodes-nodes.result.nodes.logs.items c.in-Ok.nodes.shards.items c.run_nodes-nodes.result.nodes.shards.items c.args.files.now c.in-Ok.ensures.opened ran.ledger ran.shape
     c.close_nodes.ensures.closed_logs c.close_nodes.ensures.closed_shards ran.stored
