@@ -198,8 +198,8 @@ pub fn process<W: Wait, I: Inbox, R: Rack, O: Sink, G: Gate>(
     // batches were brought to their end, hashes were looked up, or its journals were audited and are sound. What was run over or brought to
     // an end was a ledger that the disks told, each record of which was caused by what stood before it. Whatever a crash leaves of a
     // disk then opens to exactly its node's journal, and where no two outputs share a hash, the headline holds of the journals at exit. The
-    // journals of that ledger, kept or not, have grown at their ends, and its disks have room for them and for what is kept for the
-    // batches open there. The
+    // journals of that ledger, kept or not, have grown at their ends by records that are caused too, and its disks have room for them and
+    // for what is kept for the batches open there. The
     // lines of each command are those of the mint and of the journals (of `run` and `recover` at that exit too; of `gen` those of a run of its workload in
     // memory and of the audit behind it), or at WriteFault a front. Each sound submission of a run has its one place in one new Prepare, and
     // nothing else has one; its line confirms it exactly where every shard held it, and always where its inputs are unspent when its

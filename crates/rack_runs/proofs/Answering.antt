@@ -35,16 +35,16 @@ use Rattle.run_laws.proofs.NewBatches.{new_batches, open_batches}
 use Rattle.file_runs.specs.Runs.{joined, IsSentPiece, AreFilesPieces, HaveBegunFiles, IsFilesPiece}
 use Rattle.file_runs.proofs.Pieces.{files_unbegun}
 use Rattle.file_runs.specs.Endings.{EndsFirst, EndsFiles}
-use Rattle.ledger_nodes.specs.Ledgers.{IsLedger, journals_of, flights_of, faults_of, opened_of, capacity_of, AreStored, AreQuiet}
+use Rattle.ledger_nodes.specs.Ledgers.{IsLedger, journals_of, flights_of, faults_of, opened_of, capacity_of, AreChecked, AreStored, AreQuiet}
 use Rattle.rack_laws.specs.Shown.{OfShown, HoldsEach, LogHasRoom, ShardHasRoom, HaveRoom, node_count}
-use Rattle.rack_laws.proofs.Behind.{are_quiet, none_fly, keeps_flights, holds_each, rooms_each, told_stored, may_hold, have_risen}
+use Rattle.rack_laws.proofs.Behind.{are_quiet, is_ledger, none_fly, keeps_flights, holds_each, rooms_each, told_stored, may_hold, have_risen}
 use Rattle.rack_runs.specs.Kinds.{answer_at, answer_to, IsLaneAnswer}
 use Rattle.rack_runs.specs.Endings.{EndsRun, IsCut, IsInOrder, IsLeastAnswer}
 use Rattle.rack_runs.specs.Runs.{AddsOpen, IsCutWaves, IsCutShort, KeepsFlights, IsLaneFault, NonePrepared, NothingNext, PieceNext, PiecesPrepared, SparesOthers, TookLedger}
 use Rattle.rack_runs.specs.declared.over.Over.{Over}
 use Rattle.file_runs.specs.declared.ran.Ran.{Ran}
 use Rattle.rack_runs.proofs.Checking.{same_journals}
-use Rattle.rack_runs.proofs.Wanted.{WantsNext, wanted_inside}
+use Rattle.rack_runs.proofs.Wanted.{WantsNext, wanted_inside, stays_caused}
 
 -- the cause of a fault is that of its answer
 answered : (K : Shape) (genesis : Digest) (next : ℕ → List Compact → Type 0) (E X : ℕ → List Record) (failed : ℕ → Type 0) (holds : ℕ → ℕ → Type 0) → WantsNext K genesis next E X
@@ -272,8 +272,8 @@ module _ {D : Type 0} (content : D → Option (List ℕ)) (images : D → List �
 
   -- what was taken, and how it was left
   pub took : HaveRoom limit held h.shape (journals_of count limit h.shape logs shards) → ((n : ℕ) → n < node_count h.shape → SameRoom limit (held n) (back n)) → SparesOthers content held back
-      → ((n : ℕ) → IsEnd (journals_of count limit h.shape logs shards n) (journals_of count limit h.shape now after n)) → All (LogHasRoom limit) now → All (ShardHasRoom limit) after → AreQuiet now after → TookLedger content images limit held back
-  took room same_room spared grows log_rooms shard_rooms quiet = record {
+      → ((n : ℕ) → IsEnd (journals_of count limit h.shape logs shards n) (journals_of count limit h.shape now after n)) → All (LogHasRoom limit) now → All (ShardHasRoom limit) after → AreChecked count limit h.shape now after → AreQuiet now after → TookLedger content images limit held back
+  took room same_room spared grows log_rooms shard_rooms checked quiet = record {
     ledger = record {
       shape = h.shape;
       genesis = h.genesis;
@@ -284,6 +284,7 @@ module _ {D : Type 0} (content : D → Option (List ℕ)) (images : D → List �
     room = subst (λ L. HaveRoom limit held h.shape L) entry room;
     exit = journals_of count limit h.shape now after;
     grows = subst (λ L. (n : ℕ) → IsEnd (L n) (journals_of count limit h.shape now after n)) entry grows;
+    caused = stays_caused content images limit count h g logs now shards after (is_ledger content images limit count held h logs shards are) is shape checked grows;
     disks = λ tells.
         subst (λ k. HoldsEach images back k (journals_of count limit k now after)) shape
         (holds_each content images limit count back g now after is (stored (told_stored content images limit count held h logs shards are tells)) logs_back shards_back quiet);
@@ -307,9 +308,9 @@ module _ {D : Type 0} (content : D → Option (List ℕ)) (images : D → List �
       → Launches h.shape (IsFilesPiece h.shape verdicts files (journals_of count limit h.shape logs shards) (journals_of count limit h.shape now after)) (journals_of count limit h.shape logs shards) (journals_of count limit h.shape now after)
       (flights_of count limit h.shape logs shards) (flights_of count limit h.shape now after)
       → AllRestSince h.shape (journals_of count limit h.shape logs shards) (journals_of count limit h.shape now after) (HaveFailed (opened_of count limit h.shape logs shards) (faults_of count limit h.shape now after))
-      → HaveRoom limit held h.shape (journals_of count limit h.shape logs shards) → All (LogHasRoom limit) now → All (ShardHasRoom limit) after → OfShown content held (IsCutShort images limit back files (journals_of count limit h.shape now after)) → SparesOthers content held back
+      → HaveRoom limit held h.shape (journals_of count limit h.shape logs shards) → All (LogHasRoom limit) now → All (ShardHasRoom limit) after → AreChecked count limit h.shape now after → OfShown content held (IsCutShort images limit back files (journals_of count limit h.shape now after)) → SparesOthers content held back
       → IsLaneFault content images limit held back before behind (PieceNext verdicts files) (EndsRun verdicts files) (PiecesPrepared verdicts files) files a
-  lane_fault verdicts files begun grows a cause least keeps cut orders flown launches rests room log_rooms shard_rooms kept spared = record {
+  lane_fault verdicts files begun grows a cause least keeps cut orders flown launches rests room log_rooms shard_rooms checked kept spared = record {
     ledger = record {
       shape = h.shape;
       genesis = h.genesis;
@@ -319,6 +320,7 @@ module _ {D : Type 0} (content : D → Option (List ℕ)) (images : D → List �
     };
     exit = journals_of count limit h.shape now after;
     grows = subst (λ L. (n : ℕ) → IsEnd (L n) (journals_of count limit h.shape now after n)) entry grows;
+    caused = stays_caused content images limit count h g logs now shards after (is_ledger content images limit count held h logs shards are) is shape checked grows;
     prepared = subst (λ L. PiecesPrepared verdicts files h.shape L (journals_of count limit h.shape now after)) entry (
       begun are.limits.some_batch,
       cut_waves h.shape verdicts files (journals_of count limit h.shape logs shards) (journals_of count limit h.shape now after) are.limits.some_shard are.limits.some_lane keeps cut,
@@ -388,6 +390,7 @@ of_nothing content images limit held back before now verdicts a f =
       ledger = f.ledger;
       exit = f.exit;
       grows = f.grows;
+      caused = f.caused;
       prepared = no_pieces verdicts f.ledger.shape E f.exit f.prepared;
       flights = f.flights;
       in_flight = f.in_flight;

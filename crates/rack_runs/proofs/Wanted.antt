@@ -19,6 +19,7 @@ use Rattle.cbdc_model.specs.History.{Minted, header_of, first_rows}
 use Rattle.cbdc_model.specs.Lanes.{IsEnd}
 use Rattle.cbdc_model.specs.Coins.{FullTx, compact}
 use Rattle.cbdc_model.specs.Waves.{IsCut, share, sent_to}
+use Rattle.ledger_laws.proofs.Cuts.{end_trans}
 use Rattle.ledger_laws.proofs.Answered.{LockAnswered, lock_stale, lock_stored, lock_appends}
 use Rattle.ledger_laws.proofs.Repeats.{lock_answered}
 use Rattle.ledger_laws.proofs.Found.{found_grammar}
@@ -38,6 +39,7 @@ use Rattle.turn_laws.proofs.Headers.{header_is}
 use Rattle.ledger_runs.specs.Turning.{IsLaneOf}
 use Rattle.ledger_runs.specs.Faults.{IsWanted, wants_prepare, wants_lock}
 use Rattle.file_runs.specs.Runs.{AreFilesPieces, IsFilesPiece}
+use Rattle.rack_runs.specs.Kinds.{StaysCaused}
 use Rattle.coord_log.specs.Logs.{LogOf, sight}
 use Rattle.shard_node.specs.Shards.{ShardOf, sight_of}
 use Rattle.ledger_nodes.specs.Ledgers.{IsLedger, journals_of, AreChecked}
@@ -255,6 +257,14 @@ module _ (K : Shape) (m : Minted) (X : ℕ → List Record) (limits : IsWithinLi
       (subst (λ l. slot front l ≡ slot (X (shard_node K s)) l) (sym is) (subst (λ n. slot front lane ≡ slot (X n) lane) at still))
       (subst (λ l. (slot (X (shard_node K s)) l).number < b.number) (sym is) (subst (λ n. (slot (X n) lane).number < b.number) at behind))))
 
+-- journals that have grown from those of a ledger, and are checked, have its genesis
+pub same_genesis : (K : Shape) (genesis : Digest) (m : Minted) (E X : ℕ → List Record) (node : ℕ) → node < node_count K → CheckedJournals K m X
+    → IsJournal (header_of K genesis node) (E node) → (h : Header) → IsJournal h (X node) → IsEnd (E node) (X node) → m.id ≡ genesis
+same_genesis K genesis m E X node inside checked e h x since =
+    let own : IsJournal (header_of K m.id node) (X node) = subst (λ k. IsJournal k (X node)) (header_is K m X node h checked inside x) x in
+    let entry : IsJournal (header_of K m.id node) (E node) = journal_end (header_of K m.id node) since.0 (E node) (some_there (header_of K genesis node) (E node) e) (subst (IsJournal (header_of K m.id node)) since.1 own) in
+    ap (λ k. k.genesis) (one_header (header_of K m.id node) (header_of K genesis node) (E node) entry e)
+
 -- in a ledger whose journals have its headers at entry, and are checked at exit
 pub wants_next : (K : Shape) (genesis : Digest) (m : Minted) (next : ℕ → List Compact → Type 0) (E X : ℕ → List Record) → IsWithinLimits K → CheckedJournals K m X
     → ((n : ℕ) → n < node_count K → IsJournal (header_of K genesis n) (E n)) → ((n : ℕ) → n < node_count K → (h : Header) × IsJournal h (X n))
@@ -267,8 +277,7 @@ wants_next K genesis m next E X limits checked were are fits lane node front r l
     let some : E node ≡ [] → ⊥ = some_there (header_of K genesis node) (E node) e in
     let here : IsJournal (header_of K m.id node) front =
     journal_end (header_of K m.id node) within.0 front (λ none. some_behind since.0 (E node) some (sym since.1 ∙ none)) (subst (IsJournal (header_of K m.id node)) within.1 own) in
-    let entry : IsJournal (header_of K m.id node) (E node) = journal_end (header_of K m.id node) since.0 (E node) some (subst (IsJournal (header_of K m.id node)) since.1 here) in
-    let same : m.id ≡ genesis = ap (λ h. h.genesis) (one_header (header_of K m.id node) (header_of K genesis node) (E node) entry e) in
+    let same : m.id ≡ genesis = same_genesis K genesis m E X node inside checked e x.0 x.1 (end_trans (E node) front (X node) since within) in
     subst (λ g. IsNextBut K g node front r) same (wanted_next K m X limits checked lane node (next lane) front r lt (home_inside K lane lt) (fits lane) here still wanted)
 
 -- ---- at open nodes
@@ -301,3 +310,14 @@ module _ {D : Type 0} (content : D → Option (List ℕ)) (images : D → List �
       (journals_of count limit h.shape now after) was.limits checked.1 (node_header h logs shards was)
       (λ n inside. subst (λ k. n < node_count k → (j : Header) × IsJournal j (journals_of count limit k now after n)) shape (λ i. (header_of g.shape g.genesis n, node_header g now after is n i)) inside)
       (λ lane txs piece. piece_fits h.shape verdicts files (journals_of count limit h.shape logs shards) (journals_of count limit h.shape now after) lane txs short piece)
+
+  -- journals at exit are those of a ledger with this genesis, each record of which is caused
+  pub stays_caused : (h g : Header) (logs now : List (LogOf D)) (shards after : List (ShardOf D)) → IsLedger h logs shards → IsLedger g now after → g.shape ≡ h.shape → AreChecked count limit h.shape now after
+      → ((n : ℕ) → IsEnd (journals_of count limit h.shape logs shards n) (journals_of count limit h.shape now after n)) → StaysCaused h.shape h.genesis (journals_of count limit h.shape now after)
+  stays_caused h g logs now shards after was is shape checked grows =
+      let first : 0 < node_count h.shape = omega (arith, was.limits.some_shard) in (
+        checked.0,
+        same_genesis h.shape h.genesis checked.0 (journals_of count limit h.shape logs shards) (journals_of count limit h.shape now after) 0 first checked.1 (node_header h logs shards was 0 first)
+            (header_of g.shape g.genesis 0) (subst (λ k. IsJournal (header_of g.shape g.genesis 0) (journals_of count limit k now after 0)) shape (node_header g now after is 0 (subst (λ k. 0 < node_count k) (sym shape) first))) (grows 0),
+        checked.1,
+      )

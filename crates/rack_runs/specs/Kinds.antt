@@ -4,8 +4,9 @@ use Rattle.cbdc_types.specs.declared.answer.Answer.{Answer}
 use Rattle.cbdc_types.specs.declared.answer.Answer.TheVariants as answers
 use Rattle.cbdc_model.specs.Records.{Digest, Shape, Compact, Record}
 use Rattle.cbdc_model.specs.After.{After, Follows}
-use Rattle.cbdc_model.specs.History.{header_of}
+use Rattle.cbdc_model.specs.History.{Minted, header_of}
 use Rattle.cbdc_model.specs.Sights.{HasRisen}
+use Rattle.run_laws.specs.Checked.{CheckedJournals}
 use Rattle.coord_log.specs.Logs.{LogOf}
 use Rattle.shard_node.specs.Shards.{ShardOf}
 use Rattle.lane_driver.specs.declared.fault.LaneFault.{LaneFault}
@@ -40,3 +41,7 @@ FliesBroken l = (r : Record) → l.flight ≡ Some r → HasRisen l.opened l.fau
 
 abbrev pub ShardFliesBroken : {D : Type 0} → (D → ℕ) → ShardOf D → Type 0
 ShardFliesBroken count s = (r : Record) → s.flight ≡ Some r → HasRisen s.opened (count s.disk)
+
+-- these are journals of a ledger with this genesis, and each of their records is caused
+abbrev pub StaysCaused : Shape → Digest → (ℕ → List Record) → Type 0
+StaysCaused K genesis X = (m : Minted) × (m.id ≡ genesis) × CheckedJournals K m X

@@ -135,6 +135,7 @@ pub(crate) fn run_nodes<W: Wait, D: Disk, V: Verifier, G: Gate>(
         (λ _ _. TellsRun nodes.header.shape (V.verdict_of verifier.now) files.now (journals_of D.count D.limit nodes.header.shape nodes.logs.items nodes.shards.items)
         (journals_of D.count D.limit nodes.header.shape result.nodes.logs.items result.nodes.shards.items) r.resumed.items r.waves.items)) }
     ensures unspent { IfOk result.came (λ r. CountAll (map (λ s. s.journal) result.nodes.shards.items) r.unspent) }
+    ensures checked { AreChecked D.count D.limit nodes.header.shape result.nodes.logs.items result.nodes.shards.items }
     ensures stored { AreStored D.content D.images nodes.logs.items nodes.shards.items → AreStored D.content D.images result.nodes.logs.items result.nodes.shards.items }
     ensures later { (n : ℕ) → faults_of D.count D.limit nodes.header.shape nodes.logs.items nodes.shards.items n
         ≤ faults_of D.count D.limit nodes.header.shape result.nodes.logs.items result.nodes.shards.items n }

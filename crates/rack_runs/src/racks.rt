@@ -32,7 +32,8 @@ pub fn run_on<W: Wait, R: Rack, V: Verifier, G: Gate>(
     requires all { (n : ℕ) → R.can_take rack.old n }
     requires short { All (λ txs. All IsShort txs) files.now }
     // The rack showed a ledger, each record of its history is caused by what stands before it, and the disks had the room that is kept for its
-    // open batches. The disks that are no nodes of it are as they were.
+    // open batches. Its journals have grown at their ends by records that are caused too; each disk that was told holds just its own, and has
+    // room for it and for what is kept. The disks that are no nodes of it are as they were.
     ensures caused { OnOk result (TookLedger R.Disk.content R.Disk.images R.Disk.limit (R.held rack.old) (R.held rack.new)) }
 
     // The ledger that the rack showed has its open batches at their end and the files' waves behind them, and each disk holds its journal.
@@ -42,7 +43,8 @@ pub fn run_on<W: Wait, R: Rack, V: Verifier, G: Gate>(
     ensures told { IfOk result (λ r. OfShown R.Disk.content (R.held rack.old) (IsTold R.Disk.images R.Disk.limit (R.held rack.new) (V.verdict_of verifier.now) files.now r)) }
 
     // The nodes could not be opened, or a record is not caused, and the disks are back; or the rack showed such a ledger and a lane met a
-    // fault, which has its cause and is that of the least lane that met one: journals have grown at their ends, and are kept whatever a crash leaves.
+    // fault, which has its cause and is that of the least lane that met one: journals have grown at their ends, and are kept whatever a crash
+    // leaves; they lie within the disks' capacities, and a Prepare in flight is that of its lane's next piece.
     ensures stopped { IfErr result (λ e. (IsUnresumed R.Disk.content R.Disk.images R.Disk.limit R.Disk.count (R.held rack.old) (R.count rack.old) (R.count rack.new) e
         × AreBack R.Disk.content R.Disk.images R.Disk.limit (R.count rack.old) (R.count rack.new) (R.held rack.old) (R.held rack.new))
         ⊎ (IsLaneFault R.Disk.content R.Disk.images R.Disk.limit (R.held rack.old) (R.held rack.new) (R.count rack.old) (R.count rack.new) (PieceNext (V.verdict_of verifier.now) files.now)

@@ -106,6 +106,14 @@ returns-clause-resumed g c =
     (λ L. OfKept c.args.nodes.header.shape (journals_of g.D.Disk.count g.D.Disk.limit c.args.nodes.header.shape c.args.nodes.logs.items c.args.nodes.shards.items) (λ _ _. c.args.files.now ≡ [] → IsResumed c.args.nodes.header.shape (journals_of g.D.Disk.count g.D.Disk.limit c.args.nodes.header.shape c.args.nodes.logs.items c.args.nodes.shards.items) L))
     c.args.nodes.header.shape c.run_over-over.new.ledger _ back shape) own)
 
+pub returns-clause-checked : goal.returns-clause-checked
+returns-clause-checked g c =
+    let back : c.run_over-over.new.ledger ≡ record { header = c.header.inside.header; logs = c.header.inside.logs.items; shards = c.header.inside.shards.items } = cc in
+    let lent : c.lend-lent.result ≡ record { header = c.args.nodes.header; logs = c.args.nodes.logs.items; shards = c.args.nodes.shards.items } = c.lend-lent.ensures in
+    let shape : c.run_over-over.new.ledger.header.shape ≡ c.args.nodes.header.shape = c.run_over-over.ensures.shape ∙ ap (λ l. l.header.shape) lent in
+    let still : c.header.inside.header.shape ≡ c.args.nodes.header.shape = ap (λ l. l.header.shape) (sym back) ∙ shape in
+    subst (λ k. AreChecked g.D.Disk.count g.D.Disk.limit k c.header.inside.logs.items c.header.inside.shards.items) still (subst (λ l. AreChecked g.D.Disk.count g.D.Disk.limit l.header.shape l.logs l.shards) back c.run_over-over.ensures.checked)
+
 pub returns-clause-stored : goal.returns-clause-stored
 returns-clause-stored g c stored =
     let back : c.run_over-over.new.ledger ≡ record { header = c.header.inside.header; logs = c.header.inside.logs.items; shards = c.header.inside.shards.items } = cc in

@@ -54,7 +54,7 @@ returns-clause-caused g c =
     c.in-Ok.nodes.logs.items c.run_nodes-nodes.result.nodes.logs.items c.in-Ok.nodes.shards.items c.run_nodes-nodes.result.nodes.shards.items c.args.files.now c.in-Ok.ensures.opened ran.ledger ran.shape
     c.close_nodes.ensures.closed_logs c.close_nodes.ensures.closed_shards ran.stored
     (λ n le. c.close_nodes.ensures.others_held n (omega (arith, le, logs, shards)) ∙ c.in-Ok.ensures.others_held n le))
-    ran.grows ran.log_rooms ran.shard_rooms
+    ran.grows ran.log_rooms ran.shard_rooms ran.checked
     (quiet (are_quiet g.R.Disk.Disk.content g.R.Disk.Disk.images g.R.Disk.Disk.limit g.R.Disk.Disk.count (g.R.Rack.held c.args.rack.now) c.in-Ok.nodes.header c.in-Ok.nodes.logs.items c.in-Ok.nodes.shards.items are)))
     ran.quiet
 
@@ -90,7 +90,7 @@ returns-clause-stopped g c =
     (opened_room g.R.Disk.Disk.content g.R.Disk.Disk.images g.R.Disk.Disk.limit g.R.Disk.Disk.count (g.R.Rack.held c.args.rack.now) (g.R.Rack.held c.close_nodes.new.rack) c.in-Ok.nodes.header c.run_nodes-nodes.result.nodes.header
     c.in-Ok.nodes.logs.items c.run_nodes-nodes.result.nodes.logs.items c.in-Ok.nodes.shards.items c.run_nodes-nodes.result.nodes.shards.items c.args.files.now c.in-Ok.ensures.opened ran.ledger ran.shape
     c.close_nodes.ensures.closed_logs c.close_nodes.ensures.closed_shards ran.stored)
-    ran.log_rooms ran.shard_rooms
+    ran.log_rooms ran.shard_rooms ran.checked
     (cut_short g.R.Disk.Disk.content g.R.Disk.Disk.images g.R.Disk.Disk.limit g.R.Disk.Disk.count (g.R.Rack.held c.args.rack.now) (g.R.Rack.held c.close_nodes.new.rack) c.in-Ok.nodes.header
     c.run_nodes-nodes.result.nodes.header c.in-Ok.nodes.logs.items c.run_nodes-nodes.result.nodes.logs.items c.in-Ok.nodes.shards.items c.run_nodes-nodes.result.nodes.shards.items c.args.files.now c.in-Ok.ensures.opened
     ran.ledger ran.shape c.close_nodes.ensures.closed_logs c.close_nodes.ensures.closed_shards ran.stored ran.keeps ran.flies ran.log_rooms ran.shard_rooms ran.log_fits ran.shard_fits)
