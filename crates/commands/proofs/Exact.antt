@@ -59,8 +59,8 @@ module _ {D : Type 0} (content : D → Option (List ℕ)) (images : D → List �
   }
 
   module _ (files : Text → Option (List ℕ)) where
-    audited : (file : FileWord) (clients : List FileWord) (verdict : Verdict) → WasAudited files content limit held file clients verdict → HasNoCause content held (IsUnopenedOf files content images limit count held file.name.now)
-    audited file clients verdict was =
+    audited : (now : ℕ → Option D) (file : FileWord) (clients : List FileWord) (verdict : Verdict) → WasAudited files content images limit held now file clients verdict → HasNoCause content held (IsUnopenedOf files content images limit count held file.name.now)
+    audited now file clients verdict was =
         let is = was.audited in
         let J : ℕ → List Record = λ n. journal n (reverse is.rows) in
         record {
@@ -87,20 +87,20 @@ module _ {D : Type 0} (content : D → Option (List ℕ)) (images : D → List �
       opens = did.opened;
       none = λ tell before now answer of cause. opened did.shape did.genesis did.journals did.limits did.opened did.room tell None tt before now answer of cause;
     }
-    did_exact now printed (Audit mint clients) did = audited mint clients.items (Sound did.totals) did.was
+    did_exact now printed (Audit mint clients) did = audited now mint clients.items (Sound did.totals) did.was
     did_exact now printed (Init shape mint) did = tt
     did_exact now printed (Gen shape seed size) did = tt
     did_exact now printed (Show text) did = tt
 
     -- what ended later
-    unsound_exact : (file : FileWord) (clients : List FileWord) (answer : Answer) → IsUnsoundBy (WasAudited files content limit held file clients) answer → HasNoCause content held (IsUnopenedOf files content images limit count held file.name.now)
-    unsound_exact file clients (answers.Unsound place kind) was = audited file clients (Unsound place kind) was
-    unsound_exact file clients answer was = absurd was
+    unsound_exact : (now : ℕ → Option D) (file : FileWord) (clients : List FileWord) (answer : Answer) → IsUnsoundBy (WasAudited files content images limit held now file clients) answer → HasNoCause content held (IsUnopenedOf files content images limit count held file.name.now)
+    unsound_exact now file clients (answers.Unsound place kind) was = audited now file clients (Unsound place kind) was
+    unsound_exact now file clients answer was = absurd was
 
     later_exact : (now : ℕ → Option D) (disks_before disks_now : ℕ → ℕ) (r : Request) (answer : Answer) → IsEndedLater files content images limit held now disks_before disks_now r answer → IsExact files content images limit count held r
     later_exact now disks_before disks_now (Run verdicts clients) answer later = let lane = later.2 in resumed lane.ledger lane.room
     later_exact now disks_before disks_now Recover answer lane = resumed lane.ledger lane.room
-    later_exact now disks_before disks_now (Audit mint clients) answer was = unsound_exact mint clients.items answer was
+    later_exact now disks_before disks_now (Audit mint clients) answer was = unsound_exact now mint clients.items answer was
     later_exact now disks_before disks_now r answer later = absurd later
 
     -- the same request

@@ -55,5 +55,5 @@ IsEndedLater files content images limit disks now disks_before disks_now (Run ve
     (handed : List (List FullTx)) × (known : VerdictFile)
     × IsLaneFault content images limit disks now disks_before disks_now (PieceNext (told known) handed) (EndsRun (told known) handed) (PiecesPrepared (told known) handed) handed answer
 IsEndedLater files content images limit disks now disks_before disks_now Recover answer = IsLaneFault content images limit disks now disks_before disks_now NothingNext IsLeastOpen NonePrepared [] answer
-IsEndedLater files content images limit disks now disks_before disks_now (Audit mint clients) answer = IsUnsoundBy (WasAudited files content limit disks mint clients.items) answer
+IsEndedLater files content images limit disks now disks_before disks_now (Audit mint clients) answer = IsUnsoundBy (WasAudited files content images limit disks now mint clients.items) answer
 IsEndedLater files content images limit disks now disks_before disks_now other answer = ⊥
