@@ -1,4 +1,5 @@
 // Disks as bytes, and the journals that they hold: a record is a gate of 1, the length of its body in 8 bytes, and the body.
+use byteorder::{ByteOrder, LittleEndian};
 use row_text::{put_count, put_word};
 use std::alloc::{AllocError, Global};
 
@@ -15,7 +16,7 @@ pub struct DiskState {
 fn number_at(bytes: &[u8], at: usize) -> u64 {
     let end = at.saturating_add(8);
     match bytes.get(at..end) {
-        Some([a, b, c, d, e, f, g, h]) => u64::from_le_bytes([*a, *b, *c, *d, *e, *f, *g, *h]),
+        Some(field) if field.len() == 8 => LittleEndian::read_u64(field),
         _ => 0,
     }
 }

@@ -13,6 +13,7 @@ use identifiers::tx_id;
 use line_text::{
     Summary, WriteFault, write_confirmed, write_refused, write_rejected, write_summary,
 };
+use printed_lines::Report;
 use std::alloc::Global;
 use verifier_port::Verifier;
 

@@ -9,6 +9,7 @@ mod files;
 mod hashes;
 mod kinds;
 mod lines;
+mod messages;
 mod page;
 mod reader;
 mod records;

@@ -5,6 +5,7 @@ use crate::fields::{fields, number_bytes, small_bytes};
 use crate::files::{client_file, fetched, mint_file, verdict, verdict_file};
 use crate::hashes::{coin_hash, digits, hashes, sha, undigits};
 use crate::lines::{audited, fault, line};
+use crate::messages::messages;
 use crate::records::{reads_first, reads_record, record_bytes};
 use crate::repeats::repeated;
 use crate::state::State;
@@ -125,6 +126,7 @@ fn of_others(
         Verb::Batcher => batches(state, alloc, words, told),
         Verb::Workload => workload(alloc, words, told),
         Verb::Sentinel => refused(state, alloc, words, told),
+        Verb::Messages => messages(words, told),
         _ => Err(Wrong::Line("no such step")),
     }
 }

@@ -4,6 +4,7 @@ use cbdc_types::{Hash, InputKind, Refusal};
 use row_records::{put_hash_word, put_refusal};
 use row_text::{Wrong, check_text, put_count, put_word};
 use std::alloc::Global;
+use std::fmt::{Display, Write};
 
 /// An answer in words and lines. Want of memory is told at its end.
 #[derive(Drop)]
@@ -71,6 +72,13 @@ impl Told {
     /// A text as it stands.
     pub fn text(&mut self, text: &str) {
         if self.text.push_str(text).is_err() {
+            self.is_whole = false;
+        }
+    }
+
+    /// What a fault tells, and the end of the line.
+    pub fn shown<F: Display>(&mut self, fault: &F) {
+        if writeln!(self.text, "{fault}").is_err() {
             self.is_whole = false;
         }
     }

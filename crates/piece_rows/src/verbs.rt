@@ -39,9 +39,10 @@ pub enum Verb {
     Line,
     Fault,
     Audited,
+    Messages,
 }
 
-const VERBS: [(&str, Verb); 36] = [
+const VERBS: [(&str, Verb); 37] = [
     ("hash", Verb::Hash),
     ("shape", Verb::Shape),
     ("genesis", Verb::Genesis),
@@ -78,6 +79,7 @@ const VERBS: [(&str, Verb); 36] = [
     ("line", Verb::Line),
     ("fault", Verb::Fault),
     ("audited", Verb::Audited),
+    ("messages", Verb::Messages),
 ];
 
 /// The verb of a word.
