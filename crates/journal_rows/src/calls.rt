@@ -1,49 +1,18 @@
 // What calls at a shard are answered, by the plain program over its journal and by the shard itself, which has taken the journal in.
 use crate::state::{State, put_named};
-use cbdc_types::{
-    FinishCall, ForgetCall, LockCall, Record, Refused, Replied, Reply, Stamp, Status,
-};
+use cbdc_types::{FinishCall, ForgetCall, LockCall, Record, Refused, Replied, Stamp, Status};
 use model_check::{is_after, last_stamp, next_finish, next_forget, next_lock, status_of};
-use row_records::{batch_of, decisions, hash, part, put_hash_word, small};
-use row_text::{Wrong, check_words, check_yes, number, put_count, put_word, rest, word};
+use row_records::{
+    finish_call, forget_call, hash, lock_call, put_batch, put_reply, small, word_of_refused,
+};
+use row_text::{Wrong, check_words, check_yes, put_count, put_word, rest, word};
 use shard_core::{LockPlan, Remembered, ShardCore, StampPlan};
 use std::alloc::{AllocError, Global};
 use world_core::ShardCall;
 
-// Appends a reply.
-fn put_reply(alloc: Global, text: &mut String, reply: &Reply) -> Result<(), AllocError> {
-    match reply {
-        Reply::Held => put_word(text, "held"),
-        Reply::Missing(x) => {
-            put_word(text, "missing")?;
-            put_hash_word(alloc, text, x)
-        }
-        Reply::Locked(x, by) => {
-            put_word(text, "locked")?;
-            put_hash_word(alloc, text, x)?;
-            put_count(alloc, text, by.lane.0 as u64)?;
-            put_count(alloc, text, by.number)
-        }
-    }
-}
-
-// A refusal's word and number.
-fn word_of_refusal(why: &Refused) -> (&'static str, u64) {
-    match why {
-        Refused::Stale { kept } => ("stale", *kept),
-        Refused::LaneOpen { kept } => ("lane-open", *kept),
-        Refused::NotLocked { kept } => ("not-locked", *kept),
-        Refused::NotFinished { kept } => ("not-finished", *kept),
-        Refused::OtherPart { at } => ("other-part", *at),
-        Refused::OtherOutcome { at } => ("other-outcome", *at),
-        Refused::EarlyStamp { kept } => ("early-stamp", kept.0),
-    }
-}
-
 // Appends a refusal.
 fn put_refused(alloc: Global, text: &mut String, why: &Refused) -> Result<(), AllocError> {
-    let (word, number) = word_of_refusal(why);
-    put_word(text, "refused")?;
+    let (word, number) = word_of_refused(why);
     put_word(text, word)?;
     put_count(alloc, text, number)
 }
@@ -208,24 +177,11 @@ pub fn call_of(
     node: u32,
     words: &[&str],
 ) -> Result<ShardCall, Wrong> {
-    let batch = batch_of(word(words, 1)?, word(words, 2)?)?;
-    let cause = Stamp(number(word(words, 4)?)?);
-    let told = rest(words, 5);
+    let told = rest(words, 1);
     match word(words, 0)? {
-        "lock" => {
-            let shape = state.known.shape()?;
-            let part = part(&state.known, alloc, &shape, node, told)?;
-            Ok(ShardCall::Lock(LockCall { batch, part, cause }))
-        }
-        "finish" => {
-            let decisions = decisions(alloc, told)?;
-            Ok(ShardCall::Finish(FinishCall {
-                batch,
-                decisions,
-                cause,
-            }))
-        }
-        "forget" => Ok(ShardCall::Forget(ForgetCall { batch, cause })),
+        "lock" => Ok(ShardCall::Lock(lock_call(&state.known, alloc, node, told)?)),
+        "finish" => Ok(ShardCall::Finish(finish_call(alloc, told)?)),
+        "forget" => Ok(ShardCall::Forget(forget_call(told)?)),
         _ => Err(Wrong::Line("no call")),
     }
 }
@@ -249,8 +205,7 @@ pub fn put_status(alloc: Global, text: &mut String, status: &Status) -> Result<(
         Status::Absent => put_word(text, "absent"),
         Status::Locked(by) => {
             put_word(text, "locked")?;
-            put_count(alloc, text, by.lane.0 as u64)?;
-            put_count(alloc, text, by.number)
+            put_batch(alloc, text, by)
         }
     }
 }

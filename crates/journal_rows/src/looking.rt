@@ -1,12 +1,12 @@
 // What the plain programs say of journals: of hashes and lanes behind each record, of sizes and room, of which record stands.
 use crate::calls::put_status;
 use crate::state::{State, journals_of};
-use cbdc_types::{LaneId, List, Outcome, Record, Shape};
+use cbdc_types::{LaneId, List, Record, Shape};
 use model_check::{
     Listed, Phase, Row, first_refusal_of, is_after, is_caused, is_in_grammar, is_ordered,
     kept_room, lane_room, need_of, outcome_of, size_of, slot_of, slot_stamp, status_of, used_of,
 };
-use row_records::{batch_of, hash, put_hash_word, put_refusal, small, verdicts};
+use row_records::{batch_of, hash, put_outcome, put_refusal, small, verdicts};
 use row_text::{
     Wrong, check_text, check_words, check_yes, number, put_count, put_word, rest, word,
 };
@@ -215,25 +215,6 @@ pub fn unsound(state: &State, alloc: Global, words: &[&str], text: &str) -> Resu
 pub fn ordered(state: &State, alloc: Global, words: &[&str]) -> Result<(), Wrong> {
     let rows = state.ledger(word(words, 0)?)?;
     check_yes(alloc, word(words, 1)?, is_ordered(rows.as_slice()))
-}
-
-// Appends an outcome.
-fn put_outcome(alloc: Global, text: &mut String, outcome: &Outcome) -> Result<(), AllocError> {
-    match outcome {
-        Outcome::Held => put_word(text, "held"),
-        Outcome::Missing(shard, x) => {
-            put_word(text, "missing")?;
-            put_count(alloc, text, *shard as u64)?;
-            put_hash_word(alloc, text, x)
-        }
-        Outcome::Locked(shard, x, by) => {
-            put_word(text, "locked")?;
-            put_count(alloc, text, *shard as u64)?;
-            put_hash_word(alloc, text, x)?;
-            put_count(alloc, text, by.lane.0 as u64)?;
-            put_count(alloc, text, by.number)
-        }
-    }
 }
 
 /// `outcome LEDGER LANE NUMBER PLACE`, and the outcome of that transaction by the Locks.
