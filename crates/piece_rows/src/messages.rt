@@ -153,7 +153,14 @@ fn verdicts(told: &mut Told) {
         kind: InputKind::Repeated,
     };
     all(told, &[bad]);
-    all(told, &[VerdictFault::Bad(bad), VerdictFault::Large, VerdictFault::Memory]);
+    all(
+        told,
+        &[
+            VerdictFault::Bad(bad),
+            VerdictFault::Large,
+            VerdictFault::Memory,
+        ],
+    );
 }
 
 fn others(told: &mut Told) {
