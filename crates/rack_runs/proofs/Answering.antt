@@ -5,7 +5,7 @@ use Rattle.std.proofs.lemmas.List.{length-append}
 use Rattle.outside.specs.Counts.{Rose}
 use Rattle.cbdc_types.specs.declared.answer.Answer.{Answer}
 use Rattle.cbdc_types.specs.declared.answer.Answer.TheVariants as answers
-use Rattle.cbdc_model.specs.Records.{Digest, Shape, Header, Batch, Compact, Record, Row, journal, Prepare}
+use Rattle.cbdc_model.specs.Records.{Shape, Header, Batch, Compact, Record, Row, journal, Prepare}
 use Rattle.cbdc_model.specs.Lanes.{IsEnd}
 use Rattle.cbdc_model.specs.Coins.{Output, FullTx}
 use Rattle.cbdc_model.specs.Waves.{sent_to}
@@ -19,6 +19,7 @@ use Rattle.rack_nodes.specs.Racked.{OfTold, SameRoom}
 use Rattle.rack_ledgers.specs.Ledgers.{ByPlace, AreOpened}
 use Rattle.caused_ledgers.specs.Caused.{journals_of as lent_journals, AreCaused}
 use Rattle.caused_ledgers.proofs.Told.{told_history}
+use Rattle.input_files.specs.Limits.{IsShort}
 use Rattle.submissions.specs.Checks.{VerdictsOf, TellsSound}
 use Rattle.sound_laws.specs.SoundTest.{sound_by}
 use Rattle.sound_laws.proofs.Telling.{is_sound_law}
@@ -38,31 +39,31 @@ use Rattle.file_runs.specs.Endings.{EndsFirst, EndsFiles}
 use Rattle.ledger_nodes.specs.Ledgers.{IsLedger, journals_of, flights_of, faults_of, opened_of, capacity_of, AreChecked, AreStored, AreQuiet}
 use Rattle.rack_laws.specs.Shown.{OfShown, HoldsEach, LogHasRoom, ShardHasRoom, HaveRoom, node_count}
 use Rattle.rack_laws.proofs.Behind.{are_quiet, is_ledger, none_fly, keeps_flights, holds_each, rooms_each, told_stored, may_hold, have_risen}
-use Rattle.rack_runs.specs.Kinds.{answer_at, answer_to, IsLaneAnswer}
+use Rattle.rack_runs.specs.Kinds.{answer_at, answer_to, IsLaneAnswer, MayComeNext}
 use Rattle.rack_runs.specs.Endings.{EndsRun, IsCut, IsInOrder, IsLeastAnswer}
-use Rattle.rack_runs.specs.Runs.{AddsOpen, IsCutWaves, IsCutShort, KeepsFlights, IsLaneFault, NonePrepared, NothingNext, PieceNext, PiecesPrepared, SparesOthers, TookLedger}
+use Rattle.rack_runs.specs.Runs.{AddsOpen, IsCutWaves, IsCutShort, KeepsFlights, IsLaneFault, NonePrepared, NothingNext, PieceNext, PiecesPrepared, TookLedger}
 use Rattle.rack_runs.specs.declared.over.Over.{Over}
 use Rattle.file_runs.specs.declared.ran.Ran.{Ran}
 use Rattle.rack_runs.proofs.Checking.{same_journals}
-use Rattle.rack_runs.proofs.Wanted.{WantsNext, wanted_inside, stays_caused}
+use Rattle.rack_runs.proofs.Wanted.{wanted_inside, wants_there, stays_caused}
 
 -- the cause of a fault is that of its answer
-answered : (K : Shape) (genesis : Digest) (next : ℕ → List Compact → Type 0) (E X : ℕ → List Record) (failed : ℕ → Type 0) (holds : ℕ → ℕ → Type 0) → WantsNext K genesis next E X
-    → (e : LaneFault) → IsRunCause K next E X failed holds e → IsLaneAnswer K genesis next E X failed holds (answer_to e)
-answered K genesis next E X failed holds wants e h = go e.fault h
+answered : (K : Shape) (next : ℕ → List Compact → Type 0) (E X : ℕ → List Record) (failed : ℕ → Type 0) (holds : ℕ → ℕ → Type 0)
+    → (e : LaneFault) → IsRunCause K next E X failed holds e → IsLaneAnswer K next E X failed holds (answer_to e)
+answered K next E X failed holds e h = go e.fault h
   where
-    go : (kind : LaneFaultKind) → IsSomeCauseOf K next E X failed holds e.node kind → IsLaneAnswer K genesis next E X failed holds (answer_at e.node kind)
+    go : (kind : LaneFaultKind) → IsSomeCauseOf K next E X failed holds e.node kind → IsLaneAnswer K next E X failed holds (answer_at e.node kind)
     go DiskStopped h = h
-    go (NoRoom used need capacity) (lane, lt, h) = (lane, lt, h, (wants lane e.node h.front h.wanted lt h.since h.within h.still h.is_wanted).1 h.early)
-    go (NoStamp stamp) (lane, lt, h) = (lane, lt, h, (wants lane e.node h.front h.wanted lt h.since h.within h.still h.is_wanted).0)
+    go (NoRoom used need capacity) h = h
+    go (NoStamp stamp) h = h
     go NoMemory h = tt
 
-pub came_cause : (K : Shape) (genesis : Digest) (next : ℕ → List Compact → Type 0) (E X : ℕ → List Record) (failed : ℕ → Type 0) (holds : ℕ → ℕ → Type 0) (came : Result Ran Answer) (over : Result Over LaneFault) → WantsNext K genesis next E X
-    → IfErr came (λ a. (a ≡ answers.Memory) ⊎ ((e : LaneFault) × (over ≡ Err e) × (a ≡ answer_to e))) → IfErr over (IsRunCause K next E X failed holds) → IfErr came (IsLaneAnswer K genesis next E X failed holds)
-came_cause K genesis next E X failed holds (Ok r) over wants told cause = tt
-came_cause K genesis next E X failed holds (Err a) over wants (inl memory) cause = subst (λ x. IsLaneAnswer K genesis next E X failed holds x) (sym memory) tt
-came_cause K genesis next E X failed holds (Err a) over wants (inr (e, err, is)) cause =
-    subst (λ x. IsLaneAnswer K genesis next E X failed holds x) (sym is) (answered K genesis next E X failed holds wants e (subst (λ o. IfErr o (IsRunCause K next E X failed holds)) err cause))
+pub came_cause : (K : Shape) (next : ℕ → List Compact → Type 0) (E X : ℕ → List Record) (failed : ℕ → Type 0) (holds : ℕ → ℕ → Type 0) (came : Result Ran Answer) (over : Result Over LaneFault)
+    → IfErr came (λ a. (a ≡ answers.Memory) ⊎ ((e : LaneFault) × (over ≡ Err e) × (a ≡ answer_to e))) → IfErr over (IsRunCause K next E X failed holds) → IfErr came (IsLaneAnswer K next E X failed holds)
+came_cause K next E X failed holds (Ok r) over told cause = tt
+came_cause K next E X failed holds (Err a) over (inl memory) cause = subst (λ x. IsLaneAnswer K next E X failed holds x) (sym memory) tt
+came_cause K next E X failed holds (Err a) over (inr (e, err, is)) cause =
+    subst (λ x. IsLaneAnswer K next E X failed holds x) (sym is) (answered K next E X failed holds e (subst (λ o. IfErr o (IsRunCause K next E X failed holds)) err cause))
 
 -- kept journals that were cut short have grown in the order of open batches and files
 cut_waves : (K : Shape) (verdicts : VerdictsOf) (files : List (List FullTx)) (E X : ℕ → List Record) → 0 < K.shards → 0 < K.lanes → OfKept K E (λ mint submissions. StaysKept K E X mint (submissions ++ joined files))
@@ -77,7 +78,7 @@ cut_waves K verdicts files E X shards lanes keeps cut mint submissions kept soun
     stays : StaysKept K E X mint (submissions ++ joined files)
     stays = keeps mint submissions kept
 
-module _ (K : Shape) (genesis : Digest) (next due : ℕ → List Compact → Type 0) (E X : ℕ → List Record) (failed fails : ℕ → Type 0) (holds held : ℕ → ℕ → Type 0)
+module _ (K : Shape) (next due : ℕ → List Compact → Type 0) (E X : ℕ → List Record) (failed fails : ℕ → Type 0) (holds held : ℕ → ℕ → Type 0)
     (on : (lane : ℕ) (txs : List Compact) → next lane txs → due lane txs) (failed_on : (n : ℕ) → n < node_count K → failed n → fails n) (held_on : (n c : ℕ) → n < node_count K → holds n c → held n c) where
   still_wanted : (lane node : ℕ) (front : List Record) (r : Record) → IsWanted K lane (next lane) X node front r → IsWanted K lane (due lane) X node front r
   still_wanted lane node front r (wants_prepare txs is at idle e) = wants_prepare txs (on lane txs is) at idle e
@@ -89,9 +90,9 @@ module _ (K : Shape) (genesis : Digest) (next due : ℕ → List Compact → Typ
   still_asked lane node (asks_shard b txs s at concerned heard) = asks_shard b txs s at concerned heard
 
   -- by what is known of the nodes of the ledger otherwise
-  pub answer_moves : (a : Answer) → IsLaneAnswer K genesis next E X failed holds a → IsLaneAnswer K genesis due E X fails held a
+  pub answer_moves : (a : Answer) → IsLaneAnswer K next E X failed holds a → IsLaneAnswer K due E X fails held a
   answer_moves (answers.DiskFault node) (lane, lt, h) = (lane, lt, record { inside = h.inside; asked = still_asked lane node h.asked; did = failed_on node h.inside h.did })
-  answer_moves (answers.Full node used need capacity) (lane, lt, h, after) = (
+  answer_moves (answers.Full node used need capacity) (lane, lt, h) = (
     lane,
     lt,
     record {
@@ -107,9 +108,8 @@ module _ (K : Shape) (genesis : Digest) (next due : ℕ → List Compact → Typ
       need_is = h.need_is;
       above = h.above;
     },
-    after,
   )
-  answer_moves (answers.ClockEnd node stamp) (lane, lt, h, after) = (
+  answer_moves (answers.ClockEnd node stamp) (lane, lt, h) = (
     lane,
     lt,
     record {
@@ -122,7 +122,6 @@ module _ (K : Shape) (genesis : Digest) (next due : ℕ → List Compact → Typ
       stamp_is = h.stamp_is;
       above = h.above;
     },
-    after,
   )
   answer_moves answers.Memory h = tt
   answer_moves answers.Ok h = absurd h
@@ -271,7 +270,7 @@ module _ {D : Type 0} (content : D → Option (List ℕ)) (images : D → List �
   rooms_back log_rooms shard_rooms = subst (λ k. HaveRoom limit back k (journals_of count limit k now after)) shape (rooms_each content images limit count back g now after is log_rooms shard_rooms logs_back shards_back)
 
   -- what was taken, and how it was left
-  pub took : HaveRoom limit held h.shape (journals_of count limit h.shape logs shards) → ((n : ℕ) → n < node_count h.shape → SameRoom limit (held n) (back n)) → SparesOthers content held back
+  pub took : HaveRoom limit held h.shape (journals_of count limit h.shape logs shards) → ((n : ℕ) → n < node_count h.shape → SameRoom limit (held n) (back n)) → ((n : ℕ) → node_count h.shape ≤ n → back n ≡ held n)
       → ((n : ℕ) → IsEnd (journals_of count limit h.shape logs shards n) (journals_of count limit h.shape now after n)) → All (LogHasRoom limit) now → All (ShardHasRoom limit) after → AreChecked count limit h.shape now after → AreQuiet now after → TookLedger content images limit held back
   took room same_room spared grows log_rooms shard_rooms checked quiet = record {
     ledger = record {
@@ -293,10 +292,10 @@ module _ {D : Type 0} (content : D → Option (List ℕ)) (images : D → List �
     spared = spared;
   }
 
-  pub lane_fault : (verdicts : VerdictsOf) (files : List (List FullTx))
+  pub lane_fault : (verdicts : VerdictsOf) (files : List (List FullTx)) → All (λ txs. All IsShort txs) files
       → (0 < h.shape.batch → HaveBegunFiles h.shape verdicts files (journals_of count limit h.shape logs shards) (journals_of count limit h.shape now after))
       → ((n : ℕ) → IsEnd (journals_of count limit h.shape logs shards n) (journals_of count limit h.shape now after n)) → (a : Answer)
-      → IsLaneAnswer h.shape h.genesis (IsFilesPiece h.shape verdicts files (journals_of count limit h.shape logs shards) (journals_of count limit h.shape now after)) (journals_of count limit h.shape logs shards) (journals_of count limit h.shape now after)
+      → IsLaneAnswer h.shape (IsFilesPiece h.shape verdicts files (journals_of count limit h.shape logs shards) (journals_of count limit h.shape now after)) (journals_of count limit h.shape logs shards) (journals_of count limit h.shape now after)
       (HaveFailed (opened_of count limit h.shape logs shards) (faults_of count limit h.shape now after)) (MayHold (capacity_of count limit h.shape logs shards)) a
       → IsLeastAnswer (EndsRun verdicts files h.shape (journals_of count limit h.shape logs shards) (journals_of count limit h.shape now after)
       (HaveFailed (opened_of count limit h.shape logs shards) (faults_of count limit h.shape now after)) (MayHold (capacity_of count limit h.shape logs shards))) a
@@ -308,9 +307,10 @@ module _ {D : Type 0} (content : D → Option (List ℕ)) (images : D → List �
       → Launches h.shape (IsFilesPiece h.shape verdicts files (journals_of count limit h.shape logs shards) (journals_of count limit h.shape now after)) (journals_of count limit h.shape logs shards) (journals_of count limit h.shape now after)
       (flights_of count limit h.shape logs shards) (flights_of count limit h.shape now after)
       → AllRestSince h.shape (journals_of count limit h.shape logs shards) (journals_of count limit h.shape now after) (HaveFailed (opened_of count limit h.shape logs shards) (faults_of count limit h.shape now after))
-      → HaveRoom limit held h.shape (journals_of count limit h.shape logs shards) → All (LogHasRoom limit) now → All (ShardHasRoom limit) after → AreChecked count limit h.shape now after → OfShown content held (IsCutShort images limit back files (journals_of count limit h.shape now after)) → SparesOthers content held back
+      → HaveRoom limit held h.shape (journals_of count limit h.shape logs shards) → ((n : ℕ) → n < node_count h.shape → SameRoom limit (held n) (back n)) → All (LogHasRoom limit) now → All (ShardHasRoom limit) after
+      → AreChecked count limit h.shape now after → OfShown content held (IsCutShort images limit back files (journals_of count limit h.shape now after)) → ((n : ℕ) → node_count h.shape ≤ n → back n ≡ held n)
       → IsLaneFault content images limit held back before behind (PieceNext verdicts files) (EndsRun verdicts files) (PiecesPrepared verdicts files) files a
-  lane_fault verdicts files begun grows a cause least keeps cut orders flown launches rests room log_rooms shard_rooms checked kept spared = record {
+  lane_fault verdicts files short begun grows a cause least keeps cut orders flown launches rests room same_room log_rooms shard_rooms checked kept spared = record {
     ledger = record {
       shape = h.shape;
       genesis = h.genesis;
@@ -334,10 +334,12 @@ module _ {D : Type 0} (content : D → Option (List ℕ)) (images : D → List �
     disks = λ tells.
         subst (λ k. KeepsFlights images back k (journals_of count limit k now after) (flights_of count limit k now after)) shape
         (keeps_flights content images limit count back g now after is (stored (told_stored content images limit count held h logs shards are tells)) logs_back shards_back);
-    cause = subst (λ L. IsLaneAnswer h.shape h.genesis (IsFilesPiece h.shape verdicts files L (journals_of count limit h.shape now after)) L (journals_of count limit h.shape now after) Rises Holds a) entry
-        (answer_moves h.shape h.genesis (IsFilesPiece h.shape verdicts files (journals_of count limit h.shape logs shards) (journals_of count limit h.shape now after))
+    cause = subst (λ L. IsLaneAnswer h.shape (IsFilesPiece h.shape verdicts files L (journals_of count limit h.shape now after)) L (journals_of count limit h.shape now after) Rises Holds a) entry
+        (answer_moves h.shape (IsFilesPiece h.shape verdicts files (journals_of count limit h.shape logs shards) (journals_of count limit h.shape now after))
         (IsFilesPiece h.shape verdicts files (journals_of count limit h.shape logs shards) (journals_of count limit h.shape now after)) (journals_of count limit h.shape logs shards) (journals_of count limit h.shape now after)
         (HaveFailed (opened_of count limit h.shape logs shards) (faults_of count limit h.shape now after)) Rises (MayHold (capacity_of count limit h.shape logs shards)) Holds (λ lane txs piece. piece) risen may a cause);
+    may_come = subst (λ L. MayComeNext h.shape h.genesis (IsFilesPiece h.shape verdicts files L (journals_of count limit h.shape now after)) L (journals_of count limit h.shape now after)) entry
+        (wants_there content images limit count h g logs now shards after (is_ledger content images limit count held h logs shards are) is shape checked verdicts files short);
     least = subst (λ L. IsLeastAnswer (EndsRun verdicts files h.shape L (journals_of count limit h.shape now after) Rises Holds) a) entry
         (answer_by h.shape (HaveFailed (opened_of count limit h.shape logs shards) (faults_of count limit h.shape now after)) Rises (MayHold (capacity_of count limit h.shape logs shards)) Holds risen may verdicts files
         (journals_of count limit h.shape logs shards) (journals_of count limit h.shape now after) a least);
@@ -345,6 +347,7 @@ module _ {D : Type 0} (content : D → Option (List ℕ)) (images : D → List �
         (rest_by h.shape (HaveFailed (opened_of count limit h.shape logs shards) (faults_of count limit h.shape now after)) Rises (MayHold (capacity_of count limit h.shape logs shards)) Holds risen may
         (journals_of count limit h.shape logs shards) (journals_of count limit h.shape now after) rests);
     room = subst (λ L. HaveRoom limit held h.shape L) entry room;
+    same_room = same_room;
     rooms = rooms_back log_rooms shard_rooms;
     kept = kept;
     spared = spared;
@@ -396,11 +399,15 @@ of_nothing content images limit held back before now verdicts a f =
       in_flight = f.in_flight;
       prepares = λ n t b txs inside there. (let p = f.prepares n t b txs inside there in (p.0, no_piece verdicts f.ledger.shape E f.exit b.lane txs p.1));
       disks = f.disks;
-      cause = answer_moves f.ledger.shape f.ledger.genesis (PieceNext verdicts [] f.ledger.shape E f.exit) (NothingNext f.ledger.shape E f.exit) E f.exit (λ n. Rose (before n) (now n)) (λ n. Rose (before n) (now n))
+      cause = answer_moves f.ledger.shape (PieceNext verdicts [] f.ledger.shape E f.exit) (NothingNext f.ledger.shape E f.exit) E f.exit (λ n. Rose (before n) (now n)) (λ n. Rose (before n) (now n))
           (λ n c. OfTold (held n) (λ d. c ≡ limit d)) (λ n c. OfTold (held n) (λ d. c ≡ limit d)) (no_piece verdicts f.ledger.shape E f.exit) (λ n inside did. did) (λ n c inside may. may) a f.cause;
+      may_come = λ lane node front r lt since within still wanted. f.may_come lane node front r lt since within still
+          (still_wanted f.ledger.shape (NothingNext f.ledger.shape E f.exit) (PieceNext verdicts [] f.ledger.shape E f.exit) E f.exit (λ n. Rose (before n) (now n)) (λ n. Rose (before n) (now n))
+          (λ n c. OfTold (held n) (λ d. c ≡ limit d)) (λ n c. OfTold (held n) (λ d. c ≡ limit d)) (λ l txs none. absurd none) (λ n inside did. did) (λ n c inside may. may) lane node front r wanted);
       least = no_files verdicts f.ledger.shape E f.exit (λ n. Rose (before n) (now n)) (λ n c. OfTold (held n) (λ d. c ≡ limit d)) a f.least;
       rests = f.rests;
       room = f.room;
+      same_room = f.same_room;
       rooms = f.rooms;
       kept = f.kept;
       spared = f.spared;

@@ -37,7 +37,7 @@ use Rattle.sound_laws.proofs.Telling.{is_sound_law}
 use Rattle.ledger_runs.specs.Flying.{AllMayCome}
 use Rattle.file_runs.specs.Runs.{joined, FliesWith}
 use Rattle.rack_runs.specs.Endings.{IsInOrder}
-use Rattle.rack_runs.specs.Runs.{IsGrown, IsRun, IsRecovered, IsCutShort, SparesOthers}
+use Rattle.rack_runs.specs.Runs.{IsGrown, IsRun, IsRecovered, IsCutShort}
 use Rattle.printed_lines.specs.Unspent.{IsUnspentCount}
 use Rattle.file_runs.specs.declared.ran.Ran.{Ran}
 use Rattle.rack_runs.specs.Telling.{CountAll, IsTold}
@@ -119,9 +119,6 @@ module _ {D : Type 0} (content : D → Option (List ℕ)) (images : D → List �
     journals_are : journals_of count limit K logs shards ≡ E
     journals_are = λ i n. same_journals content images limit count held h logs shards are K (genesis_id mint) E within shows (beyond K mint submissions E kept) n i
 
-    others_stay : ((n : ℕ) → length logs + length shards ≤ n → back n ≡ held n) → (n : ℕ) → node_count K ≤ n → back n ≡ held n
-    others_stay others = subst (λ k. (n : ℕ) → node_count k ≤ n → back n ≡ held n) shape_is (λ n le. others n (omega (arith, le, are.coordinators, are.shards_are)))
-
     kept_there : KeptJournals K mint submissions (journals_of count limit K logs shards)
     kept_there = subst (KeptJournals K mint submissions) (sym journals_are) kept
 
@@ -183,9 +180,6 @@ module _ {D : Type 0} (content : D → Option (List ℕ)) (images : D → List �
 
   pub tells : (verdicts : VerdictsOf) (ran : Ran) → KeepsIt h.shape → OrdersIt h.shape → All (LogHasRoom limit) now → All (ShardHasRoom limit) after → Ends verdicts h.shape → TellsIt verdicts ran h.shape → CountAll (map (λ s. s.journal) after) ran.unspent → OfShown content held (IsTold images limit back verdicts files ran)
   tells verdicts ran keeps orders log_rooms shard_rooms ends told counted K mint submissions E within shows kept = is_told K mint submissions E within shows kept ran verdicts keeps orders log_rooms shard_rooms ends told counted
-
-  pub spares : ((n : ℕ) → length logs + length shards ≤ n → back n ≡ held n) → SparesOthers content held back
-  spares others K mint submissions E within shows kept = others_stay K mint submissions E within shows kept others
 
   pub ends : (verdicts : VerdictsOf) → AreIdle h.shape (journals_of count limit h.shape now after)
       → OfKept h.shape (journals_of count limit h.shape logs shards) (λ _ _. files ≡ [] → IsResumed h.shape (journals_of count limit h.shape logs shards) (journals_of count limit h.shape now after))

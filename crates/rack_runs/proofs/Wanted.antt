@@ -39,7 +39,7 @@ use Rattle.turn_laws.proofs.Headers.{header_is}
 use Rattle.ledger_runs.specs.Turning.{IsLaneOf}
 use Rattle.ledger_runs.specs.Faults.{IsWanted, wants_prepare, wants_lock}
 use Rattle.file_runs.specs.Runs.{AreFilesPieces, IsFilesPiece}
-use Rattle.rack_runs.specs.Kinds.{StaysCaused}
+use Rattle.rack_runs.specs.Kinds.{MayComeNext, StaysCaused}
 use Rattle.coord_log.specs.Logs.{LogOf, sight}
 use Rattle.shard_node.specs.Shards.{ShardOf, sight_of}
 use Rattle.ledger_nodes.specs.Ledgers.{IsLedger, journals_of, AreChecked}
@@ -186,11 +186,6 @@ wanted_inside K lane next X node front r lt (wants_lock b t txs s is at concerne
 abbrev pub IsNextBut : Shape → Digest → ℕ → List Record → Record → Type 0
 IsNextBut K genesis node front r = Follows (header_of K genesis node) front r × (stamp_of r ≤ 2 ^ 62 → After (header_of K genesis node) front r)
 
--- so may what any lane wants, behind each front of its node's journal since which nothing of the lane came
-abbrev pub WantsNext : Shape → Digest → (ℕ → List Compact → Type 0) → (ℕ → List Record) → (ℕ → List Record) → Type 0
-WantsNext K genesis next E X = (lane node : ℕ) (front : List Record) (r : Record) → IsLaneOf K lane → IsEnd (E node) front → IsEnd front (X node) → slot front lane ≡ slot (X node) lane
-    → IsWanted K lane (next lane) X node front r → IsNextBut K genesis node front r
-
 module _ (K : Shape) (m : Minted) (X : ℕ → List Record) (limits : IsWithinLimits K) (checked : CheckedJournals K m X) where
   abbrev Next : ℕ → List Record → Record → Type 0
   Next node front r = IsNextBut K m.id node front r
@@ -268,7 +263,7 @@ same_genesis K genesis m E X node inside checked e h x since =
 -- in a ledger whose journals have its headers at entry, and are checked at exit
 pub wants_next : (K : Shape) (genesis : Digest) (m : Minted) (next : ℕ → List Compact → Type 0) (E X : ℕ → List Record) → IsWithinLimits K → CheckedJournals K m X
     → ((n : ℕ) → n < node_count K → IsJournal (header_of K genesis n) (E n)) → ((n : ℕ) → n < node_count K → (h : Header) × IsJournal h (X n))
-    → ((lane : ℕ) (txs : List Compact) → next lane txs → FitsBatch K txs) → WantsNext K genesis next E X
+    → ((lane : ℕ) (txs : List Compact) → next lane txs → FitsBatch K txs) → MayComeNext K genesis next E X
 wants_next K genesis m next E X limits checked were are fits lane node front r lt since within still wanted =
     let inside : node < node_count K = wanted_inside K lane (next lane) X node front r lt wanted in
     let x = are node inside in
@@ -304,7 +299,7 @@ module _ {D : Type 0} (content : D → Option (List ℕ)) (images : D → List �
 
   pub wants_there : (h g : Header) (logs now : List (LogOf D)) (shards after : List (ShardOf D)) → IsLedger h logs shards → IsLedger g now after → g.shape ≡ h.shape → AreChecked count limit h.shape now after
       → (verdicts : VerdictsOf) (files : List (List FullTx)) → All (λ txs. All IsShort txs) files
-      → WantsNext h.shape h.genesis (IsFilesPiece h.shape verdicts files (journals_of count limit h.shape logs shards) (journals_of count limit h.shape now after)) (journals_of count limit h.shape logs shards) (journals_of count limit h.shape now after)
+      → MayComeNext h.shape h.genesis (IsFilesPiece h.shape verdicts files (journals_of count limit h.shape logs shards) (journals_of count limit h.shape now after)) (journals_of count limit h.shape logs shards) (journals_of count limit h.shape now after)
   wants_there h g logs now shards after was is shape checked verdicts files short =
       wants_next h.shape h.genesis checked.0 (IsFilesPiece h.shape verdicts files (journals_of count limit h.shape logs shards) (journals_of count limit h.shape now after)) (journals_of count limit h.shape logs shards)
       (journals_of count limit h.shape now after) was.limits checked.1 (node_header h logs shards was)

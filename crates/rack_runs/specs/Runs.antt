@@ -22,7 +22,7 @@ use Rattle.ledger_runs.specs.Faults.{AllRestSince}
 use Rattle.ledger_runs.specs.Pieces.{HasPrepared}
 use Rattle.file_runs.specs.Runs.{joined, HaveBegunFiles, IsFilesPiece}
 use Rattle.file_runs.specs.Endings.{HasBegunFirst}
-use Rattle.rack_runs.specs.Kinds.{IsLaneAnswer, StaysCaused}
+use Rattle.rack_runs.specs.Kinds.{IsLaneAnswer, MayComeNext, StaysCaused}
 use Rattle.rack_runs.specs.Endings.{IsInOrder, IsLeastAnswer}
 
 -- journals that have grown at their ends from those at entry, and are kept
@@ -67,24 +67,24 @@ pub record IsCutShort {D : Type 0} (images : D → List ℕ → Type 0) (limit :
   pub rooms : HaveRoom limit held K exit
   pub crashes : SurvivesCrashes images limit held K mint (submissions ++ joined files) E
 
--- the disks that are no nodes of whatever kept ledger the rack showed are as before
-abbrev pub SparesOthers : {D : Type 0} → (D → Option (List ℕ)) → (ℕ → Option D) → (ℕ → Option D) → Type 0
-SparesOthers content held back = OfShown content held (λ K mint submissions E. (n : ℕ) → node_count K ≤ n → back n ≡ held n)
+-- the journals of the ledger that the disks told
+abbrev pub entry_of : {D : Type 0} {content : D → Option (List ℕ)} {held : ℕ → Option D} → IsCausedLedger content held → ℕ → List Record
+entry_of ledger n = journal n (reverse ledger.rows)
 
 -- the disks told a ledger in which each record was caused; each of its disks had room for its journal and for what is kept for the batches that were
--- open there, and the one that is back in its place has as much; so each has room for its journal at exit, which has grown at its end from that at
--- entry, by records that are caused too; where the disks told all each holds its journal and no record more; and where the ledger was kept all other
--- disks are as before
+-- open there, and in each place there is as much room as there was; so each has room for its journal at exit, which has grown at its end from that at
+-- entry, by records that are caused too; where the disks told all each holds its journal and no record more; and the disks that are no nodes of it are
+-- as before
 pub record TookLedger {D : Type 0} (content : D → Option (List ℕ)) (images : D → List ℕ → Type 0) (limit : D → ℕ) (held back : ℕ → Option D) : Type 0 where
   pub ledger : IsCausedLedger content held
-  pub room : HaveRoom limit held ledger.shape (λ n. journal n (reverse ledger.rows))
+  pub room : HaveRoom limit held ledger.shape (entry_of ledger)
   pub same_room : (n : ℕ) → n < node_count ledger.shape → SameRoom limit (held n) (back n)
   pub exit : ℕ → List Record
-  pub grows : (n : ℕ) → IsEnd (journal n (reverse ledger.rows)) (exit n)
+  pub grows : (n : ℕ) → IsEnd (entry_of ledger n) (exit n)
   pub caused : StaysCaused ledger.shape ledger.genesis exit
   pub disks : AllTell content held ledger.shape → HoldsEach images back ledger.shape exit
   pub rooms : HaveRoom limit back ledger.shape exit
-  pub spared : SparesOthers content held back
+  pub spared : (n : ℕ) → node_count ledger.shape ≤ n → back n ≡ held n
 
 -- whatever a crash may leave of a node's disk that is told opens to this journal, with what is in flight there or without
 abbrev pub KeepsFlights : {D : Type 0} → (D → List ℕ → Type 0) → (ℕ → Option D) → Shape → (ℕ → List Record) → (ℕ → Option Record) → Type 0
@@ -93,29 +93,31 @@ KeepsFlights images held K X flights = (n : ℕ) → n < node_count K → OfTold
 -- a lane's fault ended a run over the ledger that the disks told, in which each record was caused: its journals have grown at their ends, by records
 -- that are caused too, as a run that began so far grows them; a record is in flight only at a node whose disk has failed since, a Prepare only of
 -- transactions that are next for its lane, and where the disks told all each keeps its journal, with what is in flight there or without; the answer has
--- its cause, by the counts of faults before and now and by what the disks that were told may hold; it is the least lane's that met one; each lane is
--- between batches, or its batch lacks a Lock, or the disk of a node that it asks has failed, or it waits where it was, for want of memory: nothing of it
--- was written, or its batch was prepared and is so still; each disk of the ledger had room for its journal and for what is kept for the batches that
--- were open there, and has room so for its journal at exit; where the ledger was kept it is cut short, and the disks that are no nodes of it are as
--- before
+-- its cause, by the counts of faults before and now and by what the disks that were told may hold; it is the least lane's that met one; whatever a lane
+-- wants may come next where it would stand; each lane is between batches, or its batch lacks a Lock, or the disk of a node that it asks has failed, or it
+-- waits where it was, for want of memory: nothing of it was written, or its batch was prepared and is so still; each disk of the ledger had room for its
+-- journal and for what is kept for the batches that were open there, in each place there is as much room as there was, and so for its journal at
+-- exit; the disks that are no nodes of it are as before; and where the ledger was kept it is cut short
 pub record IsLaneFault {D : Type 0} (content : D → Option (List ℕ)) (images : D → List ℕ → Type 0) (limit : D → ℕ) (held back : ℕ → Option D) (before now : ℕ → ℕ) (next : Shape → (ℕ → List Record) → (ℕ → List Record) → ℕ → List Compact → Type 0)
     (ends : Shape → (ℕ → List Record) → (ℕ → List Record) → (ℕ → Type 0) → (ℕ → ℕ → Type 0) → LaneFault → Type 0) (begun : Shape → (ℕ → List Record) → (ℕ → List Record) → Type 0) (files : List (List FullTx)) (answer : Answer) : Type 0 where
   pub ledger : IsCausedLedger content held
   pub exit : ℕ → List Record
-  pub grows : (n : ℕ) → IsEnd (journal n (reverse ledger.rows)) (exit n)
+  pub grows : (n : ℕ) → IsEnd (entry_of ledger n) (exit n)
   pub caused : StaysCaused ledger.shape ledger.genesis exit
-  pub prepared : begun ledger.shape (λ n. journal n (reverse ledger.rows)) exit
+  pub prepared : begun ledger.shape (entry_of ledger) exit
   pub flights : ℕ → Option Record
   pub in_flight : (n : ℕ) (r : Record) → n < node_count ledger.shape → flights n ≡ Some r → Rose (before n) (now n)
-  pub prepares : (n t : ℕ) (b : Batch) (txs : List Compact) → n < node_count ledger.shape → flights n ≡ Some (Prepare t b txs) → IsLaneOf ledger.shape b.lane × next ledger.shape (λ n. journal n (reverse ledger.rows)) exit b.lane txs
+  pub prepares : (n t : ℕ) (b : Batch) (txs : List Compact) → n < node_count ledger.shape → flights n ≡ Some (Prepare t b txs) → IsLaneOf ledger.shape b.lane × next ledger.shape (entry_of ledger) exit b.lane txs
   pub disks : AllTell content held ledger.shape → KeepsFlights images back ledger.shape exit flights
-  pub cause : IsLaneAnswer ledger.shape ledger.genesis (next ledger.shape (λ n. journal n (reverse ledger.rows)) exit) (λ n. journal n (reverse ledger.rows)) exit (λ n. Rose (before n) (now n)) (λ n c. OfTold (held n) (λ d. c ≡ limit d)) answer
-  pub least : IsLeastAnswer (ends ledger.shape (λ n. journal n (reverse ledger.rows)) exit (λ n. Rose (before n) (now n)) (λ n c. OfTold (held n) (λ d. c ≡ limit d))) answer
-  pub rests : AllRestSince ledger.shape (λ n. journal n (reverse ledger.rows)) exit (λ n. Rose (before n) (now n))
-  pub room : HaveRoom limit held ledger.shape (λ n. journal n (reverse ledger.rows))
+  pub cause : IsLaneAnswer ledger.shape (next ledger.shape (entry_of ledger) exit) (entry_of ledger) exit (λ n. Rose (before n) (now n)) (λ n c. OfTold (held n) (λ d. c ≡ limit d)) answer
+  pub may_come : MayComeNext ledger.shape ledger.genesis (next ledger.shape (entry_of ledger) exit) (entry_of ledger) exit
+  pub least : IsLeastAnswer (ends ledger.shape (entry_of ledger) exit (λ n. Rose (before n) (now n)) (λ n c. OfTold (held n) (λ d. c ≡ limit d))) answer
+  pub rests : AllRestSince ledger.shape (entry_of ledger) exit (λ n. Rose (before n) (now n))
+  pub room : HaveRoom limit held ledger.shape (entry_of ledger)
+  pub same_room : (n : ℕ) → n < node_count ledger.shape → SameRoom limit (held n) (back n)
   pub rooms : HaveRoom limit back ledger.shape exit
   pub kept : OfShown content held (IsCutShort images limit back files exit)
-  pub spared : SparesOthers content held back
+  pub spared : (n : ℕ) → node_count ledger.shape ≤ n → back n ≡ held n
 
 -- nothing is next for any lane
 abbrev pub NothingNext : Shape → (ℕ → List Record) → (ℕ → List Record) → ℕ → List Compact → Type 0

@@ -32,19 +32,20 @@ pub fn run_on<W: Wait, R: Rack, V: Verifier, G: Gate>(
     requires all { (n : ℕ) → R.can_take rack.old n }
     requires short { All (λ txs. All IsShort txs) files.now }
     // The rack showed a ledger, each record of its history is caused by what stands before it, and the disks had the room that is kept for its
-    // open batches. Its journals have grown at their ends by records that are caused too; each disk that was told holds just its own, and has
-    // room for it and for what is kept. The disks that are no nodes of it are as they were.
+    // open batches. Its journals have grown at their ends by records that are caused too, and where all disks told each holds just its own; in
+    // each place there is as much room as there was, and so for its journal and for what is kept. The disks that are no nodes of it are as they were.
     ensures caused { OnOk result (TookLedger R.Disk.content R.Disk.images R.Disk.limit (R.held rack.old) (R.held rack.new)) }
 
-    // The ledger that the rack showed has its open batches at their end and the files' waves behind them, and each disk holds its journal.
+    // Where that ledger was kept, it has its open batches at their end and the files' waves behind them, and each disk holds its journal.
     ensures ran { OnOk result (OfShown R.Disk.content (R.held rack.old) (IsRun R.Disk.images R.Disk.limit (R.held rack.new) (V.verdict_of verifier.now) files.now)) }
 
     // And what was done is told: the batches that were open, what came of each submission, and how many hashes are unspent now.
     ensures told { IfOk result (λ r. OfShown R.Disk.content (R.held rack.old) (IsTold R.Disk.images R.Disk.limit (R.held rack.new) (V.verdict_of verifier.now) files.now r)) }
 
     // The nodes could not be opened, or a record is not caused, and the disks are back; or the rack showed such a ledger and a lane met a
-    // fault, which has its cause and is that of the least lane that met one: journals have grown at their ends, and are kept whatever a crash
-    // leaves; they lie within the disks' capacities, and a Prepare in flight is that of its lane's next piece.
+    // fault, which has its cause and is that of the least lane that met one: what a lane wants may come next where it would stand, journals have
+    // grown at their ends, they lie within the disks' capacities, and a Prepare in flight is that of its lane's next piece. Where they were kept
+    // they still are, whatever a crash leaves.
     ensures stopped { IfErr result (λ e. (IsUnresumed R.Disk.content R.Disk.images R.Disk.limit R.Disk.count (R.held rack.old) (R.count rack.old) (R.count rack.new) e
         × AreBack R.Disk.content R.Disk.images R.Disk.limit (R.count rack.old) (R.count rack.new) (R.held rack.old) (R.held rack.new))
         ⊎ (IsLaneFault R.Disk.content R.Disk.images R.Disk.limit (R.held rack.old) (R.held rack.new) (R.count rack.old) (R.count rack.new) (PieceNext (V.verdict_of verifier.now) files.now)

@@ -3,7 +3,7 @@ use Rattle.rack_laws.proofs.Behind.{are_quiet, is_ledger, logs_return, shards_re
 use Rattle.rack_runs.proofs.Checking.{opened_checked}
 use Rattle.rack_runs.proofs.Answering.{lane_fault, took}
 use Rattle.rack_runs.proofs.Lent.{on_ok_by, on_ok_all, if_err_by, if_err_both, if_ok_all}
-use Rattle.rack_runs.proofs.Ledgers.{ends, runs, cut_short, tells, spares, opened_room}
+use Rattle.rack_runs.proofs.Ledgers.{ends, runs, cut_short, tells, opened_room}
 use Rattle.rack_runs.proofs.racks.run_on.Goals as goal
 
 pub run_nodes-nodes-requires-clause-ledger : goal.run_nodes-nodes-requires-clause-ledger
@@ -50,10 +50,7 @@ returns-clause-caused g c =
     (rooms_same g.R.Disk.Disk.content g.R.Disk.Disk.images g.R.Disk.Disk.limit g.R.Disk.Disk.count (g.R.Rack.held c.args.rack.now) (g.R.Rack.held c.close_nodes.new.rack) c.in-Ok.nodes.header
     c.in-Ok.nodes.logs.items c.run_nodes-nodes.result.nodes.logs.items c.in-Ok.nodes.shards.items c.run_nodes-nodes.result.nodes.shards.items c.in-Ok.ensures.opened c.run_nodes-nodes.result.nodes.header ran.shape ran.ledger
     ran.capacities c.close_nodes.ensures.closed_logs c.close_nodes.ensures.closed_shards ran.holds_as_much)
-    (spares g.R.Disk.Disk.content g.R.Disk.Disk.images g.R.Disk.Disk.limit g.R.Disk.Disk.count (g.R.Rack.held c.args.rack.now) (g.R.Rack.held c.close_nodes.new.rack) c.in-Ok.nodes.header c.run_nodes-nodes.result.nodes.header
-    c.in-Ok.nodes.logs.items c.run_nodes-nodes.result.nodes.logs.items c.in-Ok.nodes.shards.items c.run_nodes-nodes.result.nodes.shards.items c.args.files.now c.in-Ok.ensures.opened ran.ledger ran.shape
-    c.close_nodes.ensures.closed_logs c.close_nodes.ensures.closed_shards ran.stored
-    (λ n le. c.close_nodes.ensures.others_held n (omega (arith, le, logs, shards)) ∙ c.in-Ok.ensures.others_held n le))
+    (λ n le. c.close_nodes.ensures.others_held n (omega (arith, le, logs, shards, are.coordinators, are.shards_are)) ∙ c.in-Ok.ensures.others_held n (omega (arith, le, are.coordinators, are.shards_are)))
     ran.grows ran.log_rooms ran.shard_rooms ran.checked
     (quiet (are_quiet g.R.Disk.Disk.content g.R.Disk.Disk.images g.R.Disk.Disk.limit g.R.Disk.Disk.count (g.R.Rack.held c.args.rack.now) c.in-Ok.nodes.header c.in-Ok.nodes.logs.items c.in-Ok.nodes.shards.items are)))
     ran.quiet
@@ -86,18 +83,18 @@ returns-clause-stopped g c =
     (lane_fault g.R.Disk.Disk.content g.R.Disk.Disk.images g.R.Disk.Disk.limit g.R.Disk.Disk.count (g.R.Rack.held c.args.rack.now) (g.R.Rack.held c.close_nodes.new.rack) c.in-Ok.nodes.header
     c.run_nodes-nodes.result.nodes.header c.in-Ok.nodes.logs.items c.run_nodes-nodes.result.nodes.logs.items c.in-Ok.nodes.shards.items c.run_nodes-nodes.result.nodes.shards.items c.in-Ok.ensures.opened c.in-Ok.ensures.caused
     ran.ledger ran.shape c.close_nodes.ensures.closed_logs c.close_nodes.ensures.closed_shards ran.stored ran.counts (g.R.Rack.count c.args.rack.now) (g.R.Rack.count c.close_nodes.new.rack)
-    c.in-Ok.ensures.logs_since c.in-Ok.ensures.shards_since c.close_nodes.ensures.counted_logs c.close_nodes.ensures.counted_shards (g.V.Verifier.verdict_of c.args.verifier.now) c.args.files.now ran.begun ran.grows e came.0 came.1 ran.keeps ran.cut ran.in_order ran.flown ran.launches ran.rests
+    c.in-Ok.ensures.logs_since c.in-Ok.ensures.shards_since c.close_nodes.ensures.counted_logs c.close_nodes.ensures.counted_shards (g.V.Verifier.verdict_of c.args.verifier.now) c.args.files.now c.requires.short ran.begun ran.grows e came.0 came.1 ran.keeps ran.cut ran.in_order ran.flown ran.launches ran.rests
     (opened_room g.R.Disk.Disk.content g.R.Disk.Disk.images g.R.Disk.Disk.limit g.R.Disk.Disk.count (g.R.Rack.held c.args.rack.now) (g.R.Rack.held c.close_nodes.new.rack) c.in-Ok.nodes.header c.run_nodes-nodes.result.nodes.header
     c.in-Ok.nodes.logs.items c.run_nodes-nodes.result.nodes.logs.items c.in-Ok.nodes.shards.items c.run_nodes-nodes.result.nodes.shards.items c.args.files.now c.in-Ok.ensures.opened ran.ledger ran.shape
     c.close_nodes.ensures.closed_logs c.close_nodes.ensures.closed_shards ran.stored)
+    (rooms_same g.R.Disk.Disk.content g.R.Disk.Disk.images g.R.Disk.Disk.limit g.R.Disk.Disk.count (g.R.Rack.held c.args.rack.now) (g.R.Rack.held c.close_nodes.new.rack) c.in-Ok.nodes.header
+    c.in-Ok.nodes.logs.items c.run_nodes-nodes.result.nodes.logs.items c.in-Ok.nodes.shards.items c.run_nodes-nodes.result.nodes.shards.items c.in-Ok.ensures.opened c.run_nodes-nodes.result.nodes.header ran.shape ran.ledger
+    ran.capacities c.close_nodes.ensures.closed_logs c.close_nodes.ensures.closed_shards ran.holds_as_much)
     ran.log_rooms ran.shard_rooms ran.checked
     (cut_short g.R.Disk.Disk.content g.R.Disk.Disk.images g.R.Disk.Disk.limit g.R.Disk.Disk.count (g.R.Rack.held c.args.rack.now) (g.R.Rack.held c.close_nodes.new.rack) c.in-Ok.nodes.header
     c.run_nodes-nodes.result.nodes.header c.in-Ok.nodes.logs.items c.run_nodes-nodes.result.nodes.logs.items c.in-Ok.nodes.shards.items c.run_nodes-nodes.result.nodes.shards.items c.args.files.now c.in-Ok.ensures.opened
     ran.ledger ran.shape c.close_nodes.ensures.closed_logs c.close_nodes.ensures.closed_shards ran.stored ran.keeps ran.flies ran.log_rooms ran.shard_rooms ran.log_fits ran.shard_fits)
-    (spares g.R.Disk.Disk.content g.R.Disk.Disk.images g.R.Disk.Disk.limit g.R.Disk.Disk.count (g.R.Rack.held c.args.rack.now) (g.R.Rack.held c.close_nodes.new.rack) c.in-Ok.nodes.header c.run_nodes-nodes.result.nodes.header
-    c.in-Ok.nodes.logs.items c.run_nodes-nodes.result.nodes.logs.items c.in-Ok.nodes.shards.items c.run_nodes-nodes.result.nodes.shards.items c.args.files.now c.in-Ok.ensures.opened ran.ledger ran.shape
-    c.close_nodes.ensures.closed_logs c.close_nodes.ensures.closed_shards ran.stored
-    (λ n le. c.close_nodes.ensures.others_held n (omega (arith, le, logs, shards)) ∙ c.in-Ok.ensures.others_held n le))))
+    (λ n le. c.close_nodes.ensures.others_held n (omega (arith, le, logs, shards, are.coordinators, are.shards_are)) ∙ c.in-Ok.ensures.others_held n (omega (arith, le, are.coordinators, are.shards_are)))))
     (if_err_both _ _ c.run_nodes-nodes.result.came ran.fault ran.least)
 
 pub returns-clause-told : goal.returns-clause-told
