@@ -113,6 +113,10 @@ module _ {D B : Type 0} (content : D → Option (List ℕ)) (images : D → List
     pub all_rooms : EachFrom (λ n b. IsDone content images limit (first_of K mint n) (disk_of b) (new n)) 0 blanks → (n : ℕ) → n < node_count K → SameRoom limit (old n) (new n)
     all_rooms done n lt = each_two IsBlankAt _ (λ k. SameRoom limit (old k) (new k)) 0 blanks room_at opened done n (omega arith) (inside n lt)
 
+    pub all_places : IsWithinLimits K → length mint ≤ 1000000 → EachFrom (λ n b. IsDone content images limit (first_of K mint n) (disk_of b) (new n)) 0 blanks → (n : ℕ) → n < node_count K → HasPlaceFor K mint limit old n
+    all_places limits few done n lt = each_two IsBlankAt (λ k b. IsDone content images limit (first_of K mint k) (disk_of b) (new k)) (λ k. k < node_count K → HasPlaceFor K mint limit old k) 0 blanks
+        (λ k b blank done_k inside_k was is. omega (arith, done_k.room, (blank.1 was is).read.room, first_size K mint k limits few inside_k)) opened done n (omega arith) (inside n lt) lt
+
     pub all_left : EachFrom (λ n b. OfTold (new n) (LeavesOf content images (λ was. IsBegun was (first_of K mint n)) (disk_of b))) 0 blanks
         → (n : ℕ) → n < node_count K → LeavesBut content images (λ was. IsBegun was (first_of K mint n)) (old n) (new n)
     all_left left n lt = each_two IsBlankAt _ (λ k. LeavesBut content images (λ was. IsBegun was (first_of K mint k)) (old k) (new k)) 0 blanks left_at opened left n (omega arith) (inside n lt)

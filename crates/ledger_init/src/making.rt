@@ -6,7 +6,7 @@ ghost use Rattle.cbdc_model.specs.Clean.{value_out};
 ghost use Rattle.gate_journal.specs.Formatting.{IsEmptied};
 ghost use Rattle.rack_nodes.specs.Racked.{SameRoom};
 ghost use Rattle.rack_nodes.specs.First.{IsBegun};
-ghost use Rattle.ledger_init.specs.Made.{node_count, first_of, HoldsFirst, LeavesBut, MayBeMade, IsUnmade, IsLeft};
+ghost use Rattle.ledger_init.specs.Made.{node_count, first_of, HoldsFirst, LeavesBut, MayBeMade, HasPlaceFor, IsUnmade, IsLeft};
 
 use crate::dealing::total_of;
 use crate::writing::write_firsts;
@@ -49,6 +49,7 @@ fn make_nodes<R: Rack>(
     ensures was { OnOk result (MayBeMade shape.now mint R.Disk.content (R.held rack.old)) }
     ensures written { OnOk result ((n : ℕ) → n < node_count shape.now
         → HoldsFirst R.Disk.content R.Disk.images (first_of shape.now mint n) (R.held rack.old n) (R.held rack.new n)) }
+    ensures places { OnOk result ((n : ℕ) → n < node_count shape.now → HasPlaceFor shape.now mint R.Disk.limit (R.held rack.old) n) }
     ensures rooms { OnOk result ((n : ℕ) → n < node_count shape.now → SameRoom R.Disk.limit (R.held rack.old n) (R.held rack.new n)) }
     ensures refusal { IfErr result (IsUnmade shape.now mint R.Disk.content R.Disk.limit (R.held rack.old) (R.count rack.old) (R.count rack.new)) }
     ensures left { (n : ℕ) → n < node_count shape.now
@@ -89,6 +90,9 @@ pub fn make_ledger<R: Rack>(
     // Each disk holds its first record alone, and so does whatever a crash may leave of it.
     ensures written { OnOk result ((n : ℕ) → n < node_count shape.now
         → HoldsFirst R.Disk.content R.Disk.images (first_of shape.now mint n) (R.held rack.old n) (R.held rack.new n)) }
+
+    // Each disk had room for its first record and a closing gate, and there is as much in its place.
+    ensures places { OnOk result ((n : ℕ) → n < node_count shape.now → HasPlaceFor shape.now mint R.Disk.limit (R.held rack.old) n) }
     ensures rooms { OnOk result ((n : ℕ) → n < node_count shape.now → SameRoom R.Disk.limit (R.held rack.old n) (R.held rack.new n)) }
 
     // Which refusal it is.
@@ -99,8 +103,8 @@ pub fn make_ledger<R: Rack>(
         → LeavesBut R.Disk.content R.Disk.images (λ before. IsBegun before (first_of shape.now mint n)) (R.held rack.old n) (R.held rack.new n) }
     ensures lead { IfErr result (λ e. e ≢ Answer.DiskFault 0 → LeavesBut R.Disk.content R.Disk.images IsEmptied (R.held rack.old 0) (R.held rack.new 0)) }
 
-    // Where a node is in use, all disks are as they were read. Where one has no room, or fails, those of the nodes below it are, and those
-    // above it hold their first records.
+    // All disks are as they were read, as where a node is in use or a disk fails as it is taken or opened. Or the writing stopped at a node, which
+    // has no room or whose disk fails, or for want of memory: the disks of those below it are unchanged, and those above it hold their first records.
     ensures stops { IfErr result (IsLeft shape.now mint R.Disk.content R.Disk.images R.Disk.limit (R.held rack.old) (R.held rack.new) (R.count rack.old) (R.count rack.new)) }
 
     // Where the sum is too much, the rack is as it was.

@@ -8,7 +8,7 @@ use Rattle.rack_nodes.proofs.Closing.{closed_whole}
 use Rattle.rack_nodes.specs.declared.blank.Blank.{Blank}
 use Rattle.ledger_init.specs.Made.{node_count}
 use Rattle.ledger_init.specs.Places.{IsDone, IsStopped, StopsAt}
-use Rattle.ledger_init.proofs.Places.{minted_is, may_be_made, all_hold, all_rooms, all_left, stopped_left, stopped_lead, stopped_unmade, opening_unmade, back_begun, back_emptied, back_all, stopped_at}
+use Rattle.ledger_init.proofs.Places.{minted_is, may_be_made, all_hold, all_places, all_rooms, all_left, stopped_left, stopped_lead, stopped_unmade, opening_unmade, back_begun, back_emptied, back_all, stopped_at}
 use Rattle.ledger_init.proofs.making.make_nodes.Goals as goal
 
 pub returns-in-Err-clause-refusal : goal.returns-in-Err-clause-refusal
@@ -39,6 +39,15 @@ returns-in-Ok-write_firsts-clause-written g c =
     let done = subst (λ (m : Minted). EachFrom (λ n (b : Blank g.row.R-Disk.Denot). IsDone g.R.Disk.Disk.content g.R.Disk.Disk.images g.R.Disk.Disk.limit (first_record c.args.shape.now m n) b.disk (g.R.Rack.held c.write_firsts.new.rack n)) 0 blanks)
     (minted_is c.in-Ok.genesis c.args.mint c.in-Ok.ensures.0 c.in-Ok.ensures.1) c.in-Ok-write_firsts.ensures.done in
     all_hold g.R.Disk.Disk.content g.R.Disk.Disk.images g.R.Disk.Disk.limit g.R.Disk.Disk.count (λ (b : Blank g.row.R-Disk.Denot). b.disk) (λ (b : Blank g.row.R-Disk.Denot). b.node) c.args.shape.now c.args.mint (λ n. g.R.Rack.held c.args.rack.now n) (λ n. g.R.Rack.held c.write_firsts.new.rack n) (λ n. g.R.Rack.count c.args.rack.now n) (λ n. g.R.Rack.count c.write_firsts.new.rack n) blanks all opened done
+
+pub returns-in-Ok-write_firsts-clause-places : goal.returns-in-Ok-write_firsts-clause-places
+returns-in-Ok-write_firsts-clause-places g c =
+    let blanks = c.in-Ok-open_all.blanks.items in
+    let all : length blanks ≡ node_count c.args.shape.now = omega (arith, c.in-Ok-open_all.ensures.all, c.coordinators.ensures.value, c.shards.ensures.value) in
+    let opened = closed_whole _ 0 c.new.result.items blanks c.new.ensures.items c.in-Ok-open_all.ensures.opened in
+    let done = subst (λ (m : Minted). EachFrom (λ n (b : Blank g.row.R-Disk.Denot). IsDone g.R.Disk.Disk.content g.R.Disk.Disk.images g.R.Disk.Disk.limit (first_record c.args.shape.now m n) b.disk (g.R.Rack.held c.write_firsts.new.rack n)) 0 blanks)
+    (minted_is c.in-Ok.genesis c.args.mint c.in-Ok.ensures.0 c.in-Ok.ensures.1) c.in-Ok-write_firsts.ensures.done in
+    all_places g.R.Disk.Disk.content g.R.Disk.Disk.images g.R.Disk.Disk.limit g.R.Disk.Disk.count (λ (b : Blank g.row.R-Disk.Denot). b.disk) (λ (b : Blank g.row.R-Disk.Denot). b.node) c.args.shape.now c.args.mint (λ n. g.R.Rack.held c.args.rack.now n) (λ n. g.R.Rack.held c.write_firsts.new.rack n) (λ n. g.R.Rack.count c.args.rack.now n) (λ n. g.R.Rack.count c.write_firsts.new.rack n) blanks all opened c.coordinators.ensures.limits c.requires.few done
 
 pub returns-in-Ok-write_firsts-clause-rooms : goal.returns-in-Ok-write_firsts-clause-rooms
 returns-in-Ok-write_firsts-clause-rooms g c =
