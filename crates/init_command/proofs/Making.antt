@@ -7,7 +7,7 @@ use Rattle.cbdc_model.specs.Coins.{Output, genesis_id}
 use Rattle.cbdc_model.specs.Clean.{value_out}
 use Rattle.command_line.specs.declared.request.FileWord.{FileWord}
 use Rattle.input_files.specs.Contents.{mint_of_file}
-use Rattle.ledger_init.specs.Made.{MayBeMade, HoldsFirst, first_of, node_count}
+use Rattle.ledger_init.specs.Made.{MayBeMade, HasPlaceFor, HoldsFirst, first_of, node_count}
 use Rattle.ledger_init.specs.declared.making.Made.{Made}
 use Rattle.line_text.specs.Lines.{Text, init_text}
 use Rattle.cbdc_model.specs.History.{minted}
@@ -20,13 +20,15 @@ use Rattle.workload_laws.specs.Files.{first_journals}
 module _ {D : Type 0} (files : Text → Option (List ℕ)) (content : D → Option (List ℕ)) (images : D → List ℕ → Type 0) (limit : D → ℕ) (before now : ℕ → Option D) (shape : Shape) (file : FileWord) (mint : List Output)
     (read : Tells (files file.name.now) (λ c. mint_of_file c ≡ Ok mint)) where
   pub made_did : {E : Type 0} (r : Result Made E) → IfOk r (λ m. (m.coins ≡ length mint) × (m.total ≡ value_out mint) × (m.genesis ≡ genesis_id mint)) → OnOk r (MayBeMade shape mint content before)
+      → OnOk r ((n : ℕ) → n < node_count shape → HasPlaceFor shape mint limit before n)
       → OnOk r ((n : ℕ) → n < node_count shape → HoldsFirst content images (first_of shape mint n) (before n) (now n))
       → OnOk r ((n : ℕ) → n < node_count shape → SameRoom limit (before n) (now n)) → ((n : ℕ) → node_count shape ≤ n → now n ≡ before n)
       → IfOk r (λ m. DidInit files content images limit before now (λ text. init_text m.coins m.total m.genesis ≡ text) shape file)
-  made_did (Ok m) made was holds rooms outside = record {
+  made_did (Ok m) made was places holds rooms outside = record {
     mint = mint;
     read = read;
     was = was;
+    places = places;
     holds = holds;
     opens = λ n lt was told d held some c left.
         let h = holds n lt was told d held some in
@@ -37,4 +39,4 @@ module _ {D : Type 0} (files : Text → Option (List ℕ)) (content : D → Opti
     kept = record { later = []; history = record { ordered = tt; journals_are = λ n. refl }; kept = tt };
     prints = ap (λ (n : ℕ). init_text n m.total m.genesis) made.0 ∙ ap (λ (n : ℕ). init_text (length mint) n m.genesis) made.1 ∙ ap (init_text (length mint) (value_out mint)) made.2;
   }
-  made_did (Err e) made was holds rooms outside = tt
+  made_did (Err e) made was places holds rooms outside = tt

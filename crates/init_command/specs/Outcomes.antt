@@ -9,17 +9,19 @@ use Rattle.cbdc_model.specs.World.{KeptJournals}
 use Rattle.record_log.specs.Held.{OpensTo}
 use Rattle.command_line.specs.declared.request.FileWord.{FileWord}
 use Rattle.input_files.specs.Contents.{mint_of_file, IsNotRead}
-use Rattle.ledger_init.specs.Made.{MayBeMade, HoldsFirst, first_of, node_count, IsUnmade, IsLeft}
+use Rattle.ledger_init.specs.Made.{MayBeMade, HasPlaceFor, HoldsFirst, first_of, node_count, IsUnmade, IsLeft}
 use Rattle.printed_lines.specs.Reports.{init_lines}
 use Rattle.rack_nodes.specs.Racked.{OfTold, SameRoom}
 use Rattle.workload_laws.specs.Files.{first_journals}
 
--- the file held a mint, no node was in use, each node's disk holds its first record alone, and so does whatever a crash leaves of one that told its
--- content, and each has as much room as the disk that was in its place, while all other disks are as before; the first records are a kept ledger of the mint, to which nothing was handed in yet; and this was printed
+-- the file held a mint, no node was in use, each node's disk had the place for its first record and holds it alone, and so does whatever a crash leaves
+-- of one that told its content, and each has as much room as the disk that was in its place, while all other disks are as before; the first records are
+-- a kept ledger of the mint, to which nothing was handed in yet; and this was printed
 pub record DidInit {D : Type 0} (files : Text → Option (List ℕ)) (content : D → Option (List ℕ)) (images : D → List ℕ → Type 0) (limit : D → ℕ) (before now : ℕ → Option D) (printed : Text → Type 0) (shape : Shape) (file : FileWord) : Type 0 where
   pub mint : List Output
   pub read : Tells (files file.name.now) (λ c. mint_of_file c ≡ Ok mint)
   pub was : MayBeMade shape mint content before
+  pub places : (n : ℕ) → n < node_count shape → HasPlaceFor shape mint limit before n
   pub holds : (n : ℕ) → n < node_count shape → HoldsFirst content images (first_of shape mint n) (before n) (now n)
   pub opens : (n : ℕ) → n < node_count shape
       → OfTold (before n) (λ was. OfTold (now n) (λ d. IsSome (content was) → (c : List ℕ) → images d c → OpensTo (reverse (first_journals shape mint n)) c))
