@@ -4,7 +4,7 @@ use Rattle.outside.specs.Counts.{Rose}
 use Rattle.cbdc_types.specs.Limits.{IsWithinLimits}
 use Rattle.cbdc_types.specs.declared.answer.Answer.{Answer}
 use Rattle.cbdc_types.specs.declared.answer.Answer.TheVariants as answers
-use Rattle.cbdc_model.specs.Records.{Digest, Shape, Compact, Record, journal, record_of, Prepare}
+use Rattle.cbdc_model.specs.Records.{Shape, Compact, Record, journal, record_of, Prepare}
 use Rattle.cbdc_model.specs.Slots.{slot}
 use Rattle.cbdc_model.specs.Ranges.{home_of, shard_node, part, is_no_part, Concerned}
 use Rattle.cbdc_model.specs.Coins.{Output, FullTx}
@@ -76,22 +76,22 @@ module _ (K : Shape) (mint : List Output) (sound : FullTx → Bool) (capacity : 
       let room = has_room lane node h.front h.wanted lt h.is_wanted h.since h.within in
       omega (arith, room.1, h.stamp_is, h.above)
 
-  pub answer_none : (genesis : Digest) (a : Answer) → IsLaneAnswer K genesis next E X failed may_hold a → a ≡ answers.Memory
-  answer_none genesis (answers.DiskFault n) (lane, lt, h) = absurd (none n h.inside h.did)
-  answer_none genesis (answers.Full n used need limit) (lane, lt, h, after) = absurd (full_none lane n used need limit lt h)
-  answer_none genesis (answers.ClockEnd n stamp) (lane, lt, h, after) = absurd (stamp_none lane n stamp lt h)
-  answer_none genesis answers.Memory h = refl
-  answer_none genesis answers.Ok h = absurd h
-  answer_none genesis answers.BadWords h = absurd h
-  answer_none genesis (answers.BadInput file at kind) h = absurd h
-  answer_none genesis (answers.TooMuch total) h = absurd h
-  answer_none genesis (answers.NotReady n) h = absurd h
-  answer_none genesis (answers.Foreign n kept asked) h = absurd h
-  answer_none genesis (answers.NotEmpty n) h = absurd h
-  answer_none genesis (answers.Unsound place kind) h = absurd h
-  answer_none genesis (answers.Damaged n at) h = absurd h
-  answer_none genesis (answers.ReadFault file) h = absurd h
-  answer_none genesis answers.WriteFault h = absurd h
+  pub answer_none : (a : Answer) → IsLaneAnswer K next E X failed may_hold a → a ≡ answers.Memory
+  answer_none (answers.DiskFault n) (lane, lt, h) = absurd (none n h.inside h.did)
+  answer_none (answers.Full n used need limit) (lane, lt, h) = absurd (full_none lane n used need limit lt h)
+  answer_none (answers.ClockEnd n stamp) (lane, lt, h) = absurd (stamp_none lane n stamp lt h)
+  answer_none answers.Memory h = refl
+  answer_none answers.Ok h = absurd h
+  answer_none answers.BadWords h = absurd h
+  answer_none (answers.BadInput file at kind) h = absurd h
+  answer_none (answers.TooMuch total) h = absurd h
+  answer_none (answers.NotReady n) h = absurd h
+  answer_none (answers.Foreign n kept asked) h = absurd h
+  answer_none (answers.NotEmpty n) h = absurd h
+  answer_none (answers.Unsound place kind) h = absurd h
+  answer_none (answers.Damaged n at) h = absurd h
+  answer_none (answers.ReadFault file) h = absurd h
+  answer_none answers.WriteFault h = absurd h
 
 -- ---- on a rack
 
@@ -106,16 +106,16 @@ module _ {D : Type 0} (content : D → Option (List ℕ)) (images : D → List �
       (lefts : (X : ℕ → List Record) → ((lane : ℕ) (txs : List Compact) → IsLaneOf K lane → next K E X lane txs → (left : List (List Compact)) × HasLeft K sound files E X lane (txs ∷ left))
       × (begun K E X → (lane : ℕ) → IsLaneOf K lane → (left : List (List Compact)) × HasLeft K sound files E X lane left)) where
     -- from the journals themselves
-    from_these : (genesis : Digest) (X : ℕ → List Record) → IsGrown K mint (submissions ++ joined files) E X → begun K E X → (a : Answer)
-        → IsLaneAnswer K genesis (next K E X) E X (λ n. Rose (before n) (now n)) (λ n c. OfTold (held n) (λ d. c ≡ limit d)) a → a ≡ answers.Memory
-    from_these genesis X grown prepared a cause =
+    from_these : (X : ℕ → List Record) → IsGrown K mint (submissions ++ joined files) E X → begun K E X → (a : Answer)
+        → IsLaneAnswer K (next K E X) E X (λ n. Rose (before n) (now n)) (λ n c. OfTold (held n) (λ d. c ≡ limit d)) a → a ≡ answers.Memory
+    from_these X grown prepared a cause =
         let way : IsUnderway K (minted mint) sound files E X = record {
           old = kept_is_checked_law K mint submissions E ready.kept;
           new = kept_is_checked_law K mint (submissions ++ joined files) X grown.kept;
           grows = grown.grows;
           lanes = (lefts X).1 prepared;
         } in
-        answer_none K mint sound (λ n. limit_at limit (held n)) files E X ready.limits ample way (next K E X) (lefts X).0 (λ n. Rose (before n) (now n)) (λ n c. OfTold (held n) (λ d. c ≡ limit d)) steady may_hold genesis a cause
+        answer_none K mint sound (λ n. limit_at limit (held n)) files E X ready.limits ample way (next K E X) (lefts X).0 (λ n. Rose (before n) (now n)) (λ n c. OfTold (held n) (λ d. c ≡ limit d)) steady may_hold a cause
 
     pub fault_none : (a : Answer) → IsLaneFault content images limit held back before now next ends begun files a → a ≡ answers.Memory
     fault_none a fault =
@@ -123,10 +123,10 @@ module _ {D : Type 0} (content : D → Option (List ℕ)) (images : D → List �
         let journals : (λ n. journal n (reverse fault.ledger.rows)) ≡ E = λ i n. told_journals content held K mint submissions E ready fault.ledger.shape fault.ledger.genesis fault.ledger.rows fault.ledger.history n i in
         let grown : IsGrown K mint (submissions ++ joined files) E fault.exit = (fault.kept K mint submissions E ready.limits ready.shown ready.kept).grown in
         subst (λ k. (L : ℕ → List Record) → L ≡ E → begun k L fault.exit
-        → IsLaneAnswer k fault.ledger.genesis (next k L fault.exit) L fault.exit (λ n. Rose (before n) (now n)) (λ n c. OfTold (held n) (λ d. c ≡ limit d)) a → a ≡ answers.Memory) (sym shape)
+        → IsLaneAnswer k (next k L fault.exit) L fault.exit (λ n. Rose (before n) (now n)) (λ n c. OfTold (held n) (λ d. c ≡ limit d)) a → a ≡ answers.Memory) (sym shape)
         (λ L same. subst (λ J. begun K J fault.exit
-        → IsLaneAnswer K fault.ledger.genesis (next K J fault.exit) J fault.exit (λ n. Rose (before n) (now n)) (λ n c. OfTold (held n) (λ d. c ≡ limit d)) a → a ≡ answers.Memory) (sym same)
-        (λ prepared cause. from_these fault.ledger.genesis fault.exit grown prepared a cause))
+        → IsLaneAnswer K (next K J fault.exit) J fault.exit (λ n. Rose (before n) (now n)) (λ n c. OfTold (held n) (λ d. c ≡ limit d)) a → a ≡ answers.Memory) (sym same)
+        (λ prepared cause. from_these fault.exit grown prepared a cause))
         (λ n. journal n (reverse fault.ledger.rows)) journals fault.prepared fault.cause
 
 -- of a recovery

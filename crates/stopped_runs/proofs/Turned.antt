@@ -3,7 +3,7 @@ use Rattle.std.proofs.Common.{◌≡◌, ◌⊎◌, ⊎_elim, inl, inr, ℕ, Lis
 use Rattle.outside.specs.Counts.{Rose}
 use Rattle.cbdc_types.specs.declared.answer.Answer.{Answer}
 use Rattle.cbdc_types.specs.declared.answer.Answer.TheVariants as answers
-use Rattle.cbdc_model.specs.Records.{Digest, Shape, Compact, Record, journal}
+use Rattle.cbdc_model.specs.Records.{Shape, Compact, Record, journal}
 use Rattle.cbdc_model.specs.Coins.{FullTx}
 use Rattle.lane_driver.specs.declared.fault.LaneFault.{LaneFault}
 use Rattle.rack_nodes.specs.Racked.{OfTold}
@@ -16,28 +16,28 @@ use Rattle.command_answers.specs.Left.{IsBeforeDisks}
 use Rattle.command_answers.proofs.Refusals.{not_refused, refused_alone}
 
 -- where a lane met a fault, its nodes were taken
-not_by_lane : (K : Shape) (genesis : Digest) (next : ℕ → List Compact → Type 0) (E X : ℕ → List Record) (failed : ℕ → Type 0) (holds : ℕ → ℕ → Type 0) (a : Answer) → IsLaneAnswer K genesis next E X failed holds a → IsBeforeDisks a → ⊥
-not_by_lane K genesis next E X failed holds answers.Ok is before = is
-not_by_lane K genesis next E X failed holds answers.BadWords is before = is
-not_by_lane K genesis next E X failed holds (answers.BadInput file at kind) is before = is
-not_by_lane K genesis next E X failed holds (answers.TooMuch total) is before = is
-not_by_lane K genesis next E X failed holds (answers.NotReady k) is before = before
-not_by_lane K genesis next E X failed holds (answers.Foreign k kept asked) is before = before
-not_by_lane K genesis next E X failed holds (answers.NotEmpty k) is before = before
-not_by_lane K genesis next E X failed holds (answers.Full k used need capacity) is before = before
-not_by_lane K genesis next E X failed holds (answers.Unsound place kind) is before = before
-not_by_lane K genesis next E X failed holds (answers.ClockEnd k stamp) is before = before
-not_by_lane K genesis next E X failed holds (answers.Damaged k at) is before = before
-not_by_lane K genesis next E X failed holds (answers.ReadFault file) is before = is
-not_by_lane K genesis next E X failed holds answers.WriteFault is before = before
-not_by_lane K genesis next E X failed holds (answers.DiskFault k) is before = before
-not_by_lane K genesis next E X failed holds answers.Memory is before = before
+not_by_lane : (K : Shape) (next : ℕ → List Compact → Type 0) (E X : ℕ → List Record) (failed : ℕ → Type 0) (holds : ℕ → ℕ → Type 0) (a : Answer) → IsLaneAnswer K next E X failed holds a → IsBeforeDisks a → ⊥
+not_by_lane K next E X failed holds answers.Ok is before = is
+not_by_lane K next E X failed holds answers.BadWords is before = is
+not_by_lane K next E X failed holds (answers.BadInput file at kind) is before = is
+not_by_lane K next E X failed holds (answers.TooMuch total) is before = is
+not_by_lane K next E X failed holds (answers.NotReady k) is before = before
+not_by_lane K next E X failed holds (answers.Foreign k kept asked) is before = before
+not_by_lane K next E X failed holds (answers.NotEmpty k) is before = before
+not_by_lane K next E X failed holds (answers.Full k used need capacity) is before = before
+not_by_lane K next E X failed holds (answers.Unsound place kind) is before = before
+not_by_lane K next E X failed holds (answers.ClockEnd k stamp) is before = before
+not_by_lane K next E X failed holds (answers.Damaged k at) is before = before
+not_by_lane K next E X failed holds (answers.ReadFault file) is before = is
+not_by_lane K next E X failed holds answers.WriteFault is before = before
+not_by_lane K next E X failed holds (answers.DiskFault k) is before = before
+not_by_lane K next E X failed holds answers.Memory is before = before
 
 -- nor is all done where a lane met a fault
-lane_alone : (K : Shape) (genesis : Digest) (next : ℕ → List Compact → Type 0) (E X : ℕ → List Record) (failed : ℕ → Type 0) (holds : ℕ → ℕ → Type 0) (a : Answer) → IsLaneAnswer K genesis next E X failed holds a → IsWell a → ⊥
-lane_alone K genesis next E X failed holds answers.Ok is well = is
-lane_alone K genesis next E X failed holds answers.WriteFault is well = is
-lane_alone K genesis next E X failed holds other is well = well
+lane_alone : (K : Shape) (next : ℕ → List Compact → Type 0) (E X : ℕ → List Record) (failed : ℕ → Type 0) (holds : ℕ → ℕ → Type 0) (a : Answer) → IsLaneAnswer K next E X failed holds a → IsWell a → ⊥
+lane_alone K next E X failed holds answers.Ok is well = is
+lane_alone K next E X failed holds answers.WriteFault is well = is
+lane_alone K next E X failed holds other is well = well
 
 module _ {D : Type 0} (content : D → Option (List ℕ)) (images : D → List ℕ → Type 0) (limit count : D → ℕ) where
   pub not_unopened : (held : ℕ → Option D) (before now : ℕ → ℕ) (a : Answer) → IsUnopened content images limit count held before now a → IsBeforeDisks a → ⊥
@@ -49,7 +49,7 @@ module _ {D : Type 0} (content : D → Option (List ℕ)) (images : D → List �
       ⊎_elim
       (λ unopened. ⊎_elim (λ closed. not_unopened held before now a closed)
       (λ other. ⊎_elim (λ unsound. subst (λ b. IsBeforeDisks b → ⊥) (sym unsound.told) (λ none. none)) (λ memory. subst (λ b. IsBeforeDisks b → ⊥) (sym memory) (λ none. none)) other) unopened.0)
-      (λ lane. not_by_lane lane.ledger.shape lane.ledger.genesis (next lane.ledger.shape (λ n. journal n (reverse lane.ledger.rows)) lane.exit) (λ n. journal n (reverse lane.ledger.rows)) lane.exit (λ n. Rose (before n) (now n)) (λ n c. OfTold (held n) (λ d. c ≡ limit d)) a lane.cause) is
+      (λ lane. not_by_lane lane.ledger.shape (next lane.ledger.shape (λ n. journal n (reverse lane.ledger.rows)) lane.exit) (λ n. journal n (reverse lane.ledger.rows)) lane.exit (λ n. Rose (before n) (now n)) (λ n c. OfTold (held n) (λ d. c ≡ limit d)) a lane.cause) is
 
   -- where a run or a recovery did not come through, all was not done
   pub not_done : (held new : ℕ → Option D) (before now : ℕ → ℕ) (next : Shape → (ℕ → List Record) → (ℕ → List Record) → ℕ → List Compact → Type 0)
@@ -58,7 +58,7 @@ module _ {D : Type 0} (content : D → Option (List ℕ)) (images : D → List �
       ⊎_elim
       (λ unopened. ⊎_elim (λ closed. refused_alone a (unopened_kind content images limit count held before now None a closed))
       (λ other. ⊎_elim (λ unsound. subst (λ b. IsWell b → ⊥) (sym unsound.told) (λ none. none)) (λ memory. subst (λ b. IsWell b → ⊥) (sym memory) (λ none. none)) other) unopened.0)
-      (λ lane. lane_alone lane.ledger.shape lane.ledger.genesis (next lane.ledger.shape (λ n. journal n (reverse lane.ledger.rows)) lane.exit) (λ n. journal n (reverse lane.ledger.rows)) lane.exit (λ n. Rose (before n) (now n)) (λ n c. OfTold (held n) (λ d. c ≡ limit d)) a lane.cause) is
+      (λ lane. lane_alone lane.ledger.shape (next lane.ledger.shape (λ n. journal n (reverse lane.ledger.rows)) lane.exit) (λ n. journal n (reverse lane.ledger.rows)) lane.exit (λ n. Rose (before n) (now n)) (λ n c. OfTold (held n) (λ d. c ≡ limit d)) a lane.cause) is
 
   -- what it leaves
   pub turns_leave : (held new : ℕ → Option D) (before now : ℕ → ℕ) (next : Shape → (ℕ → List Record) → (ℕ → List Record) → ℕ → List Compact → Type 0)
