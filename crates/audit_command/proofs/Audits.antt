@@ -1,5 +1,6 @@
 -- What an audit was of: files that were read behind another, and what is told of its verdict.
-use Rattle.std.proofs.Common.{◌≡◌, ◌≤◌, ◌+◌, ◌++◌, ℕ, List, [], ◌∷◌, length, Option, Result, sym, ap, append_assoc, subst, ◌∙◌, arith}
+use Rattle.std.proofs.Common.{◌≡◌, ◌≤◌, ◌+◌, ◌++◌, ℕ, List, [], ◌∷◌, length, Option, Result, Ok, Err, sym, ap, append_assoc, subst, ◌∙◌, arith}
+use Rattle.std.specs.Prelude.{IfOk, OnOk}
 use Rattle.std.proofs.lemmas.List.{append-nil}
 use Rattle.file_runs.specs.Runs.{joined}
 use Rattle.cbdc_types.specs.declared.answer.Answer.{Answer}
@@ -10,6 +11,11 @@ use Rattle.command_line.specs.declared.request.FileWord.{FileWord}
 use Rattle.line_text.specs.Lines.{Text}
 use Rattle.input_files.specs.Contents.{AreRead, IsNotRead, FirstNotRead, all_txs, txs_of_file}
 use Rattle.command_answers.proofs.Counts.{rose_later}
+
+-- what is said of a result, by what holds wherever there is one
+pub if_ok_and : {B F : Type 0} (P Q : B → Type 0) (X : Type 0) (o : Result B F) → ((b : B) → X → P b → Q b) → OnOk o X → IfOk o P → IfOk o Q
+if_ok_and P Q X (Ok b) f x so = f b x so
+if_ok_and P Q X (Err e) f x so = tt
 
 -- one list more
 pub joined_more : {A : Type 0} (lists : List (List A)) (x : List A) → joined lists ++ x ≡ joined (lists ++ x ∷ [])

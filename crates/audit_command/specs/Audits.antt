@@ -17,7 +17,8 @@ use Rattle.rack_nodes.specs.Racked.{AreUnchanged, AreBack}
 use Rattle.rack_ledgers.specs.Ledgers.{IsUnopenedBy}
 
 -- the files held this mint and these transactions, with which an audit of the history of the ledger that the disks tell has this verdict; each of those
--- disks had room for its journal of that history and for what is kept for the batches that are open there, and still holds that journal
+-- disks had room for its journal of that history and for what is kept for the batches that are open there, and still holds that journal; and all disks are
+-- back unchanged
 pub record WasAudited {D : Type 0} (files : Text → Option (List ℕ)) (content : D → Option (List ℕ)) (images : D → List ℕ → Type 0) (limit : D → ℕ) (disks now : ℕ → Option D) (file : FileWord) (clients : List FileWord) (verdict : Verdict) : Type 0 where
   pub mint : List Output
   pub handed : List (List FullTx)
@@ -26,14 +27,14 @@ pub record WasAudited {D : Type 0} (files : Text → Option (List ℕ)) (content
   pub audited : IsAudited content disks mint (joined handed) verdict
   pub room : HistoryHasRoom limit disks audited.shape audited.rows
   pub holds : HistoryIsHeld content images disks now audited.shape (genesis_id mint) audited.rows
+  pub unchanged : AreUnchanged content images limit disks now
 
 -- the verdict is that all is sound; the money of the ledger that the disks tell is accounted for, if its first records are those of the mint, no hashes
--- clash and each committed transaction has an input; what it comes to was printed, and the disks are back unchanged
+-- clash and each committed transaction has an input; and what it comes to was printed
 pub record DidAudit {D : Type 0} (files : Text → Option (List ℕ)) (content : D → Option (List ℕ)) (images : D → List ℕ → Type 0) (limit : D → ℕ) (before now : ℕ → Option D) (printed : Text → Type 0) (file : FileWord) (clients : List FileWord) : Type 0 where
   pub totals : Totals
   pub was : WasAudited files content images limit before now file clients (Sound totals)
   pub sentence : IsAccountedFor content before was.mint (joined was.handed) totals
-  pub back : AreUnchanged content images limit before now
   pub prints : printed (audit_lines totals)
 
 -- the ledger of this mint could not be opened: the first node that can't be, or node 0 where another mint began it; or memory ran out

@@ -1,7 +1,7 @@
 // `audit`: the journals against a mint and the transactions that were handed in.
-ghost use Rattle.std.specs.Prelude.{◌≡◌, ◌⊎◌, ◌≤◌, ℕ, IfOk, IfErr, OnOk};
+ghost use Rattle.std.specs.Prelude.{◌≡◌, ◌⊎◌, ◌≤◌, ℕ, IfOk, IfErr};
 ghost use Rattle.outside.specs.Counts.{Rose};
-ghost use Rattle.rack_nodes.specs.Racked.{AreUnchanged, AreBack};
+ghost use Rattle.rack_nodes.specs.Racked.{AreBack};
 ghost use Rattle.file_runs.specs.Runs.{joined as all_joined};
 ghost use Rattle.printed_lines.specs.Reports.{audit_lines};
 ghost use Rattle.command_answers.specs.Causes.{IsFault, IsDone, IsTold, IsWell, OnePlace, OneRose, FileRose};
@@ -42,7 +42,6 @@ fn audit_all<I: Inbox, R: Rack>(
     requires { (n : ℕ) → R.can_take rack.old n }
     ensures did { IfOk result (WasAudited (I.file inbox.old) R.Disk.content R.Disk.images R.Disk.limit (R.held rack.old) (R.held rack.new) mint.now clients.now) }
     ensures why { IfErr result (WhyUnaudited (I.file inbox.old) (I.count inbox.old) (I.count inbox.new) R.Disk.content R.Disk.images R.Disk.limit R.Disk.count (R.held rack.old) (R.count rack.old) (R.count rack.new) mint.now clients.now) }
-    ensures unchanged { OnOk result (AreUnchanged R.Disk.content R.Disk.images R.Disk.limit (R.held rack.old) (R.held rack.new)) }
     ensures held { AreBack R.Disk.content R.Disk.images R.Disk.limit (R.count rack.old) (R.count rack.new) (R.held rack.old) (R.held rack.new) }
     ensures fault { IfErr result (IsFault (λ place. (place ≡ mint.now.place) ⊎ OnePlace clients.now place) (λ place. FileRose (I.count inbox.old) (I.count inbox.new) mint.now place ⊎ OneRose (I.count inbox.old) (I.count inbox.new) clients.now place)) }
     ensures untouched { IfErr result (λ e. IsBeforeDisks e → rack.new ≡ rack.old) }

@@ -31,7 +31,6 @@ returns-in-Ok-Sound-clause-did g c = λ well.
       totals = c.in-Ok-Sound.totals;
       was = was;
       sentence = verdicts_account g.R.Disk.Disk.content (g.R.Rack.held c.args.rack.now) was.mint (joined was.handed) (Sound c.in-Ok-Sound.totals) was.audited;
-      back = c.in-Ok-Sound.ensures.unchanged;
       prints = c.print.ensures.prints;
     }
 

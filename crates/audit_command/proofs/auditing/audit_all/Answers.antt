@@ -7,8 +7,8 @@ use Rattle.audited_ledgers.specs.Audited.{IsAudited, HistoryHasRoom, HistoryIsHe
 use Rattle.rack_nodes.proofs.Told.{back_same}
 use Rattle.audit_command.specs.Audits.{WhyUnopened}
 use Rattle.command_answers.proofs.Answers.{first_fault, not_read_fault, one_later}
-use Rattle.command_answers.proofs.Results.{if_ok_by, if_err_by}
-use Rattle.audit_command.proofs.Audits.{are_read_same, first_later}
+use Rattle.command_answers.proofs.Results.{if_err_by}
+use Rattle.audit_command.proofs.Audits.{if_ok_and, are_read_same, first_later}
 use Rattle.audit_command.proofs.auditing.audit_all.Goals as goal
 
 pub returns-in-Err-clause-why : goal.returns-in-Err-clause-why
@@ -51,8 +51,8 @@ returns-clause-did g c =
     let all = c.deref.ensures.value ∙ c.in-Ok-joined.ensures in
     let held = g.R.Rack.held c.args.rack.now in
     let now = g.R.Rack.held c.audit_on.new.rack in
-    if_ok_by _ _ c.audit_on.result
-    (λ v is.
+    if_ok_and _ _ _ c.audit_on.result
+    (λ v unchanged is.
     let found : (was : IsAudited g.R.Disk.Disk.content held c.in-Ok.mint (joined c.in-Ok-all_clients_in.files.items) v) × HistoryHasRoom g.R.Disk.Disk.limit held was.shape was.rows × HistoryIsHeld g.R.Disk.Disk.content g.R.Disk.Disk.images held now was.shape (genesis_id c.in-Ok.mint) was.rows =
     subst (λ (m : List Output). (was : IsAudited g.R.Disk.Disk.content held m (joined c.in-Ok-all_clients_in.files.items) v) × HistoryHasRoom g.R.Disk.Disk.limit held was.shape was.rows × HistoryIsHeld g.R.Disk.Disk.content g.R.Disk.Disk.images held now was.shape (genesis_id m) was.rows) c.as_slice.ensures
     (subst (λ (h : List FullTx). (was : IsAudited g.R.Disk.Disk.content held c.as_slice.result.now h v) × HistoryHasRoom g.R.Disk.Disk.limit held was.shape was.rows × HistoryIsHeld g.R.Disk.Disk.content g.R.Disk.Disk.images held now was.shape (genesis_id c.as_slice.result.now) was.rows) all is) in
@@ -64,8 +64,9 @@ returns-clause-did g c =
       audited = found.0;
       room = found.1;
       holds = found.2;
+      unchanged = unchanged;
     })
-    c.audit_on.ensures.room
+    c.audit_on.ensures.unchanged c.audit_on.ensures.room
 
 pub returns-clause-why : goal.returns-clause-why
 returns-clause-why g c =
