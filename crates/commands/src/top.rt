@@ -195,29 +195,30 @@ pub fn process<W: Wait, I: Inbox, R: Rack, O: Sink, G: Gate>(
     requires { (n : ℕ) → R.can_take rack n }
     ensures back { (n : ℕ) → R.can_take result.rack n }
     // What the words ask for was done, whether its lines could be written or not: a ledger was made, files were run over one, its open
-    // batches were brought to their end, hashes were looked up, or its journals were audited and are sound. What was run over or brought to
-    // an end was a ledger that the disks told, each record of which was caused by what stood before it. Whatever a crash leaves of a
-    // disk then opens to exactly its node's journal, and where no two outputs share a hash, the headline holds of the journals at exit. The
-    // journals of that ledger, kept or not, have grown at their ends by records that are caused too, and its disks have room for them and
-    // for what is kept for the batches open there. The
-    // lines of each command are those of the mint and of the journals (of `run` and `recover` at that exit too; of `gen` those of a run of its workload in
-    // memory and of the audit behind it), or at WriteFault a front. Each sound submission of a run has its one place in one new Prepare, and
-    // nothing else has one; its line confirms it exactly where every shard held it, and always where its inputs are unspent when its
-    // file's wave begins and no other sound one of the file spends them. The text of a workload is one, where no hashes of it clash. Each
-    // disk of a ledger that was looked at or audited, and of a kept one that was run over or brought to an end, had room for its journal
-    // and for what is kept for the batches open there. Each disk of a ledger that was made, run over or brought to an end is back in its own
-    // place: what is there now has as much room as what was. A look and an audit change nothing: each disk reads as it did, and whatever a crash
-    // leaves of one that told its content opens to exactly the journal that was read.
+    // batches were brought to their end, hashes were looked up, or its journals were audited and are sound. Each disk of a ledger that was
+    // made had the place for its first record. What was run over or brought to an end was a ledger that the disks told, each record of which
+    // was caused by what stood before it. Its journals, kept or not, have grown at their ends by records that are caused too, its disks have
+    // room for them and for what is kept for the batches open there, and all other disks are as before. Where all its disks tell, whatever a
+    // crash leaves of one then opens to exactly its node's journal; and where that ledger was kept besides, its batches are at their end, and
+    // where no two outputs share a hash, the headline holds of the journals at exit. The lines of each command are those of the mint and of
+    // the journals (of `run` and `recover` where that ledger was kept, at that exit too; of `gen` those of a run of its workload in memory and
+    // of the audit behind it), or at WriteFault a front. Each sound submission of a run over a kept ledger has its one place in one new
+    // Prepare, and nothing else has one; its line confirms it exactly where every shard held it, and always where its inputs are unspent when
+    // its file's wave begins and no other sound one of the file spends them. The text of a workload is one, where no hashes of it clash. Each
+    // disk of a ledger that was looked at, audited, run over or brought to an end had room for its journal and for what is kept for the
+    // batches open there. In each place of a ledger that was made, run over or brought to an end there is as much room as there was. A look
+    // and an audit change nothing: each disk reads as it did, and whatever a crash leaves of one that told its content opens to exactly the
+    // journal that was read.
     ensures did { IsWell result.status → (r : Asked) × IsAsked (texts words.now) r × Did (I.file inbox.old) R.Disk.content R.Disk.images R.Disk.limit (R.held rack) (R.held result.rack) (IsPrinted (O.taken out.old) (O.taken out.new) result.status) r }
 
     // Else the line of the fault is printed and nothing else, or a front of it where the sink's count rose.
     ensures fault_line { IsFaultPrinted (texts words.now) (O.taken out.old) (O.taken out.new) (Rose (O.count out.old) (O.count out.new)) result.status }
 
     // And why not: a file that is not read, a ledger that can't be made or opened, a record that is not caused, a fault of a lane of a ledger in
-    // which each is, with its cause and what it leaves, or the first place at which an audit finds something wrong, and what it is; of a
-    // workload only where two of its outputs share a hash, or two transactions an id. Where there was no room, the record that found none
-    // may come next at its node; where there was no stamp, but for that. What a lane's fault leaves lies within the disks' capacities; a
-    // Prepare that it may have left on a disk or not is that of its lane's next piece.
+    // which each is, with its cause and what it leaves, or the first place at which an audit, which changed nothing, finds something wrong, and
+    // what it is; of a workload only where two of its outputs share a hash, or two transactions an id. Whatever a lane of that ledger wants may
+    // come next where it would stand, as does a record that found no room; one that found no stamp breaks no rule but that of its stamp. What a
+    // lane's fault leaves lies within the disks' capacities; a Prepare that it may have left on a disk or not is that of its lane's next piece.
     ensures why { IsTold (λ a. (r : Asked) × IsAsked (texts words.now) r × Why (I.file inbox.old) (I.count inbox.old) (I.count inbox.new) R.Disk.content R.Disk.images R.Disk.limit R.Disk.count (R.held rack) (R.held result.rack) (R.count rack) (R.count result.rack) r a) result.status }
 
     // Where words are bad, a file is not read or a mint is too much, the rack is as it was.
@@ -235,11 +236,12 @@ pub fn process<W: Wait, I: Inbox, R: Rack, O: Sink, G: Gate>(
     // Behind `status` and `audit` all disks are as they were read, whatever was answered: a crash leaves nothing of a disk that it could not
     // leave before, and the disk reads as it did wherever its node's count of faults did not rise in this call.
     // Where a run or a recovery did not come through, whatever the answer, want of memory too, all disks are as they were or as they were
-    // read, or all is as a lane's fault leaves it: the journals of a kept ledger have grown at their ends, each lane by the first pieces
-    // that it got, and are kept, whatever a crash leaves of the disks.
+    // read, or all is as a lane's fault leaves it: the journals of the ledger that the disks told have grown at their ends, each lane by the
+    // first pieces that it got, in each of its places there is as much room as there was, and all other disks are as before; where it was kept
+    // it still is, whatever a crash leaves of the disks.
     // Where a ledger was not made, all disks are as they were or as they were read; or the writing of first records stopped at a node that
-    // has no room or whose disk failed: those below it are as they were read, those above it hold their first records, and a crash leaves of
-    // its own no first record, or what it might have left before, or, where the disk failed, the new one alone.
+    // has no room or whose disk failed, or for want of memory: those below it are as they were read, those above it hold their first records,
+    // and a crash leaves of its own no first record, or what it might have left before, or, where the disk failed, the new one alone.
     ensures left { (IsWell result.status → ⊥) → (result.rack ≡ rack) ⊎ ((r : Asked) × IsAsked (texts words.now) r × Leaves (I.file inbox.old) R.Disk.content R.Disk.images R.Disk.limit (R.held rack) (R.held result.rack) (R.count rack) (R.count result.rack) r result.status) }
 
     // Where it came through, and where it ended behind the opening of the ledger by a lane's fault or what an audit found wrong, no refusal of the opening

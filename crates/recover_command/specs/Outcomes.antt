@@ -19,7 +19,7 @@ pub record IsPrintedRecovery {D : Type 0} (images : D → List ℕ → Type 0) (
 abbrev pub PrintsRecovery : {D : Type 0} → (D → Option (List ℕ)) → (D → List ℕ → Type 0) → (D → ℕ) → (ℕ → Option D) → (ℕ → Option D) → (Text → Type 0) → Type 0
 PrintsRecovery content images limit before now printed = OfShown content before (IsPrintedRecovery images limit now printed)
 
--- the disks told a ledger in which each record was caused, and its open batches were brought to their end; each disk holds exactly its journal, and this
--- was printed
+-- the disks told a ledger in which each record was caused, whose journals have grown at their ends by records that are caused too; where all its disks
+-- told each holds exactly its journal; and where it was kept its open batches were brought to their end, and this was printed
 abbrev pub DidRecover : {D : Type 0} → (D → Option (List ℕ)) → (D → List ℕ → Type 0) → (D → ℕ) → (ℕ → Option D) → (ℕ → Option D) → (Text → Type 0) → Type 0
 DidRecover content images limit before now printed = TookLedger content images limit before now × PrintsRecovery content images limit before now printed

@@ -20,7 +20,8 @@ use Rattle.submission_laws.specs.Free.{AreFreeConfirmed}
 use Rattle.rack_runs.specs.Endings.{EndsRun}
 use Rattle.stopped_runs.specs.Stops.{WhyNoTurns, TurnsLeave}
 
--- the files held these transactions and verdicts, at most a million transactions; they were run over the ledger that the disks told, in which each record was caused, and the run tells what it did
+-- the files held these transactions and verdicts, at most a million transactions; they were run over the ledger that the disks told, in which each record
+-- was caused; and where it was kept the run tells what it did
 pub record WasRun {D : Type 0} (files : Text → Option (List ℕ)) (content : D → Option (List ℕ)) (images : D → List ℕ → Type 0) (limit : D → ℕ) (before now : ℕ → Option D) (verdicts : FileWord) (clients : List FileWord) (ran : Ran) : Type 0 where
   pub handed : List (List FullTx)
   pub known : VerdictFile
@@ -46,8 +47,9 @@ pub record IsPrintedRun {D : Type 0} (images : D → List ℕ → Type 0) (limit
 abbrev pub PrintsRun : {D : Type 0} → (D → Option (List ℕ)) → (D → List ℕ → Type 0) → (D → ℕ) → (ℕ → Option D) → (ℕ → Option D) → (Text → Type 0) → VerdictsOf → List (List FullTx) → Type 0
 PrintsRun content images limit before now printed verdicts handed = OfShown content before (IsPrintedRun images limit now printed verdicts handed)
 
--- the files held these transactions and verdicts, which were run over the ledger that the disks told, in which each record was caused; each disk
--- holds exactly its journal, and this was printed
+-- the files held these transactions and verdicts, and the disks told a ledger in which each record was caused, whose journals have grown at their ends by
+-- records that are caused too; where all its disks told each holds exactly its journal; and where it was kept the transactions were run over it, and this
+-- was printed
 pub record DidRun {D : Type 0} (files : Text → Option (List ℕ)) (content : D → Option (List ℕ)) (images : D → List ℕ → Type 0) (limit : D → ℕ) (before now : ℕ → Option D) (printed : Text → Type 0) (verdicts : FileWord) (clients : List FileWord) : Type 0 where
   pub handed : List (List FullTx)
   pub known : VerdictFile
