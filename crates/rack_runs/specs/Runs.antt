@@ -68,8 +68,8 @@ pub record IsCutShort {D : Type 0} (images : D → List ℕ → Type 0) (limit :
   pub crashes : SurvivesCrashes images limit held K mint (submissions ++ joined files) E
 
 -- the journals of the ledger that the disks told
-abbrev pub entry_of : {D : Type 0} {content : D → Option (List ℕ)} {held : ℕ → Option D} → IsCausedLedger content held → ℕ → List Record
-entry_of ledger n = journal n (reverse ledger.rows)
+abbrev pub entry_journals : {D : Type 0} {content : D → Option (List ℕ)} {held : ℕ → Option D} → IsCausedLedger content held → ℕ → List Record
+entry_journals ledger n = journal n (reverse ledger.rows)
 
 -- the disks told a ledger in which each record was caused; each of its disks had room for its journal and for what is kept for the batches that were
 -- open there, and in each place there is as much room as there was; so each has room for its journal at exit, which has grown at its end from that at
@@ -77,10 +77,10 @@ entry_of ledger n = journal n (reverse ledger.rows)
 -- as before
 pub record TookLedger {D : Type 0} (content : D → Option (List ℕ)) (images : D → List ℕ → Type 0) (limit : D → ℕ) (held back : ℕ → Option D) : Type 0 where
   pub ledger : IsCausedLedger content held
-  pub room : HaveRoom limit held ledger.shape (entry_of ledger)
+  pub room : HaveRoom limit held ledger.shape (entry_journals ledger)
   pub same_room : (n : ℕ) → n < node_count ledger.shape → SameRoom limit (held n) (back n)
   pub exit : ℕ → List Record
-  pub grows : (n : ℕ) → IsEnd (entry_of ledger n) (exit n)
+  pub grows : (n : ℕ) → IsEnd (entry_journals ledger n) (exit n)
   pub caused : StaysCaused ledger.shape ledger.genesis exit
   pub disks : AllTell content held ledger.shape → HoldsEach images back ledger.shape exit
   pub rooms : HaveRoom limit back ledger.shape exit
@@ -102,18 +102,18 @@ pub record IsLaneFault {D : Type 0} (content : D → Option (List ℕ)) (images 
     (ends : Shape → (ℕ → List Record) → (ℕ → List Record) → (ℕ → Type 0) → (ℕ → ℕ → Type 0) → LaneFault → Type 0) (begun : Shape → (ℕ → List Record) → (ℕ → List Record) → Type 0) (files : List (List FullTx)) (answer : Answer) : Type 0 where
   pub ledger : IsCausedLedger content held
   pub exit : ℕ → List Record
-  pub grows : (n : ℕ) → IsEnd (entry_of ledger n) (exit n)
+  pub grows : (n : ℕ) → IsEnd (entry_journals ledger n) (exit n)
   pub caused : StaysCaused ledger.shape ledger.genesis exit
-  pub prepared : begun ledger.shape (entry_of ledger) exit
+  pub prepared : begun ledger.shape (entry_journals ledger) exit
   pub flights : ℕ → Option Record
   pub in_flight : (n : ℕ) (r : Record) → n < node_count ledger.shape → flights n ≡ Some r → Rose (before n) (now n)
-  pub prepares : (n t : ℕ) (b : Batch) (txs : List Compact) → n < node_count ledger.shape → flights n ≡ Some (Prepare t b txs) → IsLaneOf ledger.shape b.lane × next ledger.shape (entry_of ledger) exit b.lane txs
+  pub prepares : (n t : ℕ) (b : Batch) (txs : List Compact) → n < node_count ledger.shape → flights n ≡ Some (Prepare t b txs) → IsLaneOf ledger.shape b.lane × next ledger.shape (entry_journals ledger) exit b.lane txs
   pub disks : AllTell content held ledger.shape → KeepsFlights images back ledger.shape exit flights
-  pub cause : IsLaneAnswer ledger.shape (next ledger.shape (entry_of ledger) exit) (entry_of ledger) exit (λ n. Rose (before n) (now n)) (λ n c. OfTold (held n) (λ d. c ≡ limit d)) answer
-  pub may_come : MayComeNext ledger.shape ledger.genesis (next ledger.shape (entry_of ledger) exit) (entry_of ledger) exit
-  pub least : IsLeastAnswer (ends ledger.shape (entry_of ledger) exit (λ n. Rose (before n) (now n)) (λ n c. OfTold (held n) (λ d. c ≡ limit d))) answer
-  pub rests : AllRestSince ledger.shape (entry_of ledger) exit (λ n. Rose (before n) (now n))
-  pub room : HaveRoom limit held ledger.shape (entry_of ledger)
+  pub cause : IsLaneAnswer ledger.shape (next ledger.shape (entry_journals ledger) exit) (entry_journals ledger) exit (λ n. Rose (before n) (now n)) (λ n c. OfTold (held n) (λ d. c ≡ limit d)) answer
+  pub may_come : MayComeNext ledger.shape ledger.genesis (next ledger.shape (entry_journals ledger) exit) (entry_journals ledger) exit
+  pub least : IsLeastAnswer (ends ledger.shape (entry_journals ledger) exit (λ n. Rose (before n) (now n)) (λ n c. OfTold (held n) (λ d. c ≡ limit d))) answer
+  pub rests : AllRestSince ledger.shape (entry_journals ledger) exit (λ n. Rose (before n) (now n))
+  pub room : HaveRoom limit held ledger.shape (entry_journals ledger)
   pub same_room : (n : ℕ) → n < node_count ledger.shape → SameRoom limit (held n) (back n)
   pub rooms : HaveRoom limit back ledger.shape exit
   pub kept : OfShown content held (IsCutShort images limit back files exit)
