@@ -217,7 +217,7 @@ pub fn process<W: Wait, I: Inbox, R: Rack, O: Sink, G: Gate>(
     // And why not: a file that is not read, a ledger that can't be made or opened, a record that is not caused, a fault of a lane of a ledger in
     // which each is, with its cause and what it leaves, or the first place at which an audit, which changed nothing, finds something wrong, and
     // what it is; of a workload only where two of its outputs share a hash, or two transactions an id. Whatever a lane of that ledger wants may
-    // come next where it would stand, as does a record that found no room; one that found no stamp breaks no rule but that of its stamp. What a
+    // come next where it would stand, as may a record that found no room; one that found no stamp breaks no rule but that of its stamp. What a
     // lane's fault leaves lies within the disks' capacities; a Prepare that it may have left on a disk or not is that of its lane's next piece.
     ensures why { IsTold (λ a. (r : Asked) × IsAsked (texts words.now) r × Why (I.file inbox.old) (I.count inbox.old) (I.count inbox.new) R.Disk.content R.Disk.images R.Disk.limit R.Disk.count (R.held rack) (R.held result.rack) (R.count rack) (R.count result.rack) r a) result.status }
 
