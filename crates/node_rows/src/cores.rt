@@ -2,9 +2,10 @@
 use crate::looking::of_phase;
 use crate::state::Node;
 use crate::told::Told;
+use crate::words::{expect, record};
 use cbdc_types::{Header, LaneId, Record, Stamp};
 use coord_core::CoordCore;
-use row_records::{Known, record, small};
+use row_records::{Known, small};
 use row_text::{Wrong, number, word};
 use std::alloc::Global;
 
@@ -63,6 +64,7 @@ pub fn core_stands(
     words: &[&str],
     told: &mut Told,
 ) -> Result<(), Wrong> {
+    expect(words, 1, "after")?;
     let lane = LaneId(small(word(words, 0)?)?);
     let cause = Stamp(number(word(words, 2)?)?);
     let (header, records) = journal_of(node)?;

@@ -2,11 +2,12 @@
 use crate::answers::{Said, with};
 use crate::state::Node;
 use crate::told::Told;
+use crate::words::record;
 use cbdc_types::{BatchId, Hash, LaneId, OpenLane, Phase, Record, Status};
 use coord_core::LanePhase;
 use coord_log::CoordLog;
 use mem_devices::FaultDisk;
-use row_records::{Known, hashes, record, small};
+use row_records::{Known, hashes, small};
 use row_text::{Names, Wrong, check_text, differ, word, words_around};
 use shard_core::Remembered;
 use shard_node::ShardNode;

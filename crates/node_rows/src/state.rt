@@ -31,7 +31,7 @@ pub type Seen = (u8, u32);
 #[derive(Drop)]
 pub struct Tables {
     pub store: Store,
-    pub room: u64,
+    pub room: Option<u64>,
     pub slots: Option<Slots>,
 }
 
@@ -49,7 +49,7 @@ pub struct State {
 fn no_tables() -> Tables {
     Tables {
         store: Store::Gone,
-        room: 0,
+        room: None,
         slots: None,
     }
 }

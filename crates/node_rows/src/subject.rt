@@ -13,7 +13,7 @@ use crate::state::{Node, State, Tables, make_place, put_node};
 use crate::stores::{find, len, make_store, put, put_all, reserve, room, spare, take_out};
 use crate::told::Told;
 use crate::verbs::{
-    Acting, Alone, Looking, OnDisk, Reading, Tabling, Turning, Verb, Whole, verb_of,
+    Acting, Alone, Looking, OnDisk, Reading, Tabling, Turning, Verb, Whole, is_for_steps, verb_of,
 };
 use row_records::{Known, name_form, shape, small};
 use row_text::{Block, Names, Subject, Wrong, rest, word};
@@ -128,7 +128,7 @@ fn turn(
         Turning::Crash => return crash(alloc, nodes, place, rest(words, 1), told),
         Turning::Close => close(nodes, place, told),
         Turning::Format => open(alloc, nodes, place, Kind::Empty, told),
-        Turning::Open => open(alloc, nodes, place, kind_of(word(words, 1)?), told),
+        Turning::Open => open(alloc, nodes, place, kind_of(word(words, 1)?)?, told),
     }
     Ok(())
 }
@@ -334,9 +334,11 @@ impl Subject for State {
         words: &[&str],
         block: &Block,
     ) -> Result<(), Wrong> {
-        match verb_of(word(words, 0)?) {
-            Some(verb) => do_step(rt, self, alloc, verb, rest(words, 1), block.text.as_str()),
-            None => Err(Wrong::Line("no such step")),
+        let verb = verb_of(words)?;
+        if is_for_steps(block) {
+            do_step(rt, self, alloc, verb, rest(words, 1), block.text.as_str())
+        } else {
+            Err(Wrong::Line("what stands behind it is not for this step"))
         }
     }
 }
