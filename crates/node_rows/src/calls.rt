@@ -25,7 +25,8 @@ use std::alloc::{AllocError, Global};
 /// What a node answers, or nothing where it may not be asked.
 type Asked<A> = Option<Result<A, NodeFault>>;
 
-const NO_CALL: &str = "no call that the node may be asked";
+/// A call that comes at the wrong time.
+pub const NO_CALL: &str = "no call that the node may be asked";
 
 // The calls at a shard.
 fn ask_lock(shard: &mut ShardNode<FaultDisk>, call: &LockCall) -> Asked<Replied> {
@@ -212,8 +213,8 @@ fn all_name(shape: &Shape, replies: &[Reply]) -> bool
     replies.iter().all(|reply| names_batch(shape, reply))
 }
 
-// Whether a batch of this shape may be decided by these replies, of one shard alone.
-fn may_decide(shape: &Shape, replies: &[ShardReplies]) -> bool
+/// Whether a batch of this shape may be decided by these replies, of one shard alone.
+pub fn may_decide(shape: &Shape, replies: &[ShardReplies]) -> bool
     ensures rising { IsTrue result → RisesBelow 0 shape.now.shards replies.now }
     ensures earlier { IsTrue result → AllEarlier (2 ^ 63) replies.now }
     ensures named { IsTrue result → AllNameBatches shape.now replies.now }
@@ -246,14 +247,14 @@ fn locked(alloc: Global, words: &[&str]) -> Result<Reply, Wrong> {
 // Replies, one behind the other.
 fn replies_of(alloc: Global, words: &[&str]) -> Result<List<Reply>, Wrong> {
     let mut all = List::new(alloc);
-    let mut behind = words;
+    let mut at = 0usize;
     for _ in 0..words.len() {
-        if behind.is_empty() {
+        if at >= words.len() {
             break;
         }
-        let (one, many) = reply(alloc, behind)?;
+        let (one, many) = reply(alloc, rest(words, at))?;
         all.push(one)?;
-        behind = rest(behind, many);
+        at = at.saturating_add(many);
     }
     Ok(all)
 }
@@ -268,8 +269,8 @@ fn shard_replies(alloc: Global, words: &[&str]) -> Result<ShardReplies, Wrong> {
     })
 }
 
-// The same as all replies.
-fn replies_told(alloc: Global, words: &[&str]) -> Result<Replies, Wrong> {
+/// What the only shard replied, as all replies: `STAMP REPLY..`.
+pub fn replies_told(alloc: Global, words: &[&str]) -> Result<Replies, Wrong> {
     let own = shard_replies(alloc, words)?;
     let mut replies = List::new(alloc);
     replies.push(own)?;
@@ -333,8 +334,8 @@ fn prepare(
     Ok(())
 }
 
-// The cause that a call ends with: `cause STAMP`.
-fn cause_of(words: &[&str]) -> Result<Stamp, Wrong> {
+/// The cause that a call ends with: `cause STAMP`.
+pub fn cause_of(words: &[&str]) -> Result<Stamp, Wrong> {
     expect(words, 0, "cause")?;
     at_most(words, 2)?;
     Ok(Stamp(number(word(words, 1)?)?))

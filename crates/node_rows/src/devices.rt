@@ -133,14 +133,14 @@ fn read_all(
     words: &[&str],
     told: &mut Told,
 ) -> Result<(), Wrong> {
-    let mut asked = words;
+    let mut at = 0usize;
     for _ in 0..words.len() {
-        let (one, others) = words_around(asked, "read");
-        read_once(alloc, inbox, one, told)?;
-        if others.is_empty() {
+        if at >= words.len() {
             break;
         }
-        asked = others;
+        let (one, _) = words_around(rest(words, at), "read");
+        read_once(alloc, inbox, one, told)?;
+        at = at.saturating_add(one.len()).saturating_add(1);
     }
     Ok(())
 }

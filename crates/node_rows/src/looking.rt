@@ -66,14 +66,25 @@ fn spelled(known: &Known, alloc: Global, node: u32, text: &str) -> Result<Vec<Re
     Ok(all)
 }
 
-/// `journal NODE`, and a line for each of its records. Where they are others, what came is told without its lists.
-pub fn journal(known: &Known, alloc: Global, node: &Node, text: &str) -> Result<(), Wrong> {
-    let (own, came) = records_of(node)?;
-    let wanted = spelled(known, alloc, own, text)?;
+/// Nothing where lines spell these records of a node.
+pub fn check_records(
+    known: &Known,
+    alloc: Global,
+    node: u32,
+    came: &[Record],
+    text: &str,
+) -> Result<(), Wrong> {
+    let wanted = spelled(known, alloc, node, text)?;
     if wanted.as_slice() == came {
         return Ok(());
     }
     Err(records_differ(alloc, text, came))
+}
+
+/// `journal NODE`, and a line for each of its records. Where they are others, what came is told without its lists.
+pub fn journal(known: &Known, alloc: Global, node: &Node, text: &str) -> Result<(), Wrong> {
+    let (own, came) = records_of(node)?;
+    check_records(known, alloc, own, came, text)
 }
 
 // Tells what is known of a hash.

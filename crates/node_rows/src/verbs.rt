@@ -8,6 +8,7 @@ pub enum Reading {
     Ledger,
     Disk,
     Journal,
+    Next,
     Calls,
     Asked,
 }
@@ -23,6 +24,7 @@ pub enum Whole {
     Asks,
     Keep,
     Same,
+    Lanes,
 }
 
 /// Steps that make another of what a node has.
@@ -51,6 +53,7 @@ pub enum Acting {
     Append,
     Add,
     Call,
+    Admits,
 }
 
 /// Steps that look at a node.
@@ -61,7 +64,6 @@ pub enum Looking {
     Knows,
     Stands,
     Core,
-    Admits,
 }
 
 /// Steps of a shard's tables.
@@ -109,7 +111,7 @@ pub enum Verb {
 const ANY: usize = usize::MAX;
 
 // Each with how many words there may be, itself counted.
-const VERBS: [(&str, Verb, usize); 50] = [
+const VERBS: [(&str, Verb, usize); 52] = [
     ("shape", Verb::Whole(Whole::Shape), 5),
     ("form", Verb::Whole(Whole::Form), ANY),
     ("gate", Verb::Whole(Whole::Gate), ANY),
@@ -139,8 +141,10 @@ const VERBS: [(&str, Verb, usize); 50] = [
     ("journal", Verb::Reading(Reading::Journal), 2),
     ("knows", Verb::Looking(Looking::Knows), ANY),
     ("stands", Verb::Looking(Looking::Stands), 3),
+    ("lanes", Verb::Whole(Whole::Lanes), 2),
+    ("next", Verb::Reading(Reading::Next), ANY),
     ("core", Verb::Looking(Looking::Core), 5),
-    ("admits", Verb::Looking(Looking::Admits), ANY),
+    ("admits", Verb::Acting(Acting::Admits), ANY),
     ("store", Verb::Tabling(Tabling::Store), 2),
     ("reserve", Verb::Tabling(Tabling::Reserve), 2),
     ("room", Verb::Tabling(Tabling::Room), 2),
