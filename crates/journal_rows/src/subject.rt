@@ -7,7 +7,7 @@ use crate::making::{change, files, ledger};
 use crate::plain::{alike, clean, comes, commits, history, holds, kept, waves};
 use crate::printed::prints;
 use crate::state::State;
-use crate::verbs::{Verb, verb_of};
+use crate::verbs::{Verb, is_for, verb_of};
 use crate::worlds::{
     again, begin, end, flight, nodes, recovered, reopen, stands, stop, world, write,
 };
@@ -119,7 +119,10 @@ impl Subject for State {
         block: &Block,
     ) -> Result<(), Wrong> {
         match verb_of(word(words, 0)?) {
-            Some(verb) => do_step(self, alloc, verb, rest(words, 1), block.text.as_str()),
+            Some(verb) if is_for(verb, block) => {
+                do_step(self, alloc, verb, rest(words, 1), block.text.as_str())
+            }
+            Some(_) => Err(Wrong::Line("what stands behind it is not for this step")),
             None => Err(Wrong::Line("no such step")),
         }
     }

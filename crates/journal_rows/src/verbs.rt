@@ -1,4 +1,5 @@
 // The steps, by their first words.
+use row_text::Block;
 
 /// What a step does.
 #[derive(Clone, Copy, Drop)]
@@ -106,4 +107,22 @@ pub fn verb_of(word: &str) -> Option<Verb> {
         }
     }
     None
+}
+
+// Whether a step looks at the text behind it.
+fn has_text(verb: Verb) -> bool {
+    match verb {
+        Verb::Shape | Verb::Mint | Verb::Tx | Verb::Form | Verb::Files | Verb::Earlier => false,
+        Verb::Change | Verb::Clean | Verb::Kept | Verb::Alike | Verb::Waves | Verb::Comes => false,
+        Verb::Ordered | Verb::Holds | Verb::Is | Verb::World | Verb::Begin | Verb::End => false,
+        Verb::Write | Verb::Stop | Verb::Reopen | Verb::Again | Verb::Flight => false,
+        Verb::Stands | Verb::Recovered => false,
+        _ => true,
+    }
+}
+
+/// Whether what stands behind a step is for it: a text alone, where the step looks at it.
+pub fn is_for(verb: Verb, block: &Block) -> bool {
+    let is_of_run = block.is_any || block.is_any_status || block.status != 0;
+    !is_of_run && (has_text(verb) || block.text.is_empty())
 }

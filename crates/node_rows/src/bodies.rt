@@ -3,10 +3,11 @@ use crate::answers::{of_body, of_record, plain, with};
 use crate::pieces::bytes_of;
 use crate::state::Node;
 use crate::told::Told;
+use crate::words::record;
 use gate_journal::Journal;
 use mem_devices::FaultDisk;
 use record_log::RecordLog;
-use row_records::{Known, record};
+use row_records::Known;
 use row_text::{Wrong, number, word};
 use std::alloc::Global;
 

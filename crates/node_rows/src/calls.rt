@@ -8,15 +8,16 @@ ghost use Rattle.coord_log.specs.Logs.{IsShort};
 use crate::answers::of_fault;
 use crate::state::Node;
 use crate::told::Told;
+use crate::words::{at_most, expect, forget_call};
 use cbdc_types::{
-    Answered, BatchId, CompactTx, FinishCall, ForgetCall, Hash, Header, LaneId, List, LockCall,
-    NodeFault, Outcome, Record, Replied, Replies, Reply, Shape, ShardReplies, Stamp,
+    BatchId, CompactTx, FinishCall, ForgetCall, Hash, Header, LaneId, List, LockCall, NodeFault,
+    Outcome, Replied, Replies, Reply, Shape, ShardReplies, Stamp,
 };
 use coord_core::LanePhase;
 use coord_log::CoordLog;
 use mem_devices::FaultDisk;
 use model_check::is_batch_of;
-use row_records::{Known, finish_call, forget_call, lock_call, record, small, txs};
+use row_records::{Known, batch_of, finish_call, hash, lock_call, small, txs};
 use row_text::{Wrong, number, rest, word};
 use shard_node::{ShardNode, is_finish_call, is_forget_call, is_lock_call};
 use std::alloc::{AllocError, Global};
@@ -24,7 +25,8 @@ use std::alloc::{AllocError, Global};
 /// What a node answers, or nothing where it may not be asked.
 type Asked<A> = Option<Result<A, NodeFault>>;
 
-const NO_CALL: &str = "no call that the node may be asked";
+/// A call that comes at the wrong time.
+pub const NO_CALL: &str = "no call that the node may be asked";
 
 // The calls at a shard.
 fn ask_lock(shard: &mut ShardNode<FaultDisk>, call: &LockCall) -> Asked<Replied> {
@@ -211,8 +213,8 @@ fn all_name(shape: &Shape, replies: &[Reply]) -> bool
     replies.iter().all(|reply| names_batch(shape, reply))
 }
 
-// Whether a batch of this shape may be decided by these replies, of one shard alone.
-fn may_decide(shape: &Shape, replies: &[ShardReplies]) -> bool
+/// Whether a batch of this shape may be decided by these replies, of one shard alone.
+pub fn may_decide(shape: &Shape, replies: &[ShardReplies]) -> bool
     ensures rising { IsTrue result → RisesBelow 0 shape.now.shards replies.now }
     ensures earlier { IsTrue result → AllEarlier (2 ^ 63) replies.now }
     ensures named { IsTrue result → AllNameBatches shape.now replies.now }
@@ -226,55 +228,80 @@ fn may_decide(shape: &Shape, replies: &[ShardReplies]) -> bool
         && all_name(shape, first.replies.as_slice())
 }
 
-// The replies of a Lock.
-fn replies_of(alloc: Global, entries: &[Answered]) -> Result<List<Reply>, AllocError> {
+// The reply that words begin with, and how many they are: `held`, `missing HASH`, `locked HASH LANE NUMBER`.
+fn reply(alloc: Global, words: &[&str]) -> Result<(Reply, usize), Wrong> {
+    match word(words, 0)? {
+        "held" => Ok((Reply::Held, 1)),
+        "missing" => Ok((Reply::Missing(hash(alloc, word(words, 1)?)?), 2)),
+        "locked" => Ok((locked(alloc, words)?, 4)),
+        _ => Err(Wrong::Line("no reply")),
+    }
+}
+
+fn locked(alloc: Global, words: &[&str]) -> Result<Reply, Wrong> {
+    let x = hash(alloc, word(words, 1)?)?;
+    let by = batch_of(word(words, 2)?, word(words, 3)?)?;
+    Ok(Reply::Locked(x, by))
+}
+
+// Replies, one behind the other.
+fn replies_of(alloc: Global, words: &[&str]) -> Result<List<Reply>, Wrong> {
     let mut all = List::new(alloc);
-    for entry in entries {
-        all.push(entry.reply)?;
+    let mut at = 0usize;
+    for _ in 0..words.len() {
+        if at >= words.len() {
+            break;
+        }
+        let (one, many) = reply(alloc, rest(words, at))?;
+        all.push(one)?;
+        at = at.saturating_add(many);
     }
     Ok(all)
 }
 
-// What a shard replied, by its Lock: `NODE lock STAMP LANE NUMBER NAME@PLACE REPLY..`.
-fn shard_replies(known: &Known, alloc: Global, words: &[&str]) -> Result<ShardReplies, Wrong> {
-    let node = small(word(words, 0)?)?;
-    let first = known.shape()?.coordinators();
-    match record(known, alloc, node, rest(words, 1))? {
-        Record::Lock { stamp, entries, .. } => Ok(ShardReplies {
-            shard: node.saturating_sub(first),
-            replies: replies_of(alloc, entries.as_slice())?,
-            stamp,
-        }),
-        _ => Err(Wrong::Line("a shard replies by a Lock")),
-    }
+// What the only shard replied: `STAMP REPLY..`.
+fn shard_replies(alloc: Global, words: &[&str]) -> Result<ShardReplies, Wrong> {
+    let stamp = Stamp(number(word(words, 0)?)?);
+    Ok(ShardReplies {
+        shard: 0,
+        replies: replies_of(alloc, rest(words, 1))?,
+        stamp,
+    })
 }
 
-// What the only shard replied.
-fn replies_told(known: &Known, alloc: Global, words: &[&str]) -> Result<Replies, Wrong> {
-    let own = shard_replies(known, alloc, words)?;
+/// What the only shard replied, as all replies: `STAMP REPLY..`.
+pub fn replies_told(alloc: Global, words: &[&str]) -> Result<Replies, Wrong> {
+    let own = shard_replies(alloc, words)?;
     let mut replies = List::new(alloc);
     replies.push(own)?;
     Ok(replies)
 }
 
-// Room for outcomes, in which one stands that is gone where others are told.
-fn outcome_room(alloc: Global) -> Result<Vec<Outcome>, AllocError> {
-    let mut out = Vec::with_capacity(alloc, 16)?;
+// How many transactions the open batch of a lane has.
+fn size_of(log: &CoordLog<FaultDisk>, lane: LaneId) -> usize {
+    match log.open_lane(lane) {
+        Ok(Some(batch)) => batch.txs.len(),
+        _ => 1,
+    }
+}
+
+// Room for so many outcomes, in which one stands that is gone where others are told.
+fn outcome_room(alloc: Global, many: usize) -> Result<Vec<Outcome>, AllocError> {
+    let mut out = Vec::with_capacity(alloc, many)?;
     out.push(Outcome::Missing(0, Hash([7; 32])))?;
     Ok(out)
 }
 
-// `decide LANE NODE lock ..` by the Lock of the only shard
+// `decide LANE STAMP REPLY..` by what the only shard replied
 fn decide(
-    known: &Known,
     alloc: Global,
     log: &mut CoordLog<FaultDisk>,
     lane: LaneId,
     words: &[&str],
     told: &mut Told,
 ) -> Result<(), Wrong> {
-    let replies = replies_told(known, alloc, words)?;
-    let mut out = outcome_room(alloc)?;
+    let replies = replies_told(alloc, words)?;
+    let mut out = outcome_room(alloc, size_of(log, lane))?;
     tell_stamped(told, &ask_decide(log, lane, &replies, &mut out));
     for outcome in &out {
         told.outcome(outcome);
@@ -307,8 +334,10 @@ fn prepare(
     Ok(())
 }
 
-// The cause that a call ends with: `cause STAMP`.
-fn cause_of(words: &[&str]) -> Result<Stamp, Wrong> {
+/// The cause that a call ends with: `cause STAMP`.
+pub fn cause_of(words: &[&str]) -> Result<Stamp, Wrong> {
+    expect(words, 0, "cause")?;
+    at_most(words, 2)?;
     Ok(Stamp(number(word(words, 1)?)?))
 }
 
@@ -346,7 +375,7 @@ fn call_log(
     let lane = LaneId(small(word(words, 1)?)?);
     match word(words, 0)? {
         "prepare" => prepare(known, alloc, log, lane, rest(words, 2), told),
-        "decide" => decide(known, alloc, log, lane, rest(words, 2), told),
+        "decide" => decide(alloc, log, lane, rest(words, 2), told),
         "discard" => discard(log, lane, rest(words, 2), told),
         "done" => done(log, lane, rest(words, 2), told),
         _ => Err(Wrong::Line(NO_CALL)),

@@ -5,6 +5,7 @@ ghost use Rattle.mem_devices.specs.Racks.{AllIn};
 use crate::answers::with;
 use crate::pieces::{bytes_of, check_bytes, check_same};
 use crate::told::Told;
+use crate::words::{at_most, expect};
 use cbdc_types::{LaneId, NodeId};
 use mem_devices::{MemInbox, MemRack, MemSink, PlainDisk, TestGate};
 use outside::{Disk, Gate, Inbox, OpenGate, Point, Rack, Sink, When};
@@ -61,6 +62,7 @@ fn take_out(rack: &mut MemRack<PlainDisk>, node: NodeId, last: usize, told: &mut
 /// out, one more than there are, and which are when it is back.
 pub fn rack(alloc: Global, words: &[&str], told: &mut Told) -> Result<(), Wrong> {
     let (capacities, taken) = words_around(words, "take");
+    at_most(taken, 1)?;
     let node = NodeId(small(word(taken, 0)?)?);
     let mut rack = rack_of(alloc, capacities)?;
     take_out(&mut rack, node, capacities.len(), told);
@@ -78,6 +80,7 @@ fn write(sink: &mut MemSink, bytes: &[u8], told: &mut Told) {
 // A sink by its capacity and the calls that fail.
 fn sink_of(alloc: Global, words: &[&str]) -> Result<MemSink, Wrong> {
     let (words, fails) = words_around(words, "fails");
+    at_most(words, 1)?;
     Ok(MemSink::new(alloc, count(word(words, 0)?)?, numbers(alloc, fails)?)?)
 }
 
@@ -109,15 +112,45 @@ fn tell_read(inbox: &mut MemInbox, name: &str, at: u64, buffer: &mut [u8], told:
     }
 }
 
-/// `inbox NAME PIECE.. read NAME AT PIECE..`, and how many bytes are read, or `fails`; the buffer has those bytes then, and had zeros.
+// Reads once: `NAME AT PIECE..`.
+fn read_once(
+    alloc: Global,
+    inbox: &mut MemInbox,
+    words: &[&str],
+    told: &mut Told,
+) -> Result<(), Wrong> {
+    let (name, at) = (word(words, 0)?, number(word(words, 1)?)?);
+    let wanted = bytes_of(alloc, rest(words, 2))?;
+    let mut buffer = vec![in alloc; 0u8; wanted.len()]?;
+    tell_read(inbox, name, at, &mut buffer, told);
+    check_same(alloc, &wanted, &buffer)
+}
+
+// Reads for each `NAME AT PIECE..`, with `read` between them.
+fn read_all(
+    alloc: Global,
+    inbox: &mut MemInbox,
+    words: &[&str],
+    told: &mut Told,
+) -> Result<(), Wrong> {
+    let mut at = 0usize;
+    for _ in 0..words.len() {
+        if at >= words.len() {
+            break;
+        }
+        let (one, _) = words_around(rest(words, at), "read");
+        read_once(alloc, inbox, one, told)?;
+        at = at.saturating_add(one.len()).saturating_add(1);
+    }
+    Ok(())
+}
+
+/// `inbox NAME PIECE.. read NAME AT PIECE..`, and how many bytes are read, or `fails`; the buffer has those bytes then, and had zeros. Behind
+/// another `read` the same inbox is read again.
 pub fn inbox(alloc: Global, words: &[&str], told: &mut Told) -> Result<(), Wrong> {
     let (own, asked) = words_around(words, "read");
-    let (name, at) = (word(asked, 0)?, number(word(asked, 1)?)?);
-    let wanted = bytes_of(alloc, rest(asked, 2))?;
-    let mut buffer = vec![in alloc; 0u8; wanted.len()]?;
     let mut inbox = inbox_of(alloc, own)?;
-    tell_read(&mut inbox, name, at, &mut buffer, told);
-    check_same(alloc, &wanted, &buffer)
+    read_all(alloc, &mut inbox, asked, told)
 }
 
 // A point of a lane.
@@ -141,6 +174,7 @@ fn tell_came(told: &mut Told, gate: &TestGate) {
 /// them by, too.
 pub fn gate<W: Wait>(rt: &W, words: &[&str], told: &mut Told) -> Result<(), Wrong> {
     let gate = TestGate::new(point(word(words, 0)?)?, point(word(words, 1)?)?);
+    expect(words, 2, "passes")?;
     tell_came(told, &gate);
     for lane in rest(words, 3) {
         let own = point(lane)?;

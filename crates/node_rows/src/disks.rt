@@ -5,11 +5,12 @@ use crate::pieces::{bytes_of, check_bytes, check_same};
 use crate::state::{Node, put_node, take_node};
 use crate::told::Told;
 use crate::verbs::OnDisk;
+use crate::words::{at_most, one_behind, record};
 use cbdc_types::{Header, NodeId, Record};
 use mem_devices::{Choice, FaultDisk, PlainDisk};
 use outside::Disk;
 use record_codec::write_record;
-use row_records::{Known, record, small};
+use row_records::{Known, small};
 use row_text::{Wrong, count, number, put_number, rest, word, words_around};
 use std::alloc::{AllocError, Global};
 
@@ -62,8 +63,8 @@ fn disk_of(
 }
 
 // A number that may be told.
-fn or_else(words: &[&str], otherwise: usize) -> Result<usize, Wrong> {
-    match words.first() {
+fn or_else(told: Option<&str>, otherwise: usize) -> Result<usize, Wrong> {
+    match told {
         Some(word) => count(word),
         None => Ok(otherwise),
     }
@@ -78,9 +79,11 @@ pub fn disk(
     text: &str,
 ) -> Result<Node, Wrong> {
     let capacity = count(word(words, 0)?)?;
-    let (words, keeps) = words_around(words, "keeps");
+    let (words, keeps) = one_behind(words, "keeps")?;
     let (words, fails) = words_around(words, "fails");
-    let (_, pieces) = words_around(words, "holds");
+    let (words, pieces) = words_around(words, "holds");
+    at_most(words, 1)?;
+    at_most(pieces, if text.is_empty() { usize::MAX } else { 0 })?;
     let bytes = if text.is_empty() {
         bytes_of(alloc, pieces)?
     } else {
@@ -228,12 +231,30 @@ pub fn crash(
     Ok(())
 }
 
+// The node and the record of a line of a ledger.
+fn node_and_record(line: &str) -> Result<(u32, &str), Wrong> {
+    match line.split_once(' ') {
+        Some((node, behind)) => Ok((small(node)?, behind)),
+        None => Err(Wrong::Line("a line of a ledger is NODE RECORD")),
+    }
+}
+
+/// Nothing where a ledger of so many nodes may have these capacities and lines.
+pub fn check_ledger(nodes: u32, capacities: &[&str], all: &str) -> Result<(), Wrong> {
+    at_most(capacities, nodes as usize)?;
+    for line in all.lines() {
+        let (node, _) = node_and_record(line)?;
+        if node >= nodes {
+            return Err(Wrong::Line("no such node"));
+        }
+    }
+    Ok(())
+}
+
 // Appends a line of a ledger where it is the node's, without its number.
 fn put_own_line(text: &mut String, line: &str, node: u32) -> Result<(), Wrong> {
-    let Some((own, behind)) = line.split_once(' ') else {
-        return Err(Wrong::Line("a line of a ledger is NODE RECORD"));
-    };
-    if small(own)? == node {
+    let (own, behind) = node_and_record(line)?;
+    if own == node {
         text.push_str(behind)?;
         text.push('\n')?;
     }
@@ -256,6 +277,6 @@ pub fn laid(
         put_own_line(&mut lines, line, node)?;
     }
     let bytes = journal_bytes(known, alloc, node, lines.as_str())?;
-    let capacity = or_else(rest(capacities, node as usize), CAPACITY)?;
+    let capacity = or_else(capacities.get(node as usize).copied(), CAPACITY)?;
     disk_of(alloc, &bytes, capacity, Vec::new(alloc), CALLS)
 }

@@ -3,9 +3,10 @@ use crate::answers::with;
 use crate::ledgers::{Apart, Plan, run_over};
 use crate::state::{Node, Seen, State};
 use crate::told::Told;
+use crate::words::one_behind;
 use cbdc_types::{CompactTx, LaneId};
 use row_records::{small, txs};
-use row_text::{Wrong, check_text, count, put_count, rest, word, words_around};
+use row_text::{Wrong, check_text, count, put_count, rest, word};
 use std::alloc::Global;
 use std::mem;
 use std::sync::Wait;
@@ -70,7 +71,7 @@ fn run<W: Wait>(
 // How a lane is run: `LANE TX.. [repeats N]`.
 fn plan_of<'t>(
     words: &[&str],
-    repeats: &[&str],
+    repeats: Option<&str>,
     txs: &'t [CompactTx],
     is_whole: bool,
 ) -> Result<Plan<'t>, Wrong> {
@@ -78,11 +79,11 @@ fn plan_of<'t>(
         lane: LaneId(small(word(words, 0)?)?),
         txs,
         is_whole,
-        repeats: small(repeats.first().copied().unwrap_or("0"))?,
+        repeats: small(repeats.unwrap_or("0"))?,
     })
 }
 
-/// `lane LANE TX.. [repeats N]`, and a line for each batch, its number and outcomes, or `fault NODE` and why; `batch`: the same of one batch.
+/// `lane LANE TX.. [repeats N]`, and a line for each batch, its lane, number and outcomes, or `fault NODE` and why; `batch`: the same of one batch.
 pub fn lane<W: Wait>(
     rt: &W,
     state: &mut State,
@@ -91,7 +92,7 @@ pub fn lane<W: Wait>(
     is_whole: bool,
     told: &mut Told,
 ) -> Result<(), Wrong> {
-    let (own, repeats) = words_around(words, "repeats");
+    let (own, repeats) = one_behind(words, "repeats")?;
     let batch = txs(&state.known, alloc, rest(own, 1))?;
     let plan = plan_of(own, repeats, batch.as_slice(), is_whole)?;
     run(rt, state, alloc, &plan, told)

@@ -167,17 +167,53 @@ fn are_compact(txs: &[CompactTx]) -> bool
     txs.iter().all(|t| is_compact(t))
 }
 
-// A gate that notes what is asked of each node, in order. Without memory it is left out.
+// What was asked of each node, in order, and whether some of it is left out for want of memory.
+#[derive(Drop)]
+struct Notes {
+    seen: Vec<Seen>,
+    is_short: bool,
+}
+
+impl Notes {
+    fn put(&mut self, own: Seen) {
+        if self.seen.push(own).is_err() {
+            self.is_short = true;
+        }
+    }
+}
+
+// A gate that notes what is asked.
 #[derive(Drop)]
 struct Noting {
-    notes: RefCell<Vec<Seen>>,
+    notes: RefCell<Notes>,
+}
+
+impl Noting {
+    fn new(alloc: Global) -> Noting {
+        Noting {
+            notes: RefCell::new(Notes {
+                seen: Vec::new(alloc),
+                is_short: false,
+            }),
+        }
+    }
+
+    // What was noted.
+    fn seen(self, told: &mut Told) -> Vec<Seen> {
+        let Noting { notes } = self;
+        let Notes { seen, is_short } = notes.into_inner();
+        if is_short {
+            told.no_memory();
+        }
+        seen
+    }
 }
 
 impl Gate for Noting {
     fn pass<W: Wait>(&self, _rt: &W, point: &Point) {
         if point.when == When::Inside {
             if let Ok(mut notes) = self.notes.try_borrow_mut() {
-                let _ = notes.push((point.kind, point.node.0));
+                notes.put((point.kind, point.node.0));
             }
         }
     }
@@ -230,10 +266,10 @@ pub struct Plan<'t> {
     pub repeats: u32,
 }
 
-// Tells a line for each batch: its number and its outcomes.
+// Tells a line for each batch: its lane, its number and its outcomes.
 fn tell_report(told: &mut Told, report: &LaneReport) {
     for done in report.batches.as_slice() {
-        told.number(done.batch.number);
+        told.batch(&done.batch);
         for outcome in done.outcomes.as_slice() {
             told.outcome(outcome);
         }
@@ -308,9 +344,7 @@ fn run_rested<W: Wait>(
     requires rests { MayRun shape.now plan.now.lane at nodes.logs.items nodes.shards.items }
 {
     let Apart { logs, shards } = nodes;
-    let gate = Noting {
-        notes: RefCell::new(Vec::new(alloc)),
-    };
+    let gate = Noting::new(alloc);
     let mut ports = Ports {
         shards: NodeShards {
             rt,
@@ -321,8 +355,7 @@ fn run_rested<W: Wait>(
         log: NodeLogs { rt, logs, at },
     };
     run_ports(alloc, shape, plan, &mut ports, &gate, told);
-    let Noting { notes } = gate;
-    *seen = notes.into_inner();
+    *seen = gate.seen(told);
     let Ports { shards, log } = ports;
     let NodeShards { nodes, .. } = shards;
     let NodeLogs { logs, .. } = log;

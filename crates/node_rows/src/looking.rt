@@ -2,11 +2,12 @@
 use crate::answers::{Said, with};
 use crate::state::Node;
 use crate::told::Told;
+use crate::words::record;
 use cbdc_types::{BatchId, Hash, LaneId, OpenLane, Phase, Record, Status};
 use coord_core::LanePhase;
 use coord_log::CoordLog;
 use mem_devices::FaultDisk;
-use row_records::{Known, hashes, record, small};
+use row_records::{Known, hashes, small};
 use row_text::{Names, Wrong, check_text, differ, word, words_around};
 use shard_core::Remembered;
 use shard_node::ShardNode;
@@ -65,14 +66,25 @@ fn spelled(known: &Known, alloc: Global, node: u32, text: &str) -> Result<Vec<Re
     Ok(all)
 }
 
-/// `journal NODE`, and a line for each of its records. Where they are others, what came is told without its lists.
-pub fn journal(known: &Known, alloc: Global, node: &Node, text: &str) -> Result<(), Wrong> {
-    let (own, came) = records_of(node)?;
-    let wanted = spelled(known, alloc, own, text)?;
+/// Nothing where lines spell these records of a node.
+pub fn check_records(
+    known: &Known,
+    alloc: Global,
+    node: u32,
+    came: &[Record],
+    text: &str,
+) -> Result<(), Wrong> {
+    let wanted = spelled(known, alloc, node, text)?;
     if wanted.as_slice() == came {
         return Ok(());
     }
     Err(records_differ(alloc, text, came))
+}
+
+/// `journal NODE`, and a line for each of its records. Where they are others, what came is told without its lists.
+pub fn journal(known: &Known, alloc: Global, node: &Node, text: &str) -> Result<(), Wrong> {
+    let (own, came) = records_of(node)?;
+    check_records(known, alloc, own, came, text)
 }
 
 // Tells what is known of a hash.

@@ -19,6 +19,7 @@ mod stores;
 mod subject;
 mod told;
 mod verbs;
+mod words;
 
 use row_text::run_files;
 use state::State;

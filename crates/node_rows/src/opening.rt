@@ -1,6 +1,6 @@
 // Opening what stands on a disk.
 use crate::answers::{of_bodies, of_format, of_log, of_opening, with};
-use crate::disks::{disk_in, laid};
+use crate::disks::{check_ledger, disk_in, laid};
 use crate::state::{Node, make_place, put_node, take_node};
 use crate::told::Told;
 use coord_log::CoordLog;
@@ -23,12 +23,13 @@ pub enum Kind {
 }
 
 /// What `bodies`, `records`, `coordinator` and `shard` stand for.
-pub fn kind_of(word: &str) -> Kind {
+pub fn kind_of(word: &str) -> Result<Kind, Wrong> {
     match word {
-        "bodies" => Kind::Bodies,
-        "records" => Kind::Records,
-        "coordinator" => Kind::Coordinator,
-        _ => Kind::Shard,
+        "bodies" => Ok(Kind::Bodies),
+        "records" => Ok(Kind::Records),
+        "coordinator" => Ok(Kind::Coordinator),
+        "shard" => Ok(Kind::Shard),
+        _ => Err(Wrong::Line("a disk is not opened as that")),
     }
 }
 
@@ -54,9 +55,9 @@ fn tell_records(told: &mut Told, many: usize) {
     told.said(&with("records", many as u64));
 }
 
-// Takes memory for ten records more, of up to a thousand bytes.
+// Takes memory for one record more, of up to a hundred bytes.
 fn make_room(log: &mut RecordLog<FaultDisk>, told: &mut Told) {
-    if log.reserve(10, 1000).is_err() {
+    if log.reserve(1, 100).is_err() {
         told.no_memory();
     }
 }
@@ -199,7 +200,9 @@ pub fn ledger(
     words: &[&str],
     text: &str,
 ) -> Result<(), Wrong> {
-    for node in 0..known.shape()?.node_count() {
+    let many = known.shape()?.node_count();
+    check_ledger(many, words, text)?;
+    for node in 0..many {
         lay(known, alloc, nodes, node, words, text)?;
     }
     Ok(())

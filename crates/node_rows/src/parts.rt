@@ -4,6 +4,7 @@ ghost use Rattle.std.specs.Prelude.{◌≤◌, ◌↔◌, IsTrue, length, All};
 use crate::answers::of_fault;
 use crate::ledgers::tell_stop;
 use crate::told::Told;
+use crate::words::{at_most, expect, forget_call, record};
 use cbdc_types::{
     BatchId, CompactTx, FinishCall, ForgetCall, Hash, LaneId, List, LockCall, NodeFault, Outcome,
     Record, Replied, Replies, Reply, Shape, Stamp,
@@ -12,7 +13,7 @@ use lane_driver::{
     BatchRoom, LaterRoom, ShardFault, finish_calls, forget_calls, gather, latest, lock_calls,
     no_memory,
 };
-use row_records::{Known, finish_call, forget_call, lock_call, record, small, txs};
+use row_records::{Known, finish_call, lock_call, small, txs};
 use row_text::{Wrong, check_yes, number, rest, word, words_around};
 use std::alloc::{AllocError, Global};
 
@@ -114,6 +115,7 @@ fn is_lock(
     place: usize,
     words: &[&str],
 ) -> Result<bool, Wrong> {
+    expect(words, 1, "lock")?;
     let shard = small(word(words, 0)?)?;
     let node = known.shape()?.coordinators().saturating_add(shard);
     let wanted = lock_call(known, alloc, node, rest(words, 2))?;
@@ -126,12 +128,14 @@ fn is_finish(
     place: usize,
     words: &[&str],
 ) -> Result<bool, Wrong> {
+    expect(words, 1, "finish")?;
     let shard = small(word(words, 0)?)?;
     let wanted = finish_call(alloc, rest(words, 2))?;
     Ok(has(calls, place, shard, &wanted))
 }
 
 fn is_forget(calls: &[(u32, ForgetCall)], place: usize, words: &[&str]) -> Result<bool, Wrong> {
+    expect(words, 1, "forget")?;
     let shard = small(word(words, 0)?)?;
     let wanted = forget_call(rest(words, 2))?;
     Ok(has(calls, place, shard, &wanted))
@@ -147,7 +151,12 @@ fn are_calls(known: &Known, alloc: Global, calls: &BatchCalls, text: &str) -> Re
         }
         place = place.saturating_add(1);
     }
-    Ok(place / 3 == calls.locks.len())
+    Ok(are_so_many(calls, place / 3))
+}
+
+// Whether there are so many calls of each kind.
+fn are_so_many(calls: &BatchCalls, many: usize) -> bool {
+    calls.locks.len() == many && calls.finishes.len() == many && calls.forgets.len() == many
 }
 
 /// `calls TX.. / COMMIT`, and a line for each call at a shard of the batch of these transactions that has this Commit, whose Prepare has the stamp 1
@@ -183,7 +192,9 @@ type Stamped = Result<Stamp, NodeFault>;
 
 // A stamp, or a fault.
 fn answer_of(words: &[&str]) -> Result<Stamped, Wrong> {
-    match word(words, 1)? {
+    let kind = word(words, 1)?;
+    at_most(words, if kind == "broken" { 3 } else { 2 })?;
+    match kind {
         "disk-fault" => Ok(Err(NodeFault::DiskFault)),
         "memory" => Ok(Err(NodeFault::Memory)),
         "broken" => Ok(Err(NodeFault::Broken {

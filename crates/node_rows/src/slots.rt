@@ -1,10 +1,11 @@
 // What a shard remembers of each lane, and the entries of a part with their replies.
 use crate::state::Tables;
 use crate::told::Told;
+use crate::words::{at_most, expect, record};
 use cbdc_types::{Answered, Entry, LaneId, List, Record, Reply, Stamp};
 use dtx_replies::{Slot, Slots};
 use model_check::copy_of_entry;
-use row_records::{Known, part, record, small};
+use row_records::{Known, part, small};
 use row_text::{Wrong, number, rest, word};
 use shard_core::answered;
 use std::alloc::{AllocError, Global};
@@ -26,6 +27,7 @@ fn slot(known: &Known, alloc: Global, words: &[&str]) -> Result<Slot, Wrong> {
     let its_number = number(word(words, 1)?)?;
     let stamp = Stamp(number(word(words, 2)?)?);
     if kind == "idle" {
+        at_most(words, 3)?;
         return Ok(Slot::Idle(its_number, stamp));
     }
     let shape = known.shape()?;
@@ -35,6 +37,7 @@ fn slot(known: &Known, alloc: Global, words: &[&str]) -> Result<Slot, Wrong> {
         let held = all_held(alloc, own.len())?;
         return Ok(Slot::Locked(its_number, own, held, stamp));
     }
+    expect(words, 0, "finished")?;
     let later = Stamp(number(word(words, 3)?)?);
     let own = part(known, alloc, &shape, node, rest(words, 4))?;
     let held = all_held(alloc, own.len())?;
@@ -58,7 +61,8 @@ fn at_slot(slots: &mut Slots, action: &str, lane: LaneId, own: Slot, told: &mut 
     match action {
         "put" => slots.put(lane, own),
         "at" => tell_same(told, *slots.slot(lane) == own),
-        _ => tell_same(told, slots.take(lane) == own),
+        "take" => tell_same(told, slots.take(lane) == own),
+        _ => told.refuse("no such step"),
     }
 }
 
@@ -84,6 +88,7 @@ pub fn slot_step(
     };
     let action = word(words, 0)?;
     if action == "count" {
+        at_most(words, 1)?;
         count_slots(slots, told);
         return Ok(());
     }

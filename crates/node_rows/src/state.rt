@@ -1,5 +1,6 @@
 // What a row has made so far: names, nodes, what a lane asked of them, and a shard's tables.
 use crate::stores::Store;
+use coord_core::CoordCore;
 use coord_log::CoordLog;
 use dtx_replies::Slots;
 use gate_journal::Journal;
@@ -11,7 +12,7 @@ use shard_node::ShardNode;
 use std::alloc::Global;
 use std::mem;
 
-/// A disk, or what was opened on it.
+/// A disk, what was opened on it, or lanes without one.
 #[derive(Drop)]
 pub enum Node {
     /// Nothing is there.
@@ -22,6 +23,7 @@ pub enum Node {
     Records(RecordLog<FaultDisk>),
     Log(CoordLog<FaultDisk>),
     Shard(ShardNode<FaultDisk>),
+    Lanes(CoordCore),
 }
 
 /// The kind of a record that was asked for, and its node.
@@ -31,7 +33,7 @@ pub type Seen = (u8, u32);
 #[derive(Drop)]
 pub struct Tables {
     pub store: Store,
-    pub room: u64,
+    pub room: Option<u64>,
     pub slots: Option<Slots>,
 }
 
@@ -49,7 +51,7 @@ pub struct State {
 fn no_tables() -> Tables {
     Tables {
         store: Store::Gone,
-        room: 0,
+        room: None,
         slots: None,
     }
 }

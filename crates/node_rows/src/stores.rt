@@ -2,6 +2,7 @@
 use crate::answers::with;
 use crate::state::Tables;
 use crate::told::Told;
+use crate::words::{at_most, expect};
 use cbdc_types::{BatchId, Hash};
 use hash_slots::HashSlots;
 use row_records::{batch_of, hash, small};
@@ -27,9 +28,11 @@ pub fn make_store(tables: &mut Tables, alloc: Global, words: &[&str]) -> Result<
     let made = match word(words, 0)? {
         "set" => Store::Set(Table::new(alloc)),
         "locks" => Store::Locks(Locks::new(alloc)),
-        _ => Store::Values(HashSlots::new(alloc)),
+        "values" => Store::Values(HashSlots::new(alloc)),
+        _ => return Err(Wrong::Line("a table is a set, locks or values")),
     };
     tables.store = made;
+    tables.room = None;
     Ok(())
 }
 
@@ -60,9 +63,10 @@ pub fn reserve(store: &mut Store, words: &[&str], told: &mut Told) -> Result<(),
 
 /// `room N`: there is room for so many more at least. That is the room from now on.
 pub fn room(tables: &mut Tables, alloc: Global, words: &[&str]) -> Result<(), Wrong> {
-    tables.room = spare_of(&tables.store);
+    let came = spare_of(&tables.store);
+    tables.room = Some(came);
     let least = number(word(words, 0)?)?;
-    check_yes(alloc, "yes", tables.room >= least)
+    check_yes(alloc, "yes", came >= least)
 }
 
 /// `spare`, and for how many more there is room; `spare N less`: for so many less than the room.
@@ -72,8 +76,12 @@ pub fn spare(tables: &Tables, alloc: Global, words: &[&str], told: &mut Told) ->
         told.number(came);
         return Ok(());
     }
+    let Some(room) = tables.room else {
+        return Err(Wrong::Line("no room was told before"));
+    };
     let less = number(word(words, 0)?)?;
-    check_yes(alloc, "yes", came.saturating_add(less) == tables.room)
+    expect(words, 1, "less")?;
+    check_yes(alloc, "yes", came.saturating_add(less) == room)
 }
 
 fn tell_len(told: &mut Told, many: u64, is_empty: bool) {
@@ -119,9 +127,20 @@ fn put_value(values: &mut HashSlots<u64>, x: Hash, words: &[&str]) -> Result<(),
     Ok(())
 }
 
+// How many words tell what is put.
+fn most_of(store: &Store) -> usize {
+    match store {
+        Store::Gone => 0,
+        Store::Set(_) => 1,
+        Store::Locks(_) => 4,
+        Store::Values(_) => 2,
+    }
+}
+
 /// `put HASH`, `put HASH LANE NUMBER PLACE`, `put HASH VALUE`: into a set, a map of locks, values.
 pub fn put(store: &mut Store, alloc: Global, words: &[&str]) -> Result<(), Wrong> {
     let x = hash(alloc, word(words, 0)?)?;
+    at_most(words, most_of(store))?;
     match store {
         Store::Gone => Err(Wrong::Line(NO_STORE)),
         Store::Set(set) => put_member(set, x),

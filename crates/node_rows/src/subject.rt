@@ -1,7 +1,7 @@
 // What the steps of these rows do.
 use crate::bodies::{add, append, memory, used};
 use crate::calls::call;
-use crate::cores::{admits, core_stands};
+use crate::cores::{admits, core_stands, make_lanes, next};
 use crate::devices::{gate, inbox, rack, sink};
 use crate::disks::{bytes, close, crash, disk, on_disk, plain_disk};
 use crate::lanes::{asked, asks, lane};
@@ -13,7 +13,7 @@ use crate::state::{Node, State, Tables, make_place, put_node};
 use crate::stores::{find, len, make_store, put, put_all, reserve, room, spare, take_out};
 use crate::told::Told;
 use crate::verbs::{
-    Acting, Alone, Looking, OnDisk, Reading, Tabling, Turning, Verb, Whole, verb_of,
+    Acting, Alone, Looking, OnDisk, Reading, Tabling, Turning, Verb, Whole, is_for_steps, verb_of,
 };
 use row_records::{Known, name_form, shape, small};
 use row_text::{Block, Names, Subject, Wrong, rest, word};
@@ -76,6 +76,18 @@ fn journal_at(
     journal(known, alloc, seen_at(nodes, place_of(words)?)?, text)
 }
 
+// `next NODE CALL`, with its record.
+fn next_at(
+    known: &Known,
+    alloc: Global,
+    nodes: &mut Vec<Node>,
+    words: &[&str],
+    text: &str,
+) -> Result<(), Wrong> {
+    let node = node_at(nodes, place_of(words)?)?;
+    next(known, alloc, node, rest(words, 1), text)
+}
+
 // Does a step that takes the text behind it in.
 fn take_in(
     state: &mut State,
@@ -88,6 +100,7 @@ fn take_in(
         Reading::Ledger => ledger(&state.known, alloc, &mut state.nodes, words, text),
         Reading::Disk => make_disk(&state.known, alloc, &mut state.nodes, words, text),
         Reading::Journal => journal_at(&state.known, alloc, &state.nodes, words, text),
+        Reading::Next => next_at(&state.known, alloc, &mut state.nodes, words, text),
         Reading::Calls => calls(&state.known, alloc, words, text),
         Reading::Asked => asked(alloc, &state.seen, text),
     }
@@ -111,6 +124,7 @@ fn on_all<W: Wait>(
         Whole::Asks => asks(alloc, &state.seen, words),
         Whole::Keep => keep(alloc, &state.nodes, &mut state.kept, words),
         Whole::Same => same(alloc, &state.nodes, &state.kept, words),
+        Whole::Lanes => make_lanes(&state.known, alloc, &mut state.nodes, words),
     }
 }
 
@@ -128,7 +142,7 @@ fn turn(
         Turning::Crash => return crash(alloc, nodes, place, rest(words, 1), told),
         Turning::Close => close(nodes, place, told),
         Turning::Format => open(alloc, nodes, place, Kind::Empty, told),
-        Turning::Open => open(alloc, nodes, place, kind_of(word(words, 1)?), told),
+        Turning::Open => open(alloc, nodes, place, kind_of(word(words, 1)?)?, told),
     }
     Ok(())
 }
@@ -162,12 +176,12 @@ fn act(
         Acting::Append => append(alloc, node, words, told),
         Acting::Add => add(known, alloc, node, words, told),
         Acting::Call => call(known, alloc, node, words, told),
+        Acting::Admits => admits(known, alloc, node, words, told),
     }
 }
 
 // Looks at a node.
 fn look(
-    known: &Known,
     alloc: Global,
     node: &Node,
     verb: Looking,
@@ -179,8 +193,7 @@ fn look(
         Looking::Used => used(node, told),
         Looking::Knows => return knows(alloc, node, words, told),
         Looking::Stands => return stands(node, words, told),
-        Looking::Core => return core_stands(alloc, node, words, told),
-        Looking::Admits => return admits(known, alloc, node, words, told),
+        Looking::Core => return core_stands(node, words, told),
     }
     Ok(())
 }
@@ -255,7 +268,7 @@ fn look_at(
     told: &mut Told,
 ) -> Result<(), Wrong> {
     let node = seen_at(&state.nodes, place_of(words)?)?;
-    look(&state.known, alloc, node, verb, rest(words, 1), told)
+    look(alloc, node, verb, rest(words, 1), told)
 }
 
 // Does a step, and tells what comes of it.
@@ -334,9 +347,11 @@ impl Subject for State {
         words: &[&str],
         block: &Block,
     ) -> Result<(), Wrong> {
-        match verb_of(word(words, 0)?) {
-            Some(verb) => do_step(rt, self, alloc, verb, rest(words, 1), block.text.as_str()),
-            None => Err(Wrong::Line("no such step")),
+        let verb = verb_of(words)?;
+        if is_for_steps(block) {
+            do_step(rt, self, alloc, verb, rest(words, 1), block.text.as_str())
+        } else {
+            Err(Wrong::Line("what stands behind it is not for this step"))
         }
     }
 }

@@ -53,11 +53,14 @@ pub fn split_told(
     Ok(())
 }
 
-// The ids of a batch.
+// The transactions of a batch, `ID HASH.. -> HASH..` each.
 fn tell_batch(told: &mut Told, batch: &[CompactTx]) {
     told.word("taken");
     for tx in batch {
         told.hash(&tx.id);
+        told.hashes(tx.inputs.as_slice());
+        told.word("->");
+        told.hashes(tx.outputs.as_slice());
     }
 }
 
@@ -71,8 +74,8 @@ fn push(state: &State, batcher: &mut Batcher, name: &str) -> Result<(), Wrong> {
     Ok(())
 }
 
-/// `batcher LIMIT STEP..`, each a transaction that is pushed, or `take`; and what it says behind each: `full` or `room`, the ids
-/// that are taken, or `none`.
+/// `batcher LIMIT STEP..`, each a transaction that is pushed, or `take`; and what it says behind each: `full` or `room`, the
+/// transactions that are taken, `ID HASH.. -> HASH..` each, or `none`.
 pub fn batches(state: &State, alloc: Global, words: &[&str], told: &mut Told) -> Result<(), Wrong> {
     let mut batcher = Batcher::new(alloc, count(word(words, 0)?)?);
     for step in words.iter().skip(1) {

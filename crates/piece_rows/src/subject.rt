@@ -11,7 +11,7 @@ use crate::repeats::repeated;
 use crate::state::State;
 use crate::told::Told;
 use crate::transactions::{reads_tx, tx_bytes};
-use crate::verbs::{Verb, verb_of};
+use crate::verbs::{Verb, is_for, verb_of};
 use crate::words::{shows, shows_like, words_ask};
 use cbdc_types::NodeId;
 use row_records::{Mint, hash, name_form, name_hash, name_tx, shape};
@@ -157,7 +157,8 @@ impl Subject for State {
     ) -> Result<(), Wrong> {
         let words = repeated(alloc, words)?;
         match verb_of(word(&words, 0)?) {
-            Some(verb) => do_step(self, alloc, verb, &words, block),
+            Some(verb) if is_for(verb, block) => do_step(self, alloc, verb, &words, block),
+            Some(_) => Err(Wrong::Line("what stands behind it is not for this step")),
             None => Err(Wrong::Line("no such step")),
         }
     }

@@ -23,11 +23,9 @@ fn is_read_back(alloc: Global, tx: &FullTx, len: usize) -> bool {
     }
 }
 
-/// `tx-bytes TX PIECE..`: these are the bytes of the transaction, and they are read as it, whatever stands behind them.
-pub fn tx_bytes(state: &State, alloc: Global, words: &[&str]) -> Result<(), Wrong> {
-    let tx = state.known.full(word(words, 0)?)?;
-    let wanted = bytes_of(state, alloc, rest(words, 1))?;
-    check_written(alloc, tx, wanted.as_slice())?;
+// Both.
+fn check_both_ways(alloc: Global, tx: &FullTx, wanted: &[u8]) -> Result<(), Wrong> {
+    check_written(alloc, tx, wanted)?;
     if is_read_back(alloc, tx, wanted.len()) {
         Ok(())
     } else {
@@ -35,7 +33,15 @@ pub fn tx_bytes(state: &State, alloc: Global, words: &[&str]) -> Result<(), Wron
     }
 }
 
-/// `reads-tx AT PIECE..`: what is read from that place on, `ends N` or `at N KIND`. What is read is written again as it stood there.
+/// `tx-bytes TX PIECE..`: these are the bytes of the transaction, and they are read as it, whatever stands behind them.
+pub fn tx_bytes(state: &State, alloc: Global, words: &[&str]) -> Result<(), Wrong> {
+    let tx = state.known.full(word(words, 0)?)?;
+    let wanted = bytes_of(state, alloc, rest(words, 1))?;
+    check_both_ways(alloc, tx, wanted.as_slice())
+}
+
+/// `reads-tx AT PIECE..`: what is read from that place on, `ends N` or `at N KIND`. What is read is written again as it stood there,
+/// and read back.
 pub fn reads_tx(
     state: &State,
     alloc: Global,
@@ -49,7 +55,7 @@ pub fn reads_tx(
     }
     match read_tx(alloc, bytes.as_slice(), at) {
         Ok((tx, end)) => {
-            check_written(alloc, &tx, bytes.as_slice().get(at..end).unwrap_or(&[]))?;
+            check_both_ways(alloc, &tx, bytes.as_slice().get(at..end).unwrap_or(&[]))?;
             told.word("ends");
             told.number(end as u64);
         }

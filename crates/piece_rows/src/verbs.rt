@@ -1,4 +1,5 @@
 // The steps, by their first words.
+use row_text::Block;
 
 /// What a step does.
 #[derive(Clone, Copy, Drop)]
@@ -90,4 +91,24 @@ pub fn verb_of(word: &str) -> Option<Verb> {
         }
     }
     None
+}
+
+// Whether a step looks at the text behind it.
+fn has_text(verb: Verb) -> bool {
+    match verb {
+        Verb::Hash | Verb::Shape | Verb::Genesis | Verb::Tx | Verb::Form | Verb::Bytes => false,
+        Verb::ShowsLike | Verb::Number | Verb::Fields | Verb::TxBytes => false,
+        _ => true,
+    }
+}
+
+/// Whether what stands behind a step is for it: only a fault has a status, and many steps have no text.
+pub fn is_for(verb: Verb, block: &Block) -> bool {
+    if block.is_any || block.is_any_status {
+        return false;
+    }
+    match verb {
+        Verb::Fault => true,
+        other => block.status == 0 && (has_text(other) || block.text.is_empty()),
+    }
 }
