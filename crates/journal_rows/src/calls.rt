@@ -1,56 +1,51 @@
 // What calls at a shard are answered, by the plain program over its journal and by the shard itself, which has taken the journal in.
-use crate::state::{State, put_named};
-use cbdc_types::{FinishCall, ForgetCall, LockCall, Record, Refused, Replied, Stamp, Status};
-use model_check::{is_after, last_stamp, next_finish, next_forget, next_lock, status_of};
-use row_records::{
-    finish_call, forget_call, hash, lock_call, put_batch, put_reply, small, word_of_refused,
+use crate::state::State;
+use crate::told::Told;
+use cbdc_types::{
+    FinishCall, ForgetCall, Hash, Header, LockCall, Record, Refused, Replied, Stamp, Status,
 };
-use row_text::{Wrong, check_words, check_yes, put_count, put_word, rest, word};
+use model_check::{is_after, last_stamp, next_finish, next_forget, next_lock, status_of};
+use row_records::{finish_call, forget_call, hash, lock_call, small, word_of_refused};
+use row_text::{Wrong, check_words, check_yes, rest, word};
 use shard_core::{LockPlan, Remembered, ShardCore, StampPlan};
-use std::alloc::{AllocError, Global};
+use std::alloc::Global;
 use world_core::ShardCall;
 
-// Appends a refusal.
-fn put_refused(alloc: Global, text: &mut String, why: &Refused) -> Result<(), AllocError> {
+// Tells a refusal.
+fn tell_refused(told: &mut Told, why: &Refused) {
     let (word, number) = word_of_refused(why);
-    put_word(text, word)?;
-    put_count(alloc, text, number)
+    told.word(word);
+    told.number(number);
 }
 
-// Appends a stamp and replies, which were kept or are new.
-fn put_replied(
-    alloc: Global,
-    text: &mut String,
-    kind: &str,
-    told: &Replied,
-) -> Result<(), AllocError> {
-    put_word(text, kind)?;
-    put_count(alloc, text, told.stamp.0)?;
-    for reply in told.replies.as_slice() {
-        put_reply(alloc, text, reply)?;
-    }
-    Ok(())
-}
-
-// Appends a stamp, which was kept or is new.
-fn put_stamp(alloc: Global, text: &mut String, kind: &str, told: Stamp) -> Result<(), AllocError> {
-    put_word(text, kind)?;
-    put_count(alloc, text, told.0)
-}
-
-fn put_lock(alloc: Global, text: &mut String, plan: &LockPlan) -> Result<(), AllocError> {
-    match plan {
-        LockPlan::Kept(told) => put_replied(alloc, text, "kept", told),
-        LockPlan::Append(told) => put_replied(alloc, text, "append", told),
-        LockPlan::Refused(why) => put_refused(alloc, text, why),
+// Tells a stamp and replies, which were kept or are new.
+fn tell_replied(told: &mut Told, kind: &str, plan: &Replied) {
+    told.word(kind);
+    told.number(plan.stamp.0);
+    for reply in plan.replies.as_slice() {
+        told.reply(reply);
     }
 }
 
-fn put_other(alloc: Global, text: &mut String, plan: &StampPlan) -> Result<(), AllocError> {
+// Tells a stamp, which was kept or is new.
+fn tell_stamp(told: &mut Told, kind: &str, stamp: Stamp) {
+    told.word(kind);
+    told.number(stamp.0);
+}
+
+fn tell_lock(told: &mut Told, plan: &LockPlan) {
     match plan {
-        StampPlan::Kept(told) => put_stamp(alloc, text, "kept", *told),
-        StampPlan::Append(told) => put_stamp(alloc, text, "append", *told),
-        StampPlan::Refused(why) => put_refused(alloc, text, why),
+        LockPlan::Kept(own) => tell_replied(told, "kept", own),
+        LockPlan::Append(own) => tell_replied(told, "append", own),
+        LockPlan::Refused(why) => tell_refused(told, why),
+    }
+}
+
+fn tell_other(told: &mut Told, plan: &StampPlan) {
+    match plan {
+        StampPlan::Kept(own) => tell_stamp(told, "kept", *own),
+        StampPlan::Append(own) => tell_stamp(told, "append", *own),
+        StampPlan::Refused(why) => tell_refused(told, why),
     }
 }
 
@@ -77,15 +72,15 @@ const TOO_LATE: u64 = 1 << 63;
 const NO_CALL: Wrong = Wrong::Line("a stamp of 2^63 or more, or no such lane");
 
 fn check_lock(alloc: Global, text: &str, plan: &LockPlan) -> Result<(), Wrong> {
-    let mut came = String::new(alloc);
-    put_lock(alloc, &mut came, plan)?;
-    check_words(alloc, text, came.as_str())
+    let mut told = Told::new(alloc);
+    tell_lock(&mut told, plan);
+    told.check_words(text)
 }
 
 fn check_other(alloc: Global, text: &str, plan: &StampPlan) -> Result<(), Wrong> {
-    let mut came = String::new(alloc);
-    put_other(alloc, &mut came, plan)?;
-    check_words(alloc, text, came.as_str())
+    let mut told = Told::new(alloc);
+    tell_other(&mut told, plan);
+    told.check_words(text)
 }
 
 // Checks what a Lock is answered.
@@ -156,17 +151,28 @@ fn take_in(core: &mut ShardCore, next: &Record) -> Result<(), Wrong> {
     Ok(())
 }
 
+// The shard that has taken the first record of a journal in.
+fn new_shard(alloc: Global, past: &[Record]) -> Result<ShardCore, Wrong> {
+    match past.last() {
+        Some(Record::Genesis { header, hashes }) => {
+            Ok(ShardCore::new(alloc, header, hashes.as_slice())?)
+        }
+        _ => Err(Wrong::Line("a shard's journal begins with a Genesis")),
+    }
+}
+
+// Takes all later records of a journal in.
+fn take_later(core: &mut ShardCore, past: &[Record]) -> Result<(), Wrong> {
+    for record in past.iter().rev().skip(1) {
+        take_in(core, record)?;
+    }
+    Ok(())
+}
+
 // The shard that has taken a journal in.
 fn shard_of(alloc: Global, past: &[Record]) -> Result<ShardCore, Wrong> {
-    let mut core = match past.last() {
-        Some(Record::Genesis { header, hashes }) => {
-            ShardCore::new(alloc, header, hashes.as_slice())?
-        }
-        _ => return Err(Wrong::Line("a shard's journal begins with a Genesis")),
-    };
-    for record in past.iter().rev().skip(1) {
-        take_in(&mut core, record)?;
-    }
+    let mut core = new_shard(alloc, past)?;
+    take_later(&mut core, past)?;
     Ok(core)
 }
 
@@ -186,43 +192,62 @@ pub fn call_of(
     }
 }
 
-/// `ask LEDGER NODE CALL`, and the line of its answer, by the definition and by the shard.
-pub fn ask(state: &State, alloc: Global, words: &[&str], text: &str) -> Result<(), Wrong> {
-    let past = state.journal(alloc, words)?;
-    let past = past.as_slice();
+// Checks what a call is answered behind a journal.
+fn ask_call(alloc: Global, past: &[Record], call: &ShardCall, text: &str) -> Result<(), Wrong> {
     let mut core = shard_of(alloc, past)?;
-    match call_of(state, alloc, small(word(words, 1)?)?, rest(words, 2))? {
-        ShardCall::Lock(call) => ask_lock(alloc, past, &mut core, &call, text),
-        ShardCall::Finish(call) => ask_finish(alloc, past, &core, &call, text),
-        ShardCall::Forget(call) => ask_forget(alloc, past, &core, &call, text),
+    match call {
+        ShardCall::Lock(call) => ask_lock(alloc, past, &mut core, call, text),
+        ShardCall::Finish(call) => ask_finish(alloc, past, &core, call, text),
+        ShardCall::Forget(call) => ask_forget(alloc, past, &core, call, text),
     }
 }
 
-/// Appends what is known of a hash.
-pub fn put_status(alloc: Global, text: &mut String, status: &Status) -> Result<(), AllocError> {
+/// `ask LEDGER NODE CALL`, and the line of its answer, by the definition and by the shard.
+pub fn ask(state: &State, alloc: Global, words: &[&str], text: &str) -> Result<(), Wrong> {
+    let past = state.journal(alloc, words)?;
+    let call = call_of(state, alloc, small(word(words, 1)?)?, rest(words, 2))?;
+    ask_call(alloc, past.as_slice(), &call, text)
+}
+
+/// Tells what is known of a hash.
+pub fn tell_status(told: &mut Told, status: &Status) {
     match status {
-        Status::Unspent => put_word(text, "unspent"),
-        Status::Absent => put_word(text, "absent"),
+        Status::Unspent => told.word("unspent"),
+        Status::Absent => told.word("absent"),
         Status::Locked(by) => {
-            put_word(text, "locked")?;
-            put_batch(alloc, text, by)
+            told.word("locked");
+            told.batch(by);
         }
     }
 }
 
 fn check_status(alloc: Global, text: &str, status: &Status) -> Result<(), Wrong> {
-    let mut came = String::new(alloc);
-    put_status(alloc, &mut came, status)?;
-    check_words(alloc, text, came.as_str())
+    let mut told = Told::new(alloc);
+    tell_status(&mut told, status);
+    told.check_words(text)
+}
+
+// Checks what is known of a hash behind a journal.
+fn check_both(alloc: Global, past: &[Record], x: &Hash, text: &str) -> Result<(), Wrong> {
+    check_status(alloc, text, &status_of(past, x))?;
+    let core = shard_of(alloc, past)?;
+    check_status(alloc, text, &core.check_unspent(x))
 }
 
 /// `status LEDGER NODE HASH`, and the line of its answer, by the definition and by the shard.
 pub fn status(state: &State, alloc: Global, words: &[&str], text: &str) -> Result<(), Wrong> {
     let past = state.journal(alloc, words)?;
     let x = hash(alloc, word(words, 2)?)?;
-    check_status(alloc, text, &status_of(past.as_slice(), &x))?;
-    let core = shard_of(alloc, past.as_slice())?;
-    check_status(alloc, text, &core.check_unspent(&x))
+    check_both(alloc, past.as_slice(), &x, text)
+}
+
+fn remembered_word(told: Option<Remembered>) -> &'static str {
+    match told {
+        None => "none",
+        Some(Remembered::Waiting) => "waiting",
+        Some(Remembered::Committed) => "committed",
+        Some(Remembered::Rejected) => "rejected",
+    }
 }
 
 /// `remembers LEDGER NODE ID`, and the line of the shard's answer: `waiting`, `committed`, `rejected` or `none`.
@@ -230,25 +255,36 @@ pub fn remembers(state: &State, alloc: Global, words: &[&str], text: &str) -> Re
     let past = state.journal(alloc, words)?;
     let id = hash(alloc, word(words, 2)?)?;
     let core = shard_of(alloc, past.as_slice())?;
-    let came = match core.check_tx(&id) {
-        None => "none",
-        Some(Remembered::Waiting) => "waiting",
-        Some(Remembered::Committed) => "committed",
-        Some(Remembered::Rejected) => "rejected",
-    };
-    check_words(alloc, text, came)
+    check_words(alloc, text, remembered_word(core.check_tx(&id)))
+}
+
+fn check_counts(alloc: Global, text: &str, core: &ShardCore) -> Result<(), Wrong> {
+    let mut told = Told::new(alloc);
+    told.named("node", core.header().node.0 as u128);
+    told.named("unspent", core.unspent_len() as u128);
+    told.named("room", core.kept_room() as u128);
+    told.named("last", core.last_stamp().0 as u128);
+    told.check_words(text)
 }
 
 /// `counts LEDGER NODE`, and a line `node NODE unspent N room BYTES last STAMP` of the shard.
 pub fn counts(state: &State, alloc: Global, words: &[&str], text: &str) -> Result<(), Wrong> {
     let past = state.journal(alloc, words)?;
     let core = shard_of(alloc, past.as_slice())?;
-    let mut came = String::new(alloc);
-    put_named(alloc, &mut came, "node", core.header().node.0 as u128)?;
-    put_named(alloc, &mut came, "unspent", core.unspent_len() as u128)?;
-    put_named(alloc, &mut came, "room", core.kept_room() as u128)?;
-    put_named(alloc, &mut came, "last", core.last_stamp().0 as u128)?;
-    check_words(alloc, text, came.as_str())
+    check_counts(alloc, text, &core)
+}
+
+// Checks whether a record may come next behind a journal.
+fn check_next(
+    alloc: Global,
+    header: &Header,
+    past: &[Record],
+    next: &Record,
+    text: &str,
+) -> Result<(), Wrong> {
+    check_yes(alloc, text, is_after(alloc, header, past, next)?)?;
+    let mut core = shard_of(alloc, past)?;
+    check_yes(alloc, text, core.admit(next)?)
 }
 
 /// `next LEDGER NODE RECORD`, and `yes` or `no`: whether it may come next, by the definition and by the shard.
@@ -256,11 +292,5 @@ pub fn next(state: &State, alloc: Global, words: &[&str], text: &str) -> Result<
     let past = state.journal(alloc, words)?;
     let row = state.row(alloc, rest(words, 1))?;
     let header = state.header(row.node)?;
-    check_yes(
-        alloc,
-        text,
-        is_after(alloc, &header, past.as_slice(), &row.what)?,
-    )?;
-    let mut core = shard_of(alloc, past.as_slice())?;
-    check_yes(alloc, text, core.admit(&row.what)?)
+    check_next(alloc, &header, past.as_slice(), &row.what, text)
 }

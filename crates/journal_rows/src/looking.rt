@@ -1,32 +1,22 @@
 // What the plain programs say of journals: of hashes and lanes behind each record, of sizes and room, of which record stands.
-use crate::calls::put_status;
+use crate::calls::tell_status;
 use crate::state::{State, journals_of};
-use cbdc_types::{LaneId, List, Record, Shape};
+use crate::told::Told;
+use cbdc_types::{FullTx, Header, LaneId, List, Record, Shape};
 use model_check::{
     Listed, Phase, Row, first_refusal_of, is_after, is_caused, is_in_grammar, is_ordered,
     kept_room, lane_room, need_of, outcome_of, size_of, slot_of, slot_stamp, status_of, used_of,
 };
-use row_records::{batch_of, hash, put_outcome, put_refusal, small, verdicts};
-use row_text::{
-    Wrong, check_text, check_words, check_yes, number, put_count, put_word, rest, word,
-};
-use std::alloc::{AllocError, Global};
+use row_records::{batch_of, hash, small, verdicts};
+use row_text::{Wrong, check_yes, number, rest, word};
+use std::alloc::Global;
 
-// Appends a stroke where a text goes on.
-fn put_stroke(text: &mut String) -> Result<(), AllocError> {
-    if text.is_empty() {
-        Ok(())
-    } else {
-        put_word(text, "/")
-    }
-}
-
-// Appends a number, or that there is none.
-fn put_told(alloc: Global, text: &mut String, told: Option<u64>) -> Result<(), AllocError> {
-    put_stroke(text)?;
-    match told {
-        Some(n) => put_count(alloc, text, n),
-        None => put_word(text, "none"),
+// Tells a number, or that there is none.
+fn tell_number(told: &mut Told, own: Option<u64>) {
+    told.stroke();
+    match own {
+        Some(n) => told.number(n),
+        None => told.word("none"),
     }
 }
 
@@ -40,16 +30,12 @@ fn oldest<T>(all: &[T], many: usize) -> &[T] {
 pub fn says(state: &State, alloc: Global, words: &[&str], text: &str) -> Result<(), Wrong> {
     let past = state.journal(alloc, words)?;
     let x = hash(alloc, word(words, 2)?)?;
-    let mut came = String::new(alloc);
+    let mut told = Told::new(alloc);
     for many in 0..past.len().saturating_add(1) {
-        put_stroke(&mut came)?;
-        put_status(
-            alloc,
-            &mut came,
-            &status_of(oldest(past.as_slice(), many), &x),
-        )?;
+        told.stroke();
+        tell_status(&mut told, &status_of(oldest(past.as_slice(), many), &x));
     }
-    check_words(alloc, text, came.as_str())
+    told.check_words(text)
 }
 
 fn phase_word(phase: &Phase) -> &'static str {
@@ -63,29 +49,24 @@ fn phase_word(phase: &Phase) -> &'static str {
     }
 }
 
-// Appends `PHASE NUMBER STAMP` of a lane.
-fn put_slot(
-    alloc: Global,
-    text: &mut String,
-    past: &[Record],
-    lane: LaneId,
-) -> Result<(), AllocError> {
+// Tells `PHASE NUMBER STAMP` of a lane.
+fn tell_slot(told: &mut Told, past: &[Record], lane: LaneId) {
     let slot = slot_of(past, lane);
-    put_stroke(text)?;
-    put_word(text, phase_word(&slot.phase))?;
-    put_count(alloc, text, slot.number)?;
-    put_count(alloc, text, slot_stamp(past, lane).0)
+    told.stroke();
+    told.word(phase_word(&slot.phase));
+    told.number(slot.number);
+    told.number(slot_stamp(past, lane).0);
 }
 
 /// `slots LEDGER NODE LANE`, and `PHASE NUMBER STAMP` of the lane before the first record and behind each.
 pub fn slots(state: &State, alloc: Global, words: &[&str], text: &str) -> Result<(), Wrong> {
     let past = state.journal(alloc, words)?;
     let lane = LaneId(small(word(words, 2)?)?);
-    let mut came = String::new(alloc);
+    let mut told = Told::new(alloc);
     for many in 0..past.len().saturating_add(1) {
-        put_slot(alloc, &mut came, oldest(past.as_slice(), many), lane)?;
+        tell_slot(&mut told, oldest(past.as_slice(), many), lane);
     }
-    check_words(alloc, text, came.as_str())
+    told.check_words(text)
 }
 
 // A number of a journal's newest record: of its size, of what is used behind it, of what is kept.
@@ -97,41 +78,33 @@ fn size_in(shape: &Shape, past: &[Record], kind: u8) -> Option<u64> {
     }
 }
 
-// Appends a line of such a number for each record, the oldest first.
-fn put_sizes(
-    alloc: Global,
-    text: &mut String,
-    shape: &Shape,
-    past: &[Record],
-    kind: u8,
-) -> Result<(), AllocError> {
-    let mut line = String::new(alloc);
+// Tells a line of such a number for each record, the oldest first.
+fn tell_sizes(told: &mut Told, shape: &Shape, past: &[Record], kind: u8) {
     for many in 0..past.len() {
         let records = oldest(past, many.saturating_add(1));
-        put_told(alloc, &mut line, size_in(shape, records, kind))?;
+        tell_number(told, size_in(shape, records, kind));
     }
-    text.push_str(line.as_str())?;
-    text.push('\n')
+    told.line();
 }
 
 /// `sizes LEDGER NODE`, and of each record, the oldest first, its size, what is used behind it and what is kept: three lines.
 pub fn sizes(state: &State, alloc: Global, words: &[&str], text: &str) -> Result<(), Wrong> {
     let shape = state.known.shape()?;
     let past = state.journal(alloc, words)?;
-    let mut came = String::new(alloc);
+    let mut told = Told::new(alloc);
     for kind in 0u8..3 {
-        put_sizes(alloc, &mut came, &shape, past.as_slice(), kind)?;
+        tell_sizes(&mut told, &shape, past.as_slice(), kind);
     }
-    check_text(alloc, text, came.as_str())
+    told.check(text)
 }
 
 /// `room LEDGER NODE LANE`, and how many bytes are kept free for the lane's batch.
 pub fn room(state: &State, alloc: Global, words: &[&str], text: &str) -> Result<(), Wrong> {
     let past = state.journal(alloc, words)?;
     let lane = LaneId(small(word(words, 2)?)?);
-    let mut came = String::new(alloc);
-    put_told(alloc, &mut came, lane_room(past.as_slice(), lane))?;
-    check_words(alloc, text, came.as_str())
+    let mut told = Told::new(alloc);
+    tell_number(&mut told, lane_room(past.as_slice(), lane));
+    told.check_words(text)
 }
 
 /// `need LEDGER NODE RECORD`, and `SIZE / NEED` of that record there.
@@ -139,26 +112,23 @@ pub fn need(state: &State, alloc: Global, words: &[&str], text: &str) -> Result<
     let shape = state.known.shape()?;
     let past = state.journal(alloc, words)?;
     let next = state.row(alloc, rest(words, 1))?;
-    let mut came = String::new(alloc);
-    put_told(alloc, &mut came, size_of(&next.what))?;
-    put_told(
-        alloc,
-        &mut came,
-        need_of(&shape, past.as_slice(), &next.what),
-    )?;
-    check_words(alloc, text, came.as_str())
+    let mut told = Told::new(alloc);
+    tell_number(&mut told, size_of(&next.what));
+    tell_number(&mut told, need_of(&shape, past.as_slice(), &next.what));
+    told.check_words(text)
+}
+
+// Checks whether a record is in the grammar of a node.
+fn check_may(alloc: Global, header: &Header, record: &Record, text: &str) -> Result<(), Wrong> {
+    check_yes(alloc, text, is_in_grammar(header, record))?;
+    check_yes(alloc, text, record_grammar::is_in_grammar(header, record))
 }
 
 /// `may NODE RECORD`, and `yes` or `no`: whether it is in the grammar of that node, by the definition and by the ledger's own test.
 pub fn may(state: &State, alloc: Global, words: &[&str], text: &str) -> Result<(), Wrong> {
     let row = state.row(alloc, words)?;
     let header = state.header(row.node)?;
-    check_yes(alloc, text, is_in_grammar(&header, &row.what))?;
-    check_yes(
-        alloc,
-        text,
-        record_grammar::is_in_grammar(&header, &row.what),
-    )
+    check_may(alloc, &header, &row.what, text)
 }
 
 // Whether a record may come next behind others, and whether they cause it.
@@ -177,10 +147,10 @@ pub fn follows(state: &State, alloc: Global, words: &[&str], text: &str) -> Resu
     let rows = state.ledger(word(words, 0)?)?;
     let next = state.row(alloc, rest(words, 1))?;
     let (after, caused) = judged(state, alloc, rows, &next)?;
-    let mut came = String::new(alloc);
-    put_word(&mut came, if after { "after" } else { "not-after" })?;
-    put_word(&mut came, if caused { "caused" } else { "uncaused" })?;
-    check_words(alloc, text, came.as_str())
+    let mut told = Told::new(alloc);
+    told.word(if after { "after" } else { "not-after" });
+    told.word(if caused { "caused" } else { "uncaused" });
+    told.check_words(text)
 }
 
 // Whether the newest of these records may come next behind the others, caused by them.
@@ -205,10 +175,10 @@ fn first_unsound(state: &State, alloc: Global, rows: &[Row]) -> Result<Option<u6
 /// `unsound LEDGER`, and the place of the first record, as they are written, that does not stand on those before it, or `none`.
 pub fn unsound(state: &State, alloc: Global, words: &[&str], text: &str) -> Result<(), Wrong> {
     let rows = state.ledger(word(words, 0)?)?;
-    let mut came = String::new(alloc);
-    let told = first_unsound(state, alloc, rows.as_slice())?;
-    put_told(alloc, &mut came, told)?;
-    check_words(alloc, text, came.as_str())
+    let place = first_unsound(state, alloc, rows.as_slice())?;
+    let mut told = Told::new(alloc);
+    tell_number(&mut told, place);
+    told.check_words(text)
 }
 
 /// `ordered LEDGER yes`: whether the records, as they are written, stand by stamp and node.
@@ -219,13 +189,22 @@ pub fn ordered(state: &State, alloc: Global, words: &[&str]) -> Result<(), Wrong
 
 /// `outcome LEDGER LANE NUMBER PLACE`, and the outcome of that transaction by the Locks.
 pub fn outcome(state: &State, alloc: Global, words: &[&str], text: &str) -> Result<(), Wrong> {
-    let all = state.journals(alloc, word(words, 0)?)?;
+    let shape = state.known.shape()?;
     let batch = batch_of(word(words, 1)?, word(words, 2)?)?;
     let place = number(word(words, 3)?)?;
-    let told = outcome_of(all.as_slice(), &state.known.shape()?, &batch, place);
-    let mut came = String::new(alloc);
-    put_outcome(alloc, &mut came, &told)?;
-    check_words(alloc, text, came.as_str())
+    let all = state.journals(alloc, word(words, 0)?)?;
+    let mut told = Told::new(alloc);
+    told.outcome(&outcome_of(all.as_slice(), &shape, &batch, place));
+    told.check_words(text)
+}
+
+fn check_refused(alloc: Global, tx: &FullTx, listed: &Listed, text: &str) -> Result<(), Wrong> {
+    let mut told = Told::new(alloc);
+    match first_refusal_of(tx, listed) {
+        Some(why) => told.refusal(&why),
+        None => told.word("none"),
+    }
+    told.check_words(text)
 }
 
 /// `refused TX VERDICT..`, and why, or `none`; behind the verdicts that are told all are absent.
@@ -234,10 +213,5 @@ pub fn refused(state: &State, alloc: Global, words: &[&str], text: &str) -> Resu
     let listed = Listed {
         verdicts: List::from_vec(verdicts(alloc, rest(words, 1))?),
     };
-    let mut came = String::new(alloc);
-    match first_refusal_of(tx, &listed) {
-        Some(why) => put_refusal(alloc, &mut came, &why)?,
-        None => put_word(&mut came, "none")?,
-    }
-    check_words(alloc, text, came.as_str())
+    check_refused(alloc, tx, &listed, text)
 }

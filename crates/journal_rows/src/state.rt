@@ -2,7 +2,7 @@
 use cbdc_types::{FullTx, Header, List, NodeId, Record};
 use model_check::{Row, journal_of};
 use row_records::{Known, record, small};
-use row_text::{Names, Wrong, put_word, rest, word};
+use row_text::{Names, Wrong, rest, word};
 use std::alloc::{AllocError, Global};
 use world_core::World;
 
@@ -80,12 +80,17 @@ impl State {
         })
     }
 
+    // The transaction of this name.
+    fn put_full(&self, all: &mut List<FullTx>, name: &str) -> Result<(), Wrong> {
+        let tx = self.known.full(name)?.clone()?;
+        Ok(all.push(tx)?)
+    }
+
     // The transactions of these names; a stroke among them is passed over.
     fn put_fulls(&self, all: &mut List<FullTx>, names: &str) -> Result<(), Wrong> {
         for name in names.split_whitespace() {
             if name != "/" {
-                let tx = self.known.full(name)?;
-                all.push(tx.clone()?)?;
+                self.put_full(all, name)?;
             }
         }
         Ok(())
@@ -158,11 +163,4 @@ pub fn copied(alloc: Global, rows: &[Row]) -> Result<Vec<Row>, AllocError> {
         })?;
     }
     Ok(all)
-}
-
-/// Appends a word and a number.
-pub fn put_named(alloc: Global, text: &mut String, name: &str, n: u128) -> Result<(), AllocError> {
-    put_word(text, name)?;
-    let digits = format!(in alloc; "{n}")?;
-    put_word(text, digits.as_str())
 }

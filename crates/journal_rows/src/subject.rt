@@ -67,11 +67,44 @@ fn look(state: &State, alloc: Global, verb: Verb, words: &[&str], text: &str) ->
         Verb::History => history(state, alloc, words, text),
         Verb::Commits => commits(state, alloc, words, text),
         Verb::Comes => comes(state, alloc, words),
+        Verb::Holds => holds(state, alloc, words),
+        Verb::Is => check_text(alloc, word(words, 0)?, word(words, 1)?),
+        Verb::Prints => prints(state, alloc, words, text),
+        other => look_at_shard(state, alloc, other, words, text),
+    }
+}
+
+// Does a step that asks a shard, or looks at a world.
+fn look_at_shard(
+    state: &State,
+    alloc: Global,
+    verb: Verb,
+    words: &[&str],
+    text: &str,
+) -> Result<(), Wrong> {
+    match verb {
         Verb::Ask => ask(state, alloc, words, text),
         Verb::Status => status(state, alloc, words, text),
         Verb::Remembers => remembers(state, alloc, words, text),
         Verb::Counts => counts(state, alloc, words, text),
         Verb::Next => next(state, alloc, words, text),
+        Verb::Nodes => nodes(state, alloc, text),
+        Verb::Flight => flight(state, alloc, words),
+        Verb::Stands => stands(state, alloc, words),
+        Verb::Recovered => recovered(state, alloc, words),
+        other => look_at_records(state, alloc, other, words, text),
+    }
+}
+
+// Does a step that looks at records.
+fn look_at_records(
+    state: &State,
+    alloc: Global,
+    verb: Verb,
+    words: &[&str],
+    text: &str,
+) -> Result<(), Wrong> {
+    match verb {
         Verb::Says => says(state, alloc, words, text),
         Verb::Slots => slots(state, alloc, words, text),
         Verb::Sizes => sizes(state, alloc, words, text),
@@ -81,15 +114,8 @@ fn look(state: &State, alloc: Global, verb: Verb, words: &[&str], text: &str) ->
         Verb::Follows => follows(state, alloc, words, text),
         Verb::Unsound => unsound(state, alloc, words, text),
         Verb::Ordered => ordered(state, alloc, words),
-        Verb::Holds => holds(state, alloc, words),
         Verb::Outcome => outcome(state, alloc, words, text),
         Verb::Refused => refused(state, alloc, words, text),
-        Verb::Prints => prints(state, alloc, words, text),
-        Verb::Is => check_text(alloc, word(words, 0)?, word(words, 1)?),
-        Verb::Nodes => nodes(state, alloc, text),
-        Verb::Flight => flight(state, alloc, words),
-        Verb::Stands => stands(state, alloc, words),
-        Verb::Recovered => recovered(state, alloc, words),
         _ => Err(Wrong::Line("no such step")),
     }
 }

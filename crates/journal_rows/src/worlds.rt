@@ -1,10 +1,11 @@
 // A world of nodes, and what happens in it.
 use crate::calls::call_of;
 use crate::state::State;
+use crate::told::Told;
 use cbdc_types::{List, NodeId, Record};
 use model_check::{Node, is_recovered};
 use row_records::{hashes, small};
-use row_text::{Wrong, check_words, check_yes, put_word, rest, word};
+use row_text::{Wrong, check_yes, rest, word};
 use std::alloc::Global;
 use world_core::{Event, World};
 
@@ -54,13 +55,18 @@ pub fn write(state: &mut State, alloc: Global, words: &[&str]) -> Result<(), Wro
     )
 }
 
+fn is_kept_in(word: &str) -> Result<bool, Wrong> {
+    match word {
+        "kept" => Ok(true),
+        "lost" => Ok(false),
+        _ => Err(Wrong::Line("what is in flight is kept or lost")),
+    }
+}
+
 /// `stop NODE kept`, `stop NODE lost`: the node goes down, and keeps what is in flight or not.
 pub fn stop(state: &mut State, alloc: Global, words: &[&str]) -> Result<(), Wrong> {
     let node = node_of(words)?;
-    let is_kept = word(words, 1)? == "kept";
-    if !is_kept && word(words, 1)? != "lost" {
-        return Err(Wrong::Line("what is in flight is kept or lost"));
-    }
+    let is_kept = is_kept_in(word(words, 1)?)?;
     happens(state, alloc, &[Event::Crash(node, is_kept)])
 }
 
@@ -81,16 +87,21 @@ fn world_of(state: &State) -> Result<&World, Wrong> {
     state.world.as_ref().ok_or(NO_WORLD)
 }
 
+fn tell_node(told: &mut Told, node: &Node) {
+    told.word(if node.up { "up" } else { "down" });
+    if node.flight.is_some() {
+        told.word("writing");
+    }
+}
+
 /// `nodes`, and `up` or `down` for each, with `writing` where something is in flight.
 pub fn nodes(state: &State, alloc: Global, text: &str) -> Result<(), Wrong> {
-    let mut came = String::new(alloc);
-    for node in &world_of(state)?.nodes {
-        put_word(&mut came, if node.up { "up" } else { "down" })?;
-        if node.flight.is_some() {
-            put_word(&mut came, "writing")?;
-        }
+    let own = world_of(state)?;
+    let mut told = Told::new(alloc);
+    for node in &own.nodes {
+        tell_node(&mut told, node);
     }
-    check_words(alloc, text, came.as_str())
+    told.check_words(text)
 }
 
 // Whether this is in flight at the node of its place.
@@ -106,10 +117,16 @@ fn is_in_flight(nodes: &[Node], place: usize, own: &Record) -> bool {
 
 /// `flight NODE RECORD`: this is in flight there.
 pub fn flight(state: &State, alloc: Global, words: &[&str]) -> Result<(), Wrong> {
-    let row = state.row(alloc, words)?;
     let nodes = world_of(state)?.nodes.as_slice();
+    let row = state.row(alloc, words)?;
     let came = is_in_flight(nodes, row.node.0 as usize, &row.what);
     check_yes(alloc, "yes", came)
+}
+
+// Whether a node is up, nothing is in flight there, and it has this journal.
+fn is_this(node: &Node, journal: &[Record]) -> bool {
+    let is_calm = node.up & node.flight.is_none();
+    is_calm && node.journal.as_slice() == journal
 }
 
 // Whether each node is up, nothing is in flight there, and it has the journal of its place.
@@ -118,7 +135,7 @@ fn are_these(nodes: &[Node], journals: &[List<Record>]) -> bool {
         return false;
     }
     for (node, journal) in nodes.iter().zip(journals) {
-        if !node.up || node.flight.is_some() || node.journal.as_slice() != journal.as_slice() {
+        if !is_this(node, journal.as_slice()) {
             return false;
         }
     }
@@ -127,8 +144,8 @@ fn are_these(nodes: &[Node], journals: &[List<Record>]) -> bool {
 
 /// `stands LEDGER`: the journals are those of the ledger, all nodes are up, and nothing is in flight.
 pub fn stands(state: &State, alloc: Global, words: &[&str]) -> Result<(), Wrong> {
-    let journals = state.journals(alloc, word(words, 0)?)?;
     let nodes = world_of(state)?.nodes.as_slice();
+    let journals = state.journals(alloc, word(words, 0)?)?;
     check_yes(alloc, "yes", are_these(nodes, journals.as_slice()))
 }
 
