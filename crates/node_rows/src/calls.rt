@@ -244,37 +244,58 @@ fn locked(alloc: Global, words: &[&str]) -> Result<Reply, Wrong> {
     Ok(Reply::Locked(x, by))
 }
 
+// Puts the reply that words begin with behind others, and tells how many words it is.
+fn put_reply(alloc: Global, all: &mut List<Reply>, words: &[&str]) -> Result<usize, Wrong> {
+    let (one, many) = reply(alloc, words)?;
+    all.push(one)?;
+    Ok(many)
+}
+
+// Puts replies behind others, one behind the other.
+fn put_replies(alloc: Global, all: &mut List<Reply>, words: &[&str]) -> Result<(), Wrong> {
+    let mut at = 0usize;
+    for _ in 0..words.len() {
+        if at < words.len() {
+            at = at.saturating_add(put_reply(alloc, all, rest(words, at))?);
+        }
+    }
+    Ok(())
+}
+
 // Replies, one behind the other.
 fn replies_of(alloc: Global, words: &[&str]) -> Result<List<Reply>, Wrong> {
     let mut all = List::new(alloc);
-    let mut at = 0usize;
-    for _ in 0..words.len() {
-        if at >= words.len() {
-            break;
-        }
-        let (one, many) = reply(alloc, rest(words, at))?;
-        all.push(one)?;
-        at = at.saturating_add(many);
-    }
+    put_replies(alloc, &mut all, words)?;
     Ok(all)
+}
+
+// The stamp that words begin with.
+fn stamp_of(words: &[&str]) -> Result<Stamp, Wrong> {
+    Ok(Stamp(number(word(words, 0)?)?))
 }
 
 // What the only shard replied: `STAMP REPLY..`.
 fn shard_replies(alloc: Global, words: &[&str]) -> Result<ShardReplies, Wrong> {
-    let stamp = Stamp(number(word(words, 0)?)?);
+    let stamp = stamp_of(words)?;
+    let replies = replies_of(alloc, rest(words, 1))?;
     Ok(ShardReplies {
         shard: 0,
-        replies: replies_of(alloc, rest(words, 1))?,
+        replies,
         stamp,
     })
+}
+
+// The replies of one shard, as all.
+fn only(alloc: Global, own: ShardReplies) -> Result<Replies, AllocError> {
+    let mut replies = List::new(alloc);
+    replies.push(own)?;
+    Ok(replies)
 }
 
 /// What the only shard replied, as all replies: `STAMP REPLY..`.
 pub fn replies_told(alloc: Global, words: &[&str]) -> Result<Replies, Wrong> {
     let own = shard_replies(alloc, words)?;
-    let mut replies = List::new(alloc);
-    replies.push(own)?;
-    Ok(replies)
+    Ok(only(alloc, own)?)
 }
 
 // How many transactions the open batch of a lane has.

@@ -126,6 +126,18 @@ fn read_once(
     check_same(alloc, &wanted, &buffer)
 }
 
+// Reads for the first `NAME AT PIECE..`, and tells how many words it is with the `read` behind it.
+fn read_first(
+    alloc: Global,
+    inbox: &mut MemInbox,
+    words: &[&str],
+    told: &mut Told,
+) -> Result<usize, Wrong> {
+    let (one, _) = words_around(words, "read");
+    read_once(alloc, inbox, one, told)?;
+    Ok(one.len().saturating_add(1))
+}
+
 // Reads for each `NAME AT PIECE..`, with `read` between them.
 fn read_all(
     alloc: Global,
@@ -135,22 +147,29 @@ fn read_all(
 ) -> Result<(), Wrong> {
     let mut at = 0usize;
     for _ in 0..words.len() {
-        if at >= words.len() {
-            break;
+        if at < words.len() {
+            at = at.saturating_add(read_first(alloc, inbox, rest(words, at), told)?);
         }
-        let (one, _) = words_around(rest(words, at), "read");
-        read_once(alloc, inbox, one, told)?;
-        at = at.saturating_add(one.len()).saturating_add(1);
     }
     Ok(())
+}
+
+// Reads for each, and drops the inbox.
+fn read_from(
+    alloc: Global,
+    mut inbox: MemInbox,
+    words: &[&str],
+    told: &mut Told,
+) -> Result<(), Wrong> {
+    read_all(alloc, &mut inbox, words, told)
 }
 
 /// `inbox NAME PIECE.. read NAME AT PIECE..`, and how many bytes are read, or `fails`; the buffer has those bytes then, and had zeros. Behind
 /// another `read` the same inbox is read again.
 pub fn inbox(alloc: Global, words: &[&str], told: &mut Told) -> Result<(), Wrong> {
     let (own, asked) = words_around(words, "read");
-    let mut inbox = inbox_of(alloc, own)?;
-    read_all(alloc, &mut inbox, asked, told)
+    let inbox = inbox_of(alloc, own)?;
+    read_from(alloc, inbox, asked, told)
 }
 
 // A point of a lane.
@@ -170,17 +189,40 @@ fn tell_came(told: &mut Told, gate: &TestGate) {
     told.word(if awaited { "awaited" } else { "-" });
 }
 
+// A point of the lane that a word tells.
+fn point_at(words: &[&str], at: usize) -> Result<Point, Wrong> {
+    point(word(words, at)?)
+}
+
+// Passes an open gate and this one, and tells which points came.
+fn pass<W: Wait>(rt: &W, gate: &TestGate, lane: &str, told: &mut Told) -> Result<(), Wrong> {
+    let own = point(lane)?;
+    OpenGate.pass(rt, &own);
+    gate.pass(rt, &own);
+    tell_came(told, gate);
+    Ok(())
+}
+
+// Tells which points came, and passes with each lane.
+fn pass_all<W: Wait>(
+    rt: &W,
+    gate: &TestGate,
+    lanes: &[&str],
+    told: &mut Told,
+) -> Result<(), Wrong> {
+    tell_came(told, gate);
+    for lane in lanes {
+        pass(rt, gate, lane, told)?;
+    }
+    Ok(())
+}
+
 /// `gate HELD AWAITED passes LANE..`, of points by their lanes, and which of the two came, at first and behind each that passes. An open gate lets
 /// them by, too.
 pub fn gate<W: Wait>(rt: &W, words: &[&str], told: &mut Told) -> Result<(), Wrong> {
-    let gate = TestGate::new(point(word(words, 0)?)?, point(word(words, 1)?)?);
+    let held = point_at(words, 0)?;
+    let awaited = point_at(words, 1)?;
     expect(words, 2, "passes")?;
-    tell_came(told, &gate);
-    for lane in rest(words, 3) {
-        let own = point(lane)?;
-        OpenGate.pass(rt, &own);
-        gate.pass(rt, &own);
-        tell_came(told, &gate);
-    }
-    Ok(())
+    let gate = TestGate::new(held, awaited);
+    pass_all(rt, &gate, rest(words, 3), told)
 }

@@ -48,11 +48,15 @@ fn tell_record(told: &mut Told, own: &Record) {
     told.line();
 }
 
+fn tell_records(told: &mut Told, came: &[Record]) {
+    for own in came {
+        tell_record(told, own);
+    }
+}
+
 fn records_differ(alloc: Global, text: &str, came: &[Record]) -> Wrong {
     let mut told = Told::new(alloc);
-    for own in came {
-        tell_record(&mut told, own);
-    }
+    tell_records(&mut told, came);
     differ(alloc, text, told.as_str())
 }
 
@@ -66,6 +70,14 @@ fn spelled(known: &Known, alloc: Global, node: u32, text: &str) -> Result<Vec<Re
     Ok(all)
 }
 
+// Nothing where these are the records that lines spell.
+fn check_same(alloc: Global, wanted: &[Record], came: &[Record], text: &str) -> Result<(), Wrong> {
+    if wanted == came {
+        return Ok(());
+    }
+    Err(records_differ(alloc, text, came))
+}
+
 /// Nothing where lines spell these records of a node.
 pub fn check_records(
     known: &Known,
@@ -75,10 +87,7 @@ pub fn check_records(
     text: &str,
 ) -> Result<(), Wrong> {
     let wanted = spelled(known, alloc, node, text)?;
-    if wanted.as_slice() == came {
-        return Ok(());
-    }
-    Err(records_differ(alloc, text, came))
+    check_same(alloc, wanted.as_slice(), came, text)
 }
 
 /// `journal NODE`, and a line for each of its records. Where they are others, what came is told without its lists.

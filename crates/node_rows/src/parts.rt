@@ -108,6 +108,18 @@ fn is_call(
     is_forget(&calls.forgets, place - many, words)
 }
 
+// The shard of a call of this kind: `SHARD KIND`.
+fn shard_of(words: &[&str], kind: &str) -> Result<u32, Wrong> {
+    expect(words, 1, kind)?;
+    small(word(words, 0)?)
+}
+
+// The node of a shard.
+fn node_of(known: &Known, shard: u32) -> Result<u32, Wrong> {
+    let shape = known.shape()?;
+    Ok(shape.coordinators().saturating_add(shard))
+}
+
 fn is_lock(
     known: &Known,
     alloc: Global,
@@ -115,9 +127,8 @@ fn is_lock(
     place: usize,
     words: &[&str],
 ) -> Result<bool, Wrong> {
-    expect(words, 1, "lock")?;
-    let shard = small(word(words, 0)?)?;
-    let node = known.shape()?.coordinators().saturating_add(shard);
+    let shard = shard_of(words, "lock")?;
+    let node = node_of(known, shard)?;
     let wanted = lock_call(known, alloc, node, rest(words, 2))?;
     Ok(has(calls, place, shard, &wanted))
 }
@@ -128,15 +139,13 @@ fn is_finish(
     place: usize,
     words: &[&str],
 ) -> Result<bool, Wrong> {
-    expect(words, 1, "finish")?;
-    let shard = small(word(words, 0)?)?;
+    let shard = shard_of(words, "finish")?;
     let wanted = finish_call(alloc, rest(words, 2))?;
     Ok(has(calls, place, shard, &wanted))
 }
 
 fn is_forget(calls: &[(u32, ForgetCall)], place: usize, words: &[&str]) -> Result<bool, Wrong> {
-    expect(words, 1, "forget")?;
-    let shard = small(word(words, 0)?)?;
+    let shard = shard_of(words, "forget")?;
     let wanted = forget_call(rest(words, 2))?;
     Ok(has(calls, place, shard, &wanted))
 }
@@ -190,17 +199,43 @@ fn calls_by(
 /// What a shard answered: a stamp, or a fault.
 type Stamped = Result<Stamp, NodeFault>;
 
+// A fault, by a word and a number.
+fn fault_of(kind: &str, since: u64) -> Option<NodeFault> {
+    match kind {
+        "disk-fault" => Some(NodeFault::DiskFault),
+        "memory" => Some(NodeFault::Memory),
+        "broken" => Some(NodeFault::Broken { since }),
+        _ => None,
+    }
+}
+
+// How many words an answer is with its shard, and where its number stands.
+fn places_of(kind: &str) -> (usize, Option<usize>) {
+    match kind {
+        "disk-fault" => (2, None),
+        "memory" => (2, None),
+        "broken" => (3, Some(2)),
+        _ => (2, Some(1)),
+    }
+}
+
+// The number at a place, or 0 where none belongs there.
+fn number_at(words: &[&str], place: Option<usize>) -> Result<u64, Wrong> {
+    match place {
+        Some(at) => number(word(words, at)?),
+        None => Ok(0),
+    }
+}
+
 // A stamp, or a fault.
 fn answer_of(words: &[&str]) -> Result<Stamped, Wrong> {
     let kind = word(words, 1)?;
-    at_most(words, if kind == "broken" { 3 } else { 2 })?;
-    match kind {
-        "disk-fault" => Ok(Err(NodeFault::DiskFault)),
-        "memory" => Ok(Err(NodeFault::Memory)),
-        "broken" => Ok(Err(NodeFault::Broken {
-            since: number(word(words, 2)?)?,
-        })),
-        stamp => Ok(Ok(Stamp(number(stamp)?))),
+    let (many, place) = places_of(kind);
+    at_most(words, many)?;
+    let told = number_at(words, place)?;
+    match fault_of(kind, told) {
+        Some(fault) => Ok(Err(fault)),
+        None => Ok(Ok(Stamp(told))),
     }
 }
 

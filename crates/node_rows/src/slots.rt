@@ -116,18 +116,28 @@ fn replies_of(alloc: Global, entries: &[Answered]) -> Result<Vec<Reply>, AllocEr
     Ok(all)
 }
 
+// The entries of a part, each with its reply.
+fn answered_by(alloc: Global, part: &[Entry], replies: &[Reply]) -> Result<Vec<Answered>, Wrong> {
+    if part.len() != replies.len() {
+        return Err(Wrong::Line("a reply is missing"));
+    }
+    Ok(answered(alloc, part, replies)?)
+}
+
+// Tells how many entries came, and whether they are others.
+fn tell_entries(told: &mut Told, came: &[Answered], entries: &[Answered]) {
+    told.number(came.len() as u64);
+    if came != entries {
+        told.word("other entries");
+    }
+}
+
 // Tells how many entries there are, where they are those of a Lock with their replies.
 fn tell_answered(alloc: Global, entries: &[Answered], told: &mut Told) -> Result<(), Wrong> {
     let part = part_of(alloc, entries)?;
     let replies = replies_of(alloc, entries)?;
-    if part.len() != replies.len() {
-        return Err(Wrong::Line("a reply is missing"));
-    }
-    let came = answered(alloc, &part, &replies)?;
-    told.number(came.len() as u64);
-    if came.as_slice() != entries {
-        told.word("other entries");
-    }
+    let came = answered_by(alloc, &part, &replies)?;
+    tell_entries(told, &came, entries);
     Ok(())
 }
 

@@ -108,14 +108,25 @@ fn put_member(set: &mut Table, x: Hash) -> Result<(), Wrong> {
     Ok(())
 }
 
-fn put_lock(locks: &mut Locks, x: Hash, words: &[&str]) -> Result<(), Wrong> {
-    let by = batch_of(word(words, 0)?, word(words, 1)?)?;
-    let place = small(word(words, 2)?)?;
+// The batch that two words tell.
+fn holder_of(words: &[&str]) -> Result<BatchId, Wrong> {
+    let lane = word(words, 0)?;
+    let its_number = word(words, 1)?;
+    batch_of(lane, its_number)
+}
+
+fn take_lock(locks: &mut Locks, x: Hash, by: BatchId, place: u32) -> Result<(), Wrong> {
     if locks.spare() == 0 || locks.holder(&x).is_some() {
         return Err(Wrong::Line("there is no room, or the hash is locked"));
     }
     locks.take(x, by, place);
     Ok(())
+}
+
+fn put_lock(locks: &mut Locks, x: Hash, words: &[&str]) -> Result<(), Wrong> {
+    let by = holder_of(words)?;
+    let place = small(word(words, 2)?)?;
+    take_lock(locks, x, by, place)
 }
 
 fn put_value(values: &mut HashSlots<u64>, x: Hash, words: &[&str]) -> Result<(), Wrong> {
