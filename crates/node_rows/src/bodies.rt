@@ -3,12 +3,12 @@ use crate::answers::{of_body, of_record, plain, with};
 use crate::pieces::bytes_of;
 use crate::state::Node;
 use crate::told::Told;
-use crate::words::record;
+use crate::words::{number_at, record};
 use gate_journal::Journal;
 use mem_devices::FaultDisk;
 use record_log::RecordLog;
 use row_records::Known;
-use row_text::{Wrong, number, word};
+use row_text::Wrong;
 use std::alloc::Global;
 
 // Takes memory for bodies of so many bytes.
@@ -24,7 +24,7 @@ fn reserve(journal: &mut Journal<FaultDisk>, bytes: u64, told: &mut Told) {
 
 /// `memory NODE BYTES`: a journal of bodies takes memory for bodies of so many bytes.
 pub fn memory(node: &mut Node, words: &[&str], told: &mut Told) -> Result<(), Wrong> {
-    let bytes = number(word(words, 0)?)?;
+    let bytes = number_at(words, 0)?;
     match node {
         Node::Bodies(journal) => reserve(journal, bytes, told),
         _ => told.refuse("no journal of bodies"),

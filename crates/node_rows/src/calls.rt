@@ -8,7 +8,7 @@ ghost use Rattle.coord_log.specs.Logs.{IsShort};
 use crate::answers::of_fault;
 use crate::state::Node;
 use crate::told::Told;
-use crate::words::{at_most, expect, forget_call};
+use crate::words::{at_most, expect, forget_call, hash_at, number_at, small_at};
 use cbdc_types::{
     BatchId, CompactTx, FinishCall, ForgetCall, Hash, Header, LaneId, List, LockCall, NodeFault,
     Outcome, Replied, Replies, Reply, Shape, ShardReplies, Stamp,
@@ -17,8 +17,8 @@ use coord_core::LanePhase;
 use coord_log::CoordLog;
 use mem_devices::FaultDisk;
 use model_check::is_batch_of;
-use row_records::{Known, batch_of, finish_call, hash, lock_call, small, txs};
-use row_text::{Wrong, number, rest, word};
+use row_records::{Known, batch_of, finish_call, lock_call, txs};
+use row_text::{Wrong, rest, word};
 use shard_node::{ShardNode, is_finish_call, is_forget_call, is_lock_call};
 use std::alloc::{AllocError, Global};
 
@@ -232,14 +232,14 @@ pub fn may_decide(shape: &Shape, replies: &[ShardReplies]) -> bool
 fn reply(alloc: Global, words: &[&str]) -> Result<(Reply, usize), Wrong> {
     match word(words, 0)? {
         "held" => Ok((Reply::Held, 1)),
-        "missing" => Ok((Reply::Missing(hash(alloc, word(words, 1)?)?), 2)),
+        "missing" => Ok((Reply::Missing(hash_at(alloc, words, 1)?), 2)),
         "locked" => Ok((locked(alloc, words)?, 4)),
         _ => Err(Wrong::Line("no reply")),
     }
 }
 
 fn locked(alloc: Global, words: &[&str]) -> Result<Reply, Wrong> {
-    let x = hash(alloc, word(words, 1)?)?;
+    let x = hash_at(alloc, words, 1)?;
     let by = batch_of(word(words, 2)?, word(words, 3)?)?;
     Ok(Reply::Locked(x, by))
 }
@@ -269,14 +269,9 @@ fn replies_of(alloc: Global, words: &[&str]) -> Result<List<Reply>, Wrong> {
     Ok(all)
 }
 
-// The stamp that words begin with.
-fn stamp_of(words: &[&str]) -> Result<Stamp, Wrong> {
-    Ok(Stamp(number(word(words, 0)?)?))
-}
-
 // What the only shard replied: `STAMP REPLY..`.
 fn shard_replies(alloc: Global, words: &[&str]) -> Result<ShardReplies, Wrong> {
-    let stamp = stamp_of(words)?;
+    let stamp = Stamp(number_at(words, 0)?);
     let replies = replies_of(alloc, rest(words, 1))?;
     Ok(ShardReplies {
         shard: 0,
@@ -285,17 +280,12 @@ fn shard_replies(alloc: Global, words: &[&str]) -> Result<ShardReplies, Wrong> {
     })
 }
 
-// The replies of one shard, as all.
-fn only(alloc: Global, own: ShardReplies) -> Result<Replies, AllocError> {
-    let mut replies = List::new(alloc);
-    replies.push(own)?;
-    Ok(replies)
-}
-
 /// What the only shard replied, as all replies: `STAMP REPLY..`.
 pub fn replies_told(alloc: Global, words: &[&str]) -> Result<Replies, Wrong> {
     let own = shard_replies(alloc, words)?;
-    Ok(only(alloc, own)?)
+    let mut replies = List::new(alloc);
+    replies.push(own)?;
+    Ok(replies)
 }
 
 // How many transactions the open batch of a lane has.
@@ -359,7 +349,7 @@ fn prepare(
 pub fn cause_of(words: &[&str]) -> Result<Stamp, Wrong> {
     expect(words, 0, "cause")?;
     at_most(words, 2)?;
-    Ok(Stamp(number(word(words, 1)?)?))
+    Ok(Stamp(number_at(words, 1)?))
 }
 
 // `discard LANE cause STAMP`
@@ -393,7 +383,7 @@ fn call_log(
     words: &[&str],
     told: &mut Told,
 ) -> Result<(), Wrong> {
-    let lane = LaneId(small(word(words, 1)?)?);
+    let lane = LaneId(small_at(words, 1)?);
     match word(words, 0)? {
         "prepare" => prepare(known, alloc, log, lane, rest(words, 2), told),
         "decide" => decide(alloc, log, lane, rest(words, 2), told),

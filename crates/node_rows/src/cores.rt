@@ -3,11 +3,11 @@ use crate::calls::{NO_CALL, cause_of, may_decide, replies_told};
 use crate::looking::{check_records, of_phase};
 use crate::state::{Node, make_place, put_node};
 use crate::told::Told;
-use crate::words::{expect, record};
+use crate::words::{expect, number_at, record, small_at};
 use cbdc_types::{CompactTx, Header, LaneId, NodeId, Record, Replies, Stamp};
 use coord_core::{CoordCore, LanePhase};
-use row_records::{Known, small, txs};
-use row_text::{Wrong, number, rest, word};
+use row_records::{Known, txs};
+use row_text::{Wrong, rest, word};
 use std::alloc::{AllocError, Global};
 use std::slice;
 
@@ -30,7 +30,7 @@ pub fn make_lanes(
     nodes: &mut Vec<Node>,
     words: &[&str],
 ) -> Result<(), Wrong> {
-    let place = small(word(words, 0)?)?;
+    let place = small_at(words, 0)?;
     let header = Header {
         node: NodeId(place),
         shape: known.shape()?,
@@ -156,7 +156,7 @@ fn next_by(
     core: &mut CoordCore,
     words: &[&str],
 ) -> Result<Option<Record>, Wrong> {
-    let lane = LaneId(small(word(words, 1)?)?);
+    let lane = LaneId(small_at(words, 1)?);
     match word(words, 0)? {
         "prepare" => prepare(known, alloc, core, lane, rest(words, 2)),
         "decide" => decide(alloc, core, lane, rest(words, 2)),
@@ -226,8 +226,8 @@ fn tell_core(core: &CoordCore, lane: LaneId, cause: Stamp, told: &mut Told) {
 /// how many of these there are, and the stamp of a record with that cause
 pub fn core_stands(node: &Node, words: &[&str], told: &mut Told) -> Result<(), Wrong> {
     expect(words, 1, "after")?;
-    let lane = LaneId(small(word(words, 0)?)?);
-    let cause = Stamp(number(word(words, 2)?)?);
+    let lane = LaneId(small_at(words, 0)?);
+    let cause = Stamp(number_at(words, 2)?);
     match node {
         Node::Lanes(core) => tell_core(core, lane, cause, told),
         _ => told.refuse(NO_LANES),

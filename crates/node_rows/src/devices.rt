@@ -5,7 +5,7 @@ ghost use Rattle.mem_devices.specs.Racks.{AllIn};
 use crate::answers::with;
 use crate::pieces::{bytes_of, check_bytes, check_same};
 use crate::told::Told;
-use crate::words::{at_most, expect};
+use crate::words::{at_most, count_at, expect, number_at, small_at};
 use cbdc_types::{LaneId, NodeId};
 use mem_devices::{MemInbox, MemRack, MemSink, PlainDisk, TestGate};
 use outside::{Disk, Gate, Inbox, OpenGate, Point, Rack, Sink, When};
@@ -63,7 +63,7 @@ fn take_out(rack: &mut MemRack<PlainDisk>, node: NodeId, last: usize, told: &mut
 pub fn rack(alloc: Global, words: &[&str], told: &mut Told) -> Result<(), Wrong> {
     let (capacities, taken) = words_around(words, "take");
     at_most(taken, 1)?;
-    let node = NodeId(small(word(taken, 0)?)?);
+    let node = NodeId(small_at(taken, 0)?);
     let mut rack = rack_of(alloc, capacities)?;
     take_out(&mut rack, node, capacities.len(), told);
     Ok(())
@@ -81,7 +81,7 @@ fn write(sink: &mut MemSink, bytes: &[u8], told: &mut Told) {
 fn sink_of(alloc: Global, words: &[&str]) -> Result<MemSink, Wrong> {
     let (words, fails) = words_around(words, "fails");
     at_most(words, 1)?;
-    Ok(MemSink::new(alloc, count(word(words, 0)?)?, numbers(alloc, fails)?)?)
+    Ok(MemSink::new(alloc, count_at(words, 0)?, numbers(alloc, fails)?)?)
 }
 
 /// `sink CAPACITY fails CALL.. takes PIECE.. has PIECE..`, and what each call takes, or `fails`; behind them it has those bytes.
@@ -119,7 +119,7 @@ fn read_once(
     words: &[&str],
     told: &mut Told,
 ) -> Result<(), Wrong> {
-    let (name, at) = (word(words, 0)?, number(word(words, 1)?)?);
+    let (name, at) = (word(words, 0)?, number_at(words, 1)?);
     let wanted = bytes_of(alloc, rest(words, 2))?;
     let mut buffer = vec![in alloc; 0u8; wanted.len()]?;
     tell_read(inbox, name, at, &mut buffer, told);
@@ -154,22 +154,12 @@ fn read_all(
     Ok(())
 }
 
-// Reads for each, and drops the inbox.
-fn read_from(
-    alloc: Global,
-    mut inbox: MemInbox,
-    words: &[&str],
-    told: &mut Told,
-) -> Result<(), Wrong> {
-    read_all(alloc, &mut inbox, words, told)
-}
-
 /// `inbox NAME PIECE.. read NAME AT PIECE..`, and how many bytes are read, or `fails`; the buffer has those bytes then, and had zeros. Behind
 /// another `read` the same inbox is read again.
 pub fn inbox(alloc: Global, words: &[&str], told: &mut Told) -> Result<(), Wrong> {
     let (own, asked) = words_around(words, "read");
-    let inbox = inbox_of(alloc, own)?;
-    read_from(alloc, inbox, asked, told)
+    let mut inbox = inbox_of(alloc, own)?;
+    read_all(alloc, &mut inbox, asked, told)
 }
 
 // A point of a lane.

@@ -5,13 +5,13 @@ use crate::pieces::{bytes_of, check_bytes, check_same};
 use crate::state::{Node, put_node, take_node};
 use crate::told::Told;
 use crate::verbs::OnDisk;
-use crate::words::{at_most, one_behind, record};
+use crate::words::{at_most, count_at, number_at, one_behind, record};
 use cbdc_types::{Header, NodeId, Record};
 use mem_devices::{Choice, FaultDisk, PlainDisk};
 use outside::Disk;
 use record_codec::write_record;
 use row_records::{Known, small};
-use row_text::{Wrong, count, number, put_number, rest, word, words_around};
+use row_text::{Wrong, count, put_number, rest, word, words_around};
 use std::alloc::{AllocError, Global};
 
 // Appends a record as a journal has it: its open gate, the length of its body, and the body.
@@ -78,7 +78,7 @@ pub fn disk(
     words: &[&str],
     text: &str,
 ) -> Result<Node, Wrong> {
-    let capacity = count(word(words, 0)?)?;
+    let capacity = count_at(words, 0)?;
     let (words, keeps) = one_behind(words, "keeps")?;
     let (words, fails) = words_around(words, "fails");
     let (words, pieces) = words_around(words, "holds");
@@ -96,7 +96,7 @@ pub fn disk(
 
 /// `plain NODE CAPACITY [PIECE..]`: a disk that never fails.
 pub fn plain_disk(alloc: Global, words: &[&str]) -> Result<Node, Wrong> {
-    let capacity = count(word(words, 0)?)?;
+    let capacity = count_at(words, 0)?;
     let bytes = bytes_of(alloc, rest(words, 1))?;
     if bytes.is_empty() {
         return Ok(Node::Plain(PlainDisk::new(alloc, capacity)?));
@@ -119,7 +119,7 @@ fn write<D: Disk>(
     words: &[&str],
     told: &mut Told,
 ) -> Result<(), Wrong> {
-    let at = number(word(words, 0)?)?;
+    let at = number_at(words, 0)?;
     let bytes = bytes_of(alloc, rest(words, 1))?;
     if at > disk.len() || at > disk.capacity() || bytes.len() as u64 > disk.capacity() - at {
         return Err(Wrong::Line("past the disk's end"));
@@ -143,7 +143,7 @@ fn read<D: Disk>(
     words: &[&str],
     told: &mut Told,
 ) -> Result<(), Wrong> {
-    let at = number(word(words, 0)?)?;
+    let at = number_at(words, 0)?;
     let wanted = bytes_of(alloc, rest(words, 1))?;
     let mut buffer = vec![in alloc; 0u8; wanted.len()]?;
     tell_read(disk, at, &mut buffer, told);
@@ -210,7 +210,7 @@ fn closed_disk(nodes: &[Node], place: u32) -> Result<&FaultDisk, Wrong> {
 // What a crash leaves of a disk.
 fn crashed(alloc: Global, disk: &FaultDisk, words: &[&str]) -> Result<FaultDisk, Wrong> {
     let choice = Choice {
-        len: count(word(words, 0)?)?,
+        len: count_at(words, 0)?,
         bytes: bytes_of(alloc, rest(words, 1))?,
     };
     Ok(disk.crash(&choice)?)

@@ -3,7 +3,7 @@ use crate::answers::with;
 use crate::ledgers::{Apart, Plan, run_over};
 use crate::state::{Node, Seen, State};
 use crate::told::Told;
-use crate::words::one_behind;
+use crate::words::{one_behind, small_at};
 use cbdc_types::{CompactTx, LaneId};
 use row_records::{small, txs};
 use row_text::{Wrong, check_text, count, put_count, rest, word};
@@ -76,7 +76,7 @@ fn plan_of<'t>(
     is_whole: bool,
 ) -> Result<Plan<'t>, Wrong> {
     Ok(Plan {
-        lane: LaneId(small(word(words, 0)?)?),
+        lane: LaneId(small_at(words, 0)?),
         txs,
         is_whole,
         repeats: small(repeats.unwrap_or("0"))?,

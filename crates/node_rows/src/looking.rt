@@ -2,13 +2,13 @@
 use crate::answers::{Said, with};
 use crate::state::Node;
 use crate::told::Told;
-use crate::words::record;
+use crate::words::{record, small_at};
 use cbdc_types::{BatchId, Hash, LaneId, OpenLane, Phase, Record, Status};
 use coord_core::LanePhase;
 use coord_log::CoordLog;
 use mem_devices::FaultDisk;
-use row_records::{Known, hashes, small};
-use row_text::{Names, Wrong, check_text, differ, word, words_around};
+use row_records::{Known, hashes};
+use row_text::{Names, Wrong, differ, word, words_around};
 use shard_core::Remembered;
 use shard_node::ShardNode;
 use std::alloc::Global;
@@ -48,15 +48,11 @@ fn tell_record(told: &mut Told, own: &Record) {
     told.line();
 }
 
-fn tell_records(told: &mut Told, came: &[Record]) {
-    for own in came {
-        tell_record(told, own);
-    }
-}
-
 fn records_differ(alloc: Global, text: &str, came: &[Record]) -> Wrong {
     let mut told = Told::new(alloc);
-    tell_records(&mut told, came);
+    for own in came {
+        tell_record(&mut told, own);
+    }
     differ(alloc, text, told.as_str())
 }
 
@@ -70,14 +66,6 @@ fn spelled(known: &Known, alloc: Global, node: u32, text: &str) -> Result<Vec<Re
     Ok(all)
 }
 
-// Nothing where these are the records that lines spell.
-fn check_same(alloc: Global, wanted: &[Record], came: &[Record], text: &str) -> Result<(), Wrong> {
-    if wanted == came {
-        return Ok(());
-    }
-    Err(records_differ(alloc, text, came))
-}
-
 /// Nothing where lines spell these records of a node.
 pub fn check_records(
     known: &Known,
@@ -87,7 +75,10 @@ pub fn check_records(
     text: &str,
 ) -> Result<(), Wrong> {
     let wanted = spelled(known, alloc, node, text)?;
-    check_same(alloc, wanted.as_slice(), came, text)
+    if wanted.as_slice() == came {
+        return Ok(());
+    }
+    Err(records_differ(alloc, text, came))
 }
 
 /// `journal NODE`, and a line for each of its records. Where they are others, what came is told without its lists.
@@ -181,7 +172,7 @@ fn tell_lane(told: &mut Told, log: &CoordLog<FaultDisk>, lane: LaneId) {
 
 /// `stands NODE LANE`, and `idle NUMBER`, or the phase, number and stamp of the lane's open batch, and how many transactions and outcomes it has
 pub fn stands(node: &Node, words: &[&str], told: &mut Told) -> Result<(), Wrong> {
-    let lane = LaneId(small(word(words, 0)?)?);
+    let lane = LaneId(small_at(words, 0)?);
     match node {
         Node::Log(log) => tell_lane(told, log, lane),
         _ => told.refuse("no open coordinator"),

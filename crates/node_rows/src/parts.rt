@@ -4,7 +4,7 @@ ghost use Rattle.std.specs.Prelude.{◌≤◌, ◌↔◌, IsTrue, length, All};
 use crate::answers::of_fault;
 use crate::ledgers::tell_stop;
 use crate::told::Told;
-use crate::words::{at_most, expect, forget_call, record};
+use crate::words::{at_most, expect, forget_call, number_at, record, small_at};
 use cbdc_types::{
     BatchId, CompactTx, FinishCall, ForgetCall, Hash, LaneId, List, LockCall, NodeFault, Outcome,
     Record, Replied, Replies, Reply, Shape, Stamp,
@@ -13,8 +13,8 @@ use lane_driver::{
     BatchRoom, LaterRoom, ShardFault, finish_calls, forget_calls, gather, latest, lock_calls,
     no_memory,
 };
-use row_records::{Known, finish_call, lock_call, small, txs};
-use row_text::{Wrong, check_yes, number, rest, word, words_around};
+use row_records::{Known, finish_call, lock_call, txs};
+use row_text::{Wrong, check_yes, rest, word, words_around};
 use std::alloc::{AllocError, Global};
 
 // Whether no part has more entries than that.
@@ -111,7 +111,7 @@ fn is_call(
 // The shard of a call of this kind: `SHARD KIND`.
 fn shard_of(words: &[&str], kind: &str) -> Result<u32, Wrong> {
     expect(words, 1, kind)?;
-    small(word(words, 0)?)
+    small_at(words, 0)
 }
 
 // The node of a shard.
@@ -220,9 +220,9 @@ fn places_of(kind: &str) -> (usize, Option<usize>) {
 }
 
 // The number at a place, or 0 where none belongs there.
-fn number_at(words: &[&str], place: Option<usize>) -> Result<u64, Wrong> {
+fn told_at(words: &[&str], place: Option<usize>) -> Result<u64, Wrong> {
     match place {
-        Some(at) => number(word(words, at)?),
+        Some(at) => number_at(words, at),
         None => Ok(0),
     }
 }
@@ -232,7 +232,7 @@ fn answer_of(words: &[&str]) -> Result<Stamped, Wrong> {
     let kind = word(words, 1)?;
     let (many, place) = places_of(kind);
     at_most(words, many)?;
-    let told = number_at(words, place)?;
+    let told = told_at(words, place)?;
     match fault_of(kind, told) {
         Some(fault) => Ok(Err(fault)),
         None => Ok(Ok(Stamp(told))),
@@ -242,7 +242,7 @@ fn answer_of(words: &[&str]) -> Result<Stamped, Wrong> {
 // `SHARD ANSWER`
 fn told_answer(alloc: Global, piece: &str) -> Result<(u32, Stamped), Wrong> {
     let own = piece.split_whitespace().collect::<Vec<&str>>(alloc)?;
-    Ok((small(word(&own, 0)?)?, answer_of(&own)?))
+    Ok((small_at(&own, 0)?, answer_of(&own)?))
 }
 
 // `SHARD ANSWER`, with strokes between them.

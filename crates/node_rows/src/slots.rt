@@ -1,18 +1,18 @@
 // What a shard remembers of each lane, and the entries of a part with their replies.
 use crate::state::Tables;
 use crate::told::Told;
-use crate::words::{at_most, expect, record};
+use crate::words::{at_most, expect, number_at, record, small_at};
 use cbdc_types::{Answered, Entry, LaneId, List, Record, Reply, Stamp};
 use dtx_replies::{Slot, Slots};
 use model_check::copy_of_entry;
-use row_records::{Known, part, small};
-use row_text::{Wrong, number, rest, word};
+use row_records::{Known, part};
+use row_text::{Wrong, rest, word};
 use shard_core::answered;
 use std::alloc::{AllocError, Global};
 
 /// `slots LANES`: idle ones.
 pub fn make_slots(tables: &mut Tables, alloc: Global, words: &[&str]) -> Result<(), Wrong> {
-    tables.slots = Some(Slots::new(alloc, small(word(words, 0)?)?)?);
+    tables.slots = Some(Slots::new(alloc, small_at(words, 0)?)?);
     Ok(())
 }
 
@@ -24,8 +24,8 @@ fn all_held(alloc: Global, many: usize) -> Result<List<Reply>, AllocError> {
 // A slot: `idle NUMBER STAMP`, `locked NUMBER STAMP NAME@PLACE..`, all of them Held, or `finished NUMBER STAMP STAMP NAME@PLACE..`, all of them Held and committed.
 fn slot(known: &Known, alloc: Global, words: &[&str]) -> Result<Slot, Wrong> {
     let kind = word(words, 0)?;
-    let its_number = number(word(words, 1)?)?;
-    let stamp = Stamp(number(word(words, 2)?)?);
+    let its_number = number_at(words, 1)?;
+    let stamp = Stamp(number_at(words, 2)?);
     if kind == "idle" {
         at_most(words, 3)?;
         return Ok(Slot::Idle(its_number, stamp));
@@ -38,7 +38,7 @@ fn slot(known: &Known, alloc: Global, words: &[&str]) -> Result<Slot, Wrong> {
         return Ok(Slot::Locked(its_number, own, held, stamp));
     }
     expect(words, 0, "finished")?;
-    let later = Stamp(number(word(words, 3)?)?);
+    let later = Stamp(number_at(words, 3)?);
     let own = part(known, alloc, &shape, node, rest(words, 4))?;
     let held = all_held(alloc, own.len())?;
     let given = List::from_vec(vec![in alloc; true; own.len()]?);
@@ -92,7 +92,7 @@ pub fn slot_step(
         count_slots(slots, told);
         return Ok(());
     }
-    let lane = LaneId(small(word(words, 1)?)?);
+    let lane = LaneId(small_at(words, 1)?);
     let own = slot(known, alloc, rest(words, 2))?;
     at_slot(slots, action, lane, own, told);
     Ok(())
@@ -116,28 +116,18 @@ fn replies_of(alloc: Global, entries: &[Answered]) -> Result<Vec<Reply>, AllocEr
     Ok(all)
 }
 
-// The entries of a part, each with its reply.
-fn answered_by(alloc: Global, part: &[Entry], replies: &[Reply]) -> Result<Vec<Answered>, Wrong> {
-    if part.len() != replies.len() {
-        return Err(Wrong::Line("a reply is missing"));
-    }
-    Ok(answered(alloc, part, replies)?)
-}
-
-// Tells how many entries came, and whether they are others.
-fn tell_entries(told: &mut Told, came: &[Answered], entries: &[Answered]) {
-    told.number(came.len() as u64);
-    if came != entries {
-        told.word("other entries");
-    }
-}
-
 // Tells how many entries there are, where they are those of a Lock with their replies.
 fn tell_answered(alloc: Global, entries: &[Answered], told: &mut Told) -> Result<(), Wrong> {
     let part = part_of(alloc, entries)?;
     let replies = replies_of(alloc, entries)?;
-    let came = answered_by(alloc, &part, &replies)?;
-    tell_entries(told, &came, entries);
+    if part.len() != replies.len() {
+        return Err(Wrong::Line("a reply is missing"));
+    }
+    let came = answered(alloc, &part, &replies)?;
+    told.number(came.len() as u64);
+    if came.as_slice() != entries {
+        told.word("other entries");
+    }
     Ok(())
 }
 

@@ -2,11 +2,11 @@
 use crate::answers::with;
 use crate::state::Tables;
 use crate::told::Told;
-use crate::words::{at_most, expect};
+use crate::words::{at_most, expect, hash_at, number_at, small_at};
 use cbdc_types::{BatchId, Hash};
 use hash_slots::HashSlots;
-use row_records::{batch_of, hash, small};
-use row_text::{Wrong, check_yes, number, rest, word};
+use row_records::batch_of;
+use row_text::{Wrong, check_yes, rest, word};
 use shard_locks::Locks;
 use shard_table::Table;
 use std::alloc::Global;
@@ -48,7 +48,7 @@ fn spare_of(store: &Store) -> u64 {
 
 /// `reserve N`: makes room for so many more.
 pub fn reserve(store: &mut Store, words: &[&str], told: &mut Told) -> Result<(), Wrong> {
-    let n = number(word(words, 0)?)?;
+    let n = number_at(words, 0)?;
     let is_done = match store {
         Store::Gone => false,
         Store::Set(set) => set.reserve(n).is_ok(),
@@ -65,7 +65,7 @@ pub fn reserve(store: &mut Store, words: &[&str], told: &mut Told) -> Result<(),
 pub fn room(tables: &mut Tables, alloc: Global, words: &[&str]) -> Result<(), Wrong> {
     let came = spare_of(&tables.store);
     tables.room = Some(came);
-    let least = number(word(words, 0)?)?;
+    let least = number_at(words, 0)?;
     check_yes(alloc, "yes", came >= least)
 }
 
@@ -79,7 +79,7 @@ pub fn spare(tables: &Tables, alloc: Global, words: &[&str], told: &mut Told) ->
     let Some(room) = tables.room else {
         return Err(Wrong::Line("no room was told before"));
     };
-    let less = number(word(words, 0)?)?;
+    let less = number_at(words, 0)?;
     expect(words, 1, "less")?;
     check_yes(alloc, "yes", came.saturating_add(less) == room)
 }
@@ -125,12 +125,12 @@ fn take_lock(locks: &mut Locks, x: Hash, by: BatchId, place: u32) -> Result<(), 
 
 fn put_lock(locks: &mut Locks, x: Hash, words: &[&str]) -> Result<(), Wrong> {
     let by = holder_of(words)?;
-    let place = small(word(words, 2)?)?;
+    let place = small_at(words, 2)?;
     take_lock(locks, x, by, place)
 }
 
 fn put_value(values: &mut HashSlots<u64>, x: Hash, words: &[&str]) -> Result<(), Wrong> {
-    let value = number(word(words, 0)?)?;
+    let value = number_at(words, 0)?;
     if values.spare() == 0 || values.get(&x).is_some() {
         return Err(Wrong::Line("there is no room, or a value is there"));
     }
@@ -150,7 +150,7 @@ fn most_of(store: &Store) -> usize {
 
 /// `put HASH`, `put HASH LANE NUMBER PLACE`, `put HASH VALUE`: into a set, a map of locks, values.
 pub fn put(store: &mut Store, alloc: Global, words: &[&str]) -> Result<(), Wrong> {
-    let x = hash(alloc, word(words, 0)?)?;
+    let x = hash_at(alloc, words, 0)?;
     at_most(words, most_of(store))?;
     match store {
         Store::Gone => Err(Wrong::Line(NO_STORE)),
@@ -203,7 +203,7 @@ pub fn take_out(
     words: &[&str],
     told: &mut Told,
 ) -> Result<(), Wrong> {
-    let x = hash(alloc, word(words, 0)?)?;
+    let x = hash_at(alloc, words, 0)?;
     match store {
         Store::Gone => told.refuse(NO_STORE),
         Store::Set(set) => set.remove(&x),
@@ -226,7 +226,7 @@ fn tell_holder(told: &mut Told, found: Option<(BatchId, u32)>) {
 
 /// `find HASH`, and `there`, `LANE NUMBER PLACE` or `value VALUE`, or `none`
 pub fn find(store: &Store, alloc: Global, words: &[&str], told: &mut Told) -> Result<(), Wrong> {
-    let x = hash(alloc, word(words, 0)?)?;
+    let x = hash_at(alloc, words, 0)?;
     match store {
         Store::Gone => told.refuse(NO_STORE),
         Store::Set(set) => told.word(if set.contains(&x) { "there" } else { "none" }),

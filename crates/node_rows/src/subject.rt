@@ -15,14 +15,15 @@ use crate::told::Told;
 use crate::verbs::{
     Acting, Alone, Looking, OnDisk, Reading, Tabling, Turning, Verb, Whole, is_for_steps, verb_of,
 };
-use row_records::{Known, name_form, shape, small};
+use crate::words::small_at;
+use row_records::{Known, name_form, shape};
 use row_text::{Block, Names, Subject, Wrong, rest, word};
 use std::alloc::Global;
 use std::sync::Wait;
 
 // The place of the node that a step begins with.
 fn place_of(words: &[&str]) -> Result<u32, Wrong> {
-    small(word(words, 0)?)
+    small_at(words, 0)
 }
 
 // The node at a place.

@@ -1,8 +1,28 @@
 // Words that a step may have, and no others.
-use cbdc_types::{ForgetCall, Record};
-use row_records::Known;
-use row_text::{Wrong, word, words_around};
+use cbdc_types::{ForgetCall, Hash, Record};
+use row_records::{Known, hash, small};
+use row_text::{Wrong, count, number, word, words_around};
 use std::alloc::Global;
+
+/// The number that the word at a place spells.
+pub fn number_at(words: &[&str], at: usize) -> Result<u64, Wrong> {
+    number(word(words, at)?)
+}
+
+/// The same, below 2^32.
+pub fn small_at(words: &[&str], at: usize) -> Result<u32, Wrong> {
+    small(word(words, at)?)
+}
+
+/// The same, of bytes or calls.
+pub fn count_at(words: &[&str], at: usize) -> Result<usize, Wrong> {
+    count(word(words, at)?)
+}
+
+/// The hash that the word at a place spells.
+pub fn hash_at(alloc: Global, words: &[&str], at: usize) -> Result<Hash, Wrong> {
+    hash(alloc, word(words, at)?)
+}
 
 /// Nothing where there are no more words than that.
 pub fn at_most(words: &[&str], many: usize) -> Result<(), Wrong> {
