@@ -125,7 +125,11 @@ pub fn discard_at<D: Disk>(
 }
 
 /// Writes down that a coordinator's batch is forgotten.
-pub fn done_at<D: Disk>(log: &mut CoordLog<D>, lane: LaneId, cause: Stamp) -> Result<Stamp, NodeFault>
+pub fn done_at<D: Disk>(
+    log: &mut CoordLog<D>,
+    lane: LaneId,
+    cause: Stamp,
+) -> Result<Stamp, NodeFault>
     requires home { IsLane log.old.header lane }
     requires phase { (slot log.old.journal lane).phase ≡ InDiscard }
     requires cause { IsStamp cause }
