@@ -1,12 +1,11 @@
 // The nodes of a ledger, lent to the ports of its lanes.
-ghost use Rattle.std.specs.Prelude.{◌≡◌, ◌∷◌, []};
-ghost use Rattle.lane_driver.specs.declared.fault.BatchReport.{BatchReport as ReportOf};
+ghost use Rattle.std.specs.Prelude.{◌≡◌};
 ghost use Rattle.ledger_nodes.specs.Ledgers.{journals_of, flights_of, faults_of, opened_of, capacity_of, AreChecked, AreStored, AreQuiet};
 
-use crate::driving::{drive_batch, drive_resume, home};
+use crate::driving::{drive_resume, home};
 use crate::ledger::Ledger;
-use cbdc_types::{CompactTx, Header, LaneId, Shape};
-use lane_driver::{BatchReport, LaneFault, LaneReport, Ports, no_memory};
+use cbdc_types::{Header, LaneId, Shape};
+use lane_driver::{LaneFault, Ports, no_memory};
 use ledger_runs::Turns;
 use node_ports::{NodeLogs, NodeShards};
 use outside::{Disk, Gate};
@@ -55,18 +54,6 @@ pub fn lend<'r, W: Wait, D: Disk>(rt: &'r W, ledger: Ledger<D>) -> LentLedger<'r
     }
 }
 
-// The one report of a batch.
-fn only(report: LaneReport) -> BatchReport
-    requires { (r : ReportOf) × (report.batches ≡ r ∷ []) }
-    ensures { report.batches ≡ result ∷ [] }
-{
-    let LaneReport { batches } = report;
-    match batches.into_vec().pop() {
-        Some(batch) => batch,
-        None => unreachable!(),
-    }
-}
-
 impl<'r, W: Wait, D: Disk> LentLedger<'r, W, D> {
     /// The ledger with its nodes back.
     pub fn take_back(self) -> Ledger<D>
@@ -107,19 +94,6 @@ impl<'r, W: Wait, D: Disk> Turns for LentLedger<'r, W, D> {
 
     fn shape(&self) -> &Shape {
         &self.header.shape
-    }
-
-    fn run_batch<G: Gate>(
-        &mut self,
-        alloc: Global,
-        lane: LaneId,
-        txs: &[CompactTx],
-        gate: &G,
-    ) -> Result<BatchReport, LaneFault> {
-        match drive_batch(alloc, &self.header, lane, txs, &mut self.ports, gate) {
-            Ok(report) => Ok(only(report)),
-            Err(fault) => Err(fault),
-        }
     }
 
     fn take_up<G: Gate>(
