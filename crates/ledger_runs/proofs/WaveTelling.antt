@@ -51,7 +51,7 @@ told_next K lane E I J before after so told (Some r, did, opened, e) =
       e,
     )
 
--- ---- by what is said of one turn
+-- ---- by what is said of one lane
 
 pub resumed_told : (K H : Shape) (lane : ℕ) (E J L : ℕ → List Record) (before after : List ResumedBatch) → H ≡ K
     → OfKept K E (StaysKept K E J) → OfKept K E (λ _ _. ResumedSo K lane E J) → OfKept K E (λ _ _. TellResumed K E J lane before)

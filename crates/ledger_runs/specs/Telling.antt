@@ -77,6 +77,6 @@ TellsNew K I J lane x = (more : List Record) → J (home_of K lane) ≡ more ++ 
 abbrev pub AllTell : Shape → (ℕ → List Record) → (ℕ → List Record) → List Lane → Type 0
 AllTell K I J lanes = EachLane (TellsNew K I J) lanes
 
--- no lane has had a turn
+-- no lane has done anything
 abbrev pub AreFresh : List Lane → Type 0
 AreFresh lanes = EachLane (λ lane x. (x.decided.items ≡ []) × (x.batches ≡ 0)) lanes

@@ -1,4 +1,4 @@
--- Lanes that take turns at the nodes of a ledger, by the journals of all nodes.
+-- Lanes at the nodes of a ledger, by the journals of all nodes.
 use Rattle.std.specs.Prelude.{◌≡◌, ◌≢◌, ℕ, ◌*◌, ◌<◌, List, [], ◌∷◌, ◌++◌, Option, Some, None}
 use Rattle.cbdc_model.specs.Records.{Shape, Record, outcomes_of}
 use Rattle.cbdc_model.specs.Slots.{Phase, slot, Idle}

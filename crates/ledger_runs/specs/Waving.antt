@@ -1,4 +1,4 @@
--- The lanes of a wave, and how their turns go on.
+-- The lanes of a wave.
 use Rattle.std.specs.Prelude.{◌≡◌, ℕ, ◌<◌, List, All, Option, Some, None, slice_get}
 use Rattle.cbdc_model.specs.Records.{Shape, Compact, Record}
 use Rattle.cbdc_model.specs.Grammar.{IsCompact}

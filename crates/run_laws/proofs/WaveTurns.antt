@@ -1,4 +1,4 @@
--- Waves by turns.
+-- How far a run has come: through the lanes that an earlier run left open, and through its files.
 use Rattle.std.proofs.Common.{◌≡◌, ◌≢◌, ◌⊎◌, inl, inr, ℕ, suc, ◌<◌, ◌≤◌, Bool, true, false, ◌&&◌, ◌==◌, List, [], ◌∷◌, ◌++◌, is_some, refl, sym, ap, ◌∙◌, subst, arith}
 use Rattle.cbdc_model.specs.Records.{Shape, Batch, Record, record_of, is_of, same_batch, Genesis, Lock, Finish, Forget, Start, Prepare, Commit, Discard, Done}
 use Rattle.cbdc_model.specs.Ranges.{home_of}

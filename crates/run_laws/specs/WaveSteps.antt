@@ -1,4 +1,4 @@
--- Waves by turns: how far the lanes of a file, and those that an earlier run left open, have come.
+-- How far a run has come: through the lanes that an earlier run left open, and through its files.
 use Rattle.std.specs.Prelude.{◌≡◌, ℕ, suc, ◌*◌, ◌<◌, ◌≤◌, Bool, true, false, List, [], ◌∷◌, ◌++◌}
 use Rattle.cbdc_model.specs.Records.{Shape, Batch, Record}
 use Rattle.cbdc_model.specs.Ranges.{home_of}

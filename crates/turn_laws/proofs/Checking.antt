@@ -14,7 +14,6 @@ use Rattle.cbdc_model.specs.Lanes.{may_come, Made}
 use Rattle.cbdc_model.specs.Waves.{prepared}
 use Rattle.cbdc_model.specs.Sights.{Sight}
 use Rattle.ledger_laws.proofs.Cuts.{end_self}
-use Rattle.lane_laws.specs.Batches as batches
 use Rattle.lane_laws.specs.Batches.{own}
 use Rattle.lane_laws.specs.Faults.{IsAnswered, IsCallFault, to_lock, to_decide, to_finish, to_discard, to_forget, to_done}
 use Rattle.lane_laws.specs.Resuming.{IsTakenUp}
