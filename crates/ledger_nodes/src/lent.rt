@@ -13,6 +13,7 @@ use recovery::ResumedBatch;
 use std::alloc::Global;
 use std::marker::Model;
 use std::sync::Wait;
+use std::thread::Threads;
 
 /// All nodes of a ledger behind the ports of its lanes. Contracts see its header and its nodes, which are a ledger's.
 #[derive(Drop)]
@@ -71,7 +72,7 @@ impl<'r, W: Wait, D: Disk> LentLedger<'r, W, D> {
     }
 }
 
-impl<'r, W: Wait, D: Disk> Turns for LentLedger<'r, W, D> {
+impl<'r, W: Wait + Threads + Sync, D: Disk + Send> Turns for LentLedger<'r, W, D> {
     ghost shape = { λ l. l.header.shape };
 
     ghost journals = { λ l. journals_of D.count D.limit l.header.shape l.logs l.shards };
