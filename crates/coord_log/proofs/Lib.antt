@@ -10,3 +10,4 @@ pub mod Opened
 pub mod Stops
 pub mod Leaving
 pub mod Foreign
+pub mod Flying

@@ -1,8 +1,8 @@
 // The calls at a coordinator.
-ghost use Rattle.std.specs.Prelude.{◌≡◌, ◌≢◌, ◌+◌, ◌≤◌, ◌<◌, ◌^◌, ◌∷◌, [], List, ℕ, Option, None, Some, true, false, suc, max, length, reverse, vec_capacity, All, OnOk, OnErr, IfOk, IfErr, IfSome, IsErrOf};
+ghost use Rattle.std.specs.Prelude.{◌≡◌, ◌≢◌, ◌⊎◌, ◌↔◌, IsTrue, IsSome, ◌+◌, ◌≤◌, ◌<◌, ◌^◌, ◌∷◌, [], List, ℕ, Option, None, Some, true, false, suc, max, length, reverse, vec_capacity, All, OnOk, OnErr, IfOk, IfErr, IfSome, IsErrOf};
 ghost use Rattle.outside.specs.Counts.{Rose};
 ghost use Rattle.gate_journal.specs.Shown.{disk_of, broken_of};
-ghost use Rattle.cbdc_model.specs.Records.{Record, Prepare, Commit, Discard, Done, last_stamp, txs_of};
+ghost use Rattle.cbdc_model.specs.Records.{Record, Prepare, Commit, Discard, Done, is_in_lane, last_stamp, txs_of};
 ghost use Rattle.cbdc_model.specs.After.{After, IsJournal};
 ghost use Rattle.cbdc_model.specs.Slots.{slot, Idle, InPrepare, InCommit, InDiscard};
 ghost use Rattle.cbdc_model.specs.Room.{kept_room, need_of};
@@ -78,6 +78,13 @@ impl<D: Disk> CoordLog<D> {
     {
         let _core = self.core.header();
         &self.log.header
+    }
+
+    /// Whether an append has failed since it was opened: its record is in flight. Takes no memory.
+    pub fn is_broken(&self) -> bool
+        ensures { IsTrue result ↔ IsSome self.now.flight }
+    {
+        self.flight.is_some()
     }
 
     /// Its records, the newest last. Takes no memory.
@@ -183,6 +190,8 @@ impl<D: Disk> CoordLog<D> {
         // Whatever they replied, a fault is its disk's, or has its cause in the stamp that follows theirs.
         ensures fault { IfErr result (λ f. (r : Record) × MeetsFault false (commit_due self.old.header.shape replies.now r self.old.broken self.old.journal) (sight self.old) (sight self.new) self.old.journal f) }
         ensures as_before { OnErr result (self.new.journal ≡ self.old.journal) }
+        // A record that it leaves in flight is of the lane.
+        ensures own { IfSome self.new.flight (λ r. (self.old.flight ≡ Some r) ⊎ (is_in_lane lane r ≡ true)) }
         ensures whole { OnOk result (self.old.broken ≡ None) }
         ensures appended { IfOk result (λ t. self.new.journal ≡ Commit t (open_batch self.old.journal lane) out.new.items ∷ self.old.journal) }
         ensures bound { IfOk result (λ t. t ≤ 2 ^ 62 + 2 ^ 20) }

@@ -6,3 +6,4 @@ pub mod Appended
 pub mod Coordinators
 pub mod Replying
 pub mod Walking
+pub mod Deciding

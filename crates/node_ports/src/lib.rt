@@ -5,6 +5,6 @@ mod logs;
 mod shard;
 mod shards;
 
-pub use logs::NodeLogs;
-pub use shard::NodeShard;
+pub use logs::{NodeLogs, decide_at, discard_at, done_at, prepare_at};
+pub use shard::{NodeShard, finish_at, forget_at, lock_at};
 pub use shards::NodeShards;

@@ -10,6 +10,7 @@ ghost use Rattle.lane_driver.specs.Told.{IsLane, IsPrepared, IsStamp, AreReplies
 ghost use Rattle.lane_driver.specs.Causes.{IsDecideCause};
 ghost use Rattle.coord_log.specs.Logs.{sight};
 ghost use Rattle.node_ports.specs.Nodes.{sight_at, KeepsRest, IsLogHeld, AreLogsHeld};
+ghost use Rattle.node_ports.specs.Moving.{DecidedMoves};
 
 use cbdc_types::{BatchId, CompactTx, LaneId, NodeFault, NodeId, Outcome, Replies, Stamp};
 use coord_log::CoordLog;
@@ -51,7 +52,7 @@ impl<'r, W: Wait, D: Disk> NodeLogs<'r, W, D> {
 }
 
 // Begins a batch of a coordinator's idle lane.
-fn prepare_at<D: Disk>(
+pub fn prepare_at<D: Disk>(
     log: &mut CoordLog<D>,
     lane: LaneId,
     txs: &[CompactTx],
@@ -74,7 +75,7 @@ fn prepare_at<D: Disk>(
 }
 
 // Decides a coordinator's prepared batch.
-fn decide_at<D: Disk>(
+pub fn decide_at<D: Disk>(
     log: &mut CoordLog<D>,
     lane: LaneId,
     replies: &Replies,
@@ -86,6 +87,7 @@ fn decide_at<D: Disk>(
     requires room { length (txs_of log.old.journal (open_batch log.old.journal lane)) ≤ vec_capacity out.old }
     ensures told { DecideAnswer true lane replies.now (sight log.old) (sight log.new) result }
     ensures fault { IfErr result (λ f. IsDecideCause f (sight log.new)) }
+    ensures moves { DecidedMoves lane (sight log.old) (sight log.new) result }
     ensures stamp { IfOk result IsStamp }
     ensures phase { OnOk result ((slot log.new.journal lane).phase ≡ InCommit) }
     ensures outcomes { OnOk result (length out.new.items ≡ length (txs_of log.old.journal (open_batch log.old.journal lane))) }
@@ -96,11 +98,13 @@ fn decide_at<D: Disk>(
     ensures holds { IsLogHeld D.content D.images log.old → IsLogHeld D.content D.images log.new }
 {
     let _header = log.header();
-    log.decide(lane, replies, out)
+    let answer = log.decide(lane, replies, out);
+    let _after = log.header();
+    answer
 }
 
 // Writes down that a coordinator's decided batch is applied.
-fn discard_at<D: Disk>(
+pub fn discard_at<D: Disk>(
     log: &mut CoordLog<D>,
     lane: LaneId,
     cause: Stamp,
@@ -121,7 +125,7 @@ fn discard_at<D: Disk>(
 }
 
 // Writes down that a coordinator's batch is forgotten.
-fn done_at<D: Disk>(log: &mut CoordLog<D>, lane: LaneId, cause: Stamp) -> Result<Stamp, NodeFault>
+pub fn done_at<D: Disk>(log: &mut CoordLog<D>, lane: LaneId, cause: Stamp) -> Result<Stamp, NodeFault>
     requires home { IsLane log.old.header lane }
     requires phase { (slot log.old.journal lane).phase ≡ InDiscard }
     requires cause { IsStamp cause }

@@ -31,7 +31,7 @@ const FINISH: u8 = 3;
 const FORGET: u8 = 4;
 
 // The calls at a shard, by what is seen of it.
-fn lock_at<D: Disk>(node: &mut ShardNode<D>, call: &LockCall) -> Result<Replied, NodeFault>
+pub fn lock_at<D: Disk>(node: &mut ShardNode<D>, call: &LockCall) -> Result<Replied, NodeFault>
     requires { IsLockCall node.old.header call.now }
     ensures answer { Told true call.now.batch.lane true (lock_due node.old.header.shape (D.limit node.old.disk) call.now) (sight_of D.count D.limit node.old) (sight_of D.count D.limit node.new) result }
     ensures told { IfOk result (λ a. IsStamp a.stamp × All (IsReply node.old.header.shape) a.replies) }
@@ -43,7 +43,7 @@ fn lock_at<D: Disk>(node: &mut ShardNode<D>, call: &LockCall) -> Result<Replied,
     node.lock(call)
 }
 
-fn finish_at<D: Disk>(node: &mut ShardNode<D>, call: &FinishCall) -> Result<Stamp, NodeFault>
+pub fn finish_at<D: Disk>(node: &mut ShardNode<D>, call: &FinishCall) -> Result<Stamp, NodeFault>
     requires { IsFinishCall node.old.header call.now }
     ensures answer { Told true call.now.batch.lane false (finish_due call.now) (sight_of D.count D.limit node.old) (sight_of D.count D.limit node.new) result }
     ensures told { IfOk result IsStamp }
@@ -55,7 +55,7 @@ fn finish_at<D: Disk>(node: &mut ShardNode<D>, call: &FinishCall) -> Result<Stam
     node.finish(call)
 }
 
-fn forget_at<D: Disk>(node: &mut ShardNode<D>, call: &ForgetCall) -> Result<Stamp, NodeFault>
+pub fn forget_at<D: Disk>(node: &mut ShardNode<D>, call: &ForgetCall) -> Result<Stamp, NodeFault>
     requires { IsForgetCall node.old.header call.now }
     ensures answer { Told true call.now.batch.lane false (forget_due call.now) (sight_of D.count D.limit node.old) (sight_of D.count D.limit node.new) result }
     ensures told { IfOk result IsStamp }

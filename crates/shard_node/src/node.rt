@@ -1,5 +1,5 @@
 // The calls at a shard.
-ghost use Rattle.std.specs.Prelude.{◌≡◌, ◌+◌, ◌≤◌, true, false, None, IfSome, reverse};
+ghost use Rattle.std.specs.Prelude.{◌≡◌, ◌↔◌, ◌+◌, ◌≤◌, true, false, None, IsTrue, IsSome, IfSome, reverse};
 ghost use Rattle.cbdc_model.specs.Due.{used_of, lock_due, finish_due, forget_due};
 ghost use Rattle.cbdc_model.specs.Room.{kept_room, need_of};
 ghost use Rattle.cbdc_model.specs.Sights.{Meets, IsBrokenSince};
@@ -144,6 +144,13 @@ impl<D: Disk> ShardNode<D> {
         ensures room { used_of self.now.journal + kept_room self.now.header.shape self.now.journal ≤ D.limit self.now.disk }
     {
         &self.parts.log.header
+    }
+
+    /// Whether an append has failed since it was opened: its record is in flight. Takes no memory.
+    pub fn is_broken(&self) -> bool
+        ensures { IsTrue result ↔ IsSome self.now.flight }
+    {
+        self.parts.flight.is_some()
     }
 
     /// Its records, the newest last. Takes no memory.

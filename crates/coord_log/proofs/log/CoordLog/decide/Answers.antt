@@ -1,8 +1,8 @@
-use Rattle.std.proofs.Common.{◌≡◌, ◌≤◌, ◌<◌, ◌∷◌, [], Err, ℕ, List, suc, refl, ap, sym, ◌∙◌, subst, arith, length, reverse, None, Some, false}
+use Rattle.std.proofs.Common.{◌≡◌, true, ◌≤◌, ◌<◌, ◌∷◌, [], Err, ℕ, List, suc, refl, ap, sym, ◌∙◌, subst, arith, length, reverse, None, Some, false}
 use Rattle.std.specs.Prelude.{All}
 use Rattle.gate_journal.specs.Shown.{broken_of}
 use Rattle.cbdc_types.specs.declared.calls.NodeFault.TheVariants.{Broken, ClockEnd}
-use Rattle.cbdc_model.specs.Records.{Header, Record, Outcome, txs_of, outcomes_in, Commit}
+use Rattle.cbdc_model.specs.Records.{Header, Record, Outcome, is_in_lane, txs_of, outcomes_in, Commit}
 use Rattle.cbdc_model.specs.Grammar.{IsOutcome}
 use Rattle.cbdc_model.specs.Slots.{InPrepare}
 use Rattle.cbdc_model.specs.Due.{Answers, last_late, open_batch, decide_due}
@@ -18,6 +18,7 @@ use Rattle.coord_log.specs.Inside.{shown}
 use Rattle.coord_log.proofs.Owed.{told_ok, told_err, breaks_err, own_lane, own_phase, batch_is}
 use Rattle.coord_log.proofs.Deciding.{commit_owed, commit_late, decide_owed, decide_late, decide_ready, told_is}
 use Rattle.coord_log.proofs.Leaving.{still}
+use Rattle.coord_log.proofs.Flying.{same_lane, kept_own, flown_own}
 use Rattle.coord_log.proofs.log.CoordLog.decide.Goals as goal
 
 pub write-requires : goal.write-requires
@@ -171,3 +172,17 @@ returns-clause-leaves g c =
     let P : LogOf g.row.D.Denot → Type 0 = λ x. HoldsJournal g.D.Disk.content g.D.Disk.images x
     → LeavesBetween g.D.Disk.tells_past g.D.Disk.moment g.D.Disk.images_since g.D.Disk.images x (shown c.write.new.log c.self.inside.opened c.write.new.flight) in
     subst P c.self.view_is (c.write.ensures.leaves c.self.inside.opened)
+
+pub returns-in-Some-clause-own : goal.returns-in-Some-clause-own
+returns-in-Some-clause-own g c = kept_own c.args.lane c.args.self.now.flight c.args.self.now.flight refl
+
+pub returns-then-stamp-gt-LAST_STAMP-clause-own : goal.returns-then-stamp-gt-LAST_STAMP-clause-own
+returns-then-stamp-gt-LAST_STAMP-clause-own g c = kept_own c.args.lane c.args.self.now.flight c.args.self.now.flight refl
+
+pub returns-in-Err-clause-own : goal.returns-in-Err-clause-own
+returns-in-Err-clause-own g c =
+    flown_own c.args.lane c.args.self.now.flight c.write.new.flight c.decide-next.result (c.in-Err.ensures.told c.self.inside.opened).1.flight
+    (subst (λ r. is_in_lane c.args.lane r ≡ true) (sym c.decide-next.ensures.«record») (same_lane c.args.lane))
+
+pub returns-clause-own : goal.returns-clause-own
+returns-clause-own g c = kept_own c.args.lane c.args.self.now.flight c.write.new.flight ((c.in-Ok.ensures.told c.self.inside.opened).flight ∙ ap (λ x. x.flight) c.self.view_is)
