@@ -1,0 +1,117 @@
+// A node in memory, for the rows: it writes down whatever it is asked to.
+ghost use Rattle.std.specs.Prelude.{◌≡◌, Unit};
+ghost use Rattle.lock_rows.specs.Books.{sight_of, record_of, Writes, Tells};
+
+use cbdc_types::{BatchId, Header, LaneId, Record, Stamp};
+use node_lock::{Asked, Node, Sighted};
+use std::alloc::{AllocError, Global};
+
+/// A journal in memory.
+#[derive(Drop)]
+pub struct Book {
+    header: Header,
+    records: Vec<Record>,
+}
+
+/// What is to be written down: a number, in a lane.
+#[derive(Clone, Copy, Debug)]
+pub struct Line {
+    pub lane: LaneId,
+    pub number: u64,
+}
+
+/// What a book can be asked for.
+#[derive(Drop)]
+pub enum Ask {
+    /// How many records it has.
+    Count,
+    /// All its records, the oldest first.
+    Records,
+}
+
+/// What it answers.
+#[derive(Drop)]
+pub enum Answer {
+    Counted(usize),
+    Listed(Result<Vec<Record>, AllocError>),
+}
+
+impl Line {
+    fn record(&self) -> Record
+        ensures { result ≡ record_of self.now }
+    {
+        Record::Forget {
+            stamp: Stamp(self.number),
+            batch: BatchId {
+                lane: self.lane,
+                number: self.number,
+            },
+        }
+    }
+}
+
+impl Book {
+    /// A book without records.
+    pub fn new(alloc: Global, header: Header) -> Book {
+        Book {
+            header,
+            records: Vec::new(alloc),
+        }
+    }
+
+    /// Its records, the oldest first.
+    pub fn records(&self) -> &[Record] {
+        self.records.as_slice()
+    }
+}
+
+impl Sighted for Book {
+    ghost sight = { sight_of };
+
+    ghost goes = { λ a b. Unit {0} };
+
+    fn count(&self) -> usize {
+        self.records.len()
+    }
+
+    fn is_stuck(&self) -> bool {
+        false
+    }
+
+    ghost same = { λ n. tt };
+
+    ghost behind = { λ a b c f g. tt };
+}
+
+impl Asked for Book {
+    type Ask = Ask;
+
+    type Answer = Answer;
+
+    ghost tells = { Tells };
+
+    fn ask(&self, ask: &Ask) -> Answer {
+        match ask {
+            Ask::Count => Answer::Counted(self.records.len()),
+            Ask::Records => Answer::Listed(self.records.clone()),
+        }
+    }
+}
+
+impl<'c> Node<'c> for Book {
+    type Call = Line;
+
+    type Reply = bool;
+
+    ghost lane = { λ l. l.lane };
+
+    ghost allowed = { λ l s. Unit {0} };
+
+    ghost gives = { λ s l t m done. Writes s l t done };
+
+    fn step(&mut self, call: &mut Line) -> bool {
+        self.records.push(call.record()).is_ok()
+    }
+
+    ghost others = { λ l s t more header seen other may. tt };
+}
