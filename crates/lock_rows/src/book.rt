@@ -1,5 +1,5 @@
 // A node in memory, for the rows: it writes down whatever it is asked to.
-ghost use Rattle.std.specs.Prelude.{◌≡◌, Unit};
+ghost use Rattle.std.specs.Prelude.{◌≡◌};
 ghost use Rattle.lock_rows.specs.Books.{sight_of, record_of, Writes, Tells};
 
 use cbdc_types::{BatchId, Header, LaneId, Record, Stamp};
@@ -110,7 +110,10 @@ impl<'c> Node<'c> for Book {
     ghost gives = { λ s l t m done. Writes s l t done };
 
     fn step(&mut self, call: &mut Line) -> bool {
-        self.records.push(call.record()).is_ok()
+        match self.records.push(call.record()) {
+            Ok(()) => true,
+            Err(_) => false,
+        }
     }
 
     ghost others = { λ l s t more header seen other may. tt };

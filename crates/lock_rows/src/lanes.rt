@@ -36,7 +36,7 @@ pub fn write_all<R: Wait, G: Gate>(
     for i in 0..count {
         let mut line = Line {
             lane,
-            number: first.saturating_add(i as u64),
+            number: first.saturating_add(u64::from(i)),
         };
         if guarded.call(rt, &mut seat, &mut line, gate, &at) {
             written = written.saturating_add(1);

@@ -10,6 +10,7 @@ const YIELDS: u32 = 100;
 
 // The first sleep, in microseconds. Each next one is twice as long, up to the longest.
 const SLEEP: u64 = 50;
+
 const DOUBLINGS: u32 = 7;
 
 // How long the next sleep is, at most.
@@ -25,7 +26,9 @@ impl<N: Sighted> Guarded<N> {
             thread::yield_now();
         } else {
             let low = (turn % (1 << 32)) as u32;
-            self.table.shared.park_timeout(rt, 1, low, next_sleep(tries));
+            self.table
+                .shared
+                .park_timeout(rt, 1, low, next_sleep(tries));
         }
     }
 

@@ -1,4 +1,4 @@
-use Rattle.std.proofs.Common.{◌≡◌, [], ◌∷◌, Some, rules, ap, ◌∙◌}
+use Rattle.std.proofs.Common.{◌∷◌, Some, rules, ap, ◌∙◌}
 use Rattle.atomic_table.specs.Table.{rest}
 use Rattle.node_lock.proofs.Told.{puts}
 use Rattle.node_lock.proofs.lock.Guarded.put_back.Goals as goal
