@@ -1,16 +1,16 @@
 // A node in memory, for the rows: it writes down whatever it is asked to.
 ghost use Rattle.std.specs.Prelude.{◌≡◌};
-ghost use Rattle.lock_rows.specs.Books.{sight_of, record_of, Writes, Tells};
+ghost use Rattle.lock_rows.specs.Books.{sight_of, Writes, Tells};
 
-use cbdc_types::{BatchId, Header, LaneId, Record, Stamp};
+use cbdc_types::{Header, LaneId};
 use node_lock::{Asked, Node, Sighted};
 use std::alloc::{AllocError, Global};
 
-/// A journal in memory.
+/// A journal of lines in memory.
 #[derive(Drop)]
 pub struct Book {
     header: Header,
-    records: Vec<Record>,
+    lines: Vec<Line>,
 }
 
 /// What is to be written down: a number, in a lane.
@@ -25,43 +25,29 @@ pub struct Line {
 pub enum Ask {
     /// How many records it has.
     Count,
-    /// All its records, the oldest first.
-    Records,
+    /// All its lines, the oldest first.
+    Lines,
 }
 
 /// What it answers.
 #[derive(Drop)]
 pub enum Answer {
     Counted(usize),
-    Listed(Result<Vec<Record>, AllocError>),
-}
-
-impl Line {
-    fn record(&self) -> Record
-        ensures { result ≡ record_of self.now }
-    {
-        Record::Forget {
-            stamp: Stamp(self.number),
-            batch: BatchId {
-                lane: self.lane,
-                number: self.number,
-            },
-        }
-    }
+    Listed(Result<Vec<Line>, AllocError>),
 }
 
 impl Book {
-    /// A book without records.
+    /// An empty one.
     pub fn new(alloc: Global, header: Header) -> Book {
         Book {
             header,
-            records: Vec::new(alloc),
+            lines: Vec::new(alloc),
         }
     }
 
-    /// Its records, the oldest first.
-    pub fn records(&self) -> &[Record] {
-        self.records.as_slice()
+    /// Its lines, the oldest first.
+    pub fn lines(&self) -> &[Line] {
+        self.lines.as_slice()
     }
 }
 
@@ -71,7 +57,7 @@ impl Sighted for Book {
     ghost goes = { λ a b. Unit {0} };
 
     fn count(&self) -> usize {
-        self.records.len()
+        self.lines.len()
     }
 
     fn is_stuck(&self) -> bool {
@@ -92,8 +78,8 @@ impl Asked for Book {
 
     fn ask(&self, ask: &Ask) -> Answer {
         match ask {
-            Ask::Count => Answer::Counted(self.records.len()),
-            Ask::Records => Answer::Listed(self.records.clone()),
+            Ask::Count => Answer::Counted(self.lines.len()),
+            Ask::Lines => Answer::Listed(self.lines.clone()),
         }
     }
 }
@@ -110,7 +96,7 @@ impl<'c> Node<'c> for Book {
     ghost gives = { λ s l t m done. Writes s l t done };
 
     fn step(&mut self, call: &mut Line) -> bool {
-        match self.records.push(call.record()) {
+        match self.lines.push(*call) {
             Ok(()) => true,
             Err(_) => false,
         }

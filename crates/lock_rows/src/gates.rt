@@ -28,11 +28,6 @@ impl MeetGate {
         }
     }
 
-    /// Whether the held point was let go because the awaited one was passed.
-    pub fn has_met(&self) -> bool {
-        self.met.load(Ordering::SeqCst)
-    }
-
     fn hold(&self) {
         for _ in 0..TURNS {
             if self.passed.load(Ordering::SeqCst) {
@@ -73,11 +68,6 @@ impl KeepGate {
         }
     }
 
-    /// The digits.
-    pub fn passed(&self) -> u64 {
-        self.passed.load(Ordering::SeqCst)
-    }
-
     fn digit(&self, point: &Point) -> u64 {
         let when = point.when;
         if *point != (Point { when, ..self.expected }) {
@@ -96,5 +86,41 @@ impl Gate for KeepGate {
         let was = self.passed.load(Ordering::SeqCst);
         let now = was.wrapping_mul(10).wrapping_add(self.digit(point));
         self.passed.store(now, Ordering::SeqCst);
+    }
+}
+
+/// The gate of a row.
+#[derive(Drop)]
+pub enum RowGate {
+    Open,
+    Meet(MeetGate),
+    Keep(KeepGate),
+}
+
+impl RowGate {
+    /// Whether it holds none, or let go because the awaited point was passed.
+    pub fn has_met(&self) -> bool {
+        match self {
+            RowGate::Meet(gate) => gate.met.load(Ordering::SeqCst),
+            RowGate::Open | RowGate::Keep(_) => true,
+        }
+    }
+
+    /// The digits of the points that it kept.
+    pub fn passed(&self) -> u64 {
+        match self {
+            RowGate::Keep(gate) => gate.passed.load(Ordering::SeqCst),
+            RowGate::Open | RowGate::Meet(_) => 0,
+        }
+    }
+}
+
+impl Gate for RowGate {
+    fn pass<W: Wait>(&self, rt: &W, point: &Point) {
+        match self {
+            RowGate::Open => {}
+            RowGate::Meet(gate) => gate.pass(rt, point),
+            RowGate::Keep(gate) => gate.pass(rt, point),
+        }
     }
 }
