@@ -70,7 +70,12 @@ impl KeepGate {
 
     fn digit(&self, point: &Point) -> u64 {
         let when = point.when;
-        if *point != (Point { when, ..self.expected }) {
+        if *point
+            != (Point {
+                when,
+                ..self.expected
+            })
+        {
             return 9;
         }
         match when {

@@ -11,8 +11,11 @@ use std::thread::{Threads, join};
 
 // The two lanes that write, the lane of the first line, and a number that no lane has.
 const ONE: LaneId = LaneId(1);
+
 const TWO: LaneId = LaneId(2);
+
 const OLD: LaneId = LaneId(9);
+
 const NONE: LaneId = LaneId(32);
 
 // A book with one line.
@@ -138,7 +141,11 @@ pub fn beside_each_other<R: Threads + Wait + Sync>(rt: &R, alloc: Global) -> Opt
 
 /// A lane has the node, and keeps it for long once the other lane has come, which waits for its turn.
 pub fn waits<R: Threads + Wait + Sync>(rt: &R, alloc: Global) -> Option<bool> {
-    let gate = MeetGate::new(point_of(ONE, When::Inside), point_of(TWO, When::Before), 20_000);
+    let gate = MeetGate::new(
+        point_of(ONE, When::Inside),
+        point_of(TWO, When::Before),
+        20_000,
+    );
     has_met(rt, alloc, gate)
 }
 
