@@ -196,10 +196,10 @@ module _ {W D B : Type 0} {G : Ghosts B} (count limit : D → ℕ) (tables : ℕ
           settled = subst (λ l. IsSettled K l (log_of count limit tables K r) (shards_of count limit tables K r)) (sym lane_is)
               (settled_like K lane (log_at gs (home_of K lane)) (log_of count limit tables K r) (shard_at count limit hs) (shards_of count limit tables K r)
                   (ap (λ (v : Sight). v.header) log_seen) (ap (λ (v : Sight). v.seen) log_seen) (λ s. ap (λ (v : Sight). v.seen) (shards_seen s)) rest);
+          ours = subst (λ l. AreOfLane l r.ports.shards.each.ports.items) (sym lane_is) (ports_ours count limit lane hs ss r.ports.shards.each.ports.items dealt ports);
           limits = may.limits;
         };
         mine = sym my_lane ∙ lane_is;
-        ours = ports_ours count limit lane hs ss r.ports.shards.each.ports.items dealt ports;
         log = log_seen;
         shards = shards_seen;
       }

@@ -183,7 +183,7 @@ module _ {W D B : Type 0} {G : Ghosts B} (count limit : D → ℕ) (tables : ℕ
         let still : IsStillNode log log' = subst (λ n. IsStillNode log (logs_of count limit tables K q n)) (sym k.ends.at) (k.ends.log_nodes r.ports.log.node) in
         let came = ended_of lane x y r q k.set_up.lane_is begins.settled k.ends.work q.came k.ends.has_run e in
         let many : length q.ports.shards.each.ports.items ≡ K.shards = k.ends.count_is ∙ begins.count_is in
-        let ours : AreOfLane lane q.ports.shards.each.ports.items = k.ends.of_lane lane k.set_up.ours in
+        let ours : AreOfLane lane q.ports.shards.each.ports.items = k.ends.of_lane lane (subst (λ l. AreOfLane l r.ports.shards.each.ports.items) k.set_up.lane_is begins.ours) in
         record {
           log = log;
           seen = shards;

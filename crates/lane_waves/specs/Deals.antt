@@ -20,7 +20,7 @@ use Rattle.shard_fanout.specs.declared.locking.SharedShard.{SharedShard}
 use Rattle.shard_fanout.specs.declared.logged.LogSeat.{LogSeat}
 use Rattle.shard_fanout.specs.declared.tables.Locks.{Ghosts}
 use Rattle.wave_ends.specs.Rows.{AreDealt}
-use Rattle.wave_lanes.specs.Held.{AreOfLane, Begins, log_of, shards_of}
+use Rattle.wave_lanes.specs.Held.{Begins, log_of, shards_of}
 use Rattle.wave_lanes.specs.Ports.{ArePorts, AtTables}
 use Rattle.wave_lanes.specs.declared.runs.LaneRun.{LaneRun}
 use Rattle.lane_waves.specs.Lanes.{IsReady}
@@ -115,7 +115,6 @@ module _ {D : Type 0} (count limit : D → ℕ) (tables : ℕ → TableId) (K : 
       pub ready : IsReady x
       pub begins : Begins count limit tables K r
       pub mine : (knows r.ports.log.seat).lane ≡ lane
-      pub ours : AreOfLane lane r.ports.shards.each.ports.items
       pub log : log_of count limit tables K r ≡ started lane (log_at gs (home_of K lane))
       pub shards : (s : ℕ) → shards_of count limit tables K r s ≡ started lane (shard_at count limit hs s)
 

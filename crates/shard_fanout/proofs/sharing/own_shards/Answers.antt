@@ -9,4 +9,4 @@ loop-node-init g c = (owning (λ s. s.node) c.args.shared.items c.args.nodes.ite
 pub loop-node-preserved : goal.loop-node-preserved
 loop-node-preserved g c =
     let inv = c.loop-node.invariant in
-    (owns_on (λ s. s.node) c.args.shared.items c.loop-node.shared.items c.pop.new.self.items c.loop-node.nodes.items c.push_reserved.new.self.items c.in-Some.node _ inv.0 c.in-Some.ensures.items c.push_reserved.ensures.items refl, search (rules, inv))
+    (owns_on (λ s. s.node) c.args.shared.items c.loop-node.shared.items c.pop.new.self.items c.loop-node.nodes.items c.push_reserved.new.self.items c.in-Some.field-0.node c.in-Some.field-0 inv.0 c.in-Some.ensures.items c.push_reserved.ensures.items refl, search (rules, inv))
