@@ -169,6 +169,10 @@ module _ (K : Shape) where
     fresh_shard = λ n kind b is lt. ap (λ L. record_of kind L b) (s n) ∙ was.fresh_shard n kind b is lt;
   }
 
+-- no call changes its header, what it may hold and its count at the opening; and its disk has failed no less often
+abbrev Kept : Sight → Sight → Type 0
+Kept f l = Same f l × (f.faults ≤ l.faults)
+
 pub fresh_settled_law : FreshSettledLaw
 fresh_settled_law K m logs shards lane log seen limits lt shapes checked idle same seen_same =
     let home = home_inside lane K.coordinators K.lanes lt in
@@ -219,14 +223,11 @@ module _ (K : Shape) (logs shards logs' shards' : ℕ → Sight) (nodes : WaveNo
       capacity_same = λ n. capacity_is K logs' shards' n ∙ (all n).0.capacity ∙ sym (capacity_is K logs shards n);
     }
       where
-        abbrev Kept : Sight → List ℕ → List Hand → Sight → Type 0
-        Kept f ls hs l = Same f l × (f.faults ≤ l.faults)
-
-        none : (s : ℕ) → K.shards ≤ s → Kept (shards s) [] [] (shards' s)
+        none : (s : ℕ) → K.shards ≤ s → Kept (shards s) (shards' s)
         none s le = subst (λ x. Same (shards s) x × ((shards s).faults ≤ x.faults)) (sym (nodes.beyond s le)) (record { header = refl; opened = refl; capacity = refl }, omega arith)
 
-        all : (n : ℕ) → Kept (first n) [] [] (last n)
-        all n = each_node K (λ f ls hs l. Kept f [] [] l) logs shards (λ k. []) (λ k. []) (λ k. []) (λ k. []) logs' shards' low high none n
+        all : (n : ℕ) → Kept (first n) (last n)
+        all n = each_node K (λ f ls hs l. Kept f l) logs shards (λ k. []) (λ k. []) (λ k. []) (λ k. []) logs' shards' low high none n
 
     -- ---- lanes that ran
     module _ (ran : WaveRan K logs shards logs' shards' old new) where
