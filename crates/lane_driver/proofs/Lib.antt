@@ -10,3 +10,4 @@ mod Telling
 mod Turning
 mod Batching
 pub mod Causing
+pub mod Serving

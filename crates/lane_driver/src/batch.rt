@@ -53,6 +53,7 @@ pub fn from_discarded<S: PortSet, L: LogPort, G: Gate>(
     requires phase { L.phase ports.old.log batch.now.lane ≡ InDiscard }
     requires count { S.count ports.old.shards ≡ shape.now.shards }
     requires ledger { AreShardsOf shape.now (S.sights ports.old.shards) }
+    requires mine { S.serves ports.old.shards batch.now.lane }
     requires shards { AreShards shard shape.now.shards locks.now }
     requires batch { IsBatchOf shape.now batch.now }
     requires cause { IsStamp cause }
@@ -75,6 +76,7 @@ pub fn from_discarded<S: PortSet, L: LogPort, G: Gate>(
     ensures log_nodes { KeepNodes (L.sights ports.old.log) (L.sights ports.new.log) }
     ensures log_holds { L.holds ports.old.log → L.holds ports.new.log }
     ensures shard_holds { S.holds ports.old.shards → S.holds ports.new.shards }
+    ensures serves { (l : ℕ) → S.serves ports.old.shards l → S.serves ports.new.shards l }
     ensures calls { forgets.new.items ≡ map (forget_of batch.now cause) locks.now }
     ensures capacity { vec_capacity stamped.new ≡ vec_capacity stamped.old }
 {
@@ -113,8 +115,10 @@ pub fn from_committed<S: PortSet, L: LogPort, G: Gate>(
     requires phase { L.phase ports.old.log batch.now.lane ≡ InCommit }
     requires count { S.count ports.old.shards ≡ shape.now.shards }
     requires ledger { AreShardsOf shape.now (S.sights ports.old.shards) }
+    requires mine { S.serves ports.old.shards batch.now.lane }
     requires shards { AreShards shard shape.now.shards locks.now }
     requires locks { AreLockCalls (S.sights ports.old.shards) locks.now }
+    requires own { All (λ c. c.1.batch ≡ batch.now) locks.now }
     requires parts { All (λ c. length c.1.part ≤ length outcomes.now) locks.now }
     requires batch { IsBatchOf shape.now batch.now }
     requires cause { IsStamp cause }
@@ -136,6 +140,7 @@ pub fn from_committed<S: PortSet, L: LogPort, G: Gate>(
     ensures log_nodes { KeepNodes (L.sights ports.old.log) (L.sights ports.new.log) }
     ensures log_holds { L.holds ports.old.log → L.holds ports.new.log }
     ensures shard_holds { S.holds ports.old.shards → S.holds ports.new.shards }
+    ensures serves { (l : ℕ) → S.serves ports.old.shards l → S.serves ports.new.shards l }
 {
     let LaterRoom {
         mut finishes,
@@ -196,6 +201,7 @@ pub fn from_prepared<S: PortSet, L: LogPort, G: Gate>(
     requires phase { L.phase ports.old.log batch.now.lane ≡ InPrepare }
     requires count { S.count ports.old.shards ≡ shape.now.shards }
     requires ledger { AreShardsOf shape.now (S.sights ports.old.shards) }
+    requires mine { S.serves ports.old.shards batch.now.lane }
     requires batch { IsBatchOf shape.now batch.now }
     requires cause { IsStamp cause }
     requires parts { AreFitParts (S.sights ports.old.shards) room.parts }
@@ -216,6 +222,7 @@ pub fn from_prepared<S: PortSet, L: LogPort, G: Gate>(
     ensures log_nodes { KeepNodes (L.sights ports.old.log) (L.sights ports.new.log) }
     ensures log_holds { L.holds ports.old.log → L.holds ports.new.log }
     ensures shard_holds { S.holds ports.old.shards → S.holds ports.new.shards }
+    ensures serves { (l : ℕ) → S.serves ports.old.shards l → S.serves ports.new.shards l }
     ensures outcomes { IfOk result (λ os. length os ≡ length (L.open_txs ports.old.log batch.now.lane)) }
 {
     let BatchRoom {
@@ -267,6 +274,7 @@ pub(crate) fn one_batch<S: PortSet, L: LogPort, G: Gate>(
     requires idle { L.phase ports.old.log lane ≡ Idle }
     requires count { S.count ports.old.shards ≡ shape.now.shards }
     requires ledger { AreShardsOf shape.now (S.sights ports.old.shards) }
+    requires mine { S.serves ports.old.shards lane }
     requires size { HasSize shape.now txs.now }
     requires limits { All IsCompact txs.now }
     ensures done { IfOk result (λ r. (k : ℕ) → Settled shape.now lane k (L.sights ports.old.log (L.at ports.old.log)) (S.sights ports.old.shards) → BatchDone shape.now L.alone lane k txs.now (L.sights ports.old.log (L.at ports.old.log)) (S.sights ports.old.shards) (L.sights ports.new.log (L.at ports.new.log)) (S.sights ports.new.shards) r.batch r.outcomes) }
@@ -286,6 +294,7 @@ pub(crate) fn one_batch<S: PortSet, L: LogPort, G: Gate>(
     ensures log_nodes { KeepNodes (L.sights ports.old.log) (L.sights ports.new.log) }
     ensures log_holds { L.holds ports.old.log → L.holds ports.new.log }
     ensures shard_holds { S.holds ports.old.shards → S.holds ports.new.shards }
+    ensures serves { (l : ℕ) → S.serves ports.old.shards l → S.serves ports.new.shards l }
     ensures report { IfOk result (λ r. (r.batch.lane ≡ lane) × (length r.outcomes ≡ length txs.now)) }
 {
     let _limit = shape.batch();
@@ -332,6 +341,7 @@ pub fn run_batch<S: PortSet, L: LogPort, G: Gate>(
     requires idle { L.phase ports.old.log lane ≡ Idle }
     requires count { S.count ports.old.shards ≡ shape.now.shards }
     requires ledger { AreShardsOf shape.now (S.sights ports.old.shards) }
+    requires mine { S.serves ports.old.shards lane }
     requires settled { IsSettled shape.now lane (L.sights ports.old.log (L.at ports.old.log)) (S.sights ports.old.shards) }
     requires size { HasSize shape.now txs.now }
     requires limits { All IsCompact txs.now }
@@ -352,6 +362,7 @@ pub fn run_batch<S: PortSet, L: LogPort, G: Gate>(
     ensures log_nodes { KeepNodes (L.sights ports.old.log) (L.sights ports.new.log) }
     ensures log_holds { L.holds ports.old.log → L.holds ports.new.log }
     ensures shard_holds { S.holds ports.old.shards → S.holds ports.new.shards }
+    ensures serves { (l : ℕ) → S.serves ports.old.shards l → S.serves ports.new.shards l }
     ensures report { IfOk result (λ r. AreReports lane r.batches (txs.now ∷ [])) }
 {
     let mut batches = match Vec::with_capacity(alloc, 1) {

@@ -38,6 +38,7 @@ pub fn run_lane<S: PortSet, L: LogPort, G: Gate>(
     requires idle { L.phase ports.old.log lane ≡ Idle }
     requires count { S.count ports.old.shards ≡ shape.now.shards }
     requires ledger { AreShardsOf shape.now (S.sights ports.old.shards) }
+    requires mine { S.serves ports.old.shards lane }
     requires settled { IsSettled shape.now lane (L.sights ports.old.log (L.at ports.old.log)) (S.sights ports.old.shards) }
     requires limits { All IsCompact txs.now }
     ensures done { OnOk result ((k : ℕ) → Settled shape.now lane k (L.sights ports.old.log (L.at ports.old.log)) (S.sights ports.old.shards) → LaneSo shape.now L.alone lane txs.now [] (L.sights ports.old.log (L.at ports.old.log)) (S.sights ports.old.shards) (L.sights ports.new.log (L.at ports.new.log)) (S.sights ports.new.shards)) }
@@ -57,6 +58,7 @@ pub fn run_lane<S: PortSet, L: LogPort, G: Gate>(
     ensures log_nodes { KeepNodes (L.sights ports.old.log) (L.sights ports.new.log) }
     ensures log_holds { L.holds ports.old.log → L.holds ports.new.log }
     ensures shard_holds { S.holds ports.old.shards → S.holds ports.new.shards }
+    ensures serves { (l : ℕ) → S.serves ports.old.shards l → S.serves ports.new.shards l }
     ensures report { IfOk result (λ r. IsReported lane shape.now.batch txs.now [] r.batches) }
 
     // Each reported batch was done behind the one before it, with the outcomes of its Commit.

@@ -38,12 +38,14 @@ pub fn lock_again<S: PortSet, G: Gate>(
 )
     requires shards { AreShards shard (S.count shards.old) calls.now }
     requires calls { AreLockCalls (S.sights shards.old) calls.now }
+    requires mine { All (λ c. S.serves shards.old c.1.batch.lane) calls.now }
     requires room { length calls.now ≤ vec_capacity answers.old }
     ensures capacity { vec_capacity answers.new ≡ vec_capacity answers.old }
     ensures count { S.count shards.new ≡ S.count shards.old }
     ensures nodes { KeepNodes (S.sights shards.old) (S.sights shards.new) }
     ensures later { (n : ℕ) → S.faults shards.old n ≤ S.faults shards.new n }
     ensures holds { S.holds shards.old → S.holds shards.new }
+    ensures serves { (l : ℕ) → S.serves shards.old l → S.serves shards.new l }
     ensures told { AskedTimes (LockAnswer S.alone) calls.now repeats (S.sights shards.old) (S.sights shards.new) }
 {
     for _time in 0..repeats {
@@ -62,12 +64,14 @@ pub fn finish_again<S: PortSet, G: Gate>(
 )
     requires shards { AreShards shard (S.count shards.old) calls.now }
     requires calls { AreFinishCalls (S.sights shards.old) calls.now }
+    requires mine { All (λ c. S.serves shards.old c.1.batch.lane) calls.now }
     requires room { length calls.now ≤ vec_capacity answers.old }
     ensures capacity { vec_capacity answers.new ≡ vec_capacity answers.old }
     ensures count { S.count shards.new ≡ S.count shards.old }
     ensures nodes { KeepNodes (S.sights shards.old) (S.sights shards.new) }
     ensures later { (n : ℕ) → S.faults shards.old n ≤ S.faults shards.new n }
     ensures holds { S.holds shards.old → S.holds shards.new }
+    ensures serves { (l : ℕ) → S.serves shards.old l → S.serves shards.new l }
     ensures told { AskedTimes (FinishAnswer S.alone) calls.now repeats (S.sights shards.old) (S.sights shards.new) }
 {
     for _time in 0..repeats {
@@ -86,12 +90,14 @@ pub fn forget_again<S: PortSet, G: Gate>(
 )
     requires shards { AreShards shard (S.count shards.old) calls.now }
     requires calls { AreForgetCalls (S.sights shards.old) calls.now }
+    requires mine { All (λ c. S.serves shards.old c.1.batch.lane) calls.now }
     requires room { length calls.now ≤ vec_capacity answers.old }
     ensures capacity { vec_capacity answers.new ≡ vec_capacity answers.old }
     ensures count { S.count shards.new ≡ S.count shards.old }
     ensures nodes { KeepNodes (S.sights shards.old) (S.sights shards.new) }
     ensures later { (n : ℕ) → S.faults shards.old n ≤ S.faults shards.new n }
     ensures holds { S.holds shards.old → S.holds shards.new }
+    ensures serves { (l : ℕ) → S.serves shards.old l → S.serves shards.new l }
     ensures told { AskedTimes (ForgetAnswer S.alone) calls.now repeats (S.sights shards.old) (S.sights shards.new) }
 {
     for _time in 0..repeats {
@@ -113,6 +119,7 @@ pub fn lock_phase<S: PortSet, G: Gate>(
     requires ledger { AreShardsOf shape.now (S.sights shards.old) }
     requires shards { AreShards shard shape.now.shards calls.now }
     requires calls { AreLockCalls (S.sights shards.old) calls.now }
+    requires mine { All (λ c. S.serves shards.old c.1.batch.lane) calls.now }
     requires empty { answers.items ≡ [] }
     requires room { length calls.now ≤ vec_capacity answers }
     requires no_replies { replies.items ≡ [] }
@@ -121,6 +128,7 @@ pub fn lock_phase<S: PortSet, G: Gate>(
     ensures nodes { KeepNodes (S.sights shards.old) (S.sights shards.new) }
     ensures later { (n : ℕ) → S.faults shards.old n ≤ S.faults shards.new n }
     ensures holds { S.holds shards.old → S.holds shards.new }
+    ensures serves { (l : ℕ) → S.serves shards.old l → S.serves shards.new l }
     ensures told { IfOk result (Locked S.alone calls.now (S.sights shards.old) (S.sights shards.new)) }
     ensures stopped { IfErr result (IsStoppedAt shape.now (LockAnswer S.alone) calls.now (S.sights shards.old) (S.sights shards.new)) }
     ensures fault { IfErr result (λ e. IsShardCause shape.now (S.sights shards.new) e.node e.fault) }
@@ -144,12 +152,14 @@ pub fn finish_phase<S: PortSet, G: Gate>(
     requires count { S.count shards.old ≡ shape.now.shards }
     requires shards { AreShards shard shape.now.shards calls.now }
     requires calls { AreFinishCalls (S.sights shards.old) calls.now }
+    requires mine { All (λ c. S.serves shards.old c.1.batch.lane) calls.now }
     requires room { length calls.now ≤ vec_capacity answers.old }
     ensures capacity { vec_capacity answers.new ≡ vec_capacity answers.old }
     ensures count { S.count shards.new ≡ S.count shards.old }
     ensures nodes { KeepNodes (S.sights shards.old) (S.sights shards.new) }
     ensures later { (n : ℕ) → S.faults shards.old n ≤ S.faults shards.new n }
     ensures holds { S.holds shards.old → S.holds shards.new }
+    ensures serves { (l : ℕ) → S.serves shards.old l → S.serves shards.new l }
     ensures told { IfOk result (Stamped (FinishAnswer S.alone) calls.now (S.sights shards.old) (S.sights shards.new)) }
     ensures stopped { IfErr result (IsStoppedAt shape.now (FinishAnswer S.alone) calls.now (S.sights shards.old) (S.sights shards.new)) }
     ensures fault { IfErr result (λ e. IsShardCause shape.now (S.sights shards.new) e.node e.fault) }
@@ -174,12 +184,14 @@ pub fn forget_phase<S: PortSet, G: Gate>(
     requires count { S.count shards.old ≡ shape.now.shards }
     requires shards { AreShards shard shape.now.shards calls.now }
     requires calls { AreForgetCalls (S.sights shards.old) calls.now }
+    requires mine { All (λ c. S.serves shards.old c.1.batch.lane) calls.now }
     requires room { length calls.now ≤ vec_capacity answers.old }
     ensures capacity { vec_capacity answers.new ≡ vec_capacity answers.old }
     ensures count { S.count shards.new ≡ S.count shards.old }
     ensures nodes { KeepNodes (S.sights shards.old) (S.sights shards.new) }
     ensures later { (n : ℕ) → S.faults shards.old n ≤ S.faults shards.new n }
     ensures holds { S.holds shards.old → S.holds shards.new }
+    ensures serves { (l : ℕ) → S.serves shards.old l → S.serves shards.new l }
     ensures told { IfOk result (Stamped (ForgetAnswer S.alone) calls.now (S.sights shards.old) (S.sights shards.new)) }
     ensures stopped { IfErr result (IsStoppedAt shape.now (ForgetAnswer S.alone) calls.now (S.sights shards.old) (S.sights shards.new)) }
     ensures fault { IfErr result (λ e. IsShardCause shape.now (S.sights shards.new) e.node e.fault) }

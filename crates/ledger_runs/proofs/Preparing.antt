@@ -39,7 +39,7 @@ resumed_none K H lane E J L same before grown none l = go (eqb_tells l lane) ∙
 
 -- ---- cuts
 
-some_of : {A : Type 0} (n : ℕ) (xs : List A) → 0 < n → 0 < length xs → 0 < length (take n xs)
+pub some_of : {A : Type 0} (n : ℕ) (xs : List A) → 0 < n → 0 < length xs → 0 < length (take n xs)
 some_of n xs some left = subst (λ m. 0 < m) (sym (length-take n xs)) (omega (arith, some, left))
 
 some_from : {A : Type 0} (n start : ℕ) (xs : List A) → 0 < n → start < length xs → 0 < length (take n (drop start xs))

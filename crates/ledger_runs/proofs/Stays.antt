@@ -55,7 +55,7 @@ own_all lane J front (r ∷ more) rest os e own =
 pub all_own : (lane : ℕ) (J more rest : List Record) → J ≡ more ++ rest → EachSized (IsOwn lane J) (sized_onto lane more [])
 all_own lane J more rest e = own_all lane J [] more rest [] e tt
 
-each_by : (P Q : Sized → Type 0) (S : List Sized) → ((s : Sized) → P s → Q s) → EachSized P S → EachSized Q S
+pub each_by : (P Q : Sized → Type 0) (S : List Sized) → ((s : Sized) → P s → Q s) → EachSized P S → EachSized Q S
 each_by P Q [] f all = tt
 each_by P Q (s ∷ S) f all = (f s all.0, each_by P Q S f all.1)
 

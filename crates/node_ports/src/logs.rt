@@ -51,7 +51,7 @@ impl<'r, W: Wait, D: Disk> NodeLogs<'r, W, D> {
     }
 }
 
-// Begins a batch of a coordinator's idle lane.
+/// Begins a batch of a coordinator's idle lane.
 pub fn prepare_at<D: Disk>(
     log: &mut CoordLog<D>,
     lane: LaneId,
@@ -74,7 +74,7 @@ pub fn prepare_at<D: Disk>(
     log.prepare(lane, txs)
 }
 
-// Decides a coordinator's prepared batch.
+/// Decides a coordinator's prepared batch.
 pub fn decide_at<D: Disk>(
     log: &mut CoordLog<D>,
     lane: LaneId,
@@ -87,7 +87,7 @@ pub fn decide_at<D: Disk>(
     requires room { length (txs_of log.old.journal (open_batch log.old.journal lane)) ≤ vec_capacity out.old }
     ensures told { DecideAnswer true lane replies.now (sight log.old) (sight log.new) result }
     ensures fault { IfErr result (λ f. IsDecideCause f (sight log.new)) }
-    ensures moves { DecidedMoves lane (sight log.old) (sight log.new) result }
+    ensures moves { DecidedMoves lane (sight log.old) (sight log.new) }
     ensures stamp { IfOk result IsStamp }
     ensures phase { OnOk result ((slot log.new.journal lane).phase ≡ InCommit) }
     ensures outcomes { OnOk result (length out.new.items ≡ length (txs_of log.old.journal (open_batch log.old.journal lane))) }
@@ -103,7 +103,7 @@ pub fn decide_at<D: Disk>(
     answer
 }
 
-// Writes down that a coordinator's decided batch is applied.
+/// Writes down that a coordinator's decided batch is applied.
 pub fn discard_at<D: Disk>(
     log: &mut CoordLog<D>,
     lane: LaneId,
@@ -124,7 +124,7 @@ pub fn discard_at<D: Disk>(
     log.discard(lane, cause)
 }
 
-// Writes down that a coordinator's batch is forgotten.
+/// Writes down that a coordinator's batch is forgotten.
 pub fn done_at<D: Disk>(log: &mut CoordLog<D>, lane: LaneId, cause: Stamp) -> Result<Stamp, NodeFault>
     requires home { IsLane log.old.header lane }
     requires phase { (slot log.old.journal lane).phase ≡ InDiscard }

@@ -30,7 +30,7 @@ const FINISH: u8 = 3;
 
 const FORGET: u8 = 4;
 
-// The calls at a shard, by what is seen of it.
+/// Locks a part for a batch at a shard, by what is seen of it.
 pub fn lock_at<D: Disk>(node: &mut ShardNode<D>, call: &LockCall) -> Result<Replied, NodeFault>
     requires { IsLockCall node.old.header call.now }
     ensures answer { Told true call.now.batch.lane true (lock_due node.old.header.shape (D.limit node.old.disk) call.now) (sight_of D.count D.limit node.old) (sight_of D.count D.limit node.new) result }
@@ -43,6 +43,7 @@ pub fn lock_at<D: Disk>(node: &mut ShardNode<D>, call: &LockCall) -> Result<Repl
     node.lock(call)
 }
 
+/// Applies a locked batch at a shard, by what is seen of it.
 pub fn finish_at<D: Disk>(node: &mut ShardNode<D>, call: &FinishCall) -> Result<Stamp, NodeFault>
     requires { IsFinishCall node.old.header call.now }
     ensures answer { Told true call.now.batch.lane false (finish_due call.now) (sight_of D.count D.limit node.old) (sight_of D.count D.limit node.new) result }
@@ -55,6 +56,7 @@ pub fn finish_at<D: Disk>(node: &mut ShardNode<D>, call: &FinishCall) -> Result<
     node.finish(call)
 }
 
+/// Forgets an applied batch at a shard, by what is seen of it.
 pub fn forget_at<D: Disk>(node: &mut ShardNode<D>, call: &ForgetCall) -> Result<Stamp, NodeFault>
     requires { IsForgetCall node.old.header call.now }
     ensures answer { Told true call.now.batch.lane false (forget_due call.now) (sight_of D.count D.limit node.old) (sight_of D.count D.limit node.new) result }
@@ -92,6 +94,8 @@ impl<'r, 'n, W: Wait, D: Disk> ShardPort for NodeShard<'r, 'n, W, D> {
     ghost faults = { λ p. D.count p.shard.now.disk };
 
     ghost holds = { λ p. IsShardHeld D.content D.images p.shard.now };
+
+    ghost serves = { λ p l. Unit {0} };
 
     fn lock<G: Gate>(&mut self, call: &LockCall, gate: &G) -> Result<Replied, NodeFault> {
         self.pass(gate, LOCK, When::Before);

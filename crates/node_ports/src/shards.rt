@@ -112,6 +112,8 @@ impl<'r, W: Wait, D: Disk> PortSet for NodeShards<'r, W, D> {
 
     ghost holds = { λ p. AreShardsHeld D.content D.images p.nodes.items };
 
+    ghost serves = { λ p l. Unit {0} };
+
     fn lock<G: Gate>(
         &mut self,
         calls: &[(u32, LockCall)],

@@ -40,6 +40,7 @@ fn resume_prepared<S: PortSet, L: LogPort, G: Gate>(
     requires shape { (L.header ports.old.log).shape ≡ shape.now }
     requires count { S.count ports.old.shards ≡ shape.now.shards }
     requires ledger { AreShardsOf shape.now (S.sights ports.old.shards) }
+    requires mine { S.serves ports.old.shards unfinished.now.batch.lane }
     ensures taken { OnOk result (IsUnfinished unfinished.now.phase shape.now unfinished.now (L.sights ports.old.log (L.at ports.old.log)) (S.sights ports.old.shards) → IsTakenUp shape.now L.alone unfinished.now.batch (L.sights ports.old.log (L.at ports.old.log)) (S.sights ports.old.shards) (L.sights ports.new.log (L.at ports.new.log)) (S.sights ports.new.shards)) }
     ensures outcomes { IfOk result (λ r. IsUnfinished unfinished.now.phase shape.now unfinished.now (L.sights ports.old.log (L.at ports.old.log)) (S.sights ports.old.shards) → HasItsOutcomes unfinished.now.phase unfinished.now (L.sights ports.new.log (L.at ports.new.log)).seen r) }
     ensures left { IfErr result (IsResumeStopped shape.now L.alone unfinished.now (L.sights ports.old.log (L.at ports.old.log)) (S.sights ports.old.shards) (L.sights ports.new.log (L.at ports.new.log)) (S.sights ports.new.shards)) }
@@ -58,6 +59,7 @@ fn resume_prepared<S: PortSet, L: LogPort, G: Gate>(
     ensures log_nodes { KeepNodes (L.sights ports.old.log) (L.sights ports.new.log) }
     ensures log_holds { L.holds ports.old.log → L.holds ports.new.log }
     ensures shard_holds { S.holds ports.old.shards → S.holds ports.new.shards }
+    ensures serves { (l : ℕ) → S.serves ports.old.shards l → S.serves ports.new.shards l }
     ensures resumed { IfOk result (IsResumed unfinished.now) }
 {
     let _limit = shape.batch();
@@ -99,6 +101,7 @@ fn resume_committed<S: PortSet, L: LogPort, G: Gate>(
     requires shape { (L.header ports.old.log).shape ≡ shape.now }
     requires count { S.count ports.old.shards ≡ shape.now.shards }
     requires ledger { AreShardsOf shape.now (S.sights ports.old.shards) }
+    requires mine { S.serves ports.old.shards unfinished.now.batch.lane }
     ensures taken { OnOk result (IsUnfinished unfinished.now.phase shape.now unfinished.now (L.sights ports.old.log (L.at ports.old.log)) (S.sights ports.old.shards) → IsTakenUp shape.now L.alone unfinished.now.batch (L.sights ports.old.log (L.at ports.old.log)) (S.sights ports.old.shards) (L.sights ports.new.log (L.at ports.new.log)) (S.sights ports.new.shards)) }
     ensures outcomes { IfOk result (λ r. IsUnfinished unfinished.now.phase shape.now unfinished.now (L.sights ports.old.log (L.at ports.old.log)) (S.sights ports.old.shards) → HasItsOutcomes unfinished.now.phase unfinished.now (L.sights ports.new.log (L.at ports.new.log)).seen r) }
     ensures left { IfErr result (IsResumeStopped shape.now L.alone unfinished.now (L.sights ports.old.log (L.at ports.old.log)) (S.sights ports.old.shards) (L.sights ports.new.log (L.at ports.new.log)) (S.sights ports.new.shards)) }
@@ -117,6 +120,7 @@ fn resume_committed<S: PortSet, L: LogPort, G: Gate>(
     ensures log_nodes { KeepNodes (L.sights ports.old.log) (L.sights ports.new.log) }
     ensures log_holds { L.holds ports.old.log → L.holds ports.new.log }
     ensures shard_holds { S.holds ports.old.shards → S.holds ports.new.shards }
+    ensures serves { (l : ℕ) → S.serves ports.old.shards l → S.serves ports.new.shards l }
     ensures resumed { IfOk result (IsResumed unfinished.now) }
 {
     let _limit = shape.batch();
@@ -175,6 +179,7 @@ fn resume_discarded<S: PortSet, L: LogPort, G: Gate>(
     requires shape { (L.header ports.old.log).shape ≡ shape.now }
     requires count { S.count ports.old.shards ≡ shape.now.shards }
     requires ledger { AreShardsOf shape.now (S.sights ports.old.shards) }
+    requires mine { S.serves ports.old.shards unfinished.now.batch.lane }
     ensures taken { OnOk result (IsUnfinished unfinished.now.phase shape.now unfinished.now (L.sights ports.old.log (L.at ports.old.log)) (S.sights ports.old.shards) → IsTakenUp shape.now L.alone unfinished.now.batch (L.sights ports.old.log (L.at ports.old.log)) (S.sights ports.old.shards) (L.sights ports.new.log (L.at ports.new.log)) (S.sights ports.new.shards)) }
     ensures outcomes { IfOk result (λ r. IsUnfinished unfinished.now.phase shape.now unfinished.now (L.sights ports.old.log (L.at ports.old.log)) (S.sights ports.old.shards) → HasItsOutcomes unfinished.now.phase unfinished.now (L.sights ports.new.log (L.at ports.new.log)).seen r) }
     ensures left { IfErr result (IsResumeStopped shape.now L.alone unfinished.now (L.sights ports.old.log (L.at ports.old.log)) (S.sights ports.old.shards) (L.sights ports.new.log (L.at ports.new.log)) (S.sights ports.new.shards)) }
@@ -193,6 +198,7 @@ fn resume_discarded<S: PortSet, L: LogPort, G: Gate>(
     ensures log_nodes { KeepNodes (L.sights ports.old.log) (L.sights ports.new.log) }
     ensures log_holds { L.holds ports.old.log → L.holds ports.new.log }
     ensures shard_holds { S.holds ports.old.shards → S.holds ports.new.shards }
+    ensures serves { (l : ℕ) → S.serves ports.old.shards l → S.serves ports.new.shards l }
     ensures resumed { IfOk result (IsResumed unfinished.now) }
 {
     let _limit = shape.batch();
@@ -255,6 +261,7 @@ fn resume_lane<S: PortSet, L: LogPort, G: Gate>(
     requires shape { (L.header ports.old.log).shape ≡ shape.now }
     requires count { S.count ports.old.shards ≡ shape.now.shards }
     requires ledger { AreShardsOf shape.now (S.sights ports.old.shards) }
+    requires mine { S.serves ports.old.shards unfinished.now.batch.lane }
     ensures taken { OnOk result (IsUnfinished unfinished.now.phase shape.now unfinished.now (L.sights ports.old.log (L.at ports.old.log)) (S.sights ports.old.shards) → IsTakenUp shape.now L.alone unfinished.now.batch (L.sights ports.old.log (L.at ports.old.log)) (S.sights ports.old.shards) (L.sights ports.new.log (L.at ports.new.log)) (S.sights ports.new.shards)) }
     ensures outcomes { IfOk result (λ r. IsUnfinished unfinished.now.phase shape.now unfinished.now (L.sights ports.old.log (L.at ports.old.log)) (S.sights ports.old.shards) → HasItsOutcomes unfinished.now.phase unfinished.now (L.sights ports.new.log (L.at ports.new.log)).seen r) }
     ensures left { IfErr result (IsResumeStopped shape.now L.alone unfinished.now (L.sights ports.old.log (L.at ports.old.log)) (S.sights ports.old.shards) (L.sights ports.new.log (L.at ports.new.log)) (S.sights ports.new.shards)) }
@@ -273,6 +280,7 @@ fn resume_lane<S: PortSet, L: LogPort, G: Gate>(
     ensures log_nodes { KeepNodes (L.sights ports.old.log) (L.sights ports.new.log) }
     ensures log_holds { L.holds ports.old.log → L.holds ports.new.log }
     ensures shard_holds { S.holds ports.old.shards → S.holds ports.new.shards }
+    ensures serves { (l : ℕ) → S.serves ports.old.shards l → S.serves ports.new.shards l }
     ensures resumed { IfOk result (IsResumed unfinished.now) }
 {
     match unfinished.phase {
@@ -323,6 +331,7 @@ pub fn resume<S: PortSet, L: LogPort, G: Gate>(
     requires shape { (L.header ports.old.log).shape ≡ shape.now }
     requires count { S.count ports.old.shards ≡ shape.now.shards }
     requires ledger { AreShardsOf shape.now (S.sights ports.old.shards) }
+    requires mine { All (λ o. S.serves ports.old.shards o.batch.lane) lanes.now }
 
     // Each batch is at its end, and is told with the phase in which it stood and the outcomes of its Commit; each lane is idle.
     ensures taken { IfOk result (λ r. AreTakenUp shape.now L.alone lanes.now r.batches (L.sights ports.old.log (L.at ports.old.log)) (S.sights ports.old.shards) (L.sights ports.new.log (L.at ports.new.log)) (S.sights ports.new.shards)) }
@@ -344,6 +353,7 @@ pub fn resume<S: PortSet, L: LogPort, G: Gate>(
     ensures log_nodes { KeepNodes (L.sights ports.old.log) (L.sights ports.new.log) }
     ensures log_holds { L.holds ports.old.log → L.holds ports.new.log }
     ensures shard_holds { S.holds ports.old.shards → S.holds ports.new.shards }
+    ensures serves { (l : ℕ) → S.serves ports.old.shards l → S.serves ports.new.shards l }
     ensures resumed { IfOk result (λ r. AreResumed lanes.now r.batches) }
 {
     let mut batches = match Vec::with_capacity(alloc, lanes.len()) {

@@ -36,14 +36,14 @@ of_all : (b : Batch) (A B : List Record) (r : Record) → AllOf b (A ++ r ∷ B)
 of_all b [] B r h = h.0
 of_all b (q ∷ A) B r h = of_all b A B r h.1
 
-own_append : (lane : ℕ) (A B : List Record) → own lane (A ++ B) ≡ own lane A ++ own lane B
+pub own_append : (lane : ℕ) (A B : List Record) → own lane (A ++ B) ≡ own lane A ++ own lane B
 own_append lane [] B = refl
 own_append lane (r ∷ A) B = elim (is_in_lane lane r) as (λ t. is_in_lane lane r ≡ t → own lane (r ∷ (A ++ B)) ≡ own lane (r ∷ A) ++ own lane B) [
   | true ↦ λ t. own_in lane r (A ++ B) t ∙ ap (λ L. r ∷ L) (own_append lane A B) ∙ ap (λ L. L ++ own lane B) (sym (own_in lane r A t))
   | false ↦ λ t. own_out lane r (A ++ B) t ∙ own_append lane A B ∙ ap (λ L. L ++ own lane B) (sym (own_out lane r A t))
 ] refl
 
-own_head : (lane : ℕ) (J : List Record) (r : Record) (rest : List Record) → own lane J ≡ r ∷ rest → is_in_lane lane r ≡ true
+pub own_head : (lane : ℕ) (J : List Record) (r : Record) (rest : List Record) → own lane J ≡ r ∷ rest → is_in_lane lane r ≡ true
 own_head lane [] r rest e = absurd (let z : [] ≡ r ∷ rest = e in cc)
 own_head lane (q ∷ J) r rest e = elim (is_in_lane lane q) as (λ t. is_in_lane lane q ≡ t → is_in_lane lane r ≡ true) [
   | true ↦ λ t. subst (λ x. is_in_lane lane x ≡ true) (head_is q r (own lane J) rest (sym (own_in lane q J t) ∙ e)) t
@@ -72,13 +72,13 @@ all_at_shard K x txs shard = elim (is_concerned K txs shard)
     ]
 
 -- the head of what the lane has newly tells its lane and number
-done_number : (lane k stamp : ℕ) (b : Batch) (rest J : List Record) → own lane J ≡ Done stamp b ∷ rest → (slot J lane).number ≡ k → (b.lane ≡ lane) × (b.number ≡ k)
+pub done_number : (lane k stamp : ℕ) (b : Batch) (rest J : List Record) → own lane J ≡ Done stamp b ∷ rest → (slot J lane).number ≡ k → (b.lane ≡ lane) × (b.number ≡ k)
 done_number lane k stamp b rest J e n =
     let l : (b.lane == lane) ≡ true = own_head lane J (Done stamp b) rest e in
     let here : (slot (Done stamp b ∷ rest) lane).number ≡ b.number = rw l in
     (grind (arith, l), sym here ∙ ap (λ L. (slot L lane).number) (sym e) ∙ ap (λ s. s.number) (sym (slot_own lane J)) ∙ n)
 
-prepare_found : (lane stamp a c d : ℕ) (os : List Outcome) (txs : List Compact) (b : Batch) (rest J : List Record) → b.lane ≡ lane
+pub prepare_found : (lane stamp a c d : ℕ) (os : List Outcome) (txs : List Compact) (b : Batch) (rest J : List Record) → b.lane ≡ lane
     → own lane J ≡ Done a b ∷ Discard c b ∷ Commit d b os ∷ Prepare stamp b txs ∷ rest → is_some (record_of 6 J b) ≡ true
 prepare_found lane stamp a c d os txs b rest J e n =
     ap is_some (record_own 6 b J) ∙ ap (λ l. is_some (record_of 6 (own l J) b)) e ∙ ap (λ L. is_some (record_of 6 L b)) n ∙ found

@@ -15,7 +15,7 @@ use Rattle.run_laws.specs.Turns.{Elsewhere}
 use Rattle.run_laws.specs.Flights.{flying, FlownLaw, MayCome, FlushLaw}
 use Rattle.run_laws.proofs.TurnStep.{sees, seen_view}
 
-passes : (P : Compact → Type 0) (pieces : List (List Compact)) (r : Record) → AllPass P pieces → Holds pieces r → TxsPass P r
+pub passes : (P : Compact → Type 0) (pieces : List (List Compact)) (r : Record) → AllPass P pieces → Holds pieces r → TxsPass P r
 passes P pieces (Prepare stamp b txs) all h = all txs h
 passes P pieces (Genesis header hs) all h = tt
 passes P pieces (Start header) all h = tt

@@ -71,7 +71,7 @@ module _ {A : Type 0} (stamp used need capacity : ℕ) (a : A) (r : Record) wher
       two false false e = let z : Writes a r ≡ err (Refuses why) = e in cc
 
 -- a Lock whose stamp or room is wanting would be new
-lock_appends : (K : Shape) (capacity : ℕ) (L : List Record) (c : LockCall) (p : Plan RepliesAt) (f : NodeFault) → ((why : Refused) → Refuses why ≡ f → ⊥) → lock_by p K capacity L c ≡ Answers (Err f) → (q : RepliesAt) × (p ≡ Append q)
+pub lock_appends : (K : Shape) (capacity : ℕ) (L : List Record) (c : LockCall) (p : Plan RepliesAt) (f : NodeFault) → ((why : Refused) → Refuses why ≡ f → ⊥) → lock_by p K capacity L c ≡ Answers (Err f) → (q : RepliesAt) × (p ≡ Append q)
 lock_appends K capacity L c (Kept q) f never e = absurd (let z : ok (replied_of q) ≡ err f = e in cc)
 lock_appends K capacity L c (Refuse w) f never e = absurd (never w (let z : err {A = Replied} (Refuses w) ≡ err f = e in cc))
 lock_appends K capacity L c (Append q) f never e = (q, refl)
@@ -93,7 +93,7 @@ passed false why p a e = refl
 behind : (m n : ℕ) (c : Bool) → (nat_lt m n || c) ≡ false → (m == n) ≡ false → n < m
 behind m n c h d = grind (arith, h, d)
 
-lock_behind : (L : List Record) (b : Batch) (p : List Entry) (cause : ℕ) (q : RepliesAt) → planned L b p cause ≡ Append q → (slot L b.lane).number < b.number
+pub lock_behind : (L : List Record) (b : Batch) (p : List Entry) (cause : ℕ) (q : RepliesAt) → planned L b p cause ≡ Append q → (slot L b.lane).number < b.number
 lock_behind L b p cause q e = behind b.number (slot L b.lane).number ((b.number == (slot L b.lane).number) && is_idle (slot L b.lane).phase)
     (passed (is_stale L b) (Stale (slot L b.lane).number) (lock_rest L b p cause) q e) (lock_new L b p cause q e).0
 
@@ -103,7 +103,7 @@ part_call K b txs s t = record { batch = b; part = part K.shards s 0 txs; cause 
 -- ---- each call
 
 -- the stamp of a record for which room was kept is refused only past its bound
-late_within : {A : Type 0} (stamp : ℕ) (a : A) (r : Record) (end : ℕ) → stamp ≤ 2 ^ 62 + 2 ^ 20 → if_early last_late stamp (Writes a r) ≡ Answers (Err (ClockEnd end)) → ⊥
+pub late_within : {A : Type 0} (stamp : ℕ) (a : A) (r : Record) (end : ℕ) → stamp ≤ 2 ^ 62 + 2 ^ 20 → if_early last_late stamp (Writes a r) ≡ Answers (Err (ClockEnd end)) → ⊥
 late_within {A = A} stamp a r end le e = one (nat_lt last_late stamp) refl e
   where
     past : (x : ℕ) → nat_lt last_late x ≡ true → x ≤ 2 ^ 62 + 2 ^ 20 → ⊥
@@ -113,7 +113,7 @@ late_within {A = A} stamp a r end le e = one (nat_lt last_late stamp) refl e
     one true h e = past stamp h le
     one false h e = let z : Writes a r ≡ err (ClockEnd end) = e in cc
 
-stamp_within : (p : Plan ℕ) (what : Record) (end : ℕ) → ((t : ℕ) → p ≡ Append t → t ≤ 2 ^ 62 + 2 ^ 20) → stamp_by p what ≡ Answers (Err (ClockEnd end)) → ⊥
+pub stamp_within : (p : Plan ℕ) (what : Record) (end : ℕ) → ((t : ℕ) → p ≡ Append t → t ≤ 2 ^ 62 + 2 ^ 20) → stamp_by p what ≡ Answers (Err (ClockEnd end)) → ⊥
 stamp_within (Kept t) what end le e = let z : ok t ≡ err (ClockEnd end) = e in cc
 stamp_within (Refuse why) what end le e = let z : err {A = ℕ} (Refuses why) ≡ err (ClockEnd end) = e in cc
 stamp_within (Append t) what end le e = late_within t t what end (le t refl) e
@@ -196,11 +196,11 @@ module _ (K : Shape) (lane : ℕ) (next : List Compact → Type 0) (J : ℕ → 
 below : (K : Shape) (txs : List Compact) (s : ℕ) → is_concerned K txs s ≡ true → s < K.shards
 below K txs s c = (concerned K txs s c).0
 
-greatest_le : (f : ℕ → ℕ) (top n : ℕ) → ((s : ℕ) → f s ≤ top) → greatest f n ≤ top
+pub greatest_le : (f : ℕ → ℕ) (top n : ℕ) → ((s : ℕ) → f s ≤ top) → greatest f n ≤ top
 greatest_le f top zero h = omega arith
 greatest_le f top (suc n) h = omega (arith, greatest_le f top n h, h n)
 
-next_within : (J : List Record) (cause top : ℕ) → last_stamp J ≤ top → cause ≤ top → next_stamp J cause ≤ suc top
+pub next_within : (J : List Record) (cause top : ℕ) → last_stamp J ≤ top → cause ≤ top → next_stamp J cause ≤ suc top
 next_within J cause top a b = omega (arith, a, b)
 
 module _ (K : Shape) (m : Minted) (logs shards : ℕ → Sight) (limits : IsWithinLimits K) (shard_shapes : (s : ℕ) → s < K.shards → (shards s).header.shape ≡ K)

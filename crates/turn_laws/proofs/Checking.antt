@@ -159,11 +159,11 @@ module _ (K : Shape) (lane : ℕ) (next : List Compact → Type 0) (I J : ℕ �
 -- ---- want of memory
 
 -- a call that takes none does not answer it
-never_memory : {A : Type 0} (due : Due A) (now : Sight) (f : NodeFault) → f ≡ Memory → IsAnswered false due now f → ⊥
+pub never_memory : {A : Type 0} (due : Due A) (now : Sight) (f : NodeFault) → f ≡ Memory → IsAnswered false due now f → ⊥
 never_memory due now f memory h = let z : false ≡ true = subst (λ x. IsAnswered false due now x) memory h in cc
 
 -- so behind a Prepare it is answered to a Lock
-in_prepare : (K : Shape) (b : Batch) (txs : List Compact) (log : Sight) (shards : ℕ → Sight) (node : ℕ) (f : NodeFault) → f ≡ Memory → IsCallFault K b txs log shards node f → (slot log.seen b.lane).phase ≡ InPrepare
+pub in_prepare : (K : Shape) (b : Batch) (txs : List Compact) (log : Sight) (shards : ℕ → Sight) (node : ℕ) (f : NodeFault) → f ≡ Memory → IsCallFault K b txs log shards node f → (slot log.seen b.lane).phase ≡ InPrepare
 in_prepare K b txs log shards node f memory (to_lock s t at concerned phase stands had answered) = phase
 in_prepare K b txs log shards node f memory (to_decide replies at phase had cause answered) = phase
 in_prepare K b txs log shards node f memory (to_finish s t os at concerned phase stands had answered) = absurd (never_memory _ (shards s) f memory answered)
@@ -171,7 +171,7 @@ in_prepare K b txs log shards node f memory (to_discard cause at phase had lates
 in_prepare K b txs log shards node f memory (to_forget s t at concerned phase stands had answered) = absurd (never_memory _ (shards s) f memory answered)
 in_prepare K b txs log shards node f memory (to_done cause at phase had latest answered) = absurd (never_memory _ log f memory answered)
 
-own_slot : (lane : ℕ) (L M : List Record) → own lane M ≡ own lane L → slot M lane ≡ slot L lane
+pub own_slot : (lane : ℕ) (L M : List Record) → own lane M ≡ own lane L → slot M lane ≡ slot L lane
 own_slot lane L M same = slot_own lane M ∙ ap (λ N. slot N lane) same ∙ sym (slot_own lane L)
 
 -- ---- turns

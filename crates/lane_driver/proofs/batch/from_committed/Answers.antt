@@ -8,6 +8,7 @@ use Rattle.lane_driver.proofs.Ready.{finish_shards, forget_shards}
 use Rattle.lane_driver.proofs.Fitting.{finishes_ready, forgets_ready, calls_kept, ledger_kept, nodes_same, nodes_on}
 use Rattle.std.proofs.Common.{inr}
 use Rattle.lane_driver.proofs.Causing.{log_fault, discard_caused}
+use Rattle.lane_driver.proofs.Serving.{own_served, finishes_served, forgets_served}
 use Rattle.lane_driver.proofs.batch.from_committed.Goals as goal
 
 pub finish_phase-requires-clause-shards : goal.finish_phase-requires-clause-shards
@@ -107,3 +108,27 @@ returns-in-Err-clause-log_nodes g c = nodes_same (g.L.LogPort.sights c.args.port
 
 pub returns-in-Err-from_discarded-clause-log_nodes : goal.returns-in-Err-from_discarded-clause-log_nodes
 returns-in-Err-from_discarded-clause-log_nodes g c = nodes_on (g.L.LogPort.sights c.args.ports.now.log) (g.L.LogPort.sights c.discard.new.self) (g.L.LogPort.sights c.from_discarded.new.ports.log) c.in-Ok-discard.ensures.nodes c.in-Err-from_discarded.ensures.log_nodes
+
+pub finish_phase-requires-clause-mine : goal.finish_phase-requires-clause-mine
+finish_phase-requires-clause-mine g c =
+    finishes_served (g.S.PortSet.serves c.args.ports.now.shards) c.args.batch.now c.requires.mine c.args.cause c.args.outcomes.now c.args.locks.now _ (c.deref.ensures.value ∙ c.finish_calls.ensures)
+
+pub finish_again-requires-clause-mine : goal.finish_again-requires-clause-mine
+finish_again-requires-clause-mine g c =
+    finishes_served (g.S.PortSet.serves c.finish_phase.new.shards) c.args.batch.now (c.in-Ok.ensures.serves _ c.requires.mine) c.args.cause c.args.outcomes.now c.args.locks.now _ (c.deref-2.ensures.value ∙ c.finish_calls.ensures)
+
+pub from_discarded-requires-clause-mine : goal.from_discarded-requires-clause-mine
+from_discarded-requires-clause-mine g c = c.finish_again.ensures.serves _ (c.in-Ok.ensures.serves _ c.requires.mine)
+
+pub lock_again-requires-clause-mine : goal.lock_again-requires-clause-mine
+lock_again-requires-clause-mine g c = own_served (g.S.PortSet.serves c.from_discarded.new.ports.shards) c.args.batch.now (c.in-Ok-from_discarded.ensures.serves _ (c.finish_again.ensures.serves _ (c.in-Ok.ensures.serves _ c.requires.mine))) c.args.locks.now c.requires.own
+
+pub finish_again-requires-2-clause-mine : goal.finish_again-requires-2-clause-mine
+finish_again-requires-2-clause-mine g c =
+    finishes_served (g.S.PortSet.serves c.lock_again.new.shards) c.args.batch.now (c.lock_again.ensures.serves _ (c.in-Ok-from_discarded.ensures.serves _ (c.finish_again.ensures.serves _ (c.in-Ok.ensures.serves _ c.requires.mine)))) c.args.cause c.args.outcomes.now c.args.locks.now _
+    (c.deref-3.ensures.value ∙ c.finish_calls.ensures)
+
+pub forget_again-requires-clause-mine : goal.forget_again-requires-clause-mine
+forget_again-requires-clause-mine g c =
+    forgets_served (g.S.PortSet.serves c.finish_again-2.new.shards) c.args.batch.now (c.finish_again-2.ensures.serves _ (c.lock_again.ensures.serves _ (c.in-Ok-from_discarded.ensures.serves _ (c.finish_again.ensures.serves _ (c.in-Ok.ensures.serves _ c.requires.mine))))) c.in-Ok-discard.stamp c.args.locks.now _
+    (c.deref-4.ensures.value ∙ c.in-Ok-from_discarded.ensures.calls)

@@ -8,6 +8,7 @@ use Rattle.lane_driver.proofs.Fitting.{forgets_ready, calls_kept, nodes_same, no
 use Rattle.cbdc_model.specs.Calls.{IsForgetCall}
 use Rattle.std.proofs.Common.{inr}
 use Rattle.lane_driver.proofs.Causing.{log_fault, done_caused}
+use Rattle.lane_driver.proofs.Serving.{forgets_served}
 use Rattle.lane_driver.proofs.batch.from_discarded.Goals as goal
 
 pub forget_phase-requires-clause-shards : goal.forget_phase-requires-clause-shards
@@ -63,3 +64,10 @@ returns-in-Ok-done-clause-nodes g c = nodes_on (g.S.PortSet.sights c.args.ports.
 
 pub returns-in-Err-done-clause-nodes : goal.returns-in-Err-done-clause-nodes
 returns-in-Err-done-clause-nodes g c = nodes_on (g.S.PortSet.sights c.args.ports.now.shards) (g.S.PortSet.sights c.forget_phase.new.shards) (g.S.PortSet.sights c.forget_again.new.shards) c.in-Ok.ensures.nodes c.forget_again.ensures.nodes
+
+pub forget_phase-requires-clause-mine : goal.forget_phase-requires-clause-mine
+forget_phase-requires-clause-mine g c = forgets_served (g.S.PortSet.serves c.args.ports.now.shards) c.args.batch.now c.requires.mine c.args.cause c.args.locks.now _ (c.deref.ensures.value ∙ c.forget_calls.ensures)
+
+pub forget_again-requires-clause-mine : goal.forget_again-requires-clause-mine
+forget_again-requires-clause-mine g c =
+    forgets_served (g.S.PortSet.serves c.forget_phase.new.shards) c.args.batch.now (c.in-Ok.ensures.serves _ c.requires.mine) c.args.cause c.args.locks.now _ (c.deref-2.ensures.value ∙ c.forget_calls.ensures)

@@ -9,6 +9,7 @@ use Rattle.cbdc_model.specs.Calls.{IsLockCall}
 use Rattle.lane_driver.proofs.Fitting.{locks_ready, calls_kept, ledger_kept, nodes_same, nodes_on}
 use Rattle.std.proofs.Common.{inr}
 use Rattle.lane_driver.proofs.Causing.{log_fault, decide_caused}
+use Rattle.lane_driver.proofs.Serving.{locks_own, locks_served}
 use Rattle.lane_driver.proofs.batch.from_prepared.Goals as goal
 
 pub lock_phase-requires-clause-shards : goal.lock_phase-requires-clause-shards
@@ -105,3 +106,13 @@ returns-in-Err-clause-log_nodes g c = nodes_same (g.L.LogPort.sights c.args.port
 
 pub returns-clause-log_nodes : goal.returns-clause-log_nodes
 returns-clause-log_nodes g c = nodes_on (g.L.LogPort.sights c.args.ports.now.log) (g.L.LogPort.sights c.decide.new.self) (g.L.LogPort.sights c.from_committed.new.ports.log) c.in-Ok-decide.ensures.nodes c.in-Err-from_committed.ensures.log_nodes
+
+pub lock_phase-requires-clause-mine : goal.lock_phase-requires-clause-mine
+lock_phase-requires-clause-mine g c = locks_served (g.S.PortSet.serves c.args.ports.now.shards) c.args.batch.now c.requires.mine c.args.cause c.args.room.parts _ (c.deref.ensures.value ∙ c.lock_calls.ensures)
+
+pub lock_again-requires-clause-mine : goal.lock_again-requires-clause-mine
+lock_again-requires-clause-mine g c =
+    locks_served (g.S.PortSet.serves c.lock_phase.new.shards) c.args.batch.now (c.in-Ok.ensures.serves _ c.requires.mine) c.args.cause c.args.room.parts _ (c.deref-2.ensures.value ∙ c.lock_calls.ensures)
+
+pub from_committed-requires-clause-own : goal.from_committed-requires-clause-own
+from_committed-requires-clause-own g c = locks_own c.args.batch.now c.args.cause c.args.room.parts _ (c.deref-3.ensures.value ∙ c.lock_calls.ensures)

@@ -35,6 +35,7 @@ pieces-preserved g c =
       log_nodes = nodes_on (g.L.LogPort.sights c.args.ports.now.log) (g.L.LogPort.sights c.pieces.ports.log) (g.L.LogPort.sights c.one_batch.new.ports.log) c.pieces.invariant.log_nodes c.in-Ok-one_batch.ensures.log_nodes;
       log_holds = λ h. c.in-Ok-one_batch.ensures.log_holds (c.pieces.invariant.log_holds h);
       shard_holds = λ h. c.in-Ok-one_batch.ensures.shard_holds (c.pieces.invariant.shard_holds h);
+      serves = λ lane mine. c.in-Ok-one_batch.ensures.serves lane (c.pieces.invariant.serves lane mine);
       limits = subst (λ xs. All IsCompact xs) (sym (at.back ∙ ap (λ n. drop n c.pieces.rest.now) size)) (All-drop IsCompact (min c.args.shape.now.batch (length c.pieces.rest.now)) c.pieces.rest.now c.pieces.invariant.limits);
       room = room_after (length c.pieces.rest.now) c.args.shape.now.batch _ _ (length c.split_at.result.1.now) _ _ some c.pieces.invariant.room (ap (λ n. length c.split_at.result.1.now + n) (sym size) ∙ at.back_len) room
           c.push_reserved.ensures.len c.push_reserved.ensures.capacity;
@@ -79,6 +80,7 @@ pieces-init g c = record {
   log_nodes = nodes_same (g.L.LogPort.sights c.args.ports.now.log);
   log_holds = λ h. h;
   shard_holds = λ h. h;
+  serves = λ lane mine. mine;
   limits = c.requires.limits;
   room = search rules;
   batches = λ k st. (
@@ -152,3 +154,12 @@ lane_fault-requires g c =
 
 pub returns-in-Err-one_batch-clause-fault : goal.returns-in-Err-one_batch-clause-fault
 returns-in-Err-one_batch-clause-fault g c = (c.in-Err-one_batch.stop.node, c.in-Err-one_batch.stop.fault, c.lane_fault.ensures, c.in-Err-one_batch.ensures.fault)
+
+pub one_batch-requires-clause-mine : goal.one_batch-requires-clause-mine
+one_batch-requires-clause-mine g c = c.pieces.invariant.serves c.args.lane c.requires.mine
+
+pub returns-in-Err-one_batch-clause-serves : goal.returns-in-Err-one_batch-clause-serves
+returns-in-Err-one_batch-clause-serves g c lane mine = c.in-Err-one_batch.ensures.serves lane (c.pieces.invariant.serves lane mine)
+
+pub returns-clause-serves : goal.returns-clause-serves
+returns-clause-serves g c = c.pieces.invariant.serves

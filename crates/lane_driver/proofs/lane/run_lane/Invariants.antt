@@ -26,6 +26,7 @@ invariant-pieces g l = record {
   log_nodes : KeepNodes (g.L.LogPort.sights l.initial.ports.log) (g.L.LogPort.sights l.ports.log);
   log_holds : g.L.LogPort.holds l.initial.ports.log → g.L.LogPort.holds l.ports.log;
   shard_holds : g.S.PortSet.holds l.initial.ports.shards → g.S.PortSet.holds l.ports.shards;
+  serves : (lane : ℕ) → g.S.PortSet.serves l.initial.ports.shards lane → g.S.PortSet.serves l.ports.shards lane;
   limits : All IsCompact l.rest;
   room : length l.rest + l.shape.batch * vec_len l.batches ≤ l.shape.batch * vec_capacity l.batches;
   batches : (k : ℕ) → Settled l.shape l.lane k (g.L.LogPort.sights l.initial.ports.log (g.L.LogPort.at l.initial.ports.log)) (g.S.PortSet.sights l.initial.ports.shards)

@@ -9,3 +9,6 @@ returns-clause-told g c = asked_all (FinishAnswer g.S.PortSet.alone) c.args.call
 
 pub finish-requires-clause-calls : goal.finish-requires-clause-calls
 finish-requires-clause-calls g c = calls_kept IsFinishCall (g.S.PortSet.sights c.args.shards.now) (g.S.PortSet.sights c.loop-time.shards) c.loop-time.invariant.nodes c.args.calls.now c.requires.calls
+
+pub finish-requires-clause-mine : goal.finish-requires-clause-mine
+finish-requires-clause-mine g c = λ i d inside. c.loop-time.invariant.serves _ (c.requires.mine i d inside)

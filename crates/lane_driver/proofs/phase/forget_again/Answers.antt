@@ -9,3 +9,6 @@ returns-clause-told g c = asked_all (ForgetAnswer g.S.PortSet.alone) c.args.call
 
 pub forget-requires-clause-calls : goal.forget-requires-clause-calls
 forget-requires-clause-calls g c = calls_kept IsForgetCall (g.S.PortSet.sights c.args.shards.now) (g.S.PortSet.sights c.loop-time.shards) c.loop-time.invariant.nodes c.args.calls.now c.requires.calls
+
+pub forget-requires-clause-mine : goal.forget-requires-clause-mine
+forget-requires-clause-mine g c = λ i d inside. c.loop-time.invariant.serves _ (c.requires.mine i d inside)

@@ -9,3 +9,6 @@ returns-clause-told g c = asked_all (LockAnswer g.S.PortSet.alone) c.args.calls.
 
 pub lock-requires-clause-calls : goal.lock-requires-clause-calls
 lock-requires-clause-calls g c = calls_kept IsLockCall (g.S.PortSet.sights c.args.shards.now) (g.S.PortSet.sights c.loop-time.shards) c.loop-time.invariant.nodes c.args.calls.now c.requires.calls
+
+pub lock-requires-clause-mine : goal.lock-requires-clause-mine
+lock-requires-clause-mine g c = λ i d inside. c.loop-time.invariant.serves _ (c.requires.mine i d inside)

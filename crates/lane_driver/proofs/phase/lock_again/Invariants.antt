@@ -12,4 +12,5 @@ invariant-loop-time g l = record {
   later : (n : ℕ) → g.S.PortSet.faults l.initial.shards n ≤ g.S.PortSet.faults l.shards n;
   nodes : KeepNodes (g.S.PortSet.sights l.initial.shards) (g.S.PortSet.sights l.shards);
   holds : g.S.PortSet.holds l.initial.shards → g.S.PortSet.holds l.shards;
+  serves : (lane : ℕ) → g.S.PortSet.serves l.initial.shards lane → g.S.PortSet.serves l.shards lane;
 }

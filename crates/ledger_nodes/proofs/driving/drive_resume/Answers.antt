@@ -94,3 +94,6 @@ resume-came-requires-clause-rise g c = subst LanesRise (sym c.from_ref.ensures.v
 
 pub one_of-requires : goal.one_of-requires
 one_of-requires g c = are_one c.args.unfinished.now c.resume-came.result (subst (λ os. IfOk c.resume-came.result (λ r. AreResumed os r.batches)) c.from_ref.ensures.value c.resume-came.ensures.resumed)
+
+pub resume-came-requires-clause-mine : goal.resume-came-requires-clause-mine
+resume-came-requires-clause-mine g c = λ i o inside. tt

@@ -11,6 +11,7 @@ use Rattle.recovery.proofs.Rest.{open_here, rise_rest, open_rest, resumed_more}
 use Rattle.recovery.proofs.InOrder.{came_of, came_more, kept_none, over_more, unlisted_more}
 use Rattle.recovery.proofs.Onward.{made_by, log_grows, shard_grows, logs_gone, shards_gone, caused_now, caused_more}
 use Rattle.cbdc_types.specs.declared.calls.NodeFault.TheVariants.{Memory}
+use Rattle.cbdc_types.specs.declared.batch.OpenLane.{OpenLane}
 use Rattle.recovery.proofs.resuming.resume.Goals as goal
 
 pub resume_lane-came-requires-clause-is_open : goal.resume_lane-came-requires-clause-is_open
@@ -52,6 +53,7 @@ loop-unfinished-preserved g c =
       log_nodes = nodes_on (g.L.LogPort.sights c.args.ports.now.log) logs logs' inv.log_nodes told.log_nodes;
       log_holds = λ h. told.log_holds (inv.log_holds h);
       shard_holds = λ h. told.shard_holds (inv.shard_holds h);
+      serves = λ lane mine. told.serves lane (inv.serves lane mine);
       open_rest = open_rest _ _ _ _ _ _ c.args.lanes.now i o inside c.unfinished-item.is inv.rise inv.open_rest told.header (λ more. told.others (sym c.requires.same ∙ c.requires.alone more));
       stand = stand_rest K g.S.PortSet.alone (logs at) (logs' at') I J c.args.lanes.now i o c.requires.alone inside c.unfinished-item.is inv.rise home
           (still_shape logs logs' at at' told.at_same told.log_nodes)
@@ -88,3 +90,8 @@ resume_lane-came-requires-clause-stands g c =
 pub returns-in-Err-clause-fault : goal.returns-in-Err-clause-fault
 returns-in-Err-clause-fault g c =
     caused_now c.args.shape.now (g.L.LogPort.sights c.args.ports.now.log) (g.S.PortSet.sights c.args.ports.now.shards) c.no_memory.result (0, Memory, c.no_memory.ensures, inl (refl, refl))
+
+pub resume_lane-came-requires-clause-mine : goal.resume_lane-came-requires-clause-mine
+resume_lane-came-requires-clause-mine g c =
+    subst (λ (o : OpenLane). g.S.PortSet.serves c.loop-unfinished.ports.shards o.batch.lane) (sym c.unfinished-item.is)
+    (c.loop-unfinished.invariant.serves _ (c.requires.mine c.loop-unfinished.unfinished-index c.unfinished-item.result c.loop-unfinished-test.true))

@@ -19,6 +19,7 @@ invariant-loop-unfinished g l = record {
   log_nodes : KeepNodes (g.L.LogPort.sights l.initial.ports.log) (g.L.LogPort.sights l.ports.log);
   log_holds : g.L.LogPort.holds l.initial.ports.log → g.L.LogPort.holds l.ports.log;
   shard_holds : g.S.PortSet.holds l.initial.ports.shards → g.S.PortSet.holds l.ports.shards;
+  serves : (lane : ℕ) → g.S.PortSet.serves l.initial.ports.shards lane → g.S.PortSet.serves l.ports.shards lane;
   count : g.S.PortSet.count l.ports.shards ≡ g.S.PortSet.count l.initial.ports.shards;
   open_rest : All (IsOpen (g.L.LogPort.header l.ports.log) (g.L.LogPort.phase l.ports.log) (g.L.LogPort.open_txs l.ports.log)) (drop l.unfinished-index l.lanes);
   stand : AreUnfinished l.shape (drop l.unfinished-index l.lanes) (g.L.LogPort.sights l.ports.log (g.L.LogPort.at l.ports.log)) (g.S.PortSet.sights l.ports.shards);

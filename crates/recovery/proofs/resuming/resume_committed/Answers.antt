@@ -7,6 +7,7 @@ use Rattle.std.specs.List.{All}
 use Rattle.lane_driver.proofs.Fitting.{parts_fit, locks_ready}
 use Rattle.recovery.proofs.Taking.{committed_taken, committed_granted, committed_left, committed_told}
 use Rattle.cbdc_types.specs.declared.batch.Phase.TheVariants.{Committed}
+use Rattle.lane_driver.proofs.Serving.{locks_own}
 use Rattle.recovery.proofs.resuming.resume_committed.Goals as goal
 
 pub from_committed-requires-clause-shards : goal.from_committed-requires-clause-shards
@@ -53,3 +54,6 @@ lane_fault-requires g c = committed_granted c.args.shape.now g.L.LogPort.alone c
 
 pub returns-in-Err-from_committed-clause-fault : goal.returns-in-Err-from_committed-clause-fault
 returns-in-Err-from_committed-clause-fault g c = (c.in-Err-from_committed.stop.node, c.in-Err-from_committed.stop.fault, c.lane_fault.ensures, c.in-Err-from_committed.ensures.fault)
+
+pub from_committed-requires-clause-own : goal.from_committed-requires-clause-own
+from_committed-requires-clause-own g c = locks_own c.args.unfinished.now.batch c.args.unfinished.now.stamp c.in-Ok-take.room.parts _ (c.deref.ensures.value ∙ c.lock_calls.ensures)

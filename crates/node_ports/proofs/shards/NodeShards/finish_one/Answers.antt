@@ -7,8 +7,8 @@ use Rattle.node_ports.specs.Nodes.{IsShardHeld}
 use Rattle.node_ports.proofs.Places.{old_is, turned, set_elsewhere, turned_nodes, turned_faults, turned_held}
 use Rattle.node_ports.proofs.shards.NodeShards.finish_one.Goals as goal
 
-pub finish-requires : goal.finish-requires
-finish-requires g c =
+pub finish-requires-clause-call : goal.finish-requires-clause-call
+finish-requires-clause-call g c =
     let P : Sight → Type 0 = λ a. IsFinishCall a.header c.args.call.now in subst P (old_is (sight_of g.D.Disk.count g.D.Disk.limit) c.args.self.now.nodes.items c.args.shard c.index_mut.result.now c.index_mut.result.now c.requires.place c.index_mut.ensures.value) c.requires.call
 
 pub returns-clause-answer : goal.returns-clause-answer

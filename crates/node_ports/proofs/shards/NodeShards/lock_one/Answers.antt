@@ -11,8 +11,8 @@ use Rattle.node_ports.specs.Nodes.{IsShardHeld}
 use Rattle.node_ports.proofs.Places.{old_is, turned, set_elsewhere, turned_nodes, turned_faults, turned_held}
 use Rattle.node_ports.proofs.shards.NodeShards.lock_one.Goals as goal
 
-pub lock-requires : goal.lock-requires
-lock-requires g c =
+pub lock-requires-clause-call : goal.lock-requires-clause-call
+lock-requires-clause-call g c =
     let P : Sight → Type 0 = λ a. IsLockCall a.header c.args.call.now in subst P (old_is (sight_of g.D.Disk.count g.D.Disk.limit) c.args.self.now.nodes.items c.args.shard c.index_mut.result.now c.index_mut.result.now c.requires.place c.index_mut.ensures.value) c.requires.call
 
 pub returns-clause-answer : goal.returns-clause-answer

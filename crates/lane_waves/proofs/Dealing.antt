@@ -1,0 +1,229 @@
+-- A lane that has got its seats is set up, and the lists that they were dealt from have one fewer.
+use Rattle.std.proofs.Common.{◌≡◌, ℕ, zero, suc, ◌+◌, ◌*◌, ◌/◌, ◌<◌, ◌≤◌, ◌==◌, Bool, true, false, if◌then◌else◌, List, [], ◌∷◌, ◌++◌, length, reverse, Option, Some, None, append_assoc, append-nil, refl, sym, ap, ◌∙◌, subst, arith}
+use Rattle.std.specs.Prelude.{All, slice_get, vec_capacity}
+use Rattle.std.specs.Global.{Vec}
+use Rattle.std.proofs.lemmas.Grind.{common_steps}
+use Rattle.std.proofs.lemmas.Nat.{div-mul-add, row_fits}
+use Rattle.std.proofs.lemmas.List.Elements.{All-cons, All-nil}
+use Rattle.cbdc_types.specs.Limits.{IsWithinLimits}
+use Rattle.cbdc_model.specs.Records.{Shape, Header, Record, record_of}
+use Rattle.cbdc_model.specs.Slots.{slot, slot_stamp, last_stamp, Idle, InLock}
+use Rattle.cbdc_model.specs.Ranges.{home_of, shard_node}
+use Rattle.cbdc_model.specs.Sights.{Sight}
+use Rattle.lane_laws.specs.Batches.{Settled}
+use Rattle.lane_driver.specs.Told.{IsLane, AreShardsOf}
+use Rattle.lane_driver.specs.Stops.{IsSettled}
+use Rattle.ledger_runs.specs.declared.lanes.Lane.{Lane}
+use Rattle.node_lock.specs.declared.lock.Guarded.{Guarded}
+use Rattle.node_lock.specs.declared.seat.Seat.{Seat}
+use Rattle.node_lock.specs.declared.views.Hand.{Hand}
+use Rattle.node_lock.specs.Seats.{TableId, AreFresh, knows, first_of, opening_of, table_of}
+use Rattle.node_lock.specs.Tickets.{fresh}
+use Rattle.node_lock.specs.Viewing.{viewed}
+use Rattle.node_ports.specs.Nodes.{sight_at, no_node}
+use Rattle.shard_fanout.specs.Seated.{opening_sight, seat_sight, seen_at, phase_at}
+use Rattle.shard_fanout.specs.Nodes.{shard_sight, log_sight}
+use Rattle.shard_fanout.specs.declared.coordinators.SharedLog.{SharedLog}
+use Rattle.shard_fanout.specs.declared.locking.SharedShard.{SharedShard}
+use Rattle.shard_fanout.specs.declared.logged.LogSeat.{LogSeat}
+use Rattle.shard_fanout.specs.declared.seated.ShardSeat.{ShardSeat}
+use Rattle.shard_fanout.specs.declared.tables.Locks.{Ghosts}
+use Rattle.shard_fanout.proofs.Seating.{seen_here}
+use Rattle.wave_ends.specs.Dealing.{PopsEach, HaveOne}
+use Rattle.wave_ends.specs.Rows.{AreLeft, AreDealt}
+use Rattle.wave_ends.proofs.Locking.{fresh_at}
+use Rattle.wave_lanes.specs.Held.{AreOfLane, Begins, log_of, logs_of, shards_of}
+use Rattle.wave_lanes.specs.Ports.{ArePorts, AtTables, AreOpened}
+use Rattle.wave_lanes.specs.declared.runs.LaneRun.{LaneRun}
+use Rattle.lane_waves.specs.Lanes.{IsReady}
+use Rattle.lane_waves.specs.Places.{AllFrom, BothFrom}
+use Rattle.lane_waves.specs.Rows.{lanes_from}
+use Rattle.lane_waves.specs.Deals.{MayRun, EachHolds, started, IsOpenAt, AreOpen, log_at, shard_at, IsSetUp, HaveSeats, IsNext}
+use Rattle.lane_waves.specs.declared.dealing.Table.{Table}
+use Rattle.lane_waves.proofs.Places.{last_first, all_at}
+use Rattle.lane_waves.proofs.Opening.{seen_get}
+
+-- lists that are dealt from
+module _ {T : Type 0} where
+  pub holds_left : (n : ℕ) (rs qs : List (Vec T)) (ts : List T) → PopsEach rs qs ts → EachHolds n rs → EachHolds n qs
+  holds_left n [] [] [] p h = tt
+  holds_left n [] [] (t ∷ ts) p h = absurd p
+  holds_left n [] (q ∷ qs) ts p h = absurd p
+  holds_left n (r ∷ rs) [] ts p h = absurd p
+  holds_left n (r ∷ rs) (q ∷ qs) [] p h = absurd p
+  holds_left n (r ∷ rs) (q ∷ qs) (t ∷ ts) p h = (subst (λ m. n ≤ m) (sym p.0.room) h.0, holds_left n rs qs ts p.1 h.1)
+
+  pub pops_many : (rs qs : List (Vec T)) (ts : List T) → PopsEach rs qs ts → (length rs ≡ length qs) × (length ts ≡ length qs)
+  pops_many [] [] [] p = (refl, refl)
+  pops_many [] [] (t ∷ ts) p = absurd p
+  pops_many [] (q ∷ qs) ts p = absurd p
+  pops_many (r ∷ rs) [] ts p = absurd p
+  pops_many (r ∷ rs) (q ∷ qs) [] p = absurd p
+  pops_many (r ∷ rs) (q ∷ qs) (t ∷ ts) p = let m = pops_many rs qs ts p.1 in let a = m.0 in let b = m.1 in (omega (arith, a), omega (arith, b))
+
+module _ {N : Type 0} (sight : N → Sight) where
+  pub left_many : (ls : List ℕ) (gs : List (Guarded N)) (rs : List (Vec (Seat N))) → AreLeft sight ls gs rs → length rs ≡ length gs
+  left_many ls [] [] k = refl
+  left_many ls [] (r ∷ rs) k = absurd k
+  left_many ls (g ∷ gs) [] k = absurd k
+  left_many ls (g ∷ gs) (r ∷ rs) k = let e = left_many ls gs rs k.1 in omega (arith, e)
+
+  pub left_some : (ls : List ℕ) (gs : List (Guarded N)) (rs : List (Vec (Seat N))) → 0 < length ls → AreLeft sight ls gs rs → HaveOne rs
+  left_some ls [] [] some k = tt
+  left_some ls [] (r ∷ rs) some k = absurd k
+  left_some ls (g ∷ gs) [] some k = absurd k
+  left_some ls (g ∷ gs) (r ∷ rs) some k =
+      let e = (fresh_at sight (sight (opening_of g)) (opening_of g) g ls r.items k.0).1 in
+      (omega (arith, some, e), left_some ls gs rs some k.1)
+
+  pub dealt_many : (l : ℕ) (gs : List (Guarded N)) (ss : List (Seat N)) → AreDealt sight l gs ss → length ss ≡ length gs
+  dealt_many l [] [] k = refl
+  dealt_many l [] (s ∷ ss) k = absurd k
+  dealt_many l (g ∷ gs) [] k = absurd k
+  dealt_many l (g ∷ gs) (s ∷ ss) k = let e = dealt_many l gs ss k.1 in omega (arith, e)
+
+  -- a seat that made no call shows the node as it was at the opening
+  pub seat_started : (s : Seat N) (n : N) (lane : ℕ) → first_of s ≡ Some n → knows s ≡ fresh (sight n) lane → seat_sight sight s ≡ started lane (sight n)
+  seat_started s n lane e f = ap (λ o. viewed (opening_sight sight o) (knows s)) e ∙ ap (λ (h : Hand). viewed (sight n) h) f
+
+-- what a lane is settled by
+pub settled_like : (K : Shape) (lane : ℕ) (log log' : Sight) (I J : ℕ → Sight) → log'.header ≡ log.header → log'.seen ≡ log.seen → ((s : ℕ) → (J s).seen ≡ (I s).seen) → IsSettled K lane log I → IsSettled K lane log' J
+settled_like K lane log log' I J eh es f k =
+    let n = k.0 in let s = k.1 in (n, record {
+      home = s.home;
+      shape = ap (λ (h : Header). h.shape) eh ∙ s.shape;
+      number = ap (λ (xs : List Record). (slot xs lane).number) es ∙ s.number;
+      idle = ap (λ (xs : List Record). (slot xs lane).phase) es ∙ s.idle;
+      shard_idle = λ i. ap (λ (xs : List Record). (slot xs lane).phase) (f i) ∙ s.shard_idle i;
+      shard_number = λ i. subst (λ (xs : List Record). (slot xs lane).number ≤ n) (sym (f i)) (s.shard_number i);
+      shard_stamp = λ i. subst (λ (xs : List Record). slot_stamp xs lane ≤ last_stamp log'.seen) (sym (f i)) (subst (λ (xs : List Record). slot_stamp (I i).seen lane ≤ last_stamp xs) (sym es) (s.shard_stamp i));
+      fresh_log = λ kind b of lt. subst (λ (xs : List Record). record_of kind xs b ≡ None) (sym es) (s.fresh_log kind b of lt);
+      fresh_shard = λ i kind b of lt. subst (λ (xs : List Record). record_of kind xs b ≡ None) (sym (f i)) (s.fresh_shard i kind b of lt);
+    })
+
+phase_mine : (mine lane : ℕ) (s : Sight) → lane ≡ mine → phase_at mine s lane ≡ (slot s.seen lane).phase
+phase_mine mine lane s e = let t : (lane == mine) ≡ true = grind (arith, e) in ap (λ b. if b then (slot s.seen lane).phase else InLock) t
+
+pub lane_within : (home lane_count count j : ℕ) → home < count → j < lane_count → home * lane_count + j < count * lane_count
+lane_within home lane_count count j lt low = let e : home * lane_count + lane_count ≤ count * lane_count = row_fits home lane_count count lane_count lt (omega arith) in omega (arith, e, low)
+
+module _ {W D B : Type 0} {G : Ghosts B} (count limit : D → ℕ) where
+  -- the ports of such seats show the shards as they were at the opening
+  pub ports_started : (lane : ℕ) (hs : List (Guarded (SharedShard D))) (ss : List (Seat (SharedShard D))) (ps : List (ShardSeat W D B G)) → AreDealt (shard_sight count limit) lane hs ss → ArePorts hs ss ps
+      → (n : ℕ) → sight_at (λ p. seat_sight (shard_sight count limit) p.seat) ps n ≡ started lane (shard_at count limit hs n)
+  ports_started lane [] [] [] d k n = refl
+  ports_started lane [] [] (p ∷ ps) d k n = absurd k
+  ports_started lane [] (s ∷ ss) ps d k n = absurd d
+  ports_started lane (h ∷ hs) [] ps d k n = absurd d
+  ports_started lane (h ∷ hs) (s ∷ ss) [] d k n = absurd k
+  ports_started lane (h ∷ hs) (s ∷ ss) (p ∷ ps) d k zero = ap (λ q. seat_sight (shard_sight count limit) q) k.0.seat ∙ seat_started (shard_sight count limit) s (opening_of h) lane d.0.1 d.0.2
+  ports_started lane (h ∷ hs) (s ∷ ss) (p ∷ ps) d k (suc n) = ports_started lane hs ss ps d.1 k.1 n
+
+  pub ports_many : (hs : List (Guarded (SharedShard D))) (ss : List (Seat (SharedShard D))) (ps : List (ShardSeat W D B G)) → ArePorts hs ss ps → length ps ≡ length hs
+  ports_many [] [] [] k = refl
+  ports_many [] [] (p ∷ ps) k = absurd k
+  ports_many [] (s ∷ ss) ps k = absurd k
+  ports_many (h ∷ hs) [] ps k = absurd k
+  ports_many (h ∷ hs) (s ∷ ss) [] k = absurd k
+  ports_many (h ∷ hs) (s ∷ ss) (p ∷ ps) k = let e = ports_many hs ss ps k.1 in omega (arith, e)
+
+  -- and are of the lane
+  pub ports_ours : (lane : ℕ) (hs : List (Guarded (SharedShard D))) (ss : List (Seat (SharedShard D))) (ps : List (ShardSeat W D B G)) → AreDealt (shard_sight count limit) lane hs ss → ArePorts hs ss ps → AreOfLane lane ps
+  ports_ours lane [] [] [] d k = All-nil (λ p. (knows p.seat).lane ≡ lane)
+  ports_ours lane [] [] (p ∷ ps) d k = absurd k
+  ports_ours lane [] (s ∷ ss) ps d k = absurd d
+  ports_ours lane (h ∷ hs) [] ps d k = absurd d
+  ports_ours lane (h ∷ hs) (s ∷ ss) [] d k = absurd k
+  ports_ours lane (h ∷ hs) (s ∷ ss) (p ∷ ps) d k = All-cons (λ p. (knows p.seat).lane ≡ lane) p ps (ap (λ q. (knows q).lane) k.0.seat ∙ ap (λ (v : Hand). v.lane) d.0.2) (ports_ours lane hs ss ps d.1 k.1)
+
+  -- they are of the locks that the wave picks
+  ports_picked : (tables : ℕ → TableId) (K : Shape) (lane k : ℕ) (hs : List (Guarded (SharedShard D))) (ss : List (Seat (SharedShard D))) (ps : List (ShardSeat W D B G)) → AreDealt (shard_sight count limit) lane hs ss → ArePorts hs ss ps
+      → AtTables tables K k hs → AllFrom (λ s h. IsOpenAt K (shard_node K s) (shard_sight count limit (opening_of h))) k hs
+      → All (λ p. table_of p.guarded.now ≡ tables (seat_sight (shard_sight count limit) p.seat).header.node) ps
+  ports_picked tables K lane k [] [] [] d a t o = All-nil (λ p. table_of p.guarded.now ≡ tables (seat_sight (shard_sight count limit) p.seat).header.node)
+  ports_picked tables K lane k [] [] (p ∷ ps) d a t o = absurd a
+  ports_picked tables K lane k [] (s ∷ ss) ps d a t o = absurd d
+  ports_picked tables K lane k (h ∷ hs) [] ps d a t o = absurd d
+  ports_picked tables K lane k (h ∷ hs) (s ∷ ss) [] d a t o = absurd a
+  ports_picked tables K lane k (h ∷ hs) (s ∷ ss) (p ∷ ps) d a t o =
+      let seen : seat_sight (shard_sight count limit) p.seat ≡ started lane (shard_sight count limit (opening_of h)) = ap (λ q. seat_sight (shard_sight count limit) q) a.0.seat ∙ seat_started (shard_sight count limit) s (opening_of h) lane d.0.1 d.0.2 in
+      All-cons (λ p. table_of p.guarded.now ≡ tables (seat_sight (shard_sight count limit) p.seat).header.node) p ps
+          (ap table_of a.0.guarded ∙ (sym t.0 ∙ ap tables (sym (ap (λ (v : Sight). v.header.node) seen ∙ o.0.node))))
+          (ports_picked tables K lane (suc k) hs ss ps d.1 a.1 t.1 o.1)
+
+module _ {W D B : Type 0} {G : Ghosts B} (count limit : D → ℕ) (tables : ℕ → TableId) (K : Shape) (gs : List (Guarded (SharedLog D))) (hs : List (Guarded (SharedShard D))) (open_ : AreOpen count limit tables K gs hs) where
+  pub set_up : (home j : ℕ) (g : Guarded (SharedLog D)) (p : LogSeat W D B G) (r : LaneRun W D B G) (ss : List (Seat (SharedShard D))) → j < K.lanes → slice_get gs home ≡ Some g
+      → p.guarded.now ≡ g → p.node ≡ home → knows p.seat ≡ fresh (log_sight (opening_of g)) (home * K.lanes + j) → r.lane ≡ home * K.lanes + j → r.ports.log ≡ p
+      → AreDealt (shard_sight count limit) (home * K.lanes + j) hs ss → ArePorts hs ss r.ports.shards.each.ports.items → MayRun r.work
+      → IsSetUp count limit tables K gs hs (home * K.lanes + j) r.work r
+  set_up home j g p r ss low there guarded node knew lane_is log_is dealt ports may =
+      let lane : ℕ = home * K.lanes + j in
+      let place = seen_get (λ x. log_sight (opening_of x)) gs home g there in
+      let within : home < K.coordinators = subst (λ n. home < n) open_.logs_many place.1 in
+      let home_is : home_of K lane ≡ home = div-mul-add home K.lanes j low in
+      let lane_low : lane < K.coordinators * K.lanes = lane_within home K.lanes K.coordinators j within low in
+      let opened : IsOpenAt K home (log_sight (opening_of g)) = all_at (λ n x. IsOpenAt K n (log_sight (opening_of x))) 0 gs home g open_.logs there in
+      let seat_seen : seat_sight log_sight p.seat ≡ started lane (log_sight (opening_of g)) = seat_started log_sight p.seat (opening_of g) lane (p.own.1 ∙ ap (λ x. Some (opening_of x)) guarded) knew in
+      let at_home : log_at gs (home_of K lane) ≡ log_sight (opening_of g) = ap (log_at gs) home_is ∙ place.0 in
+      let log_seen : log_of count limit tables K r ≡ started lane (log_at gs (home_of K lane)) =
+          ap (λ q. seen_at q.node (seat_sight (log_sight {D = D}) q.seat) q.node) log_is ∙ (seen_here p.node (seat_sight log_sight p.seat) ∙ (seat_seen ∙ ap (started lane) (sym at_home))) in
+      let r_seen : seat_sight (log_sight {D = D}) r.ports.log.seat ≡ started lane (log_sight (opening_of g)) = ap (λ q. seat_sight (log_sight {D = D}) q.seat) log_is ∙ seat_seen in
+      let shards_seen : (s : ℕ) → shards_of count limit tables K r s ≡ started lane (shard_at count limit hs s) = ports_started count limit lane hs ss r.ports.shards.each.ports.items dealt ports in
+      let rest : IsSettled K lane (log_at gs (home_of K lane)) (shard_at count limit hs) = open_.settled lane lane_low in
+      let my_lane : r.lane ≡ (knows r.ports.log.seat).lane = lane_is ∙ sym (ap (λ q. (knows q.seat).lane) log_is ∙ ap (λ (h : Hand). h.lane) knew) in
+      let r_node : r.ports.log.node ≡ home = ap (λ q. q.node) log_is ∙ node in
+      record {
+        lane_is = lane_is;
+        work = refl;
+        ready = may.ready;
+        begins = record {
+          seated = record {
+            log = subst (λ q. table_of q.guarded.now ≡ tables q.node) (sym log_is) (ap table_of guarded ∙ (sym (all_at (λ n x. tables n ≡ table_of x) 0 gs home g open_.log_tables there) ∙ ap tables (sym node)));
+            shards = ports_picked count limit tables K lane 0 hs ss r.ports.shards.each.ports.items dealt ports open_.shard_tables open_.shards;
+          };
+          at = r_node ∙ (sym home_is ∙ ap (home_of K) (sym lane_is));
+          home = subst (λ v. IsLane v.header r.lane) (sym r_seen) (subst (λ l. IsLane (log_sight (opening_of g)).header l) (sym lane_is)
+              (subst (λ (k : Shape). lane < k.coordinators * k.lanes) (sym opened.shape) lane_low, opened.node ∙ (sym home_is ∙ ap (λ (k : Shape). home_of k lane) (sym opened.shape))));
+          shape = ap (λ (v : Sight). v.header.shape) r_seen ∙ opened.shape;
+          idle = phase_mine (knows r.ports.log.seat).lane r.lane (seat_sight (log_sight {D = D}) r.ports.log.seat) my_lane
+              ∙ (ap (λ (v : Sight). (slot v.seen r.lane).phase) r_seen ∙ (ap (λ (v : Sight). (slot v.seen r.lane).phase) (sym at_home) ∙ (ap (λ l. (slot (log_at gs (home_of K lane)).seen l).phase) lane_is ∙ rest.1.idle)));
+          count_is = ports_many count limit hs ss r.ports.shards.each.ports.items ports ∙ open_.shards_many;
+          ledger = λ s lt.
+              let got = shard_get hs s (subst (λ n. s < n) (sym open_.shards_many) lt) in
+              let at = all_at (λ n x. IsOpenAt K (shard_node K n) (shard_sight count limit (opening_of x))) 0 hs s got.0 open_.shards got.1 in
+              let is : shards_of count limit tables K r s ≡ started lane (shard_sight count limit (opening_of got.0)) = shards_seen s ∙ ap (started lane) (seen_get (λ x. shard_sight count limit (opening_of x)) hs s got.0 got.1).0 in
+              (ap (λ (v : Sight). v.header.shape) is ∙ at.shape, ap (λ (v : Sight). v.header.node) is ∙ at.node);
+          settled = subst (λ l. IsSettled K l (log_of count limit tables K r) (shards_of count limit tables K r)) (sym lane_is)
+              (settled_like K lane (log_at gs (home_of K lane)) (log_of count limit tables K r) (shard_at count limit hs) (shards_of count limit tables K r)
+                  (ap (λ (v : Sight). v.header) log_seen) (ap (λ (v : Sight). v.seen) log_seen) (λ s. ap (λ (v : Sight). v.seen) (shards_seen s)) rest);
+          limits = may.limits;
+        };
+        mine = sym my_lane ∙ lane_is;
+        ours = ports_ours count limit lane hs ss r.ports.shards.each.ports.items dealt ports;
+        log = log_seen;
+        shards = shards_seen;
+      }
+    where
+      shard_get : (xs : List (Guarded (SharedShard D))) (i : ℕ) → i < length xs → (x : Guarded (SharedShard D)) × (slice_get xs i ≡ Some x)
+      shard_get [] i lt = absurd (let z : i < 0 = lt in omega (arith, z))
+      shard_get (y ∷ xs) zero lt = (y, refl)
+      shard_get (y ∷ xs) (suc i) lt = shard_get xs i (omega (arith, lt))
+
+  -- one lane more has its seats
+  pub seats_more : (n : ℕ) (all : List Lane) (home : LogSeat W D B G) (t u : Table W D B G) (next : IsNext count limit hs home t u) → IsSetUp count limit tables K gs hs n next.run.work next.run
+      → HaveSeats count limit tables K gs hs (suc n) all t → HaveSeats count limit tables K gs hs n all u
+  seats_more n all home t u next up k = record {
+    done = next.run.work ∷ k.done;
+    all_are = k.all_are ∙ (ap (λ xs. xs ++ k.done) next.lanes ∙ append_assoc u.lanes.items (next.run.work ∷ []) k.done);
+    set_up = subst (λ xs. BothFrom (IsSetUp count limit tables K gs hs) n (next.run.work ∷ k.done) xs) (sym (last_first t.runs.items u.runs.items next.run next.runs)) (up, k.set_up);
+  }
+
+pub next_row : (c m n : ℕ) → m ≡ c + 1 → m * n ≡ c * n + n
+next_row c m n e = ap (λ k. k * n) e ∙ more c n
+  where
+    more : (c n : ℕ) → (c + 1) * n ≡ c * n + n
+    more c n = grind (arith, common_steps)
+
+pub opened_of : {D : Type 0} (count limit : D → ℕ) (K : Shape) (k : ℕ) (hs : List (Guarded (SharedShard D))) → AllFrom (λ s h. IsOpenAt K (shard_node K s) (shard_sight count limit (opening_of h))) k hs → AreOpened count limit hs
+opened_of count limit K k [] a = tt
+opened_of count limit K k (h ∷ hs) a = (a.0.since, opened_of count limit K (suc k) hs a.1)

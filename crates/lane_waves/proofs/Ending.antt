@@ -1,0 +1,252 @@
+-- What comes of lanes that have run and given their seats back.
+use Rattle.std.proofs.Common.{◌≡◌, ◌⊎◌, inl, inr, ℕ, zero, suc, ◌+◌, ◌*◌, ◌/◌, ◌<◌, ◌≤◌, false, List, [], ◌∷◌, ◌++◌, length, reverse, Option, Some, None, Result, Ok, Err, refl, sym, ap, ◌∙◌, subst, arith}
+use Rattle.std.specs.Prelude.{All, IfSome, slice_get, slice_index_or}
+use Rattle.std.specs.List.{AllZip}
+use Rattle.std.specs.Global.{Vec}
+use Rattle.std.proofs.lemmas.List.{reverse-reverse}
+use Rattle.std.proofs.lemmas.List.Elements.{All-head, All-tail}
+use Rattle.cbdc_model.specs.Records.{Shape, Compact, Record}
+use Rattle.cbdc_model.specs.Ranges.{home_of}
+use Rattle.cbdc_model.specs.Sights.{Sight}
+use Rattle.lane_laws.specs.Batches.{Settled, LaneSo}
+use Rattle.lane_driver.specs.Told.{IsStillNode}
+use Rattle.lane_driver.specs.Stops.{IsSettled, IsLaneStopped}
+use Rattle.lane_driver.specs.Reports.{IsReported, AreDone}
+use Rattle.lane_driver.specs.declared.fault.LaneFault.{LaneFault}
+use Rattle.lane_driver.specs.declared.fault.LaneReport.{LaneReport}
+use Rattle.ledger_runs.specs.declared.lanes.Lane.{Lane}
+use Rattle.node_lock.specs.declared.views.Hand.{Hand}
+use Rattle.node_lock.specs.declared.lock.Guarded.{Guarded}
+use Rattle.node_lock.specs.declared.seat.Seat.{Seat}
+use Rattle.node_lock.specs.Seats.{TableId, all_known, knows, opening_of, table_of}
+use Rattle.node_lock.specs.Viewing.{viewed}
+use Rattle.node_ports.specs.Nodes.{sight_at, no_node}
+use Rattle.shard_fanout.specs.Seated.{seat_sight, seen_at}
+use Rattle.shard_fanout.specs.Nodes.{shard_sight, log_sight}
+use Rattle.shard_fanout.specs.declared.coordinators.SharedLog.{SharedLog}
+use Rattle.shard_fanout.specs.declared.locking.SharedShard.{SharedShard}
+use Rattle.shard_fanout.specs.declared.seated.ShardSeat.{ShardSeat}
+use Rattle.shard_fanout.specs.declared.tables.Locks.{Ghosts}
+use Rattle.shard_fanout.proofs.Seating.{seen_here}
+use Rattle.thread_laws.specs.Closing.{IsHand}
+use Rattle.thread_laws.specs.Sitting.{SitsAt}
+use Rattle.thread_laws.specs.Running.{LaneRan}
+use Rattle.thread_laws.specs.Whole.{no_memory, HasEnded, EndsWell, EndsBy, HasDone}
+use Rattle.thread_laws.specs.Telling.{told_in}
+use Rattle.wave_lanes.specs.Held.{AreOfLane, Begins, Ends, HasRun, log_of, logs_of, shards_of}
+use Rattle.wave_lanes.specs.Ports.{seats_of}
+use Rattle.wave_lanes.specs.declared.runs.LaneRun.{LaneRun}
+use Rattle.wave_lanes.proofs.Returning.{all_home}
+use Rattle.wave_records.specs.Among.{hands_at}
+use Rattle.lane_waves.specs.Lanes.{IsReady, IsKept}
+use Rattle.lane_waves.specs.Places.{BothFrom}
+use Rattle.lane_waves.specs.Deals.{started, AreOpen, log_at, shard_at, IsSetUp}
+use Rattle.lane_waves.specs.Gathers.{IsSeat, AreSeats, IsOver, AllOver, AllOf, AllGave, IsEnd, MayKeep, shard_seats, home_seat}
+use Rattle.lane_waves.proofs.Places.{Down, down, up}
+use Rattle.lane_waves.proofs.Keeping.{reported_many}
+use Rattle.lane_waves.proofs.Homes.{hand_among, down_at, HomesHold, SeatsAt}
+
+view_is : (f v : Sight) (h : Hand) → v.header ≡ f.header → v.seen ≡ h.seen → v.flight ≡ h.left → v.faults ≡ h.faults → v.opened ≡ f.opened → v.capacity ≡ f.capacity → v ≡ viewed f h
+view_is f v h a b c d e g = cc
+
+pub past_end : {N : Type 0} (sight : N → Sight) (xs : List N) (n : ℕ) → length xs ≤ n → sight_at sight xs n ≡ no_node
+past_end sight [] n le = refl
+past_end sight (x ∷ xs) zero le = absurd (omega (arith, le))
+past_end sight (x ∷ xs) (suc n) le = past_end sight xs n (omega (arith, le))
+
+module _ {W D B : Type 0} {G : Ghosts B} (count limit : D → ℕ) where
+  -- the seat of a lane's port to a shard
+  port_sits : (lane : ℕ) (ps : List (ShardSeat W D B G)) (rows : List (Vec (Seat (SharedShard D)))) → AreSeats (seats_of ps) rows → AreOfLane lane ps → (s : ℕ) → s < length ps
+      → (h : Hand) × IsHand h (hands_at rows s) × (h.lane ≡ lane) × ((f : Sight) → (v : Sight) × (sight_at (λ p. seat_sight (shard_sight count limit) p.seat) ps s ≡ viewed v h))
+  port_sits lane [] rows a l s lt = absurd (let z : s < 0 = lt in omega (arith, z))
+  port_sits lane (p ∷ ps) [] a l s lt = absurd a
+  port_sits lane (p ∷ ps) (row ∷ rows) a l zero lt = (knows p.seat, hand_among p.seat row.items a.0, All-head (λ q. (knows q.seat).lane ≡ lane) p ps l, λ f. (_, refl))
+  port_sits lane (p ∷ ps) (row ∷ rows) a l (suc s) lt = port_sits lane ps rows a.1 (All-tail (λ q. (knows q.seat).lane ≡ lane) p ps l) s (omega (arith, lt))
+
+module _ {W D B : Type 0} {G : Ghosts B} (count limit : D → ℕ) (tables : ℕ → TableId) (K : Shape) (gs : List (Guarded (SharedLog D))) (hs : List (Guarded (SharedShard D))) where
+  -- what came of a run is known, and the lane has room for it
+  may_keep : (r q : LaneRun W D B G) → q.work ≡ r.work → (o : Option (Result LaneReport LaneFault)) → HasRun count limit tables K r q o → MayKeep q.work o
+  may_keep r q e None k = absurd k
+  may_keep r q e (Some (Ok report)) k =
+      let many = reported_many r.lane K.batch r.work.txs.items report.batches k.named in
+      let same : length q.work.txs.items ≡ length r.work.txs.items = ap (λ (x : Lane). length x.txs.items) e in
+      omega (arith, many, same)
+  may_keep r q e (Some (Err fault)) k = tt
+
+  -- how a lane ended
+  ended_of : (lane : ℕ) (x y : Lane) (r q : LaneRun W D B G) → r.lane ≡ lane → IsSettled K r.lane (log_of count limit tables K r) (shards_of count limit tables K r) → q.work ≡ r.work
+      → (o : Option (Result LaneReport LaneFault)) → HasRun count limit tables K r q o → IsEnd q.work o y
+      → (y.txs ≡ q.work.txs) × HasEnded K lane (log_of count limit tables K r) (shards_of count limit tables K r) (log_of count limit tables K q) (shards_of count limit tables K q) x y
+  ended_of lane x y r q l settled w None k e = absurd k
+  ended_of lane x y r q l settled w (Some (Ok report)) k e =
+      let txs : r.work.txs.items ≡ y.txs.items = sym (ap (λ v. v.items) e.txs ∙ ap (λ (z : Lane). z.txs.items) w) in
+      let log = log_of count limit tables K r in
+      let shards = shards_of count limit tables K r in
+      let log' = log_of count limit tables K q in
+      let shards' = shards_of count limit tables K q in
+      let none : y.fault ≡ None = e.fault in
+      (e.txs, inl (record {
+        so = subst (λ n. LaneSo K false n y.txs.items [] log shards log' shards') l (subst (λ ts. LaneSo K false r.lane ts [] log shards log' shards') txs (k.done settled.0 settled.1));
+        batches = report.batches;
+        done = subst (λ n. AreDone K false n y.txs.items log shards (reverse report.batches) [] log' shards') l (subst (λ ts. AreDone K false r.lane ts log shards (reverse report.batches) [] log' shards') txs (k.batches settled.0 settled.1));
+        reported = subst (λ n. IsReported n K.batch y.txs.items [] report.batches) l (subst (λ ts. IsReported r.lane K.batch ts [] report.batches) txs k.named);
+      }, ((λ z a b. (e.kept, e.count)), λ z. subst (λ f. IfSome f (λ g. g ≡ no_memory)) (sym none) tt)))
+  ended_of lane x y r q l settled w (Some (Err fault)) k e =
+      let txs : r.work.txs.items ≡ y.txs.items = sym (ap (λ v. v.items) e.0 ∙ ap (λ (z : Lane). z.txs.items) w) in
+      let log = log_of count limit tables K r in
+      let shards = shards_of count limit tables K r in
+      let log' = log_of count limit tables K q in
+      let shards' = shards_of count limit tables K q in
+      let is : y.fault ≡ Some fault = e.1 in
+      (e.0, inr (fault, subst (λ n. IsLaneStopped K false n y.txs.items log shards log' shards' fault) l (subst (λ ts. IsLaneStopped K false r.lane ts log shards log' shards' fault) txs k.stopped),
+        ((λ none. let z : None ≡ Some fault = sym none ∙ is in cc), λ z. is)))
+
+  -- a lane's run from its first call to its last
+  pub record IsRun (lane : ℕ) (x : Lane) (r q : LaneRun W D B G) : Type 0 where
+    pub set_up : IsSetUp count limit tables K gs hs lane x r
+    pub ends : Ends count limit tables K r q
+
+  -- of all lanes, the last one first
+  abbrev pub Runs : List Lane → List (LaneRun W D B G) → List (LaneRun W D B G) → Type 0
+  Runs [] [] [] = Unit {0}
+  Runs (x ∷ xs) (r ∷ rs) (q ∷ qs) = IsRun (length qs) x r q × Runs xs rs qs
+  Runs xs rs qs = ⊥
+
+  pub ends_zip : (rs qs : List (LaneRun W D B G)) → length qs ≡ length rs → ((i : ℕ) (d : LaneRun W D B G) → i < length rs → Ends count limit tables K (slice_index_or rs i d) (slice_index_or qs i d)) → AllZip (Ends count limit tables K) rs qs
+  ends_zip [] [] e f = tt
+  ends_zip [] (q ∷ qs) e f = absurd (let z = e in omega (arith, z))
+  ends_zip (r ∷ rs) [] e f = absurd (let z = e in omega (arith, z))
+  ends_zip (r ∷ rs) (q ∷ qs) e f = (f 0 r (omega arith), ends_zip rs qs (let z = e in omega (arith, z)) (λ i d lt. f (suc i) d (omega (arith, lt))))
+
+  zip_many : (rs qs : List (LaneRun W D B G)) → AllZip (Ends count limit tables K) rs qs → length rs ≡ length qs
+  zip_many [] [] z = refl
+  zip_many [] (q ∷ qs) z = absurd z
+  zip_many (r ∷ rs) [] z = absurd z
+  zip_many (r ∷ rs) (q ∷ qs) z = let e = zip_many rs qs z.1 in omega (arith, e)
+
+  runs_down : (xs : List Lane) (rs qs : List (LaneRun W D B G)) → Down (IsSetUp count limit tables K gs hs) xs rs → AllZip (Ends count limit tables K) rs qs → Runs xs rs qs
+  runs_down [] [] [] d z = tt
+  runs_down [] [] (q ∷ qs) d z = absurd z
+  runs_down [] (r ∷ rs) qs d z = absurd d
+  runs_down (x ∷ xs) [] qs d z = absurd d
+  runs_down (x ∷ xs) (r ∷ rs) [] d z = absurd z
+  runs_down (x ∷ xs) (r ∷ rs) (q ∷ qs) d z = (record { set_up = subst (λ n. IsSetUp count limit tables K gs hs n x r) (zip_many rs qs z.1) d.0; ends = z.0 }, runs_down xs rs qs d.1 z.1)
+
+  pub runs_of : (lanes : List Lane) (rs qs : List (LaneRun W D B G)) → BothFrom (IsSetUp count limit tables K gs hs) 0 lanes (reverse rs) → AllZip (Ends count limit tables K) rs qs → Runs (reverse lanes) rs qs
+  runs_of lanes rs qs b z = runs_down (reverse lanes) rs qs (down (IsSetUp count limit tables K gs hs) (reverse lanes) rs (subst (λ xs. BothFrom (IsSetUp count limit tables K gs hs) 0 xs (reverse rs)) (sym (reverse-reverse lanes)) b)) z
+
+  pub all_over : (xs : List Lane) (rs qs : List (LaneRun W D B G)) → Runs xs rs qs → AllOver K.shards qs
+  all_over [] [] [] k = tt
+  all_over [] [] (q ∷ qs) k = absurd k
+  all_over [] (r ∷ rs) qs k = absurd k
+  all_over (x ∷ xs) [] qs k = absurd k
+  all_over (x ∷ xs) (r ∷ rs) [] k = absurd k
+  all_over (x ∷ xs) (r ∷ rs) (q ∷ qs) k = (record {
+      many = k.0.ends.count_is ∙ k.0.set_up.begins.count_is;
+      ready = subst IsReady (sym (k.0.ends.work ∙ k.0.set_up.work)) k.0.set_up.ready;
+      came = may_keep r q k.0.ends.work q.came k.0.ends.has_run;
+    }, all_over xs rs qs k.1)
+
+  module _ (open_ : AreOpen count limit tables K gs hs) where
+    pub all_of : (xs : List Lane) (rs qs : List (LaneRun W D B G)) → Runs xs rs qs → AllOf hs qs
+    all_of [] [] [] k = tt
+    all_of [] [] (q ∷ qs) k = absurd k
+    all_of [] (r ∷ rs) qs k = absurd k
+    all_of (x ∷ xs) [] qs k = absurd k
+    all_of (x ∷ xs) (r ∷ rs) [] k = absurd k
+    all_of (x ∷ xs) (r ∷ rs) (q ∷ qs) k =
+        (all_home count limit tables K hs r.ports.shards.each.ports.items q.ports.shards.each.ports.items k.0.set_up.begins.count_is k.0.ends.count_is open_.shards_many open_.shard_tables k.0.set_up.begins.ledger k.0.ends.nodes k.0.ends.seated.shards,
+         all_of xs rs qs k.1)
+
+    -- each lane's seat of its coordinator is of the lock that the wave picks
+    pub seats_at : (xs : List Lane) (rs qs : List (LaneRun W D B G)) → (some : 0 < K.lanes) → Runs xs rs qs → SeatsAt K.lanes some tables qs
+    seats_at [] [] [] some k = tt
+    seats_at [] [] (q ∷ qs) some k = absurd k
+    seats_at [] (r ∷ rs) qs some k = absurd k
+    seats_at (x ∷ xs) [] qs some k = absurd k
+    seats_at (x ∷ xs) (r ∷ rs) [] some k = absurd k
+    seats_at (x ∷ xs) (r ∷ rs) (q ∷ qs) some k =
+        (q.ports.log.own.0 ∙ (k.0.ends.seated.log ∙ ap tables (k.0.ends.at ∙ (k.0.set_up.begins.at ∙ ap (home_of K) k.0.set_up.lane_is))), seats_at xs rs qs some k.1)
+
+    -- a lane of the wave
+    lane_ran : (lane : ℕ) (x y : Lane) (r q : LaneRun W D B G) (homes : List (Vec (Seat (SharedLog D)))) (rows : List (Vec (Seat (SharedShard D)))) → IsRun lane x r q → IsEnd q.work q.came y
+        → IsHand (knows (home_seat q)) (hands_at homes (home_of K lane)) → AreSeats (shard_seats q) rows → LaneRan K (log_at gs) (shard_at count limit hs) (hands_at homes) (hands_at rows) lane x y
+    lane_ran lane x y r q homes rows k e home seats =
+        let begins = k.set_up.begins in
+        let log = log_of count limit tables K r in
+        let shards = shards_of count limit tables K r in
+        let log' = log_of count limit tables K q in
+        let shards' = shards_of count limit tables K q in
+        let settled : IsSettled K lane log shards = subst (λ l. IsSettled K l log shards) k.set_up.lane_is begins.settled in
+        let first : Sight = log_at gs (home_of K lane) in
+        let last_is : log' ≡ seat_sight log_sight q.ports.log.seat = seen_here q.ports.log.node (seat_sight log_sight q.ports.log.seat) in
+        let still : IsStillNode log log' = subst (λ n. IsStillNode log (logs_of count limit tables K q n)) (sym k.ends.at) (k.ends.log_nodes r.ports.log.node) in
+        let came = ended_of lane x y r q k.set_up.lane_is begins.settled k.ends.work q.came k.ends.has_run e in
+        let many : length q.ports.shards.each.ports.items ≡ K.shards = k.ends.count_is ∙ begins.count_is in
+        let ours : AreOfLane lane q.ports.shards.each.ports.items = k.ends.of_lane lane k.set_up.ours in
+        record {
+          log = log;
+          seen = shards;
+          log' = log';
+          seen' = shards';
+          settled = settled;
+          at_log = record {
+            now = knows q.ports.log.seat;
+            among = home;
+            of_lane = k.ends.own_lane ∙ k.set_up.mine;
+            was = k.set_up.log;
+            is = view_is first log' (knows q.ports.log.seat) (still.header ∙ ap (λ (v : Sight). v.header) k.set_up.log) (ap (λ (v : Sight). v.seen) last_is) (ap (λ (v : Sight). v.flight) last_is) (ap (λ (v : Sight). v.faults) last_is)
+                (still.opened ∙ ap (λ (v : Sight). v.opened) k.set_up.log) (still.capacity ∙ ap (λ (v : Sight). v.capacity) k.set_up.log);
+            later = still.later;
+          };
+          at_shard = λ s lt.
+              let m = port_sits count limit lane q.ports.shards.each.ports.items rows seats ours s (subst (λ n. s < n) (sym many) lt) in
+              let stays = k.ends.nodes s in
+              let seen_as = (m.3 first).1 in
+              record {
+                now = m.0;
+                among = m.1;
+                of_lane = m.2;
+                was = k.set_up.shards s;
+                is = view_is (shard_at count limit hs s) (shards' s) m.0 (stays.header ∙ ap (λ (v : Sight). v.header) (k.set_up.shards s)) (ap (λ (v : Sight). v.seen) seen_as) (ap (λ (v : Sight). v.flight) seen_as) (ap (λ (v : Sight). v.faults) seen_as)
+                    (stays.opened ∙ ap (λ (v : Sight). v.opened) (k.set_up.shards s)) (stays.capacity ∙ ap (λ (v : Sight). v.capacity) (k.set_up.shards s));
+                later = stays.later;
+              };
+          beyond = λ s le.
+              let a = past_end (λ p. seat_sight (shard_sight count limit) p.seat) r.ports.shards.each.ports.items s (subst (λ n. n ≤ s) (sym begins.count_is) le) in
+              let b = past_end (λ p. seat_sight (shard_sight count limit) p.seat) q.ports.shards.each.ports.items s (subst (λ n. n ≤ s) (sym many) le) in
+              (ap (λ (v : Sight). v.seen) a, ap (λ (v : Sight). v.flight) a, ap (λ (v : Sight). v.seen) b);
+          txs = ap (λ v. v.items) came.0 ∙ ap (λ (z : Lane). z.txs.items) (k.ends.work ∙ k.set_up.work);
+          ended = came.1;
+        }
+
+    -- all lanes, the last one first
+    lanes_down : (xs : List Lane) (rs qs : List (LaneRun W D B G)) (ys : List Lane) (owns : List (Vec (Seat (SharedLog D)))) (homes : List (Vec (Seat (SharedLog D)))) (rows : List (Vec (Seat (SharedShard D)))) → (some : 0 < K.lanes)
+        → ((c : ℕ) → hands_at homes c ≡ all_known (down_at owns c)) → Runs xs rs qs → AllZip (λ r y. IsEnd r.work r.came y) qs ys → HomesHold K.lanes some owns qs → AllGave qs rows
+        → Down (LaneRan K (log_at gs) (shard_at count limit hs) (hands_at homes) (hands_at rows)) xs ys
+    lanes_down [] [] [] [] owns homes rows some f k z h a = tt
+    lanes_down [] [] [] (y ∷ ys) owns homes rows some f k z h a = absurd z
+    lanes_down [] [] (q ∷ qs) ys owns homes rows some f k z h a = absurd k
+    lanes_down [] (r ∷ rs) qs ys owns homes rows some f k z h a = absurd k
+    lanes_down (x ∷ xs) [] qs ys owns homes rows some f k z h a = absurd k
+    lanes_down (x ∷ xs) (r ∷ rs) [] ys owns homes rows some f k z h a = absurd k
+    lanes_down (x ∷ xs) (r ∷ rs) (q ∷ qs) [] owns homes rows some f k z h a = absurd z
+    lanes_down (x ∷ xs) (r ∷ rs) (q ∷ qs) (y ∷ ys) owns homes rows some f k z h a =
+        let many = ends_many qs ys z.1 in
+        (subst (λ n. LaneRan K (log_at gs) (shard_at count limit hs) (hands_at homes) (hands_at rows) n x y) many
+            (lane_ran (length qs) x y r q homes rows k.0 z.0 (subst (IsHand (knows (home_seat q))) (sym (f (home_of K (length qs)))) (hand_among (home_seat q) (down_at owns (home_of K (length qs))) h.0)) a.0),
+         lanes_down xs rs qs ys owns homes rows some f k.1 z.1 h.1 a.1)
+      where
+        ends_many : (us : List (LaneRun W D B G)) (vs : List Lane) → AllZip (λ r y. IsEnd r.work r.came y) us vs → length us ≡ length vs
+        ends_many [] [] z = refl
+        ends_many [] (v ∷ vs) z = absurd z
+        ends_many (u ∷ us) [] z = absurd z
+        ends_many (u ∷ us) (v ∷ vs) z = let e = ends_many us vs z.1 in omega (arith, e)
+
+    pub lanes_ran : (lanes lanes' : List Lane) (rs qs : List (LaneRun W D B G)) (owns : List (Vec (Seat (SharedLog D)))) (homes : List (Vec (Seat (SharedLog D)))) (rows : List (Vec (Seat (SharedShard D)))) → (some : 0 < K.lanes)
+        → ((c : ℕ) → hands_at homes c ≡ all_known (down_at owns c)) → Runs (reverse lanes) rs qs → AllZip (λ r y. IsEnd r.work r.came y) qs (reverse lanes') → HomesHold K.lanes some owns qs → AllGave qs rows
+        → BothFrom (LaneRan K (log_at gs) (shard_at count limit hs) (hands_at homes) (hands_at rows)) 0 lanes lanes'
+    lanes_ran lanes lanes' rs qs owns homes rows some f k z h a =
+        let P = LaneRan K (log_at gs) (shard_at count limit hs) (hands_at homes) (hands_at rows) in
+        let b = up P (reverse lanes) (reverse lanes') (lanes_down (reverse lanes) rs qs (reverse lanes') owns homes rows some f k z h a) in
+        subst (λ xs. BothFrom P 0 xs lanes') (reverse-reverse lanes) (subst (λ ys. BothFrom P 0 (reverse (reverse lanes)) ys) (reverse-reverse lanes') b)

@@ -1,0 +1,9 @@
+pub mod Places
+pub mod Rows
+pub mod Opening
+pub mod Dealing
+pub mod Gathering
+pub mod Keeping
+pub mod Homes
+pub mod Ending
+pub mod Unrun

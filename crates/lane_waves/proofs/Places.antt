@@ -1,0 +1,103 @@
+-- Lists by the numbers of their places.
+use Rattle.std.proofs.Common.{◌≡◌, ℕ, zero, suc, ◌+◌, ◌<◌, List, [], ◌∷◌, ◌++◌, length, reverse, Option, Some, None, refl, sym, ap, ◌∙◌, subst, arith}
+use Rattle.std.specs.Prelude.{slice_get}
+use Rattle.std.specs.List.{AllZip}
+use Rattle.std.proofs.lemmas.List.{reverse-append, length-reverse}
+use Rattle.lane_waves.specs.Places.{AllFrom, BothFrom}
+
+pub last_first : {A : Type 0} (xs ys : List A) (x : A) → ys ≡ xs ++ x ∷ [] → reverse ys ≡ x ∷ reverse xs
+last_first xs ys x e = ap reverse e ∙ reverse-append xs (x ∷ [])
+
+pub first_last : {A : Type 0} (x : A) (xs : List A) → reverse (x ∷ xs) ≡ reverse xs ++ x ∷ []
+first_last x xs = reverse-append (x ∷ []) xs
+
+pub one_more : {A : Type 0} (k : ℕ) (y : A) (xs : List A) → k + length (y ∷ xs) ≡ suc k + length xs
+one_more k y xs = omega arith
+
+pub none_more : {A : Type 0} (k : ℕ) → k + length {A} [] ≡ k
+none_more k = omega arith
+
+turned_many : {A : Type 0} (zs : List A) → 0 + length (reverse zs) ≡ length zs
+turned_many zs = let e = length-reverse zs in omega (arith, e)
+
+module _ {A : Type 0} (P : ℕ → A → Type 0) where
+  pub all_more : (k : ℕ) (xs : List A) (x : A) → AllFrom P k xs → P (k + length xs) x → AllFrom P k (xs ++ x ∷ [])
+  all_more k [] x a p = (subst (λ n. P n x) (none_more {A} k) p, tt)
+  all_more k (y ∷ xs) x a p = (a.0, all_more (suc k) xs x a.1 (subst (λ n. P n x) (one_more k y xs) p))
+
+  pub all_last : (k : ℕ) (xs : List A) (x : A) → AllFrom P k (xs ++ x ∷ []) → AllFrom P k xs × P (k + length xs) x
+  all_last k [] x a = (tt, subst (λ n. P n x) (sym (none_more {A} k)) a.0)
+  all_last k (y ∷ xs) x a = let m = all_last (suc k) xs x a.1 in ((a.0, m.0), subst (λ n. P n x) (sym (one_more k y xs)) m.1)
+
+  pub all_at : (k : ℕ) (xs : List A) (n : ℕ) (x : A) → AllFrom P k xs → slice_get xs n ≡ Some x → P (k + n) x
+  all_at k [] n x a e = absurd (let z : None ≡ Some x = e in cc)
+  all_at k (y ∷ xs) zero x a e = let same : y ≡ x = let z : Some y ≡ Some x = e in cc in let none : k ≡ k + 0 = omega arith in subst (λ z. P (k + 0) z) same (subst (λ n. P n y) none a.0)
+  all_at k (y ∷ xs) (suc n) x a e = let more : suc k + n ≡ k + suc n = omega arith in subst (λ m. P m x) more (all_at (suc k) xs n x a.1 e)
+
+  pub all_from : (k : ℕ) (xs : List A) → ((i : ℕ) (x : A) → slice_get xs i ≡ Some x → P (k + i) x) → AllFrom P k xs
+  all_from k [] f = tt
+  all_from k (x ∷ xs) f =
+      let none : k + 0 ≡ k = omega arith in
+      (subst (λ n. P n x) none (f 0 x refl), all_from (suc k) xs (λ i y e. let more : k + suc i ≡ suc k + i = omega arith in subst (λ n. P n y) more (f (suc i) y e)))
+
+module _ {A B : Type 0} (P : ℕ → A → B → Type 0) where
+  pub both_at : (k : ℕ) (xs : List A) (ys : List B) (n : ℕ) (x : A) (y : B) → BothFrom P k xs ys → slice_get xs n ≡ Some x → slice_get ys n ≡ Some y → P (k + n) x y
+  both_at k [] [] n x y a e f = absurd (let z : None ≡ Some x = e in cc)
+  both_at k [] (w ∷ ys) n x y a e f = absurd a
+  both_at k (v ∷ xs) [] n x y a e f = absurd a
+  both_at k (v ∷ xs) (w ∷ ys) zero x y a e f =
+      let same : v ≡ x = let z : Some v ≡ Some x = e in cc in
+      let like : w ≡ y = let z : Some w ≡ Some y = f in cc in
+      let none : k ≡ k + 0 = omega arith in
+      subst (λ z. P (k + 0) z y) same (subst (λ z. P (k + 0) v z) like (subst (λ n. P n v w) none a.0))
+  both_at k (v ∷ xs) (w ∷ ys) (suc n) x y a e f = let more : suc k + n ≡ k + suc n = omega arith in subst (λ m. P m x y) more (both_at (suc k) xs ys n x y a.1 e f)
+
+  pub both_more : (k : ℕ) (xs : List A) (ys : List B) (x : A) (y : B) → BothFrom P k xs ys → P (k + length ys) x y → BothFrom P k (xs ++ x ∷ []) (ys ++ y ∷ [])
+  both_more k [] [] x y a p = (subst (λ n. P n x y) (none_more {B} k) p, tt)
+  both_more k [] (w ∷ ys) x y a p = absurd a
+  both_more k (v ∷ xs) [] x y a p = absurd a
+  both_more k (v ∷ xs) (w ∷ ys) x y a p = (a.0, both_more (suc k) xs ys x y a.1 (subst (λ n. P n x y) (one_more k w ys) p))
+
+  pub both_last : (k : ℕ) (xs : List A) (ys : List B) (x : A) (y : B) → BothFrom P k (xs ++ x ∷ []) (ys ++ y ∷ []) → BothFrom P k xs ys × P (k + length ys) x y
+  both_last k [] [] x y a = (tt, subst (λ n. P n x y) (sym (none_more {B} k)) a.0)
+  both_last k [] (w ∷ []) x y a = absurd a.1
+  both_last k [] (w ∷ (z ∷ ys)) x y a = absurd a.1
+  both_last k (v ∷ []) [] x y a = absurd a.1
+  both_last k (v ∷ (z ∷ xs)) [] x y a = absurd a.1
+  both_last k (v ∷ xs) (w ∷ ys) x y a = let m = both_last (suc k) xs ys x y a.1 in ((a.0, m.0), subst (λ n. P n x y) (sym (one_more k w ys)) m.1)
+
+  pub both_many : (k : ℕ) (xs : List A) (ys : List B) → BothFrom P k xs ys → length xs ≡ length ys
+  both_many k [] [] a = refl
+  both_many k [] (y ∷ ys) a = absurd a
+  both_many k (x ∷ xs) [] a = absurd a
+  both_many k (x ∷ xs) (y ∷ ys) a = let e = both_many (suc k) xs ys a.1 in omega (arith, e)
+
+  -- the last item first: the number of an item is how many come behind it
+  abbrev pub Down : List A → List B → Type 0
+  Down [] [] = Unit {0}
+  Down (x ∷ xs) (y ∷ ys) = P (length ys) x y × Down xs ys
+  Down xs ys = ⊥
+
+  pub down : (xs : List A) (ys : List B) → BothFrom P 0 (reverse xs) (reverse ys) → Down xs ys
+  down [] [] a = tt
+  down [] (y ∷ ys) a = absurd (no_left (reverse ys) y (subst (λ zs. BothFrom P 0 [] zs) (first_last y ys) a))
+    where
+      no_left : (zs : List B) (y : B) → BothFrom P 0 [] (zs ++ y ∷ []) → ⊥
+      no_left [] y a = a
+      no_left (z ∷ zs) y a = a
+  down (x ∷ xs) [] a = absurd (no_right (reverse xs) x (subst (λ zs. BothFrom P 0 zs []) (first_last x xs) a))
+    where
+      no_right : (zs : List A) (x : A) → BothFrom P 0 (zs ++ x ∷ []) [] → ⊥
+      no_right [] x a = a
+      no_right (z ∷ zs) x a = a
+  down (x ∷ xs) (y ∷ ys) a =
+      let m = both_last 0 (reverse xs) (reverse ys) x y (subst (λ zs. BothFrom P 0 zs (reverse ys ++ y ∷ [])) (first_last x xs) (subst (λ zs. BothFrom P 0 (reverse (x ∷ xs)) zs) (first_last y ys) a)) in
+      (subst (λ n. P n x y) (turned_many ys) m.1, down xs ys m.0)
+
+  pub up : (xs : List A) (ys : List B) → Down xs ys → BothFrom P 0 (reverse xs) (reverse ys)
+  up [] [] d = tt
+  up [] (y ∷ ys) d = absurd d
+  up (x ∷ xs) [] d = absurd d
+  up (x ∷ xs) (y ∷ ys) d =
+      subst (λ zs. BothFrom P 0 zs (reverse (y ∷ ys))) (sym (first_last x xs)) (subst (λ zs. BothFrom P 0 (reverse xs ++ x ∷ []) zs) (sym (first_last y ys))
+      (both_more 0 (reverse xs) (reverse ys) x y (up xs ys d.1) (subst (λ n. P n x y) (sym (turned_many ys)) d.0)))

@@ -1,0 +1,126 @@
+-- Seats dealt to the lanes of a wave, the last lane first.
+use Rattle.std.specs.Prelude.{◌≡◌, ◌≤◌, ◌<◌, ◌+◌, ◌*◌, ℕ, List, [], ◌∷◌, ◌++◌, All, length, reverse, slice_get, Some, vec_capacity}
+use Rattle.std.specs.Global.{Vec}
+use Rattle.cbdc_types.specs.Limits.{IsWithinLimits}
+use Rattle.cbdc_model.specs.Records.{Shape}
+use Rattle.cbdc_model.specs.Grammar.{IsCompact}
+use Rattle.cbdc_model.specs.Ranges.{home_of, shard_node}
+use Rattle.cbdc_model.specs.Sights.{Sight}
+use Rattle.lane_driver.specs.Stops.{IsSettled}
+use Rattle.ledger_runs.specs.declared.lanes.Lane.{Lane}
+use Rattle.node_lock.specs.declared.lock.Guarded.{Guarded}
+use Rattle.node_lock.specs.declared.seat.Seat.{Seat}
+use Rattle.node_lock.specs.Seats.{TableId, AreFresh, knows, opening_of, table_of, lanes_of}
+use Rattle.node_lock.specs.Tickets.{fresh}
+use Rattle.node_lock.specs.Viewing.{viewed}
+use Rattle.node_ports.specs.Nodes.{sight_at}
+use Rattle.shard_fanout.specs.Nodes.{shard_sight, log_sight}
+use Rattle.shard_fanout.specs.declared.coordinators.SharedLog.{SharedLog}
+use Rattle.shard_fanout.specs.declared.locking.SharedShard.{SharedShard}
+use Rattle.shard_fanout.specs.declared.logged.LogSeat.{LogSeat}
+use Rattle.shard_fanout.specs.declared.tables.Locks.{Ghosts}
+use Rattle.wave_ends.specs.Rows.{AreDealt}
+use Rattle.wave_lanes.specs.Held.{AreOfLane, Begins, log_of, shards_of}
+use Rattle.wave_lanes.specs.Ports.{ArePorts, AtTables}
+use Rattle.wave_lanes.specs.declared.runs.LaneRun.{LaneRun}
+use Rattle.lane_waves.specs.Lanes.{IsReady}
+use Rattle.lane_waves.specs.Places.{AllFrom, BothFrom}
+use Rattle.lane_waves.specs.Rows.{lanes_from, home_lanes, all_lanes}
+use Rattle.lane_waves.specs.declared.dealing.Table.{Table}
+
+-- a lane that a run may be made of
+pub record MayRun (x : Lane) : Type 0 where
+  pub ready : IsReady x
+  pub limits : All IsCompact x.txs.items
+
+-- each list has room for so many items in all
+abbrev pub EachHolds : {T : Type 0} → ℕ → List (Vec T) → Type 0
+EachHolds n [] = Unit {0}
+EachHolds n (r ∷ rs) = (n ≤ vec_capacity r) × EachHolds n rs
+
+-- an empty list with room for so many
+abbrev pub IsEmptyRoom : {T : Type 0} → ℕ → Vec T → Type 0
+IsEmptyRoom n r = (r.items ≡ []) × (n ≤ vec_capacity r)
+
+-- a node as it was at the opening of its lock, seen through a seat that made no call
+abbrev pub started : ℕ → Sight → Sight
+started lane first = viewed first (fresh first lane)
+
+module _ {W D B : Type 0} {G : Ghosts B} where
+  -- so many lanes have no seats yet, and there is room for theirs
+  pub record HasRoom (shards n : ℕ) (t : Table W D B G) : Type 0 where
+    pub rows : length t.rows.items ≡ shards
+    pub rows_hold : EachHolds (length t.runs.items + n) t.rows.items
+    pub seats : (t.seats.items ≡ []) × (shards ≤ vec_capacity t.seats)
+    pub spare : (t.spare.items ≡ []) × (shards ≤ vec_capacity t.spare)
+    pub rooms : All (IsEmptyRoom shards) t.rooms.items
+    pub rooms_many : length t.rooms.items ≡ n
+    pub lanes : All MayRun t.lanes.items
+    pub lanes_many : length t.lanes.items ≡ n
+    pub lanes_hold : length t.runs.items + n ≤ vec_capacity t.lanes
+    pub runs_hold : length t.runs.items + n ≤ vec_capacity t.runs
+
+  -- the last lane got its seats
+  pub record IsNext (count limit : D → ℕ) (hs : List (Guarded (SharedShard D))) (home : LogSeat W D B G) (t u : Table W D B G) : Type 0 where
+    pub run : LaneRun W D B G
+    pub runs : u.runs.items ≡ t.runs.items ++ run ∷ []
+    pub lanes : t.lanes.items ≡ u.lanes.items ++ run.work ∷ []
+    pub lane : run.lane ≡ (knows home.seat).lane
+    pub log : run.ports.log ≡ home
+    pub seats : List (Seat (SharedShard D))
+    pub dealt : AreDealt (shard_sight count limit) (knows home.seat).lane hs seats
+    pub ports : ArePorts hs seats run.ports.shards.each.ports.items
+
+module _ {D : Type 0} where
+  -- the seats that are left of a coordinator are those of its first lanes
+  abbrev pub IsHomeLeft : Shape → ℕ → List (Guarded (SharedLog D)) → List (Seat (SharedLog D)) → Type 0
+  IsHomeLeft K home gs ss = (g : Guarded (SharedLog D)) → slice_get gs home ≡ Some g
+      → AreFresh (log_sight (opening_of g)) (opening_of g) (table_of g) (lanes_from (home * K.lanes) (length ss)) ss
+
+  abbrev pub IsHomeFresh : Shape → List (Guarded (SharedLog D)) → ℕ → Vec (Seat (SharedLog D)) → Type 0
+  IsHomeFresh K gs home ss = (length ss.items ≡ K.lanes) × IsHomeLeft K home gs ss.items
+
+-- an open node of the ledger
+pub record IsOpenAt (K : Shape) (n : ℕ) (s : Sight) : Type 0 where
+  pub shape : s.header.shape ≡ K
+  pub node : s.header.node ≡ n
+  pub since : s.opened ≤ s.faults
+
+-- the nodes as they were at the opening of their locks
+abbrev pub log_at : {D : Type 0} → List (Guarded (SharedLog D)) → ℕ → Sight
+log_at gs = sight_at (λ g. log_sight (opening_of g)) gs
+
+abbrev pub shard_at : {D : Type 0} → (D → ℕ) → (D → ℕ) → List (Guarded (SharedShard D)) → ℕ → Sight
+shard_at count limit hs = sight_at (λ h. shard_sight count limit (opening_of h)) hs
+
+module _ {D : Type 0} (count limit : D → ℕ) (tables : ℕ → TableId) (K : Shape) (gs : List (Guarded (SharedLog D))) (hs : List (Guarded (SharedShard D))) where
+  -- the locks are of the ledger's nodes, whose lanes are settled; and the wave's picks are these locks
+  pub record AreOpen : Type 0 where
+    pub limits : IsWithinLimits K
+    pub logs_many : length gs ≡ K.coordinators
+    pub shards_many : length hs ≡ K.shards
+    pub logs : AllFrom (λ n g. IsOpenAt K n (log_sight (opening_of g))) 0 gs
+    pub shards : AllFrom (λ s h. IsOpenAt K (shard_node K s) (shard_sight count limit (opening_of h))) 0 hs
+    pub settled : (lane : ℕ) → lane < K.coordinators * K.lanes → IsSettled K lane (log_at gs (home_of K lane)) (shard_at count limit hs)
+    pub log_lanes : AllFrom (λ n g. lanes_of g ≡ home_lanes K n) 0 gs
+    pub shard_lanes : AllFrom (λ s h. lanes_of h ≡ all_lanes K) 0 hs
+    pub log_tables : AllFrom (λ n g. tables n ≡ table_of g) 0 gs
+    pub shard_tables : AtTables tables K 0 hs
+
+  module _ {W B : Type 0} {G : Ghosts B} where
+    -- the run of a lane that has all its seats, before its first call
+    pub record IsSetUp (lane : ℕ) (x : Lane) (r : LaneRun W D B G) : Type 0 where
+      pub lane_is : r.lane ≡ lane
+      pub work : r.work ≡ x
+      pub ready : IsReady x
+      pub begins : Begins count limit tables K r
+      pub mine : (knows r.ports.log.seat).lane ≡ lane
+      pub ours : AreOfLane lane r.ports.shards.each.ports.items
+      pub log : log_of count limit tables K r ≡ started lane (log_at gs (home_of K lane))
+      pub shards : (s : ℕ) → shards_of count limit tables K r s ≡ started lane (shard_at count limit hs s)
+
+    -- of these lanes those from the n-th on have their seats
+    pub record HaveSeats (n : ℕ) (lanes : List Lane) (t : Table W D B G) : Type 0 where
+      pub done : List Lane
+      pub all_are : lanes ≡ t.lanes.items ++ done
+      pub set_up : BothFrom IsSetUp n done (reverse t.runs.items)

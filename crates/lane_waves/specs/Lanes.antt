@@ -1,0 +1,31 @@
+-- The lanes of a wave, ready for it, and with what came of them.
+use Rattle.std.specs.Prelude.{◌≡◌, ◌≤◌, ℕ, List, [], length, min, Option, Some, None, Result, Ok, Err, vec_capacity}
+use Rattle.lane_driver.specs.declared.fault.LaneFault.{LaneFault}
+use Rattle.lane_driver.specs.declared.fault.LaneReport.{LaneReport}
+use Rattle.lane_driver.specs.declared.fault.LaneFaultKind.TheVariants.{Memory}
+use Rattle.ledger_runs.specs.declared.lanes.Lane.{Lane}
+use Rattle.ledger_runs.specs.Telling.{kept_by}
+use Rattle.thread_laws.specs.Telling.{told_in}
+
+-- nothing is decided of its transactions, and there is room for an outcome of each
+pub record IsReady (x : Lane) : Type 0 where
+  pub decided : x.decided.items ≡ []
+  pub room : length x.txs.items ≤ vec_capacity x.decided
+  pub batches : x.batches ≡ 0
+  pub fault : x.fault ≡ None
+
+-- it stopped for want of memory, before its first call
+abbrev pub HasNoMemory : Lane → Type 0
+HasNoMemory x = x.fault ≡ Some (record { node = 0; fault = Memory })
+
+-- it keeps what its batches came to, in order
+pub record Keeps (x : Lane) (report : LaneReport) (y : Lane) : Type 0 where
+  pub txs : y.txs ≡ x.txs
+  pub fault : y.fault ≡ None
+  pub kept : kept_by y.decided.items ≡ told_in report.batches
+  pub count : y.batches ≡ min (length report.batches) 18446744073709551615
+
+-- the lane with what came of its run
+abbrev pub IsKept : Lane → Result LaneReport LaneFault → Lane → Type 0
+IsKept x (Ok report) y = Keeps x report y
+IsKept x (Err e) y = (y.txs ≡ x.txs) × (y.fault ≡ Some e)

@@ -1,0 +1,30 @@
+-- All memory of a wave.
+use Rattle.std.specs.Prelude.{◌≡◌, ◌≤◌, ◌*◌, ℕ, List, [], All, length, vec_capacity}
+use Rattle.cbdc_model.specs.Records.{Shape}
+use Rattle.ledger_runs.specs.declared.lanes.Lane.{Lane}
+use Rattle.shard_fanout.specs.declared.tables.Locks.{Ghosts}
+use Rattle.lane_waves.specs.Lanes.{IsReady}
+use Rattle.lane_waves.specs.Places.{AllFrom}
+use Rattle.lane_waves.specs.Rows.{IsHomeRow, IsShardRow}
+use Rattle.lane_waves.specs.Deals.{IsEmptyRoom}
+use Rattle.lane_waves.specs.declared.waves.NodeRoom.{NodeRoom}
+use Rattle.lane_waves.specs.declared.waves.LaneRoom.{LaneRoom}
+
+-- the lanes that each node is to be locked for, a list for the nodes, and lanes that are ready
+pub record IsNodeRoom {D : Type 0} (K : Shape) (r : NodeRoom D) (lanes : List Lane) : Type 0 where
+  pub home_rows : AllFrom (IsHomeRow K) 0 r.home_rows.items
+  pub home_rows_many : length r.home_rows.items ≡ K.coordinators
+  pub shard_rows : AllFrom (IsShardRow K) 0 r.shard_rows.items
+  pub shard_rows_many : length r.shard_rows.items ≡ K.shards
+  pub logs : IsEmptyRoom K.coordinators r.nodes.logs
+  pub shards : IsEmptyRoom K.shards r.nodes.shards
+  pub ready : All IsReady lanes
+
+-- empty lists with room for all lanes' seats, ports and runs
+pub record IsLaneRoom {W D B : Type 0} {G : Ghosts B} (K : Shape) (r : LaneRoom W D B G) : Type 0 where
+  pub emptied : IsEmptyRoom K.coordinators r.emptied
+  pub spare : IsEmptyRoom K.shards r.spare
+  pub seats : IsEmptyRoom K.shards r.seats
+  pub rooms : All (IsEmptyRoom K.shards) r.rooms.items
+  pub rooms_many : length r.rooms.items ≡ K.coordinators * K.lanes
+  pub runs : IsEmptyRoom (K.coordinators * K.lanes) r.runs

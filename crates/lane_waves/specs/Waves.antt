@@ -1,0 +1,29 @@
+-- What a wave is asked, and what comes of its lanes at their seats.
+use Rattle.std.specs.Prelude.{◌≡◌, ◌<◌, ℕ, List, length}
+use Rattle.std.specs.Global.{Vec}
+use Rattle.cbdc_model.specs.Records.{Shape}
+use Rattle.cbdc_model.specs.Ranges.{shard_node}
+use Rattle.cbdc_model.specs.Sights.{Sight}
+use Rattle.ledger_runs.specs.declared.lanes.Lane.{Lane}
+use Rattle.node_lock.specs.declared.lock.Guarded.{Guarded}
+use Rattle.node_lock.specs.declared.seat.Seat.{Seat}
+use Rattle.shard_fanout.specs.declared.coordinators.SharedLog.{SharedLog}
+use Rattle.shard_fanout.specs.declared.locking.SharedShard.{SharedShard}
+use Rattle.thread_laws.specs.Running.{LaneRan}
+use Rattle.thread_laws.specs.Whole.{EachPair}
+use Rattle.wave_ends.specs.Rows.{AreReady}
+use Rattle.wave_records.specs.Among.{hands_at}
+use Rattle.lane_waves.specs.Deals.{log_at, shard_at}
+
+-- the nodes are those of a ledger of this shape, in order
+pub record AreNodesOf (K : Shape) (logs shards : ℕ → Sight) : Type 0 where
+  pub logs_are : (n : ℕ) → n < K.coordinators → ((logs n).header.shape ≡ K) × ((logs n).header.node ≡ n)
+  pub shards_are : (s : ℕ) → s < K.shards → ((shards s).header.shape ≡ K) × ((shards s).header.node ≡ shard_node K s)
+
+-- all lanes have ended at seats of these locks, and all seats are back
+pub record AreThrough {D : Type 0} (count limit : D → ℕ) (K : Shape) (gs : List (Guarded (SharedLog D))) (hs : List (Guarded (SharedShard D)))
+    (homes : List (Vec (Seat (SharedLog D)))) (rows : List (Vec (Seat (SharedShard D)))) (lanes lanes' : List Lane) : Type 0 where
+  pub homes_ready : AreReady gs homes
+  pub rows_ready : AreReady hs rows
+  pub many : length lanes' ≡ length lanes
+  pub lanes_ran : EachPair (LaneRan K (log_at gs) (shard_at count limit hs) (hands_at homes) (hands_at rows)) lanes lanes'

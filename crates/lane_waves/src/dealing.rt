@@ -1,0 +1,178 @@
+// Seats dealt to lanes.
+ghost use Rattle.std.specs.Prelude.{◌≡◌, ◌≤◌, ◌<◌, ◌+◌, ◌*◌, ◌^◌, suc, [], All, List, length, IfOk, vec_len, vec_capacity};
+ghost use Rattle.node_lock.specs.Seats.{IsSeatOf, knows, opening_of, table_of, AreFresh};
+ghost use Rattle.shard_fanout.specs.Nodes.{shard_sight, log_sight};
+ghost use Rattle.wave_ends.specs.Rows.{AreLeft};
+ghost use Rattle.wave_lanes.specs.Ports.{AreOpened};
+ghost use Rattle.ledger_runs.specs.declared.lanes.Lane.{Lane as LaneOf};
+ghost use Rattle.lane_waves.specs.Rows.{lanes_from, all_lanes};
+ghost use Rattle.lane_waves.specs.Places.{AllFrom};
+ghost use Rattle.lane_waves.specs.Deals.{HasRoom, IsNext, AreOpen, HaveSeats, IsHomeLeft, IsHomeFresh, IsEmptyRoom};
+
+use cbdc_types::{NodeId, Shape};
+use lane_driver::Ports;
+use ledger_runs::Lane;
+use node_lock::{Guarded, Seat};
+use outside::Disk;
+use port_sets::EachPort;
+use shard_fanout::{Locks, LogSeat, ShardSeat, SharedLog, SharedShard};
+use std::alloc::{AllocError, Global};
+use std::marker::PhantomData;
+use std::sync::Wait;
+use wave_ends::{Dealt, deal};
+use wave_lanes::{LaneRun, SeatSet, ports_over};
+
+/// The shards' seats that no lane has, a list for each shard; the lanes that have none; and the runs of those that have theirs. The other lists give room.
+pub(crate) struct Table<'a, W: Wait, D: Disk, B: Locks> {
+    pub rows: Vec<Vec<Seat<SharedShard<D>>>>,
+    pub spare: Vec<Vec<Seat<SharedShard<D>>>>,
+    pub seats: Vec<Seat<SharedShard<D>>>,
+    pub rooms: Vec<Vec<ShardSeat<'a, W, D, B>>>,
+    pub lanes: Vec<Lane>,
+    pub runs: Vec<LaneRun<'a, W, D, B>>,
+}
+
+/// An empty list with room for so many ports, for each of so many lanes.
+pub(crate) fn port_rooms<'a, W: Wait, D: Disk, B: Locks>(
+    alloc: Global,
+    lanes: usize,
+    shards: usize,
+) -> Result<Vec<Vec<ShardSeat<'a, W, D, B>>>, AllocError>
+    ensures rooms { IfOk result (λ v. All (λ w. (w.items ≡ []) × (shards ≤ vec_capacity w)) v.items) }
+    ensures as_many { IfOk result (λ v. vec_len v ≡ lanes) }
+{
+    let mut rooms = Vec::with_capacity(alloc, lanes)?;
+    for _place in 0..lanes {
+        rooms.push_reserved(Vec::with_capacity(alloc, shards)?);
+    }
+    Ok(rooms)
+}
+
+// The last lane gets its seat of each shard, beside that of its coordinator.
+fn deal_lane<'a, W: Wait, D: Disk, B: Locks>(
+    rt: &'a W,
+    first: u32,
+    locks: &'a [Guarded<SharedShard<D>>],
+    home: LogSeat<'a, W, D, B>,
+    table: Table<'a, W, D, B>,
+) -> Table<'a, W, D, B>
+    requires opened { AreOpened D.count D.limit locks.now }
+    requires small { first + length locks.now < 2 ^ 32 }
+    requires room { HasRoom (length locks.now) (suc (knows home.seat).lane) table }
+    requires left { AreLeft (shard_sight D.count D.limit) (lanes_from 0 (suc (knows home.seat).lane)) locks.now table.rows.items }
+    ensures room { HasRoom (length locks.now) (knows home.entry.seat).lane result }
+    ensures left { AreLeft (shard_sight D.count D.limit) (lanes_from 0 (knows home.entry.seat).lane) locks.now result.rows.items }
+    ensures next { IsNext D.count D.limit locks.now home.entry table.entry result }
+{
+    let Table {
+        rows,
+        spare,
+        seats,
+        mut rooms,
+        mut lanes,
+        mut runs,
+    } = table;
+    let Dealt { rows, items, spare } = deal(rows, seats, spare);
+    let Some(room) = rooms.pop() else {
+        unreachable!()
+    };
+    let Some(work) = lanes.pop() else {
+        unreachable!()
+    };
+    let (ports, seats) = ports_over(rt, first, locks, items, room);
+    runs.push_reserved(LaneRun {
+        lane: home.seat.lane(),
+        work,
+        ports: Ports {
+            shards: SeatSet {
+                rt,
+                locks,
+                each: EachPort { ports },
+            },
+            log: home,
+        },
+        came: None,
+    });
+    Table {
+        rows,
+        spare,
+        seats,
+        rooms,
+        lanes,
+        runs,
+    }
+}
+
+// The lanes of a coordinator get their seats, the last one first. Its list of seats is empty then.
+fn deal_home<'a, W: Wait, D: Disk, B: Locks>(
+    rt: &'a W,
+    shape: &Shape,
+    home: u32,
+    log_locks: &'a [Guarded<SharedLog<D>>],
+    shard_locks: &'a [Guarded<SharedShard<D>>],
+    mut own: Vec<Seat<SharedLog<D>>>,
+    mut table: Table<'a, W, D, B>,
+) -> (Vec<Seat<SharedLog<D>>>, Table<'a, W, D, B>)
+    requires open { AreOpen D.count D.limit B.tables shape.now log_locks.now shard_locks.now }
+    requires home { home < length log_locks.now }
+    requires many { length own.items ≤ shape.now.lanes }
+    requires own { IsHomeLeft shape.now home log_locks.now own.items }
+    requires room { HasRoom (length shard_locks.now) (home * shape.now.lanes + length own.items) table }
+    requires left { AreLeft (shard_sight D.count D.limit) (lanes_from 0 (home * shape.now.lanes + length own.items)) shard_locks.now table.rows.items }
+    ensures empty { (result.0.items ≡ []) × (vec_capacity result.0 ≡ vec_capacity own) }
+    ensures room { HasRoom (length shard_locks.now) (home * shape.now.lanes) result.1 }
+    ensures left { AreLeft (shard_sight D.count D.limit) (lanes_from 0 (home * shape.now.lanes)) shard_locks.now result.1.rows.items }
+    ensures dealt { (lanes : List LaneOf) → HaveSeats D.count D.limit B.tables shape.now log_locks.now shard_locks.now (home * shape.now.lanes + length own.items) lanes table.entry
+        → HaveSeats D.count D.limit B.tables shape.now log_locks.now shard_locks.now (home * shape.now.lanes) lanes result.1 }
+{
+    let first = shape.coordinators();
+    let guarded = &log_locks[home as usize];
+    while let Some(seat) = own.pop() {
+        let port = LogSeat {
+            rt,
+            node: NodeId(home),
+            guarded,
+            seat,
+            of: PhantomData,
+        };
+        table = deal_lane(rt, first, shard_locks, port, table);
+    }
+    (own, table)
+}
+
+/// All lanes get their seats, those of the last coordinator first. The coordinators' lists of seats are empty then, the last one first.
+pub(crate) fn deal_all<'a, W: Wait, D: Disk, B: Locks>(
+    rt: &'a W,
+    shape: &Shape,
+    log_locks: &'a [Guarded<SharedLog<D>>],
+    shard_locks: &'a [Guarded<SharedShard<D>>],
+    mut homes: Vec<Vec<Seat<SharedLog<D>>>>,
+    mut emptied: Vec<Vec<Seat<SharedLog<D>>>>,
+    mut table: Table<'a, W, D, B>,
+) -> (
+    Vec<Vec<Seat<SharedLog<D>>>>,
+    Vec<Vec<Seat<SharedLog<D>>>>,
+    Table<'a, W, D, B>,
+)
+    requires open { AreOpen D.count D.limit B.tables shape.now log_locks.now shard_locks.now }
+    requires many { length homes.items ≡ shape.now.coordinators }
+    requires homes { AllFrom (IsHomeFresh shape.now log_locks.now) 0 homes.items }
+    requires empty { emptied.items ≡ [] }
+    requires place { shape.now.coordinators ≤ vec_capacity emptied }
+    requires room { HasRoom shape.now.shards (shape.now.coordinators * shape.now.lanes) table }
+    requires left { AreLeft (shard_sight D.count D.limit) (all_lanes shape.now) shard_locks.now table.rows.items }
+    ensures empty { (result.0.items ≡ []) × (shape.now.coordinators ≤ vec_capacity result.0) }
+    ensures emptied { (length result.1.items ≡ shape.now.coordinators) × All (IsEmptyRoom shape.now.lanes) result.1.items }
+    ensures room { HasRoom shape.now.shards 0 result.2 }
+    ensures left { AreLeft (shard_sight D.count D.limit) [] shard_locks.now result.2.rows.items }
+    ensures dealt { (lanes : List LaneOf) → HaveSeats D.count D.limit B.tables shape.now log_locks.now shard_locks.now (shape.now.coordinators * shape.now.lanes) lanes table.entry
+        → HaveSeats D.count D.limit B.tables shape.now log_locks.now shard_locks.now 0 lanes result.2 }
+{
+    while let Some(own) = homes.pop() {
+        let home = homes.len() as u32;
+        let (own, rest) = deal_home(rt, shape, home, log_locks, shard_locks, own, table);
+        emptied.push_reserved(own);
+        table = rest;
+    }
+    (homes, emptied, table)
+}

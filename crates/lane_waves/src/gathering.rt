@@ -1,0 +1,120 @@
+// Seats given back, and the lanes with what came of them.
+ghost use Rattle.std.specs.Prelude.{◌≡◌, ◌≤◌, ◌<◌, ◌+◌, ◌*◌, [], All, List, length, vec_capacity};
+ghost use Rattle.node_lock.specs.declared.lock.Guarded.{Guarded as GuardedOf};
+ghost use Rattle.shard_fanout.specs.declared.locking.SharedShard.{SharedShard as SharedShardOf};
+ghost use Rattle.lane_waves.specs.Deals.{IsEmptyRoom};
+ghost use Rattle.lane_waves.specs.Gathers.{MayGather, IsBack, Gathered, AreHome, HomesBack};
+
+use crate::dealing::Table;
+use crate::lanes::kept;
+use lane_driver::Ports;
+use node_lock::Seat;
+use outside::Disk;
+use port_sets::EachPort;
+use shard_fanout::{Locks, LogSeat, SharedLog};
+use std::sync::Wait;
+use wave_ends::{Dealt, gather};
+use wave_lanes::{LaneRun, SeatSet, seats_back};
+
+// The first lane that is not back gives back its seats: those of the shards onto their lists, that of its coordinator to the caller.
+fn gather_lane<'a, W: Wait, D: Disk, B: Locks>(
+    table: Table<'a, W, D, B>,
+) -> (Seat<SharedLog<D>>, Table<'a, W, D, B>)
+    requires some { 0 < length table.runs.items }
+    requires room { MayGather table }
+    ensures room { MayGather result.1 }
+    ensures back { IsBack table.entry result.0 result.1 }
+{
+    let Table {
+        rows,
+        spare,
+        seats,
+        rooms,
+        mut lanes,
+        mut runs,
+    } = table;
+    let Some(run) = runs.pop() else {
+        unreachable!()
+    };
+    let LaneRun {
+        lane: _,
+        work,
+        ports,
+        came,
+    } = run;
+    let Ports { shards, log } = ports;
+    let SeatSet {
+        rt: _,
+        locks: _,
+        each,
+    } = shards;
+    let EachPort { ports } = each;
+    let LogSeat {
+        rt: _,
+        node: _,
+        guarded: _,
+        seat,
+        of: _,
+    } = log;
+    let Some(came) = came else {
+        unreachable!()
+    };
+    let Dealt { rows, items, spare } = gather(rows, seats_back(ports, seats), spare);
+    lanes.push_reserved(kept(work, came));
+    let table = Table {
+        rows,
+        spare,
+        seats: items,
+        rooms,
+        lanes,
+        runs,
+    };
+    (seat, table)
+}
+
+// So many lanes give back their seats, those of their coordinator onto its list.
+fn gather_home<'a, W: Wait, D: Disk, B: Locks>(
+    count: u32,
+    mut own: Vec<Seat<SharedLog<D>>>,
+    mut table: Table<'a, W, D, B>,
+) -> (Vec<Seat<SharedLog<D>>>, Table<'a, W, D, B>)
+    requires some { count ≤ length table.runs.items }
+    requires own { IsEmptyRoom count own }
+    requires room { MayGather table }
+    ensures room { MayGather result.1 }
+    ensures home { AreHome count table.entry result.0.items result.1 }
+    ensures gathered { (locks : List (GuardedOf (SharedShardOf D))) (all : _) → Gathered locks all table.entry → Gathered locks all result.1 }
+{
+    for _place in 0..count {
+        let (seat, rest) = gather_lane(table);
+        own.push_reserved(seat);
+        table = rest;
+    }
+    (own, table)
+}
+
+/// All lanes give back their seats, those of the first coordinator first, for which there is an empty list each, the last one first.
+pub(crate) fn gather_all<'a, W: Wait, D: Disk, B: Locks>(
+    count: u32,
+    mut emptied: Vec<Vec<Seat<SharedLog<D>>>>,
+    mut homes: Vec<Vec<Seat<SharedLog<D>>>>,
+    mut table: Table<'a, W, D, B>,
+) -> (Vec<Vec<Seat<SharedLog<D>>>>, Table<'a, W, D, B>)
+    requires runs { length table.runs.items ≡ length emptied.items * count }
+    requires emptied { All (IsEmptyRoom count) emptied.items }
+    requires empty { homes.items ≡ [] }
+    requires place { length emptied.items ≤ vec_capacity homes }
+    requires room { MayGather table }
+    ensures none { result.1.runs.items ≡ [] }
+    ensures many { length result.0.items ≡ length emptied.items }
+    ensures homes { HomesBack count table.entry.runs.items result.0.items }
+    ensures gathered { (locks : List (GuardedOf (SharedShardOf D))) (all : _) → Gathered locks all table.entry → Gathered locks all result.1 }
+{
+    while let Some(own) = emptied.pop() {
+        let (own, rest) = gather_home(count, own, table);
+        homes.push_reserved(own);
+        table = rest;
+    }
+    emptied.destroy_empty();
+    (homes, table)
+}

@@ -1,0 +1,96 @@
+// The lanes of a wave: made ready for it, and with what came of them.
+ghost use Rattle.std.specs.Prelude.{◌≡◌, ◌≤◌, ◌+◌, ◌++◌, All, Some, map, min, length, OnOk, IfOk, vec_len, vec_capacity};
+ghost use Rattle.ledger_runs.specs.Telling.{kept_by, decided_in};
+ghost use Rattle.thread_laws.specs.Telling.{told_in};
+ghost use Rattle.lane_waves.specs.Lanes.{IsReady, HasNoMemory, IsKept};
+
+use cbdc_types::{BatchId, Outcome};
+use lane_driver::{BatchReport, LaneFault, LaneReport, no_memory};
+use ledger_runs::{Decided, Lane};
+use std::alloc::AllocError;
+
+/// Makes the lanes ready for a wave: nothing is decided of their transactions, and there is room for an outcome of each.
+pub(crate) fn make_ready(lanes: &mut Vec<Lane>) -> Result<(), AllocError>
+    ensures same { map (λ x. x.txs) lanes.new.items ≡ map (λ x. x.txs) lanes.old.items }
+    ensures ready { OnOk result (All IsReady lanes.new.items) }
+{
+    for place in 0..lanes.len() {
+        make_one_ready(&mut lanes[place])?;
+    }
+    Ok(())
+}
+
+fn make_one_ready(lane: &mut Lane) -> Result<(), AllocError>
+    ensures same { lane.new.txs ≡ lane.old.txs }
+    ensures ready { OnOk result (IsReady lane.new) }
+{
+    lane.decided.clear();
+    lane.batches = 0;
+    lane.fault = None;
+    lane.decided.reserve(lane.txs.len())
+}
+
+/// Stops all lanes for want of memory.
+pub(crate) fn stop_all(lanes: &mut Vec<Lane>)
+    ensures same { map (λ x. x.txs) lanes.new.items ≡ map (λ x. x.txs) lanes.old.items }
+    ensures stopped { All HasNoMemory lanes.new.items }
+{
+    for place in 0..lanes.len() {
+        lanes[place].fault = Some(no_memory());
+    }
+}
+
+/// The lane with what came of its run.
+pub(crate) fn kept(mut lane: Lane, came: Result<LaneReport, LaneFault>) -> Lane
+    requires ready { IsReady lane }
+    requires room { IfOk came (λ r. length (told_in r.batches) ≤ length lane.txs.items) }
+    ensures { IsKept lane came result }
+{
+    match came {
+        Ok(report) => keep_all(&mut lane, report.batches.as_slice()),
+        Err(fault) => lane.fault = Some(fault),
+    }
+    lane
+}
+
+// Keeps what came of batches.
+fn keep_all(lane: &mut Lane, reports: &[BatchReport])
+    requires room { vec_len lane.old.decided + length (told_in reports.now) ≤ vec_capacity lane.old.decided }
+    ensures same { (lane.new.txs ≡ lane.old.txs) × (lane.new.fault ≡ lane.old.fault) }
+    ensures kept { kept_by lane.new.decided.items ≡ kept_by lane.old.decided.items ++ told_in reports.now }
+    ensures count { lane.new.batches ≡ min (lane.old.batches + length reports.now) 18446744073709551615 }
+{
+    'reports: for report in reports {
+        keep(lane, report);
+    }
+}
+
+// Keeps what came of a batch.
+fn keep(lane: &mut Lane, report: &BatchReport)
+    requires room { vec_len lane.old.decided + length report.now.outcomes ≤ vec_capacity lane.old.decided }
+    ensures same { (lane.new.txs ≡ lane.old.txs) × (lane.new.fault ≡ lane.old.fault) }
+    ensures room { (vec_capacity lane.new.decided ≡ vec_capacity lane.old.decided) × (vec_len lane.new.decided ≡ vec_len lane.old.decided + length report.now.outcomes) }
+    ensures kept { kept_by lane.new.decided.items ≡ kept_by lane.old.decided.items ++ decided_in report.now.batch report.now.outcomes }
+    ensures count { lane.new.batches ≡ min (lane.old.batches + 1) 18446744073709551615 }
+{
+    lane.batches = lane.batches.saturating_add(1);
+    keep_outcomes(
+        &mut lane.decided,
+        &report.batch,
+        report.outcomes.as_slice(),
+    );
+}
+
+// Keeps what was decided of a batch.
+fn keep_outcomes(decided: &mut Vec<Decided>, batch: &BatchId, outcomes: &[Outcome])
+    requires room { vec_len decided.old + length outcomes.now ≤ vec_capacity decided.old }
+    ensures room { (vec_capacity decided.new ≡ vec_capacity decided.old) × (vec_len decided.new ≡ vec_len decided.old + length outcomes.now) }
+    ensures kept { kept_by decided.new.items ≡ kept_by decided.old.items ++ decided_in batch.now outcomes.now }
+{
+    'outcomes: for outcome in outcomes {
+        decided.push_reserved(Decided {
+            batch: *batch,
+            outcome: *outcome,
+        });
+    }
+}

@@ -1,0 +1,312 @@
+// A whole wave.
+ghost use Rattle.std.specs.Prelude.{◌≡◌, ◌≤◌, ◌<◌, ◌*◌, ℕ, [], List, All, IfOk, length, map, vec_capacity};
+ghost use Rattle.cbdc_types.specs.Limits.{IsWithinLimits};
+ghost use Rattle.cbdc_model.specs.Grammar.{IsCompact};
+ghost use Rattle.cbdc_model.specs.Ranges.{home_of};
+ghost use Rattle.coord_log.specs.Logs.{sight};
+ghost use Rattle.shard_node.specs.Shards.{sight_of};
+ghost use Rattle.node_ports.specs.Nodes.{sight_at, IsLogHeld, IsShardHeld};
+ghost use Rattle.lane_driver.specs.Stops.{IsSettled};
+ghost use Rattle.shard_fanout.specs.Nodes.{log_sight, shard_sight};
+ghost use Rattle.wave_ends.specs.Rows.{AreLeft};
+ghost use Rattle.thread_laws.specs.Running.{WaveRan};
+ghost use Rattle.wave_records.specs.Laws.{WentOn};
+ghost use Rattle.lane_waves.specs.Places.{AllFrom};
+ghost use Rattle.lane_waves.specs.Rows.{IsHomeRow, IsShardRow, all_lanes};
+ghost use Rattle.lane_waves.specs.Deals.{MayRun, AreOpen, IsHomeFresh};
+ghost use Rattle.lane_waves.specs.Rooms.{IsNodeRoom, IsLaneRoom};
+ghost use Rattle.lane_waves.specs.Waves.{AreNodesOf, AreThrough};
+
+use crate::dealing::{Table, deal_all, port_rooms};
+use crate::gathering::gather_all;
+use crate::lanes::{make_ready, stop_all};
+use crate::rows::{home_rows, shard_rows};
+use cbdc_types::{LaneId, Shape};
+use coord_log::CoordLog;
+use ledger_runs::Lane;
+use node_lock::{Guarded, Seat};
+use outside::{Disk, Gate};
+use shard_fanout::{
+    Locks, ShardSeat, SharedLog, SharedShard, own_logs, own_shards, share_logs, share_shards,
+};
+use shard_node::ShardNode;
+use std::alloc::{AllocError, Global};
+use std::marker::Brand;
+use std::mem;
+use std::sync::Wait;
+use std::thread::Threads;
+use wave_ends::{Locked, close_all, lock_all};
+use wave_lanes::{LaneRun, run_all};
+
+/// All nodes of a ledger: its coordinators, and its shards.
+#[derive(Drop)]
+pub struct Nodes<D: Disk> {
+    pub logs: Vec<CoordLog<D>>,
+    pub shards: Vec<ShardNode<D>>,
+}
+
+// All nodes under the wrappers that lanes share.
+struct SharedNodes<D: Disk> {
+    logs: Vec<SharedLog<D>>,
+    shards: Vec<SharedShard<D>>,
+}
+
+// The memory of a wave that its nodes want: the lanes that each is locked for, and a list for them under their wrappers.
+struct NodeRoom<D: Disk> {
+    home_rows: Vec<Vec<LaneId>>,
+    shard_rows: Vec<Vec<LaneId>>,
+    nodes: SharedNodes<D>,
+}
+
+// The memory that its lanes want.
+struct LaneRoom<'a, W: Wait, D: Disk, B: Locks> {
+    emptied: Vec<Vec<Seat<SharedLog<D>>>>,
+    spare: Vec<Vec<Seat<SharedShard<D>>>>,
+    seats: Vec<Seat<SharedShard<D>>>,
+    rooms: Vec<Vec<ShardSeat<'a, W, D, B>>>,
+    runs: Vec<LaneRun<'a, W, D, B>>,
+}
+
+// The seats of all locks, a list for each lock, and the lanes.
+struct SeatedLanes<D: Disk> {
+    homes: Vec<Vec<Seat<SharedLog<D>>>>,
+    rows: Vec<Vec<Seat<SharedShard<D>>>>,
+    lanes: Vec<Lane>,
+}
+
+// Each coordinator's disk has failed no less often than when it was opened.
+fn see_logs<D: Disk>(logs: &[CoordLog<D>])
+    ensures { All (λ l. l.opened ≤ l.faults) logs.now }
+{
+    'logs: for log in logs {
+        let _header = log.header();
+    }
+}
+
+// Each shard's disk has failed no less often than when it was opened.
+fn see_shards<D: Disk>(shards: &[ShardNode<D>])
+    ensures { All (λ s. s.opened ≤ D.count s.disk) shards.now }
+{
+    'shards: for shard in shards {
+        let _header = shard.header();
+    }
+}
+
+// The memory that the nodes of a wave want, and the lanes made ready.
+fn node_room<D: Disk>(alloc: Global, shape: &Shape, lanes: &mut Vec<Lane>) -> Result<NodeRoom<D>, AllocError>
+    ensures same { map (λ x. x.txs) lanes.new.items ≡ map (λ x. x.txs) lanes.old.items }
+    ensures room { IfOk result (λ r. IsNodeRoom shape.now r lanes.new.items) }
+{
+    make_ready(lanes)?;
+    let home_rows = home_rows(alloc, shape)?;
+    let shard_rows = shard_rows(alloc, shape)?;
+    let logs = Vec::with_capacity(alloc, shape.coordinators() as usize)?;
+    let shards = Vec::with_capacity(alloc, shape.shards() as usize)?;
+    Ok(NodeRoom {
+        home_rows,
+        shard_rows,
+        nodes: SharedNodes { logs, shards },
+    })
+}
+
+// The memory that the lanes of a wave want.
+fn lane_room<'a, W: Wait, D: Disk, B: Locks>(alloc: Global, shape: &Shape) -> Result<LaneRoom<'a, W, D, B>, AllocError>
+    ensures { IfOk result (λ r. IsLaneRoom shape.now r) }
+{
+    let homes = shape.coordinators() as usize;
+    let shards = shape.shards() as usize;
+    let lanes = shape.lane_count() as usize;
+    let emptied = Vec::with_capacity(alloc, homes)?;
+    let spare = Vec::with_capacity(alloc, shards)?;
+    let seats = Vec::with_capacity(alloc, shards)?;
+    let rooms = port_rooms(alloc, lanes, shards)?;
+    let runs = Vec::with_capacity(alloc, lanes)?;
+    Ok(LaneRoom {
+        emptied,
+        spare,
+        seats,
+        rooms,
+        runs,
+    })
+}
+
+// Runs all lanes, each at its seats. All seats come back.
+fn run_seated<'a, W: Threads + Wait + Sync, D: Disk + Send, B: Locks + Send + Sync, G: Gate + Sync>(
+    rt: &'a W,
+    alloc: Global,
+    shape: &Shape,
+    log_locks: &'a [Guarded<SharedLog<D>>],
+    shard_locks: &'a [Guarded<SharedShard<D>>],
+    seated: SeatedLanes<D>,
+    gate: &G,
+) -> SeatedLanes<D>
+    requires open { AreOpen D.count D.limit B.tables shape.now log_locks.now shard_locks.now }
+    requires homes { AllFrom (IsHomeFresh shape.now log_locks.now) 0 seated.homes.items }
+    requires homes_many { length seated.homes.items ≡ shape.now.coordinators }
+    requires left { AreLeft (shard_sight D.count D.limit) (all_lanes shape.now) shard_locks.now seated.rows.items }
+    requires lanes { All MayRun seated.lanes.items }
+    requires lanes_many { length seated.lanes.items ≡ shape.now.coordinators * shape.now.lanes }
+    ensures { AreThrough D.count D.limit shape.now log_locks.now shard_locks.now result.homes.items result.rows.items seated.lanes.items result.lanes.items }
+{
+    let SeatedLanes {
+        homes,
+        rows,
+        mut lanes,
+    } = seated;
+    let Ok(room) = lane_room(alloc, shape) else {
+        stop_all(&mut lanes);
+        return SeatedLanes { homes, rows, lanes };
+    };
+    let LaneRoom {
+        emptied,
+        spare,
+        seats,
+        rooms,
+        runs,
+    } = room;
+    let table = Table {
+        rows,
+        spare,
+        seats,
+        rooms,
+        lanes,
+        runs,
+    };
+    let (homes, emptied, mut table) =
+        deal_all(rt, shape, log_locks, shard_locks, homes, emptied, table);
+    run_all(rt, alloc, shape, table.runs.as_mut_slice(), gate);
+    let (homes, table) = gather_all(shape.lanes(), emptied, homes, table);
+    let Table {
+        rows,
+        spare: _,
+        seats: _,
+        rooms: _,
+        lanes,
+        runs,
+    } = table;
+    runs.destroy_empty();
+    SeatedLanes { homes, rows, lanes }
+}
+
+// A wave over nodes under their wrappers.
+fn wave_shared<W: Threads + Wait + Sync, D: Disk + Send, G: Gate + Sync>(
+    rt: &W,
+    alloc: Global,
+    shape: &Shape,
+    nodes: SharedNodes<D>,
+    home_rows: Vec<Vec<LaneId>>,
+    shard_rows: Vec<Vec<LaneId>>,
+    lanes: &mut Vec<Lane>,
+    gate: &G,
+) -> SharedNodes<D>
+    requires limits { IsWithinLimits shape.now }
+    requires logs_many { length nodes.logs.items ≡ shape.now.coordinators }
+    requires shards_many { length nodes.shards.items ≡ shape.now.shards }
+    requires ledger { AreNodesOf shape.now (sight_at log_sight nodes.logs.items) (sight_at (shard_sight D.count D.limit) nodes.shards.items) }
+    requires logs_since { All (λ l. (log_sight l).opened ≤ (log_sight l).faults) nodes.logs.items }
+    requires shards_since { All (λ s. (shard_sight D.count D.limit s).opened ≤ (shard_sight D.count D.limit s).faults) nodes.shards.items }
+    requires settled { (lane : ℕ) → lane < shape.now.coordinators * shape.now.lanes → IsSettled shape.now lane (sight_at log_sight nodes.logs.items (home_of shape.now lane)) (sight_at (shard_sight D.count D.limit) nodes.shards.items) }
+    requires home_rows { AllFrom (IsHomeRow shape.now) 0 home_rows.items }
+    requires home_rows_many { length home_rows.items ≡ shape.now.coordinators }
+    requires shard_rows { AllFrom (IsShardRow shape.now) 0 shard_rows.items }
+    requires shard_rows_many { length shard_rows.items ≡ shape.now.shards }
+    requires lanes { All MayRun lanes.old.items }
+    requires lanes_many { length lanes.old.items ≡ shape.now.coordinators * shape.now.lanes }
+    ensures ran { WaveRan shape.now (sight_at log_sight nodes.logs.items) (sight_at (shard_sight D.count D.limit) nodes.shards.items) (sight_at log_sight result.logs.items) (sight_at (shard_sight D.count D.limit) result.shards.items) lanes.old.items lanes.new.items }
+    ensures logs_go { WentOn log_sight (λ a b. IsLogHeld D.content D.images a.node → IsLogHeld D.content D.images b.node) nodes.logs.items result.logs.items }
+    ensures shards_go { WentOn (shard_sight D.count D.limit) (λ a b. IsShardHeld D.content D.images a.node → IsShardHeld D.content D.images b.node) nodes.shards.items result.shards.items }
+{
+    let SharedNodes { logs, shards } = nodes;
+    let Locked {
+        locks: shard_locks,
+        seats: rows,
+        room: shard_room,
+    } = match lock_all(alloc, shards, shard_rows) {
+        Ok(locked) => locked,
+        Err(shards) => {
+            stop_all(lanes);
+            return SharedNodes { logs, shards };
+        }
+    };
+    let Locked {
+        locks: log_locks,
+        seats: homes,
+        room: log_room,
+    } = match lock_all(alloc, logs, home_rows) {
+        Ok(locked) => locked,
+        Err(logs) => {
+            stop_all(lanes);
+            return SharedNodes {
+                logs,
+                shards: close_all(shard_locks, rows, shard_room),
+            };
+        }
+    };
+    let seated = SeatedLanes {
+        homes,
+        rows,
+        lanes: mem::replace(lanes, Vec::new(alloc)),
+    };
+    let SeatedLanes {
+        homes,
+        rows,
+        lanes: back,
+    } = run_seated::<W, D, Brand, G>(
+        rt,
+        alloc,
+        shape,
+        log_locks.as_slice(),
+        shard_locks.as_slice(),
+        seated,
+        gate,
+    );
+    *lanes = back;
+    SharedNodes {
+        logs: close_all(log_locks, homes, log_room),
+        shards: close_all(shard_locks, rows, shard_room),
+    }
+}
+
+/// Runs a wave of lanes that are all settled: each lane on a thread of its own, over locks round all nodes. Where memory is wanting before their first
+/// calls all lanes stop for it, and no node was asked.
+pub fn wave<W: Threads + Wait + Sync, D: Disk + Send, G: Gate + Sync>(
+    rt: &W,
+    alloc: Global,
+    shape: &Shape,
+    nodes: Nodes<D>,
+    lanes: &mut Vec<Lane>,
+    gate: &G,
+) -> Nodes<D>
+    requires logs_many { length nodes.logs.items ≡ shape.now.coordinators }
+    requires shards_many { length nodes.shards.items ≡ shape.now.shards }
+    requires ledger { AreNodesOf shape.now (sight_at sight nodes.logs.items) (sight_at (sight_of D.count D.limit) nodes.shards.items) }
+    requires settled { (lane : ℕ) → lane < shape.now.coordinators * shape.now.lanes → IsSettled shape.now lane (sight_at sight nodes.logs.items (home_of shape.now lane)) (sight_at (sight_of D.count D.limit) nodes.shards.items) }
+    requires limits { All (λ x. All IsCompact x.txs.items) lanes.old.items }
+    requires lanes_many { length lanes.old.items ≡ shape.now.coordinators * shape.now.lanes }
+    ensures ran { WaveRan shape.now (sight_at sight nodes.logs.items) (sight_at (sight_of D.count D.limit) nodes.shards.items) (sight_at sight result.logs.items) (sight_at (sight_of D.count D.limit) result.shards.items) lanes.old.items lanes.new.items }
+    ensures logs_go { WentOn sight (λ a b. IsLogHeld D.content D.images a → IsLogHeld D.content D.images b) nodes.logs.items result.logs.items }
+    ensures shards_go { WentOn (sight_of D.count D.limit) (λ a b. IsShardHeld D.content D.images a → IsShardHeld D.content D.images b) nodes.shards.items result.shards.items }
+{
+    see_logs(nodes.logs.as_slice());
+    see_shards(nodes.shards.as_slice());
+    let Ok(room) = node_room(alloc, shape, lanes) else {
+        stop_all(lanes);
+        return nodes;
+    };
+    let NodeRoom {
+        home_rows,
+        shard_rows,
+        nodes: shared,
+    } = room;
+    let Nodes { logs, shards } = nodes;
+    let (logs, log_list) = share_logs(logs, shared.logs);
+    let (shards, shard_list) = share_shards(shards, shared.shards);
+    let shared = SharedNodes { logs, shards };
+    let SharedNodes { logs, shards } = wave_shared(
+        rt, alloc, shape, shared, home_rows, shard_rows, lanes, gate,
+    );
+    Nodes {
+        logs: own_logs(logs, log_list),
+        shards: own_shards(shards, shard_list),
+    }
+}
