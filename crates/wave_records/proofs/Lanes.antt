@@ -1,5 +1,5 @@
 -- What a lane's seats say of the lane: its hand at each node, from a fresh one to the one at its end.
-use Rattle.std.proofs.Common.{◌≡◌, ◌⊎◌, inl, inr, ℕ, zero, suc, ◌<◌, ◌≤◌, List, [], ◌∷◌, length, Option, Some, refl, sym, ap, ◌∙◌, subst, arith}
+use Rattle.std.proofs.Common.{◌≡◌, inl, inr, ℕ, zero, suc, ◌<◌, List, [], ◌∷◌, length, Option, ap, ◌∙◌, arith}
 use Rattle.std.specs.Global.{Vec}
 use Rattle.cbdc_model.specs.Records.{Header, Record}
 use Rattle.cbdc_model.specs.Sights.{Sight}
@@ -7,14 +7,14 @@ use Rattle.lane_driver.specs.Told.{IsStillNode}
 use Rattle.node_lock.specs.declared.views.Hand.{Hand}
 use Rattle.node_lock.specs.declared.lock.Guarded.{Guarded}
 use Rattle.node_lock.specs.declared.seat.Seat.{Seat}
-use Rattle.node_lock.specs.Seats.{all_known, knows, first_of, opening_of}
+use Rattle.node_lock.specs.Seats.{all_known, knows, opening_of}
 use Rattle.node_lock.specs.Tickets.{fresh}
 use Rattle.node_lock.specs.Viewing.{viewed}
 use Rattle.node_ports.specs.Nodes.{sight_at}
 use Rattle.wave_records.specs.Shows.{Shows}
 use Rattle.thread_laws.specs.Closing.{IsHand}
 use Rattle.thread_laws.specs.Sitting.{SitsAt}
-use Rattle.wave_ends.specs.Rows.{IsLocked, AreLocked, IsFresh, AreDealt}
+use Rattle.wave_ends.specs.Rows.{AreLocked, IsFresh, AreDealt}
 use Rattle.wave_records.specs.Among.{hands_at, IsAmong, AreAmong, AreOfLane}
 
 abbrev sight_by : Header → List Record → Option Record → ℕ → ℕ → ℕ → Sight
@@ -40,7 +40,7 @@ module _ {N : Type 0} where
         → SitsAt lane (sight n) (all_known row) (show s) (show t)
     sits_at lane g n s t row node fresh_is still i of =
         let was : show s ≡ viewed (sight n) (fresh (sight n) lane) = shows.opened s g.table.shared.key.node.value fresh_is.1 ∙ ap (λ o. viewed (sight o) (knows s)) node
-            ∙ ap (viewed (sight n)) (fresh_is.2 ∙ ap (λ o. fresh (sight o) lane) node) in
+        ∙ ap (viewed (sight n)) (fresh_is.2 ∙ ap (λ o. fresh (sight o) lane) node) in
         record {
           now = knows t;
           among = hand_among t row i;

@@ -1,5 +1,5 @@
 -- What is seen of a node through a seat.
-use Rattle.std.specs.Prelude.{◌≡◌, ℕ, Some}
+use Rattle.std.specs.Prelude.{◌≡◌, Some}
 use Rattle.cbdc_model.specs.Sights.{Sight}
 use Rattle.node_lock.specs.declared.seat.Seat.{Seat}
 use Rattle.node_lock.specs.Seats.{knows, first_of}
