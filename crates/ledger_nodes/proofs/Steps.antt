@@ -53,14 +53,14 @@ module _ {D : Type 0} where
   log_next (l ∷ logs) all zero lt = All-head IsLogNext l logs all
   log_next (l ∷ logs) all (suc n) lt = log_next logs (All-tail IsLogNext l logs all) n (omega (arith, lt))
 
-  held_logs : (content : D → Option (List ℕ)) (images : D → List ℕ → Type 0) (logs : List (LogOf D)) → All (λ l. IsJournal l.header l.journal) logs → All (HoldsLog content images) logs
+  pub held_logs : (content : D → Option (List ℕ)) (images : D → List ℕ → Type 0) (logs : List (LogOf D)) → All (λ l. IsJournal l.header l.journal) logs → All (HoldsLog content images) logs
       → AreLogsHeld content images logs
   held_logs content images [] js hs = All-nil (IsLogHeld content images)
   held_logs content images (l ∷ logs) js hs = All-cons (IsLogHeld content images) l logs
       (record { journal = All-head (λ l. IsJournal l.header l.journal) l logs js; held = All-head (HoldsLog content images) l logs hs })
       (held_logs content images logs (All-tail (λ l. IsJournal l.header l.journal) l logs js) (All-tail (HoldsLog content images) l logs hs))
 
-  held_shards : (content : D → Option (List ℕ)) (images : D → List ℕ → Type 0) (shards : List (ShardOf D)) → All (λ s. IsJournal s.header s.journal) shards → All (HoldsShard content images) shards
+  pub held_shards : (content : D → Option (List ℕ)) (images : D → List ℕ → Type 0) (shards : List (ShardOf D)) → All (λ s. IsJournal s.header s.journal) shards → All (HoldsShard content images) shards
       → AreShardsHeld content images shards
   held_shards content images [] js hs = All-nil (IsShardHeld content images)
   held_shards content images (s ∷ shards) js hs = All-cons (IsShardHeld content images) s shards
@@ -91,7 +91,7 @@ module _ {D : Type 0} where
     none_there (s ∷ shards) (suc n) le = none_there shards n (omega (arith, le))
 
     -- a shard's header does not depend on its disk's counts
-    same_header : (shards : List (ShardOf D)) (n : ℕ) → (sight_at (sight_of count limit) shards n).header ≡ (sight_at (sight_of (λ d. 0) (λ d. 0)) shards n).header
+    pub same_header : (shards : List (ShardOf D)) (n : ℕ) → (sight_at (sight_of count limit) shards n).header ≡ (sight_at (sight_of (λ d. 0) (λ d. 0)) shards n).header
     same_header [] n = refl
     same_header (s ∷ shards) zero = refl
     same_header (s ∷ shards) (suc n) = same_header shards n

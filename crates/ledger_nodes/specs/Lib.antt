@@ -1,3 +1,4 @@
 pub mod Ledgers
 pub mod Steps
 pub mod Ones
+pub mod Waving

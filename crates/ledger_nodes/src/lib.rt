@@ -4,6 +4,8 @@
 mod driving;
 mod ledger;
 mod lent;
+mod waving;
 
 pub use ledger::Ledger;
 pub use lent::{LentLedger, lend};
+pub use waving::wave_law;
