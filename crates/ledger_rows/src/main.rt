@@ -5,6 +5,7 @@ mod disks;
 mod files;
 mod looking;
 mod noting;
+mod ordering;
 mod plain;
 mod play;
 mod racks;

@@ -1,34 +1,43 @@
 // Devices that note what is asked of them, in order. What there is no memory for is left out.
 ghost use Rattle.std.specs.Prelude.{◌≡◌};
 
+use crate::ordering::PointOrder;
 use cbdc_types::NodeId;
 use mem_devices::{FaultDisk, MemInbox, MemRack};
 use outside::{Failed, Gate, Inbox, Point, Rack};
 use std::alloc::Global;
 use std::sync::{Mutex, Wait};
 
-/// A gate that notes the points that are passed, in the order in which its calls come.
+/// A gate that notes the points that are passed, and holds those of an order to it.
 #[derive(Drop)]
 pub struct NotingGate {
     points: Mutex<Vec<Point>>,
+    order: PointOrder,
 }
 
 impl NotingGate {
-    pub fn new(alloc: Global) -> NotingGate {
+    pub fn new(alloc: Global, order: Vec<Point>) -> NotingGate {
         NotingGate {
             points: Mutex::new(Vec::new(alloc)),
+            order: PointOrder::new(order),
         }
+    }
+
+    /// Whether the order was kept.
+    pub fn is_kept(&self) -> bool {
+        self.order.is_kept()
     }
 
     /// The points that were passed.
     pub fn into_points(self) -> Vec<Point> {
-        let NotingGate { points } = self;
+        let NotingGate { points, order: _ } = self;
         points.into_inner()
     }
 }
 
 impl Gate for NotingGate {
     fn pass<W: Wait>(&self, rt: &W, point: &Point) {
+        self.order.pass(point);
         let mut points = self.points.lock(rt);
         let _ = points.push(*point);
     }

@@ -142,8 +142,11 @@ pub fn play<W: Wait + Threads + Sync>(
     let words = owned(alloc, words)?;
     let mut inbox = inbox(alloc, state)?;
     let rack = rack(alloc, &state.disks)?;
-    let gate = NotingGate::new(alloc);
+    let gate = NotingGate::new(alloc, state.order.clone()?);
     let Done { status, rack } = process(rt, alloc, &words, &mut inbox, rack, &mut out, &gate);
+    if !gate.is_kept() {
+        return Err(Wrong::Line("the points did not come in this order"));
+    }
     Ok(Ran {
         status: u64::from(status_code(&status)),
         points: gate.into_points(),

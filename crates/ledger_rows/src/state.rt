@@ -1,6 +1,7 @@
 // What a row has made so far: names, disks, and what the last run left.
 use crate::disks::{DiskState, cut, put_digits};
 use crate::play::Ran;
+use outside::Point;
 use row_text::{Names, Wrong, count, hex_of};
 use std::alloc::Global;
 
@@ -24,6 +25,7 @@ pub struct State {
     pub disks: Vec<DiskState>,
     pub ran: Option<Ran>,
     pub room: usize,
+    pub order: Vec<Point>,
     marks: [usize; 4],
 }
 
@@ -38,6 +40,7 @@ impl State {
             disks: Vec::new(alloc),
             ran: None,
             room: ROOM,
+            order: Vec::new(alloc),
             marks: [0; 4],
         }
     }
@@ -62,6 +65,7 @@ impl State {
         self.disks.clear();
         self.ran = None;
         self.room = ROOM;
+        self.order.clear();
     }
 
     /// The digits of a hash.

@@ -1,6 +1,7 @@
 // What the steps of these rows do: whole runs of the program over disks.
 use crate::files::{name_file, name_hash, name_tx};
 use crate::looking::{check_run, look, same};
+use crate::ordering::points_of;
 use crate::plain::play_plain;
 use crate::play::play;
 use crate::racks::{change_disk, crash, empty_rack, keep, load, take_back};
@@ -22,6 +23,7 @@ fn run<W: Wait + Threads + Sync>(
 ) -> Result<(), Wrong> {
     state.ran = Some(play(rt, alloc, state, words)?);
     state.room = ROOM;
+    state.order.clear();
     take_back(state, alloc)?;
     let ran = state.last_run()?;
     check_run(alloc, ran.text()?, ran.status, block)
@@ -45,6 +47,12 @@ fn room(state: &mut State, words: &[&str]) -> Result<(), Wrong> {
     Ok(())
 }
 
+// `order`, and a line `LANE NODE KIND WHEN` for each point: the points of the next run are held to this order.
+fn order(state: &mut State, alloc: Global, text: &str) -> Result<(), Wrong> {
+    state.order = points_of(alloc, text)?;
+    Ok(())
+}
+
 // Does a step that makes or changes something, or hands it on.
 fn do_step(
     state: &mut State,
@@ -63,6 +71,7 @@ fn do_step(
         Verb::Node => change_disk(state, alloc, words),
         Verb::Crash => crash(state, alloc, words),
         Verb::Room => room(state, words),
+        Verb::Order => order(state, alloc, text),
         Verb::Same => same(state, alloc, words),
         other => look(state, alloc, other, words, text),
     }

@@ -15,6 +15,7 @@ pub enum Verb {
     Node,
     Crash,
     Room,
+    Order,
     Used,
     Same,
     Gates,
@@ -43,7 +44,7 @@ pub enum Verb {
 const ANY: usize = usize::MAX;
 
 // Each with how many words there may be, itself counted.
-const VERBS: [(&str, Verb, usize); 33] = [
+const VERBS: [(&str, Verb, usize); 34] = [
     ("$", Verb::Run, ANY),
     ("plain", Verb::Plain, ANY),
     ("hash", Verb::Hash, 3),
@@ -55,6 +56,7 @@ const VERBS: [(&str, Verb, usize); 33] = [
     ("node", Verb::Node, ANY),
     ("crash", Verb::Crash, 3),
     ("room", Verb::Room, 2),
+    ("order", Verb::Order, 1),
     ("used", Verb::Used, ANY),
     ("same", Verb::Same, 2),
     ("gates", Verb::Gates, ANY),
@@ -99,7 +101,7 @@ pub fn is_for(verb: Verb, block: &Block) -> bool {
     let is_of_run = block.is_any || block.is_any_status || block.status != 0;
     match verb {
         Verb::Run | Verb::Plain => true,
-        Verb::File | Verb::Journal | Verb::Passed => !is_of_run,
+        Verb::File | Verb::Order | Verb::Journal | Verb::Passed => !is_of_run,
         _ => !is_of_run && block.text.is_empty(),
     }
 }

@@ -160,7 +160,7 @@ pub returns-clause-unspent : goal.returns-clause-unspent
 returns-clause-unspent g c = subst (λ xs. IfOk c.came_of-came.result (λ r. CountAll (map (λ s. s.journal) xs) r.unspent)) c.as_slice-3.ensures.value c.came_of-came.ensures.unspent
 
 pub run_over-over-requires-clause-checked : goal.run_over-over-requires-clause-checked
-run_over-over-requires-clause-checked g c = subst (λ l. AreChecked g.D.Disk.count g.D.Disk.limit l.header.shape l.logs l.shards) (sym c.lend-lent.ensures) c.requires.checked
+run_over-over-requires-clause-checked g c κs lives = subst (λ l. AreChecked g.D.Disk.count g.D.Disk.limit l.header.shape l.logs l.shards) (sym c.lend-lent.ensures) c.requires.checked
 
 pub returns-clause-grows : goal.returns-clause-grows
 returns-clause-grows g c =

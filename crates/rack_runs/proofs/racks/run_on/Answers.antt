@@ -7,7 +7,7 @@ use Rattle.rack_runs.proofs.Ledgers.{ends, runs, cut_short, tells, opened_room}
 use Rattle.rack_runs.proofs.racks.run_on.Goals as goal
 
 pub run_nodes-nodes-requires-clause-ledger : goal.run_nodes-nodes-requires-clause-ledger
-run_nodes-nodes-requires-clause-ledger g c =
+run_nodes-nodes-requires-clause-ledger g c κs lives =
     is_ledger g.R.Disk.Disk.content g.R.Disk.Disk.images g.R.Disk.Disk.limit g.R.Disk.Disk.count (g.R.Rack.held c.args.rack.now) c.in-Ok.nodes.header c.in-Ok.nodes.logs.items c.in-Ok.nodes.shards.items c.in-Ok.ensures.opened
 
 pub returns-in-Err-clause-stopped : goal.returns-in-Err-clause-stopped
@@ -69,7 +69,7 @@ returns-clause-ran g c =
     ran.idle ran.resumed ran.waves ran.quiet)
 
 pub run_nodes-nodes-requires-clause-checked : goal.run_nodes-nodes-requires-clause-checked
-run_nodes-nodes-requires-clause-checked g c =
+run_nodes-nodes-requires-clause-checked g c κs lives =
     opened_checked g.R.Disk.Disk.content g.R.Disk.Disk.images g.R.Disk.Disk.limit g.R.Disk.Disk.count (g.R.Rack.held c.args.rack.now) c.in-Ok.nodes.header c.in-Ok.nodes.logs.items c.in-Ok.nodes.shards.items c.in-Ok.ensures.opened c.in-Ok.ensures.caused
 
 pub returns-clause-stopped : goal.returns-clause-stopped

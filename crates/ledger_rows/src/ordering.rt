@@ -1,0 +1,109 @@
+// Points in an order, where lanes run beside each other.
+use crate::disks::kind_word;
+use cbdc_types::{LaneId, NodeId};
+use outside::{Point, When};
+use row_text::{Wrong, number, word};
+use std::alloc::Global;
+use std::sync::atomic::{AtomicBool, AtomicUsize, Ordering};
+use std::thread;
+
+// For how many turns a point waits for the one before it.
+const TURNS: u32 = 10_000_000;
+
+/// Points that are to be passed in this order: each is held until the one before it was passed, for at most so many turns. Once the turns
+/// have run out it holds nothing.
+#[derive(Drop)]
+pub struct PointOrder {
+    points: Vec<Point>,
+    passed: AtomicUsize,
+    late: AtomicBool,
+}
+
+impl PointOrder {
+    pub fn new(points: Vec<Point>) -> PointOrder {
+        PointOrder {
+            points,
+            passed: AtomicUsize::new(0),
+            late: AtomicBool::new(false),
+        }
+    }
+
+    // The first place of a point that was not passed.
+    fn place_of(&self, point: &Point) -> Option<usize> {
+        let passed = self.passed.load(Ordering::SeqCst);
+        let rest = self.points.get(passed..)?;
+        let at = rest.iter().position(|own| own == point)?;
+        Some(passed.saturating_add(at))
+    }
+
+    /// Holds a point until those before it were passed.
+    pub fn pass(&self, point: &Point) {
+        let Some(place) = self.place_of(point) else {
+            return;
+        };
+        for _ in 0..TURNS {
+            if self.late.load(Ordering::SeqCst) {
+                return;
+            }
+            if self.passed.load(Ordering::SeqCst) == place {
+                self.passed.store(place.saturating_add(1), Ordering::SeqCst);
+                return;
+            }
+            thread::yield_now();
+        }
+        self.late.store(true, Ordering::SeqCst);
+    }
+
+    /// Whether all were passed, each in its place.
+    pub fn is_kept(&self) -> bool {
+        !self.late.load(Ordering::SeqCst) && self.passed.load(Ordering::SeqCst) == self.points.len()
+    }
+}
+
+// The number of a lane or a node.
+fn small(word: &str) -> Result<u32, Wrong> {
+    match u32::try_from(number(word)?) {
+        Ok(number) => Ok(number),
+        Err(_) => Err(Wrong::Line("no such lane or node")),
+    }
+}
+
+// The kind of a record by its word.
+fn kind_of(word: &str) -> Result<u8, Wrong> {
+    for kind in 1..10 {
+        if kind_word(kind) == word {
+            return Ok(kind);
+        }
+    }
+    Err(Wrong::Line("no such kind"))
+}
+
+// Where a point lies about a lock, by its word.
+fn when_of(word: &str) -> Result<When, Wrong> {
+    match word {
+        "before" => Ok(When::Before),
+        "inside" => Ok(When::Inside),
+        "after" => Ok(When::After),
+        _ => Err(Wrong::Line("before, inside or after")),
+    }
+}
+
+// A point by its words.
+fn point_of(words: &[&str]) -> Result<Point, Wrong> {
+    Ok(Point {
+        lane: LaneId(small(word(words, 0)?)?),
+        node: NodeId(small(word(words, 1)?)?),
+        kind: kind_of(word(words, 2)?)?,
+        when: when_of(word(words, 3)?)?,
+    })
+}
+
+/// The points of lines `LANE NODE KIND WHEN`.
+pub fn points_of(alloc: Global, text: &str) -> Result<Vec<Point>, Wrong> {
+    let mut points = Vec::new(alloc);
+    for line in text.lines() {
+        let words = line.split(' ').collect::<Vec<&str>>(alloc)?;
+        points.push(point_of(&words)?)?;
+    }
+    Ok(points)
+}
