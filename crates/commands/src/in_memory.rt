@@ -17,11 +17,12 @@ use outside::Gate;
 use plain_rack::{PlainRack, PlainSink};
 use std::alloc::Global;
 use std::sync::Wait;
+use std::thread::Threads;
 
 /// The same over files, nodes and an output in memory: a file that is there is read; the rack, which has a place for each node that a ledger may have, with
 /// a disk that never fails, stands for any rack of plain disks for all nodes of a ledger; and the output, which takes `N` bytes, fails only where it is
 /// full. So none of their counts of faults rises, but the output's at its end.
-pub fn process_in_memory<const N: usize, W: Wait, G: Gate>(
+pub fn process_in_memory<const N: usize, W: Wait + Threads + Sync, G: Gate + Sync>(
     rt: &W,
     alloc: Global,
     words: &[String],

@@ -31,6 +31,7 @@ use run_command::run;
 use status_command::status;
 use std::alloc::Global;
 use std::sync::Wait;
+use std::thread::Threads;
 use word_laws::see_request;
 
 /// What came of the words, and the rack with every disk back in its place.
@@ -101,7 +102,7 @@ fn name_of<'a>(request: &Request<'a>, answer: &Answer) -> &'a str
 }
 
 // Does what is asked.
-fn answer_to<W: Wait, I: Inbox, R: Rack, O: Sink, G: Gate>(
+fn answer_to<W: Wait + Threads + Sync, I: Inbox, R: Rack, O: Sink, G: Gate + Sync>(
     rt: &W,
     alloc: Global,
     request: &Request,
@@ -110,6 +111,8 @@ fn answer_to<W: Wait, I: Inbox, R: Rack, O: Sink, G: Gate>(
     out: &mut O,
     gate: &G,
 ) -> Answer
+where
+    R::Disk: Send,
     requires all { (n : ℕ) → R.can_take rack.old n }
     requires sized { IsSized request.now }
     ensures back { (n : ℕ) → R.can_take rack.new n }
@@ -140,7 +143,7 @@ fn answer_to<W: Wait, I: Inbox, R: Rack, O: Sink, G: Gate>(
 }
 
 // Does what the words ask for.
-fn answer_words<'a, W: Wait, I: Inbox, R: Rack, O: Sink, G: Gate>(
+fn answer_words<'a, W: Wait + Threads + Sync, I: Inbox, R: Rack, O: Sink, G: Gate + Sync>(
     rt: &W,
     alloc: Global,
     words: &'a [String],
@@ -149,6 +152,8 @@ fn answer_words<'a, W: Wait, I: Inbox, R: Rack, O: Sink, G: Gate>(
     out: &mut O,
     gate: &G,
 ) -> Answered<'a>
+where
+    R::Disk: Send,
     requires { (n : ℕ) → R.can_take rack.old n }
     ensures back { (n : ℕ) → R.can_take rack.new n }
     ensures cause { IsAnswered (texts words.entry.now) (I.count inbox.old) (I.count inbox.new) (Rose (O.count out.old) (O.count out.new)) result.status }
@@ -183,7 +188,7 @@ fn answer_words<'a, W: Wait, I: Inbox, R: Rack, O: Sink, G: Gate>(
 }
 
 /// Does what the words ask for, and prints the line of a fault. Every disk that was taken is put back.
-pub fn process<W: Wait, I: Inbox, R: Rack, O: Sink, G: Gate>(
+pub fn process<W: Wait + Threads + Sync, I: Inbox, R: Rack, O: Sink, G: Gate + Sync>(
     rt: &W,
     alloc: Global,
     words: &[String],
@@ -192,6 +197,8 @@ pub fn process<W: Wait, I: Inbox, R: Rack, O: Sink, G: Gate>(
     out: &mut O,
     gate: &G,
 ) -> Done<R>
+where
+    R::Disk: Send,
     requires { (n : ℕ) → R.can_take rack n }
     ensures back { (n : ℕ) → R.can_take result.rack n }
     // What the words ask for was done, whether its lines could be written or not: a ledger was made, files were run over one, its open

@@ -1,14 +1,14 @@
 -- The pieces of what files send to a lane, and which one is next.
-use Rattle.std.proofs.Common.{◌≡◌, ◌⊎◌, inl, inr, ℕ, zero, suc, ◌+◌, ◌<◌, ◌≤◌, Bool, List, [], ◌∷◌, ◌++◌, length, take, drop, min, get_or, refl, sym, ap, ◌∙◌, subst, arith, length-take}
+use Rattle.std.proofs.Common.{◌≡◌, ℕ, ◌+◌, ◌<◌, ◌≤◌, Bool, List, [], ◌∷◌, ◌++◌, length, take, drop, get_or, refl, sym, ap, ◌∙◌, subst, arith, length-take}
 use Rattle.std.specs.Prelude.{reverse}
 use Rattle.std.proofs.lemmas.List.{append_assoc, append-nil, reverse-append, take_all, take-append-drop}
 use Rattle.cbdc_model.specs.Records.{Shape, Compact, Record}
 use Rattle.cbdc_model.specs.Ranges.{home_of}
 use Rattle.cbdc_model.specs.Coins.{FullTx}
 use Rattle.cbdc_model.specs.Waves.{IsCut, prepared, sent_to}
-use Rattle.submissions.specs.Checks.{VerdictsOf, TellsSound}
+use Rattle.submissions.specs.Checks.{VerdictsOf}
 use Rattle.ledger_runs.specs.Turning.{IsLaneOf}
-use Rattle.ledger_runs.specs.Pieces.{HasPrepared, HasBegun, IsNextOf, IsNextPiece}
+use Rattle.ledger_runs.specs.Pieces.{HasPrepared, IsNextOf, IsNextPiece}
 use Rattle.ledger_runs.proofs.Preparing.{cut_of}
 use Rattle.file_runs.specs.Runs.{HavePreparedFile, HavePreparedFiles, IsSentPiece, AreFilesPieces, IsFilesPiece, HaveBegunFile, HaveBegunFiles}
 use Rattle.file_runs.proofs.Joining.{so_far}

@@ -53,7 +53,7 @@ abbrev pub HaveBegunFiles : Shape → VerdictsOf → List (List FullTx) → (ℕ
 HaveBegunFiles K verdicts files I J = (lane : ℕ) → IsLaneOf K lane → (sound : FullTx → Bool) → TellsSound verdicts sound
     → (done : List (List Compact)) × (more : List (List Compact)) × AreFilesPieces K sound lane files (done ++ more) × HasPrepared K lane done I J
 
--- a lane for each list, with its transactions, which has had no turn and has not stopped
+-- a lane for each list, with its transactions, which has done nothing and has not stopped
 pub record AreLanesOf (lists : List (Vec CompactTx)) (lanes : List Lane) : Type 0 where
   pub count : length lanes ≡ length lists
   pub each : (n : ℕ) (x : Lane) → slice_get lanes n ≡ Some x → slice_get lists n ≡ Some x.txs

@@ -23,7 +23,7 @@ use std::alloc::Global;
 use verifier_port::Verifier;
 
 /// Runs client files over the nodes of a ledger with no open batch, one after another. The first fault ends it.
-pub fn run_files<L: Turns, V: Verifier, G: Gate>(
+pub fn run_files<L: Turns, V: Verifier, G: Gate + Sync>(
     alloc: Global,
     ledger: &mut L,
     files: &[List<FullTx>],

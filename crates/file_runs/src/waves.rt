@@ -15,7 +15,7 @@ ghost use Rattle.file_runs.specs.Telling.{TellsFile};
 
 use cbdc_types::{CompactTx, FullTx};
 use lane_driver::{LaneFault, no_memory};
-use ledger_runs::{Lane, Turns, first_fault, run_wave};
+use ledger_runs::{Lane, Turns, first_fault};
 use outside::Gate;
 use std::alloc::{AllocError, Global};
 use submissions::{Checked, Submitted, check_all};
@@ -28,7 +28,7 @@ pub struct Wave {
     pub lanes: Vec<Lane>,
 }
 
-// The lanes of a wave before their first turn.
+// The lanes of a wave, none of which has run anything.
 fn lanes_of(alloc: Global, lists: Vec<Vec<CompactTx>>) -> Result<Vec<Lane>, AllocError>
     ensures { IfOk result (λ v. AreLanesOf lists.items v.items) }
 {
@@ -40,8 +40,8 @@ fn lanes_of(alloc: Global, lists: Vec<Vec<CompactTx>>) -> Result<Vec<Lane>, Allo
 }
 
 /// Runs the submissions of a client file over the nodes of a ledger with no open batch. The fault of the least lane that meets
-/// one ends it, behind the turns of the others.
-pub fn run_file<L: Turns, V: Verifier, G: Gate>(
+/// one ends it, once the others have run what they got.
+pub fn run_file<L: Turns, V: Verifier, G: Gate + Sync>(
     alloc: Global,
     ledger: &mut L,
     txs: &[FullTx],
@@ -101,7 +101,7 @@ pub fn run_file<L: Turns, V: Verifier, G: Gate>(
     let Ok(mut lanes) = lanes_of(alloc, lanes) else {
         return Err(no_memory());
     };
-    run_wave(alloc, ledger, &mut lanes, gate);
+    ledger.run_wave(alloc, &mut lanes, gate);
     match first_fault(&lanes) {
         Some(fault) => Err(fault),
         None => Ok(Wave { checked, lanes }),

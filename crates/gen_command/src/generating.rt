@@ -24,6 +24,7 @@ use rack_runs::run_on;
 use run_report::write_generated;
 use std::alloc::{AllocError, Global};
 use std::sync::Wait;
+use std::thread::Threads;
 use verifier_port::AllGood;
 use workload::{Workload, generate};
 
@@ -73,7 +74,7 @@ fn rack_of(alloc: Global, shape: &Shape, count: u32) -> Result<PlainRack, AllocE
 }
 
 // Makes the ledger of a mint on empty disks, and runs client files over it.
-fn run_files<W: Wait, G: Gate>(
+fn run_files<W: Wait + Threads + Sync, G: Gate + Sync>(
     rt: &W,
     alloc: Global,
     shape: &Shape,
@@ -131,7 +132,7 @@ fn copied(mint: &Mint) -> Result<Mint, AllocError>
 }
 
 // Makes the workload, runs it over nodes in memory and checks what came of it.
-fn run_workload<W: Wait, G: Gate>(
+fn run_workload<W: Wait + Threads + Sync, G: Gate + Sync>(
     rt: &W,
     alloc: Global,
     shape: &Shape,
@@ -164,7 +165,7 @@ fn run_workload<W: Wait, G: Gate>(
 
 /// Makes the workload of so many transactions from a seed, runs it over nodes in memory and prints the numbers that
 /// end a run and those of an audit. The rack that the program was handed is not touched.
-pub fn generated<W: Wait, O: Sink, G: Gate>(
+pub fn generated<W: Wait + Threads + Sync, O: Sink, G: Gate + Sync>(
     rt: &W,
     alloc: Global,
     shape: &Shape,

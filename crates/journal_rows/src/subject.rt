@@ -15,6 +15,7 @@ use row_records::{mint, name_form, name_tx, shape};
 use row_text::{Block, Names, Subject, Wrong, check_text, rest, word};
 use std::alloc::Global;
 use std::sync::Wait;
+use std::thread::Threads;
 
 // Does a step, by its verb and the words behind it.
 fn do_step(
@@ -111,7 +112,7 @@ impl Subject for State {
         self.forget();
     }
 
-    fn step<W: Wait>(
+    fn step<W: Wait + Threads + Sync>(
         &mut self,
         _rt: &W,
         alloc: Global,

@@ -1,5 +1,5 @@
 -- A turn at the nodes of a ledger, and what it comes to for their journals.
-use Rattle.std.proofs.Common.{◌≡◌, ℕ, zero, suc, ◌-◌, ◌<◌, nat_lt, if◌then◌else◌, true, false, List, [], ◌∷◌, length, get_or, Option, Some, None, Result, Ok, Err, IfOk, IfErr, OnOk, refl, sym, ap, ◌∙◌, subst, arith}
+use Rattle.std.proofs.Common.{◌≡◌, ℕ, zero, suc, ◌-◌, ◌<◌, nat_lt, if◌then◌else◌, true, false, List, [], ◌∷◌, length, get_or, Option, Some, None, Result, Ok, Err, IfErr, OnOk, refl, sym, ap, ◌∙◌, subst, arith}
 use Rattle.cbdc_types.specs.declared.batch.OpenLane.{OpenLane}
 use Rattle.cbdc_model.specs.Records.{Shape, Header, Compact, Record}
 use Rattle.cbdc_model.specs.Slots.{slot, Idle}
@@ -12,60 +12,33 @@ use Rattle.cbdc_model.specs.Due.{open_batch}
 use Rattle.coord_log.specs.OpenLanes.{open_lane, open_phase, batch_in}
 use Rattle.shard_node.specs.Shards.{ShardOf, sight_of}
 use Rattle.node_ports.specs.Nodes.{sight_at}
-use Rattle.lane_laws.specs.Batches.{Settled, BatchDone}
 use Rattle.lane_laws.specs.Resuming.{IsTakenUp}
 use Rattle.lane_driver.specs.declared.fault.LaneFault.{LaneFault}
-use Rattle.lane_driver.specs.declared.fault.BatchReport.{BatchReport}
-use Rattle.lane_driver.specs.declared.fault.LaneReport.{LaneReport}
-use Rattle.lane_driver.specs.Stops.{IsSettled, IsBatchStopped, IsOneBatch}
-use Rattle.lane_driver.specs.Reports.{AreReports}
+use Rattle.lane_driver.specs.Stops.{IsSettled}
 use Rattle.recovery.specs.declared.resumed.ResumedBatch.{ResumedBatch}
 use Rattle.recovery.specs.Open.{IsResumed, IsUnfinished, HasItsOutcomes, IsResumeStopped}
 use Rattle.run_laws.proofs.Seen.{seen_log}
-use Rattle.ledger_runs.specs.Turning.{phase_at, IsLaneOf, OfKept, StaysKept, StaysKeptBy, DidBatch, TookUp}
+use Rattle.ledger_runs.specs.Turning.{phase_at, IsLaneOf, OfKept, StaysKept, TookUp}
 use Rattle.run_laws.proofs.Rests.{checked_rest_law}
 use Rattle.run_laws.proofs.OpenLanes.{checked_resume_law}
 use Rattle.turn_laws.proofs.OpenThere.{is_idle, unfinished}
 use Rattle.turn_laws.specs.Nodes.{SameFlights}
-use Rattle.turn_laws.proofs.Checking.{IsCheckedTurn, batch_checked, batch_prepared, stopped_checked, stopped_cause, stopped_tried, taken_checked, taken_unprepared, left_checked, left_unprepared, left_cause}
-use Rattle.turn_laws.proofs.Turned.{batch_keeps, stopped_keeps, batch_does, resume_keeps, left_keeps, resume_took}
-use Rattle.turn_laws.proofs.Flying.{batch_flies, stopped_flies, resume_flies, left_flies}
-use Rattle.turn_laws.proofs.Launching.{batch_same, batch_launches, stopped_launches, resume_same, resume_launches, left_launches}
-use Rattle.ledger_runs.specs.Flying.{FliesOn, FliesOnBy, Launches, IsOwnNext}
-use Rattle.ledger_runs.specs.Pieces.{HasPrepared, HasPreparedAtMost, IsUnprepared}
-use Rattle.ledger_runs.specs.Faults.{IsLaneCause, IsOpenCause, HaveFailed, MayHold, Nothing}
+use Rattle.turn_laws.proofs.Checking.{IsCheckedTurn, taken_checked, taken_unprepared, left_checked, left_unprepared, left_cause}
+use Rattle.turn_laws.proofs.Turned.{resume_keeps, left_keeps, resume_took}
+use Rattle.turn_laws.proofs.Flying.{resume_flies, left_flies}
+use Rattle.turn_laws.proofs.Launching.{resume_same, resume_launches, left_launches}
+use Rattle.ledger_runs.specs.Flying.{FliesOn, Launches}
+use Rattle.ledger_runs.specs.Pieces.{HasPrepared}
+use Rattle.ledger_runs.specs.Faults.{IsOpenCause, HaveFailed, MayHold, Nothing}
 use Rattle.ledger_nodes.specs.Ledgers.{IsLedger, journals_of, flights_of, faults_of, opened_of, capacity_of, AreChecked, AreQuiet}
 use Rattle.ledger_nodes.specs.Steps.{IsStep}
 use Rattle.ledger_nodes.proofs.Steps.{home_inside, are_nodes, are_shards, is_lane, log_is, same_flight}
-
--- what came is this
-pub on_ok : {A E : Type 0} (r : Result A E) (x : A) (P : Type 0) → r ≡ Ok x → P → OnOk r P
-on_ok r x P e p = subst (λ q. OnOk q P) (sym e) p
-
-pub on_err : {A E : Type 0} (r : Result A E) (x : E) (P : Type 0) → r ≡ Err x → OnOk r P
-on_err r x P e = subst (λ q. OnOk q P) (sym e) tt
-
-pub if_ok : {A E : Type 0} (r : Result A E) (x : A) (P : A → Type 0) → r ≡ Ok x → P x → IfOk r P
-if_ok r x P e p = subst (λ q. IfOk q P) (sym e) p
-
-pub if_err : {A E : Type 0} (r : Result A E) (x : E) (P : A → Type 0) → r ≡ Err x → IfOk r P
-if_err r x P e = subst (λ q. IfOk q P) (sym e) tt
-
-pub ok_err : {A E : Type 0} (r : Result A E) (x : A) (P : E → Type 0) → r ≡ Ok x → IfErr r P
-ok_err r x P e = subst (λ q. IfErr q P) (sym e) tt
-
-pub err_by : {A E : Type 0} (r : Result A E) (x : E) (P : E → Type 0) → r ≡ Err x → P x → IfErr r P
-err_by r x P e p = subst (λ q. IfErr q P) (sym e) p
 
 -- the node that was read at a place is what is seen there
 read_at : {D : Type 0} (logs : List (LogOf D)) (n : ℕ) (x : LogOf D) → n < length logs → x ≡ get_or logs n x → sight_at sight logs n ≡ sight x
 read_at [] n x lt e = absurd (let z : n < 0 = lt in omega (arith, z))
 read_at (l ∷ logs) zero x lt e = ap sight (sym e)
 read_at (l ∷ logs) (suc n) x lt e = read_at logs n x (omega (arith, lt)) e
-
--- the one report of a batch has an outcome for each transaction
-pub came_full : (lane : ℕ) (txs : List Compact) (reports : List BatchReport) (report : BatchReport) → reports ≡ report ∷ [] → AreReports lane reports (txs ∷ []) → length report.outcomes ≡ length txs
-came_full lane txs reports report is named = (subst (λ xs. AreReports lane xs (txs ∷ [])) is named).0.1
 
 batch_of : (J : List Record) (lane : ℕ) (phase : Option OpenPhase) (o : OpenLane) → option_map (batch_in J lane) phase ≡ Some o → o.batch ≡ open_batch J lane
 batch_of J lane None o told = absurd (let z : None ≡ Some o = told in cc)
@@ -160,72 +133,9 @@ module _ {D : Type 0} (count limit : D → ℕ) (content : D → Option (List �
     shard_shapes : (s : ℕ) → s < K.shards → (S' s).header.shape ≡ K
     shard_shapes s lt = (are_shards count limit h logs' shards' step.ledger s lt).0
 
-    abbrev Causes : (List Compact → Type 0) → LaneFault → Type 0
-    Causes next e = IsLaneCause K lane next I J (HaveFailed (opened_of count limit K logs' shards') (faults_of count limit K logs' shards')) (MayHold (capacity_of count limit K logs' shards')) e
-
     module _ (idle : phase_at K I lane ≡ Idle) (txs : List Compact) where
       idle_there : (slot (L (home_of K lane)).seen lane).phase ≡ Idle
       idle_there = ap (λ J. (slot J lane).phase) (sym at_log) ∙ idle
-
-      pub came_keeps : (came : Result LaneReport LaneFault) → IfOk came (λ r. IsOneBatch K true lane txs (L (home_of K lane)) S (L' (home_of K lane)) S' r.batches)
-          → IfErr came (IsBatchStopped K true lane txs (L (home_of K lane)) S (L' (home_of K lane)) S') → OfKept K I (StaysKeptBy K txs I J)
-      came_keeps (Ok r) done stop =
-          batch_keeps K lane L S L' S' some home shape step.elsewhere (are_nodes count limit h logs shards ledger) (are_nodes count limit h logs' shards' step.ledger) step.log_nodes step.shard_nodes idle_there txs r.batches done
-      came_keeps (Err e) done stop =
-          stopped_keeps K lane L S L' S' some home shape step.elsewhere (are_nodes count limit h logs shards ledger) (are_nodes count limit h logs' shards' step.ledger) step.log_nodes step.shard_nodes idle_there txs e stop
-
-      -- what is in flight may come next
-      pub came_flies : (came : Result LaneReport LaneFault) → IfOk came (λ r. IsOneBatch K true lane txs (L (home_of K lane)) S (L' (home_of K lane)) S' r.batches)
-          → IfErr came (IsBatchStopped K true lane txs (L (home_of K lane)) S (L' (home_of K lane)) S') → OfKept K I (FliesOnBy K txs I J (flights_of count limit K logs shards) (flights_of count limit K logs' shards'))
-      came_flies (Ok r) done stop =
-          batch_flies K lane L S L' S' some home shape step.elsewhere (are_nodes count limit h logs shards ledger) (are_nodes count limit h logs' shards' step.ledger) step.log_nodes step.shard_nodes step.next idle_there txs r.batches done
-      came_flies (Err e) done stop =
-          stopped_flies K lane L S L' S' some home shape step.elsewhere (are_nodes count limit h logs shards ledger) (are_nodes count limit h logs' shards' step.ledger) step.log_nodes step.shard_nodes step.next idle_there txs e stop
-
-      -- checked journals stay checked, and a fault has its cause
-      pub came_checked : (came : Result LaneReport LaneFault) → IfOk came (λ r. IsOneBatch K true lane txs (L (home_of K lane)) S (L' (home_of K lane)) S' r.batches)
-          → IfErr came (IsBatchStopped K true lane txs (L (home_of K lane)) S (L' (home_of K lane)) S') → (c : AreChecked count limit K logs shards) → IsCheckedTurn K c.0 lane I J
-      came_checked (Ok r) done stop c =
-          batch_checked K lane L S L' S' ledger.limits home shape shard_shapes step.elsewhere (are_nodes count limit h logs shards ledger) (are_nodes count limit h logs' shards' step.ledger) step.log_nodes step.shard_nodes c.0 c.1 idle_there txs r.batches done
-      came_checked (Err e) done stop c =
-          stopped_checked K lane L S L' S' ledger.limits home shape shard_shapes step.elsewhere (are_nodes count limit h logs shards ledger) (are_nodes count limit h logs' shards' step.ledger) step.log_nodes step.shard_nodes c.0 c.1 idle_there txs e stop
-
-      pub came_cause : (e : LaneFault) → IsBatchStopped K true lane txs (L (home_of K lane)) S (L' (home_of K lane)) S' e → AreChecked count limit K logs shards → Causes (IsUnprepared K lane txs I J) e
-      came_cause e stop c =
-          stopped_cause K lane L S L' S' ledger.limits home shape shard_shapes step.elsewhere (are_nodes count limit h logs shards ledger) (are_nodes count limit h logs' shards' step.ledger) step.log_nodes step.shard_nodes c.0 c.1 idle_there txs e stop
-
-      -- what was stopped is all that it may have prepared
-      pub came_tried : (e : LaneFault) → IsBatchStopped K true lane txs (L (home_of K lane)) S (L' (home_of K lane)) S' e → AreChecked count limit K logs shards → HasPreparedAtMost K lane txs I J
-      came_tried e stop c =
-          stopped_tried K lane L S L' S' ledger.limits home shape shard_shapes step.elsewhere (are_nodes count limit h logs shards ledger) (are_nodes count limit h logs' shards' step.ledger) step.log_nodes step.shard_nodes c.0 c.1 idle_there txs e stop
-
-      -- a batch that is done is what the lane has prepared
-      pub came_prepared : (reports : List BatchReport) → IsOneBatch K true lane txs (L (home_of K lane)) S (L' (home_of K lane)) S' reports → AreChecked count limit K logs shards → HasPrepared K lane (txs ∷ []) I J
-      came_prepared reports done c =
-          batch_prepared K lane L S L' S' ledger.limits home shape shard_shapes step.elsewhere (are_nodes count limit h logs shards ledger) (are_nodes count limit h logs' shards' step.ledger) step.log_nodes step.shard_nodes c.0 c.1 idle_there txs reports done
-
-      pub came_quiet : (reports : List BatchReport) → IsOneBatch K true lane txs (L (home_of K lane)) S (L' (home_of K lane)) S' reports → AreChecked count limit K logs shards → AreQuiet logs shards → AreQuiet logs' shards'
-      came_quiet reports done c = quiet_on (batch_same K lane L S L' S' ledger.limits home shape shard_shapes step.elsewhere (are_nodes count limit h logs shards ledger) (are_nodes count limit h logs' shards' step.ledger) step.log_nodes step.shard_nodes step.next c.0 c.1 idle_there txs reports done)
-
-      -- a Prepare that is in flight was so before, or is that of these transactions
-      pub came_launches : (came : Result LaneReport LaneFault) → IfOk came (λ r. IsOneBatch K true lane txs (L (home_of K lane)) S (L' (home_of K lane)) S' r.batches)
-          → IfErr came (IsBatchStopped K true lane txs (L (home_of K lane)) S (L' (home_of K lane)) S') → AreChecked count limit K logs shards → Launches K (IsOwnNext K lane txs I J) I J (flights_of count limit K logs shards) (flights_of count limit K logs' shards')
-      came_launches (Ok r) done stop c = batch_launches K lane L S L' S' ledger.limits home shape shard_shapes step.elsewhere (are_nodes count limit h logs shards ledger) (are_nodes count limit h logs' shards' step.ledger) step.log_nodes step.shard_nodes step.next c.0 c.1 idle_there txs r.batches done
-      came_launches (Err e) done stop c = stopped_launches K lane L S L' S' ledger.limits home shape shard_shapes step.elsewhere (are_nodes count limit h logs shards ledger) (are_nodes count limit h logs' shards' step.ledger) step.log_nodes step.shard_nodes step.next c.0 c.1 idle_there txs e stop
-
-      pub came_does : (reports : List BatchReport) (report : BatchReport) → reports ≡ report ∷ [] → IsOneBatch K true lane txs (L (home_of K lane)) S (L' (home_of K lane)) S' reports
-          → AreReports lane reports (txs ∷ []) → OfKept K I (λ _ _. DidBatch K lane txs I J report)
-      came_does reports report is (q, one, done) named =
-          let same : q ≡ report = head_same q report (sym one ∙ is) in
-          batch_does K lane L S L' S' some home shape step.elsewhere (are_nodes count limit h logs shards ledger) (are_nodes count limit h logs' shards' step.ledger) step.log_nodes step.shard_nodes idle_there txs report
-          (named_one report (subst (λ xs. AreReports lane xs (txs ∷ [])) is named))
-          (subst (λ r. (k : ℕ) → Settled K lane k (L (home_of K lane)) S → BatchDone K true lane k txs (L (home_of K lane)) S (L' (home_of K lane)) S' r.batch r.outcomes) same done)
-        where
-          head_same : (q r : BatchReport) → q ∷ [] ≡ r ∷ [] → q ≡ r
-          head_same q r e = cc
-
-          named_one : (r : BatchReport) → AreReports lane (r ∷ []) (txs ∷ []) → r.batch.lane ≡ lane
-          named_one r z = z.0.0
 
     module _ (o : OpenLane) (told : open_lane (L (home_of K lane)).seen lane ≡ Some o) where
       pub resumed_keeps : (came : Result ResumedBatch LaneFault) → OnOk came (IsUnfinished o.phase K o (L (home_of K lane)) S → IsTakenUp K true o.batch (L (home_of K lane)) S (L' (home_of K lane)) S')

@@ -1,15 +1,12 @@
 // A lane's driver at the nodes of a ledger.
 ghost use Rattle.std.specs.Prelude.{◌≡◌, ◌<◌, ◌/◌, true, [], ◌∷◌, All, Some, slice_get, IfOk, IfErr, OnOk};
 ghost use Rattle.cbdc_model.specs.After.{IsJournal};
-ghost use Rattle.cbdc_model.specs.Grammar.{HasSize, IsCompact};
 ghost use Rattle.cbdc_model.specs.Ranges.{home_of};
 ghost use Rattle.cbdc_model.specs.Slots.{Idle};
 ghost use Rattle.coord_log.specs.Logs.{sight};
 ghost use Rattle.coord_log.specs.OpenLanes.{open_lane};
 ghost use Rattle.shard_node.specs.Shards.{sight_of};
 ghost use Rattle.node_ports.specs.Nodes.{sight_at};
-ghost use Rattle.lane_driver.specs.Stops.{IsBatchStopped, IsOneBatch};
-ghost use Rattle.lane_driver.specs.Reports.{AreReports};
 ghost use Rattle.lane_laws.specs.Resuming.{IsTakenUp};
 ghost use Rattle.recovery.specs.Open.{IsResumed, IsUnfinished, HasItsOutcomes, IsResumeStopped};
 ghost use Rattle.ledger_runs.specs.Turning.{phase_at, IsLaneOf};
@@ -18,9 +15,9 @@ ghost use Rattle.ledger_nodes.specs.Steps.{IsStep};
 ghost use Rattle.ledger_nodes.specs.Ones.{IsOneOf};
 ghost use Rattle.recovery.specs.declared.resumed.ResumedBatch.{ResumedBatch as BatchOf};
 
-use cbdc_types::{CompactTx, Header, LaneId, OpenLane, Shape};
+use cbdc_types::{Header, LaneId, OpenLane, Shape};
 use coord_log::CoordLog;
-use lane_driver::{LaneFault, LaneReport, Ports, run_batch};
+use lane_driver::{LaneFault, Ports};
 use node_ports::{NodeLogs, NodeShards};
 use outside::{Disk, Gate};
 use recovery::{Resumed, ResumedBatch, resume};
@@ -57,39 +54,6 @@ fn see_shards<D: Disk>(shards: &[ShardNode<D>])
     'shards: for shard in shards {
         let _records = shard.records();
     }
-}
-
-/// Runs a batch of an idle lane.
-pub(crate) fn drive_batch<W: Wait, D: Disk, G: Gate>(
-    alloc: Global,
-    header: &Header,
-    lane: LaneId,
-    txs: &[CompactTx],
-    ports: &mut Ports<NodeShards<W, D>, NodeLogs<W, D>>,
-    gate: &G,
-) -> Result<LaneReport, LaneFault>
-    requires ledger { IsLedger header.now ports.old.log.logs.items ports.old.shards.nodes.items }
-    requires lane { IsLaneOf header.now.shape lane }
-    requires idle { phase_at header.now.shape (journals_of D.count D.limit header.now.shape ports.old.log.logs.items ports.old.shards.nodes.items) lane ≡ Idle }
-    requires size { HasSize header.now.shape txs.now }
-    requires limits { All IsCompact txs.now }
-    requires checked { AreChecked D.count D.limit header.now.shape ports.old.log.logs.items ports.old.shards.nodes.items }
-    ensures step { IsStep D.count D.limit D.content D.images header.now lane ports.old.log.logs.items ports.old.shards.nodes.items ports.new.log.logs.items ports.new.shards.nodes.items }
-    ensures done { IfOk result (λ r. IsOneBatch header.now.shape true lane txs.now
-        (sight_at sight ports.old.log.logs.items (home_of header.now.shape lane)) (sight_at (sight_of D.count D.limit) ports.old.shards.nodes.items)
-        (sight_at sight ports.new.log.logs.items (home_of header.now.shape lane)) (sight_at (sight_of D.count D.limit) ports.new.shards.nodes.items) r.batches) }
-    ensures named { IfOk result (λ r. AreReports lane r.batches (txs.now ∷ [])) }
-    ensures stopped { IfErr result (IsBatchStopped header.now.shape true lane txs.now
-        (sight_at sight ports.old.log.logs.items (home_of header.now.shape lane)) (sight_at (sight_of D.count D.limit) ports.old.shards.nodes.items)
-        (sight_at sight ports.new.log.logs.items (home_of header.now.shape lane)) (sight_at (sight_of D.count D.limit) ports.new.shards.nodes.items)) }
-    ensures idle { OnOk result (phase_at header.now.shape (journals_of D.count D.limit header.now.shape ports.new.log.logs.items ports.new.shards.nodes.items) lane ≡ Idle) }
-{
-    ports.log.at = home(&header.shape, lane);
-    ports.shards.lane = lane;
-    let came = run_batch(alloc, &header.shape, lane, txs, ports, 0, gate);
-    see_logs(ports.log.logs.as_slice());
-    see_shards(ports.shards.nodes.as_slice());
-    came
 }
 
 // What came of a list of one lane.

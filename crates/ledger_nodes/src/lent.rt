@@ -1,12 +1,11 @@
 // The nodes of a ledger, lent to the ports of its lanes.
-ghost use Rattle.std.specs.Prelude.{◌≡◌, ◌∷◌, []};
-ghost use Rattle.lane_driver.specs.declared.fault.BatchReport.{BatchReport as ReportOf};
+ghost use Rattle.std.specs.Prelude.{◌≡◌};
 ghost use Rattle.ledger_nodes.specs.Ledgers.{journals_of, flights_of, faults_of, opened_of, capacity_of, AreChecked, AreStored, AreQuiet};
 
-use crate::driving::{drive_batch, drive_resume, home};
+use crate::driving::{drive_resume, home};
 use crate::ledger::Ledger;
-use cbdc_types::{CompactTx, Header, LaneId, Shape};
-use lane_driver::{BatchReport, LaneFault, LaneReport, Ports, no_memory};
+use cbdc_types::{Header, LaneId, Shape};
+use lane_driver::{LaneFault, Ports, no_memory};
 use ledger_runs::Turns;
 use node_ports::{NodeLogs, NodeShards};
 use outside::{Disk, Gate};
@@ -14,6 +13,7 @@ use recovery::ResumedBatch;
 use std::alloc::Global;
 use std::marker::Model;
 use std::sync::Wait;
+use std::thread::Threads;
 
 /// All nodes of a ledger behind the ports of its lanes. Contracts see its header and its nodes, which are a ledger's.
 #[derive(Drop)]
@@ -55,18 +55,6 @@ pub fn lend<'r, W: Wait, D: Disk>(rt: &'r W, ledger: Ledger<D>) -> LentLedger<'r
     }
 }
 
-// The one report of a batch.
-fn only(report: LaneReport) -> BatchReport
-    requires { (r : ReportOf) × (report.batches ≡ r ∷ []) }
-    ensures { report.batches ≡ result ∷ [] }
-{
-    let LaneReport { batches } = report;
-    match batches.into_vec().pop() {
-        Some(batch) => batch,
-        None => unreachable!(),
-    }
-}
-
 impl<'r, W: Wait, D: Disk> LentLedger<'r, W, D> {
     /// The ledger with its nodes back.
     pub fn take_back(self) -> Ledger<D>
@@ -84,7 +72,7 @@ impl<'r, W: Wait, D: Disk> LentLedger<'r, W, D> {
     }
 }
 
-impl<'r, W: Wait, D: Disk> Turns for LentLedger<'r, W, D> {
+impl<'r, W: Wait + Threads + Sync, D: Disk + Send> Turns for LentLedger<'r, W, D> {
     ghost shape = { λ l. l.header.shape };
 
     ghost journals = { λ l. journals_of D.count D.limit l.header.shape l.logs l.shards };
@@ -107,19 +95,6 @@ impl<'r, W: Wait, D: Disk> Turns for LentLedger<'r, W, D> {
 
     fn shape(&self) -> &Shape {
         &self.header.shape
-    }
-
-    fn run_batch<G: Gate>(
-        &mut self,
-        alloc: Global,
-        lane: LaneId,
-        txs: &[CompactTx],
-        gate: &G,
-    ) -> Result<BatchReport, LaneFault> {
-        match drive_batch(alloc, &self.header, lane, txs, &mut self.ports, gate) {
-            Ok(report) => Ok(only(report)),
-            Err(fault) => Err(fault),
-        }
     }
 
     fn take_up<G: Gate>(

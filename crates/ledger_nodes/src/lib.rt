@@ -1,4 +1,4 @@
-//! The nodes of a ledger, open, and the turns of its lanes at them.
+//! The nodes of a ledger, open, and what its lanes do at them.
 #![tactic(auto)]
 
 mod driving;

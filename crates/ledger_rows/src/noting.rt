@@ -5,19 +5,18 @@ use cbdc_types::NodeId;
 use mem_devices::{FaultDisk, MemInbox, MemRack};
 use outside::{Failed, Gate, Inbox, Point, Rack};
 use std::alloc::Global;
-use std::cell::RefCell;
-use std::sync::Wait;
+use std::sync::{Mutex, Wait};
 
-/// A gate that notes the points that are passed.
+/// A gate that notes the points that are passed, in the order in which its calls come.
 #[derive(Drop)]
 pub struct NotingGate {
-    points: RefCell<Vec<Point>>,
+    points: Mutex<Vec<Point>>,
 }
 
 impl NotingGate {
     pub fn new(alloc: Global) -> NotingGate {
         NotingGate {
-            points: RefCell::new(Vec::new(alloc)),
+            points: Mutex::new(Vec::new(alloc)),
         }
     }
 
@@ -29,10 +28,9 @@ impl NotingGate {
 }
 
 impl Gate for NotingGate {
-    fn pass<W: Wait>(&self, _rt: &W, point: &Point) {
-        if let Ok(mut points) = self.points.try_borrow_mut() {
-            let _ = points.push(*point);
-        }
+    fn pass<W: Wait>(&self, rt: &W, point: &Point) {
+        let mut points = self.points.lock(rt);
+        let _ = points.push(*point);
     }
 }
 

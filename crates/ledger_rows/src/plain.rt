@@ -11,6 +11,7 @@ use row_text::{Wrong, copies, rest, words_around};
 use std::alloc::Global;
 use std::str;
 use std::sync::Wait;
+use std::thread::Threads;
 
 // How many nodes a ledger may have.
 const PLACES: usize = 80;
@@ -33,7 +34,7 @@ impl PlainRuns {
 }
 
 /// `NODES CAPACITY WORDS.. / WORDS..`: the program with the first words and then with the second, over so many empty disks.
-pub fn play_plain<W: Wait>(
+pub fn play_plain<W: Wait + Threads + Sync>(
     rt: &W,
     alloc: Global,
     state: &State,

@@ -14,6 +14,7 @@ use row_text::{Wrong, copies};
 use std::alloc::{AllocError, Global};
 use std::str;
 use std::sync::Wait;
+use std::thread::Threads;
 
 /// What a run left: its status, the points that it passed, the files that it read, the nodes whose disks it took, its output and the rack.
 #[derive(Drop)]
@@ -131,7 +132,12 @@ fn inbox(alloc: Global, state: &State) -> Result<NotingInbox, AllocError> {
 }
 
 /// Runs the program with these words over the disks and files that a row has made.
-pub fn play<W: Wait>(rt: &W, alloc: Global, state: &State, words: &[&str]) -> Result<Ran, Wrong> {
+pub fn play<W: Wait + Threads + Sync>(
+    rt: &W,
+    alloc: Global,
+    state: &State,
+    words: &[&str],
+) -> Result<Ran, Wrong> {
     let mut out = MemSink::new(alloc, state.room, Vec::new(alloc))?;
     let words = owned(alloc, words)?;
     let mut inbox = inbox(alloc, state)?;

@@ -10,9 +10,10 @@ use crate::words::count_at;
 use row_text::{Block, Names, Subject, Wrong, rest};
 use std::alloc::Global;
 use std::sync::Wait;
+use std::thread::Threads;
 
 // Runs the program over the disks, and checks its text and status.
-fn run<W: Wait>(
+fn run<W: Wait + Threads + Sync>(
     rt: &W,
     state: &mut State,
     alloc: Global,
@@ -27,7 +28,7 @@ fn run<W: Wait>(
 }
 
 // Runs the program twice over devices that never fail, and checks the text of both and the status of the second.
-fn run_plain<W: Wait>(
+fn run_plain<W: Wait + Threads + Sync>(
     rt: &W,
     state: &State,
     alloc: Global,
@@ -84,7 +85,7 @@ impl Subject for State {
         self.forget();
     }
 
-    fn step<W: Wait>(
+    fn step<W: Wait + Threads + Sync>(
         &mut self,
         rt: &W,
         alloc: Global,

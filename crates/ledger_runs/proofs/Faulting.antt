@@ -1,26 +1,19 @@
 -- The cause of a lane's fault stays while other lanes go on.
-use Rattle.std.proofs.Common.{◌≡◌, ◌≢◌, ◌⊎◌, inl, inr, Bool, true, false, ℕ, suc, ◌+◌, ◌<◌, ◌≤◌, le_trans, List, refl, sym, ap, ◌∙◌, subst, arith, Some, None}
-use Rattle.std.specs.Prelude.{slice_get, is_some, length, take, drop, Option, Result, Err, IfErr, IsOk, OnOk}
+use Rattle.std.proofs.Common.{◌≡◌, ◌≢◌, inl, inr, true, ℕ, suc, ◌+◌, ◌<◌, ◌≤◌, le_trans, List, refl, sym, ap, ◌∙◌, subst, arith}
+use Rattle.std.specs.Prelude.{is_some}
 use Rattle.cbdc_model.specs.Records.{Shape, Batch, Compact, Record, record_of}
-use Rattle.cbdc_model.specs.Slots.{slot, Idle}
+use Rattle.cbdc_model.specs.Slots.{slot}
 use Rattle.cbdc_model.specs.Ranges.{home_of, shard_node}
 use Rattle.cbdc_model.specs.Lanes.{IsEnd}
 use Rattle.cbdc_model.specs.Sights.{HasRisen}
 use Rattle.ledger_laws.proofs.Cuts.{end_self, end_trans}
-use Rattle.run_laws.specs.WaveSteps.{LaneTook}
 use Rattle.run_laws.specs.Faults.{awaited, HasHeard, IsAsked, asks_prepare, asks_log, asks_shard}
 use Rattle.lane_driver.specs.declared.fault.LaneFault.{LaneFault}
 use Rattle.lane_driver.specs.declared.fault.LaneFaultKind.{LaneFaultKind}
 use Rattle.lane_driver.specs.declared.fault.LaneFaultKind.TheVariants.{DiskFault as DiskStopped, Full as NoRoom, ClockEnd as NoStamp, Memory as NoMemory}
-use Rattle.ledger_runs.specs.Turning.{phase_at, IsLaneOf}
-use Rattle.ledger_runs.specs.Waving.{NoFault, TurnsAt, taken_by}
-use Rattle.ledger_runs.specs.Pieces.{IsUnprepared, IsNextPiece, IsNextFrom, HaveTaken}
-use Rattle.ledger_runs.specs.Faults.{GrowBy, TookLanes, TakesInOrder, IsWanted, wants_prepare, wants_lock, HasNoDiskFor, LacksLock, IsBeforeLocks, IsCauseOf, IsLaneCause, IsSomeCauseOf, IsRunCause, HaveFailed, MayHold, Rests, HaveCauses, IsTurnCause}
-use Rattle.ledger_runs.specs.declared.lanes.Lane.{Lane}
+use Rattle.ledger_runs.specs.Turning.{IsLaneOf}
+use Rattle.ledger_runs.specs.Faults.{GrowBy, TookLanes, TakesInOrder, IsWanted, wants_prepare, wants_lock, HasNoDiskFor, LacksLock, IsBeforeLocks, IsCauseOf, IsLaneCause, IsSomeCauseOf, IsRunCause, HaveFailed, MayHold, Rests}
 use Rattle.ledger_runs.proofs.Others.{slot_same, record_same}
-use Rattle.ledger_runs.proofs.Preparing.{same_prepared, next_piece, next_stays}
-use Rattle.ledger_runs.proofs.WaveKeeping.{each_by, was_there, taken_before}
-use Rattle.ledger_runs.proofs.Keeping.{of_ok}
 
 -- ---- what a lane wants, while another goes on
 
@@ -154,11 +147,6 @@ run_moves K next due E F X failed fails holds held before on failed_on held_on e
     go (NoStamp stamp) (lane, inside, cause) = (lane, inside, moves lane inside (NoStamp stamp) cause)
     go NoMemory cause = tt
 
--- memory ran out between batches
-of_memory : (K : Shape) (lane : ℕ) (next : List Compact → Type 0) (E X : ℕ → List Record) (failed : ℕ → Type 0) (holds : ℕ → ℕ → Type 0) (e : LaneFault) → e.fault ≡ NoMemory → phase_at K X lane ≡ Idle
-    → IsLaneCause K lane next E X failed holds e
-of_memory K lane next E X failed holds e is idle = subst (λ k. IsCauseOf K lane next E X failed holds e.node k) (sym is) (inl idle)
-
 -- a lane that has a fault with its cause rests
 pub rests_by : (K : Shape) (lane : ℕ) (next : List Compact → Type 0) (E X : ℕ → List Record) (failed : ℕ → Type 0) (holds : ℕ → ℕ → Type 0) (e : LaneFault) → IsLaneCause K lane next E X failed holds e → Rests K lane X failed
 rests_by K lane next E X failed holds e cause = go e.fault cause
@@ -190,70 +178,3 @@ pub one_more : (lane : ℕ) (E J L : ℕ → List Record) → TookLanes lane E J
 one_more lane E J L took grown = subst (λ n. TookLanes n E L) (let e : suc lane ≡ lane + 1 = omega arith in e) (J, took, grown)
 
 -- ---- the lanes of a wave
-
--- before its first turn no lane has a fault
-pub causes_begin : (K : Shape) (E X : ℕ → List Record) (failed : ℕ → Type 0) (holds : ℕ → ℕ → Type 0) (lanes : List Lane) → NoFault lanes → HaveCauses K E X failed holds lanes
-causes_begin K E X failed holds lanes none lane x there e is = absurd (let z : Some e ≡ None = sym is ∙ none lane x there in cc)
-
--- a lane's fault has its cause, by what the lane has prepared
-abbrev Causes : Shape → (ℕ → List Record) → ℕ → Lane → (ℕ → List Record) → (ℕ → Type 0) → (ℕ → ℕ → Type 0) → LaneFault → Type 0
-Causes K E lane x X failed holds e = IsLaneCause K lane (IsNextPiece K lane x.txs.items E X) E X failed holds e
-
--- behind a turn each lane that has stopped has its cause
-pub causes_step : (K H : Shape) (E J L : ℕ → List Record) (start turn : ℕ) (failed fails : ℕ → Type 0) (holds held : ℕ → ℕ → Type 0) (now after : List Lane) → H ≡ K → 0 < K.batch → TurnsAt turn now after → GrowBy turn J L
-    → ((n : ℕ) → IsEnd (E n) (J n)) → ((n : ℕ) → failed n → fails n) → ((n c : ℕ) → holds n c → held n c) → HaveTaken K E J (taken_by start K.batch turn) now
-    → ((x y : Lane) → slice_get now turn ≡ Some x → slice_get after turn ≡ Some y → IsTurnCause H turn start x y J L fails held) → HaveCauses K E J failed holds now → HaveCauses K E L fails held after
-causes_step K H E J L start turn failed fails holds held now after same some turned grown since failed_on held_on taken cause have =
-    each_by (λ lane x. (e : LaneFault) → x.fault ≡ Some e → Causes K E lane x L fails held e) turn now after turned.others others
-    (λ y there e is. let x = was_there turn now after y turned.count there in own x.0 y x.1 there e (subst (λ k. IsTurnCause k turn start x.0 y J L fails held) same (cause x.0 y x.1 there) e is))
-  where
-    others : (lane : ℕ) (x : Lane) → lane ≢ turn → slice_get now lane ≡ Some x → (e : LaneFault) → x.fault ≡ Some e → Causes K E lane x L fails held e
-    others lane x other there e is =
-        let apart : turn ≢ lane = λ h. other (sym h) in
-        cause_moves K lane (IsNextPiece K lane x.txs.items E J) (IsNextPiece K lane x.txs.items E L) E E J L failed fails holds held (λ n. end_self (E n)) (λ n. ((grown n).0, (grown n).1)) (slot_same lane turn apart J L grown)
-        (wanted_stays lane turn apart J L grown K (IsNextPiece K lane x.txs.items E J) (IsNextPiece K lane x.txs.items E L)
-        (λ txs i. next_stays K lane x.txs.items txs E J L (same_prepared lane turn apart J L grown (home_of K lane)) i))
-        (asked_stays lane turn apart J L grown K (IsNextPiece K lane x.txs.items E J) (IsNextPiece K lane x.txs.items E L)
-        (λ txs i. next_stays K lane x.txs.items txs E J L (same_prepared lane turn apart J L grown (home_of K lane)) i)) (before_locks_stay lane turn apart J L grown K) failed_on held_on e.node e.fault (have lane x there e is)
-
-    -- the lane whose turn it was had stopped before
-    had_it : (x : Lane) → slice_get now turn ≡ Some x → (e : LaneFault) → x.fault ≡ Some e → ((n : ℕ) → L n ≡ J n) → Causes K E turn x L fails held e
-    had_it x was e had as_before =
-        let all : J ≡ L = λ i n. sym (as_before n) i in
-        cause_moves K turn (IsNextPiece K turn x.txs.items E L) (IsNextPiece K turn x.txs.items E L) E E L L failed fails holds held (λ n. end_self (E n)) (λ n. end_self (L n)) (λ n. refl) (λ node front r w. w) (λ n a. a) (λ short. short) failed_on held_on e.node e.fault
-        (subst (λ X. Causes K E turn x X failed holds e) all (have turn x was e had))
-
-    -- or it stopped now
-    has_it : (x : Lane) → slice_get now turn ≡ Some x → (e : LaneFault) → x.fault ≡ None → IsLaneCause K turn (IsNextFrom K turn start x.txs.items J L) J L fails held e → Causes K E turn x L fails held e
-    has_it x was e none found =
-        let took = subst (λ n. LaneTook K x.txs.items n turn (E (home_of K turn)) (J (home_of K turn))) (taken_before start K.batch turn turn (omega arith)) (taken turn x was none) in
-        cause_since K turn (IsNextFrom K turn start x.txs.items J L) (IsNextPiece K turn x.txs.items E L) J E L fails held since (λ txs i. next_piece K turn start x.txs.items txs E J L some took i) e found
-
-    own : (x y : Lane) → slice_get now turn ≡ Some x → slice_get after turn ≡ Some y → (e : LaneFault)
-        → ((x.fault ≡ Some e) × ((n : ℕ) → L n ≡ J n)) ⊎ ((x.fault ≡ None) × IsLaneCause K turn (IsNextFrom K turn start x.txs.items J L) J L fails held e) → Causes K E turn y L fails held e
-    own x y was there e told =
-        subst (λ v. IsLaneCause K turn (IsNextPiece K turn v.items E L) E L fails held e) (sym (turned.txs x y was there))
-        (elim told [
-          | inl before ↦ had_it x was e before.0 before.1
-          | inr now ↦ has_it x was e now.0 now.1
-        ])
-
--- a turn of a lane that had not stopped
-pub turn_cause : {A : Type 0} (K : Shape) (lane start : ℕ) (old new : Lane) (these : List Compact) (I J : ℕ → List Record) (failed : ℕ → Type 0) (holds : ℕ → ℕ → Type 0) (came : Result A LaneFault) → old.fault ≡ None
-    → start < length old.txs.items → these ≡ take K.batch (drop start old.txs.items) → ((e : LaneFault) → new.fault ≡ Some e → (old.fault ≡ Some e) ⊎ (((e.fault ≡ NoMemory) × IsOk came) ⊎ (came ≡ Err e)))
-    → OnOk came (phase_at K J lane ≡ Idle) → IfErr came (IsLaneCause K lane (IsUnprepared K lane these I J) I J failed holds) → IsTurnCause K lane start old new I J failed holds
-turn_cause K lane start old new these I J failed holds came none inside piece told idle cause e is = go (told e is)
-  where
-    go : (old.fault ≡ Some e) ⊎ (((e.fault ≡ NoMemory) × IsOk came) ⊎ (came ≡ Err e))
-        → ((old.fault ≡ Some e) × ((n : ℕ) → J n ≡ I n)) ⊎ ((old.fault ≡ None) × IsLaneCause K lane (IsNextFrom K lane start old.txs.items I J) I J failed holds e)
-    go (inl had) = absurd (let z : Some e ≡ None = sym had ∙ none in cc)
-    go (inr (inl memory)) = inr (none, of_memory K lane (IsNextFrom K lane start old.txs.items I J) I J failed holds e memory.0 (of_ok came (phase_at K J lane ≡ Idle) memory.1 idle))
-    go (inr (inr err)) = inr (
-      none,
-      cause_since K lane (IsUnprepared K lane these I J) (IsNextFrom K lane start old.txs.items I J) I I J failed holds (λ n. end_self (I n)) (λ txs i. (inside, (i.0 ∙ piece, i.1))) e
-          (subst (λ r. IfErr r (IsLaneCause K lane (IsUnprepared K lane these I J) I J failed holds)) err cause),
-    )
-
-pub none_by : {A : Type 0} (o : Option A) (b : Bool) → b ≡ is_some o → b ≡ false → o ≡ None
-none_by None b is off = refl
-none_by (Some a) b is off = absurd (let z : true ≡ false = sym is ∙ off in cc)

@@ -1,5 +1,5 @@
 -- The first of the lanes that stopped.
-use Rattle.std.proofs.Common.{◌≡◌, ◌≢◌, ◌⊎◌, inl, inr, true, false, ◌==◌, ℕ, ◌+◌, ◌<◌, List, get_or, refl, ◌∙◌, subst, arith, Option, Some, None}
+use Rattle.std.proofs.Common.{◌≡◌, ◌≢◌, ◌⊎◌, inl, inr, true, false, ◌==◌, ℕ, ◌+◌, ◌<◌, List, get_or, ◌∙◌, subst, arith, Some}
 use Rattle.std.specs.Prelude.{slice_get}
 use Rattle.std.proofs.lemmas.Bool.Decides.{eqb_tells}
 use Rattle.std.proofs.lemmas.Option.{get_or_from_slice_get}
@@ -12,7 +12,3 @@ up_to P xs i at is here before k x low there = go (eqb_tells k i)
     go : (((k == i) ≡ true) × (k ≡ i)) ⊎ (((k == i) ≡ false) × (k ≢ i)) → P x
     go (inl (b, same)) = subst P (is ∙ get_or_from_slice_get xs i x at (subst (λ m. slice_get xs m ≡ Some x) same there)) here
     go (inr (b, other)) = before k x (omega (arith, low, other)) there
-
-pub none_of : {A : Type 0} (o : Option A) → ((a : A) → o ≡ Some a → ⊥) → o ≡ None
-none_of None h = refl
-none_of (Some a) h = absurd (h a refl)

@@ -1,4 +1,4 @@
--- Turn after turn: what stays kept, and which open batches are at their end.
+-- Lane after lane: what stays kept, and which open batches are at their end.
 use Rattle.std.proofs.Common.{◌≡◌, ◌≢◌, ◌⊎◌, inl, inr, true, false, ◌==◌, ℕ, suc, ◌+◌, ◌*◌, ◌<◌, List, ◌++◌, sym, ◌∙◌, subst, add-one, arith, Option, Some, None}
 use Rattle.std.proofs.lemmas.Bool.{false≢true}
 use Rattle.std.proofs.lemmas.Bool.Decides.{eqb_tells}
@@ -26,7 +26,7 @@ stays_on K I J L one two mint submissions kept =
     let b = two mint submissions a.kept in
     record { grows = λ n. end_trans (I n) (J n) (L n) (a.grows n) (b.grows n); kept = b.kept }
 
--- the next lane has had its turn
+-- the next lane was taken up
 pub resumes_on : ResumingStepLaw → ResumingSkipLaw → (K : Shape) (lane : ℕ) (E J L : ℕ → List Record) (found : Option ResumedBatch)
     → ResumedSo K lane E J → TookUp K lane J L found → ResumedSo K (lane + 1) E L
 resumes_on step skip K lane E J L (Some r) so took = subst (λ l. ResumedSo K l E L) (sym (add-one lane)) (step K lane r.batch E J L so took.0)
@@ -43,7 +43,7 @@ pub of_ok : {A E : Type 0} (r : Result A E) (X : Type 0) → IsOk r → OnOk r X
 of_ok (Ok a) X ok so = so
 of_ok (Err e) X ok so = absurd (false≢true ok)
 
--- the lanes that have had their turn are idle
+-- the lanes that were taken up are idle
 pub idle_next : (K H : Shape) (lane : ℕ) (J L : ℕ → List Record) → H ≡ K → lane < K.coordinators * K.lanes
     → ((l : ℕ) → l < lane → phase_at K J l ≡ Idle) → KeepsLanes H lane J L → phase_at H L lane ≡ Idle → (l : ℕ) → l < lane + 1 → phase_at K L l ≡ Idle
 idle_next K H lane J L e below before others now l low = go (lt_or_eq l lane low)

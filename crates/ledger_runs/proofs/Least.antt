@@ -1,32 +1,17 @@
 -- Whose fault ends a wave.
-use Rattle.std.proofs.Common.{◌≡◌, ℕ, ◌*◌, ◌≤◌, le_trans, List, length, Some, subst, arith}
+use Rattle.std.proofs.Common.{◌≡◌, ℕ, ◌*◌, List, length, Some, subst, arith}
 use Rattle.std.specs.Prelude.{slice_get}
-use Rattle.std.proofs.Math.ListN.{drop_of_length-le}
 use Rattle.std.proofs.lemmas.Option.{slice_get_within}
 use Rattle.cbdc_model.specs.Records.{Shape, Compact, Record}
-use Rattle.run_laws.specs.WaveSteps.{CutsOff}
-use Rattle.run_laws.proofs.WaveTurns.{cuts_all}
 use Rattle.ledger_laws.proofs.Cuts.{end_self}
 use Rattle.lane_driver.specs.declared.fault.LaneFault.{LaneFault}
-use Rattle.ledger_runs.specs.Waving.{HaveSent, AreReady, AreShorter, FirstFaultIs}
-use Rattle.ledger_runs.specs.Pieces.{IsNextPiece, HaveTaken}
+use Rattle.ledger_runs.specs.Waving.{HaveSent, FirstFaultIs}
+use Rattle.ledger_runs.specs.Pieces.{IsNextPiece}
 use Rattle.ledger_runs.specs.Faults.{HaveCauses}
 use Rattle.ledger_runs.specs.Least.{HasRun, RunTheirs, IsLeastFault}
 use Rattle.ledger_runs.specs.declared.lanes.Lane.{Lane}
 use Rattle.ledger_runs.proofs.Faulting.{cause_since}
 use Rattle.ledger_runs.proofs.WaveKeeping.{at_place}
-
--- a lane with nothing left that met no fault has run all
-pub run_theirs : (K : Shape) (start most : ℕ) (E J : ℕ → List Record) (lanes : List Lane) → AreShorter lanes most → most ≤ start → AreReady K J lanes → HaveTaken K E J (λ _. start) lanes → RunTheirs K E J lanes
-run_theirs K start most E J lanes short past ready have lane x there none =
-    let took = have lane x there none in (
-      (
-        took.pieces,
-        cuts_all K.batch x.txs.items took.pieces (subst (λ rest. CutsOff K.batch x.txs.items took.pieces rest) (drop_of_length-le x.txs.items (le_trans (short lane x there) past)) took.cut),
-        took.prepares,
-      ),
-      ready lane x there none,
-    )
 
 -- the first fault is the least lane's
 pub least_fault : (K : Shape) (sent : ℕ → List Compact) (next : ℕ → List Compact → Type 0) (I J : ℕ → List Record) (failed : ℕ → Type 0) (holds : ℕ → ℕ → Type 0) (lanes : List Lane) → length lanes ≡ K.coordinators * K.lanes

@@ -70,7 +70,7 @@ open_since : (K : Shape) (lane : ℕ) (E J L : ℕ → List Record) (failed : �
 open_since K lane E J L failed holds since none e (inl (memory, waits)) = inl (memory, waits_since K lane E J L none waits)
 open_since K lane E J L failed holds since none e (inr cause) = inr (cause_since K lane Nothing Nothing J E L failed holds since (λ txs n. n) e cause)
 
--- ---- behind one more turn
+-- ---- behind one more lane
 
 -- the fault is that of a lane below this one, has its cause, and all lesser lanes are idle
 abbrev pub FirstBelow : Shape → ℕ → (ℕ → List Record) → (ℕ → List Record) → (ℕ → Type 0) → (ℕ → ℕ → Type 0) → LaneFault → Type 0

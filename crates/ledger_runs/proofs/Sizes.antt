@@ -185,10 +185,6 @@ abbrev pub EachSized : (Sized → Type 0) → List Sized → Type 0
 EachSized Q [] = Unit {0}
 EachSized Q (s ∷ S) = Q s × EachSized Q S
 
-pub sized_both : (Q : Sized → Type 0) (A B : List Sized) → EachSized Q A → EachSized Q B → EachSized Q (A ++ B)
-sized_both Q [] B a b = b
-sized_both Q (s ∷ A) B a b = (a.0, sized_both Q A B a.1 b)
-
 pub decided_as : (J L : List Record) (S : List Sized) → EachSized (λ s. outcomes_of L s.batch ≡ outcomes_of J s.batch) S → decided_of L S ≡ decided_of J S
 decided_as J L [] same = refl
 decided_as J L (s ∷ S) same = ap (λ os. decided_in s.batch os ++ decided_of L S) same.0 ∙ ap (λ l. decided_in s.batch (outcomes_of J s.batch) ++ l) (decided_as J L S same.1)

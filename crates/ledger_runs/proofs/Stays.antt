@@ -1,4 +1,4 @@
--- What lanes keep of their batches stays behind turns that did another batch.
+-- What lanes keep of their batches stays where another batch is done.
 use Rattle.std.proofs.Common.{◌≡◌, ℕ, ◌+◌, ◌<◌, Bool, true, false, ◌&&◌, ◌==◌, if◌then◌else◌, List, [], ◌∷◌, ◌++◌, map, reverse, length, min, refl, sym, ap, ◌∙◌, subst, arith, append_assoc, append-nil}
 use Rattle.std.specs.Prelude.{is_some}
 use Rattle.std.proofs.lemmas.List.{append_cancel_right, length-append}
@@ -78,9 +78,6 @@ module _ (K : Shape) (b : Batch) (I J : ℕ → List Record) (adds : Adds (λ c.
       ap (λ L. outcomes_of L c) g.1 ∙ ap outcomes_in (found_below 7 b c g.0 (I n) (all_new n g.0 g.1) apart)
 
   module _ (fresh : has_prepare K I b ≡ false) (lane : ℕ) (E more : List Record) (old : I (home_of K lane) ≡ more ++ E) where
-    H : ℕ
-    H = home_of K lane
-
     apart : (s : Sized) → IsOwn lane (I (home_of K lane)) s → s.batch ≡ b → ⊥
     apart s own e =
         true_false (has_prepare K I b)
@@ -90,7 +87,7 @@ module _ (K : Shape) (b : Batch) (I J : ℕ → List Record) (adds : Adds (λ c.
     stay = each_by (IsOwn lane (I (home_of K lane))) (λ s. outcomes_of (J (home_of K lane)) s.batch ≡ outcomes_of (I (home_of K lane)) s.batch) (sized_onto lane more [])
         (λ s own. same_outcomes (home_of K lane) s.batch (apart s own)) (all_own lane (I (home_of K lane)) more E old)
 
-    -- the lane has prepared these in the turn
+    -- the lane has prepared these newly
     newly : (d : List Record) (P : List (List Compact)) → J (home_of K lane) ≡ d ++ I (home_of K lane) → prepared lane (J (home_of K lane)) ≡ P ++ prepared lane (I (home_of K lane))
         → sized_onto lane d [] ≡ reverse (map (λ txs. record { batch = b; size = length txs }) P) ++ []
     newly d P e now =
@@ -100,24 +97,7 @@ module _ (K : Shape) (b : Batch) (I J : ℕ → List Record) (adds : Adds (λ c.
     now_is : (d : List Record) → J (home_of K lane) ≡ d ++ I (home_of K lane) → J (home_of K lane) ≡ (d ++ more) ++ E
     now_is d e = e ∙ ap (λ l. d ++ l) old ∙ sym (append_assoc d more E)
 
-    -- a lane that did nothing in the turn keeps what it kept
-    pub keeps_as_before : (kept : List (Batch × Outcome)) (count : ℕ) → KeepsDecided (I (home_of K lane)) (sized_onto lane more []) kept count
-        → prepared lane (J (home_of K lane)) ≡ prepared lane (I (home_of K lane))
-        → (now : List Record) × (J (home_of K lane) ≡ now ++ E) × KeepsDecided (J (home_of K lane)) (sized_onto lane now []) kept count
-    keeps_as_before kept count keeps none =
-        let g = adds.grows (home_of K lane) in
-        let same : sized_onto lane (g.0 ++ more) [] ≡ sized_onto lane more []
-        = sized_more lane g.0 more ∙ ap (λ l. sized_onto lane more [] ++ l) (newly g.0 [] g.1 none) ∙ append-nil (sized_onto lane more []) in (
-          g.0 ++ more,
-          now_is g.0 g.1,
-          subst (λ S. KeepsDecided (J (home_of K lane)) S kept count) (sym same) (record {
-            decided = keeps.decided ∙ sym (decided_as (I (home_of K lane)) (J (home_of K lane)) (sized_onto lane more []) stay);
-            each = are_decided_as (I (home_of K lane)) (J (home_of K lane)) (sized_onto lane more []) stay keeps.each;
-            count_is = keeps.count_is;
-          }),
-        )
-
-    -- the lane whose turn it was keeps what was decided of its new batch too
+    -- what was decided of its new batch is kept too
     pub keeps_more : (kept : List (Batch × Outcome)) (count : ℕ) (txs : List Compact) (os : List Outcome) → KeepsDecided (I (home_of K lane)) (sized_onto lane more []) kept count
         → prepared lane (J (home_of K lane)) ≡ txs ∷ prepared lane (I (home_of K lane)) → os ≡ outcomes_of (J (home_of K lane)) b → 0 < length txs → length os ≡ length txs
         → (now : List Record) × (J (home_of K lane) ≡ now ++ E)

@@ -1,5 +1,5 @@
 -- Why a lane stopped, by the journals then and at any later time.
-use Rattle.std.specs.Prelude.{◌≡◌, ◌⊎◌, ℕ, zero, suc, ◌+◌, ◌*◌, ◌^◌, ◌<◌, ◌≤◌, true, List, [], ◌∷◌, ◌++◌, Some, None}
+use Rattle.std.specs.Prelude.{◌≡◌, ◌⊎◌, ℕ, zero, suc, ◌+◌, ◌*◌, ◌^◌, ◌<◌, ◌≤◌, true, List, [], ◌∷◌, ◌++◌, Some}
 use Rattle.cbdc_model.specs.Records.{Shape, Batch, Compact, Record, record_of, stamp_of, is_in_lane, Prepare}
 use Rattle.cbdc_model.specs.Slots.{slot, Idle, InPrepare}
 use Rattle.cbdc_model.specs.Ranges.{home_of, shard_node, part}
@@ -16,7 +16,7 @@ use Rattle.lane_driver.specs.declared.fault.LaneFaultKind.{LaneFaultKind}
 use Rattle.lane_driver.specs.declared.fault.LaneFaultKind.TheVariants.{DiskFault as DiskStopped, Full as NoRoom, ClockEnd as NoStamp, Memory as NoMemory}
 use Rattle.ledger_runs.specs.Turning.{phase_at, IsLaneOf}
 use Rattle.ledger_runs.specs.Waving.{EachLane}
-use Rattle.ledger_runs.specs.Pieces.{HasPrepared, IsNextPiece, IsNextFrom}
+use Rattle.ledger_runs.specs.Pieces.{HasPrepared, IsNextPiece}
 use Rattle.ledger_runs.specs.declared.lanes.Lane.{Lane}
 
 -- all of these records are the lane's
@@ -161,9 +161,3 @@ AllRestSince K E X failed = (lane : ℕ) → IsLaneOf K lane → RestsSince K la
 -- each lane that has stopped has its cause
 abbrev pub HaveCauses : Shape → (ℕ → List Record) → (ℕ → List Record) → (ℕ → Type 0) → (ℕ → ℕ → Type 0) → List Lane → Type 0
 HaveCauses K E X failed may_hold lanes = EachLane (λ lane x. (e : LaneFault) → x.fault ≡ Some e → IsLaneCause K lane (IsNextPiece K lane x.txs.items E X) E X failed may_hold e) lanes
-
--- what a turn of a lane from a place of its transactions on leaves of its fault: it had it, and nothing was done; or it had none, and it has its cause
-abbrev pub IsTurnCause : Shape → ℕ → ℕ → Lane → Lane → (ℕ → List Record) → (ℕ → List Record) → (ℕ → Type 0) → (ℕ → ℕ → Type 0) → Type 0
-IsTurnCause K lane start old new I J failed may_hold =
-    (e : LaneFault) → new.fault ≡ Some e
-    → ((old.fault ≡ Some e) × ((n : ℕ) → J n ≡ I n)) ⊎ ((old.fault ≡ None) × IsLaneCause K lane (IsNextFrom K lane start old.txs.items I J) I J failed may_hold e)

@@ -1,12 +1,11 @@
 -- What is in flight at the nodes of a ledger: records that failed calls may have left on their disks or not.
-use Rattle.std.specs.Prelude.{◌≡◌, ◌⊎◌, ℕ, List, [], Option, None, Some, All, slice_get}
+use Rattle.std.specs.Prelude.{◌≡◌, ◌⊎◌, ℕ, List, [], Option, Some, slice_get}
 use Rattle.cbdc_model.specs.Records.{Shape, Batch, Compact, Record, Prepare}
 use Rattle.cbdc_model.specs.Coins.{Output, FullTx}
-use Rattle.cbdc_model.specs.Clean.{IsProperCompact}
 use Rattle.run_laws.specs.Flights.{MayCome}
 use Rattle.ledger_runs.specs.Turning.{IsLaneOf}
 use Rattle.ledger_runs.specs.Waving.{AllProper}
-use Rattle.ledger_runs.specs.Pieces.{HasPrepared, IsUnprepared, IsNextPiece, IsNextFrom}
+use Rattle.ledger_runs.specs.Pieces.{HasPrepared, IsNextPiece}
 use Rattle.ledger_runs.specs.declared.lanes.Lane.{Lane}
 
 -- each may come next at its node of these journals
@@ -16,10 +15,6 @@ AllMayCome K mint submissions J flights = (n : ℕ) (r : Record) → flights n �
 -- from journals I to J that stays so
 abbrev pub FliesOn : Shape → (ℕ → List Record) → (ℕ → List Record) → (ℕ → Option Record) → (ℕ → Option Record) → List Output → List FullTx → Type 0
 FliesOn K I J before after mint submissions = AllMayCome K mint submissions I before → AllMayCome K mint submissions J after
-
--- the same, where these transactions are compact forms of proper submissions
-abbrev pub FliesOnBy : Shape → List Compact → (ℕ → List Record) → (ℕ → List Record) → (ℕ → Option Record) → (ℕ → Option Record) → List Output → List FullTx → Type 0
-FliesOnBy K txs I J before after mint submissions = All (IsProperCompact submissions) txs → FliesOn K I J before after mint submissions
 
 -- where all that the lanes get are
 abbrev pub FliesSent : Shape → (ℕ → List Compact) → (ℕ → List Record) → (ℕ → List Record) → (ℕ → Option Record) → (ℕ → Option Record) → List Output → List FullTx → Type 0
@@ -31,14 +26,6 @@ FliesSent K sent I J before after mint submissions = AllProper K sent submission
 abbrev pub Launches : Shape → (ℕ → List Compact → Type 0) → (ℕ → List Record) → (ℕ → List Record) → (ℕ → Option Record) → (ℕ → Option Record) → Type 0
 Launches K next I J before after = (n t : ℕ) (b : Batch) (txs : List Compact) → after n ≡ Some (Prepare t b txs)
     → ((before n ≡ Some (Prepare t b txs)) × HasPrepared K b.lane [] I J) ⊎ (IsLaneOf K b.lane × next b.lane txs)
-
--- for this lane alone these transactions are next, where it has prepared nothing
-abbrev pub IsOwnNext : Shape → ℕ → List Compact → (ℕ → List Record) → (ℕ → List Record) → ℕ → List Compact → Type 0
-IsOwnNext K lane these I J l txs = (l ≡ lane) × IsUnprepared K lane these I J txs
-
--- for this lane alone, which had no fault, the piece at a place of its transactions is, where it has prepared nothing
-abbrev pub IsTurnNext : Shape → ℕ → ℕ → Lane → (ℕ → List Record) → (ℕ → List Record) → ℕ → List Compact → Type 0
-IsTurnNext K lane start x I J l txs = (l ≡ lane) × (x.fault ≡ None) × IsNextFrom K lane start x.txs.items I J txs
 
 -- for each lane the next piece of what it gets is
 abbrev pub AreNextPieces : Shape → List Lane → (ℕ → List Record) → (ℕ → List Record) → ℕ → List Compact → Type 0

@@ -1,15 +1,14 @@
 -- What lanes tell of their batches: what was decided of each transaction, by what their coordinators wrote down.
-use Rattle.std.specs.Prelude.{◌≡◌, ◌⊎◌, ℕ, zero, suc, ◌+◌, ◌<◌, List, [], ◌∷◌, ◌++◌, map, min, length, Option, Some, None}
-use Rattle.cbdc_model.specs.Records.{Shape, Batch, Compact, Outcome, Record, outcomes_of}
+use Rattle.std.specs.Prelude.{◌≡◌, ℕ, zero, suc, ◌<◌, List, [], ◌∷◌, ◌++◌, map, min, length, Option, Some, None}
+use Rattle.cbdc_model.specs.Records.{Shape, Batch, Outcome, Record, outcomes_of}
 use Rattle.cbdc_model.specs.Slots.{Idle}
 use Rattle.cbdc_model.specs.Ranges.{home_of}
 use Rattle.cbdc_model.specs.Due.{open_batch}
 use Rattle.cbdc_model.specs.Waves.{prepared}
 use Rattle.cbdc_model.specs.Places.{Sized, sized_onto}
-use Rattle.lane_driver.specs.declared.fault.BatchReport.{BatchReport}
 use Rattle.recovery.specs.declared.resumed.ResumedBatch.{ResumedBatch}
 use Rattle.recovery.specs.Open.{phase_of}
-use Rattle.ledger_runs.specs.Turning.{phase_at, listed, DidBatch, TookUp}
+use Rattle.ledger_runs.specs.Turning.{phase_at, listed, TookUp}
 use Rattle.ledger_runs.specs.Waving.{EachLane}
 use Rattle.ledger_runs.specs.declared.lanes.Decided.{Decided}
 use Rattle.ledger_runs.specs.declared.lanes.Lane.{Lane}
@@ -70,24 +69,6 @@ pub record KeepsDecided (J : List Record) (S : List Sized) (kept : List (Batch �
 abbrev pub kept_by : List Decided → List (Batch × Outcome)
 kept_by ds = map (λ d. (d.batch, d.outcome)) ds
 
--- a lane took in what came of a batch
-abbrev pub TakesIn : Lane → Lane → BatchReport → Type 0
-TakesIn old new r = (kept_by new.decided.items ≡ kept_by old.decided.items ++ decided_in r.batch r.outcomes) × (new.batches ≡ min (old.batches + 1) 18446744073709551615)
-
--- in its turn a lane did nothing; or it did a batch and took in what came of it
-abbrev pub TellsTurn : Shape → ℕ → Lane → Lane → (ℕ → List Record) → (ℕ → List Record) → Type 0
-TellsTurn K lane old new I J =
-    (((n : ℕ) → J n ≡ I n) × (new.decided.items ≡ old.decided.items) × (new.batches ≡ old.batches))
-    ⊎ ((txs : List Compact) × (r : BatchReport) × DidBatch K lane txs I J r × (0 < length txs) × (length r.outcomes ≡ length txs) × TakesIn old new r)
-
--- a lane has kept what is decided of each transaction that it prepared newly, from journals E to I
-abbrev pub TellsSince : Shape → (ℕ → List Record) → (ℕ → List Record) → ℕ → Lane → Type 0
-TellsSince K E I lane x = (more : List Record) × (I (home_of K lane) ≡ more ++ E (home_of K lane))
-    × KeepsDecided (I (home_of K lane)) (sized_onto lane more []) (kept_by x.decided.items) x.batches
-
-abbrev pub TellSince : Shape → (ℕ → List Record) → (ℕ → List Record) → List Lane → Type 0
-TellSince K E I lanes = EachLane (TellsSince K E I) lanes
-
 -- the same of all records that came
 abbrev pub TellsNew : Shape → (ℕ → List Record) → (ℕ → List Record) → ℕ → Lane → Type 0
 TellsNew K I J lane x = (more : List Record) → J (home_of K lane) ≡ more ++ I (home_of K lane)
@@ -96,6 +77,6 @@ TellsNew K I J lane x = (more : List Record) → J (home_of K lane) ≡ more ++ 
 abbrev pub AllTell : Shape → (ℕ → List Record) → (ℕ → List Record) → List Lane → Type 0
 AllTell K I J lanes = EachLane (TellsNew K I J) lanes
 
--- no lane has had a turn
+-- no lane has done anything
 abbrev pub AreFresh : List Lane → Type 0
 AreFresh lanes = EachLane (λ lane x. (x.decided.items ≡ []) × (x.batches ≡ 0)) lanes

@@ -1,16 +1,14 @@
--- Lanes that take turns at the nodes of a ledger, by the journals of all nodes.
-use Rattle.std.specs.Prelude.{◌≡◌, ◌≢◌, ℕ, ◌*◌, ◌<◌, List, [], ◌∷◌, ◌++◌, All, Option, Some, None}
-use Rattle.cbdc_model.specs.Records.{Shape, Compact, Record, outcomes_of}
+-- Lanes at the nodes of a ledger, by the journals of all nodes.
+use Rattle.std.specs.Prelude.{◌≡◌, ◌≢◌, ℕ, ◌*◌, ◌<◌, List, [], ◌∷◌, ◌++◌, Option, Some, None}
+use Rattle.cbdc_model.specs.Records.{Shape, Record, outcomes_of}
 use Rattle.cbdc_model.specs.Slots.{Phase, slot, Idle}
 use Rattle.cbdc_model.specs.Ranges.{home_of}
 use Rattle.cbdc_model.specs.Coins.{Output, FullTx}
-use Rattle.cbdc_model.specs.Clean.{IsProperCompact}
 use Rattle.cbdc_model.specs.World.{KeptJournals}
 use Rattle.cbdc_model.specs.Lanes.{IsEnd}
-use Rattle.lane_driver.specs.declared.fault.BatchReport.{BatchReport}
 use Rattle.recovery.specs.declared.resumed.ResumedBatch.{ResumedBatch}
 use Rattle.recovery.specs.Open.{phase_of}
-use Rattle.run_laws.specs.Turns.{DoesBatch, ResumesBatch}
+use Rattle.run_laws.specs.Turns.{ResumesBatch}
 
 -- the phase in which a lane stands at its coordinator
 abbrev pub phase_at : Shape → (ℕ → List Record) → ℕ → Phase
@@ -31,14 +29,6 @@ OfKept K I P = (mint : List Output) (submissions : List FullTx) → KeptJournals
 pub record StaysKept (K : Shape) (I J : ℕ → List Record) (mint : List Output) (submissions : List FullTx) : Type 0 where
   pub grows : (n : ℕ) → IsEnd (I n) (J n)
   pub kept : KeptJournals K mint submissions J
-
--- the same, where the transactions of the turn are compact forms of proper submissions
-abbrev pub StaysKeptBy : Shape → List Compact → (ℕ → List Record) → (ℕ → List Record) → List Output → List FullTx → Type 0
-StaysKeptBy K txs I J mint submissions = All (IsProperCompact submissions) txs → StaysKept K I J mint submissions
-
--- the turn did a batch of the lane, with the outcomes of its Commit
-abbrev pub DidBatch : Shape → ℕ → List Compact → (ℕ → List Record) → (ℕ → List Record) → BatchReport → Type 0
-DidBatch K lane txs I J r = DoesBatch K lane txs r.batch I J × (r.outcomes ≡ outcomes_of (J (home_of K lane)) r.batch)
 
 -- the lane's open batch was brought to its end, from the phase in which it stood, with the outcomes of its Commit
 abbrev pub DidResume : Shape → ℕ → (ℕ → List Record) → (ℕ → List Record) → ResumedBatch → Type 0

@@ -19,6 +19,7 @@ use row_records::{Known, name_form, shape, small};
 use row_text::{Block, Names, Subject, Wrong, rest, word};
 use std::alloc::Global;
 use std::sync::Wait;
+use std::thread::Threads;
 
 // The place of the node that a step begins with.
 fn place_of(words: &[&str]) -> Result<u32, Wrong> {
@@ -340,7 +341,7 @@ impl Subject for State {
         self.forget();
     }
 
-    fn step<W: Wait>(
+    fn step<W: Wait + Threads + Sync>(
         &mut self,
         rt: &W,
         alloc: Global,

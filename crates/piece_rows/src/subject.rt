@@ -18,6 +18,7 @@ use row_records::{Mint, hash, name_form, name_hash, name_tx, shape};
 use row_text::{Block, Names, Subject, Wrong, rest, word};
 use std::alloc::Global;
 use std::sync::Wait;
+use std::thread::Threads;
 
 // `hash NAME HASH`
 fn named_hash(state: &mut State, alloc: Global, words: &[&str]) -> Result<(), Wrong> {
@@ -148,7 +149,7 @@ impl Subject for State {
         self.forget();
     }
 
-    fn step<W: Wait>(
+    fn step<W: Wait + Threads + Sync>(
         &mut self,
         _rt: &W,
         alloc: Global,

@@ -31,6 +31,7 @@ use rack_ledgers::Nodes;
 use shard_node::ShardNode;
 use std::alloc::Global;
 use std::sync::Wait;
+use std::thread::Threads;
 use verifier_port::Verifier;
 
 /// The nodes of a ledger behind a run, and what it came to.
@@ -98,7 +99,7 @@ fn came_of<D: Disk>(over: Result<Over, LaneFault>, shards: &[ShardNode<D>]) -> R
 }
 
 /// Brings the open batches of open nodes to their end, and runs client files.
-pub(crate) fn run_nodes<W: Wait, D: Disk, V: Verifier, G: Gate>(
+pub(crate) fn run_nodes<W: Wait + Threads + Sync, D: Disk + Send, V: Verifier, G: Gate + Sync>(
     rt: &W,
     alloc: Global,
     nodes: Nodes<D>,

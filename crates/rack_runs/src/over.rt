@@ -30,7 +30,7 @@ pub(crate) struct Over {
 }
 
 /// Brings the open batches of a ledger to their end, and runs client files. The first fault ends it.
-pub(crate) fn run_over<L: Turns, V: Verifier, G: Gate>(
+pub(crate) fn run_over<L: Turns, V: Verifier, G: Gate + Sync>(
     alloc: Global,
     ledger: &mut L,
     files: &[List<FullTx>],

@@ -18,10 +18,11 @@ use outside::{Gate, Rack};
 use rack_ledgers::close_nodes;
 use std::alloc::Global;
 use std::sync::Wait;
+use std::thread::Threads;
 use verifier_port::{AllGood, Verifier};
 
 /// Opens the ledger on a rack, brings its open batches to their end, runs client files and puts all disks back.
-pub fn run_on<W: Wait, R: Rack, V: Verifier, G: Gate>(
+pub fn run_on<W: Wait + Threads + Sync, R: Rack, V: Verifier, G: Gate + Sync>(
     rt: &W,
     alloc: Global,
     rack: &mut R,
@@ -29,6 +30,8 @@ pub fn run_on<W: Wait, R: Rack, V: Verifier, G: Gate>(
     verifier: &V,
     gate: &G,
 ) -> Result<Ran, Answer>
+where
+    R::Disk: Send,
     requires all { (n : ℕ) → R.can_take rack.old n }
     requires short { All (λ txs. All IsShort txs) files.now }
     // The rack showed a ledger, each record of its history is caused by what stands before it, and the disks had the room that is kept for its
@@ -64,12 +67,14 @@ pub fn run_on<W: Wait, R: Rack, V: Verifier, G: Gate>(
 }
 
 /// Opens the ledger on a rack, brings its open batches to their end and puts all disks back: a run of no files.
-pub fn recover_on<W: Wait, R: Rack, G: Gate>(
+pub fn recover_on<W: Wait + Threads + Sync, R: Rack, G: Gate + Sync>(
     rt: &W,
     alloc: Global,
     rack: &mut R,
     gate: &G,
 ) -> Result<Ran, Answer>
+where
+    R::Disk: Send,
     requires all { (n : ℕ) → R.can_take rack.old n }
     ensures caused { OnOk result (TookLedger R.Disk.content R.Disk.images R.Disk.limit (R.held rack.old) (R.held rack.new)) }
     ensures recovered { OnOk result (OfShown R.Disk.content (R.held rack.old) (IsRecovered R.Disk.images R.Disk.limit (R.held rack.new))) }

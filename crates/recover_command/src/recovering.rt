@@ -21,6 +21,7 @@ use rack_runs::recover_on;
 use recovery::ResumedBatch;
 use std::alloc::Global;
 use std::sync::Wait;
+use std::thread::Threads;
 
 // 1 for an outcome that confirms its transaction.
 fn one_if_held(outcome: &Outcome) -> u64
@@ -69,13 +70,15 @@ fn write_recovered<O: Sink>(out: &mut O, recovered: &Ran) -> Result<(), WriteFau
 
 /// Takes the batches that an earlier run left open to their end, and tells each with its phase and how many of its
 /// transactions were confirmed and rejected.
-pub fn recover<W: Wait, R: Rack, O: Sink, G: Gate>(
+pub fn recover<W: Wait + Threads + Sync, R: Rack, O: Sink, G: Gate + Sync>(
     rt: &W,
     alloc: Global,
     rack: &mut R,
     out: &mut O,
     gate: &G,
 ) -> Answer
+where
+    R::Disk: Send,
     requires { (n : ℕ) → R.can_take rack.old n }
     ensures cause { IsDone (λ file. ⊥) (λ file. ⊥) (Rose (O.count out.old) (O.count out.new)) result }
     ensures did { IsWell result → DidRecover R.Disk.content R.Disk.images R.Disk.limit (R.held rack.old) (R.held rack.new) (IsPrinted (O.taken out.old) (O.taken out.new) result) }

@@ -5,6 +5,7 @@ use crate::wrong::{Wrong, tell};
 use std::alloc::Global;
 use std::rt::{Env, Files};
 use std::sync::Wait;
+use std::thread::Threads;
 use std::{env, fs, io};
 
 /// What the steps of rows do.
@@ -22,7 +23,7 @@ pub trait Subject: Sized {
     fn begin(&mut self);
 
     /// Does a step, with what stands behind it.
-    fn step<W: Wait>(
+    fn step<W: Wait + Threads + Sync>(
         &mut self,
         rt: &W,
         alloc: Global,
@@ -32,7 +33,7 @@ pub trait Subject: Sized {
 }
 
 // Does the step of a line, with what stands behind it.
-fn line<W: Wait, S: Subject>(
+fn line<W: Wait + Threads + Sync, S: Subject>(
     rt: &W,
     subject: &mut S,
     alloc: Global,
@@ -73,7 +74,7 @@ fn end_of(wrong: &Wrong) -> End {
 
 // Does the steps of lines, of which the first has a number. Where one does not hold, it is told (unless it should differ and does), and the
 // others are left out.
-fn steps<W: Wait + Print, S: Subject>(
+fn steps<W: Wait + Threads + Print + Sync, S: Subject>(
     rt: &W,
     subject: &mut S,
     alloc: Global,
@@ -201,7 +202,7 @@ impl Counts {
 }
 
 // Does a row in each of its cases; whether each came to the end that is wanted.
-fn all_cases<W: Wait + Print, S: Subject>(
+fn all_cases<W: Wait + Threads + Print + Sync, S: Subject>(
     rt: &W,
     subject: &mut S,
     alloc: Global,
@@ -224,7 +225,7 @@ fn all_cases<W: Wait + Print, S: Subject>(
 }
 
 // Does a row, in each of its cases. One that begins with `differs` holds where in each case a step comes to something else than it says.
-fn row<W: Wait + Print, S: Subject>(
+fn row<W: Wait + Threads + Print + Sync, S: Subject>(
     rt: &W,
     subject: &mut S,
     alloc: Global,
@@ -269,7 +270,7 @@ fn next_row(lines: &[&str], from: usize) -> usize {
 }
 
 // Does what stands before the first row of a file; whether it held.
-fn setup<W: Wait + Print, S: Subject>(
+fn setup<W: Wait + Threads + Print + Sync, S: Subject>(
     rt: &W,
     subject: &mut S,
     alloc: Global,
@@ -285,7 +286,7 @@ fn setup<W: Wait + Print, S: Subject>(
 }
 
 // Does the rows of a file.
-fn rows<W: Wait + Print, S: Subject>(
+fn rows<W: Wait + Threads + Print + Sync, S: Subject>(
     rt: &W,
     subject: &mut S,
     alloc: Global,
@@ -312,7 +313,7 @@ fn rows<W: Wait + Print, S: Subject>(
 
 /// Does the rows of the files that the program's words name, each file with a new subject, and tells what came of them, how many held, how
 /// many differed as they should, and how many did neither. The answer is whether there is none of the last.
-pub fn run_files<R: AllocGlobal + Env + Files + Print + Wait, S: Subject + Drop>(
+pub fn run_files<R: AllocGlobal + Env + Files + Print + Threads + Wait + Sync, S: Subject + Drop>(
     rt: &R,
 ) -> io::Result<bool> {
     let alloc = rt.alloc();

@@ -16,9 +16,10 @@ use rack_runs::run_on;
 use run_report::write_report;
 use std::alloc::Global;
 use std::sync::Wait;
+use std::thread::Threads;
 
 // Reads all files, and runs them over the ledger on the rack.
-fn run_all<W: Wait, I: Inbox, R: Rack, G: Gate>(
+fn run_all<W: Wait + Threads + Sync, I: Inbox, R: Rack, G: Gate + Sync>(
     rt: &W,
     alloc: Global,
     clients: &[FileWord],
@@ -27,6 +28,8 @@ fn run_all<W: Wait, I: Inbox, R: Rack, G: Gate>(
     rack: &mut R,
     gate: &G,
 ) -> Result<Ran, Answer>
+where
+    R::Disk: Send,
     requires { (n : ℕ) → R.can_take rack.old n }
     ensures did { IfOk result (WasRun (I.file inbox.old) R.Disk.content R.Disk.images R.Disk.limit (R.held rack.old) (R.held rack.new) verdicts.now clients.now) }
     ensures why { IfErr result (WhyNoRun (I.file inbox.old) (I.count inbox.old) (I.count inbox.new) R.Disk.content R.Disk.images R.Disk.limit R.Disk.count (R.held rack.old) (R.held rack.new) (R.count rack.old) (R.count rack.new) verdicts.now clients.now) }
@@ -49,7 +52,7 @@ fn run_all<W: Wait, I: Inbox, R: Rack, G: Gate>(
 
 /// Runs client files, one after another: their transactions are checked by the verdicts and brought through their
 /// batches, and their lines printed. All files are read before the rack is taken.
-pub fn run<W: Wait, I: Inbox, R: Rack, O: Sink, G: Gate>(
+pub fn run<W: Wait + Threads + Sync, I: Inbox, R: Rack, O: Sink, G: Gate + Sync>(
     rt: &W,
     alloc: Global,
     clients: &[FileWord],
@@ -59,6 +62,8 @@ pub fn run<W: Wait, I: Inbox, R: Rack, O: Sink, G: Gate>(
     out: &mut O,
     gate: &G,
 ) -> Answer
+where
+    R::Disk: Send,
     requires { (n : ℕ) → R.can_take rack.old n }
     ensures cause { IsDone (λ place. OnePlace clients.now place ⊎ (place ≡ verdicts.now.place)) (λ place. OneRose (I.count inbox.old) (I.count inbox.new) clients.now place ⊎ FileRose (I.count inbox.old) (I.count inbox.new) verdicts.now place)
         (Rose (O.count out.old) (O.count out.new)) result }

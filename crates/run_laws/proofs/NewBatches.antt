@@ -1,8 +1,8 @@
 -- What kept journals add to kept journals is of batches that are prepared in the new ones and were not done in the old ones.
-use Rattle.std.proofs.Common.{◌≡◌, ◌⊎◌, ℕ, suc, ◌+◌, ◌-◌, ◌/◌, ◌*◌, ◌<◌, ◌≤◌, Bool, true, false, ◌&&◌, ◌==◌, List, [], ◌∷◌, ◌++◌, length, is_some, refl, sym, ap, ◌∙◌, subst, arith}
+use Rattle.std.proofs.Common.{◌≡◌, ℕ, suc, ◌+◌, ◌-◌, ◌/◌, ◌*◌, ◌<◌, ◌≤◌, true, false, ◌&&◌, ◌==◌, List, [], ◌∷◌, ◌++◌, length, is_some, refl, sym, ap, ◌∙◌, subst, arith}
 use Rattle.std.proofs.Math.Nat.{div-lt_iff_lt-mul}
 use Rattle.cbdc_model.specs.Records.{Shape, Batch, same_batch, Compact, Record, Row, journal, record_of, kind_of, is_of, txs_in, txs_of, lock_of, Genesis, Lock, Finish, Forget, Start, Prepare, Commit, Discard, Done}
-use Rattle.cbdc_model.specs.Slots.{slot, Idle}
+use Rattle.cbdc_model.specs.Slots.{slot}
 use Rattle.cbdc_model.specs.Grammar.{IsShard}
 use Rattle.cbdc_model.specs.Ranges.{home_of, shard_node, Concerned}
 use Rattle.cbdc_model.specs.Coins.{Output, FullTx}
@@ -21,7 +21,7 @@ use Rattle.ledger_laws.proofs.Moves.{not_empty, test_step, split_test, all_struc
 use Rattle.ledger_laws.proofs.Recovered.{all_phases, done_forgot, done_if_prepared}
 use Rattle.ledger_laws.proofs.Together.{lists_of}
 use Rattle.ledger_laws.proofs.Ledger.{steady}
-use Rattle.run_laws.proofs.NewRecords.{in_journal, still_found, shifted}
+use Rattle.run_laws.proofs.NewRecords.{still_found, shifted}
 
 -- the record is of that kind and batch
 tested : (kind : ℕ) (c : Batch) → ((kind == kind) && same_batch c c) ≡ true
@@ -124,9 +124,6 @@ module _ (K : Shape) (minting : Minted) (P Q : Compact → Type 0) (some : 0 < K
 
         locked : has_lock (J n) c ≡ true
         locked = subst (λ L. has_lock L c ≡ true) (sym e) (still_found newer (r ∷ rest) 2 c lock)
-
-    below_done : (rest : List Record) (c : Batch) → MoreOk rest → is_done rest c ≡ true → c.number ≤ (slot rest c.lane).number
-    below_done rest c ok d = ok.done_below c d
 
     prepared_here : (stamp : ℕ) (c : Batch) (txs : List Compact) (rest : List Record) → is_prepared (Prepare stamp c txs ∷ rest) c ≡ true
     prepared_here stamp c txs rest = rw (tested 6 c)

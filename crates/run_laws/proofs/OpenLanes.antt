@@ -275,9 +275,6 @@ module _ (K : Shape) (minting : Minted) (P : Compact → Type 0) (some : 0 < K.s
         → record_of kind H b ≡ Some (r (slot_stamp H b.lane))
     restamped kind r t is e w = e ∙ ap (λ t. Some (r t)) (sym (w ∙ ap stamp_in e ∙ is t))
 
-  busy_in : (p q : Phase) → (slot H b.lane).phase ≡ p → (p ≡ Idle → ⊥) → (slot H b.lane).phase ≡ Idle → ⊥
-  busy_in p q e h i = h (sym e ∙ i)
-
   pub open_in : (slot H b.lane).number ≡ b.number → (p : Phase) → (slot H b.lane).phase ≡ p → OpenIn K b p H S
   open_in n Idle e = tt
   open_in n InLock e =

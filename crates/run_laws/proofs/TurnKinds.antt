@@ -8,7 +8,7 @@ use Rattle.cbdc_model.specs.Waves.{prepared}
 use Rattle.cbdc_model.specs.Sights.{Sight}
 use Rattle.ledger_laws.proofs.Cuts.{made_none}
 use Rattle.lane_laws.specs.Batches as batches
-use Rattle.lane_laws.specs.Batches.{view, own, prepared_of, at_log, at_shard, BatchRecords, Settled, BatchDone, BatchStopped}
+use Rattle.lane_laws.specs.Batches.{view, own, prepared_of, BatchDone, BatchStopped}
 use Rattle.lane_laws.proofs.Own.{own_in, own_out}
 use Rattle.run_laws.specs.Runs.{seen_by, IsTurn}
 use Rattle.run_laws.specs.Turns.{TakenLaw, EndsLaw, PreparedLaw}
@@ -37,18 +37,6 @@ taken_law K lane logs shards logs' shards' elsewhere = (
 
 pub ends_law : EndsLaw
 ends_law K pieces lane logs shards logs' shards' home turn = (lifted K pieces lane logs shards logs' shards' home turn).grows
-
--- what the lane prepared is what its own records prepare
-prepared_in : (lane : ℕ) (r : Record) (I J : List Record) → prepared lane I ≡ prepared lane J → prepared lane (r ∷ I) ≡ prepared lane (r ∷ J)
-prepared_in lane (Prepare stamp b txs) I J h = rw h
-prepared_in lane (Genesis header hs) I J h = h
-prepared_in lane (Start header) I J h = h
-prepared_in lane (Lock stamp b es) I J h = h
-prepared_in lane (Finish stamp b ds) I J h = h
-prepared_in lane (Forget stamp b) I J h = h
-prepared_in lane (Commit stamp b os) I J h = h
-prepared_in lane (Discard stamp b) I J h = h
-prepared_in lane (Done stamp b) I J h = h
 
 prepared_out : (lane : ℕ) (r : Record) (J : List Record) → is_in_lane lane r ≡ false → prepared lane (r ∷ J) ≡ prepared lane J
 prepared_out lane (Prepare stamp b txs) J h = rw h

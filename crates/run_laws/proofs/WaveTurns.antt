@@ -1,19 +1,18 @@
--- Waves by turns.
-use Rattle.std.proofs.Common.{◌≡◌, ◌≢◌, ◌⊎◌, inl, inr, ℕ, suc, ◌<◌, ◌≤◌, Bool, true, false, ◌&&◌, ◌==◌, List, [], ◌∷◌, ◌++◌, length, take, drop, is_some, refl, sym, ap, ◌∙◌, subst, arith}
-use Rattle.std.proofs.lemmas.List.{reverse-append, drop-drop, drop_all}
-use Rattle.cbdc_model.specs.Records.{Shape, Batch, Compact, Record, record_of, is_of, same_batch, Genesis, Lock, Finish, Forget, Start, Prepare, Commit, Discard, Done}
+-- How far a run has come: through the lanes that an earlier run left open, and through its files.
+use Rattle.std.proofs.Common.{◌≡◌, ◌≢◌, ◌⊎◌, inl, inr, ℕ, suc, ◌<◌, ◌≤◌, Bool, true, false, ◌&&◌, ◌==◌, List, [], ◌∷◌, ◌++◌, is_some, refl, sym, ap, ◌∙◌, subst, arith}
+use Rattle.cbdc_model.specs.Records.{Shape, Batch, Record, record_of, is_of, same_batch, Genesis, Lock, Finish, Forget, Start, Prepare, Commit, Discard, Done}
 use Rattle.cbdc_model.specs.Ranges.{home_of}
 use Rattle.cbdc_model.specs.Slots.{slot, Idle}
 use Rattle.cbdc_model.specs.Coins.{FullTx}
 use Rattle.cbdc_model.specs.Lanes.{IsEnd}
-use Rattle.cbdc_model.specs.Waves.{Adds, IsCut, prepared, has_prepare, has_done, sent_to, IsFileRun, AreFilesRun}
+use Rattle.cbdc_model.specs.Waves.{Adds, has_prepare, has_done, sent_to, IsFileRun, AreFilesRun}
 use Rattle.ledger_laws.proofs.Lookups.{true_false, not_true}
 use Rattle.ledger_laws.proofs.Cuts.{cut, end_self, end_trans}
 use Rattle.ledger_laws.proofs.Rows.{at, away, at_node}
 use Rattle.ledger_laws.proofs.Together.{no_room}
 use Rattle.ledger_laws.proofs.Slots.{same_batch_is}
 use Rattle.ledger_laws.proofs.Finds.{stands}
-use Rattle.run_laws.specs.WaveSteps.{CutsOff, LaneTook, TakesLaw, WaveBeginsLaw, WaveStepLaw, WaveSkipLaw, WaveEndsLaw, ResumingBeginsLaw, ResumingStepLaw, ResumingSkipLaw, ResumingEndsLaw, WavesBeginLaw, WavesStepLaw}
+use Rattle.run_laws.specs.WaveSteps.{ResumingBeginsLaw, ResumingStepLaw, ResumingSkipLaw, ResumingEndsLaw, WavesBeginLaw, WavesStepLaw}
 use Rattle.run_laws.proofs.NewRecords.{in_journal, still_found}
 
 -- what is added step by step
@@ -54,87 +53,8 @@ one_batch c b (Done stamp d) x y = both_are d c b x y
 second : (a c : Bool) → (a && c) ≡ true → c ≡ true
 second a c h = grind (arith, h)
 
--- one piece more
-pub cuts_more : {A : Type 0} (n : ℕ) (xs : List A) (pieces : List (List A)) (rest : List A) → CutsOff n xs pieces rest → 0 < length (take n rest) → CutsOff n xs (pieces ++ take n rest ∷ []) (drop n rest)
-cuts_more n xs [] rest c some = subst (λ ys. (0 < length (take n rest)) × (take n rest ≡ take n ys) × (drop n rest ≡ drop n ys)) c (some, refl, refl)
-cuts_more n xs (piece ∷ pieces) rest c some = (c.0, c.1, cuts_more n (drop n xs) pieces rest c.2 some)
-
-pub cuts_all : {A : Type 0} (n : ℕ) (xs : List A) (pieces : List (List A)) → CutsOff n xs pieces [] → IsCut n xs pieces
-cuts_all n xs [] c = sym c
-cuts_all n xs (piece ∷ pieces) c = (c.0, c.1, cuts_all n (drop n xs) pieces c.2)
-
 apart : (a b : ℕ) → (a == b) ≡ false → b ≢ a
 apart a b h e = grind (arith, h, e)
-
-pub takes_law : TakesLaw
-takes_law K sent lane taken taken' here elsewhere = record {
-  here = ap (λ n. drop n (sent lane)) here ∙ sym (drop-drop K.batch (taken lane) (sent lane));
-  elsewhere = λ other e. ap (λ n. drop n (sent other)) (elsewhere other e);
-}
-
-pub wave_begins_law : WaveBeginsLaw
-wave_begins_law K sent I idle = record {
-  adds = adds_none _ I;
-  took = λ lane lt. record { pieces = []; cut = refl; prepares = refl };
-  idle = idle;
-}
-
-pub wave_step_law : WaveStepLaw
-wave_step_law K sent taken taken' lane b I J J' so takes some does = record {
-  adds = adds_on (λ c. (has_prepare K I c ≡ false) × (has_prepare K J c ≡ true)) (λ c. c ≡ b) (λ c. (has_prepare K I c ≡ false) × (has_prepare K J' c ≡ true)) I J J'
-      (λ c h. (h.0, grown 6 c (J (home_of K c.lane)) (J' (home_of K c.lane)) (does.adds.grows (home_of K c.lane)) h.1))
-      (λ c e. subst (λ d. (has_prepare K I d ≡ false) × (has_prepare K J' d ≡ true)) (sym e)
-      (not_before 6 b (I (home_of K b.lane)) (J (home_of K b.lane)) (so.adds.grows (home_of K b.lane)) does.fresh, does.prepare))
-      so.adds does.adds;
-  took = λ other lt. elim (at_node lane other) [
-    | at e ↦ subst (λ l. LaneTook K (sent l) (taken' l) l (I (home_of K l)) (J' (home_of K l))) e (here (subst (λ l. LaneTook K (sent l) (taken l) l (I (home_of K l)) (J (home_of K l))) (sym e) (so.took other lt)))
-    | away e ↦ elsewhere other (apart lane other e) (so.took other lt)
-  ];
-  idle = λ other lt. elim (at_node lane other) [
-    | at e ↦ subst (λ l. (slot (J' (home_of K l)) l).phase ≡ Idle) e does.idle
-    | away e ↦ ap (λ s. s.phase) (does.others.slots other (home_of K other) (apart lane other e)) ∙ so.idle other lt
-  ];
-}
-  where
-    piece : List Compact
-    piece = take K.batch (drop (taken lane) (sent lane))
-
-    here : LaneTook K (sent lane) (taken lane) lane (I (home_of K lane)) (J (home_of K lane)) → LaneTook K (sent lane) (taken' lane) lane (I (home_of K lane)) (J' (home_of K lane))
-    here t = record {
-      pieces = t.pieces ++ piece ∷ [];
-      cut = subst (λ rest. CutsOff K.batch (sent lane) (t.pieces ++ piece ∷ []) rest) (sym takes.here) (cuts_more K.batch (sent lane) t.pieces (drop (taken lane) (sent lane)) t.cut some);
-      prepares = does.prepares ∙ ap (λ ps. piece ∷ ps) t.prepares ∙ ap (λ ps. ps ++ prepared lane (I (home_of K lane))) (sym (reverse-append t.pieces (piece ∷ [])));
-    }
-
-    elsewhere : (other : ℕ) → other ≢ lane → LaneTook K (sent other) (taken other) other (I (home_of K other)) (J (home_of K other))
-        → LaneTook K (sent other) (taken' other) other (I (home_of K other)) (J' (home_of K other))
-    elsewhere other e t = record {
-      pieces = t.pieces;
-      cut = subst (λ rest. CutsOff K.batch (sent other) t.pieces rest) (sym (takes.elsewhere other e)) t.cut;
-      prepares = does.others.prepares other (home_of K other) e ∙ t.prepares;
-    }
-
-pub wave_skip_law : WaveSkipLaw
-wave_skip_law K sent taken taken' I J so same = record {
-  adds = so.adds;
-  took = λ lane lt. let t = so.took lane lt in record {
-    pieces = t.pieces;
-    cut = subst (λ rest. CutsOff K.batch (sent lane) t.pieces rest) (sym (same lane)) t.cut;
-    prepares = t.prepares;
-  };
-  idle = so.idle;
-}
-
-pub wave_ends_law : WaveEndsLaw
-wave_ends_law K sent taken I J so all = record {
-  adds = so.adds;
-  cut = λ lane lt. let t = so.took lane lt in (
-    t.pieces,
-    cuts_all K.batch (sent lane) t.pieces (subst (λ rest. CutsOff K.batch (sent lane) t.pieces rest) (drop_all (taken lane) (sent lane) (all lane lt)) t.cut),
-    t.prepares,
-  );
-  idle = so.idle;
-}
 
 pub resuming_begins_law : ResumingBeginsLaw
 resuming_begins_law K E = record { adds = adds_none _ E; idle = λ lane lt. absurd (omega arith); rest = λ lane le. refl }

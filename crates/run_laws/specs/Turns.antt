@@ -10,7 +10,7 @@ use Rattle.cbdc_model.specs.World.{KeptJournals}
 use Rattle.cbdc_model.specs.Lanes.{IsEnd}
 use Rattle.cbdc_model.specs.Waves.{Adds, prepared, has_prepare, has_done}
 use Rattle.cbdc_model.specs.Sights.{Sight}
-use Rattle.lane_laws.specs.Batches.{Settled, BatchDone, BatchStopped}
+use Rattle.lane_laws.specs.Batches.{BatchDone, BatchStopped}
 use Rattle.lane_laws.specs.Resuming.{IsTakenUp, IsLeft}
 use Rattle.run_laws.specs.Runs.{seen_by, IsTurn, LeavesOthers}
 
@@ -52,21 +52,6 @@ PreparedLaw = (K : Shape) (lane : ℕ) (logs shards logs' shards' : ℕ → Sigh
     → (prepared lane (logs' (home_of K lane)).seen ≡ prepared lane (logs (home_of K lane)).seen)
     ⊎ (prepared lane (logs' (home_of K lane)).seen ≡ txs ∷ prepared lane (logs (home_of K lane)).seen))
     × (IsTurn K [] lane logs shards logs' shards' → prepared lane (logs' (home_of K lane)).seen ≡ prepared lane (logs (home_of K lane)).seen)
-
--- from journals I to J a lane's turn did a new batch of these transactions, and nothing else
-pub record DoesBatch (K : Shape) (lane : ℕ) (txs : List Compact) (b : Batch) (I J : ℕ → List Record) : Type 0 where
-  pub adds : Adds (λ c. c ≡ b) I J
-  pub fresh : has_prepare K I b ≡ false
-  pub prepare : has_prepare K J b ≡ true
-  pub prepares : prepared lane (J (home_of K lane)) ≡ txs ∷ prepared lane (I (home_of K lane))
-  pub others : LeavesOthers K lane I J
-  pub idle : (slot (J (home_of K lane)) lane).phase ≡ Idle
-
-abbrev pub DoneTurnLaw : Type 0
-DoneTurnLaw = (K : Shape) (lane k : ℕ) (txs : List Compact) (logs shards logs' shards' : ℕ → Sight) (b : Batch) (os : List Outcome)
-    → Elsewhere K lane logs logs' → Settled K lane k (logs (home_of K lane)) shards
-    → BatchDone K true lane k txs (logs (home_of K lane)) shards (logs' (home_of K lane)) shards' b os
-    → DoesBatch K lane txs b (seen_by K logs shards) (seen_by K logs' shards')
 
 -- from journals I to J a lane's turn brought its open batch to its end, and did nothing else
 pub record ResumesBatch (K : Shape) (lane : ℕ) (b : Batch) (I J : ℕ → List Record) : Type 0 where

@@ -7,8 +7,8 @@ ghost use Rattle.run_laws.specs.Flights.{FlownLaw, FlushLaw};
 ghost use Rattle.run_laws.specs.Members.{CompactLaw, MemberLaw};
 ghost use Rattle.run_laws.specs.Open.{ResumeLaw, CheckedResumeLaw};
 ghost use Rattle.run_laws.specs.Runs.{TurnLaw, CheckedTurnLaw, RestLaw, CheckedRestLaw, OthersLaw, NodesLaw, SoundLaw, ProperLaw, GrowLaw, EndLaw, PartLaw};
-ghost use Rattle.run_laws.specs.Turns.{TakenLaw, SeenLaw, EndsLaw, PreparedLaw, DoneTurnLaw, OpenTurnLaw, ResumedTurnLaw};
-ghost use Rattle.run_laws.specs.WaveSteps.{TakesLaw, WaveBeginsLaw, WaveStepLaw, WaveSkipLaw, WaveEndsLaw, ResumingBeginsLaw, ResumingStepLaw, ResumingSkipLaw, ResumingEndsLaw, WavesBeginLaw, WavesStepLaw};
+ghost use Rattle.run_laws.specs.Turns.{TakenLaw, SeenLaw, EndsLaw, PreparedLaw, OpenTurnLaw, ResumedTurnLaw};
+ghost use Rattle.run_laws.specs.WaveSteps.{ResumingBeginsLaw, ResumingStepLaw, ResumingSkipLaw, ResumingEndsLaw, WavesBeginLaw, WavesStepLaw};
 
 /// A lane's turn keeps the journals, whatever it came to.
 pub fn turn_law()
@@ -112,11 +112,6 @@ pub fn prepared_law()
     ensures { PreparedLaw }
 {}
 
-/// A batch that is done: its lane's turn wrote records of this new batch alone.
-pub fn done_turn_law()
-    ensures { DoneTurnLaw }
-{}
-
 /// In kept journals a turn that prepares nothing writes records of the lane's open batch alone.
 pub fn open_turn_law()
     ensures { OpenTurnLaw }
@@ -125,31 +120,6 @@ pub fn open_turn_law()
 /// A batch that was taken up: its lane's turn brought it to its end, and did nothing else.
 pub fn resumed_turn_law()
     ensures { ResumedTurnLaw }
-{}
-
-/// A batch's size more is what a lane takes by its next batch.
-pub fn takes_law()
-    ensures { TakesLaw }
-{}
-
-/// A wave begins where every lane is idle.
-pub fn wave_begins_law()
-    ensures { WaveBeginsLaw }
-{}
-
-/// It goes on by a turn that does a lane's next batch.
-pub fn wave_step_law()
-    ensures { WaveStepLaw }
-{}
-
-/// It stays where lanes with nothing left are passed over.
-pub fn wave_skip_law()
-    ensures { WaveSkipLaw }
-{}
-
-/// Where every lane has taken all, the file was run.
-pub fn wave_ends_law()
-    ensures { WaveEndsLaw }
 {}
 
 /// Resuming begins with nothing done.

@@ -1,11 +1,10 @@
 -- What is in flight behind a turn may come next at its node.
-use Rattle.std.proofs.Common.{◌≡◌, inl, inr, ℕ, ◌-◌, ◌<◌, ◌≤◌, true, false, nat_lt, if◌then◌else◌, List, [], ◌∷◌, Option, Some, None, sym, ap, ◌∙◌, subst, arith}
+use Rattle.std.proofs.Common.{◌≡◌, inl, inr, ℕ, ◌-◌, ◌<◌, ◌≤◌, true, false, nat_lt, if◌then◌else◌, List, [], Option, Some, None, sym, ap, ◌∙◌, subst, arith}
 use Rattle.std.specs.Prelude.{IfSome}
 use Rattle.std.proofs.lemmas.Bool.{lt-ltb, le-ltb}
 use Rattle.cbdc_types.specs.declared.batch.OpenLane.{OpenLane}
 use Rattle.cbdc_model.specs.Records.{Shape, Compact, Record}
 use Rattle.cbdc_model.specs.Ranges.{home_of, shard_node}
-use Rattle.cbdc_model.specs.Slots.{slot, Idle}
 use Rattle.cbdc_model.specs.After.{After, IsJournal}
 use Rattle.cbdc_model.specs.Coins.{Output, FullTx}
 use Rattle.cbdc_model.specs.Clean.{IsProperCompact}
@@ -17,9 +16,7 @@ use Rattle.ledger_laws.proofs.Cuts.{seen_grows}
 use Rattle.lane_laws.specs.Batches.{Flown}
 use Rattle.lane_laws.specs.Resuming.{IsTakenUp}
 use Rattle.lane_driver.specs.declared.fault.LaneFault.{LaneFault}
-use Rattle.lane_driver.specs.declared.fault.BatchReport.{BatchReport}
 use Rattle.lane_driver.specs.Told.{KeepNodes}
-use Rattle.lane_driver.specs.Stops.{IsBatchStopped, IsOneBatch}
 use Rattle.coord_log.specs.OpenLanes.{open_lane}
 use Rattle.recovery.specs.Open.{IsUnfinished, IsResumeStopped}
 use Rattle.run_laws.specs.Checked.{CheckedJournals}
@@ -27,16 +24,15 @@ use Rattle.run_laws.specs.Runs.{seen_by}
 use Rattle.run_laws.specs.Turns.{Elsewhere}
 use Rattle.run_laws.specs.Flights.{flying, MayCome}
 use Rattle.run_laws.proofs.Checked.{kept_is_checked_law}
-use Rattle.run_laws.proofs.Rests.{rest_law}
 use Rattle.run_laws.proofs.Seen.{seen_log, seen_shard}
 use Rattle.run_laws.proofs.OpenLanes.{resume_law}
 use Rattle.run_laws.proofs.Flights.{flown_law}
 use Rattle.ledger_runs.specs.Turning.{OfKept, StaysKept}
-use Rattle.ledger_runs.specs.Flying.{FliesOn, FliesOnBy}
+use Rattle.ledger_runs.specs.Flying.{FliesOn}
 use Rattle.turn_laws.specs.Nodes.{AreNodes, AreNext}
 use Rattle.turn_laws.proofs.Headers.{header_is, which_node}
 use Rattle.turn_laws.proofs.OpenThere.{told_lane, unfinished}
-use Rattle.turn_laws.proofs.Turned.{pass_one, pass_none, batch_keeps, stopped_keeps, resume_keeps, left_keeps}
+use Rattle.turn_laws.proofs.Turned.{pass_none, resume_keeps, left_keeps}
 
 -- what is in flight at a node, by its place
 pub log_flight : (K : Shape) (logs shards : ℕ → Sight) (n : ℕ) → n < K.coordinators → flying K logs shards n ≡ (logs n).flight
@@ -127,22 +123,6 @@ module _ (K : Shape) (lane : ℕ) (logs shards logs' shards' : ℕ → Sight) (s
 
   pub none_done : (pieces : List (List Compact)) → log' ≡ log → shards' ≡ shards → Flown K pieces lane log shards log' shards'
   none_done pieces here there = none_new pieces (ap (λ s. s.flight) here) (λ s. ap (λ S. (S s).flight) there)
-
-  module _ (idle : (slot log.seen lane).phase ≡ Idle) (txs : List Compact) where
-    pub batch_flies : (reports : List BatchReport) → IsOneBatch K true lane txs log shards log' shards' reports → OfKept K I (FliesOnBy K txs I J F G)
-    batch_flies reports one mint submissions kept all =
-        let d = one.2 (slot log.seen lane).number (rest_law K mint submissions lane logs shards some home shape kept idle) in
-        flies (txs ∷ []) mint submissions (pass_one (IsProperCompact submissions) txs all) (none_new (txs ∷ []) d.log_same d.shard_same)
-        (batch_keeps K lane logs shards logs' shards' some home shape elsewhere nodes nodes' log_nodes shard_nodes idle txs reports one mint submissions kept all)
-
-    pub stopped_flies : (e : LaneFault) → IsBatchStopped K true lane txs log shards log' shards' e → OfKept K I (FliesOnBy K txs I J F G)
-    stopped_flies e stop mint submissions kept all =
-        flies (txs ∷ []) mint submissions (pass_one (IsProperCompact submissions) txs all) (flown stop)
-        (stopped_keeps K lane logs shards logs' shards' some home shape elsewhere nodes nodes' log_nodes shard_nodes idle txs e stop mint submissions kept all)
-      where
-        flown : IsBatchStopped K true lane txs log shards log' shards' e → Flown K (txs ∷ []) lane log shards log' shards'
-        flown (inl none) = none_done (txs ∷ []) none.1 none.2
-        flown (inr s) = (s (slot log.seen lane).number (rest_law K mint submissions lane logs shards some home shape kept idle)).3.flown
 
   module _ (o : OpenLane) (told : open_lane log.seen lane ≡ Some o) where
     still : (mint : List Output) (submissions : List FullTx) → KeptJournals K mint submissions I → IsUnfinished o.phase K o log shards

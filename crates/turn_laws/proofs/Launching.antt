@@ -1,39 +1,34 @@
 -- A Prepare that is in flight behind a turn was so before, or is that of the turn's batch, of which the lane has prepared nothing.
-use Rattle.std.proofs.Common.{◌≡◌, ◌≢◌, ◌⊎◌, ◌==◌, inl, inr, ℕ, zero, suc, ◌*◌, ◌/◌, ◌<◌, true, false, List, [], ◌∷◌, Option, Some, sym, ap, ◌∙◌, subst, slice_index_or, arith, Contains}
+use Rattle.std.proofs.Common.{◌≡◌, ◌≢◌, ◌⊎◌, ◌==◌, inl, inr, ℕ, zero, suc, ◌*◌, ◌/◌, ◌<◌, true, false, List, [], Option, Some, sym, ap, ◌∙◌, subst, arith, Contains}
 use Rattle.std.proofs.lemmas.Nat.{div_below}
 use Rattle.std.proofs.lemmas.Bool.Decides.{eqb_tells}
 use Rattle.cbdc_types.specs.Limits.{IsWithinLimits}
 use Rattle.cbdc_types.specs.declared.batch.OpenLane.{OpenLane}
-use Rattle.cbdc_types.specs.declared.calls.NodeFault.{NodeFault}
 use Rattle.cbdc_model.specs.Records.{Shape, Batch, Compact, Record, is_in_lane, Prepare}
 use Rattle.cbdc_model.specs.Ranges.{home_of}
-use Rattle.cbdc_model.specs.Slots.{slot, Idle}
 use Rattle.cbdc_model.specs.After.{After}
 use Rattle.cbdc_model.specs.History.{Minted, header_of}
 use Rattle.cbdc_model.specs.Lanes.{Holds}
 use Rattle.cbdc_model.specs.Waves.{prepared}
 use Rattle.cbdc_model.specs.Sights.{Sight}
-use Rattle.lane_laws.specs.Batches.{Flown, BatchStopped}
+use Rattle.lane_laws.specs.Batches.{Flown}
 use Rattle.lane_laws.specs.Resuming.{IsTakenUp}
 use Rattle.lane_driver.specs.declared.fault.LaneFault.{LaneFault}
-use Rattle.lane_driver.specs.declared.fault.BatchReport.{BatchReport}
 use Rattle.lane_driver.specs.Told.{KeepNodes}
-use Rattle.lane_driver.specs.Stops.{IsBatchStopped, IsOneBatch}
 use Rattle.coord_log.specs.OpenLanes.{open_lane}
 use Rattle.recovery.specs.Open.{IsUnfinished, IsResumeStopped}
 use Rattle.run_laws.specs.Checked.{CheckedJournals}
 use Rattle.run_laws.specs.Runs.{seen_by}
 use Rattle.run_laws.specs.Turns.{Elsewhere}
 use Rattle.run_laws.specs.Flights.{flying}
-use Rattle.run_laws.proofs.Seen.{seen_log}
 use Rattle.ledger_runs.specs.Turning.{IsLaneOf}
 use Rattle.ledger_runs.specs.Pieces.{HasPrepared}
 use Rattle.ledger_runs.specs.Faults.{Nothing}
-use Rattle.ledger_runs.specs.Flying.{Launches, IsOwnNext}
+use Rattle.ledger_runs.specs.Flying.{Launches}
 use Rattle.turn_laws.specs.Nodes.{AreNodes, AreNext, SameFlights}
 use Rattle.turn_laws.proofs.OpenThere.{told_lane}
 use Rattle.turn_laws.proofs.Turned.{same_flights}
-use Rattle.turn_laws.proofs.Checking.{settled, unbegun, still, batch_checked, stopped_checked, taken_checked, left_checked}
+use Rattle.turn_laws.proofs.Checking.{still, taken_checked, left_checked}
 use Rattle.turn_laws.proofs.Flying.{log_flight, after_here, still_here, none_new, none_done}
 
 home_inside : (lane coordinators lanes : ℕ) → lane < coordinators * lanes → lane / lanes < coordinators
@@ -42,12 +37,6 @@ home_inside lane coordinators (suc lanes) lt = div_below lane (suc lanes) coordi
 
 its_lane : (lane t : ℕ) (b : Batch) (txs : List Compact) → is_in_lane lane (Prepare t b txs) ≡ true → b.lane ≡ lane
 its_lane lane t b txs h = grind (arith, h)
-
-one_piece : (txs these : List Compact) → Contains (these ∷ []) txs → txs ≡ these
-one_piece txs these h = at h.0 h.1 h.2
-  where
-    at : (k : ℕ) → k < 1 → slice_index_or (these ∷ []) k txs ≡ txs → txs ≡ these
-    at k lt e = let none : k ≡ 0 = omega (arith, lt) in sym (subst (λ n. slice_index_or (these ∷ []) n txs ≡ txs) none e)
 
 no_piece : (txs : List Compact) → Contains [] txs → ⊥
 no_piece txs h = let lt : h.0 < 0 = h.1 in omega (arith, lt)
@@ -87,9 +76,6 @@ module _ (K : Shape) (lane : ℕ) (logs shards logs' shards' : ℕ → Sight) (l
 
     low : n < K.coordinators
     low = subst (λ k. k < K.coordinators) (sym at) (home_inside b.lane K.coordinators K.lanes inside)
-
-    idle_there : (slot (J (home_of K b.lane)) b.lane).phase ≡ Idle
-    idle_there = subst (λ k. (slot (J k) b.lane).phase ≡ Idle) at after.1.2
 
     -- where it was before, nothing was written at its node
     was_there : F n ≡ Some (Prepare t b txs) → HasPrepared K b.lane [] I J
@@ -133,45 +119,6 @@ module _ (K : Shape) (lane : ℕ) (logs shards logs' shards' : ℕ → Sight) (l
 
   as_before : log'.flight ≡ log.flight → ((s : ℕ) → (shards' s).flight ≡ (shards s).flight) → SameFlights logs shards logs' shards'
   as_before here there = same_flights K lane logs shards logs' shards' limits.some_shard home shape elsewhere nodes nodes' log_nodes shard_nodes here there
-
-  module _ (idle : (slot log.seen lane).phase ≡ Idle) (these : List Compact) where
-    pub batch_same : (reports : List BatchReport) → IsOneBatch K true lane these log shards log' shards' reports → SameFlights logs shards logs' shards'
-    batch_same reports (r, is, done) =
-        let d = done (slot log.seen lane).number (settled K lane logs shards logs' shards' limits home shape shard_shapes elsewhere nodes nodes' log_nodes shard_nodes m checked idle these) in
-        as_before d.log_same d.shard_same
-
-    pub batch_launches : (reports : List BatchReport) → IsOneBatch K true lane these log shards log' shards' reports → Launches K (IsOwnNext K lane these I J) I J F G
-    batch_launches reports one =
-        let d = one.2 (slot log.seen lane).number (settled K lane logs shards logs' shards' limits home shape shard_shapes elsewhere nodes nodes' log_nodes shard_nodes m checked idle these) in
-        launches_none (IsOwnNext K lane these I J) [] no_piece
-        (batch_checked K lane logs shards logs' shards' limits home shape shard_shapes elsewhere nodes nodes' log_nodes shard_nodes m checked idle these reports one).checked (nothing_new [] d.log_same d.shard_same)
-
-    -- a new Prepare is that of these transactions, of which nothing else was prepared: behind a Prepare the lane is not idle
-    stopped_at : CheckedJournals K m J → (node : ℕ) (f : NodeFault) → BatchStopped K true lane these log shards log' shards' node f → Launches K (IsOwnNext K lane these I J) I J F G
-    stopped_at now node f stop n t b txs is = elim (flown_here now n t b txs is (these ∷ []) stop.flown) [
-      | inl was ↦ inl (was, was_there now n t b txs is was)
-      | inr new ↦ inr (
-        inside now n t b txs is,
-        (
-          new.0,
-          (
-            one_piece txs these new.1,
-            elim stop.begun [
-              | inl same ↦ unbegun K lane logs shards logs' shards' limits home shape shard_shapes elsewhere nodes nodes' log_nodes shard_nodes m checked idle these same
-              | inr behind ↦ absurd (behind.3.busy (subst (λ l. (slot log'.seen l).phase ≡ Idle) (sym behind.1) (ap (λ L. (slot L lane).phase) (sym (seen_log K logs' shards' (home_of K lane) home))
-                  ∙ subst (λ l. (slot (J (home_of K l)) l).phase ≡ Idle) new.0 (idle_there now n t b txs is))))
-            ],
-          ),
-        ),
-      )
-    ]
-
-    pub stopped_launches : (e : LaneFault) → IsBatchStopped K true lane these log shards log' shards' e → Launches K (IsOwnNext K lane these I J) I J F G
-    stopped_launches e (inl none) = launches_none (IsOwnNext K lane these I J) [] no_piece
-        (stopped_checked K lane logs shards logs' shards' limits home shape shard_shapes elsewhere nodes nodes' log_nodes shard_nodes m checked idle these e (inl none)).checked (nothing_done [] none.1 none.2)
-    stopped_launches e (inr stop) =
-        let s = stop (slot log.seen lane).number (settled K lane logs shards logs' shards' limits home shape shard_shapes elsewhere nodes nodes' log_nodes shard_nodes m checked idle these) in
-        stopped_at (stopped_checked K lane logs shards logs' shards' limits home shape shard_shapes elsewhere nodes nodes' log_nodes shard_nodes m checked idle these e (inr stop)).checked s.0 s.1 s.3
 
   module _ (o : OpenLane) (told : open_lane log.seen lane ≡ Some o) where
     unfinished_there : IsUnfinished o.phase K o log shards

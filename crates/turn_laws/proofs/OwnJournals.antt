@@ -1,5 +1,5 @@
 -- What a journal says by itself of its lanes' open batches.
-use Rattle.std.proofs.Common.{◌≡◌, ◌⊎◌, inl, inr, ℕ, ◌+◌, ◌≤◌, true, false, ◌&&◌, ◌==◌, List, [], ◌∷◌, ◌++◌, length, Some, None, is_some, refl, sym, ap, ◌∙◌, subst, arith}
+use Rattle.std.proofs.Common.{◌≡◌, ◌⊎◌, inl, inr, ℕ, ◌+◌, ◌≤◌, true, false, ◌&&◌, ◌==◌, List, [], ◌∷◌, ◌++◌, length, Some, is_some, refl, sym, ap, ◌∙◌, subst, arith}
 use Rattle.cbdc_model.specs.Records.{Header, Batch, Compact, Outcome, Record, record_of, kind_of, is_of, same_batch, txs_of, outcomes_of, Genesis, Lock, Finish, Forget, Start, Prepare, Commit, Discard, Done}
 use Rattle.cbdc_model.specs.Slots.{Phase, slot, Idle, InLock, InFinish, InPrepare, InCommit, InDiscard}
 use Rattle.cbdc_model.specs.Grammar.{IsInGrammar}
@@ -76,9 +76,6 @@ begins (Done stamp b) f = f
 
 some_same : (q r : Record) → Some q ≡ Some r → q ≡ r
 some_same q r e = cc
-
-nothing_there : (r : Record) → None ≡ Some r → ⊥
-nothing_there r e = cc
 
 module _ (h : Header) (q : Record) (past : List Record) where
   abbrev J : List Record

@@ -1,12 +1,12 @@
 -- What the drivers say of a turn, and what it comes to for the journals of all nodes.
-use Rattle.std.proofs.Common.{◌≡◌, ◌≢◌, ◌⊎◌, inl, inr, ℕ, ◌<◌, ◌==◌, true, false, List, [], ◌∷◌, ◌++◌, All, slice_index_or, Some, is_some, refl, sym, ap, ◌∙◌, subst, arith}
+use Rattle.std.proofs.Common.{◌≡◌, ◌≢◌, ◌⊎◌, inl, inr, ℕ, ◌<◌, ◌==◌, true, false, List, [], ◌++◌, Some, is_some, refl, sym, ap, ◌∙◌, subst, arith}
 use Rattle.std.proofs.lemmas.Bool.Decides.{eqb_tells}
 use Rattle.cbdc_types.specs.declared.batch.OpenLane.{OpenLane}
 use Rattle.cbdc_types.specs.declared.batch.Phase.{Phase as OpenPhase}
 use Rattle.cbdc_types.specs.declared.batch.Phase.TheVariants.{Prepared, Committed, Discarded}
-use Rattle.cbdc_model.specs.Records.{Shape, Batch, Compact, Outcome, Record, record_of, outcomes_in, outcomes_of, Prepare, Commit, Discard, Done}
+use Rattle.cbdc_model.specs.Records.{Shape, Compact, Record, record_of, outcomes_in, outcomes_of}
 use Rattle.cbdc_model.specs.Ranges.{home_of}
-use Rattle.cbdc_model.specs.Slots.{slot, Idle}
+use Rattle.cbdc_model.specs.Slots.{slot}
 use Rattle.cbdc_model.specs.Due.{open_batch}
 use Rattle.cbdc_model.specs.After.{IsJournal}
 use Rattle.cbdc_model.specs.Coins.{Output, FullTx}
@@ -15,51 +15,29 @@ use Rattle.cbdc_model.specs.History.{minted}
 use Rattle.cbdc_model.specs.World.{KeptJournals}
 use Rattle.cbdc_model.specs.Lanes.{IsEnd, AllPass}
 use Rattle.cbdc_model.specs.Sights.{Sight}
-use Rattle.lane_laws.specs.Batches.{own, Settled, BatchDone}
 use Rattle.lane_laws.specs.Resuming.{IsTakenUp}
-use Rattle.lane_laws.proofs.Own.{record_own}
 use Rattle.lane_driver.specs.declared.fault.LaneFault.{LaneFault}
-use Rattle.lane_driver.specs.declared.fault.BatchReport.{BatchReport}
 use Rattle.lane_driver.specs.Told.{KeepNodes}
-use Rattle.lane_driver.specs.Stops.{IsBatchStopped, IsOneBatch}
 use Rattle.coord_log.specs.OpenLanes.{batch_in, open_lane}
 use Rattle.recovery.specs.declared.resumed.ResumedBatch.{ResumedBatch}
 use Rattle.recovery.specs.Open.{phase_of, IsResumed, IsUnfinished, HasItsOutcomes, IsResumeStopped}
-use Rattle.ledger_laws.proofs.Slots.{same_batch_self}
 use Rattle.run_laws.specs.Runs.{seen_by, IsTurn}
 use Rattle.run_laws.specs.Turns.{Elsewhere, ResumesBatch}
 use Rattle.run_laws.proofs.Checked.{kept_is_checked_law}
 use Rattle.run_laws.proofs.TurnStep.{turn_law}
-use Rattle.run_laws.proofs.Rests.{rest_law}
 use Rattle.run_laws.proofs.Nodes.{nodes_law}
 use Rattle.run_laws.proofs.Seen.{seen_log}
 use Rattle.run_laws.proofs.TurnKinds.{taken_law, ends_law}
-use Rattle.run_laws.proofs.BatchTurns.{done_turn_law, resumed_turn_law}
+use Rattle.run_laws.proofs.BatchTurns.{resumed_turn_law}
 use Rattle.run_laws.proofs.OpenLanes.{resume_law}
-use Rattle.ledger_runs.specs.Turning.{OfKept, StaysKept, StaysKeptBy, DidBatch, TookUp}
+use Rattle.ledger_runs.specs.Turning.{OfKept, StaysKept, TookUp}
 use Rattle.turn_laws.specs.Nodes.{AreNodes, SameFlights}
 use Rattle.turn_laws.proofs.Headers.{are_journals}
 use Rattle.turn_laws.proofs.OwnJournals.{own_ok, stands_still}
 use Rattle.turn_laws.proofs.OpenThere.{told_open, unfinished, never_idle}
 
--- one piece passes, and none does
-pub pass_one : (P : Compact → Type 0) (txs : List Compact) → All P txs → AllPass P (txs ∷ [])
-pass_one P txs all piece h = at h.0 h.1 h.2
-  where
-    at : (k : ℕ) → k < 1 → slice_index_or (txs ∷ []) k piece ≡ piece → All P piece
-    at k lt e = let zero : k ≡ 0 = omega (arith, lt) in subst (All P) (subst (λ n. slice_index_or (txs ∷ []) n piece ≡ piece) zero e) all
-
 pub pass_none : (P : Compact → Type 0) → AllPass P []
 pass_none P piece h = absurd (let lt : h.0 < 0 = h.1 in omega (arith, lt))
-
--- the outcomes of a done batch are those of its Commit
-commit_found : (lane a c d stamp : ℕ) (os : List Outcome) (txs : List Compact) (b : Batch) (rest J : List Record) → b.lane ≡ lane
-    → own lane J ≡ Done a b ∷ Discard c b ∷ Commit d b os ∷ Prepare stamp b txs ∷ rest → os ≡ outcomes_of J b
-commit_found lane a c d stamp os txs b rest J n e =
-    sym (ap outcomes_in (record_own 7 b J ∙ ap (λ l. record_of 7 (own l J) b) n ∙ ap (λ L. record_of 7 L b) e ∙ found))
-  where
-    found : record_of 7 (Done a b ∷ Discard c b ∷ Commit d b os ∷ Prepare stamp b txs ∷ rest) b ≡ Some (Commit d b os)
-    found = rw (same_batch_self b) refl
 
 module _ (K : Shape) (lane : ℕ) (logs shards logs' shards' : ℕ → Sight) (some : 0 < K.shards) (home : home_of K lane < K.coordinators)
     (shape : (logs (home_of K lane)).header.shape ≡ K) (elsewhere : Elsewhere K lane logs logs') (nodes : AreNodes K logs shards) (nodes' : AreNodes K logs' shards')
@@ -95,33 +73,6 @@ module _ (K : Shape) (lane : ℕ) (logs shards logs' shards' : ℕ → Sight) (s
       go : (n : ℕ) → (((n == home_of K lane) ≡ true) × (n ≡ home_of K lane)) ⊎ (((n == home_of K lane) ≡ false) × (n ≢ home_of K lane)) → (logs' n).flight ≡ (logs n).flight
       go n (inl (b, e)) = subst (λ m. (logs' m).flight ≡ (logs m).flight) (sym e) here
       go n (inr (b, other)) = ap (λ s. s.flight) (elsewhere n other)
-
-  module _ (idle : (slot log.seen lane).phase ≡ Idle) (txs : List Compact) where
-    settled : (mint : List Output) (submissions : List FullTx) → KeptJournals K mint submissions I → Settled K lane (slot log.seen lane).number log shards
-    settled mint submissions kept = rest_law K mint submissions lane logs shards some home shape kept idle
-
-    pub batch_keeps : (reports : List BatchReport) → IsOneBatch K true lane txs log shards log' shards' reports → OfKept K I (StaysKeptBy K txs I J)
-    batch_keeps reports (r, is, done) mint submissions kept all =
-        stays (txs ∷ []) mint submissions (pass_one (IsProperCompact submissions) txs all)
-        ((taken_law K lane logs shards logs' shards' elsewhere).0 (slot log.seen lane).number txs r.batch r.outcomes (done (slot log.seen lane).number (settled mint submissions kept))) kept
-
-    pub stopped_keeps : (e : LaneFault) → IsBatchStopped K true lane txs log shards log' shards' e → OfKept K I (StaysKeptBy K txs I J)
-    stopped_keeps e (inl none) mint submissions kept all = none_done none.1 none.2 mint submissions kept
-    stopped_keeps e (inr stop) mint submissions kept all =
-        let s = stop (slot log.seen lane).number (settled mint submissions kept) in
-        stays (txs ∷ []) mint submissions (pass_one (IsProperCompact submissions) txs all)
-        ((taken_law K lane logs shards logs' shards' elsewhere).1 txs s.0 s.1 s.3) kept
-
-    pub batch_does : (r : BatchReport) → r.batch.lane ≡ lane → ((k : ℕ) → Settled K lane k log shards → BatchDone K true lane k txs log shards log' shards' r.batch r.outcomes)
-        → OfKept K I (λ _ _. DidBatch K lane txs I J r)
-    batch_does r is_lane done mint submissions kept =
-        let s = settled mint submissions kept in
-        let d = done (slot log.seen lane).number s in (
-          done_turn_law K lane (slot log.seen lane).number txs logs shards logs' shards' r.batch r.outcomes elsewhere s d,
-          sym d.outcomes
-              ∙ commit_found lane d.records.done d.records.discarded d.records.committed d.records.prepared d.records.outcomes txs d.records.batch (own lane log.seen) log'.seen (ap (λ b. b.lane) d.batch ∙ is_lane) d.grew.log_is
-              ∙ ap (λ b. outcomes_of log'.seen b) d.batch ∙ ap (λ L. outcomes_of L r.batch) (sym (seen_log K logs' shards' (home_of K lane) home)),
-        )
 
   module _ (o : OpenLane) (told : open_lane log.seen lane ≡ Some o) where
     its : (p : OpenPhase) × (o ≡ batch_in log.seen lane p) × ((slot log.seen lane).phase ≡ phase_of p)

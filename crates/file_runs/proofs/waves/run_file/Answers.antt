@@ -25,12 +25,12 @@ run_wave-requires-clause-limits g c = are_within (g.V.Verifier.verdict_of c.args
 pub returns-in-Some-clause-keeps : goal.returns-in-Some-clause-keeps
 returns-in-Some-clause-keeps g c =
     keeps_file (g.L.Turns.shape c.args.ledger.now) (g.V.Verifier.verdict_of c.args.verifier.now) c.args.txs.now c.in-Ok.field-0.lanes.items c.in-Ok-lanes_of.lanes.items
-    (g.L.Turns.journals c.args.ledger.now) (g.L.Turns.journals c.run_wave.new.ledger) c.in-Ok.ensures.sound c.in-Ok-lanes_of.ensures c.run_wave.ensures.keeps
+    (g.L.Turns.journals c.args.ledger.now) (g.L.Turns.journals c.run_wave.new.self) c.in-Ok.ensures.sound c.in-Ok-lanes_of.ensures c.run_wave.ensures.keeps
 
 pub returns-in-None-clause-keeps : goal.returns-in-None-clause-keeps
 returns-in-None-clause-keeps g c =
     keeps_file (g.L.Turns.shape c.args.ledger.now) (g.V.Verifier.verdict_of c.args.verifier.now) c.args.txs.now c.in-Ok.field-0.lanes.items c.in-Ok-lanes_of.lanes.items
-    (g.L.Turns.journals c.args.ledger.now) (g.L.Turns.journals c.run_wave.new.ledger) c.in-Ok.ensures.sound c.in-Ok-lanes_of.ensures c.run_wave.ensures.keeps
+    (g.L.Turns.journals c.args.ledger.now) (g.L.Turns.journals c.run_wave.new.self) c.in-Ok.ensures.sound c.in-Ok-lanes_of.ensures c.run_wave.ensures.keeps
 
 pub returns-in-None-clause-runs : goal.returns-in-None-clause-runs
 returns-in-None-clause-runs g c =
@@ -39,7 +39,7 @@ returns-in-None-clause-runs g c =
     let count = subst (λ k. length c.in-Ok.field-0.lanes.items ≡ k.coordinators * k.lanes) c.shape.ensures c.in-Ok.ensures.lanes in
     let none = subst (λ o. FirstFaultIs c.deref.result.now o) c.in-None.is c.first_fault.ensures in
     runs_file K (g.V.Verifier.verdict_of c.args.verifier.now) c.args.txs.now c.in-Ok.field-0.lanes.items c.in-Ok-lanes_of.lanes.items c.run_wave.new.lanes.items
-    (g.L.Turns.journals c.args.ledger.now) (g.L.Turns.journals c.run_wave.new.ledger) count sent c.in-Ok.ensures.sound c.in-Ok-lanes_of.ensures (subst (λ ls. NoFault ls) c.deref.ensures.value none) c.run_wave.ensures.runs
+    (g.L.Turns.journals c.args.ledger.now) (g.L.Turns.journals c.run_wave.new.self) count sent c.in-Ok.ensures.sound c.in-Ok-lanes_of.ensures (subst (λ ls. NoFault ls) c.deref.ensures.value none) c.run_wave.ensures.runs
 
 pub returns-in-None-clause-quiet : goal.returns-in-None-clause-quiet
 returns-in-None-clause-quiet g c =
@@ -51,7 +51,7 @@ returns-in-None-clause-told g c mint submissions kept =
     let K = g.L.Turns.shape c.args.ledger.now in
     let verdicts = g.V.Verifier.verdict_of c.args.verifier.now in
     let I = g.L.Turns.journals c.args.ledger.now in
-    let J = g.L.Turns.journals c.run_wave.new.ledger in
+    let J = g.L.Turns.journals c.run_wave.new.self in
     let sent = subst (λ k. AreSent k verdicts c.args.txs.now c.in-Ok.field-0.lanes.items) c.shape.ensures c.in-Ok.ensures.sent in
     let count = subst (λ k. length c.in-Ok.field-0.lanes.items ≡ k.coordinators * k.lanes) c.shape.ensures c.in-Ok.ensures.lanes in
     let none = subst (λ ls. NoFault ls) c.deref.ensures.value (subst (λ o. FirstFaultIs c.deref.result.now o) c.in-None.is c.first_fault.ensures) in
@@ -72,7 +72,7 @@ returns-in-None-clause-prepared g c =
     let count = subst (λ k. length c.in-Ok.field-0.lanes.items ≡ k.coordinators * k.lanes) c.shape.ensures c.in-Ok.ensures.lanes in
     let none = subst (λ ls. NoFault ls) c.deref.ensures.value (subst (λ o. FirstFaultIs c.deref.result.now o) c.in-None.is c.first_fault.ensures) in
     let are = c.in-Ok-lanes_of.ensures in
-    file_done K verdicts c.args.txs.now c.in-Ok.field-0.lanes.items c.in-Ok-lanes_of.lanes.items c.run_wave.new.lanes.items (g.L.Turns.journals c.args.ledger.now) (g.L.Turns.journals c.run_wave.new.ledger)
+    file_done K verdicts c.args.txs.now c.in-Ok.field-0.lanes.items c.in-Ok-lanes_of.lanes.items c.run_wave.new.lanes.items (g.L.Turns.journals c.args.ledger.now) (g.L.Turns.journals c.run_wave.new.self)
     (c.run_wave.ensures.count ∙ are.count ∙ count) sent are c.run_wave.ensures.sent (c.run_wave.ensures.prepared none)
 
 pub returns-in-Some-clause-fault : goal.returns-in-Some-clause-fault
@@ -83,8 +83,8 @@ returns-in-Some-clause-fault g c =
     let count = subst (λ k. length c.in-Ok.field-0.lanes.items ≡ k.coordinators * k.lanes) c.shape.ensures c.in-Ok.ensures.lanes in
     let are = c.in-Ok-lanes_of.ensures in
     let first = subst (λ ls. FirstFaultIs ls (Some c.in-Some.fault)) c.deref.ensures.value (subst (λ o. FirstFaultIs c.deref.result.now o) c.in-Some.is c.first_fault.ensures) in
-    file_cause K verdicts c.args.txs.now c.in-Ok.field-0.lanes.items c.in-Ok-lanes_of.lanes.items c.run_wave.new.lanes.items (g.L.Turns.journals c.args.ledger.now) (g.L.Turns.journals c.run_wave.new.ledger)
-    (HaveFailed (g.L.Turns.opened c.run_wave.new.ledger) (g.L.Turns.faults c.run_wave.new.ledger)) (MayHold (g.L.Turns.capacity c.run_wave.new.ledger))
+    file_cause K verdicts c.args.txs.now c.in-Ok.field-0.lanes.items c.in-Ok-lanes_of.lanes.items c.run_wave.new.lanes.items (g.L.Turns.journals c.args.ledger.now) (g.L.Turns.journals c.run_wave.new.self)
+    (HaveFailed (g.L.Turns.opened c.run_wave.new.self) (g.L.Turns.faults c.run_wave.new.self)) (MayHold (g.L.Turns.capacity c.run_wave.new.self))
     (c.run_wave.ensures.count ∙ are.count ∙ count) sent are c.run_wave.ensures.sent (c.run_wave.ensures.causes are.fresh) c.in-Some.fault first
 
 pub returns-in_default-clause-flies : goal.returns-in_default-clause-flies
@@ -96,13 +96,13 @@ returns-in_default-lanes_of-clause-flies g c = flies_none (g.L.Turns.shape c.arg
 pub returns-in-Some-clause-flies : goal.returns-in-Some-clause-flies
 returns-in-Some-clause-flies g c =
     flies_file (g.L.Turns.shape c.args.ledger.now) (g.V.Verifier.verdict_of c.args.verifier.now) c.args.txs.now c.in-Ok.field-0.lanes.items c.in-Ok-lanes_of.lanes.items
-    (g.L.Turns.journals c.args.ledger.now) (g.L.Turns.journals c.run_wave.new.ledger) (g.L.Turns.flights c.args.ledger.now) (g.L.Turns.flights c.run_wave.new.ledger)
+    (g.L.Turns.journals c.args.ledger.now) (g.L.Turns.journals c.run_wave.new.self) (g.L.Turns.flights c.args.ledger.now) (g.L.Turns.flights c.run_wave.new.self)
     c.in-Ok.ensures.sound c.in-Ok-lanes_of.ensures c.run_wave.ensures.flies
 
 pub returns-in-None-clause-flies : goal.returns-in-None-clause-flies
 returns-in-None-clause-flies g c =
     flies_file (g.L.Turns.shape c.args.ledger.now) (g.V.Verifier.verdict_of c.args.verifier.now) c.args.txs.now c.in-Ok.field-0.lanes.items c.in-Ok-lanes_of.lanes.items
-    (g.L.Turns.journals c.args.ledger.now) (g.L.Turns.journals c.run_wave.new.ledger) (g.L.Turns.flights c.args.ledger.now) (g.L.Turns.flights c.run_wave.new.ledger)
+    (g.L.Turns.journals c.args.ledger.now) (g.L.Turns.journals c.run_wave.new.self) (g.L.Turns.flights c.args.ledger.now) (g.L.Turns.flights c.run_wave.new.self)
     c.in-Ok.ensures.sound c.in-Ok-lanes_of.ensures c.run_wave.ensures.flies
 
 pub returns-in_default-clause-launches : goal.returns-in_default-clause-launches
@@ -122,8 +122,8 @@ returns-in-Some-clause-launches g c =
     let sent = subst (λ k. AreSent k verdicts c.args.txs.now c.in-Ok.field-0.lanes.items) c.shape.ensures c.in-Ok.ensures.sent in
     let count = subst (λ k. length c.in-Ok.field-0.lanes.items ≡ k.coordinators * k.lanes) c.shape.ensures c.in-Ok.ensures.lanes in
     let are = c.in-Ok-lanes_of.ensures in
-    file_launches K verdicts c.args.txs.now c.in-Ok.field-0.lanes.items c.in-Ok-lanes_of.lanes.items c.run_wave.new.lanes.items (g.L.Turns.journals c.args.ledger.now) (g.L.Turns.journals c.run_wave.new.ledger)
-    (g.L.Turns.flights c.args.ledger.now) (g.L.Turns.flights c.run_wave.new.ledger) (c.run_wave.ensures.count ∙ are.count ∙ count) sent are c.run_wave.ensures.sent c.run_wave.ensures.launches
+    file_launches K verdicts c.args.txs.now c.in-Ok.field-0.lanes.items c.in-Ok-lanes_of.lanes.items c.run_wave.new.lanes.items (g.L.Turns.journals c.args.ledger.now) (g.L.Turns.journals c.run_wave.new.self)
+    (g.L.Turns.flights c.args.ledger.now) (g.L.Turns.flights c.run_wave.new.self) (c.run_wave.ensures.count ∙ are.count ∙ count) sent are c.run_wave.ensures.sent c.run_wave.ensures.launches
 
 pub returns-in-None-clause-launches : goal.returns-in-None-clause-launches
 returns-in-None-clause-launches g c =
@@ -132,8 +132,8 @@ returns-in-None-clause-launches g c =
     let sent = subst (λ k. AreSent k verdicts c.args.txs.now c.in-Ok.field-0.lanes.items) c.shape.ensures c.in-Ok.ensures.sent in
     let count = subst (λ k. length c.in-Ok.field-0.lanes.items ≡ k.coordinators * k.lanes) c.shape.ensures c.in-Ok.ensures.lanes in
     let are = c.in-Ok-lanes_of.ensures in
-    file_launches K verdicts c.args.txs.now c.in-Ok.field-0.lanes.items c.in-Ok-lanes_of.lanes.items c.run_wave.new.lanes.items (g.L.Turns.journals c.args.ledger.now) (g.L.Turns.journals c.run_wave.new.ledger)
-    (g.L.Turns.flights c.args.ledger.now) (g.L.Turns.flights c.run_wave.new.ledger) (c.run_wave.ensures.count ∙ are.count ∙ count) sent are c.run_wave.ensures.sent c.run_wave.ensures.launches
+    file_launches K verdicts c.args.txs.now c.in-Ok.field-0.lanes.items c.in-Ok-lanes_of.lanes.items c.run_wave.new.lanes.items (g.L.Turns.journals c.args.ledger.now) (g.L.Turns.journals c.run_wave.new.self)
+    (g.L.Turns.flights c.args.ledger.now) (g.L.Turns.flights c.run_wave.new.self) (c.run_wave.ensures.count ∙ are.count ∙ count) sent are c.run_wave.ensures.sent c.run_wave.ensures.launches
 
 pub returns-in_default-clause-least : goal.returns-in_default-clause-least
 returns-in_default-clause-least g c = inl (ap (λ e. e.fault) c.no_memory.ensures, λ n. refl)
@@ -149,8 +149,8 @@ returns-in-Some-clause-least g c =
     let count = subst (λ k. length c.in-Ok.field-0.lanes.items ≡ k.coordinators * k.lanes) c.shape.ensures c.in-Ok.ensures.lanes in
     let are = c.in-Ok-lanes_of.ensures in
     let first = subst (λ ls. FirstFaultIs ls (Some c.in-Some.fault)) c.deref.ensures.value (subst (λ o. FirstFaultIs c.deref.result.now o) c.in-Some.is c.first_fault.ensures) in
-    file_ends K verdicts c.args.txs.now c.in-Ok.field-0.lanes.items c.in-Ok-lanes_of.lanes.items c.run_wave.new.lanes.items (g.L.Turns.journals c.args.ledger.now) (g.L.Turns.journals c.run_wave.new.ledger)
-    (HaveFailed (g.L.Turns.opened c.run_wave.new.ledger) (g.L.Turns.faults c.run_wave.new.ledger)) (MayHold (g.L.Turns.capacity c.run_wave.new.ledger))
+    file_ends K verdicts c.args.txs.now c.in-Ok.field-0.lanes.items c.in-Ok-lanes_of.lanes.items c.run_wave.new.lanes.items (g.L.Turns.journals c.args.ledger.now) (g.L.Turns.journals c.run_wave.new.self)
+    (HaveFailed (g.L.Turns.opened c.run_wave.new.self) (g.L.Turns.faults c.run_wave.new.self)) (MayHold (g.L.Turns.capacity c.run_wave.new.self))
     (c.run_wave.ensures.count ∙ are.count ∙ count) sent are c.run_wave.ensures.sent (c.run_wave.ensures.causes are.fresh) c.run_wave.ensures.theirs c.in-Some.fault first
 
 pub returns-in_default-clause-begun : goal.returns-in_default-clause-begun
@@ -166,7 +166,7 @@ returns-in-Some-clause-begun g c some =
     let sent = subst (λ k. AreSent k verdicts c.args.txs.now c.in-Ok.field-0.lanes.items) c.shape.ensures c.in-Ok.ensures.sent in
     let count = subst (λ k. length c.in-Ok.field-0.lanes.items ≡ k.coordinators * k.lanes) c.shape.ensures c.in-Ok.ensures.lanes in
     let are = c.in-Ok-lanes_of.ensures in
-    file_begun K verdicts c.args.txs.now c.in-Ok.field-0.lanes.items c.in-Ok-lanes_of.lanes.items c.run_wave.new.lanes.items (g.L.Turns.journals c.args.ledger.now) (g.L.Turns.journals c.run_wave.new.ledger)
+    file_begun K verdicts c.args.txs.now c.in-Ok.field-0.lanes.items c.in-Ok-lanes_of.lanes.items c.run_wave.new.lanes.items (g.L.Turns.journals c.args.ledger.now) (g.L.Turns.journals c.run_wave.new.self)
     (c.run_wave.ensures.count ∙ are.count ∙ count) sent are c.run_wave.ensures.sent c.run_wave.ensures.begun
 
 pub returns-in-None-clause-begun : goal.returns-in-None-clause-begun
@@ -176,7 +176,7 @@ returns-in-None-clause-begun g c some =
     let sent = subst (λ k. AreSent k verdicts c.args.txs.now c.in-Ok.field-0.lanes.items) c.shape.ensures c.in-Ok.ensures.sent in
     let count = subst (λ k. length c.in-Ok.field-0.lanes.items ≡ k.coordinators * k.lanes) c.shape.ensures c.in-Ok.ensures.lanes in
     let are = c.in-Ok-lanes_of.ensures in
-    file_begun K verdicts c.args.txs.now c.in-Ok.field-0.lanes.items c.in-Ok-lanes_of.lanes.items c.run_wave.new.lanes.items (g.L.Turns.journals c.args.ledger.now) (g.L.Turns.journals c.run_wave.new.ledger)
+    file_begun K verdicts c.args.txs.now c.in-Ok.field-0.lanes.items c.in-Ok-lanes_of.lanes.items c.run_wave.new.lanes.items (g.L.Turns.journals c.args.ledger.now) (g.L.Turns.journals c.run_wave.new.self)
     (c.run_wave.ensures.count ∙ are.count ∙ count) sent are c.run_wave.ensures.sent c.run_wave.ensures.begun
 
 pub returns-in_default-clause-rests : goal.returns-in_default-clause-rests
@@ -189,14 +189,14 @@ pub returns-in-Some-clause-rests : goal.returns-in-Some-clause-rests
 returns-in-Some-clause-rests g c =
     let count = subst (λ k. length c.in-Ok.field-0.lanes.items ≡ k.coordinators * k.lanes) c.shape.ensures c.in-Ok.ensures.lanes in
     let are = c.in-Ok-lanes_of.ensures in
-    wave_rests (g.L.Turns.shape c.args.ledger.now) c.run_wave.new.lanes.items (g.L.Turns.journals c.args.ledger.now) (g.L.Turns.journals c.run_wave.new.ledger)
-    (HaveFailed (g.L.Turns.opened c.run_wave.new.ledger) (g.L.Turns.faults c.run_wave.new.ledger)) (MayHold (g.L.Turns.capacity c.run_wave.new.ledger))
+    wave_rests (g.L.Turns.shape c.args.ledger.now) c.run_wave.new.lanes.items (g.L.Turns.journals c.args.ledger.now) (g.L.Turns.journals c.run_wave.new.self)
+    (HaveFailed (g.L.Turns.opened c.run_wave.new.self) (g.L.Turns.faults c.run_wave.new.self)) (MayHold (g.L.Turns.capacity c.run_wave.new.self))
     (c.run_wave.ensures.count ∙ are.count ∙ count) (c.run_wave.ensures.causes are.fresh) c.run_wave.ensures.theirs
 
 pub returns-in-None-clause-rests : goal.returns-in-None-clause-rests
 returns-in-None-clause-rests g c =
     let count = subst (λ k. length c.in-Ok.field-0.lanes.items ≡ k.coordinators * k.lanes) c.shape.ensures c.in-Ok.ensures.lanes in
     let are = c.in-Ok-lanes_of.ensures in
-    wave_rests (g.L.Turns.shape c.args.ledger.now) c.run_wave.new.lanes.items (g.L.Turns.journals c.args.ledger.now) (g.L.Turns.journals c.run_wave.new.ledger)
-    (HaveFailed (g.L.Turns.opened c.run_wave.new.ledger) (g.L.Turns.faults c.run_wave.new.ledger)) (MayHold (g.L.Turns.capacity c.run_wave.new.ledger))
+    wave_rests (g.L.Turns.shape c.args.ledger.now) c.run_wave.new.lanes.items (g.L.Turns.journals c.args.ledger.now) (g.L.Turns.journals c.run_wave.new.self)
+    (HaveFailed (g.L.Turns.opened c.run_wave.new.self) (g.L.Turns.faults c.run_wave.new.self)) (MayHold (g.L.Turns.capacity c.run_wave.new.self))
     (c.run_wave.ensures.count ∙ are.count ∙ count) (c.run_wave.ensures.causes are.fresh) c.run_wave.ensures.theirs

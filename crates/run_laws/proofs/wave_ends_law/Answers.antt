@@ -1,5 +1,0 @@
-use Rattle.run_laws.proofs.wave_ends_law.Goals as goal
-use Rattle.run_laws.proofs.WaveTurns as laws
-
-pub returns : goal.returns
-returns c = laws.wave_ends_law
