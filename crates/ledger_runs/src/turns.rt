@@ -116,10 +116,12 @@ pub trait Turns {
             (AreFresh lanes.old.items → AllTell (shape self.old) (journals self.old) (journals self.new) lanes.new.items) }
         ensures quiet { NoFault lanes.new.items → quiet self.old → quiet self.new }
         ensures flies { (sent : ℕ → List Compact) → HaveSent sent lanes.old.items
-            → OfKept (shape self.old) (journals self.old) (FliesSent (shape self.old) sent (journals self.old) (journals self.new) (flights self.old) (flights self.new)) }
+            → OfKept (shape self.old) (journals self.old)
+            (FliesSent (shape self.old) sent (journals self.old) (journals self.new) (flights self.old) (flights self.new)) }
 
         // A Prepare that is in flight was so before, or is that of its lane's next piece.
-        ensures launches { Launches (shape self.old) (AreNextPieces (shape self.old) lanes.new.items (journals self.old) (journals self.new)) (journals self.old) (journals self.new) (flights self.old) (flights self.new) }
+        ensures launches { Launches (shape self.old) (AreNextPieces (shape self.old) lanes.new.items (journals self.old) (journals self.new))
+            (journals self.old) (journals self.new) (flights self.old) (flights self.new) }
 
         ensures holds { holds self.old → holds self.new }
         ensures later { (n : ℕ) → faults self.old n ≤ faults self.new n }
@@ -133,5 +135,6 @@ pub trait Turns {
         ensures begun { HaveBegun (shape self.old) (journals self.old) (journals self.new) lanes.new.items }
 
         // Each fault has its cause, where none had one before.
-        ensures causes { NoFault lanes.old.items → HaveCauses (shape self.old) (journals self.old) (journals self.new) (HaveFailed (opened self.new) (faults self.new)) (MayHold (capacity self.new)) lanes.new.items };
+        ensures causes { NoFault lanes.old.items → HaveCauses (shape self.old) (journals self.old) (journals self.new)
+            (HaveFailed (opened self.new) (faults self.new)) (MayHold (capacity self.new)) lanes.new.items };
 }

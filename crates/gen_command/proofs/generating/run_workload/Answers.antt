@@ -8,12 +8,12 @@ use Rattle.gen_command.proofs.Came.{memory_why, came_to, unchecked_why}
 use Rattle.gen_command.proofs.generating.run_workload.Goals as goal
 
 pub run_files-requires-clause-ready : goal.run_files-requires-clause-ready
-run_files-requires-clause-ready g c =
+run_files-requires-clause-ready g c κs lives =
     subst (λ m. AreReady c.args.shape.now m c.in-Ok-rack_of.rack) (sym c.in-Ok.ensures.mint)
     (are_ready c.args.shape.now c.args.seed c.args.count c.requires c.in-Ok-rack_of.rack c.in-Ok-rack_of.ensures.limits c.in-Ok-rack_of.ensures.empty)
 
 pub run_files-requires-clause-room : goal.run_files-requires-clause-room
-run_files-requires-clause-room g c =
+run_files-requires-clause-room g c κs lives =
     let files = c.deref.ensures.value ∙ c.in-Ok.ensures.clients in
     subst (λ m. HaveRoom c.args.shape.now m c.deref.result.now c.in-Ok-rack_of.rack) (sym c.in-Ok.ensures.mint)
     (subst (λ fs. HaveRoom c.args.shape.now (mint_of c.args.seed c.args.count) fs c.in-Ok-rack_of.rack) (sym files)
