@@ -1,11 +1,11 @@
 -- A Prepare in flight behind a wave of lanes that ran beside each other was so before, or is of its lane's next piece.
-use Rattle.std.proofs.Common.{◌≡◌, inl, inr, ℕ, zero, suc, ◌+◌, ◌*◌, ◌/◌, ◌<◌, ◌==◌, true, false, List, [], ◌∷◌, Contains, Option, Some, None, refl, sym, ap, ◌∙◌, subst, slice_index_or, arith}
+use Rattle.std.proofs.Common.{◌≡◌, inl, inr, ℕ, zero, suc, ◌*◌, ◌/◌, ◌<◌, true, false, List, [], ◌∷◌, Contains, Option, Some, None, sym, ap, ◌∙◌, subst, slice_index_or, arith}
 use Rattle.std.specs.Prelude.{take}
 use Rattle.std.proofs.lemmas.Nat.{div_below}
 use Rattle.cbdc_types.specs.Limits.{IsWithinLimits}
 use Rattle.cbdc_types.specs.declared.calls.NodeFault.{NodeFault}
 use Rattle.cbdc_model.specs.Records.{Shape, Batch, Compact, Record, is_in_lane, Prepare}
-use Rattle.cbdc_model.specs.Ranges.{home_of, shard_node}
+use Rattle.cbdc_model.specs.Ranges.{home_of}
 use Rattle.cbdc_model.specs.Slots.{slot, Idle}
 use Rattle.cbdc_model.specs.After.{After}
 use Rattle.cbdc_model.specs.History.{Minted, header_of}
@@ -84,9 +84,11 @@ module _ (K : Shape) (m : Minted) (pieces : List (List Compact)) (lane : ℕ) (E
       | inr (q, is, its, seen, holds) ↦
           let e : q ≡ Prepare t b these = same_record q (Prepare t b these) (sym is ∙ left) in
           let of : b.lane ≡ lane = its_lane lane t b these (subst (λ r. is_in_lane lane r ≡ true) e its) in
-          let piece : these ≡ take K.batch stop.rest = one_piece these (take K.batch stop.rest) (subst (Holds (take K.batch stop.rest ∷ [])) e holds) in
-          (of, subst (IsNextPiece K lane txs E X) (sym piece)
-          (next_one K m pieces lane E X log shards log' shards' opened faults capacity txs limits start checked home l nodes node f stop (unwritten of)))
+          let piece : these ≡ take K.batch stop.rest = one_piece these (take K.batch stop.rest) (subst (Holds (take K.batch stop.rest ∷ [])) e holds) in (
+            of,
+            subst (IsNextPiece K lane txs E X) (sym piece)
+                (next_one K m pieces lane E X log shards log' shards' opened faults capacity txs limits start checked home l nodes node f stop (unwritten of)),
+          )
     ]
 
   pub left_next : (k : ℕ) → Settled K lane k log shards → (e : LaneFault) → IsLaneStopped K false lane txs log shards log' shards' e → Next

@@ -1,17 +1,17 @@
 -- From the record of a wave to all that is said of it.
-use Rattle.std.proofs.Common.{◌≡◌, ◌⊎◌, inl, inr, ℕ, zero, suc, ◌+◌, ◌-◌, ◌*◌, ◌/◌, ◌<◌, ◌≤◌, le_trans, Bool, true, false, ◌||◌, not, ◌==◌, nat_lt, if◌then◌else◌, List, [], ◌∷◌, ◌++◌, length, Option, Some, None, refl, sym, ap, ◌∙◌, subst, arith}
+use Rattle.std.proofs.Common.{◌≡◌, inl, inr, ℕ, zero, suc, ◌+◌, ◌-◌, ◌*◌, ◌/◌, ◌<◌, ◌≤◌, Bool, true, false, ◌||◌, not, ◌==◌, nat_lt, if◌then◌else◌, List, [], length, Some, refl, sym, ap, ◌∙◌, subst, arith}
 use Rattle.std.specs.Prelude.{slice_get}
 use Rattle.std.proofs.lemmas.Nat.{div_below, div-mul-add}
 use Rattle.std.proofs.lemmas.Option.{slice_get_within}
 use Rattle.cbdc_model.specs.Records.{Shape, Record, record_of, last_stamp}
 use Rattle.cbdc_model.specs.Ranges.{home_of, shard_node}
-use Rattle.cbdc_model.specs.Slots.{slot, slot_stamp, Idle}
+use Rattle.cbdc_model.specs.Slots.{slot, slot_stamp}
 use Rattle.cbdc_model.specs.History.{Minted}
 use Rattle.cbdc_model.specs.World.{AreIdle}
 use Rattle.cbdc_model.specs.Sights.{Sight}
 use Rattle.lane_laws.specs.Batches.{view, Settled}
 use Rattle.lane_laws.proofs.Views.{view_home, view_shard}
-use Rattle.lane_driver.specs.Stops.{IsSettled, IsLaneStopped}
+use Rattle.lane_driver.specs.Stops.{IsSettled}
 use Rattle.run_laws.specs.Checked.{CheckedJournals}
 use Rattle.run_laws.specs.Runs.{seen_by}
 use Rattle.run_laws.specs.Faults.{opened_by, faults_by, capacity_by}
@@ -19,7 +19,6 @@ use Rattle.run_laws.specs.Flights.{flying}
 use Rattle.run_laws.proofs.Seen.{seen_log, seen_shard}
 use Rattle.run_laws.proofs.Rests.{checked_rest_law}
 use Rattle.turn_laws.proofs.Flying.{after_here}
-use Rattle.ledger_runs.specs.Turning.{IsLaneOf}
 use Rattle.ledger_runs.specs.declared.lanes.Lane.{Lane}
 use Rattle.ledger_runs.proofs.WaveKeeping.{at_place}
 use Rattle.node_lock.specs.declared.views.Hand.{Hand}
@@ -28,10 +27,10 @@ use Rattle.node_lock.specs.Tickets.{times, fresh, Done}
 use Rattle.node_lock.specs.Viewing.{viewed}
 use Rattle.thread_laws.specs.Threads.{asks}
 use Rattle.thread_laws.specs.Stopping.{NodesOf}
-use Rattle.thread_laws.specs.Closing.{Locks, SeatAt}
-use Rattle.thread_laws.specs.Whole.{no_memory, Went, WaveSays, EachPair}
+use Rattle.thread_laws.specs.Closing.{Locks}
+use Rattle.thread_laws.specs.Whole.{no_memory, Went, WaveSays}
 use Rattle.thread_laws.specs.Sitting.{SitsAt, Sits, Sat}
-use Rattle.thread_laws.specs.Running.{NodeRan, LaneRan, WaveRan, IsStillSight, IsUnrun, WaveUnrun, WaveNodes, NodesSay, AllSays, WaveRanLaw, WaveUnrunLaw, FreshSettledLaw}
+use Rattle.thread_laws.specs.Running.{NodeRan, LaneRan, WaveRan, IsStillSight, WaveUnrun, WaveNodes, NodesSay, WaveRanLaw, WaveUnrunLaw, FreshSettledLaw}
 use Rattle.thread_laws.proofs.Hands.{behind}
 use Rattle.thread_laws.proofs.Heading.{threads_next_law}
 use Rattle.thread_laws.proofs.Sitting.{Where, where_is, unseen_at, sits_law}
@@ -386,7 +385,7 @@ module _ (K : Shape) (logs shards logs' shards' : ℕ → Sight) (nodes : WaveNo
     -- ---- lanes of which none ran
     module _ (m : Minted) (checked : CheckedJournals K m (seen_by K logs shards)) (idle : AreIdle K (seen_by K logs shards)) (unrun : WaveUnrun K logs shards logs' shards' old new) where
       still_done : (f l : Sight) → IsStillSight f l → Done f [] [] l
-      still_done f l s = record { log = []; list = s.seen; drawn = tt; cover = λ x. refl; hands = tt; flight = elim s.flight [ | inl none ↦ inl none | inr same ↦ inr (inl (same, refl)) ] }
+      still_done f l s = record { log = []; list = s.seen; drawn = tt; cover = λ x. refl; hands = tt; flight = elim s.flight [ inl none ↦ inl none | inr same ↦ inr (inl (same, refl)) ] }
 
       abbrev none_at : ℕ → List ℕ
       none_at n = []

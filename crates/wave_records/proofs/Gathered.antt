@@ -1,5 +1,5 @@
 -- Seats that were given back are among their rows, and stay there while more are given back.
-use Rattle.std.proofs.Common.{◌≡◌, ◌⊎◌, inl, inr, ℕ, List, [], ◌∷◌, ◌++◌, refl, sym, subst}
+use Rattle.std.proofs.Common.{inl, inr, List, [], ◌∷◌, ◌++◌, refl, sym, subst}
 use Rattle.std.specs.Global.{Vec}
 use Rattle.node_lock.specs.declared.seat.Seat.{Seat}
 use Rattle.wave_ends.specs.Dealing.{Pops, PopsEach}

@@ -1,5 +1,5 @@
 -- What lists of locks and of nodes come to, place by place.
-use Rattle.std.proofs.Common.{◌≡◌, ◌⊎◌, inl, inr, ℕ, zero, suc, ◌<◌, ◌≤◌, List, [], ◌∷◌, length, refl, sym, ap, ◌∙◌, subst, arith}
+use Rattle.std.proofs.Common.{◌≡◌, ℕ, zero, suc, ◌≤◌, List, [], ◌∷◌, length, refl, sym, ap, ◌∙◌, subst, arith}
 use Rattle.std.specs.Prelude.{All}
 use Rattle.std.specs.Global.{Vec}
 use Rattle.std.proofs.lemmas.List.Elements.{All-nil, All-cons, All-head, All-tail}
@@ -7,12 +7,11 @@ use Rattle.cbdc_model.specs.Sights.{Sight}
 use Rattle.node_lock.specs.declared.lock.Guarded.{Guarded}
 use Rattle.node_lock.specs.declared.seat.Seat.{Seat}
 use Rattle.node_lock.specs.Moving.{Same}
-use Rattle.node_lock.specs.Seats.{all_known, opening_of, lanes_of}
+use Rattle.node_lock.specs.Seats.{all_known, lanes_of}
 use Rattle.node_lock.specs.Tickets.{Done}
 use Rattle.node_ports.specs.Nodes.{no_node, sight_at}
-use Rattle.thread_laws.specs.Running.{NodeRan, IsStillSight}
+use Rattle.thread_laws.specs.Running.{NodeRan}
 use Rattle.wave_ends.specs.Rows.{IsLocked, AreLocked, IsClosed, AreClosed, AreStill}
-use Rattle.wave_records.specs.Among.{row_at, hands_at}
 use Rattle.wave_records.specs.Laws.{NodesRanLaw, NodesStillLaw, WentOn, HeldLaw}
 
 module _ {N : Type 0} (sight : N → Sight) (goes : N → N → Type 0) where
