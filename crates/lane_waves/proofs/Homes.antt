@@ -20,8 +20,8 @@ use Rattle.lane_waves.specs.Gathers.{IsSeat, Chunks, home_seat}
 use Rattle.lane_waves.specs.Places.{AllFrom}
 use Rattle.lane_waves.specs.Rows.{home_lanes}
 use Rattle.lane_waves.proofs.Places.{all_more, first_last, turned_many}
-use Rattle.lane_waves.proofs.Rows.{many_lanes}
-use Rattle.lane_waves.proofs.Gathering.{keeps_seat, last_seat}
+use Rattle.lane_waves.proofs.Numbers.{many_lanes}
+use Rattle.lane_waves.proofs.Giving.{keeps_seat, last_seat}
 
 module _ {N : Type 0} where
   turned_seat : (s : Seat N) (xs : List (Seat N)) → IsSeat s xs → IsSeat s (reverse xs)

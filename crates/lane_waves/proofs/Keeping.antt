@@ -1,7 +1,7 @@
 -- Lanes made ready, and with what came of them.
 use Rattle.std.proofs.Common.{◌≡◌, ℕ, zero, suc, ◌+◌, ◌<◌, ◌≤◌, List, [], ◌∷◌, ◌++◌, map, length, reverse, take, drop, get_or, set, min, ◌-◌, refl, sym, ap, ◌∙◌, subst, arith}
 use Rattle.std.specs.List.{AllZip}
-use Rattle.std.proofs.lemmas.List.{length-take, length-drop}
+use Rattle.std.proofs.lemmas.List.{length-take, length-drop, drop_more}
 use Rattle.std.proofs.lemmas.Grind.{common_steps}
 use Rattle.cbdc_model.specs.Records.{Compact, Batch, Outcome}
 use Rattle.lane_driver.specs.Reports.{CutFrom, AreReports, IsReported}
@@ -63,3 +63,9 @@ reported_many lane n txs reports (pieces, cut, are) =
     let b = summed_turned pieces in
     let c = cut_sum n txs pieces [] cut in
     omega (arith, a, b, c)
+
+pub told_drop : (reports : List BatchReport) (i : ℕ) (x : BatchReport) → i < length reports → x ≡ get_or reports i x → told_in (drop i reports) ≡ decided_in x.batch x.outcomes ++ told_in (drop (i + 1) reports)
+told_drop reports i x lt e = ap told_in (drop_more reports i x lt) ∙ ap (λ (r : BatchReport). decided_in r.batch r.outcomes ++ told_in (drop (i + 1) reports)) (sym e)
+
+pub told_many : (x : BatchReport) (rest : List BatchReport) → length (decided_in x.batch x.outcomes ++ told_in rest) ≡ length x.outcomes + length (told_in rest)
+told_many x rest = let a = append_many (decided_in x.batch x.outcomes) (told_in rest) in let b = decided_many x.batch x.outcomes in omega (arith, a, b)

@@ -1,8 +1,9 @@
 pub mod Places
-pub mod Rows
+pub mod Numbers
 pub mod Opening
-pub mod Dealing
-pub mod Gathering
+pub mod Lists
+pub mod Seating
+pub mod Giving
 pub mod Keeping
 pub mod Homes
 pub mod Ending

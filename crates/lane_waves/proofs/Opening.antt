@@ -25,7 +25,7 @@ use Rattle.lane_waves.specs.Rows.{lanes_from, home_lanes, all_lanes}
 use Rattle.lane_waves.specs.Deals.{IsOpenAt, AreOpen, log_at, shard_at, IsHomeLeft, IsHomeFresh}
 use Rattle.lane_waves.specs.Waves.{AreNodesOf}
 use Rattle.lane_waves.proofs.Places.{all_from, both_at}
-use Rattle.lane_waves.proofs.Rows.{many_lanes}
+use Rattle.lane_waves.proofs.Numbers.{many_lanes}
 
 -- what is seen at a place
 pub seen_get : {N : Type 0} (sight : N → Sight) (xs : List N) (n : ℕ) (x : N) → slice_get xs n ≡ Some x → (sight_at sight xs n ≡ sight x) × (n < length xs)

@@ -2,6 +2,7 @@
 use Rattle.std.proofs.Common.{◌≡◌, ℕ, zero, suc, ◌+◌, ◌<◌, List, [], ◌∷◌, ◌++◌, length, reverse, Option, Some, None, refl, sym, ap, ◌∙◌, subst, arith}
 use Rattle.std.specs.Prelude.{slice_get}
 use Rattle.std.specs.List.{AllZip}
+use Rattle.std.proofs.lemmas.Grind.{common_steps}
 use Rattle.std.proofs.lemmas.List.{reverse-append, length-reverse}
 use Rattle.lane_waves.specs.Places.{AllFrom, BothFrom}
 
@@ -14,7 +15,7 @@ first_last x xs = reverse-append (x ∷ []) xs
 pub one_more : {A : Type 0} (k : ℕ) (y : A) (xs : List A) → k + length (y ∷ xs) ≡ suc k + length xs
 one_more k y xs = omega arith
 
-pub none_more : {A : Type 0} (k : ℕ) → k + length {A} [] ≡ k
+pub none_more : (k : ℕ) → k + 0 ≡ k
 none_more k = omega arith
 
 turned_many : {A : Type 0} (zs : List A) → 0 + length (reverse zs) ≡ length zs
@@ -22,11 +23,11 @@ turned_many zs = let e = length-reverse zs in omega (arith, e)
 
 module _ {A : Type 0} (P : ℕ → A → Type 0) where
   pub all_more : (k : ℕ) (xs : List A) (x : A) → AllFrom P k xs → P (k + length xs) x → AllFrom P k (xs ++ x ∷ [])
-  all_more k [] x a p = (subst (λ n. P n x) (none_more {A} k) p, tt)
+  all_more k [] x a p = (subst (λ n. P n x) (none_more k) p, tt)
   all_more k (y ∷ xs) x a p = (a.0, all_more (suc k) xs x a.1 (subst (λ n. P n x) (one_more k y xs) p))
 
   pub all_last : (k : ℕ) (xs : List A) (x : A) → AllFrom P k (xs ++ x ∷ []) → AllFrom P k xs × P (k + length xs) x
-  all_last k [] x a = (tt, subst (λ n. P n x) (sym (none_more {A} k)) a.0)
+  all_last k [] x a = (tt, subst (λ n. P n x) (sym (none_more k)) a.0)
   all_last k (y ∷ xs) x a = let m = all_last (suc k) xs x a.1 in ((a.0, m.0), subst (λ n. P n x) (sym (one_more k y xs)) m.1)
 
   pub all_at : (k : ℕ) (xs : List A) (n : ℕ) (x : A) → AllFrom P k xs → slice_get xs n ≡ Some x → P (k + n) x
@@ -53,13 +54,13 @@ module _ {A B : Type 0} (P : ℕ → A → B → Type 0) where
   both_at k (v ∷ xs) (w ∷ ys) (suc n) x y a e f = let more : suc k + n ≡ k + suc n = omega arith in subst (λ m. P m x y) more (both_at (suc k) xs ys n x y a.1 e f)
 
   pub both_more : (k : ℕ) (xs : List A) (ys : List B) (x : A) (y : B) → BothFrom P k xs ys → P (k + length ys) x y → BothFrom P k (xs ++ x ∷ []) (ys ++ y ∷ [])
-  both_more k [] [] x y a p = (subst (λ n. P n x y) (none_more {B} k) p, tt)
+  both_more k [] [] x y a p = (subst (λ n. P n x y) (none_more k) p, tt)
   both_more k [] (w ∷ ys) x y a p = absurd a
   both_more k (v ∷ xs) [] x y a p = absurd a
   both_more k (v ∷ xs) (w ∷ ys) x y a p = (a.0, both_more (suc k) xs ys x y a.1 (subst (λ n. P n x y) (one_more k w ys) p))
 
   pub both_last : (k : ℕ) (xs : List A) (ys : List B) (x : A) (y : B) → BothFrom P k (xs ++ x ∷ []) (ys ++ y ∷ []) → BothFrom P k xs ys × P (k + length ys) x y
-  both_last k [] [] x y a = (tt, subst (λ n. P n x y) (sym (none_more {B} k)) a.0)
+  both_last k [] [] x y a = (tt, subst (λ n. P n x y) (sym (none_more k)) a.0)
   both_last k [] (w ∷ []) x y a = absurd a.1
   both_last k [] (w ∷ (z ∷ ys)) x y a = absurd a.1
   both_last k (v ∷ []) [] x y a = absurd a.1
@@ -101,3 +102,9 @@ module _ {A B : Type 0} (P : ℕ → A → B → Type 0) where
   up (x ∷ xs) (y ∷ ys) d =
       subst (λ zs. BothFrom P 0 zs (reverse (y ∷ ys))) (sym (first_last x xs)) (subst (λ zs. BothFrom P 0 (reverse xs ++ x ∷ []) zs) (sym (first_last y ys))
       (both_more 0 (reverse xs) (reverse ys) x y (up xs ys d.1) (subst (λ n. P n x y) (sym (turned_many ys)) d.0)))
+
+pub snoc_many : {A : Type 0} (xs ys : List A) (x : A) → xs ≡ ys ++ x ∷ [] → length xs ≡ length ys + 1
+snoc_many xs ys x e = ap (λ (zs : List _). length zs) e ∙ more ys x
+  where
+    more : {A : Type 0} (zs : List A) (z : A) → length (zs ++ z ∷ []) ≡ length zs + 1
+    more zs z = grind (arith, common_steps)

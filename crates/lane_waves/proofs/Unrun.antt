@@ -16,8 +16,8 @@ use Rattle.thread_laws.specs.Whole.{no_memory, EachPair}
 use Rattle.lane_waves.specs.Lanes.{HasNoMemory}
 use Rattle.lane_waves.specs.Rows.{lanes_from, home_lanes, all_lanes}
 use Rattle.lane_waves.specs.Deals.{started}
-use Rattle.lane_waves.proofs.Rows.{once}
-use Rattle.lane_waves.proofs.Dealing.{settled_like}
+use Rattle.lane_waves.proofs.Numbers.{once}
+use Rattle.lane_waves.proofs.Seating.{settled_like}
 
 pub hand_last : (first : Sight) (x : ℕ) (ls : List ℕ) → IsHand (fresh first x) (map (fresh first) (ls ++ x ∷ []))
 hand_last first x [] = inl refl

@@ -38,6 +38,10 @@ abbrev pub EachHolds : {T : Type 0} → ℕ → List (Vec T) → Type 0
 EachHolds n [] = Unit {0}
 EachHolds n (r ∷ rs) = (n ≤ vec_capacity r) × EachHolds n rs
 
+-- an empty list
+abbrev pub IsNone : {T : Type 0} → Vec T → Type 0
+IsNone r = r.items ≡ []
+
 -- an empty list with room for so many
 abbrev pub IsEmptyRoom : {T : Type 0} → ℕ → Vec T → Type 0
 IsEmptyRoom n r = (r.items ≡ []) × (n ≤ vec_capacity r)

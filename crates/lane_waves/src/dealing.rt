@@ -7,7 +7,7 @@ ghost use Rattle.wave_lanes.specs.Ports.{AreOpened};
 ghost use Rattle.ledger_runs.specs.declared.lanes.Lane.{Lane as LaneOf};
 ghost use Rattle.lane_waves.specs.Rows.{lanes_from, all_lanes};
 ghost use Rattle.lane_waves.specs.Places.{AllFrom};
-ghost use Rattle.lane_waves.specs.Deals.{HasRoom, IsNext, AreOpen, HaveSeats, IsHomeLeft, IsHomeFresh, IsEmptyRoom};
+ghost use Rattle.lane_waves.specs.Deals.{HasRoom, IsNext, AreOpen, HaveSeats, IsHomeLeft, IsHomeFresh, IsEmptyRoom, IsNone};
 
 use cbdc_types::{NodeId, Shape};
 use lane_driver::Ports;
@@ -32,20 +32,34 @@ pub(crate) struct Table<'a, W: Wait, D: Disk, B: Locks> {
     pub runs: Vec<LaneRun<'a, W, D, B>>,
 }
 
-/// An empty list with room for so many ports, for each of so many lanes.
+/// An empty list with room for a port to each shard, for each of so many lanes.
 pub(crate) fn port_rooms<'a, W: Wait, D: Disk, B: Locks>(
     alloc: Global,
     lanes: usize,
     shards: usize,
 ) -> Result<Vec<Vec<ShardSeat<'a, W, D, B>>>, AllocError>
-    ensures rooms { IfOk result (λ v. All (λ w. (w.items ≡ []) × (shards ≤ vec_capacity w)) v.items) }
+    ensures rooms { IfOk result (λ v. All (IsEmptyRoom shards) v.items) }
     ensures as_many { IfOk result (λ v. vec_len v ≡ lanes) }
 {
     let mut rooms = Vec::with_capacity(alloc, lanes)?;
     for _place in 0..lanes {
-        rooms.push_reserved(Vec::with_capacity(alloc, shards)?);
+        let Ok(room) = Vec::with_capacity(alloc, shards) else {
+            let_go(rooms);
+            return Err(AllocError);
+        };
+        rooms.push_reserved(room);
     }
     Ok(rooms)
+}
+
+// Lets empty lists go.
+pub(crate) fn let_go<T>(mut rooms: Vec<Vec<T>>)
+    requires { All IsNone rooms.items }
+{
+    while let Some(room) = rooms.pop() {
+        room.destroy_empty();
+    }
+    rooms.destroy_empty();
 }
 
 // The last lane gets its seat of each shard, beside that of its coordinator.

@@ -23,6 +23,7 @@ fn gather_lane<'a, W: Wait, D: Disk, B: Locks>(
     requires some { 0 < length table.runs.items }
     requires room { MayGather table }
     ensures room { MayGather result.1 }
+    ensures rooms { result.1.rooms ≡ table.entry.rooms }
     ensures back { IsBack table.entry result.0 result.1 }
 {
     let Table {
@@ -82,6 +83,7 @@ fn gather_home<'a, W: Wait, D: Disk, B: Locks>(
     requires own { IsEmptyRoom count own }
     requires room { MayGather table }
     ensures room { MayGather result.1 }
+    ensures rooms { result.1.rooms ≡ table.entry.rooms }
     ensures home { AreHome count table.entry result.0.items result.1 }
     ensures gathered { (locks : List (GuardedOf (SharedShardOf D))) (all : _) → Gathered locks all table.entry → Gathered locks all result.1 }
 {
@@ -106,6 +108,7 @@ pub(crate) fn gather_all<'a, W: Wait, D: Disk, B: Locks>(
     requires place { length emptied.items ≤ vec_capacity homes }
     requires room { MayGather table }
     ensures none { result.1.runs.items ≡ [] }
+    ensures rooms { result.1.rooms ≡ table.entry.rooms }
     ensures many { length result.0.items ≡ length emptied.items }
     ensures homes { HomesBack count table.entry.runs.items result.0.items }
     ensures gathered { (locks : List (GuardedOf (SharedShardOf D))) (all : _) → Gathered locks all table.entry → Gathered locks all result.1 }

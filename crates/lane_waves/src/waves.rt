@@ -101,7 +101,10 @@ fn node_room<D: Disk>(alloc: Global, shape: &Shape, lanes: &mut Vec<Lane>) -> Re
     let home_rows = home_rows(alloc, shape)?;
     let shard_rows = shard_rows(alloc, shape)?;
     let logs = Vec::with_capacity(alloc, shape.coordinators() as usize)?;
-    let shards = Vec::with_capacity(alloc, shape.shards() as usize)?;
+    let Ok(shards) = Vec::with_capacity(alloc, shape.shards() as usize) else {
+        logs.destroy_empty();
+        return Err(AllocError);
+    };
     Ok(NodeRoom {
         home_rows,
         shard_rows,
@@ -110,7 +113,10 @@ fn node_room<D: Disk>(alloc: Global, shape: &Shape, lanes: &mut Vec<Lane>) -> Re
 }
 
 // The memory that the lanes of a wave want.
-fn lane_room<'a, W: Wait, D: Disk, B: Locks>(alloc: Global, shape: &Shape) -> Result<LaneRoom<'a, W, D, B>, AllocError>
+fn lane_room<'a, W: Wait, D: Disk, B: Locks>(
+    alloc: Global,
+    shape: &Shape,
+) -> Result<LaneRoom<'a, W, D, B>, AllocError>
     ensures { IfOk result (λ r. IsLaneRoom shape.now r) }
 {
     let homes = shape.coordinators() as usize;
@@ -119,8 +125,11 @@ fn lane_room<'a, W: Wait, D: Disk, B: Locks>(alloc: Global, shape: &Shape) -> Re
     let emptied = Vec::with_capacity(alloc, homes)?;
     let spare = Vec::with_capacity(alloc, shards)?;
     let seats = Vec::with_capacity(alloc, shards)?;
-    let rooms = port_rooms(alloc, lanes, shards)?;
     let runs = Vec::with_capacity(alloc, lanes)?;
+    let Ok(rooms) = port_rooms(alloc, lanes, shards) else {
+        runs.destroy_empty();
+        return Err(AllocError);
+    };
     Ok(LaneRoom {
         emptied,
         spare,
@@ -153,7 +162,7 @@ fn run_seated<'a, W: Threads + Wait + Sync, D: Disk + Send, B: Locks + Send + Sy
         rows,
         mut lanes,
     } = seated;
-    let Ok(room) = lane_room(alloc, shape) else {
+    let Ok(room) = lane_room::<W, D, B>(alloc, shape) else {
         stop_all(&mut lanes);
         return SeatedLanes { homes, rows, lanes };
     };
@@ -180,10 +189,11 @@ fn run_seated<'a, W: Threads + Wait + Sync, D: Disk + Send, B: Locks + Send + Sy
         rows,
         spare: _,
         seats: _,
-        rooms: _,
+        rooms,
         lanes,
         runs,
     } = table;
+    rooms.destroy_empty();
     runs.destroy_empty();
     SeatedLanes { homes, rows, lanes }
 }
@@ -289,18 +299,22 @@ pub fn wave<W: Threads + Wait + Sync, D: Disk + Send, G: Gate + Sync>(
 {
     see_logs(nodes.logs.as_slice());
     see_shards(nodes.shards.as_slice());
-    let Ok(room) = node_room(alloc, shape, lanes) else {
+    let Ok(room) = node_room::<D>(alloc, shape, lanes) else {
         stop_all(lanes);
         return nodes;
     };
     let NodeRoom {
         home_rows,
         shard_rows,
-        nodes: shared,
+        nodes: lists,
     } = room;
+    let SharedNodes {
+        logs: log_list,
+        shards: shard_list,
+    } = lists;
     let Nodes { logs, shards } = nodes;
-    let (logs, log_list) = share_logs(logs, shared.logs);
-    let (shards, shard_list) = share_shards(shards, shared.shards);
+    let (logs, log_list) = share_logs(logs, log_list);
+    let (shards, shard_list) = share_shards(shards, shard_list);
     let shared = SharedNodes { logs, shards };
     let SharedNodes { logs, shards } = wave_shared(
         rt, alloc, shape, shared, home_rows, shard_rows, lanes, gate,

@@ -4,7 +4,7 @@ use Rattle.node_lock.specs.declared.lock.Guarded.{Guarded}
 use Rattle.shard_fanout.specs.declared.locking.SharedShard.{SharedShard}
 use Rattle.lane_waves.specs.Deals.{IsEmptyRoom}
 use Rattle.lane_waves.specs.Gathers.{MayGather, Gathered}
-use Rattle.lane_waves.proofs.Gathering.{HomesGone}
+use Rattle.lane_waves.proofs.Giving.{HomesGone}
 use Rattle.lane_waves.proofs.gathering.gather_all.Given as goal
 
 abbrev pub invariant-loop-own : goal.invariant-loop-own
@@ -14,6 +14,7 @@ invariant-loop-own g l = record {
   many : length l.emptied.items + length l.homes.items ≡ length l.fn.emptied.items;
   place : length l.emptied.items + length l.homes.items ≤ vec_capacity l.homes;
   room : MayGather l.table;
+  rooms : l.table.rooms ≡ l.fn.table.rooms;
   homes : HomesGone l.count l.fn.table l.homes.items l.table;
   gathered : (locks : List (Guarded (SharedShard _))) (all : _) → Gathered locks all l.fn.table → Gathered locks all l.table;
 }

@@ -11,6 +11,7 @@ invariant-loop-place g l = record {
   len : vec_len l.own ≡ l._place;
   capacity : vec_capacity l.own ≡ vec_capacity l.fn.own;
   room : MayGather l.table;
+  rooms : l.table.rooms ≡ l.fn.table.rooms;
   home : AreHome l._place l.fn.table l.own.items l.table;
   gathered : (locks : List (Guarded (SharedShard _))) (all : _) → Gathered locks all l.fn.table → Gathered locks all l.table;
 }

@@ -43,45 +43,7 @@ use Rattle.lane_waves.specs.declared.dealing.Table.{Table}
 use Rattle.lane_waves.proofs.Places.{last_first, all_at}
 use Rattle.lane_waves.proofs.Opening.{seen_get}
 
--- lists that are dealt from
-module _ {T : Type 0} where
-  pub holds_left : (n : ℕ) (rs qs : List (Vec T)) (ts : List T) → PopsEach rs qs ts → EachHolds n rs → EachHolds n qs
-  holds_left n [] [] [] p h = tt
-  holds_left n [] [] (t ∷ ts) p h = absurd p
-  holds_left n [] (q ∷ qs) ts p h = absurd p
-  holds_left n (r ∷ rs) [] ts p h = absurd p
-  holds_left n (r ∷ rs) (q ∷ qs) [] p h = absurd p
-  holds_left n (r ∷ rs) (q ∷ qs) (t ∷ ts) p h = (subst (λ m. n ≤ m) (sym p.0.room) h.0, holds_left n rs qs ts p.1 h.1)
-
-  pub pops_many : (rs qs : List (Vec T)) (ts : List T) → PopsEach rs qs ts → (length rs ≡ length qs) × (length ts ≡ length qs)
-  pops_many [] [] [] p = (refl, refl)
-  pops_many [] [] (t ∷ ts) p = absurd p
-  pops_many [] (q ∷ qs) ts p = absurd p
-  pops_many (r ∷ rs) [] ts p = absurd p
-  pops_many (r ∷ rs) (q ∷ qs) [] p = absurd p
-  pops_many (r ∷ rs) (q ∷ qs) (t ∷ ts) p = let m = pops_many rs qs ts p.1 in let a = m.0 in let b = m.1 in (omega (arith, a), omega (arith, b))
-
 module _ {N : Type 0} (sight : N → Sight) where
-  pub left_many : (ls : List ℕ) (gs : List (Guarded N)) (rs : List (Vec (Seat N))) → AreLeft sight ls gs rs → length rs ≡ length gs
-  left_many ls [] [] k = refl
-  left_many ls [] (r ∷ rs) k = absurd k
-  left_many ls (g ∷ gs) [] k = absurd k
-  left_many ls (g ∷ gs) (r ∷ rs) k = let e = left_many ls gs rs k.1 in omega (arith, e)
-
-  pub left_some : (ls : List ℕ) (gs : List (Guarded N)) (rs : List (Vec (Seat N))) → 0 < length ls → AreLeft sight ls gs rs → HaveOne rs
-  left_some ls [] [] some k = tt
-  left_some ls [] (r ∷ rs) some k = absurd k
-  left_some ls (g ∷ gs) [] some k = absurd k
-  left_some ls (g ∷ gs) (r ∷ rs) some k =
-      let e = (fresh_at sight (sight (opening_of g)) (opening_of g) g ls r.items k.0).1 in
-      (omega (arith, some, e), left_some ls gs rs some k.1)
-
-  pub dealt_many : (l : ℕ) (gs : List (Guarded N)) (ss : List (Seat N)) → AreDealt sight l gs ss → length ss ≡ length gs
-  dealt_many l [] [] k = refl
-  dealt_many l [] (s ∷ ss) k = absurd k
-  dealt_many l (g ∷ gs) [] k = absurd k
-  dealt_many l (g ∷ gs) (s ∷ ss) k = let e = dealt_many l gs ss k.1 in omega (arith, e)
-
   -- a seat that made no call shows the node as it was at the opening
   pub seat_started : (s : Seat N) (n : N) (lane : ℕ) → first_of s ≡ Some n → knows s ≡ fresh (sight n) lane → seat_sight sight s ≡ started lane (sight n)
   seat_started s n lane e f = ap (λ o. viewed (opening_sight sight o) (knows s)) e ∙ ap (λ (h : Hand). viewed (sight n) h) f
