@@ -8,4 +8,3 @@ mod waving;
 
 pub use ledger::Ledger;
 pub use lent::{LentLedger, lend};
-pub use waving::wave_law;
