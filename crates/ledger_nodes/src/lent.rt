@@ -4,10 +4,9 @@ ghost use Rattle.ledger_nodes.specs.Ledgers.{journals_of, flights_of, faults_of,
 
 use crate::driving::{drive_resume, home};
 use crate::ledger::Ledger;
-use crate::waving::drive_wave;
 use cbdc_types::{Header, LaneId, Shape};
 use lane_driver::{LaneFault, Ports, no_memory};
-use ledger_runs::{Lane, Turns};
+use ledger_runs::Turns;
 use node_ports::{NodeLogs, NodeShards};
 use outside::{Disk, Gate};
 use recovery::ResumedBatch;
@@ -96,10 +95,6 @@ impl<'r, W: Wait + Threads + Sync, D: Disk + Send> Turns for LentLedger<'r, W, D
 
     fn shape(&self) -> &Shape {
         &self.header.shape
-    }
-
-    fn run_wave<G: Gate + Sync>(&mut self, alloc: Global, lanes: &mut Vec<Lane>, gate: &G) {
-        drive_wave(alloc, &self.header, &mut self.ports, lanes, gate);
     }
 
     fn take_up<G: Gate>(

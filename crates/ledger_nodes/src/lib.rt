@@ -8,3 +8,4 @@ mod waving;
 
 pub use ledger::Ledger;
 pub use lent::{LentLedger, lend};
+pub use waving::run_wave;
