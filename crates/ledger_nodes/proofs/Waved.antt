@@ -1,22 +1,26 @@
 -- The nodes of a ledger behind a wave of its lanes.
-use Rattle.std.proofs.Common.{◌≡◌, ◌⊎◌, inl, inr, ℕ, ◌+◌, ◌-◌, ◌*◌, ◌<◌, ◌≤◌, true, false, nat_lt, if◌then◌else◌, List, length, Option, None, sym, ap, ◌∙◌, subst, arith}
+use Rattle.std.proofs.Common.{◌≡◌, ◌⊎◌, inl, inr, ℕ, suc, ◌+◌, ◌-◌, ◌*◌, ◌<◌, ◌≤◌, true, false, nat_lt, if◌then◌else◌, List, [], ◌∷◌, length, Option, None, refl, sym, ap, ◌∙◌, subst, arith}
 use Rattle.std.specs.List.{All}
-use Rattle.std.proofs.lemmas.List.Elements.{All-weaker}
+use Rattle.std.proofs.lemmas.List.Elements.{All-nil, All-cons, All-weaker}
 use Rattle.cbdc_model.specs.Records.{Header, Shape}
-use Rattle.cbdc_model.specs.Ranges.{shard_node}
+use Rattle.cbdc_model.specs.Grammar.{IsCompact}
+use Rattle.cbdc_model.specs.Ranges.{home_of, shard_node}
+use Rattle.cbdc_model.specs.World.{AreIdle}
 use Rattle.cbdc_model.specs.After.{IsJournal}
 use Rattle.cbdc_model.specs.Sights.{Sight}
 use Rattle.coord_log.specs.Logs.{LogOf, sight, HoldsJournal as HoldsLog}
 use Rattle.shard_node.specs.Shards.{ShardOf, sight_of, HoldsJournal as HoldsShard}
 use Rattle.node_ports.specs.Nodes.{sight_at, IsLogHeld, IsShardHeld}
 use Rattle.run_laws.specs.Flights.{flying}
-use Rattle.ledger_runs.specs.Waving.{NoFault}
+use Rattle.lane_driver.specs.Stops.{IsSettled}
+use Rattle.ledger_runs.specs.Waving.{NoFault, AreWithin}
 use Rattle.ledger_runs.specs.declared.lanes.Lane.{Lane}
 use Rattle.thread_laws.specs.Running.{WaveNodes, WaveRan, AllSays}
-use Rattle.thread_laws.proofs.Running.{wave_ran_law}
+use Rattle.thread_laws.proofs.Running.{fresh_settled_law, wave_ran_law}
+use Rattle.lane_waves.specs.Waves.{AreNodesOf}
 use Rattle.wave_records.specs.Laws.{WentOn}
 use Rattle.wave_records.proofs.Places.{same_length, past_end, beyond, all_held}
-use Rattle.ledger_nodes.specs.Ledgers.{IsLedger, IsLogNext, IsShardNext, AreChecked, AreStored, AreQuiet}
+use Rattle.ledger_nodes.specs.Ledgers.{IsLedger, IsLogNext, IsShardNext, journals_of, AreChecked, AreStored, AreQuiet}
 use Rattle.ledger_nodes.specs.Waving.{WaveLaw}
 use Rattle.ledger_nodes.proofs.Steps.{are_nodes, are_next, are_shards, same_header, same_flight, held_logs, held_shards}
 
@@ -137,3 +141,21 @@ wave_law count limit content images h logs shards logs' shards' old new ledger p
       opened_same = a.1.opened_same;
       capacity_same = a.1.capacity_same;
     }
+
+-- ---- what a wave asks of the nodes and of the lanes
+
+module _ {D : Type 0} (count limit : D → ℕ) (h : Header) (logs : List (LogOf D)) (shards : List (ShardOf D)) (ledger : IsLedger h logs shards) where
+  pub nodes_of : AreNodesOf h.shape (sight_at sight logs) (sight_at (sight_of count limit) shards)
+  nodes_of = record {
+    logs_are = λ n lt. (ap (λ k. k.shape) (ledger.log_headers n lt), ap (λ k. k.node) (ledger.log_headers n lt));
+    shards_are = are_shards count limit h logs shards ledger;
+  }
+
+  pub all_settled : AreChecked count limit h.shape logs shards → AreIdle h.shape (journals_of count limit h.shape logs shards) → (lane : ℕ) → lane < h.shape.coordinators * h.shape.lanes
+      → IsSettled h.shape lane (sight_at sight logs (home_of h.shape lane)) (sight_at (sight_of count limit) shards)
+  all_settled c idle lane lt = fresh_settled_law h.shape c.0 (sight_at sight logs) (sight_at (sight_of count limit) shards) lane (sight_at sight logs (home_of h.shape lane)) (sight_at (sight_of count limit) shards)
+      ledger.limits lt (λ n low. (nodes_of.logs_are n low).0) c.1 idle (refl, refl) (λ s. refl)
+
+pub all_within : (lanes : List Lane) → AreWithin lanes → All (λ x. All IsCompact x.txs.items) lanes
+all_within [] within = All-nil (λ x. All IsCompact x.txs.items)
+all_within (x ∷ lanes) within = All-cons (λ y. All IsCompact y.txs.items) x lanes (within 0 x refl) (all_within lanes (λ lane y there. within (suc lane) y there))

@@ -36,8 +36,8 @@ pub(crate) fn home(shape: &Shape, lane: LaneId) -> u32
     lane.0 / shape.lanes()
 }
 
-// Each coordinator's journal is one of its header, and a record in flight may come next there.
-fn see_logs<D: Disk>(logs: &[CoordLog<D>])
+/// Each coordinator's journal is one of its header, and a record in flight may come next there.
+pub(crate) fn see_logs<D: Disk>(logs: &[CoordLog<D>])
     ensures journals { All (λ l. IsJournal l.header l.journal) logs.now }
     ensures next { All IsLogNext logs.now }
 {
@@ -46,8 +46,8 @@ fn see_logs<D: Disk>(logs: &[CoordLog<D>])
     }
 }
 
-// Each shard's journal is one of its header, and a record in flight may come next there.
-fn see_shards<D: Disk>(shards: &[ShardNode<D>])
+/// Each shard's journal is one of its header, and a record in flight may come next there.
+pub(crate) fn see_shards<D: Disk>(shards: &[ShardNode<D>])
     ensures journals { All (λ s. IsJournal s.header s.journal) shards.now }
     ensures next { All IsShardNext shards.now }
 {

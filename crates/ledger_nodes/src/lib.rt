@@ -8,4 +8,4 @@ mod waving;
 
 pub use ledger::Ledger;
 pub use lent::{LentLedger, lend};
-pub use waving::wave_law;
+pub use waving::run_wave;

@@ -1,14 +1,52 @@
 // A wave of lanes at the nodes of a ledger.
-ghost use Rattle.std.specs.Prelude.{List};
-ghost use Rattle.cbdc_model.specs.Records.{Header as HeaderOf};
-ghost use Rattle.coord_log.specs.Logs.{LogOf};
-ghost use Rattle.shard_node.specs.Shards.{ShardOf};
-ghost use Rattle.ledger_runs.specs.declared.lanes.Lane.{Lane as LaneOf};
-ghost use Rattle.ledger_nodes.specs.Waving.{WaveLaw};
+ghost use Rattle.std.specs.Prelude.{◌≡◌, ◌*◌, length};
+ghost use Rattle.cbdc_model.specs.World.{AreIdle};
+ghost use Rattle.ledger_runs.specs.Waving.{AreWithin};
+ghost use Rattle.ledger_nodes.specs.Ledgers.{journals_of, AreChecked};
+ghost use Rattle.ledger_nodes.specs.Waving.{IsWave};
 
-use outside::Disk;
+use crate::driving::{see_logs, see_shards};
+use crate::ledger::Ledger;
+use lane_waves::{Nodes, wave};
+use ledger_runs::Lane;
+use outside::{Disk, Gate};
+use std::alloc::Global;
+use std::sync::Wait;
+use std::thread::Threads;
 
-/// What is said of a ledger's nodes behind a wave that ran at them.
-pub fn wave_law<D: Disk>()
-    ensures { (h : HeaderOf) (logs : List (LogOf D)) (shards : List (ShardOf D)) (after : List (LogOf D)) (below : List (ShardOf D)) (old new : List LaneOf) → WaveLaw D.count D.limit D.content D.images h logs shards after below old new }
-{}
+/// Runs a wave of idle lanes at the nodes of a ledger, each lane on a thread of its own.
+pub fn run_wave<W: Threads + Wait + Sync, D: Disk + Send, G: Gate + Sync>(
+    rt: &W,
+    alloc: Global,
+    ledger: Ledger<D>,
+    lanes: &mut Vec<Lane>,
+    gate: &G,
+) -> Ledger<D>
+    requires count { length lanes.old.items ≡ ledger.header.shape.coordinators * ledger.header.shape.lanes }
+    requires idle { AreIdle ledger.header.shape (journals_of D.count D.limit ledger.header.shape ledger.logs ledger.shards) }
+    requires limits { AreWithin lanes.old.items }
+    requires checked { AreChecked D.count D.limit ledger.header.shape ledger.logs ledger.shards }
+    ensures header { result.header ≡ ledger.header }
+    ensures wave { IsWave D.count D.limit D.content D.images ledger.header ledger.logs ledger.shards result.logs result.shards lanes.old.items lanes.new.items }
+{
+    let Ledger {
+        header,
+        logs,
+        shards,
+    } = ledger;
+    let Nodes { logs, shards } = wave(
+        rt,
+        alloc,
+        &header.shape,
+        Nodes { logs, shards },
+        lanes,
+        gate,
+    );
+    see_logs(logs.as_slice());
+    see_shards(shards.as_slice());
+    Ledger {
+        header,
+        logs,
+        shards,
+    }
+}
