@@ -144,7 +144,7 @@ pub fn waits<R: Threads + Wait + Sync>(rt: &R, alloc: Global) -> Option<bool> {
     let gate = MeetGate::new(
         point_of(ONE, When::Inside),
         point_of(TWO, When::Before),
-        20_000,
+        1_000_000,
     );
     has_met(rt, alloc, gate)
 }
