@@ -1,5 +1,5 @@
 -- Lists by the numbers of their places.
-use Rattle.std.proofs.Common.{◌≡◌, ℕ, zero, suc, ◌+◌, ◌<◌, List, [], ◌∷◌, ◌++◌, length, reverse, Option, Some, None, refl, sym, ap, ◌∙◌, subst, arith}
+use Rattle.std.proofs.Common.{◌≡◌, ℕ, zero, suc, ◌+◌, ◌*◌, ◌<◌, List, [], ◌∷◌, ◌++◌, length, reverse, Option, Some, None, refl, sym, ap, ◌∙◌, subst, arith}
 use Rattle.std.specs.Prelude.{slice_get}
 use Rattle.std.specs.List.{AllZip}
 use Rattle.std.proofs.lemmas.Grind.{common_steps}
@@ -108,3 +108,16 @@ snoc_many xs ys x e = ap (λ (zs : List _). length zs) e ∙ more ys x
   where
     more : {A : Type 0} (zs : List A) (z : A) → length (zs ++ z ∷ []) ≡ length zs + 1
     more zs z = grind (arith, common_steps)
+
+pub append_many : {A : Type 0} (xs ys : List A) → length (xs ++ ys) ≡ length xs + length ys
+append_many xs ys = grind (arith, common_steps)
+
+pub none_long : {A : Type 0} (xs : List A) → length xs ≡ 0 → xs ≡ []
+none_long [] e = refl
+none_long (x ∷ xs) e = absurd (let z = e in omega (arith, z))
+
+pub next_row : (c m n : ℕ) → m ≡ c + 1 → m * n ≡ c * n + n
+next_row c m n e = ap (λ k. k * n) e ∙ more c n
+  where
+    more : (c n : ℕ) → (c + 1) * n ≡ c * n + n
+    more c n = grind (arith, common_steps)

@@ -180,12 +180,6 @@ module _ {W D B : Type 0} {G : Ghosts B} (count limit : D → ℕ) (tables : ℕ
     set_up = subst (λ xs. BothFrom (IsSetUp count limit tables K gs hs) n (next.run.work ∷ k.done) xs) (sym (last_first t.runs.items u.runs.items next.run next.runs)) (up, k.set_up);
   }
 
-pub next_row : (c m n : ℕ) → m ≡ c + 1 → m * n ≡ c * n + n
-next_row c m n e = ap (λ k. k * n) e ∙ more c n
-  where
-    more : (c n : ℕ) → (c + 1) * n ≡ c * n + n
-    more c n = grind (arith, common_steps)
-
 pub opened_of : {D : Type 0} (count limit : D → ℕ) (K : Shape) (k : ℕ) (hs : List (Guarded (SharedShard D))) → AllFrom (λ s h. IsOpenAt K (shard_node K s) (shard_sight count limit (opening_of h))) k hs → AreOpened count limit hs
 opened_of count limit K k [] a = tt
 opened_of count limit K k (h ∷ hs) a = (a.0.since, opened_of count limit K (suc k) hs a.1)
