@@ -121,3 +121,10 @@ next_row c m n e = ap (λ k. k * n) e ∙ more c n
   where
     more : (c n : ℕ) → (c + 1) * n ≡ c * n + n
     more c n = grind (arith, common_steps)
+
+pub zero_row : (n : ℕ) → 0 * n ≡ 0
+zero_row n = omega arith
+
+-- from the first on
+pub all_here : {A : Type 0} (P : ℕ → A → Type 0) (xs : List A) (n : ℕ) (x : A) → AllFrom P 0 xs → slice_get xs n ≡ Some x → P n x
+all_here P xs n x a e = let none : 0 + n ≡ n = omega arith in subst (λ m. P m x) none (all_at P 0 xs n x a e)

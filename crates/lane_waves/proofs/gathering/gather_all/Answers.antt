@@ -1,7 +1,7 @@
 use Rattle.std.proofs.Common.{rules, ◌≡◌, ◌≤◌, ◌+◌, ◌*◌, ◌++◌, Some, List, [], ◌∷◌, length, refl, sym, ap, ◌∙◌, arith}
 use Rattle.std.proofs.lemmas.List.Elements.{All-pop}
 use Rattle.lane_waves.specs.Deals.{IsEmptyRoom}
-use Rattle.lane_waves.proofs.Places.{snoc_many, next_row, append_many, none_long}
+use Rattle.lane_waves.proofs.Places.{snoc_many, next_row, zero_row, append_many, none_long}
 use Rattle.lane_waves.proofs.Giving.{homes_none, homes_more, homes_all}
 use Rattle.lane_waves.proofs.gathering.gather_all.Goals as goal
 
@@ -56,7 +56,7 @@ loop-own-preserved g c =
 pub returns-clause-none : goal.returns-clause-none
 returns-clause-none g c =
     let none : c.loop-own.emptied.items ≡ [] = search (rules, c.in_default.ensures.cases) in
-    none_long c.loop-own.table.runs.items (c.loop-own.invariant.runs ∙ ap (λ (xs : List _). length xs * c.args.count) none)
+    none_long c.loop-own.table.runs.items (c.loop-own.invariant.runs ∙ ap (λ (xs : List _). length xs * c.args.count) none ∙ zero_row c.args.count)
 
 pub returns-clause-many : goal.returns-clause-many
 returns-clause-many g c =
@@ -68,4 +68,4 @@ returns-clause-many g c =
 pub returns-clause-homes : goal.returns-clause-homes
 returns-clause-homes g c =
     let none : c.loop-own.emptied.items ≡ [] = search (rules, c.in_default.ensures.cases) in
-    homes_all c.args.count c.args.table c.loop-own.homes.items c.loop-own.table c.loop-own.invariant.homes (none_long c.loop-own.table.runs.items (c.loop-own.invariant.runs ∙ ap (λ (xs : List _). length xs * c.args.count) none))
+    homes_all c.args.count c.args.table c.loop-own.homes.items c.loop-own.table c.loop-own.invariant.homes (none_long c.loop-own.table.runs.items (c.loop-own.invariant.runs ∙ ap (λ (xs : List _). length xs * c.args.count) none ∙ zero_row c.args.count))
