@@ -70,3 +70,13 @@ home_last K home gs own rest seat k e g there =
     fresh_last (log_sight (opening_of g)) (opening_of g) (table_of g) (lanes_from first (length rest)) (first + length rest) rest seat
     (subst (λ n. AreFresh (log_sight (opening_of g)) (opening_of g) (table_of g) (lanes_from first n) (rest ++ seat ∷ [])) one
     (subst (λ xs. AreFresh (log_sight (opening_of g)) (opening_of g) (table_of g) (lanes_from first (length own)) xs) e (k g there)))
+
+-- lists of all seats hold as many as there are lanes
+pub left_holds : {N : Type 0} (sight : N → Sight) (ls : List ℕ) (gs : List (Guarded N)) (rs : List (Vec (Seat N))) → AreLeft sight ls gs rs → EachHolds (length ls) rs
+left_holds sight ls [] [] k = tt
+left_holds sight ls [] (r ∷ rs) k = absurd k
+left_holds sight ls (g ∷ gs) [] k = absurd k
+left_holds sight ls (g ∷ gs) (r ∷ rs) k =
+    let e = (fresh_at sight (sight (opening_of g)) (opening_of g) g ls r.items k.0).1 in
+    let a = r.ok.0 in let b = r.ok.1 in
+    (omega (arith, e, a, b), left_holds sight ls gs rs k.1)
