@@ -48,7 +48,7 @@ use Rattle.lane_waves.proofs.Keeping.{reported_many}
 use Rattle.lane_waves.proofs.Homes.{hand_among, down_at, HomesHold, SeatsAt}
 
 same_sight : (a b : Header) (c d : List Record) (e f : Option Record) (g h i j k l : ℕ) → a ≡ b → c ≡ d → e ≡ f → g ≡ h → i ≡ j → k ≡ l
-    → record { header = a; seen = c; flight = e; faults = g; opened = i; capacity = k } ≡ record { header = b; seen = d; flight = f; faults = h; opened = j; capacity = l }
+    → ◌≡◌ {A = Sight} (record { header = a; seen = c; flight = e; faults = g; opened = i; capacity = k }) (record { header = b; seen = d; flight = f; faults = h; opened = j; capacity = l })
 same_sight a b c d e f g h i j k l p q r s t u = cc
 
 view_is : (f v : Sight) (h : Hand) → v.header ≡ f.header → v.seen ≡ h.seen → v.flight ≡ h.left → v.faults ≡ h.faults → v.opened ≡ f.opened → v.capacity ≡ f.capacity → v ≡ viewed f h

@@ -11,6 +11,7 @@ use Rattle.lane_waves.proofs.Lists.{left_many, left_holds}
 use Rattle.lane_waves.proofs.Ending.{none_seated, all_seated, all_begin, runs_of, ends_zip, all_over, all_of, seats_at, lanes_ran}
 use Rattle.lane_waves.proofs.Homes.{homes_hold, homes_at, homes_up, homes_ready, hands_down}
 use Rattle.lane_waves.proofs.Giving.{none_back, holds_take}
+use Rattle.lane_waves.proofs.Unrun.{unrun, still_ran, fresh_hand}
 use Rattle.lane_waves.proofs.waves.run_seated.Goals as goal
 
 pub deal_all-homes-requires-clause-room :
@@ -37,7 +38,7 @@ deal_all-homes-requires-clause-room g c =
     }
 
 pub run_all-requires-clause-begin : goal.run_all-requires-clause-begin
-run_all-requires-clause-begin g c =
+run_all-requires-clause-begin g c κ =
     let K = c.args.shape.now in
     let count = g.D.Disk.count in
     let limit = g.D.Disk.limit in
@@ -49,3 +50,7 @@ run_all-requires-clause-begin g c =
     let dealt = c.deal_all-homes.ensures.dealt c.args.seated.lanes.items (none_seated count limit tables K gs hs (K.coordinators * K.lanes) _ c.in-Ok.ensures.runs.0) in
     All-same (Begins count limit tables K) c.as_mut_slice.result.now t.runs.items c.as_mut_slice.ensures.value
     (all_begin count limit tables K gs hs c.args.seated.lanes.items t.runs.items (all_seated count limit tables K gs hs c.args.seated.lanes.items t none dealt))
+
+pub gather_all-homes-requires-clause-runs :
+    goal.gather_all-homes-requires-clause-runs
+gather_all-homes-requires-clause-runs g c = c.run_all.auto.runs
