@@ -1,11 +1,13 @@
 use Rattle.std.proofs.Common.{rules, ◌≡◌, ◌<◌, ◌≤◌, ◌+◌, ◌*◌, ℕ, suc, Some, List, [], length, reverse, refl, sym, ap, ◌∙◌, subst, arith}
-use Rattle.std.specs.Prelude.{All, vec_capacity}
+use Rattle.std.specs.Prelude.{All, vec_capacity, slice_index_or}
+use Rattle.std.proofs.lemmas.List.{length-reverse}
 use Rattle.std.proofs.lemmas.List.Elements.{All-same}
 use Rattle.shard_fanout.specs.Nodes.{shard_sight}
-use Rattle.wave_lanes.specs.Held.{Begins}
+use Rattle.wave_lanes.specs.Held.{Begins, Ends}
 use Rattle.lane_waves.specs.Rows.{all_lanes}
-use Rattle.lane_waves.specs.Deals.{EachHolds}
-use Rattle.lane_waves.proofs.Places.{none_long}
+use Rattle.lane_waves.specs.Deals.{EachHolds, IsSetUp}
+use Rattle.lane_waves.specs.Gathers.{EachTakes, AllOver}
+use Rattle.lane_waves.proofs.Places.{none_long, all_anew, both_many}
 use Rattle.lane_waves.proofs.Numbers.{many_lanes}
 use Rattle.lane_waves.proofs.Lists.{left_many, left_holds}
 use Rattle.lane_waves.proofs.Ending.{none_seated, all_seated, all_begin, runs_of, ends_zip, all_over, all_of, seats_at, lanes_ran}
@@ -38,7 +40,7 @@ deal_all-homes-requires-clause-room g c =
     }
 
 pub run_all-requires-clause-begin : goal.run_all-requires-clause-begin
-run_all-requires-clause-begin g c κ =
+run_all-requires-clause-begin g c κ lives =
     let K = c.args.shape.now in
     let count = g.D.Disk.count in
     let limit = g.D.Disk.limit in
@@ -53,4 +55,63 @@ run_all-requires-clause-begin g c κ =
 
 pub gather_all-homes-requires-clause-runs :
     goal.gather_all-homes-requires-clause-runs
-gather_all-homes-requires-clause-runs g c = c.run_all.auto.runs
+gather_all-homes-requires-clause-runs g c =
+    let K = c.args.shape.now in
+    let count = g.D.Disk.count in
+    let limit = g.D.Disk.limit in
+    let tables = g.B.Locks.tables in
+    let gs = c.args.log_locks.now in
+    let hs = c.args.shard_locks.now in
+    let t = c.deal_all-homes.result.2 in
+    let lanes = c.args.seated.lanes.items in
+    let olds = t.runs.items in
+    let news = c.run_all.new.runs in
+    let none_lanes = none_long t.lanes.items c.deal_all-homes.ensures.room.lanes_many in
+    let both = all_seated count limit tables K gs hs lanes t none_lanes (c.deal_all-homes.ensures.dealt lanes (none_seated count limit tables K gs hs (K.coordinators * K.lanes) _ c.in-Ok.ensures.runs.0)) in
+    let same : length news ≡ length olds = c.run_all.auto.runs ∙ ap (λ (xs : List _). length xs) c.as_mut_slice.ensures.value in
+    let turned = length-reverse olds in
+    let paired = both_many (IsSetUp count limit tables K gs hs) 0 lanes (reverse olds) both in
+    let lanes_many = c.requires.lanes_many in
+    let many : length olds ≡ K.coordinators * K.lanes = omega (arith, turned, paired, lanes_many) in
+    let anew = all_anew t.runs.len news olds same t.runs.ok.0 in
+    let anew_many = ap (λ (xs : List _). length xs) anew in
+    let e = c.deal_all-homes.ensures.emptied.0 in
+    let l = c.lanes.ensures.value in
+    let prod : length c.deal_all-homes.result.1.items * c.lanes.result ≡ K.coordinators * K.lanes = ap (λ n. n * c.lanes.result) e ∙ ap (λ n. K.coordinators * n) l in
+    omega (arith, anew_many, same, many, prod)
+
+pub gather_all-homes-requires-clause-room :
+    goal.gather_all-homes-requires-clause-room
+gather_all-homes-requires-clause-room g c =
+    let K = c.args.shape.now in
+    let count = g.D.Disk.count in
+    let limit = g.D.Disk.limit in
+    let tables = g.B.Locks.tables in
+    let gs = c.args.log_locks.now in
+    let hs = c.args.shard_locks.now in
+    let t = c.deal_all-homes.result.2 in
+    let lanes = c.args.seated.lanes.items in
+    let olds = t.runs.items in
+    let news = c.run_all.new.runs in
+    let none_lanes = none_long t.lanes.items c.deal_all-homes.ensures.room.lanes_many in
+    let both = all_seated count limit tables K gs hs lanes t none_lanes (c.deal_all-homes.ensures.dealt lanes (none_seated count limit tables K gs hs (K.coordinators * K.lanes) _ c.in-Ok.ensures.runs.0)) in
+    let same : length news ≡ length olds = c.run_all.auto.runs ∙ ap (λ (xs : List _). length xs) c.as_mut_slice.ensures.value in
+    let turned = length-reverse olds in
+    let paired = both_many (IsSetUp count limit tables K gs hs) 0 lanes (reverse olds) both in
+    let lanes_many = c.requires.lanes_many in
+    let many : length olds ≡ K.coordinators * K.lanes = omega (arith, turned, paired, lanes_many) in
+    let anew = all_anew t.runs.len news olds same t.runs.ok.0 in
+    let anew_many = ap (λ (xs : List _). length xs) anew in
+    let room = c.deal_all-homes.ensures.room in
+    let none = (none_back (shard_sight count limit) hs t.rows.items c.deal_all-homes.ensures.left).1 in
+    let end = subst (λ xs. (i : ℕ) (d : _) → i < length xs → Ends count limit tables K (slice_index_or xs i d) (slice_index_or news i d)) c.as_mut_slice.ensures.value c.run_all.ensures.end in
+    let runs = runs_of count limit tables K gs hs lanes olds news both (ends_zip count limit tables K gs hs olds news same end) in
+    let rows = room.rows in
+    let held : length olds + 0 ≡ length news = omega (arith, same) in
+    record {
+      rows_take = subst (λ xs. EachTakes (length xs) t.rows.items) (sym anew) (holds_take (length news) t.rows.items (subst (λ n. EachHolds n t.rows.items) held room.rows_hold) none);
+      seats = (room.seats.0, let a = room.seats.1 in omega (arith, a, rows));
+      spare = (room.spare.0, let a = room.spare.1 in omega (arith, a, rows));
+      lanes_take = let h = room.lanes_hold in let z = room.lanes_many in omega (arith, h, z, anew_many, same);
+      over = subst (λ xs. AllOver (length t.rows.items) xs) (sym anew) (subst (λ n. AllOver n news) (sym rows) (all_over count limit tables K gs hs (reverse lanes) olds news runs));
+    }
