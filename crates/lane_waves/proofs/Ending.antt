@@ -273,3 +273,10 @@ module _ {W D B : Type 0} {G : Ghosts B} (count limit : D → ℕ) (tables : ℕ
 
   pub all_begin : (lanes : List Lane) (rs : List (LaneRun W D B G)) → BothFrom (IsSetUp count limit tables K gs hs) 0 lanes (reverse rs) → All (Begins count limit tables K) rs
   all_begin lanes rs b = down_begin (reverse lanes) rs (down (IsSetUp count limit tables K gs hs) (reverse lanes) rs (subst (λ xs. BothFrom (IsSetUp count limit tables K gs hs) 0 xs (reverse rs)) (sym (reverse-reverse lanes)) b))
+
+module _ {W D B : Type 0} {G : Ghosts B} where
+  pub no_ends : (rs : List (LaneRun W D B G)) (xs : List Lane) → xs ≡ [] → AllZip (λ (r : LaneRun W D B G) (x : Lane). IsEnd r.work r.came x) [] (reverse xs)
+  no_ends rs xs e = subst (λ ys. AllZip (λ (r : LaneRun W D B G) (x : Lane). IsEnd r.work r.came x) [] (reverse ys)) (sym e) tt
+
+  pub ends_are : (news gone : List (LaneRun W D B G)) (xs : List Lane) → news ≡ gone → AllZip (λ (r : LaneRun W D B G) (x : Lane). IsEnd r.work r.came x) gone xs → AllZip (λ (r : LaneRun W D B G) (x : Lane). IsEnd r.work r.came x) news xs
+  ends_are news gone xs e z = subst (λ rs. AllZip (λ (r : LaneRun W D B G) (x : Lane). IsEnd r.work r.came x) rs xs) (sym e) z
