@@ -42,7 +42,7 @@ use Rattle.lane_waves.specs.Lanes.{IsReady, IsKept}
 use Rattle.lane_waves.specs.Places.{BothFrom}
 use Rattle.lane_waves.specs.Deals.{started, AreOpen, log_at, shard_at, IsSetUp, HaveSeats}
 use Rattle.lane_waves.specs.declared.dealing.Table.{Table}
-use Rattle.lane_waves.specs.Gathers.{IsSeat, AreSeats, IsOver, AllOver, AllOf, AllGave, IsEnd, MayKeep, shard_seats, home_seat}
+use Rattle.lane_waves.specs.Gathers.{IsSeat, AreSeats, IsOver, AllOver, AllOf, AllGave, IsEnd, MayKeep, Chunks, shard_seats, home_seat}
 use Rattle.lane_waves.proofs.Places.{Down, down, up}
 use Rattle.lane_waves.proofs.Keeping.{reported_many}
 use Rattle.lane_waves.proofs.Homes.{hand_among, down_at, HomesHold, SeatsAt}
@@ -280,3 +280,6 @@ module _ {W D B : Type 0} {G : Ghosts B} where
 
   pub ends_are : (news gone : List (LaneRun W D B G)) (xs : List Lane) → news ≡ gone → AllZip (λ (r : LaneRun W D B G) (x : Lane). IsEnd r.work r.came x) gone xs → AllZip (λ (r : LaneRun W D B G) (x : Lane). IsEnd r.work r.came x) news xs
   ends_are news gone xs e z = subst (λ rs. AllZip (λ (r : LaneRun W D B G) (x : Lane). IsEnd r.work r.came x) rs xs) (sym e) z
+
+  pub chunks_are : (l n : ℕ) (owns : List (Vec (Seat (SharedLog D)))) (rs news : List (LaneRun W D B G)) → l ≡ n → rs ≡ news → Chunks l owns rs → Chunks n owns news
+  chunks_are l n owns rs news e f c = subst (λ xs. Chunks n owns xs) f (subst (λ m. Chunks m owns rs) e c)

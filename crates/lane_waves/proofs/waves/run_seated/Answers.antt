@@ -17,7 +17,7 @@ use Rattle.wave_records.specs.Among.{hands_at}
 use Rattle.lane_waves.proofs.Places.{none_long, all_anew, both_many, each_pair}
 use Rattle.lane_waves.proofs.Numbers.{many_lanes}
 use Rattle.lane_waves.proofs.Lists.{left_many, left_holds, have_lanes}
-use Rattle.lane_waves.proofs.Ending.{no_ends, ends_are, none_seated, all_seated, all_begin, runs_of, ends_zip, all_over, all_of, seats_at, lanes_ran}
+use Rattle.lane_waves.proofs.Ending.{chunks_are, no_ends, ends_are, none_seated, all_seated, all_begin, runs_of, ends_zip, all_over, all_of, seats_at, lanes_ran}
 use Rattle.lane_waves.proofs.Homes.{HomeAt, homes_hold, homes_at, homes_up, homes_ready, hands_down}
 use Rattle.lane_waves.proofs.Giving.{none_back, holds_take}
 use Rattle.lane_waves.proofs.Unrun.{unrun, still_ran, fresh_hand}
@@ -163,7 +163,7 @@ returns g c =
     let some : 0 < K.lanes = let l = c.requires.open.limits.some_lane in omega (arith, l) in
     let one = mul-le 1 1 K.coordinators K.lanes c.requires.open.limits.some_coordinator c.requires.open.limits.some_lane in
     let any : 0 < K.coordinators * K.lanes = omega (arith, one) in
-    let chunks = subst (Chunks K.lanes (reverse homes)) anew (subst (λ n. Chunks n (reverse homes) _) c.lanes.ensures.value e.homes) in
+    let chunks = chunks_are c.lanes.result K.lanes (reverse homes) _ news c.lanes.ensures.value anew e.homes in
     let hold = (homes_hold K.lanes some (reverse homes) news chunks).0 in
     let at = homes_at K.lanes some tables (reverse homes) news chunks (seats_at count limit tables K gs hs c.requires.open (reverse lanes) olds news some runs) in
     let up = subst (AllFrom (HomeAt K.lanes tables) 0) (reverse-reverse homes) (homes_up K.lanes tables (reverse homes) at) in
