@@ -1,11 +1,11 @@
 -- What comes of lanes that have run and given their seats back.
-use Rattle.std.proofs.Common.{◌≡◌, ◌⊎◌, inl, inr, ℕ, zero, suc, ◌+◌, ◌*◌, ◌/◌, ◌<◌, ◌≤◌, false, List, [], ◌∷◌, ◌++◌, length, reverse, Option, Some, None, Result, Ok, Err, refl, sym, ap, ◌∙◌, subst, arith}
+use Rattle.std.proofs.Common.{◌≡◌, ◌⊎◌, inl, inr, ℕ, zero, suc, ◌+◌, ◌*◌, ◌/◌, ◌<◌, ◌≤◌, false, List, [], ◌∷◌, ◌++◌, length, reverse, Option, Some, None, Result, Ok, Err, append-nil, refl, sym, ap, ◌∙◌, subst, arith}
 use Rattle.std.specs.Prelude.{All, IfSome, slice_get, slice_index_or}
 use Rattle.std.specs.List.{AllZip}
 use Rattle.std.specs.Global.{Vec}
 use Rattle.std.proofs.lemmas.List.{reverse-reverse}
-use Rattle.std.proofs.lemmas.List.Elements.{All-head, All-tail}
-use Rattle.cbdc_model.specs.Records.{Shape, Compact, Record}
+use Rattle.std.proofs.lemmas.List.Elements.{All-head, All-tail, All-nil, All-cons}
+use Rattle.cbdc_model.specs.Records.{Shape, Header, Compact, Record}
 use Rattle.cbdc_model.specs.Ranges.{home_of}
 use Rattle.cbdc_model.specs.Sights.{Sight}
 use Rattle.lane_laws.specs.Batches.{Settled, LaneSo}
@@ -18,10 +18,10 @@ use Rattle.ledger_runs.specs.declared.lanes.Lane.{Lane}
 use Rattle.node_lock.specs.declared.views.Hand.{Hand}
 use Rattle.node_lock.specs.declared.lock.Guarded.{Guarded}
 use Rattle.node_lock.specs.declared.seat.Seat.{Seat}
-use Rattle.node_lock.specs.Seats.{TableId, all_known, knows, opening_of, table_of}
+use Rattle.node_lock.specs.Seats.{TableId, all_known, knows, first_of, opening_of, table_of}
 use Rattle.node_lock.specs.Viewing.{viewed}
 use Rattle.node_ports.specs.Nodes.{sight_at, no_node}
-use Rattle.shard_fanout.specs.Seated.{seat_sight, seen_at}
+use Rattle.shard_fanout.specs.Seated.{opening_sight, seat_sight, seen_at}
 use Rattle.shard_fanout.specs.Nodes.{shard_sight, log_sight}
 use Rattle.shard_fanout.specs.declared.coordinators.SharedLog.{SharedLog}
 use Rattle.shard_fanout.specs.declared.locking.SharedShard.{SharedShard}
@@ -40,14 +40,20 @@ use Rattle.wave_lanes.proofs.Returning.{all_home}
 use Rattle.wave_records.specs.Among.{hands_at}
 use Rattle.lane_waves.specs.Lanes.{IsReady, IsKept}
 use Rattle.lane_waves.specs.Places.{BothFrom}
-use Rattle.lane_waves.specs.Deals.{started, AreOpen, log_at, shard_at, IsSetUp}
-use Rattle.lane_waves.specs.Gathers.{IsSeat, AreSeats, IsOver, AllOver, AllOf, AllGave, IsEnd, MayKeep, shard_seats, home_seat}
+use Rattle.lane_waves.specs.Deals.{started, AreOpen, log_at, shard_at, IsSetUp, HaveSeats}
+use Rattle.lane_waves.specs.declared.dealing.Table.{Table}
+use Rattle.lane_waves.specs.Gathers.{IsSeat, AreSeats, IsOver, AllOver, AllOf, AllGave, IsEnd, MayKeep, Chunks, shard_seats, home_seat}
 use Rattle.lane_waves.proofs.Places.{Down, down, up}
 use Rattle.lane_waves.proofs.Keeping.{reported_many}
 use Rattle.lane_waves.proofs.Homes.{hand_among, down_at, HomesHold, SeatsAt}
 
+same_sight : (a b : Header) (c d : List Record) (e f : Option Record) (g h i j k l : ℕ) → a ≡ b → c ≡ d → e ≡ f → g ≡ h → i ≡ j → k ≡ l
+    → ◌≡◌ {A = Sight} (record { header = a; seen = c; flight = e; faults = g; opened = i; capacity = k }) (record { header = b; seen = d; flight = f; faults = h; opened = j; capacity = l })
+same_sight a b c d e f g h i j k l p q r s t u = cc
+
 view_is : (f v : Sight) (h : Hand) → v.header ≡ f.header → v.seen ≡ h.seen → v.flight ≡ h.left → v.faults ≡ h.faults → v.opened ≡ f.opened → v.capacity ≡ f.capacity → v ≡ viewed f h
-view_is f v h a b c d e g = cc
+view_is f v h a b c d e g = same_sight v.header f.header v.seen h.seen v.flight h.left v.faults h.faults v.opened f.opened v.capacity f.capacity a b c d e g
+
 
 pub past_end : {N : Type 0} (sight : N → Sight) (xs : List N) (n : ℕ) → length xs ≤ n → sight_at sight xs n ≡ no_node
 past_end sight [] n le = refl
@@ -60,7 +66,7 @@ module _ {W D B : Type 0} {G : Ghosts B} (count limit : D → ℕ) where
       → (h : Hand) × IsHand h (hands_at rows s) × (h.lane ≡ lane) × ((f : Sight) → (v : Sight) × (sight_at (λ p. seat_sight (shard_sight count limit) p.seat) ps s ≡ viewed v h))
   port_sits lane [] rows a l s lt = absurd (let z : s < 0 = lt in omega (arith, z))
   port_sits lane (p ∷ ps) [] a l s lt = absurd a
-  port_sits lane (p ∷ ps) (row ∷ rows) a l zero lt = (knows p.seat, hand_among p.seat row.items a.0, All-head (λ q. (knows q.seat).lane ≡ lane) p ps l, λ f. (_, refl))
+  port_sits lane (p ∷ ps) (row ∷ rows) a l zero lt = (knows p.seat, hand_among p.seat row.items a.0, All-head (λ q. (knows q.seat).lane ≡ lane) p ps l, λ f. (opening_sight (shard_sight count limit) (first_of p.seat), refl))
   port_sits lane (p ∷ ps) (row ∷ rows) a l (suc s) lt = port_sits lane ps rows a.1 (All-tail (λ q. (knows q.seat).lane ≡ lane) p ps l) s (omega (arith, lt))
 
 module _ {W D B : Type 0} {G : Ghosts B} (count limit : D → ℕ) (tables : ℕ → TableId) (K : Shape) (gs : List (Guarded (SharedLog D))) (hs : List (Guarded (SharedShard D))) where
@@ -250,3 +256,30 @@ module _ {W D B : Type 0} {G : Ghosts B} (count limit : D → ℕ) (tables : ℕ
         let P = LaneRan K (log_at gs) (shard_at count limit hs) (hands_at homes) (hands_at rows) in
         let b = up P (reverse lanes) (reverse lanes') (lanes_down (reverse lanes) rs qs (reverse lanes') owns homes rows some f k z h a) in
         subst (λ xs. BothFrom P 0 xs lanes') (reverse-reverse lanes) (subst (λ ys. BothFrom P 0 (reverse (reverse lanes)) ys) (reverse-reverse lanes') b)
+
+module _ {W D B : Type 0} {G : Ghosts B} (count limit : D → ℕ) (tables : ℕ → TableId) (K : Shape) (gs : List (Guarded (SharedLog D))) (hs : List (Guarded (SharedShard D))) where
+  -- before the dealing no lane has its seats, and behind it all have
+  pub none_seated : (n : ℕ) (t : Table W D B G) → t.runs.items ≡ [] → HaveSeats count limit tables K gs hs n t.lanes.items t
+  none_seated n t e = record { done = []; all_are = sym (append-nil t.lanes.items); set_up = subst (λ xs. BothFrom (IsSetUp count limit tables K gs hs) n [] (reverse xs)) (sym e) tt }
+
+  pub all_seated : (lanes : List Lane) (t : Table W D B G) → t.lanes.items ≡ [] → HaveSeats count limit tables K gs hs 0 lanes t → BothFrom (IsSetUp count limit tables K gs hs) 0 lanes (reverse t.runs.items)
+  all_seated lanes t e k = subst (λ xs. BothFrom (IsSetUp count limit tables K gs hs) 0 xs (reverse t.runs.items)) (sym (k.all_are ∙ ap (λ xs. xs ++ k.done) e)) k.set_up
+
+  down_begin : (xs : List Lane) (rs : List (LaneRun W D B G)) → Down (IsSetUp count limit tables K gs hs) xs rs → All (Begins count limit tables K) rs
+  down_begin [] [] d = All-nil (Begins count limit tables K)
+  down_begin [] (r ∷ rs) d = absurd d
+  down_begin (x ∷ xs) [] d = absurd d
+  down_begin (x ∷ xs) (r ∷ rs) d = All-cons (Begins count limit tables K) r rs d.0.begins (down_begin xs rs d.1)
+
+  pub all_begin : (lanes : List Lane) (rs : List (LaneRun W D B G)) → BothFrom (IsSetUp count limit tables K gs hs) 0 lanes (reverse rs) → All (Begins count limit tables K) rs
+  all_begin lanes rs b = down_begin (reverse lanes) rs (down (IsSetUp count limit tables K gs hs) (reverse lanes) rs (subst (λ xs. BothFrom (IsSetUp count limit tables K gs hs) 0 xs (reverse rs)) (sym (reverse-reverse lanes)) b))
+
+module _ {W D B : Type 0} {G : Ghosts B} where
+  pub no_ends : (rs : List (LaneRun W D B G)) (xs : List Lane) → xs ≡ [] → AllZip (λ (r : LaneRun W D B G) (x : Lane). IsEnd r.work r.came x) [] (reverse xs)
+  no_ends rs xs e = subst (λ ys. AllZip (λ (r : LaneRun W D B G) (x : Lane). IsEnd r.work r.came x) [] (reverse ys)) (sym e) tt
+
+  pub ends_are : (news gone : List (LaneRun W D B G)) (xs : List Lane) → news ≡ gone → AllZip (λ (r : LaneRun W D B G) (x : Lane). IsEnd r.work r.came x) gone xs → AllZip (λ (r : LaneRun W D B G) (x : Lane). IsEnd r.work r.came x) news xs
+  ends_are news gone xs e z = subst (λ rs. AllZip (λ (r : LaneRun W D B G) (x : Lane). IsEnd r.work r.came x) rs xs) (sym e) z
+
+  pub chunks_are : (l n : ℕ) (owns : List (Vec (Seat (SharedLog D)))) (rs news : List (LaneRun W D B G)) → l ≡ n → rs ≡ news → Chunks l owns rs → Chunks n owns news
+  chunks_are l n owns rs news e f c = subst (λ xs. Chunks n owns xs) f (subst (λ m. Chunks m owns rs) e c)

@@ -19,7 +19,7 @@ use Rattle.wave_records.specs.Among.{hands_at}
 use Rattle.lane_waves.specs.Gathers.{IsSeat, Chunks, home_seat}
 use Rattle.lane_waves.specs.Places.{AllFrom}
 use Rattle.lane_waves.specs.Rows.{home_lanes}
-use Rattle.lane_waves.proofs.Places.{all_more, first_last, turned_many}
+use Rattle.lane_waves.proofs.Places.{all_more, first_last, turned_many, zero_row}
 use Rattle.lane_waves.proofs.Numbers.{many_lanes}
 use Rattle.lane_waves.proofs.Giving.{keeps_seat, last_seat}
 
@@ -58,11 +58,34 @@ module _ {N : Type 0} where
   hands_down [] c = refl
   hands_down (y ∷ ys) c =
       let t : (c == length (reverse ys)) ≡ (c == length ys) = ap (λ n. c == n) (length-reverse ys) in
-      ap (λ zs. hands_at zs c) (first_last y ys) ∙ (hands_last (reverse ys) y c ∙ (ap (λ b. if b then all_known y.items else hands_at (reverse ys) c) t ∙ go (c == length ys)))
+      ap (λ zs. hands_at zs c) (first_last y ys) ∙ (hands_last (reverse ys) y c ∙ (ap (λ b. if b then all_known y.items else hands_at (reverse ys) c) t ∙ go (c == length ys) (hands_down ys c)))
     where
-      go : (b : Bool) → (if b then all_known y.items else hands_at (reverse ys) c) ≡ all_known (if b then y.items else down_at ys c)
-      go true = refl
-      go false = hands_down ys c
+      go : (b : Bool) → hands_at (reverse ys) c ≡ all_known (down_at ys c) → (if b then all_known y.items else hands_at (reverse ys) c) ≡ all_known (if b then y.items else down_at ys c)
+      go true e = refl
+      go false e = e
+
+-- a coordinator's list has all its seats, of the lock that the wave picks
+module _ {D : Type 0} (n : ℕ) (tables : ℕ → TableId) where
+  abbrev pub HomeAt : ℕ → Vec (Seat (SharedLog D)) → Type 0
+  HomeAt c own = AllAt (tables c) own.items × (length own.items ≡ n)
+
+  abbrev pub HomesAt : List (Vec (Seat (SharedLog D))) → Type 0
+  HomesAt [] = Unit {0}
+  HomesAt (own ∷ owns) = HomeAt (length owns) own × HomesAt owns
+
+  pub homes_up : (owns : List (Vec (Seat (SharedLog D)))) → HomesAt owns → AllFrom HomeAt 0 (reverse owns)
+  homes_up [] k = tt
+  homes_up (own ∷ owns) k = subst (AllFrom HomeAt 0) (sym (first_last own owns)) (all_more HomeAt 0 (reverse owns) own (homes_up owns k.1) (subst (λ c. HomeAt c own) (sym (turned_many owns)) k.0))
+
+  pub homes_ready : (some : 0 < n) (lanes : ℕ → List ℕ) (k : ℕ) (gs : List (Guarded (SharedLog D))) (homes : List (Vec (Seat (SharedLog D)))) → length homes ≡ length gs → ((c : ℕ) → length (lanes c) ≡ n) → AllFrom HomeAt k homes
+      → AllFrom (λ c g. tables c ≡ table_of g) k gs → AllFrom (λ c g. lanes_of g ≡ lanes c) k gs → AreReady gs homes
+  homes_ready some lanes k [] [] e m h t l = tt
+  homes_ready some lanes k [] (own ∷ homes) e m h t l = absurd (let z = e in omega (arith, z))
+  homes_ready some lanes k (g ∷ gs) [] e m h t l = absurd (let z = e in omega (arith, z))
+  homes_ready some lanes k (g ∷ gs) (own ∷ homes) e m h t l =
+      let many : length (lanes_of g) ≡ n = ap (λ (xs : List ℕ). length xs) l.0 ∙ m k in
+      (record { ready = (subst (λ i. AllAt i own.items) t.0 h.0.0, h.0.1 ∙ sym many, subst (λ i. 0 < i) (sym h.0.1) some) },
+       homes_ready some lanes (suc k) gs homes (let z = e in omega (arith, z)) m h.1 t.1 l.1)
 
 module _ {W D B : Type 0} {G : Ghosts B} (n : ℕ) (some : 0 < n) where
   -- each run's seat of its coordinator is in the list of that
@@ -107,7 +130,7 @@ module _ {W D B : Type 0} {G : Ghosts B} (n : ℕ) (some : 0 < n) where
   own_holds own cs e = subst (λ zs. EachIn zs cs) (ap reverse (sym e) ∙ reverse-reverse own.items) (each_turned (map home_seat cs) cs (each_self cs))
 
   pub homes_hold : (owns : List (Vec (Seat (SharedLog D)))) (qs : List (LaneRun W D B G)) → Chunks n owns qs → HomesHold owns qs × (length qs ≡ length owns * n)
-  homes_hold [] qs e = (subst (HomesHold []) (sym e) tt, ap (λ (zs : List (LaneRun W D B G)). length zs) e)
+  homes_hold [] qs e = (subst (HomesHold []) (sym e) tt, ap (λ (zs : List (LaneRun W D B G)). length zs) e ∙ sym (zero_row n))
   homes_hold (own ∷ owns) qs (chunk, rest, is, many, seats, more) =
       let m = homes_hold owns rest more in
       let both : length (chunk ++ rest) ≡ length chunk + length rest = grind (arith, common_steps) in
@@ -122,13 +145,6 @@ module _ {W D B : Type 0} {G : Ghosts B} (n : ℕ) (some : 0 < n) where
     SeatsAt [] = Unit {0}
     SeatsAt (q ∷ qs) = ((home_seat q).token.table_id ≡ tables (length qs / n)) × SeatsAt qs
 
-    abbrev pub HomeAt : ℕ → Vec (Seat (SharedLog D)) → Type 0
-    HomeAt c own = AllAt (tables c) own.items × (length own.items ≡ n)
-
-    abbrev pub HomesAt : List (Vec (Seat (SharedLog D))) → Type 0
-    HomesAt [] = Unit {0}
-    HomesAt (own ∷ owns) = HomeAt (length owns) own × HomesAt owns
-
     chunk_at : (c : ℕ) (cs rest : List (LaneRun W D B G)) → length cs ≤ n → length rest ≡ c * n → SeatsAt (cs ++ rest) → AllAt (tables c) (map home_seat cs) × SeatsAt rest
     chunk_at c [] rest le many k = (tt, k)
     chunk_at c (q ∷ cs) rest le many k =
@@ -142,7 +158,7 @@ module _ {W D B : Type 0} {G : Ghosts B} (n : ℕ) (some : 0 < n) where
     map_many [] = refl
     map_many (q ∷ cs) = let e = map_many cs in omega (arith, e)
 
-    pub homes_at : (owns : List (Vec (Seat (SharedLog D)))) (qs : List (LaneRun W D B G)) → Chunks n owns qs → SeatsAt qs → HomesAt owns
+    pub homes_at : (owns : List (Vec (Seat (SharedLog D)))) (qs : List (LaneRun W D B G)) → Chunks n owns qs → SeatsAt qs → HomesAt n tables owns
     homes_at [] qs e k = tt
     homes_at (own ∷ owns) qs (chunk, rest, is, many, seats, more) k =
         let m = chunk_at (length owns) chunk rest (omega (arith, many)) (homes_hold owns rest more).1 (subst SeatsAt is k) in
@@ -151,17 +167,3 @@ module _ {W D B : Type 0} {G : Ghosts B} (n : ℕ) (some : 0 < n) where
         let b = map_many chunk in
         ((subst (AllAt (tables (length owns))) (sym items) (turned_at (tables (length owns)) (map home_seat chunk) m.0),
           ap (λ (zs : List (Seat (SharedLog D))). length zs) items ∙ omega (arith, a, b, many)), homes_at owns rest more m.1)
-
-    pub homes_up : (owns : List (Vec (Seat (SharedLog D)))) → HomesAt owns → AllFrom HomeAt 0 (reverse owns)
-    homes_up [] k = tt
-    homes_up (own ∷ owns) k = subst (AllFrom HomeAt 0) (sym (first_last own owns)) (all_more HomeAt 0 (reverse owns) own (homes_up owns k.1) (subst (λ c. HomeAt c own) (sym (turned_many owns)) k.0))
-
-    pub homes_ready : (lanes : ℕ → List ℕ) (k : ℕ) (gs : List (Guarded (SharedLog D))) (homes : List (Vec (Seat (SharedLog D)))) → length homes ≡ length gs → ((c : ℕ) → length (lanes c) ≡ n) → AllFrom HomeAt k homes
-        → AllFrom (λ c g. tables c ≡ table_of g) k gs → AllFrom (λ c g. lanes_of g ≡ lanes c) k gs → AreReady gs homes
-    homes_ready lanes k [] [] e m h t l = tt
-    homes_ready lanes k [] (own ∷ homes) e m h t l = absurd (let z = e in omega (arith, z))
-    homes_ready lanes k (g ∷ gs) [] e m h t l = absurd (let z = e in omega (arith, z))
-    homes_ready lanes k (g ∷ gs) (own ∷ homes) e m h t l =
-        let many : length (lanes_of g) ≡ n = ap (λ (xs : List ℕ). length xs) l.0 ∙ m k in
-        (record { ready = (subst (λ i. AllAt i own.items) t.0 h.0.0, h.0.1 ∙ sym many, subst (λ i. 0 < i) (sym h.0.1) some) },
-         homes_ready lanes (suc k) gs homes (let z = e in omega (arith, z)) m h.1 t.1 l.1)

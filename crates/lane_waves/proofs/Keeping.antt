@@ -8,7 +8,7 @@ use Rattle.lane_driver.specs.Reports.{CutFrom, AreReports, IsReported}
 use Rattle.lane_driver.specs.declared.fault.BatchReport.{BatchReport}
 use Rattle.ledger_runs.specs.Telling.{decided_in}
 use Rattle.thread_laws.specs.Telling.{told_in}
-use Rattle.lane_waves.proofs.Places.{first_last}
+use Rattle.lane_waves.proofs.Places.{first_last, append_many}
 
 -- a write that a function does not see
 pub map_set : {A B : Type 0} (f : A → B) (xs : List A) (i : ℕ) (y d : A) → i < length xs → f y ≡ f (get_or xs i d) → map f (set xs i y) ≡ map f xs
@@ -19,9 +19,6 @@ map_set f (x ∷ xs) (suc i) y d lt e = ap (λ zs. f x ∷ zs) (map_set f xs i y
 decided_many : (b : Batch) (os : List Outcome) → length (decided_in b os) ≡ length os
 decided_many b [] = refl
 decided_many b (o ∷ os) = let e = decided_many b os in omega (arith, e)
-
-append_many : {A : Type 0} (xs ys : List A) → length (xs ++ ys) ≡ length xs + length ys
-append_many xs ys = grind (arith, common_steps)
 
 -- as many in all
 abbrev summed : List (List Compact) → ℕ

@@ -5,7 +5,7 @@ use Rattle.std.specs.Global.{Vec}
 use Rattle.cbdc_model.specs.Sights.{Sight}
 use Rattle.node_lock.specs.declared.lock.Guarded.{Guarded}
 use Rattle.node_lock.specs.declared.seat.Seat.{Seat}
-use Rattle.node_lock.specs.Seats.{AreFresh, knows, first_of, opening_of, table_of}
+use Rattle.node_lock.specs.Seats.{AreFresh, knows, first_of, opening_of, table_of, lanes_of}
 use Rattle.node_lock.specs.Tickets.{fresh}
 use Rattle.cbdc_model.specs.Records.{Shape}
 use Rattle.shard_fanout.specs.Nodes.{log_sight}
@@ -13,7 +13,8 @@ use Rattle.shard_fanout.specs.declared.coordinators.SharedLog.{SharedLog}
 use Rattle.wave_ends.specs.Dealing.{PopsEach, HaveOne}
 use Rattle.wave_ends.specs.Rows.{AreLeft, AreDealt}
 use Rattle.wave_ends.proofs.Locking.{fresh_at}
-use Rattle.wave_ends.proofs.Passing.{fresh_last}
+use Rattle.wave_ends.proofs.Passing.{fresh_last, HaveLanes}
+use Rattle.lane_waves.specs.Places.{AllFrom}
 use Rattle.lane_waves.specs.Rows.{lanes_from}
 use Rattle.lane_waves.specs.Deals.{EachHolds, IsHomeLeft}
 use Rattle.lane_waves.proofs.Places.{snoc_many}
@@ -70,3 +71,17 @@ home_last K home gs own rest seat k e g there =
     fresh_last (log_sight (opening_of g)) (opening_of g) (table_of g) (lanes_from first (length rest)) (first + length rest) rest seat
     (subst (λ n. AreFresh (log_sight (opening_of g)) (opening_of g) (table_of g) (lanes_from first n) (rest ++ seat ∷ [])) one
     (subst (λ xs. AreFresh (log_sight (opening_of g)) (opening_of g) (table_of g) (lanes_from first (length own)) xs) e (k g there)))
+
+-- lists of all seats hold as many as there are lanes
+pub left_holds : {N : Type 0} (sight : N → Sight) (ls : List ℕ) (gs : List (Guarded N)) (rs : List (Vec (Seat N))) → AreLeft sight ls gs rs → EachHolds (length ls) rs
+left_holds sight ls [] [] k = tt
+left_holds sight ls [] (r ∷ rs) k = absurd k
+left_holds sight ls (g ∷ gs) [] k = absurd k
+left_holds sight ls (g ∷ gs) (r ∷ rs) k =
+    let e = (fresh_at sight (sight (opening_of g)) (opening_of g) g ls r.items k.0).1 in
+    let a = r.ok.0 in let b = r.ok.1 in
+    (omega (arith, e, a, b), left_holds sight ls gs rs k.1)
+
+pub have_lanes : {N : Type 0} (k : ℕ) (ls : List ℕ) (n : ℕ) (gs : List (Guarded N)) → length ls ≡ n → AllFrom (λ i g. lanes_of g ≡ ls) k gs → HaveLanes n gs
+have_lanes k ls n [] e a = tt
+have_lanes k ls n (g ∷ gs) e a = (ap (λ (xs : List ℕ). length xs) a.0 ∙ e, have_lanes (suc k) ls n gs e a.1)

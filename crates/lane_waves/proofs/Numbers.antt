@@ -36,34 +36,33 @@ beyond x first (suc n) e =
 
 pub once : (x first n : ℕ) → times x (lanes_from first n) ≤ 1
 once x first zero = omega arith
-once x first (suc n) = go (eqb x (first + n)) refl
+once x first (suc n) = go (eqb x (first + n)) refl (once x first n)
   where
     all : times x (lanes_from first n ++ (first + n) ∷ []) ≡ times x (lanes_from first n) + is_at x (first + n)
     all = times_more x (first + n) (lanes_from first n)
-    go : (b : Bool) → eqb x (first + n) ≡ b → times x (lanes_from first n ++ (first + n) ∷ []) ≤ 1
-    go true e =
+    go : (b : Bool) → eqb x (first + n) ≡ b → times x (lanes_from first n) ≤ 1 → times x (lanes_from first n ++ (first + n) ∷ []) ≤ 1
+    go true e before =
         let same : x ≡ first + n = grind (arith, e) in
         let none = beyond x first n (omega (arith, same)) in
         let one : is_at x (first + n) ≡ 1 = ap one_if e in
         let a = all in omega (arith, none, one, a)
-    go false e =
-        let before = once x first n in
+    go false e before =
         let none : is_at x (first + n) ≡ 0 = ap one_if e in
         let a = all in omega (arith, before, none, a)
 
 pub inside : (x first n : ℕ) → 0 < times x (lanes_from first n) → (first ≤ x) × (x < first + n)
 inside x first zero some = absurd (let z : 0 < 0 = some in omega (arith, z))
-inside x first (suc n) some = go (eqb x (first + n)) refl
+inside x first (suc n) some = go (eqb x (first + n)) refl (inside x first n)
   where
     all : times x (lanes_from first n ++ (first + n) ∷ []) ≡ times x (lanes_from first n) + is_at x (first + n)
     all = times_more x (first + n) (lanes_from first n)
-    go : (b : Bool) → eqb x (first + n) ≡ b → (first ≤ x) × (x < first + suc n)
-    go true e = let same : x ≡ first + n = grind (arith, e) in (omega (arith, same), omega (arith, same))
-    go false e =
+    go : (b : Bool) → eqb x (first + n) ≡ b → (0 < times x (lanes_from first n) → (first ≤ x) × (x < first + n)) → (first ≤ x) × (x < first + suc n)
+    go true e before = let same : x ≡ first + n = grind (arith, e) in (omega (arith, same), omega (arith, same))
+    go false e before =
         let none : is_at x (first + n) ≡ 0 = ap one_if e in
         let a = all in
-        let before = inside x first n (omega (arith, none, a, some)) in
-        let low = before.0 in let high = before.1 in
+        let m = before (omega (arith, none, a, some)) in
+        let low = m.0 in let high = m.1 in
         (low, omega (arith, high))
 
 pub is_row : (first n : ℕ) → 0 < n → n < 4294967296 → IsRow (lanes_from first n)

@@ -1,9 +1,9 @@
 -- Lists by the numbers of their places.
-use Rattle.std.proofs.Common.{◌≡◌, ℕ, zero, suc, ◌+◌, ◌<◌, List, [], ◌∷◌, ◌++◌, length, reverse, Option, Some, None, refl, sym, ap, ◌∙◌, subst, arith}
+use Rattle.std.proofs.Common.{◌≡◌, ℕ, zero, suc, ◌+◌, ◌*◌, ◌<◌, List, [], ◌∷◌, ◌++◌, length, reverse, take, drop, Option, Some, None, refl, sym, ap, ◌∙◌, subst, arith}
 use Rattle.std.specs.Prelude.{slice_get}
 use Rattle.std.specs.List.{AllZip}
 use Rattle.std.proofs.lemmas.Grind.{common_steps}
-use Rattle.std.proofs.lemmas.List.{reverse-append, length-reverse}
+use Rattle.std.proofs.lemmas.List.{reverse-append, length-reverse, take_at}
 use Rattle.lane_waves.specs.Places.{AllFrom, BothFrom}
 
 pub last_first : {A : Type 0} (xs ys : List A) (x : A) → ys ≡ xs ++ x ∷ [] → reverse ys ≡ x ∷ reverse xs
@@ -18,7 +18,7 @@ one_more k y xs = omega arith
 pub none_more : (k : ℕ) → k + 0 ≡ k
 none_more k = omega arith
 
-turned_many : {A : Type 0} (zs : List A) → 0 + length (reverse zs) ≡ length zs
+pub turned_many : {A : Type 0} (zs : List A) → 0 + length (reverse zs) ≡ length zs
 turned_many zs = let e = length-reverse zs in omega (arith, e)
 
 module _ {A : Type 0} (P : ℕ → A → Type 0) where
@@ -108,3 +108,31 @@ snoc_many xs ys x e = ap (λ (zs : List _). length zs) e ∙ more ys x
   where
     more : {A : Type 0} (zs : List A) (z : A) → length (zs ++ z ∷ []) ≡ length zs + 1
     more zs z = grind (arith, common_steps)
+
+pub append_many : {A : Type 0} (xs ys : List A) → length (xs ++ ys) ≡ length xs + length ys
+append_many xs ys = grind (arith, common_steps)
+
+pub none_long : {A : Type 0} (xs : List A) → length xs ≡ 0 → xs ≡ []
+none_long [] e = refl
+none_long (x ∷ xs) e = absurd (let z = e in omega (arith, z))
+
+pub next_row : (c m n : ℕ) → m ≡ c + 1 → m * n ≡ c * n + n
+next_row c m n e = ap (λ k. k * n) e ∙ more c n
+  where
+    more : (c n : ℕ) → (c + 1) * n ≡ c * n + n
+    more c n = grind (arith, common_steps)
+
+pub zero_row : (n : ℕ) → 0 * n ≡ 0
+zero_row n = omega arith
+
+-- from the first on
+pub all_here : {A : Type 0} (P : ℕ → A → Type 0) (xs : List A) (n : ℕ) (x : A) → AllFrom P 0 xs → slice_get xs n ≡ Some x → P n x
+all_here P xs n x a e = let none : 0 + n ≡ n = omega arith in subst (λ m. P m x) none (all_at P 0 xs n x a e)
+
+-- all items of a list written anew
+pub all_anew : {A : Type 0} (n : ℕ) (xs ys : List A) → length xs ≡ length ys → n ≡ length ys → take n (xs ++ drop (length xs) ys) ≡ xs
+all_anew n xs ys e k = take_at xs (drop (length xs) ys) n (e ∙ sym k)
+
+-- pair by pair
+pub each_pair : {A B : Type 0} (P : ℕ → A → B → Type 0) (xs : List A) (ys : List B) → BothFrom P 0 xs ys → (n : ℕ) (x : A) (y : B) → slice_get xs n ≡ Some x → slice_get ys n ≡ Some y → P n x y
+each_pair P xs ys b n x y e f = let none : 0 + n ≡ n = omega arith in subst (λ m. P m x y) none (both_at P 0 xs ys n x y b e f)

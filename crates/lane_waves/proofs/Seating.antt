@@ -6,8 +6,8 @@ use Rattle.std.proofs.lemmas.Grind.{common_steps}
 use Rattle.std.proofs.lemmas.Nat.{div-mul-add, row_fits}
 use Rattle.std.proofs.lemmas.List.Elements.{All-cons, All-nil}
 use Rattle.cbdc_types.specs.Limits.{IsWithinLimits}
-use Rattle.cbdc_model.specs.Records.{Shape, Header, Record, record_of}
-use Rattle.cbdc_model.specs.Slots.{slot, slot_stamp, last_stamp, Idle, InLock}
+use Rattle.cbdc_model.specs.Records.{Shape, Header, Record, record_of, last_stamp}
+use Rattle.cbdc_model.specs.Slots.{slot, slot_stamp, Idle, InLock}
 use Rattle.cbdc_model.specs.Ranges.{home_of, shard_node}
 use Rattle.cbdc_model.specs.Sights.{Sight}
 use Rattle.lane_laws.specs.Batches.{Settled}
@@ -40,7 +40,7 @@ use Rattle.lane_waves.specs.Places.{AllFrom, BothFrom}
 use Rattle.lane_waves.specs.Rows.{lanes_from}
 use Rattle.lane_waves.specs.Deals.{MayRun, EachHolds, started, IsOpenAt, AreOpen, log_at, shard_at, IsSetUp, HaveSeats, IsNext}
 use Rattle.lane_waves.specs.declared.dealing.Table.{Table}
-use Rattle.lane_waves.proofs.Places.{last_first, all_at}
+use Rattle.lane_waves.proofs.Places.{last_first, all_here}
 use Rattle.lane_waves.proofs.Opening.{seen_get}
 
 module _ {N : Type 0} (sight : N → Sight) where
@@ -124,7 +124,7 @@ module _ {W D B : Type 0} {G : Ghosts B} (count limit : D → ℕ) (tables : ℕ
       let within : home < K.coordinators = subst (λ n. home < n) open_.logs_many place.1 in
       let home_is : home_of K lane ≡ home = div-mul-add home K.lanes j low in
       let lane_low : lane < K.coordinators * K.lanes = lane_within home K.lanes K.coordinators j within low in
-      let opened : IsOpenAt K home (log_sight (opening_of g)) = all_at (λ n x. IsOpenAt K n (log_sight (opening_of x))) 0 gs home g open_.logs there in
+      let opened : IsOpenAt K home (log_sight (opening_of g)) = all_here (λ n x. IsOpenAt K n (log_sight (opening_of x))) gs home g open_.logs there in
       let seat_seen : seat_sight log_sight p.seat ≡ started lane (log_sight (opening_of g)) = seat_started log_sight p.seat (opening_of g) lane (p.own.1 ∙ ap (λ x. Some (opening_of x)) guarded) knew in
       let at_home : log_at gs (home_of K lane) ≡ log_sight (opening_of g) = ap (log_at gs) home_is ∙ place.0 in
       let log_seen : log_of count limit tables K r ≡ started lane (log_at gs (home_of K lane)) =
@@ -140,7 +140,7 @@ module _ {W D B : Type 0} {G : Ghosts B} (count limit : D → ℕ) (tables : ℕ
         ready = may.ready;
         begins = record {
           seated = record {
-            log = subst (λ q. table_of q.guarded.now ≡ tables q.node) (sym log_is) (ap table_of guarded ∙ (sym (all_at (λ n x. tables n ≡ table_of x) 0 gs home g open_.log_tables there) ∙ ap tables (sym node)));
+            log = subst (λ q. table_of q.guarded.now ≡ tables q.node) (sym log_is) (ap table_of guarded ∙ (sym (all_here (λ n x. tables n ≡ table_of x) gs home g open_.log_tables there) ∙ ap tables (sym node)));
             shards = ports_picked count limit tables K lane 0 hs ss r.ports.shards.each.ports.items dealt ports open_.shard_tables open_.shards;
           };
           at = r_node ∙ (sym home_is ∙ ap (home_of K) (sym lane_is));
@@ -152,7 +152,7 @@ module _ {W D B : Type 0} {G : Ghosts B} (count limit : D → ℕ) (tables : ℕ
           count_is = ports_many count limit hs ss r.ports.shards.each.ports.items ports ∙ open_.shards_many;
           ledger = λ s lt.
               let got = shard_get hs s (subst (λ n. s < n) (sym open_.shards_many) lt) in
-              let at = all_at (λ n x. IsOpenAt K (shard_node K n) (shard_sight count limit (opening_of x))) 0 hs s got.0 open_.shards got.1 in
+              let at = all_here (λ n x. IsOpenAt K (shard_node K n) (shard_sight count limit (opening_of x))) hs s got.0 open_.shards got.1 in
               let is : shards_of count limit tables K r s ≡ started lane (shard_sight count limit (opening_of got.0)) = shards_seen s ∙ ap (started lane) (seen_get (λ x. shard_sight count limit (opening_of x)) hs s got.0 got.1).0 in
               (ap (λ (v : Sight). v.header.shape) is ∙ at.shape, ap (λ (v : Sight). v.header.node) is ∙ at.node);
           settled = subst (λ l. IsSettled K l (log_of count limit tables K r) (shards_of count limit tables K r)) (sym lane_is)
@@ -179,12 +179,6 @@ module _ {W D B : Type 0} {G : Ghosts B} (count limit : D → ℕ) (tables : ℕ
     all_are = k.all_are ∙ (ap (λ xs. xs ++ k.done) next.lanes ∙ append_assoc u.lanes.items (next.run.work ∷ []) k.done);
     set_up = subst (λ xs. BothFrom (IsSetUp count limit tables K gs hs) n (next.run.work ∷ k.done) xs) (sym (last_first t.runs.items u.runs.items next.run next.runs)) (up, k.set_up);
   }
-
-pub next_row : (c m n : ℕ) → m ≡ c + 1 → m * n ≡ c * n + n
-next_row c m n e = ap (λ k. k * n) e ∙ more c n
-  where
-    more : (c n : ℕ) → (c + 1) * n ≡ c * n + n
-    more c n = grind (arith, common_steps)
 
 pub opened_of : {D : Type 0} (count limit : D → ℕ) (K : Shape) (k : ℕ) (hs : List (Guarded (SharedShard D))) → AllFrom (λ s h. IsOpenAt K (shard_node K s) (shard_sight count limit (opening_of h))) k hs → AreOpened count limit hs
 opened_of count limit K k [] a = tt

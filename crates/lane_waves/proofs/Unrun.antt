@@ -31,11 +31,11 @@ hand_more h first x (l ∷ ls) (inr k) = inr (hand_more h first x ls k)
 -- each lane of a row has its fresh hand
 pub fresh_hand : (first : Sight) (from n j : ℕ) → j < n → IsHand (fresh first (from + j)) (map (fresh first) (lanes_from from n))
 fresh_hand first from zero j lt = absurd (let z : j < 0 = lt in omega (arith, z))
-fresh_hand first from (suc n) j lt = go (eqb j n) refl
+fresh_hand first from (suc n) j lt = go (eqb j n) refl (fresh_hand first from n j)
   where
-    go : (b : Bool) → eqb j n ≡ b → IsHand (fresh first (from + j)) (map (fresh first) (lanes_from from n ++ (from + n) ∷ []))
-    go true e = let same : from + n ≡ from + j = grind (arith, e) in subst (λ x. IsHand (fresh first (from + j)) (map (fresh first) (lanes_from from n ++ x ∷ []))) (sym same) (hand_last first (from + j) (lanes_from from n))
-    go false e = let less : j < n = grind (arith, e, lt) in hand_more (fresh first (from + j)) first (from + n) (lanes_from from n) (fresh_hand first from n j less)
+    go : (b : Bool) → eqb j n ≡ b → (j < n → IsHand (fresh first (from + j)) (map (fresh first) (lanes_from from n))) → IsHand (fresh first (from + j)) (map (fresh first) (lanes_from from n ++ (from + n) ∷ []))
+    go true e before = let same : from + n ≡ from + j = grind (arith, e) in subst (λ x. IsHand (fresh first (from + j)) (map (fresh first) (lanes_from from n ++ x ∷ []))) (sym same) (hand_last first (from + j) (lanes_from from n))
+    go false e before = let less : j < n = grind (arith, e, lt) in hand_more (fresh first (from + j)) first (from + n) (lanes_from from n) (before less)
 
 -- nothing was done at a node whose lock has only fresh hands
 covered : (first : Sight) (x : ℕ) (ls : List ℕ) → total (lane_at x) (map (fresh first) ls) ≡ times x ls

@@ -1,0 +1,90 @@
+use Rattle.std.proofs.Common.{rules, ◌≡◌, ◌<◌, ◌≤◌, ◌+◌, ◌*◌, ℕ, suc, Some, List, length, refl, sym, ap, ◌∙◌, subst, arith}
+use Rattle.std.specs.Prelude.{vec_capacity, slice_get}
+use Rattle.std.proofs.lemmas.Option.{slice_get_read}
+use Rattle.std.proofs.lemmas.List.Elements.{All-pop}
+use Rattle.ledger_runs.specs.declared.lanes.Lane.{Lane}
+use Rattle.node_lock.specs.declared.views.Hand.{Hand}
+use Rattle.node_lock.specs.Seats.{knows, opening_of}
+use Rattle.shard_fanout.specs.Nodes.{shard_sight, log_sight}
+use Rattle.wave_ends.specs.Rows.{AreLeft, AreDealt}
+use Rattle.lane_waves.specs.Rows.{lanes_from}
+use Rattle.lane_waves.specs.Deals.{MayRun, HasRoom, HaveSeats, IsOpenAt}
+use Rattle.lane_waves.proofs.Places.{snoc_many, all_here}
+use Rattle.lane_waves.proofs.Lists.{home_last}
+use Rattle.lane_waves.proofs.Seating.{opened_of, set_up, seats_more}
+use Rattle.lane_waves.proofs.dealing.deal_home.Goals as goal
+
+pub invariant_of-port : goal.invariant_of-port
+invariant_of-port g c =
+    let gs = c.args.log_locks.now in
+    let guarded = c.index-log_locks-home.result in
+    let there : slice_get gs c.args.home ≡ Some guarded = slice_get_read gs _ c.args.home guarded refl c.requires.home c.index-log_locks-home.is in
+    let k = (home_last c.args.shape.now c.args.home gs c.loop-seat.own.items c.pop.new.self.items c.in-Some.seat c.loop-seat.invariant.own c.in-Some.ensures.items guarded there).1 in
+    let open_at : IsOpenAt c.args.shape.now c.args.home (log_sight (opening_of guarded)) = all_here (λ n x. IsOpenAt c.args.shape.now n (log_sight (opening_of x))) gs c.args.home guarded c.requires.open.logs there in
+    record {
+      own = (k.0, k.1);
+      since = subst (λ n. (log_sight (opening_of guarded)).opened ≤ n) (sym (ap (λ (h : Hand). h.faults) k.2)) open_at.since;
+    }
+
+pub deal_lane-table-requires-clause-opened :
+    goal.deal_lane-table-requires-clause-opened
+deal_lane-table-requires-clause-opened g c = opened_of g.D.Disk.count g.D.Disk.limit c.args.shape.now 0 c.args.shard_locks.now c.requires.open.shards
+
+pub deal_lane-table-requires-clause-room :
+    goal.deal_lane-table-requires-clause-room
+deal_lane-table-requires-clause-room g c =
+    let gs = c.args.log_locks.now in
+    let guarded = c.index-log_locks-home.result in
+    let there : slice_get gs c.args.home ≡ Some guarded = slice_get_read gs _ c.args.home guarded refl c.requires.home c.index-log_locks-home.is in
+    let k = (home_last c.args.shape.now c.args.home gs c.loop-seat.own.items c.pop.new.self.items c.in-Some.seat c.loop-seat.invariant.own c.in-Some.ensures.items guarded there).1 in
+    let lane : (knows c.in-Some.seat).lane ≡ c.args.home * c.args.shape.now.lanes + length c.pop.new.self.items = ap (λ (h : Hand). h.lane) k.2 in
+    let many = snoc_many c.loop-seat.own.items c.pop.new.self.items c.in-Some.seat c.in-Some.ensures.items in
+    let all : c.args.home * c.args.shape.now.lanes + length c.loop-seat.own.items ≡ suc (knows c.in-Some.seat).lane = omega (arith, lane, many) in
+    subst (λ n. HasRoom (length c.args.shard_locks.now) n c.loop-seat.table) all c.loop-seat.invariant.room
+
+pub deal_lane-table-requires-clause-left :
+    goal.deal_lane-table-requires-clause-left
+deal_lane-table-requires-clause-left g c =
+    let gs = c.args.log_locks.now in
+    let guarded = c.index-log_locks-home.result in
+    let there : slice_get gs c.args.home ≡ Some guarded = slice_get_read gs _ c.args.home guarded refl c.requires.home c.index-log_locks-home.is in
+    let k = (home_last c.args.shape.now c.args.home gs c.loop-seat.own.items c.pop.new.self.items c.in-Some.seat c.loop-seat.invariant.own c.in-Some.ensures.items guarded there).1 in
+    let lane : (knows c.in-Some.seat).lane ≡ c.args.home * c.args.shape.now.lanes + length c.pop.new.self.items = ap (λ (h : Hand). h.lane) k.2 in
+    let many = snoc_many c.loop-seat.own.items c.pop.new.self.items c.in-Some.seat c.in-Some.ensures.items in
+    let all : c.args.home * c.args.shape.now.lanes + length c.loop-seat.own.items ≡ suc (knows c.in-Some.seat).lane = omega (arith, lane, many) in
+    subst (λ n. AreLeft (shard_sight g.D.Disk.count g.D.Disk.limit) (lanes_from 0 n) c.args.shard_locks.now c.loop-seat.table.rows.items) all c.loop-seat.invariant.left
+
+pub loop-seat-preserved : goal.loop-seat-preserved
+loop-seat-preserved g c =
+    let inv = c.loop-seat.invariant in
+    let K = c.args.shape.now in
+    let gs = c.args.log_locks.now in
+    let hs = c.args.shard_locks.now in
+    let count = g.D.Disk.count in
+    let limit = g.D.Disk.limit in
+    let tables = g.B.Locks.tables in
+    let rest = c.pop.new.self.items in
+    let guarded = c.index-log_locks-home.result in
+    let there : slice_get gs c.args.home ≡ Some guarded = slice_get_read gs _ c.args.home guarded refl c.requires.home c.index-log_locks-home.is in
+    let k = (home_last K c.args.home gs c.loop-seat.own.items rest c.in-Some.seat inv.own c.in-Some.ensures.items guarded there).1 in
+    let at : ℕ = c.args.home * K.lanes + length rest in
+    let lane : (knows c.in-Some.seat).lane ≡ at = ap (λ (h : Hand). h.lane) k.2 in
+    let many = snoc_many c.loop-seat.own.items rest c.in-Some.seat c.in-Some.ensures.items in
+    let most = inv.many in
+    let low : length rest < K.lanes = omega (arith, most, many) in
+    let all : c.args.home * K.lanes + length c.loop-seat.own.items ≡ suc at = omega (arith, many) in
+    let e = c.deal_lane-table.ensures in
+    let next = e.next in
+    let u = c.deal_lane-table.result in
+    let may = (All-pop MayRun c.loop-seat.table.lanes.items u.lanes.items (Some next.run.work) next.lanes inv.room.lanes).1 in
+    let up = set_up count limit tables K gs hs c.requires.open c.args.home (length rest) guarded _ next.run next.seats low there refl refl k.2 (next.lane ∙ lane) next.log
+        (subst (λ l. AreDealt (shard_sight count limit) l hs next.seats) lane next.dealt) next.ports may in
+    record {
+      many = omega (arith, low);
+      own = λ x at_x. (home_last K c.args.home gs c.loop-seat.own.items rest c.in-Some.seat inv.own c.in-Some.ensures.items x at_x).0;
+      capacity = c.pop.ensures.capacity ∙ inv.capacity;
+      room = subst (λ n. HasRoom (length hs) n u) lane e.room;
+      left = subst (λ n. AreLeft (shard_sight count limit) (lanes_from 0 n) hs u.rows.items) lane e.left;
+      dealt = λ lanes d. seats_more count limit tables K gs hs c.requires.open at lanes _ c.loop-seat.table u next up
+          (subst (λ n. HaveSeats count limit tables K gs hs n lanes c.loop-seat.table) all (inv.dealt lanes d));
+    }
