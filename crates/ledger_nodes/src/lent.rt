@@ -1,7 +1,8 @@
 // The nodes of a ledger, lent to the ports of its lanes.
-ghost use Rattle.std.specs.Prelude.{◌≡◌, ◌*◌, length};
+ghost use Rattle.std.specs.Prelude.{◌≡◌, ◌≤◌, ◌*◌, ℕ, length};
 ghost use Rattle.cbdc_model.specs.World.{AreIdle};
 ghost use Rattle.ledger_runs.specs.Waving.{AreWithin};
+ghost use Rattle.ledger_runs.specs.Waves.{WaveAsks, WaveGives};
 ghost use Rattle.ledger_nodes.specs.Waving.{IsWave};
 ghost use Rattle.ledger_nodes.specs.Ledgers.{journals_of, flights_of, faults_of, opened_of, capacity_of, AreChecked, AreStored, AreQuiet};
 
@@ -152,4 +153,20 @@ impl<'r, W: Wait + Threads + Sync, D: Disk + Send> Turns for LentLedger<'r, W, D
             Err(fault) => Err(fault),
         }
     }
+}
+
+/// Runs a wave of idle lanes at lent nodes: what a wave asks and gives, by their members.
+pub fn wave_at<W: Threads + Wait + Sync, D: Disk + Send, G: Gate + Sync>(
+    alloc: Global,
+    ledger: &mut LentLedger<'_, W, D>,
+    lanes: &mut Vec<Lane>,
+    gate: &G,
+)
+    requires { WaveAsks ledger.old.header.shape (journals_of D.count D.limit ledger.old.header.shape ledger.old.logs ledger.old.shards) (AreChecked D.count D.limit ledger.old.header.shape ledger.old.logs ledger.old.shards) lanes.old.items }
+    ensures { WaveGives ledger.old.header.shape ledger.new.header.shape (journals_of D.count D.limit ledger.old.header.shape ledger.old.logs ledger.old.shards) (journals_of D.count D.limit ledger.new.header.shape ledger.new.logs ledger.new.shards)
+        (flights_of D.count D.limit ledger.old.header.shape ledger.old.logs ledger.old.shards) (flights_of D.count D.limit ledger.new.header.shape ledger.new.logs ledger.new.shards) (opened_of D.count D.limit ledger.old.header.shape ledger.old.logs ledger.old.shards) (opened_of D.count D.limit ledger.new.header.shape ledger.new.logs ledger.new.shards)
+        (faults_of D.count D.limit ledger.old.header.shape ledger.old.logs ledger.old.shards) (faults_of D.count D.limit ledger.new.header.shape ledger.new.logs ledger.new.shards) (capacity_of D.count D.limit ledger.old.header.shape ledger.old.logs ledger.old.shards) (capacity_of D.count D.limit ledger.new.header.shape ledger.new.logs ledger.new.shards)
+        (AreChecked D.count D.limit ledger.new.header.shape ledger.new.logs ledger.new.shards) (AreQuiet ledger.old.logs ledger.old.shards) (AreQuiet ledger.new.logs ledger.new.shards) (AreStored D.content D.images ledger.old.logs ledger.old.shards) (AreStored D.content D.images ledger.new.logs ledger.new.shards) lanes.old.items lanes.new.items }
+{
+    ledger.wave(alloc, lanes, gate);
 }
