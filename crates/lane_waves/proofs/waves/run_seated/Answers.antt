@@ -169,8 +169,8 @@ returns g c =
     let up = subst (AllFrom (HomeAt K.lanes tables) 0) (reverse-reverse homes) (homes_up K.lanes tables (reverse homes) at) in
     let homes_many : length homes ≡ length gs = e.many ∙ (c.deal_all-homes.ensures.emptied.0 ∙ sym c.requires.open.logs_many) in
     let ran = lanes_ran count limit tables K gs hs c.requires.open lanes u.lanes.items olds news (reverse homes) homes u.rows.items some
-        (λ h. ap (λ xs. hands_at xs h) (sym (reverse-reverse homes)) ∙ hands_down (reverse homes) h) runs
-        (ends_are news begun.gone (reverse u.lanes.items) gone begun.lanes) hold (subst (λ xs. AllGave xs u.rows.items) (sym gone) begun.gave) in
+    (λ h. ap (λ xs. hands_at xs h) (sym (reverse-reverse homes)) ∙ hands_down (reverse homes) h) runs
+    (ends_are news begun.gone (reverse u.lanes.items) gone begun.lanes) hold (subst (λ xs. AllGave xs u.rows.items) (sym gone) begun.gave) in
     let P = LaneRan K (log_at gs) (shard_at count limit hs) (hands_at homes) (hands_at u.rows.items) in
     record {
       homes_ready = homes_ready K.lanes tables some (home_lanes K) 0 gs homes homes_many (λ h. many_lanes (h * K.lanes) K.lanes) up c.requires.open.log_tables c.requires.open.log_lanes;
