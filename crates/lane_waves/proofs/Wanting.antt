@@ -1,5 +1,5 @@
 -- Where memory is wanting for the lanes of a wave: all seats are as they were, and no lane ran.
-use Rattle.std.proofs.Common.{◌≡◌, ℕ, zero, suc, ◌+◌, ◌*◌, ◌/◌, ◌%◌, ◌<◌, ◌≤◌, List, [], ◌∷◌, map, length, Some, None, refl, sym, ap, ◌∙◌, subst, arith}
+use Rattle.std.proofs.Common.{◌≡◌, ℕ, zero, suc, ◌+◌, ◌*◌, ◌%◌, ◌<◌, ◌≤◌, List, [], ◌∷◌, map, length, Some, None, refl, sym, ap, ◌∙◌, subst, arith}
 use Rattle.std.specs.Prelude.{All, slice_get}
 use Rattle.std.specs.Global.{Vec}
 use Rattle.std.proofs.lemmas.List.Elements.{All-head, All-tail}
@@ -10,15 +10,14 @@ use Rattle.cbdc_model.specs.Sights.{Sight}
 use Rattle.ledger_runs.specs.declared.lanes.Lane.{Lane}
 use Rattle.node_lock.specs.declared.lock.Guarded.{Guarded}
 use Rattle.node_lock.specs.declared.seat.Seat.{Seat}
-use Rattle.node_lock.specs.Seats.{TableId, AreFresh, all_known, opening_of, table_of, lanes_of}
+use Rattle.node_lock.specs.Seats.{TableId, AreFresh, opening_of, table_of, lanes_of}
 use Rattle.node_lock.specs.Tickets.{fresh}
 use Rattle.node_ports.specs.Nodes.{sight_at}
 use Rattle.shard_fanout.specs.Nodes.{shard_sight, log_sight}
 use Rattle.shard_fanout.specs.declared.coordinators.SharedLog.{SharedLog}
 use Rattle.shard_fanout.specs.declared.locking.SharedShard.{SharedShard}
 use Rattle.thread_laws.specs.Closing.{IsHand}
-use Rattle.thread_laws.specs.Running.{LaneRan}
-use Rattle.wave_ends.specs.Rows.{IsReady, AreReady, AreLeft}
+use Rattle.wave_ends.specs.Rows.{AreReady, AreLeft}
 use Rattle.wave_ends.proofs.Locking.{fresh_at}
 use Rattle.wave_records.specs.Among.{hands_at}
 use Rattle.lane_waves.specs.Places.{AllFrom}

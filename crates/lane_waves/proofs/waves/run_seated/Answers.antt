@@ -1,24 +1,16 @@
-use Rattle.std.proofs.Common.{rules, ◌≡◌, ◌<◌, ◌≤◌, ◌+◌, ◌*◌, ◌++◌, ℕ, suc, Some, List, [], length, reverse, append-nil, refl, sym, ap, ◌∙◌, subst, arith}
-use Rattle.std.specs.Prelude.{All, vec_capacity, slice_index_or}
-use Rattle.std.proofs.lemmas.List.{length-reverse, reverse-reverse}
-use Rattle.std.proofs.lemmas.Nat.{mul-le}
+use Rattle.std.proofs.Common.{◌≡◌, ◌<◌, ◌+◌, ◌*◌, ℕ, List, [], length, reverse, append-nil, sym, ap, ◌∙◌, subst, arith}
+use Rattle.std.specs.Prelude.{slice_index_or}
+use Rattle.std.proofs.lemmas.List.{length-reverse}
 use Rattle.std.proofs.lemmas.List.Elements.{All-same}
 use Rattle.shard_fanout.specs.Nodes.{shard_sight}
 use Rattle.wave_lanes.specs.Held.{Begins, Ends}
-use Rattle.lane_waves.specs.Rows.{all_lanes, home_lanes}
-use Rattle.lane_waves.specs.Deals.{EachHolds, IsSetUp, log_at, shard_at}
-use Rattle.lane_waves.specs.Gathers.{EachTakes, AllOver, AllGave, Chunks, IsEnd}
-use Rattle.lane_waves.specs.Places.{AllFrom}
-use Rattle.std.specs.List.{AllZip}
-use Rattle.thread_laws.specs.Running.{LaneRan}
-use Rattle.wave_ends.specs.Rows.{AreBack}
-use Rattle.wave_ends.proofs.Passing.{all_back}
-use Rattle.wave_records.specs.Among.{hands_at}
-use Rattle.lane_waves.proofs.Places.{none_long, all_anew, both_many, each_pair}
+use Rattle.lane_waves.specs.Rows.{all_lanes}
+use Rattle.lane_waves.specs.Deals.{EachHolds, IsSetUp}
+use Rattle.lane_waves.specs.Gathers.{EachTakes, AllOver}
+use Rattle.lane_waves.proofs.Places.{none_long, all_anew, both_many}
 use Rattle.lane_waves.proofs.Numbers.{many_lanes}
-use Rattle.lane_waves.proofs.Lists.{left_many, left_holds, have_lanes}
-use Rattle.lane_waves.proofs.Ending.{chunks_are, no_ends, ends_are, none_seated, all_seated, all_begin, runs_of, ends_zip, all_over, all_of, seats_at, lanes_ran}
-use Rattle.lane_waves.proofs.Homes.{HomeAt, homes_hold, homes_at, homes_up, homes_ready, hands_down}
+use Rattle.lane_waves.proofs.Lists.{left_many, left_holds}
+use Rattle.lane_waves.proofs.Ending.{chunks_are, no_ends, none_seated, all_seated, all_begin, runs_of, ends_zip, all_over, all_of}
 use Rattle.lane_waves.proofs.Giving.{none_back, holds_take}
 use Rattle.lane_waves.proofs.Through.{all_through}
 use Rattle.lane_waves.proofs.Wanting.{not_run}
