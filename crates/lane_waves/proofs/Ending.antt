@@ -52,7 +52,6 @@ same_sight a b c d e f g h i j k l p q r s t u = cc
 view_is : (f v : Sight) (h : Hand) → v.header ≡ f.header → v.seen ≡ h.seen → v.flight ≡ h.left → v.faults ≡ h.faults → v.opened ≡ f.opened → v.capacity ≡ f.capacity → v ≡ viewed f h
 view_is f v h a b c d e g = same_sight v.header f.header v.seen h.seen v.flight h.left v.faults h.faults v.opened f.opened v.capacity f.capacity a b c d e g
 
-
 pub past_end : {N : Type 0} (sight : N → Sight) (xs : List N) (n : ℕ) → length xs ≤ n → sight_at sight xs n ≡ no_node
 past_end sight [] n le = refl
 past_end sight (x ∷ xs) zero le = absurd (omega (arith, le))
@@ -88,22 +87,32 @@ module _ {W D B : Type 0} {G : Ghosts B} (count limit : D → ℕ) (tables : ℕ
       let shards = shards_of count limit tables K r in
       let log' = log_of count limit tables K q in
       let shards' = shards_of count limit tables K q in
-      let none : y.fault ≡ None = e.fault in
-      (e.txs, inl (record {
-        so = subst (λ n. LaneSo K false n y.txs.items [] log shards log' shards') l (subst (λ ts. LaneSo K false r.lane ts [] log shards log' shards') txs (k.done settled.0 settled.1));
-        batches = report.batches;
-        done = subst (λ n. AreDone K false n y.txs.items log shards (reverse report.batches) [] log' shards') l (subst (λ ts. AreDone K false r.lane ts log shards (reverse report.batches) [] log' shards') txs (k.batches settled.0 settled.1));
-        reported = subst (λ n. IsReported n K.batch y.txs.items [] report.batches) l (subst (λ ts. IsReported r.lane K.batch ts [] report.batches) txs k.named);
-      }, ((λ z a b. (e.kept, e.count)), λ z. subst (λ f. IfSome f (λ g. g ≡ no_memory)) (sym none) tt)))
+      let none : y.fault ≡ None = e.fault in (
+        e.txs,
+        inl (
+          record {
+            so = subst (λ n. LaneSo K false n y.txs.items [] log shards log' shards') l (subst (λ ts. LaneSo K false r.lane ts [] log shards log' shards') txs (k.done settled.0 settled.1));
+            batches = report.batches;
+            done = subst (λ n. AreDone K false n y.txs.items log shards (reverse report.batches) [] log' shards') l (subst (λ ts. AreDone K false r.lane ts log shards (reverse report.batches) [] log' shards') txs (k.batches settled.0 settled.1));
+            reported = subst (λ n. IsReported n K.batch y.txs.items [] report.batches) l (subst (λ ts. IsReported r.lane K.batch ts [] report.batches) txs k.named);
+          },
+          ((λ z a b. (e.kept, e.count)), λ z. subst (λ f. IfSome f (λ g. g ≡ no_memory)) (sym none) tt),
+        ),
+      )
   ended_of lane x y r q l settled w (Some (Err fault)) k e =
       let txs : r.work.txs.items ≡ y.txs.items = sym (ap (λ v. v.items) e.0 ∙ ap (λ (z : Lane). z.txs.items) w) in
       let log = log_of count limit tables K r in
       let shards = shards_of count limit tables K r in
       let log' = log_of count limit tables K q in
       let shards' = shards_of count limit tables K q in
-      let is : y.fault ≡ Some fault = e.1 in
-      (e.0, inr (fault, subst (λ n. IsLaneStopped K false n y.txs.items log shards log' shards' fault) l (subst (λ ts. IsLaneStopped K false r.lane ts log shards log' shards' fault) txs k.stopped),
-        ((λ none. let z : None ≡ Some fault = sym none ∙ is in cc), λ z. is)))
+      let is : y.fault ≡ Some fault = e.1 in (
+        e.0,
+        inr (
+          fault,
+          subst (λ n. IsLaneStopped K false n y.txs.items log shards log' shards' fault) l (subst (λ ts. IsLaneStopped K false r.lane ts log shards log' shards' fault) txs k.stopped),
+          ((λ none. let z : None ≡ Some fault = sym none ∙ is in cc), λ z. is),
+        ),
+      )
 
   -- a lane's run from its first call to its last
   pub record IsRun (lane : ℕ) (x : Lane) (r q : LaneRun W D B G) : Type 0 where
@@ -145,11 +154,14 @@ module _ {W D B : Type 0} {G : Ghosts B} (count limit : D → ℕ) (tables : ℕ
   all_over [] (r ∷ rs) qs k = absurd k
   all_over (x ∷ xs) [] qs k = absurd k
   all_over (x ∷ xs) (r ∷ rs) [] k = absurd k
-  all_over (x ∷ xs) (r ∷ rs) (q ∷ qs) k = (record {
+  all_over (x ∷ xs) (r ∷ rs) (q ∷ qs) k = (
+    record {
       many = k.0.ends.count_is ∙ k.0.set_up.begins.count_is;
       ready = subst IsReady (sym (k.0.ends.work ∙ k.0.set_up.work)) k.0.set_up.ready;
       came = may_keep r q k.0.ends.work q.came k.0.ends.has_run;
-    }, all_over xs rs qs k.1)
+    },
+    all_over xs rs qs k.1,
+  )
 
   module _ (open_ : AreOpen count limit tables K gs hs) where
     pub all_of : (xs : List Lane) (rs qs : List (LaneRun W D B G)) → Runs xs rs qs → AllOf hs qs
@@ -158,9 +170,10 @@ module _ {W D B : Type 0} {G : Ghosts B} (count limit : D → ℕ) (tables : ℕ
     all_of [] (r ∷ rs) qs k = absurd k
     all_of (x ∷ xs) [] qs k = absurd k
     all_of (x ∷ xs) (r ∷ rs) [] k = absurd k
-    all_of (x ∷ xs) (r ∷ rs) (q ∷ qs) k =
-        (all_home count limit tables K hs r.ports.shards.each.ports.items q.ports.shards.each.ports.items k.0.set_up.begins.count_is k.0.ends.count_is open_.shards_many open_.shard_tables k.0.set_up.begins.ledger k.0.ends.nodes k.0.ends.seated.shards,
-         all_of xs rs qs k.1)
+    all_of (x ∷ xs) (r ∷ rs) (q ∷ qs) k = (
+      all_home count limit tables K hs r.ports.shards.each.ports.items q.ports.shards.each.ports.items k.0.set_up.begins.count_is k.0.ends.count_is open_.shards_many open_.shard_tables k.0.set_up.begins.ledger k.0.ends.nodes k.0.ends.seated.shards,
+      all_of xs rs qs k.1,
+    )
 
     -- each lane's seat of its coordinator is of the lock that the wave picks
     pub seats_at : (xs : List Lane) (rs qs : List (LaneRun W D B G)) → (some : 0 < K.lanes) → Runs xs rs qs → SeatsAt K.lanes some tables qs
@@ -236,10 +249,11 @@ module _ {W D B : Type 0} {G : Ghosts B} (count limit : D → ℕ) (tables : ℕ
     lanes_down (x ∷ xs) (r ∷ rs) [] ys owns homes rows some f k z h a = absurd k
     lanes_down (x ∷ xs) (r ∷ rs) (q ∷ qs) [] owns homes rows some f k z h a = absurd z
     lanes_down (x ∷ xs) (r ∷ rs) (q ∷ qs) (y ∷ ys) owns homes rows some f k z h a =
-        let many = ends_many qs ys z.1 in
-        (subst (λ n. LaneRan K (log_at gs) (shard_at count limit hs) (hands_at homes) (hands_at rows) n x y) many
-            (lane_ran (length qs) x y r q homes rows k.0 z.0 (subst (IsHand (knows (home_seat q))) (sym (f (home_of K (length qs)))) (hand_among (home_seat q) (down_at owns (home_of K (length qs))) h.0)) a.0),
-         lanes_down xs rs qs ys owns homes rows some f k.1 z.1 h.1 a.1)
+        let many = ends_many qs ys z.1 in (
+          subst (λ n. LaneRan K (log_at gs) (shard_at count limit hs) (hands_at homes) (hands_at rows) n x y) many
+              (lane_ran (length qs) x y r q homes rows k.0 z.0 (subst (IsHand (knows (home_seat q))) (sym (f (home_of K (length qs)))) (hand_among (home_seat q) (down_at owns (home_of K (length qs))) h.0)) a.0),
+          lanes_down xs rs qs ys owns homes rows some f k.1 z.1 h.1 a.1,
+        )
       where
         ends_many : (us : List (LaneRun W D B G)) (vs : List Lane) → AllZip (λ r y. IsEnd r.work r.came y) us vs → length us ≡ length vs
         ends_many [] [] z = refl

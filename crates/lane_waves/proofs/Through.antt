@@ -54,8 +54,8 @@ module _ {W D B : Type 0} {G : Ghosts B} (count limit : D → ℕ) (tables : ℕ
       let gone = all_gone qs u none back in
       let gone_many : length back.gone ≡ n = sym (ap (λ (xs : List (LaneRun W D B G)). length xs) gone) ∙ runs_many in
       let ran = lanes_ran count limit tables K gs hs open_ lanes u.lanes.items rs qs (reverse homes) homes u.rows.items some
-          (λ h. ap (λ (xs : List (Vec (Seat (SharedLog D)))). hands_at xs h) (sym (reverse-reverse homes)) ∙ hands_down (reverse homes) h) runs
-          (ends_are qs back.gone (reverse u.lanes.items) gone back.lanes) (homes_hold K.lanes some (reverse homes) qs chunks).0 (subst (λ xs. AllGave xs u.rows.items) (sym gone) back.gave) in
+      (λ h. ap (λ (xs : List (Vec (Seat (SharedLog D)))). hands_at xs h) (sym (reverse-reverse homes)) ∙ hands_down (reverse homes) h) runs
+      (ends_are qs back.gone (reverse u.lanes.items) gone back.lanes) (homes_hold K.lanes some (reverse homes) qs chunks).0 (subst (λ xs. AllGave xs u.rows.items) (sym gone) back.gave) in
       record {
         homes_ready = homes_ready K.lanes tables some (home_lanes K) 0 gs homes homes_many (λ h. many_lanes (h * K.lanes) K.lanes) (homes_back lanes rs qs homes runs chunks) open_.log_tables open_.log_lanes;
         rows_ready = all_back n hs u.rows.items any (have_lanes 0 (all_lanes K) n hs (many_lanes 0 n) open_.shard_lanes) (subst (λ m. AreBack m hs u.rows.items) gone_many back.back);

@@ -87,10 +87,11 @@ module _ {N : Type 0} (sight : N → Sight) where
       let here : AreFresh (sight (opening_of g)) (opening_of g) (table_of g) (lanes k) r.items = subst (λ i. AreFresh (sight (opening_of g)) (opening_of g) (table_of g) (lanes i) r.items) none (f 0 g r refl refl) in
       let m = fresh_at sight (sight (opening_of g)) (opening_of g) g (lanes k) r.items here in
       let many : length r.items ≡ length (lanes k) = m.1 in
-      let any = some k in
-      (record { ready = (m.0, many ∙ sym (ap (λ (xs : List ℕ). length xs) a.0), omega (arith, many, any)) },
-       fresh_ready lanes (suc k) gs rows (let z = e in omega (arith, z)) some a.1
-           (λ i h s at there. let more : k + suc i ≡ suc k + i = omega arith in subst (λ j. AreFresh (sight (opening_of h)) (opening_of h) (table_of h) (lanes j) s.items) more (f (suc i) h s at there)))
+      let any = some k in (
+        record { ready = (m.0, many ∙ sym (ap (λ (xs : List ℕ). length xs) a.0), omega (arith, many, any)) },
+        fresh_ready lanes (suc k) gs rows (let z = e in omega (arith, z)) some a.1
+            (λ i h s at there. let more : k + suc i ≡ suc k + i = omega arith in subst (λ j. AreFresh (sight (opening_of h)) (opening_of h) (table_of h) (lanes j) s.items) more (f (suc i) h s at there)),
+      )
 
   fresh_hands : (lanes : ℕ → List ℕ) (k : ℕ) (gs : List (Guarded N)) (rows : List (Vec (Seat N))) (i : ℕ) → length rows ≡ length gs → i < length gs
       → Fresh (λ j. lanes (k + j)) gs rows → hands_at rows i ≡ map (fresh (sight_at (λ h. sight (opening_of h)) gs i)) (lanes (k + i))
@@ -100,8 +101,8 @@ module _ {N : Type 0} (sight : N → Sight) where
   fresh_hands lanes k (g ∷ gs) (r ∷ rows) (suc i) e lt f =
       let more : suc k + i ≡ k + suc i = omega arith in
       subst (λ j. hands_at rows i ≡ map (fresh (sight_at (λ h. sight (opening_of h)) gs i)) (lanes j)) more
-          (fresh_hands lanes (suc k) gs rows i (let z = e in omega (arith, z)) (omega (arith, lt))
-              (λ j h s at there. let next : k + suc j ≡ suc k + j = omega arith in subst (λ n. AreFresh (sight (opening_of h)) (opening_of h) (table_of h) (lanes n) s.items) next (f (suc j) h s at there)))
+      (fresh_hands lanes (suc k) gs rows i (let z = e in omega (arith, z)) (omega (arith, lt))
+      (λ j h s at there. let next : k + suc j ≡ suc k + j = omega arith in subst (λ n. AreFresh (sight (opening_of h)) (opening_of h) (table_of h) (lanes n) s.items) next (f (suc j) h s at there)))
 
 module _ {D : Type 0} (count limit : D → ℕ) (tables : ℕ → TableId) (K : Shape) (gs : List (Guarded (SharedLog D))) (hs : List (Guarded (SharedShard D))) (open_ : AreOpen count limit tables K gs hs) where
   homes_so : (homes : List (Vec (Seat (SharedLog D)))) → AllFrom (IsHomeFresh K gs) 0 homes → Fresh log_sight (λ i. home_lanes K (0 + i)) gs homes
@@ -109,7 +110,7 @@ module _ {D : Type 0} (count limit : D → ℕ) (tables : ℕ → TableId) (K : 
       let m = all_here (IsHomeFresh K gs) homes i r a there in
       let none : i ≡ 0 + i = omega arith in
       subst (λ j. AreFresh (log_sight (opening_of g)) (opening_of g) (table_of g) (home_lanes K j) r.items) none
-          (subst (λ n. AreFresh (log_sight (opening_of g)) (opening_of g) (table_of g) (lanes_from (i * K.lanes) n) r.items) m.0 (m.1 g at))
+      (subst (λ n. AreFresh (log_sight (opening_of g)) (opening_of g) (table_of g) (lanes_from (i * K.lanes) n) r.items) m.0 (m.1 g at))
 
   -- its coordinator's seat of a lane, as it was made
   home_hand : (homes : List (Vec (Seat (SharedLog D)))) (lane : ℕ) → length homes ≡ K.coordinators → AllFrom (IsHomeFresh K gs) 0 homes → lane < K.coordinators * K.lanes
@@ -120,8 +121,8 @@ module _ {D : Type 0} (count limit : D → ℕ) (tables : ℕ → TableId) (K : 
       let here : 0 + home ≡ home = omega arith in
       let known = fresh_hands log_sight (home_lanes K) 0 gs homes home (many ∙ sym open_.logs_many) (subst (λ n. home < n) (sym open_.logs_many) low) (homes_so homes a) in
       subst (λ l. IsHand (fresh (log_at gs home) l) (hands_at homes home)) (div-add-mod' lane K.lanes)
-          (subst (IsHand (fresh (log_at gs home) (home * K.lanes + lane % K.lanes))) (sym (known ∙ ap (λ h. map (fresh (log_at gs home)) (home_lanes K h)) here))
-              (fresh_hand (log_at gs home) (home * K.lanes) K.lanes (lane % K.lanes) (mod_below lane K.lanes open_.limits.some_lane)))
+      (subst (IsHand (fresh (log_at gs home) (home * K.lanes + lane % K.lanes))) (sym (known ∙ ap (λ h. map (fresh (log_at gs home)) (home_lanes K h)) here))
+      (fresh_hand (log_at gs home) (home * K.lanes) K.lanes (lane % K.lanes) (mod_below lane K.lanes open_.limits.some_lane)))
 
   -- its seat of a shard
   shard_hand : (rows : List (Vec (Seat (SharedShard D)))) (lane s : ℕ) → AreLeft (shard_sight count limit) (all_lanes K) hs rows → lane < K.coordinators * K.lanes → s < K.shards
@@ -147,6 +148,6 @@ module _ {D : Type 0} (count limit : D → ℕ) (tables : ℕ → TableId) (K : 
         lanes_ran = λ lane x y e f.
             let lt : lane < K.coordinators * K.lanes = subst (λ n. lane < n) lanes_many (item_in lanes lane x e) in
             unrun K (log_at gs) (shard_at count limit hs) (hands_at homes) (hands_at rows) lane x y (open_.settled lane lt) (home_hand homes lane homes_many a lt)
-                (λ s low. shard_hand rows lane s left lt low) (λ s le. past_end (λ h. shard_sight count limit (opening_of h)) hs s (subst (λ n. n ≤ s) (sym open_.shards_many) le))
-                (same_txs lanes lanes' lane x y same e f) (all_so HasNoMemory lanes' lane y stopped f);
+            (λ s low. shard_hand rows lane s left lt low) (λ s le. past_end (λ h. shard_sight count limit (opening_of h)) hs s (subst (λ n. n ≤ s) (sym open_.shards_many) le))
+            (same_txs lanes lanes' lane x y same e f) (all_so HasNoMemory lanes' lane y stopped f);
       }

@@ -161,5 +161,5 @@ pub returns-in_default : goal.returns-in_default
 returns-in_default g c =
     let s = c.args.seated in
     not_run g.D.Disk.count g.D.Disk.limit g.B.Locks.tables c.args.shape.now c.args.log_locks.now c.args.shard_locks.now c.requires.open
-        s.homes.items s.rows.items s.lanes.items c.stop_all.new.lanes.items
-        c.requires.homes (c.requires.homes_many) c.requires.left c.requires.lanes_many c.stop_all.ensures.same c.stop_all.ensures.stopped
+    s.homes.items s.rows.items s.lanes.items c.stop_all.new.lanes.items
+    c.requires.homes (c.requires.homes_many) c.requires.left c.requires.lanes_many c.stop_all.ensures.same c.stop_all.ensures.stopped
