@@ -1,14 +1,14 @@
 -- What comes of lanes that have run and given their seats back.
-use Rattle.std.proofs.Common.{◌≡◌, ◌⊎◌, inl, inr, ℕ, zero, suc, ◌+◌, ◌*◌, ◌/◌, ◌<◌, ◌≤◌, false, List, [], ◌∷◌, ◌++◌, length, reverse, Option, Some, None, Result, Ok, Err, append-nil, refl, sym, ap, ◌∙◌, subst, arith}
-use Rattle.std.specs.Prelude.{All, IfSome, slice_get, slice_index_or}
+use Rattle.std.proofs.Common.{◌≡◌, inl, inr, ℕ, zero, suc, ◌<◌, ◌≤◌, false, List, [], ◌∷◌, ◌++◌, length, reverse, Option, Some, None, Result, Ok, Err, append-nil, refl, sym, ap, ◌∙◌, subst, arith}
+use Rattle.std.specs.Prelude.{All, IfSome, slice_index_or}
 use Rattle.std.specs.List.{AllZip}
 use Rattle.std.specs.Global.{Vec}
 use Rattle.std.proofs.lemmas.List.{reverse-reverse}
 use Rattle.std.proofs.lemmas.List.Elements.{All-head, All-tail, All-nil, All-cons}
-use Rattle.cbdc_model.specs.Records.{Shape, Header, Compact, Record}
+use Rattle.cbdc_model.specs.Records.{Shape, Header, Record}
 use Rattle.cbdc_model.specs.Ranges.{home_of}
 use Rattle.cbdc_model.specs.Sights.{Sight}
-use Rattle.lane_laws.specs.Batches.{Settled, LaneSo}
+use Rattle.lane_laws.specs.Batches.{LaneSo}
 use Rattle.lane_driver.specs.Told.{IsStillNode}
 use Rattle.lane_driver.specs.Stops.{IsSettled, IsLaneStopped}
 use Rattle.lane_driver.specs.Reports.{IsReported, AreDone}
@@ -18,10 +18,10 @@ use Rattle.ledger_runs.specs.declared.lanes.Lane.{Lane}
 use Rattle.node_lock.specs.declared.views.Hand.{Hand}
 use Rattle.node_lock.specs.declared.lock.Guarded.{Guarded}
 use Rattle.node_lock.specs.declared.seat.Seat.{Seat}
-use Rattle.node_lock.specs.Seats.{TableId, all_known, knows, first_of, opening_of, table_of}
+use Rattle.node_lock.specs.Seats.{TableId, all_known, knows, first_of}
 use Rattle.node_lock.specs.Viewing.{viewed}
 use Rattle.node_ports.specs.Nodes.{sight_at, no_node}
-use Rattle.shard_fanout.specs.Seated.{opening_sight, seat_sight, seen_at}
+use Rattle.shard_fanout.specs.Seated.{opening_sight, seat_sight}
 use Rattle.shard_fanout.specs.Nodes.{shard_sight, log_sight}
 use Rattle.shard_fanout.specs.declared.coordinators.SharedLog.{SharedLog}
 use Rattle.shard_fanout.specs.declared.locking.SharedShard.{SharedShard}
@@ -29,20 +29,18 @@ use Rattle.shard_fanout.specs.declared.seated.ShardSeat.{ShardSeat}
 use Rattle.shard_fanout.specs.declared.tables.Locks.{Ghosts}
 use Rattle.shard_fanout.proofs.Seating.{seen_here}
 use Rattle.thread_laws.specs.Closing.{IsHand}
-use Rattle.thread_laws.specs.Sitting.{SitsAt}
 use Rattle.thread_laws.specs.Running.{LaneRan}
-use Rattle.thread_laws.specs.Whole.{no_memory, HasEnded, EndsWell, EndsBy, HasDone}
-use Rattle.thread_laws.specs.Telling.{told_in}
+use Rattle.thread_laws.specs.Whole.{no_memory, HasEnded}
 use Rattle.wave_lanes.specs.Held.{AreOfLane, Begins, Ends, HasRun, log_of, logs_of, shards_of}
 use Rattle.wave_lanes.specs.Ports.{seats_of}
 use Rattle.wave_lanes.specs.declared.runs.LaneRun.{LaneRun}
 use Rattle.wave_lanes.proofs.Returning.{all_home}
 use Rattle.wave_records.specs.Among.{hands_at}
-use Rattle.lane_waves.specs.Lanes.{IsReady, IsKept}
+use Rattle.lane_waves.specs.Lanes.{IsReady}
 use Rattle.lane_waves.specs.Places.{BothFrom}
-use Rattle.lane_waves.specs.Deals.{started, AreOpen, log_at, shard_at, IsSetUp, HaveSeats}
+use Rattle.lane_waves.specs.Deals.{AreOpen, log_at, shard_at, IsSetUp, HaveSeats}
 use Rattle.lane_waves.specs.declared.dealing.Table.{Table}
-use Rattle.lane_waves.specs.Gathers.{IsSeat, AreSeats, IsOver, AllOver, AllOf, AllGave, IsEnd, MayKeep, Chunks, shard_seats, home_seat}
+use Rattle.lane_waves.specs.Gathers.{AreSeats, AllOver, AllOf, AllGave, IsEnd, MayKeep, Chunks, shard_seats, home_seat}
 use Rattle.lane_waves.proofs.Places.{Down, down, up}
 use Rattle.lane_waves.proofs.Keeping.{reported_many}
 use Rattle.lane_waves.proofs.Homes.{hand_among, down_at, HomesHold, SeatsAt}

@@ -8,3 +8,5 @@ pub mod Keeping
 pub mod Homes
 pub mod Ending
 pub mod Unrun
+pub mod Wanting
+pub mod Through
