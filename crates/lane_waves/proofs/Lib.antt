@@ -8,3 +8,4 @@ pub mod Keeping
 pub mod Homes
 pub mod Ending
 pub mod Unrun
+pub mod Waving
