@@ -6,7 +6,7 @@ use Rattle.shard_fanout.specs.Nodes.{log_sight, shard_sight}
 use Rattle.node_lock.specs.Seats.{lanes_of}
 use Rattle.thread_laws.specs.Running.{WaveRan}
 use Rattle.wave_ends.specs.Rows.{AreReady, AreLocked, AreLeft}
-use Rattle.wave_ends.proofs.Locking.{locked_ready}
+use Rattle.wave_ends.proofs.Locking.{locked_ready, all_still}
 use Rattle.wave_records.proofs.Places.{held, nodes_still, past_end}
 use Rattle.lane_waves.specs.Rows.{home_lanes, all_lanes}
 use Rattle.lane_waves.specs.Deals.{MayRun, AreOpen, IsHomeFresh}
@@ -121,3 +121,51 @@ close_all-requires-3-clause-room g c =
     let same = locks_many (shard_sight g.D.Disk.count g.D.Disk.limit) c.args.nodes.shards.items c.args.shard_rows.items c.in-Ok.locked.locks.items c.in-Ok.locked.seats.items c.in-Ok.ensures.locked in
     let room = c.in-Ok.ensures.room.1 in
     omega (arith, same, room)
+
+pub returns-in-Err-lock_all-clause-ran : goal.returns-in-Err-lock_all-clause-ran
+returns-in-Err-lock_all-clause-ran g c =
+    let K = c.args.shape.now in
+    let seen = shard_sight g.D.Disk.count g.D.Disk.limit in
+    let ns = c.args.nodes.logs.items in
+    let ms = c.args.nodes.shards.items in
+    let ns' = c.in-Err-lock_all.logs.items in
+    let ms' = c.close_all.result.items in
+    let logs_many = c.requires.logs_many in
+    let shards_many = c.requires.shards_many in
+    unrun_wave K (sight_at log_sight ns) (sight_at seen ms) (sight_at log_sight ns') (sight_at seen ms') c.args.lanes.now.items c.stop_all-in-Err-lock_all.new.lanes.items
+        c.requires.limits
+        (λ n lt. nodes_still log_sight (λ a b. IsLogHeld g.D.Disk.content g.D.Disk.images a.node → IsLogHeld g.D.Disk.content g.D.Disk.images b.node) ns ns' c.in-Err-lock_all.ensures.back n (omega (arith, lt, logs_many)))
+        (λ s lt. nodes_still seen (λ a b. IsShardHeld g.D.Disk.content g.D.Disk.images a.node → IsShardHeld g.D.Disk.content g.D.Disk.images b.node) ms ms'
+            (all_still seen (λ a b. IsShardHeld g.D.Disk.content g.D.Disk.images a.node → IsShardHeld g.D.Disk.content g.D.Disk.images b.node) ms c.args.shard_rows.items c.in-Ok.locked.locks.items c.in-Ok.locked.seats.items ms' c.in-Ok.ensures.locked c.close_all.ensures)
+            s (omega (arith, lt, shards_many)))
+        (λ s le. past_end seen (λ a b. IsShardHeld g.D.Disk.content g.D.Disk.images a.node → IsShardHeld g.D.Disk.content g.D.Disk.images b.node) ms s (omega (arith, le, shards_many)))
+        c.requires.settled c.requires.lanes_many c.stop_all-in-Err-lock_all.ensures.same c.stop_all-in-Err-lock_all.ensures.stopped
+
+pub returns-clause-ran : goal.returns-clause-ran
+returns-clause-ran g c =
+    let K = c.args.shape.now in
+    let count = g.D.Disk.count in
+    let limit = g.D.Disk.limit in
+    let gs = c.in-Ok-lock_all.locked.locks.items in
+    let hs = c.in-Ok.locked.locks.items in
+    let homes = c.run_seated-homes.result.homes.items in
+    let rows = c.run_seated-homes.result.rows.items in
+    let new = c.run_seated-homes.result.lanes.items in
+    let through = subst (λ xs. AreThrough count limit K xs hs homes rows c.args.lanes.now.items new) c.as_slice.ensures.value
+        (subst (λ ys. AreThrough count limit K c.as_slice.result.now ys homes rows c.args.lanes.now.items new) c.as_slice-2.ensures.value
+        (subst (λ zs. AreThrough count limit K c.as_slice.result.now c.as_slice-2.result.now homes rows zs new) (ap (λ v. v.items) c.replace.ensures.value) c.run_seated-homes.ensures)) in
+    ran_wave count limit (λ a b. IsLogHeld g.D.Disk.content g.D.Disk.images a.node → IsLogHeld g.D.Disk.content g.D.Disk.images b.node) (λ a b. IsShardHeld g.D.Disk.content g.D.Disk.images a.node → IsShardHeld g.D.Disk.content g.D.Disk.images b.node) K
+        c.args.nodes.logs.items c.close_all-2.result.items c.args.nodes.shards.items c.close_all-3.result.items c.args.home_rows.items c.args.shard_rows.items gs hs
+        c.in-Ok-lock_all.locked.seats.items homes c.in-Ok.locked.seats.items rows c.args.lanes.now.items new
+        c.requires.logs_many c.requires.shards_many c.requires.home_rows c.requires.home_rows_many c.requires.shard_rows c.requires.shard_rows_many
+        c.in-Ok-lock_all.ensures.locked c.in-Ok.ensures.locked c.close_all-2.ensures c.close_all-3.ensures through
+
+pub returns-clause-logs_go : goal.returns-clause-logs_go
+returns-clause-logs_go g c =
+    (held log_sight (λ a b. IsLogHeld g.D.Disk.content g.D.Disk.images a.node → IsLogHeld g.D.Disk.content g.D.Disk.images b.node)).0 c.args.nodes.logs.items c.args.home_rows.items c.in-Ok-lock_all.locked.locks.items
+        c.in-Ok-lock_all.locked.seats.items c.run_seated-homes.result.homes.items c.close_all-2.result.items c.in-Ok-lock_all.ensures.locked c.close_all-2.ensures
+
+pub returns-clause-shards_go : goal.returns-clause-shards_go
+returns-clause-shards_go g c =
+    (held (shard_sight g.D.Disk.count g.D.Disk.limit) (λ a b. IsShardHeld g.D.Disk.content g.D.Disk.images a.node → IsShardHeld g.D.Disk.content g.D.Disk.images b.node)).0 c.args.nodes.shards.items c.args.shard_rows.items c.in-Ok.locked.locks.items
+        c.in-Ok.locked.seats.items c.run_seated-homes.result.rows.items c.close_all-3.result.items c.in-Ok.ensures.locked c.close_all-3.ensures
