@@ -1,14 +1,14 @@
 -- What comes of lanes that have run and given their seats back.
-use Rattle.std.proofs.Common.{◌≡◌, ◌⊎◌, inl, inr, ℕ, zero, suc, ◌+◌, ◌*◌, ◌/◌, ◌<◌, ◌≤◌, false, List, [], ◌∷◌, ◌++◌, length, reverse, Option, Some, None, Result, Ok, Err, append-nil, refl, sym, ap, ◌∙◌, subst, arith}
-use Rattle.std.specs.Prelude.{All, IfSome, slice_get, slice_index_or}
+use Rattle.std.proofs.Common.{◌≡◌, inl, inr, ℕ, zero, suc, ◌<◌, ◌≤◌, false, List, [], ◌∷◌, ◌++◌, length, reverse, Option, Some, None, Result, Ok, Err, append-nil, refl, sym, ap, ◌∙◌, subst, arith}
+use Rattle.std.specs.Prelude.{All, IfSome, slice_index_or}
 use Rattle.std.specs.List.{AllZip}
 use Rattle.std.specs.Global.{Vec}
 use Rattle.std.proofs.lemmas.List.{reverse-reverse}
 use Rattle.std.proofs.lemmas.List.Elements.{All-head, All-tail, All-nil, All-cons}
-use Rattle.cbdc_model.specs.Records.{Shape, Header, Compact, Record}
+use Rattle.cbdc_model.specs.Records.{Shape, Header, Record}
 use Rattle.cbdc_model.specs.Ranges.{home_of}
 use Rattle.cbdc_model.specs.Sights.{Sight}
-use Rattle.lane_laws.specs.Batches.{Settled, LaneSo}
+use Rattle.lane_laws.specs.Batches.{LaneSo}
 use Rattle.lane_driver.specs.Told.{IsStillNode}
 use Rattle.lane_driver.specs.Stops.{IsSettled, IsLaneStopped}
 use Rattle.lane_driver.specs.Reports.{IsReported, AreDone}
@@ -18,10 +18,10 @@ use Rattle.ledger_runs.specs.declared.lanes.Lane.{Lane}
 use Rattle.node_lock.specs.declared.views.Hand.{Hand}
 use Rattle.node_lock.specs.declared.lock.Guarded.{Guarded}
 use Rattle.node_lock.specs.declared.seat.Seat.{Seat}
-use Rattle.node_lock.specs.Seats.{TableId, all_known, knows, first_of, opening_of, table_of}
+use Rattle.node_lock.specs.Seats.{TableId, all_known, knows, first_of}
 use Rattle.node_lock.specs.Viewing.{viewed}
 use Rattle.node_ports.specs.Nodes.{sight_at, no_node}
-use Rattle.shard_fanout.specs.Seated.{opening_sight, seat_sight, seen_at}
+use Rattle.shard_fanout.specs.Seated.{opening_sight, seat_sight}
 use Rattle.shard_fanout.specs.Nodes.{shard_sight, log_sight}
 use Rattle.shard_fanout.specs.declared.coordinators.SharedLog.{SharedLog}
 use Rattle.shard_fanout.specs.declared.locking.SharedShard.{SharedShard}
@@ -29,20 +29,18 @@ use Rattle.shard_fanout.specs.declared.seated.ShardSeat.{ShardSeat}
 use Rattle.shard_fanout.specs.declared.tables.Locks.{Ghosts}
 use Rattle.shard_fanout.proofs.Seating.{seen_here}
 use Rattle.thread_laws.specs.Closing.{IsHand}
-use Rattle.thread_laws.specs.Sitting.{SitsAt}
 use Rattle.thread_laws.specs.Running.{LaneRan}
-use Rattle.thread_laws.specs.Whole.{no_memory, HasEnded, EndsWell, EndsBy, HasDone}
-use Rattle.thread_laws.specs.Telling.{told_in}
+use Rattle.thread_laws.specs.Whole.{no_memory, HasEnded}
 use Rattle.wave_lanes.specs.Held.{AreOfLane, Begins, Ends, HasRun, log_of, logs_of, shards_of}
 use Rattle.wave_lanes.specs.Ports.{seats_of}
 use Rattle.wave_lanes.specs.declared.runs.LaneRun.{LaneRun}
 use Rattle.wave_lanes.proofs.Returning.{all_home}
 use Rattle.wave_records.specs.Among.{hands_at}
-use Rattle.lane_waves.specs.Lanes.{IsReady, IsKept}
+use Rattle.lane_waves.specs.Lanes.{IsReady}
 use Rattle.lane_waves.specs.Places.{BothFrom}
-use Rattle.lane_waves.specs.Deals.{started, AreOpen, log_at, shard_at, IsSetUp, HaveSeats}
+use Rattle.lane_waves.specs.Deals.{AreOpen, log_at, shard_at, IsSetUp, HaveSeats}
 use Rattle.lane_waves.specs.declared.dealing.Table.{Table}
-use Rattle.lane_waves.specs.Gathers.{IsSeat, AreSeats, IsOver, AllOver, AllOf, AllGave, IsEnd, MayKeep, Chunks, shard_seats, home_seat}
+use Rattle.lane_waves.specs.Gathers.{AreSeats, AllOver, AllOf, AllGave, IsEnd, MayKeep, Chunks, shard_seats, home_seat}
 use Rattle.lane_waves.proofs.Places.{Down, down, up}
 use Rattle.lane_waves.proofs.Keeping.{reported_many}
 use Rattle.lane_waves.proofs.Homes.{hand_among, down_at, HomesHold, SeatsAt}
@@ -53,7 +51,6 @@ same_sight a b c d e f g h i j k l p q r s t u = cc
 
 view_is : (f v : Sight) (h : Hand) → v.header ≡ f.header → v.seen ≡ h.seen → v.flight ≡ h.left → v.faults ≡ h.faults → v.opened ≡ f.opened → v.capacity ≡ f.capacity → v ≡ viewed f h
 view_is f v h a b c d e g = same_sight v.header f.header v.seen h.seen v.flight h.left v.faults h.faults v.opened f.opened v.capacity f.capacity a b c d e g
-
 
 pub past_end : {N : Type 0} (sight : N → Sight) (xs : List N) (n : ℕ) → length xs ≤ n → sight_at sight xs n ≡ no_node
 past_end sight [] n le = refl
@@ -90,22 +87,32 @@ module _ {W D B : Type 0} {G : Ghosts B} (count limit : D → ℕ) (tables : ℕ
       let shards = shards_of count limit tables K r in
       let log' = log_of count limit tables K q in
       let shards' = shards_of count limit tables K q in
-      let none : y.fault ≡ None = e.fault in
-      (e.txs, inl (record {
-        so = subst (λ n. LaneSo K false n y.txs.items [] log shards log' shards') l (subst (λ ts. LaneSo K false r.lane ts [] log shards log' shards') txs (k.done settled.0 settled.1));
-        batches = report.batches;
-        done = subst (λ n. AreDone K false n y.txs.items log shards (reverse report.batches) [] log' shards') l (subst (λ ts. AreDone K false r.lane ts log shards (reverse report.batches) [] log' shards') txs (k.batches settled.0 settled.1));
-        reported = subst (λ n. IsReported n K.batch y.txs.items [] report.batches) l (subst (λ ts. IsReported r.lane K.batch ts [] report.batches) txs k.named);
-      }, ((λ z a b. (e.kept, e.count)), λ z. subst (λ f. IfSome f (λ g. g ≡ no_memory)) (sym none) tt)))
+      let none : y.fault ≡ None = e.fault in (
+        e.txs,
+        inl (
+          record {
+            so = subst (λ n. LaneSo K false n y.txs.items [] log shards log' shards') l (subst (λ ts. LaneSo K false r.lane ts [] log shards log' shards') txs (k.done settled.0 settled.1));
+            batches = report.batches;
+            done = subst (λ n. AreDone K false n y.txs.items log shards (reverse report.batches) [] log' shards') l (subst (λ ts. AreDone K false r.lane ts log shards (reverse report.batches) [] log' shards') txs (k.batches settled.0 settled.1));
+            reported = subst (λ n. IsReported n K.batch y.txs.items [] report.batches) l (subst (λ ts. IsReported r.lane K.batch ts [] report.batches) txs k.named);
+          },
+          ((λ z a b. (e.kept, e.count)), λ z. subst (λ f. IfSome f (λ g. g ≡ no_memory)) (sym none) tt),
+        ),
+      )
   ended_of lane x y r q l settled w (Some (Err fault)) k e =
       let txs : r.work.txs.items ≡ y.txs.items = sym (ap (λ v. v.items) e.0 ∙ ap (λ (z : Lane). z.txs.items) w) in
       let log = log_of count limit tables K r in
       let shards = shards_of count limit tables K r in
       let log' = log_of count limit tables K q in
       let shards' = shards_of count limit tables K q in
-      let is : y.fault ≡ Some fault = e.1 in
-      (e.0, inr (fault, subst (λ n. IsLaneStopped K false n y.txs.items log shards log' shards' fault) l (subst (λ ts. IsLaneStopped K false r.lane ts log shards log' shards' fault) txs k.stopped),
-        ((λ none. let z : None ≡ Some fault = sym none ∙ is in cc), λ z. is)))
+      let is : y.fault ≡ Some fault = e.1 in (
+        e.0,
+        inr (
+          fault,
+          subst (λ n. IsLaneStopped K false n y.txs.items log shards log' shards' fault) l (subst (λ ts. IsLaneStopped K false r.lane ts log shards log' shards' fault) txs k.stopped),
+          ((λ none. let z : None ≡ Some fault = sym none ∙ is in cc), λ z. is),
+        ),
+      )
 
   -- a lane's run from its first call to its last
   pub record IsRun (lane : ℕ) (x : Lane) (r q : LaneRun W D B G) : Type 0 where
@@ -147,11 +154,14 @@ module _ {W D B : Type 0} {G : Ghosts B} (count limit : D → ℕ) (tables : ℕ
   all_over [] (r ∷ rs) qs k = absurd k
   all_over (x ∷ xs) [] qs k = absurd k
   all_over (x ∷ xs) (r ∷ rs) [] k = absurd k
-  all_over (x ∷ xs) (r ∷ rs) (q ∷ qs) k = (record {
+  all_over (x ∷ xs) (r ∷ rs) (q ∷ qs) k = (
+    record {
       many = k.0.ends.count_is ∙ k.0.set_up.begins.count_is;
       ready = subst IsReady (sym (k.0.ends.work ∙ k.0.set_up.work)) k.0.set_up.ready;
       came = may_keep r q k.0.ends.work q.came k.0.ends.has_run;
-    }, all_over xs rs qs k.1)
+    },
+    all_over xs rs qs k.1,
+  )
 
   module _ (open_ : AreOpen count limit tables K gs hs) where
     pub all_of : (xs : List Lane) (rs qs : List (LaneRun W D B G)) → Runs xs rs qs → AllOf hs qs
@@ -160,9 +170,10 @@ module _ {W D B : Type 0} {G : Ghosts B} (count limit : D → ℕ) (tables : ℕ
     all_of [] (r ∷ rs) qs k = absurd k
     all_of (x ∷ xs) [] qs k = absurd k
     all_of (x ∷ xs) (r ∷ rs) [] k = absurd k
-    all_of (x ∷ xs) (r ∷ rs) (q ∷ qs) k =
-        (all_home count limit tables K hs r.ports.shards.each.ports.items q.ports.shards.each.ports.items k.0.set_up.begins.count_is k.0.ends.count_is open_.shards_many open_.shard_tables k.0.set_up.begins.ledger k.0.ends.nodes k.0.ends.seated.shards,
-         all_of xs rs qs k.1)
+    all_of (x ∷ xs) (r ∷ rs) (q ∷ qs) k = (
+      all_home count limit tables K hs r.ports.shards.each.ports.items q.ports.shards.each.ports.items k.0.set_up.begins.count_is k.0.ends.count_is open_.shards_many open_.shard_tables k.0.set_up.begins.ledger k.0.ends.nodes k.0.ends.seated.shards,
+      all_of xs rs qs k.1,
+    )
 
     -- each lane's seat of its coordinator is of the lock that the wave picks
     pub seats_at : (xs : List Lane) (rs qs : List (LaneRun W D B G)) → (some : 0 < K.lanes) → Runs xs rs qs → SeatsAt K.lanes some tables qs
@@ -238,10 +249,11 @@ module _ {W D B : Type 0} {G : Ghosts B} (count limit : D → ℕ) (tables : ℕ
     lanes_down (x ∷ xs) (r ∷ rs) [] ys owns homes rows some f k z h a = absurd k
     lanes_down (x ∷ xs) (r ∷ rs) (q ∷ qs) [] owns homes rows some f k z h a = absurd z
     lanes_down (x ∷ xs) (r ∷ rs) (q ∷ qs) (y ∷ ys) owns homes rows some f k z h a =
-        let many = ends_many qs ys z.1 in
-        (subst (λ n. LaneRan K (log_at gs) (shard_at count limit hs) (hands_at homes) (hands_at rows) n x y) many
-            (lane_ran (length qs) x y r q homes rows k.0 z.0 (subst (IsHand (knows (home_seat q))) (sym (f (home_of K (length qs)))) (hand_among (home_seat q) (down_at owns (home_of K (length qs))) h.0)) a.0),
-         lanes_down xs rs qs ys owns homes rows some f k.1 z.1 h.1 a.1)
+        let many = ends_many qs ys z.1 in (
+          subst (λ n. LaneRan K (log_at gs) (shard_at count limit hs) (hands_at homes) (hands_at rows) n x y) many
+              (lane_ran (length qs) x y r q homes rows k.0 z.0 (subst (IsHand (knows (home_seat q))) (sym (f (home_of K (length qs)))) (hand_among (home_seat q) (down_at owns (home_of K (length qs))) h.0)) a.0),
+          lanes_down xs rs qs ys owns homes rows some f k.1 z.1 h.1 a.1,
+        )
       where
         ends_many : (us : List (LaneRun W D B G)) (vs : List Lane) → AllZip (λ r y. IsEnd r.work r.came y) us vs → length us ≡ length vs
         ends_many [] [] z = refl

@@ -9,3 +9,5 @@ pub mod Homes
 pub mod Ending
 pub mod Unrun
 pub mod Waving
+pub mod Wanting
+pub mod Through

@@ -1,26 +1,19 @@
-use Rattle.std.proofs.Common.{rules, ◌≡◌, ◌<◌, ◌≤◌, ◌+◌, ◌*◌, ◌++◌, ℕ, suc, Some, List, [], length, reverse, append-nil, refl, sym, ap, ◌∙◌, subst, arith}
-use Rattle.std.specs.Prelude.{All, vec_capacity, slice_index_or}
-use Rattle.std.proofs.lemmas.List.{length-reverse, reverse-reverse}
-use Rattle.std.proofs.lemmas.Nat.{mul-le}
+use Rattle.std.proofs.Common.{◌≡◌, ◌<◌, ◌+◌, ◌*◌, ℕ, List, [], length, reverse, append-nil, sym, ap, ◌∙◌, subst, arith}
+use Rattle.std.specs.Prelude.{slice_index_or}
+use Rattle.std.proofs.lemmas.List.{length-reverse}
 use Rattle.std.proofs.lemmas.List.Elements.{All-same}
 use Rattle.shard_fanout.specs.Nodes.{shard_sight}
 use Rattle.wave_lanes.specs.Held.{Begins, Ends}
-use Rattle.lane_waves.specs.Rows.{all_lanes, home_lanes}
-use Rattle.lane_waves.specs.Deals.{EachHolds, IsSetUp, log_at, shard_at}
-use Rattle.lane_waves.specs.Gathers.{EachTakes, AllOver, AllGave, Chunks, IsEnd}
-use Rattle.lane_waves.specs.Places.{AllFrom}
-use Rattle.std.specs.List.{AllZip}
-use Rattle.thread_laws.specs.Running.{LaneRan}
-use Rattle.wave_ends.specs.Rows.{AreBack}
-use Rattle.wave_ends.proofs.Passing.{all_back}
-use Rattle.wave_records.specs.Among.{hands_at}
-use Rattle.lane_waves.proofs.Places.{none_long, all_anew, both_many, each_pair}
+use Rattle.lane_waves.specs.Rows.{all_lanes}
+use Rattle.lane_waves.specs.Deals.{EachHolds, IsSetUp}
+use Rattle.lane_waves.specs.Gathers.{EachTakes, AllOver}
+use Rattle.lane_waves.proofs.Places.{none_long, all_anew, both_many}
 use Rattle.lane_waves.proofs.Numbers.{many_lanes}
-use Rattle.lane_waves.proofs.Lists.{left_many, left_holds, have_lanes}
-use Rattle.lane_waves.proofs.Ending.{chunks_are, no_ends, ends_are, none_seated, all_seated, all_begin, runs_of, ends_zip, all_over, all_of, seats_at, lanes_ran}
-use Rattle.lane_waves.proofs.Homes.{HomeAt, homes_hold, homes_at, homes_up, homes_ready, hands_down}
+use Rattle.lane_waves.proofs.Lists.{left_many, left_holds}
+use Rattle.lane_waves.proofs.Ending.{chunks_are, no_ends, none_seated, all_seated, all_begin, runs_of, ends_zip, all_over, all_of}
 use Rattle.lane_waves.proofs.Giving.{none_back, holds_take}
-use Rattle.lane_waves.proofs.Unrun.{unrun, still_ran, fresh_hand}
+use Rattle.lane_waves.proofs.Through.{all_through}
+use Rattle.lane_waves.proofs.Wanting.{not_run}
 use Rattle.lane_waves.proofs.waves.run_seated.Goals as goal
 
 pub deal_all-homes-requires-clause-room :
@@ -149,7 +142,8 @@ returns g c =
     let homes = c.gather_all-homes.result.0.items in
     let left = none_back (shard_sight count limit) hs t.rows.items c.deal_all-homes.ensures.left in
     let end = subst (λ xs. (i : ℕ) (d : _) → i < length xs → Ends count limit tables K (slice_index_or xs i d) (slice_index_or news i d)) c.as_mut_slice.ensures.value c.run_all.ensures.end in
-    let runs = runs_of count limit tables K gs hs lanes olds news both (ends_zip count limit tables K gs hs olds news same end) in
+    let zip = ends_zip count limit tables K gs hs olds news same end in
+    let runs = runs_of count limit tables K gs hs lanes olds news both zip in
     let begun = e.gathered hs news (record {
       gone = [];
       all_are = sym anew ∙ sym (append-nil _);
@@ -158,24 +152,14 @@ returns g c =
       gave = tt;
       lanes = no_ends news t.lanes.items none_lanes;
     }) in
-    let gone : news ≡ begun.gone = begun.all_are ∙ ap (λ xs. xs ++ begun.gone) e.none in
-    let gone_many = ap (λ (xs : List _). length xs) gone in
-    let some : 0 < K.lanes = let l = c.requires.open.limits.some_lane in omega (arith, l) in
-    let one = mul-le 1 1 K.coordinators K.lanes c.requires.open.limits.some_coordinator c.requires.open.limits.some_lane in
-    let any : 0 < K.coordinators * K.lanes = omega (arith, one) in
+    let none = e.none in
     let chunks = chunks_are c.lanes.result K.lanes (reverse homes) _ news c.lanes.ensures.value anew e.homes in
-    let hold = (homes_hold K.lanes some (reverse homes) news chunks).0 in
-    let at = homes_at K.lanes some tables (reverse homes) news chunks (seats_at count limit tables K gs hs c.requires.open (reverse lanes) olds news some runs) in
-    let up = subst (AllFrom (HomeAt K.lanes tables) 0) (reverse-reverse homes) (homes_up K.lanes tables (reverse homes) at) in
     let homes_many : length homes ≡ length gs = e.many ∙ (c.deal_all-homes.ensures.emptied.0 ∙ sym c.requires.open.logs_many) in
-    let ran = lanes_ran count limit tables K gs hs c.requires.open lanes u.lanes.items olds news (reverse homes) homes u.rows.items some
-        (λ h. ap (λ xs. hands_at xs h) (sym (reverse-reverse homes)) ∙ hands_down (reverse homes) h) runs
-        (ends_are news begun.gone (reverse u.lanes.items) gone begun.lanes) hold (subst (λ xs. AllGave xs u.rows.items) (sym gone) begun.gave) in
-    let P = LaneRan K (log_at gs) (shard_at count limit hs) (hands_at homes) (hands_at u.rows.items) in
-    record {
-      homes_ready = homes_ready K.lanes tables some (home_lanes K) 0 gs homes homes_many (λ h. many_lanes (h * K.lanes) K.lanes) up c.requires.open.log_tables c.requires.open.log_lanes;
-      rows_ready = all_back (K.coordinators * K.lanes) hs u.rows.items any (have_lanes 0 (all_lanes K) (K.coordinators * K.lanes) hs (many_lanes 0 (K.coordinators * K.lanes)) c.requires.open.shard_lanes)
-          (subst (λ n. AreBack n hs u.rows.items) (omega (arith, gone_many, same, many)) begun.back);
-      many = sym (both_many P 0 lanes u.lanes.items ran);
-      lanes_ran = each_pair P lanes u.lanes.items ran;
-    }
+    all_through count limit tables K gs hs c.requires.open lanes olds news homes u both zip begun none chunks homes_many lanes_many (same ∙ many)
+
+pub returns-in_default : goal.returns-in_default
+returns-in_default g c =
+    let s = c.args.seated in
+    not_run g.D.Disk.count g.D.Disk.limit g.B.Locks.tables c.args.shape.now c.args.log_locks.now c.args.shard_locks.now c.requires.open
+    s.homes.items s.rows.items s.lanes.items c.stop_all.new.lanes.items
+    c.requires.homes (c.requires.homes_many) c.requires.left c.requires.lanes_many c.stop_all.ensures.same c.stop_all.ensures.stopped
