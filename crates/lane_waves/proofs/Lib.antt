@@ -8,5 +8,6 @@ pub mod Keeping
 pub mod Homes
 pub mod Ending
 pub mod Unrun
+pub mod Waving
 pub mod Wanting
 pub mod Through
