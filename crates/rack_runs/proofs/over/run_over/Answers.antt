@@ -4,39 +4,40 @@ use Rattle.rack_runs.proofs.Resumed.{over_cut, over_keeps, flies_cut, flies_over
 use Rattle.ledger_laws.proofs.Cuts.{end_trans}
 use Rattle.ledger_runs.proofs.Onward.{rests_told}
 use Rattle.ledger_runs.specs.Faults.{HaveFailed, MayHold, AllRest}
+use Rattle.ledger_nodes.specs.Ledgers.{journals, flights, faults, opened, capacity}
 use Rattle.file_runs.specs.Endings.{EndsFiles}
 use Rattle.rack_runs.proofs.Answering.{resumed_begun, resumed_fault, resumed_launches, filed_begun, filed_fault, filed_launches}
 use Rattle.rack_runs.proofs.over.run_over.Goals as goal
 
 pub returns-in-Err-clause-keeps : goal.returns-in-Err-clause-keeps
 returns-in-Err-clause-keeps g c =
-    over_cut (g.L.Turns.shape c.args.ledger.now) c.args.files.now (g.L.Turns.journals c.args.ledger.now) (g.L.Turns.journals c.resume_all.new.ledger) c.resume_all.ensures.keeps
+    over_cut c.args.ledger.header.shape c.args.files.now (journals g.D.Disk.count g.D.Disk.limit c.args.ledger) (journals g.D.Disk.count g.D.Disk.limit c.resume_ledger-ledger.result.ledger) c.resume_ledger-ledger.ensures.keeps
 
 pub returns-in-Ok-run_files-clause-keeps : goal.returns-in-Ok-run_files-clause-keeps
 returns-in-Ok-run_files-clause-keeps g c =
-    over_keeps (g.L.Turns.shape c.args.ledger.now) (g.L.Turns.shape c.resume_all.new.ledger) c.args.files.now (g.L.Turns.journals c.args.ledger.now) (g.L.Turns.journals c.resume_all.new.ledger) (g.L.Turns.journals c.run_files.new.ledger)
-    c.resume_all.ensures.shape c.resume_all.ensures.keeps c.run_files.ensures.keeps
+    over_keeps c.args.ledger.header.shape c.resume_ledger-ledger.result.ledger.header.shape c.args.files.now (journals g.D.Disk.count g.D.Disk.limit c.args.ledger) (journals g.D.Disk.count g.D.Disk.limit c.resume_ledger-ledger.result.ledger) (journals g.D.Disk.count g.D.Disk.limit c.run_files-ledger.result.ledger)
+    c.resume_ledger-ledger.ensures.shape c.resume_ledger-ledger.ensures.keeps c.run_files-ledger.ensures.keeps
 
 pub returns-in-Err-run_files-clause-keeps : goal.returns-in-Err-run_files-clause-keeps
 returns-in-Err-run_files-clause-keeps g c =
-    over_keeps (g.L.Turns.shape c.args.ledger.now) (g.L.Turns.shape c.resume_all.new.ledger) c.args.files.now (g.L.Turns.journals c.args.ledger.now) (g.L.Turns.journals c.resume_all.new.ledger) (g.L.Turns.journals c.run_files.new.ledger)
-    c.resume_all.ensures.shape c.resume_all.ensures.keeps c.run_files.ensures.keeps
+    over_keeps c.args.ledger.header.shape c.resume_ledger-ledger.result.ledger.header.shape c.args.files.now (journals g.D.Disk.count g.D.Disk.limit c.args.ledger) (journals g.D.Disk.count g.D.Disk.limit c.resume_ledger-ledger.result.ledger) (journals g.D.Disk.count g.D.Disk.limit c.run_files-ledger.result.ledger)
+    c.resume_ledger-ledger.ensures.shape c.resume_ledger-ledger.ensures.keeps c.run_files-ledger.ensures.keeps
 
 pub returns-in-Ok-run_files-clause-waves : goal.returns-in-Ok-run_files-clause-waves
 returns-in-Ok-run_files-clause-waves g c =
-    over_waves (g.L.Turns.shape c.args.ledger.now) (g.L.Turns.shape c.resume_all.new.ledger) (g.V.Verifier.verdict_of c.args.verifier.now) c.args.files.now (g.L.Turns.journals c.args.ledger.now) (g.L.Turns.journals c.resume_all.new.ledger) (g.L.Turns.journals c.run_files.new.ledger)
-    c.resume_all.ensures.shape c.resume_all.ensures.keeps c.in-Ok.ensures.resumed c.in-Ok-run_files.ensures.waves
+    over_waves c.args.ledger.header.shape c.resume_ledger-ledger.result.ledger.header.shape (g.V.Verifier.verdict_of c.args.verifier.now) c.args.files.now (journals g.D.Disk.count g.D.Disk.limit c.args.ledger) (journals g.D.Disk.count g.D.Disk.limit c.resume_ledger-ledger.result.ledger) (journals g.D.Disk.count g.D.Disk.limit c.run_files-ledger.result.ledger)
+    c.resume_ledger-ledger.ensures.shape c.resume_ledger-ledger.ensures.keeps c.in-Ok.ensures.resumed c.in-Ok-run_files.ensures.waves
 
 pub returns-then-is_empty-clause-keeps : goal.returns-then-is_empty-clause-keeps
 returns-then-is_empty-clause-keeps g c =
-    over_cut (g.L.Turns.shape c.args.ledger.now) c.args.files.now (g.L.Turns.journals c.args.ledger.now) (g.L.Turns.journals c.resume_all.new.ledger) c.resume_all.ensures.keeps
+    over_cut c.args.ledger.header.shape c.args.files.now (journals g.D.Disk.count g.D.Disk.limit c.args.ledger) (journals g.D.Disk.count g.D.Disk.limit c.resume_ledger-ledger.result.ledger) c.resume_ledger-ledger.ensures.keeps
 
 pub returns-then-is_empty-clause-resumed : goal.returns-then-is_empty-clause-resumed
 returns-then-is_empty-clause-resumed g c mint submissions kept none = c.in-Ok.ensures.resumed mint submissions kept
 
 pub returns-then-is_empty-clause-waves : goal.returns-then-is_empty-clause-waves
 returns-then-is_empty-clause-waves g c =
-    over_none (g.L.Turns.shape c.args.ledger.now) (g.V.Verifier.verdict_of c.args.verifier.now) c.args.files.now (g.L.Turns.journals c.args.ledger.now) (g.L.Turns.journals c.resume_all.new.ledger) (none_of c.args.files.now (eqb-true (length c.args.files.now) 0 (sym c.is_empty.ensures ∙ c.if-is_empty.true))) c.in-Ok.ensures.resumed
+    over_none c.args.ledger.header.shape (g.V.Verifier.verdict_of c.args.verifier.now) c.args.files.now (journals g.D.Disk.count g.D.Disk.limit c.args.ledger) (journals g.D.Disk.count g.D.Disk.limit c.resume_ledger-ledger.result.ledger) (none_of c.args.files.now (eqb-true (length c.args.files.now) 0 (sym c.is_empty.ensures ∙ c.if-is_empty.true))) c.in-Ok.ensures.resumed
 
 pub returns-then-is_empty-clause-quiet : goal.returns-then-is_empty-clause-quiet
 returns-then-is_empty-clause-quiet g c = c.in-Ok.ensures.quiet
@@ -46,142 +47,142 @@ returns-in-Ok-run_files-clause-quiet g c = λ was. c.in-Ok-run_files.ensures.qui
 
 pub returns-then-is_empty-clause-told : goal.returns-then-is_empty-clause-told
 returns-then-is_empty-clause-told g c =
-    over_told_none (g.L.Turns.shape c.args.ledger.now) (g.V.Verifier.verdict_of c.args.verifier.now) c.args.files.now (g.L.Turns.journals c.args.ledger.now) (g.L.Turns.journals c.resume_all.new.ledger) c.in-Ok.resumed.items _
+    over_told_none c.args.ledger.header.shape (g.V.Verifier.verdict_of c.args.verifier.now) c.args.files.now (journals g.D.Disk.count g.D.Disk.limit c.args.ledger) (journals g.D.Disk.count g.D.Disk.limit c.resume_ledger-ledger.result.ledger) c.in-Ok.resumed.items _
     (none_of c.args.files.now (eqb-true (length c.args.files.now) 0 (sym c.is_empty.ensures ∙ c.if-is_empty.true))) c.new.ensures.items
-    c.resume_all.ensures.keeps c.in-Ok.ensures.told c.resume_all.ensures.prepares
+    c.resume_ledger-ledger.ensures.keeps c.in-Ok.ensures.told c.resume_ledger-ledger.ensures.prepares
 
 pub returns-in-Ok-run_files-clause-told : goal.returns-in-Ok-run_files-clause-told
 returns-in-Ok-run_files-clause-told g c =
-    over_told (g.L.Turns.shape c.args.ledger.now) (g.L.Turns.shape c.resume_all.new.ledger) (g.V.Verifier.verdict_of c.args.verifier.now) c.args.files.now (g.L.Turns.journals c.args.ledger.now) (g.L.Turns.journals c.resume_all.new.ledger) (g.L.Turns.journals c.run_files.new.ledger)
-    c.in-Ok.resumed.items c.in-Ok-run_files.waves.items c.resume_all.ensures.shape c.resume_all.ensures.keeps c.in-Ok.ensures.told c.resume_all.ensures.prepares c.in-Ok-run_files.ensures.told
+    over_told c.args.ledger.header.shape c.resume_ledger-ledger.result.ledger.header.shape (g.V.Verifier.verdict_of c.args.verifier.now) c.args.files.now (journals g.D.Disk.count g.D.Disk.limit c.args.ledger) (journals g.D.Disk.count g.D.Disk.limit c.resume_ledger-ledger.result.ledger) (journals g.D.Disk.count g.D.Disk.limit c.run_files-ledger.result.ledger)
+    c.in-Ok.resumed.items c.in-Ok-run_files.waves.items c.resume_ledger-ledger.ensures.shape c.resume_ledger-ledger.ensures.keeps c.in-Ok.ensures.told c.resume_ledger-ledger.ensures.prepares c.in-Ok-run_files.ensures.told
 
 pub returns-in-Err-clause-fault : goal.returns-in-Err-clause-fault
 returns-in-Err-clause-fault g c =
-    resumed_fault (g.L.Turns.shape c.args.ledger.now) (g.V.Verifier.verdict_of c.args.verifier.now) c.args.files.now (g.L.Turns.journals c.args.ledger.now) (g.L.Turns.journals c.resume_all.new.ledger)
-    (HaveFailed (g.L.Turns.opened c.resume_all.new.ledger) (g.L.Turns.faults c.resume_all.new.ledger)) (MayHold (g.L.Turns.capacity c.resume_all.new.ledger)) c.in-Err.fault c.in-Err.ensures.fault
+    resumed_fault c.args.ledger.header.shape (g.V.Verifier.verdict_of c.args.verifier.now) c.args.files.now (journals g.D.Disk.count g.D.Disk.limit c.args.ledger) (journals g.D.Disk.count g.D.Disk.limit c.resume_ledger-ledger.result.ledger)
+    (HaveFailed (opened g.D.Disk.count g.D.Disk.limit c.resume_ledger-ledger.result.ledger) (faults g.D.Disk.count g.D.Disk.limit c.resume_ledger-ledger.result.ledger)) (MayHold (capacity g.D.Disk.count g.D.Disk.limit c.resume_ledger-ledger.result.ledger)) c.in-Err.fault c.in-Err.ensures.fault
 
 pub returns-in-Err-run_files-clause-fault : goal.returns-in-Err-run_files-clause-fault
 returns-in-Err-run_files-clause-fault g c =
-    filed_fault (g.L.Turns.shape c.args.ledger.now) (g.L.Turns.shape c.resume_all.new.ledger) (g.V.Verifier.verdict_of c.args.verifier.now) c.args.files.now (g.L.Turns.journals c.args.ledger.now) (g.L.Turns.journals c.resume_all.new.ledger) (g.L.Turns.journals c.run_files.new.ledger)
-    (HaveFailed (g.L.Turns.opened c.run_files.new.ledger) (g.L.Turns.faults c.run_files.new.ledger)) (MayHold (g.L.Turns.capacity c.run_files.new.ledger)) c.resume_all.ensures.shape c.resume_all.ensures.grows c.resume_all.ensures.prepares c.in-Err-run_files.fault c.in-Err-run_files.ensures.fault
+    filed_fault c.args.ledger.header.shape c.resume_ledger-ledger.result.ledger.header.shape (g.V.Verifier.verdict_of c.args.verifier.now) c.args.files.now (journals g.D.Disk.count g.D.Disk.limit c.args.ledger) (journals g.D.Disk.count g.D.Disk.limit c.resume_ledger-ledger.result.ledger) (journals g.D.Disk.count g.D.Disk.limit c.run_files-ledger.result.ledger)
+    (HaveFailed (opened g.D.Disk.count g.D.Disk.limit c.run_files-ledger.result.ledger) (faults g.D.Disk.count g.D.Disk.limit c.run_files-ledger.result.ledger)) (MayHold (capacity g.D.Disk.count g.D.Disk.limit c.run_files-ledger.result.ledger)) c.resume_ledger-ledger.ensures.shape c.resume_ledger-ledger.ensures.grows c.resume_ledger-ledger.ensures.prepares c.in-Err-run_files.fault c.in-Err-run_files.ensures.fault
 
 pub returns-in-Ok-run_files-clause-grows : goal.returns-in-Ok-run_files-clause-grows
-returns-in-Ok-run_files-clause-grows g c n = end_trans (g.L.Turns.journals c.args.ledger.now n) (g.L.Turns.journals c.resume_all.new.ledger n) (g.L.Turns.journals c.run_files.new.ledger n) (c.resume_all.ensures.grows n) (c.run_files.ensures.grows n)
+returns-in-Ok-run_files-clause-grows g c n = end_trans (journals g.D.Disk.count g.D.Disk.limit c.args.ledger n) (journals g.D.Disk.count g.D.Disk.limit c.resume_ledger-ledger.result.ledger n) (journals g.D.Disk.count g.D.Disk.limit c.run_files-ledger.result.ledger n) (c.resume_ledger-ledger.ensures.grows n) (c.run_files-ledger.ensures.grows n)
 
 pub returns-in-Err-run_files-clause-grows : goal.returns-in-Err-run_files-clause-grows
-returns-in-Err-run_files-clause-grows g c n = end_trans (g.L.Turns.journals c.args.ledger.now n) (g.L.Turns.journals c.resume_all.new.ledger n) (g.L.Turns.journals c.run_files.new.ledger n) (c.resume_all.ensures.grows n) (c.run_files.ensures.grows n)
+returns-in-Err-run_files-clause-grows g c n = end_trans (journals g.D.Disk.count g.D.Disk.limit c.args.ledger n) (journals g.D.Disk.count g.D.Disk.limit c.resume_ledger-ledger.result.ledger n) (journals g.D.Disk.count g.D.Disk.limit c.run_files-ledger.result.ledger n) (c.resume_ledger-ledger.ensures.grows n) (c.run_files-ledger.ensures.grows n)
 
 pub returns-in-Err-clause-flies : goal.returns-in-Err-clause-flies
 returns-in-Err-clause-flies g c =
-    flies_cut (g.L.Turns.shape c.args.ledger.now) c.args.files.now (g.L.Turns.journals c.args.ledger.now) (g.L.Turns.journals c.resume_all.new.ledger) (g.L.Turns.flights c.args.ledger.now) (g.L.Turns.flights c.resume_all.new.ledger) c.resume_all.ensures.flies
+    flies_cut c.args.ledger.header.shape c.args.files.now (journals g.D.Disk.count g.D.Disk.limit c.args.ledger) (journals g.D.Disk.count g.D.Disk.limit c.resume_ledger-ledger.result.ledger) (flights g.D.Disk.count g.D.Disk.limit c.args.ledger) (flights g.D.Disk.count g.D.Disk.limit c.resume_ledger-ledger.result.ledger) c.resume_ledger-ledger.ensures.flies
 
 pub returns-then-is_empty-clause-flies : goal.returns-then-is_empty-clause-flies
 returns-then-is_empty-clause-flies g c =
-    flies_cut (g.L.Turns.shape c.args.ledger.now) c.args.files.now (g.L.Turns.journals c.args.ledger.now) (g.L.Turns.journals c.resume_all.new.ledger) (g.L.Turns.flights c.args.ledger.now) (g.L.Turns.flights c.resume_all.new.ledger) c.resume_all.ensures.flies
+    flies_cut c.args.ledger.header.shape c.args.files.now (journals g.D.Disk.count g.D.Disk.limit c.args.ledger) (journals g.D.Disk.count g.D.Disk.limit c.resume_ledger-ledger.result.ledger) (flights g.D.Disk.count g.D.Disk.limit c.args.ledger) (flights g.D.Disk.count g.D.Disk.limit c.resume_ledger-ledger.result.ledger) c.resume_ledger-ledger.ensures.flies
 
 pub returns-in-Ok-run_files-clause-flies : goal.returns-in-Ok-run_files-clause-flies
 returns-in-Ok-run_files-clause-flies g c =
-    flies_over (g.L.Turns.shape c.args.ledger.now) (g.L.Turns.shape c.resume_all.new.ledger) c.args.files.now (g.L.Turns.journals c.args.ledger.now) (g.L.Turns.journals c.resume_all.new.ledger) (g.L.Turns.journals c.run_files.new.ledger)
-    (g.L.Turns.flights c.args.ledger.now) (g.L.Turns.flights c.resume_all.new.ledger) (g.L.Turns.flights c.run_files.new.ledger) c.resume_all.ensures.shape c.resume_all.ensures.keeps c.resume_all.ensures.flies c.run_files.ensures.flies
+    flies_over c.args.ledger.header.shape c.resume_ledger-ledger.result.ledger.header.shape c.args.files.now (journals g.D.Disk.count g.D.Disk.limit c.args.ledger) (journals g.D.Disk.count g.D.Disk.limit c.resume_ledger-ledger.result.ledger) (journals g.D.Disk.count g.D.Disk.limit c.run_files-ledger.result.ledger)
+    (flights g.D.Disk.count g.D.Disk.limit c.args.ledger) (flights g.D.Disk.count g.D.Disk.limit c.resume_ledger-ledger.result.ledger) (flights g.D.Disk.count g.D.Disk.limit c.run_files-ledger.result.ledger) c.resume_ledger-ledger.ensures.shape c.resume_ledger-ledger.ensures.keeps c.resume_ledger-ledger.ensures.flies c.run_files-ledger.ensures.flies
 
 pub returns-in-Err-run_files-clause-flies : goal.returns-in-Err-run_files-clause-flies
 returns-in-Err-run_files-clause-flies g c =
-    flies_over (g.L.Turns.shape c.args.ledger.now) (g.L.Turns.shape c.resume_all.new.ledger) c.args.files.now (g.L.Turns.journals c.args.ledger.now) (g.L.Turns.journals c.resume_all.new.ledger) (g.L.Turns.journals c.run_files.new.ledger)
-    (g.L.Turns.flights c.args.ledger.now) (g.L.Turns.flights c.resume_all.new.ledger) (g.L.Turns.flights c.run_files.new.ledger) c.resume_all.ensures.shape c.resume_all.ensures.keeps c.resume_all.ensures.flies c.run_files.ensures.flies
+    flies_over c.args.ledger.header.shape c.resume_ledger-ledger.result.ledger.header.shape c.args.files.now (journals g.D.Disk.count g.D.Disk.limit c.args.ledger) (journals g.D.Disk.count g.D.Disk.limit c.resume_ledger-ledger.result.ledger) (journals g.D.Disk.count g.D.Disk.limit c.run_files-ledger.result.ledger)
+    (flights g.D.Disk.count g.D.Disk.limit c.args.ledger) (flights g.D.Disk.count g.D.Disk.limit c.resume_ledger-ledger.result.ledger) (flights g.D.Disk.count g.D.Disk.limit c.run_files-ledger.result.ledger) c.resume_ledger-ledger.ensures.shape c.resume_ledger-ledger.ensures.keeps c.resume_ledger-ledger.ensures.flies c.run_files-ledger.ensures.flies
 
 pub returns-in-Err-clause-launches : goal.returns-in-Err-clause-launches
 returns-in-Err-clause-launches g c =
-    resumed_launches (g.L.Turns.shape c.args.ledger.now) (g.V.Verifier.verdict_of c.args.verifier.now) c.args.files.now (g.L.Turns.journals c.args.ledger.now) (g.L.Turns.journals c.resume_all.new.ledger)
-    (g.L.Turns.flights c.args.ledger.now) (g.L.Turns.flights c.resume_all.new.ledger) c.resume_all.ensures.launches
+    resumed_launches c.args.ledger.header.shape (g.V.Verifier.verdict_of c.args.verifier.now) c.args.files.now (journals g.D.Disk.count g.D.Disk.limit c.args.ledger) (journals g.D.Disk.count g.D.Disk.limit c.resume_ledger-ledger.result.ledger)
+    (flights g.D.Disk.count g.D.Disk.limit c.args.ledger) (flights g.D.Disk.count g.D.Disk.limit c.resume_ledger-ledger.result.ledger) c.resume_ledger-ledger.ensures.launches
 
 pub returns-then-is_empty-clause-launches : goal.returns-then-is_empty-clause-launches
 returns-then-is_empty-clause-launches g c =
-    resumed_launches (g.L.Turns.shape c.args.ledger.now) (g.V.Verifier.verdict_of c.args.verifier.now) c.args.files.now (g.L.Turns.journals c.args.ledger.now) (g.L.Turns.journals c.resume_all.new.ledger)
-    (g.L.Turns.flights c.args.ledger.now) (g.L.Turns.flights c.resume_all.new.ledger) c.resume_all.ensures.launches
+    resumed_launches c.args.ledger.header.shape (g.V.Verifier.verdict_of c.args.verifier.now) c.args.files.now (journals g.D.Disk.count g.D.Disk.limit c.args.ledger) (journals g.D.Disk.count g.D.Disk.limit c.resume_ledger-ledger.result.ledger)
+    (flights g.D.Disk.count g.D.Disk.limit c.args.ledger) (flights g.D.Disk.count g.D.Disk.limit c.resume_ledger-ledger.result.ledger) c.resume_ledger-ledger.ensures.launches
 
 pub returns-in-Ok-run_files-clause-launches : goal.returns-in-Ok-run_files-clause-launches
 returns-in-Ok-run_files-clause-launches g c =
-    filed_launches (g.L.Turns.shape c.args.ledger.now) (g.L.Turns.shape c.resume_all.new.ledger) (g.V.Verifier.verdict_of c.args.verifier.now) c.args.files.now
-    (g.L.Turns.journals c.args.ledger.now) (g.L.Turns.journals c.resume_all.new.ledger) (g.L.Turns.journals c.run_files.new.ledger)
-    (g.L.Turns.flights c.args.ledger.now) (g.L.Turns.flights c.resume_all.new.ledger) (g.L.Turns.flights c.run_files.new.ledger) c.resume_all.ensures.shape c.resume_all.ensures.prepares c.resume_all.ensures.launches c.run_files.ensures.launches
+    filed_launches c.args.ledger.header.shape c.resume_ledger-ledger.result.ledger.header.shape (g.V.Verifier.verdict_of c.args.verifier.now) c.args.files.now
+    (journals g.D.Disk.count g.D.Disk.limit c.args.ledger) (journals g.D.Disk.count g.D.Disk.limit c.resume_ledger-ledger.result.ledger) (journals g.D.Disk.count g.D.Disk.limit c.run_files-ledger.result.ledger)
+    (flights g.D.Disk.count g.D.Disk.limit c.args.ledger) (flights g.D.Disk.count g.D.Disk.limit c.resume_ledger-ledger.result.ledger) (flights g.D.Disk.count g.D.Disk.limit c.run_files-ledger.result.ledger) c.resume_ledger-ledger.ensures.shape c.resume_ledger-ledger.ensures.prepares c.resume_ledger-ledger.ensures.launches c.run_files-ledger.ensures.launches
 
 pub returns-in-Err-run_files-clause-launches : goal.returns-in-Err-run_files-clause-launches
 returns-in-Err-run_files-clause-launches g c =
-    filed_launches (g.L.Turns.shape c.args.ledger.now) (g.L.Turns.shape c.resume_all.new.ledger) (g.V.Verifier.verdict_of c.args.verifier.now) c.args.files.now
-    (g.L.Turns.journals c.args.ledger.now) (g.L.Turns.journals c.resume_all.new.ledger) (g.L.Turns.journals c.run_files.new.ledger)
-    (g.L.Turns.flights c.args.ledger.now) (g.L.Turns.flights c.resume_all.new.ledger) (g.L.Turns.flights c.run_files.new.ledger) c.resume_all.ensures.shape c.resume_all.ensures.prepares c.resume_all.ensures.launches c.run_files.ensures.launches
+    filed_launches c.args.ledger.header.shape c.resume_ledger-ledger.result.ledger.header.shape (g.V.Verifier.verdict_of c.args.verifier.now) c.args.files.now
+    (journals g.D.Disk.count g.D.Disk.limit c.args.ledger) (journals g.D.Disk.count g.D.Disk.limit c.resume_ledger-ledger.result.ledger) (journals g.D.Disk.count g.D.Disk.limit c.run_files-ledger.result.ledger)
+    (flights g.D.Disk.count g.D.Disk.limit c.args.ledger) (flights g.D.Disk.count g.D.Disk.limit c.resume_ledger-ledger.result.ledger) (flights g.D.Disk.count g.D.Disk.limit c.run_files-ledger.result.ledger) c.resume_ledger-ledger.ensures.shape c.resume_ledger-ledger.ensures.prepares c.resume_ledger-ledger.ensures.launches c.run_files-ledger.ensures.launches
 
 pub returns-in-Err-clause-least : goal.returns-in-Err-clause-least
-returns-in-Err-clause-least g c = inl (c.resume_all.ensures.prepares, c.in-Err.ensures.least)
+returns-in-Err-clause-least g c = inl (c.resume_ledger-ledger.ensures.prepares, c.in-Err.ensures.least)
 
 pub returns-in-Err-run_files-clause-least : goal.returns-in-Err-run_files-clause-least
 returns-in-Err-run_files-clause-least g c = inr (
-  g.L.Turns.journals c.resume_all.new.ledger,
-  c.resume_all.ensures.grows,
-  c.resume_all.ensures.prepares,
+  journals g.D.Disk.count g.D.Disk.limit c.resume_ledger-ledger.result.ledger,
+  c.resume_ledger-ledger.ensures.grows,
+  c.resume_ledger-ledger.ensures.prepares,
   c.in-Ok.ensures.idle,
-  subst (λ k. EndsFiles k (g.V.Verifier.verdict_of c.args.verifier.now) c.args.files.now (g.L.Turns.journals c.resume_all.new.ledger) (g.L.Turns.journals c.run_files.new.ledger)
-      (HaveFailed (g.L.Turns.opened c.run_files.new.ledger) (g.L.Turns.faults c.run_files.new.ledger)) (MayHold (g.L.Turns.capacity c.run_files.new.ledger)) c.in-Err-run_files.fault) c.resume_all.ensures.shape c.in-Err-run_files.ensures.least,
+  subst (λ k. EndsFiles k (g.V.Verifier.verdict_of c.args.verifier.now) c.args.files.now (journals g.D.Disk.count g.D.Disk.limit c.resume_ledger-ledger.result.ledger) (journals g.D.Disk.count g.D.Disk.limit c.run_files-ledger.result.ledger)
+      (HaveFailed (opened g.D.Disk.count g.D.Disk.limit c.run_files-ledger.result.ledger) (faults g.D.Disk.count g.D.Disk.limit c.run_files-ledger.result.ledger)) (MayHold (capacity g.D.Disk.count g.D.Disk.limit c.run_files-ledger.result.ledger)) c.in-Err-run_files.fault) c.resume_ledger-ledger.ensures.shape c.in-Err-run_files.ensures.least,
 )
 
 pub returns-in-Err-clause-begun : goal.returns-in-Err-clause-begun
 returns-in-Err-clause-begun g c =
-    resumed_begun (g.L.Turns.shape c.args.ledger.now) (g.V.Verifier.verdict_of c.args.verifier.now) c.args.files.now (g.L.Turns.journals c.args.ledger.now) (g.L.Turns.journals c.resume_all.new.ledger) c.resume_all.ensures.prepares
+    resumed_begun c.args.ledger.header.shape (g.V.Verifier.verdict_of c.args.verifier.now) c.args.files.now (journals g.D.Disk.count g.D.Disk.limit c.args.ledger) (journals g.D.Disk.count g.D.Disk.limit c.resume_ledger-ledger.result.ledger) c.resume_ledger-ledger.ensures.prepares
 
 pub returns-then-is_empty-clause-begun : goal.returns-then-is_empty-clause-begun
 returns-then-is_empty-clause-begun g c =
-    resumed_begun (g.L.Turns.shape c.args.ledger.now) (g.V.Verifier.verdict_of c.args.verifier.now) c.args.files.now (g.L.Turns.journals c.args.ledger.now) (g.L.Turns.journals c.resume_all.new.ledger) c.resume_all.ensures.prepares
+    resumed_begun c.args.ledger.header.shape (g.V.Verifier.verdict_of c.args.verifier.now) c.args.files.now (journals g.D.Disk.count g.D.Disk.limit c.args.ledger) (journals g.D.Disk.count g.D.Disk.limit c.resume_ledger-ledger.result.ledger) c.resume_ledger-ledger.ensures.prepares
 
 pub returns-in-Ok-run_files-clause-begun : goal.returns-in-Ok-run_files-clause-begun
 returns-in-Ok-run_files-clause-begun g c =
-    filed_begun (g.L.Turns.shape c.args.ledger.now) (g.L.Turns.shape c.resume_all.new.ledger) (g.V.Verifier.verdict_of c.args.verifier.now) c.args.files.now
-    (g.L.Turns.journals c.args.ledger.now) (g.L.Turns.journals c.resume_all.new.ledger) (g.L.Turns.journals c.run_files.new.ledger) c.resume_all.ensures.shape c.resume_all.ensures.prepares c.run_files.ensures.begun
+    filed_begun c.args.ledger.header.shape c.resume_ledger-ledger.result.ledger.header.shape (g.V.Verifier.verdict_of c.args.verifier.now) c.args.files.now
+    (journals g.D.Disk.count g.D.Disk.limit c.args.ledger) (journals g.D.Disk.count g.D.Disk.limit c.resume_ledger-ledger.result.ledger) (journals g.D.Disk.count g.D.Disk.limit c.run_files-ledger.result.ledger) c.resume_ledger-ledger.ensures.shape c.resume_ledger-ledger.ensures.prepares c.run_files-ledger.ensures.begun
 
 pub returns-in-Err-run_files-clause-begun : goal.returns-in-Err-run_files-clause-begun
 returns-in-Err-run_files-clause-begun g c =
-    filed_begun (g.L.Turns.shape c.args.ledger.now) (g.L.Turns.shape c.resume_all.new.ledger) (g.V.Verifier.verdict_of c.args.verifier.now) c.args.files.now
-    (g.L.Turns.journals c.args.ledger.now) (g.L.Turns.journals c.resume_all.new.ledger) (g.L.Turns.journals c.run_files.new.ledger) c.resume_all.ensures.shape c.resume_all.ensures.prepares c.run_files.ensures.begun
+    filed_begun c.args.ledger.header.shape c.resume_ledger-ledger.result.ledger.header.shape (g.V.Verifier.verdict_of c.args.verifier.now) c.args.files.now
+    (journals g.D.Disk.count g.D.Disk.limit c.args.ledger) (journals g.D.Disk.count g.D.Disk.limit c.resume_ledger-ledger.result.ledger) (journals g.D.Disk.count g.D.Disk.limit c.run_files-ledger.result.ledger) c.resume_ledger-ledger.ensures.shape c.resume_ledger-ledger.ensures.prepares c.run_files-ledger.ensures.begun
 
 pub returns-in-Err-clause-cut : goal.returns-in-Err-clause-cut
-returns-in-Err-clause-cut g c mint submissions kept sound tells = inl c.resume_all.ensures.prepares
+returns-in-Err-clause-cut g c mint submissions kept sound tells = inl c.resume_ledger-ledger.ensures.prepares
 
 pub returns-then-is_empty-clause-cut : goal.returns-then-is_empty-clause-cut
-returns-then-is_empty-clause-cut g c mint submissions kept sound tells = inl c.resume_all.ensures.prepares
+returns-then-is_empty-clause-cut g c mint submissions kept sound tells = inl c.resume_ledger-ledger.ensures.prepares
 
 pub returns-in-Ok-run_files-clause-cut : goal.returns-in-Ok-run_files-clause-cut
 returns-in-Ok-run_files-clause-cut g c =
-    over_cuts (g.L.Turns.shape c.args.ledger.now) (g.L.Turns.shape c.resume_all.new.ledger) (g.V.Verifier.verdict_of c.args.verifier.now) c.args.files.now (g.L.Turns.journals c.args.ledger.now) (g.L.Turns.journals c.resume_all.new.ledger) (g.L.Turns.journals c.run_files.new.ledger)
-    c.resume_all.ensures.shape (some_of (length c.args.files.now) (sym c.is_empty.ensures ∙ c.if-is_empty.false)) c.resume_all.ensures.keeps c.in-Ok.ensures.resumed c.run_files.ensures.cut
+    over_cuts c.args.ledger.header.shape c.resume_ledger-ledger.result.ledger.header.shape (g.V.Verifier.verdict_of c.args.verifier.now) c.args.files.now (journals g.D.Disk.count g.D.Disk.limit c.args.ledger) (journals g.D.Disk.count g.D.Disk.limit c.resume_ledger-ledger.result.ledger) (journals g.D.Disk.count g.D.Disk.limit c.run_files-ledger.result.ledger)
+    c.resume_ledger-ledger.ensures.shape (some_of (length c.args.files.now) (sym c.is_empty.ensures ∙ c.if-is_empty.false)) c.resume_ledger-ledger.ensures.keeps c.in-Ok.ensures.resumed c.run_files-ledger.ensures.cut
 
 pub returns-in-Err-run_files-clause-cut : goal.returns-in-Err-run_files-clause-cut
 returns-in-Err-run_files-clause-cut g c =
-    over_cuts (g.L.Turns.shape c.args.ledger.now) (g.L.Turns.shape c.resume_all.new.ledger) (g.V.Verifier.verdict_of c.args.verifier.now) c.args.files.now (g.L.Turns.journals c.args.ledger.now) (g.L.Turns.journals c.resume_all.new.ledger) (g.L.Turns.journals c.run_files.new.ledger)
-    c.resume_all.ensures.shape (some_of (length c.args.files.now) (sym c.is_empty.ensures ∙ c.if-is_empty.false)) c.resume_all.ensures.keeps c.in-Ok.ensures.resumed c.run_files.ensures.cut
+    over_cuts c.args.ledger.header.shape c.resume_ledger-ledger.result.ledger.header.shape (g.V.Verifier.verdict_of c.args.verifier.now) c.args.files.now (journals g.D.Disk.count g.D.Disk.limit c.args.ledger) (journals g.D.Disk.count g.D.Disk.limit c.resume_ledger-ledger.result.ledger) (journals g.D.Disk.count g.D.Disk.limit c.run_files-ledger.result.ledger)
+    c.resume_ledger-ledger.ensures.shape (some_of (length c.args.files.now) (sym c.is_empty.ensures ∙ c.if-is_empty.false)) c.resume_ledger-ledger.ensures.keeps c.in-Ok.ensures.resumed c.run_files-ledger.ensures.cut
 
 pub returns-in-Err-clause-in_order : goal.returns-in-Err-clause-in_order
-returns-in-Err-clause-in_order g c = (g.L.Turns.journals c.resume_all.new.ledger, c.resume_all.ensures.order, inl (λ n. refl))
+returns-in-Err-clause-in_order g c = (journals g.D.Disk.count g.D.Disk.limit c.resume_ledger-ledger.result.ledger, c.resume_ledger-ledger.ensures.order, inl (λ n. refl))
 
 pub returns-then-is_empty-clause-in_order : goal.returns-then-is_empty-clause-in_order
-returns-then-is_empty-clause-in_order g c = (g.L.Turns.journals c.resume_all.new.ledger, c.resume_all.ensures.order, inl (λ n. refl))
+returns-then-is_empty-clause-in_order g c = (journals g.D.Disk.count g.D.Disk.limit c.resume_ledger-ledger.result.ledger, c.resume_ledger-ledger.ensures.order, inl (λ n. refl))
 
 pub returns-in-Ok-run_files-clause-in_order : goal.returns-in-Ok-run_files-clause-in_order
-returns-in-Ok-run_files-clause-in_order g c = (g.L.Turns.journals c.resume_all.new.ledger, c.resume_all.ensures.order, inr (c.in-Ok.ensures.idle, c.run_files.ensures.grows))
+returns-in-Ok-run_files-clause-in_order g c = (journals g.D.Disk.count g.D.Disk.limit c.resume_ledger-ledger.result.ledger, c.resume_ledger-ledger.ensures.order, inr (c.in-Ok.ensures.idle, c.run_files-ledger.ensures.grows))
 
 pub returns-in-Err-run_files-clause-in_order : goal.returns-in-Err-run_files-clause-in_order
-returns-in-Err-run_files-clause-in_order g c = (g.L.Turns.journals c.resume_all.new.ledger, c.resume_all.ensures.order, inr (c.in-Ok.ensures.idle, c.run_files.ensures.grows))
+returns-in-Err-run_files-clause-in_order g c = (journals g.D.Disk.count g.D.Disk.limit c.resume_ledger-ledger.result.ledger, c.resume_ledger-ledger.ensures.order, inr (c.in-Ok.ensures.idle, c.run_files-ledger.ensures.grows))
 
 pub returns-in-Err-clause-rests : goal.returns-in-Err-clause-rests
 returns-in-Err-clause-rests g c =
-    rests_told (g.L.Turns.shape c.args.ledger.now) (g.L.Turns.journals c.args.ledger.now) (g.L.Turns.journals c.resume_all.new.ledger) (HaveFailed (g.L.Turns.opened c.resume_all.new.ledger) (g.L.Turns.faults c.resume_all.new.ledger))
-    (g.L.Turns.wanting c.resume_all.new.ledger) c.in-Err.fault c.in-Err.ensures.rests
+    rests_told c.args.ledger.header.shape (journals g.D.Disk.count g.D.Disk.limit c.args.ledger) (journals g.D.Disk.count g.D.Disk.limit c.resume_ledger-ledger.result.ledger) (HaveFailed (opened g.D.Disk.count g.D.Disk.limit c.resume_ledger-ledger.result.ledger) (faults g.D.Disk.count g.D.Disk.limit c.resume_ledger-ledger.result.ledger))
+    (λ _. Unit {0}) c.in-Err.fault c.in-Err.ensures.rests
 
 pub returns-then-is_empty-clause-rests : goal.returns-then-is_empty-clause-rests
 returns-then-is_empty-clause-rests g c lane inside = inl (inl (inl (c.in-Ok.ensures.idle lane inside)))
 
 pub returns-in-Ok-run_files-clause-rests : goal.returns-in-Ok-run_files-clause-rests
 returns-in-Ok-run_files-clause-rests g c lane inside =
-    inl (subst (λ k. AllRest k (g.L.Turns.journals c.run_files.new.ledger) (HaveFailed (g.L.Turns.opened c.run_files.new.ledger) (g.L.Turns.faults c.run_files.new.ledger))) c.resume_all.ensures.shape c.run_files.ensures.rests lane inside)
+    inl (subst (λ k. AllRest k (journals g.D.Disk.count g.D.Disk.limit c.run_files-ledger.result.ledger) (HaveFailed (opened g.D.Disk.count g.D.Disk.limit c.run_files-ledger.result.ledger) (faults g.D.Disk.count g.D.Disk.limit c.run_files-ledger.result.ledger))) c.resume_ledger-ledger.ensures.shape c.run_files-ledger.ensures.rests lane inside)
 
 pub returns-in-Err-run_files-clause-rests : goal.returns-in-Err-run_files-clause-rests
 returns-in-Err-run_files-clause-rests g c lane inside =
-    inl (subst (λ k. AllRest k (g.L.Turns.journals c.run_files.new.ledger) (HaveFailed (g.L.Turns.opened c.run_files.new.ledger) (g.L.Turns.faults c.run_files.new.ledger))) c.resume_all.ensures.shape c.run_files.ensures.rests lane inside)
+    inl (subst (λ k. AllRest k (journals g.D.Disk.count g.D.Disk.limit c.run_files-ledger.result.ledger) (HaveFailed (opened g.D.Disk.count g.D.Disk.limit c.run_files-ledger.result.ledger) (faults g.D.Disk.count g.D.Disk.limit c.run_files-ledger.result.ledger))) c.resume_ledger-ledger.ensures.shape c.run_files-ledger.ensures.rests lane inside)
