@@ -120,9 +120,14 @@ pub fn run_file<W: Wait + Threads + Sync, D: Disk + Send, V: Verifier, G: Gate +
         };
     };
     let ledger = run_wave(rt, alloc, ledger, &mut lanes, gate);
-    let came = match first_fault(&lanes) {
-        Some(fault) => Err(fault),
-        None => Ok(Wave { checked, lanes }),
-    };
-    FileRun { ledger, came }
+    match first_fault(&lanes) {
+        Some(fault) => FileRun {
+            ledger,
+            came: Err(fault),
+        },
+        None => FileRun {
+            ledger,
+            came: Ok(Wave { checked, lanes }),
+        },
+    }
 }
