@@ -1,5 +1,5 @@
 -- What is said of a whole answer, and of a fault, where it is known which came; and of each of a list, at a place.
-use Rattle.std.proofs.Common.{◌≡◌, ℕ, zero, suc, ◌<◌, List, [], ◌∷◌, length, get_or, Result, Ok, Err, IfErr, OnOk, sym, subst, arith}
+use Rattle.std.proofs.Common.{◌≡◌, ℕ, ◌<◌, List, length, get_or, Result, Ok, Err, IfErr, OnOk, sym, subst}
 use Rattle.std.specs.Prelude.{All, IfOk}
 
 pub when_whole : {A E X : Type 0} (r : Result A E) (a : A) → r ≡ Ok a → OnOk r X → X
@@ -12,6 +12,4 @@ pub of_fault : {A E : Type 0} {P : E → Type 0} (r : Result A E) (e : E) → r 
 of_fault {P = P} r e is so = subst (λ o. IfErr o P) is so
 
 pub all_at : {A : Type 0} (P : A → Type 0) (xs : List A) (i : ℕ) (x : A) → i < length xs → x ≡ get_or xs i x → All P xs → P x
-all_at P [] i x lt is all = absurd (let z : i < 0 = lt in omega (arith, z))
-all_at P (y ∷ ys) zero x lt is all = subst P (sym is) all.0
-all_at P (y ∷ ys) (suc i) x lt is all = all_at P ys i x (omega (arith, lt)) is all.1
+all_at P xs i x lt is all = subst P (sym is) (all i x lt)
