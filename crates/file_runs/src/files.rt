@@ -15,7 +15,7 @@ ghost use Rattle.file_runs.specs.Runs.{joined, IsFilesPiece, FliesWith, HaveBegu
 ghost use Rattle.file_runs.specs.Endings.{EndsFiles, AreCut};
 ghost use Rattle.file_runs.specs.Telling.{TellFiles};
 
-use crate::waves::{Wave, run_file};
+use crate::waves::{FileRun, Wave, run_file};
 use cbdc_types::{FullTx, List};
 use lane_driver::{LaneFault, no_memory};
 use ledger_nodes::Ledger;
@@ -97,9 +97,12 @@ pub fn run_files<W: Wait + Threads + Sync, D: Disk + Send, V: Verifier, G: Gate 
     };
     let mut ledger = ledger;
     'files: for txs in files {
-        let run = run_file(rt, alloc, ledger, txs.as_slice(), verifier, gate);
-        ledger = run.ledger;
-        let wave = match run.came {
+        let FileRun {
+            ledger: behind,
+            came,
+        } = run_file(rt, alloc, ledger, txs.as_slice(), verifier, gate);
+        ledger = behind;
+        let wave = match came {
             Ok(wave) => wave,
             Err(fault) => {
                 return FilesRun {

@@ -21,7 +21,7 @@ pub returns-in_default-lanes_of-clause-keeps : goal.returns-in_default-lanes_of-
 returns-in_default-lanes_of-clause-keeps g c = stays_more c.args.ledger.header.shape (journals g.D.Disk.count g.D.Disk.limit c.args.ledger) c.args.txs.now
 
 pub run_wave-ledger-requires-clause-limits : goal.run_wave-ledger-requires-clause-limits
-run_wave-ledger-requires-clause-limits g c = are_within (g.V.Verifier.verdict_of c.args.verifier.now) c.args.txs.now c.in-Ok.field-0.lanes.items c.in-Ok-lanes_of.lanes.items c.requires.short c.in-Ok.ensures.sound c.in-Ok-lanes_of.ensures
+run_wave-ledger-requires-clause-limits g c κs k = are_within (g.V.Verifier.verdict_of c.args.verifier.now) c.args.txs.now c.in-Ok.field-0.lanes.items c.in-Ok-lanes_of.lanes.items c.requires.short c.in-Ok.ensures.sound c.in-Ok-lanes_of.ensures
 
 pub returns-in-Some-clause-keeps : goal.returns-in-Some-clause-keeps
 returns-in-Some-clause-keeps g c =

@@ -50,22 +50,22 @@ pub returns-then-is_empty-clause-told : goal.returns-then-is_empty-clause-told
 returns-then-is_empty-clause-told g c =
     over_told_none c.args.ledger.header.shape (g.V.Verifier.verdict_of c.args.verifier.now) c.args.files.now (journals g.D.Disk.count g.D.Disk.limit c.args.ledger) (journals g.D.Disk.count g.D.Disk.limit c.resume_ledger-ledger.result.ledger) c.in-Ok.resumed.items _
     (none_of c.args.files.now (eqb-true (length c.args.files.now) 0 (sym c.is_empty.ensures ∙ c.if-is_empty.true))) c.new.ensures.items
-    c.resume_ledger-ledger.ensures.keeps (of_whole c.resume_ledger-ledger.result.came c.in-Ok.resumed c.in-Ok.is c.resume_ledger-ledger.ensures.told) c.resume_ledger-ledger.ensures.prepares
+    c.resume_ledger-ledger.ensures.keeps (of_whole _ c.resume_ledger-ledger.result.came c.in-Ok.resumed c.in-Ok.is c.resume_ledger-ledger.ensures.told) c.resume_ledger-ledger.ensures.prepares
 
 pub returns-in-Ok-came-clause-told : goal.returns-in-Ok-came-clause-told
 returns-in-Ok-came-clause-told g c =
     over_told c.args.ledger.header.shape c.resume_ledger-ledger.result.ledger.header.shape (g.V.Verifier.verdict_of c.args.verifier.now) c.args.files.now (journals g.D.Disk.count g.D.Disk.limit c.args.ledger) (journals g.D.Disk.count g.D.Disk.limit c.resume_ledger-ledger.result.ledger) (journals g.D.Disk.count g.D.Disk.limit c.run_files-ledger.result.ledger)
-    c.in-Ok.resumed.items c.in-Ok-came.waves.items c.resume_ledger-ledger.ensures.shape c.resume_ledger-ledger.ensures.keeps (of_whole c.resume_ledger-ledger.result.came c.in-Ok.resumed c.in-Ok.is c.resume_ledger-ledger.ensures.told) c.resume_ledger-ledger.ensures.prepares (of_whole c.run_files-ledger.result.came c.in-Ok-came.waves c.in-Ok-came.is c.run_files-ledger.ensures.told)
+    c.in-Ok.resumed.items c.in-Ok-came.waves.items c.resume_ledger-ledger.ensures.shape c.resume_ledger-ledger.ensures.keeps (of_whole _ c.resume_ledger-ledger.result.came c.in-Ok.resumed c.in-Ok.is c.resume_ledger-ledger.ensures.told) c.resume_ledger-ledger.ensures.prepares (of_whole _ c.run_files-ledger.result.came c.in-Ok-came.waves c.in-Ok-came.is c.run_files-ledger.ensures.told)
 
 pub returns-in-Err-clause-fault : goal.returns-in-Err-clause-fault
 returns-in-Err-clause-fault g c =
     resumed_fault c.args.ledger.header.shape (g.V.Verifier.verdict_of c.args.verifier.now) c.args.files.now (journals g.D.Disk.count g.D.Disk.limit c.args.ledger) (journals g.D.Disk.count g.D.Disk.limit c.resume_ledger-ledger.result.ledger)
-    (HaveFailed (opened g.D.Disk.count g.D.Disk.limit c.resume_ledger-ledger.result.ledger) (faults g.D.Disk.count g.D.Disk.limit c.resume_ledger-ledger.result.ledger)) (MayHold (capacity g.D.Disk.count g.D.Disk.limit c.resume_ledger-ledger.result.ledger)) c.in-Err.fault (of_fault c.resume_ledger-ledger.result.came c.in-Err.fault c.in-Err.is c.resume_ledger-ledger.ensures.fault)
+    (HaveFailed (opened g.D.Disk.count g.D.Disk.limit c.resume_ledger-ledger.result.ledger) (faults g.D.Disk.count g.D.Disk.limit c.resume_ledger-ledger.result.ledger)) (MayHold (capacity g.D.Disk.count g.D.Disk.limit c.resume_ledger-ledger.result.ledger)) c.in-Err.fault (of_fault _ c.resume_ledger-ledger.result.came c.in-Err.fault c.in-Err.is c.resume_ledger-ledger.ensures.fault)
 
 pub returns-in-Err-came-clause-fault : goal.returns-in-Err-came-clause-fault
 returns-in-Err-came-clause-fault g c =
     filed_fault c.args.ledger.header.shape c.resume_ledger-ledger.result.ledger.header.shape (g.V.Verifier.verdict_of c.args.verifier.now) c.args.files.now (journals g.D.Disk.count g.D.Disk.limit c.args.ledger) (journals g.D.Disk.count g.D.Disk.limit c.resume_ledger-ledger.result.ledger) (journals g.D.Disk.count g.D.Disk.limit c.run_files-ledger.result.ledger)
-    (HaveFailed (opened g.D.Disk.count g.D.Disk.limit c.run_files-ledger.result.ledger) (faults g.D.Disk.count g.D.Disk.limit c.run_files-ledger.result.ledger)) (MayHold (capacity g.D.Disk.count g.D.Disk.limit c.run_files-ledger.result.ledger)) c.resume_ledger-ledger.ensures.shape c.resume_ledger-ledger.ensures.grows c.resume_ledger-ledger.ensures.prepares c.in-Err-came.fault (of_fault c.run_files-ledger.result.came c.in-Err-came.fault c.in-Err-came.is c.run_files-ledger.ensures.fault)
+    (HaveFailed (opened g.D.Disk.count g.D.Disk.limit c.run_files-ledger.result.ledger) (faults g.D.Disk.count g.D.Disk.limit c.run_files-ledger.result.ledger)) (MayHold (capacity g.D.Disk.count g.D.Disk.limit c.run_files-ledger.result.ledger)) c.resume_ledger-ledger.ensures.shape c.resume_ledger-ledger.ensures.grows c.resume_ledger-ledger.ensures.prepares c.in-Err-came.fault (of_fault _ c.run_files-ledger.result.came c.in-Err-came.fault c.in-Err-came.is c.run_files-ledger.ensures.fault)
 
 pub returns-in-Ok-came-clause-grows : goal.returns-in-Ok-came-clause-grows
 returns-in-Ok-came-clause-grows g c n = end_trans (journals g.D.Disk.count g.D.Disk.limit c.args.ledger n) (journals g.D.Disk.count g.D.Disk.limit c.resume_ledger-ledger.result.ledger n) (journals g.D.Disk.count g.D.Disk.limit c.run_files-ledger.result.ledger n) (c.resume_ledger-ledger.ensures.grows n) (c.run_files-ledger.ensures.grows n)
@@ -114,7 +114,7 @@ returns-in-Err-came-clause-launches g c =
     (flights g.D.Disk.count g.D.Disk.limit c.args.ledger) (flights g.D.Disk.count g.D.Disk.limit c.resume_ledger-ledger.result.ledger) (flights g.D.Disk.count g.D.Disk.limit c.run_files-ledger.result.ledger) c.resume_ledger-ledger.ensures.shape c.resume_ledger-ledger.ensures.prepares c.resume_ledger-ledger.ensures.launches c.run_files-ledger.ensures.launches
 
 pub returns-in-Err-clause-least : goal.returns-in-Err-clause-least
-returns-in-Err-clause-least g c = inl (c.resume_ledger-ledger.ensures.prepares, (of_fault c.resume_ledger-ledger.result.came c.in-Err.fault c.in-Err.is c.resume_ledger-ledger.ensures.least))
+returns-in-Err-clause-least g c = inl (c.resume_ledger-ledger.ensures.prepares, (of_fault _ c.resume_ledger-ledger.result.came c.in-Err.fault c.in-Err.is c.resume_ledger-ledger.ensures.least))
 
 pub returns-in-Err-came-clause-least : goal.returns-in-Err-came-clause-least
 returns-in-Err-came-clause-least g c = inr (
@@ -123,7 +123,7 @@ returns-in-Err-came-clause-least g c = inr (
   c.resume_ledger-ledger.ensures.prepares,
   (when_whole c.resume_ledger-ledger.result.came c.in-Ok.resumed c.in-Ok.is c.resume_ledger-ledger.ensures.idle),
   subst (λ k. EndsFiles k (g.V.Verifier.verdict_of c.args.verifier.now) c.args.files.now (journals g.D.Disk.count g.D.Disk.limit c.resume_ledger-ledger.result.ledger) (journals g.D.Disk.count g.D.Disk.limit c.run_files-ledger.result.ledger)
-      (HaveFailed (opened g.D.Disk.count g.D.Disk.limit c.run_files-ledger.result.ledger) (faults g.D.Disk.count g.D.Disk.limit c.run_files-ledger.result.ledger)) (MayHold (capacity g.D.Disk.count g.D.Disk.limit c.run_files-ledger.result.ledger)) c.in-Err-came.fault) c.resume_ledger-ledger.ensures.shape (of_fault c.run_files-ledger.result.came c.in-Err-came.fault c.in-Err-came.is c.run_files-ledger.ensures.least),
+      (HaveFailed (opened g.D.Disk.count g.D.Disk.limit c.run_files-ledger.result.ledger) (faults g.D.Disk.count g.D.Disk.limit c.run_files-ledger.result.ledger)) (MayHold (capacity g.D.Disk.count g.D.Disk.limit c.run_files-ledger.result.ledger)) c.in-Err-came.fault) c.resume_ledger-ledger.ensures.shape (of_fault _ c.run_files-ledger.result.came c.in-Err-came.fault c.in-Err-came.is c.run_files-ledger.ensures.least),
 )
 
 pub returns-in-Err-clause-begun : goal.returns-in-Err-clause-begun
@@ -175,7 +175,7 @@ returns-in-Err-came-clause-in_order g c = (journals g.D.Disk.count g.D.Disk.limi
 pub returns-in-Err-clause-rests : goal.returns-in-Err-clause-rests
 returns-in-Err-clause-rests g c =
     rests_told c.args.ledger.header.shape (journals g.D.Disk.count g.D.Disk.limit c.args.ledger) (journals g.D.Disk.count g.D.Disk.limit c.resume_ledger-ledger.result.ledger) (HaveFailed (opened g.D.Disk.count g.D.Disk.limit c.resume_ledger-ledger.result.ledger) (faults g.D.Disk.count g.D.Disk.limit c.resume_ledger-ledger.result.ledger))
-    (λ _. Unit {0}) c.in-Err.fault (of_fault c.resume_ledger-ledger.result.came c.in-Err.fault c.in-Err.is c.resume_ledger-ledger.ensures.rests)
+    (λ _. Unit {0}) c.in-Err.fault (of_fault _ c.resume_ledger-ledger.result.came c.in-Err.fault c.in-Err.is c.resume_ledger-ledger.ensures.rests)
 
 pub returns-then-is_empty-clause-rests : goal.returns-then-is_empty-clause-rests
 returns-then-is_empty-clause-rests g c lane inside = inl (inl (inl ((when_whole c.resume_ledger-ledger.result.came c.in-Ok.resumed c.in-Ok.is c.resume_ledger-ledger.ensures.idle) lane inside)))
