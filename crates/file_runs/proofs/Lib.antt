@@ -7,3 +7,4 @@ pub mod Flying
 pub mod Ending
 pub mod Cutting
 pub mod Launching
+pub mod Whole

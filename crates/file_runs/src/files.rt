@@ -10,86 +10,119 @@ ghost use Rattle.submissions.specs.Checks.{TellsSound};
 ghost use Rattle.ledger_runs.specs.Turning.{OfKept, StaysKept};
 ghost use Rattle.ledger_runs.specs.Flying.{Launches};
 ghost use Rattle.ledger_runs.specs.Faults.{IsRunCause, HaveFailed, MayHold, AllRest};
+ghost use Rattle.ledger_nodes.specs.Ledgers.{journals, flights, faults, opened, capacity, IsChecked, IsStored, IsQuiet};
 ghost use Rattle.file_runs.specs.Runs.{joined, IsFilesPiece, FliesWith, HaveBegunFiles};
 ghost use Rattle.file_runs.specs.Endings.{EndsFiles, AreCut};
 ghost use Rattle.file_runs.specs.Telling.{TellFiles};
 
-use crate::waves::{Wave, run_file};
+use crate::waves::{FileRun, Wave, run_file};
 use cbdc_types::{FullTx, List};
 use lane_driver::{LaneFault, no_memory};
-use ledger_runs::Turns;
-use outside::Gate;
+use ledger_nodes::Ledger;
+use outside::{Disk, Gate};
 use std::alloc::Global;
+use std::sync::Wait;
+use std::thread::Threads;
 use verifier_port::Verifier;
 
+/// A ledger behind client files, and what came of them.
+#[derive(Drop)]
+pub struct FilesRun<D: Disk> {
+    pub ledger: Ledger<D>,
+    pub came: Result<Vec<Wave>, LaneFault>,
+}
+
 /// Runs client files over the nodes of a ledger with no open batch, one after another. The first fault ends it.
-pub fn run_files<L: Turns, V: Verifier, G: Gate + Sync>(
+pub fn run_files<W: Wait + Threads + Sync, D: Disk + Send, V: Verifier, G: Gate + Sync>(
+    rt: &W,
     alloc: Global,
-    ledger: &mut L,
+    ledger: Ledger<D>,
     files: &[List<FullTx>],
     verifier: &V,
     gate: &G,
-) -> Result<Vec<Wave>, LaneFault>
-    requires idle { AreIdle (L.shape ledger.old) (L.journals ledger.old) }
+) -> FilesRun<D>
+    requires idle { AreIdle ledger.header.shape (journals D.count D.limit ledger) }
     requires short { All (λ txs. All IsShort txs) files.now }
-    requires checked { L.checked ledger.old }
-    ensures shape { L.shape ledger.new ≡ L.shape ledger.old }
-    ensures idle { OnOk result (AreIdle (L.shape ledger.old) (L.journals ledger.new)) }
+    requires checked { IsChecked D.count D.limit ledger }
+    ensures shape { result.ledger.header.shape ≡ ledger.header.shape }
+    ensures idle { OnOk result.came (AreIdle ledger.header.shape (journals D.count D.limit result.ledger)) }
 
     // Kept journals have grown and are kept, with the submissions of all files besides.
-    ensures keeps { OfKept (L.shape ledger.old) (L.journals ledger.old)
-        (λ mint submissions. StaysKept (L.shape ledger.old) (L.journals ledger.old) (L.journals ledger.new) mint (submissions ++ joined files.now)) }
+    ensures keeps { OfKept ledger.header.shape (journals D.count D.limit ledger)
+        (λ mint submissions. StaysKept ledger.header.shape (journals D.count D.limit ledger) (journals D.count D.limit result.ledger) mint (submissions ++ joined files.now)) }
 
     // Without a fault, where the journals are those at entry with their open batches brought to their end, the files' waves follow.
-    ensures waves { OnOk result (OfKept (L.shape ledger.old) (L.journals ledger.old) (λ _ _. (sound : TxOf → Bool) (E : ℕ → List Record)
-        → TellsSound (V.verdict_of verifier.now) sound → IsResumed (L.shape ledger.old) E (L.journals ledger.old) → Waves (L.shape ledger.old) sound files.now E (L.journals ledger.new))) }
+    ensures waves { OnOk result.came (OfKept ledger.header.shape (journals D.count D.limit ledger) (λ _ _. (sound : TxOf → Bool) (E : ℕ → List Record)
+        → TellsSound (V.verdict_of verifier.now) sound → IsResumed ledger.header.shape E (journals D.count D.limit ledger) → Waves ledger.header.shape sound files.now E (journals D.count D.limit result.ledger))) }
 
     // And what each wave tells of its submissions.
-    ensures told { IfOk result (λ ws. OfKept (L.shape ledger.old) (L.journals ledger.old) (λ _ _. TellFiles (L.shape ledger.old) (V.verdict_of verifier.now) files.now (L.journals ledger.old) (L.journals ledger.new) ws.items)) }
+    ensures told { IfOk result.came (λ ws. OfKept ledger.header.shape (journals D.count D.limit ledger) (λ _ _. TellFiles ledger.header.shape (V.verdict_of verifier.now) files.now (journals D.count D.limit ledger) (journals D.count D.limit result.ledger) ws.items)) }
 
     // With a fault or without, files before have been run behind the resuming, and what came behind them is new.
-    ensures cut { OfKept (L.shape ledger.old) (L.journals ledger.old) (λ mint _. (sound : TxOf → Bool) (E : ℕ → List Record)
-        → TellsSound (V.verdict_of verifier.now) sound → IsResumed (L.shape ledger.old) E (L.journals ledger.old) → AreCut (L.shape ledger.old) sound files.now mint E (L.journals ledger.new)) }
+    ensures cut { OfKept ledger.header.shape (journals D.count D.limit ledger) (λ mint _. (sound : TxOf → Bool) (E : ℕ → List Record)
+        → TellsSound (V.verdict_of verifier.now) sound → IsResumed ledger.header.shape E (journals D.count D.limit ledger) → AreCut ledger.header.shape sound files.now mint E (journals D.count D.limit result.ledger)) }
 
-    ensures quiet { OnOk result (L.quiet ledger.old → L.quiet ledger.new) }
+    ensures quiet { OnOk result.came (IsQuiet ledger → IsQuiet result.ledger) }
     // What is in flight may come next at its node, as before.
-    ensures flies { OfKept (L.shape ledger.old) (L.journals ledger.old) (FliesWith (L.shape ledger.old) (joined files.now) (L.journals ledger.old) (L.journals ledger.new) (L.flights ledger.old) (L.flights ledger.new)) }
+    ensures flies { OfKept ledger.header.shape (journals D.count D.limit ledger) (FliesWith ledger.header.shape (joined files.now) (journals D.count D.limit ledger) (journals D.count D.limit result.ledger) (flights D.count D.limit ledger) (flights D.count D.limit result.ledger)) }
 
     // A Prepare that is in flight was so before, or is that of the next piece of what the files send to its lane.
-    ensures launches { Launches (L.shape ledger.old) (IsFilesPiece (L.shape ledger.old) (V.verdict_of verifier.now) files.now (L.journals ledger.old) (L.journals ledger.new)) (L.journals ledger.old) (L.journals ledger.new) (L.flights ledger.old) (L.flights ledger.new) }
+    ensures launches { Launches ledger.header.shape (IsFilesPiece ledger.header.shape (V.verdict_of verifier.now) files.now (journals D.count D.limit ledger) (journals D.count D.limit result.ledger)) (journals D.count D.limit ledger) (journals D.count D.limit result.ledger) (flights D.count D.limit ledger) (flights D.count D.limit result.ledger) }
 
-    ensures holds { L.holds ledger.old → L.holds ledger.new }
-    ensures later { (n : ℕ) → L.faults ledger.old n ≤ L.faults ledger.new n }
-    ensures opened_same { (n : ℕ) → L.opened ledger.new n ≡ L.opened ledger.old n }
-    ensures capacity_same { (n : ℕ) → L.capacity ledger.new n ≡ L.capacity ledger.old n }
-    ensures still { L.checked ledger.new }
-    ensures grows { (n : ℕ) → IsEnd (L.journals ledger.old n) (L.journals ledger.new n) }
+    ensures holds { IsStored D.content D.images ledger → IsStored D.content D.images result.ledger }
+    ensures later { (n : ℕ) → faults D.count D.limit ledger n ≤ faults D.count D.limit result.ledger n }
+    ensures opened_same { (n : ℕ) → opened D.count D.limit result.ledger n ≡ opened D.count D.limit ledger n }
+    ensures capacity_same { (n : ℕ) → capacity D.count D.limit result.ledger n ≡ capacity D.count D.limit ledger n }
+    ensures still { IsChecked D.count D.limit result.ledger }
+    ensures grows { (n : ℕ) → IsEnd (journals D.count D.limit ledger n) (journals D.count D.limit result.ledger n) }
 
     // With a fault or without, no lane has prepared anything but the first pieces of what the files send it.
-    ensures begun { 0 < (L.shape ledger.old).batch → HaveBegunFiles (L.shape ledger.old) (V.verdict_of verifier.now) files.now (L.journals ledger.old) (L.journals ledger.new) }
+    ensures begun { 0 < ledger.header.shape.batch → HaveBegunFiles ledger.header.shape (V.verdict_of verifier.now) files.now (journals D.count D.limit ledger) (journals D.count D.limit result.ledger) }
 
     // A fault has its cause: what an idle lane wants is the Prepare of the next piece of what the files send it.
-    ensures fault { IfErr result (IsRunCause (L.shape ledger.old) (IsFilesPiece (L.shape ledger.old) (V.verdict_of verifier.now) files.now (L.journals ledger.old) (L.journals ledger.new)) (L.journals ledger.old) (L.journals ledger.new)
-        (HaveFailed (L.opened ledger.new) (L.faults ledger.new)) (MayHold (L.capacity ledger.new))) }
+    ensures fault { IfErr result.came (IsRunCause ledger.header.shape (IsFilesPiece ledger.header.shape (V.verdict_of verifier.now) files.now (journals D.count D.limit ledger) (journals D.count D.limit result.ledger)) (journals D.count D.limit ledger) (journals D.count D.limit result.ledger)
+        (HaveFailed (opened D.count D.limit result.ledger) (faults D.count D.limit result.ledger)) (MayHold (capacity D.count D.limit result.ledger))) }
 
     // Whatever came, each lane is between batches, or its batch lacks a Lock, or the disk of a node that it asks has failed.
-    ensures rests { AllRest (L.shape ledger.old) (L.journals ledger.new) (HaveFailed (L.opened ledger.new) (L.faults ledger.new)) }
+    ensures rests { AllRest ledger.header.shape (journals D.count D.limit result.ledger) (HaveFailed (opened D.count D.limit result.ledger) (faults D.count D.limit result.ledger)) }
 
     // It is that of the least lane that met one, behind files that have been run: each lesser lane has run all that its file sends it.
-    ensures least { IfErr result (EndsFiles (L.shape ledger.old) (V.verdict_of verifier.now) files.now (L.journals ledger.old) (L.journals ledger.new) (HaveFailed (L.opened ledger.new) (L.faults ledger.new)) (MayHold (L.capacity ledger.new))) }
+    ensures least { IfErr result.came (EndsFiles ledger.header.shape (V.verdict_of verifier.now) files.now (journals D.count D.limit ledger) (journals D.count D.limit result.ledger) (HaveFailed (opened D.count D.limit result.ledger) (faults D.count D.limit result.ledger)) (MayHold (capacity D.count D.limit result.ledger))) }
 {
     let Ok(mut waves) = Vec::with_capacity(alloc, files.len()) else {
-        return Err(no_memory());
+        return FilesRun {
+            ledger,
+            came: Err(no_memory()),
+        };
     };
+    let mut ledger = ledger;
     'files: for txs in files {
-        let wave = match run_file(alloc, ledger, txs.as_slice(), verifier, gate) {
+        let FileRun {
+            ledger: behind,
+            came,
+        } = run_file(rt, alloc, ledger, txs.as_slice(), verifier, gate);
+        ledger = behind;
+        let wave = match came {
             Ok(wave) => wave,
-            Err(fault) => return Err(fault),
+            Err(fault) => {
+                return FilesRun {
+                    ledger,
+                    came: Err(fault),
+                };
+            }
         };
         match waves.push(wave) {
             Ok(()) => {}
-            Err(_) => return Err(no_memory()),
+            Err(_) => {
+                return FilesRun {
+                    ledger,
+                    came: Err(no_memory()),
+                };
+            }
         }
     }
-    Ok(waves)
+    FilesRun {
+        ledger,
+        came: Ok(waves),
+    }
 }

@@ -5,6 +5,6 @@ mod files;
 mod ran;
 mod waves;
 
-pub use files::run_files;
+pub use files::{FilesRun, run_files};
 pub use ran::Ran;
-pub use waves::{Wave, run_file};
+pub use waves::{FileRun, Wave, run_file};

@@ -9,15 +9,19 @@ ghost use Rattle.submissions.specs.Checks.{TellsSound, AreChecked};
 ghost use Rattle.ledger_runs.specs.Turning.{OfKept, StaysKept};
 ghost use Rattle.ledger_runs.specs.Flying.{Launches};
 ghost use Rattle.ledger_runs.specs.Faults.{IsRunCause, HaveFailed, MayHold, AllRest};
+ghost use Rattle.ledger_nodes.specs.Ledgers.{journals, flights, faults, opened, capacity, IsChecked, IsStored, IsQuiet};
 ghost use Rattle.file_runs.specs.Runs.{AreLanesOf, HavePreparedFile, IsSentPiece, FliesWith, HaveBegunFile};
 ghost use Rattle.file_runs.specs.Endings.{EndsFile};
 ghost use Rattle.file_runs.specs.Telling.{TellsFile};
 
 use cbdc_types::{CompactTx, FullTx};
 use lane_driver::{LaneFault, no_memory};
-use ledger_runs::{Lane, Turns, first_fault};
-use outside::Gate;
+use ledger_nodes::{Ledger, run_wave};
+use ledger_runs::{Lane, first_fault};
+use outside::{Disk, Gate};
 use std::alloc::{AllocError, Global};
+use std::sync::Wait;
+use std::thread::Threads;
 use submissions::{Checked, Submitted, check_all};
 use verifier_port::Verifier;
 
@@ -26,6 +30,13 @@ use verifier_port::Verifier;
 pub struct Wave {
     pub checked: Vec<Checked>,
     pub lanes: Vec<Lane>,
+}
+
+/// A ledger behind a client file, and what came of it.
+#[derive(Drop)]
+pub struct FileRun<D: Disk> {
+    pub ledger: Ledger<D>,
+    pub came: Result<Wave, LaneFault>,
 }
 
 // The lanes of a wave, none of which has run anything.
@@ -41,69 +52,82 @@ fn lanes_of(alloc: Global, lists: Vec<Vec<CompactTx>>) -> Result<Vec<Lane>, Allo
 
 /// Runs the submissions of a client file over the nodes of a ledger with no open batch. The fault of the least lane that meets
 /// one ends it, once the others have run what they got.
-pub fn run_file<L: Turns, V: Verifier, G: Gate + Sync>(
+pub fn run_file<W: Wait + Threads + Sync, D: Disk + Send, V: Verifier, G: Gate + Sync>(
+    rt: &W,
     alloc: Global,
-    ledger: &mut L,
+    ledger: Ledger<D>,
     txs: &[FullTx],
     verifier: &V,
     gate: &G,
-) -> Result<Wave, LaneFault>
-    requires idle { AreIdle (L.shape ledger.old) (L.journals ledger.old) }
+) -> FileRun<D>
+    requires idle { AreIdle ledger.header.shape (journals D.count D.limit ledger) }
     requires short { All IsShort txs.now }
-    requires checked { L.checked ledger.old }
-    ensures shape { L.shape ledger.new ≡ L.shape ledger.old }
-    ensures idle { OnOk result (AreIdle (L.shape ledger.old) (L.journals ledger.new)) }
+    requires checked { IsChecked D.count D.limit ledger }
+    ensures shape { result.ledger.header.shape ≡ ledger.header.shape }
+    ensures idle { OnOk result.came (AreIdle ledger.header.shape (journals D.count D.limit result.ledger)) }
 
     // Kept journals have grown and are kept, with these submissions besides.
-    ensures keeps { OfKept (L.shape ledger.old) (L.journals ledger.old)
-        (λ mint submissions. StaysKept (L.shape ledger.old) (L.journals ledger.old) (L.journals ledger.new) mint (submissions ++ txs.now)) }
+    ensures keeps { OfKept ledger.header.shape (journals D.count D.limit ledger)
+        (λ mint submissions. StaysKept ledger.header.shape (journals D.count D.limit ledger) (journals D.count D.limit result.ledger) mint (submissions ++ txs.now)) }
 
     // Without a fault each lane took what the sound submissions send it, in order, and nothing else was done.
-    ensures runs { OnOk result (OfKept (L.shape ledger.old) (L.journals ledger.old) (λ _ _. (sound : TxOf → Bool) → TellsSound (V.verdict_of verifier.now) sound
-        → IsFileRun (L.shape ledger.old) (sent_to (L.shape ledger.old) sound txs.now) (L.journals ledger.old) (L.journals ledger.new))) }
-    ensures quiet { OnOk result (L.quiet ledger.old → L.quiet ledger.new) }
-    ensures checked { IfOk result (λ w. AreChecked (L.shape ledger.old) (V.verdict_of verifier.now) txs.now w.checked.items) }
+    ensures runs { OnOk result.came (OfKept ledger.header.shape (journals D.count D.limit ledger) (λ _ _. (sound : TxOf → Bool) → TellsSound (V.verdict_of verifier.now) sound
+        → IsFileRun ledger.header.shape (sent_to ledger.header.shape sound txs.now) (journals D.count D.limit ledger) (journals D.count D.limit result.ledger))) }
+    ensures quiet { OnOk result.came (IsQuiet ledger → IsQuiet result.ledger) }
+    ensures checked { IfOk result.came (λ w. AreChecked ledger.header.shape (V.verdict_of verifier.now) txs.now w.checked.items) }
 
     // And what was decided of each that was sent to its lane.
-    ensures told { IfOk result (λ w. OfKept (L.shape ledger.old) (L.journals ledger.old) (λ _ _. TellsFile (L.shape ledger.old) (V.verdict_of verifier.now) txs.now (L.journals ledger.old) (L.journals ledger.new) w)) }
+    ensures told { IfOk result.came (λ w. OfKept ledger.header.shape (journals D.count D.limit ledger) (λ _ _. TellsFile ledger.header.shape (V.verdict_of verifier.now) txs.now (journals D.count D.limit ledger) (journals D.count D.limit result.ledger) w)) }
 
     // What is in flight may come next at its node, as before.
-    ensures flies { OfKept (L.shape ledger.old) (L.journals ledger.old) (FliesWith (L.shape ledger.old) txs.now (L.journals ledger.old) (L.journals ledger.new) (L.flights ledger.old) (L.flights ledger.new)) }
+    ensures flies { OfKept ledger.header.shape (journals D.count D.limit ledger) (FliesWith ledger.header.shape txs.now (journals D.count D.limit ledger) (journals D.count D.limit result.ledger) (flights D.count D.limit ledger) (flights D.count D.limit result.ledger)) }
 
     // A Prepare that is in flight was so before, or is that of the next piece of what the file sends to its lane.
-    ensures launches { Launches (L.shape ledger.old) (IsSentPiece (L.shape ledger.old) (V.verdict_of verifier.now) txs.now (L.journals ledger.old) (L.journals ledger.new)) (L.journals ledger.old) (L.journals ledger.new) (L.flights ledger.old) (L.flights ledger.new) }
+    ensures launches { Launches ledger.header.shape (IsSentPiece ledger.header.shape (V.verdict_of verifier.now) txs.now (journals D.count D.limit ledger) (journals D.count D.limit result.ledger)) (journals D.count D.limit ledger) (journals D.count D.limit result.ledger) (flights D.count D.limit ledger) (flights D.count D.limit result.ledger) }
 
-    ensures holds { L.holds ledger.old → L.holds ledger.new }
-    ensures later { (n : ℕ) → L.faults ledger.old n ≤ L.faults ledger.new n }
-    ensures opened_same { (n : ℕ) → L.opened ledger.new n ≡ L.opened ledger.old n }
-    ensures capacity_same { (n : ℕ) → L.capacity ledger.new n ≡ L.capacity ledger.old n }
-    ensures still { L.checked ledger.new }
-    ensures grows { (n : ℕ) → IsEnd (L.journals ledger.old n) (L.journals ledger.new n) }
+    ensures holds { IsStored D.content D.images ledger → IsStored D.content D.images result.ledger }
+    ensures later { (n : ℕ) → faults D.count D.limit ledger n ≤ faults D.count D.limit result.ledger n }
+    ensures opened_same { (n : ℕ) → opened D.count D.limit result.ledger n ≡ opened D.count D.limit ledger n }
+    ensures capacity_same { (n : ℕ) → capacity D.count D.limit result.ledger n ≡ capacity D.count D.limit ledger n }
+    ensures still { IsChecked D.count D.limit result.ledger }
+    ensures grows { (n : ℕ) → IsEnd (journals D.count D.limit ledger n) (journals D.count D.limit result.ledger n) }
 
-    ensures prepared { OnOk result (HavePreparedFile (L.shape ledger.old) (V.verdict_of verifier.now) txs.now (L.journals ledger.old) (L.journals ledger.new)) }
+    ensures prepared { OnOk result.came (HavePreparedFile ledger.header.shape (V.verdict_of verifier.now) txs.now (journals D.count D.limit ledger) (journals D.count D.limit result.ledger)) }
 
     // With a fault or without, no lane has prepared anything but the first pieces of what the file sends it.
-    ensures begun { 0 < (L.shape ledger.old).batch → HaveBegunFile (L.shape ledger.old) (V.verdict_of verifier.now) txs.now (L.journals ledger.old) (L.journals ledger.new) }
+    ensures begun { 0 < ledger.header.shape.batch → HaveBegunFile ledger.header.shape (V.verdict_of verifier.now) txs.now (journals D.count D.limit ledger) (journals D.count D.limit result.ledger) }
 
     // A fault has its cause: what an idle lane wants is the Prepare of the next piece of what the file sends it.
-    ensures fault { IfErr result (IsRunCause (L.shape ledger.old) (IsSentPiece (L.shape ledger.old) (V.verdict_of verifier.now) txs.now (L.journals ledger.old) (L.journals ledger.new)) (L.journals ledger.old) (L.journals ledger.new)
-        (HaveFailed (L.opened ledger.new) (L.faults ledger.new)) (MayHold (L.capacity ledger.new))) }
+    ensures fault { IfErr result.came (IsRunCause ledger.header.shape (IsSentPiece ledger.header.shape (V.verdict_of verifier.now) txs.now (journals D.count D.limit ledger) (journals D.count D.limit result.ledger)) (journals D.count D.limit ledger) (journals D.count D.limit result.ledger)
+        (HaveFailed (opened D.count D.limit result.ledger) (faults D.count D.limit result.ledger)) (MayHold (capacity D.count D.limit result.ledger))) }
 
     // Whatever came, each lane is between batches, or its batch lacks a Lock, or the disk of a node that it asks has failed.
-    ensures rests { AllRest (L.shape ledger.old) (L.journals ledger.new) (HaveFailed (L.opened ledger.new) (L.faults ledger.new)) }
+    ensures rests { AllRest ledger.header.shape (journals D.count D.limit result.ledger) (HaveFailed (opened D.count D.limit result.ledger) (faults D.count D.limit result.ledger)) }
 
     // It is that of the least lane that met one: each lesser lane has run all that the file sends it.
-    ensures least { IfErr result (EndsFile (L.shape ledger.old) (V.verdict_of verifier.now) txs.now (L.journals ledger.old) (L.journals ledger.new) (HaveFailed (L.opened ledger.new) (L.faults ledger.new)) (MayHold (L.capacity ledger.new))) }
+    ensures least { IfErr result.came (EndsFile ledger.header.shape (V.verdict_of verifier.now) txs.now (journals D.count D.limit ledger) (journals D.count D.limit result.ledger) (HaveFailed (opened D.count D.limit result.ledger) (faults D.count D.limit result.ledger)) (MayHold (capacity D.count D.limit result.ledger))) }
 {
     let Ok(Submitted { checked, lanes }) = check_all(alloc, txs, ledger.shape(), verifier) else {
-        return Err(no_memory());
+        return FileRun {
+            ledger,
+            came: Err(no_memory()),
+        };
     };
     let Ok(mut lanes) = lanes_of(alloc, lanes) else {
-        return Err(no_memory());
+        return FileRun {
+            ledger,
+            came: Err(no_memory()),
+        };
     };
-    ledger.run_wave(alloc, &mut lanes, gate);
+    let ledger = run_wave(rt, alloc, ledger, &mut lanes, gate);
     match first_fault(&lanes) {
-        Some(fault) => Err(fault),
-        None => Ok(Wave { checked, lanes }),
+        Some(fault) => FileRun {
+            ledger,
+            came: Err(fault),
+        },
+        None => FileRun {
+            ledger,
+            came: Ok(Wave { checked, lanes }),
+        },
     }
 }

@@ -69,3 +69,34 @@ pub record AreStored {D : Type 0} (content : D → Option (List ℕ)) (images : 
 pub record AreQuiet {D : Type 0} (logs : List (LogOf D)) (shards : List (ShardOf D)) : Type 0 where
   pub logs_are : (n : ℕ) → (sight_at sight logs n).flight ≡ None
   pub shards_are : (s : ℕ) → (sight_at (sight_of (λ d. 0) (λ d. 0)) shards s).flight ≡ None
+
+-- ---- a ledger by its own shape
+
+module _ {D : Type 0} (count limit : D → ℕ) where
+  -- the journal of each node, and the record in flight there, if there is one
+  abbrev pub journals : LedgerOf D → ℕ → List Record
+  journals l = journals_of count limit l.header.shape l.logs l.shards
+
+  abbrev pub flights : LedgerOf D → ℕ → Option Record
+  flights l = flights_of count limit l.header.shape l.logs l.shards
+
+  -- how often the disk of each node has failed, how often it had when the node was opened, and how many bytes it may hold
+  abbrev pub faults : LedgerOf D → ℕ → ℕ
+  faults l = faults_of count limit l.header.shape l.logs l.shards
+
+  abbrev pub opened : LedgerOf D → ℕ → ℕ
+  opened l = opened_of count limit l.header.shape l.logs l.shards
+
+  abbrev pub capacity : LedgerOf D → ℕ → ℕ
+  capacity l = capacity_of count limit l.header.shape l.logs l.shards
+
+  -- each record of its journals is after those before it, and caused
+  abbrev pub IsChecked : LedgerOf D → Type 0
+  IsChecked l = AreChecked count limit l.header.shape l.logs l.shards
+
+-- each node's disk holds its journal, and no node has a record in flight
+abbrev pub IsStored : {D : Type 0} → (D → Option (List ℕ)) → (D → List ℕ → Type 0) → LedgerOf D → Type 0
+IsStored content images l = AreStored content images l.logs l.shards
+
+abbrev pub IsQuiet : {D : Type 0} → LedgerOf D → Type 0
+IsQuiet l = AreQuiet l.logs l.shards

@@ -1,5 +1,7 @@
 // All nodes of a ledger.
-use cbdc_types::Header;
+ghost use Rattle.std.specs.Prelude.{◌≡◌};
+
+use cbdc_types::{Header, Shape};
 use coord_log::CoordLog;
 use outside::Disk;
 use shard_node::ShardNode;
@@ -22,4 +24,13 @@ impl<D: Disk> Model for Ledger<D> {
     ghost view = { λ l. record { header = l.header; logs = l.logs.items; shards = l.shards.items } };
 
     ghost invariant = { λ l. IsLedger l.header l.logs.items l.shards.items };
+}
+
+impl<D: Disk> Ledger<D> {
+    /// The shape of the ledger.
+    pub fn shape(&self) -> &Shape
+        ensures { result.now ≡ self.now.header.shape }
+    {
+        &self.header.shape
+    }
 }

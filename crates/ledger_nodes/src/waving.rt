@@ -2,7 +2,7 @@
 ghost use Rattle.std.specs.Prelude.{◌≡◌, ◌*◌, length};
 ghost use Rattle.cbdc_model.specs.World.{AreIdle};
 ghost use Rattle.ledger_runs.specs.Waving.{AreWithin};
-ghost use Rattle.ledger_nodes.specs.Ledgers.{journals_of, AreChecked};
+ghost use Rattle.ledger_nodes.specs.Ledgers.{journals, IsChecked};
 ghost use Rattle.ledger_nodes.specs.Waving.{IsWave};
 
 use crate::driving::{see_logs, see_shards};
@@ -23,11 +23,11 @@ pub fn run_wave<W: Threads + Wait + Sync, D: Disk + Send, G: Gate + Sync>(
     gate: &G,
 ) -> Ledger<D>
     requires count { length lanes.old.items ≡ ledger.header.shape.coordinators * ledger.header.shape.lanes }
-    requires idle { AreIdle ledger.header.shape (journals_of D.count D.limit ledger.header.shape ledger.logs ledger.shards) }
+    requires idle { AreIdle ledger.header.shape (journals D.count D.limit ledger) }
     requires limits { AreWithin lanes.old.items }
-    requires checked { AreChecked D.count D.limit ledger.header.shape ledger.logs ledger.shards }
+    requires checked { IsChecked D.count D.limit ledger }
     ensures header { result.header ≡ ledger.header }
-    ensures wave { IsWave D.count D.limit D.content D.images ledger.header ledger.logs ledger.shards result.logs result.shards lanes.old.items lanes.new.items }
+    ensures wave { IsWave D.count D.limit D.content D.images ledger result lanes.old.items lanes.new.items }
 {
     let Ledger {
         header,

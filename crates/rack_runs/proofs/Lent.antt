@@ -1,7 +1,9 @@
 -- A ledger's nodes, lent and taken back.
-use Rattle.std.proofs.Common.{◌≡◌, ℕ, List, Option, Result, Ok, Err, subst}
+use Rattle.std.proofs.Common.{◌≡◌, ℕ, List, Option, Result, Ok, Err, refl, subst}
 use Rattle.std.specs.Prelude.{OnOk, IfOk, IsOk, IfErr}
-use Rattle.cbdc_model.specs.Records.{Shape, Record}
+use Rattle.cbdc_model.specs.Records.{Shape, Header, Record}
+use Rattle.coord_log.specs.Logs.{LogOf}
+use Rattle.shard_node.specs.Shards.{ShardOf}
 use Rattle.ledger_nodes.specs.Ledgers.{LedgerOf, journals_of, flights_of, faults_of, opened_of, capacity_of}
 
 -- what a whole run says is so where its answer is whole
@@ -43,6 +45,13 @@ if_ok_with P T (Err e) p x f = tt
 pub if_ok_by : {A E : Type 0} (P Q : A → Type 0) (r : Result A E) → IfOk r P → ((a : A) → P a → Q a) → IfOk r Q
 if_ok_by P Q (Ok a) so f = f a so
 if_ok_by P Q (Err e) so f = tt
+
+-- a ledger of these nodes is what it is
+abbrev ledger_of : {D : Type 0} → Header → List (LogOf D) → List (ShardOf D) → LedgerOf D
+ledger_of h logs shards = record { header = h; logs = logs; shards = shards }
+
+pub same_ledger : {D : Type 0} (h : Header) (logs : List (LogOf D)) (shards : List (ShardOf D)) → ledger_of h logs shards ≡ ledger_of h logs shards
+same_ledger h logs shards = refl
 
 module _ {D : Type 0} (count limit : D → ℕ) where
   -- journals of a ledger by its own shape are those by the shape that it has

@@ -5,5 +5,6 @@ mod faults;
 mod nodes;
 mod over;
 mod racks;
+mod resuming;
 
 pub use racks::{recover_on, run_on};

@@ -20,12 +20,12 @@ ghost use Rattle.rack_runs.specs.Telling.{CountAll};
 ghost use Rattle.file_runs.specs.Telling.{TellsRun};
 
 use crate::faults::answer_of;
-use crate::over::{Over, run_over};
+use crate::over::{Over, OverRun, run_over};
 use cbdc_types::{Answer, FullTx, List};
 use coord_log::CoordLog;
 use file_runs::Ran;
 use lane_driver::LaneFault;
-use ledger_nodes::{Ledger, lend};
+use ledger_nodes::Ledger;
 use outside::{Disk, Gate};
 use rack_ledgers::Nodes;
 use shard_node::ShardNode;
@@ -192,23 +192,26 @@ pub(crate) fn run_nodes<W: Wait + Threads + Sync, D: Disk + Send, V: Verifier, G
         logs,
         shards,
     } = nodes;
-    let mut lent = lend(
+    let OverRun { ledger, came } = run_over(
         rt,
+        alloc,
         Ledger {
             header,
             logs,
             shards,
         },
+        files,
+        verifier,
+        gate,
     );
-    let over = run_over(alloc, &mut lent, files, verifier, gate);
     let Ledger {
         header,
         logs,
         shards,
-    } = lent.take_back();
+    } = ledger;
     see_logs(logs.as_slice());
     see_shards(shards.as_slice());
-    let came = came_of(over, shards.as_slice());
+    let came = came_of(came, shards.as_slice());
     Behind {
         nodes: Nodes {
             header,

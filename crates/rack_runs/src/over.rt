@@ -9,17 +9,21 @@ ghost use Rattle.submissions.specs.Checks.{TellsSound};
 ghost use Rattle.ledger_runs.specs.Turning.{OfKept, StaysKept};
 ghost use Rattle.ledger_runs.specs.Flying.{Launches};
 ghost use Rattle.ledger_runs.specs.Faults.{IsRunCause, HaveFailed, MayHold, AllRestSince};
+ghost use Rattle.ledger_nodes.specs.Ledgers.{journals, flights, faults, opened, capacity, IsChecked, IsStored, IsQuiet};
 ghost use Rattle.file_runs.specs.Runs.{joined, HaveBegunFiles, IsFilesPiece, FliesWith};
 ghost use Rattle.rack_runs.specs.Endings.{EndsRun, IsCut, IsInOrder};
 ghost use Rattle.file_runs.specs.Telling.{TellsRun};
 
+use crate::resuming::{ResumeRun, resume_ledger};
 use cbdc_types::{FullTx, List};
-use file_runs::{Wave, run_files};
+use file_runs::{FilesRun, Wave, run_files};
 use lane_driver::LaneFault;
-use ledger_runs::{Turns, resume_all};
-use outside::Gate;
+use ledger_nodes::Ledger;
+use outside::{Disk, Gate};
 use recovery::ResumedBatch;
 use std::alloc::Global;
+use std::sync::Wait;
+use std::thread::Threads;
 use verifier_port::Verifier;
 
 /// What a run did: the batches that an earlier one had left open, in rising order of their lanes, and its files in order.
@@ -29,70 +33,93 @@ pub(crate) struct Over {
     pub waves: Vec<Wave>,
 }
 
+/// A ledger behind a run, and what it came to.
+pub(crate) struct OverRun<D: Disk> {
+    pub ledger: Ledger<D>,
+    pub came: Result<Over, LaneFault>,
+}
+
 /// Brings the open batches of a ledger to their end, and runs client files. The first fault ends it.
-pub(crate) fn run_over<L: Turns, V: Verifier, G: Gate + Sync>(
+pub(crate) fn run_over<W: Wait + Threads + Sync, D: Disk + Send, V: Verifier, G: Gate + Sync>(
+    rt: &W,
     alloc: Global,
-    ledger: &mut L,
+    ledger: Ledger<D>,
     files: &[List<FullTx>],
     verifier: &V,
     gate: &G,
-) -> Result<Over, LaneFault>
+) -> OverRun<D>
     requires short { All (λ txs. All IsShort txs) files.now }
-    requires checked { L.checked ledger.old }
-    ensures shape { L.shape ledger.new ≡ L.shape ledger.old }
-    ensures idle { OnOk result (AreIdle (L.shape ledger.old) (L.journals ledger.new)) }
-    ensures keeps { OfKept (L.shape ledger.old) (L.journals ledger.old)
-        (λ mint submissions. StaysKept (L.shape ledger.old) (L.journals ledger.old) (L.journals ledger.new) mint (submissions ++ joined files.now)) }
-    ensures waves { OnOk result (OfKept (L.shape ledger.old) (L.journals ledger.old) (λ _ _. (sound : TxOf → Bool)
-        → TellsSound (V.verdict_of verifier.now) sound → Waves (L.shape ledger.old) sound files.now (L.journals ledger.old) (L.journals ledger.new))) }
-    ensures resumed { OnOk result (OfKept (L.shape ledger.old) (L.journals ledger.old) (λ _ _. files.now ≡ [] → IsResumed (L.shape ledger.old) (L.journals ledger.old) (L.journals ledger.new))) }
+    requires checked { IsChecked D.count D.limit ledger }
+    ensures shape { result.ledger.header.shape ≡ ledger.header.shape }
+    ensures idle { OnOk result.came (AreIdle ledger.header.shape (journals D.count D.limit result.ledger)) }
+    ensures keeps { OfKept ledger.header.shape (journals D.count D.limit ledger)
+        (λ mint submissions. StaysKept ledger.header.shape (journals D.count D.limit ledger) (journals D.count D.limit result.ledger) mint (submissions ++ joined files.now)) }
+    ensures waves { OnOk result.came (OfKept ledger.header.shape (journals D.count D.limit ledger) (λ _ _. (sound : TxOf → Bool)
+        → TellsSound (V.verdict_of verifier.now) sound → Waves ledger.header.shape sound files.now (journals D.count D.limit ledger) (journals D.count D.limit result.ledger))) }
+    ensures resumed { OnOk result.came (OfKept ledger.header.shape (journals D.count D.limit ledger) (λ _ _. files.now ≡ [] → IsResumed ledger.header.shape (journals D.count D.limit ledger) (journals D.count D.limit result.ledger))) }
     // And it tells the batches that were open, and of each file what came of its submissions.
-    ensures told { IfOk result (λ o. OfKept (L.shape ledger.old) (L.journals ledger.old)
-        (λ _ _. TellsRun (L.shape ledger.old) (V.verdict_of verifier.now) files.now (L.journals ledger.old) (L.journals ledger.new) o.resumed.items o.waves.items)) }
+    ensures told { IfOk result.came (λ o. OfKept ledger.header.shape (journals D.count D.limit ledger)
+        (λ _ _. TellsRun ledger.header.shape (V.verdict_of verifier.now) files.now (journals D.count D.limit ledger) (journals D.count D.limit result.ledger) o.resumed.items o.waves.items)) }
     // With a fault or without, open batches come first, and then one file after another.
-    ensures cut { OfKept (L.shape ledger.old) (L.journals ledger.old) (λ mint _. (sound : TxOf → Bool)
-        → TellsSound (V.verdict_of verifier.now) sound → IsCut (L.shape ledger.old) sound files.now mint (L.journals ledger.old) (L.journals ledger.new)) }
+    ensures cut { OfKept ledger.header.shape (journals D.count D.limit ledger) (λ mint _. (sound : TxOf → Bool)
+        → TellsSound (V.verdict_of verifier.now) sound → IsCut ledger.header.shape sound files.now mint (journals D.count D.limit ledger) (journals D.count D.limit result.ledger)) }
 
-    ensures in_order { IsInOrder (L.shape ledger.old) (L.journals ledger.old) (L.journals ledger.new) }
-    ensures quiet { OnOk result (L.quiet ledger.old → L.quiet ledger.new) }
-    ensures flies { OfKept (L.shape ledger.old) (L.journals ledger.old) (FliesWith (L.shape ledger.old) (joined files.now) (L.journals ledger.old) (L.journals ledger.new) (L.flights ledger.old) (L.flights ledger.new)) }
+    ensures in_order { IsInOrder ledger.header.shape (journals D.count D.limit ledger) (journals D.count D.limit result.ledger) }
+    ensures quiet { OnOk result.came (IsQuiet ledger → IsQuiet result.ledger) }
+    ensures flies { OfKept ledger.header.shape (journals D.count D.limit ledger) (FliesWith ledger.header.shape (joined files.now) (journals D.count D.limit ledger) (journals D.count D.limit result.ledger) (flights D.count D.limit ledger) (flights D.count D.limit result.ledger)) }
 
     // A Prepare that is in flight was so before, or is that of the next piece of what the files send to its lane.
-    ensures launches { Launches (L.shape ledger.old) (IsFilesPiece (L.shape ledger.old) (V.verdict_of verifier.now) files.now (L.journals ledger.old) (L.journals ledger.new)) (L.journals ledger.old) (L.journals ledger.new) (L.flights ledger.old) (L.flights ledger.new) }
+    ensures launches { Launches ledger.header.shape (IsFilesPiece ledger.header.shape (V.verdict_of verifier.now) files.now (journals D.count D.limit ledger) (journals D.count D.limit result.ledger)) (journals D.count D.limit ledger) (journals D.count D.limit result.ledger) (flights D.count D.limit ledger) (flights D.count D.limit result.ledger) }
 
-    ensures holds { L.holds ledger.old → L.holds ledger.new }
-    ensures later { (n : ℕ) → L.faults ledger.old n ≤ L.faults ledger.new n }
-    ensures opened_same { (n : ℕ) → L.opened ledger.new n ≡ L.opened ledger.old n }
-    ensures capacity_same { (n : ℕ) → L.capacity ledger.new n ≡ L.capacity ledger.old n }
-    ensures checked { L.checked ledger.new }
-    ensures grows { (n : ℕ) → IsEnd (L.journals ledger.old n) (L.journals ledger.new n) }
+    ensures holds { IsStored D.content D.images ledger → IsStored D.content D.images result.ledger }
+    ensures later { (n : ℕ) → faults D.count D.limit ledger n ≤ faults D.count D.limit result.ledger n }
+    ensures opened_same { (n : ℕ) → opened D.count D.limit result.ledger n ≡ opened D.count D.limit ledger n }
+    ensures capacity_same { (n : ℕ) → capacity D.count D.limit result.ledger n ≡ capacity D.count D.limit ledger n }
+    ensures checked { IsChecked D.count D.limit result.ledger }
+    ensures grows { (n : ℕ) → IsEnd (journals D.count D.limit ledger n) (journals D.count D.limit result.ledger n) }
 
     // With a fault or without, no lane has prepared anything but the first pieces of what the files send it.
-    ensures begun { 0 < (L.shape ledger.old).batch → HaveBegunFiles (L.shape ledger.old) (V.verdict_of verifier.now) files.now (L.journals ledger.old) (L.journals ledger.new) }
+    ensures begun { 0 < ledger.header.shape.batch → HaveBegunFiles ledger.header.shape (V.verdict_of verifier.now) files.now (journals D.count D.limit ledger) (journals D.count D.limit result.ledger) }
 
     // A fault has its cause: what an idle lane wants is the Prepare of the next piece of what the files send it.
-    ensures fault { IfErr result (IsRunCause (L.shape ledger.old) (IsFilesPiece (L.shape ledger.old) (V.verdict_of verifier.now) files.now (L.journals ledger.old) (L.journals ledger.new)) (L.journals ledger.old) (L.journals ledger.new)
-        (HaveFailed (L.opened ledger.new) (L.faults ledger.new)) (MayHold (L.capacity ledger.new))) }
+    ensures fault { IfErr result.came (IsRunCause ledger.header.shape (IsFilesPiece ledger.header.shape (V.verdict_of verifier.now) files.now (journals D.count D.limit ledger) (journals D.count D.limit result.ledger)) (journals D.count D.limit ledger) (journals D.count D.limit result.ledger)
+        (HaveFailed (opened D.count D.limit result.ledger) (faults D.count D.limit result.ledger)) (MayHold (capacity D.count D.limit result.ledger))) }
 
     // Whatever came, each lane is between batches, or its batch lacks a Lock, or the disk of a node that it asks has failed; or it waits where
     // it was, for want of memory: nothing of it was written, or its batch was prepared and is so still.
-    ensures rests { AllRestSince (L.shape ledger.old) (L.journals ledger.old) (L.journals ledger.new) (HaveFailed (L.opened ledger.new) (L.faults ledger.new)) }
+    ensures rests { AllRestSince ledger.header.shape (journals D.count D.limit ledger) (journals D.count D.limit result.ledger) (HaveFailed (opened D.count D.limit result.ledger) (faults D.count D.limit result.ledger)) }
 
     // And it is the least lane's that met one.
-    ensures least { IfErr result (EndsRun (V.verdict_of verifier.now) files.now (L.shape ledger.old) (L.journals ledger.old) (L.journals ledger.new) (HaveFailed (L.opened ledger.new) (L.faults ledger.new)) (MayHold (L.capacity ledger.new))) }
+    ensures least { IfErr result.came (EndsRun (V.verdict_of verifier.now) files.now ledger.header.shape (journals D.count D.limit ledger) (journals D.count D.limit result.ledger) (HaveFailed (opened D.count D.limit result.ledger) (faults D.count D.limit result.ledger)) (MayHold (capacity D.count D.limit result.ledger))) }
 {
-    let resumed = match resume_all(alloc, ledger, gate) {
+    let ResumeRun { ledger, came } = resume_ledger(rt, alloc, ledger, gate);
+    let resumed = match came {
         Ok(resumed) => resumed,
-        Err(fault) => return Err(fault),
+        Err(fault) => {
+            return OverRun {
+                ledger,
+                came: Err(fault),
+            };
+        }
     };
     if files.is_empty() {
-        return Ok(Over {
-            resumed,
-            waves: Vec::new(alloc),
-        });
+        return OverRun {
+            ledger,
+            came: Ok(Over {
+                resumed,
+                waves: Vec::new(alloc),
+            }),
+        };
     }
-    match run_files(alloc, ledger, files, verifier, gate) {
-        Ok(waves) => Ok(Over { resumed, waves }),
-        Err(fault) => Err(fault),
+    let FilesRun { ledger, came } = run_files(rt, alloc, ledger, files, verifier, gate);
+    match came {
+        Ok(waves) => OverRun {
+            ledger,
+            came: Ok(Over { resumed, waves }),
+        },
+        Err(fault) => OverRun {
+            ledger,
+            came: Err(fault),
+        },
     }
 }
