@@ -7,7 +7,7 @@ use std::thread;
 // So many yields a gate waits at most: then it lets go, and the row does not hold.
 const TURNS: u32 = 10_000_000;
 
-/// Holds whoever comes to one point until another was passed, and then for some time more. It tells whether both came.
+/// Holds whoever comes to one point until another has come to the awaited one, who stays there for some yields more. It tells whether both came.
 #[derive(Drop)]
 pub struct MeetGate {
     held: Point,
@@ -36,9 +36,6 @@ impl MeetGate {
             }
             thread::yield_now();
         }
-        for _ in 0..self.more {
-            thread::yield_now();
-        }
     }
 }
 
@@ -46,6 +43,9 @@ impl Gate for MeetGate {
     fn pass<W: Wait>(&self, _rt: &W, point: &Point) {
         if *point == self.awaited {
             self.passed.store(true, Ordering::SeqCst);
+            for _ in 0..self.more {
+                thread::yield_now();
+            }
         }
         if *point == self.held {
             self.hold();

@@ -139,12 +139,12 @@ pub fn beside_each_other<R: Threads + Wait + Sync>(rt: &R, alloc: Global) -> Opt
     Some(has_met(rt, alloc, first)? && has_met(rt, alloc, second)?)
 }
 
-/// A lane has the node, and keeps it for long once the other lane has come, which waits for its turn.
+/// A lane has the node and keeps it for long; the other comes then, and waits for its turn.
 pub fn waits<R: Threads + Wait + Sync>(rt: &R, alloc: Global) -> Option<bool> {
     let gate = MeetGate::new(
-        point_of(ONE, When::Inside),
         point_of(TWO, When::Before),
-        1_000_000,
+        point_of(ONE, When::Inside),
+        100_000,
     );
     has_met(rt, alloc, gate)
 }
