@@ -144,7 +144,7 @@ pub fn waits<R: Threads + Wait + Sync>(rt: &R, alloc: Global) -> Option<bool> {
     let gate = MeetGate::new(
         point_of(TWO, When::Before),
         point_of(ONE, When::Inside),
-        1_000_000,
+        100_000,
     );
     has_met(rt, alloc, gate)
 }
