@@ -40,7 +40,7 @@ pub returns-clause-capacity_same : goal.returns-clause-capacity_same
 returns-clause-capacity_same g c = rw (c.take_back.ensures, ← c.lend-lent.ensures) c.resume_all-came.ensures.capacity_same
 
 pub returns-clause-checked : goal.returns-clause-checked
-returns-clause-checked g c = rw (c.take_back.ensures, ← c.lend-lent.ensures) c.resume_all-came.ensures.checked
+returns-clause-checked g c = rw (c.take_back.ensures) c.resume_all-came.ensures.checked
 
 pub returns-clause-grows : goal.returns-clause-grows
 returns-clause-grows g c = rw (c.take_back.ensures, ← c.lend-lent.ensures) c.resume_all-came.ensures.grows
