@@ -1,4 +1,9 @@
+use Rattle.std.proofs.Common.{subst, sym}
+use Rattle.ledger_nodes.specs.Ledgers.{IsChecked}
 use Rattle.rack_runs.proofs.resuming.resume_ledger.Goals as goal
+
+pub resume_all-came-requires : goal.resume_all-came-requires
+resume_all-came-requires g c = subst (λ l. IsChecked g.D.Disk.count g.D.Disk.limit l) (sym c.lend-lent.ensures) c.requires.checked
 
 pub returns-clause-shape : goal.returns-clause-shape
 returns-clause-shape g c = rw (c.take_back.ensures, ← c.lend-lent.ensures) c.resume_all-came.ensures.shape
