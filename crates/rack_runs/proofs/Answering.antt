@@ -7,7 +7,7 @@ use Rattle.cbdc_types.specs.declared.answer.Answer.{Answer}
 use Rattle.cbdc_types.specs.declared.answer.Answer.TheVariants as answers
 use Rattle.cbdc_model.specs.Records.{Shape, Header, Batch, Compact, Record, Row, journal, Prepare}
 use Rattle.cbdc_model.specs.Lanes.{IsEnd}
-use Rattle.cbdc_model.specs.Coins.{Output, FullTx}
+use Rattle.cbdc_model.specs.Coins.{FullTx}
 use Rattle.cbdc_model.specs.Waves.{sent_to}
 use Rattle.ledger_laws.proofs.Cuts.{end_self}
 use Rattle.lane_driver.specs.declared.fault.LaneFault.{LaneFault}

@@ -1,16 +1,9 @@
 -- Opened nodes whose history is caused are checked.
-use Rattle.std.proofs.Common.{◌≡◌, ◌≢◌, ◌⊎◌, inl, inr, ℕ, zero, suc, ◌+◌, ◌-◌, ◌<◌, ◌≤◌, Bool, true, false, ◌==◌, nat_lt, if◌then◌else◌, List, [], ◌∷◌, ◌++◌, length, reverse, refl, sym, ap, ◌∙◌, subst, arith, Option, append-nil}
-use Rattle.std.proofs.lemmas.List.Elements.{All-head, All-tail}
-use Rattle.std.proofs.lemmas.Bool.Decides.{eqb_tells}
+use Rattle.std.proofs.Common.{◌≡◌, inl, inr, ℕ, zero, suc, ◌+◌, ◌-◌, ◌<◌, ◌≤◌, false, nat_lt, if◌then◌else◌, List, [], ◌∷◌, length, reverse, refl, sym, ap, ◌∙◌, subst, arith, Option}
 use Rattle.std.proofs.lemmas.Bool.{cases_lt}
-use Rattle.cbdc_model.specs.Records.{Digest, Shape, Header, Record, Row, journal, Genesis, Lock, Finish, Forget, Start, Prepare, Commit, Discard, Done}
-use Rattle.cbdc_model.specs.Ranges.{shard_of, shard_node, on_shard}
-use Rattle.cbdc_model.specs.Grammar.{IsShard, AreHere}
-use Rattle.cbdc_model.specs.After.{After, IsFirst, IsJournal}
-use Rattle.cbdc_model.specs.Causes.{IsCaused}
-use Rattle.cbdc_model.specs.History.{Minted, header_of, TxsPass}
-use Rattle.cbdc_model.specs.World.{replaced}
-use Rattle.cbdc_model.specs.Lanes.{IsEnd, Seen, first_of, KeptLists}
+use Rattle.cbdc_model.specs.Records.{Digest, Shape, Header, Row, journal}
+use Rattle.cbdc_model.specs.After.{IsJournal}
+use Rattle.cbdc_model.specs.History.{Minted, header_of}
 use Rattle.cbdc_model.specs.Sights.{Sight}
 use Rattle.audit.specs.Walks.{AllCaused}
 use Rattle.coord_log.specs.Logs.{LogOf, sight}

@@ -2,7 +2,7 @@
 use Rattle.std.proofs.Common.{◌≡◌, inr, ℕ, ◌*◌, ◌<◌, ◌==◌, false, List, [], ◌∷◌, ◌++◌, length, Bool, Option, refl, sym, subst, arith}
 use Rattle.ledger_laws.proofs.Cuts.{end_trans}
 use Rattle.cbdc_model.specs.Records.{Shape, Record}
-use Rattle.cbdc_model.specs.Coins.{Output, FullTx}
+use Rattle.cbdc_model.specs.Coins.{FullTx}
 use Rattle.cbdc_model.specs.Waves.{IsResumed, Waves}
 use Rattle.run_laws.proofs.WaveTurns.{waves_begin_law}
 use Rattle.submissions.specs.Checks.{VerdictsOf, TellsSound}

@@ -30,7 +30,7 @@ returns-clause-capacities g c = subst (λ xs. All (λ x. x.capacity ≡ g.D.Disk
 
 pub returns-clause-holds_as_much : goal.returns-clause-holds_as_much
 returns-clause-holds_as_much g c =
-    let back : c.run_over-ledger.result.ledger ≡ record { header = c.header.inside.header; logs = c.header.inside.logs.items; shards = c.header.inside.shards.items } = cc in
+    let back : c.run_over-ledger.result.ledger ≡ record { header = c.ledger.inside.header; logs = c.ledger.inside.logs.items; shards = c.ledger.inside.shards.items } = cc in
     let lent = same_ledger c.args.nodes.header c.args.nodes.logs.items c.args.nodes.shards.items in
     let shape : c.run_over-ledger.result.ledger.header.shape ≡ c.args.nodes.header.shape = c.run_over-ledger.ensures.shape ∙ ap (λ l. l.header.shape) lent in
     lent_capacity g.D.Disk.count g.D.Disk.limit
@@ -52,14 +52,14 @@ returns-clause-shard_fits g c = subst (λ xs. All (ShardFits g.D.Disk.limit) xs)
 
 pub returns-clause-shape : goal.returns-clause-shape
 returns-clause-shape g c =
-    let back : c.run_over-ledger.result.ledger ≡ record { header = c.header.inside.header; logs = c.header.inside.logs.items; shards = c.header.inside.shards.items } = cc in
+    let back : c.run_over-ledger.result.ledger ≡ record { header = c.ledger.inside.header; logs = c.ledger.inside.logs.items; shards = c.ledger.inside.shards.items } = cc in
     let lent = same_ledger c.args.nodes.header c.args.nodes.logs.items c.args.nodes.shards.items in
     let shape : c.run_over-ledger.result.ledger.header.shape ≡ c.args.nodes.header.shape = c.run_over-ledger.ensures.shape ∙ ap (λ l. l.header.shape) lent in
     ap (λ l. l.header.shape) (sym back) ∙ shape
 
 pub returns-clause-idle : goal.returns-clause-idle
 returns-clause-idle g c =
-    let back : c.run_over-ledger.result.ledger ≡ record { header = c.header.inside.header; logs = c.header.inside.logs.items; shards = c.header.inside.shards.items } = cc in
+    let back : c.run_over-ledger.result.ledger ≡ record { header = c.ledger.inside.header; logs = c.ledger.inside.logs.items; shards = c.ledger.inside.shards.items } = cc in
     let lent = same_ledger c.args.nodes.header c.args.nodes.logs.items c.args.nodes.shards.items in
     let shape : c.run_over-ledger.result.ledger.header.shape ≡ c.args.nodes.header.shape = c.run_over-ledger.ensures.shape ∙ ap (λ l. l.header.shape) lent in
     let own = on_ok_by c.run_over-ledger.result.came (subst (λ k. AreIdle k (journals_of g.D.Disk.count g.D.Disk.limit c.run_over-ledger.result.ledger.header.shape c.run_over-ledger.result.ledger.logs c.run_over-ledger.result.ledger.shards)) (ap (λ l. l.header.shape) lent)) c.run_over-ledger.ensures.idle in
@@ -68,7 +68,7 @@ returns-clause-idle g c =
 
 pub returns-clause-keeps : goal.returns-clause-keeps
 returns-clause-keeps g c =
-    let back : c.run_over-ledger.result.ledger ≡ record { header = c.header.inside.header; logs = c.header.inside.logs.items; shards = c.header.inside.shards.items } = cc in
+    let back : c.run_over-ledger.result.ledger ≡ record { header = c.ledger.inside.header; logs = c.ledger.inside.logs.items; shards = c.ledger.inside.shards.items } = cc in
     let lent = same_ledger c.args.nodes.header c.args.nodes.logs.items c.args.nodes.shards.items in
     let shape : c.run_over-ledger.result.ledger.header.shape ≡ c.args.nodes.header.shape = c.run_over-ledger.ensures.shape ∙ ap (λ l. l.header.shape) lent in
     lent_journals g.D.Disk.count g.D.Disk.limit
@@ -79,7 +79,7 @@ returns-clause-keeps g c =
 
 pub returns-clause-waves : goal.returns-clause-waves
 returns-clause-waves g c =
-    let back : c.run_over-ledger.result.ledger ≡ record { header = c.header.inside.header; logs = c.header.inside.logs.items; shards = c.header.inside.shards.items } = cc in
+    let back : c.run_over-ledger.result.ledger ≡ record { header = c.ledger.inside.header; logs = c.ledger.inside.logs.items; shards = c.ledger.inside.shards.items } = cc in
     let lent = same_ledger c.args.nodes.header c.args.nodes.logs.items c.args.nodes.shards.items in
     let shape : c.run_over-ledger.result.ledger.header.shape ≡ c.args.nodes.header.shape = c.run_over-ledger.ensures.shape ∙ ap (λ l. l.header.shape) lent in
     let own = on_ok_by c.run_over-ledger.result.came
@@ -93,7 +93,7 @@ returns-clause-waves g c =
 
 pub returns-clause-resumed : goal.returns-clause-resumed
 returns-clause-resumed g c =
-    let back : c.run_over-ledger.result.ledger ≡ record { header = c.header.inside.header; logs = c.header.inside.logs.items; shards = c.header.inside.shards.items } = cc in
+    let back : c.run_over-ledger.result.ledger ≡ record { header = c.ledger.inside.header; logs = c.ledger.inside.logs.items; shards = c.ledger.inside.shards.items } = cc in
     let lent = same_ledger c.args.nodes.header c.args.nodes.logs.items c.args.nodes.shards.items in
     let shape : c.run_over-ledger.result.ledger.header.shape ≡ c.args.nodes.header.shape = c.run_over-ledger.ensures.shape ∙ ap (λ l. l.header.shape) lent in
     let own = on_ok_by c.run_over-ledger.result.came
@@ -107,15 +107,15 @@ returns-clause-resumed g c =
 
 pub returns-clause-checked : goal.returns-clause-checked
 returns-clause-checked g c =
-    let back : c.run_over-ledger.result.ledger ≡ record { header = c.header.inside.header; logs = c.header.inside.logs.items; shards = c.header.inside.shards.items } = cc in
+    let back : c.run_over-ledger.result.ledger ≡ record { header = c.ledger.inside.header; logs = c.ledger.inside.logs.items; shards = c.ledger.inside.shards.items } = cc in
     let lent = same_ledger c.args.nodes.header c.args.nodes.logs.items c.args.nodes.shards.items in
     let shape : c.run_over-ledger.result.ledger.header.shape ≡ c.args.nodes.header.shape = c.run_over-ledger.ensures.shape ∙ ap (λ l. l.header.shape) lent in
-    let still : c.header.inside.header.shape ≡ c.args.nodes.header.shape = ap (λ l. l.header.shape) (sym back) ∙ shape in
-    subst (λ k. AreChecked g.D.Disk.count g.D.Disk.limit k c.header.inside.logs.items c.header.inside.shards.items) still (subst (λ l. AreChecked g.D.Disk.count g.D.Disk.limit l.header.shape l.logs l.shards) back c.run_over-ledger.ensures.checked)
+    let still : c.ledger.inside.header.shape ≡ c.args.nodes.header.shape = ap (λ l. l.header.shape) (sym back) ∙ shape in
+    subst (λ k. AreChecked g.D.Disk.count g.D.Disk.limit k c.ledger.inside.logs.items c.ledger.inside.shards.items) still (subst (λ l. AreChecked g.D.Disk.count g.D.Disk.limit l.header.shape l.logs l.shards) back c.run_over-ledger.ensures.checked)
 
 pub returns-clause-stored : goal.returns-clause-stored
 returns-clause-stored g c stored =
-    let back : c.run_over-ledger.result.ledger ≡ record { header = c.header.inside.header; logs = c.header.inside.logs.items; shards = c.header.inside.shards.items } = cc in
+    let back : c.run_over-ledger.result.ledger ≡ record { header = c.ledger.inside.header; logs = c.ledger.inside.logs.items; shards = c.ledger.inside.shards.items } = cc in
     let lent = same_ledger c.args.nodes.header c.args.nodes.logs.items c.args.nodes.shards.items in
     let shape : c.run_over-ledger.result.ledger.header.shape ≡ c.args.nodes.header.shape = c.run_over-ledger.ensures.shape ∙ ap (λ l. l.header.shape) lent in
     subst (λ l. AreStored g.D.Disk.content g.D.Disk.images l.logs l.shards) back
@@ -123,7 +123,7 @@ returns-clause-stored g c stored =
 
 pub returns-clause-later : goal.returns-clause-later
 returns-clause-later g c =
-    let back : c.run_over-ledger.result.ledger ≡ record { header = c.header.inside.header; logs = c.header.inside.logs.items; shards = c.header.inside.shards.items } = cc in
+    let back : c.run_over-ledger.result.ledger ≡ record { header = c.ledger.inside.header; logs = c.ledger.inside.logs.items; shards = c.ledger.inside.shards.items } = cc in
     let lent = same_ledger c.args.nodes.header c.args.nodes.logs.items c.args.nodes.shards.items in
     let shape : c.run_over-ledger.result.ledger.header.shape ≡ c.args.nodes.header.shape = c.run_over-ledger.ensures.shape ∙ ap (λ l. l.header.shape) lent in
     lent_faults g.D.Disk.count g.D.Disk.limit
@@ -133,7 +133,7 @@ returns-clause-later g c =
 
 pub returns-clause-quiet : goal.returns-clause-quiet
 returns-clause-quiet g c =
-    let back : c.run_over-ledger.result.ledger ≡ record { header = c.header.inside.header; logs = c.header.inside.logs.items; shards = c.header.inside.shards.items } = cc in
+    let back : c.run_over-ledger.result.ledger ≡ record { header = c.ledger.inside.header; logs = c.ledger.inside.logs.items; shards = c.ledger.inside.shards.items } = cc in
     let lent = same_ledger c.args.nodes.header c.args.nodes.logs.items c.args.nodes.shards.items in
     let own = on_ok_by c.run_over-ledger.result.came (subst (λ l. AreQuiet l.logs l.shards → AreQuiet c.run_over-ledger.result.ledger.logs c.run_over-ledger.result.ledger.shards) lent) c.run_over-ledger.ensures.quiet in
     on_ok _ c.came_of-came.result c.run_over-ledger.result.came c.came_of-came.ensures.whole
@@ -141,7 +141,7 @@ returns-clause-quiet g c =
 
 pub returns-clause-told : goal.returns-clause-told
 returns-clause-told g c =
-    let back : c.run_over-ledger.result.ledger ≡ record { header = c.header.inside.header; logs = c.header.inside.logs.items; shards = c.header.inside.shards.items } = cc in
+    let back : c.run_over-ledger.result.ledger ≡ record { header = c.ledger.inside.header; logs = c.ledger.inside.logs.items; shards = c.ledger.inside.shards.items } = cc in
     let lent = same_ledger c.args.nodes.header c.args.nodes.logs.items c.args.nodes.shards.items in
     let shape : c.run_over-ledger.result.ledger.header.shape ≡ c.args.nodes.header.shape = c.run_over-ledger.ensures.shape ∙ ap (λ l. l.header.shape) lent in
     let K = c.args.nodes.header.shape in
@@ -161,7 +161,7 @@ returns-clause-unspent g c = subst (λ xs. IfOk c.came_of-came.result (λ r. Cou
 
 pub returns-clause-grows : goal.returns-clause-grows
 returns-clause-grows g c =
-    let back : c.run_over-ledger.result.ledger ≡ record { header = c.header.inside.header; logs = c.header.inside.logs.items; shards = c.header.inside.shards.items } = cc in
+    let back : c.run_over-ledger.result.ledger ≡ record { header = c.ledger.inside.header; logs = c.ledger.inside.logs.items; shards = c.ledger.inside.shards.items } = cc in
     let lent = same_ledger c.args.nodes.header c.args.nodes.logs.items c.args.nodes.shards.items in
     let shape : c.run_over-ledger.result.ledger.header.shape ≡ c.args.nodes.header.shape = c.run_over-ledger.ensures.shape ∙ ap (λ l. l.header.shape) lent in
     lent_journals g.D.Disk.count g.D.Disk.limit (λ L. (n : ℕ) → IsEnd (journals_of g.D.Disk.count g.D.Disk.limit c.args.nodes.header.shape c.args.nodes.logs.items c.args.nodes.shards.items n) (L n)) c.args.nodes.header.shape c.run_over-ledger.result.ledger _ back shape
@@ -169,34 +169,34 @@ returns-clause-grows g c =
 
 pub returns-clause-fault : goal.returns-clause-fault
 returns-clause-fault g c =
-    let back : c.run_over-ledger.result.ledger ≡ record { header = c.header.inside.header; logs = c.header.inside.logs.items; shards = c.header.inside.shards.items } = cc in
+    let back : c.run_over-ledger.result.ledger ≡ record { header = c.ledger.inside.header; logs = c.ledger.inside.logs.items; shards = c.ledger.inside.shards.items } = cc in
     let lent = same_ledger c.args.nodes.header c.args.nodes.logs.items c.args.nodes.shards.items in
     let shape : c.run_over-ledger.result.ledger.header.shape ≡ c.args.nodes.header.shape = c.run_over-ledger.ensures.shape ∙ ap (λ l. l.header.shape) lent in
     let verdicts = g.V.Verifier.verdict_of c.args.verifier.now in
     let entry = by_entry (λ o h. IfErr c.run_over-ledger.result.came (IsRunCause c.args.nodes.header.shape (IsFilesPiece c.args.nodes.header.shape verdicts c.args.files.now (journals_of g.D.Disk.count g.D.Disk.limit c.args.nodes.header.shape c.args.nodes.logs.items c.args.nodes.shards.items) (journals_of g.D.Disk.count g.D.Disk.limit c.run_over-ledger.result.ledger.header.shape c.run_over-ledger.result.ledger.logs c.run_over-ledger.result.ledger.shards)) (journals_of g.D.Disk.count g.D.Disk.limit c.args.nodes.header.shape c.args.nodes.logs.items c.args.nodes.shards.items) (journals_of g.D.Disk.count g.D.Disk.limit c.run_over-ledger.result.ledger.header.shape c.run_over-ledger.result.ledger.logs c.run_over-ledger.result.ledger.shards) (HaveFailed o (faults_of g.D.Disk.count g.D.Disk.limit c.run_over-ledger.result.ledger.header.shape c.run_over-ledger.result.ledger.logs c.run_over-ledger.result.ledger.shards)) (MayHold h))) (opened_of g.D.Disk.count g.D.Disk.limit c.args.nodes.header.shape c.args.nodes.logs.items c.args.nodes.shards.items) (opened_of g.D.Disk.count g.D.Disk.limit c.run_over-ledger.result.ledger.header.shape c.run_over-ledger.result.ledger.logs c.run_over-ledger.result.ledger.shards) (capacity_of g.D.Disk.count g.D.Disk.limit c.args.nodes.header.shape c.args.nodes.logs.items c.args.nodes.shards.items) (capacity_of g.D.Disk.count g.D.Disk.limit c.run_over-ledger.result.ledger.header.shape c.run_over-ledger.result.ledger.logs c.run_over-ledger.result.ledger.shards)
     c.run_over-ledger.ensures.opened_same c.run_over-ledger.ensures.capacity_same c.run_over-ledger.ensures.fault in
     let own = subst (λ l. IfErr c.run_over-ledger.result.came (IsRunCause l.header.shape (IsFilesPiece l.header.shape verdicts c.args.files.now (journals_of g.D.Disk.count g.D.Disk.limit l.header.shape l.logs l.shards) (journals_of g.D.Disk.count g.D.Disk.limit c.run_over-ledger.result.ledger.header.shape c.run_over-ledger.result.ledger.logs c.run_over-ledger.result.ledger.shards)) (journals_of g.D.Disk.count g.D.Disk.limit l.header.shape l.logs l.shards) (journals_of g.D.Disk.count g.D.Disk.limit c.run_over-ledger.result.ledger.header.shape c.run_over-ledger.result.ledger.logs c.run_over-ledger.result.ledger.shards) (HaveFailed (opened_of g.D.Disk.count g.D.Disk.limit l.header.shape l.logs l.shards) (faults_of g.D.Disk.count g.D.Disk.limit c.run_over-ledger.result.ledger.header.shape c.run_over-ledger.result.ledger.logs c.run_over-ledger.result.ledger.shards)) (MayHold (capacity_of g.D.Disk.count g.D.Disk.limit l.header.shape l.logs l.shards)))) lent entry in
-    came_cause c.args.nodes.header.shape (IsFilesPiece c.args.nodes.header.shape verdicts c.args.files.now (journals_of g.D.Disk.count g.D.Disk.limit c.args.nodes.header.shape c.args.nodes.logs.items c.args.nodes.shards.items) (journals_of g.D.Disk.count g.D.Disk.limit c.args.nodes.header.shape c.header.inside.logs.items c.header.inside.shards.items)) (journals_of g.D.Disk.count g.D.Disk.limit c.args.nodes.header.shape c.args.nodes.logs.items c.args.nodes.shards.items) (journals_of g.D.Disk.count g.D.Disk.limit c.args.nodes.header.shape c.header.inside.logs.items c.header.inside.shards.items) (HaveFailed (opened_of g.D.Disk.count g.D.Disk.limit c.args.nodes.header.shape c.args.nodes.logs.items c.args.nodes.shards.items) (faults_of g.D.Disk.count g.D.Disk.limit c.args.nodes.header.shape c.header.inside.logs.items c.header.inside.shards.items)) (MayHold (capacity_of g.D.Disk.count g.D.Disk.limit c.args.nodes.header.shape c.args.nodes.logs.items c.args.nodes.shards.items))
+    came_cause c.args.nodes.header.shape (IsFilesPiece c.args.nodes.header.shape verdicts c.args.files.now (journals_of g.D.Disk.count g.D.Disk.limit c.args.nodes.header.shape c.args.nodes.logs.items c.args.nodes.shards.items) (journals_of g.D.Disk.count g.D.Disk.limit c.args.nodes.header.shape c.ledger.inside.logs.items c.ledger.inside.shards.items)) (journals_of g.D.Disk.count g.D.Disk.limit c.args.nodes.header.shape c.args.nodes.logs.items c.args.nodes.shards.items) (journals_of g.D.Disk.count g.D.Disk.limit c.args.nodes.header.shape c.ledger.inside.logs.items c.ledger.inside.shards.items) (HaveFailed (opened_of g.D.Disk.count g.D.Disk.limit c.args.nodes.header.shape c.args.nodes.logs.items c.args.nodes.shards.items) (faults_of g.D.Disk.count g.D.Disk.limit c.args.nodes.header.shape c.ledger.inside.logs.items c.ledger.inside.shards.items)) (MayHold (capacity_of g.D.Disk.count g.D.Disk.limit c.args.nodes.header.shape c.args.nodes.logs.items c.args.nodes.shards.items))
     c.came_of-came.result c.run_over-ledger.result.came
     c.came_of-came.ensures.fault
     (lent_both g.D.Disk.count g.D.Disk.limit (λ X F. IfErr c.run_over-ledger.result.came (IsRunCause c.args.nodes.header.shape (IsFilesPiece c.args.nodes.header.shape verdicts c.args.files.now (journals_of g.D.Disk.count g.D.Disk.limit c.args.nodes.header.shape c.args.nodes.logs.items c.args.nodes.shards.items) X) (journals_of g.D.Disk.count g.D.Disk.limit c.args.nodes.header.shape c.args.nodes.logs.items c.args.nodes.shards.items) X (HaveFailed (opened_of g.D.Disk.count g.D.Disk.limit c.args.nodes.header.shape c.args.nodes.logs.items c.args.nodes.shards.items) F) (MayHold (capacity_of g.D.Disk.count g.D.Disk.limit c.args.nodes.header.shape c.args.nodes.logs.items c.args.nodes.shards.items)))) c.args.nodes.header.shape c.run_over-ledger.result.ledger _ back shape own)
 
 pub returns-clause-least : goal.returns-clause-least
 returns-clause-least g c =
-    let back : c.run_over-ledger.result.ledger ≡ record { header = c.header.inside.header; logs = c.header.inside.logs.items; shards = c.header.inside.shards.items } = cc in
+    let back : c.run_over-ledger.result.ledger ≡ record { header = c.ledger.inside.header; logs = c.ledger.inside.logs.items; shards = c.ledger.inside.shards.items } = cc in
     let lent = same_ledger c.args.nodes.header c.args.nodes.logs.items c.args.nodes.shards.items in
     let shape : c.run_over-ledger.result.ledger.header.shape ≡ c.args.nodes.header.shape = c.run_over-ledger.ensures.shape ∙ ap (λ l. l.header.shape) lent in
     let verdicts = g.V.Verifier.verdict_of c.args.verifier.now in
     let entry = by_entry (λ o h. IfErr c.run_over-ledger.result.came (EndsRun verdicts c.args.files.now c.args.nodes.header.shape (journals_of g.D.Disk.count g.D.Disk.limit c.args.nodes.header.shape c.args.nodes.logs.items c.args.nodes.shards.items) (journals_of g.D.Disk.count g.D.Disk.limit c.run_over-ledger.result.ledger.header.shape c.run_over-ledger.result.ledger.logs c.run_over-ledger.result.ledger.shards) (HaveFailed o (faults_of g.D.Disk.count g.D.Disk.limit c.run_over-ledger.result.ledger.header.shape c.run_over-ledger.result.ledger.logs c.run_over-ledger.result.ledger.shards)) (MayHold h))) (opened_of g.D.Disk.count g.D.Disk.limit c.args.nodes.header.shape c.args.nodes.logs.items c.args.nodes.shards.items) (opened_of g.D.Disk.count g.D.Disk.limit c.run_over-ledger.result.ledger.header.shape c.run_over-ledger.result.ledger.logs c.run_over-ledger.result.ledger.shards) (capacity_of g.D.Disk.count g.D.Disk.limit c.args.nodes.header.shape c.args.nodes.logs.items c.args.nodes.shards.items) (capacity_of g.D.Disk.count g.D.Disk.limit c.run_over-ledger.result.ledger.header.shape c.run_over-ledger.result.ledger.logs c.run_over-ledger.result.ledger.shards)
     c.run_over-ledger.ensures.opened_same c.run_over-ledger.ensures.capacity_same c.run_over-ledger.ensures.least in
     let own = subst (λ l. IfErr c.run_over-ledger.result.came (EndsRun verdicts c.args.files.now l.header.shape (journals_of g.D.Disk.count g.D.Disk.limit l.header.shape l.logs l.shards) (journals_of g.D.Disk.count g.D.Disk.limit c.run_over-ledger.result.ledger.header.shape c.run_over-ledger.result.ledger.logs c.run_over-ledger.result.ledger.shards) (HaveFailed (opened_of g.D.Disk.count g.D.Disk.limit l.header.shape l.logs l.shards) (faults_of g.D.Disk.count g.D.Disk.limit c.run_over-ledger.result.ledger.header.shape c.run_over-ledger.result.ledger.logs c.run_over-ledger.result.ledger.shards)) (MayHold (capacity_of g.D.Disk.count g.D.Disk.limit l.header.shape l.logs l.shards)))) lent entry in
-    came_ends (EndsRun verdicts c.args.files.now c.args.nodes.header.shape (journals_of g.D.Disk.count g.D.Disk.limit c.args.nodes.header.shape c.args.nodes.logs.items c.args.nodes.shards.items) (journals_of g.D.Disk.count g.D.Disk.limit c.args.nodes.header.shape c.header.inside.logs.items c.header.inside.shards.items) (HaveFailed (opened_of g.D.Disk.count g.D.Disk.limit c.args.nodes.header.shape c.args.nodes.logs.items c.args.nodes.shards.items) (faults_of g.D.Disk.count g.D.Disk.limit c.args.nodes.header.shape c.header.inside.logs.items c.header.inside.shards.items)) (MayHold (capacity_of g.D.Disk.count g.D.Disk.limit c.args.nodes.header.shape c.args.nodes.logs.items c.args.nodes.shards.items)))
+    came_ends (EndsRun verdicts c.args.files.now c.args.nodes.header.shape (journals_of g.D.Disk.count g.D.Disk.limit c.args.nodes.header.shape c.args.nodes.logs.items c.args.nodes.shards.items) (journals_of g.D.Disk.count g.D.Disk.limit c.args.nodes.header.shape c.ledger.inside.logs.items c.ledger.inside.shards.items) (HaveFailed (opened_of g.D.Disk.count g.D.Disk.limit c.args.nodes.header.shape c.args.nodes.logs.items c.args.nodes.shards.items) (faults_of g.D.Disk.count g.D.Disk.limit c.args.nodes.header.shape c.ledger.inside.logs.items c.ledger.inside.shards.items)) (MayHold (capacity_of g.D.Disk.count g.D.Disk.limit c.args.nodes.header.shape c.args.nodes.logs.items c.args.nodes.shards.items)))
     c.came_of-came.result c.run_over-ledger.result.came c.came_of-came.ensures.fault
     (lent_both g.D.Disk.count g.D.Disk.limit (λ X F. IfErr c.run_over-ledger.result.came (EndsRun verdicts c.args.files.now c.args.nodes.header.shape (journals_of g.D.Disk.count g.D.Disk.limit c.args.nodes.header.shape c.args.nodes.logs.items c.args.nodes.shards.items) X (HaveFailed (opened_of g.D.Disk.count g.D.Disk.limit c.args.nodes.header.shape c.args.nodes.logs.items c.args.nodes.shards.items) F) (MayHold (capacity_of g.D.Disk.count g.D.Disk.limit c.args.nodes.header.shape c.args.nodes.logs.items c.args.nodes.shards.items)))) c.args.nodes.header.shape c.run_over-ledger.result.ledger _ back shape own)
 
 pub returns-clause-flies : goal.returns-clause-flies
 returns-clause-flies g c =
-    let back : c.run_over-ledger.result.ledger ≡ record { header = c.header.inside.header; logs = c.header.inside.logs.items; shards = c.header.inside.shards.items } = cc in
+    let back : c.run_over-ledger.result.ledger ≡ record { header = c.ledger.inside.header; logs = c.ledger.inside.logs.items; shards = c.ledger.inside.shards.items } = cc in
     let lent = same_ledger c.args.nodes.header c.args.nodes.logs.items c.args.nodes.shards.items in
     let shape : c.run_over-ledger.result.ledger.header.shape ≡ c.args.nodes.header.shape = c.run_over-ledger.ensures.shape ∙ ap (λ l. l.header.shape) lent in
     lent_flights g.D.Disk.count g.D.Disk.limit (λ X G. OfKept c.args.nodes.header.shape (journals_of g.D.Disk.count g.D.Disk.limit c.args.nodes.header.shape c.args.nodes.logs.items c.args.nodes.shards.items) (FliesWith c.args.nodes.header.shape (joined c.args.files.now) (journals_of g.D.Disk.count g.D.Disk.limit c.args.nodes.header.shape c.args.nodes.logs.items c.args.nodes.shards.items) X (flights_of g.D.Disk.count g.D.Disk.limit c.args.nodes.header.shape c.args.nodes.logs.items c.args.nodes.shards.items) G)) c.args.nodes.header.shape c.run_over-ledger.result.ledger _ back shape
@@ -204,7 +204,7 @@ returns-clause-flies g c =
 
 pub returns-clause-launches : goal.returns-clause-launches
 returns-clause-launches g c =
-    let back : c.run_over-ledger.result.ledger ≡ record { header = c.header.inside.header; logs = c.header.inside.logs.items; shards = c.header.inside.shards.items } = cc in
+    let back : c.run_over-ledger.result.ledger ≡ record { header = c.ledger.inside.header; logs = c.ledger.inside.logs.items; shards = c.ledger.inside.shards.items } = cc in
     let lent = same_ledger c.args.nodes.header c.args.nodes.logs.items c.args.nodes.shards.items in
     let shape : c.run_over-ledger.result.ledger.header.shape ≡ c.args.nodes.header.shape = c.run_over-ledger.ensures.shape ∙ ap (λ l. l.header.shape) lent in
     let K = c.args.nodes.header.shape in
@@ -218,7 +218,7 @@ returns-clause-launches g c =
 
 pub returns-clause-begun : goal.returns-clause-begun
 returns-clause-begun g c =
-    let back : c.run_over-ledger.result.ledger ≡ record { header = c.header.inside.header; logs = c.header.inside.logs.items; shards = c.header.inside.shards.items } = cc in
+    let back : c.run_over-ledger.result.ledger ≡ record { header = c.ledger.inside.header; logs = c.ledger.inside.logs.items; shards = c.ledger.inside.shards.items } = cc in
     let lent = same_ledger c.args.nodes.header c.args.nodes.logs.items c.args.nodes.shards.items in
     let shape : c.run_over-ledger.result.ledger.header.shape ≡ c.args.nodes.header.shape = c.run_over-ledger.ensures.shape ∙ ap (λ l. l.header.shape) lent in
     let verdicts = g.V.Verifier.verdict_of c.args.verifier.now in
@@ -230,7 +230,7 @@ returns-clause-begun g c =
 
 pub returns-clause-cut : goal.returns-clause-cut
 returns-clause-cut g c =
-    let back : c.run_over-ledger.result.ledger ≡ record { header = c.header.inside.header; logs = c.header.inside.logs.items; shards = c.header.inside.shards.items } = cc in
+    let back : c.run_over-ledger.result.ledger ≡ record { header = c.ledger.inside.header; logs = c.ledger.inside.logs.items; shards = c.ledger.inside.shards.items } = cc in
     let lent = same_ledger c.args.nodes.header c.args.nodes.logs.items c.args.nodes.shards.items in
     let shape : c.run_over-ledger.result.ledger.header.shape ≡ c.args.nodes.header.shape = c.run_over-ledger.ensures.shape ∙ ap (λ l. l.header.shape) lent in
     let verdicts = g.V.Verifier.verdict_of c.args.verifier.now in
@@ -243,20 +243,20 @@ returns-clause-cut g c =
 
 pub returns-clause-flown : goal.returns-clause-flown
 returns-clause-flown g c n r there =
-    let back : c.run_over-ledger.result.ledger ≡ record { header = c.header.inside.header; logs = c.header.inside.logs.items; shards = c.header.inside.shards.items } = cc in
+    let back : c.run_over-ledger.result.ledger ≡ record { header = c.ledger.inside.header; logs = c.ledger.inside.logs.items; shards = c.ledger.inside.shards.items } = cc in
     let lent = same_ledger c.args.nodes.header c.args.nodes.logs.items c.args.nodes.shards.items in
     let shape : c.run_over-ledger.result.ledger.header.shape ≡ c.args.nodes.header.shape = c.run_over-ledger.ensures.shape ∙ ap (λ l. l.header.shape) lent in
     let K = c.args.nodes.header.shape in
     let same = lent_opened g.D.Disk.count g.D.Disk.limit (λ o. o n ≡ opened_of g.D.Disk.count g.D.Disk.limit c.args.nodes.header.shape c.args.nodes.logs.items c.args.nodes.shards.items n) K c.run_over-ledger.result.ledger _ back shape
     (subst (λ l. opened_of g.D.Disk.count g.D.Disk.limit c.run_over-ledger.result.ledger.header.shape c.run_over-ledger.result.ledger.logs c.run_over-ledger.result.ledger.shards n
     ≡ opened_of g.D.Disk.count g.D.Disk.limit l.header.shape l.logs l.shards n) lent (c.run_over-ledger.ensures.opened_same n)) in
-    subst (λ o. HasRisen o (faults_of g.D.Disk.count g.D.Disk.limit K c.header.inside.logs.items c.header.inside.shards.items n)) same
-    (all_flown g.D.Disk.count g.D.Disk.limit K c.header.inside.logs.items c.header.inside.shards.items
+    subst (λ o. HasRisen o (faults_of g.D.Disk.count g.D.Disk.limit K c.ledger.inside.logs.items c.ledger.inside.shards.items n)) same
+    (all_flown g.D.Disk.count g.D.Disk.limit K c.ledger.inside.logs.items c.ledger.inside.shards.items
     (subst (λ xs. All FliesBroken xs) c.as_slice.ensures.value c.see_logs.ensures.flown) (subst (λ xs. All (ShardFliesBroken g.D.Disk.count) xs) c.as_slice-2.ensures.value c.see_shards.ensures.flown) n r there)
 
 pub returns-clause-in_order : goal.returns-clause-in_order
 returns-clause-in_order g c =
-    let back : c.run_over-ledger.result.ledger ≡ record { header = c.header.inside.header; logs = c.header.inside.logs.items; shards = c.header.inside.shards.items } = cc in
+    let back : c.run_over-ledger.result.ledger ≡ record { header = c.ledger.inside.header; logs = c.ledger.inside.logs.items; shards = c.ledger.inside.shards.items } = cc in
     let lent = same_ledger c.args.nodes.header c.args.nodes.logs.items c.args.nodes.shards.items in
     let shape : c.run_over-ledger.result.ledger.header.shape ≡ c.args.nodes.header.shape = c.run_over-ledger.ensures.shape ∙ ap (λ l. l.header.shape) lent in
     let K = c.args.nodes.header.shape in
@@ -267,7 +267,7 @@ returns-clause-in_order g c =
 
 pub returns-clause-rests : goal.returns-clause-rests
 returns-clause-rests g c =
-    let back : c.run_over-ledger.result.ledger ≡ record { header = c.header.inside.header; logs = c.header.inside.logs.items; shards = c.header.inside.shards.items } = cc in
+    let back : c.run_over-ledger.result.ledger ≡ record { header = c.ledger.inside.header; logs = c.ledger.inside.logs.items; shards = c.ledger.inside.shards.items } = cc in
     let lent = same_ledger c.args.nodes.header c.args.nodes.logs.items c.args.nodes.shards.items in
     let shape : c.run_over-ledger.result.ledger.header.shape ≡ c.args.nodes.header.shape = c.run_over-ledger.ensures.shape ∙ ap (λ l. l.header.shape) lent in
     let entry = by_entry (λ o h. AllRestSince c.args.nodes.header.shape (journals_of g.D.Disk.count g.D.Disk.limit c.args.nodes.header.shape c.args.nodes.logs.items c.args.nodes.shards.items) (journals_of g.D.Disk.count g.D.Disk.limit c.run_over-ledger.result.ledger.header.shape c.run_over-ledger.result.ledger.logs c.run_over-ledger.result.ledger.shards) (HaveFailed o (faults_of g.D.Disk.count g.D.Disk.limit c.run_over-ledger.result.ledger.header.shape c.run_over-ledger.result.ledger.logs c.run_over-ledger.result.ledger.shards))) (opened_of g.D.Disk.count g.D.Disk.limit c.args.nodes.header.shape c.args.nodes.logs.items c.args.nodes.shards.items) (opened_of g.D.Disk.count g.D.Disk.limit c.run_over-ledger.result.ledger.header.shape c.run_over-ledger.result.ledger.logs c.run_over-ledger.result.ledger.shards) (capacity_of g.D.Disk.count g.D.Disk.limit c.args.nodes.header.shape c.args.nodes.logs.items c.args.nodes.shards.items) (capacity_of g.D.Disk.count g.D.Disk.limit c.run_over-ledger.result.ledger.header.shape c.run_over-ledger.result.ledger.logs c.run_over-ledger.result.ledger.shards)

@@ -1,6 +1,7 @@
 use Rattle.std.proofs.Common.{inl, inr, length, refl, sym, subst, ◌∙◌}
 use Rattle.std.proofs.lemmas.Bool.{eqb-true}
 use Rattle.rack_runs.proofs.Resumed.{over_cut, over_keeps, flies_cut, flies_over, over_waves, over_none, over_cuts, none_of, some_of, over_told, over_told_none}
+use Rattle.cbdc_model.specs.World.{AreIdle}
 use Rattle.ledger_laws.proofs.Cuts.{end_trans}
 use Rattle.ledger_runs.proofs.Onward.{rests_told}
 use Rattle.ledger_runs.specs.Faults.{HaveFailed, MayHold, AllRest}
@@ -187,3 +188,27 @@ returns-in-Ok-came-clause-rests g c lane inside =
 pub returns-in-Err-came-clause-rests : goal.returns-in-Err-came-clause-rests
 returns-in-Err-came-clause-rests g c lane inside =
     inl (subst (λ k. AllRest k (journals g.D.Disk.count g.D.Disk.limit c.run_files-ledger.result.ledger) (HaveFailed (opened g.D.Disk.count g.D.Disk.limit c.run_files-ledger.result.ledger) (faults g.D.Disk.count g.D.Disk.limit c.run_files-ledger.result.ledger))) c.resume_ledger-ledger.ensures.shape c.run_files-ledger.ensures.rests lane inside)
+
+pub run_files-ledger-requires-clause-idle : goal.run_files-ledger-requires-clause-idle
+run_files-ledger-requires-clause-idle g c κs k = subst (λ h. AreIdle h (journals g.D.Disk.count g.D.Disk.limit c.resume_ledger-ledger.result.ledger)) (sym c.resume_ledger-ledger.ensures.shape) (when_whole c.resume_ledger-ledger.result.came c.in-Ok.resumed c.in-Ok.is c.resume_ledger-ledger.ensures.idle)
+
+pub returns-in-Ok-came-clause-idle : goal.returns-in-Ok-came-clause-idle
+returns-in-Ok-came-clause-idle g c = subst (λ h. AreIdle h (journals g.D.Disk.count g.D.Disk.limit c.run_files-ledger.result.ledger)) c.resume_ledger-ledger.ensures.shape (when_whole c.run_files-ledger.result.came c.in-Ok-came.waves c.in-Ok-came.is c.run_files-ledger.ensures.idle)
+
+pub returns-in-Ok-came-clause-holds : goal.returns-in-Ok-came-clause-holds
+returns-in-Ok-came-clause-holds g c h = c.run_files-ledger.ensures.holds (c.resume_ledger-ledger.ensures.holds h)
+
+pub returns-in-Ok-came-clause-opened_same : goal.returns-in-Ok-came-clause-opened_same
+returns-in-Ok-came-clause-opened_same g c n = c.run_files-ledger.ensures.opened_same n ∙ c.resume_ledger-ledger.ensures.opened_same n
+
+pub returns-in-Ok-came-clause-capacity_same : goal.returns-in-Ok-came-clause-capacity_same
+returns-in-Ok-came-clause-capacity_same g c n = c.run_files-ledger.ensures.capacity_same n ∙ c.resume_ledger-ledger.ensures.capacity_same n
+
+pub returns-in-Err-came-clause-holds : goal.returns-in-Err-came-clause-holds
+returns-in-Err-came-clause-holds g c h = c.run_files-ledger.ensures.holds (c.resume_ledger-ledger.ensures.holds h)
+
+pub returns-in-Err-came-clause-opened_same : goal.returns-in-Err-came-clause-opened_same
+returns-in-Err-came-clause-opened_same g c n = c.run_files-ledger.ensures.opened_same n ∙ c.resume_ledger-ledger.ensures.opened_same n
+
+pub returns-in-Err-came-clause-capacity_same : goal.returns-in-Err-came-clause-capacity_same
+returns-in-Err-came-clause-capacity_same g c n = c.run_files-ledger.ensures.capacity_same n ∙ c.resume_ledger-ledger.ensures.capacity_same n

@@ -1,4 +1,9 @@
+use Rattle.std.proofs.Common.{subst, sym}
+use Rattle.ledger_nodes.specs.Ledgers.{IsChecked}
 use Rattle.rack_runs.proofs.resuming.resume_ledger.Goals as goal
+
+pub resume_all-came-requires : goal.resume_all-came-requires
+resume_all-came-requires g c = subst (λ l. IsChecked g.D.Disk.count g.D.Disk.limit l) (sym c.lend-lent.ensures) c.requires.checked
 
 pub returns-clause-shape : goal.returns-clause-shape
 returns-clause-shape g c = rw (c.take_back.ensures, ← c.lend-lent.ensures) c.resume_all-came.ensures.shape
@@ -40,7 +45,7 @@ pub returns-clause-capacity_same : goal.returns-clause-capacity_same
 returns-clause-capacity_same g c = rw (c.take_back.ensures, ← c.lend-lent.ensures) c.resume_all-came.ensures.capacity_same
 
 pub returns-clause-checked : goal.returns-clause-checked
-returns-clause-checked g c = rw (c.take_back.ensures, ← c.lend-lent.ensures) c.resume_all-came.ensures.checked
+returns-clause-checked g c = rw (c.take_back.ensures) c.resume_all-came.ensures.checked
 
 pub returns-clause-grows : goal.returns-clause-grows
 returns-clause-grows g c = rw (c.take_back.ensures, ← c.lend-lent.ensures) c.resume_all-came.ensures.grows
