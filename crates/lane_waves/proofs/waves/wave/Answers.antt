@@ -21,7 +21,7 @@ returns-in_default-clause-ran g c =
     let many = c.requires.shards_many in
     let logs = sight_at sight c.args.nodes.logs.items in
     let shards = sight_at (sight_of g.D.Disk.count g.D.Disk.limit) c.args.nodes.shards.items in
-    unrun_wave c.args.shape.now logs shards logs shards c.args.lanes.now.items c.stop_all.new.lanes.items c.lanes.ensures.limits (λ n lt. still_itself (logs n)) (λ s lt. still_itself (shards s))
+    unrun_wave c.args.shape.now logs shards logs shards c.args.lanes.now.items c.stop_all.new.lanes.items c.lanes-lanes.ensures.limits (λ n lt. still_itself (logs n)) (λ s lt. still_itself (shards s))
         (λ s le. past_end (sight_of g.D.Disk.count g.D.Disk.limit) (λ a b. IsShardHeld g.D.Disk.content g.D.Disk.images a → IsShardHeld g.D.Disk.content g.D.Disk.images b) c.args.nodes.shards.items s (omega (arith, le, many)))
         c.requires.settled c.requires.lanes_many (c.stop_all.ensures.same ∙ c.node_room.ensures.same) c.stop_all.ensures.stopped
 
@@ -32,7 +32,7 @@ pub returns-in_default-clause-shards_go : goal.returns-in_default-clause-shards_
 returns-in_default-clause-shards_go g c = went_same (sight_of g.D.Disk.count g.D.Disk.limit) (λ a. IsShardHeld g.D.Disk.content g.D.Disk.images a) c.args.nodes.shards.items
 
 pub wave_shared-logs-requires-clause-limits : goal.wave_shared-logs-requires-clause-limits
-wave_shared-logs-requires-clause-limits g c κs within = c.lanes.ensures.limits
+wave_shared-logs-requires-clause-limits g c κs within = c.lanes-lanes.ensures.limits
 
 pub wave_shared-logs-requires-clause-logs_many : goal.wave_shared-logs-requires-clause-logs_many
 wave_shared-logs-requires-clause-logs_many g c κs within = sym (map_many (λ (s : SharedLog g.row.D.Denot). s.node) c.share_logs-logs.result.0.items) ∙ (ap (λ (xs : List _). length xs) c.share_logs-logs.ensures.nodes ∙ c.requires.logs_many)
