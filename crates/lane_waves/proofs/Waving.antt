@@ -1,5 +1,5 @@
 -- A whole wave: what its locks and its lanes come to, whether the lanes ran or memory was wanting before their first calls.
-use Rattle.std.proofs.Common.{◌≡◌, inl, inr, ℕ, zero, suc, ◌+◌, ◌-◌, ◌*◌, ◌/◌, ◌<◌, ◌≤◌, List, [], ◌∷◌, map, length, Option, Some, None, refl, sym, ap, ◌∙◌, subst, arith}
+use Rattle.std.proofs.Common.{◌≡◌, inl, inr, ℕ, zero, suc, ◌+◌, ◌-◌, ◌*◌, ◌/◌, ◌<◌, ◌≤◌, List, [], ◌∷◌, map, length, Some, None, refl, sym, ap, ◌∙◌, subst, arith}
 use Rattle.std.specs.Prelude.{All, slice_get}
 use Rattle.std.specs.Global.{Vec}
 use Rattle.std.proofs.lemmas.Nat.{mul-le, div-mul-add}
@@ -30,8 +30,8 @@ use Rattle.wave_records.specs.Laws.{WentOn}
 use Rattle.wave_records.proofs.Places.{nodes_ran}
 use Rattle.lane_waves.specs.Lanes.{HasNoMemory, IsReady}
 use Rattle.lane_waves.specs.Places.{AllFrom, BothFrom}
-use Rattle.lane_waves.specs.Rows.{lanes_from, home_lanes, all_lanes, IsHomeRow, IsShardRow}
-use Rattle.lane_waves.specs.Deals.{MayRun, log_at, shard_at}
+use Rattle.lane_waves.specs.Rows.{home_lanes, all_lanes, IsHomeRow, IsShardRow}
+use Rattle.lane_waves.specs.Deals.{MayRun, log_at}
 use Rattle.lane_waves.specs.Waves.{AreThrough}
 use Rattle.lane_waves.proofs.Places.{next_row}
 use Rattle.lane_waves.proofs.Numbers.{once, inside}

@@ -1,18 +1,15 @@
-use Rattle.std.proofs.Common.{rules, ◌≡◌, ◌<◌, ◌≤◌, ◌+◌, ◌*◌, ℕ, zero, suc, Some, List, [], length, reverse, refl, sym, ap, ◌∙◌, subst, arith}
+use Rattle.std.proofs.Common.{◌*◌, sym, ap, ◌∙◌, subst, arith}
 use Rattle.std.proofs.lemmas.List.Elements.{All-same}
-use Rattle.std.proofs.lemmas.Nat.{mul-le}
-use Rattle.node_ports.specs.Nodes.{IsLogHeld, IsShardHeld, no_node, sight_at}
+use Rattle.node_ports.specs.Nodes.{IsLogHeld, IsShardHeld, sight_at}
 use Rattle.shard_fanout.specs.Nodes.{log_sight, shard_sight}
-use Rattle.node_lock.specs.Seats.{lanes_of}
-use Rattle.thread_laws.specs.Running.{WaveRan}
-use Rattle.wave_ends.specs.Rows.{AreReady, AreLocked, AreLeft}
+use Rattle.wave_ends.specs.Rows.{AreLeft}
 use Rattle.wave_ends.proofs.Locking.{locked_ready, all_still}
 use Rattle.wave_records.proofs.Places.{held, nodes_still, past_end}
 use Rattle.lane_waves.specs.Rows.{home_lanes, all_lanes}
 use Rattle.lane_waves.specs.Deals.{MayRun, AreOpen, IsHomeFresh}
 use Rattle.lane_waves.specs.Places.{AllFrom}
 use Rattle.lane_waves.specs.Waves.{AreThrough}
-use Rattle.lane_waves.proofs.Opening.{are_open, homes_fresh, are_fresh, openings, lanes_are, seats_many, map_many, tables_of}
+use Rattle.lane_waves.proofs.Opening.{are_open, homes_fresh, are_fresh, openings, lanes_are, seats_many, tables_of}
 use Rattle.lane_waves.proofs.Numbers.{are_rows}
 use Rattle.lane_waves.proofs.Waving.{fresh_left, went_same, unrun_wave, still_itself, ran_wave, locks_many, few_lanes}
 use Rattle.lane_waves.proofs.waves.wave_shared.Goals as goal
