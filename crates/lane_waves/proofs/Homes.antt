@@ -78,9 +78,10 @@ module _ {D : Type 0} (n : ℕ) (tables : ℕ → TableId) where
   homes_ready some lanes k [] (own ∷ homes) e m h t l = absurd (let z = e in omega (arith, z))
   homes_ready some lanes k (g ∷ gs) [] e m h t l = absurd (let z = e in omega (arith, z))
   homes_ready some lanes k (g ∷ gs) (own ∷ homes) e m h t l =
-      let many : length (lanes_of g) ≡ n = ap (λ (xs : List ℕ). length xs) l.0 ∙ m k in
-      (record { ready = (subst (λ i. AllAt i own.items) t.0 h.0.0, h.0.1 ∙ sym many, subst (λ i. 0 < i) (sym h.0.1) some) },
-       homes_ready some lanes (suc k) gs homes (let z = e in omega (arith, z)) m h.1 t.1 l.1)
+      let many : length (lanes_of g) ≡ n = ap (λ (xs : List ℕ). length xs) l.0 ∙ m k in (
+        record { ready = (subst (λ i. AllAt i own.items) t.0 h.0.0, h.0.1 ∙ sym many, subst (λ i. 0 < i) (sym h.0.1) some) },
+        homes_ready some lanes (suc k) gs homes (let z = e in omega (arith, z)) m h.1 t.1 l.1,
+      )
 
 module _ {W D B : Type 0} {G : Ghosts B} (n : ℕ) (some : 0 < n) where
   -- each run's seat of its coordinator is in the list of that
@@ -130,9 +131,10 @@ module _ {W D B : Type 0} {G : Ghosts B} (n : ℕ) (some : 0 < n) where
       let m = homes_hold owns rest more in
       let both : length (chunk ++ rest) ≡ length chunk + length rest = grind (arith, common_steps) in
       let a = m.1 in
-      let wider : length (own ∷ owns) * n ≡ length owns * n + n = grind (arith, common_steps) in
-      (subst (HomesHold (own ∷ owns)) (sym is) (chunk_hold own owns chunk rest (omega (arith, many)) a (own_holds own chunk seats) m.0),
-       ap (λ (zs : List (LaneRun W D B G)). length zs) is ∙ omega (arith, both, many, a, wider))
+      let wider : length (own ∷ owns) * n ≡ length owns * n + n = grind (arith, common_steps) in (
+        subst (HomesHold (own ∷ owns)) (sym is) (chunk_hold own owns chunk rest (omega (arith, many)) a (own_holds own chunk seats) m.0),
+        ap (λ (zs : List (LaneRun W D B G)). length zs) is ∙ omega (arith, both, many, a, wider),
+      )
 
   module _ (tables : ℕ → TableId) where
     -- each run's seat of its coordinator is of the lock that the wave picks
@@ -159,6 +161,10 @@ module _ {W D B : Type 0} {G : Ghosts B} (n : ℕ) (some : 0 < n) where
         let m = chunk_at (length owns) chunk rest (omega (arith, many)) (homes_hold owns rest more).1 (subst SeatsAt is k) in
         let items : own.items ≡ reverse (map home_seat chunk) = sym (reverse-reverse own.items) ∙ ap reverse seats in
         let a = length-reverse (map home_seat chunk) in
-        let b = map_many chunk in
-        ((subst (AllAt (tables (length owns))) (sym items) (turned_at (tables (length owns)) (map home_seat chunk) m.0),
-          ap (λ (zs : List (Seat (SharedLog D))). length zs) items ∙ omega (arith, a, b, many)), homes_at owns rest more m.1)
+        let b = map_many chunk in (
+          (
+            subst (AllAt (tables (length owns))) (sym items) (turned_at (tables (length owns)) (map home_seat chunk) m.0),
+            ap (λ (zs : List (Seat (SharedLog D))). length zs) items ∙ omega (arith, a, b, many),
+          ),
+          homes_at owns rest more m.1,
+        )

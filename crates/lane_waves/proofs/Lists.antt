@@ -58,12 +58,11 @@ module _ {N : Type 0} (sight : N → Sight) where
   dealt_many l (g ∷ gs) [] k = absurd k
   dealt_many l (g ∷ gs) (s ∷ ss) k = let e = dealt_many l gs ss k.1 in omega (arith, e)
 
-
 -- the last seat that is left of a coordinator is that of its last lane that is left
 pub home_last : {D : Type 0} (K : Shape) (home : ℕ) (gs : List (Guarded (SharedLog D))) (own rest : List (Seat (SharedLog D))) (seat : Seat (SharedLog D)) → IsHomeLeft K home gs own → own ≡ rest ++ seat ∷ []
     → (g : Guarded (SharedLog D)) → slice_get gs home ≡ Some g
     → AreFresh (log_sight (opening_of g)) (opening_of g) (table_of g) (lanes_from (home * K.lanes) (length rest)) rest
-      × ((seat.token.table_id ≡ table_of g) × (first_of seat ≡ Some (opening_of g)) × (knows seat ≡ fresh (log_sight (opening_of g)) (home * K.lanes + length rest)))
+    × ((seat.token.table_id ≡ table_of g) × (first_of seat ≡ Some (opening_of g)) × (knows seat ≡ fresh (log_sight (opening_of g)) (home * K.lanes + length rest)))
 home_last K home gs own rest seat k e g there =
     let many = snoc_many own rest seat e in
     let one : length own ≡ suc (length rest) = omega (arith, many) in

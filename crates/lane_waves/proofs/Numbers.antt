@@ -39,6 +39,7 @@ once x first (suc n) = go (eqb x (first + n)) refl (once x first n)
   where
     all : times x (lanes_from first n ++ (first + n) ∷ []) ≡ times x (lanes_from first n) + is_at x (first + n)
     all = times_more x (first + n) (lanes_from first n)
+
     go : (b : Bool) → eqb x (first + n) ≡ b → times x (lanes_from first n) ≤ 1 → times x (lanes_from first n ++ (first + n) ∷ []) ≤ 1
     go true e before =
         let same : x ≡ first + n = grind (arith, e) in
@@ -55,6 +56,7 @@ inside x first (suc n) some = go (eqb x (first + n)) refl (inside x first n)
   where
     all : times x (lanes_from first n ++ (first + n) ∷ []) ≡ times x (lanes_from first n) + is_at x (first + n)
     all = times_more x (first + n) (lanes_from first n)
+
     go : (b : Bool) → eqb x (first + n) ≡ b → (0 < times x (lanes_from first n) → (first ≤ x) × (x < first + n)) → (first ≤ x) × (x < first + suc n)
     go true e before = let same : x ≡ first + n = grind (arith, e) in (omega (arith, same), omega (arith, same))
     go false e before =

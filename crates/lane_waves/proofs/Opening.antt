@@ -80,9 +80,10 @@ module _ {N : Type 0} (sight : N → Sight) where
   are_fresh lanes k (n ∷ ns) [] gs ss a l = absurd l
   are_fresh lanes k (n ∷ ns) (r ∷ rs) [] ss a l = absurd l
   are_fresh lanes k (n ∷ ns) (r ∷ rs) (g ∷ gs) [] a l = absurd l
-  are_fresh lanes k (n ∷ ns) (r ∷ rs) (g ∷ gs) (s ∷ ss) a l =
-      ((subst (λ xs. AreFresh (sight (opening_of g)) (opening_of g) (table_of g) xs s.items) a.0 (subst (λ o. AreFresh (sight o) o (table_of g) r.items s.items) (sym l.0.node) l.0.seats), l.0.lanes_are ∙ a.0),
-       are_fresh lanes (suc k) ns rs gs ss a.1 l.1)
+  are_fresh lanes k (n ∷ ns) (r ∷ rs) (g ∷ gs) (s ∷ ss) a l = (
+    (subst (λ xs. AreFresh (sight (opening_of g)) (opening_of g) (table_of g) xs s.items) a.0 (subst (λ o. AreFresh (sight o) o (table_of g) r.items s.items) (sym l.0.node) l.0.seats), l.0.lanes_are ∙ a.0),
+    are_fresh lanes (suc k) ns rs gs ss a.1 l.1,
+  )
 
 -- the lanes of each lock
 pub lanes_are : {N : Type 0} (sight : N → Sight) (lanes : ℕ → List ℕ) (k : ℕ) (gs : List (Guarded N)) (ss : List (Vec (Seat N))) → BothFrom (FreshAt sight lanes) k gs ss → AllFrom (λ n g. lanes_of g ≡ lanes n) k gs
@@ -184,7 +185,7 @@ module _ {D : Type 0} (count limit : D → ℕ) (K : Shape) (gs : List (Guarded 
 pub homes_fresh : {D : Type 0} (K : Shape) (gs : List (Guarded (SharedLog D))) (ss : List (Vec (Seat (SharedLog D)))) → BothFrom (FreshAt log_sight (home_lanes K)) 0 gs ss → length ss ≡ length gs → AllFrom (IsHomeFresh K gs) 0 ss
 homes_fresh K gs ss b many = all_from (IsHomeFresh K gs) 0 ss (λ i s e.
     let whole : (g : _) → slice_get gs (0 + i) ≡ Some g → AreFresh (log_sight (opening_of g)) (opening_of g) (table_of g) (home_lanes K (0 + i)) s.items =
-        λ g there. let same : 0 + i ≡ i = omega arith in (both_at (FreshAt log_sight (home_lanes K)) 0 gs ss i g s b (subst (λ (j : ℕ). slice_get gs j ≡ Some g) same there) e).0 in
+    λ g there. let same : 0 + i ≡ i = omega arith in (both_at (FreshAt log_sight (home_lanes K)) 0 gs ss i g s b (subst (λ (j : ℕ). slice_get gs j ≡ Some g) same there) e).0 in
     let lt = (seat_get ss i s e) in
     let got = got_at gs i (omega (arith, lt, many)) in
     let same : i ≡ 0 + i = omega arith in
@@ -195,6 +196,7 @@ homes_fresh K gs ss b many = all_from (IsHomeFresh K gs) 0 ss (λ i s e.
     seat_get [] i x e = absurd (let z : None ≡ Some x = e in cc)
     seat_get (y ∷ xs) zero x e = omega arith
     seat_get (y ∷ xs) (suc i) x e = let lt = seat_get xs i x e in omega (arith, lt)
+
     got_at : {A : Type 0} (xs : List A) (i : ℕ) → i < length xs → (x : A) × (slice_get xs i ≡ Some x)
     got_at [] i lt = absurd (let z : i < 0 = lt in omega (arith, z))
     got_at (y ∷ xs) zero lt = (y, refl)

@@ -43,17 +43,20 @@ module _ {N : Type 0} (sight : N → Sight) where
 -- what a lane is settled by
 pub settled_like : (K : Shape) (lane : ℕ) (log log' : Sight) (I J : ℕ → Sight) → log'.header ≡ log.header → log'.seen ≡ log.seen → ((s : ℕ) → (J s).seen ≡ (I s).seen) → IsSettled K lane log I → IsSettled K lane log' J
 settled_like K lane log log' I J eh es f k =
-    let n = k.0 in let s = k.1 in (n, record {
-      home = s.home;
-      shape = ap (λ (h : Header). h.shape) eh ∙ s.shape;
-      number = ap (λ (xs : List Record). (slot xs lane).number) es ∙ s.number;
-      idle = ap (λ (xs : List Record). (slot xs lane).phase) es ∙ s.idle;
-      shard_idle = λ i. ap (λ (xs : List Record). (slot xs lane).phase) (f i) ∙ s.shard_idle i;
-      shard_number = λ i. subst (λ (xs : List Record). (slot xs lane).number ≤ n) (sym (f i)) (s.shard_number i);
-      shard_stamp = λ i. subst (λ (xs : List Record). slot_stamp xs lane ≤ last_stamp log'.seen) (sym (f i)) (subst (λ (xs : List Record). slot_stamp (I i).seen lane ≤ last_stamp xs) (sym es) (s.shard_stamp i));
-      fresh_log = λ kind b of lt. subst (λ (xs : List Record). record_of kind xs b ≡ None) (sym es) (s.fresh_log kind b of lt);
-      fresh_shard = λ i kind b of lt. subst (λ (xs : List Record). record_of kind xs b ≡ None) (sym (f i)) (s.fresh_shard i kind b of lt);
-    })
+    let n = k.0 in let s = k.1 in (
+      n,
+      record {
+        home = s.home;
+        shape = ap (λ (h : Header). h.shape) eh ∙ s.shape;
+        number = ap (λ (xs : List Record). (slot xs lane).number) es ∙ s.number;
+        idle = ap (λ (xs : List Record). (slot xs lane).phase) es ∙ s.idle;
+        shard_idle = λ i. ap (λ (xs : List Record). (slot xs lane).phase) (f i) ∙ s.shard_idle i;
+        shard_number = λ i. subst (λ (xs : List Record). (slot xs lane).number ≤ n) (sym (f i)) (s.shard_number i);
+        shard_stamp = λ i. subst (λ (xs : List Record). slot_stamp xs lane ≤ last_stamp log'.seen) (sym (f i)) (subst (λ (xs : List Record). slot_stamp (I i).seen lane ≤ last_stamp xs) (sym es) (s.shard_stamp i));
+        fresh_log = λ kind b of lt. subst (λ (xs : List Record). record_of kind xs b ≡ None) (sym es) (s.fresh_log kind b of lt);
+        fresh_shard = λ i kind b of lt. subst (λ (xs : List Record). record_of kind xs b ≡ None) (sym (f i)) (s.fresh_shard i kind b of lt);
+      },
+    )
 
 phase_mine : (mine lane : ℕ) (s : Sight) → lane ≡ mine → phase_at mine s lane ≡ (slot s.seen lane).phase
 phase_mine mine lane s e = let t : (lane == mine) ≡ true = grind (arith, e) in ap (λ b. if b then (slot s.seen lane).phase else InLock) t
@@ -102,8 +105,8 @@ module _ {W D B : Type 0} {G : Ghosts B} (count limit : D → ℕ) where
   ports_picked tables K lane k (h ∷ hs) (s ∷ ss) (p ∷ ps) d a t o =
       let seen : seat_sight (shard_sight count limit) p.seat ≡ started lane (shard_sight count limit (opening_of h)) = ap (λ q. seat_sight (shard_sight count limit) q) a.0.seat ∙ seat_started (shard_sight count limit) s (opening_of h) lane d.0.1 d.0.2 in
       All-cons (λ p. table_of p.guarded.now ≡ tables (seat_sight (shard_sight count limit) p.seat).header.node) p ps
-          (ap table_of a.0.guarded ∙ (sym t.0 ∙ ap tables (sym (ap (λ (v : Sight). v.header.node) seen ∙ o.0.node))))
-          (ports_picked tables K lane (suc k) hs ss ps d.1 a.1 t.1 o.1)
+      (ap table_of a.0.guarded ∙ (sym t.0 ∙ ap tables (sym (ap (λ (v : Sight). v.header.node) seen ∙ o.0.node))))
+      (ports_picked tables K lane (suc k) hs ss ps d.1 a.1 t.1 o.1)
 
 module _ {W D B : Type 0} {G : Ghosts B} (count limit : D → ℕ) (tables : ℕ → TableId) (K : Shape) (gs : List (Guarded (SharedLog D))) (hs : List (Guarded (SharedShard D))) (open_ : AreOpen count limit tables K gs hs) where
   pub set_up : (home j : ℕ) (g : Guarded (SharedLog D)) (p : LogSeat W D B G) (r : LaneRun W D B G) (ss : List (Seat (SharedShard D))) → j < K.lanes → slice_get gs home ≡ Some g
@@ -120,7 +123,7 @@ module _ {W D B : Type 0} {G : Ghosts B} (count limit : D → ℕ) (tables : ℕ
       let seat_seen : seat_sight log_sight p.seat ≡ started lane (log_sight (opening_of g)) = seat_started log_sight p.seat (opening_of g) lane (p.own.1 ∙ ap (λ x. Some (opening_of x)) guarded) knew in
       let at_home : log_at gs (home_of K lane) ≡ log_sight (opening_of g) = ap (log_at gs) home_is ∙ place.0 in
       let log_seen : log_of count limit tables K r ≡ started lane (log_at gs (home_of K lane)) =
-          ap (λ q. seen_at q.node (seat_sight (log_sight {D = D}) q.seat) q.node) log_is ∙ (seen_here p.node (seat_sight log_sight p.seat) ∙ (seat_seen ∙ ap (started lane) (sym at_home))) in
+      ap (λ q. seen_at q.node (seat_sight (log_sight {D = D}) q.seat) q.node) log_is ∙ (seen_here p.node (seat_sight log_sight p.seat) ∙ (seat_seen ∙ ap (started lane) (sym at_home))) in
       let r_seen : seat_sight (log_sight {D = D}) r.ports.log.seat ≡ started lane (log_sight (opening_of g)) = ap (λ q. seat_sight (log_sight {D = D}) q.seat) log_is ∙ seat_seen in
       let shards_seen : (s : ℕ) → shards_of count limit tables K r s ≡ started lane (shard_at count limit hs s) = ports_started count limit lane hs ss r.ports.shards.each.ports.items dealt ports in
       let rest : IsSettled K lane (log_at gs (home_of K lane)) (shard_at count limit hs) = open_.settled lane lane_low in
@@ -149,7 +152,7 @@ module _ {W D B : Type 0} {G : Ghosts B} (count limit : D → ℕ) (tables : ℕ
               (ap (λ (v : Sight). v.header.shape) is ∙ at.shape, ap (λ (v : Sight). v.header.node) is ∙ at.node);
           settled = subst (λ l. IsSettled K l (log_of count limit tables K r) (shards_of count limit tables K r)) (sym lane_is)
               (settled_like K lane (log_at gs (home_of K lane)) (log_of count limit tables K r) (shard_at count limit hs) (shards_of count limit tables K r)
-                  (ap (λ (v : Sight). v.header) log_seen) (ap (λ (v : Sight). v.seen) log_seen) (λ s. ap (λ (v : Sight). v.seen) (shards_seen s)) rest);
+              (ap (λ (v : Sight). v.header) log_seen) (ap (λ (v : Sight). v.seen) log_seen) (λ s. ap (λ (v : Sight). v.seen) (shards_seen s)) rest);
           ours = subst (λ l. AreOfLane l r.ports.shards.each.ports.items) (sym lane_is) (ports_ours count limit lane hs ss r.ports.shards.each.ports.items dealt ports);
           limits = may.limits;
         };

@@ -41,10 +41,19 @@ covered first x (l ∷ ls) = let e = covered first x ls in omega (arith, e)
 
 hands_fresh : (first last : Sight) (ls : List ℕ) → first.faults ≤ last.faults → AllHands first.seen [] last.flight last.faults (map (fresh first) ls)
 hands_fresh first last [] later = tt
-hands_fresh first last (l ∷ ls) later = (record {
-      front = []; rest = []; seen_is = refl; log_is = refl; made_is = refl; own = refl; below = later;
-      stuck = λ r e. absurd (let z : None ≡ Some r = e in cc);
-    }, hands_fresh first last ls later)
+hands_fresh first last (l ∷ ls) later = (
+  record {
+    front = [];
+    rest = [];
+    seen_is = refl;
+    log_is = refl;
+    made_is = refl;
+    own = refl;
+    below = later;
+    stuck = λ r e. absurd (let z : None ≡ Some r = e in cc);
+  },
+  hands_fresh first last ls later,
+)
 
 pub still_ran : (first last : Sight) (ls : List ℕ) → ((x : ℕ) → times x ls ≤ 1) → IsStillSight first last → NodeRan first ls (map (fresh first) ls) last
 still_ran first last ls apart still = record {
@@ -55,7 +64,7 @@ still_ran first last ls apart still = record {
     drawn = tt;
     cover = λ x. covered first x ls;
     hands = hands_fresh first last ls still.later;
-    flight = elim still.flight [ | inl e ↦ inl e | inr e ↦ inr (inl (e, refl)) ];
+    flight = elim still.flight [ inl e ↦ inl e | inr e ↦ inr (inl (e, refl)) ];
   };
   same = still.same;
 }

@@ -116,6 +116,7 @@ row_of n w some =
   where
     go_low : n / w * w ≤ n
     go_low = grind (arith, some)
+
     go_high : n < n / w * w + w
     go_high = grind (arith, some)
 
@@ -149,7 +150,7 @@ unrun_wave K logs shards logs' shards' old new limits still_logs still_shards pa
       let short = within old lane x e in
       let lt : lane < K.coordinators * K.lanes = omega (arith, short, many) in
       unrun K logs shards (λ n. map (fresh (logs n)) (home_lanes K n)) (λ s. map (fresh (shards s)) (all_lanes K)) lane x y (settled lane lt) (at_home K (logs (home_of K lane)) lane some)
-          (λ s le. at_shard K (shards s) lane lt) past (txs_at old new lane x y same e f) (stopped_at new lane y stopped f);
+      (λ s le. at_shard K (shards s) lane lt) past (txs_at old new lane x y same e f) (stopped_at new lane y stopped f);
 }
 
 -- a list of nodes is still itself
@@ -201,7 +202,7 @@ may_run (v ∷ old) (w ∷ new) m a r =
     let c : w.txs ≡ v.txs = let z : w.txs ∷ map (λ z. z.txs) new ≡ v.txs ∷ map (λ z. z.txs) old = m in cc in
     let more : map (λ z. z.txs) new ≡ map (λ z. z.txs) old = let z : w.txs ∷ map (λ z. z.txs) new ≡ v.txs ∷ map (λ z. z.txs) old = m in cc in
     All-cons MayRun w new (record { ready = All-head IsReady w new r; limits = subst (λ t. All IsCompact t.items) (sym c) (All-head (λ z. All IsCompact z.txs.items) v old a) })
-        (may_run old new more (All-tail (λ z. All IsCompact z.txs.items) v old a) (All-tail IsReady w new r))
+    (may_run old new more (All-tail (λ z. All IsCompact z.txs.items) v old a) (All-tail IsReady w new r))
 
 ready_at : (new : List Lane) (n : ℕ) (y : Lane) → All IsReady new → slice_get new n ≡ Some y → IsReady y
 ready_at [] n y a f = absurd (let z : None ≡ Some y = f in cc)
@@ -220,15 +221,28 @@ ended_anew K lane log shards log' shards' old mid new ready (inr (e, stopped, (s
 
 lane_anew : (K : Shape) (logs shards : ℕ → Sight) (log_hands shard_hands : ℕ → List Hand) (lane : ℕ) (old mid new : Lane) → IsReady mid → mid.txs ≡ old.txs → LaneRan K logs shards log_hands shard_hands lane mid new → LaneRan K logs shards log_hands shard_hands lane old new
 lane_anew K logs shards log_hands shard_hands lane old mid new ready txs r = record {
-  log = r.log; seen = r.seen; log' = r.log'; seen' = r.seen'; settled = r.settled; at_log = r.at_log; at_shard = r.at_shard; beyond = r.beyond;
+  log = r.log;
+  seen = r.seen;
+  log' = r.log';
+  seen' = r.seen';
+  settled = r.settled;
+  at_log = r.at_log;
+  at_shard = r.at_shard;
+  beyond = r.beyond;
   txs = r.txs ∙ ap (λ v. v.items) txs;
   ended = ended_anew K lane r.log r.seen r.log' r.seen' old mid new ready r.ended;
 }
 
 pub wave_anew : (K : Shape) (logs shards logs' shards' : ℕ → Sight) (old mid new : List Lane) → map (λ z. z.txs) mid ≡ map (λ z. z.txs) old → All IsReady mid → WaveRan K logs shards logs' shards' mid new → WaveRan K logs shards logs' shards' old new
 wave_anew K logs shards logs' shards' old mid new same ready w = record {
-  log_lanes = w.log_lanes; log_hands = w.log_hands; shard_lanes = w.shard_lanes; shard_hands = w.shard_hands;
-  log_ran = w.log_ran; shard_ran = w.shard_ran; log_drawn = w.log_drawn; shard_drawn = w.shard_drawn;
+  log_lanes = w.log_lanes;
+  log_hands = w.log_hands;
+  shard_lanes = w.shard_lanes;
+  shard_hands = w.shard_hands;
+  log_ran = w.log_ran;
+  shard_ran = w.shard_ran;
+  log_drawn = w.log_drawn;
+  shard_drawn = w.shard_drawn;
   count = w.count ∙ same_many old mid same;
   lanes = λ lane x y e f.
       let lt = within old lane x e in

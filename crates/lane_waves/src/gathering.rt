@@ -57,9 +57,7 @@ fn gather_lane<'a, W: Wait, D: Disk, B: Locks>(
         seat,
         of: _,
     } = log;
-    let Some(came) = came else {
-        unreachable!()
-    };
+    let Some(came) = came else { unreachable!() };
     let Dealt { rows, items, spare } = gather(rows, seats_back(ports, seats), spare);
     lanes.push_reserved(kept(work, came));
     let table = Table {

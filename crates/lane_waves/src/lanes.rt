@@ -74,11 +74,7 @@ fn keep(lane: &mut Lane, report: &BatchReport)
     ensures count { lane.new.batches ≡ min (lane.old.batches + 1) 18446744073709551615 }
 {
     lane.batches = lane.batches.saturating_add(1);
-    keep_outcomes(
-        &mut lane.decided,
-        &report.batch,
-        report.outcomes.as_slice(),
-    );
+    keep_outcomes(&mut lane.decided, &report.batch, report.outcomes.as_slice());
 }
 
 // Keeps what was decided of a batch.

@@ -93,7 +93,11 @@ fn see_shards<D: Disk>(shards: &[ShardNode<D>])
 }
 
 // The memory that the nodes of a wave want, and the lanes made ready.
-fn node_room<D: Disk>(alloc: Global, shape: &Shape, lanes: &mut Vec<Lane>) -> Result<NodeRoom<D>, AllocError>
+fn node_room<D: Disk>(
+    alloc: Global,
+    shape: &Shape,
+    lanes: &mut Vec<Lane>,
+) -> Result<NodeRoom<D>, AllocError>
     ensures same { map (λ x. x.txs) lanes.new.items ≡ map (λ x. x.txs) lanes.old.items }
     ensures room { IfOk result (λ r. IsNodeRoom shape.now r lanes.new.items) }
 {
@@ -181,8 +185,15 @@ fn run_seated<'a, W: Threads + Wait + Sync, D: Disk + Send, B: Locks + Send + Sy
         lanes,
         runs,
     };
-    let (homes, emptied, mut table) =
-        deal_all(rt, shape, log_locks, shard_locks, homes, emptied, table);
+    let (homes, emptied, mut table) = deal_all(
+        rt,
+        shape,
+        log_locks,
+        shard_locks,
+        homes,
+        emptied,
+        table,
+    );
     run_all(rt, alloc, shape, table.runs.as_mut_slice(), gate);
     let (homes, table) = gather_all(shape.lanes(), emptied, homes, table);
     let Table {

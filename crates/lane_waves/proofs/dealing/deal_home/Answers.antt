@@ -77,7 +77,7 @@ loop-seat-preserved g c =
     let u = c.deal_lane-table.result in
     let may = (All-pop MayRun c.loop-seat.table.lanes.items u.lanes.items (Some next.run.work) next.lanes inv.room.lanes).1 in
     let up = set_up count limit tables K gs hs c.requires.open c.args.home (length rest) guarded _ next.run next.seats low there refl refl k.2 (next.lane ∙ lane) next.log
-        (subst (λ l. AreDealt (shard_sight count limit) l hs next.seats) lane next.dealt) next.ports may in
+    (subst (λ l. AreDealt (shard_sight count limit) l hs next.seats) lane next.dealt) next.ports may in
     record {
       many = omega (arith, low);
       own = λ x at_x. (home_last K c.args.home gs c.loop-seat.own.items rest c.in-Some.seat inv.own c.in-Some.ensures.items x at_x).0;

@@ -22,8 +22,8 @@ returns-in_default-clause-ran g c =
     let logs = sight_at sight c.args.nodes.logs.items in
     let shards = sight_at (sight_of g.D.Disk.count g.D.Disk.limit) c.args.nodes.shards.items in
     unrun_wave c.args.shape.now logs shards logs shards c.args.lanes.now.items c.stop_all.new.lanes.items c.lanes-lanes.ensures.limits (λ n lt. still_itself (logs n)) (λ s lt. still_itself (shards s))
-        (λ s le. past_end (sight_of g.D.Disk.count g.D.Disk.limit) (λ a b. IsShardHeld g.D.Disk.content g.D.Disk.images a → IsShardHeld g.D.Disk.content g.D.Disk.images b) c.args.nodes.shards.items s (omega (arith, le, many)))
-        c.requires.settled c.requires.lanes_many (c.stop_all.ensures.same ∙ c.node_room.ensures.same) c.stop_all.ensures.stopped
+    (λ s le. past_end (sight_of g.D.Disk.count g.D.Disk.limit) (λ a b. IsShardHeld g.D.Disk.content g.D.Disk.images a → IsShardHeld g.D.Disk.content g.D.Disk.images b) c.args.nodes.shards.items s (omega (arith, le, many)))
+    c.requires.settled c.requires.lanes_many (c.stop_all.ensures.same ∙ c.node_room.ensures.same) c.stop_all.ensures.stopped
 
 pub returns-in_default-clause-logs_go : goal.returns-in_default-clause-logs_go
 returns-in_default-clause-logs_go g c = went_same sight (λ a. IsLogHeld g.D.Disk.content g.D.Disk.images a) c.args.nodes.logs.items
@@ -51,13 +51,13 @@ wave_shared-logs-requires-clause-ledger g c κs within =
 pub wave_shared-logs-requires-clause-logs_since : goal.wave_shared-logs-requires-clause-logs_since
 wave_shared-logs-requires-clause-logs_since g c κs within =
     all_map (λ (s : SharedLog g.row.D.Denot). s.node) (λ l. l.opened ≤ l.faults) c.share_logs-logs.result.0.items
-        (All-same (λ l. l.opened ≤ l.faults) (map (λ (s : SharedLog g.row.D.Denot). s.node) c.share_logs-logs.result.0.items) c.as_slice.result.now (c.share_logs-logs.ensures.nodes ∙ sym c.as_slice.ensures.value) c.see_logs.ensures)
+    (All-same (λ l. l.opened ≤ l.faults) (map (λ (s : SharedLog g.row.D.Denot). s.node) c.share_logs-logs.result.0.items) c.as_slice.result.now (c.share_logs-logs.ensures.nodes ∙ sym c.as_slice.ensures.value) c.see_logs.ensures)
 
 pub wave_shared-logs-requires-clause-shards_since :
     goal.wave_shared-logs-requires-clause-shards_since
 wave_shared-logs-requires-clause-shards_since g c κs within =
     all_map (λ (s : SharedShard g.row.D.Denot). s.node) (λ s. s.opened ≤ g.D.Disk.count s.disk) c.share_shards-shards.result.0.items
-        (All-same (λ s. s.opened ≤ g.D.Disk.count s.disk) (map (λ (s : SharedShard g.row.D.Denot). s.node) c.share_shards-shards.result.0.items) c.as_slice-2.result.now (c.share_shards-shards.ensures.nodes ∙ sym c.as_slice-2.ensures.value) c.see_shards.ensures)
+    (All-same (λ s. s.opened ≤ g.D.Disk.count s.disk) (map (λ (s : SharedShard g.row.D.Denot). s.node) c.share_shards-shards.result.0.items) c.as_slice-2.result.now (c.share_shards-shards.ensures.nodes ∙ sym c.as_slice-2.ensures.value) c.see_shards.ensures)
 
 pub wave_shared-logs-requires-clause-settled : goal.wave_shared-logs-requires-clause-settled
 wave_shared-logs-requires-clause-settled g c κs within lane lt =
