@@ -1,6 +1,5 @@
 -- Seats given back one lane after another.
-use Rattle.std.proofs.Common.{◌≡◌, ◌⊎◌, inl, inr, ℕ, zero, suc, ◌+◌, ◌*◌, ◌<◌, ◌≤◌, List, [], ◌∷◌, ◌++◌, map, length, reverse, append_assoc, append-nil, refl, sym, ap, ◌∙◌, subst, arith}
-use Rattle.std.specs.Prelude.{vec_capacity}
+use Rattle.std.proofs.Common.{◌≡◌, inl, inr, ℕ, suc, ◌+◌, ◌<◌, List, [], ◌∷◌, ◌++◌, length, reverse, append_assoc, append-nil, refl, sym, ap, ◌∙◌, subst, arith}
 use Rattle.std.specs.List.{AllZip}
 use Rattle.std.specs.Global.{Vec}
 use Rattle.std.proofs.lemmas.Grind.{common_steps}
@@ -8,7 +7,6 @@ use Rattle.cbdc_model.specs.Sights.{Sight}
 use Rattle.node_lock.specs.declared.lock.Guarded.{Guarded}
 use Rattle.node_lock.specs.declared.seat.Seat.{Seat}
 use Rattle.node_lock.specs.Seats.{AllAt, AreFresh, table_of, opening_of}
-use Rattle.ledger_runs.specs.declared.lanes.Lane.{Lane}
 use Rattle.shard_fanout.specs.declared.coordinators.SharedLog.{SharedLog}
 use Rattle.shard_fanout.specs.declared.locking.SharedShard.{SharedShard}
 use Rattle.shard_fanout.specs.declared.seated.ShardSeat.{ShardSeat}
@@ -19,7 +17,7 @@ use Rattle.wave_ends.proofs.Passing.{gathers}
 use Rattle.wave_lanes.specs.Ports.{seats_of}
 use Rattle.wave_lanes.specs.declared.runs.LaneRun.{LaneRun}
 use Rattle.lane_waves.specs.Deals.{EachHolds}
-use Rattle.lane_waves.specs.Gathers.{IsSeat, AreSeats, EachTakes, IsOver, AllOver, IsEnd, MayGather, IsBack, AreHome, AllGave, AllOf, Gathered, Chunks, shard_seats, home_seat}
+use Rattle.lane_waves.specs.Gathers.{IsSeat, AreSeats, EachTakes, IsOver, AllOver, IsEnd, IsBack, AreHome, AllGave, AllOf, Gathered, Chunks, shard_seats, home_seat}
 use Rattle.lane_waves.specs.declared.dealing.Table.{Table}
 use Rattle.lane_waves.proofs.Places.{last_first}
 

@@ -1,26 +1,21 @@
 -- The coordinators' lists of seats, filled by their lanes in order, those of the last coordinator first.
-use Rattle.std.proofs.Common.{◌≡◌, ◌⊎◌, inl, inr, ℕ, zero, suc, ◌+◌, ◌*◌, ◌/◌, ◌<◌, ◌≤◌, ◌==◌, Bool, true, false, if◌then◌else◌, List, [], ◌∷◌, ◌++◌, map, length, reverse, refl, sym, ap, ◌∙◌, subst, arith}
+use Rattle.std.proofs.Common.{◌≡◌, inl, inr, ℕ, zero, suc, ◌+◌, ◌*◌, ◌/◌, ◌<◌, ◌≤◌, ◌==◌, Bool, true, false, if◌then◌else◌, List, [], ◌∷◌, ◌++◌, map, length, reverse, refl, sym, ap, ◌∙◌, subst, arith}
 use Rattle.std.proofs.lemmas.Grind.{common_steps}
 use Rattle.std.proofs.lemmas.List.{reverse-reverse, length-reverse}
 use Rattle.std.proofs.lemmas.Nat.{div-mul-add, div_below}
 use Rattle.std.specs.Global.{Vec}
-use Rattle.cbdc_model.specs.Records.{Shape}
-use Rattle.cbdc_model.specs.Ranges.{home_of}
-use Rattle.node_lock.specs.declared.views.Hand.{Hand}
 use Rattle.node_lock.specs.declared.lock.Guarded.{Guarded}
 use Rattle.node_lock.specs.declared.seat.Seat.{Seat}
 use Rattle.node_lock.specs.Seats.{TableId, AllAt, all_known, knows, table_of, lanes_of}
 use Rattle.shard_fanout.specs.declared.coordinators.SharedLog.{SharedLog}
 use Rattle.shard_fanout.specs.declared.tables.Locks.{Ghosts}
 use Rattle.thread_laws.specs.Closing.{IsHand}
-use Rattle.wave_ends.specs.Rows.{IsReady, AreReady}
+use Rattle.wave_ends.specs.Rows.{AreReady}
 use Rattle.wave_lanes.specs.declared.runs.LaneRun.{LaneRun}
 use Rattle.wave_records.specs.Among.{hands_at}
 use Rattle.lane_waves.specs.Gathers.{IsSeat, Chunks, home_seat}
 use Rattle.lane_waves.specs.Places.{AllFrom}
-use Rattle.lane_waves.specs.Rows.{home_lanes}
 use Rattle.lane_waves.proofs.Places.{all_more, first_last, turned_many, zero_row}
-use Rattle.lane_waves.proofs.Numbers.{many_lanes}
 use Rattle.lane_waves.proofs.Giving.{keeps_seat, last_seat}
 
 module _ {N : Type 0} where

@@ -1,8 +1,6 @@
 -- Lanes made ready, and with what came of them.
-use Rattle.std.proofs.Common.{◌≡◌, ℕ, zero, suc, ◌+◌, ◌<◌, ◌≤◌, List, [], ◌∷◌, ◌++◌, map, length, reverse, take, drop, get_or, set, min, ◌-◌, refl, sym, ap, ◌∙◌, subst, arith}
-use Rattle.std.specs.List.{AllZip}
+use Rattle.std.proofs.Common.{◌≡◌, ℕ, zero, suc, ◌+◌, ◌<◌, List, [], ◌∷◌, ◌++◌, map, length, reverse, drop, get_or, set, min, ◌-◌, refl, sym, ap, ◌∙◌, arith}
 use Rattle.std.proofs.lemmas.List.{length-take, length-drop, drop_more}
-use Rattle.std.proofs.lemmas.Grind.{common_steps}
 use Rattle.cbdc_model.specs.Records.{Compact, Batch, Outcome}
 use Rattle.lane_driver.specs.Reports.{CutFrom, AreReports, IsReported}
 use Rattle.lane_driver.specs.declared.fault.BatchReport.{BatchReport}

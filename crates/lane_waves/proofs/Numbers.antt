@@ -1,12 +1,11 @@
 -- The lanes that nodes are locked for: each once, and all within their bounds.
-use Rattle.std.proofs.Common.{◌≡◌, ℕ, zero, suc, ◌+◌, ◌*◌, ◌<◌, ◌≤◌, Bool, true, false, eqb, List, [], ◌∷◌, ◌++◌, length, refl, sym, ap, ◌∙◌, subst, arith}
+use Rattle.std.proofs.Common.{◌≡◌, ℕ, zero, suc, ◌+◌, ◌<◌, ◌≤◌, Bool, true, false, eqb, List, [], ◌∷◌, ◌++◌, length, refl, sym, ap, subst, arith}
 use Rattle.std.proofs.lemmas.Grind.{common_steps}
 use Rattle.std.specs.Global.{Vec}
-use Rattle.cbdc_model.specs.Records.{Shape}
 use Rattle.node_lock.specs.Tickets.{times, is_at, one_if}
 use Rattle.wave_ends.specs.Rows.{IsRow, AreRows}
 use Rattle.lane_waves.specs.Places.{AllFrom}
-use Rattle.lane_waves.specs.Rows.{lanes_from, home_lanes, all_lanes, IsHomeRow, IsShardRow}
+use Rattle.lane_waves.specs.Rows.{lanes_from}
 
 pub many_lanes : (first n : ℕ) → length (lanes_from first n) ≡ n
 many_lanes first zero = refl

@@ -1,5 +1,5 @@
 -- Locks round all nodes, as their lanes find them.
-use Rattle.std.proofs.Common.{◌≡◌, ℕ, zero, suc, ◌+◌, ◌-◌, ◌*◌, ◌<◌, ◌≤◌, nat_lt, if◌then◌else◌, Bool, true, false, List, [], ◌∷◌, ◌++◌, map, length, Option, Some, None, refl, sym, ap, ◌∙◌, subst, arith}
+use Rattle.std.proofs.Common.{◌≡◌, ℕ, zero, suc, ◌+◌, ◌-◌, ◌*◌, ◌<◌, ◌≤◌, nat_lt, if◌then◌else◌, true, false, List, [], ◌∷◌, map, length, Some, None, refl, sym, ap, ◌∙◌, subst, arith}
 use Rattle.std.specs.Prelude.{All, slice_get}
 use mathlib.Core.Path.{fun_ext}
 use Rattle.std.specs.Global.{Vec}
@@ -12,17 +12,17 @@ use Rattle.lane_driver.specs.Stops.{IsSettled}
 use Rattle.node_lock.specs.declared.lock.Guarded.{Guarded}
 use Rattle.node_lock.specs.declared.seat.Seat.{Seat}
 use Rattle.node_lock.specs.Seats.{TableId, AreFresh, opening_of, table_of, lanes_of}
-use Rattle.node_ports.specs.Nodes.{sight_at, no_node}
+use Rattle.node_ports.specs.Nodes.{sight_at}
 use Rattle.shard_fanout.specs.Seated.{no_table}
 use Rattle.shard_fanout.specs.Nodes.{shard_sight, log_sight}
 use Rattle.shard_fanout.specs.declared.coordinators.SharedLog.{SharedLog}
 use Rattle.shard_fanout.specs.declared.locking.SharedShard.{SharedShard}
 use Rattle.wave_ends.specs.Rows.{AreLocked}
 use Rattle.wave_ends.proofs.Locking.{fresh_at}
-use Rattle.wave_lanes.specs.Ports.{AtTables, AreOpened}
+use Rattle.wave_lanes.specs.Ports.{AtTables}
 use Rattle.lane_waves.specs.Places.{AllFrom, BothFrom}
 use Rattle.lane_waves.specs.Rows.{lanes_from, home_lanes, all_lanes}
-use Rattle.lane_waves.specs.Deals.{IsOpenAt, AreOpen, log_at, shard_at, IsHomeLeft, IsHomeFresh}
+use Rattle.lane_waves.specs.Deals.{IsOpenAt, AreOpen, log_at, shard_at, IsHomeFresh}
 use Rattle.lane_waves.specs.Waves.{AreNodesOf}
 use Rattle.lane_waves.proofs.Places.{all_from, both_at}
 use Rattle.lane_waves.proofs.Numbers.{many_lanes}

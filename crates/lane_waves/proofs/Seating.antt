@@ -1,26 +1,22 @@
 -- A lane that has got its seats is set up, and the lists that they were dealt from have one fewer.
-use Rattle.std.proofs.Common.{◌≡◌, ℕ, zero, suc, ◌+◌, ◌*◌, ◌/◌, ◌<◌, ◌≤◌, ◌==◌, Bool, true, false, if◌then◌else◌, List, [], ◌∷◌, ◌++◌, length, reverse, Option, Some, None, append_assoc, append-nil, refl, sym, ap, ◌∙◌, subst, arith}
-use Rattle.std.specs.Prelude.{All, slice_get, vec_capacity}
-use Rattle.std.specs.Global.{Vec}
-use Rattle.std.proofs.lemmas.Grind.{common_steps}
+use Rattle.std.proofs.Common.{◌≡◌, ℕ, zero, suc, ◌+◌, ◌*◌, ◌<◌, ◌≤◌, ◌==◌, true, if◌then◌else◌, List, [], ◌∷◌, ◌++◌, length, Some, None, append_assoc, refl, sym, ap, ◌∙◌, subst, arith}
+use Rattle.std.specs.Prelude.{All, slice_get}
 use Rattle.std.proofs.lemmas.Nat.{div-mul-add, row_fits}
 use Rattle.std.proofs.lemmas.List.Elements.{All-cons, All-nil}
-use Rattle.cbdc_types.specs.Limits.{IsWithinLimits}
 use Rattle.cbdc_model.specs.Records.{Shape, Header, Record, record_of, last_stamp}
-use Rattle.cbdc_model.specs.Slots.{slot, slot_stamp, Idle, InLock}
+use Rattle.cbdc_model.specs.Slots.{slot, slot_stamp, InLock}
 use Rattle.cbdc_model.specs.Ranges.{home_of, shard_node}
 use Rattle.cbdc_model.specs.Sights.{Sight}
-use Rattle.lane_laws.specs.Batches.{Settled}
-use Rattle.lane_driver.specs.Told.{IsLane, AreShardsOf}
+use Rattle.lane_driver.specs.Told.{IsLane}
 use Rattle.lane_driver.specs.Stops.{IsSettled}
 use Rattle.ledger_runs.specs.declared.lanes.Lane.{Lane}
 use Rattle.node_lock.specs.declared.lock.Guarded.{Guarded}
 use Rattle.node_lock.specs.declared.seat.Seat.{Seat}
 use Rattle.node_lock.specs.declared.views.Hand.{Hand}
-use Rattle.node_lock.specs.Seats.{TableId, AreFresh, knows, first_of, opening_of, table_of}
+use Rattle.node_lock.specs.Seats.{TableId, knows, first_of, opening_of, table_of}
 use Rattle.node_lock.specs.Tickets.{fresh}
 use Rattle.node_lock.specs.Viewing.{viewed}
-use Rattle.node_ports.specs.Nodes.{sight_at, no_node}
+use Rattle.node_ports.specs.Nodes.{sight_at}
 use Rattle.shard_fanout.specs.Seated.{opening_sight, seat_sight, seen_at, phase_at}
 use Rattle.shard_fanout.specs.Nodes.{shard_sight, log_sight}
 use Rattle.shard_fanout.specs.declared.coordinators.SharedLog.{SharedLog}
@@ -29,16 +25,12 @@ use Rattle.shard_fanout.specs.declared.logged.LogSeat.{LogSeat}
 use Rattle.shard_fanout.specs.declared.seated.ShardSeat.{ShardSeat}
 use Rattle.shard_fanout.specs.declared.tables.Locks.{Ghosts}
 use Rattle.shard_fanout.proofs.Seating.{seen_here}
-use Rattle.wave_ends.specs.Dealing.{PopsEach, HaveOne}
-use Rattle.wave_ends.specs.Rows.{AreLeft, AreDealt}
-use Rattle.wave_ends.proofs.Locking.{fresh_at}
-use Rattle.wave_lanes.specs.Held.{AreOfLane, Begins, log_of, logs_of, shards_of}
+use Rattle.wave_ends.specs.Rows.{AreDealt}
+use Rattle.wave_lanes.specs.Held.{AreOfLane, log_of, shards_of}
 use Rattle.wave_lanes.specs.Ports.{ArePorts, AtTables, AreOpened}
 use Rattle.wave_lanes.specs.declared.runs.LaneRun.{LaneRun}
-use Rattle.lane_waves.specs.Lanes.{IsReady}
 use Rattle.lane_waves.specs.Places.{AllFrom, BothFrom}
-use Rattle.lane_waves.specs.Rows.{lanes_from}
-use Rattle.lane_waves.specs.Deals.{MayRun, EachHolds, started, IsOpenAt, AreOpen, log_at, shard_at, IsSetUp, HaveSeats, IsNext}
+use Rattle.lane_waves.specs.Deals.{MayRun, started, IsOpenAt, AreOpen, log_at, shard_at, IsSetUp, HaveSeats, IsNext}
 use Rattle.lane_waves.specs.declared.dealing.Table.{Table}
 use Rattle.lane_waves.proofs.Places.{last_first, all_here}
 use Rattle.lane_waves.proofs.Opening.{seen_get}

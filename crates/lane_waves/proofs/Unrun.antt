@@ -1,22 +1,19 @@
 -- Where memory was wanting before the first call: each node's lock says that nothing was done, and each lane has stopped for it.
-use Rattle.std.proofs.Common.{◌≡◌, ◌⊎◌, inl, inr, ℕ, zero, suc, ◌+◌, ◌*◌, ◌<◌, ◌≤◌, Bool, true, false, eqb, List, [], ◌∷◌, ◌++◌, map, length, Option, Some, None, refl, sym, ap, ◌∙◌, subst, arith}
-use Rattle.std.specs.Prelude.{All, slice_get}
+use Rattle.std.proofs.Common.{◌≡◌, inl, inr, ℕ, zero, suc, ◌+◌, ◌<◌, ◌≤◌, Bool, true, false, eqb, List, [], ◌∷◌, ◌++◌, map, Some, None, refl, sym, ap, ◌∙◌, subst, arith}
 use Rattle.cbdc_model.specs.Records.{Shape}
 use Rattle.cbdc_model.specs.Ranges.{home_of}
 use Rattle.cbdc_model.specs.Sights.{Sight}
 use Rattle.lane_driver.specs.Stops.{IsSettled}
 use Rattle.ledger_runs.specs.declared.lanes.Lane.{Lane}
 use Rattle.node_lock.specs.declared.views.Hand.{Hand}
-use Rattle.node_lock.specs.Moving.{of_lane}
-use Rattle.node_lock.specs.Tickets.{times, total, lane_at, fresh, AllHands, AllDrawn, Done, HandOk}
+use Rattle.node_lock.specs.Tickets.{times, total, lane_at, fresh, AllHands}
 use Rattle.node_ports.specs.Nodes.{no_node}
 use Rattle.thread_laws.specs.Closing.{IsHand}
 use Rattle.thread_laws.specs.Running.{NodeRan, LaneRan, IsStillSight}
-use Rattle.thread_laws.specs.Whole.{no_memory, EachPair}
+use Rattle.thread_laws.specs.Whole.{no_memory}
 use Rattle.lane_waves.specs.Lanes.{HasNoMemory}
-use Rattle.lane_waves.specs.Rows.{lanes_from, home_lanes, all_lanes}
+use Rattle.lane_waves.specs.Rows.{lanes_from}
 use Rattle.lane_waves.specs.Deals.{started}
-use Rattle.lane_waves.proofs.Numbers.{once}
 use Rattle.lane_waves.proofs.Seating.{settled_like}
 
 pub hand_last : (first : Sight) (x : ℕ) (ls : List ℕ) → IsHand (fresh first x) (map (fresh first) (ls ++ x ∷ []))

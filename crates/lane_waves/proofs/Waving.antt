@@ -1,11 +1,12 @@
 -- A whole wave: what its locks and its lanes come to, whether the lanes ran or memory was wanting before their first calls.
-use Rattle.std.proofs.Common.{◌≡◌, inr, ℕ, zero, suc, ◌+◌, ◌-◌, ◌*◌, ◌/◌, ◌<◌, ◌≤◌, List, [], ◌∷◌, map, length, Option, Some, None, refl, sym, ap, ◌∙◌, subst, arith}
+use Rattle.std.proofs.Common.{◌≡◌, inl, inr, ℕ, zero, suc, ◌+◌, ◌-◌, ◌*◌, ◌/◌, ◌<◌, ◌≤◌, List, [], ◌∷◌, map, length, Some, None, refl, sym, ap, ◌∙◌, subst, arith}
 use Rattle.std.specs.Prelude.{All, slice_get}
 use Rattle.std.specs.Global.{Vec}
 use Rattle.std.proofs.lemmas.Nat.{mul-le, div-mul-add}
-use Rattle.std.proofs.lemmas.List.Elements.{All-head, All-tail}
+use Rattle.std.proofs.lemmas.List.Elements.{All-head, All-tail, All-nil, All-cons}
 use Rattle.cbdc_types.specs.Limits.{IsWithinLimits}
 use Rattle.cbdc_model.specs.Records.{Shape}
+use Rattle.cbdc_model.specs.Grammar.{IsCompact}
 use Rattle.cbdc_model.specs.Ranges.{home_of}
 use Rattle.cbdc_model.specs.Sights.{Sight}
 use Rattle.lane_driver.specs.Stops.{IsSettled}
@@ -14,6 +15,7 @@ use Rattle.ledger_runs.specs.declared.lanes.Lane.{Lane}
 use Rattle.node_lock.specs.declared.lock.Guarded.{Guarded}
 use Rattle.node_lock.specs.declared.seat.Seat.{Seat}
 use Rattle.node_lock.specs.Seats.{opening_of}
+use Rattle.node_lock.specs.declared.views.Hand.{Hand}
 use Rattle.node_lock.specs.Tickets.{times, fresh}
 use Rattle.node_ports.specs.Nodes.{sight_at, no_node}
 use Rattle.shard_fanout.specs.Nodes.{shard_sight, log_sight}
@@ -21,15 +23,15 @@ use Rattle.shard_fanout.specs.declared.coordinators.SharedLog.{SharedLog}
 use Rattle.shard_fanout.specs.declared.locking.SharedShard.{SharedShard}
 use Rattle.thread_laws.specs.Closing.{IsHand}
 use Rattle.thread_laws.specs.Running.{WaveRan, LaneRan, IsStillSight}
-use Rattle.thread_laws.specs.Whole.{EachPair}
+use Rattle.thread_laws.specs.Whole.{EachPair, HasEnded}
 use Rattle.wave_ends.specs.Rows.{AreLocked, AreClosed, AreLeft}
 use Rattle.wave_records.specs.Among.{row_at, hands_at}
 use Rattle.wave_records.specs.Laws.{WentOn}
 use Rattle.wave_records.proofs.Places.{nodes_ran}
-use Rattle.lane_waves.specs.Lanes.{HasNoMemory}
+use Rattle.lane_waves.specs.Lanes.{HasNoMemory, IsReady}
 use Rattle.lane_waves.specs.Places.{AllFrom, BothFrom}
-use Rattle.lane_waves.specs.Rows.{lanes_from, home_lanes, all_lanes, IsHomeRow, IsShardRow}
-use Rattle.lane_waves.specs.Deals.{log_at, shard_at}
+use Rattle.lane_waves.specs.Rows.{home_lanes, all_lanes, IsHomeRow, IsShardRow}
+use Rattle.lane_waves.specs.Deals.{MayRun, log_at}
 use Rattle.lane_waves.specs.Waves.{AreThrough}
 use Rattle.lane_waves.proofs.Places.{next_row}
 use Rattle.lane_waves.proofs.Numbers.{once, inside}
@@ -114,6 +116,7 @@ row_of n w some =
   where
     go_low : n / w * w ≤ n
     go_low = grind (arith, some)
+
     go_high : n < n / w * w + w
     go_high = grind (arith, some)
 
@@ -147,7 +150,7 @@ unrun_wave K logs shards logs' shards' old new limits still_logs still_shards pa
       let short = within old lane x e in
       let lt : lane < K.coordinators * K.lanes = omega (arith, short, many) in
       unrun K logs shards (λ n. map (fresh (logs n)) (home_lanes K n)) (λ s. map (fresh (shards s)) (all_lanes K)) lane x y (settled lane lt) (at_home K (logs (home_of K lane)) lane some)
-          (λ s le. at_shard K (shards s) lane lt) past (txs_at old new lane x y same e f) (stopped_at new lane y stopped f);
+      (λ s le. at_shard K (shards s) lane lt) past (txs_at old new lane x y same e f) (stopped_at new lane y stopped f);
 }
 
 -- a list of nodes is still itself
@@ -178,3 +181,72 @@ module _ {D : Type 0} (count limit : D → ℕ) (log_goes : SharedLog D → Shar
         lanes = subst (λ f. EachPair (LaneRan K f (sight_at (shard_sight count limit) ms) (hands_at homes') (hands_at rows')) old new) logs_are
             (subst (λ f. EachPair (LaneRan K (log_at gs) f (hands_at homes') (hands_at rows')) old new) shards_are through.lanes_ran);
       }
+
+-- lists of nodes out of their wrappers
+module _ {M N : Type 0} (f : M → N) where
+  pub went_map : (sight : N → Sight) (goes : N → N → Type 0) (xs ys : List M) → WentOn (λ x. sight (f x)) (λ a b. goes (f a) (f b)) xs ys → WentOn sight goes (map f xs) (map f ys)
+  went_map sight goes [] [] w = tt
+  went_map sight goes [] (y ∷ ys) w = absurd w
+  went_map sight goes (x ∷ xs) [] w = absurd w
+  went_map sight goes (x ∷ xs) (y ∷ ys) w = (w.0, went_map sight goes xs ys w.1)
+
+  pub all_map : (P : N → Type 0) (xs : List M) → All P (map f xs) → All (λ x. P (f x)) xs
+  all_map P [] a = All-nil (λ x. P (f x))
+  all_map P (x ∷ xs) a = All-cons (λ x. P (f x)) x xs (All-head P (f x) (map f xs) a) (all_map P xs (All-tail P (f x) (map f xs) a))
+
+-- lanes that were made ready may run
+pub may_run : (old new : List Lane) → map (λ z. z.txs) new ≡ map (λ z. z.txs) old → All (λ z. All IsCompact z.txs.items) old → All IsReady new → All MayRun new
+may_run old [] m a r = All-nil MayRun
+may_run [] (w ∷ new) m a r = absurd (let z : w.txs ∷ map (λ z. z.txs) new ≡ [] = m in cc)
+may_run (v ∷ old) (w ∷ new) m a r =
+    let c : w.txs ≡ v.txs = let z : w.txs ∷ map (λ z. z.txs) new ≡ v.txs ∷ map (λ z. z.txs) old = m in cc in
+    let more : map (λ z. z.txs) new ≡ map (λ z. z.txs) old = let z : w.txs ∷ map (λ z. z.txs) new ≡ v.txs ∷ map (λ z. z.txs) old = m in cc in
+    All-cons MayRun w new (record { ready = All-head IsReady w new r; limits = subst (λ t. All IsCompact t.items) (sym c) (All-head (λ z. All IsCompact z.txs.items) v old a) })
+    (may_run old new more (All-tail (λ z. All IsCompact z.txs.items) v old a) (All-tail IsReady w new r))
+
+ready_at : (new : List Lane) (n : ℕ) (y : Lane) → All IsReady new → slice_get new n ≡ Some y → IsReady y
+ready_at [] n y a f = absurd (let z : None ≡ Some y = f in cc)
+ready_at (w ∷ new) zero y a f = let b : w ≡ y = let z : Some w ≡ Some y = f in cc in subst IsReady b (All-head IsReady w new a)
+ready_at (w ∷ new) (suc n) y a f = ready_at new n y (All-tail IsReady w new a) f
+
+lane_there : (xs : List Lane) (i : ℕ) → i < length xs → (x : Lane) × (slice_get xs i ≡ Some x)
+lane_there [] i lt = absurd (let z : i < 0 = lt in omega (arith, z))
+lane_there (y ∷ xs) zero lt = (y, refl)
+lane_there (y ∷ xs) (suc i) lt = lane_there xs i (omega (arith, lt))
+
+-- a lane that was made ready first ended as the lane that it was before
+ended_anew : (K : Shape) (lane : ℕ) (log : Sight) (shards : ℕ → Sight) (log' : Sight) (shards' : ℕ → Sight) (old mid new : Lane) → IsReady mid → HasEnded K lane log shards log' shards' mid new → HasEnded K lane log shards log' shards' old new
+ended_anew K lane log shards log' shards' old mid new ready (inl (d, (keeps, wants))) = inl (d, ((λ none z b. keeps none ready.decided ready.batches), λ f. wants ready.fault))
+ended_anew K lane log shards log' shards' old mid new ready (inr (e, stopped, (some, by))) = inr (e, stopped, (some, λ f. by ready.fault))
+
+lane_anew : (K : Shape) (logs shards : ℕ → Sight) (log_hands shard_hands : ℕ → List Hand) (lane : ℕ) (old mid new : Lane) → IsReady mid → mid.txs ≡ old.txs → LaneRan K logs shards log_hands shard_hands lane mid new → LaneRan K logs shards log_hands shard_hands lane old new
+lane_anew K logs shards log_hands shard_hands lane old mid new ready txs r = record {
+  log = r.log;
+  seen = r.seen;
+  log' = r.log';
+  seen' = r.seen';
+  settled = r.settled;
+  at_log = r.at_log;
+  at_shard = r.at_shard;
+  beyond = r.beyond;
+  txs = r.txs ∙ ap (λ v. v.items) txs;
+  ended = ended_anew K lane r.log r.seen r.log' r.seen' old mid new ready r.ended;
+}
+
+pub wave_anew : (K : Shape) (logs shards logs' shards' : ℕ → Sight) (old mid new : List Lane) → map (λ z. z.txs) mid ≡ map (λ z. z.txs) old → All IsReady mid → WaveRan K logs shards logs' shards' mid new → WaveRan K logs shards logs' shards' old new
+wave_anew K logs shards logs' shards' old mid new same ready w = record {
+  log_lanes = w.log_lanes;
+  log_hands = w.log_hands;
+  shard_lanes = w.shard_lanes;
+  shard_hands = w.shard_hands;
+  log_ran = w.log_ran;
+  shard_ran = w.shard_ran;
+  log_drawn = w.log_drawn;
+  shard_drawn = w.shard_drawn;
+  count = w.count ∙ same_many old mid same;
+  lanes = λ lane x y e f.
+      let lt = within old lane x e in
+      let many = same_many old mid same in
+      let m = lane_there mid lane (omega (arith, lt, many)) in
+      lane_anew K logs shards w.log_hands w.shard_hands lane x m.0 y (ready_at mid lane m.0 ready m.1) (txs_at old mid lane x m.0 same e m.1) (w.lanes lane m.0 y m.1 f);
+}

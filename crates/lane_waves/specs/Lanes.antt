@@ -1,5 +1,5 @@
 -- The lanes of a wave, ready for it, and with what came of them.
-use Rattle.std.specs.Prelude.{◌≡◌, ◌≤◌, ℕ, List, [], length, min, Option, Some, None, Result, Ok, Err, vec_capacity}
+use Rattle.std.specs.Prelude.{◌≡◌, ◌≤◌, [], length, min, Some, None, Result, Ok, Err, vec_capacity}
 use Rattle.lane_driver.specs.declared.fault.LaneFault.{LaneFault}
 use Rattle.lane_driver.specs.declared.fault.LaneReport.{LaneReport}
 use Rattle.lane_driver.specs.declared.fault.LaneFaultKind.TheVariants.{Memory}

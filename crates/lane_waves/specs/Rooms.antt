@@ -1,5 +1,5 @@
 -- All memory of a wave.
-use Rattle.std.specs.Prelude.{◌≡◌, ◌≤◌, ◌*◌, ℕ, List, [], All, length, vec_capacity}
+use Rattle.std.specs.Prelude.{◌≡◌, ◌*◌, List, All, length}
 use Rattle.cbdc_model.specs.Records.{Shape}
 use Rattle.ledger_runs.specs.declared.lanes.Lane.{Lane}
 use Rattle.shard_fanout.specs.declared.tables.Locks.{Ghosts}

@@ -310,6 +310,7 @@ pub fn wave<W: Threads + Wait + Sync, D: Disk + Send, G: Gate + Sync>(
 {
     see_logs(nodes.logs.as_slice());
     see_shards(nodes.shards.as_slice());
+    let _lanes = shape.lanes();
     let Ok(room) = node_room::<D>(alloc, shape, lanes) else {
         stop_all(lanes);
         return nodes;

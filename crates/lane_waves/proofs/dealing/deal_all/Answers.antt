@@ -1,12 +1,11 @@
-use Rattle.std.proofs.Common.{rules, ◌≡◌, ◌<◌, ◌≤◌, ◌+◌, ◌*◌, ℕ, suc, Some, List, [], length, refl, sym, ap, ◌∙◌, subst, arith}
-use Rattle.std.specs.Prelude.{All, vec_capacity, slice_get}
+use Rattle.std.proofs.Common.{◌≡◌, ◌+◌, ◌*◌, length, sym, ◌∙◌, subst, arith}
 use Rattle.std.proofs.lemmas.List.Elements.{All-push, All-same}
-use Rattle.shard_fanout.specs.Nodes.{shard_sight, log_sight}
+use Rattle.shard_fanout.specs.Nodes.{shard_sight}
 use Rattle.wave_ends.specs.Rows.{AreLeft}
 use Rattle.lane_waves.specs.Places.{AllFrom}
 use Rattle.lane_waves.specs.Rows.{lanes_from}
 use Rattle.lane_waves.specs.Deals.{HasRoom, HaveSeats, IsHomeFresh, IsHomeLeft, IsEmptyRoom}
-use Rattle.lane_waves.proofs.Places.{snoc_many, all_last, next_row, zero_row}
+use Rattle.lane_waves.proofs.Places.{snoc_many, all_last, next_row}
 use Rattle.lane_waves.proofs.dealing.deal_all.Goals as goal
 
 pub deal_home-own-requires-clause-many :

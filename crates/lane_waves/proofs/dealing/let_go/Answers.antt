@@ -1,4 +1,4 @@
-use Rattle.std.proofs.Common.{rules, Some, List, length, ap, arith}
+use Rattle.std.proofs.Common.{Some, List, length, ap, arith}
 use Rattle.std.proofs.lemmas.List.Elements.{All-pop}
 use Rattle.lane_waves.specs.Deals.{IsNone}
 use Rattle.lane_waves.proofs.dealing.let_go.Goals as goal

@@ -1,5 +1,4 @@
-use Rattle.std.proofs.Common.{rules, ◌≡◌, sym}
-use Rattle.std.specs.List.{All}
+use Rattle.std.proofs.Common.{rules}
 use Rattle.std.proofs.lemmas.List.Elements.{All-push, All-same, All-weaker}
 use Rattle.lane_waves.specs.Deals.{IsEmptyRoom, IsNone}
 use Rattle.lane_waves.proofs.dealing.port_rooms.Goals as goal

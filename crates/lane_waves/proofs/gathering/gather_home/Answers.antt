@@ -1,6 +1,6 @@
-use Rattle.std.proofs.Common.{rules, ◌≡◌, ◌≤◌, ◌+◌, length, sym, ap, ◌∙◌, arith}
+use Rattle.std.proofs.Common.{◌∙◌, arith}
 use Rattle.lane_waves.proofs.Places.{snoc_many}
-use Rattle.lane_waves.proofs.Giving.{gathered_more, home_more, home_none}
+use Rattle.lane_waves.proofs.Giving.{gathered_more, home_more}
 use Rattle.lane_waves.proofs.gathering.gather_home.Goals as goal
 
 pub loop-place-preserved : goal.loop-place-preserved

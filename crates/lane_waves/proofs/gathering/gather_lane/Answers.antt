@@ -1,5 +1,4 @@
-use Rattle.std.proofs.Common.{rules, ◌≡◌, ◌<◌, ◌≤◌, ◌+◌, ℕ, suc, Some, None, List, length, refl, sym, ap, ◌∙◌, subst, arith}
-use Rattle.std.specs.Prelude.{vec_capacity}
+use Rattle.std.proofs.Common.{◌≡◌, suc, List, length, refl, sym, ap, ◌∙◌, subst, arith}
 use Rattle.wave_ends.specs.Dealing.{PopsEach}
 use Rattle.lane_waves.specs.Gathers.{EachTakes, AllOver, MayKeep, IsEnd}
 use Rattle.lane_waves.proofs.Places.{snoc_many}

@@ -1,6 +1,4 @@
-use Rattle.std.proofs.Common.{rules, ◌≡◌, ◌+◌, ◌≤◌, ◌++◌, drop, length, min, append_assoc, get_or, refl, sym, ap, ◌∙◌, subst, arith}
-use Rattle.std.specs.Vec.{vec_capacity, vec_len}
-use Rattle.std.proofs.lemmas.List.{drop_more}
+use Rattle.std.proofs.Common.{◌≡◌, ◌+◌, ◌++◌, drop, length, append_assoc, refl, sym, ap, ◌∙◌, arith}
 use Rattle.ledger_runs.specs.Telling.{kept_by, decided_in}
 use Rattle.thread_laws.specs.Telling.{told_in}
 use Rattle.lane_waves.proofs.Keeping.{told_drop, told_many}

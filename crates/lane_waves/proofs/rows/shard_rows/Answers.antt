@@ -1,4 +1,4 @@
-use Rattle.std.proofs.Common.{rules, ◌≡◌, ◌+◌, ◌*◌, length, sym, subst}
+use Rattle.std.proofs.Common.{rules, ◌≡◌, ◌+◌, length, sym, subst}
 use Rattle.lane_waves.specs.Places.{AllFrom}
 use Rattle.lane_waves.specs.Rows.{lanes_from, IsShardRow}
 use Rattle.lane_waves.proofs.Places.{all_more}

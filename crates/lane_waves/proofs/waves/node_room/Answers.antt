@@ -1,4 +1,4 @@
-use Rattle.std.proofs.Common.{rules, ◌≡◌, ◌≤◌, arith}
+use Rattle.std.proofs.Common.{arith}
 use Rattle.lane_waves.proofs.waves.node_room.Goals as goal
 
 pub returns-clause-room : goal.returns-clause-room

@@ -1,4 +1,4 @@
-use Rattle.std.proofs.Common.{◌≡◌, ◌≤◌, take, sym, subst, arith}
+use Rattle.std.proofs.Common.{◌≤◌, take, sym, subst, arith}
 use Rattle.std.proofs.lemmas.List.{take_all}
 use Rattle.std.proofs.lemmas.List.Elements.{All-more, All-same}
 use Rattle.lane_waves.proofs.waves.see_logs.Goals as goal
