@@ -4,11 +4,12 @@ use Rattle.lane_laws.specs.Calls.{forget_of}
 use Rattle.lane_laws.specs.Answers.{ForgetAnswer}
 use Rattle.lane_driver.proofs.Turning.{turn_stamped, turn_times, forget_stops, done_stops, home_stop}
 use Rattle.lane_driver.proofs.Ready.{forget_shards}
-use Rattle.lane_driver.proofs.Fitting.{forgets_ready, calls_kept, nodes_same, nodes_on}
+use Rattle.lane_driver.proofs.Fitting.{forgets_ready, calls_kept}
 use Rattle.cbdc_model.specs.Calls.{IsForgetCall}
 use Rattle.std.proofs.Common.{inr}
 use Rattle.lane_driver.proofs.Causing.{log_fault, done_caused}
 use Rattle.lane_driver.proofs.Serving.{forgets_served}
+use Rattle.lane_driver.proofs.Keeping.{log_same, shards_on}
 use Rattle.lane_driver.proofs.batch.from_discarded.Goals as goal
 
 pub forget_phase-requires-clause-shards : goal.forget_phase-requires-clause-shards
@@ -25,7 +26,7 @@ forget_again-requires-clause-shards g c =
 
 pub forget_again-requires-clause-calls : goal.forget_again-requires-clause-calls
 forget_again-requires-clause-calls g c =
-    calls_kept IsForgetCall (g.S.PortSet.sights c.args.ports.now.shards) (g.S.PortSet.sights c.forget_phase.new.shards) c.in-Ok.ensures.nodes c.deref-2.result.now (forgets_ready c.args.shape.now (g.S.PortSet.sights c.args.ports.now.shards) c.requires.ledger c.args.batch.now c.args.cause c.requires.batch c.requires.cause c.args.locks.now _ (c.deref-2.ensures.value ∙ c.forget_calls.ensures) c.requires.shards)
+    calls_kept IsForgetCall (g.S.PortSet.sights c.args.ports.now.shards) (g.S.PortSet.sights c.forget_phase.new.shards) c.in-Ok.ensures.kept.nodes c.deref-2.result.now (forgets_ready c.args.shape.now (g.S.PortSet.sights c.args.ports.now.shards) c.requires.ledger c.args.batch.now c.args.cause c.requires.batch c.requires.cause c.args.locks.now _ (c.deref-2.ensures.value ∙ c.forget_calls.ensures) c.requires.shards)
 
 pub returns-in-Ok-done-clause-told : goal.returns-in-Ok-done-clause-told
 returns-in-Ok-done-clause-told g c = record {
@@ -56,18 +57,27 @@ returns-in-Err-done-clause-fault g c = log_fault c.args.shape.now c.args.batch.n
     (home_stop c.home.result (home_of c.args.shape.now c.args.batch.now.lane) c.in-Err-done.fault c.home.ensures)
     (done_caused g.L.LogPort.alone c.args.batch.now.lane c.in-Ok.stamp (g.L.LogPort.sights c.args.ports.now.log (g.L.LogPort.at c.args.ports.now.log)) (g.L.LogPort.sights c.done.new.self (g.L.LogPort.at c.done.new.self)) c.in-Err-done.fault c.in-Err-done.ensures.told)
 
-pub returns-in-Err-clause-log_nodes : goal.returns-in-Err-clause-log_nodes
-returns-in-Err-clause-log_nodes g c = nodes_same (g.L.LogPort.sights c.args.ports.now.log)
-
-pub returns-in-Ok-done-clause-nodes : goal.returns-in-Ok-done-clause-nodes
-returns-in-Ok-done-clause-nodes g c = nodes_on (g.S.PortSet.sights c.args.ports.now.shards) (g.S.PortSet.sights c.forget_phase.new.shards) (g.S.PortSet.sights c.forget_again.new.shards) c.in-Ok.ensures.nodes c.forget_again.ensures.nodes
-
-pub returns-in-Err-done-clause-nodes : goal.returns-in-Err-done-clause-nodes
-returns-in-Err-done-clause-nodes g c = nodes_on (g.S.PortSet.sights c.args.ports.now.shards) (g.S.PortSet.sights c.forget_phase.new.shards) (g.S.PortSet.sights c.forget_again.new.shards) c.in-Ok.ensures.nodes c.forget_again.ensures.nodes
-
 pub forget_phase-requires-clause-mine : goal.forget_phase-requires-clause-mine
 forget_phase-requires-clause-mine g c = forgets_served (g.S.PortSet.serves c.args.ports.now.shards) c.args.batch.now c.requires.mine c.args.cause c.args.locks.now _ (c.deref.ensures.value ∙ c.forget_calls.ensures)
 
 pub forget_again-requires-clause-mine : goal.forget_again-requires-clause-mine
 forget_again-requires-clause-mine g c =
-    forgets_served (g.S.PortSet.serves c.forget_phase.new.shards) c.args.batch.now (c.in-Ok.ensures.serves _ c.requires.mine) c.args.cause c.args.locks.now _ (c.deref-2.ensures.value ∙ c.forget_calls.ensures)
+    forgets_served (g.S.PortSet.serves c.forget_phase.new.shards) c.args.batch.now (c.in-Ok.ensures.kept.served _ c.requires.mine) c.args.cause c.args.locks.now _ (c.deref-2.ensures.value ∙ c.forget_calls.ensures)
+
+pub returns-in-Err-clause-log_kept : goal.returns-in-Err-clause-log_kept
+returns-in-Err-clause-log_kept g c = log_same c.args.ports.now.log
+
+pub returns-in-Err-clause-shards_kept : goal.returns-in-Err-clause-shards_kept
+returns-in-Err-clause-shards_kept g c = c.in-Err.ensures.kept
+
+pub returns-in-Ok-done-clause-log_kept : goal.returns-in-Ok-done-clause-log_kept
+returns-in-Ok-done-clause-log_kept g c = record { at_same = c.in-Ok-done.ensures.at_same; header_same = c.in-Ok-done.ensures.header; count_same = c.in-Ok-done.ensures.count; elsewhere = c.in-Ok-done.ensures.elsewhere; nodes = c.in-Ok-done.ensures.nodes; later = c.in-Ok-done.ensures.later; held = c.in-Ok-done.ensures.holds }
+
+pub returns-in-Ok-done-clause-shards_kept : goal.returns-in-Ok-done-clause-shards_kept
+returns-in-Ok-done-clause-shards_kept g c = shards_on c.in-Ok.ensures.kept c.forget_again.ensures.kept
+
+pub returns-in-Err-done-clause-log_kept : goal.returns-in-Err-done-clause-log_kept
+returns-in-Err-done-clause-log_kept g c = record { at_same = c.in-Err-done.ensures.at_same; header_same = c.in-Err-done.ensures.header; count_same = c.in-Err-done.ensures.count; elsewhere = c.in-Err-done.ensures.elsewhere; nodes = c.in-Err-done.ensures.nodes; later = c.in-Err-done.ensures.later; held = c.in-Err-done.ensures.holds }
+
+pub returns-in-Err-done-clause-shards_kept : goal.returns-in-Err-done-clause-shards_kept
+returns-in-Err-done-clause-shards_kept g c = shards_on c.in-Ok.ensures.kept c.forget_again.ensures.kept

@@ -26,3 +26,9 @@ pub returns-in-Err-clause-fault : goal.returns-in-Err-clause-fault
 returns-in-Err-clause-fault g c =
     shard_fault c.args.shape.now (LockAnswer g.S.PortSet.alone) c.args.calls.now (g.S.PortSet.sights c.args.shards.now) (g.S.PortSet.sights c.lock.new.self) c.of_shard.result
     (λ d old new f t. lock_caused g.S.PortSet.alone d old new f t) c.requires.shards (returns-in-Err-clause-stopped g c)
+
+pub returns-in-Ok-clause-kept : goal.returns-in-Ok-clause-kept
+returns-in-Ok-clause-kept g c = record { count_same = c.lock.ensures.count; nodes = c.lock.ensures.nodes; later = c.lock.ensures.later; held = c.lock.ensures.holds; served = c.lock.ensures.serves }
+
+pub returns-in-Err-clause-kept : goal.returns-in-Err-clause-kept
+returns-in-Err-clause-kept g c = record { count_same = c.lock.ensures.count; nodes = c.lock.ensures.nodes; later = c.lock.ensures.later; held = c.lock.ensures.holds; served = c.lock.ensures.serves }
