@@ -22,7 +22,7 @@ finish_phase-requires-clause-calls g c =
 
 pub finish_again-requires-clause-shards : goal.finish_again-requires-clause-shards
 finish_again-requires-clause-shards g c =
-    finish_shards c.args.batch.now c.args.cause c.args.outcomes.now _ _ (cc) c.args.locks.now _ (c.deref-2.ensures.value ∙ c.finish_calls.ensures) c.requires.shards
+    finish_shards c.args.batch.now c.args.cause c.args.outcomes.now _ _ (c.in-Ok.ensures.kept.count_same ∙ c.requires.count) c.args.locks.now _ (c.deref-2.ensures.value ∙ c.finish_calls.ensures) c.requires.shards
 
 pub finish_again-requires-clause-calls : goal.finish_again-requires-clause-calls
 finish_again-requires-clause-calls g c =
@@ -30,7 +30,7 @@ finish_again-requires-clause-calls g c =
 
 pub finish_again-requires-2-clause-shards : goal.finish_again-requires-2-clause-shards
 finish_again-requires-2-clause-shards g c =
-    finish_shards c.args.batch.now c.args.cause c.args.outcomes.now _ _ (cc) c.args.locks.now _ (c.deref-3.ensures.value ∙ c.finish_calls.ensures) c.requires.shards
+    finish_shards c.args.batch.now c.args.cause c.args.outcomes.now _ _ (c.lock_again.ensures.kept.count_same ∙ (c.in-Ok-from_discarded.ensures.shards_kept.count_same ∙ (c.finish_again.ensures.kept.count_same ∙ (c.in-Ok.ensures.kept.count_same ∙ c.requires.count)))) c.args.locks.now _ (c.deref-3.ensures.value ∙ c.finish_calls.ensures) c.requires.shards
 
 pub finish_again-requires-2-clause-calls : goal.finish_again-requires-2-clause-calls
 finish_again-requires-2-clause-calls g c =
@@ -38,7 +38,7 @@ finish_again-requires-2-clause-calls g c =
 
 pub forget_again-requires-clause-shards : goal.forget_again-requires-clause-shards
 forget_again-requires-clause-shards g c =
-    forget_shards c.args.batch.now c.in-Ok-discard.stamp _ _ (cc) c.args.locks.now _ (c.deref-4.ensures.value ∙ c.in-Ok-from_discarded.ensures.calls) c.requires.shards
+    forget_shards c.args.batch.now c.in-Ok-discard.stamp _ _ (c.finish_again-2.ensures.kept.count_same ∙ (c.lock_again.ensures.kept.count_same ∙ (c.in-Ok-from_discarded.ensures.shards_kept.count_same ∙ (c.finish_again.ensures.kept.count_same ∙ (c.in-Ok.ensures.kept.count_same ∙ c.requires.count))))) c.args.locks.now _ (c.deref-4.ensures.value ∙ c.in-Ok-from_discarded.ensures.calls) c.requires.shards
 
 pub forget_again-requires-clause-calls : goal.forget_again-requires-clause-calls
 forget_again-requires-clause-calls g c =
