@@ -1,5 +1,5 @@
 -- The nodes of a ledger behind a wave of its lanes.
-use Rattle.std.proofs.Common.{◌≡◌, ◌⊎◌, inl, inr, ℕ, suc, ◌-◌, ◌*◌, ◌<◌, ◌≤◌, true, false, nat_lt, if◌then◌else◌, List, [], ◌∷◌, length, Option, None, refl, sym, ap, ◌∙◌, subst, arith}
+use Rattle.std.proofs.Common.{◌≡◌, ◌⊎◌, inl, inr, ℕ, suc, ◌+◌, ◌-◌, ◌*◌, ◌<◌, ◌≤◌, true, false, nat_lt, if◌then◌else◌, List, [], ◌∷◌, length, Option, None, refl, sym, ap, ◌∙◌, subst, arith}
 use Rattle.std.specs.List.{All}
 use Rattle.std.proofs.lemmas.List.Elements.{All-nil, All-cons, All-weaker}
 use Rattle.cbdc_model.specs.Records.{Header, Shape}
@@ -13,16 +13,15 @@ use Rattle.shard_node.specs.Shards.{ShardOf, sight_of, HoldsJournal as HoldsShar
 use Rattle.node_ports.specs.Nodes.{sight_at, IsLogHeld, IsShardHeld}
 use Rattle.run_laws.specs.Flights.{flying}
 use Rattle.lane_driver.specs.Stops.{IsSettled}
-use Rattle.ledger_runs.specs.Waving.{AreWithin}
-use Rattle.ledger_runs.specs.Waves.{WaveGives}
+use Rattle.ledger_runs.specs.Waving.{NoFault, AreWithin}
 use Rattle.ledger_runs.specs.declared.lanes.Lane.{Lane}
 use Rattle.thread_laws.specs.Running.{WaveNodes, WaveRan, AllSays}
 use Rattle.thread_laws.proofs.Running.{fresh_settled_law, wave_ran_law}
 use Rattle.lane_waves.specs.Waves.{AreNodesOf}
 use Rattle.wave_records.specs.Laws.{WentOn}
 use Rattle.wave_records.proofs.Places.{same_length, past_end, beyond, all_held}
-use Rattle.ledger_nodes.specs.Ledgers.{IsLedger, IsLogNext, IsShardNext, journals_of, flights_of, faults_of, opened_of, capacity_of, AreChecked, AreStored, AreQuiet}
-use Rattle.ledger_nodes.specs.Waving.{IsWave, WaveLaw}
+use Rattle.ledger_nodes.specs.Ledgers.{IsLedger, IsLogNext, IsShardNext, journals_of, AreChecked, AreStored, AreQuiet}
+use Rattle.ledger_nodes.specs.Waving.{WaveLaw}
 use Rattle.ledger_nodes.proofs.Steps.{are_nodes, are_next, are_shards, same_header, same_flight, held_logs, held_shards}
 
 is_low : (a b : ℕ) → a < b → nat_lt a b ≡ true
@@ -160,33 +159,3 @@ module _ {D : Type 0} (count limit : D → ℕ) (h : Header) (logs : List (LogOf
 pub all_within : (lanes : List Lane) → AreWithin lanes → All (λ x. All IsCompact x.txs.items) lanes
 all_within [] within = All-nil (λ x. All IsCompact x.txs.items)
 all_within (x ∷ lanes) within = All-cons (λ y. All IsCompact y.txs.items) x lanes (within 0 x refl) (all_within lanes (λ lane y there. within (suc lane) y there))
-
--- what a wave gives, by the members of a ledger's nodes
-pub wave_gives : {D : Type 0} (count limit : D → ℕ) (content : D → Option (List ℕ)) (images : D → List ℕ → Type 0) (h : Header) (logs : List (LogOf D)) (shards : List (ShardOf D)) (logs' : List (LogOf D)) (shards' : List (ShardOf D))
-    (old new : List Lane) → AreChecked count limit h.shape logs shards → IsWave count limit content images h logs shards logs' shards' old new
-    → WaveGives h.shape h.shape (journals_of count limit h.shape logs shards) (journals_of count limit h.shape logs' shards') (flights_of count limit h.shape logs shards) (flights_of count limit h.shape logs' shards')
-    (opened_of count limit h.shape logs shards) (opened_of count limit h.shape logs' shards') (faults_of count limit h.shape logs shards) (faults_of count limit h.shape logs' shards')
-    (capacity_of count limit h.shape logs shards) (capacity_of count limit h.shape logs' shards') (AreChecked count limit h.shape logs' shards') (AreQuiet logs shards) (AreQuiet logs' shards')
-    (AreStored content images logs shards) (AreStored content images logs' shards') old new
-wave_gives count limit content images h logs shards logs' shards' old new c w = record {
-  shape = refl;
-  count = w.says.count;
-  sent = w.says.sent;
-  idle = w.says.idle;
-  keeps = w.says.keeps;
-  runs = w.says.runs;
-  theirs = w.says.theirs;
-  told = w.says.told;
-  is_quiet = w.quiet;
-  flies = w.says.flies;
-  launches = w.says.launches c.0 c.1;
-  held = w.stored;
-  later = w.later;
-  opened_same = w.opened_same;
-  capacity_same = w.capacity_same;
-  is_checked = w.checked c;
-  grows = w.says.grows;
-  prepared = w.says.prepared;
-  begun = w.says.begun;
-  causes = w.says.causes c.0 c.1;
-}

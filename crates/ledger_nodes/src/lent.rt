@@ -1,25 +1,18 @@
 // The nodes of a ledger, lent to the ports of its lanes.
-ghost use Rattle.std.specs.Prelude.{◌≡◌, ◌≤◌, ◌*◌, ℕ, length};
-ghost use Rattle.cbdc_model.specs.World.{AreIdle};
-ghost use Rattle.ledger_runs.specs.Waving.{AreWithin};
-ghost use Rattle.ledger_runs.specs.Waves.{WaveAsks, WaveGives};
-ghost use Rattle.ledger_nodes.specs.Waving.{IsWave};
+ghost use Rattle.std.specs.Prelude.{◌≡◌};
 ghost use Rattle.ledger_nodes.specs.Ledgers.{journals_of, flights_of, faults_of, opened_of, capacity_of, AreChecked, AreStored, AreQuiet};
 
 use crate::driving::{drive_resume, home};
 use crate::ledger::Ledger;
-use crate::waving::run_wave;
 use cbdc_types::{Header, LaneId, Shape};
 use lane_driver::{LaneFault, Ports, no_memory};
-use ledger_runs::{Lane, Turns};
+use ledger_runs::Turns;
 use node_ports::{NodeLogs, NodeShards};
 use outside::{Disk, Gate};
 use recovery::ResumedBatch;
 use std::alloc::Global;
 use std::marker::Model;
-use std::mem;
 use std::sync::Wait;
-use std::thread::Threads;
 
 /// All nodes of a ledger behind the ports of its lanes. Contracts see its header and its nodes, which are a ledger's.
 #[derive(Drop)]
@@ -78,32 +71,7 @@ impl<'r, W: Wait, D: Disk> LentLedger<'r, W, D> {
     }
 }
 
-impl<'r, W: Wait + Threads + Sync, D: Disk + Send> LentLedger<'r, W, D> {
-    /// Runs a wave of idle lanes, each on a thread of its own.
-    pub fn wave<G: Gate + Sync>(&mut self, alloc: Global, lanes: &mut Vec<Lane>, gate: &G)
-        requires count { length lanes.old.items ≡ self.old.header.shape.coordinators * self.old.header.shape.lanes }
-        requires idle { AreIdle self.old.header.shape (journals_of D.count D.limit self.old.header.shape self.old.logs self.old.shards) }
-        requires limits { AreWithin lanes.old.items }
-        requires checked { AreChecked D.count D.limit self.old.header.shape self.old.logs self.old.shards }
-        ensures header { self.new.header ≡ self.old.header }
-        ensures wave { IsWave D.count D.limit D.content D.images self.old.header self.old.logs self.old.shards self.new.logs self.new.shards lanes.old.items lanes.new.items }
-    {
-        let ledger = Ledger {
-            header: self.header,
-            logs: mem::replace(&mut self.ports.log.logs, Vec::new(alloc)),
-            shards: mem::replace(&mut self.ports.shards.nodes, Vec::new(alloc)),
-        };
-        let Ledger {
-            header: _,
-            logs,
-            shards,
-        } = run_wave(self.ports.log.rt, alloc, ledger, lanes, gate);
-        mem::replace(&mut self.ports.log.logs, logs).destroy_empty();
-        mem::replace(&mut self.ports.shards.nodes, shards).destroy_empty();
-    }
-}
-
-impl<'r, W: Wait + Threads + Sync, D: Disk + Send> Turns for LentLedger<'r, W, D> {
+impl<'r, W: Wait, D: Disk> Turns for LentLedger<'r, W, D> {
     ghost shape = { λ l. l.header.shape };
 
     ghost journals = { λ l. journals_of D.count D.limit l.header.shape l.logs l.shards };
@@ -153,20 +121,4 @@ impl<'r, W: Wait + Threads + Sync, D: Disk + Send> Turns for LentLedger<'r, W, D
             Err(fault) => Err(fault),
         }
     }
-}
-
-/// Runs a wave of idle lanes at lent nodes: what a wave asks and gives, by their members.
-pub fn wave_at<W: Threads + Wait + Sync, D: Disk + Send, G: Gate + Sync>(
-    alloc: Global,
-    ledger: &mut LentLedger<'_, W, D>,
-    lanes: &mut Vec<Lane>,
-    gate: &G,
-)
-    requires { WaveAsks ledger.old.header.shape (journals_of D.count D.limit ledger.old.header.shape ledger.old.logs ledger.old.shards) (AreChecked D.count D.limit ledger.old.header.shape ledger.old.logs ledger.old.shards) lanes.old.items }
-    ensures { WaveGives ledger.old.header.shape ledger.new.header.shape (journals_of D.count D.limit ledger.old.header.shape ledger.old.logs ledger.old.shards) (journals_of D.count D.limit ledger.new.header.shape ledger.new.logs ledger.new.shards)
-        (flights_of D.count D.limit ledger.old.header.shape ledger.old.logs ledger.old.shards) (flights_of D.count D.limit ledger.new.header.shape ledger.new.logs ledger.new.shards) (opened_of D.count D.limit ledger.old.header.shape ledger.old.logs ledger.old.shards) (opened_of D.count D.limit ledger.new.header.shape ledger.new.logs ledger.new.shards)
-        (faults_of D.count D.limit ledger.old.header.shape ledger.old.logs ledger.old.shards) (faults_of D.count D.limit ledger.new.header.shape ledger.new.logs ledger.new.shards) (capacity_of D.count D.limit ledger.old.header.shape ledger.old.logs ledger.old.shards) (capacity_of D.count D.limit ledger.new.header.shape ledger.new.logs ledger.new.shards)
-        (AreChecked D.count D.limit ledger.new.header.shape ledger.new.logs ledger.new.shards) (AreQuiet ledger.old.logs ledger.old.shards) (AreQuiet ledger.new.logs ledger.new.shards) (AreStored D.content D.images ledger.old.logs ledger.old.shards) (AreStored D.content D.images ledger.new.logs ledger.new.shards) lanes.old.items lanes.new.items }
-{
-    ledger.wave(alloc, lanes, gate);
 }

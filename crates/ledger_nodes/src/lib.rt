@@ -7,5 +7,5 @@ mod lent;
 mod waving;
 
 pub use ledger::Ledger;
-pub use lent::{LentLedger, lend, wave_at};
+pub use lent::{LentLedger, lend};
 pub use waving::run_wave;

@@ -10,7 +10,7 @@ use commands::{Done, process};
 use line_text::status_code;
 use mem_devices::{Choice, FaultDisk, MemInbox, MemRack, MemSink};
 use outside::{Disk, Point};
-use row_text::{Wrong, copies};
+use row_text::{Wrong, copies, differ};
 use std::alloc::{AllocError, Global};
 use std::str;
 use std::sync::Wait;
@@ -145,7 +145,7 @@ pub fn play<W: Wait + Threads + Sync>(
     let gate = NotingGate::new(alloc, state.order.clone()?);
     let Done { status, rack } = process(rt, alloc, &words, &mut inbox, rack, &mut out, &gate);
     if !gate.is_kept() {
-        return Err(Wrong::Line("the points did not come in this order"));
+        return Err(differ(alloc, "the points in this order", "points out of order"));
     }
     Ok(Ran {
         status: u64::from(status_code(&status)),

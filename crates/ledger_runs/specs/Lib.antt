@@ -5,4 +5,3 @@ pub mod Pieces
 pub mod Faults
 pub mod Flying
 pub mod Least
-pub mod Waves

@@ -5,9 +5,7 @@
 mod lanes;
 mod resuming;
 mod turns;
-mod waves;
 
 pub use lanes::{Decided, Lane, first_fault};
 pub use resuming::resume_all;
 pub use turns::Turns;
-pub use waves::run_wave;
