@@ -4,13 +4,14 @@ ghost use Rattle.mem_devices.specs.Racks.{AllIn};
 
 use crate::disks::DiskState;
 use crate::noting::{NotingGate, NotingInbox, NotingRack};
+use crate::ordering::PointOrder;
 use crate::state::State;
 use cbdc_types::NodeId;
 use commands::{Done, process};
 use line_text::status_code;
 use mem_devices::{Choice, FaultDisk, MemInbox, MemRack, MemSink};
 use outside::{Disk, Point};
-use row_text::{Wrong, copies};
+use row_text::{Wrong, copies, differ};
 use std::alloc::{AllocError, Global};
 use std::str;
 use std::sync::Wait;
@@ -142,10 +143,11 @@ pub fn play<W: Wait + Threads + Sync>(
     let words = owned(alloc, words)?;
     let mut inbox = inbox(alloc, state)?;
     let rack = rack(alloc, &state.disks)?;
-    let gate = NotingGate::new(alloc, state.order.clone()?);
+    let order = PointOrder::new(state.order.clone()?, state.turns);
+    let gate = NotingGate::new(alloc, order);
     let Done { status, rack } = process(rt, alloc, &words, &mut inbox, rack, &mut out, &gate);
     if !gate.is_kept() {
-        return Err(Wrong::Line("the points did not come in this order"));
+        return Err(differ(alloc, "the points in this order", "points out of order"));
     }
     Ok(Ran {
         status: u64::from(status_code(&status)),

@@ -1,7 +1,7 @@
 // What the steps of these rows do: whole runs of the program over disks.
 use crate::files::{name_file, name_hash, name_tx};
 use crate::looking::{check_run, look, same};
-use crate::ordering::points_of;
+use crate::ordering::{points_of, turns_of};
 use crate::plain::play_plain;
 use crate::play::play;
 use crate::racks::{change_disk, crash, empty_rack, keep, load, take_back};
@@ -47,9 +47,10 @@ fn room(state: &mut State, words: &[&str]) -> Result<(), Wrong> {
     Ok(())
 }
 
-// `order`, and a line `LANE NODE KIND WHEN` for each point: the points of the next run are held to this order.
-fn order(state: &mut State, alloc: Global, text: &str) -> Result<(), Wrong> {
+// `order TURNS`, and a line `LANE NODE KIND WHEN` for each point: the points of the next run are held to this order, for so many turns each.
+fn order(state: &mut State, alloc: Global, words: &[&str], text: &str) -> Result<(), Wrong> {
     state.order = points_of(alloc, text)?;
+    state.turns = turns_of(words)?;
     Ok(())
 }
 
@@ -71,7 +72,7 @@ fn do_step(
         Verb::Node => change_disk(state, alloc, words),
         Verb::Crash => crash(state, alloc, words),
         Verb::Room => room(state, words),
-        Verb::Order => order(state, alloc, text),
+        Verb::Order => order(state, alloc, words, text),
         Verb::Same => same(state, alloc, words),
         other => look(state, alloc, other, words, text),
     }
