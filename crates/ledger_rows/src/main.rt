@@ -9,18 +9,19 @@ mod ordering;
 mod plain;
 mod play;
 mod racks;
+mod rows;
+mod script;
 mod state;
 mod subject;
 mod verbs;
 mod words;
 
-use row_text::run_files;
-use state::State;
+use rows::run_files;
 use std::io;
 use std::process::ExitCode;
 
 fn main(rt: HostRuntime) -> io::Result<ExitCode> {
-    if run_files::<HostRuntime, State>(&rt)? {
+    if run_files(&rt)? {
         Ok(ExitCode::from(0))
     } else {
         Ok(ExitCode::from(1))

@@ -16,10 +16,10 @@ pub struct NotingGate {
 }
 
 impl NotingGate {
-    pub fn new(alloc: Global, order: Vec<Point>) -> NotingGate {
+    pub fn new(alloc: Global, order: PointOrder) -> NotingGate {
         NotingGate {
             points: Mutex::new(Vec::new(alloc)),
-            order: PointOrder::new(order),
+            order,
         }
     }
 

@@ -7,22 +7,24 @@ use std::alloc::Global;
 use std::sync::atomic::{AtomicBool, AtomicUsize, Ordering};
 use std::thread;
 
-// For how many turns a point waits for the one before it.
-const TURNS: u32 = 10_000_000;
+/// For how many turns a point waits at most for the one before it.
+pub const TURNS: u32 = 10_000_000;
 
 /// Points that are to be passed in this order: each is held until the one before it was passed, for at most so many turns. Once the turns
 /// have run out it holds nothing.
 #[derive(Drop)]
 pub struct PointOrder {
     points: Vec<Point>,
+    turns: u32,
     passed: AtomicUsize,
     late: AtomicBool,
 }
 
 impl PointOrder {
-    pub fn new(points: Vec<Point>) -> PointOrder {
+    pub fn new(points: Vec<Point>, turns: u32) -> PointOrder {
         PointOrder {
             points,
+            turns,
             passed: AtomicUsize::new(0),
             late: AtomicBool::new(false),
         }
@@ -41,7 +43,7 @@ impl PointOrder {
         let Some(place) = self.place_of(point) else {
             return;
         };
-        for _ in 0..TURNS {
+        for _ in 0..self.turns {
             if self.late.load(Ordering::SeqCst) {
                 return;
             }
@@ -60,11 +62,11 @@ impl PointOrder {
     }
 }
 
-// The number of a lane or a node.
+// The number of a lane or a node, or of turns.
 fn small(word: &str) -> Result<u32, Wrong> {
     match u32::try_from(number(word)?) {
         Ok(number) => Ok(number),
-        Err(_) => Err(Wrong::Line("no such lane or node")),
+        Err(_) => Err(Wrong::Line("a number too large")),
     }
 }
 
@@ -96,6 +98,14 @@ fn point_of(words: &[&str]) -> Result<Point, Wrong> {
         kind: kind_of(word(words, 2)?)?,
         when: when_of(word(words, 3)?)?,
     })
+}
+
+/// For how many turns a point waits: as told, and no more than `TURNS`, or so many.
+pub fn turns_of(told: &[&str]) -> Result<u32, Wrong> {
+    match told {
+        [] => Ok(TURNS),
+        [word, ..] => Ok(small(word)?.min(TURNS)),
+    }
 }
 
 /// The points of lines `LANE NODE KIND WHEN`.

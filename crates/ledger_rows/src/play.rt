@@ -4,6 +4,7 @@ ghost use Rattle.mem_devices.specs.Racks.{AllIn};
 
 use crate::disks::DiskState;
 use crate::noting::{NotingGate, NotingInbox, NotingRack};
+use crate::ordering::PointOrder;
 use crate::state::State;
 use cbdc_types::NodeId;
 use commands::{Done, process};
@@ -142,7 +143,8 @@ pub fn play<W: Wait + Threads + Sync>(
     let words = owned(alloc, words)?;
     let mut inbox = inbox(alloc, state)?;
     let rack = rack(alloc, &state.disks)?;
-    let gate = NotingGate::new(alloc, state.order.clone()?);
+    let order = PointOrder::new(state.order.clone()?, state.turns);
+    let gate = NotingGate::new(alloc, order);
     let Done { status, rack } = process(rt, alloc, &words, &mut inbox, rack, &mut out, &gate);
     if !gate.is_kept() {
         return Err(differ(alloc, "the points in this order", "points out of order"));

@@ -1,5 +1,6 @@
 // What a row has made so far: names, disks, and what the last run left.
 use crate::disks::{DiskState, cut, put_digits};
+use crate::ordering::TURNS;
 use crate::play::Ran;
 use outside::Point;
 use row_text::{Names, Wrong, count, hex_of};
@@ -26,6 +27,7 @@ pub struct State {
     pub ran: Option<Ran>,
     pub room: usize,
     pub order: Vec<Point>,
+    pub turns: u32,
     marks: [usize; 4],
 }
 
@@ -41,6 +43,7 @@ impl State {
             ran: None,
             room: ROOM,
             order: Vec::new(alloc),
+            turns: TURNS,
             marks: [0; 4],
         }
     }

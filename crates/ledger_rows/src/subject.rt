@@ -1,14 +1,14 @@
 // What the steps of these rows do: whole runs of the program over disks.
 use crate::files::{name_file, name_hash, name_tx};
 use crate::looking::{check_run, look, same};
-use crate::ordering::points_of;
+use crate::ordering::{points_of, turns_of};
 use crate::plain::play_plain;
 use crate::play::play;
 use crate::racks::{change_disk, crash, empty_rack, keep, load, take_back};
 use crate::state::{ROOM, State};
 use crate::verbs::{Verb, is_for, verb_of};
 use crate::words::count_at;
-use row_text::{Block, Names, Subject, Wrong, rest};
+use row_text::{Block, Wrong, rest};
 use std::alloc::Global;
 use std::sync::Wait;
 use std::thread::Threads;
@@ -47,9 +47,10 @@ fn room(state: &mut State, words: &[&str]) -> Result<(), Wrong> {
     Ok(())
 }
 
-// `order`, and a line `LANE NODE KIND WHEN` for each point: the points of the next run are held to this order.
-fn order(state: &mut State, alloc: Global, text: &str) -> Result<(), Wrong> {
+// `order TURNS`, and a line `LANE NODE KIND WHEN` for each point: the points of the next run are held to this order, for so many turns each.
+fn order(state: &mut State, alloc: Global, words: &[&str], text: &str) -> Result<(), Wrong> {
     state.order = points_of(alloc, text)?;
+    state.turns = turns_of(words)?;
     Ok(())
 }
 
@@ -71,44 +72,27 @@ fn do_step(
         Verb::Node => change_disk(state, alloc, words),
         Verb::Crash => crash(state, alloc, words),
         Verb::Room => room(state, words),
-        Verb::Order => order(state, alloc, text),
+        Verb::Order => order(state, alloc, words, text),
         Verb::Same => same(state, alloc, words),
         other => look(state, alloc, other, words, text),
     }
 }
 
-impl Subject for State {
-    fn new(alloc: Global) -> State {
-        State::empty(alloc)
+/// Does a step, with what stands behind it.
+pub fn step<W: Wait + Threads + Sync>(
+    rt: &W,
+    state: &mut State,
+    alloc: Global,
+    words: &[&str],
+    block: &Block,
+) -> Result<(), Wrong> {
+    let (verb, behind) = (verb_of(words)?, rest(words, 1));
+    if !is_for(verb, block) {
+        return Err(Wrong::Line("what stands behind it is not for this step"));
     }
-
-    fn hashes(&self) -> &Names<String> {
-        &self.hashes
-    }
-
-    fn mark(&mut self) {
-        self.keep_names();
-    }
-
-    fn begin(&mut self) {
-        self.forget();
-    }
-
-    fn step<W: Wait + Threads + Sync>(
-        &mut self,
-        rt: &W,
-        alloc: Global,
-        words: &[&str],
-        block: &Block,
-    ) -> Result<(), Wrong> {
-        let (verb, behind) = (verb_of(words)?, rest(words, 1));
-        if !is_for(verb, block) {
-            return Err(Wrong::Line("what stands behind it is not for this step"));
-        }
-        match verb {
-            Verb::Run => run(rt, self, alloc, behind, block),
-            Verb::Plain => run_plain(rt, self, alloc, behind, block),
-            other => do_step(self, alloc, other, behind, block.text.as_str()),
-        }
+    match verb {
+        Verb::Run => run(rt, state, alloc, behind, block),
+        Verb::Plain => run_plain(rt, state, alloc, behind, block),
+        other => do_step(state, alloc, other, behind, block.text.as_str()),
     }
 }
