@@ -140,6 +140,12 @@ impl Told {
         self.made(done);
     }
 
+    pub fn hashes(&mut self, all: &[Hash]) {
+        for x in all {
+            self.hash(x);
+        }
+    }
+
     /// The digits of bytes.
     pub fn digits(&mut self, bytes: &[u8]) {
         match hex::encode(self.alloc, bytes) {
