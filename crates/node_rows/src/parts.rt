@@ -134,9 +134,9 @@ fn calls_told(known: &Known, shape: &Shape, text: &str, told: &mut Told) -> Batc
         forgets: Vec::new(alloc),
     };
     for line in text.lines() {
-        let words = line.split_whitespace().collect::<Vec<&str>>(alloc);
-        if let Some(words) = told.made(words) {
-            take_call(known, shape, &mut calls, &words, told);
+        match line.split_whitespace().collect::<Vec<&str>>(alloc) {
+            Ok(words) => take_call(known, shape, &mut calls, &words, told),
+            Err(_) => told.no_memory(),
         }
     }
     calls

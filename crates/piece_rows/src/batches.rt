@@ -135,17 +135,22 @@ fn tell_sound(told: &mut Told, answer: &Result<(), Refusal>) {
     }
 }
 
+// Tells `sound` or the refusal of a transaction, by the verdicts of a file; `all-good` has a good one on each witness.
+fn tell_check(state: &State, tx: &FullTx, name: &str, told: &mut Told) {
+    let alloc = told.alloc;
+    let id = tx_id(tx);
+    if name == "all-good" {
+        tell_sound(told, &check(tx, &id, &AllGood));
+    } else if let Some(file) = told.given(verdicts_in(state, alloc, name)) {
+        tell_sound(told, &check(tx, &id, &file));
+    }
+}
+
 /// `sentinel TX NAME`, and `sound` or the refusal, by the verdicts of a file; `all-good` has a good one on each witness.
 pub fn refused(state: &State, words: &[&str], told: &mut Told) {
-    let alloc = told.alloc;
     let name = told.word_at(words, 1);
     match state.known.full(told.word_at(words, 0)) {
-        Ok(tx) if name == "all-good" => tell_sound(told, &check(tx, &tx_id(tx), &AllGood)),
-        Ok(tx) => {
-            if let Some(file) = told.given(verdicts_in(state, alloc, name)) {
-                tell_sound(told, &check(tx, &tx_id(tx), &file));
-            }
-        }
+        Ok(tx) => tell_check(state, tx, name, told),
         Err(wrong) => told.fail(wrong),
     }
 }
