@@ -121,18 +121,18 @@ fn ask_forget(
     tell_other(told, &core.plan_forget(call));
 }
 
-// Takes the next record in.
-fn take_in(core: &mut ShardCore, next: &Record, told: &mut Told) {
-    match core.admit(next) {
-        Ok(true) => match next {
-            Record::Lock { .. } => core.apply_lock(next),
-            Record::Finish { .. } => core.apply_finish(next),
-            Record::Forget { .. } => core.apply_forget(next),
-            _ => {}
-        },
-        Ok(false) => told.refuse("the shard does not admit a record of this journal"),
-        Err(_) => told.no_memory(),
+// Takes the next record in, if the shard admits it.
+fn take_in(core: &mut ShardCore, next: &Record) -> Result<(), Wrong> {
+    if !core.admit(next)? {
+        return Err(Wrong::Line("the shard does not admit a record of this journal"));
     }
+    match next {
+        Record::Lock { .. } => core.apply_lock(next),
+        Record::Finish { .. } => core.apply_finish(next),
+        Record::Forget { .. } => core.apply_forget(next),
+        _ => {}
+    }
+    Ok(())
 }
 
 // The shard that has taken a journal in.
@@ -144,7 +144,7 @@ fn shard_of(past: &[Record], told: &mut Told) -> Option<ShardCore> {
     };
     let mut core = told.made(ShardCore::new(alloc, header, hashes.as_slice()))?;
     for record in past.iter().rev().skip(1) {
-        take_in(&mut core, record, told);
+        told.given(take_in(&mut core, record));
     }
     Some(core)
 }

@@ -153,13 +153,7 @@ fn hashes_of(coins: &[Input], told: &mut Told) -> Vec<Hash> {
 }
 
 // Tells how many coins there are, of what value, what value was minted, and whether the shards hold them, each once.
-fn tell_coins(
-    state: &State,
-    words: &[&str],
-    minted: u128,
-    coins: &[Input],
-    told: &mut Told,
-) {
+fn tell_coins(state: &State, words: &[&str], minted: u128, coins: &[Input], told: &mut Told) {
     let alloc = told.alloc;
     let value = told.made(value_of(alloc, coins)).unwrap_or(0);
     let many = told.made(count_of_book(alloc, coins)).unwrap_or(0);
@@ -168,7 +162,11 @@ fn tell_coins(
     told.named("coins", coins.len() as u128);
     told.named("value", value);
     told.named("minted", minted);
-    told.word(if many == coins.len() && held { "held" } else { "not held" });
+    told.word(if many == coins.len() && held {
+        "held"
+    } else {
+        "not held"
+    });
 }
 
 // Tells what coins transactions leave of the mint.

@@ -121,7 +121,8 @@ pub fn takes_text(verb: Verb) -> bool {
 fn has_text(verb: Verb) -> bool {
     match verb {
         Verb::Shape | Verb::Mint | Verb::Tx | Verb::Form | Verb::Files | Verb::Earlier => false,
-        Verb::Change | Verb::Clean | Verb::Kept | Verb::Alike | Verb::Waves | Verb::Ordered => false,
+        Verb::Change | Verb::Clean | Verb::Kept | Verb::Alike | Verb::Waves | Verb::Ordered =>
+            false,
         Verb::Holds | Verb::Is | Verb::World | Verb::Begin | Verb::End | Verb::Write => false,
         Verb::Stop | Verb::Reopen | Verb::Again | Verb::Flight => false,
         Verb::Stands | Verb::Recovered => false,

@@ -87,12 +87,7 @@ fn ask_end(core: &mut CoordCore, lane: LaneId, cause: Stamp, is_last: bool) -> O
 }
 
 // The next record of a lane by a call: `prepare LANE TX..`, `decide LANE STAMP REPLY..`, `discard` and `done LANE cause STAMP`.
-fn next_by(
-    known: &Known,
-    core: &mut CoordCore,
-    words: &[&str],
-    told: &mut Told,
-) -> Option<Record> {
+fn next_by(known: &Known, core: &mut CoordCore, words: &[&str], told: &mut Told) -> Option<Record> {
     let alloc = told.alloc;
     let lane = told.lane_at(words, 1);
     let own = rest(words, 2);
@@ -116,8 +111,13 @@ fn take_told(known: &Known, core: &mut CoordCore, next: &Record, text: &str, tol
     let node = core.header().node.0;
     check_records(known, node, slice::from_ref(next), text, told);
     match core.admit(next) {
-        Ok(true) => core.apply(next),
-        Ok(false) => told.refuse("the lanes do not admit their own record"),
+        Ok(is_next) => {
+            if is_next {
+                core.apply(next);
+            } else {
+                told.refuse("the lanes do not admit their own record");
+            }
+        }
         Err(_) => told.no_memory(),
     }
 }
@@ -168,8 +168,7 @@ pub fn admits(known: &Known, node: &mut Node, words: &[&str], told: &mut Told) {
         return;
     };
     match core.admit(&next) {
-        Ok(true) => told.word("yes"),
-        Ok(false) => told.word("no"),
+        Ok(is_next) => told.yes(is_next),
         Err(_) => told.no_memory(),
     }
 }

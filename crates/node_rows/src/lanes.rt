@@ -42,13 +42,7 @@ fn together(all: Apart, told: &mut Told) -> Vec<Node> {
 }
 
 /// `lane LANE TX.. [repeats N]`, and a line for each batch, its lane, number and outcomes, or where the lane stopped, and why; `batch`: the same of one batch.
-pub fn lane<W: Wait>(
-    rt: &W,
-    state: &mut State,
-    words: &[&str],
-    is_whole: bool,
-    told: &mut Told,
-) {
+pub fn lane<W: Wait>(rt: &W, state: &mut State, words: &[&str], is_whole: bool, told: &mut Told) {
     let alloc = told.alloc;
     let (own, repeats) = told.small_behind(words, "repeats", 0);
     let lane = told.lane_at(own, 0);

@@ -142,16 +142,17 @@ fn bytes_in(known: &Known, node: u32, rows: &[(u32, Record)], told: &mut Told) -
 }
 
 // Lays the disk of a node of a ledger, and opens it.
-fn lay(
-    nodes: &mut Vec<Node>,
-    node: u32,
-    bytes: &[u8],
-    capacity: u32,
-    kind: &str,
-    told: &mut Told,
-) {
+fn lay(nodes: &mut Vec<Node>, node: u32, bytes: &[u8], capacity: u32, kind: &str, told: &mut Told) {
     let mut own = Told::new(told.alloc);
-    put_disk(nodes, node, bytes, capacity, Vec::new(told.alloc), CALLS, told);
+    put_disk(
+        nodes,
+        node,
+        bytes,
+        capacity,
+        Vec::new(told.alloc),
+        CALLS,
+        told,
+    );
     open(nodes, node, kind, &mut own);
     if !is_open(nodes, node) {
         told.refuse("a node of the ledger could not be opened");

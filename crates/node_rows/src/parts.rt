@@ -5,9 +5,7 @@ use cbdc_types::{
     BatchId, CompactTx, FinishCall, ForgetCall, Hash, LaneId, List, LockCall, NodeFault, Outcome,
     Record, Replied, Reply, Shape, Stamp,
 };
-use lane_driver::{
-    BatchRoom, LaterRoom, finish_calls, forget_calls, gather, latest, lock_calls,
-};
+use lane_driver::{BatchRoom, LaterRoom, finish_calls, forget_calls, gather, latest, lock_calls};
 use row_records::{Known, Told, finish_call, forget_call, lock_call, record, txs};
 use row_text::{Wrong, rest, words_around};
 use std::alloc::Global;

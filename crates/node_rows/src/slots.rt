@@ -34,16 +34,14 @@ fn slot(known: &Known, words: &[&str], told: &mut Told) -> Option<Slot> {
     told.expect(words, 0, "finished");
     let later = Stamp(told.number_at(words, 3));
     let given = told.made(vec![in alloc; true; own.len()])?;
-    Some(
-        Slot::Finished(
-            number,
-            own,
-            List::from_vec(held),
-            List::from_vec(given),
-            stamp,
-            later,
-        ),
-    )
+    Some(Slot::Finished(
+        number,
+        own,
+        List::from_vec(held),
+        List::from_vec(given),
+        stamp,
+        later,
+    ))
 }
 
 // Tells where a slot is another one.

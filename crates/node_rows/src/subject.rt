@@ -99,14 +99,7 @@ fn turn(state: &mut State, verb: Verb, words: &[&str], text: &str, told: &mut To
 }
 
 // Asks a node, or looks at it.
-fn act(
-    known: &Known,
-    node: &mut Node,
-    verb: Verb,
-    words: &[&str],
-    text: &str,
-    told: &mut Told,
-) {
+fn act(known: &Known, node: &mut Node, verb: Verb, words: &[&str], text: &str, told: &mut Told) {
     match verb {
         Verb::Memory => memory(node, words, told),
         Verb::Append => append(node, words, told),
