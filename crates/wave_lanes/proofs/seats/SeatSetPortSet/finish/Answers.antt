@@ -1,0 +1,19 @@
+use Rattle.wave_lanes.proofs.seats.SeatSetPortSet.finish.Goals as goal
+
+pub finish-requires : goal.finish-requires
+finish-requires g c = record { shards = c.requires.shards; calls = c.requires.calls; mine = c.requires.mine; empty = c.requires.empty; room = c.requires.room }
+
+pub returns : goal.returns
+returns g c =
+    let e = c.finish.ensures in
+    record {
+      each = e.each;
+      told = e.told;
+      untouched = e.untouched;
+      nodes = e.nodes;
+      capacity = e.capacity;
+      count = e.count;
+      later = e.later;
+      holds = e.holds;
+      serves = e.serves;
+    }
