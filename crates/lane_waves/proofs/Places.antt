@@ -108,6 +108,9 @@ snoc_many xs ys x e = ap (λ (zs : List _). length zs) e ∙ more ys x
 pub pushed_many : {A : Type 0} (u v : Vec A) → vec_len u ≡ vec_len v + 1 → length u.items ≡ length v.items + 1
 pushed_many u v e = let a = u.ok.0 in let b = v.ok.0 in omega (arith, e, a, b)
 
+pub as_many : {A B : Type 0} (u : Vec A) (v : Vec B) → length u.items ≡ length v.items → vec_len u ≡ vec_len v
+as_many u v e = let a = u.ok.0 in let b = v.ok.0 in omega (arith, e, a, b)
+
 pub append_many : {A : Type 0} (xs ys : List A) → length (xs ++ ys) ≡ length xs + length ys
 append_many xs ys = grind (arith, common_steps)
 

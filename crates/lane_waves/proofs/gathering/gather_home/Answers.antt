@@ -6,7 +6,7 @@ use Rattle.lane_waves.proofs.gathering.gather_home.Goals as goal
 
 pub loop-place-init : goal.loop-place-init
 loop-place-init g c = record {
-  some = c.requires.some;
+  some = let s = c.requires.some in omega (arith, s);
   len = search rules;
   capacity = refl;
   room = c.requires.room;

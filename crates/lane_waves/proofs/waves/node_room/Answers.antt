@@ -4,7 +4,7 @@ use Rattle.lane_waves.proofs.waves.node_room.Goals as goal
 
 pub returns-clause-room : goal.returns-clause-room
 returns-clause-room g c =
-    let lists = c.in_ok-two_lists in
+    let lists = c.in_ok-logs in
     record {
       home_rows = c.in_ok-home_rows.ensures.rows;
       home_rows_many = c.in_ok-home_rows.ensures.count;

@@ -14,7 +14,7 @@ deal_all-homes-requires-clause-waiting g c =
     lanes_wait g.D.Disk.count g.D.Disk.limit c.args.shape.now c.args.shard_locks.now c.args.seated.rows c.args.seated.lanes c.in-Ok.room c.requires.open.shards_many c.requires.left c.requires.lanes c.requires.lanes_many c.in-Ok.ensures
 
 pub run_table-table-requires : goal.run_table-table-requires
-run_table-table-requires g c κ lives =
+run_table-table-requires g c =
     let lanes = c.args.seated.lanes.items in
     let t = c.deal_all-homes.result.2 in
     all_begin g.D.Disk.count g.D.Disk.limit g.B.Locks.tables c.args.shape.now c.args.log_locks.now c.args.shard_locks.now lanes t.runs.items
