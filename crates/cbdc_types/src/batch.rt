@@ -1,5 +1,6 @@
 // What a batch is at a shard, and what becomes of it.
-use crate::{BatchId, CompactTx, Hash, List, Stamp};
+use crate::CompactTx;
+use base_types::{BatchId, Hash, List, Stamp};
 
 /// A transaction's share at one shard: its place in the batch, its id, and those of its hashes that lie there.
 #[derive(Clone, Debug, PartialEq, Eq, Drop)]

@@ -1,5 +1,6 @@
 // The calls at a shard, and why a node refuses one.
-use crate::{BatchId, Decisions, List, Part, Reply, Stamp};
+use crate::{Decisions, Part, Reply};
+use base_types::{BatchId, List, Stamp};
 use thiserror::Error;
 
 /// Lock this part for the batch. The cause is the stamp of its Prepare.
