@@ -50,7 +50,7 @@ pub type Outcomes = List<Outcome>;
 pub type Decisions = List<bool>;
 
 /// What one shard answered to a Lock, and the Lock's stamp.
-#[derive(Clone, Debug, PartialEq, Eq, Drop)]
+#[derive(Debug, PartialEq, Eq, Drop)]
 pub struct ShardReplies {
     pub shard: u32,
     pub replies: List<Reply>,
@@ -69,7 +69,7 @@ pub enum Phase {
 }
 
 /// A batch that is not done: its phase, the stamp of its last record, its transactions, and from Committed on their outcomes.
-#[derive(Clone, Debug, PartialEq, Eq, Drop)]
+#[derive(Debug, PartialEq, Eq, Drop)]
 pub struct OpenLane {
     pub batch: BatchId,
     pub phase: Phase,
