@@ -8,10 +8,10 @@ use Rattle.clap.specs.declared.error.Error.{Error}
 use Rattle.clap.specs.declared.error.kind.ErrorKind.{ErrorKind}
 use Rattle.clap.specs.declared.error.kind.ErrorKind.TheVariants.{OutOfMemory}
 use Rattle.command_line.specs.Asked.{is_mistake, is_wish, HasMistake, HasWish, IsAsked, IsRefused, IsShow, faults_of}
-use Rattle.command_line.specs.declared.request.Request.{Request}
-use Rattle.command_line.specs.declared.request.Request.TheVariants.{Init, Run, Recover, Status, Audit, Gen, Show}
-use Rattle.command_line.specs.declared.request.WordsFault.{WordsFault}
-use Rattle.command_line.specs.declared.request.WordsFault.TheVariants.{Bad, Memory}
+use Rattle.requests.specs.declared.Request.{Request}
+use Rattle.requests.specs.declared.Request.TheVariants.{Init, Run, Recover, Status, Audit, Gen, Show}
+use Rattle.requests.specs.declared.WordsFault.{WordsFault}
+use Rattle.requests.specs.declared.WordsFault.TheVariants.{Bad, Memory}
 
 pub ruleset rows = (first_value-rows, raw_values-rows)
 

@@ -1,9 +1,8 @@
 //! The words of the command line.
 #![tactic(auto)]
 
-mod command;
 mod places;
 mod request;
 mod values;
 
-pub use request::{FileWord, Request, WordsFault, parse};
+pub use request::parse;

@@ -15,7 +15,7 @@ use Rattle.verifier_port.specs.Files.{Reads}
 use Rattle.verifier_port.specs.declared.file.VerdictFile.{VerdictFile}
 use Rattle.verifier_port.specs.declared.file.VerdictFault.{VerdictFault}
 use Rattle.verifier_port.specs.declared.file.VerdictFault.TheVariants as verdict_fault
-use Rattle.command_line.specs.declared.request.FileWord.{FileWord}
+use Rattle.requests.specs.declared.FileWord.{FileWord}
 use Rattle.clap.specs.Words.{Text}
 
 -- the bytes of a file that are read, the first 2^30, and whether it goes on behind them

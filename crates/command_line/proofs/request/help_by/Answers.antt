@@ -1,7 +1,7 @@
 use Rattle.std.proofs.Common.{rules, ◌≡◌, true, refl, subst, map, List, ℕ}
 use Rattle.std.specs.Borrow.{Bor}
 use Rattle.clap.specs.Words.{App, HasKind, fault_of, is_simple_and_free}
-use Rattle.command_line.specs.Command.{hamilton}
+use Rattle.command_form.specs.Command.{hamilton}
 use Rattle.command_line.proofs.Rows.{mistake_of, wish_of}
 use Rattle.command_line.proofs.request.help_by.Goals as goal
 

@@ -2,7 +2,7 @@ use Rattle.std.proofs.Common.{rules, ◌≡◌, true, refl, sym, []}
 use Rattle.std.proofs.Common.{subst}
 use Rattle.clap.specs.Words.{App, HasKind, fault_of, is_simple_and_free}
 use Rattle.clap.specs.Simple.{HasMatchesOf}
-use Rattle.command_line.specs.Command.{hamilton}
+use Rattle.command_form.specs.Command.{hamilton}
 use Rattle.command_line.specs.Words.{texts}
 use Rattle.command_line.proofs.Rows.{asked_by_wish, refused_by_mistake, wish_of, mistake_of, first_wish, first_mistake}
 use Rattle.command_line.proofs.request.parse.Goals as goal
