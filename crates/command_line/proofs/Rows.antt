@@ -25,8 +25,6 @@ pub mistake_of : (kinds : Kinds) (e : Error) → HasKind kinds e → IsTrue (is_
 mistake_of kinds e (inl memory) is = let none : IsTrue (is_mistake OutOfMemory) = subst (λ k. IsTrue (is_mistake k)) memory is in absurd (search (rules, none))
 mistake_of kinds e (inr among) is = (kind_of e, among, is)
 
-pub ruleset kinds = (wish_of, mistake_of)
-
 -- what the first of two steps has
 pub first_wish : (a b : Kinds) → HasWish a → HasWish (or_else a b)
 first_wish [] b (k, among, is) = absurd among

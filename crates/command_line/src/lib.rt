@@ -1,6 +1,7 @@
 //! The words of the command line.
 #![tactic(auto)]
 
+mod matching;
 mod places;
 mod request;
 mod values;

@@ -7,12 +7,12 @@ ghost use Rattle.command_form.specs.Command.{hamilton};
 ghost use Rattle.command_line.specs.Places.{positional_places};
 ghost use Rattle.command_line.specs.Words.{AreFiles, IsFirst, IsGivenBy, StandsThere, texts};
 
+use crate::matching::matches_of;
 use crate::places::{option_of, positional_places};
 use crate::values::{hash_in, number_in, whole_in};
 use base_types::Hash;
 use clap::error::ErrorKind;
 use clap::{ArgMatches, Error};
-use command_form::program;
 use ledger_shape::Shape;
 use requests::{FileWord, Request, WordsFault};
 use std::alloc::Global;
@@ -34,16 +34,12 @@ fn answer_to<'a>(alloc: Global, error: &Error) -> Result<Request<'a>, WordsFault
 }
 
 // The help that these words ask for.
-#[tactic(auto, using(crate::proofs::Rows::kinds))]
 fn help_by<'a, 'b>(alloc: Global, words: &'b [&'b str]) -> Result<Request<'a>, WordsFault>
     ensures shows { IfOk result IsShow }
     ensures wish { IsOk result → HasWish (fault_of hamilton (map (λ w. w.now) words.entry.now)) }
     ensures refuses { IsErrOf result WordsFault.Bad → HasMistake (fault_of hamilton (map (λ w. w.now) words.entry.now)) }
 {
-    let Ok(command) = program(alloc) else {
-        return Err(WordsFault::Memory);
-    };
-    match command.try_get_matches_from(words) {
+    match matches_of(alloc, words) {
         Ok(_) => Err(WordsFault::Memory),
         Err(error) => answer_to(alloc, &error),
     }
@@ -423,10 +419,7 @@ pub fn parse<'a>(alloc: Global, words: &'a [String]) -> Result<Request<'a>, Word
     ensures asked { IfOk result (λ r. IsAsked (texts words.entry.now) r) }
     ensures refused { IfErr result (λ e. IsRefused (texts words.entry.now) e) }
 {
-    let Ok(command) = program(alloc) else {
-        return Err(WordsFault::Memory);
-    };
-    match command.try_get_matches_from(words) {
+    match matches_of(alloc, words) {
         Ok(matches) => asked_of(alloc, words, &matches),
         Err(error) => answer_to(alloc, &error),
     }
