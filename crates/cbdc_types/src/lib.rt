@@ -13,7 +13,7 @@ pub use batch::{
     Answered, Decisions, Entry, OpenLane, Outcome, Outcomes, Part, Phase, Replies, Reply,
     ShardReplies, Status,
 };
-pub use calls::{FinishCall, ForgetCall, LockCall, NodeFault, NodeOpenFault, Refused, Replied};
+pub use calls::{FinishCall, ForgetCall, LockCall, Replied};
 pub use input_faults::{InputKind, Refusal};
 pub use ledger_shape::{BadShape, Shape, ShapeField};
 pub use record::{Header, Record};

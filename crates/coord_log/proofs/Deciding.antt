@@ -5,7 +5,7 @@ use Rattle.std.proofs.lemmas.List.{length-map}
 use Rattle.outside.specs.declared.disk.Disk.{Ghosts}
 use Rattle.gate_journal.specs.Shown.{broken_of}
 use Rattle.cbdc_types.specs.declared.batch.ShardReplies.{ShardReplies}
-use Rattle.cbdc_types.specs.declared.calls.NodeFault.TheVariants.{ClockEnd}
+use Rattle.node_faults.specs.declared.NodeFault.TheVariants.{ClockEnd}
 use Rattle.cbdc_model.specs.Records.{Header, Shape, Record, Batch, Compact, Outcome, txs_of, outcomes_in, Commit}
 use Rattle.cbdc_model.specs.Slots.{slot, Idle, InPrepare}
 use Rattle.cbdc_model.specs.Grammar.{IsBatchOf, IsOutcome, HasSize}

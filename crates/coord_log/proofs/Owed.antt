@@ -3,8 +3,8 @@ use Rattle.std.proofs.Common.{◌≡◌, ℕ, suc, ◌+◌, ◌<◌, ◌≤◌, 
 use Rattle.std.proofs.lemmas.Bool.{le-ltb, lt-ltb}
 use Rattle.outside.specs.declared.disk.Disk.{Ghosts}
 use Rattle.gate_journal.specs.Shown.{broken_of}
-use Rattle.cbdc_types.specs.declared.calls.NodeFault.{NodeFault}
-use Rattle.cbdc_types.specs.declared.calls.NodeFault.TheVariants.{ClockEnd, DiskFault}
+use Rattle.node_faults.specs.declared.NodeFault.{NodeFault}
+use Rattle.node_faults.specs.declared.NodeFault.TheVariants.{ClockEnd, DiskFault}
 use Rattle.cbdc_model.specs.Records.{Header, Record, Batch, Discard, Done}
 use Rattle.cbdc_model.specs.Slots.{Phase, slot, Idle, InCommit, InDiscard}
 use Rattle.cbdc_model.specs.Grammar.{IsBatchOf}

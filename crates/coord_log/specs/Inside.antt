@@ -2,8 +2,8 @@
 use Rattle.std.specs.Prelude.{◌≡◌, ℕ, ◌+◌, ◌≤◌, ◌<◌, reverse, Option, None, IfSome}
 use Rattle.outside.specs.declared.disk.Disk.{Ghosts}
 use Rattle.gate_journal.specs.Shown.{disk_of, gate_of, broken_of}
-use Rattle.cbdc_types.specs.declared.calls.NodeFault.{NodeFault}
-use Rattle.cbdc_types.specs.declared.calls.NodeFault.TheVariants.{Full, Memory}
+use Rattle.node_faults.specs.declared.NodeFault.{NodeFault}
+use Rattle.node_faults.specs.declared.NodeFault.TheVariants.{Full, Memory}
 use Rattle.cbdc_types.specs.Limits.{IsWithinLimits}
 use Rattle.cbdc_model.specs.Records.{Record}
 use Rattle.cbdc_model.specs.Grammar.{IsInGrammar}

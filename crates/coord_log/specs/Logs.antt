@@ -1,7 +1,7 @@
 -- What contracts see of a coordinator on its disk.
 use Rattle.std.specs.Prelude.{◌≡◌, ◌⊎◌, ℕ, Bool, ◌-◌, ◌≤◌, List, length, reverse, Option, Some, None, Result, Err}
-use Rattle.cbdc_types.specs.declared.calls.NodeFault.{NodeFault}
-use Rattle.cbdc_types.specs.declared.calls.NodeFault.TheVariants.{DiskFault}
+use Rattle.node_faults.specs.declared.NodeFault.{NodeFault}
+use Rattle.node_faults.specs.declared.NodeFault.TheVariants.{DiskFault}
 use Rattle.cbdc_types.specs.declared.batch.ShardReplies.{ShardReplies}
 use Rattle.cbdc_model.specs.Records.{Header, Shape, Compact, Record}
 use Rattle.cbdc_model.specs.Next.{next_stamp}

@@ -18,9 +18,10 @@ ghost use Rattle.coord_log.specs.OpenLanes.{open_lane};
 use crate::copying::{outcomes_of, stamp_of, tell, txs_of};
 use crate::writing::{make_room, write};
 use cbdc_types::{
-    BatchId, CompactTx, Header, LaneId, NodeFault, OpenLane, Outcome, Phase, Record, Replies, Stamp,
+    BatchId, CompactTx, Header, LaneId, OpenLane, Outcome, Phase, Record, Replies, Stamp,
 };
 use coord_core::{CoordCore, LanePhase};
+use node_faults::NodeFault;
 use outside::Disk;
 use record_codec::size_of_record;
 use record_log::RecordLog;

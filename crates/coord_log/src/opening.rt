@@ -1,6 +1,6 @@
 // Opening a coordinator.
 ghost use Rattle.std.specs.Prelude.{◌≡◌, ◌≢◌, ◌+◌, ◌≤◌, ◌<◌, ◌∷◌, [], ℕ, List as Items, None, reverse, sum_by, IfOk, IfErr, MatchResult};
-ghost use Rattle.cbdc_types.specs.declared.calls.NodeOpenFault.{NodeOpenFault as TheFault};
+ghost use Rattle.node_faults.specs.declared.NodeOpenFault.{NodeOpenFault as TheFault};
 ghost use Rattle.outside.specs.Counts.{Rose};
 ghost use Rattle.outside.specs.Images.{Tells, Leaves};
 ghost use Rattle.gate_journal.specs.Shown.{disk_of, gate_of, broken_of};
@@ -17,8 +17,9 @@ ghost use Rattle.coord_log.specs.Opening.{IsCoord, IsCoordJournal, IsPlayed, IsU
 
 use crate::CoordLog;
 use crate::writing::LARGEST_COMMIT;
-use cbdc_types::{Header, NodeOpenFault, Record};
+use cbdc_types::{Header, Record};
 use coord_core::CoordCore;
+use node_faults::NodeOpenFault;
 use outside::Disk;
 use record_codec::size_of_record;
 use record_log::{NoLog, RecordLog, open_records};

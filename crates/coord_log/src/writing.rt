@@ -9,8 +9,9 @@ ghost use Rattle.record_log.specs.Logs.{HasRoom, KeepsRoom, IsUntouched};
 ghost use Rattle.coord_log.specs.Logs.{sight, HoldsJournal, LeavesBetween};
 ghost use Rattle.coord_log.specs.Inside.{shown, largest, IsSound, IsDue, IsNoRoom};
 
-use cbdc_types::{NodeFault, Record};
+use cbdc_types::Record;
 use coord_core::CoordCore;
+use node_faults::NodeFault;
 use outside::Disk;
 use record_log::RecordLog;
 

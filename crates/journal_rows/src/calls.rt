@@ -1,7 +1,8 @@
 // What calls at a shard are answered, by the plain program over its journal and by the shard itself, which has taken the journal in.
 use crate::state::{State, put_named};
-use cbdc_types::{FinishCall, ForgetCall, LockCall, Record, Refused, Replied, Stamp, Status};
+use cbdc_types::{FinishCall, ForgetCall, LockCall, Record, Replied, Stamp, Status};
 use model_check::{is_after, last_stamp, next_finish, next_forget, next_lock, status_of};
+use node_faults::Refused;
 use row_records::{
     finish_call, forget_call, hash, lock_call, put_batch, put_reply, small, word_of_refused,
 };

@@ -3,7 +3,7 @@ use Rattle.std.proofs.Common.{◌≡◌, ℕ, ◌+◌, ◌<◌, max, List, [], �
 use Rattle.std.specs.List.{All}
 use Rattle.std.proofs.lemmas.List.{take_more}
 use Rattle.std.proofs.lemmas.List.Elements.{All-more}
-use Rattle.cbdc_types.specs.declared.calls.NodeFault.{NodeFault}
+use Rattle.node_faults.specs.declared.NodeFault.{NodeFault}
 use Rattle.lane_driver.specs.Gathering.{ok_stamp, latest_of}
 
 pub latest_of-push : (xs : List (Result ℕ NodeFault)) (a : Result ℕ NodeFault) → latest_of (xs ++ a ∷ []) ≡ max (latest_of xs) (ok_stamp a)

@@ -2,7 +2,7 @@
 use Rattle.std.proofs.Common.{◌≡◌, ℕ, ◌^◌, ◌<◌, List, [], ◌∷◌, map, Result, Ok, Err, IfOk, arith, subst, lit<}
 use Rattle.std.specs.List.{All}
 use Rattle.std.proofs.lemmas.List.Elements.{All-nil, All-cons, All-head, All-tail}
-use Rattle.cbdc_types.specs.declared.calls.NodeFault.{NodeFault}
+use Rattle.node_faults.specs.declared.NodeFault.{NodeFault}
 use Rattle.cbdc_types.specs.declared.calls.LockCall.{LockCall}
 use Rattle.cbdc_types.specs.declared.calls.Replied.{Replied}
 use Rattle.cbdc_types.specs.declared.batch.ShardReplies.{ShardReplies}

@@ -3,7 +3,7 @@ use Rattle.std.proofs.Common.{◌≡◌, ℕ, Bool, false, List, Result, Ok, Err
 use Rattle.cbdc_types.specs.declared.calls.LockCall.{LockCall}
 use Rattle.cbdc_types.specs.declared.calls.FinishCall.{FinishCall}
 use Rattle.cbdc_types.specs.declared.calls.ForgetCall.{ForgetCall}
-use Rattle.cbdc_types.specs.declared.calls.NodeFault.{NodeFault}
+use Rattle.node_faults.specs.declared.NodeFault.{NodeFault}
 use Rattle.cbdc_types.specs.declared.batch.ShardReplies.{ShardReplies}
 use Rattle.cbdc_model.specs.Records.{Shape, Batch, Entry, Outcome, outcomes_of}
 use Rattle.cbdc_model.specs.Ranges.{home_of, shard_node}

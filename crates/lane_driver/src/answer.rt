@@ -4,7 +4,8 @@ ghost use Rattle.std.specs.Vec.{vec_capacity};
 ghost use Rattle.lane_driver.specs.Calls.{shard};
 ghost use Rattle.lane_driver.specs.Gathering.{Gathered, FirstFault, IsLatest};
 
-use cbdc_types::{List, LockCall, NodeFault, Replied, Replies, ShardReplies, Stamp};
+use cbdc_types::{List, LockCall, Replied, Replies, ShardReplies, Stamp};
+use node_faults::NodeFault;
 use thiserror::Error;
 
 /// The first shard that did not do what was asked, and why.

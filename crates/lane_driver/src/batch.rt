@@ -21,9 +21,10 @@ use crate::phase::{
 use crate::port::{LogPort, PortSet, Ports};
 use crate::room::{BatchRoom, LaterRoom};
 use cbdc_types::{
-    BatchId, CompactTx, ForgetCall, LaneId, List, LockCall, NodeFault, NodeId, Outcome, Outcomes,
-    Replied, Shape, Stamp,
+    BatchId, CompactTx, ForgetCall, LaneId, List, LockCall, NodeId, Outcome, Outcomes, Replied,
+    Shape, Stamp,
 };
+use node_faults::NodeFault;
 use outside::Gate;
 use std::alloc::Global;
 

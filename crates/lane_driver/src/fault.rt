@@ -3,7 +3,8 @@ ghost use Rattle.std.specs.Prelude.{◌≡◌, ◌/◌};
 ghost use Rattle.lane_laws.specs.Faults.{IsNoRefusal};
 ghost use Rattle.lane_driver.specs.Faults.{IsFaultOf};
 
-use cbdc_types::{BatchId, List, NodeFault, NodeId, Outcomes, Stamp};
+use cbdc_types::{BatchId, List, NodeId, Outcomes, Stamp};
+use node_faults::NodeFault;
 use thiserror::Error;
 
 /// A batch that is done, with the outcomes of its transactions.

@@ -12,9 +12,9 @@ use crate::answer::{ShardFault, gather, latest};
 use crate::fault::Stop;
 use crate::port::PortSet;
 use cbdc_types::{
-    FinishCall, ForgetCall, LockCall, NodeFault, NodeId, Replied, Replies, Shape, ShardReplies,
-    Stamp,
+    FinishCall, ForgetCall, LockCall, NodeId, Replied, Replies, Shape, ShardReplies, Stamp,
 };
+use node_faults::NodeFault;
 use outside::Gate;
 
 // Where the batch stopped, if this shard's fault was the first.

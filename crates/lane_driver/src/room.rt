@@ -6,9 +6,10 @@ ghost use Rattle.lane_driver.specs.Told.{AreShards};
 ghost use Rattle.lane_driver.specs.Rooms.{IsBatchRoom, IsLaterRoom};
 
 use cbdc_types::{
-    CompactTx, FinishCall, ForgetCall, List, LockCall, NodeFault, Outcome, Part, Replied, Shape,
-    ShardReplies, Stamp,
+    CompactTx, FinishCall, ForgetCall, List, LockCall, Outcome, Part, Replied, Shape, ShardReplies,
+    Stamp,
 };
+use node_faults::NodeFault;
 use shard_ranges::split;
 use std::alloc::{AllocError, Global};
 

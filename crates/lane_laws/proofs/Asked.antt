@@ -5,8 +5,8 @@ use Rattle.cbdc_types.specs.declared.calls.LockCall.{LockCall}
 use Rattle.cbdc_types.specs.declared.calls.FinishCall.{FinishCall}
 use Rattle.cbdc_types.specs.declared.calls.ForgetCall.{ForgetCall}
 use Rattle.cbdc_types.specs.declared.calls.Replied.{Replied}
-use Rattle.cbdc_types.specs.declared.calls.NodeFault.{NodeFault}
-use Rattle.cbdc_types.specs.declared.calls.NodeFault.TheVariants.{Broken}
+use Rattle.node_faults.specs.declared.NodeFault.{NodeFault}
+use Rattle.node_faults.specs.declared.NodeFault.TheVariants.{Broken}
 use Rattle.cbdc_model.specs.Records.{Batch, Compact, Entry, Digest, Outcome, Record, Shape, is_held, is_in_lane, record_of, lock_of, last_stamp, stamp_in, txs_in, outcomes_in, entries_in, Finish, Forget, Prepare, Commit, Discard}
 use Rattle.cbdc_model.specs.Replies.{entries, answered, reply_to}
 use Rattle.cbdc_model.specs.Causes.{IsCaused}

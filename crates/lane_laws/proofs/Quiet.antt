@@ -4,8 +4,8 @@ use Rattle.cbdc_types.specs.declared.calls.LockCall.{LockCall}
 use Rattle.cbdc_types.specs.declared.calls.FinishCall.{FinishCall}
 use Rattle.cbdc_types.specs.declared.calls.ForgetCall.{ForgetCall}
 use Rattle.cbdc_types.specs.declared.calls.Replied.{Replied}
-use Rattle.cbdc_types.specs.declared.calls.NodeFault.{NodeFault}
-use Rattle.cbdc_types.specs.declared.calls.NodeFault.TheVariants.{Broken}
+use Rattle.node_faults.specs.declared.NodeFault.{NodeFault}
+use Rattle.node_faults.specs.declared.NodeFault.TheVariants.{Broken}
 use Rattle.cbdc_model.specs.Records.{Batch, Compact, Outcome, Record, Shape, Finish, Forget}
 use Rattle.cbdc_model.specs.Slots.{slot, InLock, InFinish}
 use Rattle.cbdc_model.specs.Outcomes.{decisions}

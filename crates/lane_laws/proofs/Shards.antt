@@ -5,7 +5,7 @@ use Rattle.cbdc_types.specs.declared.calls.FinishCall.{FinishCall}
 use Rattle.cbdc_types.specs.declared.calls.ForgetCall.{ForgetCall}
 use Rattle.std.specs.List.{All}
 use Rattle.cbdc_types.specs.declared.calls.Replied.{Replied}
-use Rattle.cbdc_types.specs.declared.calls.NodeFault.{NodeFault}
+use Rattle.node_faults.specs.declared.NodeFault.{NodeFault}
 use Rattle.cbdc_types.specs.declared.batch.ShardReplies.{ShardReplies}
 use Rattle.cbdc_model.specs.Records.{Batch, same_batch, Compact, Answered, Entry, Outcome, Record, Shape, record_of, lock_of, stamp_in, entries_in, decisions_in, Lock, Finish, Forget}
 use Rattle.cbdc_model.specs.Slots.{Phase, slot, slot_stamp, Idle, InLock, InFinish}

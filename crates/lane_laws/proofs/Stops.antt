@@ -3,10 +3,10 @@ use Rattle.std.proofs.Common.{◌≡◌, ◌⊎◌, inl, inr, ℕ, suc, ◌<◌,
 use Rattle.cbdc_types.specs.declared.calls.LockCall.{LockCall}
 use Rattle.cbdc_types.specs.declared.calls.FinishCall.{FinishCall}
 use Rattle.cbdc_types.specs.declared.calls.ForgetCall.{ForgetCall}
-use Rattle.cbdc_types.specs.declared.calls.Refused.{Refused}
-use Rattle.cbdc_types.specs.declared.calls.NodeFault.{NodeFault}
+use Rattle.node_faults.specs.declared.Refused.{Refused}
+use Rattle.node_faults.specs.declared.NodeFault.{NodeFault}
 use Rattle.cbdc_types.specs.declared.batch.ShardReplies.{ShardReplies}
-use Rattle.cbdc_types.specs.declared.calls.NodeFault.TheVariants.{Broken, Refused as Refuses, ClockEnd, Full, DiskFault, Memory}
+use Rattle.node_faults.specs.declared.NodeFault.TheVariants.{Broken, Refused as Refuses, ClockEnd, Full, DiskFault, Memory}
 use Rattle.cbdc_model.specs.Records.{Batch, Compact, Entry, Outcome, Record, Shape, record_of, lock_of as lock_in, Finish, Forget, Prepare, Commit, Discard}
 use Rattle.cbdc_model.specs.Slots.{slot, Idle, InLock, InPrepare, InCommit, InDiscard}
 use Rattle.cbdc_model.specs.After.{FitsReplies}

@@ -1,7 +1,7 @@
 -- What a lane is told of a call: the record that was written, what stood already, or why it stopped.
 use Rattle.std.proofs.Common.{◌≡◌, ◌⊎◌, inl, inr, ℕ, ◌≤◌, Bool, true, List, ◌∷◌, Option, Some, None, Ok, Err, refl, sym, subst, arith}
-use Rattle.cbdc_types.specs.declared.calls.NodeFault.{NodeFault}
-use Rattle.cbdc_types.specs.declared.calls.NodeFault.TheVariants.{Broken, Refused as Refuses, ClockEnd, Full, DiskFault, Memory}
+use Rattle.node_faults.specs.declared.NodeFault.{NodeFault}
+use Rattle.node_faults.specs.declared.NodeFault.TheVariants.{Broken, Refused as Refuses, ClockEnd, Full, DiskFault, Memory}
 use Rattle.cbdc_model.specs.Records.{Record, last_stamp}
 use Rattle.cbdc_model.specs.Slots.{slot_stamp}
 use Rattle.cbdc_model.specs.Due.{Due, Answers, Writes, unless_broken}

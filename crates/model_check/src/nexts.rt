@@ -11,7 +11,8 @@ use crate::plans::{LockPlan, StampPlan};
 use crate::records::{last_stamp, lock_of, record_of, stamp_of};
 use crate::replying::replies_of;
 use crate::slots::{Phase, slot_of, slot_stamp};
-use cbdc_types::{BatchId, FinishCall, ForgetCall, LockCall, Record, Refused, Replied, Stamp};
+use cbdc_types::{BatchId, FinishCall, ForgetCall, LockCall, Record, Replied, Stamp};
+use node_faults::Refused;
 use std::alloc::{AllocError, Global};
 
 /// Whether a phase is Idle.

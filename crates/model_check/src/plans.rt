@@ -1,5 +1,6 @@
 // What a call is answered.
-use cbdc_types::{Refused, Replied, Stamp};
+use cbdc_types::{Replied, Stamp};
+use node_faults::Refused;
 
 /// What a Lock is answered: the replies kept from before with their stamp, those of a new record with its stamp, or a
 /// refusal.

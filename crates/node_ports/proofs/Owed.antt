@@ -2,8 +2,8 @@
 use Rattle.std.proofs.Common.{◌≡◌, ℕ, ◌+◌, ◌≤◌, Bool, true, false, List, ◌∷◌, refl, ap, ◌∙◌, inl, inr, Some, None, Option, Result, Ok, Err}
 use Rattle.std.specs.Prelude.{nat_lt, IfErr, OnOk}
 use Rattle.std.proofs.lemmas.Bool.{ltb-false}
-use Rattle.cbdc_types.specs.declared.calls.NodeFault.{NodeFault}
-use Rattle.cbdc_types.specs.declared.calls.NodeFault.TheVariants.{Broken, Refused as Refuses, ClockEnd, Full, DiskFault, Memory}
+use Rattle.node_faults.specs.declared.NodeFault.{NodeFault}
+use Rattle.node_faults.specs.declared.NodeFault.TheVariants.{Broken, Refused as Refuses, ClockEnd, Full, DiskFault, Memory}
 use Rattle.cbdc_model.specs.Records.{Record}
 use Rattle.cbdc_model.specs.Due.{Due, Answers, Writes, unless_broken, if_early, if_room}
 use Rattle.cbdc_model.specs.Sights.{Sight, IsSameNode, Meets, MeetsFault}

@@ -6,7 +6,7 @@ use Rattle.cbdc_types.specs.declared.calls.LockCall.{LockCall}
 use Rattle.cbdc_types.specs.declared.calls.FinishCall.{FinishCall}
 use Rattle.cbdc_types.specs.declared.calls.ForgetCall.{ForgetCall}
 use Rattle.cbdc_types.specs.declared.calls.Replied.{Replied}
-use Rattle.cbdc_types.specs.declared.calls.NodeFault.{NodeFault}
+use Rattle.node_faults.specs.declared.NodeFault.{NodeFault}
 use Rattle.cbdc_model.specs.Records.{Header, Shape, Record, kind_of, is_of, is_in_lane, record_of, stamp_in, Finish, Forget}
 use Rattle.cbdc_model.specs.Slots.{slot_stamp}
 use Rattle.cbdc_model.specs.Grammar.{IsReply}

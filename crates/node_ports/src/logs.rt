@@ -12,9 +12,10 @@ ghost use Rattle.coord_log.specs.Logs.{sight};
 ghost use Rattle.node_ports.specs.Nodes.{sight_at, KeepsRest, IsLogHeld, AreLogsHeld};
 ghost use Rattle.node_ports.specs.Moving.{DecidedMoves};
 
-use cbdc_types::{BatchId, CompactTx, LaneId, NodeFault, NodeId, Outcome, Replies, Stamp};
+use cbdc_types::{BatchId, CompactTx, LaneId, NodeId, Outcome, Replies, Stamp};
 use coord_log::CoordLog;
 use lane_driver::LogPort;
+use node_faults::NodeFault;
 use outside::{Disk, Gate, Point, When};
 use std::sync::Wait;
 

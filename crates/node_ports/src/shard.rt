@@ -8,8 +8,9 @@ ghost use Rattle.lane_driver.specs.Told.{IsStamp, IsStillNode};
 ghost use Rattle.shard_node.specs.Shards.{sight_of};
 ghost use Rattle.node_ports.specs.Nodes.{IsShardHeld};
 
-use cbdc_types::{FinishCall, ForgetCall, LaneId, LockCall, NodeFault, NodeId, Replied, Stamp};
+use cbdc_types::{FinishCall, ForgetCall, LaneId, LockCall, NodeId, Replied, Stamp};
 use lane_driver::ShardPort;
+use node_faults::NodeFault;
 use outside::{Disk, Gate, Point, When};
 use shard_node::ShardNode;
 use std::sync::Wait;

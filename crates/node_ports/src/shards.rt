@@ -9,8 +9,9 @@ ghost use Rattle.shard_node.specs.Shards.{sight_of};
 ghost use Rattle.node_ports.specs.Nodes.{sight_at, AreShardsHeld};
 
 use crate::shard::NodeShard;
-use cbdc_types::{FinishCall, ForgetCall, LaneId, LockCall, NodeFault, NodeId, Replied, Stamp};
+use cbdc_types::{FinishCall, ForgetCall, LaneId, LockCall, NodeId, Replied, Stamp};
 use lane_driver::{PortSet, ShardPort};
+use node_faults::NodeFault;
 use outside::{Disk, Gate};
 use shard_node::ShardNode;
 use std::sync::Wait;

@@ -1,7 +1,7 @@
 // What nodes answer: a word, and the numbers behind it.
-use cbdc_types::{NodeFault, NodeOpenFault, Refused};
 use gate_journal::{AppendFault, FormatFault, OpenFault};
 use lane_driver::LaneFaultKind;
+use node_faults::{NodeFault, NodeOpenFault, Refused};
 use record_log::{LogFault, NoLog};
 use row_records::word_of_refused;
 

@@ -10,13 +10,14 @@ use crate::state::Node;
 use crate::told::Told;
 use crate::words::{at_most, expect, forget_call};
 use cbdc_types::{
-    BatchId, CompactTx, FinishCall, ForgetCall, Hash, Header, LaneId, List, LockCall, NodeFault,
-    Outcome, Replied, Replies, Reply, Shape, ShardReplies, Stamp,
+    BatchId, CompactTx, FinishCall, ForgetCall, Hash, Header, LaneId, List, LockCall, Outcome,
+    Replied, Replies, Reply, Shape, ShardReplies, Stamp,
 };
 use coord_core::LanePhase;
 use coord_log::CoordLog;
 use mem_devices::FaultDisk;
 use model_check::is_batch_of;
+use node_faults::NodeFault;
 use row_records::{Known, batch_of, finish_call, hash, lock_call, small, txs};
 use row_text::{Wrong, number, rest, word};
 use shard_node::{ShardNode, is_finish_call, is_forget_call, is_lock_call};

@@ -6,13 +6,14 @@ use crate::ledgers::tell_stop;
 use crate::told::Told;
 use crate::words::{at_most, expect, forget_call, record};
 use cbdc_types::{
-    BatchId, CompactTx, FinishCall, ForgetCall, Hash, LaneId, List, LockCall, NodeFault, Outcome,
-    Record, Replied, Replies, Reply, Shape, Stamp,
+    BatchId, CompactTx, FinishCall, ForgetCall, Hash, LaneId, List, LockCall, Outcome, Record,
+    Replied, Replies, Reply, Shape, Stamp,
 };
 use lane_driver::{
     BatchRoom, LaterRoom, ShardFault, finish_calls, forget_calls, gather, latest, lock_calls,
     no_memory,
 };
+use node_faults::NodeFault;
 use row_records::{Known, finish_call, lock_call, small, txs};
 use row_text::{Wrong, check_yes, number, rest, word, words_around};
 use std::alloc::{AllocError, Global};

@@ -1,7 +1,7 @@
 -- A node's disk is refused in one way at most.
 use Rattle.std.specs.Prelude.{◌≡◌, ◌+◌, ◌≤◌, ℕ, List}
-use Rattle.cbdc_types.specs.declared.calls.NodeOpenFault.{NodeOpenFault}
-use Rattle.cbdc_types.specs.declared.calls.NodeOpenFault.TheVariants.{DiskFault, NotReady, OtherKind, Damaged, Full, Memory}
+use Rattle.node_faults.specs.declared.NodeOpenFault.{NodeOpenFault}
+use Rattle.node_faults.specs.declared.NodeOpenFault.TheVariants.{DiskFault, NotReady, OtherKind, Damaged, Full, Memory}
 use Rattle.cbdc_model.specs.Records.{Header, Record}
 use Rattle.cbdc_model.specs.Room.{kept_room}
 use Rattle.cbdc_model.specs.Due.{used_of}

@@ -1,11 +1,10 @@
 // What faults tell a person, by their Display.
 use crate::told::Told;
 use byte_fields::{Fault, ReadError};
-use cbdc_types::{
-    BadShape, InputKind, NodeFault, NodeOpenFault, Refusal, Refused, ShapeField, Stamp,
-};
+use cbdc_types::{BadShape, InputKind, Refusal, ShapeField, Stamp};
 use client_files::{BadFile, FetchFault, FileFault};
 use line_text::WriteFault;
+use node_faults::{NodeFault, NodeOpenFault, Refused};
 use outside::Failed;
 use record_codec::RecordFault;
 use requests::WordsFault;

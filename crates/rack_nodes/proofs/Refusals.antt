@@ -2,8 +2,8 @@
 use Rattle.std.proofs.Common.{◌≡◌, ◌≢◌, Bool, false, inl, inr, ℕ, ◌+◌, ◌≤◌, List, ◌++◌, Option, None, refl, sym, ◌∙◌, subst, arith, rules}
 use Rattle.cbdc_types.specs.declared.answer.Answer.{Answer}
 use Rattle.cbdc_types.specs.declared.answer.Answer.TheVariants as answers
-use Rattle.cbdc_types.specs.declared.calls.NodeOpenFault.{NodeOpenFault}
-use Rattle.cbdc_types.specs.declared.calls.NodeOpenFault.TheVariants as faults
+use Rattle.node_faults.specs.declared.NodeOpenFault.{NodeOpenFault}
+use Rattle.node_faults.specs.declared.NodeOpenFault.TheVariants as faults
 use Rattle.cbdc_model.specs.Records.{Header, Record, Genesis, Lock, Finish, Forget, Start, Prepare, Commit, Discard, Done}
 use Rattle.cbdc_model.specs.Room.{kept_room}
 use Rattle.cbdc_model.specs.Due.{used_of}

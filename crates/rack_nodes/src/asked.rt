@@ -4,7 +4,8 @@ ghost use Rattle.std.specs.Option.{option_copied};
 ghost use Rattle.rack_nodes.specs.Asked.{asked_of as header_asked, IsAsked};
 ghost use Rattle.rack_nodes.specs.Refused.{told_of, IsNodeRefusal};
 
-use cbdc_types::{Answer, Header, NodeId, NodeOpenFault};
+use cbdc_types::{Answer, Header, NodeId};
+use node_faults::NodeOpenFault;
 
 // The header that a node of the ledger should have, or of the ledger that it keeps.
 fn asked_of(kept: &Header, node: NodeId, ledger: Option<&Header>) -> Header

@@ -6,7 +6,8 @@ ghost use Rattle.rack_nodes.specs.Places.{IsOpening};
 ghost use Rattle.rack_nodes.specs.Blank.{AreWhole, IsInUse, IsUnused, IsNoBlank, IsBlankRefusal};
 
 use crate::OnDisk;
-use cbdc_types::{Answer, Header, NodeId, NodeOpenFault};
+use cbdc_types::{Answer, Header, NodeId};
+use node_faults::NodeOpenFault;
 use outside::Disk;
 use record_log::{NoLog, open_records};
 use std::alloc::Global;

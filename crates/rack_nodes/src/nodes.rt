@@ -12,8 +12,9 @@ ghost use Rattle.rack_nodes.specs.Refused.{IsNoNode, IsNodeRefusal};
 
 use crate::OnDisk;
 use crate::asked::{answer_of, foreign, is_asked};
-use cbdc_types::{Answer, Header, NodeId, NodeOpenFault};
+use cbdc_types::{Answer, Header, NodeId};
 use coord_log::CoordLog;
+use node_faults::NodeOpenFault;
 use outside::Disk;
 use shard_node::ShardNode;
 use std::alloc::Global;

@@ -13,8 +13,9 @@ ghost use Rattle.record_log.specs.Reading.{IsRead, IsUnread, IsNoLog, HoldsBefor
 ghost use Rattle.record_log.specs.Logs.{HoldsAll};
 
 use crate::RecordLog;
-use cbdc_types::{Header, List, NodeOpenFault, Record};
+use cbdc_types::{Header, List, Record};
 use gate_journal::{Journal, OpenFault};
+use node_faults::NodeOpenFault;
 use outside::Disk;
 use record_codec::{RecordFault, read_first, read_record};
 use std::alloc::Global;

@@ -10,7 +10,7 @@ use Rattle.cbdc_model.specs.Grammar.{HasSize, IsBatchOf, IsCompact}
 use Rattle.cbdc_model.specs.Records.{Shape, Entry, Record, outcomes_of}
 use Rattle.cbdc_model.specs.Lanes.{IsEnd}
 use Rattle.cbdc_model.specs.Sights.{Sight}
-use Rattle.cbdc_types.specs.declared.calls.NodeFault.{NodeFault}
+use Rattle.node_faults.specs.declared.NodeFault.{NodeFault}
 use Rattle.lane_laws.specs.Calls.{AreParts, lock_of}
 use Rattle.lane_laws.specs.Traces.{DiscardedStopped, CommittedStopped, PreparedStopped}
 use Rattle.lane_laws.specs.Resuming.{IsPreparedAt, IsCommittedAt, IsDiscardedAt, IsTakenUp, IsLeft}

@@ -2,7 +2,8 @@
 use crate::known::Known;
 use crate::records::part;
 use crate::words::{batch_of, decisions, put_hash_word};
-use cbdc_types::{BatchId, FinishCall, ForgetCall, Hash, LockCall, Outcome, Refused, Reply, Stamp};
+use cbdc_types::{BatchId, FinishCall, ForgetCall, Hash, LockCall, Outcome, Reply, Stamp};
+use node_faults::Refused;
 use row_text::{Wrong, number, put_count, put_word, rest, word};
 use std::alloc::{AllocError, Global};
 

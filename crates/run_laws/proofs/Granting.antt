@@ -1,7 +1,7 @@
 -- In checked journals no shard refuses a call of a lane's open batch.
 use Rattle.std.proofs.Common.{◌≡◌, ℕ, ◌<◌, Bool, true, false, ◌&&◌, not, nat_lt, List, ◌++◌, Some, is_some, sym, ap, ◌∙◌, subst, arith}
-use Rattle.cbdc_types.specs.declared.calls.Refused.{Refused}
-use Rattle.cbdc_types.specs.declared.calls.NodeFault.TheVariants.{Refused as Refuses}
+use Rattle.node_faults.specs.declared.Refused.{Refused}
+use Rattle.node_faults.specs.declared.NodeFault.TheVariants.{Refused as Refuses}
 use Rattle.cbdc_model.specs.Records.{Shape, Batch, Compact, Outcome, Record, Row, journal, record_of, txs_of, txs_in, outcomes_in, outcomes_of, Finish, Forget, Prepare, Commit, Discard}
 use Rattle.cbdc_model.specs.Slots.{slot, Idle, InPrepare, InCommit}
 use Rattle.cbdc_model.specs.Outcomes.{decisions}

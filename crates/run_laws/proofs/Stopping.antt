@@ -1,11 +1,11 @@
 -- Why a lane stopped, by checked journals.
 use Rattle.std.proofs.Common.{◌≡◌, inl, inr, ℕ, zero, suc, ◌+◌, ◌-◌, ◌^◌, ◌<◌, ◌≤◌, Bool, true, false, ◌&&◌, ◌||◌, not, ◌==◌, nat_lt, if◌then◌else◌, List, [], Some, None, is_some, Err, refl, sym, ap, ◌∙◌, subst, arith}
 use Rattle.cbdc_types.specs.declared.calls.LockCall.{LockCall}
-use Rattle.cbdc_types.specs.declared.calls.Refused.{Refused}
-use Rattle.cbdc_types.specs.declared.calls.Refused.TheVariants.{Stale, LaneOpen, EarlyStamp}
+use Rattle.node_faults.specs.declared.Refused.{Refused}
+use Rattle.node_faults.specs.declared.Refused.TheVariants.{Stale, LaneOpen, EarlyStamp}
 use Rattle.cbdc_types.specs.declared.calls.Replied.{Replied}
-use Rattle.cbdc_types.specs.declared.calls.NodeFault.{NodeFault}
-use Rattle.cbdc_types.specs.declared.calls.NodeFault.TheVariants.{Broken, Refused as Refuses, ClockEnd, Full, DiskFault, Memory}
+use Rattle.node_faults.specs.declared.NodeFault.{NodeFault}
+use Rattle.node_faults.specs.declared.NodeFault.TheVariants.{Broken, Refused as Refuses, ClockEnd, Full, DiskFault, Memory}
 use Rattle.cbdc_model.specs.Records.{Shape, Batch, Compact, Entry, Record, record_of, lock_of, stamp_of, stamp_in, last_stamp, Finish, Forget, Prepare, Commit, Discard}
 use Rattle.cbdc_model.specs.Slots.{Phase, slot, slot_stamp, Idle, InPrepare, InCommit, InDiscard}
 use Rattle.cbdc_model.specs.Replies.{answered, entries, replies}

@@ -1,8 +1,8 @@
 -- What checked journals say of a lane's fault.
 use Rattle.std.specs.Prelude.{◌≡◌, ℕ, ◌+◌, ◌-◌, ◌^◌, ◌<◌, ◌≤◌, true, nat_lt, if◌then◌else◌, List, Some}
-use Rattle.cbdc_types.specs.declared.calls.Refused.{Refused}
-use Rattle.cbdc_types.specs.declared.calls.NodeFault.{NodeFault}
-use Rattle.cbdc_types.specs.declared.calls.NodeFault.TheVariants.{Broken, Refused as Refuses, ClockEnd, Full, DiskFault, Memory}
+use Rattle.node_faults.specs.declared.Refused.{Refused}
+use Rattle.node_faults.specs.declared.NodeFault.{NodeFault}
+use Rattle.node_faults.specs.declared.NodeFault.TheVariants.{Broken, Refused as Refuses, ClockEnd, Full, DiskFault, Memory}
 use Rattle.cbdc_model.specs.Records.{Shape, Batch, Compact, Record, record_of, stamp_of, Prepare}
 use Rattle.cbdc_model.specs.Slots.{Phase, slot, Idle, InPrepare, InCommit}
 use Rattle.cbdc_model.specs.Ranges.{home_of, shard_node, part}

@@ -1,6 +1,6 @@
 -- What a lane's turn comes to for all journals, by what its driver says of it.
 use Rattle.std.specs.Prelude.{◌≡◌, ◌⊎◌, ◌≢◌, ℕ, ◌<◌, true, false, List, [], ◌∷◌}
-use Rattle.cbdc_types.specs.declared.calls.NodeFault.{NodeFault}
+use Rattle.node_faults.specs.declared.NodeFault.{NodeFault}
 use Rattle.cbdc_model.specs.Records.{Shape, Batch, Compact, Outcome, Record}
 use Rattle.cbdc_model.specs.Ranges.{home_of, shard_node}
 use Rattle.cbdc_model.specs.Slots.{slot, Idle}

@@ -1,7 +1,7 @@
 -- What a Finish is answered, by the lane's slot.
 use Rattle.std.proofs.Common.{◌≡◌, ℕ, ◌<◌, ◌≤◌, List, Bool, Some, None, arith, ap, sym, ◌∙◌}
 use Rattle.std.proofs.lemmas.Grind.{common_steps}
-use Rattle.cbdc_types.specs.declared.calls.Refused.TheVariants.{Stale, NotLocked, OtherOutcome, EarlyStamp}
+use Rattle.node_faults.specs.declared.Refused.TheVariants.{Stale, NotLocked, OtherOutcome, EarlyStamp}
 use Rattle.cbdc_model.specs.Records.{Batch, Record, Entry, Reply, lock_of, record_of, decisions_in, stamp_in}
 use Rattle.cbdc_model.specs.Slots.{Phase, slot, Idle}
 use Rattle.cbdc_model.specs.Replies.{replies}

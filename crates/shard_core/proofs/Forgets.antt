@@ -1,7 +1,7 @@
 -- What a Forget is answered, by the lane's slot.
 use Rattle.std.proofs.Common.{◌≡◌, ℕ, ◌<◌, ◌≤◌, List, arith}
 use Rattle.std.proofs.lemmas.Grind.{common_steps}
-use Rattle.cbdc_types.specs.declared.calls.Refused.TheVariants.{Stale, NotLocked, NotFinished, EarlyStamp}
+use Rattle.node_faults.specs.declared.Refused.TheVariants.{Stale, NotLocked, NotFinished, EarlyStamp}
 use Rattle.cbdc_model.specs.Records.{Batch, Record}
 use Rattle.cbdc_model.specs.Slots.{Phase, slot, slot_stamp, Idle, InLock, InFinish}
 use Rattle.cbdc_model.specs.Next.{next_forget, next_stamp, Kept, Append, Refuse}

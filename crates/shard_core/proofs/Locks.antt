@@ -1,7 +1,7 @@
 -- What a Lock is answered, by the lane's slot.
 use Rattle.std.proofs.Common.{◌≡◌, ℕ, ◌<◌, ◌≤◌, List, [], false, Some, None, arith, ap, sym, ◌∙◌}
 use Rattle.std.proofs.lemmas.Grind.{common_steps}
-use Rattle.cbdc_types.specs.declared.calls.Refused.TheVariants.{Stale, LaneOpen, OtherPart, EarlyStamp}
+use Rattle.node_faults.specs.declared.Refused.TheVariants.{Stale, LaneOpen, OtherPart, EarlyStamp}
 use Rattle.cbdc_model.specs.Records.{Batch, Record, Entry, lock_of}
 use Rattle.cbdc_model.specs.Slots.{Phase, slot, slot_stamp, Idle}
 use Rattle.cbdc_model.specs.Replies.{replies, entries, answered}

@@ -18,9 +18,10 @@ use crate::plans::{LockPlan, Remembered, StampPlan};
 use crate::replying::{replies_to, status_of};
 use cbdc_types::{
     Answered, BatchId, Decisions, Entry, FinishCall, ForgetCall, Hash, Header, LaneId, List,
-    LockCall, Part, Record, Refused, Replied, Reply, Stamp, Status,
+    LockCall, Part, Record, Replied, Reply, Stamp, Status,
 };
 use dtx_replies::{Slot, Slots};
+use node_faults::Refused;
 use record_grammar::is_in_grammar;
 use shard_locks::Locks;
 use shard_table::Table;

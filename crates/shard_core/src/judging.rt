@@ -12,10 +12,9 @@ ghost use Rattle.shard_core.specs.Plans.{stamp_plan, replies_at};
 
 use crate::comparing::{misfit, other_decisions, other_part};
 use crate::plans::StampPlan;
-use cbdc_types::{
-    Entry, FinishCall, ForgetCall, List, LockCall, Part, Refused, Replied, Reply, Stamp,
-};
+use cbdc_types::{Entry, FinishCall, ForgetCall, List, LockCall, Part, Replied, Reply, Stamp};
 use dtx_replies::Slot;
+use node_faults::Refused;
 use std::alloc::{AllocError, Global};
 
 // What a Lock is answered, before any memory is taken.

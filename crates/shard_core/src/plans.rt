@@ -1,5 +1,6 @@
 // What a shard answers to a call.
-use cbdc_types::{Refused, Replied, Stamp};
+use cbdc_types::{Replied, Stamp};
+use node_faults::Refused;
 
 /// The answer to a Lock.
 #[derive(Drop)]

@@ -1,7 +1,7 @@
 -- What no call changes at a node.
 use Rattle.std.proofs.Common.{inl, inr, Bool, List, Result, Ok, Err}
-use Rattle.cbdc_types.specs.declared.calls.NodeFault.{NodeFault}
-use Rattle.cbdc_types.specs.declared.calls.NodeFault.TheVariants.{Broken, Refused as Refuses, ClockEnd, Full, DiskFault, Memory}
+use Rattle.node_faults.specs.declared.NodeFault.{NodeFault}
+use Rattle.node_faults.specs.declared.NodeFault.TheVariants.{Broken, Refused as Refuses, ClockEnd, Full, DiskFault, Memory}
 use Rattle.cbdc_model.specs.Records.{Record}
 use Rattle.cbdc_model.specs.Due.{Due}
 use Rattle.cbdc_model.specs.Sights.{Sight, IsSameNode, Meets}

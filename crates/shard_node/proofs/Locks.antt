@@ -5,8 +5,8 @@ use Rattle.std.specs.Prelude.{slice_get, IfSome}
 use Rattle.std.proofs.lemmas.List.Sums.{sum_by-cons}
 use Rattle.cbdc_types.specs.declared.calls.LockCall.{LockCall}
 use Rattle.cbdc_types.specs.declared.calls.Replied.{Replied}
-use Rattle.cbdc_types.specs.declared.calls.NodeFault.{NodeFault}
-use Rattle.cbdc_types.specs.declared.calls.NodeFault.TheVariants.{DiskFault, Full}
+use Rattle.node_faults.specs.declared.NodeFault.{NodeFault}
+use Rattle.node_faults.specs.declared.NodeFault.TheVariants.{DiskFault, Full}
 use Rattle.cbdc_model.specs.Records.{Header, Record, Answered, Genesis, Lock, Finish, Forget, Start, Prepare, Commit, Discard, Done}
 use Rattle.cbdc_model.specs.Slots.{slot, Idle, InLock}
 use Rattle.cbdc_types.specs.Limits.{IsWithinLimits}

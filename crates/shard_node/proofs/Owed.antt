@@ -4,9 +4,9 @@ use Rattle.std.proofs.lemmas.Bool.Decides.{nat_tests}
 use Rattle.cbdc_types.specs.declared.calls.LockCall.{LockCall}
 use Rattle.cbdc_types.specs.declared.calls.FinishCall.{FinishCall}
 use Rattle.cbdc_types.specs.declared.calls.ForgetCall.{ForgetCall}
-use Rattle.cbdc_types.specs.declared.calls.Refused.{Refused}
+use Rattle.node_faults.specs.declared.Refused.{Refused}
 use Rattle.cbdc_types.specs.declared.calls.Replied.{Replied}
-use Rattle.cbdc_types.specs.declared.calls.NodeFault.TheVariants.{Broken, Refused as Refuses, ClockEnd, Full}
+use Rattle.node_faults.specs.declared.NodeFault.TheVariants.{Broken, Refused as Refuses, ClockEnd, Full}
 use Rattle.cbdc_model.specs.Records.{Shape, Record, Finish, Forget}
 use Rattle.cbdc_model.specs.Next.{Plan, RepliesAt, Kept, Append, Refuse, next_lock, next_finish, next_forget, next_stamp}
 use Rattle.cbdc_model.specs.Room.{need_of}

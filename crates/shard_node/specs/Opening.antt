@@ -1,7 +1,7 @@
 -- What a disk's bytes are as a shard's journal.
 use Rattle.std.specs.Prelude.{◌≡◌, ℕ, ◌+◌, ◌-◌, ◌^◌, ◌<◌, min, List, [], ◌∷◌, ◌++◌, reverse, sum_by}
-use Rattle.cbdc_types.specs.declared.calls.NodeOpenFault.{NodeOpenFault}
-use Rattle.cbdc_types.specs.declared.calls.NodeOpenFault.TheVariants.{DiskFault, NotReady, OtherKind, Damaged, Full, Memory}
+use Rattle.node_faults.specs.declared.NodeOpenFault.{NodeOpenFault}
+use Rattle.node_faults.specs.declared.NodeOpenFault.TheVariants.{DiskFault, NotReady, OtherKind, Damaged, Full, Memory}
 use Rattle.cbdc_types.specs.Limits.{IsWithinLimits}
 use Rattle.cbdc_model.specs.Records.{Header, Record, Start}
 use Rattle.cbdc_model.specs.After.{After, IsJournal}

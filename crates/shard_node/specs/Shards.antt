@@ -1,7 +1,7 @@
 -- What contracts see of a shard on its disk.
 use Rattle.std.specs.Prelude.{◌⊎◌, ℕ, Bool, List, reverse, Option, Some, None, Result, Err}
-use Rattle.cbdc_types.specs.declared.calls.NodeFault.{NodeFault}
-use Rattle.cbdc_types.specs.declared.calls.NodeFault.TheVariants.{DiskFault}
+use Rattle.node_faults.specs.declared.NodeFault.{NodeFault}
+use Rattle.node_faults.specs.declared.NodeFault.TheVariants.{DiskFault}
 use Rattle.cbdc_model.specs.Records.{Header, Record}
 use Rattle.cbdc_model.specs.Sights.{Sight}
 use Rattle.outside.specs.Images.{Leaves}

@@ -14,7 +14,8 @@ ghost use Rattle.shard_node.specs.Parts.{IsShardOf, IsLockOf, journal_of, view_o
 
 use crate::parts::Parts;
 use crate::writing::write;
-use cbdc_types::{LaneId, List, LockCall, NodeFault, Record, Replied};
+use cbdc_types::{LaneId, List, LockCall, Record, Replied};
+use node_faults::NodeFault;
 use outside::Disk;
 use record_codec::size_of_record;
 use record_log::RecordLog;

@@ -15,9 +15,8 @@ ghost use Rattle.shard_node.specs.Shards.{HoldsJournal, LeavesBetween, sight_of,
 use crate::locking::lock_parts;
 use crate::parts::Parts;
 use crate::stamping::{finish_parts, forget_parts};
-use cbdc_types::{
-    FinishCall, ForgetCall, Hash, Header, LockCall, NodeFault, Record, Replied, Stamp, Status,
-};
+use cbdc_types::{FinishCall, ForgetCall, Hash, Header, LockCall, Record, Replied, Stamp, Status};
+use node_faults::NodeFault;
 use outside::Disk;
 use shard_core::Remembered;
 use std::alloc::Global;

@@ -1,6 +1,6 @@
 // Opening a shard.
 ghost use Rattle.std.specs.Prelude.{◌≡◌, ◌≢◌, ◌+◌, ◌≤◌, ◌∷◌, [], ℕ, List as Items, None, length, reverse, sum_by, vec_capacity, All, IfOk, IfErr, MatchResult};
-ghost use Rattle.cbdc_types.specs.declared.calls.NodeOpenFault.{NodeOpenFault as TheFault};
+ghost use Rattle.node_faults.specs.declared.NodeOpenFault.{NodeOpenFault as TheFault};
 ghost use Rattle.outside.specs.Counts.{Rose};
 ghost use Rattle.outside.specs.Images.{Tells, Leaves};
 ghost use Rattle.gate_journal.specs.Shown.{disk_of, gate_of, broken_of};
@@ -19,7 +19,8 @@ use crate::ShardNode;
 use crate::locking::LARGEST_FINISH;
 use crate::parts::Parts;
 use crate::writing::apply;
-use cbdc_types::{Header, NodeOpenFault, Record};
+use cbdc_types::{Header, Record};
+use node_faults::NodeOpenFault;
 use outside::Disk;
 use record_codec::size_of_record;
 use record_log::{NoLog, RecordLog, open_records};

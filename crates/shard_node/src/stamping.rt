@@ -13,7 +13,8 @@ ghost use Rattle.shard_node.specs.Parts.{IsShardOf, journal_of, view_of};
 
 use crate::parts::Parts;
 use crate::writing::write;
-use cbdc_types::{Decisions, FinishCall, ForgetCall, LaneId, List, NodeFault, Record, Stamp};
+use cbdc_types::{Decisions, FinishCall, ForgetCall, LaneId, List, Record, Stamp};
+use node_faults::NodeFault;
 use outside::Disk;
 use shard_core::StampPlan;
 use std::alloc::Global;

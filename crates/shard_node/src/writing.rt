@@ -10,7 +10,8 @@ ghost use Rattle.shard_node.specs.Shards.{HoldsJournal, LeavesBetween};
 ghost use Rattle.shard_node.specs.Parts.{HasWritten, HasFailed, view_of};
 
 use crate::parts::Parts;
-use cbdc_types::{NodeFault, Record};
+use cbdc_types::Record;
+use node_faults::NodeFault;
 use outside::Disk;
 use record_log::LogFault;
 use shard_core::ShardCore;

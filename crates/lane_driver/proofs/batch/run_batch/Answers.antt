@@ -1,5 +1,5 @@
 use Rattle.std.proofs.Common.{inl, refl}
-use Rattle.cbdc_types.specs.declared.calls.NodeFault.TheVariants.{Memory}
+use Rattle.node_faults.specs.declared.NodeFault.TheVariants.{Memory}
 use Rattle.lane_driver.proofs.Batching.{one_granted, one_stops, one_told}
 use Rattle.lane_driver.proofs.batch.run_batch.Goals as goal
 

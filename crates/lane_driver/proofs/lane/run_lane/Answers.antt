@@ -6,7 +6,7 @@ use Rattle.cbdc_model.specs.Grammar.{IsCompact}
 use Rattle.lane_driver.proofs.Fitting.{elsewhere_on, others_on, nodes_same, nodes_on, ledger_kept}
 use Rattle.lane_laws.specs.Batches.{LaneSo}
 use Rattle.lane_laws.proofs.Laning.{lane_begins}
-use Rattle.cbdc_types.specs.declared.calls.NodeFault.TheVariants.{Memory}
+use Rattle.node_faults.specs.declared.NodeFault.TheVariants.{Memory}
 use Rattle.cbdc_model.specs.Slots.{slot}
 use Rattle.lane_driver.proofs.Batching.{one_granted, one_stops, one_told, lane_on, done_on, lane_off, lane_told, none_left}
 use Rattle.lane_driver.specs.Reports.{IsReported, AreDone}

@@ -1,7 +1,7 @@
 use Rattle.std.proofs.Common.{sym, subst, arith}
 use Rattle.std.specs.Option.{option_copied}
 use Rattle.cbdc_types.specs.declared.answer.Answer.{Answer}
-use Rattle.cbdc_types.specs.declared.calls.NodeOpenFault.{NodeOpenFault}
+use Rattle.node_faults.specs.declared.NodeOpenFault.{NodeOpenFault}
 use Rattle.coord_log.specs.Opening.{IsNoCoord}
 use Rattle.rack_nodes.specs.Asked.{IsShardNode}
 use Rattle.rack_nodes.specs.Refused.{IsNoNode}

@@ -10,7 +10,7 @@ use Rattle.recovery.proofs.Untouched.{stands_here, stand_rest, home_there, still
 use Rattle.recovery.proofs.Rest.{open_here, rise_rest, open_rest, resumed_more}
 use Rattle.recovery.proofs.InOrder.{came_of, came_more, kept_none, over_more, unlisted_more}
 use Rattle.recovery.proofs.Onward.{made_by, log_grows, shard_grows, logs_gone, shards_gone, caused_now, caused_more}
-use Rattle.cbdc_types.specs.declared.calls.NodeFault.TheVariants.{Memory}
+use Rattle.node_faults.specs.declared.NodeFault.TheVariants.{Memory}
 use Rattle.cbdc_types.specs.declared.batch.OpenLane.{OpenLane}
 use Rattle.recovery.proofs.resuming.resume.Goals as goal
 

@@ -1,7 +1,7 @@
 use Rattle.std.proofs.Common.{◌≡◌, true, ◌≤◌, ◌<◌, ◌∷◌, [], Err, ℕ, List, suc, refl, ap, sym, ◌∙◌, subst, arith, length, reverse, None, Some, false}
 use Rattle.std.specs.Prelude.{All}
 use Rattle.gate_journal.specs.Shown.{broken_of}
-use Rattle.cbdc_types.specs.declared.calls.NodeFault.TheVariants.{Broken, ClockEnd}
+use Rattle.node_faults.specs.declared.NodeFault.TheVariants.{Broken, ClockEnd}
 use Rattle.cbdc_model.specs.Records.{Header, Record, Outcome, is_in_lane, txs_of, outcomes_in, Commit}
 use Rattle.cbdc_model.specs.Grammar.{IsOutcome}
 use Rattle.cbdc_model.specs.Slots.{InPrepare}

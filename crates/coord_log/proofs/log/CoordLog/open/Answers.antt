@@ -8,7 +8,7 @@ use Rattle.coord_log.specs.Inside.{shown}
 use Rattle.coord_log.specs.Opening.{IsCoordJournal}
 use Rattle.coord_log.proofs.Opened.{holds_same}
 use Rattle.coord_log.proofs.Written.{to_journal}
-use Rattle.cbdc_types.specs.declared.calls.NodeOpenFault.TheVariants.{DiskFault}
+use Rattle.node_faults.specs.declared.NodeOpenFault.TheVariants.{DiskFault}
 use Rattle.coord_log.proofs.log.CoordLog.open.Goals as goal
 
 pub of_parts-requires : goal.of_parts-requires

@@ -3,7 +3,7 @@ use Rattle.gate_journal.specs.Shown.{broken_of, disk_of, gate_of}
 use Rattle.cbdc_model.specs.Records.{Header, Batch, Prepare}
 use Rattle.cbdc_model.specs.Room.{size_of, room_behind_prepare}
 use Rattle.cbdc_model.specs.After.{IsJournal}
-use Rattle.cbdc_types.specs.declared.calls.NodeFault.TheVariants.{Full}
+use Rattle.node_faults.specs.declared.NodeFault.TheVariants.{Full}
 use Rattle.cbdc_model.specs.Due.{Answers, Writes, last_early, prepare_due}
 use Rattle.cbdc_model.specs.Sights.{Stays}
 use Rattle.coord_core.specs.Lanes.{IsOwn, kept_of, next_batch}

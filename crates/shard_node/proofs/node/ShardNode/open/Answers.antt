@@ -1,6 +1,6 @@
 use Rattle.std.proofs.Common.{refl, ◌∙◌, arith}
 use Rattle.shard_node.proofs.Opens.{opened_holds}
-use Rattle.cbdc_types.specs.declared.calls.NodeOpenFault.TheVariants.{DiskFault}
+use Rattle.node_faults.specs.declared.NodeOpenFault.TheVariants.{DiskFault}
 use Rattle.shard_node.proofs.node.ShardNode.open.Goals as goal
 
 pub returns-in-Ok-opened_of-clause-opens : goal.returns-in-Ok-opened_of-clause-opens
