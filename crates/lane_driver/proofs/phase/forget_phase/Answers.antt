@@ -32,3 +32,4 @@ pub returns-in-Err-clause-fault : goal.returns-in-Err-clause-fault
 returns-in-Err-clause-fault g c =
     shard_fault c.args.shape.now (ForgetAnswer g.S.PortSet.alone) c.args.calls.now (g.S.PortSet.sights c.args.shards.now) (g.S.PortSet.sights c.forget.new.self) c.of_shard.result
     (λ d old new f t. forget_caused g.S.PortSet.alone d old new f t) c.requires.shards (returns-in-Err-clause-stopped g c)
+

@@ -26,3 +26,4 @@ pub returns-in-Err-clause-fault : goal.returns-in-Err-clause-fault
 returns-in-Err-clause-fault g c =
     shard_fault c.args.shape.now (LockAnswer g.S.PortSet.alone) c.args.calls.now (g.S.PortSet.sights c.args.shards.now) (g.S.PortSet.sights c.lock.new.self) c.of_shard.result
     (λ d old new f t. lock_caused g.S.PortSet.alone d old new f t) c.requires.shards (returns-in-Err-clause-stopped g c)
+
