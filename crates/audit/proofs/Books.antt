@@ -9,7 +9,7 @@ use Rattle.std.proofs.lemmas.Cmp.{eq_by_cmp_equiv}
 use Rattle.std.specs.FinMap as book
 use Rattle.std.specs.Ordering.{eq_by_cmp}
 use Rattle.std.specs.Cmp.Lexicographic.{nat_list_cmp_total}
-use Rattle.cbdc_types.specs.contracts.hash.HashPartialEq.TheImpl.{eq-value}
+use Rattle.base_types.specs.contracts.hash.HashPartialEq.TheImpl.{eq-value}
 use Rattle.cbdc_model.specs.Records.{Digest}
 use Rattle.cbdc_model.specs.Coins.{OutPoint, Output, Coin, made_coins}
 use Rattle.cbdc_model.specs.Book.{Book, key, value, same_output, taken, take_out, take_all as model_take, put_all}

@@ -2,7 +2,7 @@
 use Rattle.std.proofs.Common.{◌≡◌, ◌<◌, ◌+◌, ℕ, zero, suc, Bool, true, false, cond, ◌&&◌, List, [], ◌∷◌, ◌++◌, length, take, drop, get_or, find, Option, Some, None, is_some, option_map, refl, sym, ap, ◌∙◌, subst, arith}
 use Rattle.std.proofs.lemmas.List.{take_more, take-append-drop, drop_more}
 use Rattle.std.specs.Map.{lookup}
-use Rattle.cbdc_types.specs.contracts.hash.HashPartialEq.TheImpl.{eq-value}
+use Rattle.base_types.specs.contracts.hash.HashPartialEq.TheImpl.{eq-value}
 use Rattle.cbdc_model.specs.Records.{Digest, same_digest, Compact}
 use Rattle.cbdc_model.specs.Coins.{FullTx, tx_id, compact}
 use Rattle.cbdc_model.specs.Next.{same_digests}

@@ -2,7 +2,7 @@
 use Rattle.std.specs.Prelude.{◌≡◌, ◌<◌, ℕ, Bool, true, false, ◌&&◌, nat_eq, List, [], length, sum_by, find, Option, Some, None, option_map, slice_index_or}
 use Rattle.std.specs.HashMap.{get, values, hash_map_len}
 use Rattle.std.specs.FinMap as book
-use Rattle.cbdc_types.specs.contracts.hash.HashPartialEq.TheImpl.{eq-value}
+use Rattle.base_types.specs.contracts.hash.HashPartialEq.TheImpl.{eq-value}
 use Rattle.cbdc_model.specs.Records.{Digest, same_digest, Shape, Compact, Record, journal}
 use Rattle.cbdc_model.specs.Coins.{OutPoint, Output, FullTx, tx_id}
 use Rattle.cbdc_model.specs.Book.{Book, key, value}

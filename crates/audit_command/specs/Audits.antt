@@ -5,7 +5,7 @@ use Rattle.line_text.specs.Lines.{Text}
 use Rattle.cbdc_types.specs.declared.answer.Answer.{Answer}
 use Rattle.cbdc_types.specs.declared.answer.Answer.TheVariants as answers
 use Rattle.cbdc_model.specs.Coins.{Output, FullTx, genesis_id}
-use Rattle.command_line.specs.declared.request.FileWord.{FileWord}
+use Rattle.requests.specs.declared.FileWord.{FileWord}
 use Rattle.input_files.specs.Contents.{mint_of_file, AreRead, IsNotRead, FirstNotRead}
 use Rattle.audit.specs.declared.verdict.Totals.{Totals}
 use Rattle.audit.specs.declared.verdict.Verdict.{Verdict}

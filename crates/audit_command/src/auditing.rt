@@ -13,10 +13,10 @@ ghost use Rattle.command_answers.specs.Left.{IsBeforeDisks};
 use audit::{Totals, Verdict};
 use audited_ledgers::audit_on;
 use cbdc_types::{Answer, FullTx, List};
-use command_line::FileWord;
 use input_files::{all_clients_in, mint_in};
 use line_text::{AuditSummary, write_audit};
 use outside::{Inbox, Rack, Sink};
+use requests::FileWord;
 use std::alloc::{AllocError, Global};
 
 // The transactions of files in one list.

@@ -1,7 +1,7 @@
 -- The parts of records: what is read of one is spelled so, and what is spelled so is read again, whatever follows.
 use Rattle.std.proofs.Common.{◌≡◌, ℕ, ◌^◌, ◌<◌, Bool, true, false, inl, inr, cond, eqb, ltb, List, [], ◌∷◌, ◌++◌, length, Result, Ok, Err, refl, sym, subst, ◌∙◌, append_assoc, arith}
 use Rattle.std.proofs.lemmas.Bool.{eqb-true, ltb-true, lt-ltb}
-use Rattle.cbdc_types.specs.declared.ids.BatchId.{BatchId}
+use Rattle.base_types.specs.declared.ids.BatchId.{BatchId}
 use Rattle.cbdc_types.specs.declared.tx.CompactTx.{CompactTx}
 use Rattle.cbdc_types.specs.declared.batch.Entry.{Entry}
 use Rattle.cbdc_types.specs.declared.batch.Answered.{Answered}
@@ -9,7 +9,7 @@ use Rattle.cbdc_types.specs.declared.batch.Reply.{Reply}
 use Rattle.cbdc_types.specs.declared.batch.Reply.TheVariants as replies
 use Rattle.cbdc_types.specs.declared.batch.Outcome.{Outcome}
 use Rattle.cbdc_types.specs.declared.batch.Outcome.TheVariants as outcomes
-use Rattle.cbdc_types.specs.declared.answer.InputKind.TheVariants.{Form, Large}
+use Rattle.input_faults.specs.declared.InputKind.TheVariants.{Form, Large}
 use Rattle.byte_fields.specs.declared.fault.Fault.{Fault}
 use Rattle.byte_fields.specs.Faults.{◌>>=◌, fault, IsBytes}
 use Rattle.byte_spelling.specs.Spelling.{number, FitsNumber, FitsHash, FitsList}

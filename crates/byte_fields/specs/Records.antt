@@ -1,6 +1,6 @@
 -- The parts of records: how they are spelled and how they are read.
 use Rattle.std.specs.Prelude.{ℕ, ◌^◌, Bool, true, false, List, [], ◌∷◌, ◌++◌, slice_index, Result, Ok, Err, nat_lt, nat_eq, if◌then◌else◌}
-use Rattle.cbdc_types.specs.declared.ids.BatchId.{BatchId}
+use Rattle.base_types.specs.declared.ids.BatchId.{BatchId}
 use Rattle.cbdc_types.specs.declared.tx.CompactTx.{CompactTx}
 use Rattle.cbdc_types.specs.declared.batch.Entry.{Entry}
 use Rattle.cbdc_types.specs.declared.batch.Answered.{Answered}
@@ -8,7 +8,7 @@ use Rattle.cbdc_types.specs.declared.batch.Reply.{Reply}
 use Rattle.cbdc_types.specs.declared.batch.Reply.TheVariants as replies
 use Rattle.cbdc_types.specs.declared.batch.Outcome.{Outcome}
 use Rattle.cbdc_types.specs.declared.batch.Outcome.TheVariants as outcomes
-use Rattle.cbdc_types.specs.declared.answer.InputKind.TheVariants.{Form, Large}
+use Rattle.input_faults.specs.declared.InputKind.TheVariants.{Form, Large}
 use Rattle.byte_fields.specs.declared.fault.Fault.{Fault}
 use Rattle.byte_fields.specs.Faults.{◌>>=◌, fault}
 use Rattle.byte_fields.specs.Reading.{field_at, number_at, hash_at, list_at}

@@ -1,7 +1,7 @@
 -- The records of the journals, and how one is found. A journal is a list of records, the newest first. The reply Locked is named Taken here,
 -- and the outcomes Held, Missing and Locked are Won, Lacks and Blocked.
 use Rattle.std.specs.Prelude.{ℕ, Bool, true, false, ◌&&◌, ◌==◌, List, [], ◌∷◌, if◌then◌else◌, Option, Some, None, find, bytes_eq}
-use Rattle.cbdc_types.specs.declared.ids.BatchId.{BatchId}
+use Rattle.base_types.specs.declared.ids.BatchId.{BatchId}
 use Rattle.cbdc_types.specs.declared.tx.CompactTx.{CompactTx}
 pub use Rattle.cbdc_types.specs.Limits.{ShapeOf as Shape}
 pub use Rattle.cbdc_types.specs.declared.record.Header.{Header}

@@ -1,2 +1,2 @@
-pub mod Limits
-pub mod Fields
+pub use Rattle.ledger_shape.specs.Limits
+pub use Rattle.ledger_shape.specs.Fields

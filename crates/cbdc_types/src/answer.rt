@@ -1,70 +1,7 @@
 // What the program answers.
-use crate::{Hash, Header, NodeId, Stamp};
-use thiserror::Error;
-
-/// Why a sentinel refuses a transaction. Places count from 0.
-#[derive(Clone, Copy, Debug, PartialEq, Eq, Error)]
-pub enum Refusal {
-    #[error("there are no inputs")]
-    NoInputs,
-    #[error("there are no outputs")]
-    NoOutputs,
-    /// There are not as many witnesses as inputs.
-    #[error("there are not as many witnesses as inputs")]
-    WitnessCount,
-    /// This input's outpoint stands earlier.
-    #[error("input {0} repeats an earlier one")]
-    RepeatedInput(u64),
-    /// This input claims the value 0.
-    #[error("input {0} has the value 0")]
-    ZeroInput(u64),
-    /// This output has the value 0.
-    #[error("output {0} has the value 0")]
-    ZeroOutput(u64),
-    /// The inputs' values pass 2^64 - 1.
-    #[error("the inputs' values pass 2^64 - 1")]
-    InputOverflow,
-    /// The outputs' values pass 2^64 - 1.
-    #[error("the outputs' values pass 2^64 - 1")]
-    OutputOverflow,
-    #[error("the inputs' values come to {ins}, the outputs' to {outs}")]
-    Unbalanced { ins: u64, outs: u64 },
-    /// The verdict on this input's witness is bad.
-    #[error("the witness of input {0} is bad")]
-    BadWitness(u64),
-    /// There is no verdict on this input's witness.
-    #[error("there is no verdict on the witness of input {0}")]
-    Unverified(u64),
-}
-
-/// What is wrong with an input file.
-#[derive(Clone, Copy, Debug, PartialEq, Eq, Error)]
-pub enum InputKind {
-    /// The file ends within a field.
-    #[error("the file ends within a field")]
-    Cut,
-    /// A count is above its limit.
-    #[error("a count is above its limit")]
-    TooMany,
-    /// A witness has more than 4,096 bytes.
-    #[error("a witness has more than 4096 bytes")]
-    TooLong,
-    /// A minted output has the value 0.
-    #[error("a minted output has the value 0")]
-    Zero,
-    /// The file goes on behind the last item.
-    #[error("the file goes on behind the last item")]
-    Extra,
-    /// A field reaches past the first 2^30 bytes of a file that goes on there.
-    #[error("a field is too large")]
-    Large,
-    /// A line of a verdict file is outside its form.
-    #[error("a field or line is outside its form")]
-    Form,
-    /// A line of a verdict file has the id and index of an earlier one.
-    #[error("a line repeats an earlier one")]
-    Repeated,
-}
+use crate::Header;
+use base_types::{Hash, NodeId, Stamp};
+use input_faults::InputKind;
 
 /// What is wrong with a history.
 #[derive(Clone, Copy, Debug, PartialEq, Eq)]

@@ -1,5 +1,6 @@
 // What a batch is at a shard, and what becomes of it.
-use crate::{BatchId, CompactTx, Hash, List, Stamp};
+use crate::CompactTx;
+use base_types::{BatchId, Hash, List, Stamp};
 
 /// A transaction's share at one shard: its place in the batch, its id, and those of its hashes that lie there.
 #[derive(Clone, Debug, PartialEq, Eq, Drop)]
@@ -49,7 +50,7 @@ pub type Outcomes = List<Outcome>;
 pub type Decisions = List<bool>;
 
 /// What one shard answered to a Lock, and the Lock's stamp.
-#[derive(Clone, Debug, PartialEq, Eq, Drop)]
+#[derive(Debug, PartialEq, Eq, Drop)]
 pub struct ShardReplies {
     pub shard: u32,
     pub replies: List<Reply>,
@@ -68,7 +69,7 @@ pub enum Phase {
 }
 
 /// A batch that is not done: its phase, the stamp of its last record, its transactions, and from Committed on their outcomes.
-#[derive(Clone, Debug, PartialEq, Eq, Drop)]
+#[derive(Debug, PartialEq, Eq, Drop)]
 pub struct OpenLane {
     pub batch: BatchId,
     pub phase: Phase,

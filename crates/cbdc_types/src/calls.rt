@@ -1,9 +1,10 @@
 // The calls at a shard, and why a node refuses one.
-use crate::{BatchId, Decisions, List, Part, Reply, Stamp};
+use crate::{Decisions, Part, Reply};
+use base_types::{BatchId, List, Stamp};
 use thiserror::Error;
 
 /// Lock this part for the batch. The cause is the stamp of its Prepare.
-#[derive(Clone, Debug, PartialEq, Eq, Drop)]
+#[derive(Debug, PartialEq, Eq, Drop)]
 pub struct LockCall {
     pub batch: BatchId,
     pub part: Part,
@@ -11,7 +12,7 @@ pub struct LockCall {
 }
 
 /// Apply the batch with these decisions. The cause is the stamp of its Commit.
-#[derive(Clone, Debug, PartialEq, Eq, Drop)]
+#[derive(Debug, PartialEq, Eq, Drop)]
 pub struct FinishCall {
     pub batch: BatchId,
     pub decisions: Decisions,
@@ -26,7 +27,7 @@ pub struct ForgetCall {
 }
 
 /// The replies to a part, and the stamp of the Lock that keeps them.
-#[derive(Clone, Debug, PartialEq, Eq, Drop)]
+#[derive(Debug, PartialEq, Eq, Drop)]
 pub struct Replied {
     pub replies: List<Reply>,
     pub stamp: Stamp,

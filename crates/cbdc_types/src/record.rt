@@ -1,5 +1,7 @@
 // The records of the journals.
-use crate::{Answered, BatchId, CompactTx, Decisions, Hash, List, NodeId, Outcomes, Shape, Stamp};
+use crate::{Answered, CompactTx, Decisions, Outcomes};
+use base_types::{BatchId, Hash, List, NodeId, Stamp};
+use ledger_shape::Shape;
 
 /// What each journal begins with: whose it is, how large the ledger is, and the id of its mint.
 #[derive(Clone, Copy, Debug, PartialEq, Eq)]

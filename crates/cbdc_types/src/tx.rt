@@ -1,5 +1,5 @@
 // Transactions.
-use crate::{Hash, List};
+use base_types::{Hash, List};
 
 /// A place of an output: the id of the transaction that made it, and its index there.
 #[derive(Clone, Copy, Debug, PartialEq, Eq)]

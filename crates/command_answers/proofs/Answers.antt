@@ -4,7 +4,7 @@ use Rattle.outside.specs.Counts.{Rose}
 use Rattle.cbdc_types.specs.declared.answer.Answer.{Answer}
 use Rattle.cbdc_types.specs.declared.answer.Answer.TheVariants as answers
 use Rattle.client_files.specs.declared.fault.BadFile.{BadFile}
-use Rattle.command_line.specs.declared.request.FileWord.{FileWord}
+use Rattle.requests.specs.declared.FileWord.{FileWord}
 use Rattle.line_text.specs.Lines.{Text}
 use Rattle.input_files.specs.Contents.{IsNotRead, IsNoVerdicts, FirstNotRead, txs_of_file, all_txs}
 use Rattle.command_answers.proofs.Counts.{rose_later}

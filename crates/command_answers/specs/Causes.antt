@@ -4,7 +4,7 @@ use Rattle.line_text.specs.Lines.{Text}
 use Rattle.outside.specs.Counts.{Rose}
 use Rattle.cbdc_types.specs.declared.answer.Answer.{Answer}
 use Rattle.cbdc_types.specs.declared.answer.Answer.TheVariants as answers
-use Rattle.command_line.specs.declared.request.FileWord.{FileWord}
+use Rattle.requests.specs.declared.FileWord.{FileWord}
 
 -- the count of faults of this file's name rose, and the file has this place
 abbrev pub FileRose : (Text → ℕ) → (Text → ℕ) → FileWord → ℕ → Type 0

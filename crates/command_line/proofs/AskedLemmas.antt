@@ -3,9 +3,9 @@ use Rattle.std.proofs.Common.{rules, ◌≡◌, ◌∙◌, List, [], ◌∷◌, 
 use Rattle.clap.specs.Words.{Row, Text, Kinds, all_of, fault_of, first_of, subcommand_of}
 use Rattle.clap.specs.Kinds.{or_else}
 use Rattle.command_line.specs.Asked.{HasMistake, HasNoHashes, HasNoShape, HasNoWorkload, HasWish, IsRefused, Meets, faults_of, help_words, topic_faults}
-use Rattle.command_line.specs.Command.{hamilton}
-use Rattle.command_line.specs.declared.request.WordsFault.{WordsFault}
-use Rattle.command_line.specs.declared.request.WordsFault.TheVariants.{Bad, Memory}
+use Rattle.command_form.specs.Command.{hamilton}
+use Rattle.requests.specs.declared.WordsFault.{WordsFault}
+use Rattle.requests.specs.declared.WordsFault.TheVariants.{Bad, Memory}
 
 topic : (words : List Text) (rows : List Row) → Meets words (codes "help") rows → fault_of hamilton (help_words (first_of (codes "command") rows)) ≡ faults_of words
 topic words rows m =

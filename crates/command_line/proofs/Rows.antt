@@ -8,10 +8,10 @@ use Rattle.clap.specs.declared.error.Error.{Error}
 use Rattle.clap.specs.declared.error.kind.ErrorKind.{ErrorKind}
 use Rattle.clap.specs.declared.error.kind.ErrorKind.TheVariants.{OutOfMemory}
 use Rattle.command_line.specs.Asked.{is_mistake, is_wish, HasMistake, HasWish, IsAsked, IsRefused, IsShow, faults_of}
-use Rattle.command_line.specs.declared.request.Request.{Request}
-use Rattle.command_line.specs.declared.request.Request.TheVariants.{Init, Run, Recover, Status, Audit, Gen, Show}
-use Rattle.command_line.specs.declared.request.WordsFault.{WordsFault}
-use Rattle.command_line.specs.declared.request.WordsFault.TheVariants.{Bad, Memory}
+use Rattle.requests.specs.declared.Request.{Request}
+use Rattle.requests.specs.declared.Request.TheVariants.{Init, Run, Recover, Status, Audit, Gen, Show}
+use Rattle.requests.specs.declared.WordsFault.{WordsFault}
+use Rattle.requests.specs.declared.WordsFault.TheVariants.{Bad, Memory}
 
 pub ruleset rows = (first_value-rows, raw_values-rows)
 
@@ -24,8 +24,6 @@ wish_of kinds e (inr among) is = (kind_of e, among, is)
 pub mistake_of : (kinds : Kinds) (e : Error) → HasKind kinds e → IsTrue (is_mistake (kind_of e)) → HasMistake kinds
 mistake_of kinds e (inl memory) is = let none : IsTrue (is_mistake OutOfMemory) = subst (λ k. IsTrue (is_mistake k)) memory is in absurd (search (rules, none))
 mistake_of kinds e (inr among) is = (kind_of e, among, is)
-
-pub ruleset kinds = (wish_of, mistake_of)
 
 -- what the first of two steps has
 pub first_wish : (a b : Kinds) → HasWish a → HasWish (or_else a b)

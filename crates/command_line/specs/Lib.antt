@@ -1,5 +1,4 @@
 pub mod Asked
-pub mod Command
 pub mod Places
 pub mod Values
 pub mod Words

@@ -1,9 +1,9 @@
 //! The words of the command line.
 #![tactic(auto)]
 
-mod command;
+mod matching;
 mod places;
 mod request;
 mod values;
 
-pub use request::{FileWord, Request, WordsFault, parse};
+pub use request::parse;

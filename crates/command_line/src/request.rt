@@ -3,68 +3,19 @@ ghost use Rattle.std.specs.Prelude.{◌≡◌, ◌≤◌, [], codes, drop, lengt
 ghost use Rattle.hex.specs.Hex.{decode_of};
 ghost use Rattle.clap.specs.Words.{all_of, fault_of, first_of, found_of, kind_of, rows_of, subcommand_of, subcommand_rows_of};
 ghost use Rattle.command_line.specs.Asked.{IsAsked, IsRefused, IsShow, HasMistake, HasWish, HasNumber, HasNoNumber, HasShape, HasNoShape, HasNoHashes, HasSeed, HasNoSeed, HasNoWorkload, Meets, is_mistake, is_wish, help_words, listed};
-ghost use Rattle.command_line.specs.Command.{hamilton};
+ghost use Rattle.command_form.specs.Command.{hamilton};
 ghost use Rattle.command_line.specs.Places.{positional_places};
 ghost use Rattle.command_line.specs.Words.{AreFiles, IsFirst, IsGivenBy, StandsThere, texts};
 
-use crate::command::program;
+use crate::matching::matches_of;
 use crate::places::{option_of, positional_places};
 use crate::values::{hash_in, number_in, whole_in};
-use cbdc_types::{Hash, Shape};
+use base_types::Hash;
 use clap::error::ErrorKind;
 use clap::{ArgMatches, Error};
+use ledger_shape::Shape;
+use requests::{FileWord, Request, WordsFault};
 use std::alloc::Global;
-
-/// Why words are refused.
-#[derive(Clone, Copy, Debug, PartialEq, Eq, thiserror::Error)]
-pub enum WordsFault {
-    /// They are outside the command line's form.
-    #[error("the words are outside the command line's form")]
-    Bad,
-    #[error("out of memory")]
-    Memory,
-}
-
-/// A word that names a file, and its place among the words. The program's name has the place 0.
-#[derive(Clone, Copy, Debug)]
-pub struct FileWord<'a> {
-    pub name: &'a str,
-    pub place: u64,
-}
-
-/// What the words ask for.
-#[derive(Drop)]
-pub enum Request<'a> {
-    /// Make a ledger of this shape, with the outputs of a file.
-    Init {
-        shape: Shape,
-        mint: FileWord<'a>,
-    },
-    /// Run the transactions of client files, one file after another.
-    Run {
-        verdicts: FileWord<'a>,
-        clients: Vec<FileWord<'a>>,
-    },
-    /// Finish the batches that are open.
-    Recover,
-    /// Tell what is known of hashes.
-    Status {
-        hashes: Vec<Hash>,
-    },
-    /// Check the journals against a mint and the transactions of client files.
-    Audit {
-        mint: FileWord<'a>,
-        clients: Vec<FileWord<'a>>,
-    },
-    /// Make the workload of this seed and so many transactions, and run and check it over nodes in memory.
-    Gen {
-        shape: Shape,
-        seed: u64,
-        count: u32,
-    },
-    /// Print this text to the standard output, and do nothing else.
-    Show(String),
-}
 
 // What a fault of the words answers: help and the version are texts to print.
 fn answer_to<'a>(alloc: Global, error: &Error) -> Result<Request<'a>, WordsFault>
@@ -83,16 +34,12 @@ fn answer_to<'a>(alloc: Global, error: &Error) -> Result<Request<'a>, WordsFault
 }
 
 // The help that these words ask for.
-#[tactic(auto, using(crate::proofs::Rows::kinds))]
 fn help_by<'a, 'b>(alloc: Global, words: &'b [&'b str]) -> Result<Request<'a>, WordsFault>
     ensures shows { IfOk result IsShow }
     ensures wish { IsOk result → HasWish (fault_of hamilton (map (λ w. w.now) words.entry.now)) }
     ensures refuses { IsErrOf result WordsFault.Bad → HasMistake (fault_of hamilton (map (λ w. w.now) words.entry.now)) }
 {
-    let Ok(command) = program(alloc) else {
-        return Err(WordsFault::Memory);
-    };
-    match command.try_get_matches_from(words) {
+    match matches_of(alloc, words) {
         Ok(_) => Err(WordsFault::Memory),
         Err(error) => answer_to(alloc, &error),
     }
@@ -472,10 +419,7 @@ pub fn parse<'a>(alloc: Global, words: &'a [String]) -> Result<Request<'a>, Word
     ensures asked { IfOk result (λ r. IsAsked (texts words.entry.now) r) }
     ensures refused { IfErr result (λ e. IsRefused (texts words.entry.now) e) }
 {
-    let Ok(command) = program(alloc) else {
-        return Err(WordsFault::Memory);
-    };
-    match command.try_get_matches_from(words) {
+    match matches_of(alloc, words) {
         Ok(matches) => asked_of(alloc, words, &matches),
         Err(error) => answer_to(alloc, &error),
     }

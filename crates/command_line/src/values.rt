@@ -3,7 +3,7 @@ ghost use Rattle.std.specs.Prelude.{◌≡◌, ◌≤◌, ℕ, map, decimal, Mat
 ghost use Rattle.hex.specs.Hex.{decode_of};
 ghost use Rattle.command_line.specs.Values.{IsHashText, IsNumber, IsWhole};
 
-use cbdc_types::Hash;
+use base_types::Hash;
 use hex::FromHex;
 use itoa::Buffer;
 

@@ -8,10 +8,10 @@ use Rattle.cbdc_types.specs.declared.answer.UnsoundKind.{UnsoundKind}
 use Rattle.cbdc_model.specs.Records.{Shape}
 use Rattle.cbdc_model.specs.Coins.{Output, FullTx, genesis_id}
 use Rattle.command_line.specs.Asked.{IsAsked, IsRefused}
-use Rattle.command_line.specs.declared.request.FileWord.{FileWord}
-use Rattle.command_line.specs.declared.request.Request.{Request}
-use Rattle.command_line.specs.declared.request.Request.TheVariants.{Init, Run, Recover, Status, Audit, Gen, Show}
-use Rattle.command_line.specs.declared.request.WordsFault.TheVariants.{Bad}
+use Rattle.requests.specs.declared.FileWord.{FileWord}
+use Rattle.requests.specs.declared.Request.{Request}
+use Rattle.requests.specs.declared.Request.TheVariants.{Init, Run, Recover, Status, Audit, Gen, Show}
+use Rattle.requests.specs.declared.WordsFault.TheVariants.{Bad}
 use Rattle.cbdc_model.specs.Clean.{Clean}
 use Rattle.workload.specs.Generator.{mint_of}
 use Rattle.workload_laws.specs.Files.{all_of}

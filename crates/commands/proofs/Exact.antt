@@ -10,9 +10,9 @@ use Rattle.cbdc_model.specs.Records.{Digest, Shape, Record, journal}
 use Rattle.cbdc_model.specs.Coins.{Output, genesis_id}
 use Rattle.cbdc_model.specs.History.{header_of}
 use Rattle.command_line.specs.Asked.{IsAsked}
-use Rattle.command_line.specs.declared.request.FileWord.{FileWord}
-use Rattle.command_line.specs.declared.request.Request.{Request}
-use Rattle.command_line.specs.declared.request.Request.TheVariants.{Init, Run, Recover, Status, Audit, Gen, Show}
+use Rattle.requests.specs.declared.FileWord.{FileWord}
+use Rattle.requests.specs.declared.Request.{Request}
+use Rattle.requests.specs.declared.Request.TheVariants.{Init, Run, Recover, Status, Audit, Gen, Show}
 use Rattle.word_laws.specs.Single.{AreAlike}
 use Rattle.word_laws.proofs.Single.{one_request_law}
 use Rattle.input_files.specs.Contents.{mint_of_file}

@@ -10,8 +10,8 @@ use Rattle.client_files.specs.declared.fault.BadFile.{BadFile}
 use Rattle.cbdc_model.specs.Records.{Shape}
 use Rattle.cbdc_model.specs.Coins.{FullTx}
 use Rattle.command_line.specs.Asked.{IsAsked}
-use Rattle.command_line.specs.declared.request.Request.{Request}
-use Rattle.command_line.specs.declared.request.Request.TheVariants.{Init, Run, Recover, Status, Audit, Gen, Show}
+use Rattle.requests.specs.declared.Request.{Request}
+use Rattle.requests.specs.declared.Request.TheVariants.{Init, Run, Recover, Status, Audit, Gen, Show}
 use Rattle.verifier_port.specs.declared.file.VerdictFile.{VerdictFile}
 use Rattle.complete_laws.specs.Files.{HoldsFile, HoldsVerdicts, HoldClients}
 use Rattle.complete_laws.specs.Ready.{IsReady, NoneRises}

@@ -4,7 +4,7 @@ use Rattle.line_text.specs.Lines.{Text}
 use Rattle.cbdc_types.specs.declared.answer.Answer.{Answer}
 use Rattle.cbdc_types.specs.declared.answer.Answer.TheVariants as answers
 use Rattle.command_line.specs.Asked.{IsAsked}
-use Rattle.command_line.specs.declared.request.Request.{Request}
+use Rattle.requests.specs.declared.Request.{Request}
 use Rattle.command_answers.specs.Causes.{IsDone}
 use Rattle.commands.specs.Causes.{RequestPlace, RequestRose, IsAnswered}
 

@@ -4,8 +4,8 @@ use Rattle.line_text.specs.Lines.{Text}
 use Rattle.cbdc_types.specs.declared.answer.Answer.{Answer}
 use Rattle.cbdc_types.specs.declared.answer.Answer.TheVariants as answers
 use Rattle.command_line.specs.Asked.{IsAsked}
-use Rattle.command_line.specs.declared.request.Request.{Request}
-use Rattle.command_line.specs.declared.request.Request.TheVariants.{Init, Run, Recover, Status, Audit, Gen, Show}
+use Rattle.requests.specs.declared.Request.{Request}
+use Rattle.requests.specs.declared.Request.TheVariants.{Init, Run, Recover, Status, Audit, Gen, Show}
 use Rattle.printed_lines.specs.Reports.{Names}
 use Rattle.command_answers.specs.Causes.{IsDone}
 use Rattle.commands.specs.Causes.{RequestPlace, RequestRose, RequestNames, AskedName}

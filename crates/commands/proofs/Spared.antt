@@ -2,8 +2,8 @@
 use Rattle.line_text.specs.Lines.{Text}
 use Rattle.std.specs.Prelude.{List}
 use Rattle.command_line.specs.Asked.{IsAsked}
-use Rattle.command_line.specs.declared.request.Request.{Request}
-use Rattle.command_line.specs.declared.request.Request.TheVariants.{Init, Run, Recover, Status, Audit, Gen, Show}
+use Rattle.requests.specs.declared.Request.{Request}
+use Rattle.requests.specs.declared.Request.TheVariants.{Init, Run, Recover, Status, Audit, Gen, Show}
 use Rattle.word_laws.specs.Single.{AreAlike}
 use Rattle.word_laws.proofs.Single.{one_request_law}
 use Rattle.commands.specs.Left.{IsOfNoRack, IsOfNoFile}

@@ -4,10 +4,10 @@ use Rattle.line_text.specs.Lines.{Text}
 use Rattle.cbdc_types.specs.declared.answer.Answer.{Answer}
 use Rattle.cbdc_types.specs.declared.answer.Answer.TheVariants as answers
 use Rattle.command_line.specs.Asked.{IsAsked, IsRefused}
-use Rattle.command_line.specs.declared.request.FileWord.{FileWord}
-use Rattle.command_line.specs.declared.request.Request.{Request}
-use Rattle.command_line.specs.declared.request.Request.TheVariants.{Init, Run, Audit}
-use Rattle.command_line.specs.declared.request.WordsFault.TheVariants.{Bad}
+use Rattle.requests.specs.declared.FileWord.{FileWord}
+use Rattle.requests.specs.declared.Request.{Request}
+use Rattle.requests.specs.declared.Request.TheVariants.{Init, Run, Audit}
+use Rattle.requests.specs.declared.WordsFault.TheVariants.{Bad}
 use Rattle.command_answers.specs.Causes.{FileRose, OnePlace, OneRose}
 
 -- one of the files that are asked for does so

@@ -6,8 +6,8 @@ use Rattle.cbdc_types.specs.declared.answer.Answer.{Answer}
 use Rattle.cbdc_types.specs.declared.answer.Answer.TheVariants as answers
 use Rattle.cbdc_model.specs.Records.{Digest, Shape, Record}
 use Rattle.cbdc_model.specs.Coins.{Output, FullTx, genesis_id}
-use Rattle.command_line.specs.declared.request.Request.{Request}
-use Rattle.command_line.specs.declared.request.Request.TheVariants.{Run, Recover, Status, Audit}
+use Rattle.requests.specs.declared.Request.{Request}
+use Rattle.requests.specs.declared.Request.TheVariants.{Run, Recover, Status, Audit}
 use Rattle.verifier_port.specs.Files.{told}
 use Rattle.verifier_port.specs.declared.file.VerdictFile.{VerdictFile}
 use Rattle.input_files.specs.Contents.{mint_of_file}

@@ -1,7 +1,7 @@
 -- When nothing hinders what is asked over devices of which none fails.
 use Rattle.std.specs.Prelude.{ℕ, List, Option}
 use Rattle.line_text.specs.Lines.{Text}
-use Rattle.command_line.specs.declared.request.Request.{Request}
+use Rattle.requests.specs.declared.Request.{Request}
 use Rattle.commands.specs.Complete.{IsUnhindered}
 
 -- nothing hinders what is asked where no count of faults rises, of a file or of a node: this says nothing of counts

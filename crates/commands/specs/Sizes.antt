@@ -1,7 +1,7 @@
 -- Requests whose numbers are within their limits.
 use Rattle.std.specs.Prelude.{◌≤◌}
-use Rattle.command_line.specs.declared.request.Request.{Request}
-use Rattle.command_line.specs.declared.request.Request.TheVariants.{Gen}
+use Rattle.requests.specs.declared.Request.{Request}
+use Rattle.requests.specs.declared.Request.TheVariants.{Gen}
 
 -- a workload has at most 10,000 transactions
 abbrev pub IsSized : Request → Type 0

@@ -2,8 +2,8 @@
 use Rattle.std.specs.Prelude.{◌⊎◌, List}
 use Rattle.line_text.specs.Lines.{Text}
 use Rattle.command_line.specs.Asked.{IsAsked, IsRefused}
-use Rattle.command_line.specs.declared.request.Request.{Request}
-use Rattle.command_line.specs.declared.request.WordsFault.TheVariants.{Bad}
+use Rattle.requests.specs.declared.Request.{Request}
+use Rattle.requests.specs.declared.WordsFault.TheVariants.{Bad}
 
 -- the words are bad, or ask for what has this property
 abbrev pub AreBadOr : (Request → Type 0) → List Text → Type 0

@@ -4,7 +4,7 @@ ghost use Rattle.command_answers.specs.Causes.{IsWell};
 ghost use Rattle.command_answers.specs.Texts.{IsPrinted};
 ghost use Rattle.command_line.specs.Asked.{IsAsked};
 ghost use Rattle.command_line.specs.Words.{texts};
-ghost use Rattle.command_line.specs.declared.request.Request.{Request as Asked};
+ghost use Rattle.requests.specs.declared.Request.{Request as Asked};
 ghost use Rattle.commands.specs.InMemory.{IsFree};
 ghost use Rattle.commands.specs.Outcomes.{Did};
 ghost use Rattle.mem_devices.specs.Named.{file_of};

@@ -6,7 +6,7 @@ use Rattle.cbdc_types.specs.declared.answer.Answer.TheVariants as answers
 use Rattle.cbdc_types.specs.declared.tx.FullTx.{FullTx}
 use Rattle.client_files.specs.declared.fault.BadFile.{BadFile}
 use Rattle.clap.specs.Words.{Text}
-use Rattle.command_line.specs.declared.request.FileWord.{FileWord}
+use Rattle.requests.specs.declared.FileWord.{FileWord}
 use Rattle.word_laws.specs.Single.{names_of}
 use Rattle.input_files.specs.Contents.{txs_of_file, IsNotRead, AreRead, FirstNotRead, all_txs}
 use Rattle.complete_laws.specs.Files.{HoldsFile, HoldClients}

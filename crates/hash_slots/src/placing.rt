@@ -5,8 +5,8 @@ ghost use Rattle.hash_slots.specs.Entries.{lookup};
 ghost use Rattle.cbdc_model.specs.Records.{Digest, same_digest};
 
 use crate::Kept;
+use base_types::Hash;
 use byteorder::{ByteOrder, LittleEndian};
-use cbdc_types::Hash;
 
 /// The slot that the search for a hash begins at.
 #[tactic(auto, unfolding(crate::specs::Slots::home_of))]

@@ -5,7 +5,7 @@ ghost use Rattle.hash_slots.specs.Entries.{lookup, IsOnce};
 ghost use Rattle.hash_slots.specs.Slots.{limit_of, gather, AreOnce, IsSound};
 
 use crate::placing::{fill, get, take_out};
-use cbdc_types::Hash;
+use base_types::Hash;
 use std::alloc::{AllocError, Global};
 use std::marker::Model;
 

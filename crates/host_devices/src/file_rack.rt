@@ -2,7 +2,7 @@
 ghost use Rattle.std.specs.Prelude.{◌≡◌, ◌≤◌, ℕ, None, IfOk, IfSome, Some};
 
 use crate::FileDisk;
-use cbdc_types::NodeId;
+use base_types::NodeId;
 use outside::{Disk, Failed, Rack};
 use std::alloc::Global;
 use std::fs::{File, OpenOptions};

@@ -1,6 +1,6 @@
 //! Each device once on a real file.
 use crate::{FileInbox, FileRack, StdoutSink};
-use cbdc_types::NodeId;
+use base_types::NodeId;
 use outside::{Disk, Inbox, Rack, Sink};
 use std::fs;
 use std::test::Fail;

@@ -1,7 +1,7 @@
 -- What was made of a mint, with another text that was printed.
 use Rattle.std.proofs.Common.{ℕ, List, Option}
 use Rattle.cbdc_model.specs.Records.{Shape}
-use Rattle.command_line.specs.declared.request.FileWord.{FileWord}
+use Rattle.requests.specs.declared.FileWord.{FileWord}
 use Rattle.line_text.specs.Lines.{Text}
 use Rattle.init_command.specs.Outcomes.{DidInit}
 

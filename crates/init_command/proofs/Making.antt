@@ -5,7 +5,7 @@ use Rattle.outside.specs.Images.{Tells}
 use Rattle.cbdc_model.specs.Records.{Shape}
 use Rattle.cbdc_model.specs.Coins.{Output, genesis_id}
 use Rattle.cbdc_model.specs.Clean.{value_out}
-use Rattle.command_line.specs.declared.request.FileWord.{FileWord}
+use Rattle.requests.specs.declared.FileWord.{FileWord}
 use Rattle.input_files.specs.Contents.{mint_of_file}
 use Rattle.ledger_init.specs.Made.{MayBeMade, HasPlaceFor, HoldsFirst, first_of, node_count}
 use Rattle.ledger_init.specs.declared.making.Made.{Made}

@@ -7,7 +7,7 @@ use Rattle.cbdc_types.specs.declared.answer.Answer.{Answer}
 use Rattle.cbdc_types.specs.declared.answer.Answer.TheVariants as answers
 use Rattle.cbdc_model.specs.Records.{Shape}
 use Rattle.cbdc_model.specs.Coins.{Output}
-use Rattle.command_line.specs.declared.request.FileWord.{FileWord}
+use Rattle.requests.specs.declared.FileWord.{FileWord}
 use Rattle.input_files.specs.Contents.{mint_of_file}
 use Rattle.ledger_init.specs.Made.{IsUnmade, IsLeft}
 use Rattle.command_answers.specs.Left.{IsBeforeDisks}

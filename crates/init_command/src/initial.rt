@@ -9,11 +9,11 @@ ghost use Rattle.command_answers.specs.Left.{IsBeforeDisks};
 ghost use Rattle.line_text.specs.Lines.{init_text};
 
 use cbdc_types::{Answer, Shape};
-use command_line::FileWord;
 use input_files::mint_in;
 use ledger_init::{Made, make_ledger};
 use line_text::write_init;
 use outside::{Inbox, Rack, Sink};
+use requests::FileWord;
 use std::alloc::Global;
 
 // Reads the mint and makes the ledger.

@@ -15,7 +15,7 @@ use Rattle.input_files.specs.Contents.{front, goes_on, IsNotRead, IsFaultOf, IsV
 use Rattle.std.proofs.Common.{suc, add-one}
 use Rattle.std.proofs.Math.Seq.{take-suc, drop-cons}
 use Rattle.std.proofs.lemmas.List.{take-append-drop}
-use Rattle.command_line.specs.declared.request.FileWord.{FileWord}
+use Rattle.requests.specs.declared.FileWord.{FileWord}
 
 pub not_read : {X : Type 0} (place : ℕ) (told : Option (List ℕ)) (read : Bool → List ℕ → Result X BadFile) (before now : ℕ) (more : Bool) (bytes : List ℕ) (fault : FileFault) (answer : Answer)
     → IsFaultOf place fault answer → Tells told (λ c. (bytes ≡ front c) × (more ≡ goes_on c)) → GivesFile {X = X} (Err fault) (read more bytes)

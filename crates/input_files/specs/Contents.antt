@@ -4,7 +4,7 @@ use Rattle.outside.specs.Counts.{Rose}
 use Rattle.outside.specs.Images.{Tells}
 use Rattle.cbdc_types.specs.declared.answer.Answer.{Answer}
 use Rattle.cbdc_types.specs.declared.answer.Answer.TheVariants as answers
-use Rattle.cbdc_types.specs.declared.answer.InputKind.TheVariants.{Large}
+use Rattle.input_faults.specs.declared.InputKind.TheVariants.{Large}
 use Rattle.cbdc_types.specs.declared.tx.Output.{Output}
 use Rattle.cbdc_types.specs.declared.tx.FullTx.{FullTx}
 use Rattle.client_files.specs.Files.{clients_in, mint_in}
@@ -15,7 +15,7 @@ use Rattle.verifier_port.specs.Files.{Reads}
 use Rattle.verifier_port.specs.declared.file.VerdictFile.{VerdictFile}
 use Rattle.verifier_port.specs.declared.file.VerdictFault.{VerdictFault}
 use Rattle.verifier_port.specs.declared.file.VerdictFault.TheVariants as verdict_fault
-use Rattle.command_line.specs.declared.request.FileWord.{FileWord}
+use Rattle.requests.specs.declared.FileWord.{FileWord}
 use Rattle.clap.specs.Words.{Text}
 
 -- the bytes of a file that are read, the first 2^30, and whether it goes on behind them

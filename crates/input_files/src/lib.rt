@@ -9,8 +9,8 @@ ghost use Rattle.input_files.specs.Contents.{front, goes_on, txs_of_file, mint_o
 
 use cbdc_types::{Answer, FullTx, InputKind, List, Mint};
 use client_files::{FetchFault, FileFault, fetch, read_clients, read_mint};
-use command_line::FileWord;
 use outside::Inbox;
+use requests::FileWord;
 use std::alloc::Global;
 use verifier_port::{BadLine, VerdictFault, VerdictFile};
 

@@ -5,7 +5,7 @@ use Rattle.cbdc_types.specs.declared.batch.Phase.{Phase}
 use Rattle.cbdc_types.specs.declared.batch.Phase.TheVariants.{Prepared, Committed, Discarded}
 use Rattle.cbdc_types.specs.declared.batch.Status.{Status}
 use Rattle.cbdc_types.specs.declared.batch.Status.TheVariants.{Unspent, Locked, Absent}
-use Rattle.cbdc_types.specs.declared.ids.BatchId.{BatchId}
+use Rattle.base_types.specs.declared.ids.BatchId.{BatchId}
 use Rattle.line_text.specs.Lines.{Text, line, counted}
 
 abbrev pub status_words : Status → List Text

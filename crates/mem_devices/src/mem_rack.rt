@@ -3,7 +3,7 @@ ghost use Rattle.std.specs.Prelude.{◌≡◌, ◌≤◌, ℕ, slice_get, slice_
 ghost use Rattle.mem_devices.specs.Faults.{FailsWhere};
 ghost use Rattle.mem_devices.specs.Slots.{held_in, count_in, IsNotOut, IsOutBelow};
 
-use cbdc_types::NodeId;
+use base_types::NodeId;
 use outside::{Disk, Failed, Rack};
 use std::alloc::{AllocError, Global};
 use std::mem;

@@ -5,10 +5,10 @@ use cbdc_types::{
     BadShape, InputKind, NodeFault, NodeOpenFault, Refusal, Refused, ShapeField, Stamp,
 };
 use client_files::{BadFile, FetchFault, FileFault};
-use command_line::WordsFault;
 use line_text::WriteFault;
 use outside::Failed;
 use record_codec::RecordFault;
+use requests::WordsFault;
 use row_text::{Wrong, word};
 use std::fmt::Display;
 use tx_codec::{BadTx, ReadFault};

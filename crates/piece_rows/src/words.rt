@@ -1,7 +1,8 @@
 // What words ask for.
 use crate::told::Told;
 use cbdc_types::{Hash, Shape};
-use command_line::{FileWord, Request, WordsFault, parse};
+use command_line::parse;
+use requests::{FileWord, Request, WordsFault};
 use row_text::{Wrong, words_around};
 use std::alloc::{AllocError, Global};
 

@@ -2,7 +2,7 @@
 ghost use Rattle.std.specs.Prelude.{◌≡◌, ◌≤◌, ◌<◌, ℕ, [], true, length, slice_get, IfOk};
 ghost use Rattle.plain_rack.specs.Places.{disk_in, faults_at, IsIn, IsOut};
 
-use cbdc_types::NodeId;
+use base_types::NodeId;
 use mem_devices::PlainDisk;
 use outside::{Failed, Rack};
 use std::alloc::{AllocError, Global};

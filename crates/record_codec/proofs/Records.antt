@@ -3,14 +3,14 @@ use Rattle.std.proofs.Common.{◌≡◌, ℕ, ◌^◌, ◌<◌, ◌≤◌, Bool,
 use Rattle.std.proofs.lemmas.Bool.{eqb-true, eq-eqb, leb-true, le-leb}
 use Rattle.std.proofs.lemmas.Slice.Eq.{bytes_eq-Decides}
 use Rattle.cbdc_types.specs.Limits.{ShapeOf, IsWithinLimits}
-use Rattle.cbdc_types.specs.declared.ids.BatchId.{BatchId}
+use Rattle.base_types.specs.declared.ids.BatchId.{BatchId}
 use Rattle.cbdc_types.specs.declared.tx.CompactTx.{CompactTx}
 use Rattle.cbdc_types.specs.declared.batch.Answered.{Answered}
 use Rattle.cbdc_types.specs.declared.batch.Outcome.{Outcome}
 use Rattle.cbdc_types.specs.declared.record.Header.{Header}
 use Rattle.cbdc_types.specs.declared.record.Record.{Record}
 use Rattle.cbdc_types.specs.declared.record.Record.TheVariants.{Genesis, Lock, Finish, Forget, Start, Prepare, Commit, Discard, Done}
-use Rattle.cbdc_types.specs.declared.answer.InputKind.TheVariants.{Form}
+use Rattle.input_faults.specs.declared.InputKind.TheVariants.{Form}
 use Rattle.cbdc_model.specs.Records.{kind_of}
 use Rattle.byte_fields.specs.declared.fault.Fault.{Fault}
 use Rattle.byte_fields.specs.Faults.{fault, IsBytes}

@@ -4,7 +4,7 @@ use Rattle.cbdc_model.specs.Coins.{FullTx}
 use Rattle.sound_laws.specs.SoundTest.{sound_by}
 use Rattle.sound_laws.proofs.Telling.{is_sound_law}
 use Rattle.submissions.specs.Checks.{VerdictsOf}
-use Rattle.command_line.specs.declared.request.FileWord.{FileWord}
+use Rattle.requests.specs.declared.FileWord.{FileWord}
 use Rattle.verifier_port.specs.Files.{told as of_file}
 use Rattle.input_files.specs.Contents.{all_txs}
 use Rattle.line_text.specs.Lines.{Text}

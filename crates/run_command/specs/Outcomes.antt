@@ -4,7 +4,7 @@ use Rattle.cbdc_model.specs.Records.{Shape, Record}
 use Rattle.line_text.specs.Lines.{Text}
 use Rattle.printed_lines.specs.Runs.{IsRunText}
 use Rattle.cbdc_model.specs.Coins.{FullTx, Output}
-use Rattle.command_line.specs.declared.request.FileWord.{FileWord}
+use Rattle.requests.specs.declared.FileWord.{FileWord}
 use Rattle.input_files.specs.Contents.{AreRead, AreVerdicts, all_txs, FirstNotRead, IsNoVerdicts}
 use Rattle.verifier_port.specs.Files.{told}
 use Rattle.verifier_port.specs.declared.file.VerdictFile.{VerdictFile}

@@ -8,11 +8,11 @@ ghost use Rattle.line_text.specs.Lines.{Text};
 ghost use Rattle.command_answers.specs.Left.{IsBeforeDisks};
 
 use cbdc_types::Answer;
-use command_line::FileWord;
 use file_runs::Ran;
 use input_files::{all_clients_in, verdicts_in};
 use outside::{Gate, Inbox, Rack, Sink};
 use rack_runs::run_on;
+use requests::FileWord;
 use run_report::write_report;
 use std::alloc::Global;
 use std::sync::Wait;

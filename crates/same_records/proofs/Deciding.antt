@@ -9,7 +9,7 @@ use Rattle.cbdc_types.specs.contracts.batch.AnsweredPartialEq.TheImpl as answere
 use Rattle.cbdc_types.specs.contracts.batch.EntryPartialEq.TheImpl as entry
 use Rattle.cbdc_types.specs.contracts.batch.OutcomePartialEq.TheImpl as outcome
 use Rattle.cbdc_types.specs.contracts.batch.ReplyPartialEq.TheImpl as reply
-use Rattle.cbdc_types.specs.contracts.hash.HashPartialEq.TheImpl as hash
+use Rattle.base_types.specs.contracts.hash.HashPartialEq.TheImpl as hash
 use Rattle.cbdc_types.specs.contracts.record.HeaderPartialEq.TheImpl as header
 use Rattle.cbdc_types.specs.contracts.record.RecordPartialEq.TheImpl as of_record
 use Rattle.cbdc_types.specs.contracts.tx.CompactTxPartialEq.TheImpl as compact

@@ -3,7 +3,7 @@ use Rattle.std.proofs.Common.{◌≡◌, List, [], ◌∷◌, refl, ℕ}
 use Rattle.std.specs.Prelude.{bytes_eq}
 use lib.Dec.{eqb}
 use lib.Pointwise.{pointwise}
-use Rattle.cbdc_types.specs.contracts.hash.HashPartialEq.TheImpl.{eq-value}
+use Rattle.base_types.specs.contracts.hash.HashPartialEq.TheImpl.{eq-value}
 use Rattle.cbdc_model.specs.Records.{Digest, same_digest}
 use Rattle.cbdc_model.specs.Next.{same_digests}
 

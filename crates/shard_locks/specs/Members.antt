@@ -1,6 +1,6 @@
 -- What locks are seen as.
 use Rattle.std.specs.Prelude.{ℕ, List}
-use Rattle.cbdc_types.specs.declared.ids.BatchId.{BatchId}
+use Rattle.base_types.specs.declared.ids.BatchId.{BatchId}
 use Rattle.hash_slots.specs.declared.slots.Kept.{Kept}
 
 -- the locked hashes, each with the batch that holds it and the place of its entry, and how many more there is room for

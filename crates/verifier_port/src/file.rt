@@ -3,7 +3,8 @@ ghost use Rattle.std.specs.Prelude.{◌≡◌};
 
 use crate::line::{Key, next_line, read_line};
 use crate::{Verdict, Verifier};
-use cbdc_types::{Hash, InputKind};
+use base_types::Hash;
+use input_faults::InputKind;
 use std::alloc::Global;
 use std::collections::BTreeMap;
 use thiserror::Error;

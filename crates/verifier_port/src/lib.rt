@@ -6,7 +6,7 @@ mod line;
 
 ghost use Rattle.std.specs.Prelude.{◌≡◌, ℕ, List};
 
-use cbdc_types::Hash;
+use base_types::Hash;
 pub use file::{BadLine, VerdictFault, VerdictFile};
 
 /// What is known of the witness of an input.

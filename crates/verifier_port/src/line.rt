@@ -3,7 +3,7 @@ ghost use Rattle.std.specs.Prelude.{◌≡◌, ◌≢◌, ◌≤◌, ◌++◌, �
 ghost use Rattle.hex.specs.Hex.{encode_lower, IsBytes};
 ghost use Rattle.verifier_port.specs.Lines.{Line, IsLine, IsOpen, spelled, word};
 
-use cbdc_types::Hash;
+use base_types::Hash;
 use itoa::Buffer;
 use memchr::memchr;
 

@@ -10,7 +10,7 @@ use Rattle.clap.specs.Lexer.{long_of}
 use Rattle.clap.specs.Simple.{App, Shape, built, entered, label_of, names_of, rows_at}
 use Rattle.clap.specs.Walk.{Held, Names, Row, Rule, Text, Walk, answers_to, arg_by_long, finished, has_long, idle, nothing_held, rows_after, settled, subcommand_met, subcommand_or_other, takes_values, value, walk, walked}
 use Rattle.command_line.specs.Asked.{Meets}
-use Rattle.command_line.specs.Command.{hamilton}
+use Rattle.command_form.specs.Command.{hamilton}
 use Rattle.command_line.specs.Places.{is_dashes}
 use Rattle.word_laws.proofs.Known.{top_known}
 use Rattle.word_laws.proofs.Steps.{find_is, held, long_is, plain_is, stray_is, walk_at}

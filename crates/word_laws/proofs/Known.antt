@@ -4,7 +4,7 @@ use Rattle.std.specs.Prelude.{is_some}
 use Rattle.std.specs.List.{AllByRecursion}
 use Rattle.clap.specs.Simple.{Shape, built, built_leaf, inherited, marked_built, with_leaf_noted}
 use Rattle.clap.specs.Walk.{Rule}
-use Rattle.command_line.specs.Command.{audit_shape, hamilton, init_shape, run_shape}
+use Rattle.command_form.specs.Command.{audit_shape, hamilton, init_shape, run_shape}
 use Rattle.word_laws.proofs.Steps.{IsFlag, IsKnown, IsOption, IsPlace}
 
 is_flag : (c : List Rule) (a : Rule) → is_some a.index ≡ false → IsFlag a → IsKnown c a

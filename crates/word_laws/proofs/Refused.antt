@@ -11,9 +11,9 @@ use Rattle.cbdc_types.specs.Limits.{ShapeOf}
 use Rattle.clap.specs.Words.{Text, Row, Kinds, all_of, fault_of, first_of, subcommand_of}
 use Rattle.clap.specs.Kinds.{or_else}
 use Rattle.command_line.specs.Asked.{HasBadValue, HasMistake, HasNoHashes, HasNoNumber, HasNoSeed, HasNoShape, HasNoWorkload, HasNumber, HasSeed, HasShape, HasWish, Meets, faults_of, help_words, topic_faults}
-use Rattle.command_line.specs.Command.{hamilton}
+use Rattle.command_form.specs.Command.{hamilton}
 use Rattle.command_line.specs.Values.{IsHashText, IsNumber, IsWhole}
-use Rattle.command_line.specs.declared.request.Request.TheVariants.{Init, Run, Recover, Status, Audit, Gen, Show}
+use Rattle.requests.specs.declared.Request.TheVariants.{Init, Run, Recover, Status, Audit, Gen, Show}
 use Rattle.word_laws.specs.Refused.{AskedLaw, AreWhole}
 use Rattle.word_laws.proofs.Pure.{IsPure, none, after, either, fault_pure}
 

@@ -11,8 +11,8 @@ use Rattle.clap.specs.Words.{Text, Row, first_of}
 use Rattle.command_line.specs.Asked.{HasNumber, HasSeed, HasShape, IsAudit, IsGen, IsInit, IsRun, IsStatus, Meets}
 use Rattle.command_line.specs.Places.{option_at, option_place, positional_places}
 use Rattle.command_line.specs.Words.{IsFirst, IsGivenBy, StandsThere}
-use Rattle.command_line.specs.declared.request.FileWord.{FileWord}
-use Rattle.command_line.specs.declared.request.Request.TheVariants.{Init, Run, Recover, Status, Audit, Gen, Show}
+use Rattle.requests.specs.declared.FileWord.{FileWord}
+use Rattle.requests.specs.declared.Request.TheVariants.{Init, Run, Recover, Status, Audit, Gen, Show}
 use Rattle.word_laws.specs.Single.{OneRequestLaw}
 use Rattle.word_laws.proofs.Refused.{one_list, one_met, one_text, no_wish, other_command, same_rows}
 

@@ -12,7 +12,7 @@ use Rattle.clap.specs.Simple.{Shape}
 use Rattle.clap.specs.Walk.{Row, Rule, Text, arg_by_index, arg_by_long, finished, has_long, idle, nothing_held, rows_after, settled, walk, walk_from}
 use Rattle.clap.specs.Words.{all_of, first_of}
 use Rattle.command_line.specs.Asked.{Meets, listed}
-use Rattle.command_line.specs.Command.{audit_shape, init_shape, run_shape}
+use Rattle.command_form.specs.Command.{audit_shape, init_shape, run_shape}
 use Rattle.command_line.specs.Places.{is_positional, names_option, word_at}
 use Rattle.word_laws.specs.Taken.{TakenLaw, option_word, positional_words, value_at}
 use Rattle.word_laws.proofs.Entered.{Entered, below_app, entered_is}

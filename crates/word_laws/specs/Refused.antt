@@ -2,9 +2,9 @@
 use Rattle.std.specs.Prelude.{◌≡◌, ℕ, List, length, All}
 use Rattle.clap.specs.Words.{Text}
 use Rattle.command_line.specs.Asked.{IsAsked, IsRefused}
-use Rattle.command_line.specs.declared.request.Request.{Request}
-use Rattle.command_line.specs.declared.request.Request.TheVariants.{Status}
-use Rattle.command_line.specs.declared.request.WordsFault.TheVariants.{Bad}
+use Rattle.requests.specs.declared.Request.{Request}
+use Rattle.requests.specs.declared.Request.TheVariants.{Status}
+use Rattle.requests.specs.declared.WordsFault.TheVariants.{Bad}
 
 -- each hash has its 32 bytes
 abbrev pub AreWhole : List (List ℕ) → Type 0

@@ -7,7 +7,7 @@ ghost use Rattle.word_laws.specs.Single.{OneRequestLaw};
 ghost use Rattle.word_laws.specs.Taken.{TakenLaw};
 
 use cbdc_types::Hash;
-use command_line::Request;
+use requests::Request;
 
 /// Words that are refused ask for nothing.
 pub fn asked_law()

@@ -1,6 +1,6 @@
 use Rattle.std.proofs.Common.{inl, inr, ap, Err}
 use Rattle.command_line.specs.Words.{texts}
-use Rattle.command_line.specs.declared.request.WordsFault.{WordsFault}
+use Rattle.requests.specs.declared.WordsFault.{WordsFault}
 use Rattle.command_line.proofs.AskedLemmas.{refused_workload}
 use Rattle.command_line.proofs.request.workload_of.Goals as goal
 

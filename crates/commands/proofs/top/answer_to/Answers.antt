@@ -1,6 +1,6 @@
 use Rattle.std.proofs.Common.{inl, inr, ⊎_elim, refl, sym, subst}
-use Rattle.command_line.specs.declared.request.Request.{Request}
-use Rattle.command_line.specs.declared.request.Request.TheVariants.{Audit, Gen}
+use Rattle.requests.specs.declared.Request.{Request}
+use Rattle.requests.specs.declared.Request.TheVariants.{Audit, Gen}
 use Rattle.audit_command.specs.Audits.{DidAudit, WhyNoAudit}
 use Rattle.command_answers.specs.Causes.{IsTold}
 use Rattle.gen_command.specs.Generated.{WhyNoWorkload}

@@ -2,7 +2,7 @@ use Rattle.std.proofs.Common.{inl, inr, ⊎_elim}
 use Rattle.cbdc_types.specs.declared.answer.Answer.{Answer}
 use Rattle.command_line.specs.Asked.{IsAsked}
 use Rattle.command_line.specs.Words.{texts}
-use Rattle.command_line.specs.declared.request.Request.{Request}
+use Rattle.requests.specs.declared.Request.{Request}
 use Rattle.commands.specs.Outcomes.{Why}
 use Rattle.command_answers.proofs.Answers.{told_by}
 use Rattle.commands.proofs.Named.{answered}

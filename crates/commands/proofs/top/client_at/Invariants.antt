@@ -1,6 +1,6 @@
 use Rattle.std.proofs.Common.{◌≡◌, ℕ, ◌<◌, Some}
 use Rattle.std.specs.Prelude.{slice_get}
-use Rattle.command_line.specs.declared.request.FileWord.{FileWord}
+use Rattle.requests.specs.declared.FileWord.{FileWord}
 use Rattle.commands.proofs.top.client_at.Given as goal
 
 abbrev pub invariant-clients : goal.invariant-clients

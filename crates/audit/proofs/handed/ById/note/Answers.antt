@@ -1,5 +1,5 @@
 use Rattle.std.proofs.Common.{◌∙◌, cond, is_some, Some, ap, sym}
-use Rattle.cbdc_types.specs.contracts.hash.HashPartialEq.TheImpl.{eq-value}
+use Rattle.base_types.specs.contracts.hash.HashPartialEq.TheImpl.{eq-value}
 use Rattle.cbdc_model.specs.Coins.{tx_id}
 use Rattle.audit.specs.Keeping.{first_of}
 use Rattle.audit.proofs.Indexing.{index_known, index_new}

@@ -1,7 +1,10 @@
-// The command as clap reads it. Each function states what the definitions say of its part.
+//! The form of the command line: the program's command as clap reads it, and the same as data. Each function states what the
+//! definitions say of its part.
+#![tactic(auto)]
+
 ghost use Rattle.std.specs.Prelude.{◌≡◌, codes, IfOk};
 ghost use Rattle.clap.specs.Words.{app_of, new_app};
-ghost use Rattle.command_line.specs.Command.{IsArg, IsLeaf, IsTop, with_settings, shards_rule, coordinators_rule, lanes_rule, batch_rule, mint_rule, verdicts_rule, client_rule, rest_rule, hash_rule, topic_rule, seed_rule, count_rule, nodes_shape, sized_shape, init_shape, run_shape, recover_shape, status_shape, audit_shape, gen_sizes, gen_shape, help_shape, main, looks, checks, hamilton};
+ghost use Rattle.command_form.specs.Command.{IsArg, IsLeaf, IsTop, with_settings, shards_rule, coordinators_rule, lanes_rule, batch_rule, mint_rule, verdicts_rule, client_rule, rest_rule, hash_rule, topic_rule, seed_rule, count_rule, nodes_shape, sized_shape, init_shape, run_shape, recover_shape, status_shape, audit_shape, gen_sizes, gen_shape, help_shape, main, looks, checks, hamilton};
 
 use clap::{Arg, Command};
 use std::alloc::{AllocError, Global};
@@ -277,7 +280,7 @@ fn with_checks<'a>(alloc: Global) -> Result<Command<'a>, AllocError>
 }
 
 /// The program's command.
-pub(crate) fn program<'a>(alloc: Global) -> Result<Command<'a>, AllocError>
+pub fn program<'a>(alloc: Global) -> Result<Command<'a>, AllocError>
     ensures { IfOk result (λ c. app_of c ≡ hamilton) }
 {
     let help = help_command(alloc)?;

@@ -2,7 +2,7 @@
 use std::marker::Model;
 
 /// A lane: its coordinator's number times the lanes of a coordinator, plus its place there.
-#[derive(Clone, Copy, Debug, PartialEq, Eq, PartialOrd, Ord, Hash)]
+#[derive(Clone, Copy, Debug, PartialEq, Eq)]
 pub struct LaneId(pub u32);
 
 impl Model for LaneId {
@@ -16,7 +16,7 @@ impl Model for LaneId {
 }
 
 /// A node: the coordinators come first, then the shards.
-#[derive(Clone, Copy, Debug, PartialEq, Eq, PartialOrd, Ord, Hash)]
+#[derive(Clone, Copy, Debug, PartialEq, Eq)]
 pub struct NodeId(pub u32);
 
 impl Model for NodeId {
@@ -30,7 +30,7 @@ impl Model for NodeId {
 }
 
 /// A Lamport stamp: a record's is greater than those of all that it rests on.
-#[derive(Clone, Copy, Debug, PartialEq, Eq, PartialOrd, Ord, Hash)]
+#[derive(Clone, Copy, Debug, PartialEq, Eq)]
 pub struct Stamp(pub u64);
 
 impl Model for Stamp {
@@ -44,7 +44,7 @@ impl Model for Stamp {
 }
 
 /// A batch: the lane that it runs on, and its number there, from 1.
-#[derive(Clone, Copy, Debug, PartialEq, Eq, Hash)]
+#[derive(Clone, Copy, Debug, PartialEq, Eq)]
 pub struct BatchId {
     pub lane: LaneId,
     pub number: u64,

@@ -1,0 +1,57 @@
+//! What the words of the command line ask for, and why they are refused.
+#![tactic(auto)]
+
+use base_types::Hash;
+use ledger_shape::Shape;
+use thiserror::Error;
+
+/// Why words are refused.
+#[derive(Clone, Copy, Debug, PartialEq, Eq, Error)]
+pub enum WordsFault {
+    /// They are outside the command line's form.
+    #[error("the words are outside the command line's form")]
+    Bad,
+    #[error("out of memory")]
+    Memory,
+}
+
+/// A word that names a file, and its place among the words. The program's name has the place 0.
+#[derive(Clone, Copy, Debug)]
+pub struct FileWord<'a> {
+    pub name: &'a str,
+    pub place: u64,
+}
+
+/// What the words ask for.
+#[derive(Drop)]
+pub enum Request<'a> {
+    /// Make a ledger of this shape, with the outputs of a file.
+    Init {
+        shape: Shape,
+        mint: FileWord<'a>,
+    },
+    /// Run the transactions of client files, one file after another.
+    Run {
+        verdicts: FileWord<'a>,
+        clients: Vec<FileWord<'a>>,
+    },
+    /// Finish the batches that are open.
+    Recover,
+    /// Tell what is known of hashes.
+    Status {
+        hashes: Vec<Hash>,
+    },
+    /// Check the journals against a mint and the transactions of client files.
+    Audit {
+        mint: FileWord<'a>,
+        clients: Vec<FileWord<'a>>,
+    },
+    /// Make the workload of this seed and so many transactions, and run and check it over nodes in memory.
+    Gen {
+        shape: Shape,
+        seed: u64,
+        count: u32,
+    },
+    /// Print this text to the standard output, and do nothing else.
+    Show(String),
+}
