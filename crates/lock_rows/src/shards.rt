@@ -1,0 +1,215 @@
+// A shard under a lock for two lanes, of which one makes a batch's calls.
+ghost use Rattle.std.specs.Prelude.{◌≡◌, IfSome};
+ghost use Rattle.cbdc_model.specs.Calls.{IsLockCall, IsFinishCall};
+ghost use Rattle.node_lock.specs.Seats.{knows, opening_of, IsSeatOf};
+
+use crate::gates::RowGate;
+use crate::lanes::point_of;
+use cbdc_types::{
+    BatchId, Entry, FinishCall, Hash, Header, LaneId, List, LockCall, NodeId, Record, Shape, Stamp,
+    Status,
+};
+use mem_devices::PlainDisk;
+use node_lock::{Guarded, Seat};
+use outside::When;
+use rack_nodes::{Wrote, write_first};
+use shard_fanout::{ShardAnswer, ShardAsk, ShardCall, SharedShard};
+use shard_node::{ShardNode, is_finish_call, is_lock_call};
+use std::alloc::Global;
+use std::sync::Wait;
+use std::thread::{Threads, join};
+
+type Shard = SharedShard<PlainDisk>;
+
+// The lane that makes the calls, and the one that only looks.
+const ONE: LaneId = LaneId(0);
+
+const TWO: LaneId = LaneId(1);
+
+// The coin that the shard has, and the one that the batch makes of it.
+const COIN: Hash = Hash([1; 32]);
+
+const MADE: Hash = Hash([2; 32]);
+
+// The calls of a batch.
+#[derive(Drop)]
+struct Calls {
+    lock: LockCall,
+    finish: FinishCall,
+}
+
+// What a lane is told of the coin that its batch makes: before its Finish, and behind it.
+#[derive(Drop)]
+struct Spent {
+    seat: Seat<Shard>,
+    before: Status,
+    behind: Status,
+}
+
+fn only<T: Drop>(alloc: Global, item: T) -> Option<List<T>> {
+    let mut list = List::new(alloc);
+    match list.push(item) {
+        Ok(()) => Some(list),
+        Err(_) => None,
+    }
+}
+
+// The shard, which has the coin.
+fn opened(alloc: Global) -> Option<ShardNode<PlainDisk>> {
+    let header = Header {
+        node: NodeId(1),
+        shape: Shape::new(1, 1, 2, 16).ok()?,
+        genesis: Hash([0; 32]),
+    };
+    let hashes = only(alloc, COIN)?;
+    let Ok(disk) = PlainDisk::new(alloc, 1000) else {
+        return None;
+    };
+    let first = Record::Genesis { header, hashes };
+    let Wrote { disk, result: _ } = write_first(alloc, disk, &first, &header);
+    match ShardNode::open(alloc, disk) {
+        Ok(node) => Some(node),
+        Err(_) => None,
+    }
+}
+
+// The calls of a batch whose one transaction spends the coin, and makes the other one where it is committed.
+fn calls_of(alloc: Global, lane: LaneId, committed: bool) -> Option<Calls>
+    ensures lock { IfSome result (λ c. c.lock.batch.lane ≡ lane) }
+    ensures finish { IfSome result (λ c. c.finish.batch.lane ≡ lane) }
+{
+    let batch = BatchId { lane, number: 1 };
+    let entry = Entry {
+        place: 0,
+        id: Hash([9; 32]),
+        inputs: only(alloc, COIN)?,
+        outputs: only(alloc, MADE)?,
+    };
+    let lock = LockCall {
+        batch,
+        part: only(alloc, entry)?,
+        cause: Stamp(1),
+    };
+    let finish = FinishCall {
+        batch,
+        decisions: only(alloc, committed)?,
+        cause: Stamp(3),
+    };
+    Some(Calls { lock, finish })
+}
+
+// What is told of the coin that the batch makes.
+fn look<R: Wait>(rt: &R, guarded: &Guarded<Shard>, seat: &mut Seat<Shard>) -> Status
+    requires seat { IsSeatOf guarded.now seat.old }
+    ensures seat { IsSeatOf guarded.now seat.new }
+    ensures lane { (knows seat.new).lane ≡ (knows seat.old).lane }
+{
+    match guarded.look(rt, seat, &ShardAsk::Status(MADE)) {
+        ShardAnswer::Known(status) => status,
+        ShardAnswer::Listed(_) => unreachable!(),
+    }
+}
+
+// Makes the two calls, and looks before the Finish and behind it.
+fn spend<R: Wait>(rt: &R, guarded: &Guarded<Shard>, mut seat: Seat<Shard>, calls: &Calls) -> Spent
+    requires seat { IsSeatOf guarded.now seat }
+    requires lock { calls.now.lock.batch.lane ≡ (knows seat).lane }
+    requires finish { calls.now.finish.batch.lane ≡ (knows seat).lane }
+    requires may_lock { IsLockCall (opening_of guarded.now).node.header calls.now.lock }
+    requires may_finish { IsFinishCall (opening_of guarded.now).node.header calls.now.finish }
+    ensures seat { IsSeatOf guarded.now result.seat }
+{
+    let at = point_of(seat.lane(), When::Before);
+    let mut lock = ShardCall::Lock(&calls.lock);
+    let _ = guarded.call(rt, &mut seat, &mut lock, &RowGate::Open, &at);
+    let before = look(rt, guarded, &mut seat);
+    let mut finish = ShardCall::Finish(&calls.finish);
+    let _ = guarded.call(rt, &mut seat, &mut finish, &RowGate::Open, &at);
+    let behind = look(rt, guarded, &mut seat);
+    Spent {
+        seat,
+        before,
+        behind,
+    }
+}
+
+// Looks once.
+fn watch<R: Wait>(rt: &R, guarded: &Guarded<Shard>, mut seat: Seat<Shard>) -> Seat<Shard>
+    requires seat { IsSeatOf guarded.now seat }
+    ensures seat { IsSeatOf guarded.now result }
+{
+    let _ = look(rt, guarded, &mut seat);
+    seat
+}
+
+// Both lanes beside each other, and behind the join what the second is told.
+fn beside<R: Threads + Wait + Sync>(
+    rt: &R,
+    guarded: &Guarded<Shard>,
+    one: Seat<Shard>,
+    two: Seat<Shard>,
+    calls: &Calls,
+) -> (Spent, Seat<Shard>, Status)
+    requires one { IsSeatOf guarded.now one }
+    requires two { IsSeatOf guarded.now two }
+    requires lock { calls.now.lock.batch.lane ≡ (knows one).lane }
+    requires finish { calls.now.finish.batch.lane ≡ (knows one).lane }
+    requires may_lock { IsLockCall (opening_of guarded.now).node.header calls.now.lock }
+    requires may_finish { IsFinishCall (opening_of guarded.now).node.header calls.now.finish }
+    ensures one { IsSeatOf guarded.now result.0.seat }
+    ensures two { IsSeatOf guarded.now result.1 }
+{
+    let (spent, mut two) = join(
+        rt,
+        || spend(rt, guarded, one, calls),
+        || watch(rt, guarded, two),
+    );
+    let seen = look(rt, guarded, &mut two);
+    (spent, two, seen)
+}
+
+// Both lanes at a shard that may be asked so.
+fn at_shard<R: Threads + Wait + Sync>(
+    rt: &R,
+    alloc: Global,
+    node: ShardNode<PlainDisk>,
+    calls: &Calls,
+) -> Option<(Status, Status, Status)>
+    requires lock { calls.now.lock.batch.lane ≡ 0 }
+    requires finish { calls.now.finish.batch.lane ≡ 0 }
+    requires may_lock { IsLockCall node.header calls.now.lock }
+    requires may_finish { IsFinishCall node.header calls.now.finish }
+{
+    let Ok((guarded, mut seats)) = Guarded::new(alloc, SharedShard { node }, &[ONE, TWO]) else {
+        return None;
+    };
+    let (Some(two), Some(one)) = (seats.pop(), seats.pop()) else {
+        unreachable!()
+    };
+    let (spent, two, seen) = beside(rt, &guarded, one, two, calls);
+    let Spent {
+        seat,
+        before,
+        behind,
+    } = spent;
+    seats.push_reserved(seat);
+    seats.push_reserved(two);
+    let _node = guarded.close(seats);
+    Some((before, behind, seen))
+}
+
+/// A lane locks a part and finishes it while another looks. Whether the coin that is made is absent before the Finish, and unspent behind it:
+/// for the lane that made it at once, and for the other behind the join.
+pub fn shows_output<R: Threads + Wait + Sync>(
+    rt: &R,
+    alloc: Global,
+    committed: bool,
+) -> Option<bool> {
+    let node = opened(alloc)?;
+    let calls = calls_of(alloc, ONE, committed)?;
+    if !is_lock_call(node.header(), &calls.lock) || !is_finish_call(node.header(), &calls.finish) {
+        return None;
+    }
+    let told = at_shard(rt, alloc, node, &calls)?;
+    Some(told == (Status::Absent, Status::Unspent, Status::Unspent))
+}
