@@ -1,32 +1,20 @@
 // What the plain programs say of journals: of hashes and lanes behind each record, of sizes and room, of which record stands.
-use crate::calls::put_status;
 use crate::state::{State, journals_of};
 use cbdc_types::{LaneId, List, Record, Shape};
 use model_check::{
     Listed, Phase, Row, first_refusal_of, is_after, is_caused, is_in_grammar, is_ordered,
     kept_room, lane_room, need_of, outcome_of, size_of, slot_of, slot_stamp, status_of, used_of,
 };
-use row_records::{batch_of, hash, put_outcome, put_refusal, small, verdicts};
-use row_text::{
-    Wrong, check_text, check_words, check_yes, number, put_count, put_word, rest, word,
-};
-use std::alloc::{AllocError, Global};
+use row_records::{Told, verdicts};
+use row_text::{Wrong, rest};
+use std::alloc::Global;
 
-// Appends a stroke where a text goes on.
-fn put_stroke(text: &mut String) -> Result<(), AllocError> {
-    if text.is_empty() {
-        Ok(())
-    } else {
-        put_word(text, "/")
-    }
-}
-
-// Appends a number, or that there is none.
-fn put_told(alloc: Global, text: &mut String, told: Option<u64>) -> Result<(), AllocError> {
-    put_stroke(text)?;
-    match told {
-        Some(n) => put_count(alloc, text, n),
-        None => put_word(text, "none"),
+// Tells a number, or that there is none.
+fn tell_number(told: &mut Told, own: Option<u64>) {
+    told.stroke();
+    match own {
+        Some(n) => told.number(n),
+        None => told.word("none"),
     }
 }
 
@@ -37,19 +25,13 @@ fn oldest<T>(all: &[T], many: usize) -> &[T] {
 }
 
 /// `says LEDGER NODE HASH`, and what is known of the hash before the first record and behind each.
-pub fn says(state: &State, alloc: Global, words: &[&str], text: &str) -> Result<(), Wrong> {
-    let past = state.journal(alloc, words)?;
-    let x = hash(alloc, word(words, 2)?)?;
-    let mut came = String::new(alloc);
+pub fn says(state: &State, words: &[&str], told: &mut Told) {
+    let past = state.journal(words, told);
+    let x = told.hash_at(words, 2);
     for many in 0..past.len().saturating_add(1) {
-        put_stroke(&mut came)?;
-        put_status(
-            alloc,
-            &mut came,
-            &status_of(oldest(past.as_slice(), many), &x),
-        )?;
+        told.stroke();
+        told.status(&status_of(oldest(past.as_slice(), many), &x));
     }
-    check_words(alloc, text, came.as_str())
 }
 
 fn phase_word(phase: &Phase) -> &'static str {
@@ -63,29 +45,21 @@ fn phase_word(phase: &Phase) -> &'static str {
     }
 }
 
-// Appends `PHASE NUMBER STAMP` of a lane.
-fn put_slot(
-    alloc: Global,
-    text: &mut String,
-    past: &[Record],
-    lane: LaneId,
-) -> Result<(), AllocError> {
+// Tells `PHASE NUMBER STAMP` of a lane.
+fn tell_slot(told: &mut Told, past: &[Record], lane: LaneId) {
     let slot = slot_of(past, lane);
-    put_stroke(text)?;
-    put_word(text, phase_word(&slot.phase))?;
-    put_count(alloc, text, slot.number)?;
-    put_count(alloc, text, slot_stamp(past, lane).0)
+    told.stroke();
+    told.word(phase_word(&slot.phase));
+    told.numbers(&[slot.number, slot_stamp(past, lane).0]);
 }
 
 /// `slots LEDGER NODE LANE`, and `PHASE NUMBER STAMP` of the lane before the first record and behind each.
-pub fn slots(state: &State, alloc: Global, words: &[&str], text: &str) -> Result<(), Wrong> {
-    let past = state.journal(alloc, words)?;
-    let lane = LaneId(small(word(words, 2)?)?);
-    let mut came = String::new(alloc);
+pub fn slots(state: &State, words: &[&str], told: &mut Told) {
+    let past = state.journal(words, told);
+    let lane = told.lane_at(words, 2);
     for many in 0..past.len().saturating_add(1) {
-        put_slot(alloc, &mut came, oldest(past.as_slice(), many), lane)?;
+        tell_slot(told, oldest(past.as_slice(), many), lane);
     }
-    check_words(alloc, text, came.as_str())
 }
 
 // A number of a journal's newest record: of its size, of what is used behind it, of what is kept.
@@ -97,147 +71,136 @@ fn size_in(shape: &Shape, past: &[Record], kind: u8) -> Option<u64> {
     }
 }
 
-// Appends a line of such a number for each record, the oldest first.
-fn put_sizes(
-    alloc: Global,
-    text: &mut String,
-    shape: &Shape,
-    past: &[Record],
-    kind: u8,
-) -> Result<(), AllocError> {
-    let mut line = String::new(alloc);
+// Tells such a number for each record, the oldest first, in a line.
+fn tell_sizes(told: &mut Told, shape: &Shape, past: &[Record], kind: u8) {
     for many in 0..past.len() {
         let records = oldest(past, many.saturating_add(1));
-        put_told(alloc, &mut line, size_in(shape, records, kind))?;
+        tell_number(told, size_in(shape, records, kind));
     }
-    text.push_str(line.as_str())?;
-    text.push('\n')
+    told.line();
 }
 
 /// `sizes LEDGER NODE`, and of each record, the oldest first, its size, what is used behind it and what is kept: three lines.
-pub fn sizes(state: &State, alloc: Global, words: &[&str], text: &str) -> Result<(), Wrong> {
-    let shape = state.known.shape()?;
-    let past = state.journal(alloc, words)?;
-    let mut came = String::new(alloc);
-    for kind in 0u8..3 {
-        put_sizes(alloc, &mut came, &shape, past.as_slice(), kind)?;
+pub fn sizes(state: &State, words: &[&str], told: &mut Told) {
+    let past = state.journal(words, told);
+    if let Some(shape) = told.given(state.known.shape()) {
+        for kind in 0u8..3 {
+            tell_sizes(told, &shape, past.as_slice(), kind);
+        }
     }
-    check_text(alloc, text, came.as_str())
 }
 
 /// `room LEDGER NODE LANE`, and how many bytes are kept free for the lane's batch.
-pub fn room(state: &State, alloc: Global, words: &[&str], text: &str) -> Result<(), Wrong> {
-    let past = state.journal(alloc, words)?;
-    let lane = LaneId(small(word(words, 2)?)?);
-    let mut came = String::new(alloc);
-    put_told(alloc, &mut came, lane_room(past.as_slice(), lane))?;
-    check_words(alloc, text, came.as_str())
+pub fn room(state: &State, words: &[&str], told: &mut Told) {
+    let past = state.journal(words, told);
+    let lane = told.lane_at(words, 2);
+    tell_number(told, lane_room(past.as_slice(), lane));
 }
 
 /// `need LEDGER NODE RECORD`, and `SIZE / NEED` of that record there.
-pub fn need(state: &State, alloc: Global, words: &[&str], text: &str) -> Result<(), Wrong> {
-    let shape = state.known.shape()?;
-    let past = state.journal(alloc, words)?;
-    let next = state.row(alloc, rest(words, 1))?;
-    let mut came = String::new(alloc);
-    put_told(alloc, &mut came, size_of(&next.what))?;
-    put_told(
-        alloc,
-        &mut came,
-        need_of(&shape, past.as_slice(), &next.what),
-    )?;
-    check_words(alloc, text, came.as_str())
+pub fn need(state: &State, words: &[&str], told: &mut Told) {
+    let past = state.journal(words, told);
+    let Some(shape) = told.given(state.known.shape()) else {
+        return;
+    };
+    if let Some(next) = state.row(rest(words, 1), told) {
+        tell_number(told, size_of(&next.what));
+        tell_number(told, need_of(&shape, past.as_slice(), &next.what));
+    }
 }
 
 /// `may NODE RECORD`, and `yes` or `no`: whether it is in the grammar of that node, by the definition and by the ledger's own test.
-pub fn may(state: &State, alloc: Global, words: &[&str], text: &str) -> Result<(), Wrong> {
-    let row = state.row(alloc, words)?;
-    let header = state.header(row.node)?;
-    check_yes(alloc, text, is_in_grammar(&header, &row.what))?;
-    check_yes(
-        alloc,
-        text,
-        record_grammar::is_in_grammar(&header, &row.what),
-    )
+pub fn may(state: &State, words: &[&str], told: &mut Told) {
+    let Some(row) = state.row(words, told) else {
+        return;
+    };
+    if let Some(header) = told.given(state.known.header(row.node.0)) {
+        let mut own = Told::new(told.alloc);
+        own.yes(is_in_grammar(&header, &row.what));
+        told.yes(record_grammar::is_in_grammar(&header, &row.what));
+        told.check_twice(own);
+    }
 }
 
 // Whether a record may come next behind others, and whether they cause it.
 fn judged(state: &State, alloc: Global, rows: &[Row], next: &Row) -> Result<(bool, bool), Wrong> {
-    let header = state.header(next.node)?;
+    let header = state.known.header(next.node.0)?;
     let shape = header.shape;
-    let all = journals_of(alloc, shape.node_count(), rows)?;
     let own = model_check::journal_of(alloc, next.node, rows)?;
     let after = is_after(alloc, &header, own.as_slice(), &next.what)?;
+    let all = journals_of(alloc, shape.node_count(), rows)?;
     let caused = is_caused(alloc, all.as_slice(), &shape, next.node, &next.what)?;
     Ok((after, caused))
 }
 
 /// `follows LEDGER NODE RECORD`, and two words: whether it may come next at the node, and whether it is caused there.
-pub fn follows(state: &State, alloc: Global, words: &[&str], text: &str) -> Result<(), Wrong> {
-    let rows = state.ledger(word(words, 0)?)?;
-    let next = state.row(alloc, rest(words, 1))?;
-    let (after, caused) = judged(state, alloc, rows, &next)?;
-    let mut came = String::new(alloc);
-    put_word(&mut came, if after { "after" } else { "not-after" })?;
-    put_word(&mut came, if caused { "caused" } else { "uncaused" })?;
-    check_words(alloc, text, came.as_str())
+pub fn follows(state: &State, words: &[&str], told: &mut Told) {
+    let alloc = told.alloc;
+    let rows = state.rows(words, 0, told);
+    let Some(next) = state.row(rest(words, 1), told) else {
+        return;
+    };
+    if let Some((after, caused)) = told.given(judged(state, alloc, rows, &next)) {
+        told.word(if after { "after" } else { "not-after" });
+        told.word(if caused { "caused" } else { "uncaused" });
+    }
 }
 
 // Whether the newest of these records may come next behind the others, caused by them.
-fn newest_stands(state: &State, alloc: Global, rows: &[Row]) -> Result<bool, Wrong> {
+fn newest_stands(state: &State, rows: &[Row], told: &mut Told) -> bool {
+    let alloc = told.alloc;
     let Some((newest, before)) = rows.split_first() else {
-        return Ok(true);
+        return true;
     };
-    let (after, caused) = judged(state, alloc, before, newest)?;
-    Ok(after && caused)
-}
-
-// The place of the first record that does not stand on those before it.
-fn first_unsound(state: &State, alloc: Global, rows: &[Row]) -> Result<Option<u64>, Wrong> {
-    for place in 0..rows.len() {
-        if !newest_stands(state, alloc, oldest(rows, place.saturating_add(1)))? {
-            return Ok(Some(place as u64));
-        }
+    match told.given(judged(state, alloc, before, newest)) {
+        Some((after, caused)) => after && caused,
+        None => false,
     }
-    Ok(None)
 }
 
 /// `unsound LEDGER`, and the place of the first record, as they are written, that does not stand on those before it, or `none`.
-pub fn unsound(state: &State, alloc: Global, words: &[&str], text: &str) -> Result<(), Wrong> {
-    let rows = state.ledger(word(words, 0)?)?;
-    let mut came = String::new(alloc);
-    let told = first_unsound(state, alloc, rows.as_slice())?;
-    put_told(alloc, &mut came, told)?;
-    check_words(alloc, text, came.as_str())
+pub fn unsound(state: &State, words: &[&str], told: &mut Told) {
+    let rows = state.rows(words, 0, told);
+    for place in 0..rows.len() {
+        if !newest_stands(state, oldest(rows, place.saturating_add(1)), told) {
+            told.number(place as u64);
+            return;
+        }
+    }
+    told.word("none");
 }
 
 /// `ordered LEDGER yes`: whether the records, as they are written, stand by stamp and node.
-pub fn ordered(state: &State, alloc: Global, words: &[&str]) -> Result<(), Wrong> {
-    let rows = state.ledger(word(words, 0)?)?;
-    check_yes(alloc, word(words, 1)?, is_ordered(rows.as_slice()))
+pub fn ordered(state: &State, words: &[&str], told: &mut Told) {
+    let rows = state.rows(words, 0, told);
+    let wanted = told.word_at(words, 1);
+    told.check_is(wanted, is_ordered(rows));
 }
 
 /// `outcome LEDGER LANE NUMBER PLACE`, and the outcome of that transaction by the Locks.
-pub fn outcome(state: &State, alloc: Global, words: &[&str], text: &str) -> Result<(), Wrong> {
-    let all = state.journals(alloc, word(words, 0)?)?;
-    let batch = batch_of(word(words, 1)?, word(words, 2)?)?;
-    let place = number(word(words, 3)?)?;
-    let told = outcome_of(all.as_slice(), &state.known.shape()?, &batch, place);
-    let mut came = String::new(alloc);
-    put_outcome(alloc, &mut came, &told)?;
-    check_words(alloc, text, came.as_str())
+pub fn outcome(state: &State, words: &[&str], told: &mut Told) {
+    let all = state.journals(words, 0, told);
+    let batch = told.batch_at(words, 1);
+    let place = told.number_at(words, 3);
+    if let Some(shape) = told.given(state.known.shape()) {
+        told.outcome(&outcome_of(all.as_slice(), &shape, &batch, place));
+    }
 }
 
 /// `refused TX VERDICT..`, and why, or `none`; behind the verdicts that are told all are absent.
-pub fn refused(state: &State, alloc: Global, words: &[&str], text: &str) -> Result<(), Wrong> {
-    let tx = state.known.full(word(words, 0)?)?;
-    let listed = Listed {
-        verdicts: List::from_vec(verdicts(alloc, rest(words, 1))?),
+pub fn refused(state: &State, words: &[&str], told: &mut Told) {
+    let alloc = told.alloc;
+    let Some(own) = told.given(verdicts(alloc, rest(words, 1))) else {
+        return;
     };
-    let mut came = String::new(alloc);
-    match first_refusal_of(tx, &listed) {
-        Some(why) => put_refusal(alloc, &mut came, &why)?,
-        None => put_word(&mut came, "none")?,
+    let listed = Listed {
+        verdicts: List::from_vec(own),
+    };
+    match state.known.full(told.word_at(words, 0)) {
+        Ok(tx) => match first_refusal_of(tx, &listed) {
+            Some(why) => told.refusal(&why),
+            None => told.word("none"),
+        },
+        Err(wrong) => told.fail(wrong),
     }
-    check_words(alloc, text, came.as_str())
 }

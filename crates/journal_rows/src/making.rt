@@ -1,38 +1,62 @@
 // Steps that make files and ledgers.
-use crate::state::{State, copied};
+use crate::state::State;
+use cbdc_types::NodeId;
 use model_check::Row;
-use row_text::{Wrong, count, put_word, rest, word};
-use std::alloc::Global;
+use row_records::{Told, rows_in};
+use row_text::{put_word, rest};
 
 /// `files TX.. / TX..`: the files of a run, or what was submitted before; `files none` are none.
-pub fn files(state: &mut State, alloc: Global, kind: &str, words: &[&str]) -> Result<(), Wrong> {
+pub fn files(state: &mut State, kind: &str, words: &[&str], told: &mut Told) {
+    let alloc = told.alloc;
     let mut names = String::new(alloc);
     for word in words {
-        put_word(&mut names, word)?;
+        let done = put_word(&mut names, word);
+        told.made(done);
     }
-    state.files.put(alloc, kind, names)?;
-    Ok(())
+    told.made(state.files.put(alloc, kind, names));
 }
 
-// The record of a line, `NODE RECORD`.
-fn row_of(state: &State, alloc: Global, line: &str) -> Result<Row, Wrong> {
-    let words = line.split_whitespace().collect::<Vec<&str>>(alloc)?;
-    state.row(alloc, words.as_slice())
+// Copies of records that have the newest first, the oldest first.
+fn oldest_first(rows: &[Row], told: &mut Told) -> Vec<Row> {
+    let mut all = Vec::new(told.alloc);
+    for row in rows.iter().rev() {
+        if let Some(what) = told.made(row.what.clone()) {
+            told.push(
+                &mut all,
+                Row {
+                    node: row.node,
+                    what,
+                },
+            );
+        }
+    }
+    all
+}
+
+// Names a ledger whose records have the oldest first.
+fn put_ledger(state: &mut State, name: &str, rows: Vec<Row>, told: &mut Told) {
+    let alloc = told.alloc;
+    let mut rows = rows;
+    rows.reverse();
+    told.made(state.ledgers.put(alloc, name, rows));
 }
 
 /// `ledger NAME`, `ledger NAME like OLD`, and a line for each record that is new.
-pub fn ledger(state: &mut State, alloc: Global, words: &[&str], text: &str) -> Result<(), Wrong> {
-    let mut rows = Vec::new(alloc);
+pub fn ledger(state: &mut State, words: &[&str], text: &str, told: &mut Told) {
+    let name = told.word_at(words, 0);
+    let mut rows = Vec::new(told.alloc);
     if words.len() > 1 {
-        rows = copied(alloc, state.ledger(word(words, 2)?)?)?;
-        rows.reverse();
+        told.expect(words, 1, "like");
+        rows = oldest_first(state.rows(words, 2, told), told);
     }
-    for line in text.lines() {
-        rows.push(row_of(state, alloc, line)?)?;
+    let came = rows_in(&state.known, told.alloc, text);
+    if let Some(new) = told.given(came) {
+        for (node, what) in new {
+            let node = NodeId(node);
+            told.push(&mut rows, Row { node, what });
+        }
     }
-    rows.reverse();
-    state.ledgers.put(alloc, word(words, 0)?, rows)?;
-    Ok(())
+    put_ledger(state, name, rows, told);
 }
 
 // Puts a record in the place of its node's, counted from the oldest; false where the node has none there.
@@ -51,15 +75,15 @@ fn put_other(rows: &mut [Row], place: usize, other: Row) -> bool {
 }
 
 /// `change LEDGER PLACE NODE RECORD`: it has another record at that place of the node's journal, counted from the oldest.
-pub fn change(state: &mut State, alloc: Global, words: &[&str]) -> Result<(), Wrong> {
-    let place = count(word(words, 1)?)?;
-    let other = state.row(alloc, rest(words, 2))?;
-    let mut rows = copied(alloc, state.ledger(word(words, 0)?)?)?;
-    rows.reverse();
+pub fn change(state: &mut State, words: &[&str], told: &mut Told) {
+    let name = told.word_at(words, 0);
+    let place = told.small_at(words, 1) as usize;
+    let mut rows = oldest_first(state.rows(words, 0, told), told);
+    let Some(other) = state.row(rest(words, 2), told) else {
+        return;
+    };
     if !put_other(rows.as_mut_slice(), place, other) {
-        return Err(Wrong::Line("no such record"));
+        told.refuse("no such record");
     }
-    rows.reverse();
-    state.ledgers.put(alloc, word(words, 0)?, rows)?;
-    Ok(())
+    put_ledger(state, name, rows, told);
 }

@@ -1,8 +1,8 @@
 // What a row has made so far: transactions, files and ledgers.
-use cbdc_types::{FullTx, Header, List, NodeId, Record};
+use cbdc_types::{FullTx, List, NodeId, Output, Record};
 use model_check::{Row, journal_of};
-use row_records::{Known, record, small};
-use row_text::{Names, Wrong, put_word, rest, word};
+use row_records::{Known, Told, row};
+use row_text::{Names, Wrong};
 use std::alloc::{AllocError, Global};
 use world_core::World;
 
@@ -43,52 +43,72 @@ impl State {
         self.world = None;
     }
 
-    /// The records of a ledger, the newest first.
-    pub fn ledger(&self, name: &str) -> Result<&Vec<Row>, Wrong> {
-        self.ledgers.get(name).ok_or(Wrong::Line("no such ledger"))
+    /// The records of the ledger that the word at a place names, the newest first; none where there is no such ledger.
+    pub fn rows(&self, words: &[&str], at: usize, told: &mut Told) -> &[Row] {
+        match self.ledgers.get(told.word_at(words, at)) {
+            Some(rows) => rows.as_slice(),
+            None => {
+                told.refuse("no such ledger");
+                &[]
+            }
+        }
     }
 
-    /// The journals of a ledger by node, the newest record first.
-    pub fn journals(&self, alloc: Global, name: &str) -> Result<List<List<Record>>, Wrong> {
-        let nodes = self.known.shape()?.node_count();
-        Ok(journals_of(alloc, nodes, self.ledger(name)?)?)
+    /// The journals of the ledger that the word at a place names, by node, the newest record first.
+    pub fn journals(&self, words: &[&str], at: usize, told: &mut Told) -> List<List<Record>> {
+        let alloc = told.alloc;
+        let rows = self.rows(words, at, told);
+        let Some(shape) = told.given(self.known.shape()) else {
+            return List::new(alloc);
+        };
+        let made = journals_of(alloc, shape.node_count(), rows);
+        told.made(made).unwrap_or(List::new(alloc))
     }
 
     /// The journal of `LEDGER NODE`, the newest record first.
-    pub fn journal(&self, alloc: Global, words: &[&str]) -> Result<List<Record>, Wrong> {
-        let rows = self.ledger(word(words, 0)?)?;
-        let node = NodeId(small(word(words, 1)?)?);
-        Ok(journal_of(alloc, node, rows)?)
+    pub fn journal(&self, words: &[&str], told: &mut Told) -> List<Record> {
+        let alloc = told.alloc;
+        let rows = self.rows(words, 0, told);
+        let node = NodeId(told.small_at(words, 1));
+        let made = journal_of(alloc, node, rows);
+        told.made(made).unwrap_or(List::new(alloc))
     }
 
     /// The record of `NODE RECORD`.
-    pub fn row(&self, alloc: Global, words: &[&str]) -> Result<Row, Wrong> {
-        let node = small(word(words, 0)?)?;
-        let what = record(&self.known, alloc, node, rest(words, 1))?;
-        Ok(Row {
+    pub fn row(&self, words: &[&str], told: &mut Told) -> Option<Row> {
+        let came = row(&self.known, told.alloc, words);
+        let (node, what) = told.given(came)?;
+        Some(Row {
             node: NodeId(node),
             what,
         })
     }
 
-    /// The header of a node.
-    pub fn header(&self, node: NodeId) -> Result<Header, Wrong> {
-        Ok(Header {
-            node,
-            shape: self.known.shape()?,
-            genesis: self.known.genesis(),
-        })
-    }
-
-    // The transactions of these names; a stroke among them is passed over.
-    fn put_fulls(&self, all: &mut List<FullTx>, names: &str) -> Result<(), Wrong> {
-        for name in names.split_whitespace() {
-            if name != "/" {
-                let tx = self.known.full(name)?;
-                all.push(tx.clone()?)?;
+    /// The coins that were minted; none where no mint was told.
+    pub fn coins(&self, told: &mut Told) -> &[Output] {
+        match self.known.mint() {
+            Ok(mint) => mint.coins.as_slice(),
+            Err(wrong) => {
+                told.fail(wrong);
+                &[]
             }
         }
-        Ok(())
+    }
+
+    // A copy of a transaction.
+    fn full(&self, name: &str) -> Result<FullTx, Wrong> {
+        Ok(self.known.full(name)?.clone()?)
+    }
+
+    // Appends the transactions of these names; a stroke among them is passed over.
+    fn put_fulls(&self, all: &mut List<FullTx>, names: &str, told: &mut Told) {
+        for name in names.split_whitespace() {
+            if name != "/" {
+                if let Some(tx) = told.given(self.full(name)) {
+                    told.made(all.push(tx));
+                }
+            }
+        }
     }
 
     // The names in files of a kind, strokes between the files; none where there are no files.
@@ -99,39 +119,30 @@ impl State {
         }
     }
 
-    // Appends the transactions of all files of a kind, one behind the other.
-    fn put_files(&self, alloc: Global, all: &mut List<FullTx>, kind: &str) -> Result<(), Wrong> {
-        match self.names_of(kind) {
-            Some(names) => self.put_fulls(all, names),
-            None => Ok(()),
-        }
-    }
-
-    // The transactions of one file.
-    fn file(&self, alloc: Global, names: &str) -> Result<List<FullTx>, Wrong> {
-        let mut txs = List::new(alloc);
-        self.put_fulls(&mut txs, names)?;
-        Ok(txs)
-    }
-
     /// The files of the run.
-    pub fn run_files(&self, alloc: Global) -> Result<List<List<FullTx>>, Wrong> {
+    pub fn run_files(&self, told: &mut Told) -> List<List<FullTx>> {
+        let alloc = told.alloc;
         let mut all = List::new(alloc);
-        let Some(names) = self.names_of("files") else {
-            return Ok(all);
-        };
-        for file in names.split('/') {
-            all.push(self.file(alloc, file)?)?;
+        if let Some(names) = self.names_of("files") {
+            for file in names.split('/') {
+                let mut txs = List::new(alloc);
+                self.put_fulls(&mut txs, file, told);
+                told.made(all.push(txs));
+            }
         }
-        Ok(all)
+        all
     }
 
     /// All that was submitted.
-    pub fn submitted(&self, alloc: Global) -> Result<List<FullTx>, Wrong> {
-        let mut all = List::new(alloc);
-        self.put_files(alloc, &mut all, "earlier")?;
-        self.put_files(alloc, &mut all, "files")?;
-        Ok(all)
+    pub fn submitted(&self, told: &mut Told) -> List<FullTx> {
+        let mut all = List::new(told.alloc);
+        if let Some(names) = self.names_of("earlier") {
+            self.put_fulls(&mut all, names, told);
+        }
+        if let Some(names) = self.names_of("files") {
+            self.put_fulls(&mut all, names, told);
+        }
+        all
     }
 }
 
@@ -146,23 +157,4 @@ pub fn journals_of(
         all.push(journal_of(alloc, NodeId(node), rows)?)?;
     }
     Ok(all)
-}
-
-/// Copies of records.
-pub fn copied(alloc: Global, rows: &[Row]) -> Result<Vec<Row>, AllocError> {
-    let mut all = Vec::new(alloc);
-    for row in rows {
-        all.push(Row {
-            node: row.node,
-            what: row.what.clone()?,
-        })?;
-    }
-    Ok(all)
-}
-
-/// Appends a word and a number.
-pub fn put_named(alloc: Global, text: &mut String, name: &str, n: u128) -> Result<(), AllocError> {
-    put_word(text, name)?;
-    let digits = format!(in alloc; "{n}")?;
-    put_word(text, digits.as_str())
 }

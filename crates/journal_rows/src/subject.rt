@@ -7,91 +7,112 @@ use crate::making::{change, files, ledger};
 use crate::plain::{alike, clean, comes, commits, history, holds, kept, waves};
 use crate::printed::prints;
 use crate::state::State;
-use crate::verbs::{Verb, is_for, verb_of};
+use crate::verbs::{Verb, is_for, takes_text, verb_of};
 use crate::worlds::{
-    again, begin, end, flight, nodes, recovered, reopen, stands, stop, world, write,
+    NO_WORLD, again, begin, end, flight, nodes, recovered, reopen, stands, stop, world, write,
 };
-use row_records::{mint, name_form, name_tx, shape};
-use row_text::{Block, Names, Subject, Wrong, check_text, rest, word};
+use row_records::{Told, mint, name_form, name_tx, shape};
+use row_text::{Block, Names, Subject, Wrong, rest, word};
 use std::alloc::Global;
 use std::sync::Wait;
 use std::thread::Threads;
+use world_core::World;
 
-// Does a step, by its verb and the words behind it.
-fn do_step(
-    state: &mut State,
-    alloc: Global,
-    verb: Verb,
-    words: &[&str],
-    text: &str,
-) -> Result<(), Wrong> {
+// Does a step, by its verb and the words behind it, and tells what comes of it.
+fn tell(state: &mut State, verb: Verb, words: &[&str], text: &str, told: &mut Told) {
+    let alloc = told.alloc;
     match verb {
-        Verb::Shape => shape(&mut state.known, alloc, words),
-        Verb::Mint => mint(&mut state.known, alloc, words),
-        Verb::Tx => name_tx(&mut state.known, alloc, words),
-        Verb::Form => name_form(&mut state.known, alloc, words),
-        Verb::Files => files(state, alloc, "files", words),
-        Verb::Earlier => files(state, alloc, "earlier", words),
-        Verb::Ledger => ledger(state, alloc, words, text),
-        Verb::Change => change(state, alloc, words),
-        other => happen(state, alloc, other, words, text),
-    }
-}
-
-// Does a step that something happens by in a world of nodes.
-fn happen(
-    state: &mut State,
-    alloc: Global,
-    verb: Verb,
-    words: &[&str],
-    text: &str,
-) -> Result<(), Wrong> {
-    match verb {
-        Verb::World => world(state, alloc, words),
-        Verb::Begin => begin(state, alloc, words),
-        Verb::End => end(state, alloc, words),
-        Verb::Write => write(state, alloc, words),
-        Verb::Stop => stop(state, alloc, words),
-        Verb::Reopen => reopen(state, alloc, words),
-        Verb::Again => again(state, alloc, words),
-        other => look(state, alloc, other, words, text),
+        Verb::Shape => {
+            told.given(shape(&mut state.known, alloc, words));
+        }
+        Verb::Mint => {
+            told.given(mint(&mut state.known, alloc, words));
+        }
+        Verb::Tx => {
+            told.given(name_tx(&mut state.known, alloc, words));
+        }
+        Verb::Form => {
+            told.given(name_form(&mut state.known, alloc, words));
+        }
+        Verb::Files => files(state, "files", words, told),
+        Verb::Earlier => files(state, "earlier", words, told),
+        Verb::Ledger => ledger(state, words, text, told),
+        Verb::Change => change(state, words, told),
+        Verb::World => world(state, words, told),
+        Verb::Begin => begin(state, words, told),
+        Verb::End => end(state, words, told),
+        Verb::Write => write(state, words, told),
+        Verb::Stop => stop(state, words, told),
+        Verb::Reopen => reopen(state, words, told),
+        Verb::Again => again(state, words, told),
+        other => look(state, other, words, text, told),
     }
 }
 
 // Does a step that looks at what was made.
-fn look(state: &State, alloc: Global, verb: Verb, words: &[&str], text: &str) -> Result<(), Wrong> {
+fn look(state: &State, verb: Verb, words: &[&str], text: &str, told: &mut Told) {
     match verb {
-        Verb::Clean => clean(state, alloc, words),
-        Verb::Kept => kept(state, alloc, words),
-        Verb::Alike => alike(state, alloc, words),
-        Verb::Waves => waves(state, alloc, words),
-        Verb::History => history(state, alloc, words, text),
-        Verb::Commits => commits(state, alloc, words, text),
-        Verb::Comes => comes(state, alloc, words),
-        Verb::Ask => ask(state, alloc, words, text),
-        Verb::Status => status(state, alloc, words, text),
-        Verb::Remembers => remembers(state, alloc, words, text),
-        Verb::Counts => counts(state, alloc, words, text),
-        Verb::Next => next(state, alloc, words, text),
-        Verb::Says => says(state, alloc, words, text),
-        Verb::Slots => slots(state, alloc, words, text),
-        Verb::Sizes => sizes(state, alloc, words, text),
-        Verb::Room => room(state, alloc, words, text),
-        Verb::Need => need(state, alloc, words, text),
-        Verb::May => may(state, alloc, words, text),
-        Verb::Follows => follows(state, alloc, words, text),
-        Verb::Unsound => unsound(state, alloc, words, text),
-        Verb::Ordered => ordered(state, alloc, words),
-        Verb::Holds => holds(state, alloc, words),
-        Verb::Outcome => outcome(state, alloc, words, text),
-        Verb::Refused => refused(state, alloc, words, text),
-        Verb::Prints => prints(state, alloc, words, text),
-        Verb::Is => check_text(alloc, word(words, 0)?, word(words, 1)?),
-        Verb::Nodes => nodes(state, alloc, text),
-        Verb::Flight => flight(state, alloc, words),
-        Verb::Stands => stands(state, alloc, words),
-        Verb::Recovered => recovered(state, alloc, words),
-        _ => Err(Wrong::Line("no such step")),
+        Verb::Clean => clean(state, words, told),
+        Verb::Kept => kept(state, words, told),
+        Verb::Alike => alike(state, words, told),
+        Verb::Waves => waves(state, words, told),
+        Verb::History => history(state, words, told),
+        Verb::Commits => commits(state, words, told),
+        Verb::Comes => comes(state, words, told),
+        Verb::Ask => ask(state, words, told),
+        Verb::Status => status(state, words, told),
+        Verb::Remembers => remembers(state, words, told),
+        Verb::Counts => counts(state, words, told),
+        Verb::Next => next(state, words, told),
+        Verb::Says => says(state, words, told),
+        Verb::Slots => slots(state, words, told),
+        Verb::Sizes => sizes(state, words, told),
+        Verb::Room => room(state, words, told),
+        Verb::Need => need(state, words, told),
+        Verb::May => may(state, words, told),
+        Verb::Follows => follows(state, words, told),
+        Verb::Unsound => unsound(state, words, told),
+        Verb::Ordered => ordered(state, words, told),
+        Verb::Holds => holds(state, words, told),
+        Verb::Outcome => outcome(state, words, told),
+        Verb::Refused => refused(state, words, told),
+        Verb::Prints => prints(state, words, text, told),
+        Verb::Is => {
+            let (wanted, came) = (told.word_at(words, 0), told.word_at(words, 1));
+            told.check_same(wanted, came);
+        }
+        other => match &state.world {
+            Some(own) => look_at_world(state, own, other, words, told),
+            None => told.refuse(NO_WORLD),
+        },
+    }
+}
+
+// Does a step that looks at the world.
+fn look_at_world(state: &State, own: &World, verb: Verb, words: &[&str], told: &mut Told) {
+    match verb {
+        Verb::Nodes => nodes(own, told),
+        Verb::Flight => flight(state, own, words, told),
+        Verb::Stands => stands(state, own, words, told),
+        Verb::Recovered => recovered(own, words, told),
+        _ => told.refuse("no such step"),
+    }
+}
+
+// Does a step, and compares what comes of it with the text behind it, where the step does not take that in.
+fn answer(
+    state: &mut State,
+    alloc: Global,
+    verb: Verb,
+    words: &[&str],
+    text: &str,
+) -> Result<(), Wrong> {
+    let mut told = Told::new(alloc);
+    tell(state, verb, words, text, &mut told);
+    if takes_text(verb) {
+        told.end()
+    } else {
+        told.check(text)
     }
 }
 
@@ -121,7 +142,7 @@ impl Subject for State {
     ) -> Result<(), Wrong> {
         match verb_of(word(words, 0)?) {
             Some(verb) if is_for(verb, block) => {
-                do_step(self, alloc, verb, rest(words, 1), block.text.as_str())
+                answer(self, alloc, verb, rest(words, 1), block.text.as_str())
             }
             Some(_) => Err(Wrong::Line("what stands behind it is not for this step")),
             None => Err(Wrong::Line("no such step")),

@@ -109,13 +109,22 @@ pub fn verb_of(word: &str) -> Option<Verb> {
     None
 }
 
+/// Whether a step takes the text behind it in, or compares it by itself; else that is its answer.
+pub fn takes_text(verb: Verb) -> bool {
+    match verb {
+        Verb::Ledger | Verb::Prints => true,
+        _ => false,
+    }
+}
+
 // Whether a step looks at the text behind it.
 fn has_text(verb: Verb) -> bool {
     match verb {
         Verb::Shape | Verb::Mint | Verb::Tx | Verb::Form | Verb::Files | Verb::Earlier => false,
-        Verb::Change | Verb::Clean | Verb::Kept | Verb::Alike | Verb::Waves | Verb::Comes => false,
-        Verb::Ordered | Verb::Holds | Verb::Is | Verb::World | Verb::Begin | Verb::End => false,
-        Verb::Write | Verb::Stop | Verb::Reopen | Verb::Again | Verb::Flight => false,
+        Verb::Change | Verb::Clean | Verb::Kept | Verb::Alike | Verb::Waves | Verb::Ordered =>
+            false,
+        Verb::Holds | Verb::Is | Verb::World | Verb::Begin | Verb::End | Verb::Write => false,
+        Verb::Stop | Verb::Reopen | Verb::Again | Verb::Flight => false,
         Verb::Stands | Verb::Recovered => false,
         _ => true,
     }

@@ -3,94 +3,95 @@ use crate::calls::call_of;
 use crate::state::State;
 use cbdc_types::{List, NodeId, Record};
 use model_check::{Node, is_recovered};
-use row_records::{hashes, small};
-use row_text::{Wrong, check_words, check_yes, put_word, rest, word};
-use std::alloc::Global;
+use row_records::{Told, hashes};
+use row_text::rest;
 use world_core::{Event, World};
 
-const NO_WORLD: Wrong = Wrong::Line("no world was made");
+/// No world was made before.
+pub const NO_WORLD: &str = "no world was made";
 
 /// `world HASH..`: all nodes new, of a mint of these hashes.
-pub fn world(state: &mut State, alloc: Global, words: &[&str]) -> Result<(), Wrong> {
-    let shape = state.known.shape()?;
-    let own = hashes(alloc, words)?;
+pub fn world(state: &mut State, words: &[&str], told: &mut Told) {
+    let alloc = told.alloc;
     let genesis = state.known.genesis();
-    state.world = Some(World::new(alloc, &shape, &genesis, own.as_slice())?);
-    Ok(())
+    let Some(shape) = told.given(state.known.shape()) else {
+        return;
+    };
+    if let Some(own) = told.given(hashes(alloc, words)) {
+        let made = World::new(alloc, &shape, &genesis, own.as_slice());
+        state.world = told.made(made);
+    }
 }
 
 // Events happen in turn.
-fn happens(state: &mut State, alloc: Global, events: &[Event]) -> Result<(), Wrong> {
+fn happens(state: &mut State, events: &[Event], told: &mut Told) {
+    let alloc = told.alloc;
     match &mut state.world {
-        Some(world) => Ok(world.run(alloc, events)?),
-        None => Err(NO_WORLD),
+        Some(world) => {
+            told.made(world.run(alloc, events));
+        }
+        None => told.refuse(NO_WORLD),
     }
-}
-
-// The node that comes first among words.
-fn node_of(words: &[&str]) -> Result<NodeId, Wrong> {
-    Ok(NodeId(small(word(words, 0)?)?))
 }
 
 /// `begin NODE RECORD`: it is begun there, and in flight.
-pub fn begin(state: &mut State, alloc: Global, words: &[&str]) -> Result<(), Wrong> {
-    let row = state.row(alloc, words)?;
-    happens(state, alloc, &[Event::Begin(row.node, row.what)])
-}
-
-/// `end NODE`: what is in flight there is written.
-pub fn end(state: &mut State, alloc: Global, words: &[&str]) -> Result<(), Wrong> {
-    let node = node_of(words)?;
-    happens(state, alloc, &[Event::End(node)])
+pub fn begin(state: &mut State, words: &[&str], told: &mut Told) {
+    if let Some(row) = state.row(words, told) {
+        happens(state, &[Event::Begin(row.node, row.what)], told);
+    }
 }
 
 /// `write NODE RECORD`: it is begun there and ended.
-pub fn write(state: &mut State, alloc: Global, words: &[&str]) -> Result<(), Wrong> {
-    let row = state.row(alloc, words)?;
-    happens(
-        state,
-        alloc,
-        &[Event::Begin(row.node, row.what), Event::End(row.node)],
-    )
+pub fn write(state: &mut State, words: &[&str], told: &mut Told) {
+    if let Some(row) = state.row(words, told) {
+        let node = row.node;
+        happens(
+            state,
+            &[Event::Begin(node, row.what), Event::End(node)],
+            told,
+        );
+    }
+}
+
+/// `end NODE`: what is in flight there is written.
+pub fn end(state: &mut State, words: &[&str], told: &mut Told) {
+    let node = NodeId(told.small_at(words, 0));
+    happens(state, &[Event::End(node)], told);
 }
 
 /// `stop NODE kept`, `stop NODE lost`: the node goes down, and keeps what is in flight or not.
-pub fn stop(state: &mut State, alloc: Global, words: &[&str]) -> Result<(), Wrong> {
-    let node = node_of(words)?;
-    let is_kept = word(words, 1)? == "kept";
-    if !is_kept && word(words, 1)? != "lost" {
-        return Err(Wrong::Line("what is in flight is kept or lost"));
+pub fn stop(state: &mut State, words: &[&str], told: &mut Told) {
+    let node = NodeId(told.small_at(words, 0));
+    let is_kept = told.word_at(words, 1) == "kept";
+    if !is_kept {
+        told.expect(words, 1, "lost");
     }
-    happens(state, alloc, &[Event::Crash(node, is_kept)])
+    happens(state, &[Event::Crash(node, is_kept)], told);
 }
 
 /// `reopen NODE`
-pub fn reopen(state: &mut State, alloc: Global, words: &[&str]) -> Result<(), Wrong> {
-    let node = node_of(words)?;
-    happens(state, alloc, &[Event::Reopen(node)])
+pub fn reopen(state: &mut State, words: &[&str], told: &mut Told) {
+    let node = NodeId(told.small_at(words, 0));
+    happens(state, &[Event::Reopen(node)], told);
 }
 
 /// `again NODE CALL`: the call is made again, however old.
-pub fn again(state: &mut State, alloc: Global, words: &[&str]) -> Result<(), Wrong> {
-    let node = node_of(words)?;
-    let call = call_of(state, alloc, node.0, rest(words, 1))?;
-    happens(state, alloc, &[Event::Repeat(node, call)])
-}
-
-fn world_of(state: &State) -> Result<&World, Wrong> {
-    state.world.as_ref().ok_or(NO_WORLD)
+pub fn again(state: &mut State, words: &[&str], told: &mut Told) {
+    let node = told.small_at(words, 0);
+    let call = call_of(&state.known, told.alloc, node, rest(words, 1));
+    if let Some(call) = told.given(call) {
+        happens(state, &[Event::Repeat(NodeId(node), call)], told);
+    }
 }
 
 /// `nodes`, and `up` or `down` for each, with `writing` where something is in flight.
-pub fn nodes(state: &State, alloc: Global, text: &str) -> Result<(), Wrong> {
-    let mut came = String::new(alloc);
-    for node in &world_of(state)?.nodes {
-        put_word(&mut came, if node.up { "up" } else { "down" })?;
+pub fn nodes(world: &World, told: &mut Told) {
+    for node in &world.nodes {
+        told.word(if node.up { "up" } else { "down" });
         if node.flight.is_some() {
-            put_word(&mut came, "writing")?;
+            told.word("writing");
         }
     }
-    check_words(alloc, text, came.as_str())
 }
 
 // Whether this is in flight at the node of its place.
@@ -105,11 +106,11 @@ fn is_in_flight(nodes: &[Node], place: usize, own: &Record) -> bool {
 }
 
 /// `flight NODE RECORD`: this is in flight there.
-pub fn flight(state: &State, alloc: Global, words: &[&str]) -> Result<(), Wrong> {
-    let row = state.row(alloc, words)?;
-    let nodes = world_of(state)?.nodes.as_slice();
-    let came = is_in_flight(nodes, row.node.0 as usize, &row.what);
-    check_yes(alloc, "yes", came)
+pub fn flight(state: &State, world: &World, words: &[&str], told: &mut Told) {
+    if let Some(row) = state.row(words, told) {
+        let place = row.node.0 as usize;
+        told.check_yes(is_in_flight(world.nodes.as_slice(), place, &row.what));
+    }
 }
 
 // Whether each node is up, nothing is in flight there, and it has the journal of its place.
@@ -126,15 +127,13 @@ fn are_these(nodes: &[Node], journals: &[List<Record>]) -> bool {
 }
 
 /// `stands LEDGER`: the journals are those of the ledger, all nodes are up, and nothing is in flight.
-pub fn stands(state: &State, alloc: Global, words: &[&str]) -> Result<(), Wrong> {
-    let journals = state.journals(alloc, word(words, 0)?)?;
-    let nodes = world_of(state)?.nodes.as_slice();
-    check_yes(alloc, "yes", are_these(nodes, journals.as_slice()))
+pub fn stands(state: &State, world: &World, words: &[&str], told: &mut Told) {
+    let journals = state.journals(words, 0, told);
+    told.check_yes(are_these(world.nodes.as_slice(), journals.as_slice()));
 }
 
 /// `recovered yes`: whether no lane is open.
-pub fn recovered(state: &State, alloc: Global, words: &[&str]) -> Result<(), Wrong> {
-    let own = world_of(state)?;
-    let came = is_recovered(own.nodes.as_slice(), &own.shape);
-    check_yes(alloc, word(words, 0)?, came)
+pub fn recovered(world: &World, words: &[&str], told: &mut Told) {
+    let wanted = told.word_at(words, 0);
+    told.check_is(wanted, is_recovered(world.nodes.as_slice(), &world.shape));
 }

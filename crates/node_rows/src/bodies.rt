@@ -1,35 +1,31 @@
 // Journals of bodies, and of records.
-use crate::answers::{of_body, of_record, plain, with};
 use crate::pieces::bytes_of;
 use crate::state::Node;
-use crate::told::Told;
-use crate::words::record;
 use gate_journal::Journal;
 use mem_devices::FaultDisk;
-use record_log::RecordLog;
-use row_records::Known;
-use row_text::{Wrong, number, word};
-use std::alloc::Global;
+use row_records::{Known, Told, record};
+
+const NO_BODIES: &str = "no journal of bodies";
 
 // Takes memory for bodies of so many bytes.
 fn reserve(journal: &mut Journal<FaultDisk>, bytes: u64, told: &mut Told) {
     if bytes > 1 << 40 {
         told.refuse("too long a body");
-    } else if journal.reserve(bytes).is_err() {
-        told.no_memory();
-    } else if journal.reserved() < bytes {
-        told.refuse("less memory than was asked for");
+    } else {
+        told.made(journal.reserve(bytes));
+        if journal.reserved() < bytes {
+            told.refuse("less memory than was asked for");
+        }
     }
 }
 
 /// `memory NODE BYTES`: a journal of bodies takes memory for bodies of so many bytes.
-pub fn memory(node: &mut Node, words: &[&str], told: &mut Told) -> Result<(), Wrong> {
-    let bytes = number(word(words, 0)?)?;
+pub fn memory(node: &mut Node, words: &[&str], told: &mut Told) {
+    let bytes = told.number_at(words, 0);
     match node {
         Node::Bodies(journal) => reserve(journal, bytes, told),
-        _ => told.refuse("no journal of bodies"),
+        _ => told.refuse(NO_BODIES),
     }
-    Ok(())
 }
 
 // Appends a body where there is memory for it.
@@ -37,77 +33,35 @@ fn append_body(journal: &mut Journal<FaultDisk>, body: &[u8], told: &mut Told) {
     if body.len() as u64 > journal.reserved() {
         told.refuse("no memory for such a body");
     } else {
-        told.said(&of_body(&journal.append(body)));
+        told.done(&journal.append(body));
     }
 }
 
 /// `append NODE PIECE..`, and what the journal of bodies says
-pub fn append(
-    alloc: Global,
-    node: &mut Node,
-    words: &[&str],
-    told: &mut Told,
-) -> Result<(), Wrong> {
-    let body = bytes_of(alloc, words)?;
+pub fn append(node: &mut Node, words: &[&str], told: &mut Told) {
+    let body = bytes_of(words, told);
     match node {
         Node::Bodies(journal) => append_body(journal, &body, told),
-        _ => told.refuse("no journal of bodies"),
+        _ => told.refuse(NO_BODIES),
     }
-    Ok(())
-}
-
-// Appends a record.
-fn add_to(
-    known: &Known,
-    alloc: Global,
-    log: &mut RecordLog<FaultDisk>,
-    words: &[&str],
-    told: &mut Told,
-) -> Result<(), Wrong> {
-    let own = record(known, alloc, log.header.node.0, words)?;
-    told.said(&of_record(&log.append(own)));
-    Ok(())
 }
 
 /// `add NODE RECORD`, and what the journal of records says
-pub fn add(
-    known: &Known,
-    alloc: Global,
-    node: &mut Node,
-    words: &[&str],
-    told: &mut Told,
-) -> Result<(), Wrong> {
-    match node {
-        Node::Records(log) => add_to(known, alloc, log, words, told),
-        _ => Err(Wrong::Line("no journal of records")),
+pub fn add(known: &Known, node: &mut Node, words: &[&str], told: &mut Told) {
+    let Node::Records(log) = node else {
+        told.refuse("no journal of records");
+        return;
+    };
+    let own = record(known, told.alloc, log.header.node.0, words);
+    if let Some(own) = told.given(own) {
+        told.done(&log.append(own));
     }
 }
 
-// Bytes used, free and in all, and the count of faults.
-fn of_journal(journal: &Journal<FaultDisk>) -> [u64; 4] {
-    [
-        journal.used(),
-        journal.room(),
-        journal.capacity(),
-        journal.faults(),
-    ]
-}
-
-// The same, and how many records there are in place of the bytes that are free.
-fn of_log(log: &RecordLog<FaultDisk>) -> [u64; 4] {
-    [
-        log.used(),
-        log.records.len() as u64,
-        log.capacity(),
-        log.faults(),
-    ]
-}
-
-fn tell_used(told: &mut Told, numbers: &[u64], broken: Option<u64>) {
-    told.numbers(numbers);
+fn tell_broken(told: &mut Told, broken: Option<u64>) {
     match broken {
-        Some(since) => told.said(&with("broken", since)),
-        None => told.said(&plain("whole")),
+        Some(since) => told.named("broken", since as u128),
+        None => told.word("whole"),
     }
 }
 
@@ -115,8 +69,20 @@ fn tell_used(told: &mut Told, numbers: &[u64], broken: Option<u64>) {
 /// records it has, and how many bytes may be; then how often the disk has failed, and `whole`, or `broken` and the count of faults behind that
 pub fn used(node: &Node, told: &mut Told) {
     match node {
-        Node::Bodies(journal) => tell_used(told, &of_journal(journal), journal.is_broken()),
-        Node::Records(log) => tell_used(told, &of_log(log), log.is_broken()),
+        Node::Bodies(journal) => {
+            told.numbers(&[
+                journal.used(),
+                journal.room(),
+                journal.capacity(),
+                journal.faults(),
+            ]);
+            tell_broken(told, journal.is_broken());
+        }
+        Node::Records(log) => {
+            let many = log.records.len() as u64;
+            told.numbers(&[log.used(), many, log.capacity(), log.faults()]);
+            tell_broken(told, log.is_broken());
+        }
         _ => told.refuse("no journal"),
     }
 }

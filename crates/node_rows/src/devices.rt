@@ -1,37 +1,43 @@
 // A rack, a sink, an inbox and gates in memory.
-ghost use Rattle.std.specs.Prelude.{IfOk};
 ghost use Rattle.mem_devices.specs.Racks.{AllIn};
 
-use crate::answers::with;
-use crate::pieces::{bytes_of, check_bytes, check_same};
-use crate::told::Told;
-use crate::words::{at_most, expect};
-use cbdc_types::{LaneId, NodeId};
+use crate::pieces::bytes_of;
+use cbdc_types::NodeId;
 use mem_devices::{MemInbox, MemRack, MemSink, PlainDisk, TestGate};
-use outside::{Disk, Gate, Inbox, OpenGate, Point, Rack, Sink, When};
-use row_records::small;
-use row_text::{Wrong, count, number, rest, word, words_around};
-use std::alloc::Global;
+use outside::{Disk, Failed, Gate, Inbox, OpenGate, Point, Rack, Sink, When};
+use row_records::Told;
+use row_text::{rest, words_around};
 use std::sync::Wait;
 
 /// Decimal numbers.
-pub fn numbers(alloc: Global, words: &[&str]) -> Result<Vec<u64>, Wrong> {
-    let mut all = Vec::new(alloc);
-    for word in words {
-        all.push(number(word)?)?;
+pub fn numbers(words: &[&str], told: &mut Told) -> Vec<u64> {
+    let mut all = Vec::new(told.alloc);
+    for at in 0..words.len() {
+        let n = told.number_at(words, at);
+        told.push(&mut all, n);
     }
-    Ok(all)
+    all
 }
 
-// A rack of empty disks with these capacities.
-fn rack_of(alloc: Global, capacities: &[&str]) -> Result<MemRack<PlainDisk>, Wrong>
-    ensures { IfOk result (λ r. AllIn r) }
-{
-    let mut disks = Vec::new(alloc);
-    for capacity in capacities {
-        disks.push(PlainDisk::new(alloc, count(capacity)?)?)?;
+/// Tells how many bytes a call took or gave, or `fails`.
+pub fn tell_count(told: &mut Told, word: &str, came: &Result<usize, Failed>) {
+    match came {
+        Ok(n) => told.named(word, *n as u128),
+        Err(_) => told.word("fails"),
     }
-    Ok(MemRack::new(alloc, disks)?)
+}
+
+// Empty disks with these capacities.
+fn disks_of(capacities: &[&str], told: &mut Told) -> Vec<PlainDisk> {
+    let mut disks = Vec::new(told.alloc);
+    for at in 0..capacities.len() {
+        let capacity = told.small_at(capacities, at) as usize;
+        let made = PlainDisk::new(told.alloc, capacity);
+        if let Some(disk) = told.made(made) {
+            told.push(&mut disks, disk);
+        }
+    }
+    disks
 }
 
 // Tells for each node up to this one whether its disk is in its place.
@@ -48,7 +54,7 @@ fn take_out(rack: &mut MemRack<PlainDisk>, node: NodeId, last: usize, told: &mut
 {
     match rack.take(node) {
         Ok(disk) => {
-            told.said(&with("took", disk.capacity()));
+            told.named("took", disk.capacity() as u128);
             tell_places(told, rack, last);
             told.word("back");
             rack.put(node, disk);
@@ -60,107 +66,87 @@ fn take_out(rack: &mut MemRack<PlainDisk>, node: NodeId, last: usize, told: &mut
 
 /// `rack CAPACITY.. take NODE`, and the capacity of the disk that is taken, or `none`; which nodes' disks are in their places while it is
 /// out, one more than there are, and which are when it is back.
-pub fn rack(alloc: Global, words: &[&str], told: &mut Told) -> Result<(), Wrong> {
+pub fn rack(words: &[&str], told: &mut Told) {
     let (capacities, taken) = words_around(words, "take");
-    at_most(taken, 1)?;
-    let node = NodeId(small(word(taken, 0)?)?);
-    let mut rack = rack_of(alloc, capacities)?;
-    take_out(&mut rack, node, capacities.len(), told);
-    Ok(())
-}
-
-// Writes bytes to a sink.
-fn write(sink: &mut MemSink, bytes: &[u8], told: &mut Told) {
-    match sink.write(bytes) {
-        Ok(n) => told.said(&with("took", n as u64)),
-        Err(_) => told.word("fails"),
+    told.at_most(taken, 1);
+    let node = NodeId(told.small_at(taken, 0));
+    let disks = disks_of(capacities, told);
+    match MemRack::new(told.alloc, disks) {
+        Ok(made) => {
+            let mut rack = made;
+            take_out(&mut rack, node, capacities.len(), told);
+        }
+        Err(_) => told.no_memory(),
     }
-}
-
-// A sink by its capacity and the calls that fail.
-fn sink_of(alloc: Global, words: &[&str]) -> Result<MemSink, Wrong> {
-    let (words, fails) = words_around(words, "fails");
-    at_most(words, 1)?;
-    Ok(MemSink::new(alloc, count(word(words, 0)?)?, numbers(alloc, fails)?)?)
 }
 
 /// `sink CAPACITY fails CALL.. takes PIECE.. has PIECE..`, and what each call takes, or `fails`; behind them it has those bytes.
-pub fn sink(alloc: Global, words: &[&str], told: &mut Told) -> Result<(), Wrong> {
+pub fn sink(words: &[&str], told: &mut Told) {
     let (words, held) = words_around(words, "has");
     let (words, pieces) = words_around(words, "takes");
-    let mut sink = sink_of(alloc, words)?;
-    for piece in pieces {
-        write(&mut sink, &bytes_of(alloc, &[*piece])?, told);
+    let (words, fails) = words_around(words, "fails");
+    told.at_most(words, 1);
+    let capacity = told.small_at(words, 0) as usize;
+    let fails = numbers(fails, told);
+    let wanted = bytes_of(held, told);
+    let made = MemSink::new(told.alloc, capacity, fails);
+    if let Some(mut sink) = told.made(made) {
+        for piece in pieces {
+            let bytes = bytes_of(&[*piece], told);
+            tell_count(told, "took", &sink.write(&bytes));
+        }
+        told.check_bytes(&wanted, sink.taken());
     }
-    check_bytes(alloc, held, sink.taken())
 }
 
-// An inbox with one file.
-fn inbox_of(alloc: Global, words: &[&str]) -> Result<MemInbox, Wrong> {
-    let name = String::from_str(alloc, word(words, 0)?)?;
-    let bytes = bytes_of(alloc, rest(words, 1))?;
-    let mut files = Vec::new(alloc);
-    files.push((name, bytes))?;
-    Ok(MemInbox::new(files))
-}
-
-// Tells how many bytes are read.
-fn tell_read(inbox: &mut MemInbox, name: &str, at: u64, buffer: &mut [u8], told: &mut Told) {
-    match inbox.read(name, at, buffer) {
-        Ok(n) => told.said(&with("read", n as u64)),
-        Err(_) => told.word("fails"),
-    }
+// An inbox with one file, `NAME PIECE..`.
+fn inbox_of(words: &[&str], told: &mut Told) -> MemInbox {
+    let mut files = Vec::new(told.alloc);
+    let bytes = bytes_of(rest(words, 1), told);
+    let name = told.word_at(words, 0);
+    let made = String::from_str(told.alloc, name);
+    let Some(name) = told.made(made) else {
+        return MemInbox::new(files);
+    };
+    told.push(&mut files, (name, bytes));
+    MemInbox::new(files)
 }
 
 // Reads once: `NAME AT PIECE..`.
-fn read_once(
-    alloc: Global,
-    inbox: &mut MemInbox,
-    words: &[&str],
-    told: &mut Told,
-) -> Result<(), Wrong> {
-    let (name, at) = (word(words, 0)?, number(word(words, 1)?)?);
-    let wanted = bytes_of(alloc, rest(words, 2))?;
-    let mut buffer = vec![in alloc; 0u8; wanted.len()]?;
-    tell_read(inbox, name, at, &mut buffer, told);
-    check_same(alloc, &wanted, &buffer)
-}
-
-// Reads for each `NAME AT PIECE..`, with `read` between them.
-fn read_all(
-    alloc: Global,
-    inbox: &mut MemInbox,
-    words: &[&str],
-    told: &mut Told,
-) -> Result<(), Wrong> {
-    let mut at = 0usize;
-    for _ in 0..words.len() {
-        if at >= words.len() {
-            break;
-        }
-        let (one, _) = words_around(rest(words, at), "read");
-        read_once(alloc, inbox, one, told)?;
-        at = at.saturating_add(one.len()).saturating_add(1);
+fn read_once(inbox: &mut MemInbox, words: &[&str], told: &mut Told) {
+    let alloc = told.alloc;
+    let (name, at) = (told.word_at(words, 0), told.number_at(words, 1));
+    let wanted = bytes_of(rest(words, 2), told);
+    let made = vec![in alloc; 0u8; wanted.len()];
+    if let Some(mut buffer) = told.made(made) {
+        tell_count(told, "read", &inbox.read(name, at, &mut buffer));
+        told.check_bytes(&wanted, &buffer);
     }
-    Ok(())
 }
 
 /// `inbox NAME PIECE.. read NAME AT PIECE..`, and how many bytes are read, or `fails`; the buffer has those bytes then, and had zeros. Behind
 /// another `read` the same inbox is read again.
-pub fn inbox(alloc: Global, words: &[&str], told: &mut Told) -> Result<(), Wrong> {
+pub fn inbox(words: &[&str], told: &mut Told) {
     let (own, asked) = words_around(words, "read");
-    let mut inbox = inbox_of(alloc, own)?;
-    read_all(alloc, &mut inbox, asked, told)
+    let mut inbox = inbox_of(own, told);
+    let mut at = 0usize;
+    for _ in 0..asked.len() {
+        if at < asked.len() {
+            let (one, _) = words_around(rest(asked, at), "read");
+            read_once(&mut inbox, one, told);
+            at = at.saturating_add(one.len()).saturating_add(1);
+        }
+    }
 }
 
-// A point of a lane.
-fn point(lane: &str) -> Result<Point, Wrong> {
-    Ok(Point {
-        lane: LaneId(small(lane)?),
+// A point of the lane that a word tells.
+fn point(words: &[&str], at: usize, told: &mut Told) -> Point {
+    Point {
+        lane: told.lane_at(words, at),
         node: NodeId(1),
         kind: 2,
         when: When::Inside,
-    })
+    }
 }
 
 // Tells which points came.
@@ -172,15 +158,16 @@ fn tell_came(told: &mut Told, gate: &TestGate) {
 
 /// `gate HELD AWAITED passes LANE..`, of points by their lanes, and which of the two came, at first and behind each that passes. An open gate lets
 /// them by, too.
-pub fn gate<W: Wait>(rt: &W, words: &[&str], told: &mut Told) -> Result<(), Wrong> {
-    let gate = TestGate::new(point(word(words, 0)?)?, point(word(words, 1)?)?);
-    expect(words, 2, "passes")?;
+pub fn gate<W: Wait>(rt: &W, words: &[&str], told: &mut Told) {
+    let held = point(words, 0, told);
+    let awaited = point(words, 1, told);
+    told.expect(words, 2, "passes");
+    let gate = TestGate::new(held, awaited);
     tell_came(told, &gate);
-    for lane in rest(words, 3) {
-        let own = point(lane)?;
+    for at in 3..words.len() {
+        let own = point(words, at, told);
         OpenGate.pass(rt, &own);
         gate.pass(rt, &own);
         tell_came(told, &gate);
     }
-    Ok(())
 }

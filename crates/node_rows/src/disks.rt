@@ -1,21 +1,28 @@
 // Disks in memory.
-use crate::answers::with;
-use crate::devices::numbers;
-use crate::pieces::{bytes_of, check_bytes, check_same};
-use crate::state::{Node, put_node, take_node};
-use crate::told::Told;
-use crate::verbs::OnDisk;
-use crate::words::{at_most, one_behind, record};
-use cbdc_types::{Header, NodeId, Record};
+ghost use Rattle.std.specs.Prelude.{◌≤◌, length};
+
+use crate::devices::{numbers, tell_count};
+use crate::pieces::bytes_of;
+use crate::state::{Node, make_place, put_node, take_node};
+use crate::verbs::Verb;
+use cbdc_types::{Header, Record};
 use mem_devices::{Choice, FaultDisk, PlainDisk};
 use outside::Disk;
 use record_codec::write_record;
-use row_records::{Known, small};
-use row_text::{Wrong, count, number, put_number, rest, word, words_around};
+use row_records::{Known, Told, records_in};
+use row_text::{put_number, rest, words_around};
 use std::alloc::{AllocError, Global};
 
-// Appends a record as a journal has it: its open gate, the length of its body, and the body.
-fn put_record(
+const TOO_LONG: &str = "a disk has more bytes than its capacity";
+
+/// A node that has no disk whose calls may fail.
+pub const NO_FAULTS: &str = "no disk that may fail";
+
+/// How many writes and syncs a disk keeps, where a row does not say.
+pub const CALLS: u32 = 100_000;
+
+/// Appends a record as a journal has it: its open gate, the length of its body, and the body.
+pub fn put_record(
     alloc: Global,
     bytes: &mut Vec<u8>,
     own: &Record,
@@ -28,83 +35,81 @@ fn put_record(
     bytes.extend_from_slice(&body)
 }
 
-// The bytes of a node's journal: its records, a line each, and a closed gate.
-fn journal_bytes(known: &Known, alloc: Global, node: u32, text: &str) -> Result<Vec<u8>, Wrong> {
-    let header = Header {
-        node: NodeId(node),
-        shape: known.shape()?,
-        genesis: known.genesis(),
+// Appends the records of a node's journal, a line each, and a closed gate.
+fn put_journal(bytes: &mut Vec<u8>, known: &Known, node: u32, text: &str, told: &mut Told) {
+    let alloc = told.alloc;
+    let Some(header) = told.given(known.header(node)) else {
+        return;
     };
-    let mut bytes = Vec::new(alloc);
-    for line in text.lines() {
-        let words = line.split_whitespace().collect::<Vec<&str>>(alloc)?;
-        let own = record(known, alloc, node, words.as_slice())?;
-        put_record(alloc, &mut bytes, &own, &header)?;
+    let Some(records) = told.given(records_in(known, alloc, node, text)) else {
+        return;
+    };
+    for own in &records {
+        told.made(put_record(alloc, bytes, own, &header));
     }
-    bytes.push(0)?;
-    Ok(bytes)
+    told.push(bytes, 0);
 }
 
-/// How many writes and syncs a disk keeps, where a row does not say.
-const CALLS: usize = 100_000;
-
-// A disk with these bytes.
-fn disk_of(
-    alloc: Global,
+/// Puts a disk with these bytes in its place.
+pub fn put_disk(
+    nodes: &mut Vec<Node>,
+    place: u32,
     bytes: &[u8],
-    capacity: usize,
+    capacity: u32,
     fails: Vec<u64>,
-    keeps: usize,
-) -> Result<FaultDisk, Wrong> {
-    if bytes.len() > capacity {
-        return Err(Wrong::Line("a disk has more bytes than its capacity"));
+    keeps: u32,
+    told: &mut Told,
+) {
+    if bytes.len() > capacity as usize {
+        told.refuse(TOO_LONG);
+        return;
     }
-    Ok(FaultDisk::new(alloc, bytes, capacity, fails, keeps)?)
-}
-
-// A number that may be told.
-fn or_else(told: Option<&str>, otherwise: usize) -> Result<usize, Wrong> {
-    match told {
-        Some(word) => count(word),
-        None => Ok(otherwise),
+    let made = FaultDisk::new(told.alloc, bytes, capacity as usize, fails, keeps as usize);
+    if let Some(disk) = told.made(made) {
+        put_node(nodes, place, Node::Disk(disk));
     }
 }
 
 /// `disk NODE CAPACITY [holds PIECE..] [fails CALL..] [keeps CALLS]`, or with a line for each record of the journal that it holds.
-pub fn disk(
-    known: &Known,
-    alloc: Global,
-    node: u32,
-    words: &[&str],
-    text: &str,
-) -> Result<Node, Wrong> {
-    let capacity = count(word(words, 0)?)?;
-    let (words, keeps) = one_behind(words, "keeps")?;
+pub fn disk(known: &Known, nodes: &mut Vec<Node>, words: &[&str], text: &str, told: &mut Told) {
+    let (words, keeps) = told.small_behind(words, "keeps", CALLS);
     let (words, fails) = words_around(words, "fails");
     let (words, pieces) = words_around(words, "holds");
-    at_most(words, 1)?;
-    at_most(pieces, if text.is_empty() { usize::MAX } else { 0 })?;
-    let bytes = if text.is_empty() {
-        bytes_of(alloc, pieces)?
-    } else {
-        journal_bytes(known, alloc, node, text)?
-    };
-    let fails = numbers(alloc, fails)?;
-    let own = disk_of(alloc, &bytes, capacity, fails, or_else(keeps, CALLS)?)?;
-    Ok(Node::Disk(own))
+    told.at_most(words, 2);
+    let place = told.small_at(words, 0);
+    let capacity = told.small_at(words, 1);
+    make_place(nodes, place, told);
+    let fails = numbers(fails, told);
+    let mut bytes = bytes_of(pieces, told);
+    if !text.is_empty() {
+        told.at_most(pieces, 0);
+        put_journal(&mut bytes, known, place, text, told);
+    }
+    put_disk(nodes, place, &bytes, capacity, fails, keeps, told);
+}
+
+// A disk that never fails, with these bytes.
+fn plain_with(alloc: Global, bytes: Vec<u8>, capacity: usize) -> Result<PlainDisk, AllocError>
+    requires { length bytes.items ≤ capacity }
+{
+    if bytes.is_empty() {
+        return PlainDisk::new(alloc, capacity);
+    }
+    PlainDisk::with_bytes(bytes, capacity)
 }
 
 /// `plain NODE CAPACITY [PIECE..]`: a disk that never fails.
-pub fn plain_disk(alloc: Global, words: &[&str]) -> Result<Node, Wrong> {
-    let capacity = count(word(words, 0)?)?;
-    let bytes = bytes_of(alloc, rest(words, 1))?;
-    if bytes.is_empty() {
-        return Ok(Node::Plain(PlainDisk::new(alloc, capacity)?));
-    }
+pub fn plain_disk(nodes: &mut Vec<Node>, place: u32, words: &[&str], told: &mut Told) {
+    let alloc = told.alloc;
+    let capacity = told.small_at(words, 0) as usize;
+    let bytes = bytes_of(rest(words, 1), told);
     if bytes.len() > capacity {
-        return Err(Wrong::Line("a disk has more bytes than its capacity"));
+        told.refuse(TOO_LONG);
+        return;
     }
-    Ok(Node::Plain(PlainDisk::with_bytes(bytes, capacity)?))
+    if let Some(disk) = told.made(plain_with(alloc, bytes, capacity)) {
+        put_node(nodes, place, Node::Plain(disk));
+    }
 }
 
 // Tells whether a call was done.
@@ -113,68 +118,47 @@ fn tell_done(told: &mut Told, is_done: bool) {
 }
 
 // `write NODE AT PIECE..`, and `done` or `fails`
-fn write<D: Disk>(
-    alloc: Global,
-    disk: &mut D,
-    words: &[&str],
-    told: &mut Told,
-) -> Result<(), Wrong> {
-    let at = number(word(words, 0)?)?;
-    let bytes = bytes_of(alloc, rest(words, 1))?;
+fn write<D: Disk>(disk: &mut D, words: &[&str], told: &mut Told) {
+    let at = told.number_at(words, 0);
+    let bytes = bytes_of(rest(words, 1), told);
     if at > disk.len() || at > disk.capacity() || bytes.len() as u64 > disk.capacity() - at {
-        return Err(Wrong::Line("past the disk's end"));
-    }
-    tell_done(told, disk.write_at(at, &bytes).is_ok());
-    Ok(())
-}
-
-// Tells how many bytes are read.
-fn tell_read<D: Disk>(disk: &mut D, at: u64, buffer: &mut [u8], told: &mut Told) {
-    match disk.read(at, buffer) {
-        Ok(n) => told.said(&with("read", n as u64)),
-        Err(_) => told.word("fails"),
+        told.refuse("past the disk's end");
+    } else {
+        tell_done(told, disk.write_at(at, &bytes).is_ok());
     }
 }
 
 // `read NODE AT PIECE..`, and how many bytes are read, or `fails`; the buffer has those bytes then, and had zeros.
-fn read<D: Disk>(
-    alloc: Global,
-    disk: &mut D,
-    words: &[&str],
-    told: &mut Told,
-) -> Result<(), Wrong> {
-    let at = number(word(words, 0)?)?;
-    let wanted = bytes_of(alloc, rest(words, 1))?;
-    let mut buffer = vec![in alloc; 0u8; wanted.len()]?;
-    tell_read(disk, at, &mut buffer, told);
-    check_same(alloc, &wanted, &buffer)
+fn read<D: Disk>(disk: &mut D, words: &[&str], told: &mut Told) {
+    let alloc = told.alloc;
+    let at = told.number_at(words, 0);
+    let wanted = bytes_of(rest(words, 1), told);
+    let made = vec![in alloc; 0u8; wanted.len()];
+    if let Some(mut buffer) = told.made(made) {
+        tell_count(told, "read", &disk.read(at, &mut buffer));
+        told.check_bytes(&wanted, &buffer);
+    }
 }
 
 /// A step of a disk: `write`, `read`, `sync NODE` with `done` or `fails`, and `device NODE` with how many bytes the disk has, how many it may have, and how
 /// often it has failed.
-pub fn on_disk<D: Disk>(
-    alloc: Global,
-    disk: &mut D,
-    verb: OnDisk,
-    words: &[&str],
-    told: &mut Told,
-) -> Result<(), Wrong> {
+pub fn on_disk<D: Disk>(disk: &mut D, verb: Verb, words: &[&str], told: &mut Told) {
     match verb {
-        OnDisk::Write => return write(alloc, disk, words, told),
-        OnDisk::Read => return read(alloc, disk, words, told),
-        OnDisk::Sync => tell_done(told, disk.sync().is_ok()),
-        OnDisk::Device => told.numbers(&[disk.len(), disk.capacity(), disk.faults()]),
+        Verb::Write => write(disk, words, told),
+        Verb::Read => read(disk, words, told),
+        Verb::Sync => tell_done(told, disk.sync().is_ok()),
+        _ => told.numbers(&[disk.len(), disk.capacity(), disk.faults()]),
     }
-    Ok(())
 }
 
 /// `bytes NODE PIECE..`: what the disk holds.
-pub fn bytes(alloc: Global, node: &Node, pieces: &[&str]) -> Result<(), Wrong> {
+pub fn bytes(node: &Node, pieces: &[&str], told: &mut Told) {
+    let wanted = bytes_of(pieces, told);
     match node {
-        Node::Plain(disk) => check_bytes(alloc, pieces, disk.bytes()),
-        Node::Disk(disk) => check_bytes(alloc, pieces, disk.bytes()),
-        Node::Bodies(journal) => check_bytes(alloc, pieces, journal.disk().bytes()),
-        _ => Err(Wrong::Line("no disk")),
+        Node::Plain(disk) => told.check_bytes(&wanted, disk.bytes()),
+        Node::Disk(disk) => told.check_bytes(&wanted, disk.bytes()),
+        Node::Bodies(journal) => told.check_bytes(&wanted, journal.disk().bytes()),
+        _ => told.refuse("no disk"),
     }
 }
 
@@ -192,91 +176,24 @@ pub fn disk_in(node: Node) -> Option<FaultDisk> {
 
 /// `close NODE`: its disk alone is left.
 pub fn close(nodes: &mut Vec<Node>, place: u32, told: &mut Told) {
-    let node = take_node(nodes, place);
-    match disk_in(node) {
+    match disk_in(take_node(nodes, place)) {
         Some(disk) => put_node(nodes, place, Node::Disk(disk)),
-        None => told.refuse("no disk that may fail"),
+        None => told.refuse(NO_FAULTS),
     }
-}
-
-// The disk of a node that is closed.
-fn closed_disk(nodes: &[Node], place: u32) -> Result<&FaultDisk, Wrong> {
-    match nodes.get(place as usize) {
-        Some(Node::Disk(disk)) => Ok(disk),
-        _ => Err(Wrong::Line("no disk that may fail")),
-    }
-}
-
-// What a crash leaves of a disk.
-fn crashed(alloc: Global, disk: &FaultDisk, words: &[&str]) -> Result<FaultDisk, Wrong> {
-    let choice = Choice {
-        len: count(word(words, 0)?)?,
-        bytes: bytes_of(alloc, rest(words, 1))?,
-    };
-    Ok(disk.crash(&choice)?)
 }
 
 /// `crash NODE LENGTH PIECE..`: the disk becomes what a crash leaves, which is so long where it may, and has these bytes in the places that
 /// it may change.
-pub fn crash(
-    alloc: Global,
-    nodes: &mut Vec<Node>,
-    place: u32,
-    words: &[&str],
-    told: &mut Told,
-) -> Result<(), Wrong> {
-    close(nodes, place, told);
-    let disk = crashed(alloc, closed_disk(nodes, place)?, words)?;
-    put_node(nodes, place, Node::Disk(disk));
-    Ok(())
-}
-
-// The node and the record of a line of a ledger.
-fn node_and_record(line: &str) -> Result<(u32, &str), Wrong> {
-    match line.split_once(' ') {
-        Some((node, behind)) => Ok((small(node)?, behind)),
-        None => Err(Wrong::Line("a line of a ledger is NODE RECORD")),
+pub fn crash(nodes: &mut Vec<Node>, place: u32, words: &[&str], told: &mut Told) {
+    let choice = Choice {
+        len: told.small_at(words, 0) as usize,
+        bytes: bytes_of(rest(words, 1), told),
+    };
+    let Some(disk) = disk_in(take_node(nodes, place)) else {
+        told.refuse(NO_FAULTS);
+        return;
+    };
+    if let Some(left) = told.made(disk.crash(&choice)) {
+        put_node(nodes, place, Node::Disk(left));
     }
-}
-
-/// Nothing where a ledger of so many nodes may have these capacities and lines.
-pub fn check_ledger(nodes: u32, capacities: &[&str], all: &str) -> Result<(), Wrong> {
-    at_most(capacities, nodes as usize)?;
-    for line in all.lines() {
-        let (node, _) = node_and_record(line)?;
-        if node >= nodes {
-            return Err(Wrong::Line("no such node"));
-        }
-    }
-    Ok(())
-}
-
-// Appends a line of a ledger where it is the node's, without its number.
-fn put_own_line(text: &mut String, line: &str, node: u32) -> Result<(), Wrong> {
-    let (own, behind) = node_and_record(line)?;
-    if own == node {
-        text.push_str(behind)?;
-        text.push('\n')?;
-    }
-    Ok(())
-}
-
-/// The capacity of a disk, where a row does not say.
-const CAPACITY: usize = 10_000;
-
-/// The disk of a node of a ledger.
-pub fn laid(
-    known: &Known,
-    alloc: Global,
-    node: u32,
-    capacities: &[&str],
-    all: &str,
-) -> Result<FaultDisk, Wrong> {
-    let mut lines = String::new(alloc);
-    for line in all.lines() {
-        put_own_line(&mut lines, line, node)?;
-    }
-    let bytes = journal_bytes(known, alloc, node, lines.as_str())?;
-    let capacity = or_else(capacities.get(node as usize).copied(), CAPACITY)?;
-    disk_of(alloc, &bytes, capacity, Vec::new(alloc), CALLS)
 }

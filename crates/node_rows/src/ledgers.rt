@@ -4,9 +4,7 @@ ghost use Rattle.cbdc_model.specs.Ranges.{home_of};
 ghost use Rattle.cbdc_model.specs.Grammar.{HasSize, IsCompact};
 ghost use Rattle.node_rows.specs.Resting.{number_in as number_of_lane, RestsAt, AllRest, LogRests, MayRun};
 
-use crate::answers::of_lane;
 use crate::state::Seen;
-use crate::told::Told;
 use cbdc_types::{BatchId, CompactTx, LaneId, Record, Shape, Stamp};
 use coord_core::LanePhase;
 use coord_log::CoordLog;
@@ -15,6 +13,7 @@ use mem_devices::FaultDisk;
 use model_check::{Phase, copy_of_record, is_compact, last_stamp, slot_of, slot_stamp};
 use node_ports::{NodeLogs, NodeShards};
 use outside::{Gate, Point, When};
+use row_records::Told;
 use row_text::Wrong;
 use shard_node::ShardNode;
 use std::alloc::{AllocError, Global};
@@ -266,29 +265,19 @@ pub struct Plan<'t> {
     pub repeats: u32,
 }
 
-// Tells a line for each batch: its lane, its number and its outcomes.
-fn tell_report(told: &mut Told, report: &LaneReport) {
-    for done in report.batches.as_slice() {
-        told.batch(&done.batch);
-        for outcome in done.outcomes.as_slice() {
-            told.outcome(outcome);
-        }
-        told.line();
-    }
-}
-
-/// Tells where a lane stopped, and why.
-pub fn tell_stop(told: &mut Told, fault: &LaneFault) {
-    told.word("fault");
-    told.number(u64::from(fault.node.0));
-    told.said(&of_lane(&fault.fault));
-    told.line();
-}
-
+// Tells a line for each batch, its lane, its number and its outcomes, or where the lane stopped, and why.
 fn tell_came(told: &mut Told, came: &Result<LaneReport, LaneFault>) {
     match came {
-        Ok(report) => tell_report(told, report),
-        Err(fault) => tell_stop(told, fault),
+        Ok(report) => {
+            for done in report.batches.as_slice() {
+                told.batch(&done.batch);
+                for outcome in done.outcomes.as_slice() {
+                    told.outcome(outcome);
+                }
+                told.line();
+            }
+        }
+        Err(fault) => told.shown(fault),
     }
 }
 

@@ -1,7 +1,6 @@
 //! Runs rows on nodes, told in text files: devices and disks in memory, journals on them, coordinators and shards, lanes over these, and the tables of a shard.
 #![tactic(auto)]
 
-mod answers;
 mod bodies;
 mod calls;
 mod cores;
@@ -17,9 +16,7 @@ mod slots;
 mod state;
 mod stores;
 mod subject;
-mod told;
 mod verbs;
-mod words;
 
 use row_text::run_files;
 use state::State;

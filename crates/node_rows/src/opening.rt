@@ -1,160 +1,118 @@
 // Opening what stands on a disk.
-use crate::answers::{of_bodies, of_format, of_log, of_opening, with};
-use crate::disks::{check_ledger, disk_in, laid};
+use crate::disks::{CALLS, NO_FAULTS, disk_in, put_disk, put_record};
 use crate::state::{Node, make_place, put_node, take_node};
-use crate::told::Told;
+use cbdc_types::{Record, Shape};
 use coord_log::CoordLog;
 use gate_journal::{Bodies, Journal};
 use mem_devices::FaultDisk;
-use record_log::{RecordLog, open_records};
-use row_records::Known;
-use row_text::Wrong;
+use record_log::open_records;
+use row_records::{Known, Told, rows_in};
 use shard_node::ShardNode;
-use std::alloc::Global;
 
-/// What is opened on a disk; for `Empty` it is made ready for a journal of bodies.
-#[derive(Clone, Copy, Drop)]
-pub enum Kind {
-    Empty,
-    Bodies,
-    Records,
-    Coordinator,
-    Shard,
-}
-
-/// What `bodies`, `records`, `coordinator` and `shard` stand for.
-pub fn kind_of(word: &str) -> Result<Kind, Wrong> {
-    match word {
-        "bodies" => Ok(Kind::Bodies),
-        "records" => Ok(Kind::Records),
-        "coordinator" => Ok(Kind::Coordinator),
-        "shard" => Ok(Kind::Shard),
-        _ => Err(Wrong::Line("a disk is not opened as that")),
-    }
-}
-
-// Tells a body in digits, or how many bytes it has.
-fn tell_body(told: &mut Told, body: &[u8]) {
-    if body.is_empty() || body.len() > 64 {
-        told.said(&with("bytes", body.len() as u64));
-    } else {
-        told.digits(body);
-    }
-}
-
-// Tells how many bodies there are, and each of them.
+// Tells how many bodies there are, and of each its digits, or how many bytes it has.
 fn tell_bodies(told: &mut Told, bodies: &Bodies) {
-    told.said(&with("bodies", bodies.len() as u64));
+    told.named("bodies", bodies.len() as u128);
     for body in bodies.as_slice() {
-        tell_body(told, body.as_slice());
+        if body.is_empty() || body.len() > 64 {
+            told.named("bytes", body.len() as u128);
+        } else {
+            told.digits(body.as_slice());
+        }
     }
 }
 
-// Tells how many records there are.
-fn tell_records(told: &mut Told, many: usize) {
-    told.said(&with("records", many as u64));
-}
-
-// Takes memory for one record more, of up to a hundred bytes.
-fn make_room(log: &mut RecordLog<FaultDisk>, told: &mut Told) {
-    if log.reserve(1, 100).is_err() {
-        told.no_memory();
-    }
-}
-
-fn format(alloc: Global, disk: FaultDisk, told: &mut Told) -> Node {
-    match Journal::format(alloc, disk) {
+fn format(disk: FaultDisk, told: &mut Told) -> Node {
+    match Journal::format(told.alloc, disk) {
         Ok(journal) => {
             told.word("done");
             Node::Bodies(journal)
         }
         Err((disk, fault)) => {
-            told.said(&of_format(&fault));
+            told.shown(&fault);
             Node::Disk(disk)
         }
     }
 }
 
-fn open_bodies(alloc: Global, disk: FaultDisk, told: &mut Told) -> Node {
-    match Journal::open(alloc, disk) {
+fn open_bodies(disk: FaultDisk, told: &mut Told) -> Node {
+    match Journal::open(told.alloc, disk) {
         Ok((journal, bodies)) => {
             tell_bodies(told, &bodies);
             Node::Bodies(journal)
         }
         Err((disk, fault)) => {
-            told.said(&of_bodies(&fault));
+            told.shown(&fault);
             Node::Disk(disk)
         }
     }
 }
 
-fn open_log(alloc: Global, disk: FaultDisk, told: &mut Told) -> Node {
-    match open_records(alloc, disk) {
+// With memory for one record more, of up to a hundred bytes.
+fn open_log(disk: FaultDisk, told: &mut Told) -> Node {
+    match open_records(told.alloc, disk) {
         Ok(found) => {
             let mut log = found;
-            make_room(&mut log, told);
-            tell_records(told, log.records.len());
+            told.made(log.reserve(1, 100));
+            told.named("records", log.records.len() as u128);
             Node::Records(log)
         }
         Err((disk, refusal)) => {
-            told.said(&of_log(&refusal));
+            told.shown(&refusal);
             Node::Disk(disk)
         }
     }
 }
 
-fn open_coordinator(alloc: Global, disk: FaultDisk, told: &mut Told) -> Node {
-    match CoordLog::open(alloc, disk) {
+fn open_coordinator(disk: FaultDisk, told: &mut Told) -> Node {
+    match CoordLog::open(told.alloc, disk) {
         Ok(log) => {
-            tell_records(told, log.records().len());
+            told.named("records", log.records().len() as u128);
             Node::Log(log)
         }
         Err((disk, fault)) => {
-            told.said(&of_opening(&fault));
+            told.shown(&fault);
             Node::Disk(disk)
         }
     }
 }
 
-fn open_shard(alloc: Global, disk: FaultDisk, told: &mut Told) -> Node {
-    match ShardNode::open(alloc, disk) {
+fn open_shard(disk: FaultDisk, told: &mut Told) -> Node {
+    match ShardNode::open(told.alloc, disk) {
         Ok(shard) => {
-            tell_records(told, shard.records().len());
+            told.named("records", shard.records().len() as u128);
             Node::Shard(shard)
         }
         Err((disk, fault)) => {
-            told.said(&of_opening(&fault));
+            told.shown(&fault);
             Node::Disk(disk)
         }
     }
 }
 
-fn opened(alloc: Global, disk: FaultDisk, kind: Kind, told: &mut Told) -> Node {
+fn opened(disk: FaultDisk, kind: &str, told: &mut Told) -> Node {
     match kind {
-        Kind::Empty => format(alloc, disk, told),
-        Kind::Bodies => open_bodies(alloc, disk, told),
-        Kind::Records => open_log(alloc, disk, told),
-        Kind::Coordinator => open_coordinator(alloc, disk, told),
-        Kind::Shard => open_shard(alloc, disk, told),
-    }
-}
-
-fn reopened(alloc: Global, node: Node, kind: Kind, told: &mut Told) -> Node {
-    match disk_in(node) {
-        Some(disk) => opened(alloc, disk, kind, told),
-        None => {
-            told.refuse("no disk that may fail");
-            Node::Gone
+        "" => format(disk, told),
+        "bodies" => open_bodies(disk, told),
+        "records" => open_log(disk, told),
+        "coordinator" => open_coordinator(disk, told),
+        "shard" => open_shard(disk, told),
+        _ => {
+            told.refuse("a disk is not opened as that");
+            Node::Disk(disk)
         }
     }
 }
 
 /// `format NODE`: the disk is made ready for a journal of bodies. `open NODE bodies`, `records`, `coordinator`, `shard`: it is opened. What
 /// comes of it is told: how many there are, or why it could not be done.
-pub fn open(alloc: Global, nodes: &mut Vec<Node>, place: u32, kind: Kind, told: &mut Told) {
-    let node = take_node(nodes, place);
-    let own = reopened(alloc, node, kind, told);
-    put_node(nodes, place, own);
+pub fn open(nodes: &mut Vec<Node>, place: u32, kind: &str, told: &mut Told) {
+    match disk_in(take_node(nodes, place)) {
+        Some(disk) => {
+            let own = opened(disk, kind, told);
+            put_node(nodes, place, own);
+        }
+        None => told.refuse(NO_FAULTS),
+    }
 }
 
 fn is_open(nodes: &[Node], place: u32) -> bool {
@@ -165,45 +123,85 @@ fn is_open(nodes: &[Node], place: u32) -> bool {
     }
 }
 
+/// The capacity of a disk, where a row does not say.
+const CAPACITY: u32 = 10_000;
+
+// The bytes of a node's journal in a ledger: its records, and a closed gate.
+fn bytes_in(known: &Known, node: u32, rows: &[(u32, Record)], told: &mut Told) -> Vec<u8> {
+    let alloc = told.alloc;
+    let mut bytes = Vec::new(alloc);
+    if let Some(header) = told.given(known.header(node)) {
+        for (own, record) in rows {
+            if *own == node {
+                told.made(put_record(alloc, &mut bytes, record, &header));
+            }
+        }
+    }
+    told.push(&mut bytes, 0);
+    bytes
+}
+
 // Lays the disk of a node of a ledger, and opens it.
-fn lay(
+fn lay(nodes: &mut Vec<Node>, node: u32, bytes: &[u8], capacity: u32, kind: &str, told: &mut Told) {
+    let mut own = Told::new(told.alloc);
+    put_disk(
+        nodes,
+        node,
+        bytes,
+        capacity,
+        Vec::new(told.alloc),
+        CALLS,
+        told,
+    );
+    open(nodes, node, kind, &mut own);
+    if !is_open(nodes, node) {
+        told.refuse("a node of the ledger could not be opened");
+    }
+}
+
+// Lays each node of a ledger.
+fn lay_all(
     known: &Known,
-    alloc: Global,
     nodes: &mut Vec<Node>,
-    node: u32,
+    shape: &Shape,
     capacities: &[&str],
-    lines: &str,
-) -> Result<(), Wrong> {
-    let is_log = node < known.shape()?.coordinators();
-    let kind = if is_log {
-        Kind::Coordinator
-    } else {
-        Kind::Shard
-    };
-    make_place(nodes, node)?;
-    let disk = laid(known, alloc, node, capacities, lines)?;
-    put_node(nodes, node, Node::Disk(disk));
-    let mut told = Told::new(alloc);
-    open(alloc, nodes, node, kind, &mut told);
-    if is_open(nodes, node) {
-        Ok(())
-    } else {
-        Err(Wrong::Line("a node of the ledger could not be opened"))
+    rows: &[(u32, Record)],
+    told: &mut Told,
+) {
+    for node in 0..shape.node_count() {
+        make_place(nodes, node, told);
+        let at = node as usize;
+        let bytes = bytes_in(known, node, rows, told);
+        let capacity = if at < capacities.len() {
+            told.small_at(capacities, at)
+        } else {
+            CAPACITY
+        };
+        let is_log = node < shape.coordinators();
+        lay(
+            nodes,
+            node,
+            &bytes,
+            capacity,
+            if is_log { "coordinator" } else { "shard" },
+            told,
+        );
     }
 }
 
 /// `ledger [CAPACITY..]`, with a line `NODE RECORD` for each record: all nodes of the shape, open.
-pub fn ledger(
-    known: &Known,
-    alloc: Global,
-    nodes: &mut Vec<Node>,
-    words: &[&str],
-    text: &str,
-) -> Result<(), Wrong> {
-    let many = known.shape()?.node_count();
-    check_ledger(many, words, text)?;
-    for node in 0..many {
-        lay(known, alloc, nodes, node, words, text)?;
+pub fn ledger(known: &Known, nodes: &mut Vec<Node>, words: &[&str], text: &str, told: &mut Told) {
+    let Some(shape) = told.given(known.shape()) else {
+        return;
+    };
+    let alloc = told.alloc;
+    let Some(rows) = told.given(rows_in(known, alloc, text)) else {
+        return;
+    };
+    let many = shape.node_count();
+    told.at_most(words, many as usize);
+    if rows.iter().any(|row| row.0 >= many) {
+        told.refuse("no such node");
     }
-    Ok(())
+    lay_all(known, nodes, &shape, words, &rows, told);
 }

@@ -1,21 +1,14 @@
 // What a driver takes and makes of a batch's parts.
 ghost use Rattle.std.specs.Prelude.{◌≤◌, ◌↔◌, IsTrue, length, All};
 
-use crate::answers::of_fault;
-use crate::ledgers::tell_stop;
-use crate::told::Told;
-use crate::words::{at_most, expect, forget_call, record};
 use cbdc_types::{
     BatchId, CompactTx, FinishCall, ForgetCall, Hash, LaneId, List, LockCall, NodeFault, Outcome,
-    Record, Replied, Replies, Reply, Shape, Stamp,
+    Record, Replied, Reply, Shape, Stamp,
 };
-use lane_driver::{
-    BatchRoom, LaterRoom, ShardFault, finish_calls, forget_calls, gather, latest, lock_calls,
-    no_memory,
-};
-use row_records::{Known, finish_call, lock_call, small, txs};
-use row_text::{Wrong, check_yes, number, rest, word, words_around};
-use std::alloc::{AllocError, Global};
+use lane_driver::{BatchRoom, LaterRoom, finish_calls, forget_calls, gather, latest, lock_calls};
+use row_records::{Known, Told, finish_call, forget_call, lock_call, record, txs};
+use row_text::{Wrong, rest, words_around};
+use std::alloc::Global;
 
 // Whether no part has more entries than that.
 fn are_small(locks: &[(u32, LockCall)], size: usize) -> bool
@@ -24,7 +17,7 @@ fn are_small(locks: &[(u32, LockCall)], size: usize) -> bool
     locks.iter().all(|c| c.1.part.len() <= size)
 }
 
-// The calls of a batch.
+// The calls of a batch, each with its shard.
 #[derive(Drop)]
 struct BatchCalls {
     locks: Vec<(u32, LockCall)>,
@@ -81,96 +74,7 @@ fn calls_of(
     })
 }
 
-// Whether a list has this call at a place, for this shard.
-fn has<C: PartialEq>(calls: &[(u32, C)], place: usize, shard: u32, wanted: &C) -> bool {
-    match calls.get(place) {
-        Some((own, call)) => *own == shard && *call == *wanted,
-        None => false,
-    }
-}
-
-// Whether a batch's call at a place is `SHARD lock ..`, `SHARD finish ..`, `SHARD forget ..`: all locks come first, and the forgets last.
-fn is_call(
-    known: &Known,
-    alloc: Global,
-    calls: &BatchCalls,
-    place: usize,
-    words: &[&str],
-) -> Result<bool, Wrong> {
-    let many = calls.locks.len();
-    if place < many {
-        return is_lock(known, alloc, &calls.locks, place, words);
-    }
-    let place = place - many;
-    if place < many {
-        return is_finish(alloc, &calls.finishes, place, words);
-    }
-    is_forget(&calls.forgets, place - many, words)
-}
-
-fn is_lock(
-    known: &Known,
-    alloc: Global,
-    calls: &[(u32, LockCall)],
-    place: usize,
-    words: &[&str],
-) -> Result<bool, Wrong> {
-    expect(words, 1, "lock")?;
-    let shard = small(word(words, 0)?)?;
-    let node = known.shape()?.coordinators().saturating_add(shard);
-    let wanted = lock_call(known, alloc, node, rest(words, 2))?;
-    Ok(has(calls, place, shard, &wanted))
-}
-
-fn is_finish(
-    alloc: Global,
-    calls: &[(u32, FinishCall)],
-    place: usize,
-    words: &[&str],
-) -> Result<bool, Wrong> {
-    expect(words, 1, "finish")?;
-    let shard = small(word(words, 0)?)?;
-    let wanted = finish_call(alloc, rest(words, 2))?;
-    Ok(has(calls, place, shard, &wanted))
-}
-
-fn is_forget(calls: &[(u32, ForgetCall)], place: usize, words: &[&str]) -> Result<bool, Wrong> {
-    expect(words, 1, "forget")?;
-    let shard = small(word(words, 0)?)?;
-    let wanted = forget_call(rest(words, 2))?;
-    Ok(has(calls, place, shard, &wanted))
-}
-
-// Whether the lines tell all calls of a batch.
-fn are_calls(known: &Known, alloc: Global, calls: &BatchCalls, text: &str) -> Result<bool, Wrong> {
-    let mut place = 0usize;
-    for line in text.lines() {
-        let words = line.split_whitespace().collect::<Vec<&str>>(alloc)?;
-        if !is_call(known, alloc, calls, place, words.as_slice())? {
-            return Ok(false);
-        }
-        place = place.saturating_add(1);
-    }
-    Ok(are_so_many(calls, place / 3))
-}
-
-// Whether there are so many calls of each kind.
-fn are_so_many(calls: &BatchCalls, many: usize) -> bool {
-    calls.locks.len() == many && calls.finishes.len() == many && calls.forgets.len() == many
-}
-
-/// `calls TX.. / COMMIT`, and a line for each call at a shard of the batch of these transactions that has this Commit, whose Prepare has the stamp 1
-/// and whose Discard has 5: `SHARD lock ..`, `SHARD finish ..`, `SHARD forget ..`.
-pub fn calls(known: &Known, alloc: Global, words: &[&str], text: &str) -> Result<(), Wrong> {
-    let (names, told) = words_around(words, "/");
-    let shape = known.shape()?;
-    let batch = txs(known, alloc, names)?;
-    let commit = record(known, alloc, 0, told)?;
-    let all = calls_by(alloc, &shape, batch.as_slice(), &commit)?;
-    check_yes(alloc, "yes", are_calls(known, alloc, &all, text)?)
-}
-
-// The calls of a batch by its Commit.
+// The calls of a batch of these transactions, by its Commit.
 fn calls_by(
     alloc: Global,
     shape: &Shape,
@@ -187,64 +91,126 @@ fn calls_by(
     }
 }
 
+// Takes in a call that a line tells: `SHARD lock ..`, `SHARD finish ..`, `SHARD forget ..`.
+fn take_call(
+    known: &Known,
+    shape: &Shape,
+    calls: &mut BatchCalls,
+    words: &[&str],
+    told: &mut Told,
+) {
+    let alloc = told.alloc;
+    let shard = told.small_at(words, 0);
+    let own = rest(words, 2);
+    match told.word_at(words, 1) {
+        "lock" => {
+            let node = shape.coordinators().saturating_add(shard);
+            if let Some(call) = told.given(lock_call(known, alloc, node, own)) {
+                told.push(&mut calls.locks, (shard, call));
+            }
+        }
+        "finish" => {
+            if let Some(call) = told.given(finish_call(alloc, own)) {
+                told.push(&mut calls.finishes, (shard, call));
+            }
+        }
+        "forget" => {
+            if let Some(call) = told.given(forget_call(own)) {
+                told.push(&mut calls.forgets, (shard, call));
+            }
+        }
+        _ => told.refuse("no call of a batch"),
+    }
+}
+
+// The calls that lines tell.
+fn calls_told(known: &Known, shape: &Shape, text: &str, told: &mut Told) -> BatchCalls {
+    let alloc = told.alloc;
+    let mut calls = BatchCalls {
+        locks: Vec::new(alloc),
+        finishes: Vec::new(alloc),
+        forgets: Vec::new(alloc),
+    };
+    for line in text.lines() {
+        match line.split_whitespace().collect::<Vec<&str>>(alloc) {
+            Ok(words) => take_call(known, shape, &mut calls, &words, told),
+            Err(_) => told.no_memory(),
+        }
+    }
+    calls
+}
+
+/// `calls TX.. / COMMIT`, and a line for each call at a shard of the batch of these transactions that has this Commit, whose Prepare has the stamp 1
+/// and whose Discard has 5: `SHARD lock ..`, `SHARD finish ..`, `SHARD forget ..`, those of a kind in their order.
+pub fn calls(known: &Known, words: &[&str], text: &str, told: &mut Told) {
+    let alloc = told.alloc;
+    let (names, commit) = words_around(words, "/");
+    let Some(shape) = told.given(known.shape()) else {
+        return;
+    };
+    let wanted = calls_told(known, &shape, text, told);
+    let Some(commit) = told.given(record(known, alloc, 0, commit)) else {
+        return;
+    };
+    let Some(batch) = told.given(txs(known, alloc, names)) else {
+        return;
+    };
+    if let Some(came) = told.given(calls_by(alloc, &shape, batch.as_slice(), &commit)) {
+        told.check_yes(
+            wanted.locks == came.locks
+                && wanted.finishes == came.finishes
+                && wanted.forgets == came.forgets,
+        );
+    }
+}
+
 /// What a shard answered: a stamp, or a fault.
 type Stamped = Result<Stamp, NodeFault>;
 
-// A stamp, or a fault.
-fn answer_of(words: &[&str]) -> Result<Stamped, Wrong> {
-    let kind = word(words, 1)?;
-    at_most(words, if kind == "broken" { 3 } else { 2 })?;
-    match kind {
-        "disk-fault" => Ok(Err(NodeFault::DiskFault)),
-        "memory" => Ok(Err(NodeFault::Memory)),
-        "broken" => Ok(Err(NodeFault::Broken {
-            since: number(word(words, 2)?)?,
-        })),
-        stamp => Ok(Ok(Stamp(number(stamp)?))),
-    }
-}
-
 // `SHARD ANSWER`
-fn told_answer(alloc: Global, piece: &str) -> Result<(u32, Stamped), Wrong> {
-    let own = piece.split_whitespace().collect::<Vec<&str>>(alloc)?;
-    Ok((small(word(&own, 0)?)?, answer_of(&own)?))
+fn answer(words: &[&str], told: &mut Told) -> (u32, Stamped) {
+    let shard = told.small_at(words, 0);
+    let kind = told.word_at(words, 1);
+    told.at_most(words, if kind == "broken" { 3 } else { 2 });
+    let own = match kind {
+        "disk-fault" => Err(NodeFault::DiskFault),
+        "memory" => Err(NodeFault::Memory),
+        "broken" => Err(NodeFault::Broken {
+            since: told.number_at(words, 2),
+        }),
+        _ => Ok(Stamp(told.number_at(words, 1))),
+    };
+    (shard, own)
 }
 
 // `SHARD ANSWER`, with strokes between them.
-fn answers_of(alloc: Global, words: &[&str]) -> Result<Vec<(u32, Stamped)>, Wrong> {
-    let mut text = Told::new(alloc);
-    for word in words {
-        text.word(word);
+fn answers_of(words: &[&str], told: &mut Told) -> Vec<(u32, Stamped)> {
+    let mut all = Vec::new(told.alloc);
+    let mut at = 0usize;
+    for _ in 0..words.len() {
+        if at < words.len() {
+            let (own, _) = words_around(rest(words, at), "/");
+            let one = answer(own, told);
+            told.push(&mut all, one);
+            at = at.saturating_add(own.len()).saturating_add(1);
+        }
     }
-    let mut all = Vec::new(alloc);
-    for piece in text.as_str().split('/') {
-        all.push(told_answer(alloc, piece)?)?;
-    }
-    Ok(all)
+    all
 }
 
-// The reply that the hash 04 is missing, under a stamp.
-fn missing(alloc: Global, stamp: Stamp) -> Result<Replied, AllocError> {
-    let mut replies = List::new(alloc);
-    replies.push(Reply::Missing(Hash([4; 32])))?;
-    Ok(Replied { replies, stamp })
-}
-
-// The answer to a lock.
-fn replied(alloc: Global, answer: &Stamped) -> Result<Result<Replied, NodeFault>, AllocError> {
+// The answer to a lock: the reply that the hash 04 is missing, under a stamp, or a fault.
+fn replied(answer: &Stamped, told: &mut Told) -> Result<Replied, NodeFault> {
     match answer {
-        Ok(stamp) => Ok(Ok(missing(alloc, *stamp)?)),
-        Err(fault) => Ok(Err(*fault)),
+        Ok(stamp) => {
+            let mut replies = List::new(told.alloc);
+            told.made(replies.push(Reply::Missing(Hash([4; 32]))));
+            Ok(Replied {
+                replies,
+                stamp: *stamp,
+            })
+        }
+        Err(fault) => Err(*fault),
     }
-}
-
-// Calls to lock nothing.
-fn empty_calls(alloc: Global, told: &[(u32, Stamped)]) -> Result<Vec<(u32, LockCall)>, AllocError> {
-    let mut calls = Vec::new(alloc);
-    for (shard, _) in told {
-        calls.push((*shard, empty_call(alloc)))?;
-    }
-    Ok(calls)
 }
 
 // A call to lock nothing.
@@ -259,76 +225,48 @@ fn empty_call(alloc: Global) -> LockCall {
     }
 }
 
-// What shards answer to locks.
-fn all_replied(
-    alloc: Global,
-    told: &[(u32, Stamped)],
-) -> Result<Vec<Result<Replied, NodeFault>>, AllocError> {
+/// `gather SHARD ANSWER / SHARD ANSWER ..`, each answer a stamp, with the reply that 04 is missing, or a fault; and the shards and stamps of all replies, or the first fault
+pub fn gathers(words: &[&str], told: &mut Told) {
+    let alloc = told.alloc;
+    let own = answers_of(words, told);
+    let mut calls = Vec::new(alloc);
     let mut answers = Vec::new(alloc);
-    for (_, answer) in told {
-        answers.push(replied(alloc, answer)?)?;
+    for (shard, answer) in &own {
+        told.push(&mut calls, (*shard, empty_call(alloc)));
+        let one = replied(answer, told);
+        told.push(&mut answers, one);
     }
-    Ok(answers)
-}
-
-// Tells the first fault.
-fn tell_first(told: &mut Told, first: &ShardFault) {
-    told.word("fault");
-    told.number(u64::from(first.shard));
-    told.said(&of_fault(&first.fault));
-}
-
-// Tells the shards that replied, and their stamps.
-fn tell_gathered(told: &mut Told, came: &Result<Replies, ShardFault>) {
-    match came {
+    let Ok(replies) = Vec::with_capacity(alloc, calls.len()) else {
+        told.no_memory();
+        return;
+    };
+    if answers.len() != calls.len() {
+        told.refuse("an answer is missing");
+        return;
+    }
+    match gather(&calls, answers, replies) {
         Ok(replies) => {
             for one in replies.as_slice() {
-                told.number(u64::from(one.shard));
-                told.number(one.stamp.0);
+                told.numbers(&[u64::from(one.shard), one.stamp.0]);
             }
         }
-        Err(first) => tell_first(told, first),
+        Err(first) => told.shown(&first),
     }
-}
-
-/// `gather SHARD ANSWER / SHARD ANSWER ..`, each answer a stamp, with the reply that 04 is missing, or a fault; and the shards and stamps of all replies, or the first fault
-pub fn gathers(alloc: Global, words: &[&str], told: &mut Told) -> Result<(), Wrong> {
-    let own = answers_of(alloc, words)?;
-    let calls = empty_calls(alloc, &own)?;
-    let replies = Vec::with_capacity(alloc, calls.len())?;
-    let answers = all_replied(alloc, &own)?;
-    if answers.len() == calls.len() {
-        tell_gathered(told, &gather(&calls, answers, replies));
-    } else {
-        told.refuse("an answer is missing");
-    }
-    Ok(())
-}
-
-// The answers without their shards.
-fn stamps_of(alloc: Global, told: &[(u32, Stamped)]) -> Result<Vec<Stamped>, AllocError> {
-    let mut stamps = Vec::new(alloc);
-    for (_, answer) in told {
-        stamps.push(*answer)?;
-    }
-    Ok(stamps)
 }
 
 /// `latest SHARD ANSWER / SHARD ANSWER ..`, each answer a stamp or a fault, and the greatest stamp, or the first fault
-pub fn latest_of(alloc: Global, words: &[&str], told: &mut Told) -> Result<(), Wrong> {
-    let own = answers_of(alloc, words)?;
-    let stamps = stamps_of(alloc, &own)?;
+pub fn latest_of(words: &[&str], told: &mut Told) {
+    let own = answers_of(words, told);
+    let mut stamps = Vec::new(told.alloc);
+    for (_, answer) in &own {
+        told.push(&mut stamps, *answer);
+    }
     if stamps.len() != own.len() {
-        return Err(Wrong::Line("an answer is missing"));
+        told.refuse("an answer is missing");
+        return;
     }
     match latest(&own, &stamps) {
         Ok(stamp) => told.number(stamp.0),
-        Err(first) => tell_first(told, &first),
+        Err(first) => told.shown(&first),
     }
-    Ok(())
-}
-
-/// `no-memory`, and where a lane stops whose driver has none
-pub fn without_memory(told: &mut Told) {
-    tell_stop(told, &no_memory());
 }

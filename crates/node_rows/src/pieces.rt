@@ -1,6 +1,7 @@
 // Bytes as rows spell them.
-use row_text::{Wrong, count, differ, hex_of, number, put_number};
-use std::alloc::{AllocError, Global};
+use row_records::Told;
+use row_text::{Wrong, count, hex_of, number, put_number};
+use std::alloc::Global;
 
 // Appends bytes that digits spell, so many times.
 fn put_times(alloc: Global, out: &mut Vec<u8>, digits: &str, times: usize) -> Result<(), Wrong> {
@@ -28,31 +29,12 @@ fn put_piece(alloc: Global, out: &mut Vec<u8>, piece: &str) -> Result<(), Wrong>
 }
 
 /// The bytes of pieces, one behind the other.
-pub fn bytes_of(alloc: Global, pieces: &[&str]) -> Result<Vec<u8>, Wrong> {
+pub fn bytes_of(pieces: &[&str], told: &mut Told) -> Vec<u8> {
+    let alloc = told.alloc;
     let mut out = Vec::new(alloc);
     for piece in pieces {
-        put_piece(alloc, &mut out, piece)?;
+        let done = put_piece(alloc, &mut out, piece);
+        told.given(done);
     }
-    Ok(out)
-}
-
-/// Nothing where these are the bytes of the pieces.
-pub fn check_bytes(alloc: Global, pieces: &[&str], came: &[u8]) -> Result<(), Wrong> {
-    let wanted = bytes_of(alloc, pieces)?;
-    check_same(alloc, &wanted, came)
-}
-
-/// Nothing where bytes are the same; else both are told by their digits.
-pub fn check_same(alloc: Global, wanted: &[u8], came: &[u8]) -> Result<(), Wrong> {
-    if wanted == came {
-        return Ok(());
-    }
-    Err(bytes_differ(alloc, wanted, came)?)
-}
-
-// Two rows of bytes that differ.
-fn bytes_differ(alloc: Global, wanted: &[u8], came: &[u8]) -> Result<Wrong, AllocError> {
-    let wanted = hex::encode(alloc, wanted)?;
-    let came = hex::encode(alloc, came)?;
-    Ok(differ(alloc, wanted.as_str(), came.as_str()))
+    out
 }

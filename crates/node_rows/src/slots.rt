@@ -1,48 +1,47 @@
 // What a shard remembers of each lane, and the entries of a part with their replies.
 use crate::state::Tables;
-use crate::told::Told;
-use crate::words::{at_most, expect, record};
-use cbdc_types::{Answered, Entry, LaneId, List, Record, Reply, Stamp};
+use cbdc_types::{Answered, LaneId, List, Record, Reply, Stamp};
 use dtx_replies::{Slot, Slots};
-use model_check::copy_of_entry;
-use row_records::{Known, part, small};
-use row_text::{Wrong, number, rest, word};
+use row_records::{Known, Told, part, record};
+use row_text::rest;
 use shard_core::answered;
-use std::alloc::{AllocError, Global};
 
 /// `slots LANES`: idle ones.
-pub fn make_slots(tables: &mut Tables, alloc: Global, words: &[&str]) -> Result<(), Wrong> {
-    tables.slots = Some(Slots::new(alloc, small(word(words, 0)?)?)?);
-    Ok(())
-}
-
-// So many replies that are Held.
-fn all_held(alloc: Global, many: usize) -> Result<List<Reply>, AllocError> {
-    Ok(List::from_vec(vec![in alloc; Reply::Held; many]?))
+pub fn make_slots(tables: &mut Tables, words: &[&str], told: &mut Told) {
+    let lanes = told.small_at(words, 0);
+    let made = Slots::new(told.alloc, lanes);
+    tables.slots = told.made(made);
 }
 
 // A slot: `idle NUMBER STAMP`, `locked NUMBER STAMP NAME@PLACE..`, all of them Held, or `finished NUMBER STAMP STAMP NAME@PLACE..`, all of them Held and committed.
-fn slot(known: &Known, alloc: Global, words: &[&str]) -> Result<Slot, Wrong> {
-    let kind = word(words, 0)?;
-    let its_number = number(word(words, 1)?)?;
-    let stamp = Stamp(number(word(words, 2)?)?);
+fn slot(known: &Known, words: &[&str], told: &mut Told) -> Option<Slot> {
+    let alloc = told.alloc;
+    let kind = told.word_at(words, 0);
+    let number = told.number_at(words, 1);
+    let stamp = Stamp(told.number_at(words, 2));
     if kind == "idle" {
-        at_most(words, 3)?;
-        return Ok(Slot::Idle(its_number, stamp));
+        told.at_most(words, 3);
+        return Some(Slot::Idle(number, stamp));
     }
-    let shape = known.shape()?;
-    let node = shape.coordinators();
-    if kind == "locked" {
-        let own = part(known, alloc, &shape, node, rest(words, 3))?;
-        let held = all_held(alloc, own.len())?;
-        return Ok(Slot::Locked(its_number, own, held, stamp));
+    let is_locked = kind == "locked";
+    let entries = rest(words, if is_locked { 3 } else { 4 });
+    let shape = told.given(known.shape())?;
+    let own = told.given(part(known, alloc, &shape, shape.coordinators(), entries))?;
+    let held = told.made(vec![in alloc; Reply::Held; own.len()])?;
+    if is_locked {
+        return Some(Slot::Locked(number, own, List::from_vec(held), stamp));
     }
-    expect(words, 0, "finished")?;
-    let later = Stamp(number(word(words, 3)?)?);
-    let own = part(known, alloc, &shape, node, rest(words, 4))?;
-    let held = all_held(alloc, own.len())?;
-    let given = List::from_vec(vec![in alloc; true; own.len()]?);
-    Ok(Slot::Finished(its_number, own, held, given, stamp, later))
+    told.expect(words, 0, "finished");
+    let later = Stamp(told.number_at(words, 3));
+    let given = told.made(vec![in alloc; true; own.len()])?;
+    Some(Slot::Finished(
+        number,
+        own,
+        List::from_vec(held),
+        List::from_vec(given),
+        stamp,
+        later,
+    ))
 }
 
 // Tells where a slot is another one.
@@ -66,77 +65,60 @@ fn at_slot(slots: &mut Slots, action: &str, lane: LaneId, own: Slot, told: &mut 
     }
 }
 
-// Tells how many slots there are.
-fn count_slots(slots: &Slots, told: &mut Told) {
-    told.number(slots.len() as u64);
-    if slots.is_empty() {
-        told.refuse("no slot");
-    }
-}
-
 /// `slot count`, and how many there are; `slot put LANE SLOT`, `slot at LANE SLOT`, `slot take LANE SLOT`: one is put in a lane, stands there, or stands
 /// there and is taken out.
-pub fn slot_step(
-    known: &Known,
-    alloc: Global,
-    tables: &mut Tables,
-    words: &[&str],
-    told: &mut Told,
-) -> Result<(), Wrong> {
+pub fn slot_step(known: &Known, tables: &mut Tables, words: &[&str], told: &mut Told) {
     let Some(slots) = &mut tables.slots else {
-        return Err(Wrong::Line("no slots were made"));
+        told.refuse("no slots were made");
+        return;
     };
-    let action = word(words, 0)?;
+    let action = told.word_at(words, 0);
     if action == "count" {
-        at_most(words, 1)?;
-        count_slots(slots, told);
-        return Ok(());
+        told.at_most(words, 1);
+        told.number(slots.len() as u64);
+        if slots.is_empty() {
+            told.refuse("no slot");
+        }
+        return;
     }
-    let lane = LaneId(small(word(words, 1)?)?);
-    let own = slot(known, alloc, rest(words, 2))?;
-    at_slot(slots, action, lane, own, told);
-    Ok(())
-}
-
-// The entries alone.
-fn part_of(alloc: Global, entries: &[Answered]) -> Result<Vec<Entry>, AllocError> {
-    let mut all = Vec::new(alloc);
-    for one in entries {
-        all.push(copy_of_entry(&one.entry)?)?;
+    let lane = told.lane_at(words, 1);
+    if let Some(own) = slot(known, rest(words, 2), told) {
+        at_slot(slots, action, lane, own, told);
     }
-    Ok(all)
-}
-
-// The replies alone.
-fn replies_of(alloc: Global, entries: &[Answered]) -> Result<Vec<Reply>, AllocError> {
-    let mut all = Vec::new(alloc);
-    for one in entries {
-        all.push(one.reply)?;
-    }
-    Ok(all)
 }
 
 // Tells how many entries there are, where they are those of a Lock with their replies.
-fn tell_answered(alloc: Global, entries: &[Answered], told: &mut Told) -> Result<(), Wrong> {
-    let part = part_of(alloc, entries)?;
-    let replies = replies_of(alloc, entries)?;
+fn tell_answered(entries: &[Answered], told: &mut Told) {
+    let alloc = told.alloc;
+    let mut part = Vec::new(alloc);
+    let mut replies = Vec::new(alloc);
+    for one in entries {
+        if let Some(entry) = told.made(one.entry.clone()) {
+            told.push(&mut part, entry);
+        }
+        told.push(&mut replies, one.reply);
+    }
     if part.len() != replies.len() {
-        return Err(Wrong::Line("a reply is missing"));
+        told.refuse("a reply is missing");
+        return;
     }
-    let came = answered(alloc, &part, &replies)?;
-    told.number(came.len() as u64);
-    if came.as_slice() != entries {
-        told.word("other entries");
+    if let Some(came) = told.made(answered(alloc, &part, &replies)) {
+        told.number(came.len() as u64);
+        if came.as_slice() != entries {
+            told.word("other entries");
+        }
     }
-    Ok(())
 }
 
 /// `answered LOCK`, and how many entries it has: the entries of the Lock's part, each with its reply, are those of the Lock.
-pub fn entries(known: &Known, alloc: Global, words: &[&str], told: &mut Told) -> Result<(), Wrong> {
-    let node = known.shape()?.coordinators();
-    let own = record(known, alloc, node, words)?;
-    match &own {
-        Record::Lock { entries, .. } => tell_answered(alloc, entries.as_slice(), told),
-        _ => Err(Wrong::Line("no Lock")),
+pub fn entries(known: &Known, words: &[&str], told: &mut Told) {
+    let alloc = told.alloc;
+    let Some(shape) = told.given(known.shape()) else {
+        return;
+    };
+    let own = record(known, alloc, shape.coordinators(), words);
+    match &told.given(own) {
+        Some(Record::Lock { entries, .. }) => tell_answered(entries.as_slice(), told),
+        _ => told.refuse("no Lock"),
     }
 }

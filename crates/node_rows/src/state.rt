@@ -6,8 +6,8 @@ use dtx_replies::Slots;
 use gate_journal::Journal;
 use mem_devices::{FaultDisk, PlainDisk};
 use record_log::RecordLog;
-use row_records::Known;
-use row_text::{Names, Wrong};
+use row_records::{Known, Told};
+use row_text::Names;
 use shard_node::ShardNode;
 use std::alloc::Global;
 use std::mem;
@@ -78,14 +78,14 @@ impl State {
 }
 
 /// Makes places up to this one.
-pub fn make_place(nodes: &mut Vec<Node>, place: u32) -> Result<(), Wrong> {
+pub fn make_place(nodes: &mut Vec<Node>, place: u32, told: &mut Told) {
     if place > 98 {
-        return Err(Wrong::Line("no node has so great a number here"));
+        told.refuse("no node has so great a number here");
+        return;
     }
     for _ in nodes.len()..place as usize + 1 {
-        nodes.push(Node::Gone)?;
+        told.push(nodes, Node::Gone);
     }
-    Ok(())
 }
 
 // Puts a thing in the place of another.

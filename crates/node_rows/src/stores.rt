@@ -1,15 +1,10 @@
 // The tables of a shard: a set of hashes, a map of locks, and values under hashes.
-use crate::answers::with;
 use crate::state::Tables;
-use crate::told::Told;
-use crate::words::{at_most, expect};
 use cbdc_types::{BatchId, Hash};
 use hash_slots::HashSlots;
-use row_records::{batch_of, hash, small};
-use row_text::{Wrong, check_yes, number, rest, word};
+use row_records::Told;
 use shard_locks::Locks;
 use shard_table::Table;
-use std::alloc::Global;
 
 /// A table.
 #[derive(Drop)]
@@ -24,16 +19,19 @@ pub enum Store {
 const NO_STORE: &str = "no such table was made";
 
 /// `store set`, `store locks`, `store values`: an empty one.
-pub fn make_store(tables: &mut Tables, alloc: Global, words: &[&str]) -> Result<(), Wrong> {
-    let made = match word(words, 0)? {
+pub fn make_store(tables: &mut Tables, words: &[&str], told: &mut Told) {
+    let alloc = told.alloc;
+    let made = match told.word_at(words, 0) {
         "set" => Store::Set(Table::new(alloc)),
         "locks" => Store::Locks(Locks::new(alloc)),
         "values" => Store::Values(HashSlots::new(alloc)),
-        _ => return Err(Wrong::Line("a table is a set, locks or values")),
+        _ => {
+            told.refuse("a table is a set, locks or values");
+            return;
+        }
     };
     tables.store = made;
     tables.room = None;
-    Ok(())
 }
 
 // For how many more there is room.
@@ -47,8 +45,8 @@ fn spare_of(store: &Store) -> u64 {
 }
 
 /// `reserve N`: makes room for so many more.
-pub fn reserve(store: &mut Store, words: &[&str], told: &mut Told) -> Result<(), Wrong> {
-    let n = number(word(words, 0)?)?;
+pub fn reserve(store: &mut Store, words: &[&str], told: &mut Told) {
+    let n = told.number_at(words, 0);
     let is_done = match store {
         Store::Gone => false,
         Store::Set(set) => set.reserve(n).is_ok(),
@@ -58,30 +56,29 @@ pub fn reserve(store: &mut Store, words: &[&str], told: &mut Told) -> Result<(),
     if !is_done {
         told.refuse("no table, or no memory for so many");
     }
-    Ok(())
 }
 
 /// `room N`: there is room for so many more at least. That is the room from now on.
-pub fn room(tables: &mut Tables, alloc: Global, words: &[&str]) -> Result<(), Wrong> {
+pub fn room(tables: &mut Tables, words: &[&str], told: &mut Told) {
     let came = spare_of(&tables.store);
     tables.room = Some(came);
-    let least = number(word(words, 0)?)?;
-    check_yes(alloc, "yes", came >= least)
+    let least = told.number_at(words, 0);
+    told.check_yes(came >= least);
 }
 
 /// `spare`, and for how many more there is room; `spare N less`: for so many less than the room.
-pub fn spare(tables: &Tables, alloc: Global, words: &[&str], told: &mut Told) -> Result<(), Wrong> {
+pub fn spare(tables: &Tables, words: &[&str], told: &mut Told) {
     let came = spare_of(&tables.store);
     if words.is_empty() {
         told.number(came);
-        return Ok(());
+        return;
     }
-    let Some(room) = tables.room else {
-        return Err(Wrong::Line("no room was told before"));
-    };
-    let less = number(word(words, 0)?)?;
-    expect(words, 1, "less")?;
-    check_yes(alloc, "yes", came.saturating_add(less) == room)
+    let less = told.number_at(words, 0);
+    told.expect(words, 1, "less");
+    match tables.room {
+        Some(room) => told.check_yes(came.saturating_add(less) == room),
+        None => told.refuse("no room was told before"),
+    }
 }
 
 fn tell_len(told: &mut Told, many: u64, is_empty: bool) {
@@ -100,106 +97,101 @@ pub fn len(store: &Store, told: &mut Told) {
     }
 }
 
-fn put_member(set: &mut Table, x: Hash) -> Result<(), Wrong> {
+fn put_member(set: &mut Table, x: Hash, told: &mut Told) {
     if set.spare() == 0 {
-        return Err(Wrong::Line("the set has no room"));
+        told.refuse("the set has no room");
+    } else {
+        set.insert(x);
     }
-    set.insert(x);
-    Ok(())
 }
 
-fn put_lock(locks: &mut Locks, x: Hash, words: &[&str]) -> Result<(), Wrong> {
-    let by = batch_of(word(words, 0)?, word(words, 1)?)?;
-    let place = small(word(words, 2)?)?;
+fn put_lock(locks: &mut Locks, x: Hash, by: BatchId, place: u32, told: &mut Told) {
     if locks.spare() == 0 || locks.holder(&x).is_some() {
-        return Err(Wrong::Line("there is no room, or the hash is locked"));
+        told.refuse("there is no room, or the hash is locked");
+    } else {
+        locks.take(x, by, place);
     }
-    locks.take(x, by, place);
-    Ok(())
 }
 
-fn put_value(values: &mut HashSlots<u64>, x: Hash, words: &[&str]) -> Result<(), Wrong> {
-    let value = number(word(words, 0)?)?;
+fn put_value(values: &mut HashSlots<u64>, x: Hash, value: u64, told: &mut Told) {
     if values.spare() == 0 || values.get(&x).is_some() {
-        return Err(Wrong::Line("there is no room, or a value is there"));
-    }
-    values.insert(x, value);
-    Ok(())
-}
-
-// How many words tell what is put.
-fn most_of(store: &Store) -> usize {
-    match store {
-        Store::Gone => 0,
-        Store::Set(_) => 1,
-        Store::Locks(_) => 4,
-        Store::Values(_) => 2,
+        told.refuse("there is no room, or a value is there");
+    } else {
+        values.insert(x, value);
     }
 }
 
 /// `put HASH`, `put HASH LANE NUMBER PLACE`, `put HASH VALUE`: into a set, a map of locks, values.
-pub fn put(store: &mut Store, alloc: Global, words: &[&str]) -> Result<(), Wrong> {
-    let x = hash(alloc, word(words, 0)?)?;
-    at_most(words, most_of(store))?;
+pub fn put(store: &mut Store, words: &[&str], told: &mut Told) {
+    let x = told.hash_at(words, 0);
     match store {
-        Store::Gone => Err(Wrong::Line(NO_STORE)),
-        Store::Set(set) => put_member(set, x),
-        Store::Locks(locks) => put_lock(locks, x, rest(words, 1)),
-        Store::Values(values) => put_value(values, x, rest(words, 1)),
+        Store::Gone => told.refuse(NO_STORE),
+        Store::Set(set) => {
+            told.at_most(words, 1);
+            put_member(set, x, told);
+        }
+        Store::Locks(locks) => {
+            told.at_most(words, 4);
+            let by = told.batch_at(words, 1);
+            let place = told.small_at(words, 3);
+            put_lock(locks, x, by, place, told);
+        }
+        Store::Values(values) => {
+            told.at_most(words, 2);
+            let value = told.number_at(words, 1);
+            put_value(values, x, value, told);
+        }
     }
 }
 
 // Hashes that differ in their first byte, with the same home, which the ninth one tells.
-fn put_members(set: &mut Table, many: u8, home: u8) -> Result<(), Wrong> {
+fn put_members(set: &mut Table, many: u8, home: u8, told: &mut Told) {
     for first in 0..many {
         let mut bytes = [0u8; 32];
         bytes[0] = first;
         bytes[8] = home;
-        put_member(set, Hash(bytes))?;
+        put_member(set, Hash(bytes), told);
     }
-    Ok(())
 }
 
-// A number below 256.
-fn byte(word: &str) -> Result<u8, Wrong> {
-    match word.parse::<u8>() {
-        Ok(n) => Ok(n),
-        Err(_) => Err(Wrong::Line("no number below 256")),
+// The number below 256 at a place.
+fn byte_at(words: &[&str], at: usize, told: &mut Told) -> u8 {
+    let n = told.small_at(words, at);
+    if n < 256 {
+        n as u8
+    } else {
+        told.refuse("no number below 256");
+        0
     }
 }
 
 /// `put-all MANY HOME`: so many hashes into a set that differ in their first byte, from 0 on, and have the same home.
-pub fn put_all(store: &mut Store, words: &[&str]) -> Result<(), Wrong> {
-    let (many, home) = (byte(word(words, 0)?)?, byte(word(words, 1)?)?);
+pub fn put_all(store: &mut Store, words: &[&str], told: &mut Told) {
+    let many = byte_at(words, 0, told);
+    let home = byte_at(words, 1, told);
     match store {
-        Store::Set(set) => put_members(set, many, home),
-        _ => Err(Wrong::Line(NO_STORE)),
+        Store::Set(set) => put_members(set, many, home, told),
+        _ => told.refuse(NO_STORE),
     }
 }
 
 // Tells a value, or that there is none.
 fn tell_value(told: &mut Told, found: Option<u64>) {
     match found {
-        Some(value) => told.said(&with("value", value)),
+        Some(value) => told.named("value", value as u128),
         None => told.word("none"),
     }
 }
 
 /// `out HASH`, and of values the one that was there or `none`
-pub fn take_out(
-    store: &mut Store,
-    alloc: Global,
-    words: &[&str],
-    told: &mut Told,
-) -> Result<(), Wrong> {
-    let x = hash(alloc, word(words, 0)?)?;
+pub fn take_out(store: &mut Store, words: &[&str], told: &mut Told) {
+    let x = told.hash_at(words, 0);
     match store {
         Store::Gone => told.refuse(NO_STORE),
         Store::Set(set) => set.remove(&x),
         Store::Locks(locks) => locks.release(&x),
         Store::Values(values) => tell_value(told, values.remove(&x)),
     }
-    Ok(())
 }
 
 // Tells who holds a lock.
@@ -214,13 +206,12 @@ fn tell_holder(told: &mut Told, found: Option<(BatchId, u32)>) {
 }
 
 /// `find HASH`, and `there`, `LANE NUMBER PLACE` or `value VALUE`, or `none`
-pub fn find(store: &Store, alloc: Global, words: &[&str], told: &mut Told) -> Result<(), Wrong> {
-    let x = hash(alloc, word(words, 0)?)?;
+pub fn find(store: &Store, words: &[&str], told: &mut Told) {
+    let x = told.hash_at(words, 0);
     match store {
         Store::Gone => told.refuse(NO_STORE),
         Store::Set(set) => told.word(if set.contains(&x) { "there" } else { "none" }),
         Store::Locks(locks) => tell_holder(told, locks.holder(&x)),
         Store::Values(values) => tell_value(told, values.get(&x)),
     }
-    Ok(())
 }

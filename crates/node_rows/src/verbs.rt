@@ -1,21 +1,15 @@
 // The steps, by their first words.
-use crate::words::at_most;
-use row_text::{Block, Wrong, word};
+use row_text::Block;
 
-/// Steps that take the text behind them in.
+/// What a step does.
 #[derive(Clone, Copy, Drop)]
-pub enum Reading {
+pub enum Verb {
     Ledger,
     Disk,
     Journal,
     Next,
     Calls,
     Asked,
-}
-
-/// Steps of names, and of all nodes.
-#[derive(Clone, Copy, Drop)]
-pub enum Whole {
     Shape,
     Form,
     Gate,
@@ -24,51 +18,13 @@ pub enum Whole {
     Asks,
     Keep,
     Same,
-    Lanes,
-}
-
-/// Steps that make another of what a node has.
-#[derive(Clone, Copy, Drop)]
-pub enum Turning {
-    Plain,
-    Crash,
-    Close,
-    Format,
-    Open,
-}
-
-/// Steps of a disk.
-#[derive(Clone, Copy, Drop)]
-pub enum OnDisk {
-    Write,
-    Read,
-    Sync,
-    Device,
-}
-
-/// Steps that ask a node.
-#[derive(Clone, Copy, Drop)]
-pub enum Acting {
-    Memory,
-    Append,
-    Add,
-    Call,
-    Admits,
-}
-
-/// Steps that look at a node.
-#[derive(Clone, Copy, Drop)]
-pub enum Looking {
-    Bytes,
-    Used,
-    Knows,
-    Stands,
-    Core,
-}
-
-/// Steps of a shard's tables.
-#[derive(Clone, Copy, Drop)]
-pub enum Tabling {
+    Rack,
+    Sink,
+    Inbox,
+    Gather,
+    Latest,
+    NoMemory,
+    Answered,
     Store,
     Reserve,
     Room,
@@ -80,31 +36,26 @@ pub enum Tabling {
     Find,
     Slots,
     Slot,
-}
-
-/// Steps that need names alone.
-#[derive(Clone, Copy, Drop)]
-pub enum Alone {
-    Rack,
-    Sink,
-    Inbox,
-    Gather,
-    Latest,
-    NoMemory,
-    Answered,
-}
-
-/// What a step does.
-#[derive(Clone, Copy, Drop)]
-pub enum Verb {
-    Reading(Reading),
-    Whole(Whole),
-    Turning(Turning),
-    OnDisk(OnDisk),
-    Acting(Acting),
-    Looking(Looking),
-    Tabling(Tabling),
-    Alone(Alone),
+    Lanes,
+    Plain,
+    Crash,
+    Close,
+    Format,
+    Open,
+    Write,
+    Read,
+    Sync,
+    Device,
+    Memory,
+    Append,
+    Add,
+    Call,
+    Admits,
+    Bytes,
+    Used,
+    Knows,
+    Stands,
+    Core,
 }
 
 // So many words as there are.
@@ -112,70 +63,77 @@ const ANY: usize = usize::MAX;
 
 // Each with how many words there may be, itself counted.
 const VERBS: [(&str, Verb, usize); 52] = [
-    ("shape", Verb::Whole(Whole::Shape), 5),
-    ("form", Verb::Whole(Whole::Form), ANY),
-    ("gate", Verb::Whole(Whole::Gate), ANY),
-    ("ledger", Verb::Reading(Reading::Ledger), ANY),
-    ("lane", Verb::Whole(Whole::Lane), ANY),
-    ("batch", Verb::Whole(Whole::Batch), ANY),
-    ("asked", Verb::Reading(Reading::Asked), 1),
-    ("asks", Verb::Whole(Whole::Asks), 7),
-    ("keep", Verb::Whole(Whole::Keep), 2),
-    ("same", Verb::Whole(Whole::Same), 2),
-    ("disk", Verb::Reading(Reading::Disk), ANY),
-    ("plain", Verb::Turning(Turning::Plain), ANY),
-    ("crash", Verb::Turning(Turning::Crash), ANY),
-    ("close", Verb::Turning(Turning::Close), 2),
-    ("format", Verb::Turning(Turning::Format), 2),
-    ("open", Verb::Turning(Turning::Open), 3),
-    ("write", Verb::OnDisk(OnDisk::Write), ANY),
-    ("read", Verb::OnDisk(OnDisk::Read), ANY),
-    ("sync", Verb::OnDisk(OnDisk::Sync), 2),
-    ("device", Verb::OnDisk(OnDisk::Device), 2),
-    ("memory", Verb::Acting(Acting::Memory), 3),
-    ("append", Verb::Acting(Acting::Append), ANY),
-    ("add", Verb::Acting(Acting::Add), ANY),
-    ("call", Verb::Acting(Acting::Call), ANY),
-    ("bytes", Verb::Looking(Looking::Bytes), ANY),
-    ("used", Verb::Looking(Looking::Used), 2),
-    ("journal", Verb::Reading(Reading::Journal), 2),
-    ("knows", Verb::Looking(Looking::Knows), ANY),
-    ("stands", Verb::Looking(Looking::Stands), 3),
-    ("lanes", Verb::Whole(Whole::Lanes), 2),
-    ("next", Verb::Reading(Reading::Next), ANY),
-    ("core", Verb::Looking(Looking::Core), 5),
-    ("admits", Verb::Acting(Acting::Admits), ANY),
-    ("store", Verb::Tabling(Tabling::Store), 2),
-    ("reserve", Verb::Tabling(Tabling::Reserve), 2),
-    ("room", Verb::Tabling(Tabling::Room), 2),
-    ("spare", Verb::Tabling(Tabling::Spare), 3),
-    ("len", Verb::Tabling(Tabling::Len), 1),
-    ("put", Verb::Tabling(Tabling::Put), ANY),
-    ("put-all", Verb::Tabling(Tabling::PutAll), 3),
-    ("out", Verb::Tabling(Tabling::Out), 2),
-    ("find", Verb::Tabling(Tabling::Find), 2),
-    ("slots", Verb::Tabling(Tabling::Slots), 2),
-    ("slot", Verb::Tabling(Tabling::Slot), ANY),
-    ("rack", Verb::Alone(Alone::Rack), ANY),
-    ("sink", Verb::Alone(Alone::Sink), ANY),
-    ("inbox", Verb::Alone(Alone::Inbox), ANY),
-    ("calls", Verb::Reading(Reading::Calls), ANY),
-    ("gather", Verb::Alone(Alone::Gather), ANY),
-    ("latest", Verb::Alone(Alone::Latest), ANY),
-    ("no-memory", Verb::Alone(Alone::NoMemory), 1),
-    ("answered", Verb::Alone(Alone::Answered), ANY),
+    ("ledger", Verb::Ledger, ANY),
+    ("disk", Verb::Disk, ANY),
+    ("journal", Verb::Journal, 2),
+    ("next", Verb::Next, ANY),
+    ("calls", Verb::Calls, ANY),
+    ("asked", Verb::Asked, 1),
+    ("shape", Verb::Shape, 5),
+    ("form", Verb::Form, ANY),
+    ("gate", Verb::Gate, ANY),
+    ("lane", Verb::Lane, ANY),
+    ("batch", Verb::Batch, ANY),
+    ("asks", Verb::Asks, 1),
+    ("keep", Verb::Keep, 2),
+    ("same", Verb::Same, 2),
+    ("rack", Verb::Rack, ANY),
+    ("sink", Verb::Sink, ANY),
+    ("inbox", Verb::Inbox, ANY),
+    ("gather", Verb::Gather, ANY),
+    ("latest", Verb::Latest, ANY),
+    ("no-memory", Verb::NoMemory, 1),
+    ("answered", Verb::Answered, ANY),
+    ("store", Verb::Store, 2),
+    ("reserve", Verb::Reserve, 2),
+    ("room", Verb::Room, 2),
+    ("spare", Verb::Spare, 3),
+    ("len", Verb::Len, 1),
+    ("put", Verb::Put, ANY),
+    ("put-all", Verb::PutAll, 3),
+    ("out", Verb::Out, 2),
+    ("find", Verb::Find, 2),
+    ("slots", Verb::Slots, 2),
+    ("slot", Verb::Slot, ANY),
+    ("lanes", Verb::Lanes, 2),
+    ("plain", Verb::Plain, ANY),
+    ("crash", Verb::Crash, ANY),
+    ("close", Verb::Close, 2),
+    ("format", Verb::Format, 2),
+    ("open", Verb::Open, 3),
+    ("write", Verb::Write, ANY),
+    ("read", Verb::Read, ANY),
+    ("sync", Verb::Sync, 2),
+    ("device", Verb::Device, 2),
+    ("memory", Verb::Memory, 3),
+    ("append", Verb::Append, ANY),
+    ("add", Verb::Add, ANY),
+    ("call", Verb::Call, ANY),
+    ("admits", Verb::Admits, ANY),
+    ("bytes", Verb::Bytes, ANY),
+    ("used", Verb::Used, 2),
+    ("knows", Verb::Knows, ANY),
+    ("stands", Verb::Stands, 3),
+    ("core", Verb::Core, 5),
 ];
 
-/// The verb that words begin with, where they are not too many for it.
-pub fn verb_of(words: &[&str]) -> Result<Verb, Wrong> {
-    let own = word(words, 0)?;
+/// The verb that words begin with, and how many they may be.
+pub fn verb_of(words: &[&str]) -> Option<(Verb, usize)> {
+    let own = words.first()?;
     for (name, verb, most) in &VERBS {
-        if *name == own {
-            at_most(words, *most)?;
-            return Ok(*verb);
+        if *name == *own {
+            return Some((*verb, *most));
         }
     }
-    Err(Wrong::Line("no such step"))
+    None
+}
+
+/// Whether a step takes the text behind it in; else that is its answer.
+pub fn takes_text(verb: Verb) -> bool {
+    match verb {
+        Verb::Ledger | Verb::Disk | Verb::Journal | Verb::Next | Verb::Calls | Verb::Asked => true,
+        _ => false,
+    }
 }
 
 /// Whether what stands behind a step is for it: a text alone, which each step looks at.

@@ -2,24 +2,21 @@
 use crate::files::verdicts_in;
 use crate::hashes::digest;
 use crate::state::State;
-use crate::told::Told;
 use batcher::Batcher;
-use cbdc_types::{CompactTx, FullTx, Part};
+use cbdc_types::{CompactTx, FullTx, Part, Refusal};
 use identifiers::tx_id;
-use row_records::{hash, small, txs};
-use row_text::{Wrong, count, number, word};
+use row_records::{Told, txs};
+use row_text::Wrong;
 use sentinel::check;
 use shard_ranges::{shard_of, split};
-use std::alloc::Global;
 use verifier_port::AllGood;
 use workload::{Workload, generate};
 
 /// `shard HASH SHARDS`, and the shard of the hash.
-pub fn shard(alloc: Global, words: &[&str], told: &mut Told) -> Result<(), Wrong> {
-    let x = hash(alloc, word(words, 0)?)?;
-    let shards = small(word(words, 1)?)?;
+pub fn shard(words: &[&str], told: &mut Told) {
+    let x = told.hash_at(words, 0);
+    let shards = told.small_at(words, 1);
     told.number(shard_of(&x, shards) as u64);
-    Ok(())
 }
 
 // The entries of a part, `SHARD PLACE ID HASH.. -> HASH..` in a line each.
@@ -36,21 +33,23 @@ fn tell_part(told: &mut Told, shard: u32, part: &Part) {
 }
 
 /// `split TX..`, and the entries of the parts, `SHARD PLACE ID HASH.. -> HASH..` in a line each.
-pub fn split_told(
-    state: &State,
-    alloc: Global,
-    words: &[&str],
-    told: &mut Told,
-) -> Result<(), Wrong> {
-    let shape = state.known.shape()?;
-    let all = txs(&state.known, alloc, words)?;
+pub fn split_told(state: &State, words: &[&str], told: &mut Told) {
+    let alloc = told.alloc;
+    let Some(shape) = told.given(state.known.shape()) else {
+        return;
+    };
+    let Some(all) = told.given(txs(&state.known, alloc, words)) else {
+        return;
+    };
     if all.len() > 1024 {
-        return Err(Wrong::Line("a batch has no more than 1,024"));
+        told.refuse("a batch has no more than 1,024");
+        return;
     }
-    for (shard, part) in split(alloc, all.as_slice(), &shape)?.as_slice() {
-        tell_part(told, *shard, part);
+    if let Some(parts) = told.made(split(alloc, all.as_slice(), &shape)) {
+        for (shard, part) in parts.as_slice() {
+            tell_part(told, *shard, part);
+        }
     }
-    Ok(())
 }
 
 // The transactions of a batch, `ID HASH.. -> HASH..` each.
@@ -76,8 +75,9 @@ fn push(state: &State, batcher: &mut Batcher, name: &str) -> Result<(), Wrong> {
 
 /// `batcher LIMIT STEP..`, each a transaction that is pushed, or `take`; and what it says behind each: `full` or `room`, the
 /// transactions that are taken, `ID HASH.. -> HASH..` each, or `none`.
-pub fn batches(state: &State, alloc: Global, words: &[&str], told: &mut Told) -> Result<(), Wrong> {
-    let mut batcher = Batcher::new(alloc, count(word(words, 0)?)?);
+pub fn batches(state: &State, words: &[&str], told: &mut Told) {
+    let limit = told.small_at(words, 0) as usize;
+    let mut batcher = Batcher::new(told.alloc, limit);
     for step in words.iter().skip(1) {
         if *step == "take" {
             match batcher.take() {
@@ -85,11 +85,10 @@ pub fn batches(state: &State, alloc: Global, words: &[&str], told: &mut Told) ->
                 None => told.word("none"),
             }
         } else {
-            push(state, &mut batcher, step)?;
+            told.given(push(state, &mut batcher, step));
             told.word(if batcher.is_full() { "full" } else { "room" });
         }
     }
-    Ok(())
 }
 
 // How many transactions there are, and the id of the last.
@@ -117,27 +116,41 @@ fn tell_workload(told: &mut Told, made: &Workload) {
 
 /// `workload SEED COUNT`, and four lines: the mint's outputs and the last value, the splits and the last id, the joins and the
 /// last id, the digest of the verdicts.
-pub fn workload(alloc: Global, words: &[&str], told: &mut Told) -> Result<(), Wrong> {
-    let (seed, many) = (number(word(words, 0)?)?, number(word(words, 1)?)?);
+pub fn workload(words: &[&str], told: &mut Told) {
+    let (seed, many) = (told.number_at(words, 0), told.number_at(words, 1));
     if many > 10_000 {
-        return Err(Wrong::Line("no more than 10,000 transactions"));
+        told.refuse("no more than 10,000 transactions");
+        return;
     }
-    let made = generate(alloc, seed, many)?;
-    tell_workload(told, &made);
-    Ok(())
+    let made = generate(told.alloc, seed, many);
+    if let Some(own) = told.made(made) {
+        tell_workload(told, &own);
+    }
+}
+
+fn tell_sound(told: &mut Told, answer: &Result<(), Refusal>) {
+    match answer {
+        Ok(()) => told.word("sound"),
+        Err(why) => told.refusal(why),
+    }
+}
+
+// Tells `sound` or the refusal of a transaction, by the verdicts of a file; `all-good` has a good one on each witness.
+fn tell_check(state: &State, tx: &FullTx, name: &str, told: &mut Told) {
+    let alloc = told.alloc;
+    let id = tx_id(tx);
+    if name == "all-good" {
+        tell_sound(told, &check(tx, &id, &AllGood));
+    } else if let Some(file) = told.given(verdicts_in(state, alloc, name)) {
+        tell_sound(told, &check(tx, &id, &file));
+    }
 }
 
 /// `sentinel TX NAME`, and `sound` or the refusal, by the verdicts of a file; `all-good` has a good one on each witness.
-pub fn refused(state: &State, alloc: Global, words: &[&str], told: &mut Told) -> Result<(), Wrong> {
-    let tx = state.known.full(word(words, 0)?)?;
-    let id = tx_id(tx);
-    let answer = match word(words, 1)? {
-        "all-good" => check(tx, &id, &AllGood),
-        name => check(tx, &id, &verdicts_in(state, alloc, name)?),
-    };
-    match answer {
-        Ok(()) => told.word("sound"),
-        Err(why) => told.refusal(&why),
+pub fn refused(state: &State, words: &[&str], told: &mut Told) {
+    let name = told.word_at(words, 1);
+    match state.known.full(told.word_at(words, 0)) {
+        Ok(tx) => tell_check(state, tx, name, told),
+        Err(wrong) => told.fail(wrong),
     }
-    Ok(())
 }

@@ -1,6 +1,7 @@
 // Bytes, spelled in pieces.
 use crate::state::State;
-use row_text::{Wrong, count, hex_of, number, put_number, rest, word};
+use row_records::Told;
+use row_text::{Wrong, count, hex_of, number, put_number, rest};
 use std::alloc::{AllocError, Global};
 
 // Appends bytes that digits spell, so many times.
@@ -38,38 +39,32 @@ fn put_piece(state: &State, alloc: Global, out: &mut Vec<u8>, piece: &str) -> Re
     }
 }
 
-/// Appends the bytes of pieces, one behind the other.
-pub fn put_pieces(
-    state: &State,
-    alloc: Global,
-    out: &mut Vec<u8>,
-    pieces: &[&str],
-) -> Result<(), Wrong> {
-    for piece in pieces {
-        put_piece(state, alloc, out, piece)?;
-    }
-    Ok(())
-}
-
 /// The bytes of pieces, one behind the other.
-pub fn bytes_of(state: &State, alloc: Global, pieces: &[&str]) -> Result<Vec<u8>, Wrong> {
+pub fn bytes_of(state: &State, pieces: &[&str], told: &mut Told) -> Vec<u8> {
+    let alloc = told.alloc;
     let mut out = Vec::new(alloc);
-    put_pieces(state, alloc, &mut out, pieces)?;
-    Ok(out)
+    for piece in pieces {
+        let done = put_piece(state, alloc, &mut out, piece);
+        told.given(done);
+    }
+    out
 }
 
 /// `bytes NAME PIECE..`
-pub fn bytes(state: &mut State, alloc: Global, words: &[&str]) -> Result<(), Wrong> {
-    let all = bytes_of(state, alloc, rest(words, 1))?;
-    state.bytes.put(alloc, word(words, 0)?, all)?;
-    Ok(())
+pub fn bytes(state: &mut State, words: &[&str], told: &mut Told) {
+    let alloc = told.alloc;
+    let name = told.word_at(words, 0);
+    let all = bytes_of(state, rest(words, 1), told);
+    told.made(state.bytes.put(alloc, name, all));
 }
 
 /// `text NAME` with a block: the bytes of the text.
-pub fn text(state: &mut State, alloc: Global, words: &[&str], text: &str) -> Result<(), Wrong> {
-    let all = Vec::from_slice(alloc, text.as_bytes())?;
-    state.bytes.put(alloc, word(words, 0)?, all)?;
-    Ok(())
+pub fn text(state: &mut State, words: &[&str], text: &str, told: &mut Told) {
+    let alloc = told.alloc;
+    let name = told.word_at(words, 0);
+    if let Some(all) = told.made(Vec::from_slice(alloc, text.as_bytes())) {
+        told.made(state.bytes.put(alloc, name, all));
+    }
 }
 
 // What stands before what is written: nothing of it may change.

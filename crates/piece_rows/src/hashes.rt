@@ -1,14 +1,11 @@
 // Ids, hashes and digits.
 use crate::bytes::bytes_of;
 use crate::state::State;
-use crate::told::Told;
 use cbdc_types::{CompactTx, Hash};
 use compact_tx::compact;
 use identifiers::{input_hash, tx_id, uhs_id};
-use row_records::inputs;
-use row_text::{Wrong, word};
+use row_records::{Told, inputs};
 use sha2::{Digest, Sha256};
-use std::alloc::Global;
 
 // The id, the hashes of the inputs and those of the outputs, a line each.
 fn tell_form(told: &mut Told, form: &CompactTx) {
@@ -20,25 +17,31 @@ fn tell_form(told: &mut Told, form: &CompactTx) {
 }
 
 /// `hashes TX`, and its id, the hashes of its inputs and those of its outputs, a line each.
-pub fn hashes(state: &State, alloc: Global, words: &[&str], told: &mut Told) -> Result<(), Wrong> {
-    let tx = state.known.full(word(words, 0)?)?;
-    let form = compact(alloc, tx)?;
-    tell_form(told, &form);
-    if tx_id(tx) == form.id {
-        Ok(())
-    } else {
-        Err(Wrong::Line("the compact transaction has another id"))
+pub fn hashes(state: &State, words: &[&str], told: &mut Told) {
+    let alloc = told.alloc;
+    match state.known.full(told.word_at(words, 0)) {
+        Ok(tx) => {
+            if let Some(form) = told.made(compact(alloc, tx)) {
+                tell_form(told, &form);
+                if tx_id(tx) != form.id {
+                    told.refuse("the compact transaction has another id");
+                }
+            }
+        }
+        Err(wrong) => told.fail(wrong),
     }
 }
 
 /// `coin-hash INPUT`, and the hash of that coin; an output has the same.
-pub fn coin_hash(alloc: Global, words: &[&str], told: &mut Told) -> Result<(), Wrong> {
-    for input in inputs(alloc, words)?.as_slice() {
-        told.hash(&input_hash(input));
-        told.line();
-        told.hash(&uhs_id(&input.point.tx, input.point.index, &input.output));
+pub fn coin_hash(words: &[&str], told: &mut Told) {
+    let alloc = told.alloc;
+    if let Some(all) = told.given(inputs(alloc, words)) {
+        for input in all.as_slice() {
+            told.hash(&input_hash(input));
+            told.line();
+            told.hash(&uhs_id(&input.point.tx, input.point.index, &input.output));
+        }
     }
-    Ok(())
 }
 
 /// The digest of bytes.
@@ -49,17 +52,15 @@ pub fn digest(bytes: &[u8]) -> Hash {
 }
 
 /// `sha PIECE..`, and the digest of those bytes.
-pub fn sha(state: &State, alloc: Global, words: &[&str], told: &mut Told) -> Result<(), Wrong> {
-    let bytes = bytes_of(state, alloc, words)?;
-    told.hash(&digest(bytes.as_slice()));
-    Ok(())
+pub fn sha(state: &State, words: &[&str], told: &mut Told) {
+    let bytes = bytes_of(state, words, told);
+    told.hash(&digest(&bytes));
 }
 
 /// `digits PIECE..`, and the digits of those bytes.
-pub fn digits(state: &State, alloc: Global, words: &[&str], told: &mut Told) -> Result<(), Wrong> {
-    let bytes = bytes_of(state, alloc, words)?;
-    told.digits(bytes.as_slice());
-    Ok(())
+pub fn digits(state: &State, words: &[&str], told: &mut Told) {
+    let bytes = bytes_of(state, words, told);
+    told.digits(&bytes);
 }
 
 // The letters that bytes are.
@@ -71,10 +72,10 @@ fn tell_letters(told: &mut Told, bytes: &[u8]) {
 }
 
 /// `undigits DIGITS`, and the letters that they spell, or `none`.
-pub fn undigits(alloc: Global, words: &[&str], told: &mut Told) -> Result<(), Wrong> {
-    match hex::decode(alloc, word(words, 0)?) {
+pub fn undigits(words: &[&str], told: &mut Told) {
+    let own = told.word_at(words, 0);
+    match hex::decode(told.alloc, own) {
         Ok(bytes) => tell_letters(told, bytes.as_slice()),
         Err(_) => told.word("none"),
     }
-    Ok(())
 }

@@ -1,6 +1,7 @@
 // What is wrong with an input, as rows spell it.
 use crate::reader::Reader;
 use cbdc_types::InputKind;
+use row_records::Told;
 
 /// The word of a fault.
 pub fn kind_word(kind: InputKind) -> &'static str {
@@ -37,4 +38,10 @@ pub fn kind_of(words: &mut Reader) -> InputKind {
     }
     words.refuse();
     InputKind::Cut
+}
+
+/// Tells `at N KIND`: what is wrong, and where.
+pub fn tell_bad(told: &mut Told, at: u64, kind: InputKind) {
+    told.named("at", at as u128);
+    told.word(kind_word(kind));
 }

@@ -2,15 +2,14 @@
 use crate::answers::{answer_of, totals, verdict_of};
 use crate::page::Page;
 use crate::reader::Reader;
-use crate::told::{Told, check_lines};
 use cbdc_types::{Header, Phase, Status};
 use line_check::{fault_line, verdict_text};
 use line_text::{
     AuditSummary, Summary, status_code, write_audit, write_confirmed, write_fault, write_init,
     write_recovery, write_refused, write_rejected, write_resumed, write_status, write_summary,
 };
-use row_text::{Block, Wrong, rest};
-use std::alloc::Global;
+use row_records::Told;
+use row_text::{Block, rest};
 
 // `FILE PLACE ID LANE NUMBER`
 fn confirmed(page: &mut Page, words: &mut Reader) -> bool {
@@ -136,12 +135,8 @@ fn answer(page: &mut Page, header: &Header, words: &mut Reader) -> bool {
 }
 
 // What a page with so much room takes of a line, and whether it takes all of it.
-fn printed(
-    header: &Header,
-    alloc: Global,
-    words: &[&str],
-    room: usize,
-) -> Result<(Page, bool), Wrong> {
+fn printed(header: &Header, words: &[&str], room: usize, told: &mut Told) -> (Page, bool) {
+    let alloc = told.alloc;
     let mut page = Page::new(alloc, room);
     let mut words = Reader::new(alloc, words);
     let kind = words.word();
@@ -150,73 +145,75 @@ fn printed(
     } else {
         print_line(&mut page, kind, &mut words)
     };
-    words.end()?;
-    Ok((page, took))
+    told.given(words.end());
+    (page, took)
 }
 
 // The room of a page that takes each line.
 const ROOM: usize = 4096;
 
 // A page with so much room takes a front of the text, and says so where it is not all of it.
-fn check_front(
-    header: &Header,
-    alloc: Global,
-    words: &[&str],
-    text: &str,
-    room: usize,
-) -> Result<(), Wrong> {
-    let (page, took) = printed(header, alloc, words, room)?;
+fn check_front(header: &Header, words: &[&str], text: &str, room: usize, told: &mut Told) {
+    let (page, took) = printed(header, words, room, told);
     if took != (room == text.len()) {
-        return Err(Wrong::Line("a page says something else than that it has room, or none"));
+        told.refuse("a page says something else than that it has room, or none");
     }
     if text.as_bytes().get(..room) != Some(page.bytes.as_slice()) {
-        return Err(Wrong::Line("a page with less room has no front of the line"));
+        told.refuse("a page with less room has no front of the line");
     }
-    Ok(())
+}
+
+// Bytes are those of a text; else both are told.
+fn check_lines(wanted: &str, came: &[u8], told: &mut Told) {
+    match std::str::from_utf8(came) {
+        Ok(came) => told.check_same(wanted, came),
+        Err(_) => told.refuse("what came is no text"),
+    }
 }
 
 /// `line KIND WORD..`, with its text; and a page with less room, whatever it is, takes a front of it and says so.
-pub fn line(header: &Header, alloc: Global, words: &[&str], text: &str) -> Result<(), Wrong> {
-    let (page, _) = printed(header, alloc, words, ROOM)?;
-    check_lines(alloc, text, page.bytes.as_slice())?;
-    for room in 0..text.len() {
-        check_front(header, alloc, words, text, room)?;
+pub fn line(header: &Header, words: &[&str], text: &str, told: &mut Told) {
+    let (page, _) = printed(header, words, ROOM, told);
+    check_lines(text, page.bytes.as_slice(), told);
+    for room in 0..text.len().saturating_add(1) {
+        check_front(header, words, text, room, told);
     }
-    check_front(header, alloc, words, text, text.len())
 }
 
-// Nothing where two statuses are the same; else both are told.
-fn check_status(alloc: Global, wanted: u64, came: u8) -> Result<(), Wrong> {
-    let (mut told, mut own) = (Told::new(alloc), Told::new(alloc));
-    told.number(wanted);
-    own.number(came as u64);
-    own.check(told.as_str())
+// Two statuses are the same; else both are told.
+fn check_status(wanted: u64, came: u8, told: &mut Told) {
+    let (mut first, mut other) = (Told::new(told.alloc), Told::new(told.alloc));
+    first.number(wanted);
+    other.number(came as u64);
+    told.check_same(first.as_str(), other.as_str());
 }
 
-// Nothing where the plain program says this text; else both are told.
-fn check_plain(alloc: Global, text: &str, plain: Option<Vec<u8>>) -> Result<(), Wrong> {
+// The plain program says this text; else both are told.
+fn check_plain(text: &str, plain: Option<Vec<u8>>, told: &mut Told) {
     match plain {
-        Some(plain) => check_lines(alloc, text, plain.as_slice()),
-        None => Err(Wrong::Memory),
+        Some(plain) => check_lines(text, plain.as_slice(), told),
+        None => told.no_memory(),
     }
 }
 
 /// `fault NAME ANSWER`, with its text and its status; the plain program says the same. `""` is an empty name, and `_` in a name
 /// a blank.
-pub fn fault(header: &Header, alloc: Global, words: &[&str], block: &Block) -> Result<(), Wrong> {
+pub fn fault(header: &Header, words: &[&str], block: &Block, told: &mut Told) {
+    let alloc = told.alloc;
     let text = block.text.as_str();
-    line(header, alloc, words, text)?;
+    line(header, words, text, told);
     let mut words = Reader::new(alloc, rest(words, 1));
     let name = words.name();
     let answer = answer_of(&mut words, header);
-    check_plain(alloc, text, fault_line(alloc, &answer, name.as_str()))?;
-    check_status(alloc, block.status, status_code(&answer))
+    check_plain(text, fault_line(alloc, &answer, name.as_str()), told);
+    check_status(block.status, status_code(&answer), told);
 }
 
 /// `audited VERDICT`, and its text by the plain program.
-pub fn audited(alloc: Global, words: &[&str], text: &str) -> Result<(), Wrong> {
+pub fn audited(words: &[&str], text: &str, told: &mut Told) {
+    let alloc = told.alloc;
     let mut words = Reader::new(alloc, words);
     let verdict = verdict_of(&mut words);
-    words.end()?;
-    check_plain(alloc, text, verdict_text(alloc, &verdict))
+    told.given(words.end());
+    check_plain(text, verdict_text(alloc, &verdict), told);
 }

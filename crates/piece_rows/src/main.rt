@@ -16,7 +16,6 @@ mod records;
 mod repeats;
 mod state;
 mod subject;
-mod told;
 mod transactions;
 mod verbs;
 mod words;

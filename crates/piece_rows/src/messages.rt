@@ -1,5 +1,4 @@
 // What faults tell a person, by their Display.
-use crate::told::Told;
 use byte_fields::{Fault, ReadError};
 use cbdc_types::{
     BadShape, InputKind, NodeFault, NodeOpenFault, Refusal, Refused, ShapeField, Stamp,
@@ -8,8 +7,12 @@ use client_files::{BadFile, FetchFault, FileFault};
 use line_text::WriteFault;
 use outside::Failed;
 use record_codec::RecordFault;
+<<<<<<< ours
 use requests::WordsFault;
 use row_text::{Wrong, word};
+=======
+use row_records::Told;
+>>>>>>> theirs
 use std::fmt::Display;
 use tx_codec::{BadTx, ReadFault};
 use verifier_port::{BadLine, VerdictFault};
@@ -18,6 +21,7 @@ use verifier_port::{BadLine, VerdictFault};
 fn all<F: Display>(told: &mut Told, faults: &[F]) {
     for fault in faults {
         told.shown(fault);
+        told.line();
     }
 }
 
@@ -171,8 +175,8 @@ fn others(told: &mut Told) {
 }
 
 /// `messages OF`: a line for each fault of a kind.
-pub fn messages(words: &[&str], told: &mut Told) -> Result<(), Wrong> {
-    match word(words, 0)? {
+pub fn messages(words: &[&str], told: &mut Told) {
+    match told.word_at(words, 0) {
         "refusals" => refusals(told),
         "inputs" => inputs(told),
         "calls" => calls(told),
@@ -184,7 +188,6 @@ pub fn messages(words: &[&str], told: &mut Told) -> Result<(), Wrong> {
         "transactions" => transactions(told),
         "verdicts" => verdicts(told),
         "others" => others(told),
-        _ => return Err(Wrong::Line("no faults of that kind")),
+        _ => told.refuse("no faults of that kind"),
     }
-    Ok(())
 }

@@ -1,20 +1,35 @@
 // Records as bytes, both ways.
 use crate::bytes::{behind_others, bytes_of};
 use crate::state::State;
-use crate::told::{Told, check_bytes};
-use cbdc_types::{Header, NodeId, Record};
+use crate::words::tell_shape;
+use cbdc_types::{Header, Record};
 use record_codec::{RecordFault, read_back, read_first, read_record, size_of_record, write_record};
-use row_records::{record, small};
-use row_text::{Wrong, rest, word, words_around};
-use std::alloc::Global;
+use row_records::{Told, record};
+use row_text::{rest, words_around};
+use std::alloc::{AllocError, Global};
+
+// A record written behind other bytes, where there is room for so many.
+fn written(
+    alloc: Global,
+    own: &Record,
+    header: &Header,
+    room: usize,
+) -> Result<Vec<u8>, AllocError> {
+    let mut came = behind_others(alloc, &[])?;
+    came.reserve(room)?;
+    write_record(own, header, &mut came)?;
+    Ok(came)
+}
 
 // A record is written as these bytes behind others, which stay as they are, where there is room for it.
-fn check_written(alloc: Global, own: &Record, header: &Header, wanted: &[u8]) -> Result<(), Wrong> {
-    let all = behind_others(alloc, wanted)?;
-    let mut came = behind_others(alloc, &[])?;
-    came.reserve(wanted.len())?;
-    write_record(own, header, &mut came)?;
-    check_bytes(alloc, all.as_slice(), came.as_slice())
+fn check_written(own: &Record, header: &Header, wanted: &[u8], told: &mut Told) {
+    let alloc = told.alloc;
+    let Some(all) = told.made(behind_others(alloc, wanted)) else {
+        return;
+    };
+    if let Some(came) = told.made(written(alloc, own, header, wanted.len())) {
+        told.check_bytes(&all, &came);
+    }
 }
 
 // Whether what was read is this record.
@@ -26,65 +41,53 @@ fn is_same(read: &Result<Record, RecordFault>, own: &Record) -> bool {
 }
 
 // A record is written as these bytes, is read from them and read back, and its size in the journal is told.
-fn check_record(
-    alloc: Global,
-    own: &Record,
-    header: &Header,
-    wanted: &[u8],
-    told: &mut Told,
-) -> Result<(), Wrong> {
-    check_written(alloc, own, header, wanted)?;
+fn check_record(own: &Record, header: &Header, wanted: &[u8], told: &mut Told) {
+    let alloc = told.alloc;
+    check_written(own, header, wanted, told);
     if !is_same(&read_record(alloc, wanted, header), own) {
-        return Err(Wrong::Line("the bytes are read as another record, or as none"));
+        told.refuse("the bytes are read as another record, or as none");
     }
     if !is_same(&read_back(alloc, own, header), own) {
-        return Err(Wrong::Line("the record is not read back"));
+        told.refuse("the record is not read back");
     }
     told.number(size_of_record(own));
-    Ok(())
 }
 
 /// `record-bytes NODE RECORD.. is PIECE..`, and the size in the journal: these are the bytes of the record, and they are read
 /// as it.
-pub fn record_bytes(
-    state: &State,
-    alloc: Global,
-    words: &[&str],
-    told: &mut Told,
-) -> Result<(), Wrong> {
-    let node = small(word(words, 0)?)?;
-    let header = state.header(NodeId(node))?;
+pub fn record_bytes(state: &State, words: &[&str], told: &mut Told) {
+    let alloc = told.alloc;
+    let node = told.small_at(words, 0);
+    let Some(header) = told.given(state.known.header(node)) else {
+        return;
+    };
     let (spelled, pieces) = words_around(rest(words, 1), "is");
-    let wanted = bytes_of(state, alloc, pieces)?;
-    let own = record(&state.known, alloc, node, spelled)?;
-    check_record(alloc, &own, &header, wanted.as_slice(), told)
+    let wanted = bytes_of(state, pieces, told);
+    if let Some(own) = told.given(record(&state.known, alloc, node, spelled)) {
+        check_record(&own, &header, &wanted, told);
+    }
 }
 
 /// `reads-record NODE PIECE..`, and `yes` or `no`: whether the bytes are those of a record of that node.
-pub fn reads_record(
-    state: &State,
-    alloc: Global,
-    words: &[&str],
-    told: &mut Told,
-) -> Result<(), Wrong> {
-    let header = state.header(NodeId(small(word(words, 0)?)?))?;
-    let body = bytes_of(state, alloc, rest(words, 1))?;
-    match read_record(alloc, body.as_slice(), &header) {
+pub fn reads_record(state: &State, words: &[&str], told: &mut Told) {
+    let alloc = told.alloc;
+    let node = told.small_at(words, 0);
+    let body = bytes_of(state, rest(words, 1), told);
+    let Some(header) = told.given(state.known.header(node)) else {
+        return;
+    };
+    match read_record(alloc, &body, &header) {
         Ok(_) => told.word("yes"),
         Err(RecordFault::NotARecord) => told.word("no"),
         Err(RecordFault::Memory) => told.word("memory"),
     }
-    Ok(())
 }
 
 // A header: the node, the shape and the id of the mint.
 fn tell_header(told: &mut Told, header: &Header) {
     let shape = &header.shape;
     told.number(header.node.0 as u64);
-    told.number(shape.shards() as u64);
-    told.number(shape.coordinators() as u64);
-    told.number(shape.lanes() as u64);
-    told.number(shape.batch() as u64);
+    tell_shape(told, shape);
     told.hash(&header.genesis);
 }
 
@@ -105,17 +108,11 @@ fn tell_first(told: &mut Told, first: &Record) {
 }
 
 /// `reads-first PIECE..`, and the record that a journal may begin with, or `none`.
-pub fn reads_first(
-    state: &State,
-    alloc: Global,
-    words: &[&str],
-    told: &mut Told,
-) -> Result<(), Wrong> {
-    let body = bytes_of(state, alloc, words)?;
-    match read_first(alloc, body.as_slice()) {
+pub fn reads_first(state: &State, words: &[&str], told: &mut Told) {
+    let body = bytes_of(state, words, told);
+    match read_first(told.alloc, &body) {
         Ok(first) => tell_first(told, &first),
         Err(RecordFault::NotARecord) => told.word("none"),
         Err(RecordFault::Memory) => told.word("memory"),
     }
-    Ok(())
 }

@@ -1,6 +1,5 @@
 // What a row has made so far: bytes, and what records speak of.
-use cbdc_types::{Header, NodeId};
-use row_records::Known;
+use row_records::{Known, Told};
 use row_text::{Names, Wrong};
 use std::alloc::Global;
 
@@ -41,12 +40,14 @@ impl State {
         }
     }
 
-    /// The header of a node's journal.
-    pub fn header(&self, node: NodeId) -> Result<Header, Wrong> {
-        Ok(Header {
-            node,
-            shape: self.known.shape()?,
-            genesis: self.known.genesis(),
-        })
+    /// The bytes that the word at a place names; none where there are no such bytes.
+    pub fn bytes_at(&self, words: &[&str], at: usize, told: &mut Told) -> &[u8] {
+        match self.bytes(told.word_at(words, at)) {
+            Ok(bytes) => bytes,
+            Err(wrong) => {
+                told.fail(wrong);
+                &[]
+            }
+        }
     }
 }

@@ -9,126 +9,112 @@ use crate::messages::messages;
 use crate::records::{reads_first, reads_record, record_bytes};
 use crate::repeats::repeated;
 use crate::state::State;
-use crate::told::Told;
 use crate::transactions::{reads_tx, tx_bytes};
-use crate::verbs::{Verb, is_for, verb_of};
+use crate::verbs::{Verb, is_for, takes_text, verb_of};
 use crate::words::{shows, shows_like, words_ask};
-use cbdc_types::NodeId;
-use row_records::{Mint, hash, name_form, name_hash, name_tx, shape};
+use row_records::{Mint, Told, name_form, name_hash, name_tx, shape};
 use row_text::{Block, Names, Subject, Wrong, rest, word};
 use std::alloc::Global;
 use std::sync::Wait;
 use std::thread::Threads;
 
 // `hash NAME HASH`
-fn named_hash(state: &mut State, alloc: Global, words: &[&str]) -> Result<(), Wrong> {
-    let own = hash(alloc, word(words, 1)?)?;
-    name_hash(&mut state.known, alloc, word(words, 0)?, &own)
+fn named_hash(state: &mut State, words: &[&str], told: &mut Told) {
+    let alloc = told.alloc;
+    let name = told.word_at(words, 0);
+    let own = told.hash_at(words, 1);
+    told.given(name_hash(&mut state.known, alloc, name, &own));
 }
 
 // `genesis HASH`: the id of a mint of no coins.
-fn genesis(state: &mut State, alloc: Global, words: &[&str]) -> Result<(), Wrong> {
-    let id = hash(alloc, word(words, 0)?)?;
+fn genesis(state: &mut State, words: &[&str], told: &mut Told) {
+    let alloc = told.alloc;
+    let id = told.hash_at(words, 0);
     let coins = Vec::new(alloc);
-    state.known.mints.put(alloc, "", Mint { coins, id })?;
-    Ok(())
+    told.made(state.known.mints.put(alloc, "", Mint { coins, id }));
 }
 
-// Does a step; the words begin with the verb.
-fn do_step(
+// Does a step that makes something; the words begin with the verb.
+fn tell(state: &mut State, verb: Verb, words: &[&str], block: &Block, told: &mut Told) {
+    let alloc = told.alloc;
+    let own = rest(words, 1);
+    match verb {
+        Verb::Hash => named_hash(state, own, told),
+        Verb::Shape => {
+            told.given(shape(&mut state.known, alloc, own));
+        }
+        Verb::Genesis => genesis(state, own, told),
+        Verb::Tx => {
+            told.given(name_tx(&mut state.known, alloc, own));
+        }
+        Verb::Form => {
+            told.given(name_form(&mut state.known, alloc, own));
+        }
+        Verb::Bytes => bytes(state, own, told),
+        Verb::Text => text(state, own, block.text.as_str(), told),
+        Verb::Fault => {
+            if let Some(header) = told.given(state.known.header(0)) {
+                fault(&header, words, block, told);
+            }
+        }
+        other => look(state, other, own, block.text.as_str(), told),
+    }
+}
+
+// Does a step that looks at what was made.
+fn look(state: &State, verb: Verb, words: &[&str], text: &str, told: &mut Told) {
+    match verb {
+        Verb::Shows => shows(words, text, told),
+        Verb::ShowsLike => shows_like(words, told),
+        Verb::Number => number_bytes(state, words, told),
+        Verb::Fields => fields(state, words, told),
+        Verb::TxBytes => tx_bytes(state, words, told),
+        Verb::Line => {
+            if let Some(header) = told.given(state.known.header(0)) {
+                line(&header, words, text, told);
+            }
+        }
+        Verb::Audited => audited(words, text, told),
+        Verb::MintFile => mint_file(state, words, told),
+        Verb::ClientFile => client_file(state, words, told),
+        Verb::VerdictFile => verdict_file(state, words, told),
+        Verb::Verdict => verdict(state, words, told),
+        Verb::Fetch => fetched(state, words, told),
+        Verb::Small => small_bytes(state, words, told),
+        Verb::ReadsTx => reads_tx(state, words, told),
+        Verb::RecordBytes => record_bytes(state, words, told),
+        Verb::ReadsRecord => reads_record(state, words, told),
+        Verb::ReadsFirst => reads_first(state, words, told),
+        Verb::Words => words_ask(words, told),
+        Verb::Hashes => hashes(state, words, told),
+        Verb::CoinHash => coin_hash(words, told),
+        Verb::Sha => sha(state, words, told),
+        Verb::Digits => digits(state, words, told),
+        Verb::Undigits => undigits(words, told),
+        Verb::Shard => shard(words, told),
+        Verb::Split => split_told(state, words, told),
+        Verb::Batcher => batches(state, words, told),
+        Verb::Workload => workload(words, told),
+        Verb::Sentinel => refused(state, words, told),
+        Verb::Messages => messages(words, told),
+        _ => told.refuse("no such step"),
+    }
+}
+
+// Does a step, and compares what comes of it with the text behind it, where the step does not take that in.
+fn answer(
     state: &mut State,
     alloc: Global,
     verb: Verb,
     words: &[&str],
     block: &Block,
 ) -> Result<(), Wrong> {
-    let told = rest(words, 1);
-    match verb {
-        Verb::Hash => named_hash(state, alloc, told),
-        Verb::Shape => shape(&mut state.known, alloc, told),
-        Verb::Genesis => genesis(state, alloc, told),
-        Verb::Tx => name_tx(&mut state.known, alloc, told),
-        Verb::Form => name_form(&mut state.known, alloc, told),
-        Verb::Bytes => bytes(state, alloc, told),
-        Verb::Text => text(state, alloc, told, block.text.as_str()),
-        Verb::Fault => fault(&state.header(NodeId(0))?, alloc, words, block),
-        other => look(state, alloc, other, told, block.text.as_str()),
-    }
-}
-
-// Does a step that looks at what was made.
-fn look(state: &State, alloc: Global, verb: Verb, words: &[&str], text: &str) -> Result<(), Wrong> {
-    match verb {
-        Verb::Shows => shows(alloc, words, text),
-        Verb::ShowsLike => shows_like(alloc, words),
-        Verb::Number => number_bytes(state, alloc, words),
-        Verb::Fields => fields(state, alloc, words),
-        Verb::TxBytes => tx_bytes(state, alloc, words),
-        Verb::Line => line(&state.header(NodeId(0))?, alloc, words, text),
-        Verb::Audited => audited(alloc, words, text),
-        other => answered(state, alloc, other, words, text),
-    }
-}
-
-// Compares what a step is answered with the text behind it.
-fn answered(
-    state: &State,
-    alloc: Global,
-    verb: Verb,
-    words: &[&str],
-    text: &str,
-) -> Result<(), Wrong> {
     let mut told = Told::new(alloc);
-    of_files(state, alloc, verb, words, &mut told)?;
-    told.end();
-    told.check(text)
-}
-
-// What is told of files, fields, transactions and records.
-fn of_files(
-    state: &State,
-    alloc: Global,
-    verb: Verb,
-    words: &[&str],
-    told: &mut Told,
-) -> Result<(), Wrong> {
-    match verb {
-        Verb::MintFile => mint_file(state, alloc, words, told),
-        Verb::ClientFile => client_file(state, alloc, words, told),
-        Verb::VerdictFile => verdict_file(state, alloc, words, told),
-        Verb::Verdict => verdict(state, alloc, words, told),
-        Verb::Fetch => fetched(state, alloc, words, told),
-        Verb::Small => small_bytes(state, alloc, words, told),
-        Verb::ReadsTx => reads_tx(state, alloc, words, told),
-        Verb::RecordBytes => record_bytes(state, alloc, words, told),
-        Verb::ReadsRecord => reads_record(state, alloc, words, told),
-        Verb::ReadsFirst => reads_first(state, alloc, words, told),
-        other => of_others(state, alloc, other, words, told),
-    }
-}
-
-// What is told of words, hashes, batches and a sentinel.
-fn of_others(
-    state: &State,
-    alloc: Global,
-    verb: Verb,
-    words: &[&str],
-    told: &mut Told,
-) -> Result<(), Wrong> {
-    match verb {
-        Verb::Words => words_ask(alloc, words, told),
-        Verb::Hashes => hashes(state, alloc, words, told),
-        Verb::CoinHash => coin_hash(alloc, words, told),
-        Verb::Sha => sha(state, alloc, words, told),
-        Verb::Digits => digits(state, alloc, words, told),
-        Verb::Undigits => undigits(alloc, words, told),
-        Verb::Shard => shard(alloc, words, told),
-        Verb::Split => split_told(state, alloc, words, told),
-        Verb::Batcher => batches(state, alloc, words, told),
-        Verb::Workload => workload(alloc, words, told),
-        Verb::Sentinel => refused(state, alloc, words, told),
-        Verb::Messages => messages(words, told),
-        _ => Err(Wrong::Line("no such step")),
+    tell(state, verb, words, block, &mut told);
+    if takes_text(verb) {
+        told.end()
+    } else {
+        told.check(block.text.as_str())
     }
 }
 
@@ -158,7 +144,7 @@ impl Subject for State {
     ) -> Result<(), Wrong> {
         let words = repeated(alloc, words)?;
         match verb_of(word(&words, 0)?) {
-            Some(verb) if is_for(verb, block) => do_step(self, alloc, verb, &words, block),
+            Some(verb) if is_for(verb, block) => answer(self, alloc, verb, &words, block),
             Some(_) => Err(Wrong::Line("what stands behind it is not for this step")),
             None => Err(Wrong::Line("no such step")),
         }

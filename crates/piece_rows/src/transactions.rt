@@ -1,18 +1,18 @@
 // Transactions as bytes, both ways.
 use crate::bytes::{behind_others, bytes_of};
+use crate::kinds::tell_bad;
 use crate::state::State;
-use crate::told::{Told, check_bytes};
 use cbdc_types::FullTx;
-use row_text::{Wrong, count, rest, word};
-use std::alloc::Global;
+use row_records::Told;
+use row_text::rest;
+use std::alloc::{AllocError, Global};
 use tx_codec::{BadTx, ReadFault, read_back, read_tx, write_tx};
 
-// A transaction is written as these bytes behind others, which stay as they are.
-fn check_written(alloc: Global, tx: &FullTx, wanted: &[u8]) -> Result<(), Wrong> {
-    let all = behind_others(alloc, wanted)?;
+// A transaction written behind other bytes.
+fn written(alloc: Global, tx: &FullTx) -> Result<Vec<u8>, AllocError> {
     let mut came = behind_others(alloc, &[])?;
     write_tx(alloc, tx, &mut came)?;
-    check_bytes(alloc, all.as_slice(), came.as_slice())
+    Ok(came)
 }
 
 // Whether a transaction is read back, and ends there, whatever stands behind it.
@@ -23,44 +23,45 @@ fn is_read_back(alloc: Global, tx: &FullTx, len: usize) -> bool {
     }
 }
 
-// Both.
-fn check_both_ways(alloc: Global, tx: &FullTx, wanted: &[u8]) -> Result<(), Wrong> {
-    check_written(alloc, tx, wanted)?;
-    if is_read_back(alloc, tx, wanted.len()) {
-        Ok(())
-    } else {
-        Err(Wrong::Line("the bytes are read as another transaction"))
+// A transaction is written as these bytes behind others, which stay as they are, and is read back.
+fn check_both_ways(tx: &FullTx, wanted: &[u8], told: &mut Told) {
+    let alloc = told.alloc;
+    let Some(all) = told.made(behind_others(alloc, wanted)) else {
+        return;
+    };
+    if let Some(came) = told.made(written(alloc, tx)) {
+        told.check_bytes(&all, &came);
+    }
+    if !is_read_back(alloc, tx, wanted.len()) {
+        told.refuse("the bytes are read as another transaction");
     }
 }
 
 /// `tx-bytes TX PIECE..`: these are the bytes of the transaction, and they are read as it, whatever stands behind them.
-pub fn tx_bytes(state: &State, alloc: Global, words: &[&str]) -> Result<(), Wrong> {
-    let tx = state.known.full(word(words, 0)?)?;
-    let wanted = bytes_of(state, alloc, rest(words, 1))?;
-    check_both_ways(alloc, tx, wanted.as_slice())
+pub fn tx_bytes(state: &State, words: &[&str], told: &mut Told) {
+    let wanted = bytes_of(state, rest(words, 1), told);
+    match state.known.full(told.word_at(words, 0)) {
+        Ok(tx) => check_both_ways(tx, &wanted, told),
+        Err(wrong) => told.fail(wrong),
+    }
 }
 
 /// `reads-tx AT PIECE..`: what is read from that place on, `ends N` or `at N KIND`. What is read is written again as it stood there,
 /// and read back.
-pub fn reads_tx(
-    state: &State,
-    alloc: Global,
-    words: &[&str],
-    told: &mut Told,
-) -> Result<(), Wrong> {
-    let at = count(word(words, 0)?)?;
-    let bytes = bytes_of(state, alloc, rest(words, 1))?;
+pub fn reads_tx(state: &State, words: &[&str], told: &mut Told) {
+    let at = told.small_at(words, 0) as usize;
+    let bytes = bytes_of(state, rest(words, 1), told);
     if bytes.len() < at {
-        return Err(Wrong::Line("there are fewer bytes"));
+        told.refuse("there are fewer bytes");
+        return;
     }
-    match read_tx(alloc, bytes.as_slice(), at) {
+    match read_tx(told.alloc, bytes.as_slice(), at) {
         Ok((tx, end)) => {
-            check_both_ways(alloc, &tx, bytes.as_slice().get(at..end).unwrap_or(&[]))?;
-            told.word("ends");
-            told.number(end as u64);
+            let own = bytes.as_slice().get(at..end).unwrap_or(&[]);
+            check_both_ways(&tx, own, told);
+            told.named("ends", end as u128);
         }
-        Err(ReadFault::Bad(BadTx { at, kind })) => told.bad(at as u64, kind),
+        Err(ReadFault::Bad(BadTx { at, kind })) => tell_bad(told, at as u64, kind),
         Err(ReadFault::Memory) => told.word("memory"),
     }
-    Ok(())
 }

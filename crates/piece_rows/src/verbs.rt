@@ -102,6 +102,14 @@ fn has_text(verb: Verb) -> bool {
     }
 }
 
+/// Whether a step takes the text behind it in, or compares it by itself; else that is its answer.
+pub fn takes_text(verb: Verb) -> bool {
+    match verb {
+        Verb::Text | Verb::Shows | Verb::Line | Verb::Audited | Verb::Fault => true,
+        _ => false,
+    }
+}
+
 /// Whether what stands behind a step is for it: only a fault has a status, and many steps have no text.
 pub fn is_for(verb: Verb, block: &Block) -> bool {
     if block.is_any || block.is_any_status {

@@ -1,12 +1,18 @@
 // What words ask for.
-use crate::told::Told;
 use cbdc_types::{Hash, Shape};
+<<<<<<< ours
 use command_line::parse;
 use requests::{FileWord, Request, WordsFault};
 use row_text::{Wrong, words_around};
+=======
+use command_line::{FileWord, Request, WordsFault, parse};
+use row_records::Told;
+use row_text::words_around;
+>>>>>>> theirs
 use std::alloc::{AllocError, Global};
 
-fn tell_shape(told: &mut Told, shape: &Shape) {
+/// Tells the four numbers of a shape.
+pub fn tell_shape(told: &mut Told, shape: &Shape) {
     told.number(shape.shards() as u64);
     told.number(shape.coordinators() as u64);
     told.number(shape.lanes() as u64);
@@ -57,7 +63,7 @@ fn tell_request(told: &mut Told, request: &Request) {
         Request::Status { hashes } => tell_status(told, hashes),
         Request::Audit { mint, clients } => tell_files(told, "audit", mint, clients),
         Request::Gen { shape, seed, count } => tell_gen(told, shape, *seed, *count),
-        Request::Show(shown) => told.text(shown.as_str()),
+        Request::Show(shown) => told.put(shown.as_str()),
     }
 }
 
@@ -72,14 +78,23 @@ fn owned(alloc: Global, words: &[&str]) -> Result<Vec<String>, AllocError> {
 }
 
 /// `words WORD..`, and what they ask for, or the text that they show.
-pub fn words_ask(alloc: Global, words: &[&str], told: &mut Told) -> Result<(), Wrong> {
-    let own = owned(alloc, words)?;
+pub fn words_ask(words: &[&str], told: &mut Told) {
+    let alloc = told.alloc;
+    let Some(own) = told.made(owned(alloc, words)) else {
+        return;
+    };
     match parse(alloc, own.as_slice()) {
         Ok(request) => tell_request(told, &request),
         Err(WordsFault::Bad) => told.word("bad"),
         Err(WordsFault::Memory) => told.word("memory"),
     }
-    Ok(())
+}
+
+// What words ask for, as a text.
+fn shown_by(words: &[&str], told: &mut Told) -> Option<String> {
+    let mut own = Told::new(told.alloc);
+    words_ask(words, &mut own);
+    told.given(own.text())
 }
 
 fn has_line(text: &str, line: &str) -> bool {
@@ -92,22 +107,23 @@ fn has_line(text: &str, line: &str) -> bool {
 }
 
 /// `shows WORD..`, and lines that the text has which they show.
-pub fn shows(alloc: Global, words: &[&str], text: &str) -> Result<(), Wrong> {
-    let mut told = Told::new(alloc);
-    words_ask(alloc, words, &mut told)?;
-    for line in text.lines() {
-        if !has_line(told.as_str(), line) {
-            return told.check(line);
+pub fn shows(words: &[&str], text: &str, told: &mut Told) {
+    if let Some(came) = shown_by(words, told) {
+        for line in text.lines() {
+            if !has_line(came.as_str(), line) {
+                told.check_same(line, came.as_str());
+            }
         }
     }
-    Ok(())
 }
 
 /// `shows-like WORD.. / WORD..`: both ask for the same.
-pub fn shows_like(alloc: Global, words: &[&str]) -> Result<(), Wrong> {
+pub fn shows_like(words: &[&str], told: &mut Told) {
     let (first, second) = words_around(words, "/");
-    let (mut told, mut own) = (Told::new(alloc), Told::new(alloc));
-    words_ask(alloc, first, &mut told)?;
-    words_ask(alloc, second, &mut own)?;
-    own.check(told.as_str())
+    let Some(wanted) = shown_by(first, told) else {
+        return;
+    };
+    if let Some(came) = shown_by(second, told) {
+        told.check_same(wanted.as_str(), came.as_str());
+    }
 }

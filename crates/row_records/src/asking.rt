@@ -1,7 +1,7 @@
 // Calls at a shard, and what is answered, as rows spell them.
 use crate::known::Known;
 use crate::records::part;
-use crate::words::{batch_of, decisions, put_hash_word};
+use crate::words::{at_most, batch_of, decisions, put_hash_word};
 use cbdc_types::{BatchId, FinishCall, ForgetCall, Hash, LockCall, Outcome, Refused, Reply, Stamp};
 use row_text::{Wrong, number, put_count, put_word, rest, word};
 use std::alloc::{AllocError, Global};
@@ -45,6 +45,7 @@ pub fn finish_call(alloc: Global, words: &[&str]) -> Result<FinishCall, Wrong> {
 
 /// The call to forget `LANE NUMBER cause STAMP`.
 pub fn forget_call(words: &[&str]) -> Result<ForgetCall, Wrong> {
+    at_most(words, 4)?;
     Ok(ForgetCall {
         batch: batch_of_call(words)?,
         cause: cause_at(words, 2)?,
