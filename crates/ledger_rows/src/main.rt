@@ -9,19 +9,23 @@ mod ordering;
 mod plain;
 mod play;
 mod racks;
-mod rows;
-mod script;
 mod state;
 mod subject;
 mod verbs;
 mod words;
 
-use rows::run_files;
+use row_text::{Block, run_files};
+use state::State;
 use std::io;
 use std::process::ExitCode;
+use subject::step;
 
 fn main(rt: HostRuntime) -> io::Result<ExitCode> {
-    if run_files(&rt)? {
+    let alloc = rt.alloc();
+    let does = |state: &mut State, text: &str, block: &Block| {
+        step(&rt, alloc, state, text, block);
+    };
+    if run_files::<HostRuntime, State, _>(&rt, &does)? {
         Ok(ExitCode::from(0))
     } else {
         Ok(ExitCode::from(1))

@@ -28,6 +28,7 @@ pub struct State {
     pub room: usize,
     pub order: Vec<Point>,
     pub turns: u32,
+    pub wrong: Option<Wrong>,
     marks: [usize; 4],
 }
 
@@ -44,6 +45,7 @@ impl State {
             room: ROOM,
             order: Vec::new(alloc),
             turns: TURNS,
+            wrong: None,
             marks: [0; 4],
         }
     }

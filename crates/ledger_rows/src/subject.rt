@@ -8,7 +8,7 @@ use crate::racks::{change_disk, crash, empty_rack, keep, load, take_back};
 use crate::state::{ROOM, State};
 use crate::verbs::{Verb, is_for, verb_of};
 use crate::words::count_at;
-use row_text::{Block, Wrong, rest};
+use row_text::{Block, Names, Subject, Wrong, rest};
 use std::alloc::Global;
 use std::sync::Wait;
 use std::thread::Threads;
@@ -78,15 +78,38 @@ fn do_step(
     }
 }
 
-/// Does a step, with what stands behind it.
-pub fn step<W: Wait + Threads + Sync>(
+impl Subject for State {
+    fn new(alloc: Global) -> State {
+        State::empty(alloc)
+    }
+
+    fn hashes(&self) -> &Names<String> {
+        &self.hashes
+    }
+
+    fn mark(&mut self) {
+        self.keep_names();
+    }
+
+    fn begin(&mut self) {
+        self.forget();
+    }
+
+    fn take_wrong(&mut self) -> Option<Wrong> {
+        self.wrong.take()
+    }
+}
+
+// Does a step, with what stands behind it.
+fn step_of<W: Wait + Threads + Sync>(
     rt: &W,
-    state: &mut State,
     alloc: Global,
-    words: &[&str],
+    state: &mut State,
+    text: &str,
     block: &Block,
 ) -> Result<(), Wrong> {
-    let (verb, behind) = (verb_of(words)?, rest(words, 1));
+    let words = text.split_whitespace().collect::<Vec<&str>>(alloc)?;
+    let (verb, behind) = (verb_of(&words)?, rest(&words, 1));
     if !is_for(verb, block) {
         return Err(Wrong::Line("what stands behind it is not for this step"));
     }
@@ -95,4 +118,15 @@ pub fn step<W: Wait + Threads + Sync>(
         Verb::Plain => run_plain(rt, state, alloc, behind, block),
         other => do_step(state, alloc, other, behind, block.text.as_str()),
     }
+}
+
+/// Does a step, with what stands behind it; where it does not hold, the state keeps why.
+pub fn step<W: Wait + Threads + Sync>(
+    rt: &W,
+    alloc: Global,
+    state: &mut State,
+    text: &str,
+    block: &Block,
+) {
+    state.wrong = step_of(rt, alloc, state, text, block).err();
 }

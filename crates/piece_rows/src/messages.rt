@@ -7,12 +7,8 @@ use client_files::{BadFile, FetchFault, FileFault};
 use line_text::WriteFault;
 use outside::Failed;
 use record_codec::RecordFault;
-<<<<<<< ours
 use requests::WordsFault;
-use row_text::{Wrong, word};
-=======
 use row_records::Told;
->>>>>>> theirs
 use std::fmt::Display;
 use tx_codec::{BadTx, ReadFault};
 use verifier_port::{BadLine, VerdictFault};

@@ -1,14 +1,9 @@
 // What words ask for.
 use cbdc_types::{Hash, Shape};
-<<<<<<< ours
 use command_line::parse;
 use requests::{FileWord, Request, WordsFault};
-use row_text::{Wrong, words_around};
-=======
-use command_line::{FileWord, Request, WordsFault, parse};
 use row_records::Told;
 use row_text::words_around;
->>>>>>> theirs
 use std::alloc::{AllocError, Global};
 
 /// Tells the four numbers of a shape.

@@ -4,8 +4,6 @@ use crate::script::{Block, block_behind, is_of_block, spelled};
 use crate::wrong::{Wrong, tell};
 use std::alloc::Global;
 use std::rt::{Env, Files};
-use std::sync::Wait;
-use std::thread::Threads;
 use std::{env, fs, io};
 
 /// What the steps of rows do.
@@ -22,32 +20,28 @@ pub trait Subject: Sized {
     /// Begins a row: what was made behind the mark is forgotten.
     fn begin(&mut self);
 
-    /// Does a step, with what stands behind it.
-    fn step<W: Wait + Threads + Sync>(
-        &mut self,
-        rt: &W,
-        alloc: Global,
-        words: &[&str],
-        block: &Block,
-    ) -> Result<(), Wrong>;
+    /// What was wrong with the last step, if it did not hold; nothing from then on.
+    fn take_wrong(&mut self) -> Option<Wrong>;
 }
 
 // Does the step of a line, with what stands behind it.
-fn line<W: Wait + Threads + Sync, S: Subject>(
-    rt: &W,
+fn line<S: Subject, F: Fn(&mut S, &str, &Block)>(
+    step: &F,
     subject: &mut S,
     alloc: Global,
     text: &str,
     behind: &[&str],
     case: &[String],
-) -> Result<(), Wrong> {
+) -> Result<(), Wrong>
+    requires able { (s t b : _) → F.pre step.now s t b }
+{
     let block = block_behind(alloc, behind, subject.hashes(), case)?;
     let text = spelled(alloc, text, subject.hashes(), case)?;
-    let words = text
-        .as_str()
-        .split_whitespace()
-        .collect::<Vec<&str>>(alloc)?;
-    subject.step(rt, alloc, &words, &block)
+    step(subject, text.as_str(), &block);
+    match subject.take_wrong() {
+        Some(wrong) => Err(wrong),
+        None => Ok(()),
+    }
 }
 
 // Whether a line is no step.
@@ -74,22 +68,25 @@ fn end_of(wrong: &Wrong) -> End {
 
 // Does the steps of lines, of which the first has a number. Where one does not hold, it is told (unless it should differ and does), and the
 // others are left out.
-fn steps<W: Wait + Threads + Print + Sync, S: Subject>(
+fn steps<W: Print, S: Subject, F: Fn(&mut S, &str, &Block)>(
     rt: &W,
+    step: &F,
     subject: &mut S,
     alloc: Global,
     lines: &[&str],
     first: usize,
     case: &[String],
     should_differ: bool,
-) -> io::Result<End> {
+) -> io::Result<End>
+    requires able { (s t b : _) → F.pre step.now s t b }
+{
     for at in 0..lines.len() {
         let text = lines[at];
         if is_no_step(text) {
             continue;
         }
         let behind = &lines[at + 1..];
-        if let Err(wrong) = line(rt, subject, alloc, text, behind, case) {
+        if let Err(wrong) = line(step, subject, alloc, text, behind, case) {
             let end = end_of(&wrong);
             if !should_differ || end != End::Differed {
                 let number = first.saturating_add(at);
@@ -202,20 +199,23 @@ impl Counts {
 }
 
 // Does a row in each of its cases; whether each came to the end that is wanted.
-fn all_cases<W: Wait + Threads + Print + Sync, S: Subject>(
+fn all_cases<W: Print, S: Subject, F: Fn(&mut S, &str, &Block)>(
     rt: &W,
+    step: &F,
     subject: &mut S,
     alloc: Global,
     name: &str,
     lines: &[&str],
     first: usize,
     wanted: End,
-) -> io::Result<bool> {
+) -> io::Result<bool>
+    requires able { (s t b : _) → F.pre step.now s t b }
+{
     let cases = cases_of(alloc, lines)?;
     let should_differ = wanted == End::Differed;
     for case in &cases {
         subject.begin();
-        if steps(rt, subject, alloc, lines, first, case, should_differ)? != wanted {
+        if steps(rt, step, subject, alloc, lines, first, case, should_differ)? != wanted {
             println!(rt; "NOT {name} {case:?}")?;
             return Ok(false);
         }
@@ -225,13 +225,16 @@ fn all_cases<W: Wait + Threads + Print + Sync, S: Subject>(
 }
 
 // Does a row, in each of its cases. One that begins with `differs` holds where in each case a step comes to something else than it says.
-fn row<W: Wait + Threads + Print + Sync, S: Subject>(
+fn row<W: Print, S: Subject, F: Fn(&mut S, &str, &Block)>(
     rt: &W,
+    step: &F,
     subject: &mut S,
     alloc: Global,
     lines: &[&str],
     first: usize,
-) -> io::Result<Came> {
+) -> io::Result<Came>
+    requires able { (s t b : _) → F.pre step.now s t b }
+{
     let Some((name, behind)) = lines.split_first() else {
         return Ok(Came::Failed);
     };
@@ -242,7 +245,7 @@ fn row<W: Wait + Threads + Print + Sync, S: Subject>(
     } else {
         End::Held
     };
-    if !all_cases(rt, subject, alloc, name, behind, first, wanted)? {
+    if !all_cases(rt, step, subject, alloc, name, behind, first, wanted)? {
         return Ok(Came::Failed);
     }
     Ok(if should_differ {
@@ -270,14 +273,17 @@ fn next_row(lines: &[&str], from: usize) -> usize {
 }
 
 // Does what stands before the first row of a file; whether it held.
-fn setup<W: Wait + Threads + Print + Sync, S: Subject>(
+fn setup<W: Print, S: Subject, F: Fn(&mut S, &str, &Block)>(
     rt: &W,
+    step: &F,
     subject: &mut S,
     alloc: Global,
     lines: &[&str],
-) -> io::Result<bool> {
+) -> io::Result<bool>
+    requires able { (s t b : _) → F.pre step.now s t b }
+{
     let none = Vec::new(alloc);
-    if steps(rt, subject, alloc, lines, 1, &none, false)? != End::Held {
+    if steps(rt, step, subject, alloc, lines, 1, &none, false)? != End::Held {
         println!(rt; "NOT what stands before the first row")?;
         return Ok(false);
     }
@@ -286,16 +292,19 @@ fn setup<W: Wait + Threads + Print + Sync, S: Subject>(
 }
 
 // Does the rows of a file.
-fn rows<W: Wait + Threads + Print + Sync, S: Subject>(
+fn rows<W: Print, S: Subject, F: Fn(&mut S, &str, &Block)>(
     rt: &W,
+    step: &F,
     subject: &mut S,
     alloc: Global,
     text: &str,
-) -> io::Result<Counts> {
+) -> io::Result<Counts>
+    requires able { (s t b : _) → F.pre step.now s t b }
+{
     let lines = text.lines().collect::<Vec<&str>>(alloc)?;
     let mut counts = Counts::none();
     let mut at = next_row(&lines, 0);
-    if !setup(rt, subject, alloc, lines.get(..at).unwrap_or(&[]))? {
+    if !setup(rt, step, subject, alloc, lines.get(..at).unwrap_or(&[]))? {
         counts.add(Came::Failed);
         return Ok(counts);
     }
@@ -305,7 +314,7 @@ fn rows<W: Wait + Threads + Print + Sync, S: Subject>(
         }
         let end = next_row(&lines, at.saturating_add(1));
         let own = lines.get(at..end).unwrap_or(&[]);
-        counts.add(row(rt, subject, alloc, own, at.saturating_add(1))?);
+        counts.add(row(rt, step, subject, alloc, own, at.saturating_add(1))?);
         at = end;
     }
     Ok(counts)
@@ -313,16 +322,20 @@ fn rows<W: Wait + Threads + Print + Sync, S: Subject>(
 
 /// Does the rows of the files that the program's words name, each file with a new subject, and tells what came of them, how many held, how
 /// many differed as they should, and how many did neither. The answer is whether there is none of the last.
-pub fn run_files<R: AllocGlobal + Env + Files + Print + Threads + Wait + Sync, S: Subject + Drop>(
-    rt: &R,
-) -> io::Result<bool> {
+pub fn run_files<
+    R: AllocGlobal + Env + Files + Print,
+    S: Subject + Drop,
+    F: Fn(&mut S, &str, &Block),
+>(rt: &R, step: &F) -> io::Result<bool>
+    requires able { (s t b : _) → F.pre step.now s t b }
+{
     let alloc = rt.alloc();
     let mut counts = Counts::none();
     for name in env::args(rt)?.skip(1) {
         println!(rt; "== {name}")?;
         let text = fs::read_to_string(rt, name.as_str())?;
         let mut subject = S::new(alloc);
-        counts.add_all(rows(rt, &mut subject, alloc, text.as_str())?);
+        counts.add_all(rows(rt, step, &mut subject, alloc, text.as_str())?);
     }
     let Counts {
         held,
