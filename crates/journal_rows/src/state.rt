@@ -10,6 +10,7 @@ use world_core::World;
 /// the newest record first, and a world. What stands last of a name holds.
 #[derive(Drop)]
 pub struct State {
+    pub wrong: Option<Wrong>,
     pub known: Known,
     pub files: Names<String>,
     pub ledgers: Names<Vec<Row>>,
@@ -20,6 +21,7 @@ pub struct State {
 impl State {
     pub fn empty(alloc: Global) -> State {
         State {
+            wrong: None,
             known: Known::empty(alloc),
             files: Names::new(alloc),
             ledgers: Names::new(alloc),

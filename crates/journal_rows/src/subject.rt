@@ -14,8 +14,6 @@ use crate::worlds::{
 use row_records::{Told, mint, name_form, name_tx, shape};
 use row_text::{Block, Names, Subject, Wrong, rest, word};
 use std::alloc::Global;
-use std::sync::Wait;
-use std::thread::Threads;
 use world_core::World;
 
 // Does a step, by its verb and the words behind it, and tells what comes of it.
@@ -133,19 +131,24 @@ impl Subject for State {
         self.forget();
     }
 
-    fn step<W: Wait + Threads + Sync>(
-        &mut self,
-        _rt: &W,
-        alloc: Global,
-        words: &[&str],
-        block: &Block,
-    ) -> Result<(), Wrong> {
-        match verb_of(word(words, 0)?) {
-            Some(verb) if is_for(verb, block) => {
-                answer(self, alloc, verb, rest(words, 1), block.text.as_str())
-            }
-            Some(_) => Err(Wrong::Line("what stands behind it is not for this step")),
-            None => Err(Wrong::Line("no such step")),
-        }
+    fn take_wrong(&mut self) -> Option<Wrong> {
+        self.wrong.take()
     }
+}
+
+// Does a step, with what stands behind it.
+fn step_of(alloc: Global, state: &mut State, text: &str, block: &Block) -> Result<(), Wrong> {
+    let words = text.split_whitespace().collect::<Vec<&str>>(alloc)?;
+    match verb_of(word(&words, 0)?) {
+        Some(verb) if is_for(verb, block) => {
+            answer(state, alloc, verb, rest(&words, 1), block.text.as_str())
+        }
+        Some(_) => Err(Wrong::Line("what stands behind it is not for this step")),
+        None => Err(Wrong::Line("no such step")),
+    }
+}
+
+/// Does a step, with what stands behind it; where it does not hold, the state keeps why.
+pub fn step(alloc: Global, state: &mut State, text: &str, block: &Block) {
+    state.wrong = step_of(alloc, state, text, block).err();
 }

@@ -7,7 +7,7 @@ use gate_journal::Journal;
 use mem_devices::{FaultDisk, PlainDisk};
 use record_log::RecordLog;
 use row_records::{Known, Told};
-use row_text::Names;
+use row_text::{Names, Wrong};
 use shard_node::ShardNode;
 use std::alloc::Global;
 use std::mem;
@@ -40,6 +40,7 @@ pub struct Tables {
 /// What a row has made so far.
 #[derive(Drop)]
 pub struct State {
+    pub wrong: Option<Wrong>,
     pub known: Known,
     pub nodes: Vec<Node>,
     pub seen: Vec<Seen>,
@@ -59,6 +60,7 @@ fn no_tables() -> Tables {
 impl State {
     pub fn empty(alloc: Global) -> State {
         State {
+            wrong: None,
             known: Known::empty(alloc),
             nodes: Vec::new(alloc),
             seen: Vec::new(alloc),

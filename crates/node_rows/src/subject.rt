@@ -17,7 +17,6 @@ use row_records::{Known, Told, name_form, shape};
 use row_text::{Block, Names, Subject, Wrong, rest};
 use std::alloc::Global;
 use std::sync::Wait;
-use std::thread::Threads;
 
 // Does a step, and tells what comes of it.
 fn tell<W: Wait>(
@@ -163,19 +162,30 @@ impl Subject for State {
         self.forget();
     }
 
-    fn step<W: Wait + Threads + Sync>(
-        &mut self,
-        rt: &W,
-        alloc: Global,
-        words: &[&str],
-        block: &Block,
-    ) -> Result<(), Wrong> {
-        match verb_of(words) {
-            Some((verb, most)) if is_for_steps(block) => {
-                answer(rt, self, alloc, verb, most, words, block.text.as_str())
-            }
-            Some(_) => Err(Wrong::Line("what stands behind it is not for this step")),
-            None => Err(Wrong::Line("no such step")),
-        }
+    fn take_wrong(&mut self) -> Option<Wrong> {
+        self.wrong.take()
     }
+}
+
+// Does a step, with what stands behind it.
+fn step_of<W: Wait>(
+    rt: &W,
+    alloc: Global,
+    state: &mut State,
+    text: &str,
+    block: &Block,
+) -> Result<(), Wrong> {
+    let words = text.split_whitespace().collect::<Vec<&str>>(alloc)?;
+    match verb_of(&words) {
+        Some((verb, most)) if is_for_steps(block) => {
+            answer(rt, state, alloc, verb, most, &words, block.text.as_str())
+        }
+        Some(_) => Err(Wrong::Line("what stands behind it is not for this step")),
+        None => Err(Wrong::Line("no such step")),
+    }
+}
+
+/// Does a step, with what stands behind it; where it does not hold, the state keeps why.
+pub fn step<W: Wait>(rt: &W, alloc: Global, state: &mut State, text: &str, block: &Block) {
+    state.wrong = step_of(rt, alloc, state, text, block).err();
 }

@@ -20,13 +20,18 @@ mod transactions;
 mod verbs;
 mod words;
 
-use row_text::run_files;
+use row_text::{Block, run_files};
 use state::State;
 use std::io;
 use std::process::ExitCode;
+use subject::step;
 
 fn main(rt: HostRuntime) -> io::Result<ExitCode> {
-    if run_files::<HostRuntime, State>(&rt)? {
+    let alloc = rt.alloc();
+    let does = |state: &mut State, text: &str, block: &Block| {
+        step(alloc, state, text, block);
+    };
+    if run_files::<HostRuntime, State, _>(&rt, &does)? {
         Ok(ExitCode::from(0))
     } else {
         Ok(ExitCode::from(1))

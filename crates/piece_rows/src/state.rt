@@ -6,6 +6,7 @@ use std::alloc::Global;
 /// What a row has made so far.
 #[derive(Drop)]
 pub struct State {
+    pub wrong: Option<Wrong>,
     pub known: Known,
     pub bytes: Names<Vec<u8>>,
     marked: usize,
@@ -14,6 +15,7 @@ pub struct State {
 impl State {
     pub fn empty(alloc: Global) -> State {
         State {
+            wrong: None,
             known: Known::empty(alloc),
             bytes: Names::new(alloc),
             marked: 0,

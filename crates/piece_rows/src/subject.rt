@@ -15,8 +15,6 @@ use crate::words::{shows, shows_like, words_ask};
 use row_records::{Mint, Told, name_form, name_hash, name_tx, shape};
 use row_text::{Block, Names, Subject, Wrong, rest, word};
 use std::alloc::Global;
-use std::sync::Wait;
-use std::thread::Threads;
 
 // `hash NAME HASH`
 fn named_hash(state: &mut State, words: &[&str], told: &mut Told) {
@@ -135,18 +133,23 @@ impl Subject for State {
         self.forget();
     }
 
-    fn step<W: Wait + Threads + Sync>(
-        &mut self,
-        _rt: &W,
-        alloc: Global,
-        words: &[&str],
-        block: &Block,
-    ) -> Result<(), Wrong> {
-        let words = repeated(alloc, words)?;
-        match verb_of(word(&words, 0)?) {
-            Some(verb) if is_for(verb, block) => answer(self, alloc, verb, &words, block),
-            Some(_) => Err(Wrong::Line("what stands behind it is not for this step")),
-            None => Err(Wrong::Line("no such step")),
-        }
+    fn take_wrong(&mut self) -> Option<Wrong> {
+        self.wrong.take()
     }
+}
+
+// Does a step, with what stands behind it.
+fn step_of(alloc: Global, state: &mut State, text: &str, block: &Block) -> Result<(), Wrong> {
+    let words = text.split_whitespace().collect::<Vec<&str>>(alloc)?;
+    let words = repeated(alloc, &words)?;
+    match verb_of(word(&words, 0)?) {
+        Some(verb) if is_for(verb, block) => answer(state, alloc, verb, &words, block),
+        Some(_) => Err(Wrong::Line("what stands behind it is not for this step")),
+        None => Err(Wrong::Line("no such step")),
+    }
+}
+
+/// Does a step, with what stands behind it; where it does not hold, the state keeps why.
+pub fn step(alloc: Global, state: &mut State, text: &str, block: &Block) {
+    state.wrong = step_of(alloc, state, text, block).err();
 }
