@@ -11,3 +11,4 @@ mod Turning
 mod Batching
 pub mod Causing
 pub mod Serving
+pub mod Keeping

@@ -6,3 +6,4 @@ pub mod Rooms
 pub mod Reports
 pub mod Stops
 pub mod Causes
+pub mod Keeping

@@ -1,11 +1,12 @@
 // A batch of a lane, phase by phase.
-ghost use Rattle.std.specs.Prelude.{◌≡◌, ◌≢◌, ◌≤◌, ◌<◌, true, [], ◌∷◌, length, map, IfOk, IfErr, OnOk, All, ℕ};
+ghost use Rattle.std.specs.Prelude.{◌≡◌, ◌≤◌, ◌<◌, true, [], ◌∷◌, length, map, IfOk, IfErr, OnOk, All, ℕ};
 ghost use Rattle.std.specs.Vec.{vec_capacity};
 ghost use Rattle.cbdc_model.specs.Slots.{Idle, InPrepare, InCommit, InDiscard};
 ghost use Rattle.cbdc_model.specs.Ranges.{home_of};
 ghost use Rattle.cbdc_model.specs.Grammar.{HasSize, IsBatchOf, IsCompact};
 ghost use Rattle.lane_driver.specs.Calls.{shard, forget_of};
-ghost use Rattle.lane_driver.specs.Told.{IsLane, KeepsOthers, KeepNodes, AreShardsOf, AreLockCalls, AreFitParts, IsStamp, AreShards};
+ghost use Rattle.lane_driver.specs.Keeping.{KeepsLog, KeepsShards};
+ghost use Rattle.lane_driver.specs.Told.{IsLane, KeepsOthers, AreShardsOf, AreLockCalls, AreFitParts, IsStamp, AreShards};
 ghost use Rattle.lane_driver.specs.Rooms.{IsBatchRoom, IsLaterRoom};
 ghost use Rattle.lane_driver.specs.Reports.{AreReports};
 ghost use Rattle.lane_driver.specs.Causes.{IsCausedStop, IsCausedFault};
@@ -63,20 +64,10 @@ pub fn from_discarded<S: PortSet, L: LogPort, G: Gate>(
     ensures told { OnOk result (ToldDiscarded L.alone batch.now cause repeats locks.now (L.sights ports.old.log (L.at ports.old.log)) (L.sights ports.new.log (L.at ports.new.log)) (S.sights ports.old.shards) (S.sights ports.new.shards)) }
     ensures stopped { IfErr result (IsDiscardedStopped shape.now L.alone batch.now cause repeats locks.now (L.sights ports.old.log (L.at ports.old.log)) (L.sights ports.new.log (L.at ports.new.log)) (S.sights ports.old.shards) (S.sights ports.new.shards)) }
     ensures fault { IfErr result (λ e. IsCausedStop shape.now (L.sights ports.new.log) (S.sights ports.new.shards) e.node e.fault) }
-    ensures at_same { L.at ports.new.log ≡ L.at ports.old.log }
     ensures phase { OnOk result (L.phase ports.new.log batch.now.lane ≡ Idle) }
     ensures others { L.alone ≡ true → KeepsOthers (L.header ports.old.log) batch.now.lane (L.phase ports.old.log) (L.phase ports.new.log) (L.open_txs ports.old.log) (L.open_txs ports.new.log) }
-    ensures header { L.header ports.new.log ≡ L.header ports.old.log }
-    ensures log_count { L.count ports.new.log ≡ L.count ports.old.log }
-    ensures count { S.count ports.new.shards ≡ S.count ports.old.shards }
-    ensures shard_later { (n : ℕ) → S.faults ports.old.shards n ≤ S.faults ports.new.shards n }
-    ensures log_later { (n : ℕ) → L.faults ports.old.log n ≤ L.faults ports.new.log n }
-    ensures elsewhere { (n : ℕ) → n ≢ L.at ports.old.log → L.sights ports.new.log n ≡ L.sights ports.old.log n }
-    ensures nodes { KeepNodes (S.sights ports.old.shards) (S.sights ports.new.shards) }
-    ensures log_nodes { KeepNodes (L.sights ports.old.log) (L.sights ports.new.log) }
-    ensures log_holds { L.holds ports.old.log → L.holds ports.new.log }
-    ensures shard_holds { S.holds ports.old.shards → S.holds ports.new.shards }
-    ensures serves { (l : ℕ) → S.serves ports.old.shards l → S.serves ports.new.shards l }
+    ensures keeps_log { KeepsLog L.at L.header L.count L.sights L.faults L.holds ports.old.log ports.new.log }
+    ensures keeps_shards { KeepsShards S.count S.sights S.faults S.holds S.serves ports.old.shards ports.new.shards }
     ensures calls { forgets.new.items ≡ map (forget_of batch.now cause) locks.now }
     ensures capacity { vec_capacity stamped.new ≡ vec_capacity stamped.old }
 {
@@ -127,20 +118,10 @@ pub fn from_committed<S: PortSet, L: LogPort, G: Gate>(
     ensures told { OnOk result (ToldCommitted L.alone batch.now cause outcomes.now repeats locks.now (L.sights ports.old.log (L.at ports.old.log)) (L.sights ports.new.log (L.at ports.new.log)) (S.sights ports.old.shards) (S.sights ports.new.shards)) }
     ensures stopped { IfErr result (IsCommittedStopped shape.now L.alone batch.now cause outcomes.now repeats locks.now (L.sights ports.old.log (L.at ports.old.log)) (L.sights ports.new.log (L.at ports.new.log)) (S.sights ports.old.shards) (S.sights ports.new.shards)) }
     ensures fault { IfErr result (λ e. IsCausedStop shape.now (L.sights ports.new.log) (S.sights ports.new.shards) e.node e.fault) }
-    ensures at_same { L.at ports.new.log ≡ L.at ports.old.log }
     ensures phase { OnOk result (L.phase ports.new.log batch.now.lane ≡ Idle) }
     ensures others { L.alone ≡ true → KeepsOthers (L.header ports.old.log) batch.now.lane (L.phase ports.old.log) (L.phase ports.new.log) (L.open_txs ports.old.log) (L.open_txs ports.new.log) }
-    ensures header { L.header ports.new.log ≡ L.header ports.old.log }
-    ensures log_count { L.count ports.new.log ≡ L.count ports.old.log }
-    ensures count { S.count ports.new.shards ≡ S.count ports.old.shards }
-    ensures shard_later { (n : ℕ) → S.faults ports.old.shards n ≤ S.faults ports.new.shards n }
-    ensures log_later { (n : ℕ) → L.faults ports.old.log n ≤ L.faults ports.new.log n }
-    ensures elsewhere { (n : ℕ) → n ≢ L.at ports.old.log → L.sights ports.new.log n ≡ L.sights ports.old.log n }
-    ensures nodes { KeepNodes (S.sights ports.old.shards) (S.sights ports.new.shards) }
-    ensures log_nodes { KeepNodes (L.sights ports.old.log) (L.sights ports.new.log) }
-    ensures log_holds { L.holds ports.old.log → L.holds ports.new.log }
-    ensures shard_holds { S.holds ports.old.shards → S.holds ports.new.shards }
-    ensures serves { (l : ℕ) → S.serves ports.old.shards l → S.serves ports.new.shards l }
+    ensures keeps_log { KeepsLog L.at L.header L.count L.sights L.faults L.holds ports.old.log ports.new.log }
+    ensures keeps_shards { KeepsShards S.count S.sights S.faults S.holds S.serves ports.old.shards ports.new.shards }
 {
     let LaterRoom {
         mut finishes,
@@ -209,20 +190,10 @@ pub fn from_prepared<S: PortSet, L: LogPort, G: Gate>(
     ensures told { IfOk result (ToldPrepared L.alone batch.now cause repeats room.parts (L.sights ports.old.log (L.at ports.old.log)) (L.sights ports.new.log (L.at ports.new.log)) (S.sights ports.old.shards) (S.sights ports.new.shards)) }
     ensures stopped { IfErr result (IsPreparedStopped shape.now L.alone batch.now cause repeats room.parts (L.sights ports.old.log (L.at ports.old.log)) (L.sights ports.new.log (L.at ports.new.log)) (S.sights ports.old.shards) (S.sights ports.new.shards)) }
     ensures fault { IfErr result (λ e. IsCausedStop shape.now (L.sights ports.new.log) (S.sights ports.new.shards) e.node e.fault) }
-    ensures at_same { L.at ports.new.log ≡ L.at ports.old.log }
     ensures phase { OnOk result (L.phase ports.new.log batch.now.lane ≡ Idle) }
     ensures others { L.alone ≡ true → KeepsOthers (L.header ports.old.log) batch.now.lane (L.phase ports.old.log) (L.phase ports.new.log) (L.open_txs ports.old.log) (L.open_txs ports.new.log) }
-    ensures header { L.header ports.new.log ≡ L.header ports.old.log }
-    ensures log_count { L.count ports.new.log ≡ L.count ports.old.log }
-    ensures count { S.count ports.new.shards ≡ S.count ports.old.shards }
-    ensures shard_later { (n : ℕ) → S.faults ports.old.shards n ≤ S.faults ports.new.shards n }
-    ensures log_later { (n : ℕ) → L.faults ports.old.log n ≤ L.faults ports.new.log n }
-    ensures elsewhere { (n : ℕ) → n ≢ L.at ports.old.log → L.sights ports.new.log n ≡ L.sights ports.old.log n }
-    ensures nodes { KeepNodes (S.sights ports.old.shards) (S.sights ports.new.shards) }
-    ensures log_nodes { KeepNodes (L.sights ports.old.log) (L.sights ports.new.log) }
-    ensures log_holds { L.holds ports.old.log → L.holds ports.new.log }
-    ensures shard_holds { S.holds ports.old.shards → S.holds ports.new.shards }
-    ensures serves { (l : ℕ) → S.serves ports.old.shards l → S.serves ports.new.shards l }
+    ensures keeps_log { KeepsLog L.at L.header L.count L.sights L.faults L.holds ports.old.log ports.new.log }
+    ensures keeps_shards { KeepsShards S.count S.sights S.faults S.holds S.serves ports.old.shards ports.new.shards }
     ensures outcomes { IfOk result (λ os. length os ≡ length (L.open_txs ports.old.log batch.now.lane)) }
 {
     let BatchRoom {
@@ -281,20 +252,10 @@ pub(crate) fn one_batch<S: PortSet, L: LogPort, G: Gate>(
     ensures stopped { IfErr result (IsOneStopped shape.now L.alone lane txs.now (L.sights ports.old.log (L.at ports.old.log)) (S.sights ports.old.shards) (L.sights ports.new.log (L.at ports.new.log)) (S.sights ports.new.shards)) }
     ensures told { IfErr result (IsOneTold shape.now L.alone lane txs.now repeats (L.sights ports.old.log (L.at ports.old.log)) (S.sights ports.old.shards) (L.sights ports.new.log (L.at ports.new.log)) (S.sights ports.new.shards)) }
     ensures fault { IfErr result (λ e. IsCausedStop shape.now (L.sights ports.new.log) (S.sights ports.new.shards) e.node e.fault) }
-    ensures at_same { L.at ports.new.log ≡ L.at ports.old.log }
     ensures idle { OnOk result (L.phase ports.new.log lane ≡ Idle) }
     ensures others { L.alone ≡ true → KeepsOthers (L.header ports.old.log) lane (L.phase ports.old.log) (L.phase ports.new.log) (L.open_txs ports.old.log) (L.open_txs ports.new.log) }
-    ensures header { L.header ports.new.log ≡ L.header ports.old.log }
-    ensures log_count { L.count ports.new.log ≡ L.count ports.old.log }
-    ensures count { S.count ports.new.shards ≡ S.count ports.old.shards }
-    ensures shard_later { (n : ℕ) → S.faults ports.old.shards n ≤ S.faults ports.new.shards n }
-    ensures log_later { (n : ℕ) → L.faults ports.old.log n ≤ L.faults ports.new.log n }
-    ensures elsewhere { (n : ℕ) → n ≢ L.at ports.old.log → L.sights ports.new.log n ≡ L.sights ports.old.log n }
-    ensures nodes { KeepNodes (S.sights ports.old.shards) (S.sights ports.new.shards) }
-    ensures log_nodes { KeepNodes (L.sights ports.old.log) (L.sights ports.new.log) }
-    ensures log_holds { L.holds ports.old.log → L.holds ports.new.log }
-    ensures shard_holds { S.holds ports.old.shards → S.holds ports.new.shards }
-    ensures serves { (l : ℕ) → S.serves ports.old.shards l → S.serves ports.new.shards l }
+    ensures keeps_log { KeepsLog L.at L.header L.count L.sights L.faults L.holds ports.old.log ports.new.log }
+    ensures keeps_shards { KeepsShards S.count S.sights S.faults S.holds S.serves ports.old.shards ports.new.shards }
     ensures report { IfOk result (λ r. (r.batch.lane ≡ lane) × (length r.outcomes ≡ length txs.now)) }
 {
     let _limit = shape.batch();
@@ -349,20 +310,10 @@ pub fn run_batch<S: PortSet, L: LogPort, G: Gate>(
     ensures stopped { IfErr result (IsBatchStopped shape.now L.alone lane txs.now (L.sights ports.old.log (L.at ports.old.log)) (S.sights ports.old.shards) (L.sights ports.new.log (L.at ports.new.log)) (S.sights ports.new.shards)) }
     ensures told { IfErr result (IsBatchTold shape.now L.alone lane txs.now repeats (L.sights ports.old.log (L.at ports.old.log)) (S.sights ports.old.shards) (L.sights ports.new.log (L.at ports.new.log)) (S.sights ports.new.shards)) }
     ensures fault { IfErr result (IsCausedFault shape.now (L.sights ports.new.log) (S.sights ports.new.shards)) }
-    ensures at_same { L.at ports.new.log ≡ L.at ports.old.log }
     ensures idle { OnOk result (L.phase ports.new.log lane ≡ Idle) }
     ensures others { L.alone ≡ true → KeepsOthers (L.header ports.old.log) lane (L.phase ports.old.log) (L.phase ports.new.log) (L.open_txs ports.old.log) (L.open_txs ports.new.log) }
-    ensures header { L.header ports.new.log ≡ L.header ports.old.log }
-    ensures log_count { L.count ports.new.log ≡ L.count ports.old.log }
-    ensures count { S.count ports.new.shards ≡ S.count ports.old.shards }
-    ensures shard_later { (n : ℕ) → S.faults ports.old.shards n ≤ S.faults ports.new.shards n }
-    ensures log_later { (n : ℕ) → L.faults ports.old.log n ≤ L.faults ports.new.log n }
-    ensures elsewhere { (n : ℕ) → n ≢ L.at ports.old.log → L.sights ports.new.log n ≡ L.sights ports.old.log n }
-    ensures nodes { KeepNodes (S.sights ports.old.shards) (S.sights ports.new.shards) }
-    ensures log_nodes { KeepNodes (L.sights ports.old.log) (L.sights ports.new.log) }
-    ensures log_holds { L.holds ports.old.log → L.holds ports.new.log }
-    ensures shard_holds { S.holds ports.old.shards → S.holds ports.new.shards }
-    ensures serves { (l : ℕ) → S.serves ports.old.shards l → S.serves ports.new.shards l }
+    ensures keeps_log { KeepsLog L.at L.header L.count L.sights L.faults L.holds ports.old.log ports.new.log }
+    ensures keeps_shards { KeepsShards S.count S.sights S.faults S.holds S.serves ports.old.shards ports.new.shards }
     ensures report { IfOk result (λ r. AreReports lane r.batches (txs.now ∷ [])) }
 {
     let mut batches = match Vec::with_capacity(alloc, 1) {

@@ -1,5 +1,5 @@
 // A lane's transactions, batch by batch.
-ghost use Rattle.std.specs.Prelude.{◌≡◌, ◌≢◌, ◌≤◌, ◌<◌, true, [], List, length, reverse, IfOk, IfErr, OnOk, All, ℕ};
+ghost use Rattle.std.specs.Prelude.{◌≡◌, ◌≤◌, ◌<◌, true, [], List, length, reverse, IfOk, IfErr, OnOk, All, ℕ};
 ghost use Rattle.std.specs.Vec.{vec_capacity};
 ghost use Rattle.cbdc_model.specs.Records.{Compact};
 ghost use Rattle.cbdc_model.specs.Slots.{Idle};
@@ -8,7 +8,8 @@ ghost use Rattle.cbdc_model.specs.Ranges.{home_of};
 ghost use Rattle.lane_laws.specs.Batches.{Settled, LaneSo};
 ghost use Rattle.lane_driver.specs.Causes.{IsCausedFault};
 ghost use Rattle.lane_driver.specs.Stops.{IsLaneStopped, IsLaneTold, IsSettled};
-ghost use Rattle.lane_driver.specs.Told.{IsLane, KeepsOthers, AreShardsOf, KeepNodes};
+ghost use Rattle.lane_driver.specs.Keeping.{KeepsLog, KeepsShards};
+ghost use Rattle.lane_driver.specs.Told.{IsLane, KeepsOthers, AreShardsOf};
 ghost use Rattle.lane_driver.specs.Reports.{IsReported, AreDone};
 
 use crate::batch::one_batch;
@@ -45,20 +46,10 @@ pub fn run_lane<S: PortSet, L: LogPort, G: Gate>(
     ensures stopped { IfErr result (IsLaneStopped shape.now L.alone lane txs.now (L.sights ports.old.log (L.at ports.old.log)) (S.sights ports.old.shards) (L.sights ports.new.log (L.at ports.new.log)) (S.sights ports.new.shards)) }
     ensures told { IfErr result (IsLaneTold shape.now L.alone lane txs.now repeats (L.sights ports.old.log (L.at ports.old.log)) (S.sights ports.old.shards) (L.sights ports.new.log (L.at ports.new.log)) (S.sights ports.new.shards)) }
     ensures fault { IfErr result (IsCausedFault shape.now (L.sights ports.new.log) (S.sights ports.new.shards)) }
-    ensures at_same { L.at ports.new.log ≡ L.at ports.old.log }
     ensures idle { OnOk result (L.phase ports.new.log lane ≡ Idle) }
     ensures others { L.alone ≡ true → KeepsOthers (L.header ports.old.log) lane (L.phase ports.old.log) (L.phase ports.new.log) (L.open_txs ports.old.log) (L.open_txs ports.new.log) }
-    ensures header { L.header ports.new.log ≡ L.header ports.old.log }
-    ensures log_count { L.count ports.new.log ≡ L.count ports.old.log }
-    ensures count { S.count ports.new.shards ≡ S.count ports.old.shards }
-    ensures shard_later { (n : ℕ) → S.faults ports.old.shards n ≤ S.faults ports.new.shards n }
-    ensures log_later { (n : ℕ) → L.faults ports.old.log n ≤ L.faults ports.new.log n }
-    ensures elsewhere { (n : ℕ) → n ≢ L.at ports.old.log → L.sights ports.new.log n ≡ L.sights ports.old.log n }
-    ensures nodes { KeepNodes (S.sights ports.old.shards) (S.sights ports.new.shards) }
-    ensures log_nodes { KeepNodes (L.sights ports.old.log) (L.sights ports.new.log) }
-    ensures log_holds { L.holds ports.old.log → L.holds ports.new.log }
-    ensures shard_holds { S.holds ports.old.shards → S.holds ports.new.shards }
-    ensures serves { (l : ℕ) → S.serves ports.old.shards l → S.serves ports.new.shards l }
+    ensures keeps_log { KeepsLog L.at L.header L.count L.sights L.faults L.holds ports.old.log ports.new.log }
+    ensures keeps_shards { KeepsShards S.count S.sights S.faults S.holds S.serves ports.old.shards ports.new.shards }
     ensures report { IfOk result (λ r. IsReported lane shape.now.batch txs.now [] r.batches) }
 
     // Each reported batch was done behind the one before it, with the outcomes of its Commit.

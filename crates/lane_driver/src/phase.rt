@@ -1,12 +1,13 @@
 // The phases of a batch at its shards, and its calls again.
-ghost use Rattle.std.specs.Prelude.{◌≡◌, ◌<◌, ◌≤◌, [], length, IfOk, IfErr, MatchResult, All, ℕ};
+ghost use Rattle.std.specs.Prelude.{◌≡◌, ◌<◌, ◌≤◌, [], length, IfOk, IfErr, MatchResult, All};
 ghost use Rattle.std.specs.Vec.{vec_capacity};
 ghost use Rattle.lane_driver.specs.Calls.{shard};
 ghost use Rattle.cbdc_model.specs.Ranges.{shard_node};
 ghost use Rattle.lane_laws.specs.Answers.{LockAnswer, FinishAnswer, ForgetAnswer, AskedTimes, Locked, Stamped};
 ghost use Rattle.lane_driver.specs.Causes.{IsShardCause};
 ghost use Rattle.lane_driver.specs.Stops.{IsStopOf, IsStoppedAt};
-ghost use Rattle.lane_driver.specs.Told.{AreShardsOf, KeepNodes, AreLockCalls, AreFinishCalls, AreForgetCalls, AreShards, AreReplies, IsStamp};
+ghost use Rattle.lane_driver.specs.Keeping.{KeepsShards};
+ghost use Rattle.lane_driver.specs.Told.{AreShardsOf, AreLockCalls, AreFinishCalls, AreForgetCalls, AreShards, AreReplies, IsStamp};
 
 use crate::answer::{ShardFault, gather, latest};
 use crate::fault::Stop;
@@ -41,11 +42,7 @@ pub fn lock_again<S: PortSet, G: Gate>(
     requires mine { All (λ c. S.serves shards.old c.1.batch.lane) calls.now }
     requires room { length calls.now ≤ vec_capacity answers.old }
     ensures capacity { vec_capacity answers.new ≡ vec_capacity answers.old }
-    ensures count { S.count shards.new ≡ S.count shards.old }
-    ensures nodes { KeepNodes (S.sights shards.old) (S.sights shards.new) }
-    ensures later { (n : ℕ) → S.faults shards.old n ≤ S.faults shards.new n }
-    ensures holds { S.holds shards.old → S.holds shards.new }
-    ensures serves { (l : ℕ) → S.serves shards.old l → S.serves shards.new l }
+    ensures keeps { KeepsShards S.count S.sights S.faults S.holds S.serves shards.old shards.new }
     ensures told { AskedTimes (LockAnswer S.alone) calls.now repeats (S.sights shards.old) (S.sights shards.new) }
 {
     for _time in 0..repeats {
@@ -67,11 +64,7 @@ pub fn finish_again<S: PortSet, G: Gate>(
     requires mine { All (λ c. S.serves shards.old c.1.batch.lane) calls.now }
     requires room { length calls.now ≤ vec_capacity answers.old }
     ensures capacity { vec_capacity answers.new ≡ vec_capacity answers.old }
-    ensures count { S.count shards.new ≡ S.count shards.old }
-    ensures nodes { KeepNodes (S.sights shards.old) (S.sights shards.new) }
-    ensures later { (n : ℕ) → S.faults shards.old n ≤ S.faults shards.new n }
-    ensures holds { S.holds shards.old → S.holds shards.new }
-    ensures serves { (l : ℕ) → S.serves shards.old l → S.serves shards.new l }
+    ensures keeps { KeepsShards S.count S.sights S.faults S.holds S.serves shards.old shards.new }
     ensures told { AskedTimes (FinishAnswer S.alone) calls.now repeats (S.sights shards.old) (S.sights shards.new) }
 {
     for _time in 0..repeats {
@@ -93,11 +86,7 @@ pub fn forget_again<S: PortSet, G: Gate>(
     requires mine { All (λ c. S.serves shards.old c.1.batch.lane) calls.now }
     requires room { length calls.now ≤ vec_capacity answers.old }
     ensures capacity { vec_capacity answers.new ≡ vec_capacity answers.old }
-    ensures count { S.count shards.new ≡ S.count shards.old }
-    ensures nodes { KeepNodes (S.sights shards.old) (S.sights shards.new) }
-    ensures later { (n : ℕ) → S.faults shards.old n ≤ S.faults shards.new n }
-    ensures holds { S.holds shards.old → S.holds shards.new }
-    ensures serves { (l : ℕ) → S.serves shards.old l → S.serves shards.new l }
+    ensures keeps { KeepsShards S.count S.sights S.faults S.holds S.serves shards.old shards.new }
     ensures told { AskedTimes (ForgetAnswer S.alone) calls.now repeats (S.sights shards.old) (S.sights shards.new) }
 {
     for _time in 0..repeats {
@@ -124,11 +113,7 @@ pub fn lock_phase<S: PortSet, G: Gate>(
     requires room { length calls.now ≤ vec_capacity answers }
     requires no_replies { replies.items ≡ [] }
     requires replies_room { length calls.now ≤ vec_capacity replies }
-    ensures count { S.count shards.new ≡ S.count shards.old }
-    ensures nodes { KeepNodes (S.sights shards.old) (S.sights shards.new) }
-    ensures later { (n : ℕ) → S.faults shards.old n ≤ S.faults shards.new n }
-    ensures holds { S.holds shards.old → S.holds shards.new }
-    ensures serves { (l : ℕ) → S.serves shards.old l → S.serves shards.new l }
+    ensures keeps { KeepsShards S.count S.sights S.faults S.holds S.serves shards.old shards.new }
     ensures told { IfOk result (Locked S.alone calls.now (S.sights shards.old) (S.sights shards.new)) }
     ensures stopped { IfErr result (IsStoppedAt shape.now (LockAnswer S.alone) calls.now (S.sights shards.old) (S.sights shards.new)) }
     ensures fault { IfErr result (λ e. IsShardCause shape.now (S.sights shards.new) e.node e.fault) }
@@ -155,11 +140,7 @@ pub fn finish_phase<S: PortSet, G: Gate>(
     requires mine { All (λ c. S.serves shards.old c.1.batch.lane) calls.now }
     requires room { length calls.now ≤ vec_capacity answers.old }
     ensures capacity { vec_capacity answers.new ≡ vec_capacity answers.old }
-    ensures count { S.count shards.new ≡ S.count shards.old }
-    ensures nodes { KeepNodes (S.sights shards.old) (S.sights shards.new) }
-    ensures later { (n : ℕ) → S.faults shards.old n ≤ S.faults shards.new n }
-    ensures holds { S.holds shards.old → S.holds shards.new }
-    ensures serves { (l : ℕ) → S.serves shards.old l → S.serves shards.new l }
+    ensures keeps { KeepsShards S.count S.sights S.faults S.holds S.serves shards.old shards.new }
     ensures told { IfOk result (Stamped (FinishAnswer S.alone) calls.now (S.sights shards.old) (S.sights shards.new)) }
     ensures stopped { IfErr result (IsStoppedAt shape.now (FinishAnswer S.alone) calls.now (S.sights shards.old) (S.sights shards.new)) }
     ensures fault { IfErr result (λ e. IsShardCause shape.now (S.sights shards.new) e.node e.fault) }
@@ -187,11 +168,7 @@ pub fn forget_phase<S: PortSet, G: Gate>(
     requires mine { All (λ c. S.serves shards.old c.1.batch.lane) calls.now }
     requires room { length calls.now ≤ vec_capacity answers.old }
     ensures capacity { vec_capacity answers.new ≡ vec_capacity answers.old }
-    ensures count { S.count shards.new ≡ S.count shards.old }
-    ensures nodes { KeepNodes (S.sights shards.old) (S.sights shards.new) }
-    ensures later { (n : ℕ) → S.faults shards.old n ≤ S.faults shards.new n }
-    ensures holds { S.holds shards.old → S.holds shards.new }
-    ensures serves { (l : ℕ) → S.serves shards.old l → S.serves shards.new l }
+    ensures keeps { KeepsShards S.count S.sights S.faults S.holds S.serves shards.old shards.new }
     ensures told { IfOk result (Stamped (ForgetAnswer S.alone) calls.now (S.sights shards.old) (S.sights shards.new)) }
     ensures stopped { IfErr result (IsStoppedAt shape.now (ForgetAnswer S.alone) calls.now (S.sights shards.old) (S.sights shards.new)) }
     ensures fault { IfErr result (λ e. IsShardCause shape.now (S.sights shards.new) e.node e.fault) }

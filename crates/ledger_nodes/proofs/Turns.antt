@@ -30,7 +30,7 @@ use Rattle.turn_laws.proofs.Launching.{resume_same, resume_launches, left_launch
 use Rattle.ledger_runs.specs.Flying.{FliesOn, Launches}
 use Rattle.ledger_runs.specs.Pieces.{HasPrepared}
 use Rattle.ledger_runs.specs.Faults.{IsOpenCause, HaveFailed, MayHold, Nothing}
-use Rattle.ledger_nodes.specs.Ledgers.{IsLedger, journals_of, flights_of, faults_of, opened_of, capacity_of, AreChecked, AreQuiet}
+use Rattle.ledger_nodes.specs.Ledgers.{IsLedger, journals_of, flights_of, faults_of, opened_of, capacity_of, AreChecked, AreQuiet, KeepsLedgerOf}
 use Rattle.ledger_nodes.specs.Steps.{IsStep}
 use Rattle.ledger_nodes.proofs.Steps.{home_inside, are_nodes, are_shards, is_lane, log_is, same_flight}
 
@@ -118,17 +118,20 @@ module _ {D : Type 0} (count limit : D → ℕ) (content : D → Option (List �
     }
 
     -- what no turn changes of the nodes
-    pub opened_same : (n : ℕ) → opened_of count limit K logs' shards' n ≡ opened_of count limit K logs shards n
+    opened_same : (n : ℕ) → opened_of count limit K logs' shards' n ≡ opened_of count limit K logs shards n
     opened_same n = elim (nat_lt n K.coordinators) as (λ c. (if c then (L' n).opened else (S' (n - K.coordinators)).opened) ≡ (if c then (L n).opened else (S (n - K.coordinators)).opened)) [
       | true ↦ (step.log_nodes n).opened
       | false ↦ (step.shard_nodes (n - K.coordinators)).opened
     ]
 
-    pub capacity_same : (n : ℕ) → capacity_of count limit K logs' shards' n ≡ capacity_of count limit K logs shards n
+    capacity_same : (n : ℕ) → capacity_of count limit K logs' shards' n ≡ capacity_of count limit K logs shards n
     capacity_same n = elim (nat_lt n K.coordinators) as (λ c. (if c then (L' n).capacity else (S' (n - K.coordinators)).capacity) ≡ (if c then (L n).capacity else (S (n - K.coordinators)).capacity)) [
       | true ↦ (step.log_nodes n).capacity
       | false ↦ (step.shard_nodes (n - K.coordinators)).capacity
     ]
+
+    pub step_keeps : KeepsLedgerOf count limit content images (record { header = h; logs = logs; shards = shards }) (record { header = h; logs = logs'; shards = shards' })
+    step_keeps = record { shape_same = refl; opened_same = opened_same; later = step.later; capacity_same = capacity_same; held = step.stored }
 
     shard_shapes : (s : ℕ) → s < K.shards → (S' s).header.shape ≡ K
     shard_shapes s lt = (are_shards count limit h logs' shards' step.ledger s lt).0

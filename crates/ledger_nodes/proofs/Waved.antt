@@ -136,10 +136,13 @@ wave_law count limit content images h logs shards logs' shards' old new ledger p
       checked = λ c. (c.0, a.0.checked c.0 c.1);
       quiet = λ none q. now_quiet count limit content images h logs shards logs' shards' old new ledger places ran logs_go shards_go log_journals log_flights shard_journals shard_flights
           (a.0.quiet none (was_quiet count limit content images h logs shards logs' shards' old new ledger places ran logs_go shards_go log_journals log_flights shard_journals shard_flights q));
-      stored = stored count limit content images h logs shards logs' shards' old new ledger places ran logs_go shards_go log_journals log_flights shard_journals shard_flights;
-      later = a.1.later;
-      opened_same = a.1.opened_same;
-      capacity_same = a.1.capacity_same;
+      keeps_ledger = record {
+        shape_same = refl;
+        opened_same = a.1.opened_same;
+        later = a.1.later;
+        capacity_same = a.1.capacity_same;
+        held = stored count limit content images h logs shards logs' shards' old new ledger places ran logs_go shards_go log_journals log_flights shard_journals shard_flights;
+      };
     }
 
 -- ---- what a wave asks of the nodes and of the lanes

@@ -8,6 +8,7 @@ use Rattle.cbdc_model.specs.History.{Minted, header_of}
 use Rattle.coord_log.specs.Logs.{LogOf, sight, HoldsJournal as HoldsLog}
 use Rattle.shard_node.specs.Shards.{ShardOf, sight_of, HoldsJournal as HoldsShard}
 use Rattle.node_ports.specs.Nodes.{sight_at}
+use Rattle.ledger_runs.specs.Keeping.{KeepsLedger}
 use Rattle.run_laws.specs.Runs.{seen_by}
 use Rattle.run_laws.specs.Checked.{CheckedJournals}
 use Rattle.run_laws.specs.Faults.{opened_by, capacity_by}
@@ -100,3 +101,9 @@ IsStored content images l = AreStored content images l.logs l.shards
 
 abbrev pub IsQuiet : {D : Type 0} → LedgerOf D → Type 0
 IsQuiet l = AreQuiet l.logs l.shards
+
+-- what a call keeps of a ledger's nodes
+module _ {D : Type 0} (count limit : D → ℕ) (content : D → Option (List ℕ)) (images : D → List ℕ → Type 0) where
+  abbrev pub KeepsLedgerOf : LedgerOf D → LedgerOf D → Type 0
+  KeepsLedgerOf before after =
+      KeepsLedger (λ (l : LedgerOf D). l.header.shape) (opened count limit) (faults count limit) (capacity count limit) (IsStored content images) before after

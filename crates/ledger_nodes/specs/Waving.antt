@@ -1,5 +1,5 @@
 -- What is said of the nodes of a ledger behind a wave of its lanes.
-use Rattle.std.specs.Prelude.{◌≡◌, ℕ, ◌*◌, ◌≤◌, List, length, Option, All}
+use Rattle.std.specs.Prelude.{◌≡◌, ℕ, ◌*◌, List, length, Option, All}
 use Rattle.cbdc_model.specs.Records.{Header}
 use Rattle.cbdc_model.specs.After.{IsJournal}
 use Rattle.coord_log.specs.Logs.{LogOf, sight}
@@ -10,20 +10,18 @@ use Rattle.ledger_runs.specs.declared.lanes.Lane.{Lane}
 use Rattle.thread_laws.specs.Running.{WaveRan}
 use Rattle.thread_laws.specs.Whole.{WaveSays}
 use Rattle.wave_records.specs.Laws.{WentOn}
-use Rattle.ledger_nodes.specs.Ledgers.{LedgerOf, IsLedger, IsLogNext, IsShardNext, journals, flights, faults, opened, capacity, IsChecked, IsStored, IsQuiet}
+use Rattle.ledger_nodes.specs.Ledgers.{LedgerOf, IsLedger, IsLogNext, IsShardNext, journals, flights, faults, opened, capacity, IsChecked, IsQuiet, KeepsLedgerOf}
 
 -- from a ledger to what it is behind the wave: it is a ledger still; all that is said of a wave; checked journals stay checked; where no lane stopped
--- nothing new is in flight; what its disks held they hold, no disk has failed less often, and what no call changes is as it was
-pub record IsWave {D : Type 0} (count limit : D → ℕ) (content : D → Option (List ℕ)) (images : D → List ℕ → Type 0) (before after : LedgerOf D) (old new : List Lane) : Type 0 where
+-- nothing new is in flight; and what a call keeps of a ledger's nodes is kept
+pub record IsWave {D : Type 0} (count limit : D → ℕ) (content : D → Option (List ℕ)) (images : D → List ℕ → Type 0) (before after : LedgerOf D)
+    (old new : List Lane) : Type 0 where
   pub ledger : IsLedger after.header after.logs after.shards
   pub says : WaveSays before.header.shape (journals count limit before) (journals count limit after) (flights count limit before) (flights count limit after)
       (opened count limit after) (faults count limit after) (capacity count limit after) old new
   pub checked : IsChecked count limit before → IsChecked count limit after
   pub quiet : NoFault new → IsQuiet before → IsQuiet after
-  pub stored : IsStored content images before → IsStored content images after
-  pub later : (n : ℕ) → faults count limit before n ≤ faults count limit after n
-  pub opened_same : (n : ℕ) → opened count limit after n ≡ opened count limit before n
-  pub capacity_same : (n : ℕ) → capacity count limit after n ≡ capacity count limit before n
+  pub keeps_ledger : KeepsLedgerOf count limit content images before after
 
 module _ {D : Type 0} (count limit : D → ℕ) (content : D → Option (List ℕ)) (images : D → List ℕ → Type 0) (h : Header) (logs : List (LogOf D)) (shards : List (ShardOf D)) (logs' : List (LogOf D)) (shards' : List (ShardOf D))
     (old new : List Lane) where

@@ -1,5 +1,5 @@
 -- Lane after lane: what stays kept, and which open batches are at their end.
-use Rattle.std.proofs.Common.{◌≡◌, ◌≢◌, ◌⊎◌, inl, inr, true, false, ◌==◌, ℕ, suc, ◌+◌, ◌*◌, ◌<◌, List, ◌++◌, sym, ◌∙◌, subst, add-one, arith, Option, Some, None}
+use Rattle.std.proofs.Common.{◌≡◌, ◌≢◌, ◌⊎◌, inl, inr, true, false, ◌==◌, ℕ, suc, ◌+◌, ◌*◌, ◌<◌, List, ◌++◌, refl, sym, ◌∙◌, subst, add-one, arith, Option, Some, None}
 use Rattle.std.proofs.lemmas.Bool.{false≢true}
 use Rattle.std.proofs.lemmas.Bool.Decides.{eqb_tells}
 use Rattle.ledger_laws.proofs.Cuts.{end_self, end_trans}
@@ -7,6 +7,7 @@ use Rattle.cbdc_model.specs.Records.{Shape, Record}
 use Rattle.cbdc_model.specs.Slots.{Idle}
 use Rattle.recovery.specs.declared.resumed.ResumedBatch.{ResumedBatch}
 use Rattle.run_laws.specs.WaveSteps.{ResumedSo, ResumingStepLaw, ResumingSkipLaw}
+use Rattle.ledger_runs.specs.Keeping.{KeepsLedger}
 use Rattle.ledger_runs.specs.Turning.{phase_at, OfKept, StaysKept, KeepsLanes, listed, TookUp, TookUpOne}
 use Rattle.std.specs.Prelude.{Result, Ok, Err, OnOk, IsOk}
 
@@ -62,3 +63,17 @@ so_next step skip K H lane E J L before after e keeps so took mint submissions k
 pub keeps_found : (K : Shape) (lane : ℕ) (I J : ℕ → List Record) (found : Option ResumedBatch) (before after : List ResumedBatch)
     → OfKept K I (λ _ _. TookUp K lane I J found) → after ≡ before ++ listed found → OfKept K I (λ _ _. TookUpOne K lane I J before after)
 keeps_found K lane I J found before after took e mint submissions kept = (found, took mint submissions kept, e)
+
+-- what a call keeps of a ledger's nodes, others behind it keep
+module _ {L : Type 0} {shape : L → Shape} {opened faults capacity : L → ℕ → ℕ} {holds : L → Type 0} where
+  pub ledger_same : (l : L) → KeepsLedger shape opened faults capacity holds l l
+  ledger_same l = record { shape_same = refl; opened_same = λ n. refl; later = λ n. omega arith; capacity_same = λ n. refl; held = λ h. h }
+
+  pub ledger_on : {k l m : L} → KeepsLedger shape opened faults capacity holds k l → KeepsLedger shape opened faults capacity holds l m → KeepsLedger shape opened faults capacity holds k m
+  ledger_on {k} {l} {m} a b = record {
+    shape_same = b.shape_same ∙ a.shape_same;
+    opened_same = λ n. b.opened_same n ∙ a.opened_same n;
+    later = λ n. omega (arith, a.later n, b.later n);
+    capacity_same = λ n. b.capacity_same n ∙ a.capacity_same n;
+    held = λ h. b.held (a.held h);
+  }

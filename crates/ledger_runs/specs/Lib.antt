@@ -5,3 +5,4 @@ pub mod Pieces
 pub mod Faults
 pub mod Flying
 pub mod Least
+pub mod Keeping

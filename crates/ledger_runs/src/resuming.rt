@@ -6,6 +6,7 @@ ghost use Rattle.lane_driver.specs.declared.fault.LaneFaultKind.TheVariants.{Mem
 ghost use Rattle.cbdc_model.specs.World.{AreIdle};
 ghost use Rattle.cbdc_model.specs.Waves.{IsResumed};
 ghost use Rattle.cbdc_model.specs.Slots.{Idle};
+ghost use Rattle.ledger_runs.specs.Keeping.{KeepsLedger};
 ghost use Rattle.ledger_runs.specs.Turning.{phase_at, IsLaneOf, KeepsLanes, OfKept, StaysKept, listed, TookUpOne};
 ghost use Rattle.ledger_runs.specs.Flying.{FliesOn, Launches};
 ghost use Rattle.ledger_runs.specs.Least.{IsUnbegun, IsLeastOpen};
@@ -45,7 +46,7 @@ fn resume_next<L: Turns, G: Gate>(
     requires room { vec_len batches.old < vec_capacity batches.old }
     ensures len { vec_len batches.new ≤ vec_len batches.old + 1 }
     ensures capacity { vec_capacity batches.new ≡ vec_capacity batches.old }
-    ensures shape { L.shape ledger.new ≡ L.shape ledger.old }
+    ensures keeps_ledger { KeepsLedger L.shape L.opened L.faults L.capacity L.holds ledger.old ledger.new }
     ensures idle { OnOk result (phase_at (L.shape ledger.old) (L.journals ledger.new) lane ≡ Idle) }
     ensures others { KeepsLanes (L.shape ledger.old) lane (L.journals ledger.old) (L.journals ledger.new) }
     ensures keeps { OfKept (L.shape ledger.old) (L.journals ledger.old) (StaysKept (L.shape ledger.old) (L.journals ledger.old) (L.journals ledger.new)) }
@@ -56,10 +57,6 @@ fn resume_next<L: Turns, G: Gate>(
     ensures quiet { OnOk result (L.quiet ledger.old → L.quiet ledger.new) }
     ensures flies { OfKept (L.shape ledger.old) (L.journals ledger.old) (FliesOn (L.shape ledger.old) (L.journals ledger.old) (L.journals ledger.new) (L.flights ledger.old) (L.flights ledger.new)) }
     ensures launches { Launches (L.shape ledger.old) (λ _. Nothing) (L.journals ledger.old) (L.journals ledger.new) (L.flights ledger.old) (L.flights ledger.new) }
-    ensures holds { L.holds ledger.old → L.holds ledger.new }
-    ensures later { (n : ℕ) → L.faults ledger.old n ≤ L.faults ledger.new n }
-    ensures opened_same { (n : ℕ) → L.opened ledger.new n ≡ L.opened ledger.old n }
-    ensures capacity_same { (n : ℕ) → L.capacity ledger.new n ≡ L.capacity ledger.old n }
     ensures checked { L.checked ledger.new }
     ensures grows { GrowBy lane (L.journals ledger.old) (L.journals ledger.new) }
     ensures unprepared { HasPrepared (L.shape ledger.old) lane [] (L.journals ledger.old) (L.journals ledger.new) }
@@ -85,7 +82,7 @@ pub fn resume_all<L: Turns, G: Gate>(
     gate: &G,
 ) -> Result<Vec<ResumedBatch>, LaneFault>
     requires { L.checked ledger.old }
-    ensures shape { L.shape ledger.new ≡ L.shape ledger.old }
+    ensures keeps_ledger { KeepsLedger L.shape L.opened L.faults L.capacity L.holds ledger.old ledger.new }
     ensures idle { OnOk result (AreIdle (L.shape ledger.old) (L.journals ledger.new)) }
     ensures keeps { OfKept (L.shape ledger.old) (L.journals ledger.old) (StaysKept (L.shape ledger.old) (L.journals ledger.old) (L.journals ledger.new)) }
     ensures resumed { OnOk result (OfKept (L.shape ledger.old) (L.journals ledger.old) (λ _ _. IsResumed (L.shape ledger.old) (L.journals ledger.old) (L.journals ledger.new))) }
@@ -97,10 +94,6 @@ pub fn resume_all<L: Turns, G: Gate>(
     ensures quiet { OnOk result (L.quiet ledger.old → L.quiet ledger.new) }
     ensures flies { OfKept (L.shape ledger.old) (L.journals ledger.old) (FliesOn (L.shape ledger.old) (L.journals ledger.old) (L.journals ledger.new) (L.flights ledger.old) (L.flights ledger.new)) }
     ensures launches { Launches (L.shape ledger.old) (λ _. Nothing) (L.journals ledger.old) (L.journals ledger.new) (L.flights ledger.old) (L.flights ledger.new) }
-    ensures holds { L.holds ledger.old → L.holds ledger.new }
-    ensures later { (n : ℕ) → L.faults ledger.old n ≤ L.faults ledger.new n }
-    ensures opened_same { (n : ℕ) → L.opened ledger.new n ≡ L.opened ledger.old n }
-    ensures capacity_same { (n : ℕ) → L.capacity ledger.new n ≡ L.capacity ledger.old n }
     ensures checked { L.checked ledger.new }
     ensures grows { (n : ℕ) → IsEnd (L.journals ledger.old n) (L.journals ledger.new n) }
 

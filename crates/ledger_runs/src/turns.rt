@@ -1,9 +1,10 @@
 // What the resuming of lanes asks of the nodes of a ledger.
-ghost use Rattle.std.specs.Prelude.{◌≡◌, ◌≤◌, ℕ, List, Option, IfOk, IfErr, OnOk, []};
+ghost use Rattle.std.specs.Prelude.{◌≡◌, ℕ, List, Option, IfOk, IfErr, OnOk, []};
 ghost use Rattle.cbdc_model.specs.Records.{Shape as ShapeOf, Record};
 ghost use Rattle.cbdc_model.specs.Slots.{Idle};
 ghost use Rattle.cbdc_model.specs.Lanes.{IsEnd};
 ghost use Rattle.lane_driver.specs.declared.fault.LaneFaultKind.TheVariants.{Memory};
+ghost use Rattle.ledger_runs.specs.Keeping.{KeepsLedger};
 ghost use Rattle.ledger_runs.specs.Turning.{phase_at, IsLaneOf, KeepsLanes, OfKept, StaysKept, TookUp};
 ghost use Rattle.ledger_runs.specs.Flying.{FliesOn, Launches};
 ghost use Rattle.ledger_runs.specs.Telling.{IsOpened};
@@ -62,7 +63,7 @@ pub trait Turns {
     ) -> Result<Option<ResumedBatch>, LaneFault>
         requires lane { IsLaneOf (shape self.old) lane }
         requires checked { checked self.old }
-        ensures shape { shape self.new ≡ shape self.old }
+        ensures keeps_ledger { KeepsLedger shape opened faults capacity holds self.old self.new }
         ensures idle { OnOk result (phase_at (shape self.old) (journals self.new) lane ≡ Idle) }
         ensures others { KeepsLanes (shape self.old) lane (journals self.old) (journals self.new) }
         ensures keeps { OfKept (shape self.old) (journals self.old) (StaysKept (shape self.old) (journals self.old) (journals self.new)) }
@@ -71,10 +72,6 @@ pub trait Turns {
         ensures quiet { OnOk result (quiet self.old → quiet self.new) }
         ensures flies { OfKept (shape self.old) (journals self.old) (FliesOn (shape self.old) (journals self.old) (journals self.new) (flights self.old) (flights self.new)) }
         ensures launches { Launches (shape self.old) (λ _. Nothing) (journals self.old) (journals self.new) (flights self.old) (flights self.new) }
-        ensures holds { holds self.old → holds self.new }
-        ensures later { (n : ℕ) → faults self.old n ≤ faults self.new n }
-        ensures opened_same { (n : ℕ) → opened self.new n ≡ opened self.old n }
-        ensures capacity_same { (n : ℕ) → capacity self.new n ≡ capacity self.old n }
         ensures checked { checked self.new }
         ensures grows { GrowBy lane (journals self.old) (journals self.new) }
         ensures unprepared { HasPrepared (shape self.old) lane [] (journals self.old) (journals self.new) }

@@ -1,5 +1,5 @@
 // A run over the nodes of a ledger.
-ghost use Rattle.std.specs.Prelude.{◌≡◌, ◌≤◌, ◌<◌, ◌++◌, ℕ, Bool, [], All, IfOk, IfErr, OnOk};
+ghost use Rattle.std.specs.Prelude.{◌≡◌, ◌<◌, ◌++◌, ℕ, Bool, [], All, IfOk, IfErr, OnOk};
 ghost use Rattle.cbdc_model.specs.Coins.{FullTx as TxOf};
 ghost use Rattle.cbdc_model.specs.Lanes.{IsEnd};
 ghost use Rattle.cbdc_model.specs.World.{AreIdle};
@@ -9,7 +9,7 @@ ghost use Rattle.submissions.specs.Checks.{TellsSound};
 ghost use Rattle.ledger_runs.specs.Turning.{OfKept, StaysKept};
 ghost use Rattle.ledger_runs.specs.Flying.{Launches};
 ghost use Rattle.ledger_runs.specs.Faults.{IsRunCause, HaveFailed, MayHold, AllRestSince};
-ghost use Rattle.ledger_nodes.specs.Ledgers.{journals, flights, faults, opened, capacity, IsChecked, IsStored, IsQuiet};
+ghost use Rattle.ledger_nodes.specs.Ledgers.{journals, flights, faults, opened, capacity, IsChecked, IsQuiet, KeepsLedgerOf};
 ghost use Rattle.file_runs.specs.Runs.{joined, HaveBegunFiles, IsFilesPiece, FliesWith};
 ghost use Rattle.rack_runs.specs.Endings.{EndsRun, IsCut, IsInOrder};
 ghost use Rattle.file_runs.specs.Telling.{TellsRun};
@@ -50,7 +50,7 @@ pub(crate) fn run_over<W: Wait + Threads + Sync, D: Disk + Send, V: Verifier, G:
 ) -> OverRun<D>
     requires short { All (λ txs. All IsShort txs) files.now }
     requires checked { IsChecked D.count D.limit ledger }
-    ensures shape { result.ledger.header.shape ≡ ledger.header.shape }
+    ensures keeps_ledger { KeepsLedgerOf D.count D.limit D.content D.images ledger result.ledger }
     ensures idle { OnOk result.came (AreIdle ledger.header.shape (journals D.count D.limit result.ledger)) }
     ensures keeps { OfKept ledger.header.shape (journals D.count D.limit ledger)
         (λ mint submissions. StaysKept ledger.header.shape (journals D.count D.limit ledger) (journals D.count D.limit result.ledger) mint (submissions ++ joined files.now)) }
@@ -71,10 +71,6 @@ pub(crate) fn run_over<W: Wait + Threads + Sync, D: Disk + Send, V: Verifier, G:
     // A Prepare that is in flight was so before, or is that of the next piece of what the files send to its lane.
     ensures launches { Launches ledger.header.shape (IsFilesPiece ledger.header.shape (V.verdict_of verifier.now) files.now (journals D.count D.limit ledger) (journals D.count D.limit result.ledger)) (journals D.count D.limit ledger) (journals D.count D.limit result.ledger) (flights D.count D.limit ledger) (flights D.count D.limit result.ledger) }
 
-    ensures holds { IsStored D.content D.images ledger → IsStored D.content D.images result.ledger }
-    ensures later { (n : ℕ) → faults D.count D.limit ledger n ≤ faults D.count D.limit result.ledger n }
-    ensures opened_same { (n : ℕ) → opened D.count D.limit result.ledger n ≡ opened D.count D.limit ledger n }
-    ensures capacity_same { (n : ℕ) → capacity D.count D.limit result.ledger n ≡ capacity D.count D.limit ledger n }
     ensures checked { IsChecked D.count D.limit result.ledger }
     ensures grows { (n : ℕ) → IsEnd (journals D.count D.limit ledger n) (journals D.count D.limit result.ledger n) }
 

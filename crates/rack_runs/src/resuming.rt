@@ -1,5 +1,5 @@
 // Batches that an earlier run left open at the nodes of a ledger.
-ghost use Rattle.std.specs.Prelude.{◌≡◌, ◌⊎◌, ◌≤◌, ◌*◌, ℕ, IfOk, IfErr, OnOk};
+ghost use Rattle.std.specs.Prelude.{◌⊎◌, ◌*◌, ℕ, IfOk, IfErr, OnOk};
 ghost use Rattle.cbdc_model.specs.Lanes.{IsEnd};
 ghost use Rattle.cbdc_model.specs.World.{AreIdle};
 ghost use Rattle.cbdc_model.specs.Waves.{IsResumed};
@@ -8,7 +8,7 @@ ghost use Rattle.ledger_runs.specs.Flying.{FliesOn, Launches};
 ghost use Rattle.ledger_runs.specs.Least.{IsUnbegun, IsLeastOpen};
 ghost use Rattle.ledger_runs.specs.Telling.{TellResumed, SamePrepared};
 ghost use Rattle.ledger_runs.specs.Faults.{TakesInOrder, IsRunCause, AllRestOrWait, HaveFailed, MayHold, Nothing};
-ghost use Rattle.ledger_nodes.specs.Ledgers.{journals, flights, faults, opened, capacity, IsChecked, IsStored, IsQuiet};
+ghost use Rattle.ledger_nodes.specs.Ledgers.{journals, flights, faults, opened, capacity, IsChecked, IsQuiet, KeepsLedgerOf};
 
 use lane_driver::LaneFault;
 use ledger_nodes::{Ledger, lend};
@@ -33,7 +33,7 @@ pub(crate) fn resume_ledger<W: Wait + Threads + Sync, D: Disk + Send, G: Gate>(
     gate: &G,
 ) -> ResumeRun<D>
     requires checked { IsChecked D.count D.limit ledger }
-    ensures shape { result.ledger.header.shape ≡ ledger.header.shape }
+    ensures keeps_ledger { KeepsLedgerOf D.count D.limit D.content D.images ledger result.ledger }
     ensures idle { OnOk result.came (AreIdle ledger.header.shape (journals D.count D.limit result.ledger)) }
     ensures keeps { OfKept ledger.header.shape (journals D.count D.limit ledger) (StaysKept ledger.header.shape (journals D.count D.limit ledger) (journals D.count D.limit result.ledger)) }
     ensures resumed { OnOk result.came (OfKept ledger.header.shape (journals D.count D.limit ledger) (λ _ _. IsResumed ledger.header.shape (journals D.count D.limit ledger) (journals D.count D.limit result.ledger))) }
@@ -45,10 +45,6 @@ pub(crate) fn resume_ledger<W: Wait + Threads + Sync, D: Disk + Send, G: Gate>(
     ensures quiet { OnOk result.came (IsQuiet ledger → IsQuiet result.ledger) }
     ensures flies { OfKept ledger.header.shape (journals D.count D.limit ledger) (FliesOn ledger.header.shape (journals D.count D.limit ledger) (journals D.count D.limit result.ledger) (flights D.count D.limit ledger) (flights D.count D.limit result.ledger)) }
     ensures launches { Launches ledger.header.shape (λ _. Nothing) (journals D.count D.limit ledger) (journals D.count D.limit result.ledger) (flights D.count D.limit ledger) (flights D.count D.limit result.ledger) }
-    ensures holds { IsStored D.content D.images ledger → IsStored D.content D.images result.ledger }
-    ensures later { (n : ℕ) → faults D.count D.limit ledger n ≤ faults D.count D.limit result.ledger n }
-    ensures opened_same { (n : ℕ) → opened D.count D.limit result.ledger n ≡ opened D.count D.limit ledger n }
-    ensures capacity_same { (n : ℕ) → capacity D.count D.limit result.ledger n ≡ capacity D.count D.limit ledger n }
     ensures checked { IsChecked D.count D.limit result.ledger }
     ensures grows { (n : ℕ) → IsEnd (journals D.count D.limit ledger n) (journals D.count D.limit result.ledger n) }
 

@@ -1,10 +1,11 @@
 // Open batches are taken to their end.
-ghost use Rattle.std.specs.Prelude.{◌≡◌, ◌≢◌, ◌≤◌, ◌<◌, ◌+◌, ℕ, true, [], length, IfOk, IfErr, OnOk, All};
+ghost use Rattle.std.specs.Prelude.{◌≡◌, ◌≤◌, ◌<◌, ◌+◌, true, [], length, IfOk, IfErr, OnOk, All};
 ghost use Rattle.std.specs.Vec.{vec_capacity, vec_len};
 ghost use Rattle.cbdc_model.specs.Slots.{Idle};
 ghost use Rattle.cbdc_types.specs.declared.batch.Phase.TheVariants.{Prepared, Committed, Discarded};
 ghost use Rattle.lane_laws.specs.Resuming.{IsTakenUp};
-ghost use Rattle.lane_driver.specs.Told.{KeepsOthers, AreShardsOf, KeepNodes};
+ghost use Rattle.lane_driver.specs.Keeping.{KeepsLog, KeepsShards};
+ghost use Rattle.lane_driver.specs.Told.{KeepsOthers, AreShardsOf};
 ghost use Rattle.lane_driver.specs.Causes.{IsCausedFault};
 ghost use Rattle.recovery.specs.Open.{IsOpen, LanesRise, KeepsUnlisted, IsResumed, AreResumed, IsUnfinished, AreUnfinished, HasItsOutcomes, IsResumeStopped, IsResumeTold, AreTakenUp, AreStopped, WasCaused, Keeps};
 
@@ -48,18 +49,8 @@ fn resume_prepared<S: PortSet, L: LogPort, G: Gate>(
     ensures fault { IfErr result (IsCausedFault shape.now (L.sights ports.new.log) (S.sights ports.new.shards)) }
     ensures idle { OnOk result (L.phase ports.new.log unfinished.now.batch.lane ≡ Idle) }
     ensures others { L.alone ≡ true → KeepsOthers (L.header ports.old.log) unfinished.now.batch.lane (L.phase ports.old.log) (L.phase ports.new.log) (L.open_txs ports.old.log) (L.open_txs ports.new.log) }
-    ensures at_same { L.at ports.new.log ≡ L.at ports.old.log }
-    ensures header { L.header ports.new.log ≡ L.header ports.old.log }
-    ensures log_count { L.count ports.new.log ≡ L.count ports.old.log }
-    ensures count { S.count ports.new.shards ≡ S.count ports.old.shards }
-    ensures shard_later { (n : ℕ) → S.faults ports.old.shards n ≤ S.faults ports.new.shards n }
-    ensures log_later { (n : ℕ) → L.faults ports.old.log n ≤ L.faults ports.new.log n }
-    ensures elsewhere { (n : ℕ) → n ≢ L.at ports.old.log → L.sights ports.new.log n ≡ L.sights ports.old.log n }
-    ensures nodes { KeepNodes (S.sights ports.old.shards) (S.sights ports.new.shards) }
-    ensures log_nodes { KeepNodes (L.sights ports.old.log) (L.sights ports.new.log) }
-    ensures log_holds { L.holds ports.old.log → L.holds ports.new.log }
-    ensures shard_holds { S.holds ports.old.shards → S.holds ports.new.shards }
-    ensures serves { (l : ℕ) → S.serves ports.old.shards l → S.serves ports.new.shards l }
+    ensures keeps_log { KeepsLog L.at L.header L.count L.sights L.faults L.holds ports.old.log ports.new.log }
+    ensures keeps_shards { KeepsShards S.count S.sights S.faults S.holds S.serves ports.old.shards ports.new.shards }
     ensures resumed { IfOk result (IsResumed unfinished.now) }
 {
     let _limit = shape.batch();
@@ -109,18 +100,8 @@ fn resume_committed<S: PortSet, L: LogPort, G: Gate>(
     ensures fault { IfErr result (IsCausedFault shape.now (L.sights ports.new.log) (S.sights ports.new.shards)) }
     ensures idle { OnOk result (L.phase ports.new.log unfinished.now.batch.lane ≡ Idle) }
     ensures others { L.alone ≡ true → KeepsOthers (L.header ports.old.log) unfinished.now.batch.lane (L.phase ports.old.log) (L.phase ports.new.log) (L.open_txs ports.old.log) (L.open_txs ports.new.log) }
-    ensures at_same { L.at ports.new.log ≡ L.at ports.old.log }
-    ensures header { L.header ports.new.log ≡ L.header ports.old.log }
-    ensures log_count { L.count ports.new.log ≡ L.count ports.old.log }
-    ensures count { S.count ports.new.shards ≡ S.count ports.old.shards }
-    ensures shard_later { (n : ℕ) → S.faults ports.old.shards n ≤ S.faults ports.new.shards n }
-    ensures log_later { (n : ℕ) → L.faults ports.old.log n ≤ L.faults ports.new.log n }
-    ensures elsewhere { (n : ℕ) → n ≢ L.at ports.old.log → L.sights ports.new.log n ≡ L.sights ports.old.log n }
-    ensures nodes { KeepNodes (S.sights ports.old.shards) (S.sights ports.new.shards) }
-    ensures log_nodes { KeepNodes (L.sights ports.old.log) (L.sights ports.new.log) }
-    ensures log_holds { L.holds ports.old.log → L.holds ports.new.log }
-    ensures shard_holds { S.holds ports.old.shards → S.holds ports.new.shards }
-    ensures serves { (l : ℕ) → S.serves ports.old.shards l → S.serves ports.new.shards l }
+    ensures keeps_log { KeepsLog L.at L.header L.count L.sights L.faults L.holds ports.old.log ports.new.log }
+    ensures keeps_shards { KeepsShards S.count S.sights S.faults S.holds S.serves ports.old.shards ports.new.shards }
     ensures resumed { IfOk result (IsResumed unfinished.now) }
 {
     let _limit = shape.batch();
@@ -187,18 +168,8 @@ fn resume_discarded<S: PortSet, L: LogPort, G: Gate>(
     ensures fault { IfErr result (IsCausedFault shape.now (L.sights ports.new.log) (S.sights ports.new.shards)) }
     ensures idle { OnOk result (L.phase ports.new.log unfinished.now.batch.lane ≡ Idle) }
     ensures others { L.alone ≡ true → KeepsOthers (L.header ports.old.log) unfinished.now.batch.lane (L.phase ports.old.log) (L.phase ports.new.log) (L.open_txs ports.old.log) (L.open_txs ports.new.log) }
-    ensures at_same { L.at ports.new.log ≡ L.at ports.old.log }
-    ensures header { L.header ports.new.log ≡ L.header ports.old.log }
-    ensures log_count { L.count ports.new.log ≡ L.count ports.old.log }
-    ensures count { S.count ports.new.shards ≡ S.count ports.old.shards }
-    ensures shard_later { (n : ℕ) → S.faults ports.old.shards n ≤ S.faults ports.new.shards n }
-    ensures log_later { (n : ℕ) → L.faults ports.old.log n ≤ L.faults ports.new.log n }
-    ensures elsewhere { (n : ℕ) → n ≢ L.at ports.old.log → L.sights ports.new.log n ≡ L.sights ports.old.log n }
-    ensures nodes { KeepNodes (S.sights ports.old.shards) (S.sights ports.new.shards) }
-    ensures log_nodes { KeepNodes (L.sights ports.old.log) (L.sights ports.new.log) }
-    ensures log_holds { L.holds ports.old.log → L.holds ports.new.log }
-    ensures shard_holds { S.holds ports.old.shards → S.holds ports.new.shards }
-    ensures serves { (l : ℕ) → S.serves ports.old.shards l → S.serves ports.new.shards l }
+    ensures keeps_log { KeepsLog L.at L.header L.count L.sights L.faults L.holds ports.old.log ports.new.log }
+    ensures keeps_shards { KeepsShards S.count S.sights S.faults S.holds S.serves ports.old.shards ports.new.shards }
     ensures resumed { IfOk result (IsResumed unfinished.now) }
 {
     let _limit = shape.batch();
@@ -269,18 +240,8 @@ fn resume_lane<S: PortSet, L: LogPort, G: Gate>(
     ensures fault { IfErr result (IsCausedFault shape.now (L.sights ports.new.log) (S.sights ports.new.shards)) }
     ensures idle { OnOk result (L.phase ports.new.log unfinished.now.batch.lane ≡ Idle) }
     ensures others { L.alone ≡ true → KeepsOthers (L.header ports.old.log) unfinished.now.batch.lane (L.phase ports.old.log) (L.phase ports.new.log) (L.open_txs ports.old.log) (L.open_txs ports.new.log) }
-    ensures at_same { L.at ports.new.log ≡ L.at ports.old.log }
-    ensures header { L.header ports.new.log ≡ L.header ports.old.log }
-    ensures log_count { L.count ports.new.log ≡ L.count ports.old.log }
-    ensures count { S.count ports.new.shards ≡ S.count ports.old.shards }
-    ensures shard_later { (n : ℕ) → S.faults ports.old.shards n ≤ S.faults ports.new.shards n }
-    ensures log_later { (n : ℕ) → L.faults ports.old.log n ≤ L.faults ports.new.log n }
-    ensures elsewhere { (n : ℕ) → n ≢ L.at ports.old.log → L.sights ports.new.log n ≡ L.sights ports.old.log n }
-    ensures nodes { KeepNodes (S.sights ports.old.shards) (S.sights ports.new.shards) }
-    ensures log_nodes { KeepNodes (L.sights ports.old.log) (L.sights ports.new.log) }
-    ensures log_holds { L.holds ports.old.log → L.holds ports.new.log }
-    ensures shard_holds { S.holds ports.old.shards → S.holds ports.new.shards }
-    ensures serves { (l : ℕ) → S.serves ports.old.shards l → S.serves ports.new.shards l }
+    ensures keeps_log { KeepsLog L.at L.header L.count L.sights L.faults L.holds ports.old.log ports.new.log }
+    ensures keeps_shards { KeepsShards S.count S.sights S.faults S.holds S.serves ports.old.shards ports.new.shards }
     ensures resumed { IfOk result (IsResumed unfinished.now) }
 {
     match unfinished.phase {
@@ -342,18 +303,8 @@ pub fn resume<S: PortSet, L: LogPort, G: Gate>(
     ensures left { IfErr result (AreStopped shape.now L.alone lanes.now (L.sights ports.old.log (L.at ports.old.log)) (S.sights ports.old.shards) (L.sights ports.new.log (L.at ports.new.log)) (S.sights ports.new.shards)) }
     ensures fault { IfErr result (WasCaused shape.now (L.sights ports.new.log) (S.sights ports.new.shards)) }
     ensures others { L.alone ≡ true → KeepsUnlisted (L.header ports.old.log) lanes.now (L.phase ports.old.log) (L.phase ports.new.log) (L.open_txs ports.old.log) (L.open_txs ports.new.log) }
-    ensures at_same { L.at ports.new.log ≡ L.at ports.old.log }
-    ensures header { L.header ports.new.log ≡ L.header ports.old.log }
-    ensures log_count { L.count ports.new.log ≡ L.count ports.old.log }
-    ensures count { S.count ports.new.shards ≡ S.count ports.old.shards }
-    ensures shard_later { (n : ℕ) → S.faults ports.old.shards n ≤ S.faults ports.new.shards n }
-    ensures log_later { (n : ℕ) → L.faults ports.old.log n ≤ L.faults ports.new.log n }
-    ensures elsewhere { (n : ℕ) → n ≢ L.at ports.old.log → L.sights ports.new.log n ≡ L.sights ports.old.log n }
-    ensures nodes { KeepNodes (S.sights ports.old.shards) (S.sights ports.new.shards) }
-    ensures log_nodes { KeepNodes (L.sights ports.old.log) (L.sights ports.new.log) }
-    ensures log_holds { L.holds ports.old.log → L.holds ports.new.log }
-    ensures shard_holds { S.holds ports.old.shards → S.holds ports.new.shards }
-    ensures serves { (l : ℕ) → S.serves ports.old.shards l → S.serves ports.new.shards l }
+    ensures keeps_log { KeepsLog L.at L.header L.count L.sights L.faults L.holds ports.old.log ports.new.log }
+    ensures keeps_shards { KeepsShards S.count S.sights S.faults S.holds S.serves ports.old.shards ports.new.shards }
     ensures resumed { IfOk result (λ r. AreResumed lanes.now r.batches) }
 {
     let mut batches = match Vec::with_capacity(alloc, lanes.len()) {

@@ -1,11 +1,12 @@
 use Rattle.input_files.specs.Limits.{IsShort}
-use Rattle.std.proofs.Common.{inl, All, ◌≡◌, ◌∙◌, refl, sym, ap, subst, arith, get_or, [], ◌+◌}
+use Rattle.std.proofs.Common.{inl, All, ◌≡◌, refl, sym, ap, subst, arith, get_or, [], ◌+◌}
 use Rattle.file_runs.proofs.Joining.{files_begin, files_step, files_end, keeps_none, keeps_fault}
 use Rattle.file_runs.proofs.Cutting.{cut_none, cut_behind, cut_at}
 use Rattle.file_runs.proofs.FileTelling.{told_files, told_all}
 use Rattle.ledger_laws.proofs.Cuts.{end_self, end_trans}
 use Rattle.cbdc_model.specs.World.{AreIdle}
 use Rattle.ledger_runs.specs.Faults.{HaveFailed, MayHold, AllRest}
+use Rattle.ledger_runs.proofs.Keeping.{ledger_same, ledger_on}
 use Rattle.ledger_nodes.specs.Ledgers.{journals, flights, faults, opened, capacity}
 use Rattle.file_runs.specs.Runs.{joined, IsFilesPiece}
 use Rattle.ledger_runs.proofs.Launching.{launches_begin}
@@ -23,23 +24,19 @@ returns-in_default-clause-keeps g c = keeps_none c.args.ledger.header.shape c.ar
 pub returns-in-Err-clause-keeps : goal.returns-in-Err-clause-keeps
 returns-in-Err-clause-keeps g c =
     keeps_fault c.args.ledger.header.shape c.files.ledger.header.shape c.args.files.now c.files.txs-index c.as_slice.result.now (journals g.D.Disk.count g.D.Disk.limit c.args.ledger) (journals g.D.Disk.count g.D.Disk.limit c.files.ledger) (journals g.D.Disk.count g.D.Disk.limit c.run_file-behind.result.ledger)
-    c.files.invariant.shape c.files-test.true (subst (λ f. f ≡ get_or c.args.files.now c.files.txs-index f) (sym c.as_slice.ensures) c.txs-item.is) c.files.invariant.so.keeps c.run_file-behind.ensures.keeps
+    c.files.invariant.keeps_ledger.shape_same c.files-test.true (subst (λ f. f ≡ get_or c.args.files.now c.files.txs-index f) (sym c.as_slice.ensures) c.txs-item.is) c.files.invariant.so.keeps c.run_file-behind.ensures.keeps
 
 pub returns-in-Err-push-clause-keeps : goal.returns-in-Err-push-clause-keeps
 returns-in-Err-push-clause-keeps g c =
     keeps_fault c.args.ledger.header.shape c.files.ledger.header.shape c.args.files.now c.files.txs-index c.as_slice.result.now (journals g.D.Disk.count g.D.Disk.limit c.args.ledger) (journals g.D.Disk.count g.D.Disk.limit c.files.ledger) (journals g.D.Disk.count g.D.Disk.limit c.run_file-behind.result.ledger)
-    c.files.invariant.shape c.files-test.true (subst (λ f. f ≡ get_or c.args.files.now c.files.txs-index f) (sym c.as_slice.ensures) c.txs-item.is) c.files.invariant.so.keeps c.run_file-behind.ensures.keeps
+    c.files.invariant.keeps_ledger.shape_same c.files-test.true (subst (λ f. f ≡ get_or c.args.files.now c.files.txs-index f) (sym c.as_slice.ensures) c.txs-item.is) c.files.invariant.so.keeps c.run_file-behind.ensures.keeps
 
 pub files-init : goal.files-init
 files-init g c = record {
-  shape = refl;
+  keeps_ledger = ledger_same c.args.ledger;
   so = files_begin c.args.ledger.header.shape (g.V.Verifier.verdict_of c.args.verifier.now) (journals g.D.Disk.count g.D.Disk.limit c.args.ledger) c.requires.idle;
   told = λ _ _ _. (c.in-Ok.ensures.items, λ n. refl);
   quiet = λ was. was;
-  holds = λ h. h;
-  later = λ n. omega arith;
-  opened = λ n. refl;
-  capacity = λ n. refl;
   checked = c.requires.checked;
   flies = flies_none c.args.ledger.header.shape [] (journals g.D.Disk.count g.D.Disk.limit c.args.ledger) (flights g.D.Disk.count g.D.Disk.limit c.args.ledger);
   launches = launches_begin c.args.ledger.header.shape (IsFilesPiece c.args.ledger.header.shape (g.V.Verifier.verdict_of c.args.verifier.now) c.args.files.now (journals g.D.Disk.count g.D.Disk.limit c.args.ledger) (journals g.D.Disk.count g.D.Disk.limit c.args.ledger))
@@ -53,29 +50,25 @@ files-preserved g c =
     let is = c.files.invariant in
     let did = c.run_file-behind.ensures in
     record {
-      shape = did.shape ∙ is.shape;
+      keeps_ledger = ledger_on is.keeps_ledger did.keeps_ledger;
       so = files_step c.args.ledger.header.shape c.files.ledger.header.shape (g.V.Verifier.verdict_of c.args.verifier.now) c.args.files.now c.files.txs-index c.as_slice.result.now
           (journals g.D.Disk.count g.D.Disk.limit c.args.ledger) (journals g.D.Disk.count g.D.Disk.limit c.files.ledger) (journals g.D.Disk.count g.D.Disk.limit c.run_file-behind.result.ledger)
-          is.shape c.files-test.true (subst (λ f. f ≡ get_or c.args.files.now c.files.txs-index f) (sym c.as_slice.ensures) c.txs-item.is) is.so (when_whole c.run_file-behind.result.came c.in-Ok-came.wave c.in-Ok-came.is c.run_file-behind.ensures.idle) did.keeps (when_whole c.run_file-behind.result.came c.in-Ok-came.wave c.in-Ok-came.is c.run_file-behind.ensures.runs);
+          is.keeps_ledger.shape_same c.files-test.true (subst (λ f. f ≡ get_or c.args.files.now c.files.txs-index f) (sym c.as_slice.ensures) c.txs-item.is) is.so (when_whole c.run_file-behind.result.came c.in-Ok-came.wave c.in-Ok-came.is c.run_file-behind.ensures.idle) did.keeps (when_whole c.run_file-behind.result.came c.in-Ok-came.wave c.in-Ok-came.is c.run_file-behind.ensures.runs);
       told = told_files c.args.ledger.header.shape c.files.ledger.header.shape (g.V.Verifier.verdict_of c.args.verifier.now) c.args.files.now c.files.txs-index c.as_slice.result.now
           (journals g.D.Disk.count g.D.Disk.limit c.args.ledger) (journals g.D.Disk.count g.D.Disk.limit c.files.ledger) (journals g.D.Disk.count g.D.Disk.limit c.run_file-behind.result.ledger) c.files.waves.items c.push.new.self.items c.in-Ok-came.wave
-          is.shape c.files-test.true (subst (λ f. f ≡ get_or c.args.files.now c.files.txs-index f) (sym c.as_slice.ensures) c.txs-item.is) is.so.keeps c.in-Ok-push.ensures.items is.told (of_whole _ c.run_file-behind.result.came c.in-Ok-came.wave c.in-Ok-came.is c.run_file-behind.ensures.told);
+          is.keeps_ledger.shape_same c.files-test.true (subst (λ f. f ≡ get_or c.args.files.now c.files.txs-index f) (sym c.as_slice.ensures) c.txs-item.is) is.so.keeps c.in-Ok-push.ensures.items is.told (of_whole _ c.run_file-behind.result.came c.in-Ok-came.wave c.in-Ok-came.is c.run_file-behind.ensures.told);
       quiet = λ was. (when_whole c.run_file-behind.result.came c.in-Ok-came.wave c.in-Ok-came.is c.run_file-behind.ensures.quiet) (is.quiet was);
-      holds = λ h. did.holds (is.holds h);
-      later = λ n. omega (arith, did.later n, is.later n);
-      opened = λ n. did.opened_same n ∙ is.opened n;
-      capacity = λ n. did.capacity_same n ∙ is.capacity n;
       checked = did.still;
       flies = flies_more c.args.ledger.header.shape c.files.ledger.header.shape c.args.files.now c.files.txs-index c.as_slice.result.now
           (journals g.D.Disk.count g.D.Disk.limit c.args.ledger) (journals g.D.Disk.count g.D.Disk.limit c.files.ledger) (journals g.D.Disk.count g.D.Disk.limit c.run_file-behind.result.ledger) (flights g.D.Disk.count g.D.Disk.limit c.args.ledger) (flights g.D.Disk.count g.D.Disk.limit c.files.ledger) (flights g.D.Disk.count g.D.Disk.limit c.run_file-behind.result.ledger)
-          is.shape c.files-test.true (subst (λ f. f ≡ get_or c.args.files.now c.files.txs-index f) (sym c.as_slice.ensures) c.txs-item.is) is.so.keeps is.flies did.flies;
+          is.keeps_ledger.shape_same c.files-test.true (subst (λ f. f ≡ get_or c.args.files.now c.files.txs-index f) (sym c.as_slice.ensures) c.txs-item.is) is.so.keeps is.flies did.flies;
       launches = files_launch c.args.ledger.header.shape c.files.ledger.header.shape (g.V.Verifier.verdict_of c.args.verifier.now) c.args.files.now c.files.txs-index c.as_slice.result.now
           (journals g.D.Disk.count g.D.Disk.limit c.args.ledger) (journals g.D.Disk.count g.D.Disk.limit c.files.ledger) (journals g.D.Disk.count g.D.Disk.limit c.run_file-behind.result.ledger) (flights g.D.Disk.count g.D.Disk.limit c.args.ledger) (flights g.D.Disk.count g.D.Disk.limit c.files.ledger) (flights g.D.Disk.count g.D.Disk.limit c.run_file-behind.result.ledger)
-          is.shape c.files-test.true (subst (λ f. f ≡ get_or c.args.files.now c.files.txs-index f) (sym c.as_slice.ensures) c.txs-item.is) is.prepared is.launches did.launches;
+          is.keeps_ledger.shape_same c.files-test.true (subst (λ f. f ≡ get_or c.args.files.now c.files.txs-index f) (sym c.as_slice.ensures) c.txs-item.is) is.prepared is.launches did.launches;
       grows = λ n. end_trans (journals g.D.Disk.count g.D.Disk.limit c.args.ledger n) (journals g.D.Disk.count g.D.Disk.limit c.files.ledger n) (journals g.D.Disk.count g.D.Disk.limit c.run_file-behind.result.ledger n) (is.grows n) (did.grows n);
       prepared = file_prepared c.args.ledger.header.shape c.files.ledger.header.shape (g.V.Verifier.verdict_of c.args.verifier.now) c.args.files.now c.files.txs-index c.as_slice.result.now
           (journals g.D.Disk.count g.D.Disk.limit c.args.ledger) (journals g.D.Disk.count g.D.Disk.limit c.files.ledger) (journals g.D.Disk.count g.D.Disk.limit c.run_file-behind.result.ledger)
-          is.shape c.files-test.true (subst (λ f. f ≡ get_or c.args.files.now c.files.txs-index f) (sym c.as_slice.ensures) c.txs-item.is) is.prepared (when_whole c.run_file-behind.result.came c.in-Ok-came.wave c.in-Ok-came.is c.run_file-behind.ensures.prepared);
+          is.keeps_ledger.shape_same c.files-test.true (subst (λ f. f ≡ get_or c.args.files.now c.files.txs-index f) (sym c.as_slice.ensures) c.txs-item.is) is.prepared (when_whole c.run_file-behind.result.came c.in-Ok-came.wave c.in-Ok-came.is c.run_file-behind.ensures.prepared);
     }
 
 pub returns-clause-keeps : goal.returns-clause-keeps
@@ -107,7 +100,7 @@ returns-in-Err-clause-fault g c =
     files_cause c.args.ledger.header.shape c.files.ledger.header.shape (g.V.Verifier.verdict_of c.args.verifier.now) c.args.files.now c.files.txs-index c.as_slice.result.now
     (journals g.D.Disk.count g.D.Disk.limit c.args.ledger) (journals g.D.Disk.count g.D.Disk.limit c.files.ledger) (journals g.D.Disk.count g.D.Disk.limit c.run_file-behind.result.ledger)
     (HaveFailed (opened g.D.Disk.count g.D.Disk.limit c.run_file-behind.result.ledger) (faults g.D.Disk.count g.D.Disk.limit c.run_file-behind.result.ledger)) (MayHold (capacity g.D.Disk.count g.D.Disk.limit c.run_file-behind.result.ledger))
-    c.files.invariant.shape c.files-test.true (subst (λ f. f ≡ get_or c.args.files.now c.files.txs-index f) (sym c.as_slice.ensures) c.txs-item.is) c.files.invariant.grows c.files.invariant.prepared c.in-Err.fault (of_fault _ c.run_file-behind.result.came c.in-Err.fault c.in-Err.is c.run_file-behind.ensures.fault)
+    c.files.invariant.keeps_ledger.shape_same c.files-test.true (subst (λ f. f ≡ get_or c.args.files.now c.files.txs-index f) (sym c.as_slice.ensures) c.txs-item.is) c.files.invariant.grows c.files.invariant.prepared c.in-Err.fault (of_fault _ c.run_file-behind.result.came c.in-Err.fault c.in-Err.is c.run_file-behind.ensures.fault)
 
 pub returns-in_default-clause-flies : goal.returns-in_default-clause-flies
 returns-in_default-clause-flies g c = flies_none c.args.ledger.header.shape (joined c.args.files.now) (journals g.D.Disk.count g.D.Disk.limit c.args.ledger) (flights g.D.Disk.count g.D.Disk.limit c.args.ledger)
@@ -116,13 +109,13 @@ pub returns-in-Err-clause-flies : goal.returns-in-Err-clause-flies
 returns-in-Err-clause-flies g c =
     flies_fault c.args.ledger.header.shape c.files.ledger.header.shape c.args.files.now c.files.txs-index c.as_slice.result.now
     (journals g.D.Disk.count g.D.Disk.limit c.args.ledger) (journals g.D.Disk.count g.D.Disk.limit c.files.ledger) (journals g.D.Disk.count g.D.Disk.limit c.run_file-behind.result.ledger) (flights g.D.Disk.count g.D.Disk.limit c.args.ledger) (flights g.D.Disk.count g.D.Disk.limit c.files.ledger) (flights g.D.Disk.count g.D.Disk.limit c.run_file-behind.result.ledger)
-    c.files.invariant.shape c.files-test.true (subst (λ f. f ≡ get_or c.args.files.now c.files.txs-index f) (sym c.as_slice.ensures) c.txs-item.is) c.files.invariant.so.keeps c.files.invariant.flies c.run_file-behind.ensures.flies
+    c.files.invariant.keeps_ledger.shape_same c.files-test.true (subst (λ f. f ≡ get_or c.args.files.now c.files.txs-index f) (sym c.as_slice.ensures) c.txs-item.is) c.files.invariant.so.keeps c.files.invariant.flies c.run_file-behind.ensures.flies
 
 pub returns-in-Err-push-clause-flies : goal.returns-in-Err-push-clause-flies
 returns-in-Err-push-clause-flies g c =
     flies_fault c.args.ledger.header.shape c.files.ledger.header.shape c.args.files.now c.files.txs-index c.as_slice.result.now
     (journals g.D.Disk.count g.D.Disk.limit c.args.ledger) (journals g.D.Disk.count g.D.Disk.limit c.files.ledger) (journals g.D.Disk.count g.D.Disk.limit c.run_file-behind.result.ledger) (flights g.D.Disk.count g.D.Disk.limit c.args.ledger) (flights g.D.Disk.count g.D.Disk.limit c.files.ledger) (flights g.D.Disk.count g.D.Disk.limit c.run_file-behind.result.ledger)
-    c.files.invariant.shape c.files-test.true (subst (λ f. f ≡ get_or c.args.files.now c.files.txs-index f) (sym c.as_slice.ensures) c.txs-item.is) c.files.invariant.so.keeps c.files.invariant.flies c.run_file-behind.ensures.flies
+    c.files.invariant.keeps_ledger.shape_same c.files-test.true (subst (λ f. f ≡ get_or c.args.files.now c.files.txs-index f) (sym c.as_slice.ensures) c.txs-item.is) c.files.invariant.so.keeps c.files.invariant.flies c.run_file-behind.ensures.flies
 
 pub returns-clause-flies : goal.returns-clause-flies
 returns-clause-flies g c =
@@ -141,7 +134,7 @@ returns-in-Err-clause-least g c =
     files_end_so c.args.ledger.header.shape c.files.ledger.header.shape (g.V.Verifier.verdict_of c.args.verifier.now) c.args.files.now c.files.txs-index c.as_slice.result.now
     (journals g.D.Disk.count g.D.Disk.limit c.args.ledger) (journals g.D.Disk.count g.D.Disk.limit c.files.ledger) (journals g.D.Disk.count g.D.Disk.limit c.run_file-behind.result.ledger)
     (HaveFailed (opened g.D.Disk.count g.D.Disk.limit c.run_file-behind.result.ledger) (faults g.D.Disk.count g.D.Disk.limit c.run_file-behind.result.ledger)) (MayHold (capacity g.D.Disk.count g.D.Disk.limit c.run_file-behind.result.ledger)) c.in-Err.fault
-    c.files.invariant.shape c.files-test.true (subst (λ f. f ≡ get_or c.args.files.now c.files.txs-index f) (sym c.as_slice.ensures) c.txs-item.is) c.files.invariant.grows c.files.invariant.prepared c.files.invariant.so.idle (of_fault _ c.run_file-behind.result.came c.in-Err.fault c.in-Err.is c.run_file-behind.ensures.least) c.run_file-behind.ensures.begun c.run_file-behind.ensures.grows
+    c.files.invariant.keeps_ledger.shape_same c.files-test.true (subst (λ f. f ≡ get_or c.args.files.now c.files.txs-index f) (sym c.as_slice.ensures) c.txs-item.is) c.files.invariant.grows c.files.invariant.prepared c.files.invariant.so.idle (of_fault _ c.run_file-behind.result.came c.in-Err.fault c.in-Err.is c.run_file-behind.ensures.least) c.run_file-behind.ensures.begun c.run_file-behind.ensures.grows
 
 pub returns-in-Err-push-clause-least : goal.returns-in-Err-push-clause-least
 returns-in-Err-push-clause-least g c =
@@ -151,8 +144,8 @@ returns-in-Err-push-clause-least g c =
     (λ n. end_trans (journals g.D.Disk.count g.D.Disk.limit c.args.ledger n) (journals g.D.Disk.count g.D.Disk.limit c.files.ledger n) (journals g.D.Disk.count g.D.Disk.limit c.run_file-behind.result.ledger n) (is.grows n) (c.run_file-behind.ensures.grows n))
     (file_prepared c.args.ledger.header.shape c.files.ledger.header.shape (g.V.Verifier.verdict_of c.args.verifier.now) c.args.files.now c.files.txs-index c.as_slice.result.now
     (journals g.D.Disk.count g.D.Disk.limit c.args.ledger) (journals g.D.Disk.count g.D.Disk.limit c.files.ledger) (journals g.D.Disk.count g.D.Disk.limit c.run_file-behind.result.ledger)
-    is.shape c.files-test.true (subst (λ f. f ≡ get_or c.args.files.now c.files.txs-index f) (sym c.as_slice.ensures) c.txs-item.is) is.prepared (when_whole c.run_file-behind.result.came c.in-Ok-came.wave c.in-Ok-came.is c.run_file-behind.ensures.prepared))
-    (subst (λ k. AreIdle k (journals g.D.Disk.count g.D.Disk.limit c.run_file-behind.result.ledger)) is.shape (when_whole c.run_file-behind.result.came c.in-Ok-came.wave c.in-Ok-came.is c.run_file-behind.ensures.idle))
+    is.keeps_ledger.shape_same c.files-test.true (subst (λ f. f ≡ get_or c.args.files.now c.files.txs-index f) (sym c.as_slice.ensures) c.txs-item.is) is.prepared (when_whole c.run_file-behind.result.came c.in-Ok-came.wave c.in-Ok-came.is c.run_file-behind.ensures.prepared))
+    (subst (λ k. AreIdle k (journals g.D.Disk.count g.D.Disk.limit c.run_file-behind.result.ledger)) is.keeps_ledger.shape_same (when_whole c.run_file-behind.result.came c.in-Ok-came.wave c.in-Ok-came.is c.run_file-behind.ensures.idle))
     (ap (λ e. e.fault) c.no_memory-in-Err-push.ensures)
 
 pub returns-in_default-clause-begun : goal.returns-in_default-clause-begun
@@ -162,13 +155,13 @@ pub returns-in-Err-clause-begun : goal.returns-in-Err-clause-begun
 returns-in-Err-clause-begun g c =
     files_begun c.args.ledger.header.shape c.files.ledger.header.shape (g.V.Verifier.verdict_of c.args.verifier.now) c.args.files.now c.files.txs-index c.as_slice.result.now
     (journals g.D.Disk.count g.D.Disk.limit c.args.ledger) (journals g.D.Disk.count g.D.Disk.limit c.files.ledger) (journals g.D.Disk.count g.D.Disk.limit c.run_file-behind.result.ledger)
-    c.files.invariant.shape c.files-test.true (subst (λ f. f ≡ get_or c.args.files.now c.files.txs-index f) (sym c.as_slice.ensures) c.txs-item.is) c.files.invariant.prepared c.run_file-behind.ensures.begun
+    c.files.invariant.keeps_ledger.shape_same c.files-test.true (subst (λ f. f ≡ get_or c.args.files.now c.files.txs-index f) (sym c.as_slice.ensures) c.txs-item.is) c.files.invariant.prepared c.run_file-behind.ensures.begun
 
 pub returns-in-Err-push-clause-begun : goal.returns-in-Err-push-clause-begun
 returns-in-Err-push-clause-begun g c =
     files_begun c.args.ledger.header.shape c.files.ledger.header.shape (g.V.Verifier.verdict_of c.args.verifier.now) c.args.files.now c.files.txs-index c.as_slice.result.now
     (journals g.D.Disk.count g.D.Disk.limit c.args.ledger) (journals g.D.Disk.count g.D.Disk.limit c.files.ledger) (journals g.D.Disk.count g.D.Disk.limit c.run_file-behind.result.ledger)
-    c.files.invariant.shape c.files-test.true (subst (λ f. f ≡ get_or c.args.files.now c.files.txs-index f) (sym c.as_slice.ensures) c.txs-item.is) c.files.invariant.prepared c.run_file-behind.ensures.begun
+    c.files.invariant.keeps_ledger.shape_same c.files-test.true (subst (λ f. f ≡ get_or c.args.files.now c.files.txs-index f) (sym c.as_slice.ensures) c.txs-item.is) c.files.invariant.prepared c.run_file-behind.ensures.begun
 
 pub returns-clause-begun : goal.returns-clause-begun
 returns-clause-begun g c some =
@@ -181,12 +174,12 @@ returns-in_default-clause-cut g c = cut_none c.args.ledger.header.shape (g.V.Ver
 pub returns-in-Err-clause-cut : goal.returns-in-Err-clause-cut
 returns-in-Err-clause-cut g c =
     cut_behind c.args.ledger.header.shape c.files.ledger.header.shape (g.V.Verifier.verdict_of c.args.verifier.now) c.args.files.now c.files.txs-index c.as_slice.result.now (journals g.D.Disk.count g.D.Disk.limit c.args.ledger) (journals g.D.Disk.count g.D.Disk.limit c.files.ledger) (journals g.D.Disk.count g.D.Disk.limit c.run_file-behind.result.ledger)
-    c.files.invariant.shape c.files-test.true (subst (λ f. f ≡ get_or c.args.files.now c.files.txs-index f) (sym c.as_slice.ensures) c.txs-item.is) c.files.invariant.so c.run_file-behind.ensures.grows c.run_file-behind.ensures.begun
+    c.files.invariant.keeps_ledger.shape_same c.files-test.true (subst (λ f. f ≡ get_or c.args.files.now c.files.txs-index f) (sym c.as_slice.ensures) c.txs-item.is) c.files.invariant.so c.run_file-behind.ensures.grows c.run_file-behind.ensures.begun
 
 pub returns-in-Err-push-clause-cut : goal.returns-in-Err-push-clause-cut
 returns-in-Err-push-clause-cut g c =
     cut_behind c.args.ledger.header.shape c.files.ledger.header.shape (g.V.Verifier.verdict_of c.args.verifier.now) c.args.files.now c.files.txs-index c.as_slice.result.now (journals g.D.Disk.count g.D.Disk.limit c.args.ledger) (journals g.D.Disk.count g.D.Disk.limit c.files.ledger) (journals g.D.Disk.count g.D.Disk.limit c.run_file-behind.result.ledger)
-    c.files.invariant.shape c.files-test.true (subst (λ f. f ≡ get_or c.args.files.now c.files.txs-index f) (sym c.as_slice.ensures) c.txs-item.is) c.files.invariant.so c.run_file-behind.ensures.grows c.run_file-behind.ensures.begun
+    c.files.invariant.keeps_ledger.shape_same c.files-test.true (subst (λ f. f ≡ get_or c.args.files.now c.files.txs-index f) (sym c.as_slice.ensures) c.txs-item.is) c.files.invariant.so c.run_file-behind.ensures.grows c.run_file-behind.ensures.begun
 
 pub returns-clause-cut : goal.returns-clause-cut
 returns-clause-cut g c =
@@ -197,11 +190,11 @@ returns-in_default-clause-rests g c lane inside = inl (inl (c.requires.idle lane
 
 pub returns-in-Err-clause-rests : goal.returns-in-Err-clause-rests
 returns-in-Err-clause-rests g c =
-    subst (λ k. AllRest k (journals g.D.Disk.count g.D.Disk.limit c.run_file-behind.result.ledger) (HaveFailed (opened g.D.Disk.count g.D.Disk.limit c.run_file-behind.result.ledger) (faults g.D.Disk.count g.D.Disk.limit c.run_file-behind.result.ledger))) c.files.invariant.shape c.run_file-behind.ensures.rests
+    subst (λ k. AllRest k (journals g.D.Disk.count g.D.Disk.limit c.run_file-behind.result.ledger) (HaveFailed (opened g.D.Disk.count g.D.Disk.limit c.run_file-behind.result.ledger) (faults g.D.Disk.count g.D.Disk.limit c.run_file-behind.result.ledger))) c.files.invariant.keeps_ledger.shape_same c.run_file-behind.ensures.rests
 
 pub returns-in-Err-push-clause-rests : goal.returns-in-Err-push-clause-rests
 returns-in-Err-push-clause-rests g c =
-    subst (λ k. AllRest k (journals g.D.Disk.count g.D.Disk.limit c.run_file-behind.result.ledger) (HaveFailed (opened g.D.Disk.count g.D.Disk.limit c.run_file-behind.result.ledger) (faults g.D.Disk.count g.D.Disk.limit c.run_file-behind.result.ledger))) c.files.invariant.shape c.run_file-behind.ensures.rests
+    subst (λ k. AllRest k (journals g.D.Disk.count g.D.Disk.limit c.run_file-behind.result.ledger) (HaveFailed (opened g.D.Disk.count g.D.Disk.limit c.run_file-behind.result.ledger) (faults g.D.Disk.count g.D.Disk.limit c.run_file-behind.result.ledger))) c.files.invariant.keeps_ledger.shape_same c.run_file-behind.ensures.rests
 
 pub returns-clause-rests : goal.returns-clause-rests
 returns-clause-rests g c lane inside = inl (inl (c.files.invariant.so.idle lane inside))
@@ -215,32 +208,26 @@ pub returns-in-Err-clause-launches : goal.returns-in-Err-clause-launches
 returns-in-Err-clause-launches g c =
     files_launch c.args.ledger.header.shape c.files.ledger.header.shape (g.V.Verifier.verdict_of c.args.verifier.now) c.args.files.now c.files.txs-index c.as_slice.result.now
     (journals g.D.Disk.count g.D.Disk.limit c.args.ledger) (journals g.D.Disk.count g.D.Disk.limit c.files.ledger) (journals g.D.Disk.count g.D.Disk.limit c.run_file-behind.result.ledger) (flights g.D.Disk.count g.D.Disk.limit c.args.ledger) (flights g.D.Disk.count g.D.Disk.limit c.files.ledger) (flights g.D.Disk.count g.D.Disk.limit c.run_file-behind.result.ledger)
-    c.files.invariant.shape c.files-test.true (subst (λ f. f ≡ get_or c.args.files.now c.files.txs-index f) (sym c.as_slice.ensures) c.txs-item.is) c.files.invariant.prepared c.files.invariant.launches c.run_file-behind.ensures.launches
+    c.files.invariant.keeps_ledger.shape_same c.files-test.true (subst (λ f. f ≡ get_or c.args.files.now c.files.txs-index f) (sym c.as_slice.ensures) c.txs-item.is) c.files.invariant.prepared c.files.invariant.launches c.run_file-behind.ensures.launches
 
 pub returns-in-Err-push-clause-launches : goal.returns-in-Err-push-clause-launches
 returns-in-Err-push-clause-launches g c =
     files_launch c.args.ledger.header.shape c.files.ledger.header.shape (g.V.Verifier.verdict_of c.args.verifier.now) c.args.files.now c.files.txs-index c.as_slice.result.now
     (journals g.D.Disk.count g.D.Disk.limit c.args.ledger) (journals g.D.Disk.count g.D.Disk.limit c.files.ledger) (journals g.D.Disk.count g.D.Disk.limit c.run_file-behind.result.ledger) (flights g.D.Disk.count g.D.Disk.limit c.args.ledger) (flights g.D.Disk.count g.D.Disk.limit c.files.ledger) (flights g.D.Disk.count g.D.Disk.limit c.run_file-behind.result.ledger)
-    c.files.invariant.shape c.files-test.true (subst (λ f. f ≡ get_or c.args.files.now c.files.txs-index f) (sym c.as_slice.ensures) c.txs-item.is) c.files.invariant.prepared c.files.invariant.launches c.run_file-behind.ensures.launches
+    c.files.invariant.keeps_ledger.shape_same c.files-test.true (subst (λ f. f ≡ get_or c.args.files.now c.files.txs-index f) (sym c.as_slice.ensures) c.txs-item.is) c.files.invariant.prepared c.files.invariant.launches c.run_file-behind.ensures.launches
 
 pub run_file-behind-requires-clause-idle : goal.run_file-behind-requires-clause-idle
-run_file-behind-requires-clause-idle g c κs k = subst (λ h. AreIdle h (journals g.D.Disk.count g.D.Disk.limit c.files.ledger)) (sym c.files.invariant.shape) c.files.invariant.so.idle
+run_file-behind-requires-clause-idle g c κs k = subst (λ h. AreIdle h (journals g.D.Disk.count g.D.Disk.limit c.files.ledger)) (sym c.files.invariant.keeps_ledger.shape_same) c.files.invariant.so.idle
 
 pub run_file-behind-requires-clause-short : goal.run_file-behind-requires-clause-short
 run_file-behind-requires-clause-short g c κs k = all_at (λ txs. All IsShort txs) c.args.files.now c.files.txs-index c.as_slice.result.now
     c.files-test.true (subst (λ f. f ≡ get_or c.args.files.now c.files.txs-index f) (sym c.as_slice.ensures) c.txs-item.is) c.requires.short
 
-pub returns-in-Err-clause-holds : goal.returns-in-Err-clause-holds
-returns-in-Err-clause-holds g c h = c.run_file-behind.ensures.holds (c.files.invariant.holds h)
+pub returns-in_default-clause-keeps_ledger : goal.returns-in_default-clause-keeps_ledger
+returns-in_default-clause-keeps_ledger g c = ledger_same c.args.ledger
 
-pub returns-in-Err-push-clause-holds : goal.returns-in-Err-push-clause-holds
-returns-in-Err-push-clause-holds g c h = c.run_file-behind.ensures.holds (c.files.invariant.holds h)
+pub returns-in-Err-clause-keeps_ledger : goal.returns-in-Err-clause-keeps_ledger
+returns-in-Err-clause-keeps_ledger g c = ledger_on c.files.invariant.keeps_ledger c.run_file-behind.ensures.keeps_ledger
 
-pub returns-in-Err-push-clause-later : goal.returns-in-Err-push-clause-later
-returns-in-Err-push-clause-later g c n = omega (arith, c.run_file-behind.ensures.later n, c.files.invariant.later n)
-
-pub returns-in-Err-push-clause-opened_same : goal.returns-in-Err-push-clause-opened_same
-returns-in-Err-push-clause-opened_same g c n = c.run_file-behind.ensures.opened_same n ∙ c.files.invariant.opened n
-
-pub returns-in-Err-push-clause-capacity_same : goal.returns-in-Err-push-clause-capacity_same
-returns-in-Err-push-clause-capacity_same g c n = c.run_file-behind.ensures.capacity_same n ∙ c.files.invariant.capacity n
+pub returns-in-Err-push-clause-keeps_ledger : goal.returns-in-Err-push-clause-keeps_ledger
+returns-in-Err-push-clause-keeps_ledger g c = ledger_on c.files.invariant.keeps_ledger c.run_file-behind.ensures.keeps_ledger

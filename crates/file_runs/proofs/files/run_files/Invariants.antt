@@ -1,11 +1,11 @@
-use Rattle.std.proofs.Common.{◌≡◌, ◌≤◌, ℕ, take}
+use Rattle.std.proofs.Common.{ℕ, take}
 use Rattle.cbdc_model.specs.Lanes.{IsEnd}
 use Rattle.ledger_runs.specs.Turning.{OfKept}
 use Rattle.file_runs.specs.Telling.{TellFiles}
 use Rattle.file_runs.proofs.Joining.{FilesSo}
 use Rattle.file_runs.proofs.Flying.{FlyFiles}
 use Rattle.ledger_runs.specs.Flying.{Launches}
-use Rattle.ledger_nodes.specs.Ledgers.{journals, flights, faults, opened, capacity, IsChecked, IsStored, IsQuiet}
+use Rattle.ledger_nodes.specs.Ledgers.{journals, flights, IsChecked, IsQuiet, KeepsLedgerOf}
 use Rattle.file_runs.specs.Runs.{HavePreparedFiles, IsFilesPiece}
 use Rattle.file_runs.proofs.files.run_files.Given as goal
 
@@ -13,14 +13,10 @@ abbrev pub invariant-files : goal.invariant-files
 invariant-files g l =
     let K = l.fn.ledger.header.shape in
     record {
-      shape : l.ledger.header.shape ≡ K;
+      keeps_ledger : KeepsLedgerOf g.D.Disk.count g.D.Disk.limit g.D.Disk.content g.D.Disk.images l.fn.ledger l.ledger;
       so : FilesSo K (g.V.Verifier.verdict_of l.fn.verifier) (take l.txs-index l.files) (journals g.D.Disk.count g.D.Disk.limit l.fn.ledger) (journals g.D.Disk.count g.D.Disk.limit l.ledger);
       told : OfKept K (journals g.D.Disk.count g.D.Disk.limit l.fn.ledger) (λ _ _. TellFiles K (g.V.Verifier.verdict_of l.fn.verifier) (take l.txs-index l.files) (journals g.D.Disk.count g.D.Disk.limit l.fn.ledger) (journals g.D.Disk.count g.D.Disk.limit l.ledger) l.waves.items);
       quiet : IsQuiet l.fn.ledger → IsQuiet l.ledger;
-      holds : IsStored g.D.Disk.content g.D.Disk.images l.fn.ledger → IsStored g.D.Disk.content g.D.Disk.images l.ledger;
-      later : (n : ℕ) → faults g.D.Disk.count g.D.Disk.limit l.fn.ledger n ≤ faults g.D.Disk.count g.D.Disk.limit l.ledger n;
-      opened : (n : ℕ) → opened g.D.Disk.count g.D.Disk.limit l.ledger n ≡ opened g.D.Disk.count g.D.Disk.limit l.fn.ledger n;
-      capacity : (n : ℕ) → capacity g.D.Disk.count g.D.Disk.limit l.ledger n ≡ capacity g.D.Disk.count g.D.Disk.limit l.fn.ledger n;
       checked : IsChecked g.D.Disk.count g.D.Disk.limit l.ledger;
       flies : FlyFiles K (take l.txs-index l.files) (journals g.D.Disk.count g.D.Disk.limit l.fn.ledger) (journals g.D.Disk.count g.D.Disk.limit l.ledger) (flights g.D.Disk.count g.D.Disk.limit l.fn.ledger) (flights g.D.Disk.count g.D.Disk.limit l.ledger);
       launches : Launches K (IsFilesPiece K (g.V.Verifier.verdict_of l.fn.verifier) l.files (journals g.D.Disk.count g.D.Disk.limit l.fn.ledger) (journals g.D.Disk.count g.D.Disk.limit l.ledger)) (journals g.D.Disk.count g.D.Disk.limit l.fn.ledger) (journals g.D.Disk.count g.D.Disk.limit l.ledger) (flights g.D.Disk.count g.D.Disk.limit l.fn.ledger) (flights g.D.Disk.count g.D.Disk.limit l.ledger);

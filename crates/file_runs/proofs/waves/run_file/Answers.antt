@@ -8,6 +8,7 @@ use Rattle.file_runs.proofs.Causing.{file_begun, file_cause, file_done, wave_res
 use Rattle.file_runs.proofs.Pieces.{file_unbegun}
 use Rattle.file_runs.proofs.Flying.{flies_none, flies_file}
 use Rattle.ledger_runs.proofs.Launching.{launches_begin}
+use Rattle.ledger_runs.proofs.Keeping.{ledger_same}
 use Rattle.ledger_nodes.specs.Ledgers.{journals, flights, faults, opened, capacity}
 use Rattle.file_runs.specs.Runs.{IsSentPiece}
 use Rattle.file_runs.proofs.Launching.{file_launches}
@@ -212,3 +213,15 @@ returns-in-Some-clause-still g c = c.run_wave-ledger.ensures.wave.checked c.requ
 
 pub returns-in-None-clause-still : goal.returns-in-None-clause-still
 returns-in-None-clause-still g c = c.run_wave-ledger.ensures.wave.checked c.requires.checked
+
+pub returns-in_default-clause-keeps_ledger : goal.returns-in_default-clause-keeps_ledger
+returns-in_default-clause-keeps_ledger g c = ledger_same c.args.ledger
+
+pub returns-in_default-lanes_of-clause-keeps_ledger : goal.returns-in_default-lanes_of-clause-keeps_ledger
+returns-in_default-lanes_of-clause-keeps_ledger g c = ledger_same c.args.ledger
+
+pub returns-in-Some-clause-keeps_ledger : goal.returns-in-Some-clause-keeps_ledger
+returns-in-Some-clause-keeps_ledger g c = c.run_wave-ledger.ensures.wave.keeps_ledger
+
+pub returns-in-None-clause-keeps_ledger : goal.returns-in-None-clause-keeps_ledger
+returns-in-None-clause-keeps_ledger g c = c.run_wave-ledger.ensures.wave.keeps_ledger

@@ -5,10 +5,11 @@ use Rattle.lane_laws.specs.Answers.{LockAnswer, FinishAnswer, ForgetAnswer}
 use Rattle.lane_driver.proofs.Turning.{turn_stamped, turn_times, finish_stops, discard_stops, later_stops, home_stop}
 use Rattle.cbdc_model.specs.Calls.{IsLockCall, IsFinishCall, IsForgetCall}
 use Rattle.lane_driver.proofs.Ready.{finish_shards, forget_shards}
-use Rattle.lane_driver.proofs.Fitting.{finishes_ready, forgets_ready, calls_kept, ledger_kept, nodes_same, nodes_on}
+use Rattle.lane_driver.proofs.Fitting.{finishes_ready, forgets_ready, calls_kept, ledger_kept}
 use Rattle.std.proofs.Common.{inr}
 use Rattle.lane_driver.proofs.Causing.{log_fault, discard_caused}
 use Rattle.lane_driver.proofs.Serving.{own_served, finishes_served, forgets_served}
+use Rattle.lane_driver.proofs.Keeping.{log_same, log_on, shards_on}
 use Rattle.lane_driver.proofs.batch.from_committed.Goals as goal
 
 pub finish_phase-requires-clause-shards : goal.finish_phase-requires-clause-shards
@@ -21,27 +22,27 @@ finish_phase-requires-clause-calls g c =
 
 pub finish_again-requires-clause-shards : goal.finish_again-requires-clause-shards
 finish_again-requires-clause-shards g c =
-    finish_shards c.args.batch.now c.args.cause c.args.outcomes.now _ _ (cc) c.args.locks.now _ (c.deref-2.ensures.value ∙ c.finish_calls.ensures) c.requires.shards
+    finish_shards c.args.batch.now c.args.cause c.args.outcomes.now _ _ (c.in-Ok.ensures.keeps.count_same ∙ c.requires.count) c.args.locks.now _ (c.deref-2.ensures.value ∙ c.finish_calls.ensures) c.requires.shards
 
 pub finish_again-requires-clause-calls : goal.finish_again-requires-clause-calls
 finish_again-requires-clause-calls g c =
-    calls_kept IsFinishCall (g.S.PortSet.sights c.args.ports.now.shards) (g.S.PortSet.sights c.finish_phase.new.shards) c.in-Ok.ensures.nodes c.deref-2.result.now (finishes_ready c.args.shape.now (g.S.PortSet.sights c.args.ports.now.shards) c.requires.ledger c.args.batch.now c.args.cause c.requires.batch c.requires.cause c.args.outcomes.now c.args.locks.now _ (c.deref-2.ensures.value ∙ c.finish_calls.ensures) c.requires.shards c.requires.locks)
+    calls_kept IsFinishCall (g.S.PortSet.sights c.args.ports.now.shards) (g.S.PortSet.sights c.finish_phase.new.shards) c.in-Ok.ensures.keeps.nodes c.deref-2.result.now (finishes_ready c.args.shape.now (g.S.PortSet.sights c.args.ports.now.shards) c.requires.ledger c.args.batch.now c.args.cause c.requires.batch c.requires.cause c.args.outcomes.now c.args.locks.now _ (c.deref-2.ensures.value ∙ c.finish_calls.ensures) c.requires.shards c.requires.locks)
 
 pub finish_again-requires-2-clause-shards : goal.finish_again-requires-2-clause-shards
 finish_again-requires-2-clause-shards g c =
-    finish_shards c.args.batch.now c.args.cause c.args.outcomes.now _ _ (cc) c.args.locks.now _ (c.deref-3.ensures.value ∙ c.finish_calls.ensures) c.requires.shards
+    finish_shards c.args.batch.now c.args.cause c.args.outcomes.now _ _ ((shards_on (shards_on (shards_on c.in-Ok.ensures.keeps c.finish_again.ensures.keeps) c.in-Ok-from_discarded.ensures.keeps_shards) c.lock_again.ensures.keeps).count_same ∙ c.requires.count) c.args.locks.now _ (c.deref-3.ensures.value ∙ c.finish_calls.ensures) c.requires.shards
 
 pub finish_again-requires-2-clause-calls : goal.finish_again-requires-2-clause-calls
 finish_again-requires-2-clause-calls g c =
-    calls_kept IsFinishCall (g.S.PortSet.sights c.args.ports.now.shards) (g.S.PortSet.sights c.lock_again.new.shards) (nodes_on (g.S.PortSet.sights c.args.ports.now.shards) (g.S.PortSet.sights c.from_discarded.new.ports.shards) (g.S.PortSet.sights c.lock_again.new.shards) (nodes_on (g.S.PortSet.sights c.args.ports.now.shards) (g.S.PortSet.sights c.finish_again.new.shards) (g.S.PortSet.sights c.from_discarded.new.ports.shards) (nodes_on (g.S.PortSet.sights c.args.ports.now.shards) (g.S.PortSet.sights c.finish_phase.new.shards) (g.S.PortSet.sights c.finish_again.new.shards) c.in-Ok.ensures.nodes c.finish_again.ensures.nodes) c.in-Ok-from_discarded.ensures.nodes) c.lock_again.ensures.nodes) c.deref-3.result.now (finishes_ready c.args.shape.now (g.S.PortSet.sights c.args.ports.now.shards) c.requires.ledger c.args.batch.now c.args.cause c.requires.batch c.requires.cause c.args.outcomes.now c.args.locks.now _ (c.deref-3.ensures.value ∙ c.finish_calls.ensures) c.requires.shards c.requires.locks)
+    calls_kept IsFinishCall (g.S.PortSet.sights c.args.ports.now.shards) (g.S.PortSet.sights c.lock_again.new.shards) (shards_on (shards_on (shards_on c.in-Ok.ensures.keeps c.finish_again.ensures.keeps) c.in-Ok-from_discarded.ensures.keeps_shards) c.lock_again.ensures.keeps).nodes c.deref-3.result.now (finishes_ready c.args.shape.now (g.S.PortSet.sights c.args.ports.now.shards) c.requires.ledger c.args.batch.now c.args.cause c.requires.batch c.requires.cause c.args.outcomes.now c.args.locks.now _ (c.deref-3.ensures.value ∙ c.finish_calls.ensures) c.requires.shards c.requires.locks)
 
 pub forget_again-requires-clause-shards : goal.forget_again-requires-clause-shards
 forget_again-requires-clause-shards g c =
-    forget_shards c.args.batch.now c.in-Ok-discard.stamp _ _ (cc) c.args.locks.now _ (c.deref-4.ensures.value ∙ c.in-Ok-from_discarded.ensures.calls) c.requires.shards
+    forget_shards c.args.batch.now c.in-Ok-discard.stamp _ _ ((shards_on (shards_on (shards_on (shards_on c.in-Ok.ensures.keeps c.finish_again.ensures.keeps) c.in-Ok-from_discarded.ensures.keeps_shards) c.lock_again.ensures.keeps) c.finish_again-2.ensures.keeps).count_same ∙ c.requires.count) c.args.locks.now _ (c.deref-4.ensures.value ∙ c.in-Ok-from_discarded.ensures.calls) c.requires.shards
 
 pub forget_again-requires-clause-calls : goal.forget_again-requires-clause-calls
 forget_again-requires-clause-calls g c =
-    calls_kept IsForgetCall (g.S.PortSet.sights c.args.ports.now.shards) (g.S.PortSet.sights c.finish_again-2.new.shards) (nodes_on (g.S.PortSet.sights c.args.ports.now.shards) (g.S.PortSet.sights c.lock_again.new.shards) (g.S.PortSet.sights c.finish_again-2.new.shards) (nodes_on (g.S.PortSet.sights c.args.ports.now.shards) (g.S.PortSet.sights c.from_discarded.new.ports.shards) (g.S.PortSet.sights c.lock_again.new.shards) (nodes_on (g.S.PortSet.sights c.args.ports.now.shards) (g.S.PortSet.sights c.finish_again.new.shards) (g.S.PortSet.sights c.from_discarded.new.ports.shards) (nodes_on (g.S.PortSet.sights c.args.ports.now.shards) (g.S.PortSet.sights c.finish_phase.new.shards) (g.S.PortSet.sights c.finish_again.new.shards) c.in-Ok.ensures.nodes c.finish_again.ensures.nodes) c.in-Ok-from_discarded.ensures.nodes) c.lock_again.ensures.nodes) c.finish_again-2.ensures.nodes) c.deref-4.result.now (forgets_ready c.args.shape.now (g.S.PortSet.sights c.args.ports.now.shards) c.requires.ledger c.args.batch.now c.in-Ok-discard.stamp c.requires.batch c.in-Ok-discard.ensures.stamp c.args.locks.now _ (c.deref-4.ensures.value ∙ c.in-Ok-from_discarded.ensures.calls) c.requires.shards)
+    calls_kept IsForgetCall (g.S.PortSet.sights c.args.ports.now.shards) (g.S.PortSet.sights c.finish_again-2.new.shards) (shards_on (shards_on (shards_on (shards_on c.in-Ok.ensures.keeps c.finish_again.ensures.keeps) c.in-Ok-from_discarded.ensures.keeps_shards) c.lock_again.ensures.keeps) c.finish_again-2.ensures.keeps).nodes c.deref-4.result.now (forgets_ready c.args.shape.now (g.S.PortSet.sights c.args.ports.now.shards) c.requires.ledger c.args.batch.now c.in-Ok-discard.stamp c.requires.batch c.in-Ok-discard.ensures.stamp c.args.locks.now _ (c.deref-4.ensures.value ∙ c.in-Ok-from_discarded.ensures.calls) c.requires.shards)
 
 pub returns-clause-told : goal.returns-clause-told
 returns-clause-told g c = record {
@@ -78,36 +79,18 @@ returns-in-Err-from_discarded-clause-stopped g c = later_stops c.args.shape.now 
     c.in-Ok-discard.stamp (g.L.LogPort.sights c.from_discarded.new.ports.log (g.L.LogPort.at c.from_discarded.new.ports.log)) (g.S.PortSet.sights c.from_discarded.new.ports.shards) c.in-Err-from_discarded.fault c.in-Ok-discard.ensures.told c.in-Err-from_discarded.ensures.stopped
 
 pub from_discarded-requires-clause-ledger : goal.from_discarded-requires-clause-ledger
-from_discarded-requires-clause-ledger g c = ledger_kept c.args.shape.now (g.S.PortSet.sights c.args.ports.now.shards) (g.S.PortSet.sights c.finish_again.new.shards) c.requires.ledger (nodes_on (g.S.PortSet.sights c.args.ports.now.shards) (g.S.PortSet.sights c.finish_phase.new.shards) (g.S.PortSet.sights c.finish_again.new.shards) c.in-Ok.ensures.nodes c.finish_again.ensures.nodes)
+from_discarded-requires-clause-ledger g c = ledger_kept c.args.shape.now (g.S.PortSet.sights c.args.ports.now.shards) (g.S.PortSet.sights c.finish_again.new.shards) c.requires.ledger (shards_on c.in-Ok.ensures.keeps c.finish_again.ensures.keeps).nodes
 
 pub lock_again-requires-clause-calls : goal.lock_again-requires-clause-calls
-lock_again-requires-clause-calls g c = calls_kept IsLockCall (g.S.PortSet.sights c.args.ports.now.shards) (g.S.PortSet.sights c.from_discarded.new.ports.shards) (nodes_on (g.S.PortSet.sights c.args.ports.now.shards) (g.S.PortSet.sights c.finish_again.new.shards) (g.S.PortSet.sights c.from_discarded.new.ports.shards) (nodes_on (g.S.PortSet.sights c.args.ports.now.shards) (g.S.PortSet.sights c.finish_phase.new.shards) (g.S.PortSet.sights c.finish_again.new.shards) c.in-Ok.ensures.nodes c.finish_again.ensures.nodes) c.in-Ok-from_discarded.ensures.nodes) c.args.locks.now c.requires.locks
+lock_again-requires-clause-calls g c = calls_kept IsLockCall (g.S.PortSet.sights c.args.ports.now.shards) (g.S.PortSet.sights c.from_discarded.new.ports.shards) (shards_on (shards_on c.in-Ok.ensures.keeps c.finish_again.ensures.keeps) c.in-Ok-from_discarded.ensures.keeps_shards).nodes c.args.locks.now c.requires.locks
 
 pub returns-in-Err-clause-fault : goal.returns-in-Err-clause-fault
 returns-in-Err-clause-fault g c = inr (inr c.in-Err.ensures.fault)
 
 pub returns-in-Err-discard-clause-fault : goal.returns-in-Err-discard-clause-fault
-returns-in-Err-discard-clause-fault g c = log_fault c.args.shape.now c.args.batch.now.lane (g.L.LogPort.at c.discard.new.self) (g.L.LogPort.sights c.discard.new.self) (g.S.PortSet.sights c.finish_again.new.shards) c.in-Err-discard.fault (record { node = c.home.result; fault = c.in-Err-discard.fault }) c.requires.batch.0 (c.in-Err-discard.ensures.at_same ∙ c.requires.at)
+returns-in-Err-discard-clause-fault g c = log_fault c.args.shape.now c.args.batch.now.lane (g.L.LogPort.at c.discard.new.self) (g.L.LogPort.sights c.discard.new.self) (g.S.PortSet.sights c.finish_again.new.shards) c.in-Err-discard.fault (record { node = c.home.result; fault = c.in-Err-discard.fault }) c.requires.batch.0 (c.in-Err-discard.ensures.keeps.at_same ∙ c.requires.at)
     (home_stop c.home.result (home_of c.args.shape.now c.args.batch.now.lane) c.in-Err-discard.fault c.home.ensures)
     (discard_caused g.L.LogPort.alone c.args.batch.now.lane c.in-Ok.stamp (g.L.LogPort.sights c.args.ports.now.log (g.L.LogPort.at c.args.ports.now.log)) (g.L.LogPort.sights c.discard.new.self (g.L.LogPort.at c.discard.new.self)) c.in-Err-discard.fault c.in-Err-discard.ensures.told)
-
-pub returns-clause-nodes : goal.returns-clause-nodes
-returns-clause-nodes g c = nodes_on (g.S.PortSet.sights c.args.ports.now.shards) (g.S.PortSet.sights c.finish_again-2.new.shards) (g.S.PortSet.sights c.forget_again.new.shards) (nodes_on (g.S.PortSet.sights c.args.ports.now.shards) (g.S.PortSet.sights c.lock_again.new.shards) (g.S.PortSet.sights c.finish_again-2.new.shards) (nodes_on (g.S.PortSet.sights c.args.ports.now.shards) (g.S.PortSet.sights c.from_discarded.new.ports.shards) (g.S.PortSet.sights c.lock_again.new.shards) (nodes_on (g.S.PortSet.sights c.args.ports.now.shards) (g.S.PortSet.sights c.finish_again.new.shards) (g.S.PortSet.sights c.from_discarded.new.ports.shards) (nodes_on (g.S.PortSet.sights c.args.ports.now.shards) (g.S.PortSet.sights c.finish_phase.new.shards) (g.S.PortSet.sights c.finish_again.new.shards) c.in-Ok.ensures.nodes c.finish_again.ensures.nodes) c.in-Ok-from_discarded.ensures.nodes) c.lock_again.ensures.nodes) c.finish_again-2.ensures.nodes) c.forget_again.ensures.nodes
-
-pub returns-in-Err-discard-clause-nodes : goal.returns-in-Err-discard-clause-nodes
-returns-in-Err-discard-clause-nodes g c = nodes_on (g.S.PortSet.sights c.args.ports.now.shards) (g.S.PortSet.sights c.finish_phase.new.shards) (g.S.PortSet.sights c.finish_again.new.shards) c.in-Ok.ensures.nodes c.finish_again.ensures.nodes
-
-pub returns-in-Err-from_discarded-clause-nodes : goal.returns-in-Err-from_discarded-clause-nodes
-returns-in-Err-from_discarded-clause-nodes g c = nodes_on (g.S.PortSet.sights c.args.ports.now.shards) (g.S.PortSet.sights c.finish_again.new.shards) (g.S.PortSet.sights c.from_discarded.new.ports.shards) (nodes_on (g.S.PortSet.sights c.args.ports.now.shards) (g.S.PortSet.sights c.finish_phase.new.shards) (g.S.PortSet.sights c.finish_again.new.shards) c.in-Ok.ensures.nodes c.finish_again.ensures.nodes) c.in-Err-from_discarded.ensures.nodes
-
-pub returns-clause-log_nodes : goal.returns-clause-log_nodes
-returns-clause-log_nodes g c = nodes_on (g.L.LogPort.sights c.args.ports.now.log) (g.L.LogPort.sights c.discard.new.self) (g.L.LogPort.sights c.from_discarded.new.ports.log) c.in-Ok-discard.ensures.nodes c.in-Ok-from_discarded.ensures.log_nodes
-
-pub returns-in-Err-clause-log_nodes : goal.returns-in-Err-clause-log_nodes
-returns-in-Err-clause-log_nodes g c = nodes_same (g.L.LogPort.sights c.args.ports.now.log)
-
-pub returns-in-Err-from_discarded-clause-log_nodes : goal.returns-in-Err-from_discarded-clause-log_nodes
-returns-in-Err-from_discarded-clause-log_nodes g c = nodes_on (g.L.LogPort.sights c.args.ports.now.log) (g.L.LogPort.sights c.discard.new.self) (g.L.LogPort.sights c.from_discarded.new.ports.log) c.in-Ok-discard.ensures.nodes c.in-Err-from_discarded.ensures.log_nodes
 
 pub finish_phase-requires-clause-mine : goal.finish_phase-requires-clause-mine
 finish_phase-requires-clause-mine g c =
@@ -115,20 +98,38 @@ finish_phase-requires-clause-mine g c =
 
 pub finish_again-requires-clause-mine : goal.finish_again-requires-clause-mine
 finish_again-requires-clause-mine g c =
-    finishes_served (g.S.PortSet.serves c.finish_phase.new.shards) c.args.batch.now (c.in-Ok.ensures.serves _ c.requires.mine) c.args.cause c.args.outcomes.now c.args.locks.now _ (c.deref-2.ensures.value ∙ c.finish_calls.ensures)
+    finishes_served (g.S.PortSet.serves c.finish_phase.new.shards) c.args.batch.now (c.in-Ok.ensures.keeps.served _ c.requires.mine) c.args.cause c.args.outcomes.now c.args.locks.now _ (c.deref-2.ensures.value ∙ c.finish_calls.ensures)
 
 pub from_discarded-requires-clause-mine : goal.from_discarded-requires-clause-mine
-from_discarded-requires-clause-mine g c = c.finish_again.ensures.serves _ (c.in-Ok.ensures.serves _ c.requires.mine)
+from_discarded-requires-clause-mine g c = (shards_on c.in-Ok.ensures.keeps c.finish_again.ensures.keeps).served _ c.requires.mine
 
 pub lock_again-requires-clause-mine : goal.lock_again-requires-clause-mine
-lock_again-requires-clause-mine g c = own_served (g.S.PortSet.serves c.from_discarded.new.ports.shards) c.args.batch.now (c.in-Ok-from_discarded.ensures.serves _ (c.finish_again.ensures.serves _ (c.in-Ok.ensures.serves _ c.requires.mine))) c.args.locks.now c.requires.own
+lock_again-requires-clause-mine g c = own_served (g.S.PortSet.serves c.from_discarded.new.ports.shards) c.args.batch.now ((shards_on (shards_on c.in-Ok.ensures.keeps c.finish_again.ensures.keeps) c.in-Ok-from_discarded.ensures.keeps_shards).served _ c.requires.mine) c.args.locks.now c.requires.own
 
 pub finish_again-requires-2-clause-mine : goal.finish_again-requires-2-clause-mine
 finish_again-requires-2-clause-mine g c =
-    finishes_served (g.S.PortSet.serves c.lock_again.new.shards) c.args.batch.now (c.lock_again.ensures.serves _ (c.in-Ok-from_discarded.ensures.serves _ (c.finish_again.ensures.serves _ (c.in-Ok.ensures.serves _ c.requires.mine)))) c.args.cause c.args.outcomes.now c.args.locks.now _
+    finishes_served (g.S.PortSet.serves c.lock_again.new.shards) c.args.batch.now ((shards_on (shards_on (shards_on c.in-Ok.ensures.keeps c.finish_again.ensures.keeps) c.in-Ok-from_discarded.ensures.keeps_shards) c.lock_again.ensures.keeps).served _ c.requires.mine) c.args.cause c.args.outcomes.now c.args.locks.now _
     (c.deref-3.ensures.value ∙ c.finish_calls.ensures)
 
 pub forget_again-requires-clause-mine : goal.forget_again-requires-clause-mine
 forget_again-requires-clause-mine g c =
-    forgets_served (g.S.PortSet.serves c.finish_again-2.new.shards) c.args.batch.now (c.finish_again-2.ensures.serves _ (c.lock_again.ensures.serves _ (c.in-Ok-from_discarded.ensures.serves _ (c.finish_again.ensures.serves _ (c.in-Ok.ensures.serves _ c.requires.mine))))) c.in-Ok-discard.stamp c.args.locks.now _
+    forgets_served (g.S.PortSet.serves c.finish_again-2.new.shards) c.args.batch.now ((shards_on (shards_on (shards_on (shards_on c.in-Ok.ensures.keeps c.finish_again.ensures.keeps) c.in-Ok-from_discarded.ensures.keeps_shards) c.lock_again.ensures.keeps) c.finish_again-2.ensures.keeps).served _ c.requires.mine) c.in-Ok-discard.stamp c.args.locks.now _
     (c.deref-4.ensures.value ∙ c.in-Ok-from_discarded.ensures.calls)
+
+pub returns-in-Err-clause-keeps_log : goal.returns-in-Err-clause-keeps_log
+returns-in-Err-clause-keeps_log g c = log_same c.args.ports.now.log
+
+pub returns-in-Err-discard-clause-keeps_shards : goal.returns-in-Err-discard-clause-keeps_shards
+returns-in-Err-discard-clause-keeps_shards g c = shards_on c.in-Ok.ensures.keeps c.finish_again.ensures.keeps
+
+pub returns-in-Err-from_discarded-clause-keeps_log : goal.returns-in-Err-from_discarded-clause-keeps_log
+returns-in-Err-from_discarded-clause-keeps_log g c = log_on c.in-Ok-discard.ensures.keeps c.in-Err-from_discarded.ensures.keeps_log
+
+pub returns-in-Err-from_discarded-clause-keeps_shards : goal.returns-in-Err-from_discarded-clause-keeps_shards
+returns-in-Err-from_discarded-clause-keeps_shards g c = shards_on (shards_on c.in-Ok.ensures.keeps c.finish_again.ensures.keeps) c.in-Err-from_discarded.ensures.keeps_shards
+
+pub returns-clause-keeps_log : goal.returns-clause-keeps_log
+returns-clause-keeps_log g c = log_on c.in-Ok-discard.ensures.keeps c.in-Ok-from_discarded.ensures.keeps_log
+
+pub returns-clause-keeps_shards : goal.returns-clause-keeps_shards
+returns-clause-keeps_shards g c = shards_on (shards_on (shards_on (shards_on (shards_on c.in-Ok.ensures.keeps c.finish_again.ensures.keeps) c.in-Ok-from_discarded.ensures.keeps_shards) c.lock_again.ensures.keeps) c.finish_again-2.ensures.keeps) c.forget_again.ensures.keeps

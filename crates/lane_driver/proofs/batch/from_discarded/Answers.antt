@@ -4,11 +4,12 @@ use Rattle.lane_laws.specs.Calls.{forget_of}
 use Rattle.lane_laws.specs.Answers.{ForgetAnswer}
 use Rattle.lane_driver.proofs.Turning.{turn_stamped, turn_times, forget_stops, done_stops, home_stop}
 use Rattle.lane_driver.proofs.Ready.{forget_shards}
-use Rattle.lane_driver.proofs.Fitting.{forgets_ready, calls_kept, nodes_same, nodes_on}
+use Rattle.lane_driver.proofs.Fitting.{forgets_ready, calls_kept}
 use Rattle.cbdc_model.specs.Calls.{IsForgetCall}
 use Rattle.std.proofs.Common.{inr}
 use Rattle.lane_driver.proofs.Causing.{log_fault, done_caused}
 use Rattle.lane_driver.proofs.Serving.{forgets_served}
+use Rattle.lane_driver.proofs.Keeping.{log_same, shards_on}
 use Rattle.lane_driver.proofs.batch.from_discarded.Goals as goal
 
 pub forget_phase-requires-clause-shards : goal.forget_phase-requires-clause-shards
@@ -21,11 +22,11 @@ forget_phase-requires-clause-calls g c =
 
 pub forget_again-requires-clause-shards : goal.forget_again-requires-clause-shards
 forget_again-requires-clause-shards g c =
-    forget_shards c.args.batch.now c.args.cause _ _ (cc) c.args.locks.now _ (c.deref-2.ensures.value ∙ c.forget_calls.ensures) c.requires.shards
+    forget_shards c.args.batch.now c.args.cause _ _ (c.in-Ok.ensures.keeps.count_same ∙ c.requires.count) c.args.locks.now _ (c.deref-2.ensures.value ∙ c.forget_calls.ensures) c.requires.shards
 
 pub forget_again-requires-clause-calls : goal.forget_again-requires-clause-calls
 forget_again-requires-clause-calls g c =
-    calls_kept IsForgetCall (g.S.PortSet.sights c.args.ports.now.shards) (g.S.PortSet.sights c.forget_phase.new.shards) c.in-Ok.ensures.nodes c.deref-2.result.now (forgets_ready c.args.shape.now (g.S.PortSet.sights c.args.ports.now.shards) c.requires.ledger c.args.batch.now c.args.cause c.requires.batch c.requires.cause c.args.locks.now _ (c.deref-2.ensures.value ∙ c.forget_calls.ensures) c.requires.shards)
+    calls_kept IsForgetCall (g.S.PortSet.sights c.args.ports.now.shards) (g.S.PortSet.sights c.forget_phase.new.shards) c.in-Ok.ensures.keeps.nodes c.deref-2.result.now (forgets_ready c.args.shape.now (g.S.PortSet.sights c.args.ports.now.shards) c.requires.ledger c.args.batch.now c.args.cause c.requires.batch c.requires.cause c.args.locks.now _ (c.deref-2.ensures.value ∙ c.forget_calls.ensures) c.requires.shards)
 
 pub returns-in-Ok-done-clause-told : goal.returns-in-Ok-done-clause-told
 returns-in-Ok-done-clause-told g c = record {
@@ -52,22 +53,22 @@ pub returns-in-Err-clause-fault : goal.returns-in-Err-clause-fault
 returns-in-Err-clause-fault g c = inr (inr c.in-Err.ensures.fault)
 
 pub returns-in-Err-done-clause-fault : goal.returns-in-Err-done-clause-fault
-returns-in-Err-done-clause-fault g c = log_fault c.args.shape.now c.args.batch.now.lane (g.L.LogPort.at c.done.new.self) (g.L.LogPort.sights c.done.new.self) (g.S.PortSet.sights c.forget_again.new.shards) c.in-Err-done.fault (record { node = c.home.result; fault = c.in-Err-done.fault }) c.requires.batch.0 (c.in-Err-done.ensures.at_same ∙ c.requires.at)
+returns-in-Err-done-clause-fault g c = log_fault c.args.shape.now c.args.batch.now.lane (g.L.LogPort.at c.done.new.self) (g.L.LogPort.sights c.done.new.self) (g.S.PortSet.sights c.forget_again.new.shards) c.in-Err-done.fault (record { node = c.home.result; fault = c.in-Err-done.fault }) c.requires.batch.0 (c.in-Err-done.ensures.keeps.at_same ∙ c.requires.at)
     (home_stop c.home.result (home_of c.args.shape.now c.args.batch.now.lane) c.in-Err-done.fault c.home.ensures)
     (done_caused g.L.LogPort.alone c.args.batch.now.lane c.in-Ok.stamp (g.L.LogPort.sights c.args.ports.now.log (g.L.LogPort.at c.args.ports.now.log)) (g.L.LogPort.sights c.done.new.self (g.L.LogPort.at c.done.new.self)) c.in-Err-done.fault c.in-Err-done.ensures.told)
-
-pub returns-in-Err-clause-log_nodes : goal.returns-in-Err-clause-log_nodes
-returns-in-Err-clause-log_nodes g c = nodes_same (g.L.LogPort.sights c.args.ports.now.log)
-
-pub returns-in-Ok-done-clause-nodes : goal.returns-in-Ok-done-clause-nodes
-returns-in-Ok-done-clause-nodes g c = nodes_on (g.S.PortSet.sights c.args.ports.now.shards) (g.S.PortSet.sights c.forget_phase.new.shards) (g.S.PortSet.sights c.forget_again.new.shards) c.in-Ok.ensures.nodes c.forget_again.ensures.nodes
-
-pub returns-in-Err-done-clause-nodes : goal.returns-in-Err-done-clause-nodes
-returns-in-Err-done-clause-nodes g c = nodes_on (g.S.PortSet.sights c.args.ports.now.shards) (g.S.PortSet.sights c.forget_phase.new.shards) (g.S.PortSet.sights c.forget_again.new.shards) c.in-Ok.ensures.nodes c.forget_again.ensures.nodes
 
 pub forget_phase-requires-clause-mine : goal.forget_phase-requires-clause-mine
 forget_phase-requires-clause-mine g c = forgets_served (g.S.PortSet.serves c.args.ports.now.shards) c.args.batch.now c.requires.mine c.args.cause c.args.locks.now _ (c.deref.ensures.value ∙ c.forget_calls.ensures)
 
 pub forget_again-requires-clause-mine : goal.forget_again-requires-clause-mine
 forget_again-requires-clause-mine g c =
-    forgets_served (g.S.PortSet.serves c.forget_phase.new.shards) c.args.batch.now (c.in-Ok.ensures.serves _ c.requires.mine) c.args.cause c.args.locks.now _ (c.deref-2.ensures.value ∙ c.forget_calls.ensures)
+    forgets_served (g.S.PortSet.serves c.forget_phase.new.shards) c.args.batch.now (c.in-Ok.ensures.keeps.served _ c.requires.mine) c.args.cause c.args.locks.now _ (c.deref-2.ensures.value ∙ c.forget_calls.ensures)
+
+pub returns-in-Err-clause-keeps_log : goal.returns-in-Err-clause-keeps_log
+returns-in-Err-clause-keeps_log g c = log_same c.args.ports.now.log
+
+pub returns-in-Ok-done-clause-keeps_shards : goal.returns-in-Ok-done-clause-keeps_shards
+returns-in-Ok-done-clause-keeps_shards g c = shards_on c.in-Ok.ensures.keeps c.forget_again.ensures.keeps
+
+pub returns-in-Err-done-clause-keeps_shards : goal.returns-in-Err-done-clause-keeps_shards
+returns-in-Err-done-clause-keeps_shards g c = shards_on c.in-Ok.ensures.keeps c.forget_again.ensures.keeps

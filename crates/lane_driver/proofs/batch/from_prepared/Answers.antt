@@ -6,10 +6,11 @@ use Rattle.lane_driver.proofs.Turning.{turn_locked, turn_times, turn_committed, 
 use Rattle.std.proofs.lemmas.List.{length-map}
 use Rattle.lane_driver.proofs.Ready.{lock_shards, lock_sizes, later_room}
 use Rattle.cbdc_model.specs.Calls.{IsLockCall}
-use Rattle.lane_driver.proofs.Fitting.{locks_ready, calls_kept, ledger_kept, nodes_same, nodes_on}
+use Rattle.lane_driver.proofs.Fitting.{locks_ready, calls_kept, ledger_kept}
 use Rattle.std.proofs.Common.{inr}
 use Rattle.lane_driver.proofs.Causing.{log_fault, decide_caused}
 use Rattle.lane_driver.proofs.Serving.{locks_own, locks_served}
+use Rattle.lane_driver.proofs.Keeping.{log_same, log_on, shards_on}
 use Rattle.lane_driver.proofs.batch.from_prepared.Goals as goal
 
 pub lock_phase-requires-clause-shards : goal.lock_phase-requires-clause-shards
@@ -22,11 +23,11 @@ lock_phase-requires-clause-calls g c =
 
 pub lock_again-requires-clause-shards : goal.lock_again-requires-clause-shards
 lock_again-requires-clause-shards g c =
-    lock_shards c.args.batch.now c.args.cause _ _ (cc) c.args.room.parts _ (c.deref-2.ensures.value ∙ c.lock_calls.ensures) c.requires.room.parts
+    lock_shards c.args.batch.now c.args.cause _ _ (c.in-Ok.ensures.keeps.count_same ∙ c.requires.count) c.args.room.parts _ (c.deref-2.ensures.value ∙ c.lock_calls.ensures) c.requires.room.parts
 
 pub lock_again-requires-clause-calls : goal.lock_again-requires-clause-calls
 lock_again-requires-clause-calls g c =
-    calls_kept IsLockCall (g.S.PortSet.sights c.args.ports.now.shards) (g.S.PortSet.sights c.lock_phase.new.shards) c.in-Ok.ensures.nodes c.deref-2.result.now (locks_ready c.args.shape.now (g.S.PortSet.sights c.args.ports.now.shards) c.requires.ledger c.args.batch.now c.args.cause c.requires.batch c.requires.cause c.args.room.parts _ (c.deref-2.ensures.value ∙ c.lock_calls.ensures) c.requires.room.parts c.requires.parts)
+    calls_kept IsLockCall (g.S.PortSet.sights c.args.ports.now.shards) (g.S.PortSet.sights c.lock_phase.new.shards) c.in-Ok.ensures.keeps.nodes c.deref-2.result.now (locks_ready c.args.shape.now (g.S.PortSet.sights c.args.ports.now.shards) c.requires.ledger c.args.batch.now c.args.cause c.requires.batch c.requires.cause c.args.room.parts _ (c.deref-2.ensures.value ∙ c.lock_calls.ensures) c.requires.room.parts c.requires.parts)
 
 pub from_committed-requires-clause-shards : goal.from_committed-requires-clause-shards
 from_committed-requires-clause-shards g c =
@@ -34,7 +35,7 @@ from_committed-requires-clause-shards g c =
 
 pub from_committed-requires-clause-locks : goal.from_committed-requires-clause-locks
 from_committed-requires-clause-locks g c =
-    calls_kept IsLockCall (g.S.PortSet.sights c.args.ports.now.shards) (g.S.PortSet.sights c.lock_again.new.shards) (nodes_on (g.S.PortSet.sights c.args.ports.now.shards) (g.S.PortSet.sights c.lock_phase.new.shards) (g.S.PortSet.sights c.lock_again.new.shards) c.in-Ok.ensures.nodes c.lock_again.ensures.nodes) c.deref-3.result.now (locks_ready c.args.shape.now (g.S.PortSet.sights c.args.ports.now.shards) c.requires.ledger c.args.batch.now c.args.cause c.requires.batch c.requires.cause c.args.room.parts _ (c.deref-3.ensures.value ∙ c.lock_calls.ensures) c.requires.room.parts c.requires.parts)
+    calls_kept IsLockCall (g.S.PortSet.sights c.args.ports.now.shards) (g.S.PortSet.sights c.lock_again.new.shards) (shards_on c.in-Ok.ensures.keeps c.lock_again.ensures.keeps).nodes c.deref-3.result.now (locks_ready c.args.shape.now (g.S.PortSet.sights c.args.ports.now.shards) c.requires.ledger c.args.batch.now c.args.cause c.requires.batch c.requires.cause c.args.room.parts _ (c.deref-3.ensures.value ∙ c.lock_calls.ensures) c.requires.room.parts c.requires.parts)
 
 pub from_committed-requires-clause-parts : goal.from_committed-requires-clause-parts
 from_committed-requires-clause-parts g c =
@@ -79,40 +80,40 @@ returns-clause-stopped g c = commit_stops c.args.shape.now g.S.PortSet.alone g.L
 
 pub from_committed-requires-clause-ledger : goal.from_committed-requires-clause-ledger
 from_committed-requires-clause-ledger g c =
-    ledger_kept c.args.shape.now (g.S.PortSet.sights c.args.ports.now.shards) (g.S.PortSet.sights c.lock_again.new.shards) c.requires.ledger (nodes_on (g.S.PortSet.sights c.args.ports.now.shards) (g.S.PortSet.sights c.lock_phase.new.shards) (g.S.PortSet.sights c.lock_again.new.shards) c.in-Ok.ensures.nodes c.lock_again.ensures.nodes)
+    ledger_kept c.args.shape.now (g.S.PortSet.sights c.args.ports.now.shards) (g.S.PortSet.sights c.lock_again.new.shards) c.requires.ledger (shards_on c.in-Ok.ensures.keeps c.lock_again.ensures.keeps).nodes
 
 pub returns-in-Err-clause-fault : goal.returns-in-Err-clause-fault
 returns-in-Err-clause-fault g c = inr (inr c.in-Err.ensures.fault)
 
 pub returns-in-Err-decide-clause-fault : goal.returns-in-Err-decide-clause-fault
-returns-in-Err-decide-clause-fault g c = log_fault c.args.shape.now c.args.batch.now.lane (g.L.LogPort.at c.decide.new.self) (g.L.LogPort.sights c.decide.new.self) (g.S.PortSet.sights c.lock_again.new.shards) c.in-Err-decide.fault (record { node = c.home.result; fault = c.in-Err-decide.fault }) c.requires.batch.0 (c.in-Err-decide.ensures.at_same ∙ c.requires.at)
+returns-in-Err-decide-clause-fault g c = log_fault c.args.shape.now c.args.batch.now.lane (g.L.LogPort.at c.decide.new.self) (g.L.LogPort.sights c.decide.new.self) (g.S.PortSet.sights c.lock_again.new.shards) c.in-Err-decide.fault (record { node = c.home.result; fault = c.in-Err-decide.fault }) c.requires.batch.0 (c.in-Err-decide.ensures.keeps.at_same ∙ c.requires.at)
     (home_stop c.home.result (home_of c.args.shape.now c.args.batch.now.lane) c.in-Err-decide.fault c.home.ensures)
     (decide_caused c.in-Err-decide.fault (g.L.LogPort.sights c.decide.new.self (g.L.LogPort.at c.decide.new.self)) c.in-Err-decide.ensures.fault)
-
-pub returns-in-Ok-from_committed-clause-nodes : goal.returns-in-Ok-from_committed-clause-nodes
-returns-in-Ok-from_committed-clause-nodes g c = nodes_on (g.S.PortSet.sights c.args.ports.now.shards) (g.S.PortSet.sights c.lock_again.new.shards) (g.S.PortSet.sights c.from_committed.new.ports.shards) (nodes_on (g.S.PortSet.sights c.args.ports.now.shards) (g.S.PortSet.sights c.lock_phase.new.shards) (g.S.PortSet.sights c.lock_again.new.shards) c.in-Ok.ensures.nodes c.lock_again.ensures.nodes) c.in-Ok-from_committed.ensures.nodes
-
-pub returns-in-Err-decide-clause-nodes : goal.returns-in-Err-decide-clause-nodes
-returns-in-Err-decide-clause-nodes g c = nodes_on (g.S.PortSet.sights c.args.ports.now.shards) (g.S.PortSet.sights c.lock_phase.new.shards) (g.S.PortSet.sights c.lock_again.new.shards) c.in-Ok.ensures.nodes c.lock_again.ensures.nodes
-
-pub returns-clause-nodes : goal.returns-clause-nodes
-returns-clause-nodes g c = nodes_on (g.S.PortSet.sights c.args.ports.now.shards) (g.S.PortSet.sights c.lock_again.new.shards) (g.S.PortSet.sights c.from_committed.new.ports.shards) (nodes_on (g.S.PortSet.sights c.args.ports.now.shards) (g.S.PortSet.sights c.lock_phase.new.shards) (g.S.PortSet.sights c.lock_again.new.shards) c.in-Ok.ensures.nodes c.lock_again.ensures.nodes) c.in-Err-from_committed.ensures.nodes
-
-pub returns-in-Ok-from_committed-clause-log_nodes : goal.returns-in-Ok-from_committed-clause-log_nodes
-returns-in-Ok-from_committed-clause-log_nodes g c = nodes_on (g.L.LogPort.sights c.args.ports.now.log) (g.L.LogPort.sights c.decide.new.self) (g.L.LogPort.sights c.from_committed.new.ports.log) c.in-Ok-decide.ensures.nodes c.in-Ok-from_committed.ensures.log_nodes
-
-pub returns-in-Err-clause-log_nodes : goal.returns-in-Err-clause-log_nodes
-returns-in-Err-clause-log_nodes g c = nodes_same (g.L.LogPort.sights c.args.ports.now.log)
-
-pub returns-clause-log_nodes : goal.returns-clause-log_nodes
-returns-clause-log_nodes g c = nodes_on (g.L.LogPort.sights c.args.ports.now.log) (g.L.LogPort.sights c.decide.new.self) (g.L.LogPort.sights c.from_committed.new.ports.log) c.in-Ok-decide.ensures.nodes c.in-Err-from_committed.ensures.log_nodes
 
 pub lock_phase-requires-clause-mine : goal.lock_phase-requires-clause-mine
 lock_phase-requires-clause-mine g c = locks_served (g.S.PortSet.serves c.args.ports.now.shards) c.args.batch.now c.requires.mine c.args.cause c.args.room.parts _ (c.deref.ensures.value ∙ c.lock_calls.ensures)
 
 pub lock_again-requires-clause-mine : goal.lock_again-requires-clause-mine
 lock_again-requires-clause-mine g c =
-    locks_served (g.S.PortSet.serves c.lock_phase.new.shards) c.args.batch.now (c.in-Ok.ensures.serves _ c.requires.mine) c.args.cause c.args.room.parts _ (c.deref-2.ensures.value ∙ c.lock_calls.ensures)
+    locks_served (g.S.PortSet.serves c.lock_phase.new.shards) c.args.batch.now (c.in-Ok.ensures.keeps.served _ c.requires.mine) c.args.cause c.args.room.parts _ (c.deref-2.ensures.value ∙ c.lock_calls.ensures)
 
 pub from_committed-requires-clause-own : goal.from_committed-requires-clause-own
 from_committed-requires-clause-own g c = locks_own c.args.batch.now c.args.cause c.args.room.parts _ (c.deref-3.ensures.value ∙ c.lock_calls.ensures)
+
+pub returns-in-Err-clause-keeps_log : goal.returns-in-Err-clause-keeps_log
+returns-in-Err-clause-keeps_log g c = log_same c.args.ports.now.log
+
+pub returns-in-Err-decide-clause-keeps_shards : goal.returns-in-Err-decide-clause-keeps_shards
+returns-in-Err-decide-clause-keeps_shards g c = shards_on c.in-Ok.ensures.keeps c.lock_again.ensures.keeps
+
+pub returns-in-Ok-from_committed-clause-keeps_log : goal.returns-in-Ok-from_committed-clause-keeps_log
+returns-in-Ok-from_committed-clause-keeps_log g c = log_on c.in-Ok-decide.ensures.keeps c.in-Ok-from_committed.ensures.keeps_log
+
+pub returns-in-Ok-from_committed-clause-keeps_shards : goal.returns-in-Ok-from_committed-clause-keeps_shards
+returns-in-Ok-from_committed-clause-keeps_shards g c = shards_on (shards_on c.in-Ok.ensures.keeps c.lock_again.ensures.keeps) c.in-Ok-from_committed.ensures.keeps_shards
+
+pub returns-clause-keeps_log : goal.returns-clause-keeps_log
+returns-clause-keeps_log g c = log_on c.in-Ok-decide.ensures.keeps c.in-Err-from_committed.ensures.keeps_log
+
+pub returns-clause-keeps_shards : goal.returns-clause-keeps_shards
+returns-clause-keeps_shards g c = shards_on (shards_on c.in-Ok.ensures.keeps c.lock_again.ensures.keeps) c.in-Err-from_committed.ensures.keeps_shards

@@ -5,6 +5,7 @@ use Rattle.lane_driver.proofs.Fitting.{parts_fit}
 use Rattle.std.proofs.Common.{◌∙◌, ◌*◌, ◌<◌, inl, refl, subst}
 use Rattle.cbdc_model.specs.Records.{Shape}
 use Rattle.lane_driver.proofs.Causing.{log_fault, prepare_caused}
+use Rattle.lane_driver.proofs.Keeping.{log_same, log_on, shards_same}
 use Rattle.lane_driver.proofs.batch.one_batch.Goals as goal
 
 pub returns-in-Err-prepare-clause-stopped : goal.returns-in-Err-prepare-clause-stopped
@@ -37,6 +38,21 @@ pub returns-in-Err-clause-told : goal.returns-in-Err-clause-told
 returns-in-Err-clause-told g c = inl (refl, refl, refl)
 
 pub returns-in-Err-prepare-clause-fault : goal.returns-in-Err-prepare-clause-fault
-returns-in-Err-prepare-clause-fault g c = log_fault c.args.shape.now c.args.lane (g.L.LogPort.at c.prepare.new.self) (g.L.LogPort.sights c.prepare.new.self) (g.S.PortSet.sights c.args.ports.now.shards) c.in-Err-prepare.fault (record { node = c.home.result; fault = c.in-Err-prepare.fault }) (subst (λ (K : Shape). c.args.lane < K.coordinators * K.lanes) c.requires.shape c.requires.home.0) (c.in-Err-prepare.ensures.at_same ∙ c.requires.at)
+returns-in-Err-prepare-clause-fault g c = log_fault c.args.shape.now c.args.lane (g.L.LogPort.at c.prepare.new.self) (g.L.LogPort.sights c.prepare.new.self) (g.S.PortSet.sights c.args.ports.now.shards) c.in-Err-prepare.fault (record { node = c.home.result; fault = c.in-Err-prepare.fault }) (subst (λ (K : Shape). c.args.lane < K.coordinators * K.lanes) c.requires.shape c.requires.home.0) (c.in-Err-prepare.ensures.keeps.at_same ∙ c.requires.at)
     (home_stop c.home.result (home_of c.args.shape.now c.args.lane) c.in-Err-prepare.fault c.home.ensures)
     (prepare_caused g.L.LogPort.alone c.args.lane c.args.txs.now (g.L.LogPort.sights c.args.ports.now.log (g.L.LogPort.at c.args.ports.now.log)) (g.L.LogPort.sights c.prepare.new.self (g.L.LogPort.at c.prepare.new.self)) c.in-Err-prepare.fault c.in-Err-prepare.ensures.told)
+
+pub returns-in-Err-clause-keeps_log : goal.returns-in-Err-clause-keeps_log
+returns-in-Err-clause-keeps_log g c = log_same c.args.ports.now.log
+
+pub returns-in-Err-clause-keeps_shards : goal.returns-in-Err-clause-keeps_shards
+returns-in-Err-clause-keeps_shards g c = shards_same c.args.ports.now.shards
+
+pub returns-in-Err-prepare-clause-keeps_shards : goal.returns-in-Err-prepare-clause-keeps_shards
+returns-in-Err-prepare-clause-keeps_shards g c = shards_same c.args.ports.now.shards
+
+pub returns-in-Ok-from_prepared-clause-keeps_log : goal.returns-in-Ok-from_prepared-clause-keeps_log
+returns-in-Ok-from_prepared-clause-keeps_log g c = log_on c.in-Ok-prepare.ensures.keeps c.in-Ok-from_prepared.ensures.keeps_log
+
+pub returns-in-Err-from_prepared-clause-keeps_log : goal.returns-in-Err-from_prepared-clause-keeps_log
+returns-in-Err-from_prepared-clause-keeps_log g c = log_on c.in-Ok-prepare.ensures.keeps c.in-Err-from_prepared.ensures.keeps_log

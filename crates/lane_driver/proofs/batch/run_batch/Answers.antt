@@ -1,6 +1,7 @@
 use Rattle.std.proofs.Common.{inl, refl}
 use Rattle.cbdc_types.specs.declared.calls.NodeFault.TheVariants.{Memory}
 use Rattle.lane_driver.proofs.Batching.{one_granted, one_stops, one_told}
+use Rattle.lane_driver.proofs.Keeping.{log_same, shards_same}
 use Rattle.lane_driver.proofs.batch.run_batch.Goals as goal
 
 pub lane_fault-requires : goal.lane_fault-requires
@@ -20,3 +21,9 @@ returns-in-Err-one_batch-clause-fault g c = (c.in-Err-one_batch.stop.node, c.in-
 
 pub returns-in-Err-clause-fault : goal.returns-in-Err-clause-fault
 returns-in-Err-clause-fault g c = (0, Memory, c.no_memory.ensures, inl (refl, refl))
+
+pub returns-in-Err-clause-keeps_log : goal.returns-in-Err-clause-keeps_log
+returns-in-Err-clause-keeps_log g c = log_same c.args.ports.now.log
+
+pub returns-in-Err-clause-keeps_shards : goal.returns-in-Err-clause-keeps_shards
+returns-in-Err-clause-keeps_shards g c = shards_same c.args.ports.now.shards

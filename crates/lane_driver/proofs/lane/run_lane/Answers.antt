@@ -1,9 +1,9 @@
-use Rattle.std.proofs.Common.{rules, arith, inl, refl, [], ◌≡◌, ◌<◌, ◌+◌, ◌∙◌, ap, sym, subst, length, reverse, take, drop, min}
+use Rattle.std.proofs.Common.{rules, inl, refl, [], ◌≡◌, ◌<◌, ◌+◌, ◌∙◌, ap, sym, subst, length, reverse, take, drop, min}
 use Rattle.std.specs.Vec.{vec_len, vec_capacity}
 use Rattle.std.specs.List.{All}
 use Rattle.std.proofs.lemmas.List.Elements.{All-take, All-drop}
 use Rattle.cbdc_model.specs.Grammar.{IsCompact}
-use Rattle.lane_driver.proofs.Fitting.{elsewhere_on, others_on, nodes_same, nodes_on, ledger_kept}
+use Rattle.lane_driver.proofs.Fitting.{others_on, ledger_kept}
 use Rattle.lane_laws.specs.Batches.{LaneSo}
 use Rattle.lane_laws.proofs.Laning.{lane_begins}
 use Rattle.cbdc_types.specs.declared.calls.NodeFault.TheVariants.{Memory}
@@ -11,6 +11,7 @@ use Rattle.cbdc_model.specs.Slots.{slot}
 use Rattle.lane_driver.proofs.Batching.{one_granted, one_stops, one_told, lane_on, done_on, lane_off, lane_told, none_left}
 use Rattle.lane_driver.specs.Reports.{IsReported, AreDone}
 use Rattle.lane_driver.proofs.Cutting.{room_after, reported_more}
+use Rattle.lane_driver.proofs.Keeping.{log_same, log_on, shards_same, shards_on}
 use Rattle.lane_driver.proofs.lane.run_lane.Goals as goal
 
 pub pieces-preserved : goal.pieces-preserved
@@ -20,22 +21,12 @@ pieces-preserved g c =
     let at = c.split_at.ensures in
     let room : vec_len c.pieces.batches < vec_capacity c.pieces.batches = search rules in
     record {
-      at_same = c.in-Ok-one_batch.ensures.at_same ∙ c.pieces.invariant.at_same;
       so = λ k st. lane_on c.args.shape.now g.L.LogPort.alone c.args.lane c.args.txs.now c.pieces.rest.now c.split_at.result.0.now (g.L.LogPort.sights c.args.ports.now.log (g.L.LogPort.at c.args.ports.now.log)) (g.L.LogPort.sights c.pieces.ports.log (g.L.LogPort.at c.pieces.ports.log)) (g.L.LogPort.sights c.one_batch.new.ports.log (g.L.LogPort.at c.one_batch.new.ports.log)) (g.S.PortSet.sights c.args.ports.now.shards) (g.S.PortSet.sights c.pieces.ports.shards) (g.S.PortSet.sights c.one_batch.new.ports.shards) (c.pieces.invariant.so k st) (c.split_at.ensures.front ∙ ap (λ n. take n c.pieces.rest.now) (c.min.ensures ∙ ap (λ n. min n (length c.pieces.rest.now)) c.batch-size.ensures.value))
           c.split_at.result.1.now c.in-Ok-one_batch.report.batch c.in-Ok-one_batch.report.outcomes some (c.split_at.ensures.back ∙ ap (λ n. drop n c.pieces.rest.now) (c.min.ensures ∙ ap (λ n. min n (length c.pieces.rest.now)) c.batch-size.ensures.value)) c.in-Ok-one_batch.ensures.done;
       idle = search rules;
-      others = λ quiet. others_on (g.L.LogPort.header c.args.ports.now.log) (g.L.LogPort.header c.pieces.ports.log) c.args.lane (g.L.LogPort.phase c.args.ports.now.log) (g.L.LogPort.phase c.pieces.ports.log) (g.L.LogPort.phase c.one_batch.new.ports.log) (g.L.LogPort.open_txs c.args.ports.now.log) (g.L.LogPort.open_txs c.pieces.ports.log) (g.L.LogPort.open_txs c.one_batch.new.ports.log) c.pieces.invariant.header (c.pieces.invariant.others quiet) (c.in-Ok-one_batch.ensures.others quiet);
-      header = search rules;
-      count = search rules;
-      log_count = search rules;
-      shard_later = λ n. omega (arith, c.pieces.invariant.shard_later n, c.in-Ok-one_batch.ensures.shard_later n);
-      log_later = λ n. omega (arith, c.pieces.invariant.log_later n, c.in-Ok-one_batch.ensures.log_later n);
-      elsewhere = elsewhere_on (g.L.LogPort.at c.args.ports.now.log) (g.L.LogPort.at c.pieces.ports.log) (g.L.LogPort.sights c.args.ports.now.log) (g.L.LogPort.sights c.pieces.ports.log) (g.L.LogPort.sights c.one_batch.new.ports.log) c.pieces.invariant.at_same c.pieces.invariant.elsewhere c.in-Ok-one_batch.ensures.elsewhere;
-      nodes = nodes_on (g.S.PortSet.sights c.args.ports.now.shards) (g.S.PortSet.sights c.pieces.ports.shards) (g.S.PortSet.sights c.one_batch.new.ports.shards) c.pieces.invariant.nodes c.in-Ok-one_batch.ensures.nodes;
-      log_nodes = nodes_on (g.L.LogPort.sights c.args.ports.now.log) (g.L.LogPort.sights c.pieces.ports.log) (g.L.LogPort.sights c.one_batch.new.ports.log) c.pieces.invariant.log_nodes c.in-Ok-one_batch.ensures.log_nodes;
-      log_holds = λ h. c.in-Ok-one_batch.ensures.log_holds (c.pieces.invariant.log_holds h);
-      shard_holds = λ h. c.in-Ok-one_batch.ensures.shard_holds (c.pieces.invariant.shard_holds h);
-      serves = λ lane mine. c.in-Ok-one_batch.ensures.serves lane (c.pieces.invariant.serves lane mine);
+      others = λ quiet. others_on (g.L.LogPort.header c.args.ports.now.log) (g.L.LogPort.header c.pieces.ports.log) c.args.lane (g.L.LogPort.phase c.args.ports.now.log) (g.L.LogPort.phase c.pieces.ports.log) (g.L.LogPort.phase c.one_batch.new.ports.log) (g.L.LogPort.open_txs c.args.ports.now.log) (g.L.LogPort.open_txs c.pieces.ports.log) (g.L.LogPort.open_txs c.one_batch.new.ports.log) c.pieces.invariant.keeps_log.header_same (c.pieces.invariant.others quiet) (c.in-Ok-one_batch.ensures.others quiet);
+      keeps_log = log_on c.pieces.invariant.keeps_log c.in-Ok-one_batch.ensures.keeps_log;
+      keeps_shards = shards_on c.pieces.invariant.keeps_shards c.in-Ok-one_batch.ensures.keeps_shards;
       limits = subst (λ xs. All IsCompact xs) (sym (at.back ∙ ap (λ n. drop n c.pieces.rest.now) size)) (All-drop IsCompact (min c.args.shape.now.batch (length c.pieces.rest.now)) c.pieces.rest.now c.pieces.invariant.limits);
       room = room_after (length c.pieces.rest.now) c.args.shape.now.batch _ _ (length c.split_at.result.1.now) _ _ some c.pieces.invariant.room (ap (λ n. length c.split_at.result.1.now + n) (sym size) ∙ at.back_len) room
           c.push_reserved.ensures.len c.push_reserved.ensures.capacity;
@@ -66,21 +57,11 @@ returns-in-Err-clause-told g c k st = inl (c.no_memory.ensures, refl, refl)
 
 pub pieces-init : goal.pieces-init
 pieces-init g c = record {
-  at_same = refl;
   so = λ k st. lane_begins c.args.shape.now g.L.LogPort.alone c.args.lane k c.args.txs.now (g.L.LogPort.sights c.args.ports.now.log (g.L.LogPort.at c.args.ports.now.log)) (g.S.PortSet.sights c.args.ports.now.shards) st;
   idle = search rules;
   others = λ quiet l is ne. (refl, refl);
-  header = search rules;
-  count = search rules;
-  log_count = search rules;
-  shard_later = λ n. omega arith;
-  log_later = λ n. omega arith;
-  elsewhere = λ n ne. refl;
-  nodes = nodes_same (g.S.PortSet.sights c.args.ports.now.shards);
-  log_nodes = nodes_same (g.L.LogPort.sights c.args.ports.now.log);
-  log_holds = λ h. h;
-  shard_holds = λ h. h;
-  serves = λ lane mine. mine;
+  keeps_log = log_same c.args.ports.now.log;
+  keeps_shards = shards_same c.args.ports.now.shards;
   limits = c.requires.limits;
   room = search rules;
   batches = λ k st. (
@@ -102,43 +83,13 @@ returns-clause-batches g c k st =
     (subst (λ r. AreDone c.args.shape.now g.L.LogPort.alone c.args.lane c.args.txs.now (g.L.LogPort.sights c.args.ports.now.log (g.L.LogPort.at c.args.ports.now.log)) (g.S.PortSet.sights c.args.ports.now.shards) (reverse c.pieces.batches.items) r (g.L.LogPort.sights c.pieces.ports.log (g.L.LogPort.at c.pieces.ports.log)) (g.S.PortSet.sights c.pieces.ports.shards)) e (c.pieces.invariant.batches k st))
 
 pub one_batch-requires-clause-ledger : goal.one_batch-requires-clause-ledger
-one_batch-requires-clause-ledger g c = ledger_kept c.args.shape.now (g.S.PortSet.sights c.args.ports.now.shards) (g.S.PortSet.sights c.pieces.ports.shards) c.requires.ledger c.pieces.invariant.nodes
+one_batch-requires-clause-ledger g c = ledger_kept c.args.shape.now (g.S.PortSet.sights c.args.ports.now.shards) (g.S.PortSet.sights c.pieces.ports.shards) c.requires.ledger c.pieces.invariant.keeps_shards.nodes
 
 pub one_batch-requires-clause-limits : goal.one_batch-requires-clause-limits
 one_batch-requires-clause-limits g c = subst (λ xs. All IsCompact xs) (sym c.split_at.ensures.front) (All-take IsCompact c.min.result c.pieces.rest.now c.pieces.invariant.limits)
 
-pub returns-in-Err-one_batch-clause-elsewhere : goal.returns-in-Err-one_batch-clause-elsewhere
-returns-in-Err-one_batch-clause-elsewhere g c = elsewhere_on (g.L.LogPort.at c.args.ports.now.log) (g.L.LogPort.at c.pieces.ports.log) (g.L.LogPort.sights c.args.ports.now.log) (g.L.LogPort.sights c.pieces.ports.log) (g.L.LogPort.sights c.one_batch.new.ports.log) c.pieces.invariant.at_same c.pieces.invariant.elsewhere c.in-Err-one_batch.ensures.elsewhere
-
-pub returns-in-Err-one_batch-clause-nodes : goal.returns-in-Err-one_batch-clause-nodes
-returns-in-Err-one_batch-clause-nodes g c = nodes_on (g.S.PortSet.sights c.args.ports.now.shards) (g.S.PortSet.sights c.pieces.ports.shards) (g.S.PortSet.sights c.one_batch.new.ports.shards) c.pieces.invariant.nodes c.in-Err-one_batch.ensures.nodes
-
-pub returns-in-Err-one_batch-clause-log_nodes : goal.returns-in-Err-one_batch-clause-log_nodes
-returns-in-Err-one_batch-clause-log_nodes g c = nodes_on (g.L.LogPort.sights c.args.ports.now.log) (g.L.LogPort.sights c.pieces.ports.log) (g.L.LogPort.sights c.one_batch.new.ports.log) c.pieces.invariant.log_nodes c.in-Err-one_batch.ensures.log_nodes
-
-pub returns-in-Err-one_batch-clause-log_holds : goal.returns-in-Err-one_batch-clause-log_holds
-returns-in-Err-one_batch-clause-log_holds g c h = c.in-Err-one_batch.ensures.log_holds (c.pieces.invariant.log_holds h)
-
-pub returns-in-Err-one_batch-clause-shard_holds : goal.returns-in-Err-one_batch-clause-shard_holds
-returns-in-Err-one_batch-clause-shard_holds g c h = c.in-Err-one_batch.ensures.shard_holds (c.pieces.invariant.shard_holds h)
-
-pub returns-clause-elsewhere : goal.returns-clause-elsewhere
-returns-clause-elsewhere g c = c.pieces.invariant.elsewhere
-
-pub returns-clause-nodes : goal.returns-clause-nodes
-returns-clause-nodes g c = c.pieces.invariant.nodes
-
-pub returns-clause-log_nodes : goal.returns-clause-log_nodes
-returns-clause-log_nodes g c = c.pieces.invariant.log_nodes
-
-pub returns-clause-log_holds : goal.returns-clause-log_holds
-returns-clause-log_holds g c = c.pieces.invariant.log_holds
-
-pub returns-clause-shard_holds : goal.returns-clause-shard_holds
-returns-clause-shard_holds g c = c.pieces.invariant.shard_holds
-
 pub returns-in-Err-one_batch-clause-others : goal.returns-in-Err-one_batch-clause-others
-returns-in-Err-one_batch-clause-others g c = λ quiet. others_on (g.L.LogPort.header c.args.ports.now.log) (g.L.LogPort.header c.pieces.ports.log) c.args.lane (g.L.LogPort.phase c.args.ports.now.log) (g.L.LogPort.phase c.pieces.ports.log) (g.L.LogPort.phase c.one_batch.new.ports.log) (g.L.LogPort.open_txs c.args.ports.now.log) (g.L.LogPort.open_txs c.pieces.ports.log) (g.L.LogPort.open_txs c.one_batch.new.ports.log) c.pieces.invariant.header (c.pieces.invariant.others quiet) (c.in-Err-one_batch.ensures.others quiet)
+returns-in-Err-one_batch-clause-others g c = λ quiet. others_on (g.L.LogPort.header c.args.ports.now.log) (g.L.LogPort.header c.pieces.ports.log) c.args.lane (g.L.LogPort.phase c.args.ports.now.log) (g.L.LogPort.phase c.pieces.ports.log) (g.L.LogPort.phase c.one_batch.new.ports.log) (g.L.LogPort.open_txs c.args.ports.now.log) (g.L.LogPort.open_txs c.pieces.ports.log) (g.L.LogPort.open_txs c.one_batch.new.ports.log) c.pieces.invariant.keeps_log.header_same (c.pieces.invariant.others quiet) (c.in-Err-one_batch.ensures.others quiet)
 
 pub returns-clause-others : goal.returns-clause-others
 returns-clause-others g c = c.pieces.invariant.others
@@ -156,10 +107,16 @@ pub returns-in-Err-one_batch-clause-fault : goal.returns-in-Err-one_batch-clause
 returns-in-Err-one_batch-clause-fault g c = (c.in-Err-one_batch.stop.node, c.in-Err-one_batch.stop.fault, c.lane_fault.ensures, c.in-Err-one_batch.ensures.fault)
 
 pub one_batch-requires-clause-mine : goal.one_batch-requires-clause-mine
-one_batch-requires-clause-mine g c = c.pieces.invariant.serves c.args.lane c.requires.mine
+one_batch-requires-clause-mine g c = c.pieces.invariant.keeps_shards.served c.args.lane c.requires.mine
 
-pub returns-in-Err-one_batch-clause-serves : goal.returns-in-Err-one_batch-clause-serves
-returns-in-Err-one_batch-clause-serves g c lane mine = c.in-Err-one_batch.ensures.serves lane (c.pieces.invariant.serves lane mine)
+pub returns-in-Err-one_batch-clause-keeps_log : goal.returns-in-Err-one_batch-clause-keeps_log
+returns-in-Err-one_batch-clause-keeps_log g c = log_on c.pieces.invariant.keeps_log c.in-Err-one_batch.ensures.keeps_log
 
-pub returns-clause-serves : goal.returns-clause-serves
-returns-clause-serves g c = c.pieces.invariant.serves
+pub returns-in-Err-one_batch-clause-keeps_shards : goal.returns-in-Err-one_batch-clause-keeps_shards
+returns-in-Err-one_batch-clause-keeps_shards g c = shards_on c.pieces.invariant.keeps_shards c.in-Err-one_batch.ensures.keeps_shards
+
+pub returns-in-Err-clause-keeps_log : goal.returns-in-Err-clause-keeps_log
+returns-in-Err-clause-keeps_log g c = log_same c.args.ports.now.log
+
+pub returns-in-Err-clause-keeps_shards : goal.returns-in-Err-clause-keeps_shards
+returns-in-Err-clause-keeps_shards g c = shards_same c.args.ports.now.shards

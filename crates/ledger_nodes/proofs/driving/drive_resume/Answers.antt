@@ -35,16 +35,16 @@ resume-came-requires-clause-ledger g c = are_shards g.D.Disk.count g.D.Disk.limi
 pub returns-clause-step : goal.returns-clause-step
 returns-clause-step g c = is_step g.D.Disk.count g.D.Disk.limit g.D.Disk.content g.D.Disk.images c.args.header.now c.args.lane c.home-ports.result c.resume-came.new.ports.log.at
     c.args.ports.now.log.logs.items c.args.ports.now.shards.nodes.items c.resume-came.new.ports.log.logs.items c.resume-came.new.ports.shards.nodes.items
-    c.requires.ledger c.requires.lane c.home-ports.ensures.place c.resume-came.ensures.at_same c.args.unfinished.now.batch.lane (told_lane (sight_at sight c.args.ports.now.log.logs.items (home_of c.args.header.now.shape c.args.lane)).seen c.args.lane c.args.unfinished.now c.requires.told) c.resume-came.ensures.log_count c.resume-came.ensures.count c.resume-came.ensures.elsewhere c.resume-came.ensures.log_nodes c.resume-came.ensures.nodes
+    c.requires.ledger c.requires.lane c.home-ports.ensures.place c.resume-came.ensures.keeps_log.at_same c.args.unfinished.now.batch.lane (told_lane (sight_at sight c.args.ports.now.log.logs.items (home_of c.args.header.now.shape c.args.lane)).seen c.args.lane c.args.unfinished.now c.requires.told) c.resume-came.ensures.keeps_log.count_same c.resume-came.ensures.keeps_shards.count_same c.resume-came.ensures.keeps_log.elsewhere c.resume-came.ensures.keeps_log.nodes c.resume-came.ensures.keeps_shards.nodes
     (others_keep (sight_at sight c.args.ports.now.log.logs.items c.home-ports.result).header c.args.unfinished.now (λ l. (slot (sight_at sight c.args.ports.now.log.logs.items c.home-ports.result).seen l).phase) (λ l. (slot (sight_at sight c.resume-came.new.ports.log.logs.items c.resume-came.new.ports.log.at).seen l).phase) (λ l. txs_of (sight_at sight c.args.ports.now.log.logs.items c.home-ports.result).seen (open_batch (sight_at sight c.args.ports.now.log.logs.items c.home-ports.result).seen l)) (λ l. txs_of (sight_at sight c.resume-came.new.ports.log.logs.items c.resume-came.new.ports.log.at).seen (open_batch (sight_at sight c.resume-came.new.ports.log.logs.items c.resume-came.new.ports.log.at).seen l))
-    (subst (λ os. KeepsUnlisted (sight_at sight c.args.ports.now.log.logs.items c.home-ports.result).header os (λ l. (slot (sight_at sight c.args.ports.now.log.logs.items c.home-ports.result).seen l).phase) (λ l. (slot (sight_at sight c.resume-came.new.ports.log.logs.items c.resume-came.new.ports.log.at).seen l).phase) (λ l. txs_of (sight_at sight c.args.ports.now.log.logs.items c.home-ports.result).seen (open_batch (sight_at sight c.args.ports.now.log.logs.items c.home-ports.result).seen l)) (λ l. txs_of (sight_at sight c.resume-came.new.ports.log.logs.items c.resume-came.new.ports.log.at).seen (open_batch (sight_at sight c.resume-came.new.ports.log.logs.items c.resume-came.new.ports.log.at).seen l))) c.from_ref.ensures.value (c.resume-came.ensures.others refl))) c.resume-came.ensures.log_holds c.resume-came.ensures.shard_holds c.resume-came.ensures.log_later c.resume-came.ensures.shard_later
+    (subst (λ os. KeepsUnlisted (sight_at sight c.args.ports.now.log.logs.items c.home-ports.result).header os (λ l. (slot (sight_at sight c.args.ports.now.log.logs.items c.home-ports.result).seen l).phase) (λ l. (slot (sight_at sight c.resume-came.new.ports.log.logs.items c.resume-came.new.ports.log.at).seen l).phase) (λ l. txs_of (sight_at sight c.args.ports.now.log.logs.items c.home-ports.result).seen (open_batch (sight_at sight c.args.ports.now.log.logs.items c.home-ports.result).seen l)) (λ l. txs_of (sight_at sight c.resume-came.new.ports.log.logs.items c.resume-came.new.ports.log.at).seen (open_batch (sight_at sight c.resume-came.new.ports.log.logs.items c.resume-came.new.ports.log.at).seen l))) c.from_ref.ensures.value (c.resume-came.ensures.others refl))) c.resume-came.ensures.keeps_log.held c.resume-came.ensures.keeps_shards.held c.resume-came.ensures.keeps_log.later c.resume-came.ensures.keeps_shards.later
     (subst (All (λ l. IsJournal l.header l.journal)) c.as_slice.ensures.value c.see_logs.ensures.journals) (subst (All (λ s. IsJournal s.header s.journal)) c.as_slice-2.ensures.value c.see_shards.ensures.journals)
     (subst (All IsLogNext) c.as_slice.ensures.value c.see_logs.ensures.next) (subst (All IsShardNext) c.as_slice-2.ensures.value c.see_shards.ensures.next)
 
 -- it was taken up, as a list of one
 pub returns-clause-taken : goal.returns-clause-taken
 returns-clause-taken g c = at_home (λ x y. OnOk c.one_of.result (IsUnfinished c.args.unfinished.now.phase c.args.header.now.shape c.args.unfinished.now x (λ n. sight_at (sight_of g.D.Disk.count g.D.Disk.limit) c.args.ports.now.shards.nodes.items n) → IsTakenUp c.args.header.now.shape true c.args.unfinished.now.batch x (λ n. sight_at (sight_of g.D.Disk.count g.D.Disk.limit) c.args.ports.now.shards.nodes.items n) y (λ n. sight_at (sight_of g.D.Disk.count g.D.Disk.limit) c.resume-came.new.ports.shards.nodes.items n)))
-    (λ n. sight_at sight c.args.ports.now.log.logs.items n) (λ n. sight_at sight c.resume-came.new.ports.log.logs.items n) c.home-ports.result c.resume-came.new.ports.log.at (home_of c.args.header.now.shape c.args.lane) c.home-ports.ensures.place c.resume-came.ensures.at_same
+    (λ n. sight_at sight c.args.ports.now.log.logs.items n) (λ n. sight_at sight c.resume-came.new.ports.log.logs.items n) c.home-ports.result c.resume-came.new.ports.log.at (home_of c.args.header.now.shape c.args.lane) c.home-ports.ensures.place c.resume-came.ensures.keeps_log.at_same
     (given_ok c.one_of.result (IsOneTaken c.args.header.now.shape true c.args.unfinished.now (sight_at sight c.args.ports.now.log.logs.items c.home-ports.result) (λ n. sight_at (sight_of g.D.Disk.count g.D.Disk.limit) c.args.ports.now.shards.nodes.items n) (sight_at sight c.resume-came.new.ports.log.logs.items c.resume-came.new.ports.log.at) (λ n. sight_at (sight_of g.D.Disk.count g.D.Disk.limit) c.resume-came.new.ports.shards.nodes.items n)) (IsUnfinished c.args.unfinished.now.phase c.args.header.now.shape c.args.unfinished.now (sight_at sight c.args.ports.now.log.logs.items c.home-ports.result) (λ n. sight_at (sight_of g.D.Disk.count g.D.Disk.limit) c.args.ports.now.shards.nodes.items n))
     (IsTakenUp c.args.header.now.shape true c.args.unfinished.now.batch (sight_at sight c.args.ports.now.log.logs.items c.home-ports.result) (λ n. sight_at (sight_of g.D.Disk.count g.D.Disk.limit) c.args.ports.now.shards.nodes.items n) (sight_at sight c.resume-came.new.ports.log.logs.items c.resume-came.new.ports.log.at) (λ n. sight_at (sight_of g.D.Disk.count g.D.Disk.limit) c.resume-came.new.ports.shards.nodes.items n))
     (one_taken c.args.header.now.shape true c.args.unfinished.now (sight_at sight c.args.ports.now.log.logs.items c.home-ports.result) (sight_at sight c.resume-came.new.ports.log.logs.items c.resume-came.new.ports.log.at) (λ n. sight_at (sight_of g.D.Disk.count g.D.Disk.limit) c.args.ports.now.shards.nodes.items n) (λ n. sight_at (sight_of g.D.Disk.count g.D.Disk.limit) c.resume-came.new.ports.shards.nodes.items n) c.resume-came.result c.one_of.result c.one_of.ensures
@@ -58,14 +58,14 @@ returns-clause-resumed g c =
 
 pub returns-clause-outcomes : goal.returns-clause-outcomes
 returns-clause-outcomes g c = at_home (λ x y. IfOk c.one_of.result (λ r. IsUnfinished c.args.unfinished.now.phase c.args.header.now.shape c.args.unfinished.now x (λ n. sight_at (sight_of g.D.Disk.count g.D.Disk.limit) c.args.ports.now.shards.nodes.items n) → HasItsOutcomes c.args.unfinished.now.phase c.args.unfinished.now y.seen r))
-    (λ n. sight_at sight c.args.ports.now.log.logs.items n) (λ n. sight_at sight c.resume-came.new.ports.log.logs.items n) c.home-ports.result c.resume-came.new.ports.log.at (home_of c.args.header.now.shape c.args.lane) c.home-ports.ensures.place c.resume-came.ensures.at_same
+    (λ n. sight_at sight c.args.ports.now.log.logs.items n) (λ n. sight_at sight c.resume-came.new.ports.log.logs.items n) c.home-ports.result c.resume-came.new.ports.log.at (home_of c.args.header.now.shape c.args.lane) c.home-ports.ensures.place c.resume-came.ensures.keeps_log.at_same
     (given_each c.one_of.result (IsOneTaken c.args.header.now.shape true c.args.unfinished.now (sight_at sight c.args.ports.now.log.logs.items c.home-ports.result) (λ n. sight_at (sight_of g.D.Disk.count g.D.Disk.limit) c.args.ports.now.shards.nodes.items n) (sight_at sight c.resume-came.new.ports.log.logs.items c.resume-came.new.ports.log.at) (λ n. sight_at (sight_of g.D.Disk.count g.D.Disk.limit) c.resume-came.new.ports.shards.nodes.items n)) (λ r. HasItsOutcomes c.args.unfinished.now.phase c.args.unfinished.now (sight_at sight c.resume-came.new.ports.log.logs.items c.resume-came.new.ports.log.at).seen r) (IsUnfinished c.args.unfinished.now.phase c.args.header.now.shape c.args.unfinished.now (sight_at sight c.args.ports.now.log.logs.items c.home-ports.result) (λ n. sight_at (sight_of g.D.Disk.count g.D.Disk.limit) c.args.ports.now.shards.nodes.items n))
     (one_taken c.args.header.now.shape true c.args.unfinished.now (sight_at sight c.args.ports.now.log.logs.items c.home-ports.result) (sight_at sight c.resume-came.new.ports.log.logs.items c.resume-came.new.ports.log.at) (λ n. sight_at (sight_of g.D.Disk.count g.D.Disk.limit) c.args.ports.now.shards.nodes.items n) (λ n. sight_at (sight_of g.D.Disk.count g.D.Disk.limit) c.resume-came.new.ports.shards.nodes.items n) c.resume-came.result c.one_of.result c.one_of.ensures
     (subst (λ os. IfOk c.resume-came.result (λ r. AreTakenUp c.args.header.now.shape true os r.batches (sight_at sight c.args.ports.now.log.logs.items c.home-ports.result) (λ n. sight_at (sight_of g.D.Disk.count g.D.Disk.limit) c.args.ports.now.shards.nodes.items n) (sight_at sight c.resume-came.new.ports.log.logs.items c.resume-came.new.ports.log.at) (λ n. sight_at (sight_of g.D.Disk.count g.D.Disk.limit) c.resume-came.new.ports.shards.nodes.items n))) c.from_ref.ensures.value c.resume-came.ensures.taken)) (λ r is. is.outcomes))
 
 pub returns-clause-left : goal.returns-clause-left
 returns-clause-left g c = at_home (λ x y. IfErr c.one_of.result (λ e. IsResumeStopped c.args.header.now.shape true c.args.unfinished.now x (λ n. sight_at (sight_of g.D.Disk.count g.D.Disk.limit) c.args.ports.now.shards.nodes.items n) y (λ n. sight_at (sight_of g.D.Disk.count g.D.Disk.limit) c.resume-came.new.ports.shards.nodes.items n) e))
-    (λ n. sight_at sight c.args.ports.now.log.logs.items n) (λ n. sight_at sight c.resume-came.new.ports.log.logs.items n) c.home-ports.result c.resume-came.new.ports.log.at (home_of c.args.header.now.shape c.args.lane) c.home-ports.ensures.place c.resume-came.ensures.at_same
+    (λ n. sight_at sight c.args.ports.now.log.logs.items n) (λ n. sight_at sight c.resume-came.new.ports.log.logs.items n) c.home-ports.result c.resume-came.new.ports.log.at (home_of c.args.header.now.shape c.args.lane) c.home-ports.ensures.place c.resume-came.ensures.keeps_log.at_same
     (one_left c.args.header.now.shape true c.args.unfinished.now (sight_at sight c.args.ports.now.log.logs.items c.home-ports.result) (sight_at sight c.resume-came.new.ports.log.logs.items c.resume-came.new.ports.log.at) (λ n. sight_at (sight_of g.D.Disk.count g.D.Disk.limit) c.args.ports.now.shards.nodes.items n) (λ n. sight_at (sight_of g.D.Disk.count g.D.Disk.limit) c.resume-came.new.ports.shards.nodes.items n) c.resume-came.result c.one_of.result c.one_of.ensures
     (subst (λ os. IfErr c.resume-came.result (AreStopped c.args.header.now.shape true os (sight_at sight c.args.ports.now.log.logs.items c.home-ports.result) (λ n. sight_at (sight_of g.D.Disk.count g.D.Disk.limit) c.args.ports.now.shards.nodes.items n) (sight_at sight c.resume-came.new.ports.log.logs.items c.resume-came.new.ports.log.at) (λ n. sight_at (sight_of g.D.Disk.count g.D.Disk.limit) c.resume-came.new.ports.shards.nodes.items n))) c.from_ref.ensures.value c.resume-came.ensures.left))
 
@@ -73,7 +73,7 @@ pub returns-clause-idle : goal.returns-clause-idle
 returns-clause-idle g c = subst (λ L. OnOk c.one_of.result ((slot L c.args.lane).phase ≡ Idle))
     (sym (seen_log c.args.header.now.shape (λ n. sight_at sight c.resume-came.new.ports.log.logs.items n) (λ n. sight_at (sight_of g.D.Disk.count g.D.Disk.limit) c.resume-came.new.ports.shards.nodes.items n) (home_of c.args.header.now.shape c.args.lane) (subst (λ n. n < c.args.header.now.shape.coordinators) c.home-ports.ensures.place c.home-ports.ensures.inside)))
     (at_home (λ x y. OnOk c.one_of.result ((slot y.seen c.args.lane).phase ≡ Idle))
-    (λ n. sight_at sight c.args.ports.now.log.logs.items n) (λ n. sight_at sight c.resume-came.new.ports.log.logs.items n) c.home-ports.result c.resume-came.new.ports.log.at (home_of c.args.header.now.shape c.args.lane) c.home-ports.ensures.place c.resume-came.ensures.at_same
+    (λ n. sight_at sight c.args.ports.now.log.logs.items n) (λ n. sight_at sight c.resume-came.new.ports.log.logs.items n) c.home-ports.result c.resume-came.new.ports.log.at (home_of c.args.header.now.shape c.args.lane) c.home-ports.ensures.place c.resume-came.ensures.keeps_log.at_same
     (subst (λ l. OnOk c.one_of.result ((slot (sight_at sight c.resume-came.new.ports.log.logs.items c.resume-came.new.ports.log.at).seen l).phase ≡ Idle))
     (told_lane (sight_at sight c.args.ports.now.log.logs.items (home_of c.args.header.now.shape c.args.lane)).seen c.args.lane c.args.unfinished.now c.requires.told)
     (one_idle (λ l. (slot (sight_at sight c.resume-came.new.ports.log.logs.items c.resume-came.new.ports.log.at).seen l).phase) c.args.unfinished.now c.resume-came.result c.one_of.result c.one_of.ensures

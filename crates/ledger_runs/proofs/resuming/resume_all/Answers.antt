@@ -3,7 +3,7 @@ use Rattle.std.specs.Option.{option_or}
 use Rattle.std.specs.Result.{result_err}
 use Rattle.run_laws.specs.WaveSteps.{ResumedSo, ResumingStepLaw, ResumingSkipLaw, ResumingBeginsLaw, ResumingEndsLaw}
 use Rattle.run_laws.proofs.WaveTurns.{resuming_begins_law, resuming_step_law, resuming_skip_law, resuming_ends_law}
-use Rattle.ledger_runs.proofs.Keeping.{stays, stays_next, idle_next, so_next, of_ok}
+use Rattle.ledger_runs.proofs.Keeping.{stays, stays_next, idle_next, so_next, of_ok, ledger_same, ledger_on}
 use Rattle.ledger_runs.specs.Telling.{TellResumed}
 use Rattle.ledger_laws.proofs.Cuts.{end_self, end_trans}
 use Rattle.ledger_runs.specs.Turning.{IsLaneOf}
@@ -22,7 +22,7 @@ lanes-init g c =
     let E = g.L.Turns.journals c.args.ledger.now in
     let begins : ResumingBeginsLaw = resuming_begins_law in
     record {
-      shape = refl;
+      keeps_ledger = ledger_same c.args.ledger.now;
       count = c.lane_count-count.ensures.value ∙ ap (λ s. s.coordinators * s.lanes) c.shape.ensures;
       idle = λ none lane low. absurd (omega (arith, low));
       keeps = stays K E;
@@ -32,10 +32,6 @@ lanes-init g c =
       quiet = λ none was. was;
       flies = λ _ _ _ may. may;
       launches = launches_begin K (λ _. Nothing) E (g.L.Turns.flights c.args.ledger.now);
-      holds = λ h. h;
-      later = λ n. omega arith;
-      opened = λ n. refl;
-      capacity = λ n. refl;
       checked = c.requires;
       grows = λ n. end_self (E n);
       order = λ n. refl;
@@ -61,34 +57,30 @@ lanes-preserved g c =
     let skip : ResumingSkipLaw = resuming_skip_law in
     let inside : IsLaneOf K turn = omega (arith, c.lanes-test.true, so.count) in
     let is : c.or-first.result ≡ option_or c.lanes.first (result_err came) = c.or-first.ensures ∙ ap (option_or c.lanes.first) c.err.ensures.value in
-    let failed_on = risen_later (g.L.Turns.opened c.lanes.ledger) (g.L.Turns.faults c.lanes.ledger) (g.L.Turns.opened c.resume_next-came.new.ledger) (g.L.Turns.faults c.resume_next-came.new.ledger) did.opened_same did.later in
-    let held_on = holds_later (g.L.Turns.capacity c.lanes.ledger) (g.L.Turns.capacity c.resume_next-came.new.ledger) did.capacity_same in
+    let failed_on = risen_later (g.L.Turns.opened c.lanes.ledger) (g.L.Turns.faults c.lanes.ledger) (g.L.Turns.opened c.resume_next-came.new.ledger) (g.L.Turns.faults c.resume_next-came.new.ledger) did.keeps_ledger.opened_same did.keeps_ledger.later in
+    let held_on = holds_later (g.L.Turns.capacity c.lanes.ledger) (g.L.Turns.capacity c.resume_next-came.new.ledger) did.keeps_ledger.capacity_same in
     let failed = HaveFailed (g.L.Turns.opened c.lanes.ledger) (g.L.Turns.faults c.lanes.ledger) in
     let fails = HaveFailed (g.L.Turns.opened c.resume_next-came.new.ledger) (g.L.Turns.faults c.resume_next-came.new.ledger) in
     let holds = MayHold (g.L.Turns.capacity c.lanes.ledger) in
     let held = MayHold (g.L.Turns.capacity c.resume_next-came.new.ledger) in
     let none_of = λ (none : c.or-first.result ≡ None). first_none c.lanes.first came (sym is ∙ none) in
     record {
-      shape = did.shape ∙ so.shape;
+      keeps_ledger = ledger_on so.keeps_ledger did.keeps_ledger;
       count = so.count;
-      idle = λ none. idle_next K H turn J L so.shape inside (so.idle (none_of none).0) did.others (of_ok came _ (none_of none).1 did.idle);
-      keeps = stays_next K H E J L so.shape so.keeps did.keeps;
-      so = λ none. so_next step skip K H turn E J L c.lanes.batches.items c.resume_next-came.new.batches.items so.shape so.keeps (so.so (none_of none).0) (of_ok came _ (none_of none).1 did.took);
-      told = λ none. resumed_told K H turn E J L c.lanes.batches.items c.resume_next-came.new.batches.items so.shape so.keeps (so.so (none_of none).0) (so.told (none_of none).0) (of_ok came _ (none_of none).1 did.told);
-      prepares = resumed_none K H turn E J L so.shape so.prepares did.grows did.unprepared;
+      idle = λ none. idle_next K H turn J L so.keeps_ledger.shape_same inside (so.idle (none_of none).0) did.others (of_ok came _ (none_of none).1 did.idle);
+      keeps = stays_next K H E J L so.keeps_ledger.shape_same so.keeps did.keeps;
+      so = λ none. so_next step skip K H turn E J L c.lanes.batches.items c.resume_next-came.new.batches.items so.keeps_ledger.shape_same so.keeps (so.so (none_of none).0) (of_ok came _ (none_of none).1 did.took);
+      told = λ none. resumed_told K H turn E J L c.lanes.batches.items c.resume_next-came.new.batches.items so.keeps_ledger.shape_same so.keeps (so.so (none_of none).0) (so.told (none_of none).0) (of_ok came _ (none_of none).1 did.told);
+      prepares = resumed_none K H turn E J L so.keeps_ledger.shape_same so.prepares did.grows did.unprepared;
       quiet = λ none was. of_ok came _ (none_of none).1 did.quiet (so.quiet (none_of none).0 was);
-      flies = flies_next K H E J L (g.L.Turns.flights c.args.ledger.now) (g.L.Turns.flights c.lanes.ledger) (g.L.Turns.flights c.resume_next-came.new.ledger) so.shape so.keeps so.flies did.flies;
-      launches = launches_next K H E J L (g.L.Turns.flights c.args.ledger.now) (g.L.Turns.flights c.lanes.ledger) (g.L.Turns.flights c.resume_next-came.new.ledger) so.shape so.launches did.launches;
-      holds = λ h. did.holds (so.holds h);
-      later = λ n. omega (arith, did.later n, so.later n);
-      opened = λ n. did.opened_same n ∙ so.opened n;
-      capacity = λ n. did.capacity_same n ∙ so.capacity n;
+      flies = flies_next K H E J L (g.L.Turns.flights c.args.ledger.now) (g.L.Turns.flights c.lanes.ledger) (g.L.Turns.flights c.resume_next-came.new.ledger) so.keeps_ledger.shape_same so.keeps so.flies did.flies;
+      launches = launches_next K H E J L (g.L.Turns.flights c.args.ledger.now) (g.L.Turns.flights c.lanes.ledger) (g.L.Turns.flights c.resume_next-came.new.ledger) so.keeps_ledger.shape_same so.launches did.launches;
       checked = did.checked;
       grows = λ n. end_trans (E n) (J n) (L n) (so.grows n) (grown_end turn J L did.grows n);
       order = one_more turn E J L so.order did.grows;
       untouched = λ lane low. untouched_on lane turn (let apart : turn ≢ lane = λ h. omega (arith, h, low) in apart) E J L did.grows (so.untouched lane (omega (arith, low)));
-      first = λ e some. first_next K H turn E J L failed fails holds held so.shape inside so.grows did.grows failed_on held_on (so.untouched turn (omega arith)) came did.fault did.others c.lanes.first so.idle so.first e (sym is ∙ some);
-      rests = rests_next K H turn E J L failed fails holds held so.shape inside so.grows did.grows failed_on held_on (so.untouched turn (omega arith)) came did.fault
+      first = λ e some. first_next K H turn E J L failed fails holds held so.keeps_ledger.shape_same inside so.grows did.grows failed_on held_on (so.untouched turn (omega arith)) came did.fault did.others c.lanes.first so.idle so.first e (sym is ∙ some);
+      rests = rests_next K H turn E J L failed fails holds held so.keeps_ledger.shape_same inside so.grows did.grows failed_on held_on (so.untouched turn (omega arith)) came did.fault
           (g.L.Turns.wanting c.lanes.ledger) (g.L.Turns.wanting c.resume_next-came.new.ledger) did.wanting_same did.idle did.wanting so.rests;
       len = omega (arith, did.len, so.len);
       room = did.capacity ∙ so.room;
@@ -133,3 +125,6 @@ returns-in-None-clause-quiet g c = c.lanes.invariant.quiet c.in-None.is
 
 pub returns-in_default-clause-launches : goal.returns-in_default-clause-launches
 returns-in_default-clause-launches g c = launches_begin (g.L.Turns.shape c.args.ledger.now) (λ _. Nothing) (g.L.Turns.journals c.args.ledger.now) (g.L.Turns.flights c.args.ledger.now)
+
+pub returns-in_default-clause-keeps_ledger : goal.returns-in_default-clause-keeps_ledger
+returns-in_default-clause-keeps_ledger g c = ledger_same c.args.ledger.now

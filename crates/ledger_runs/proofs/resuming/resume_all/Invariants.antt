@@ -4,6 +4,7 @@ use Rattle.cbdc_model.specs.Slots.{Idle}
 use Rattle.cbdc_model.specs.Lanes.{IsEnd}
 use Rattle.run_laws.specs.WaveSteps.{ResumedSo}
 use Rattle.lane_driver.specs.declared.fault.LaneFault.{LaneFault}
+use Rattle.ledger_runs.specs.Keeping.{KeepsLedger}
 use Rattle.ledger_runs.specs.Turning.{phase_at, OfKept, StaysKept}
 use Rattle.ledger_runs.specs.Flying.{FliesOn, Launches}
 use Rattle.ledger_runs.specs.Telling.{TellResumed, SamePrepared}
@@ -17,7 +18,7 @@ invariant-lanes g l =
     let E = g.L.Turns.journals l.fn.ledger in
     let J = g.L.Turns.journals l.ledger in
     record {
-      shape : g.L.Turns.shape l.ledger ≡ K;
+      keeps_ledger : KeepsLedger g.L.Turns.shape g.L.Turns.opened g.L.Turns.faults g.L.Turns.capacity g.L.Turns.holds l.fn.ledger l.ledger;
       count : l.count ≡ K.coordinators * K.lanes;
       idle : l.first ≡ None → (lane : ℕ) → lane < l.lane → phase_at K J lane ≡ Idle;
       keeps : OfKept K E (StaysKept K E J);
@@ -27,10 +28,6 @@ invariant-lanes g l =
       quiet : l.first ≡ None → g.L.Turns.quiet l.fn.ledger → g.L.Turns.quiet l.ledger;
       flies : OfKept K E (FliesOn K E J (g.L.Turns.flights l.fn.ledger) (g.L.Turns.flights l.ledger));
       launches : Launches K (λ _. Nothing) E J (g.L.Turns.flights l.fn.ledger) (g.L.Turns.flights l.ledger);
-      holds : g.L.Turns.holds l.fn.ledger → g.L.Turns.holds l.ledger;
-      later : (n : ℕ) → g.L.Turns.faults l.fn.ledger n ≤ g.L.Turns.faults l.ledger n;
-      opened : (n : ℕ) → g.L.Turns.opened l.ledger n ≡ g.L.Turns.opened l.fn.ledger n;
-      capacity : (n : ℕ) → g.L.Turns.capacity l.ledger n ≡ g.L.Turns.capacity l.fn.ledger n;
       checked : g.L.Turns.checked l.ledger;
       grows : (n : ℕ) → IsEnd (E n) (J n);
       order : TookLanes l.lane E J;

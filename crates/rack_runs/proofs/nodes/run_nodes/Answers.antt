@@ -32,11 +32,11 @@ pub returns-clause-holds_as_much : goal.returns-clause-holds_as_much
 returns-clause-holds_as_much g c =
     let back : c.run_over-ledger.result.ledger ≡ record { header = c.ledger.inside.header; logs = c.ledger.inside.logs.items; shards = c.ledger.inside.shards.items } = cc in
     let lent = same_ledger c.args.nodes.header c.args.nodes.logs.items c.args.nodes.shards.items in
-    let shape : c.run_over-ledger.result.ledger.header.shape ≡ c.args.nodes.header.shape = c.run_over-ledger.ensures.shape ∙ ap (λ l. l.header.shape) lent in
+    let shape : c.run_over-ledger.result.ledger.header.shape ≡ c.args.nodes.header.shape = c.run_over-ledger.ensures.keeps_ledger.shape_same ∙ ap (λ l. l.header.shape) lent in
     lent_capacity g.D.Disk.count g.D.Disk.limit
     (λ C. (n : ℕ) → C n ≡ capacity_of g.D.Disk.count g.D.Disk.limit c.args.nodes.header.shape c.args.nodes.logs.items c.args.nodes.shards.items n) c.args.nodes.header.shape c.run_over-ledger.result.ledger _ back shape
     (subst (λ l. (n : ℕ) → capacity_of g.D.Disk.count g.D.Disk.limit c.run_over-ledger.result.ledger.header.shape c.run_over-ledger.result.ledger.logs c.run_over-ledger.result.ledger.shards n
-    ≡ capacity_of g.D.Disk.count g.D.Disk.limit l.header.shape l.logs l.shards n) lent c.run_over-ledger.ensures.capacity_same)
+    ≡ capacity_of g.D.Disk.count g.D.Disk.limit l.header.shape l.logs l.shards n) lent c.run_over-ledger.ensures.keeps_ledger.capacity_same)
 
 pub returns-clause-log_rooms : goal.returns-clause-log_rooms
 returns-clause-log_rooms g c = subst (λ xs. All (LogHasRoom g.D.Disk.limit) xs) c.as_slice.ensures.value c.see_logs.ensures.rooms
@@ -54,14 +54,14 @@ pub returns-clause-shape : goal.returns-clause-shape
 returns-clause-shape g c =
     let back : c.run_over-ledger.result.ledger ≡ record { header = c.ledger.inside.header; logs = c.ledger.inside.logs.items; shards = c.ledger.inside.shards.items } = cc in
     let lent = same_ledger c.args.nodes.header c.args.nodes.logs.items c.args.nodes.shards.items in
-    let shape : c.run_over-ledger.result.ledger.header.shape ≡ c.args.nodes.header.shape = c.run_over-ledger.ensures.shape ∙ ap (λ l. l.header.shape) lent in
+    let shape : c.run_over-ledger.result.ledger.header.shape ≡ c.args.nodes.header.shape = c.run_over-ledger.ensures.keeps_ledger.shape_same ∙ ap (λ l. l.header.shape) lent in
     ap (λ l. l.header.shape) (sym back) ∙ shape
 
 pub returns-clause-idle : goal.returns-clause-idle
 returns-clause-idle g c =
     let back : c.run_over-ledger.result.ledger ≡ record { header = c.ledger.inside.header; logs = c.ledger.inside.logs.items; shards = c.ledger.inside.shards.items } = cc in
     let lent = same_ledger c.args.nodes.header c.args.nodes.logs.items c.args.nodes.shards.items in
-    let shape : c.run_over-ledger.result.ledger.header.shape ≡ c.args.nodes.header.shape = c.run_over-ledger.ensures.shape ∙ ap (λ l. l.header.shape) lent in
+    let shape : c.run_over-ledger.result.ledger.header.shape ≡ c.args.nodes.header.shape = c.run_over-ledger.ensures.keeps_ledger.shape_same ∙ ap (λ l. l.header.shape) lent in
     let own = on_ok_by c.run_over-ledger.result.came (subst (λ k. AreIdle k (journals_of g.D.Disk.count g.D.Disk.limit c.run_over-ledger.result.ledger.header.shape c.run_over-ledger.result.ledger.logs c.run_over-ledger.result.ledger.shards)) (ap (λ l. l.header.shape) lent)) c.run_over-ledger.ensures.idle in
     on_ok _ c.came_of-came.result c.run_over-ledger.result.came c.came_of-came.ensures.whole
     (on_ok_by c.run_over-ledger.result.came (lent_journals g.D.Disk.count g.D.Disk.limit (λ L. AreIdle c.args.nodes.header.shape L) c.args.nodes.header.shape c.run_over-ledger.result.ledger _ back shape) own)
@@ -70,7 +70,7 @@ pub returns-clause-keeps : goal.returns-clause-keeps
 returns-clause-keeps g c =
     let back : c.run_over-ledger.result.ledger ≡ record { header = c.ledger.inside.header; logs = c.ledger.inside.logs.items; shards = c.ledger.inside.shards.items } = cc in
     let lent = same_ledger c.args.nodes.header c.args.nodes.logs.items c.args.nodes.shards.items in
-    let shape : c.run_over-ledger.result.ledger.header.shape ≡ c.args.nodes.header.shape = c.run_over-ledger.ensures.shape ∙ ap (λ l. l.header.shape) lent in
+    let shape : c.run_over-ledger.result.ledger.header.shape ≡ c.args.nodes.header.shape = c.run_over-ledger.ensures.keeps_ledger.shape_same ∙ ap (λ l. l.header.shape) lent in
     lent_journals g.D.Disk.count g.D.Disk.limit
     (λ L. OfKept c.args.nodes.header.shape (journals_of g.D.Disk.count g.D.Disk.limit c.args.nodes.header.shape c.args.nodes.logs.items c.args.nodes.shards.items) (λ mint submissions. StaysKept c.args.nodes.header.shape (journals_of g.D.Disk.count g.D.Disk.limit c.args.nodes.header.shape c.args.nodes.logs.items c.args.nodes.shards.items) L mint (submissions ++ joined c.args.files.now)))
     c.args.nodes.header.shape c.run_over-ledger.result.ledger _ back shape
@@ -81,7 +81,7 @@ pub returns-clause-waves : goal.returns-clause-waves
 returns-clause-waves g c =
     let back : c.run_over-ledger.result.ledger ≡ record { header = c.ledger.inside.header; logs = c.ledger.inside.logs.items; shards = c.ledger.inside.shards.items } = cc in
     let lent = same_ledger c.args.nodes.header c.args.nodes.logs.items c.args.nodes.shards.items in
-    let shape : c.run_over-ledger.result.ledger.header.shape ≡ c.args.nodes.header.shape = c.run_over-ledger.ensures.shape ∙ ap (λ l. l.header.shape) lent in
+    let shape : c.run_over-ledger.result.ledger.header.shape ≡ c.args.nodes.header.shape = c.run_over-ledger.ensures.keeps_ledger.shape_same ∙ ap (λ l. l.header.shape) lent in
     let own = on_ok_by c.run_over-ledger.result.came
     (subst (λ l. OfKept l.header.shape (journals_of g.D.Disk.count g.D.Disk.limit l.header.shape l.logs l.shards) (λ _ _. (sound : TxOf → Bool) → TellsSound (g.V.Verifier.verdict_of c.args.verifier.now) sound → Waves l.header.shape sound c.args.files.now (journals_of g.D.Disk.count g.D.Disk.limit l.header.shape l.logs l.shards)
     (journals_of g.D.Disk.count g.D.Disk.limit c.run_over-ledger.result.ledger.header.shape c.run_over-ledger.result.ledger.logs c.run_over-ledger.result.ledger.shards))) lent) c.run_over-ledger.ensures.waves in
@@ -95,7 +95,7 @@ pub returns-clause-resumed : goal.returns-clause-resumed
 returns-clause-resumed g c =
     let back : c.run_over-ledger.result.ledger ≡ record { header = c.ledger.inside.header; logs = c.ledger.inside.logs.items; shards = c.ledger.inside.shards.items } = cc in
     let lent = same_ledger c.args.nodes.header c.args.nodes.logs.items c.args.nodes.shards.items in
-    let shape : c.run_over-ledger.result.ledger.header.shape ≡ c.args.nodes.header.shape = c.run_over-ledger.ensures.shape ∙ ap (λ l. l.header.shape) lent in
+    let shape : c.run_over-ledger.result.ledger.header.shape ≡ c.args.nodes.header.shape = c.run_over-ledger.ensures.keeps_ledger.shape_same ∙ ap (λ l. l.header.shape) lent in
     let own = on_ok_by c.run_over-ledger.result.came
     (subst (λ l. OfKept l.header.shape (journals_of g.D.Disk.count g.D.Disk.limit l.header.shape l.logs l.shards) (λ _ _. c.args.files.now ≡ [] → IsResumed l.header.shape (journals_of g.D.Disk.count g.D.Disk.limit l.header.shape l.logs l.shards)
     (journals_of g.D.Disk.count g.D.Disk.limit c.run_over-ledger.result.ledger.header.shape c.run_over-ledger.result.ledger.logs c.run_over-ledger.result.ledger.shards))) lent) c.run_over-ledger.ensures.resumed in
@@ -109,7 +109,7 @@ pub returns-clause-checked : goal.returns-clause-checked
 returns-clause-checked g c =
     let back : c.run_over-ledger.result.ledger ≡ record { header = c.ledger.inside.header; logs = c.ledger.inside.logs.items; shards = c.ledger.inside.shards.items } = cc in
     let lent = same_ledger c.args.nodes.header c.args.nodes.logs.items c.args.nodes.shards.items in
-    let shape : c.run_over-ledger.result.ledger.header.shape ≡ c.args.nodes.header.shape = c.run_over-ledger.ensures.shape ∙ ap (λ l. l.header.shape) lent in
+    let shape : c.run_over-ledger.result.ledger.header.shape ≡ c.args.nodes.header.shape = c.run_over-ledger.ensures.keeps_ledger.shape_same ∙ ap (λ l. l.header.shape) lent in
     let still : c.ledger.inside.header.shape ≡ c.args.nodes.header.shape = ap (λ l. l.header.shape) (sym back) ∙ shape in
     subst (λ k. AreChecked g.D.Disk.count g.D.Disk.limit k c.ledger.inside.logs.items c.ledger.inside.shards.items) still (subst (λ l. AreChecked g.D.Disk.count g.D.Disk.limit l.header.shape l.logs l.shards) back c.run_over-ledger.ensures.checked)
 
@@ -117,19 +117,19 @@ pub returns-clause-stored : goal.returns-clause-stored
 returns-clause-stored g c stored =
     let back : c.run_over-ledger.result.ledger ≡ record { header = c.ledger.inside.header; logs = c.ledger.inside.logs.items; shards = c.ledger.inside.shards.items } = cc in
     let lent = same_ledger c.args.nodes.header c.args.nodes.logs.items c.args.nodes.shards.items in
-    let shape : c.run_over-ledger.result.ledger.header.shape ≡ c.args.nodes.header.shape = c.run_over-ledger.ensures.shape ∙ ap (λ l. l.header.shape) lent in
+    let shape : c.run_over-ledger.result.ledger.header.shape ≡ c.args.nodes.header.shape = c.run_over-ledger.ensures.keeps_ledger.shape_same ∙ ap (λ l. l.header.shape) lent in
     subst (λ l. AreStored g.D.Disk.content g.D.Disk.images l.logs l.shards) back
-    (c.run_over-ledger.ensures.holds (subst (λ l. AreStored g.D.Disk.content g.D.Disk.images l.logs l.shards) (sym lent) stored))
+    (c.run_over-ledger.ensures.keeps_ledger.held (subst (λ l. AreStored g.D.Disk.content g.D.Disk.images l.logs l.shards) (sym lent) stored))
 
 pub returns-clause-later : goal.returns-clause-later
 returns-clause-later g c =
     let back : c.run_over-ledger.result.ledger ≡ record { header = c.ledger.inside.header; logs = c.ledger.inside.logs.items; shards = c.ledger.inside.shards.items } = cc in
     let lent = same_ledger c.args.nodes.header c.args.nodes.logs.items c.args.nodes.shards.items in
-    let shape : c.run_over-ledger.result.ledger.header.shape ≡ c.args.nodes.header.shape = c.run_over-ledger.ensures.shape ∙ ap (λ l. l.header.shape) lent in
+    let shape : c.run_over-ledger.result.ledger.header.shape ≡ c.args.nodes.header.shape = c.run_over-ledger.ensures.keeps_ledger.shape_same ∙ ap (λ l. l.header.shape) lent in
     lent_faults g.D.Disk.count g.D.Disk.limit
     (λ F. (n : ℕ) → faults_of g.D.Disk.count g.D.Disk.limit c.args.nodes.header.shape c.args.nodes.logs.items c.args.nodes.shards.items n ≤ F n) c.args.nodes.header.shape c.run_over-ledger.result.ledger _ back shape
     (subst (λ l. (n : ℕ) → faults_of g.D.Disk.count g.D.Disk.limit l.header.shape l.logs l.shards n
-    ≤ faults_of g.D.Disk.count g.D.Disk.limit c.run_over-ledger.result.ledger.header.shape c.run_over-ledger.result.ledger.logs c.run_over-ledger.result.ledger.shards n) lent c.run_over-ledger.ensures.later)
+    ≤ faults_of g.D.Disk.count g.D.Disk.limit c.run_over-ledger.result.ledger.header.shape c.run_over-ledger.result.ledger.logs c.run_over-ledger.result.ledger.shards n) lent c.run_over-ledger.ensures.keeps_ledger.later)
 
 pub returns-clause-quiet : goal.returns-clause-quiet
 returns-clause-quiet g c =
@@ -143,7 +143,7 @@ pub returns-clause-told : goal.returns-clause-told
 returns-clause-told g c =
     let back : c.run_over-ledger.result.ledger ≡ record { header = c.ledger.inside.header; logs = c.ledger.inside.logs.items; shards = c.ledger.inside.shards.items } = cc in
     let lent = same_ledger c.args.nodes.header c.args.nodes.logs.items c.args.nodes.shards.items in
-    let shape : c.run_over-ledger.result.ledger.header.shape ≡ c.args.nodes.header.shape = c.run_over-ledger.ensures.shape ∙ ap (λ l. l.header.shape) lent in
+    let shape : c.run_over-ledger.result.ledger.header.shape ≡ c.args.nodes.header.shape = c.run_over-ledger.ensures.keeps_ledger.shape_same ∙ ap (λ l. l.header.shape) lent in
     let K = c.args.nodes.header.shape in
     let E = journals_of g.D.Disk.count g.D.Disk.limit c.args.nodes.header.shape c.args.nodes.logs.items c.args.nodes.shards.items in
     let now = c.run_over-ledger.result.ledger in
@@ -163,7 +163,7 @@ pub returns-clause-grows : goal.returns-clause-grows
 returns-clause-grows g c =
     let back : c.run_over-ledger.result.ledger ≡ record { header = c.ledger.inside.header; logs = c.ledger.inside.logs.items; shards = c.ledger.inside.shards.items } = cc in
     let lent = same_ledger c.args.nodes.header c.args.nodes.logs.items c.args.nodes.shards.items in
-    let shape : c.run_over-ledger.result.ledger.header.shape ≡ c.args.nodes.header.shape = c.run_over-ledger.ensures.shape ∙ ap (λ l. l.header.shape) lent in
+    let shape : c.run_over-ledger.result.ledger.header.shape ≡ c.args.nodes.header.shape = c.run_over-ledger.ensures.keeps_ledger.shape_same ∙ ap (λ l. l.header.shape) lent in
     lent_journals g.D.Disk.count g.D.Disk.limit (λ L. (n : ℕ) → IsEnd (journals_of g.D.Disk.count g.D.Disk.limit c.args.nodes.header.shape c.args.nodes.logs.items c.args.nodes.shards.items n) (L n)) c.args.nodes.header.shape c.run_over-ledger.result.ledger _ back shape
     (subst (λ l. (n : ℕ) → IsEnd (journals_of g.D.Disk.count g.D.Disk.limit l.header.shape l.logs l.shards n) (journals_of g.D.Disk.count g.D.Disk.limit c.run_over-ledger.result.ledger.header.shape c.run_over-ledger.result.ledger.logs c.run_over-ledger.result.ledger.shards n)) lent c.run_over-ledger.ensures.grows)
 
@@ -171,10 +171,10 @@ pub returns-clause-fault : goal.returns-clause-fault
 returns-clause-fault g c =
     let back : c.run_over-ledger.result.ledger ≡ record { header = c.ledger.inside.header; logs = c.ledger.inside.logs.items; shards = c.ledger.inside.shards.items } = cc in
     let lent = same_ledger c.args.nodes.header c.args.nodes.logs.items c.args.nodes.shards.items in
-    let shape : c.run_over-ledger.result.ledger.header.shape ≡ c.args.nodes.header.shape = c.run_over-ledger.ensures.shape ∙ ap (λ l. l.header.shape) lent in
+    let shape : c.run_over-ledger.result.ledger.header.shape ≡ c.args.nodes.header.shape = c.run_over-ledger.ensures.keeps_ledger.shape_same ∙ ap (λ l. l.header.shape) lent in
     let verdicts = g.V.Verifier.verdict_of c.args.verifier.now in
     let entry = by_entry (λ o h. IfErr c.run_over-ledger.result.came (IsRunCause c.args.nodes.header.shape (IsFilesPiece c.args.nodes.header.shape verdicts c.args.files.now (journals_of g.D.Disk.count g.D.Disk.limit c.args.nodes.header.shape c.args.nodes.logs.items c.args.nodes.shards.items) (journals_of g.D.Disk.count g.D.Disk.limit c.run_over-ledger.result.ledger.header.shape c.run_over-ledger.result.ledger.logs c.run_over-ledger.result.ledger.shards)) (journals_of g.D.Disk.count g.D.Disk.limit c.args.nodes.header.shape c.args.nodes.logs.items c.args.nodes.shards.items) (journals_of g.D.Disk.count g.D.Disk.limit c.run_over-ledger.result.ledger.header.shape c.run_over-ledger.result.ledger.logs c.run_over-ledger.result.ledger.shards) (HaveFailed o (faults_of g.D.Disk.count g.D.Disk.limit c.run_over-ledger.result.ledger.header.shape c.run_over-ledger.result.ledger.logs c.run_over-ledger.result.ledger.shards)) (MayHold h))) (opened_of g.D.Disk.count g.D.Disk.limit c.args.nodes.header.shape c.args.nodes.logs.items c.args.nodes.shards.items) (opened_of g.D.Disk.count g.D.Disk.limit c.run_over-ledger.result.ledger.header.shape c.run_over-ledger.result.ledger.logs c.run_over-ledger.result.ledger.shards) (capacity_of g.D.Disk.count g.D.Disk.limit c.args.nodes.header.shape c.args.nodes.logs.items c.args.nodes.shards.items) (capacity_of g.D.Disk.count g.D.Disk.limit c.run_over-ledger.result.ledger.header.shape c.run_over-ledger.result.ledger.logs c.run_over-ledger.result.ledger.shards)
-    c.run_over-ledger.ensures.opened_same c.run_over-ledger.ensures.capacity_same c.run_over-ledger.ensures.fault in
+    c.run_over-ledger.ensures.keeps_ledger.opened_same c.run_over-ledger.ensures.keeps_ledger.capacity_same c.run_over-ledger.ensures.fault in
     let own = subst (λ l. IfErr c.run_over-ledger.result.came (IsRunCause l.header.shape (IsFilesPiece l.header.shape verdicts c.args.files.now (journals_of g.D.Disk.count g.D.Disk.limit l.header.shape l.logs l.shards) (journals_of g.D.Disk.count g.D.Disk.limit c.run_over-ledger.result.ledger.header.shape c.run_over-ledger.result.ledger.logs c.run_over-ledger.result.ledger.shards)) (journals_of g.D.Disk.count g.D.Disk.limit l.header.shape l.logs l.shards) (journals_of g.D.Disk.count g.D.Disk.limit c.run_over-ledger.result.ledger.header.shape c.run_over-ledger.result.ledger.logs c.run_over-ledger.result.ledger.shards) (HaveFailed (opened_of g.D.Disk.count g.D.Disk.limit l.header.shape l.logs l.shards) (faults_of g.D.Disk.count g.D.Disk.limit c.run_over-ledger.result.ledger.header.shape c.run_over-ledger.result.ledger.logs c.run_over-ledger.result.ledger.shards)) (MayHold (capacity_of g.D.Disk.count g.D.Disk.limit l.header.shape l.logs l.shards)))) lent entry in
     came_cause c.args.nodes.header.shape (IsFilesPiece c.args.nodes.header.shape verdicts c.args.files.now (journals_of g.D.Disk.count g.D.Disk.limit c.args.nodes.header.shape c.args.nodes.logs.items c.args.nodes.shards.items) (journals_of g.D.Disk.count g.D.Disk.limit c.args.nodes.header.shape c.ledger.inside.logs.items c.ledger.inside.shards.items)) (journals_of g.D.Disk.count g.D.Disk.limit c.args.nodes.header.shape c.args.nodes.logs.items c.args.nodes.shards.items) (journals_of g.D.Disk.count g.D.Disk.limit c.args.nodes.header.shape c.ledger.inside.logs.items c.ledger.inside.shards.items) (HaveFailed (opened_of g.D.Disk.count g.D.Disk.limit c.args.nodes.header.shape c.args.nodes.logs.items c.args.nodes.shards.items) (faults_of g.D.Disk.count g.D.Disk.limit c.args.nodes.header.shape c.ledger.inside.logs.items c.ledger.inside.shards.items)) (MayHold (capacity_of g.D.Disk.count g.D.Disk.limit c.args.nodes.header.shape c.args.nodes.logs.items c.args.nodes.shards.items))
     c.came_of-came.result c.run_over-ledger.result.came
@@ -185,10 +185,10 @@ pub returns-clause-least : goal.returns-clause-least
 returns-clause-least g c =
     let back : c.run_over-ledger.result.ledger ≡ record { header = c.ledger.inside.header; logs = c.ledger.inside.logs.items; shards = c.ledger.inside.shards.items } = cc in
     let lent = same_ledger c.args.nodes.header c.args.nodes.logs.items c.args.nodes.shards.items in
-    let shape : c.run_over-ledger.result.ledger.header.shape ≡ c.args.nodes.header.shape = c.run_over-ledger.ensures.shape ∙ ap (λ l. l.header.shape) lent in
+    let shape : c.run_over-ledger.result.ledger.header.shape ≡ c.args.nodes.header.shape = c.run_over-ledger.ensures.keeps_ledger.shape_same ∙ ap (λ l. l.header.shape) lent in
     let verdicts = g.V.Verifier.verdict_of c.args.verifier.now in
     let entry = by_entry (λ o h. IfErr c.run_over-ledger.result.came (EndsRun verdicts c.args.files.now c.args.nodes.header.shape (journals_of g.D.Disk.count g.D.Disk.limit c.args.nodes.header.shape c.args.nodes.logs.items c.args.nodes.shards.items) (journals_of g.D.Disk.count g.D.Disk.limit c.run_over-ledger.result.ledger.header.shape c.run_over-ledger.result.ledger.logs c.run_over-ledger.result.ledger.shards) (HaveFailed o (faults_of g.D.Disk.count g.D.Disk.limit c.run_over-ledger.result.ledger.header.shape c.run_over-ledger.result.ledger.logs c.run_over-ledger.result.ledger.shards)) (MayHold h))) (opened_of g.D.Disk.count g.D.Disk.limit c.args.nodes.header.shape c.args.nodes.logs.items c.args.nodes.shards.items) (opened_of g.D.Disk.count g.D.Disk.limit c.run_over-ledger.result.ledger.header.shape c.run_over-ledger.result.ledger.logs c.run_over-ledger.result.ledger.shards) (capacity_of g.D.Disk.count g.D.Disk.limit c.args.nodes.header.shape c.args.nodes.logs.items c.args.nodes.shards.items) (capacity_of g.D.Disk.count g.D.Disk.limit c.run_over-ledger.result.ledger.header.shape c.run_over-ledger.result.ledger.logs c.run_over-ledger.result.ledger.shards)
-    c.run_over-ledger.ensures.opened_same c.run_over-ledger.ensures.capacity_same c.run_over-ledger.ensures.least in
+    c.run_over-ledger.ensures.keeps_ledger.opened_same c.run_over-ledger.ensures.keeps_ledger.capacity_same c.run_over-ledger.ensures.least in
     let own = subst (λ l. IfErr c.run_over-ledger.result.came (EndsRun verdicts c.args.files.now l.header.shape (journals_of g.D.Disk.count g.D.Disk.limit l.header.shape l.logs l.shards) (journals_of g.D.Disk.count g.D.Disk.limit c.run_over-ledger.result.ledger.header.shape c.run_over-ledger.result.ledger.logs c.run_over-ledger.result.ledger.shards) (HaveFailed (opened_of g.D.Disk.count g.D.Disk.limit l.header.shape l.logs l.shards) (faults_of g.D.Disk.count g.D.Disk.limit c.run_over-ledger.result.ledger.header.shape c.run_over-ledger.result.ledger.logs c.run_over-ledger.result.ledger.shards)) (MayHold (capacity_of g.D.Disk.count g.D.Disk.limit l.header.shape l.logs l.shards)))) lent entry in
     came_ends (EndsRun verdicts c.args.files.now c.args.nodes.header.shape (journals_of g.D.Disk.count g.D.Disk.limit c.args.nodes.header.shape c.args.nodes.logs.items c.args.nodes.shards.items) (journals_of g.D.Disk.count g.D.Disk.limit c.args.nodes.header.shape c.ledger.inside.logs.items c.ledger.inside.shards.items) (HaveFailed (opened_of g.D.Disk.count g.D.Disk.limit c.args.nodes.header.shape c.args.nodes.logs.items c.args.nodes.shards.items) (faults_of g.D.Disk.count g.D.Disk.limit c.args.nodes.header.shape c.ledger.inside.logs.items c.ledger.inside.shards.items)) (MayHold (capacity_of g.D.Disk.count g.D.Disk.limit c.args.nodes.header.shape c.args.nodes.logs.items c.args.nodes.shards.items)))
     c.came_of-came.result c.run_over-ledger.result.came c.came_of-came.ensures.fault
@@ -198,7 +198,7 @@ pub returns-clause-flies : goal.returns-clause-flies
 returns-clause-flies g c =
     let back : c.run_over-ledger.result.ledger ≡ record { header = c.ledger.inside.header; logs = c.ledger.inside.logs.items; shards = c.ledger.inside.shards.items } = cc in
     let lent = same_ledger c.args.nodes.header c.args.nodes.logs.items c.args.nodes.shards.items in
-    let shape : c.run_over-ledger.result.ledger.header.shape ≡ c.args.nodes.header.shape = c.run_over-ledger.ensures.shape ∙ ap (λ l. l.header.shape) lent in
+    let shape : c.run_over-ledger.result.ledger.header.shape ≡ c.args.nodes.header.shape = c.run_over-ledger.ensures.keeps_ledger.shape_same ∙ ap (λ l. l.header.shape) lent in
     lent_flights g.D.Disk.count g.D.Disk.limit (λ X G. OfKept c.args.nodes.header.shape (journals_of g.D.Disk.count g.D.Disk.limit c.args.nodes.header.shape c.args.nodes.logs.items c.args.nodes.shards.items) (FliesWith c.args.nodes.header.shape (joined c.args.files.now) (journals_of g.D.Disk.count g.D.Disk.limit c.args.nodes.header.shape c.args.nodes.logs.items c.args.nodes.shards.items) X (flights_of g.D.Disk.count g.D.Disk.limit c.args.nodes.header.shape c.args.nodes.logs.items c.args.nodes.shards.items) G)) c.args.nodes.header.shape c.run_over-ledger.result.ledger _ back shape
     (subst (λ l. OfKept l.header.shape (journals_of g.D.Disk.count g.D.Disk.limit l.header.shape l.logs l.shards) (FliesWith l.header.shape (joined c.args.files.now) (journals_of g.D.Disk.count g.D.Disk.limit l.header.shape l.logs l.shards) (journals_of g.D.Disk.count g.D.Disk.limit c.run_over-ledger.result.ledger.header.shape c.run_over-ledger.result.ledger.logs c.run_over-ledger.result.ledger.shards) (flights_of g.D.Disk.count g.D.Disk.limit l.header.shape l.logs l.shards) (flights_of g.D.Disk.count g.D.Disk.limit c.run_over-ledger.result.ledger.header.shape c.run_over-ledger.result.ledger.logs c.run_over-ledger.result.ledger.shards))) lent c.run_over-ledger.ensures.flies)
 
@@ -206,7 +206,7 @@ pub returns-clause-launches : goal.returns-clause-launches
 returns-clause-launches g c =
     let back : c.run_over-ledger.result.ledger ≡ record { header = c.ledger.inside.header; logs = c.ledger.inside.logs.items; shards = c.ledger.inside.shards.items } = cc in
     let lent = same_ledger c.args.nodes.header c.args.nodes.logs.items c.args.nodes.shards.items in
-    let shape : c.run_over-ledger.result.ledger.header.shape ≡ c.args.nodes.header.shape = c.run_over-ledger.ensures.shape ∙ ap (λ l. l.header.shape) lent in
+    let shape : c.run_over-ledger.result.ledger.header.shape ≡ c.args.nodes.header.shape = c.run_over-ledger.ensures.keeps_ledger.shape_same ∙ ap (λ l. l.header.shape) lent in
     let K = c.args.nodes.header.shape in
     let verdicts = g.V.Verifier.verdict_of c.args.verifier.now in
     let E = journals_of g.D.Disk.count g.D.Disk.limit K c.args.nodes.logs.items c.args.nodes.shards.items in
@@ -220,7 +220,7 @@ pub returns-clause-begun : goal.returns-clause-begun
 returns-clause-begun g c =
     let back : c.run_over-ledger.result.ledger ≡ record { header = c.ledger.inside.header; logs = c.ledger.inside.logs.items; shards = c.ledger.inside.shards.items } = cc in
     let lent = same_ledger c.args.nodes.header c.args.nodes.logs.items c.args.nodes.shards.items in
-    let shape : c.run_over-ledger.result.ledger.header.shape ≡ c.args.nodes.header.shape = c.run_over-ledger.ensures.shape ∙ ap (λ l. l.header.shape) lent in
+    let shape : c.run_over-ledger.result.ledger.header.shape ≡ c.args.nodes.header.shape = c.run_over-ledger.ensures.keeps_ledger.shape_same ∙ ap (λ l. l.header.shape) lent in
     let verdicts = g.V.Verifier.verdict_of c.args.verifier.now in
     lent_journals g.D.Disk.count g.D.Disk.limit
     (λ L. 0 < c.args.nodes.header.shape.batch → HaveBegunFiles c.args.nodes.header.shape verdicts c.args.files.now (journals_of g.D.Disk.count g.D.Disk.limit c.args.nodes.header.shape c.args.nodes.logs.items c.args.nodes.shards.items) L)
@@ -232,7 +232,7 @@ pub returns-clause-cut : goal.returns-clause-cut
 returns-clause-cut g c =
     let back : c.run_over-ledger.result.ledger ≡ record { header = c.ledger.inside.header; logs = c.ledger.inside.logs.items; shards = c.ledger.inside.shards.items } = cc in
     let lent = same_ledger c.args.nodes.header c.args.nodes.logs.items c.args.nodes.shards.items in
-    let shape : c.run_over-ledger.result.ledger.header.shape ≡ c.args.nodes.header.shape = c.run_over-ledger.ensures.shape ∙ ap (λ l. l.header.shape) lent in
+    let shape : c.run_over-ledger.result.ledger.header.shape ≡ c.args.nodes.header.shape = c.run_over-ledger.ensures.keeps_ledger.shape_same ∙ ap (λ l. l.header.shape) lent in
     let verdicts = g.V.Verifier.verdict_of c.args.verifier.now in
     let K = c.args.nodes.header.shape in
     let E = journals_of g.D.Disk.count g.D.Disk.limit c.args.nodes.header.shape c.args.nodes.logs.items c.args.nodes.shards.items in
@@ -245,11 +245,11 @@ pub returns-clause-flown : goal.returns-clause-flown
 returns-clause-flown g c n r there =
     let back : c.run_over-ledger.result.ledger ≡ record { header = c.ledger.inside.header; logs = c.ledger.inside.logs.items; shards = c.ledger.inside.shards.items } = cc in
     let lent = same_ledger c.args.nodes.header c.args.nodes.logs.items c.args.nodes.shards.items in
-    let shape : c.run_over-ledger.result.ledger.header.shape ≡ c.args.nodes.header.shape = c.run_over-ledger.ensures.shape ∙ ap (λ l. l.header.shape) lent in
+    let shape : c.run_over-ledger.result.ledger.header.shape ≡ c.args.nodes.header.shape = c.run_over-ledger.ensures.keeps_ledger.shape_same ∙ ap (λ l. l.header.shape) lent in
     let K = c.args.nodes.header.shape in
     let same = lent_opened g.D.Disk.count g.D.Disk.limit (λ o. o n ≡ opened_of g.D.Disk.count g.D.Disk.limit c.args.nodes.header.shape c.args.nodes.logs.items c.args.nodes.shards.items n) K c.run_over-ledger.result.ledger _ back shape
     (subst (λ l. opened_of g.D.Disk.count g.D.Disk.limit c.run_over-ledger.result.ledger.header.shape c.run_over-ledger.result.ledger.logs c.run_over-ledger.result.ledger.shards n
-    ≡ opened_of g.D.Disk.count g.D.Disk.limit l.header.shape l.logs l.shards n) lent (c.run_over-ledger.ensures.opened_same n)) in
+    ≡ opened_of g.D.Disk.count g.D.Disk.limit l.header.shape l.logs l.shards n) lent (c.run_over-ledger.ensures.keeps_ledger.opened_same n)) in
     subst (λ o. HasRisen o (faults_of g.D.Disk.count g.D.Disk.limit K c.ledger.inside.logs.items c.ledger.inside.shards.items n)) same
     (all_flown g.D.Disk.count g.D.Disk.limit K c.ledger.inside.logs.items c.ledger.inside.shards.items
     (subst (λ xs. All FliesBroken xs) c.as_slice.ensures.value c.see_logs.ensures.flown) (subst (λ xs. All (ShardFliesBroken g.D.Disk.count) xs) c.as_slice-2.ensures.value c.see_shards.ensures.flown) n r there)
@@ -258,7 +258,7 @@ pub returns-clause-in_order : goal.returns-clause-in_order
 returns-clause-in_order g c =
     let back : c.run_over-ledger.result.ledger ≡ record { header = c.ledger.inside.header; logs = c.ledger.inside.logs.items; shards = c.ledger.inside.shards.items } = cc in
     let lent = same_ledger c.args.nodes.header c.args.nodes.logs.items c.args.nodes.shards.items in
-    let shape : c.run_over-ledger.result.ledger.header.shape ≡ c.args.nodes.header.shape = c.run_over-ledger.ensures.shape ∙ ap (λ l. l.header.shape) lent in
+    let shape : c.run_over-ledger.result.ledger.header.shape ≡ c.args.nodes.header.shape = c.run_over-ledger.ensures.keeps_ledger.shape_same ∙ ap (λ l. l.header.shape) lent in
     let K = c.args.nodes.header.shape in
     let E = journals_of g.D.Disk.count g.D.Disk.limit c.args.nodes.header.shape c.args.nodes.logs.items c.args.nodes.shards.items in
     lent_journals g.D.Disk.count g.D.Disk.limit (λ L. IsInOrder K E L) K c.run_over-ledger.result.ledger _ back shape
@@ -269,8 +269,8 @@ pub returns-clause-rests : goal.returns-clause-rests
 returns-clause-rests g c =
     let back : c.run_over-ledger.result.ledger ≡ record { header = c.ledger.inside.header; logs = c.ledger.inside.logs.items; shards = c.ledger.inside.shards.items } = cc in
     let lent = same_ledger c.args.nodes.header c.args.nodes.logs.items c.args.nodes.shards.items in
-    let shape : c.run_over-ledger.result.ledger.header.shape ≡ c.args.nodes.header.shape = c.run_over-ledger.ensures.shape ∙ ap (λ l. l.header.shape) lent in
+    let shape : c.run_over-ledger.result.ledger.header.shape ≡ c.args.nodes.header.shape = c.run_over-ledger.ensures.keeps_ledger.shape_same ∙ ap (λ l. l.header.shape) lent in
     let entry = by_entry (λ o h. AllRestSince c.args.nodes.header.shape (journals_of g.D.Disk.count g.D.Disk.limit c.args.nodes.header.shape c.args.nodes.logs.items c.args.nodes.shards.items) (journals_of g.D.Disk.count g.D.Disk.limit c.run_over-ledger.result.ledger.header.shape c.run_over-ledger.result.ledger.logs c.run_over-ledger.result.ledger.shards) (HaveFailed o (faults_of g.D.Disk.count g.D.Disk.limit c.run_over-ledger.result.ledger.header.shape c.run_over-ledger.result.ledger.logs c.run_over-ledger.result.ledger.shards))) (opened_of g.D.Disk.count g.D.Disk.limit c.args.nodes.header.shape c.args.nodes.logs.items c.args.nodes.shards.items) (opened_of g.D.Disk.count g.D.Disk.limit c.run_over-ledger.result.ledger.header.shape c.run_over-ledger.result.ledger.logs c.run_over-ledger.result.ledger.shards) (capacity_of g.D.Disk.count g.D.Disk.limit c.args.nodes.header.shape c.args.nodes.logs.items c.args.nodes.shards.items) (capacity_of g.D.Disk.count g.D.Disk.limit c.run_over-ledger.result.ledger.header.shape c.run_over-ledger.result.ledger.logs c.run_over-ledger.result.ledger.shards)
-    c.run_over-ledger.ensures.opened_same c.run_over-ledger.ensures.capacity_same c.run_over-ledger.ensures.rests in
+    c.run_over-ledger.ensures.keeps_ledger.opened_same c.run_over-ledger.ensures.keeps_ledger.capacity_same c.run_over-ledger.ensures.rests in
     let own = subst (λ l. AllRestSince l.header.shape (journals_of g.D.Disk.count g.D.Disk.limit l.header.shape l.logs l.shards) (journals_of g.D.Disk.count g.D.Disk.limit c.run_over-ledger.result.ledger.header.shape c.run_over-ledger.result.ledger.logs c.run_over-ledger.result.ledger.shards) (HaveFailed (opened_of g.D.Disk.count g.D.Disk.limit l.header.shape l.logs l.shards) (faults_of g.D.Disk.count g.D.Disk.limit c.run_over-ledger.result.ledger.header.shape c.run_over-ledger.result.ledger.logs c.run_over-ledger.result.ledger.shards))) lent entry in
     lent_both g.D.Disk.count g.D.Disk.limit (λ X F. AllRestSince c.args.nodes.header.shape (journals_of g.D.Disk.count g.D.Disk.limit c.args.nodes.header.shape c.args.nodes.logs.items c.args.nodes.shards.items) X (HaveFailed (opened_of g.D.Disk.count g.D.Disk.limit c.args.nodes.header.shape c.args.nodes.logs.items c.args.nodes.shards.items) F)) c.args.nodes.header.shape c.run_over-ledger.result.ledger _ back shape own

@@ -3,6 +3,7 @@ use Rattle.std.proofs.lemmas.Bool.{eqb-true}
 use Rattle.rack_runs.proofs.Resumed.{over_cut, over_keeps, flies_cut, flies_over, over_waves, over_none, over_cuts, none_of, some_of, over_told, over_told_none}
 use Rattle.cbdc_model.specs.World.{AreIdle}
 use Rattle.ledger_laws.proofs.Cuts.{end_trans}
+use Rattle.ledger_runs.proofs.Keeping.{ledger_on}
 use Rattle.ledger_runs.proofs.Onward.{rests_told}
 use Rattle.ledger_runs.specs.Faults.{HaveFailed, MayHold, AllRest}
 use Rattle.ledger_nodes.specs.Ledgers.{journals, flights, faults, opened, capacity}
@@ -18,17 +19,17 @@ returns-in-Err-clause-keeps g c =
 pub returns-in-Ok-came-clause-keeps : goal.returns-in-Ok-came-clause-keeps
 returns-in-Ok-came-clause-keeps g c =
     over_keeps c.args.ledger.header.shape c.resume_ledger-ledger.result.ledger.header.shape c.args.files.now (journals g.D.Disk.count g.D.Disk.limit c.args.ledger) (journals g.D.Disk.count g.D.Disk.limit c.resume_ledger-ledger.result.ledger) (journals g.D.Disk.count g.D.Disk.limit c.run_files-ledger.result.ledger)
-    c.resume_ledger-ledger.ensures.shape c.resume_ledger-ledger.ensures.keeps c.run_files-ledger.ensures.keeps
+    c.resume_ledger-ledger.ensures.keeps_ledger.shape_same c.resume_ledger-ledger.ensures.keeps c.run_files-ledger.ensures.keeps
 
 pub returns-in-Err-came-clause-keeps : goal.returns-in-Err-came-clause-keeps
 returns-in-Err-came-clause-keeps g c =
     over_keeps c.args.ledger.header.shape c.resume_ledger-ledger.result.ledger.header.shape c.args.files.now (journals g.D.Disk.count g.D.Disk.limit c.args.ledger) (journals g.D.Disk.count g.D.Disk.limit c.resume_ledger-ledger.result.ledger) (journals g.D.Disk.count g.D.Disk.limit c.run_files-ledger.result.ledger)
-    c.resume_ledger-ledger.ensures.shape c.resume_ledger-ledger.ensures.keeps c.run_files-ledger.ensures.keeps
+    c.resume_ledger-ledger.ensures.keeps_ledger.shape_same c.resume_ledger-ledger.ensures.keeps c.run_files-ledger.ensures.keeps
 
 pub returns-in-Ok-came-clause-waves : goal.returns-in-Ok-came-clause-waves
 returns-in-Ok-came-clause-waves g c =
     over_waves c.args.ledger.header.shape c.resume_ledger-ledger.result.ledger.header.shape (g.V.Verifier.verdict_of c.args.verifier.now) c.args.files.now (journals g.D.Disk.count g.D.Disk.limit c.args.ledger) (journals g.D.Disk.count g.D.Disk.limit c.resume_ledger-ledger.result.ledger) (journals g.D.Disk.count g.D.Disk.limit c.run_files-ledger.result.ledger)
-    c.resume_ledger-ledger.ensures.shape c.resume_ledger-ledger.ensures.keeps (when_whole c.resume_ledger-ledger.result.came c.in-Ok.resumed c.in-Ok.is c.resume_ledger-ledger.ensures.resumed) (when_whole c.run_files-ledger.result.came c.in-Ok-came.waves c.in-Ok-came.is c.run_files-ledger.ensures.waves)
+    c.resume_ledger-ledger.ensures.keeps_ledger.shape_same c.resume_ledger-ledger.ensures.keeps (when_whole c.resume_ledger-ledger.result.came c.in-Ok.resumed c.in-Ok.is c.resume_ledger-ledger.ensures.resumed) (when_whole c.run_files-ledger.result.came c.in-Ok-came.waves c.in-Ok-came.is c.run_files-ledger.ensures.waves)
 
 pub returns-then-is_empty-clause-keeps : goal.returns-then-is_empty-clause-keeps
 returns-then-is_empty-clause-keeps g c =
@@ -56,7 +57,7 @@ returns-then-is_empty-clause-told g c =
 pub returns-in-Ok-came-clause-told : goal.returns-in-Ok-came-clause-told
 returns-in-Ok-came-clause-told g c =
     over_told c.args.ledger.header.shape c.resume_ledger-ledger.result.ledger.header.shape (g.V.Verifier.verdict_of c.args.verifier.now) c.args.files.now (journals g.D.Disk.count g.D.Disk.limit c.args.ledger) (journals g.D.Disk.count g.D.Disk.limit c.resume_ledger-ledger.result.ledger) (journals g.D.Disk.count g.D.Disk.limit c.run_files-ledger.result.ledger)
-    c.in-Ok.resumed.items c.in-Ok-came.waves.items c.resume_ledger-ledger.ensures.shape c.resume_ledger-ledger.ensures.keeps (of_whole _ c.resume_ledger-ledger.result.came c.in-Ok.resumed c.in-Ok.is c.resume_ledger-ledger.ensures.told) c.resume_ledger-ledger.ensures.prepares (of_whole _ c.run_files-ledger.result.came c.in-Ok-came.waves c.in-Ok-came.is c.run_files-ledger.ensures.told)
+    c.in-Ok.resumed.items c.in-Ok-came.waves.items c.resume_ledger-ledger.ensures.keeps_ledger.shape_same c.resume_ledger-ledger.ensures.keeps (of_whole _ c.resume_ledger-ledger.result.came c.in-Ok.resumed c.in-Ok.is c.resume_ledger-ledger.ensures.told) c.resume_ledger-ledger.ensures.prepares (of_whole _ c.run_files-ledger.result.came c.in-Ok-came.waves c.in-Ok-came.is c.run_files-ledger.ensures.told)
 
 pub returns-in-Err-clause-fault : goal.returns-in-Err-clause-fault
 returns-in-Err-clause-fault g c =
@@ -66,7 +67,7 @@ returns-in-Err-clause-fault g c =
 pub returns-in-Err-came-clause-fault : goal.returns-in-Err-came-clause-fault
 returns-in-Err-came-clause-fault g c =
     filed_fault c.args.ledger.header.shape c.resume_ledger-ledger.result.ledger.header.shape (g.V.Verifier.verdict_of c.args.verifier.now) c.args.files.now (journals g.D.Disk.count g.D.Disk.limit c.args.ledger) (journals g.D.Disk.count g.D.Disk.limit c.resume_ledger-ledger.result.ledger) (journals g.D.Disk.count g.D.Disk.limit c.run_files-ledger.result.ledger)
-    (HaveFailed (opened g.D.Disk.count g.D.Disk.limit c.run_files-ledger.result.ledger) (faults g.D.Disk.count g.D.Disk.limit c.run_files-ledger.result.ledger)) (MayHold (capacity g.D.Disk.count g.D.Disk.limit c.run_files-ledger.result.ledger)) c.resume_ledger-ledger.ensures.shape c.resume_ledger-ledger.ensures.grows c.resume_ledger-ledger.ensures.prepares c.in-Err-came.fault (of_fault _ c.run_files-ledger.result.came c.in-Err-came.fault c.in-Err-came.is c.run_files-ledger.ensures.fault)
+    (HaveFailed (opened g.D.Disk.count g.D.Disk.limit c.run_files-ledger.result.ledger) (faults g.D.Disk.count g.D.Disk.limit c.run_files-ledger.result.ledger)) (MayHold (capacity g.D.Disk.count g.D.Disk.limit c.run_files-ledger.result.ledger)) c.resume_ledger-ledger.ensures.keeps_ledger.shape_same c.resume_ledger-ledger.ensures.grows c.resume_ledger-ledger.ensures.prepares c.in-Err-came.fault (of_fault _ c.run_files-ledger.result.came c.in-Err-came.fault c.in-Err-came.is c.run_files-ledger.ensures.fault)
 
 pub returns-in-Ok-came-clause-grows : goal.returns-in-Ok-came-clause-grows
 returns-in-Ok-came-clause-grows g c n = end_trans (journals g.D.Disk.count g.D.Disk.limit c.args.ledger n) (journals g.D.Disk.count g.D.Disk.limit c.resume_ledger-ledger.result.ledger n) (journals g.D.Disk.count g.D.Disk.limit c.run_files-ledger.result.ledger n) (c.resume_ledger-ledger.ensures.grows n) (c.run_files-ledger.ensures.grows n)
@@ -85,12 +86,12 @@ returns-then-is_empty-clause-flies g c =
 pub returns-in-Ok-came-clause-flies : goal.returns-in-Ok-came-clause-flies
 returns-in-Ok-came-clause-flies g c =
     flies_over c.args.ledger.header.shape c.resume_ledger-ledger.result.ledger.header.shape c.args.files.now (journals g.D.Disk.count g.D.Disk.limit c.args.ledger) (journals g.D.Disk.count g.D.Disk.limit c.resume_ledger-ledger.result.ledger) (journals g.D.Disk.count g.D.Disk.limit c.run_files-ledger.result.ledger)
-    (flights g.D.Disk.count g.D.Disk.limit c.args.ledger) (flights g.D.Disk.count g.D.Disk.limit c.resume_ledger-ledger.result.ledger) (flights g.D.Disk.count g.D.Disk.limit c.run_files-ledger.result.ledger) c.resume_ledger-ledger.ensures.shape c.resume_ledger-ledger.ensures.keeps c.resume_ledger-ledger.ensures.flies c.run_files-ledger.ensures.flies
+    (flights g.D.Disk.count g.D.Disk.limit c.args.ledger) (flights g.D.Disk.count g.D.Disk.limit c.resume_ledger-ledger.result.ledger) (flights g.D.Disk.count g.D.Disk.limit c.run_files-ledger.result.ledger) c.resume_ledger-ledger.ensures.keeps_ledger.shape_same c.resume_ledger-ledger.ensures.keeps c.resume_ledger-ledger.ensures.flies c.run_files-ledger.ensures.flies
 
 pub returns-in-Err-came-clause-flies : goal.returns-in-Err-came-clause-flies
 returns-in-Err-came-clause-flies g c =
     flies_over c.args.ledger.header.shape c.resume_ledger-ledger.result.ledger.header.shape c.args.files.now (journals g.D.Disk.count g.D.Disk.limit c.args.ledger) (journals g.D.Disk.count g.D.Disk.limit c.resume_ledger-ledger.result.ledger) (journals g.D.Disk.count g.D.Disk.limit c.run_files-ledger.result.ledger)
-    (flights g.D.Disk.count g.D.Disk.limit c.args.ledger) (flights g.D.Disk.count g.D.Disk.limit c.resume_ledger-ledger.result.ledger) (flights g.D.Disk.count g.D.Disk.limit c.run_files-ledger.result.ledger) c.resume_ledger-ledger.ensures.shape c.resume_ledger-ledger.ensures.keeps c.resume_ledger-ledger.ensures.flies c.run_files-ledger.ensures.flies
+    (flights g.D.Disk.count g.D.Disk.limit c.args.ledger) (flights g.D.Disk.count g.D.Disk.limit c.resume_ledger-ledger.result.ledger) (flights g.D.Disk.count g.D.Disk.limit c.run_files-ledger.result.ledger) c.resume_ledger-ledger.ensures.keeps_ledger.shape_same c.resume_ledger-ledger.ensures.keeps c.resume_ledger-ledger.ensures.flies c.run_files-ledger.ensures.flies
 
 pub returns-in-Err-clause-launches : goal.returns-in-Err-clause-launches
 returns-in-Err-clause-launches g c =
@@ -106,13 +107,13 @@ pub returns-in-Ok-came-clause-launches : goal.returns-in-Ok-came-clause-launches
 returns-in-Ok-came-clause-launches g c =
     filed_launches c.args.ledger.header.shape c.resume_ledger-ledger.result.ledger.header.shape (g.V.Verifier.verdict_of c.args.verifier.now) c.args.files.now
     (journals g.D.Disk.count g.D.Disk.limit c.args.ledger) (journals g.D.Disk.count g.D.Disk.limit c.resume_ledger-ledger.result.ledger) (journals g.D.Disk.count g.D.Disk.limit c.run_files-ledger.result.ledger)
-    (flights g.D.Disk.count g.D.Disk.limit c.args.ledger) (flights g.D.Disk.count g.D.Disk.limit c.resume_ledger-ledger.result.ledger) (flights g.D.Disk.count g.D.Disk.limit c.run_files-ledger.result.ledger) c.resume_ledger-ledger.ensures.shape c.resume_ledger-ledger.ensures.prepares c.resume_ledger-ledger.ensures.launches c.run_files-ledger.ensures.launches
+    (flights g.D.Disk.count g.D.Disk.limit c.args.ledger) (flights g.D.Disk.count g.D.Disk.limit c.resume_ledger-ledger.result.ledger) (flights g.D.Disk.count g.D.Disk.limit c.run_files-ledger.result.ledger) c.resume_ledger-ledger.ensures.keeps_ledger.shape_same c.resume_ledger-ledger.ensures.prepares c.resume_ledger-ledger.ensures.launches c.run_files-ledger.ensures.launches
 
 pub returns-in-Err-came-clause-launches : goal.returns-in-Err-came-clause-launches
 returns-in-Err-came-clause-launches g c =
     filed_launches c.args.ledger.header.shape c.resume_ledger-ledger.result.ledger.header.shape (g.V.Verifier.verdict_of c.args.verifier.now) c.args.files.now
     (journals g.D.Disk.count g.D.Disk.limit c.args.ledger) (journals g.D.Disk.count g.D.Disk.limit c.resume_ledger-ledger.result.ledger) (journals g.D.Disk.count g.D.Disk.limit c.run_files-ledger.result.ledger)
-    (flights g.D.Disk.count g.D.Disk.limit c.args.ledger) (flights g.D.Disk.count g.D.Disk.limit c.resume_ledger-ledger.result.ledger) (flights g.D.Disk.count g.D.Disk.limit c.run_files-ledger.result.ledger) c.resume_ledger-ledger.ensures.shape c.resume_ledger-ledger.ensures.prepares c.resume_ledger-ledger.ensures.launches c.run_files-ledger.ensures.launches
+    (flights g.D.Disk.count g.D.Disk.limit c.args.ledger) (flights g.D.Disk.count g.D.Disk.limit c.resume_ledger-ledger.result.ledger) (flights g.D.Disk.count g.D.Disk.limit c.run_files-ledger.result.ledger) c.resume_ledger-ledger.ensures.keeps_ledger.shape_same c.resume_ledger-ledger.ensures.prepares c.resume_ledger-ledger.ensures.launches c.run_files-ledger.ensures.launches
 
 pub returns-in-Err-clause-least : goal.returns-in-Err-clause-least
 returns-in-Err-clause-least g c = inl (c.resume_ledger-ledger.ensures.prepares, (of_fault _ c.resume_ledger-ledger.result.came c.in-Err.fault c.in-Err.is c.resume_ledger-ledger.ensures.least))
@@ -124,7 +125,7 @@ returns-in-Err-came-clause-least g c = inr (
   c.resume_ledger-ledger.ensures.prepares,
   (when_whole c.resume_ledger-ledger.result.came c.in-Ok.resumed c.in-Ok.is c.resume_ledger-ledger.ensures.idle),
   subst (λ k. EndsFiles k (g.V.Verifier.verdict_of c.args.verifier.now) c.args.files.now (journals g.D.Disk.count g.D.Disk.limit c.resume_ledger-ledger.result.ledger) (journals g.D.Disk.count g.D.Disk.limit c.run_files-ledger.result.ledger)
-      (HaveFailed (opened g.D.Disk.count g.D.Disk.limit c.run_files-ledger.result.ledger) (faults g.D.Disk.count g.D.Disk.limit c.run_files-ledger.result.ledger)) (MayHold (capacity g.D.Disk.count g.D.Disk.limit c.run_files-ledger.result.ledger)) c.in-Err-came.fault) c.resume_ledger-ledger.ensures.shape (of_fault _ c.run_files-ledger.result.came c.in-Err-came.fault c.in-Err-came.is c.run_files-ledger.ensures.least),
+      (HaveFailed (opened g.D.Disk.count g.D.Disk.limit c.run_files-ledger.result.ledger) (faults g.D.Disk.count g.D.Disk.limit c.run_files-ledger.result.ledger)) (MayHold (capacity g.D.Disk.count g.D.Disk.limit c.run_files-ledger.result.ledger)) c.in-Err-came.fault) c.resume_ledger-ledger.ensures.keeps_ledger.shape_same (of_fault _ c.run_files-ledger.result.came c.in-Err-came.fault c.in-Err-came.is c.run_files-ledger.ensures.least),
 )
 
 pub returns-in-Err-clause-begun : goal.returns-in-Err-clause-begun
@@ -138,12 +139,12 @@ returns-then-is_empty-clause-begun g c =
 pub returns-in-Ok-came-clause-begun : goal.returns-in-Ok-came-clause-begun
 returns-in-Ok-came-clause-begun g c =
     filed_begun c.args.ledger.header.shape c.resume_ledger-ledger.result.ledger.header.shape (g.V.Verifier.verdict_of c.args.verifier.now) c.args.files.now
-    (journals g.D.Disk.count g.D.Disk.limit c.args.ledger) (journals g.D.Disk.count g.D.Disk.limit c.resume_ledger-ledger.result.ledger) (journals g.D.Disk.count g.D.Disk.limit c.run_files-ledger.result.ledger) c.resume_ledger-ledger.ensures.shape c.resume_ledger-ledger.ensures.prepares c.run_files-ledger.ensures.begun
+    (journals g.D.Disk.count g.D.Disk.limit c.args.ledger) (journals g.D.Disk.count g.D.Disk.limit c.resume_ledger-ledger.result.ledger) (journals g.D.Disk.count g.D.Disk.limit c.run_files-ledger.result.ledger) c.resume_ledger-ledger.ensures.keeps_ledger.shape_same c.resume_ledger-ledger.ensures.prepares c.run_files-ledger.ensures.begun
 
 pub returns-in-Err-came-clause-begun : goal.returns-in-Err-came-clause-begun
 returns-in-Err-came-clause-begun g c =
     filed_begun c.args.ledger.header.shape c.resume_ledger-ledger.result.ledger.header.shape (g.V.Verifier.verdict_of c.args.verifier.now) c.args.files.now
-    (journals g.D.Disk.count g.D.Disk.limit c.args.ledger) (journals g.D.Disk.count g.D.Disk.limit c.resume_ledger-ledger.result.ledger) (journals g.D.Disk.count g.D.Disk.limit c.run_files-ledger.result.ledger) c.resume_ledger-ledger.ensures.shape c.resume_ledger-ledger.ensures.prepares c.run_files-ledger.ensures.begun
+    (journals g.D.Disk.count g.D.Disk.limit c.args.ledger) (journals g.D.Disk.count g.D.Disk.limit c.resume_ledger-ledger.result.ledger) (journals g.D.Disk.count g.D.Disk.limit c.run_files-ledger.result.ledger) c.resume_ledger-ledger.ensures.keeps_ledger.shape_same c.resume_ledger-ledger.ensures.prepares c.run_files-ledger.ensures.begun
 
 pub returns-in-Err-clause-cut : goal.returns-in-Err-clause-cut
 returns-in-Err-clause-cut g c mint submissions kept sound tells = inl c.resume_ledger-ledger.ensures.prepares
@@ -154,12 +155,12 @@ returns-then-is_empty-clause-cut g c mint submissions kept sound tells = inl c.r
 pub returns-in-Ok-came-clause-cut : goal.returns-in-Ok-came-clause-cut
 returns-in-Ok-came-clause-cut g c =
     over_cuts c.args.ledger.header.shape c.resume_ledger-ledger.result.ledger.header.shape (g.V.Verifier.verdict_of c.args.verifier.now) c.args.files.now (journals g.D.Disk.count g.D.Disk.limit c.args.ledger) (journals g.D.Disk.count g.D.Disk.limit c.resume_ledger-ledger.result.ledger) (journals g.D.Disk.count g.D.Disk.limit c.run_files-ledger.result.ledger)
-    c.resume_ledger-ledger.ensures.shape (some_of (length c.args.files.now) (sym c.is_empty.ensures ∙ c.if-is_empty.false)) c.resume_ledger-ledger.ensures.keeps (when_whole c.resume_ledger-ledger.result.came c.in-Ok.resumed c.in-Ok.is c.resume_ledger-ledger.ensures.resumed) c.run_files-ledger.ensures.cut
+    c.resume_ledger-ledger.ensures.keeps_ledger.shape_same (some_of (length c.args.files.now) (sym c.is_empty.ensures ∙ c.if-is_empty.false)) c.resume_ledger-ledger.ensures.keeps (when_whole c.resume_ledger-ledger.result.came c.in-Ok.resumed c.in-Ok.is c.resume_ledger-ledger.ensures.resumed) c.run_files-ledger.ensures.cut
 
 pub returns-in-Err-came-clause-cut : goal.returns-in-Err-came-clause-cut
 returns-in-Err-came-clause-cut g c =
     over_cuts c.args.ledger.header.shape c.resume_ledger-ledger.result.ledger.header.shape (g.V.Verifier.verdict_of c.args.verifier.now) c.args.files.now (journals g.D.Disk.count g.D.Disk.limit c.args.ledger) (journals g.D.Disk.count g.D.Disk.limit c.resume_ledger-ledger.result.ledger) (journals g.D.Disk.count g.D.Disk.limit c.run_files-ledger.result.ledger)
-    c.resume_ledger-ledger.ensures.shape (some_of (length c.args.files.now) (sym c.is_empty.ensures ∙ c.if-is_empty.false)) c.resume_ledger-ledger.ensures.keeps (when_whole c.resume_ledger-ledger.result.came c.in-Ok.resumed c.in-Ok.is c.resume_ledger-ledger.ensures.resumed) c.run_files-ledger.ensures.cut
+    c.resume_ledger-ledger.ensures.keeps_ledger.shape_same (some_of (length c.args.files.now) (sym c.is_empty.ensures ∙ c.if-is_empty.false)) c.resume_ledger-ledger.ensures.keeps (when_whole c.resume_ledger-ledger.result.came c.in-Ok.resumed c.in-Ok.is c.resume_ledger-ledger.ensures.resumed) c.run_files-ledger.ensures.cut
 
 pub returns-in-Err-clause-in_order : goal.returns-in-Err-clause-in_order
 returns-in-Err-clause-in_order g c = (journals g.D.Disk.count g.D.Disk.limit c.resume_ledger-ledger.result.ledger, c.resume_ledger-ledger.ensures.order, inl (λ n. refl))
@@ -183,32 +184,20 @@ returns-then-is_empty-clause-rests g c lane inside = inl (inl (inl ((when_whole 
 
 pub returns-in-Ok-came-clause-rests : goal.returns-in-Ok-came-clause-rests
 returns-in-Ok-came-clause-rests g c lane inside =
-    inl (subst (λ k. AllRest k (journals g.D.Disk.count g.D.Disk.limit c.run_files-ledger.result.ledger) (HaveFailed (opened g.D.Disk.count g.D.Disk.limit c.run_files-ledger.result.ledger) (faults g.D.Disk.count g.D.Disk.limit c.run_files-ledger.result.ledger))) c.resume_ledger-ledger.ensures.shape c.run_files-ledger.ensures.rests lane inside)
+    inl (subst (λ k. AllRest k (journals g.D.Disk.count g.D.Disk.limit c.run_files-ledger.result.ledger) (HaveFailed (opened g.D.Disk.count g.D.Disk.limit c.run_files-ledger.result.ledger) (faults g.D.Disk.count g.D.Disk.limit c.run_files-ledger.result.ledger))) c.resume_ledger-ledger.ensures.keeps_ledger.shape_same c.run_files-ledger.ensures.rests lane inside)
 
 pub returns-in-Err-came-clause-rests : goal.returns-in-Err-came-clause-rests
 returns-in-Err-came-clause-rests g c lane inside =
-    inl (subst (λ k. AllRest k (journals g.D.Disk.count g.D.Disk.limit c.run_files-ledger.result.ledger) (HaveFailed (opened g.D.Disk.count g.D.Disk.limit c.run_files-ledger.result.ledger) (faults g.D.Disk.count g.D.Disk.limit c.run_files-ledger.result.ledger))) c.resume_ledger-ledger.ensures.shape c.run_files-ledger.ensures.rests lane inside)
+    inl (subst (λ k. AllRest k (journals g.D.Disk.count g.D.Disk.limit c.run_files-ledger.result.ledger) (HaveFailed (opened g.D.Disk.count g.D.Disk.limit c.run_files-ledger.result.ledger) (faults g.D.Disk.count g.D.Disk.limit c.run_files-ledger.result.ledger))) c.resume_ledger-ledger.ensures.keeps_ledger.shape_same c.run_files-ledger.ensures.rests lane inside)
 
 pub run_files-ledger-requires-clause-idle : goal.run_files-ledger-requires-clause-idle
-run_files-ledger-requires-clause-idle g c κs k = subst (λ h. AreIdle h (journals g.D.Disk.count g.D.Disk.limit c.resume_ledger-ledger.result.ledger)) (sym c.resume_ledger-ledger.ensures.shape) (when_whole c.resume_ledger-ledger.result.came c.in-Ok.resumed c.in-Ok.is c.resume_ledger-ledger.ensures.idle)
+run_files-ledger-requires-clause-idle g c κs k = subst (λ h. AreIdle h (journals g.D.Disk.count g.D.Disk.limit c.resume_ledger-ledger.result.ledger)) (sym c.resume_ledger-ledger.ensures.keeps_ledger.shape_same) (when_whole c.resume_ledger-ledger.result.came c.in-Ok.resumed c.in-Ok.is c.resume_ledger-ledger.ensures.idle)
 
 pub returns-in-Ok-came-clause-idle : goal.returns-in-Ok-came-clause-idle
-returns-in-Ok-came-clause-idle g c = subst (λ h. AreIdle h (journals g.D.Disk.count g.D.Disk.limit c.run_files-ledger.result.ledger)) c.resume_ledger-ledger.ensures.shape (when_whole c.run_files-ledger.result.came c.in-Ok-came.waves c.in-Ok-came.is c.run_files-ledger.ensures.idle)
+returns-in-Ok-came-clause-idle g c = subst (λ h. AreIdle h (journals g.D.Disk.count g.D.Disk.limit c.run_files-ledger.result.ledger)) c.resume_ledger-ledger.ensures.keeps_ledger.shape_same (when_whole c.run_files-ledger.result.came c.in-Ok-came.waves c.in-Ok-came.is c.run_files-ledger.ensures.idle)
 
-pub returns-in-Ok-came-clause-holds : goal.returns-in-Ok-came-clause-holds
-returns-in-Ok-came-clause-holds g c h = c.run_files-ledger.ensures.holds (c.resume_ledger-ledger.ensures.holds h)
+pub returns-in-Ok-came-clause-keeps_ledger : goal.returns-in-Ok-came-clause-keeps_ledger
+returns-in-Ok-came-clause-keeps_ledger g c = ledger_on c.resume_ledger-ledger.ensures.keeps_ledger c.run_files-ledger.ensures.keeps_ledger
 
-pub returns-in-Ok-came-clause-opened_same : goal.returns-in-Ok-came-clause-opened_same
-returns-in-Ok-came-clause-opened_same g c n = c.run_files-ledger.ensures.opened_same n ∙ c.resume_ledger-ledger.ensures.opened_same n
-
-pub returns-in-Ok-came-clause-capacity_same : goal.returns-in-Ok-came-clause-capacity_same
-returns-in-Ok-came-clause-capacity_same g c n = c.run_files-ledger.ensures.capacity_same n ∙ c.resume_ledger-ledger.ensures.capacity_same n
-
-pub returns-in-Err-came-clause-holds : goal.returns-in-Err-came-clause-holds
-returns-in-Err-came-clause-holds g c h = c.run_files-ledger.ensures.holds (c.resume_ledger-ledger.ensures.holds h)
-
-pub returns-in-Err-came-clause-opened_same : goal.returns-in-Err-came-clause-opened_same
-returns-in-Err-came-clause-opened_same g c n = c.run_files-ledger.ensures.opened_same n ∙ c.resume_ledger-ledger.ensures.opened_same n
-
-pub returns-in-Err-came-clause-capacity_same : goal.returns-in-Err-came-clause-capacity_same
-returns-in-Err-came-clause-capacity_same g c n = c.run_files-ledger.ensures.capacity_same n ∙ c.resume_ledger-ledger.ensures.capacity_same n
+pub returns-in-Err-came-clause-keeps_ledger : goal.returns-in-Err-came-clause-keeps_ledger
+returns-in-Err-came-clause-keeps_ledger g c = ledger_on c.resume_ledger-ledger.ensures.keeps_ledger c.run_files-ledger.ensures.keeps_ledger

@@ -5,8 +5,8 @@ use Rattle.rack_runs.proofs.resuming.resume_ledger.Goals as goal
 pub resume_all-came-requires : goal.resume_all-came-requires
 resume_all-came-requires g c = subst (λ l. IsChecked g.D.Disk.count g.D.Disk.limit l) (sym c.lend-lent.ensures) c.requires.checked
 
-pub returns-clause-shape : goal.returns-clause-shape
-returns-clause-shape g c = rw (c.take_back.ensures, ← c.lend-lent.ensures) c.resume_all-came.ensures.shape
+pub returns-clause-keeps_ledger : goal.returns-clause-keeps_ledger
+returns-clause-keeps_ledger g c = rw (c.take_back.ensures, ← c.lend-lent.ensures) c.resume_all-came.ensures.keeps_ledger
 
 pub returns-clause-idle : goal.returns-clause-idle
 returns-clause-idle g c = rw (c.take_back.ensures, ← c.lend-lent.ensures) c.resume_all-came.ensures.idle
@@ -31,18 +31,6 @@ returns-clause-flies g c = rw (c.take_back.ensures, ← c.lend-lent.ensures) c.r
 
 pub returns-clause-launches : goal.returns-clause-launches
 returns-clause-launches g c = rw (c.take_back.ensures, ← c.lend-lent.ensures) c.resume_all-came.ensures.launches
-
-pub returns-clause-holds : goal.returns-clause-holds
-returns-clause-holds g c = rw (c.take_back.ensures, ← c.lend-lent.ensures) c.resume_all-came.ensures.holds
-
-pub returns-clause-later : goal.returns-clause-later
-returns-clause-later g c = rw (c.take_back.ensures, ← c.lend-lent.ensures) c.resume_all-came.ensures.later
-
-pub returns-clause-opened_same : goal.returns-clause-opened_same
-returns-clause-opened_same g c = rw (c.take_back.ensures, ← c.lend-lent.ensures) c.resume_all-came.ensures.opened_same
-
-pub returns-clause-capacity_same : goal.returns-clause-capacity_same
-returns-clause-capacity_same g c = rw (c.take_back.ensures, ← c.lend-lent.ensures) c.resume_all-came.ensures.capacity_same
 
 pub returns-clause-checked : goal.returns-clause-checked
 returns-clause-checked g c = rw (c.take_back.ensures) c.resume_all-came.ensures.checked

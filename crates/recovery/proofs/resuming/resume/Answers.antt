@@ -3,7 +3,8 @@ use Rattle.std.specs.Prelude.{OnOk, IfOk}
 use Rattle.cbdc_model.specs.Ranges.{home_of}
 use Rattle.cbdc_model.specs.Slots.{Idle}
 use Rattle.recovery.specs.Open.{IsResumed, AreResumed, IsUnfinished, CameOf}
-use Rattle.lane_driver.proofs.Fitting.{elsewhere_on, nodes_on, ledger_kept}
+use Rattle.lane_driver.proofs.Fitting.{ledger_kept}
+use Rattle.lane_driver.proofs.Keeping.{log_same, log_on, shards_same, shards_on}
 use Rattle.lane_laws.specs.Batches.{view}
 use Rattle.cbdc_model.specs.Lanes.{Made}
 use Rattle.recovery.proofs.Untouched.{stands_here, stand_rest, home_there, still_shape}
@@ -42,21 +43,11 @@ loop-unfinished-preserved g c =
     let before = c.loop-unfinished.batches.items in
     let after = c.keep-first.new.batches.items in
     record {
-      at_same = told.at_same ∙ inv.at_same;
-      header = told.header ∙ inv.header;
-      log_count = told.log_count ∙ inv.log_count;
-      count = told.count ∙ inv.count;
-      shard_later = λ n. omega (arith, inv.shard_later n, told.shard_later n);
-      log_later = λ n. omega (arith, inv.log_later n, told.log_later n);
-      elsewhere = elsewhere_on (g.L.LogPort.at c.args.ports.now.log) at (g.L.LogPort.sights c.args.ports.now.log) logs logs' inv.at_same inv.elsewhere told.elsewhere;
-      nodes = nodes_on (g.S.PortSet.sights c.args.ports.now.shards) I J inv.nodes told.nodes;
-      log_nodes = nodes_on (g.L.LogPort.sights c.args.ports.now.log) logs logs' inv.log_nodes told.log_nodes;
-      log_holds = λ h. told.log_holds (inv.log_holds h);
-      shard_holds = λ h. told.shard_holds (inv.shard_holds h);
-      serves = λ lane mine. told.serves lane (inv.serves lane mine);
-      open_rest = open_rest _ _ _ _ _ _ c.args.lanes.now i o inside c.unfinished-item.is inv.rise inv.open_rest told.header (λ more. told.others (sym c.requires.same ∙ c.requires.alone more));
+      keeps_log = log_on inv.keeps_log told.keeps_log;
+      keeps_shards = shards_on inv.keeps_shards told.keeps_shards;
+      open_rest = open_rest _ _ _ _ _ _ c.args.lanes.now i o inside c.unfinished-item.is inv.rise inv.open_rest told.keeps_log.header_same (λ more. told.others (sym c.requires.same ∙ c.requires.alone more));
       stand = stand_rest K g.S.PortSet.alone (logs at) (logs' at') I J c.args.lanes.now i o c.requires.alone inside c.unfinished-item.is inv.rise home
-          (still_shape logs logs' at at' told.at_same told.log_nodes)
+          (still_shape logs logs' at at' told.keeps_log.at_same told.keeps_log.nodes)
           (subst (λ a. Made K [] a o.batch.lane (view K o.batch.lane (logs at) I) (view K o.batch.lane (logs' at') J)) (sym c.requires.same) made) inv.stand;
       rise = rise_rest c.args.lanes.now i o inside c.unfinished-item.is inv.rise;
       resumed = λ none.
@@ -66,22 +57,22 @@ loop-unfinished-preserved g c =
       came = came_more c.args.lanes.now i o inside c.unfinished-item.is K alone before after c.loop-unfinished.first c.keep-first.result came
           (g.L.LogPort.sights c.args.ports.now.log (g.L.LogPort.at c.args.ports.now.log)) (logs at) (logs' at') (g.S.PortSet.sights c.args.ports.now.shards) I J inv.came one kept;
       caused = caused_more K before after c.loop-unfinished.first c.keep-first.result came logs logs' I J
-          (logs_gone logs logs' at at' told.at_same told.log_nodes told.elsewhere (log_grows K o.batch.lane home alone (logs at) (logs' at') I J made))
-          (shards_gone I J told.nodes (shard_grows K o.batch.lane home alone (logs at) (logs' at') I J made)) inv.caused told.fault kept;
+          (logs_gone logs logs' at at' told.keeps_log.at_same told.keeps_log.nodes told.keeps_log.elsewhere (log_grows K o.batch.lane home alone (logs at) (logs' at') I J made))
+          (shards_gone I J told.keeps_shards.nodes (shard_grows K o.batch.lane home alone (logs at) (logs' at') I J made)) inv.caused told.fault kept;
       over = λ none.
           let k = kept_none before after c.loop-unfinished.first c.keep-first.result came kept none in
-          over_more c.args.lanes.now i o inside c.unfinished-item.is _ _ _ _ _ _ told.header (λ more. told.others (sym c.requires.same ∙ c.requires.alone more))
+          over_more c.args.lanes.now i o inside c.unfinished-item.is _ _ _ _ _ _ told.keeps_log.header_same (λ more. told.others (sym c.requires.same ∙ c.requires.alone more))
           (subst (λ x. OnOk x (g.L.LogPort.phase c.resume_lane-came.new.ports.log o.batch.lane ≡ Idle)) k.2 told.idle) inv.rise inv.open_rest (inv.over k.0);
-      others = λ quiet. unlisted_more c.args.lanes.now i o inside c.unfinished-item.is _ _ _ _ _ _ _ _ inv.header (inv.others quiet) (told.others quiet);
+      others = λ quiet. unlisted_more c.args.lanes.now i o inside c.unfinished-item.is _ _ _ _ _ _ _ _ inv.keeps_log.header_same (inv.others quiet) (told.others quiet);
       len = omega (arith, c.keep-first.ensures.len, inv.len);
       room = c.keep-first.ensures.capacity ∙ inv.room;
     }
 
 pub resume_lane-came-requires-clause-at : goal.resume_lane-came-requires-clause-at
-resume_lane-came-requires-clause-at g c = c.loop-unfinished.invariant.at_same ∙ c.requires.at ∙ ap (λ h. h.node) (sym c.loop-unfinished.invariant.header)
+resume_lane-came-requires-clause-at g c = c.loop-unfinished.invariant.keeps_log.at_same ∙ c.requires.at ∙ ap (λ h. h.node) (sym c.loop-unfinished.invariant.keeps_log.header_same)
 
 pub resume_lane-came-requires-clause-ledger : goal.resume_lane-came-requires-clause-ledger
-resume_lane-came-requires-clause-ledger g c = ledger_kept c.args.shape.now (g.S.PortSet.sights c.args.ports.now.shards) (g.S.PortSet.sights c.loop-unfinished.ports.shards) c.requires.ledger c.loop-unfinished.invariant.nodes
+resume_lane-came-requires-clause-ledger g c = ledger_kept c.args.shape.now (g.S.PortSet.sights c.args.ports.now.shards) (g.S.PortSet.sights c.loop-unfinished.ports.shards) c.requires.ledger c.loop-unfinished.invariant.keeps_shards.nodes
 
 pub resume_lane-came-requires-clause-stands : goal.resume_lane-came-requires-clause-stands
 resume_lane-came-requires-clause-stands g c =
@@ -94,4 +85,10 @@ returns-in-Err-clause-fault g c =
 pub resume_lane-came-requires-clause-mine : goal.resume_lane-came-requires-clause-mine
 resume_lane-came-requires-clause-mine g c =
     subst (λ (o : OpenLane). g.S.PortSet.serves c.loop-unfinished.ports.shards o.batch.lane) (sym c.unfinished-item.is)
-    (c.loop-unfinished.invariant.serves _ (c.requires.mine c.loop-unfinished.unfinished-index c.unfinished-item.result c.loop-unfinished-test.true))
+    (c.loop-unfinished.invariant.keeps_shards.served _ (c.requires.mine c.loop-unfinished.unfinished-index c.unfinished-item.result c.loop-unfinished-test.true))
+
+pub returns-in-Err-clause-keeps_log : goal.returns-in-Err-clause-keeps_log
+returns-in-Err-clause-keeps_log g c = log_same c.args.ports.now.log
+
+pub returns-in-Err-clause-keeps_shards : goal.returns-in-Err-clause-keeps_shards
+returns-in-Err-clause-keeps_shards g c = shards_same c.args.ports.now.shards

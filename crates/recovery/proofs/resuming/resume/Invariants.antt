@@ -1,7 +1,7 @@
-use Rattle.std.proofs.Common.{◌≡◌, ◌≢◌, ◌≤◌, ℕ, true, length, take, drop, Some, None}
+use Rattle.std.proofs.Common.{◌≡◌, ◌≤◌, true, length, take, drop, Some, None}
 use Rattle.std.specs.List.{All}
 use Rattle.std.specs.Vec.{vec_capacity, vec_len}
-use Rattle.lane_driver.specs.Told.{KeepNodes}
+use Rattle.lane_driver.specs.Keeping.{KeepsLog, KeepsShards}
 use Rattle.lane_driver.specs.declared.fault.LaneFault.{LaneFault}
 use Rattle.recovery.specs.Open.{IsOpen, LanesRise, KeepsUnlisted, AreResumed, AreUnfinished, WasCaused}
 use Rattle.recovery.proofs.InOrder.{IsOver, CameSo}
@@ -9,18 +9,8 @@ use Rattle.recovery.proofs.resuming.resume.Given as goal
 
 abbrev pub invariant-loop-unfinished : goal.invariant-loop-unfinished
 invariant-loop-unfinished g l = record {
-  at_same : g.L.LogPort.at l.ports.log ≡ g.L.LogPort.at l.initial.ports.log;
-  header : g.L.LogPort.header l.ports.log ≡ g.L.LogPort.header l.initial.ports.log;
-  log_count : g.L.LogPort.count l.ports.log ≡ g.L.LogPort.count l.initial.ports.log;
-  shard_later : (n : ℕ) → g.S.PortSet.faults l.initial.ports.shards n ≤ g.S.PortSet.faults l.ports.shards n;
-  log_later : (n : ℕ) → g.L.LogPort.faults l.initial.ports.log n ≤ g.L.LogPort.faults l.ports.log n;
-  elsewhere : (n : ℕ) → n ≢ g.L.LogPort.at l.initial.ports.log → g.L.LogPort.sights l.ports.log n ≡ g.L.LogPort.sights l.initial.ports.log n;
-  nodes : KeepNodes (g.S.PortSet.sights l.initial.ports.shards) (g.S.PortSet.sights l.ports.shards);
-  log_nodes : KeepNodes (g.L.LogPort.sights l.initial.ports.log) (g.L.LogPort.sights l.ports.log);
-  log_holds : g.L.LogPort.holds l.initial.ports.log → g.L.LogPort.holds l.ports.log;
-  shard_holds : g.S.PortSet.holds l.initial.ports.shards → g.S.PortSet.holds l.ports.shards;
-  serves : (lane : ℕ) → g.S.PortSet.serves l.initial.ports.shards lane → g.S.PortSet.serves l.ports.shards lane;
-  count : g.S.PortSet.count l.ports.shards ≡ g.S.PortSet.count l.initial.ports.shards;
+  keeps_log : KeepsLog g.L.LogPort.at g.L.LogPort.header g.L.LogPort.count g.L.LogPort.sights g.L.LogPort.faults g.L.LogPort.holds l.initial.ports.log l.ports.log;
+  keeps_shards : KeepsShards g.S.PortSet.count g.S.PortSet.sights g.S.PortSet.faults g.S.PortSet.holds g.S.PortSet.serves l.initial.ports.shards l.ports.shards;
   open_rest : All (IsOpen (g.L.LogPort.header l.ports.log) (g.L.LogPort.phase l.ports.log) (g.L.LogPort.open_txs l.ports.log)) (drop l.unfinished-index l.lanes);
   stand : AreUnfinished l.shape (drop l.unfinished-index l.lanes) (g.L.LogPort.sights l.ports.log (g.L.LogPort.at l.ports.log)) (g.S.PortSet.sights l.ports.shards);
   rise : LanesRise (drop l.unfinished-index l.lanes);

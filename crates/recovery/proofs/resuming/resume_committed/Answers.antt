@@ -8,6 +8,7 @@ use Rattle.lane_driver.proofs.Fitting.{parts_fit, locks_ready}
 use Rattle.recovery.proofs.Taking.{committed_taken, committed_granted, committed_left, committed_told}
 use Rattle.cbdc_types.specs.declared.batch.Phase.TheVariants.{Committed}
 use Rattle.lane_driver.proofs.Serving.{locks_own}
+use Rattle.lane_driver.proofs.Keeping.{log_same, shards_same}
 use Rattle.recovery.proofs.resuming.resume_committed.Goals as goal
 
 pub from_committed-requires-clause-shards : goal.from_committed-requires-clause-shards
@@ -57,3 +58,15 @@ returns-in-Err-from_committed-clause-fault g c = (c.in-Err-from_committed.stop.n
 
 pub from_committed-requires-clause-own : goal.from_committed-requires-clause-own
 from_committed-requires-clause-own g c = locks_own c.args.unfinished.now.batch c.args.unfinished.now.stamp c.in-Ok-take.room.parts _ (c.deref.ensures.value ∙ c.lock_calls.ensures)
+
+pub returns-in-Err-clause-keeps_log : goal.returns-in-Err-clause-keeps_log
+returns-in-Err-clause-keeps_log g c = log_same c.args.ports.now.log
+
+pub returns-in-Err-clause-keeps_shards : goal.returns-in-Err-clause-keeps_shards
+returns-in-Err-clause-keeps_shards g c = shards_same c.args.ports.now.shards
+
+pub returns-in-Err-take-clause-keeps_log : goal.returns-in-Err-take-clause-keeps_log
+returns-in-Err-take-clause-keeps_log g c = log_same c.args.ports.now.log
+
+pub returns-in-Err-take-clause-keeps_shards : goal.returns-in-Err-take-clause-keeps_shards
+returns-in-Err-take-clause-keeps_shards g c = shards_same c.args.ports.now.shards

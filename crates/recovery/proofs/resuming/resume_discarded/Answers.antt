@@ -4,6 +4,7 @@ use Rattle.lane_driver.proofs.Ready.{lock_shards}
 use Rattle.recovery.proofs.Taking.{discarded_taken, discarded_granted, discarded_left, discarded_told}
 use Rattle.cbdc_types.specs.declared.batch.Phase.TheVariants.{Discarded}
 use Rattle.recovery.specs.Open.{HasItsOutcomes}
+use Rattle.lane_driver.proofs.Keeping.{log_same, shards_same}
 use Rattle.recovery.proofs.resuming.resume_discarded.Goals as goal
 
 pub from_discarded-requires-clause-shards : goal.from_discarded-requires-clause-shards
@@ -34,3 +35,15 @@ lane_fault-requires g c = discarded_granted c.args.shape.now g.L.LogPort.alone c
 
 pub returns-in-Err-from_discarded-clause-fault : goal.returns-in-Err-from_discarded-clause-fault
 returns-in-Err-from_discarded-clause-fault g c = (c.in-Err-from_discarded.stop.node, c.in-Err-from_discarded.stop.fault, c.lane_fault.ensures, c.in-Err-from_discarded.ensures.fault)
+
+pub returns-in-Err-clause-keeps_log : goal.returns-in-Err-clause-keeps_log
+returns-in-Err-clause-keeps_log g c = log_same c.args.ports.now.log
+
+pub returns-in-Err-clause-keeps_shards : goal.returns-in-Err-clause-keeps_shards
+returns-in-Err-clause-keeps_shards g c = shards_same c.args.ports.now.shards
+
+pub returns-in-Err-take-clause-keeps_log : goal.returns-in-Err-take-clause-keeps_log
+returns-in-Err-take-clause-keeps_log g c = log_same c.args.ports.now.log
+
+pub returns-in-Err-take-clause-keeps_shards : goal.returns-in-Err-take-clause-keeps_shards
+returns-in-Err-take-clause-keeps_shards g c = shards_same c.args.ports.now.shards

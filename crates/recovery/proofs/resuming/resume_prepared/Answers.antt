@@ -5,6 +5,7 @@ use Rattle.cbdc_model.specs.Grammar.{HasSize, IsBatchOf, IsCompact}
 use Rattle.std.specs.List.{All}
 use Rattle.lane_driver.proofs.Fitting.{parts_fit}
 use Rattle.cbdc_types.specs.declared.batch.Phase.TheVariants.{Prepared}
+use Rattle.lane_driver.proofs.Keeping.{log_same, shards_same}
 use Rattle.recovery.proofs.resuming.resume_prepared.Goals as goal
 
 pub returns-in-Ok-from_prepared-clause-taken : goal.returns-in-Ok-from_prepared-clause-taken
@@ -37,3 +38,9 @@ lane_fault-requires g c = prepared_granted c.args.shape.now g.L.LogPort.alone c.
 
 pub returns-in-Err-from_prepared-clause-fault : goal.returns-in-Err-from_prepared-clause-fault
 returns-in-Err-from_prepared-clause-fault g c = (c.in-Err-from_prepared.stop.node, c.in-Err-from_prepared.stop.fault, c.lane_fault.ensures, c.in-Err-from_prepared.ensures.fault)
+
+pub returns-in-Err-clause-keeps_log : goal.returns-in-Err-clause-keeps_log
+returns-in-Err-clause-keeps_log g c = log_same c.args.ports.now.log
+
+pub returns-in-Err-clause-keeps_shards : goal.returns-in-Err-clause-keeps_shards
+returns-in-Err-clause-keeps_shards g c = shards_same c.args.ports.now.shards

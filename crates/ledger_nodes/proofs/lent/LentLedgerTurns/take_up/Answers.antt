@@ -1,7 +1,8 @@
 use Rattle.std.proofs.Common.{inl, Some, None, refl, sym, ap, subst}
 use Rattle.ledger_runs.specs.Turning.{IsLaneOf}
+use Rattle.ledger_runs.proofs.Keeping.{ledger_same}
 use Rattle.ledger_nodes.specs.Ledgers.{AreChecked}
-use Rattle.ledger_nodes.proofs.Turns.{none_open, told_there, resumed_keeps, resumed_flies, resumed_launches, resumed_quiet, resumed_took, is_opened, resumed_checked, resumed_unprepared, resumed_cause, opened_same, capacity_same}
+use Rattle.ledger_nodes.proofs.Turns.{none_open, told_there, resumed_keeps, resumed_flies, resumed_launches, resumed_quiet, resumed_took, is_opened, resumed_checked, resumed_unprepared, resumed_cause, step_keeps}
 use Rattle.ledger_nodes.proofs.lent.LentLedgerTurns.take_up.Goals as goal
 
 pub returns-in_default-clause-fault : goal.returns-in_default-clause-fault
@@ -31,12 +32,6 @@ returns-in-Ok-drive_resume-clause-flies g c = rw (← c.self.view_is)
     c.drive_resume.new.ports.log.logs.items c.drive_resume.new.ports.shards.nodes.items c.drive_resume.ensures.step c.in-Some.unfinished
     (told_there g.D.Disk.count g.D.Disk.limit g.D.Disk.content g.D.Disk.images c.self.inside.header c.args.lane c.self.inside.ports.log.logs.items c.self.inside.ports.shards.nodes.items c.self.invariant (subst (λ v. IsLaneOf v.header.shape c.args.lane) (sym c.self.view_is) c.requires.lane) c.home-at.result c.index.result.now c.home-at.ensures.place c.index.ensures c.in-Ok.found (Some c.in-Some.unfinished) c.in-Ok.ensures c.in-Some.is) c.drive_resume.result c.drive_resume.ensures.taken c.drive_resume.ensures.left)
 
-pub returns-in-Ok-drive_resume-clause-holds : goal.returns-in-Ok-drive_resume-clause-holds
-returns-in-Ok-drive_resume-clause-holds g c = rw (← c.self.view_is) c.drive_resume.ensures.step.stored
-
-pub returns-in-Ok-drive_resume-clause-later : goal.returns-in-Ok-drive_resume-clause-later
-returns-in-Ok-drive_resume-clause-later g c = rw (← c.self.view_is) c.drive_resume.ensures.step.later
-
 pub returns-clause-others : goal.returns-clause-others
 returns-clause-others g c = rw (← c.self.view_is) c.drive_resume.ensures.step.others
 
@@ -51,12 +46,6 @@ returns-clause-flies g c = rw (← c.self.view_is)
     (resumed_flies g.D.Disk.count g.D.Disk.limit g.D.Disk.content g.D.Disk.images c.self.inside.header c.args.lane c.self.inside.ports.log.logs.items c.self.inside.ports.shards.nodes.items c.self.invariant (subst (λ v. IsLaneOf v.header.shape c.args.lane) (sym c.self.view_is) c.requires.lane)
     c.drive_resume.new.ports.log.logs.items c.drive_resume.new.ports.shards.nodes.items c.drive_resume.ensures.step c.in-Some.unfinished
     (told_there g.D.Disk.count g.D.Disk.limit g.D.Disk.content g.D.Disk.images c.self.inside.header c.args.lane c.self.inside.ports.log.logs.items c.self.inside.ports.shards.nodes.items c.self.invariant (subst (λ v. IsLaneOf v.header.shape c.args.lane) (sym c.self.view_is) c.requires.lane) c.home-at.result c.index.result.now c.home-at.ensures.place c.index.ensures c.in-Ok.found (Some c.in-Some.unfinished) c.in-Ok.ensures c.in-Some.is) c.drive_resume.result c.drive_resume.ensures.taken c.drive_resume.ensures.left)
-
-pub returns-clause-holds : goal.returns-clause-holds
-returns-clause-holds g c = rw (← c.self.view_is) c.drive_resume.ensures.step.stored
-
-pub returns-clause-later : goal.returns-clause-later
-returns-clause-later g c = rw (← c.self.view_is) c.drive_resume.ensures.step.later
 
 pub returns-in-Ok-drive_resume-clause-took : goal.returns-in-Ok-drive_resume-clause-took
 returns-in-Ok-drive_resume-clause-took g c = rw (← c.self.view_is)
@@ -83,12 +72,8 @@ returns-in-Ok-drive_resume-clause-opened g c = rw (← c.self.view_is)
     c.in-Some.unfinished (told_there g.D.Disk.count g.D.Disk.limit g.D.Disk.content g.D.Disk.images c.self.inside.header c.args.lane c.self.inside.ports.log.logs.items c.self.inside.ports.shards.nodes.items c.self.invariant (subst (λ v. IsLaneOf v.header.shape c.args.lane) (sym c.self.view_is) c.requires.lane) c.home-at.result c.index.result.now c.home-at.ensures.place c.index.ensures c.in-Ok.found (Some c.in-Some.unfinished) c.in-Ok.ensures c.in-Some.is)
     c.in-Ok-drive_resume.batch c.in-Ok-drive_resume.ensures.resumed)
 
-pub returns-in-Ok-drive_resume-clause-opened_same : goal.returns-in-Ok-drive_resume-clause-opened_same
-returns-in-Ok-drive_resume-clause-opened_same g c = rw (← c.self.view_is) (opened_same g.D.Disk.count g.D.Disk.limit g.D.Disk.content g.D.Disk.images c.self.inside.header c.args.lane c.self.inside.ports.log.logs.items c.self.inside.ports.shards.nodes.items c.self.invariant (subst (λ v. IsLaneOf v.header.shape c.args.lane) (sym c.self.view_is) c.requires.lane)
-    c.drive_resume.new.ports.log.logs.items c.drive_resume.new.ports.shards.nodes.items c.drive_resume.ensures.step)
-
-pub returns-in-Ok-drive_resume-clause-capacity_same : goal.returns-in-Ok-drive_resume-clause-capacity_same
-returns-in-Ok-drive_resume-clause-capacity_same g c = rw (← c.self.view_is) (capacity_same g.D.Disk.count g.D.Disk.limit g.D.Disk.content g.D.Disk.images c.self.inside.header c.args.lane c.self.inside.ports.log.logs.items c.self.inside.ports.shards.nodes.items c.self.invariant (subst (λ v. IsLaneOf v.header.shape c.args.lane) (sym c.self.view_is) c.requires.lane)
+pub returns-in-Ok-drive_resume-clause-keeps_ledger : goal.returns-in-Ok-drive_resume-clause-keeps_ledger
+returns-in-Ok-drive_resume-clause-keeps_ledger g c = rw (← c.self.view_is) (step_keeps g.D.Disk.count g.D.Disk.limit g.D.Disk.content g.D.Disk.images c.self.inside.header c.args.lane c.self.inside.ports.log.logs.items c.self.inside.ports.shards.nodes.items c.self.invariant (subst (λ v. IsLaneOf v.header.shape c.args.lane) (sym c.self.view_is) c.requires.lane)
     c.drive_resume.new.ports.log.logs.items c.drive_resume.new.ports.shards.nodes.items c.drive_resume.ensures.step)
 
 pub returns-in-Ok-drive_resume-clause-checked : goal.returns-in-Ok-drive_resume-clause-checked
@@ -106,12 +91,8 @@ returns-in-Ok-drive_resume-clause-grows g c = rw (← c.self.view_is)
     c.drive_resume.new.ports.log.logs.items c.drive_resume.new.ports.shards.nodes.items c.drive_resume.ensures.step c.in-Some.unfinished
     (told_there g.D.Disk.count g.D.Disk.limit g.D.Disk.content g.D.Disk.images c.self.inside.header c.args.lane c.self.inside.ports.log.logs.items c.self.inside.ports.shards.nodes.items c.self.invariant (subst (λ v. IsLaneOf v.header.shape c.args.lane) (sym c.self.view_is) c.requires.lane) c.home-at.result c.index.result.now c.home-at.ensures.place c.index.ensures c.in-Ok.found (Some c.in-Some.unfinished) c.in-Ok.ensures c.in-Some.is) c.drive_resume.result c.drive_resume.ensures.taken c.drive_resume.ensures.left (subst (λ v. AreChecked g.D.Disk.count g.D.Disk.limit v.header.shape v.logs v.shards) (sym c.self.view_is) c.requires.checked)).grows
 
-pub returns-clause-opened_same : goal.returns-clause-opened_same
-returns-clause-opened_same g c = rw (← c.self.view_is) (opened_same g.D.Disk.count g.D.Disk.limit g.D.Disk.content g.D.Disk.images c.self.inside.header c.args.lane c.self.inside.ports.log.logs.items c.self.inside.ports.shards.nodes.items c.self.invariant (subst (λ v. IsLaneOf v.header.shape c.args.lane) (sym c.self.view_is) c.requires.lane)
-    c.drive_resume.new.ports.log.logs.items c.drive_resume.new.ports.shards.nodes.items c.drive_resume.ensures.step)
-
-pub returns-clause-capacity_same : goal.returns-clause-capacity_same
-returns-clause-capacity_same g c = rw (← c.self.view_is) (capacity_same g.D.Disk.count g.D.Disk.limit g.D.Disk.content g.D.Disk.images c.self.inside.header c.args.lane c.self.inside.ports.log.logs.items c.self.inside.ports.shards.nodes.items c.self.invariant (subst (λ v. IsLaneOf v.header.shape c.args.lane) (sym c.self.view_is) c.requires.lane)
+pub returns-clause-keeps_ledger : goal.returns-clause-keeps_ledger
+returns-clause-keeps_ledger g c = rw (← c.self.view_is) (step_keeps g.D.Disk.count g.D.Disk.limit g.D.Disk.content g.D.Disk.images c.self.inside.header c.args.lane c.self.inside.ports.log.logs.items c.self.inside.ports.shards.nodes.items c.self.invariant (subst (λ v. IsLaneOf v.header.shape c.args.lane) (sym c.self.view_is) c.requires.lane)
     c.drive_resume.new.ports.log.logs.items c.drive_resume.new.ports.shards.nodes.items c.drive_resume.ensures.step)
 
 pub returns-clause-checked : goal.returns-clause-checked
@@ -169,3 +150,9 @@ returns-in_default-found-clause-launches g c = rw (← c.self.view_is) (λ n t b
 
 pub returns-in_default-clause-launches : goal.returns-in_default-clause-launches
 returns-in_default-clause-launches g c = rw (← c.self.view_is) (λ n t b txs is. inl (is, refl))
+
+pub returns-in_default-found-clause-keeps_ledger : goal.returns-in_default-found-clause-keeps_ledger
+returns-in_default-found-clause-keeps_ledger g c = rw (← c.self.view_is) (ledger_same _)
+
+pub returns-in_default-clause-keeps_ledger : goal.returns-in_default-clause-keeps_ledger
+returns-in_default-clause-keeps_ledger g c = rw (← c.self.view_is) (ledger_same _)

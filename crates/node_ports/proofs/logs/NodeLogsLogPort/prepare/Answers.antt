@@ -1,5 +1,6 @@
-use Rattle.std.proofs.Common.{◌≡◌, true, subst, arith}
+use Rattle.std.proofs.Common.{refl, ◌≡◌, true, subst, arith}
 use Rattle.std.specs.Result.{IfOk, OnOk}
+use Rattle.std.proofs.lemmas.List.{length-set}
 use Rattle.cbdc_model.specs.Sights.{Sight, Told}
 use Rattle.cbdc_model.specs.Slots.{slot, Idle, InPrepare}
 use Rattle.cbdc_model.specs.Records.{txs_of}
@@ -47,22 +48,15 @@ pub returns-clause-others : goal.returns-clause-others
 returns-clause-others g c =
     λ quiet. turned sight c.args.self.now.logs.items c.args.self.now.at c.index_mut.result.now c.prepare_at-answer.new.log (inside sight c.args.self.now.logs.items c.args.self.now.at c.args.lane c.requires.home.0) c.index_mut.ensures.value (λ a b. KeepsRest a b c.args.lane) c.prepare_at-answer.ensures.others
 
-pub returns-clause-header : goal.returns-clause-header
-returns-clause-header g c =
-    turned sight c.args.self.now.logs.items c.args.self.now.at c.index_mut.result.now c.prepare_at-answer.new.log (inside sight c.args.self.now.logs.items c.args.self.now.at c.args.lane c.requires.home.0) c.index_mut.ensures.value (λ a b. b.header ≡ a.header) c.prepare_at-answer.ensures.node.header
-
-pub returns-clause-elsewhere : goal.returns-clause-elsewhere
-returns-clause-elsewhere g c =
-    λ n ne. set_elsewhere sight c.args.self.now.logs.items c.args.self.now.at c.prepare_at-answer.new.log n ne
-
-pub returns-clause-nodes : goal.returns-clause-nodes
-returns-clause-nodes g c =
-    turned_nodes sight c.args.self.now.logs.items c.args.self.now.at c.index_mut.result.now c.prepare_at-answer.new.log (inside sight c.args.self.now.logs.items c.args.self.now.at c.args.lane c.requires.home.0) c.index_mut.ensures.value c.prepare_at-answer.ensures.node
-
-pub returns-clause-later : goal.returns-clause-later
-returns-clause-later g c =
-    turned_faults sight c.args.self.now.logs.items c.args.self.now.at c.index_mut.result.now c.prepare_at-answer.new.log (inside sight c.args.self.now.logs.items c.args.self.now.at c.args.lane c.requires.home.0) c.index_mut.ensures.value c.prepare_at-answer.ensures.later
-
-pub returns-clause-holds : goal.returns-clause-holds
-returns-clause-holds g c =
-    turned_held sight c.args.self.now.logs.items c.args.self.now.at c.index_mut.result.now c.prepare_at-answer.new.log (inside sight c.args.self.now.logs.items c.args.self.now.at c.args.lane c.requires.home.0) c.index_mut.ensures.value (IsLogHeld g.D.Disk.content g.D.Disk.images) c.prepare_at-answer.ensures.holds
+pub returns-clause-keeps : goal.returns-clause-keeps
+returns-clause-keeps g c =
+    let within = inside sight c.args.self.now.logs.items c.args.self.now.at c.args.lane c.requires.home.0 in
+    record {
+      at_same = refl;
+      header_same = turned sight c.args.self.now.logs.items c.args.self.now.at c.index_mut.result.now c.prepare_at-answer.new.log within c.index_mut.ensures.value (λ a b. b.header ≡ a.header) c.prepare_at-answer.ensures.node.header;
+      count_same = length-set c.args.self.now.logs.items c.args.self.now.at c.prepare_at-answer.new.log;
+      elsewhere = λ n ne. set_elsewhere sight c.args.self.now.logs.items c.args.self.now.at c.prepare_at-answer.new.log n ne;
+      nodes = turned_nodes sight c.args.self.now.logs.items c.args.self.now.at c.index_mut.result.now c.prepare_at-answer.new.log within c.index_mut.ensures.value c.prepare_at-answer.ensures.node;
+      later = turned_faults sight c.args.self.now.logs.items c.args.self.now.at c.index_mut.result.now c.prepare_at-answer.new.log within c.index_mut.ensures.value c.prepare_at-answer.ensures.later;
+      held = turned_held sight c.args.self.now.logs.items c.args.self.now.at c.index_mut.result.now c.prepare_at-answer.new.log within c.index_mut.ensures.value (IsLogHeld g.D.Disk.content g.D.Disk.images) c.prepare_at-answer.ensures.holds;
+    }

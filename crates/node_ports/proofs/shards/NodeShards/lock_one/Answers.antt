@@ -25,15 +25,15 @@ returns-clause-elsewhere g c =
 
 pub returns-clause-nodes : goal.returns-clause-nodes
 returns-clause-nodes g c =
-    turned_nodes (sight_of g.D.Disk.count g.D.Disk.limit) c.args.self.now.nodes.items c.args.shard c.index_mut.result.now _ c.requires.place c.index_mut.ensures.value (search rules)
+    turned_nodes (sight_of g.D.Disk.count g.D.Disk.limit) c.args.self.now.nodes.items c.args.shard c.index_mut.result.now _ c.requires.place c.index_mut.ensures.value (search (rules, c.lock.ensures.keeps.node))
 
 pub returns-clause-later : goal.returns-clause-later
 returns-clause-later g c =
-    turned_faults (sight_of g.D.Disk.count g.D.Disk.limit) c.args.self.now.nodes.items c.args.shard c.index_mut.result.now _ c.requires.place c.index_mut.ensures.value (search rules)
+    turned_faults (sight_of g.D.Disk.count g.D.Disk.limit) c.args.self.now.nodes.items c.args.shard c.index_mut.result.now _ c.requires.place c.index_mut.ensures.value (search (rules, c.lock.ensures.keeps.later))
 
 pub returns-clause-holds : goal.returns-clause-holds
 returns-clause-holds g c =
-    turned_held (sight_of g.D.Disk.count g.D.Disk.limit) c.args.self.now.nodes.items c.args.shard c.index_mut.result.now _ c.requires.place c.index_mut.ensures.value (IsShardHeld g.D.Disk.content g.D.Disk.images) (search rules)
+    turned_held (sight_of g.D.Disk.count g.D.Disk.limit) c.args.self.now.nodes.items c.args.shard c.index_mut.result.now _ c.requires.place c.index_mut.ensures.value (IsShardHeld g.D.Disk.content g.D.Disk.images) (search (rules, c.lock.ensures.keeps.held))
 
 pub returns-clause-told : goal.returns-clause-told
 returns-clause-told g c =

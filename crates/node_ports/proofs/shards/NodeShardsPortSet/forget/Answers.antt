@@ -47,3 +47,12 @@ calls-init g c =
       later = λ n. omega arith;
       holds = λ h. h;
     }
+
+pub returns-clause-keeps : goal.returns-clause-keeps
+returns-clause-keeps g c = record {
+  count_same = c.calls.invariant.count;
+  nodes = c.calls.invariant.nodes;
+  later = c.calls.invariant.later;
+  held = c.calls.invariant.holds;
+  served = λ l mine. mine;
+}

@@ -1,0 +1,5 @@
+use Rattle.wave_lanes.proofs.seats.SeatSetPortSet.finish.Goals as goal
+
+pub returns-clause-keeps : goal.returns-clause-keeps
+returns-clause-keeps g c =
+    let k = c.finish.ensures.keeps in record { count_same = k.count_same; nodes = k.nodes; later = k.later; held = k.held; served = k.served }
