@@ -1,3 +1,4 @@
 pub mod Shares
 pub mod Placing
+pub mod Beside
 pub mod Turning

@@ -1,5 +1,5 @@
 -- A submission that is placed: what the lanes have then, and what is said of it.
-use Rattle.std.proofs.Common.{◌≡◌, ◌≢◌, ◌⊎◌, inl, inr, ℕ, suc, ◌+◌, ◌*◌, ◌%◌, ◌<◌, Bool, true, false, ◌==◌, List, [], ◌∷◌, ◌++◌, length, refl, ap, sym, ◌∙◌, subst, arith, Some, None}
+use Rattle.std.proofs.Common.{◌≡◌, ◌≢◌, ◌⊎◌, inl, inr, ℕ, suc, ◌+◌, ◌*◌, ◌%◌, ◌<◌, Bool, true, false, ◌==◌, List, [], ◌∷◌, ◌++◌, length, refl, ap, sym, ◌∙◌, subst, arith, Option, Some, None}
 use Rattle.std.specs.Prelude.{slice_get, take, All, Contains}
 use Rattle.std.proofs.lemmas.List.Elements.{All-append, All-cons, All-nil}
 use Rattle.std.specs.Global.{Vec}
@@ -14,11 +14,65 @@ use Rattle.cbdc_types.specs.declared.tx.CompactTx.{CompactTx}
 use Rattle.cbdc_model.specs.Records.{Shape, Compact}
 use Rattle.cbdc_model.specs.Coins.{FullTx, compact, tx_id}
 use Rattle.cbdc_model.specs.Waves.{sent_to}
-use Rattle.submissions.specs.Checks.{VerdictsOf, TellsSound, IsGiven, IsPlaced, AreSent, IsSentFrom, AreSentFrom, IsSaid}
+use Rattle.sentinel.specs.FirstRefusal.{IsSound, IsFirstRefusal}
+use Rattle.std.specs.List.{AllZip}
+use Rattle.std.specs.Option.{IsSomeAnd}
+use Rattle.std.specs.Prelude.{MatchOption}
+use Rattle.std.proofs.lemmas.Slice.Zip.{AllZip-right}
+use Rattle.std.proofs.lemmas.Option.{slice_get_within}
+use Rattle.submissions.specs.Checks.{VerdictsOf, TellsSound, IsRuled, IsRuling, IsDealtBy, IsDealtAt, AreSent, IsSentFrom, AreSentFrom, IsSaid}
+use Rattle.submissions.specs.declared.Ruled.{Ruled}
+use Rattle.submissions.specs.declared.Ruling.{Ruling}
+use Rattle.submissions.specs.declared.Ruling.TheVariants as ruling
 use Rattle.submissions.specs.declared.Checked.{Checked}
 use Rattle.submissions.specs.declared.Judgement.{Judgement}
 use Rattle.submissions.specs.declared.Judgement.TheVariants.{Refused, Sound}
 use Rattle.submissions.proofs.Shares.{sent_if, sent_more}
+
+-- a sentinel's judgement of a transaction: the first reason to refuse it; or it is sound, and its compact form goes to the end of a lane's list
+abbrev IsGiven : VerdictsOf → FullTx → ℕ → List CompactTx → List CompactTx → Judgement → Type 0
+IsGiven verdicts t at before after (Refused r) = IsFirstRefusal t (verdicts (tx_id t)) r × (after ≡ before)
+IsGiven verdicts t at before after (Sound lane place) =
+    IsSound t (verdicts (tx_id t)) × (lane ≡ at) × (place ≡ length before) × (after ≡ before ++ compact t ∷ [])
+
+abbrev IsJudged : VerdictsOf → FullTx → ℕ → List CompactTx → List CompactTx → Checked → Type 0
+IsJudged verdicts t at before after c = (c.id ≡ tx_id t) × IsGiven verdicts t at before after c.judgement
+
+-- the same in the list of one lane, with those of the others as before
+pub record IsPlaced (verdicts : VerdictsOf) (t : FullTx) (at : ℕ) (old new : List (Vec CompactTx)) (c : Checked) : Type 0 where
+  pub count : length new ≡ length old
+  pub own : (was list : Vec CompactTx) → slice_get old at ≡ Some was → slice_get new at ≡ Some list → IsJudged verdicts t at was.items list.items c
+  pub others : (lane : ℕ) → lane ≢ at → slice_get new lane ≡ slice_get old lane
+
+-- what was made of the transaction at a place
+pub ruled_at : (verdicts : VerdictsOf) (txs : List FullTx) (all : List Ruled) (i : ℕ) (one : Ruled) → AllZip (IsRuled verdicts) txs all → i < length all → one ≡ get_or all i one
+    → (t : FullTx) × (i < length txs) × (t ≡ get_or txs i t) × IsRuled verdicts t one
+ruled_at verdicts txs all i one so within item = go (slice_get txs i) refl both
+  where
+    here : slice_get all i ≡ Some one
+    here = slice_get-get_or all i one within ∙ ap (λ x. Some x) (sym item)
+
+    both : IsSomeAnd (slice_get txs i) (λ x. IsRuled verdicts x one)
+    both = subst (λ o. MatchOption o (Unit {0}) (λ y. IsSomeAnd (slice_get txs i) (λ x. IsRuled verdicts x y))) here (AllZip-right (IsRuled verdicts) txs all so i)
+
+    go : (o : Option FullTx) → slice_get txs i ≡ o → IsSomeAnd o (λ x. IsRuled verdicts x one) → (t : FullTx) × (i < length txs) × (t ≡ get_or txs i t) × IsRuled verdicts t one
+    go (Some t) e p = (t, slice_get_within txs i t e, sym (get_or_from_slice_get txs i t t e), p)
+    go None e p = absurd p
+
+-- what is kept of a transaction is a sentinel's judgement of it
+given_by : (verdicts : VerdictsOf) (t : FullTx) (r : Ruling) (at : ℕ) (before after : List CompactTx) (j : Judgement)
+    → IsRuling verdicts t r → IsDealtBy r at before after j → IsGiven verdicts t at before after j
+given_by verdicts t (ruling.Refused why) at before after j first (e, same) = subst (λ j. IsGiven verdicts t at before after j) (sym e) (first, same)
+given_by verdicts t (ruling.Sound k) at before after j (is, form) (e, grown) =
+    subst (λ j. IsGiven verdicts t at before after j) (sym e) (is, refl, refl, grown ∙ ap (λ x. before ++ x ∷ []) form)
+
+pub placed_by : (verdicts : VerdictsOf) (t : FullTx) (r : Ruled) (at : ℕ) (old new : List (Vec CompactTx)) (c : Checked)
+    → IsRuled verdicts t r → IsDealtAt r at old new c → IsPlaced verdicts t at old new c
+placed_by verdicts t r at old new c (id, ruled) dealt = record {
+  count = dealt.count;
+  own = λ was list had has. ((dealt.own was list had has).0 ∙ id, given_by verdicts t r.ruling at was.items list.items c.judgement ruled (dealt.own was list had has).1);
+  others = dealt.others;
+}
 
 -- the list behind the judgement is what is sent there then
 given_list : (verdicts : VerdictsOf) (sound : FullTx → Bool) → TellsSound verdicts sound → (t : FullTx) (at : ℕ) (before after : List Compact) (j : Judgement)

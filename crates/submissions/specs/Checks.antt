@@ -10,6 +10,10 @@ use Rattle.sentinel.specs.FirstRefusal.{IsSound, IsFirstRefusal}
 use Rattle.submissions.specs.declared.Checked.{Checked}
 use Rattle.submissions.specs.declared.Judgement.{Judgement}
 use Rattle.submissions.specs.declared.Judgement.TheVariants.{Refused, Sound}
+use Rattle.submissions.specs.declared.Ruled.{Ruled}
+use Rattle.submissions.specs.declared.Ruling.{Ruling}
+use Rattle.submissions.specs.declared.Ruling.TheVariants as ruling
+use Rattle.submissions.specs.declared.Submitted.{Submitted}
 
 -- a verdict on the witness of each input of each transaction, by id and place
 abbrev pub VerdictsOf : Type 0
@@ -23,19 +27,26 @@ TellsSound verdicts sound = (t : FullTx) → (sound t ≡ true) ↔ IsSound t (v
 abbrev pub AllEmpty : List (Vec CompactTx) → Type 0
 AllEmpty lanes = (lane : ℕ) (list : Vec CompactTx) → slice_get lanes lane ≡ Some list → list.items ≡ []
 
--- a sentinel's judgement of a transaction: the first reason to refuse it; or it is sound, and its compact form goes to the end of a lane's list
-abbrev pub IsGiven : VerdictsOf → FullTx → ℕ → List CompactTx → List CompactTx → Judgement → Type 0
-IsGiven verdicts t at before after (Refused r) = IsFirstRefusal t (verdicts (tx_id t)) r × (after ≡ before)
-IsGiven verdicts t at before after (Sound lane place) =
-    IsSound t (verdicts (tx_id t)) × (lane ≡ at) × (place ≡ length before) × (after ≡ before ++ compact t ∷ [])
+-- what a sentinel makes of a transaction by itself: the first reason to refuse it; or it is sound, and this is its compact form
+abbrev pub IsRuling : VerdictsOf → FullTx → Ruling → Type 0
+IsRuling verdicts t (ruling.Refused r) = IsFirstRefusal t (verdicts (tx_id t)) r
+IsRuling verdicts t (ruling.Sound k) = IsSound t (verdicts (tx_id t)) × (k ≡ compact t)
 
-abbrev pub IsJudged : VerdictsOf → FullTx → ℕ → List CompactTx → List CompactTx → Checked → Type 0
-IsJudged verdicts t at before after c = (c.id ≡ tx_id t) × IsGiven verdicts t at before after c.judgement
+abbrev pub IsRuled : VerdictsOf → FullTx → Ruled → Type 0
+IsRuled verdicts t r = (r.id ≡ tx_id t) × IsRuling verdicts t r.ruling
+
+-- what is kept of it: why it is refused; or where it is sound its compact form at the end of a lane's list, and its place there
+abbrev pub IsDealtBy : Ruling → ℕ → List CompactTx → List CompactTx → Judgement → Type 0
+IsDealtBy (ruling.Refused why) at before after j = (j ≡ Refused why) × (after ≡ before)
+IsDealtBy (ruling.Sound k) at before after j = (j ≡ Sound at (length before)) × (after ≡ before ++ k ∷ [])
+
+abbrev pub IsDealt : Ruled → ℕ → List CompactTx → List CompactTx → Checked → Type 0
+IsDealt r at before after c = (c.id ≡ r.id) × IsDealtBy r.ruling at before after c.judgement
 
 -- the same in the list of one lane, with those of the others as before
-pub record IsPlaced (verdicts : VerdictsOf) (t : FullTx) (at : ℕ) (old new : List (Vec CompactTx)) (c : Checked) : Type 0 where
+pub record IsDealtAt (r : Ruled) (at : ℕ) (old new : List (Vec CompactTx)) (c : Checked) : Type 0 where
   pub count : length new ≡ length old
-  pub own : (was list : Vec CompactTx) → slice_get old at ≡ Some was → slice_get new at ≡ Some list → IsJudged verdicts t at was.items list.items c
+  pub own : (was list : Vec CompactTx) → slice_get old at ≡ Some was → slice_get new at ≡ Some list → IsDealt r at was.items list.items c
   pub others : (lane : ℕ) → lane ≢ at → slice_get new lane ≡ slice_get old lane
 
 -- each lane has what is sent to it
@@ -63,3 +74,10 @@ IsSaid K verdicts file j t (Sound lane place) =
 pub record AreChecked (K : Shape) (verdicts : VerdictsOf) (file : List FullTx) (checked : List Checked) : Type 0 where
   pub count : length checked ≡ length file
   pub each : (j : ℕ) (t : FullTx) (c : Checked) → slice_get file j ≡ Some t → slice_get checked j ≡ Some c → (c.id ≡ tx_id t) × IsSaid K verdicts file j t c.judgement
+
+-- what becomes of a file's submissions: a list for each lane of what is sent to it, sound alone; and what is said of each
+pub record AreSubmitted (K : Shape) (verdicts : VerdictsOf) (file : List FullTx) (s : Submitted) : Type 0 where
+  pub lanes : length s.lanes.items ≡ K.coordinators * K.lanes
+  pub sent : AreSent K verdicts file s.lanes.items
+  pub sound : AreSentFrom verdicts file s.lanes.items
+  pub checked : AreChecked K verdicts file s.checked.items

@@ -1,14 +1,18 @@
 //! What sentinels make of a file's submissions: an id for each, and a refusal or a place on a lane.
 #![tactic(auto)]
 
-ghost use Rattle.std.specs.Prelude.{◌≡◌, ◌+◌, ◌*◌, ◌%◌, ◌<◌, ℕ, length, IfOk};
-ghost use Rattle.submissions.specs.Checks.{AllEmpty, IsJudged, IsPlaced, AreSent, AreSentFrom, AreChecked};
+ghost use Rattle.std.specs.Prelude.{◌≡◌, ◌+◌, ◌%◌, ◌<◌, ℕ, List, length, IfOk};
+ghost use Rattle.std.specs.List.{AllZip};
+ghost use Rattle.cbdc_model.specs.Coins.{FullTx as Full};
+ghost use Rattle.submissions.specs.Checks.{VerdictsOf, AllEmpty, IsRuled, IsDealt, IsDealtAt, AreSubmitted};
 
 use cbdc_types::{CompactTx, FullTx, Hash, Refusal, Shape};
 use compact_tx::compact;
 use identifiers::tx_id;
+use rayon::prelude::*;
 use sentinel::check;
 use std::alloc::{AllocError, Global};
+use std::thread::Threads;
 use verifier_port::Verifier;
 
 /// What a sentinel says of a submission.
@@ -24,6 +28,20 @@ pub enum Judgement {
 pub struct Checked {
     pub id: Hash,
     pub judgement: Judgement,
+}
+
+// What a sentinel makes of a transaction: the first reason to refuse it, or its compact form.
+#[derive(Drop)]
+enum Ruling {
+    Refused(Refusal),
+    Sound(CompactTx),
+}
+
+// A transaction's id, and what a sentinel makes of it.
+#[derive(Drop)]
+struct Ruled {
+    id: Hash,
+    ruling: Ruling,
 }
 
 /// The submissions of a file: what a sentinel says of each, and the compact forms of the sound ones by lane, in order.
@@ -45,45 +63,82 @@ fn empty_lanes(alloc: Global, count: u32) -> Result<Vec<Vec<CompactTx>>, AllocEr
     Ok(lanes)
 }
 
-// Checks one submission; where it is sound, its compact form goes to the end of the lane's list.
-fn check_one<V: Verifier>(
-    alloc: Global,
-    tx: &FullTx,
-    lane: usize,
-    list: &mut Vec<CompactTx>,
-    verifier: &V,
-) -> Result<Checked, AllocError>
-    ensures judged { IfOk result (λ c. IsJudged (V.verdict_of verifier.now) tx.now lane list.old.items list.new.items c) }
+// What a sentinel makes of a transaction.
+fn rule<V: Verifier>(alloc: Global, tx: &FullTx, verifier: &V) -> Result<Ruled, AllocError>
+    ensures { IfOk result (IsRuled (V.verdict_of verifier.now) tx.now) }
 {
     let id = tx_id(tx);
-    match check(tx, &id, verifier) {
-        Ok(()) => {
+    let ruling = match check(tx, &id, verifier) {
+        Ok(()) => Ruling::Sound(compact(alloc, tx)?),
+        Err(refusal) => Ruling::Refused(refusal),
+    };
+    Ok(Ruled { id, ruling })
+}
+
+// The same of each, one after another.
+fn rule_each<V: Verifier>(
+    alloc: Global,
+    txs: &[FullTx],
+    verifier: &V,
+) -> Result<Vec<Ruled>, AllocError>
+    ensures { IfOk result (λ v. AllZip (IsRuled (V.verdict_of verifier.now)) txs.now v.items) }
+{
+    let mut ruled = Vec::with_capacity(alloc, txs.len())?;
+    'transactions: for tx in txs {
+        ruled.push(rule(alloc, tx, verifier)?)?;
+    }
+    Ok(ruled)
+}
+
+// The same of each, in two pieces a processor where there are many.
+fn rule_beside<W: Threads + Sync, V: Verifier + Sync>(
+    rt: &W,
+    alloc: Global,
+    txs: &[FullTx],
+    verifier: &V,
+) -> Result<Vec<Ruled>, AllocError>
+    ensures { IfOk result (λ v. AllZip (IsRuled (V.verdict_of verifier.now)) txs.now v.items) }
+{
+    txs.par_iter()
+        .map(
+            |tx: &FullTx| -> Result<Ruled, AllocError>
+                ensures { IfOk result (IsRuled (V.verdict_of verifier.entry.now) tx.now) }
+            { rule(alloc, tx, verifier) },
+        )
+        .collect::<Result<Vec<Ruled>, AllocError>>(rt, alloc)?
+}
+
+// Keeps what was made of a transaction that goes to this lane; where it is sound, its compact form goes to the end of the lane's list.
+fn deal_one(ruled: Ruled, lane: usize, list: &mut Vec<CompactTx>) -> Result<Checked, AllocError>
+    ensures dealt { IfOk result (IsDealt ruled lane list.old.items list.new.items) }
+{
+    let id = ruled.id;
+    match ruled.ruling {
+        Ruling::Sound(own) => {
             let place = list.len();
-            list.push(compact(alloc, tx)?)?;
+            list.push(own)?;
             Ok(Checked {
                 id,
                 judgement: Judgement::Sound { lane, place },
             })
         }
-        Err(refusal) => Ok(Checked {
+        Ruling::Refused(refusal) => Ok(Checked {
             id,
             judgement: Judgement::Refused(refusal),
         }),
     }
 }
 
-// Checks one submission, which goes to this lane.
-fn place_one<V: Verifier>(
-    alloc: Global,
-    tx: &FullTx,
+// The same among the lists of all lanes.
+fn place_one(
+    ruled: Ruled,
     lane: usize,
     lanes: &mut Vec<Vec<CompactTx>>,
-    verifier: &V,
 ) -> Result<Checked, AllocError>
     requires { lane < length lanes.old.items }
-    ensures placed { IfOk result (λ c. IsPlaced (V.verdict_of verifier.now) tx.now lane lanes.old.items lanes.new.items c) }
+    ensures dealt { IfOk result (IsDealtAt ruled lane lanes.old.items lanes.new.items) }
 {
-    check_one(alloc, tx, lane, &mut lanes[lane], verifier)
+    deal_one(ruled, lane, &mut lanes[lane])
 }
 
 // The lane that the next submission goes to.
@@ -95,6 +150,21 @@ fn next_lane(lane: usize, count: usize) -> usize
     if lane + 1 < count { lane + 1 } else { 0 }
 }
 
+// Deals what was made of the submissions of a file to lanes.
+fn deal(alloc: Global, ruled: Vec<Ruled>, shape: &Shape) -> Result<Submitted, AllocError>
+    ensures { IfOk result (λ s. (verdicts : VerdictsOf) (txs : List Full) → AllZip (IsRuled verdicts) txs ruled.items → AreSubmitted shape.now verdicts txs s) }
+{
+    let mut lanes = empty_lanes(alloc, shape.lane_count())?;
+    let mut checked = Vec::with_capacity(alloc, ruled.len())?;
+    let count = lanes.len();
+    let mut lane = 0;
+    'submissions: for one in ruled {
+        checked.push(place_one(one, lane, &mut lanes)?)?;
+        lane = next_lane(lane, count);
+    }
+    Ok(Submitted { checked, lanes })
+}
+
 /// Checks the submissions of a file. The one at place j goes to lane j modulo the number of lanes.
 pub fn check_all<V: Verifier>(
     alloc: Global,
@@ -102,18 +172,20 @@ pub fn check_all<V: Verifier>(
     shape: &Shape,
     verifier: &V,
 ) -> Result<Submitted, AllocError>
-    ensures lanes { IfOk result (λ s. length s.lanes.items ≡ shape.now.coordinators * shape.now.lanes) }
-    ensures sent { IfOk result (λ s. AreSent shape.now (V.verdict_of verifier.now) txs.now s.lanes.items) }
-    ensures sound { IfOk result (λ s. AreSentFrom (V.verdict_of verifier.now) txs.now s.lanes.items) }
-    ensures checked { IfOk result (λ s. AreChecked shape.now (V.verdict_of verifier.now) txs.now s.checked.items) }
+    ensures { IfOk result (AreSubmitted shape.now (V.verdict_of verifier.now) txs.now) }
 {
-    let mut lanes = empty_lanes(alloc, shape.lane_count())?;
-    let mut checked = Vec::with_capacity(alloc, txs.len())?;
-    let count = lanes.len();
-    let mut lane = 0;
-    'submissions: for tx in txs {
-        checked.push(place_one(alloc, tx, lane, &mut lanes, verifier)?)?;
-        lane = next_lane(lane, count);
-    }
-    Ok(Submitted { checked, lanes })
+    deal(alloc, rule_each(alloc, txs, verifier)?, shape)
+}
+
+/// The same with all processors: each takes some of the submissions.
+pub fn check_all_beside<W: Threads + Sync, V: Verifier + Sync>(
+    rt: &W,
+    alloc: Global,
+    txs: &[FullTx],
+    shape: &Shape,
+    verifier: &V,
+) -> Result<Submitted, AllocError>
+    ensures { IfOk result (AreSubmitted shape.now (V.verdict_of verifier.now) txs.now) }
+{
+    deal(alloc, rule_beside(rt, alloc, txs, verifier)?, shape)
 }
