@@ -1,5 +1,5 @@
 -- What the requests of commands come to.
-use Rattle.std.proofs.Common.{rules, ◌≡◌, ◌∙◌, List, [], ◌∷◌, Option, Some, inl, inr, refl, sym, ap, subst, codes}
+use Rattle.std.proofs.Common.{◌≡◌, ◌∙◌, List, Option, Some, inl, inr, refl, sym, ap, subst, codes}
 use Rattle.clap.specs.Words.{Row, Text, Kinds, all_of, fault_of, first_of, subcommand_of}
 use Rattle.clap.specs.Kinds.{or_else}
 use Rattle.command_line.specs.Asked.{HasMistake, HasNoHashes, HasNoShape, HasNoWorkload, HasWish, IsRefused, Meets, faults_of, help_words, topic_faults}

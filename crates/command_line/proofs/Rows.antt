@@ -1,11 +1,10 @@
 -- How the getters read the rows of matches, and what an error says of the faults.
-use Rattle.std.proofs.Common.{rules, ◌≡◌, List, [], ◌∷◌, inl, inr, false, true, refl, sym, subst}
-use Rattle.std.specs.Prelude.{IsTrue, Bool, Result, Ok, Err, IsOk, IfOk, IfErr}
+use Rattle.std.proofs.Common.{rules, ◌≡◌, List, [], ◌∷◌, inl, inr, refl, subst}
+use Rattle.std.specs.Prelude.{IsTrue, Result, Ok, Err, IsOk, IfOk, IfErr}
 use Rattle.clap.proofs.WalkLemmas.{first_value-rows, raw_values-rows}
-use Rattle.clap.specs.Words.{Text, Kinds, HasKind, IsAmong, kind_of}
+use Rattle.clap.specs.Words.{Text, Kinds, HasKind, kind_of}
 use Rattle.clap.specs.Kinds.{or_else}
 use Rattle.clap.specs.declared.error.Error.{Error}
-use Rattle.clap.specs.declared.error.kind.ErrorKind.{ErrorKind}
 use Rattle.clap.specs.declared.error.kind.ErrorKind.TheVariants.{OutOfMemory}
 use Rattle.command_line.specs.Asked.{is_mistake, is_wish, HasMistake, HasWish, IsAsked, IsRefused, IsShow, faults_of}
 use Rattle.requests.specs.declared.Request.{Request}

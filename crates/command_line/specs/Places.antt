@@ -1,5 +1,5 @@
 -- Which words are options, which are values of their own, and where they stand. The program's name has the place 0, the command's the place 1.
-use Rattle.std.specs.Prelude.{◌-◌, ◌&&◌, ◌||◌, ℕ, Bool, false, not, List, [], Option, Some, None, is_some, codes, find, length, if◌then◌else◌, nat_lt}
+use Rattle.std.specs.Prelude.{◌-◌, ◌&&◌, ◌||◌, ℕ, Bool, false, not, List, [], Option, None, is_some, codes, find, length, if◌then◌else◌, nat_lt}
 use Rattle.std.specs.List.{filter, list_any, range_with_len, slice_index_or}
 use Rattle.std.specs.Option.{option_map_or}
 use Rattle.std.specs.Str.{bytes_eq}

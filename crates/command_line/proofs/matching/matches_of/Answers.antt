@@ -1,8 +1,7 @@
-use Rattle.std.proofs.Common.{◌≡◌, true, refl, sym, subst, map, List, ℕ}
+use Rattle.std.proofs.Common.{◌≡◌, true, refl, sym, subst, map}
 use Rattle.std.proofs.lemmas.Result.{IfOk-weaker}
 use Rattle.std.specs.Prelude.{IfOk}
 use Rattle.clap.specs.Words.{App, FailsBy, HasMatchesOf, fault_of, is_simple_and_free}
-use Rattle.command_form.specs.Command.{hamilton}
 use Rattle.command_line.proofs.matching.matches_of.Goals as goal
 
 pub returns-clause-met : goal.returns-clause-met

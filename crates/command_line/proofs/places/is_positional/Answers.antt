@@ -1,4 +1,4 @@
-use Rattle.std.proofs.Common.{arith, ◌≡◌, ◌∙◌, ◌<◌, ◌-◌, ap, sym, false, not}
+use Rattle.std.proofs.Common.{arith, ◌≡◌, ◌∙◌, ◌-◌, ap, sym, false, not}
 use Rattle.std.specs.Prelude.{is_some}
 use Rattle.clap.specs.Lexer.{long_of}
 use Rattle.command_line.specs.Places.{is_dashes, lacks_value, word_at}

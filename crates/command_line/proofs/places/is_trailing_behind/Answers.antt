@@ -1,6 +1,5 @@
-use Rattle.std.proofs.Common.{◌≡◌, ◌∙◌, ◌||◌, Bool, ap, sym, length, ◌<◌, ℕ}
-use Rattle.std.specs.Prelude.{string_bytes}
-use Rattle.command_line.specs.Places.{is_dashes, is_trailing, word_at}
+use Rattle.std.proofs.Common.{◌≡◌, ◌∙◌, ◌||◌, Bool, ap, sym}
+use Rattle.command_line.specs.Places.{is_dashes, word_at}
 use Rattle.command_line.specs.Words.{texts}
 use Rattle.command_line.proofs.PlaceLemmas.{trailing_more}
 use Rattle.command_line.proofs.WordLemmas.{word_text}

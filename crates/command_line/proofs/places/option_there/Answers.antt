@@ -1,4 +1,4 @@
-use Rattle.std.proofs.Common.{◌≡◌, ◌∙◌, Some, None, cond, refl, ap, sym, option_map, Bool, List, ℕ, Option}
+use Rattle.std.proofs.Common.{◌≡◌, ◌∙◌, Some, None, cond, refl, ap, sym, option_map, Bool, List, ℕ}
 use Rattle.std.specs.Borrow.{Bor}
 use Rattle.std.proofs.lemmas.Slice.Eq.{bytes_eq-Decides}
 use Rattle.clap.specs.Lexer.{long_of}
