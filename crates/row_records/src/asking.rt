@@ -1,10 +1,10 @@
-// Calls at a shard, and what is answered, as rows spell them.
+// Calls at a shard as rows spell them.
 use crate::known::Known;
 use crate::records::part;
-use crate::words::{at_most, batch_of, decisions, put_hash_word};
-use cbdc_types::{BatchId, FinishCall, ForgetCall, Hash, LockCall, Outcome, Refused, Reply, Stamp};
-use row_text::{Wrong, number, put_count, put_word, rest, word};
-use std::alloc::{AllocError, Global};
+use crate::words::{at_most, batch_of, decisions};
+use cbdc_types::{BatchId, FinishCall, ForgetCall, LockCall, Stamp};
+use row_text::{Wrong, number, rest, word};
+use std::alloc::Global;
 
 // The cause behind the word `cause` at a place.
 fn cause_at(words: &[&str], at: usize) -> Result<Stamp, Wrong> {
@@ -50,68 +50,4 @@ pub fn forget_call(words: &[&str]) -> Result<ForgetCall, Wrong> {
         batch: batch_of_call(words)?,
         cause: cause_at(words, 2)?,
     })
-}
-
-/// Appends a batch, `LANE NUMBER`.
-pub fn put_batch(alloc: Global, text: &mut String, batch: &BatchId) -> Result<(), AllocError> {
-    put_count(alloc, text, u64::from(batch.lane.0))?;
-    put_count(alloc, text, batch.number)
-}
-
-// Appends `locked HASH LANE NUMBER`, with a shard before the hash where one is told.
-fn put_locked(
-    alloc: Global,
-    text: &mut String,
-    shard: Option<u32>,
-    hash: &Hash,
-    by: &BatchId,
-) -> Result<(), AllocError> {
-    put_refusing(alloc, text, "locked", shard, hash)?;
-    put_batch(alloc, text, by)
-}
-
-// Appends a word and a hash, with a shard between them where one is told.
-fn put_refusing(
-    alloc: Global,
-    text: &mut String,
-    kind: &str,
-    shard: Option<u32>,
-    hash: &Hash,
-) -> Result<(), AllocError> {
-    put_word(text, kind)?;
-    if let Some(shard) = shard {
-        put_count(alloc, text, u64::from(shard))?;
-    }
-    put_hash_word(alloc, text, hash)
-}
-
-/// Appends a reply: `held`, `missing HASH`, `locked HASH LANE NUMBER`.
-pub fn put_reply(alloc: Global, text: &mut String, reply: &Reply) -> Result<(), AllocError> {
-    match reply {
-        Reply::Held => put_word(text, "held"),
-        Reply::Missing(x) => put_refusing(alloc, text, "missing", None, x),
-        Reply::Locked(x, by) => put_locked(alloc, text, None, x, by),
-    }
-}
-
-/// Appends an outcome: `held`, `missing SHARD HASH`, `locked SHARD HASH LANE NUMBER`.
-pub fn put_outcome(alloc: Global, text: &mut String, outcome: &Outcome) -> Result<(), AllocError> {
-    match outcome {
-        Outcome::Held => put_word(text, "held"),
-        Outcome::Missing(shard, x) => put_refusing(alloc, text, "missing", Some(*shard), x),
-        Outcome::Locked(shard, x, by) => put_locked(alloc, text, Some(*shard), x, by),
-    }
-}
-
-/// A shard's refusal as a word and a number: `refused stale 1`.
-pub fn word_of_refused(why: &Refused) -> (&'static str, u64) {
-    match why {
-        Refused::Stale { kept } => ("refused stale", *kept),
-        Refused::LaneOpen { kept } => ("refused lane-open", *kept),
-        Refused::NotLocked { kept } => ("refused not-locked", *kept),
-        Refused::NotFinished { kept } => ("refused not-finished", *kept),
-        Refused::OtherPart { at } => ("refused other-part", *at),
-        Refused::OtherOutcome { at } => ("refused other-outcome", *at),
-        Refused::EarlyStamp { kept } => ("refused early-stamp", kept.0),
-    }
 }
