@@ -3,9 +3,8 @@ use crate::state::State;
 use cbdc_types::{FinishCall, ForgetCall, LockCall, Record, Replied, Stamp};
 use model_check::{is_after, last_stamp, next_finish, next_forget, next_lock, status_of};
 use row_records::{Known, Told, finish_call, forget_call, lock_call};
-use row_text::{Wrong, rest, word};
+use row_text::{Wrong, rest};
 use shard_core::{LockPlan, Remembered, ShardCore, StampPlan};
-use std::alloc::Global;
 use world_core::ShardCall;
 
 // Tells a stamp, which was kept or is new.
@@ -150,18 +149,16 @@ fn shard_of(past: &[Record], told: &mut Told) -> Option<ShardCore> {
 }
 
 /// `lock LANE NUMBER cause STAMP NAME@PLACE..`, `finish LANE NUMBER cause STAMP +..`, `forget LANE NUMBER cause STAMP`
-pub fn call_of(
-    known: &Known,
-    alloc: Global,
-    node: u32,
-    words: &[&str],
-) -> Result<ShardCall, Wrong> {
+pub fn call_of(known: &Known, node: u32, words: &[&str], told: &mut Told) -> Option<ShardCall> {
     let own = rest(words, 1);
-    match word(words, 0)? {
-        "lock" => Ok(ShardCall::Lock(lock_call(known, alloc, node, own)?)),
-        "finish" => Ok(ShardCall::Finish(finish_call(alloc, own)?)),
-        "forget" => Ok(ShardCall::Forget(forget_call(own)?)),
-        _ => Err(Wrong::Line("no call")),
+    match told.word_at(words, 0) {
+        "lock" => Some(ShardCall::Lock(lock_call(known, node, own, told)?)),
+        "finish" => Some(ShardCall::Finish(finish_call(own, told))),
+        "forget" => Some(ShardCall::Forget(forget_call(own, told))),
+        _ => {
+            told.refuse("no call");
+            None
+        }
     }
 }
 
@@ -181,7 +178,7 @@ pub fn ask(state: &State, words: &[&str], told: &mut Told) {
     let alloc = told.alloc;
     let past = state.journal(words, told);
     let node = told.small_at(words, 1);
-    let Some(call) = told.given(call_of(&state.known, alloc, node, rest(words, 2))) else {
+    let Some(call) = call_of(&state.known, node, rest(words, 2), told) else {
         return;
     };
     let mut own = Told::new(alloc);

@@ -189,12 +189,8 @@ pub fn outcome(state: &State, words: &[&str], told: &mut Told) {
 
 /// `refused TX VERDICT..`, and why, or `none`; behind the verdicts that are told all are absent.
 pub fn refused(state: &State, words: &[&str], told: &mut Told) {
-    let alloc = told.alloc;
-    let Some(own) = told.given(verdicts(alloc, rest(words, 1))) else {
-        return;
-    };
     let listed = Listed {
-        verdicts: List::from_vec(own),
+        verdicts: List::from_vec(verdicts(rest(words, 1), told)),
     };
     match state.known.full(told.word_at(words, 0)) {
         Ok(tx) => match first_refusal_of(tx, &listed) {

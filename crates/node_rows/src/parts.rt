@@ -99,25 +99,22 @@ fn take_call(
     words: &[&str],
     told: &mut Told,
 ) {
-    let alloc = told.alloc;
     let shard = told.small_at(words, 0);
     let own = rest(words, 2);
     match told.word_at(words, 1) {
         "lock" => {
             let node = shape.coordinators().saturating_add(shard);
-            if let Some(call) = told.given(lock_call(known, alloc, node, own)) {
+            if let Some(call) = lock_call(known, node, own, told) {
                 told.push(&mut calls.locks, (shard, call));
             }
         }
         "finish" => {
-            if let Some(call) = told.given(finish_call(alloc, own)) {
-                told.push(&mut calls.finishes, (shard, call));
-            }
+            let call = finish_call(own, told);
+            told.push(&mut calls.finishes, (shard, call));
         }
         "forget" => {
-            if let Some(call) = told.given(forget_call(own)) {
-                told.push(&mut calls.forgets, (shard, call));
-            }
+            let call = forget_call(own, told);
+            told.push(&mut calls.forgets, (shard, call));
         }
         _ => told.refuse("no call of a batch"),
     }
@@ -132,10 +129,8 @@ fn calls_told(known: &Known, shape: &Shape, text: &str, told: &mut Told) -> Batc
         forgets: Vec::new(alloc),
     };
     for line in text.lines() {
-        match line.split_whitespace().collect::<Vec<&str>>(alloc) {
-            Ok(words) => take_call(known, shape, &mut calls, &words, told),
-            Err(_) => told.no_memory(),
-        }
+        let words = told.words_of(line);
+        take_call(known, shape, &mut calls, &words, told);
     }
     calls
 }
@@ -149,12 +144,10 @@ pub fn calls(known: &Known, words: &[&str], text: &str, told: &mut Told) {
         return;
     };
     let wanted = calls_told(known, &shape, text, told);
-    let Some(commit) = told.given(record(known, alloc, 0, commit)) else {
+    let Some(commit) = record(known, 0, commit, told) else {
         return;
     };
-    let Some(batch) = told.given(txs(known, alloc, names)) else {
-        return;
-    };
+    let batch = txs(known, names, told);
     if let Some(came) = told.given(calls_by(alloc, &shape, batch.as_slice(), &commit)) {
         told.check_yes(
             wanted.locks == came.locks
