@@ -1,6 +1,6 @@
 // What calls at a shard are answered, by the plain program over its journal and by the shard itself, which has taken the journal in.
 use crate::state::State;
-use cbdc_types::{FinishCall, ForgetCall, LockCall, Record, Replied, Stamp};
+use cbdc_types::{FinishCall, ForgetCall, Header, LockCall, Record, Replied, Stamp};
 use model_check::{is_after, last_stamp, next_finish, next_forget, next_lock, status_of};
 use row_records::{Known, Told, finish_call, forget_call, lock_call};
 use row_text::{Wrong, rest};
@@ -198,17 +198,21 @@ pub fn status(state: &State, words: &[&str], told: &mut Told) {
     told.check_twice(own);
 }
 
+fn remembered_word(own: Option<Remembered>) -> &'static str {
+    match own {
+        None => "none",
+        Some(Remembered::Waiting) => "waiting",
+        Some(Remembered::Committed) => "committed",
+        Some(Remembered::Rejected) => "rejected",
+    }
+}
+
 /// `remembers LEDGER NODE ID`, and the line of the shard's answer: `waiting`, `committed`, `rejected` or `none`.
 pub fn remembers(state: &State, words: &[&str], told: &mut Told) {
-    let past = state.journal(words, told);
     let id = told.hash_at(words, 2);
+    let past = state.journal(words, told);
     if let Some(core) = shard_of(past.as_slice(), told) {
-        told.word(match core.check_tx(&id) {
-            None => "none",
-            Some(Remembered::Waiting) => "waiting",
-            Some(Remembered::Committed) => "committed",
-            Some(Remembered::Rejected) => "rejected",
-        });
+        told.word(remembered_word(core.check_tx(&id)));
     }
 }
 
@@ -223,22 +227,26 @@ pub fn counts(state: &State, words: &[&str], told: &mut Told) {
     }
 }
 
-/// `next LEDGER NODE RECORD`, and `yes` or `no`: whether it may come next, by the definition and by the shard.
-pub fn next(state: &State, words: &[&str], told: &mut Told) {
-    let alloc = told.alloc;
-    let past = state.journal(words, told);
-    let Some(row) = state.row(rest(words, 1), told) else {
-        return;
-    };
-    let Some(header) = told.given(state.known.header(row.node.0)) else {
-        return;
-    };
-    let mut own = Told::new(alloc);
-    let after = own.made(is_after(alloc, &header, past.as_slice(), &row.what));
+// Tells whether a record may come next behind a journal, by the definition and by the shard.
+fn tell_next(header: &Header, past: &[Record], next: &Record, own: &mut Told, told: &mut Told) {
+    let after = own.made(is_after(told.alloc, header, past, next));
     own.yes(after.unwrap_or(false));
-    if let Some(mut core) = shard_of(past.as_slice(), told) {
-        let admits = told.made(core.admit(&row.what));
+    if let Some(mut core) = shard_of(past, told) {
+        let admits = told.made(core.admit(next));
         told.yes(admits.unwrap_or(false));
     }
-    told.check_twice(own);
+}
+
+/// `next LEDGER NODE RECORD`, and `yes` or `no`: whether it may come next, by the definition and by the shard.
+pub fn next(state: &State, words: &[&str], told: &mut Told) {
+    let node = told.small_at(words, 1);
+    let Some(header) = told.given(state.known.header(node)) else {
+        return;
+    };
+    let past = state.journal(words, told);
+    if let Some(row) = state.row(rest(words, 1), told) {
+        let mut own = Told::new(told.alloc);
+        tell_next(&header, past.as_slice(), &row.what, &mut own, told);
+        told.check_twice(own);
+    }
 }

@@ -160,30 +160,46 @@ pub fn calls(known: &Known, words: &[&str], text: &str, told: &mut Told) {
 /// What a shard answered: a stamp, or a fault.
 type Stamped = Result<Stamp, NodeFault>;
 
+// The same as a row tells it.
+#[derive(Clone, Copy, Drop)]
+enum Answer {
+    Stamp(Stamp),
+    DiskFault,
+    Memory,
+    Broken(u64),
+}
+
+fn stamped(answer: &Answer) -> Stamped {
+    match answer {
+        Answer::Stamp(stamp) => Ok(*stamp),
+        Answer::DiskFault => Err(NodeFault::DiskFault),
+        Answer::Memory => Err(NodeFault::Memory),
+        Answer::Broken(since) => Err(NodeFault::Broken { since: *since }),
+    }
+}
+
 // `SHARD ANSWER`
-fn answer(words: &[&str], told: &mut Told) -> (u32, Stamped) {
+fn answer_of(words: &[&str], told: &mut Told) -> (u32, Answer) {
     let shard = told.small_at(words, 0);
     let kind = told.word_at(words, 1);
     told.at_most(words, if kind == "broken" { 3 } else { 2 });
     let own = match kind {
-        "disk-fault" => Err(NodeFault::DiskFault),
-        "memory" => Err(NodeFault::Memory),
-        "broken" => Err(NodeFault::Broken {
-            since: told.number_at(words, 2),
-        }),
-        _ => Ok(Stamp(told.number_at(words, 1))),
+        "disk-fault" => Answer::DiskFault,
+        "memory" => Answer::Memory,
+        "broken" => Answer::Broken(told.number_at(words, 2)),
+        _ => Answer::Stamp(Stamp(told.number_at(words, 1))),
     };
     (shard, own)
 }
 
 // `SHARD ANSWER`, with strokes between them.
-fn answers_of(words: &[&str], told: &mut Told) -> Vec<(u32, Stamped)> {
+fn answers_of(words: &[&str], told: &mut Told) -> Vec<(u32, Answer)> {
     let mut all = Vec::new(told.alloc);
     let mut at = 0usize;
     for _ in 0..words.len() {
         if at < words.len() {
             let (own, _) = words_around(rest(words, at), "/");
-            let one = answer(own, told);
+            let one = answer_of(own, told);
             told.push(&mut all, one);
             at = at.saturating_add(own.len()).saturating_add(1);
         }
@@ -192,17 +208,14 @@ fn answers_of(words: &[&str], told: &mut Told) -> Vec<(u32, Stamped)> {
 }
 
 // The answer to a lock: the reply that the hash 04 is missing, under a stamp, or a fault.
-fn replied(answer: &Stamped, told: &mut Told) -> Result<Replied, NodeFault> {
-    match answer {
+fn replied(answer: &Answer, told: &mut Told) -> Result<Replied, NodeFault> {
+    match stamped(answer) {
         Ok(stamp) => {
             let mut replies = List::new(told.alloc);
             told.made(replies.push(Reply::Missing(Hash([4; 32]))));
-            Ok(Replied {
-                replies,
-                stamp: *stamp,
-            })
+            Ok(Replied { replies, stamp })
         }
-        Err(fault) => Err(*fault),
+        Err(fault) => Err(fault),
     }
 }
 
@@ -252,7 +265,7 @@ pub fn latest_of(words: &[&str], told: &mut Told) {
     let own = answers_of(words, told);
     let mut stamps = Vec::new(told.alloc);
     for (_, answer) in &own {
-        told.push(&mut stamps, *answer);
+        told.push(&mut stamps, stamped(answer));
     }
     if stamps.len() != own.len() {
         told.refuse("an answer is missing");
