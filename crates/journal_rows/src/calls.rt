@@ -227,13 +227,19 @@ pub fn counts(state: &State, words: &[&str], told: &mut Told) {
     }
 }
 
+/// Tells `yes` or `no`, which was asked in two ways; where these differ that is told too.
+pub fn yes_twice(is_so: bool, is_too: bool, told: &mut Told) {
+    told.yes(is_too);
+    told.check_is(if is_so { "yes" } else { "no" }, is_too);
+}
+
 // Tells whether a record may come next behind a journal, by the definition and by the shard.
-fn tell_next(header: &Header, past: &[Record], next: &Record, own: &mut Told, told: &mut Told) {
-    let after = own.made(is_after(told.alloc, header, past, next));
-    own.yes(after.unwrap_or(false));
+fn tell_next(header: &Header, past: &[Record], next: &Record, told: &mut Told) {
+    let alloc = told.alloc;
+    let after = told.made(is_after(alloc, header, past, next));
     if let Some(mut core) = shard_of(past, told) {
         let admits = told.made(core.admit(next));
-        told.yes(admits.unwrap_or(false));
+        yes_twice(after.unwrap_or(false), admits.unwrap_or(false), told);
     }
 }
 
@@ -245,8 +251,6 @@ pub fn next(state: &State, words: &[&str], told: &mut Told) {
     };
     let past = state.journal(words, told);
     if let Some(row) = state.row(rest(words, 1), told) {
-        let mut own = Told::new(told.alloc);
-        tell_next(&header, past.as_slice(), &row.what, &mut own, told);
-        told.check_twice(own);
+        tell_next(&header, past.as_slice(), &row.what, told);
     }
 }
