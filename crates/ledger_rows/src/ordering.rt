@@ -2,7 +2,7 @@
 use crate::disks::kind_word;
 use cbdc_types::{LaneId, NodeId};
 use outside::{Point, When};
-use row_text::{Wrong, number, word};
+use row_text::{Wrong, number};
 use std::alloc::Global;
 use std::sync::atomic::{AtomicBool, AtomicUsize, Ordering};
 use std::thread;
@@ -92,11 +92,14 @@ fn when_of(word: &str) -> Result<When, Wrong> {
 
 // A point by its words.
 fn point_of(words: &[&str]) -> Result<Point, Wrong> {
+    let [lane, node, kind, when] = *words else {
+        return Err(Wrong::Line("a point is LANE NODE KIND WHEN"));
+    };
     Ok(Point {
-        lane: LaneId(small(word(words, 0)?)?),
-        node: NodeId(small(word(words, 1)?)?),
-        kind: kind_of(word(words, 2)?)?,
-        when: when_of(word(words, 3)?)?,
+        lane: LaneId(small(lane)?),
+        node: NodeId(small(node)?),
+        kind: kind_of(kind)?,
+        when: when_of(when)?,
     })
 }
 
