@@ -1,5 +1,5 @@
 -- From the record of a wave to all that is said of it.
-use Rattle.std.proofs.Common.{◌≡◌, inl, inr, ℕ, zero, suc, ◌+◌, ◌-◌, ◌*◌, ◌/◌, ◌<◌, ◌≤◌, Bool, true, false, ◌||◌, not, ◌==◌, nat_lt, if◌then◌else◌, List, [], length, Some, refl, sym, ap, ◌∙◌, subst, arith}
+use Rattle.std.proofs.Common.{◌≡◌, inl, ℕ, zero, suc, ◌+◌, ◌-◌, ◌*◌, ◌/◌, ◌<◌, ◌≤◌, Bool, true, false, ◌||◌, not, ◌==◌, nat_lt, if◌then◌else◌, List, [], length, Some, refl, sym, ap, ◌∙◌, subst, arith}
 use Rattle.std.specs.Prelude.{slice_get}
 use Rattle.std.proofs.lemmas.Nat.{div_below, div-mul-add}
 use Rattle.std.proofs.lemmas.Option.{slice_get_within}
@@ -8,7 +8,6 @@ use Rattle.cbdc_model.specs.Ranges.{home_of, shard_node}
 use Rattle.cbdc_model.specs.Slots.{slot, slot_stamp}
 use Rattle.cbdc_model.specs.Sights.{Sight}
 use Rattle.lane_laws.specs.Batches.{Settled}
-use Rattle.lane_driver.specs.Stops.{IsSettled}
 use Rattle.run_laws.specs.Runs.{seen_by}
 use Rattle.run_laws.specs.Faults.{opened_by, faults_by, capacity_by}
 use Rattle.run_laws.specs.Flights.{flying}
