@@ -1,6 +1,5 @@
-use Rattle.std.proofs.Common.{rules, ◌≡◌, ◌≤◌, ◌+◌, length, refl}
-use Rattle.std.specs.Prelude.{vec_capacity}
-use Rattle.shard_fanout.proofs.Turning.{owning, owns_on, owned}
+use Rattle.std.proofs.Common.{rules, refl}
+use Rattle.shard_fanout.proofs.Turning.{owning, owns_on}
 use Rattle.shard_fanout.proofs.sharing.own_shards.Goals as goal
 
 pub loop-node-init : goal.loop-node-init

@@ -1,6 +1,5 @@
-use Rattle.std.proofs.Common.{rules, ◌≡◌, ◌≤◌, ◌+◌, length, refl}
-use Rattle.std.specs.Prelude.{vec_capacity}
-use Rattle.shard_fanout.proofs.Turning.{sharing, shares_on, shared}
+use Rattle.std.proofs.Common.{rules, refl}
+use Rattle.shard_fanout.proofs.Turning.{sharing, shares_on}
 use Rattle.shard_fanout.proofs.sharing.share_logs.Goals as goal
 
 pub loop-node-init : goal.loop-node-init
