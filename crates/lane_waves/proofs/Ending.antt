@@ -1,6 +1,6 @@
 -- What comes of lanes that have run and given their seats back.
 use Rattle.std.proofs.Common.{◌≡◌, inl, inr, ℕ, zero, suc, ◌<◌, ◌≤◌, false, List, [], ◌∷◌, ◌++◌, length, reverse, Option, Some, None, Result, Ok, Err, append-nil, refl, sym, ap, ◌∙◌, subst, arith}
-use Rattle.std.specs.Prelude.{All, IfSome, slice_index_or}
+use Rattle.std.specs.Prelude.{All, slice_index_or}
 use Rattle.std.specs.List.{AllZip}
 use Rattle.std.specs.Global.{Vec}
 use Rattle.std.proofs.lemmas.List.{reverse-reverse}
@@ -30,7 +30,7 @@ use Rattle.shard_fanout.specs.declared.tables.Locks.{Ghosts}
 use Rattle.shard_fanout.proofs.Seating.{seen_here}
 use Rattle.thread_laws.specs.Closing.{IsHand}
 use Rattle.thread_laws.specs.Running.{LaneRan}
-use Rattle.thread_laws.specs.Whole.{no_memory, HasEnded}
+use Rattle.thread_laws.specs.Whole.{HasEnded}
 use Rattle.wave_lanes.specs.Held.{AreOfLane, Begins, Ends, HasRun, log_of, logs_of, shards_of}
 use Rattle.wave_lanes.specs.Ports.{seats_of}
 use Rattle.wave_lanes.specs.declared.runs.LaneRun.{LaneRun}
@@ -109,7 +109,7 @@ module _ {W D B : Type 0} {G : Ghosts B} (count limit : D → ℕ) (tables : ℕ
             done = subst (λ n. AreDone K false n y.txs.items log shards (reverse report.batches) [] log' shards') l (subst (λ ts. AreDone K false r.lane ts log shards (reverse report.batches) [] log' shards') txs (k.batches settled.0 settled.1));
             reported = subst (λ n. IsReported n K.batch y.txs.items [] report.batches) l (subst (λ ts. IsReported r.lane K.batch ts [] report.batches) txs k.named);
           },
-          ((λ z a b. (e.kept, e.count)), λ z. subst (λ f. IfSome f (λ g. g ≡ no_memory)) (sym none) tt),
+          (none, λ a b. (e.kept, e.count)),
         ),
       )
   ended_of lane x y r q l settled w (Some (Err fault)) k e =

@@ -185,7 +185,7 @@ may_run (v ∷ old) (w ∷ new) m a r =
 
 -- a lane that was made ready first ended as the lane that it was before
 ended_anew : (K : Shape) (lane : ℕ) (log : Sight) (shards : ℕ → Sight) (log' : Sight) (shards' : ℕ → Sight) (old mid new : Lane) → IsReady mid → HasEnded K lane log shards log' shards' mid new → HasEnded K lane log shards log' shards' old new
-ended_anew K lane log shards log' shards' old mid new ready (inl (d, (keeps, wants))) = inl (d, ((λ none z b. keeps none ready.decided ready.batches), λ f. wants ready.fault))
+ended_anew K lane log shards log' shards' old mid new ready (inl (d, (none, keeps))) = inl (d, (none, λ z b. keeps ready.decided ready.batches))
 ended_anew K lane log shards log' shards' old mid new ready (inr (e, stopped, (some, by))) = inr (e, stopped, (some, λ f. by ready.fault))
 
 lane_anew : (K : Shape) (logs shards : ℕ → Sight) (log_hands shard_hands : ℕ → List Hand) (lane : ℕ) (old mid new : Lane) → IsReady mid → mid.txs ≡ old.txs → LaneRan K logs shards log_hands shard_hands lane mid new → LaneRan K logs shards log_hands shard_hands lane old new
