@@ -1,11 +1,10 @@
 // What calls at a shard are answered, by the plain program over its journal and by the shard itself, which has taken the journal in.
 use crate::state::State;
-use cbdc_types::{FinishCall, ForgetCall, LockCall, Record, Replied, Stamp};
+use cbdc_types::{FinishCall, ForgetCall, Header, LockCall, Record, Replied, Stamp};
 use model_check::{is_after, last_stamp, next_finish, next_forget, next_lock, status_of};
 use row_records::{Known, Told, finish_call, forget_call, lock_call};
-use row_text::{Wrong, rest, word};
+use row_text::{Wrong, rest};
 use shard_core::{LockPlan, Remembered, ShardCore, StampPlan};
-use std::alloc::Global;
 use world_core::ShardCall;
 
 // Tells a stamp, which was kept or is new.
@@ -150,18 +149,16 @@ fn shard_of(past: &[Record], told: &mut Told) -> Option<ShardCore> {
 }
 
 /// `lock LANE NUMBER cause STAMP NAME@PLACE..`, `finish LANE NUMBER cause STAMP +..`, `forget LANE NUMBER cause STAMP`
-pub fn call_of(
-    known: &Known,
-    alloc: Global,
-    node: u32,
-    words: &[&str],
-) -> Result<ShardCall, Wrong> {
+pub fn call_of(known: &Known, node: u32, words: &[&str], told: &mut Told) -> Option<ShardCall> {
     let own = rest(words, 1);
-    match word(words, 0)? {
-        "lock" => Ok(ShardCall::Lock(lock_call(known, alloc, node, own)?)),
-        "finish" => Ok(ShardCall::Finish(finish_call(alloc, own)?)),
-        "forget" => Ok(ShardCall::Forget(forget_call(own)?)),
-        _ => Err(Wrong::Line("no call")),
+    match told.word_at(words, 0) {
+        "lock" => Some(ShardCall::Lock(lock_call(known, node, own, told)?)),
+        "finish" => Some(ShardCall::Finish(finish_call(own, told))),
+        "forget" => Some(ShardCall::Forget(forget_call(own, told))),
+        _ => {
+            told.refuse("no call");
+            None
+        }
     }
 }
 
@@ -181,7 +178,7 @@ pub fn ask(state: &State, words: &[&str], told: &mut Told) {
     let alloc = told.alloc;
     let past = state.journal(words, told);
     let node = told.small_at(words, 1);
-    let Some(call) = told.given(call_of(&state.known, alloc, node, rest(words, 2))) else {
+    let Some(call) = call_of(&state.known, node, rest(words, 2), told) else {
         return;
     };
     let mut own = Told::new(alloc);
@@ -201,17 +198,21 @@ pub fn status(state: &State, words: &[&str], told: &mut Told) {
     told.check_twice(own);
 }
 
+fn remembered_word(own: Option<Remembered>) -> &'static str {
+    match own {
+        None => "none",
+        Some(Remembered::Waiting) => "waiting",
+        Some(Remembered::Committed) => "committed",
+        Some(Remembered::Rejected) => "rejected",
+    }
+}
+
 /// `remembers LEDGER NODE ID`, and the line of the shard's answer: `waiting`, `committed`, `rejected` or `none`.
 pub fn remembers(state: &State, words: &[&str], told: &mut Told) {
-    let past = state.journal(words, told);
     let id = told.hash_at(words, 2);
+    let past = state.journal(words, told);
     if let Some(core) = shard_of(past.as_slice(), told) {
-        told.word(match core.check_tx(&id) {
-            None => "none",
-            Some(Remembered::Waiting) => "waiting",
-            Some(Remembered::Committed) => "committed",
-            Some(Remembered::Rejected) => "rejected",
-        });
+        told.word(remembered_word(core.check_tx(&id)));
     }
 }
 
@@ -226,22 +227,30 @@ pub fn counts(state: &State, words: &[&str], told: &mut Told) {
     }
 }
 
+/// Tells `yes` or `no`, which was asked in two ways; where these differ that is told too.
+pub fn yes_twice(is_so: bool, is_too: bool, told: &mut Told) {
+    told.yes(is_too);
+    told.check_is(if is_so { "yes" } else { "no" }, is_too);
+}
+
+// Tells whether a record may come next behind a journal, by the definition and by the shard.
+fn tell_next(header: &Header, past: &[Record], next: &Record, told: &mut Told) {
+    let alloc = told.alloc;
+    let after = told.made(is_after(alloc, header, past, next));
+    if let Some(mut core) = shard_of(past, told) {
+        let admits = told.made(core.admit(next));
+        yes_twice(after.unwrap_or(false), admits.unwrap_or(false), told);
+    }
+}
+
 /// `next LEDGER NODE RECORD`, and `yes` or `no`: whether it may come next, by the definition and by the shard.
 pub fn next(state: &State, words: &[&str], told: &mut Told) {
-    let alloc = told.alloc;
+    let node = told.small_at(words, 1);
+    let Some(header) = told.given(state.known.header(node)) else {
+        return;
+    };
     let past = state.journal(words, told);
-    let Some(row) = state.row(rest(words, 1), told) else {
-        return;
-    };
-    let Some(header) = told.given(state.known.header(row.node.0)) else {
-        return;
-    };
-    let mut own = Told::new(alloc);
-    let after = own.made(is_after(alloc, &header, past.as_slice(), &row.what));
-    own.yes(after.unwrap_or(false));
-    if let Some(mut core) = shard_of(past.as_slice(), told) {
-        let admits = told.made(core.admit(&row.what));
-        told.yes(admits.unwrap_or(false));
+    if let Some(row) = state.row(rest(words, 1), told) {
+        tell_next(&header, past.as_slice(), &row.what, told);
     }
-    told.check_twice(own);
 }

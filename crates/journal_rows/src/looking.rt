@@ -1,13 +1,14 @@
 // What the plain programs say of journals: of hashes and lanes behind each record, of sizes and room, of which record stands.
+use crate::calls::yes_twice;
 use crate::state::{State, journals_of};
-use cbdc_types::{LaneId, List, Record, Shape};
+use cbdc_types::{Header, LaneId, List, Record, Shape};
 use model_check::{
     Listed, Phase, Row, first_refusal_of, is_after, is_caused, is_in_grammar, is_ordered,
-    kept_room, lane_room, need_of, outcome_of, size_of, slot_of, slot_stamp, status_of, used_of,
+    journal_of, kept_room, lane_room, need_of, outcome_of, size_of, slot_of, slot_stamp, status_of,
+    used_of,
 };
 use row_records::{Told, verdicts};
-use row_text::{Wrong, rest};
-use std::alloc::Global;
+use row_text::rest;
 
 // Tells a number, or that there is none.
 fn tell_number(told: &mut Told, own: Option<u64>) {
@@ -115,32 +116,54 @@ pub fn may(state: &State, words: &[&str], told: &mut Told) {
         return;
     };
     if let Some(header) = told.given(state.known.header(row.node.0)) {
-        let mut own = Told::new(told.alloc);
-        own.yes(is_in_grammar(&header, &row.what));
-        told.yes(record_grammar::is_in_grammar(&header, &row.what));
-        told.check_twice(own);
+        yes_twice(
+            is_in_grammar(&header, &row.what),
+            record_grammar::is_in_grammar(&header, &row.what),
+            told,
+        );
+    }
+}
+
+// Whether a record may come next at its node behind others.
+fn may_come(header: &Header, rows: &[Row], next: &Row, told: &mut Told) -> bool {
+    let alloc = told.alloc;
+    match told.made(journal_of(alloc, next.node, rows)) {
+        Some(own) => {
+            let after = is_after(alloc, header, own.as_slice(), &next.what);
+            told.made(after).unwrap_or(false)
+        }
+        None => false,
+    }
+}
+
+// Whether others cause a record.
+fn do_cause(shape: &Shape, rows: &[Row], next: &Row, told: &mut Told) -> bool {
+    let alloc = told.alloc;
+    match told.made(journals_of(alloc, shape.node_count(), rows)) {
+        Some(all) => {
+            let caused = is_caused(alloc, all.as_slice(), shape, next.node, &next.what);
+            told.made(caused).unwrap_or(false)
+        }
+        None => false,
     }
 }
 
 // Whether a record may come next behind others, and whether they cause it.
-fn judged(state: &State, alloc: Global, rows: &[Row], next: &Row) -> Result<(bool, bool), Wrong> {
-    let header = state.known.header(next.node.0)?;
-    let shape = header.shape;
-    let own = model_check::journal_of(alloc, next.node, rows)?;
-    let after = is_after(alloc, &header, own.as_slice(), &next.what)?;
-    let all = journals_of(alloc, shape.node_count(), rows)?;
-    let caused = is_caused(alloc, all.as_slice(), &shape, next.node, &next.what)?;
-    Ok((after, caused))
+fn judged(state: &State, rows: &[Row], next: &Row, told: &mut Told) -> (bool, bool) {
+    match told.given(state.known.header(next.node.0)) {
+        Some(header) => (
+            may_come(&header, rows, next, told),
+            do_cause(&header.shape, rows, next, told),
+        ),
+        None => (false, false),
+    }
 }
 
 /// `follows LEDGER NODE RECORD`, and two words: whether it may come next at the node, and whether it is caused there.
 pub fn follows(state: &State, words: &[&str], told: &mut Told) {
-    let alloc = told.alloc;
     let rows = state.rows(words, 0, told);
-    let Some(next) = state.row(rest(words, 1), told) else {
-        return;
-    };
-    if let Some((after, caused)) = told.given(judged(state, alloc, rows, &next)) {
+    if let Some(next) = state.row(rest(words, 1), told) {
+        let (after, caused) = judged(state, rows, &next, told);
         told.word(if after { "after" } else { "not-after" });
         told.word(if caused { "caused" } else { "uncaused" });
     }
@@ -148,13 +171,12 @@ pub fn follows(state: &State, words: &[&str], told: &mut Told) {
 
 // Whether the newest of these records may come next behind the others, caused by them.
 fn newest_stands(state: &State, rows: &[Row], told: &mut Told) -> bool {
-    let alloc = told.alloc;
-    let Some((newest, before)) = rows.split_first() else {
-        return true;
-    };
-    match told.given(judged(state, alloc, before, newest)) {
-        Some((after, caused)) => after && caused,
-        None => false,
+    match rows.split_first() {
+        Some((newest, before)) => {
+            let (after, caused) = judged(state, before, newest, told);
+            after && caused
+        }
+        None => true,
     }
 }
 
@@ -189,12 +211,8 @@ pub fn outcome(state: &State, words: &[&str], told: &mut Told) {
 
 /// `refused TX VERDICT..`, and why, or `none`; behind the verdicts that are told all are absent.
 pub fn refused(state: &State, words: &[&str], told: &mut Told) {
-    let alloc = told.alloc;
-    let Some(own) = told.given(verdicts(alloc, rest(words, 1))) else {
-        return;
-    };
     let listed = Listed {
-        verdicts: List::from_vec(own),
+        verdicts: List::from_vec(verdicts(rest(words, 1), told)),
     };
     match state.known.full(told.word_at(words, 0)) {
         Ok(tx) => match first_refusal_of(tx, &listed) {

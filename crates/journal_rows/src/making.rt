@@ -49,12 +49,9 @@ pub fn ledger(state: &mut State, words: &[&str], text: &str, told: &mut Told) {
         told.expect(words, 1, "like");
         rows = oldest_first(state.rows(words, 2, told), told);
     }
-    let came = rows_in(&state.known, told.alloc, text);
-    if let Some(new) = told.given(came) {
-        for (node, what) in new {
-            let node = NodeId(node);
-            told.push(&mut rows, Row { node, what });
-        }
+    for (node, what) in rows_in(&state.known, text, told) {
+        let node = NodeId(node);
+        told.push(&mut rows, Row { node, what });
     }
     put_ledger(state, name, rows, told);
 }

@@ -7,7 +7,7 @@ use model_check::{
     Row, committed_compact, committed_of, count_of_book, fold_of, genesis_book, has, stamp_of,
     unspent_of, value_of,
 };
-use row_records::{Told, hashes};
+use row_records::Told;
 use row_text::rest;
 use std::alloc::{AllocError, Global};
 use verifier_port::AllGood;
@@ -221,9 +221,7 @@ pub fn holds(state: &State, words: &[&str], told: &mut Told) {
     let Some(txs) = told.made(committed_compact(alloc, rows)) else {
         return;
     };
-    let Some(minted) = told.given(hashes(alloc, rest(words, 2))) else {
-        return;
-    };
+    let minted = told.hashes_of(rest(words, 2));
     let is_so = match told.made(left(alloc, minted, txs.as_slice())) {
         Some(Some(xs)) => are_held(state, words, xs.as_slice(), told),
         _ => false,

@@ -78,8 +78,7 @@ impl State {
 
     /// The record of `NODE RECORD`.
     pub fn row(&self, words: &[&str], told: &mut Told) -> Option<Row> {
-        let came = row(&self.known, told.alloc, words);
-        let (node, what) = told.given(came)?;
+        let (node, what) = row(&self.known, words, told)?;
         Some(Row {
             node: NodeId(node),
             what,

@@ -18,20 +18,11 @@ use world_core::World;
 
 // Does a step, by its verb and the words behind it, and tells what comes of it.
 fn tell(state: &mut State, verb: Verb, words: &[&str], text: &str, told: &mut Told) {
-    let alloc = told.alloc;
     match verb {
-        Verb::Shape => {
-            told.given(shape(&mut state.known, alloc, words));
-        }
-        Verb::Mint => {
-            told.given(mint(&mut state.known, alloc, words));
-        }
-        Verb::Tx => {
-            told.given(name_tx(&mut state.known, alloc, words));
-        }
-        Verb::Form => {
-            told.given(name_form(&mut state.known, alloc, words));
-        }
+        Verb::Shape => shape(&mut state.known, words, told),
+        Verb::Mint => mint(&mut state.known, words, told),
+        Verb::Tx => name_tx(&mut state.known, words, told),
+        Verb::Form => name_form(&mut state.known, words, told),
         Verb::Files => files(state, "files", words, told),
         Verb::Earlier => files(state, "earlier", words, told),
         Verb::Ledger => ledger(state, words, text, told),

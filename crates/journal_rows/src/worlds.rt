@@ -3,7 +3,7 @@ use crate::calls::call_of;
 use crate::state::State;
 use cbdc_types::{List, NodeId, Record};
 use model_check::{Node, is_recovered};
-use row_records::{Told, hashes};
+use row_records::Told;
 use row_text::rest;
 use world_core::{Event, World};
 
@@ -17,10 +17,9 @@ pub fn world(state: &mut State, words: &[&str], told: &mut Told) {
     let Some(shape) = told.given(state.known.shape()) else {
         return;
     };
-    if let Some(own) = told.given(hashes(alloc, words)) {
-        let made = World::new(alloc, &shape, &genesis, own.as_slice());
-        state.world = told.made(made);
-    }
+    let own = told.hashes_of(words);
+    let made = World::new(alloc, &shape, &genesis, own.as_slice());
+    state.world = told.made(made);
 }
 
 // Events happen in turn.
@@ -78,8 +77,7 @@ pub fn reopen(state: &mut State, words: &[&str], told: &mut Told) {
 /// `again NODE CALL`: the call is made again, however old.
 pub fn again(state: &mut State, words: &[&str], told: &mut Told) {
     let node = told.small_at(words, 0);
-    let call = call_of(&state.known, told.alloc, node, rest(words, 1));
-    if let Some(call) = told.given(call) {
+    if let Some(call) = call_of(&state.known, node, rest(words, 1), told) {
         happens(state, &[Event::Repeat(NodeId(node), call)], told);
     }
 }

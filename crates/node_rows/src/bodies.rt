@@ -52,8 +52,7 @@ pub fn add(known: &Known, node: &mut Node, words: &[&str], told: &mut Told) {
         told.refuse("no journal of records");
         return;
     };
-    let own = record(known, told.alloc, log.header.node.0, words);
-    if let Some(own) = told.given(own) {
+    if let Some(own) = record(known, log.header.node.0, words, told) {
         told.done(&log.append(own));
     }
 }

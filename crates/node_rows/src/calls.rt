@@ -67,23 +67,20 @@ fn forget(shard: &mut ShardNode<FaultDisk>, call: &ForgetCall, told: &mut Told) 
 
 // `lock LANE NUMBER cause STAMP NAME@PLACE..`, `finish LANE NUMBER cause STAMP +..`, `forget LANE NUMBER cause STAMP`
 fn call_shard(known: &Known, shard: &mut ShardNode<FaultDisk>, words: &[&str], told: &mut Told) {
-    let alloc = told.alloc;
     let own = rest(words, 1);
     match told.word_at(words, 0) {
         "lock" => {
-            if let Some(call) = told.given(lock_call(known, alloc, shard.header().node.0, own)) {
+            if let Some(call) = lock_call(known, shard.header().node.0, own, told) {
                 lock(shard, &call, told);
             }
         }
         "finish" => {
-            if let Some(call) = told.given(finish_call(alloc, own)) {
-                finish(shard, &call, told);
-            }
+            let call = finish_call(own, told);
+            finish(shard, &call, told);
         }
         "forget" => {
-            if let Some(call) = told.given(forget_call(own)) {
-                forget(shard, &call, told);
-            }
+            let call = forget_call(own, told);
+            forget(shard, &call, told);
         }
         _ => told.refuse(NO_CALL),
     }
@@ -200,16 +197,13 @@ pub fn may_decide(shape: &Shape, replies: &[ShardReplies]) -> bool
 
 /// What the only shard replied, as all replies: `STAMP REPLY..`.
 pub fn replies_told(words: &[&str], told: &mut Told) -> Replies {
-    let alloc = told.alloc;
-    let stamp = Stamp(told.number_at(words, 0));
-    let mut all = List::new(alloc);
-    if let Some(replies) = told.given(replies(alloc, rest(words, 1))) {
-        told.made(all.push(ShardReplies {
-            shard: 0,
-            replies,
-            stamp,
-        }));
-    }
+    let mut all = List::new(told.alloc);
+    let own = ShardReplies {
+        shard: 0,
+        stamp: Stamp(told.number_at(words, 0)),
+        replies: replies(rest(words, 1), told),
+    };
+    told.made(all.push(own));
     all
 }
 
@@ -247,14 +241,12 @@ pub fn cause_of(words: &[&str], told: &mut Told) -> Stamp {
 
 // `prepare LANE TX..`, and the calls above
 fn call_log(known: &Known, log: &mut CoordLog<FaultDisk>, words: &[&str], told: &mut Told) {
-    let alloc = told.alloc;
     let lane = told.lane_at(words, 1);
     let own = rest(words, 2);
     match told.word_at(words, 0) {
         "prepare" => {
-            if let Some(txs) = told.given(txs(known, alloc, own)) {
-                prepare(log, lane, txs.as_slice(), told);
-            }
+            let txs = txs(known, own, told);
+            prepare(log, lane, txs.as_slice(), told);
         }
         "decide" => decide(log, lane, own, told),
         "discard" => end(log, lane, false, own, told),

@@ -88,12 +88,11 @@ fn ask_end(core: &mut CoordCore, lane: LaneId, cause: Stamp, is_last: bool) -> O
 
 // The next record of a lane by a call: `prepare LANE TX..`, `decide LANE STAMP REPLY..`, `discard` and `done LANE cause STAMP`.
 fn next_by(known: &Known, core: &mut CoordCore, words: &[&str], told: &mut Told) -> Option<Record> {
-    let alloc = told.alloc;
     let lane = told.lane_at(words, 1);
     let own = rest(words, 2);
     match told.word_at(words, 0) {
         "prepare" => {
-            let txs = told.given(txs(known, alloc, own))?;
+            let txs = txs(known, own, told);
             ask_prepare(core, lane, txs.as_slice(), told)
         }
         "decide" => {
@@ -163,8 +162,7 @@ pub fn admits(known: &Known, node: &mut Node, words: &[&str], told: &mut Told) {
         told.refuse(NO_LANES);
         return;
     };
-    let own = record(known, told.alloc, core.header().node.0, words);
-    let Some(next) = told.given(own) else {
+    let Some(next) = record(known, core.header().node.0, words, told) else {
         return;
     };
     match core.admit(&next) {

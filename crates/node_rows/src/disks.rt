@@ -41,10 +41,7 @@ fn put_journal(bytes: &mut Vec<u8>, known: &Known, node: u32, text: &str, told: 
     let Some(header) = told.given(known.header(node)) else {
         return;
     };
-    let Some(records) = told.given(records_in(known, alloc, node, text)) else {
-        return;
-    };
-    for own in &records {
+    for own in &records_in(known, node, text, told) {
         told.made(put_record(alloc, bytes, own, &header));
     }
     told.push(bytes, 0);

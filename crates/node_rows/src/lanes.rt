@@ -49,9 +49,7 @@ pub fn lane<W: Wait>(rt: &W, state: &mut State, words: &[&str], is_whole: bool, 
     let Some(shape) = told.given(state.known.shape()) else {
         return;
     };
-    let Some(batch) = told.given(txs(&state.known, alloc, rest(own, 1))) else {
-        return;
-    };
+    let batch = txs(&state.known, rest(own, 1), told);
     let plan = Plan {
         lane,
         txs: batch.as_slice(),

@@ -17,11 +17,9 @@ fn records_differ(alloc: Global, text: &str, came: &[Record]) -> Wrong {
 
 /// Lines spell these records of a node.
 pub fn check_records(known: &Known, node: u32, came: &[Record], text: &str, told: &mut Told) {
-    let alloc = told.alloc;
-    if let Some(wanted) = told.given(records_in(known, alloc, node, text)) {
-        if wanted.as_slice() != came {
-            told.fail(records_differ(alloc, text, came));
-        }
+    let wanted = records_in(known, node, text, told);
+    if wanted.as_slice() != came {
+        told.fail(records_differ(told.alloc, text, came));
     }
 }
 

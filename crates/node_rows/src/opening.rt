@@ -194,10 +194,7 @@ pub fn ledger(known: &Known, nodes: &mut Vec<Node>, words: &[&str], text: &str, 
     let Some(shape) = told.given(known.shape()) else {
         return;
     };
-    let alloc = told.alloc;
-    let Some(rows) = told.given(rows_in(known, alloc, text)) else {
-        return;
-    };
+    let rows = rows_in(known, text, told);
     let many = shape.node_count();
     told.at_most(words, many as usize);
     if rows.iter().any(|row| row.0 >= many) {

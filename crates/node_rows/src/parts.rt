@@ -99,25 +99,22 @@ fn take_call(
     words: &[&str],
     told: &mut Told,
 ) {
-    let alloc = told.alloc;
     let shard = told.small_at(words, 0);
     let own = rest(words, 2);
     match told.word_at(words, 1) {
         "lock" => {
             let node = shape.coordinators().saturating_add(shard);
-            if let Some(call) = told.given(lock_call(known, alloc, node, own)) {
+            if let Some(call) = lock_call(known, node, own, told) {
                 told.push(&mut calls.locks, (shard, call));
             }
         }
         "finish" => {
-            if let Some(call) = told.given(finish_call(alloc, own)) {
-                told.push(&mut calls.finishes, (shard, call));
-            }
+            let call = finish_call(own, told);
+            told.push(&mut calls.finishes, (shard, call));
         }
         "forget" => {
-            if let Some(call) = told.given(forget_call(own)) {
-                told.push(&mut calls.forgets, (shard, call));
-            }
+            let call = forget_call(own, told);
+            told.push(&mut calls.forgets, (shard, call));
         }
         _ => told.refuse("no call of a batch"),
     }
@@ -132,10 +129,8 @@ fn calls_told(known: &Known, shape: &Shape, text: &str, told: &mut Told) -> Batc
         forgets: Vec::new(alloc),
     };
     for line in text.lines() {
-        match line.split_whitespace().collect::<Vec<&str>>(alloc) {
-            Ok(words) => take_call(known, shape, &mut calls, &words, told),
-            Err(_) => told.no_memory(),
-        }
+        let words = told.words_of(line);
+        take_call(known, shape, &mut calls, &words, told);
     }
     calls
 }
@@ -149,12 +144,10 @@ pub fn calls(known: &Known, words: &[&str], text: &str, told: &mut Told) {
         return;
     };
     let wanted = calls_told(known, &shape, text, told);
-    let Some(commit) = told.given(record(known, alloc, 0, commit)) else {
+    let Some(commit) = record(known, 0, commit, told) else {
         return;
     };
-    let Some(batch) = told.given(txs(known, alloc, names)) else {
-        return;
-    };
+    let batch = txs(known, names, told);
     if let Some(came) = told.given(calls_by(alloc, &shape, batch.as_slice(), &commit)) {
         told.check_yes(
             wanted.locks == came.locks
@@ -167,30 +160,46 @@ pub fn calls(known: &Known, words: &[&str], text: &str, told: &mut Told) {
 /// What a shard answered: a stamp, or a fault.
 type Stamped = Result<Stamp, NodeFault>;
 
+// The same as a row tells it.
+#[derive(Clone, Copy, Drop)]
+enum Answer {
+    Stamp(Stamp),
+    DiskFault,
+    Memory,
+    Broken(u64),
+}
+
+fn stamped(answer: &Answer) -> Stamped {
+    match answer {
+        Answer::Stamp(stamp) => Ok(*stamp),
+        Answer::DiskFault => Err(NodeFault::DiskFault),
+        Answer::Memory => Err(NodeFault::Memory),
+        Answer::Broken(since) => Err(NodeFault::Broken { since: *since }),
+    }
+}
+
 // `SHARD ANSWER`
-fn answer(words: &[&str], told: &mut Told) -> (u32, Stamped) {
+fn answer_of(words: &[&str], told: &mut Told) -> (u32, Answer) {
     let shard = told.small_at(words, 0);
     let kind = told.word_at(words, 1);
     told.at_most(words, if kind == "broken" { 3 } else { 2 });
     let own = match kind {
-        "disk-fault" => Err(NodeFault::DiskFault),
-        "memory" => Err(NodeFault::Memory),
-        "broken" => Err(NodeFault::Broken {
-            since: told.number_at(words, 2),
-        }),
-        _ => Ok(Stamp(told.number_at(words, 1))),
+        "disk-fault" => Answer::DiskFault,
+        "memory" => Answer::Memory,
+        "broken" => Answer::Broken(told.number_at(words, 2)),
+        _ => Answer::Stamp(Stamp(told.number_at(words, 1))),
     };
     (shard, own)
 }
 
 // `SHARD ANSWER`, with strokes between them.
-fn answers_of(words: &[&str], told: &mut Told) -> Vec<(u32, Stamped)> {
+fn answers_of(words: &[&str], told: &mut Told) -> Vec<(u32, Answer)> {
     let mut all = Vec::new(told.alloc);
     let mut at = 0usize;
     for _ in 0..words.len() {
         if at < words.len() {
             let (own, _) = words_around(rest(words, at), "/");
-            let one = answer(own, told);
+            let one = answer_of(own, told);
             told.push(&mut all, one);
             at = at.saturating_add(own.len()).saturating_add(1);
         }
@@ -199,17 +208,14 @@ fn answers_of(words: &[&str], told: &mut Told) -> Vec<(u32, Stamped)> {
 }
 
 // The answer to a lock: the reply that the hash 04 is missing, under a stamp, or a fault.
-fn replied(answer: &Stamped, told: &mut Told) -> Result<Replied, NodeFault> {
-    match answer {
+fn replied(answer: &Answer, told: &mut Told) -> Result<Replied, NodeFault> {
+    match stamped(answer) {
         Ok(stamp) => {
             let mut replies = List::new(told.alloc);
             told.made(replies.push(Reply::Missing(Hash([4; 32]))));
-            Ok(Replied {
-                replies,
-                stamp: *stamp,
-            })
+            Ok(Replied { replies, stamp })
         }
-        Err(fault) => Err(*fault),
+        Err(fault) => Err(fault),
     }
 }
 
@@ -259,7 +265,7 @@ pub fn latest_of(words: &[&str], told: &mut Told) {
     let own = answers_of(words, told);
     let mut stamps = Vec::new(told.alloc);
     for (_, answer) in &own {
-        told.push(&mut stamps, *answer);
+        told.push(&mut stamps, stamped(answer));
     }
     if stamps.len() != own.len() {
         told.refuse("an answer is missing");

@@ -26,7 +26,7 @@ fn slot(known: &Known, words: &[&str], told: &mut Told) -> Option<Slot> {
     let is_locked = kind == "locked";
     let entries = rest(words, if is_locked { 3 } else { 4 });
     let shape = told.given(known.shape())?;
-    let own = told.given(part(known, alloc, &shape, shape.coordinators(), entries))?;
+    let own = part(known, &shape, shape.coordinators(), entries, told);
     let held = told.made(vec![in alloc; Reply::Held; own.len()])?;
     if is_locked {
         return Some(Slot::Locked(number, own, List::from_vec(held), stamp));
@@ -112,12 +112,10 @@ fn tell_answered(entries: &[Answered], told: &mut Told) {
 
 /// `answered LOCK`, and how many entries it has: the entries of the Lock's part, each with its reply, are those of the Lock.
 pub fn entries(known: &Known, words: &[&str], told: &mut Told) {
-    let alloc = told.alloc;
     let Some(shape) = told.given(known.shape()) else {
         return;
     };
-    let own = record(known, alloc, shape.coordinators(), words);
-    match &told.given(own) {
+    match &record(known, shape.coordinators(), words, told) {
         Some(Record::Lock { entries, .. }) => tell_answered(entries.as_slice(), told),
         _ => told.refuse("no Lock"),
     }

@@ -27,18 +27,13 @@ fn tell<W: Wait>(
     text: &str,
     told: &mut Told,
 ) {
-    let alloc = told.alloc;
     match verb {
         Verb::Ledger => ledger(&state.known, &mut state.nodes, words, text, told),
         Verb::Disk => disk(&state.known, &mut state.nodes, words, text, told),
         Verb::Calls => calls(&state.known, words, text, told),
         Verb::Asked => asked(&state.seen, text, told),
-        Verb::Shape => {
-            told.given(shape(&mut state.known, alloc, words));
-        }
-        Verb::Form => {
-            told.given(name_form(&mut state.known, alloc, words));
-        }
+        Verb::Shape => shape(&mut state.known, words, told),
+        Verb::Form => name_form(&mut state.known, words, told),
         Verb::Gate => gate(rt, words, told),
         Verb::Lane => lane(rt, state, words, true, told),
         Verb::Batch => lane(rt, state, words, false, told),

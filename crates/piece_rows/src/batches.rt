@@ -38,9 +38,7 @@ pub fn split_told(state: &State, words: &[&str], told: &mut Told) {
     let Some(shape) = told.given(state.known.shape()) else {
         return;
     };
-    let Some(all) = told.given(txs(&state.known, alloc, words)) else {
-        return;
-    };
+    let all = txs(&state.known, words, told);
     if all.len() > 1024 {
         told.refuse("a batch has no more than 1,024");
         return;

@@ -34,13 +34,10 @@ pub fn hashes(state: &State, words: &[&str], told: &mut Told) {
 
 /// `coin-hash INPUT`, and the hash of that coin; an output has the same.
 pub fn coin_hash(words: &[&str], told: &mut Told) {
-    let alloc = told.alloc;
-    if let Some(all) = told.given(inputs(alloc, words)) {
-        for input in all.as_slice() {
-            told.hash(&input_hash(input));
-            told.line();
-            told.hash(&uhs_id(&input.point.tx, input.point.index, &input.output));
-        }
+    for input in inputs(words, told).as_slice() {
+        told.hash(&input_hash(input));
+        told.line();
+        told.hash(&uhs_id(&input.point.tx, input.point.index, &input.output));
     }
 }
 

@@ -1,6 +1,6 @@
 // The words of a step, read one after another.
 use cbdc_types::{BatchId, Hash, LaneId, List, NodeId, Outcome, Refusal};
-use row_records::{hash, outcome, refusal_of};
+use row_records::{Told, outcome, refusal_of};
 use row_text::{Wrong, rest};
 use std::alloc::{AllocError, Global};
 
@@ -19,19 +19,17 @@ fn name_of(alloc: Global, word: &str) -> Result<String, AllocError> {
 /// Words, and how many of them are read. A word that is missing, or that is not what is read, is told at the end.
 #[derive(Drop)]
 pub struct Reader<'a> {
-    alloc: Global,
     words: &'a [&'a str],
     at: usize,
-    is_good: bool,
+    told: Told,
 }
 
 impl<'a> Reader<'a> {
     pub fn new(alloc: Global, words: &'a [&'a str]) -> Reader<'a> {
         Reader {
-            alloc,
             words,
             at: 0,
-            is_good: true,
+            told: Told::new(alloc),
         }
     }
 
@@ -41,35 +39,22 @@ impl<'a> Reader<'a> {
     }
 
     /// Nothing where all words were read, and each was what it was read as.
-    pub fn end(&self) -> Result<(), Wrong> {
-        if self.is_good && self.at == self.words.len() {
-            Ok(())
-        } else {
-            Err(Wrong::Line("a word is missing, is one too many, or is none that may stand there"))
-        }
+    pub fn end(self) -> Result<(), Wrong> {
+        let Reader { words, at, told } = self;
+        let mut told = told;
+        told.at_most(words, at);
+        told.end()
     }
 
     pub fn word(&mut self) -> &'a str {
-        match self.words.get(self.at) {
-            Some(word) => {
-                self.at = self.at.saturating_add(1);
-                *word
-            }
-            None => {
-                self.is_good = false;
-                ""
-            }
-        }
+        let own = self.told.word_at(self.words, self.at);
+        self.at = self.at.saturating_add(1);
+        own
     }
 
     pub fn number(&mut self) -> u64 {
-        match self.word().parse::<u64>() {
-            Ok(n) => n,
-            Err(_) => {
-                self.is_good = false;
-                0
-            }
-        }
+        let own = self.word();
+        self.told.number_of(own)
     }
 
     /// A number below 256.
@@ -77,7 +62,7 @@ impl<'a> Reader<'a> {
         match self.word().parse::<u8>() {
             Ok(n) => n,
             Err(_) => {
-                self.is_good = false;
+                self.refuse();
                 0
             }
         }
@@ -85,13 +70,8 @@ impl<'a> Reader<'a> {
 
     /// A number below 2^32.
     pub fn small(&mut self) -> u32 {
-        match self.word().parse::<u32>() {
-            Ok(n) => n,
-            Err(_) => {
-                self.is_good = false;
-                0
-            }
-        }
+        let own = self.word();
+        self.told.small_of(own)
     }
 
     /// A number below 2^128.
@@ -99,7 +79,7 @@ impl<'a> Reader<'a> {
         match self.word().parse::<u128>() {
             Ok(n) => n,
             Err(_) => {
-                self.is_good = false;
+                self.refuse();
                 0
             }
         }
@@ -117,63 +97,45 @@ impl<'a> Reader<'a> {
     }
 
     pub fn hash(&mut self) -> Hash {
-        match hash(self.alloc, self.word()) {
-            Ok(x) => x,
-            Err(_) => {
-                self.is_good = false;
-                Hash([0; 32])
-            }
-        }
+        let own = self.word();
+        self.told.hash_of(own)
     }
 
     /// Hashes behind their number.
     pub fn hashes(&mut self) -> List<Hash> {
-        let mut all = List::new(self.alloc);
-        for _ in 0..self.number().min(self.words.len() as u64) {
-            let x = self.hash();
-            if all.push(x).is_err() {
-                self.is_good = false;
+        let many = self.small() as usize;
+        let first = self.at;
+        self.at = first.saturating_add(many);
+        match self.words.get(first..self.at) {
+            Some(own) => self.told.hashes_of(own),
+            None => {
+                self.refuse();
+                List::new(self.told.alloc)
             }
         }
-        all
     }
 
     pub fn outcome(&mut self) -> Outcome {
-        if let Ok((own, behind)) = outcome(self.alloc, self.words, self.at) {
-            self.at = behind;
-            return own;
-        }
-        self.is_good = false;
-        Outcome::Held
+        let (own, behind) = outcome(self.words, self.at, &mut self.told);
+        self.at = behind;
+        own
     }
 
     /// The refusal that all other words are.
     pub fn refusal(&mut self) -> Refusal {
-        match refusal_of(rest(self.words, self.at)) {
-            Ok(why) => {
-                self.at = self.words.len();
-                why
-            }
-            Err(_) => {
-                self.is_good = false;
-                Refusal::NoInputs
-            }
-        }
+        let own = rest(self.words, self.at);
+        self.at = self.words.len();
+        refusal_of(own, &mut self.told)
     }
 
     /// The name of a file: `""` is an empty one, and `_` in it a blank.
     pub fn name(&mut self) -> String {
-        match name_of(self.alloc, self.word()) {
-            Ok(name) => name,
-            Err(_) => {
-                self.is_good = false;
-                String::new(self.alloc)
-            }
-        }
+        let made = name_of(self.told.alloc, self.word());
+        self.told.made(made).unwrap_or(String::new(self.told.alloc))
     }
 
     /// What was read may not stand there.
     pub fn refuse(&mut self) {
-        self.is_good = false;
+        self.told.refuse("a word is none that may stand there");
     }
 }

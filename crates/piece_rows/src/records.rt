@@ -56,14 +56,13 @@ fn check_record(own: &Record, header: &Header, wanted: &[u8], told: &mut Told) {
 /// `record-bytes NODE RECORD.. is PIECE..`, and the size in the journal: these are the bytes of the record, and they are read
 /// as it.
 pub fn record_bytes(state: &State, words: &[&str], told: &mut Told) {
-    let alloc = told.alloc;
     let node = told.small_at(words, 0);
     let Some(header) = told.given(state.known.header(node)) else {
         return;
     };
     let (spelled, pieces) = words_around(rest(words, 1), "is");
     let wanted = bytes_of(state, pieces, told);
-    if let Some(own) = told.given(record(&state.known, alloc, node, spelled)) {
+    if let Some(own) = record(&state.known, node, spelled, told) {
         check_record(&own, &header, &wanted, told);
     }
 }

@@ -18,10 +18,9 @@ use std::alloc::Global;
 
 // `hash NAME HASH`
 fn named_hash(state: &mut State, words: &[&str], told: &mut Told) {
-    let alloc = told.alloc;
     let name = told.word_at(words, 0);
     let own = told.hash_at(words, 1);
-    told.given(name_hash(&mut state.known, alloc, name, &own));
+    name_hash(&mut state.known, name, &own, told);
 }
 
 // `genesis HASH`: the id of a mint of no coins.
@@ -34,20 +33,13 @@ fn genesis(state: &mut State, words: &[&str], told: &mut Told) {
 
 // Does a step that makes something; the words begin with the verb.
 fn tell(state: &mut State, verb: Verb, words: &[&str], block: &Block, told: &mut Told) {
-    let alloc = told.alloc;
     let own = rest(words, 1);
     match verb {
         Verb::Hash => named_hash(state, own, told),
-        Verb::Shape => {
-            told.given(shape(&mut state.known, alloc, own));
-        }
+        Verb::Shape => shape(&mut state.known, own, told),
         Verb::Genesis => genesis(state, own, told),
-        Verb::Tx => {
-            told.given(name_tx(&mut state.known, alloc, own));
-        }
-        Verb::Form => {
-            told.given(name_form(&mut state.known, alloc, own));
-        }
+        Verb::Tx => name_tx(&mut state.known, own, told),
+        Verb::Form => name_form(&mut state.known, own, told),
         Verb::Bytes => bytes(state, own, told),
         Verb::Text => text(state, own, block.text.as_str(), told),
         Verb::Fault => {

@@ -1,7 +1,7 @@
 // The words of a step. Where one is none that the step may have, that is kept, and 0 or nothing stands for it.
 use crate::told::Told;
 use crate::words::{hash, small};
-use cbdc_types::{BatchId, Hash, LaneId};
+use cbdc_types::{BatchId, Hash, LaneId, List};
 use row_text::{number, words_around};
 
 impl Told {
@@ -16,23 +16,68 @@ impl Told {
         }
     }
 
+    /// The number that a word is.
+    pub fn number_of(&mut self, word: &str) -> u64 {
+        self.given(number(word)).unwrap_or(0)
+    }
+
     /// The number at a place.
     pub fn number_at(&mut self, words: &[&str], at: usize) -> u64 {
         let own = self.word_at(words, at);
-        self.given(number(own)).unwrap_or(0)
+        self.number_of(own)
+    }
+
+    /// The number below 2^32 that a word is.
+    pub fn small_of(&mut self, word: &str) -> u32 {
+        self.given(small(word)).unwrap_or(0)
     }
 
     /// The number below 2^32 at a place.
     pub fn small_at(&mut self, words: &[&str], at: usize) -> u32 {
         let own = self.word_at(words, at);
-        self.given(small(own)).unwrap_or(0)
+        self.small_of(own)
+    }
+
+    /// The hash that a word is.
+    pub fn hash_of(&mut self, word: &str) -> Hash {
+        let came = hash(self.alloc, word);
+        self.given(came).unwrap_or(Hash([0; 32]))
     }
 
     /// The hash at a place.
     pub fn hash_at(&mut self, words: &[&str], at: usize) -> Hash {
         let own = self.word_at(words, at);
-        let came = hash(self.alloc, own);
-        self.given(came).unwrap_or(Hash([0; 32]))
+        self.hash_of(own)
+    }
+
+    /// The hashes that words are.
+    pub fn hashes_of(&mut self, words: &[&str]) -> List<Hash> {
+        let mut all = Vec::new(self.alloc);
+        for word in words {
+            let x = self.hash_of(word);
+            self.push(&mut all, x);
+        }
+        List::from_vec(all)
+    }
+
+    /// Decisions: `+` and `-`.
+    pub fn decisions(&mut self, words: &[&str]) -> List<bool> {
+        let mut all = Vec::new(self.alloc);
+        for word in words {
+            let is_plus = *word == "+";
+            if !is_plus && *word != "-" {
+                self.refuse("a decision is + or -");
+            }
+            self.push(&mut all, is_plus);
+        }
+        List::from_vec(all)
+    }
+
+    /// The words of a line.
+    pub fn words_of<'a>(&mut self, line: &'a str) -> Vec<&'a str> {
+        let alloc = self.alloc;
+        self.made(line.split_whitespace().collect::<Vec<&str>>(alloc))
+            .unwrap_or(Vec::new(alloc))
     }
 
     /// The lane at a place.

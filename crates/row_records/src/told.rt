@@ -1,6 +1,5 @@
 // What a step is answered, and how it is compared.
-use crate::refusals::put_refusal;
-use crate::words::put_hash_word;
+use crate::refusals::word_of_refusal;
 use cbdc_types::{BatchId, Hash, Outcome, Record, Refusal, Reply, Status};
 use row_text::{Wrong, check_text, differ, put_word};
 use std::alloc::Global;
@@ -135,9 +134,14 @@ impl Told {
         }
     }
 
+    /// A hash as rows spell it: two digits where it repeats a byte.
     pub fn hash(&mut self, x: &Hash) {
-        let done = put_hash_word(self.alloc, &mut self.text, x);
-        self.made(done);
+        let first = x.0[0];
+        if x.0 == [first; 32] {
+            self.digits(&[first]);
+        } else {
+            self.digits(x.0.as_slice());
+        }
     }
 
     pub fn hashes(&mut self, all: &[Hash]) {
@@ -206,8 +210,14 @@ impl Told {
 
     /// The refusal of a transaction.
     pub fn refusal(&mut self, why: &Refusal) {
-        let done = put_refusal(self.alloc, &mut self.text, why);
-        self.made(done);
+        let (word, first, second) = word_of_refusal(why);
+        self.word(word);
+        if let Some(n) = first {
+            self.number(n);
+        }
+        if let Some(n) = second {
+            self.number(n);
+        }
     }
 
     /// A record in a line, with all that it has.

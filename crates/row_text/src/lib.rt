@@ -14,4 +14,4 @@ pub use spelling::{
     count, hex_of, number, place_of, put_coin, put_coins, put_count, put_inputs, put_number,
     put_witnesses, put_word, rest, word, words_around, write_over,
 };
-pub use wrong::{Wrong, check_text, check_words, check_yes, differ};
+pub use wrong::{Wrong, check_text, differ};
