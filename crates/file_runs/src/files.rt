@@ -33,7 +33,7 @@ pub struct FilesRun<D: Disk> {
 }
 
 /// Runs client files over the nodes of a ledger with no open batch, one after another. The first fault ends it.
-pub fn run_files<W: Wait + Threads + Sync, D: Disk + Send, V: Verifier, G: Gate + Sync>(
+pub fn run_files<W: Wait + Threads + Sync, D: Disk + Send, V: Verifier + Sync, G: Gate + Sync>(
     rt: &W,
     alloc: Global,
     ledger: Ledger<D>,

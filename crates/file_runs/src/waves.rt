@@ -22,7 +22,7 @@ use outside::{Disk, Gate};
 use std::alloc::{AllocError, Global};
 use std::sync::Wait;
 use std::thread::Threads;
-use submissions::{Checked, Submitted, check_all};
+use submissions::{Checked, Submitted, check_all_beside};
 use verifier_port::Verifier;
 
 /// A client file that was run: each submission in order, and the lanes with what was decided.
@@ -52,7 +52,7 @@ fn lanes_of(alloc: Global, lists: Vec<Vec<CompactTx>>) -> Result<Vec<Lane>, Allo
 
 /// Runs the submissions of a client file over the nodes of a ledger with no open batch. The fault of the least lane that meets
 /// one ends it, once the others have run what they got.
-pub fn run_file<W: Wait + Threads + Sync, D: Disk + Send, V: Verifier, G: Gate + Sync>(
+pub fn run_file<W: Wait + Threads + Sync, D: Disk + Send, V: Verifier + Sync, G: Gate + Sync>(
     rt: &W,
     alloc: Global,
     ledger: Ledger<D>,
@@ -103,7 +103,13 @@ pub fn run_file<W: Wait + Threads + Sync, D: Disk + Send, V: Verifier, G: Gate +
     // It is that of the least lane that met one: each lesser lane has run all that the file sends it.
     ensures least { IfErr result.came (EndsFile ledger.header.shape (V.verdict_of verifier.now) txs.now (journals D.count D.limit ledger) (journals D.count D.limit result.ledger) (HaveFailed (opened D.count D.limit result.ledger) (faults D.count D.limit result.ledger)) (MayHold (capacity D.count D.limit result.ledger))) }
 {
-    let Ok(Submitted { checked, lanes }) = check_all(alloc, txs, ledger.shape(), verifier) else {
+    let Ok(Submitted { checked, lanes }) = check_all_beside(
+        rt,
+        alloc,
+        txs,
+        ledger.shape(),
+        verifier,
+    ) else {
         return FileRun {
             ledger,
             came: Err(no_memory()),

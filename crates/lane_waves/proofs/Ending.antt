@@ -1,6 +1,6 @@
 -- What comes of lanes that have run and given their seats back.
 use Rattle.std.proofs.Common.{◌≡◌, inl, inr, ℕ, zero, suc, ◌<◌, ◌≤◌, false, List, [], ◌∷◌, ◌++◌, length, reverse, Option, Some, None, Result, Ok, Err, append-nil, refl, sym, ap, ◌∙◌, subst, arith}
-use Rattle.std.specs.Prelude.{All, IfSome, slice_index_or}
+use Rattle.std.specs.Prelude.{All, slice_index_or}
 use Rattle.std.specs.List.{AllZip}
 use Rattle.std.specs.Global.{Vec}
 use Rattle.std.proofs.lemmas.List.{reverse-reverse}
@@ -30,7 +30,7 @@ use Rattle.shard_fanout.specs.declared.tables.Locks.{Ghosts}
 use Rattle.shard_fanout.proofs.Seating.{seen_here}
 use Rattle.thread_laws.specs.Closing.{IsHand}
 use Rattle.thread_laws.specs.Running.{LaneRan}
-use Rattle.thread_laws.specs.Whole.{no_memory, HasEnded}
+use Rattle.thread_laws.specs.Whole.{HasEnded}
 use Rattle.wave_lanes.specs.Held.{AreOfLane, Begins, Ends, HasRun, log_of, logs_of, shards_of}
 use Rattle.wave_lanes.specs.Ports.{seats_of}
 use Rattle.wave_lanes.specs.declared.runs.LaneRun.{LaneRun}
@@ -40,7 +40,7 @@ use Rattle.lane_waves.specs.Lanes.{IsReady}
 use Rattle.lane_waves.specs.Places.{BothFrom}
 use Rattle.lane_waves.specs.Deals.{AreOpen, log_at, shard_at, IsSetUp, HaveSeats}
 use Rattle.lane_waves.specs.declared.dealing.Table.{Table}
-use Rattle.lane_waves.specs.Gathers.{AreSeats, AllOver, AllOf, AllGave, IsEnd, MayKeep, Chunks, shard_seats, home_seat}
+use Rattle.lane_waves.specs.Gathers.{AreSeats, AllOver, AllOf, AllGave, IsEnd, MayKeep, shard_seats, home_seat}
 use Rattle.lane_waves.proofs.Places.{Down, down, up}
 use Rattle.lane_waves.proofs.Keeping.{reported_many}
 use Rattle.lane_waves.proofs.Homes.{hand_among, down_at, HomesHold, SeatsAt}
@@ -65,6 +65,19 @@ module _ {W D B : Type 0} {G : Ghosts B} (count limit : D → ℕ) where
   port_sits lane (p ∷ ps) [] a l s lt = absurd a
   port_sits lane (p ∷ ps) (row ∷ rows) a l zero lt = (knows p.seat, hand_among p.seat row.items a.0, All-head (λ q. (knows q.seat).lane ≡ lane) p ps l, λ f. (opening_sight (shard_sight count limit) (first_of p.seat), refl))
   port_sits lane (p ∷ ps) (row ∷ rows) a l (suc s) lt = port_sits lane ps rows a.1 (All-tail (λ q. (knows q.seat).lane ≡ lane) p ps l) s (omega (arith, lt))
+
+module _ {W D B : Type 0} {G : Ghosts B} (count limit : D → ℕ) (tables : ℕ → TableId) (K : Shape) where
+  pub ends_zip : (rs qs : List (LaneRun W D B G)) → length qs ≡ length rs → ((i : ℕ) (d : LaneRun W D B G) → i < length rs → Ends count limit tables K (slice_index_or rs i d) (slice_index_or qs i d)) → AllZip (Ends count limit tables K) rs qs
+  ends_zip [] [] e f = tt
+  ends_zip [] (q ∷ qs) e f = absurd (let z = e in omega (arith, z))
+  ends_zip (r ∷ rs) [] e f = absurd (let z = e in omega (arith, z))
+  ends_zip (r ∷ rs) (q ∷ qs) e f = (f 0 r (omega arith), ends_zip rs qs (let z = e in omega (arith, z)) (λ i d lt. f (suc i) d (omega (arith, lt))))
+
+  pub zip_many : (rs qs : List (LaneRun W D B G)) → AllZip (Ends count limit tables K) rs qs → length rs ≡ length qs
+  zip_many [] [] z = refl
+  zip_many [] (q ∷ qs) z = absurd z
+  zip_many (r ∷ rs) [] z = absurd z
+  zip_many (r ∷ rs) (q ∷ qs) z = let e = zip_many rs qs z.1 in omega (arith, e)
 
 module _ {W D B : Type 0} {G : Ghosts B} (count limit : D → ℕ) (tables : ℕ → TableId) (K : Shape) (gs : List (Guarded (SharedLog D))) (hs : List (Guarded (SharedShard D))) where
   -- what came of a run is known, and the lane has room for it
@@ -96,7 +109,7 @@ module _ {W D B : Type 0} {G : Ghosts B} (count limit : D → ℕ) (tables : ℕ
             done = subst (λ n. AreDone K false n y.txs.items log shards (reverse report.batches) [] log' shards') l (subst (λ ts. AreDone K false r.lane ts log shards (reverse report.batches) [] log' shards') txs (k.batches settled.0 settled.1));
             reported = subst (λ n. IsReported n K.batch y.txs.items [] report.batches) l (subst (λ ts. IsReported r.lane K.batch ts [] report.batches) txs k.named);
           },
-          ((λ z a b. (e.kept, e.count)), λ z. subst (λ f. IfSome f (λ g. g ≡ no_memory)) (sym none) tt),
+          (none, λ a b. (e.kept, e.count)),
         ),
       )
   ended_of lane x y r q l settled w (Some (Err fault)) k e =
@@ -125,25 +138,13 @@ module _ {W D B : Type 0} {G : Ghosts B} (count limit : D → ℕ) (tables : ℕ
   Runs (x ∷ xs) (r ∷ rs) (q ∷ qs) = IsRun (length qs) x r q × Runs xs rs qs
   Runs xs rs qs = ⊥
 
-  pub ends_zip : (rs qs : List (LaneRun W D B G)) → length qs ≡ length rs → ((i : ℕ) (d : LaneRun W D B G) → i < length rs → Ends count limit tables K (slice_index_or rs i d) (slice_index_or qs i d)) → AllZip (Ends count limit tables K) rs qs
-  ends_zip [] [] e f = tt
-  ends_zip [] (q ∷ qs) e f = absurd (let z = e in omega (arith, z))
-  ends_zip (r ∷ rs) [] e f = absurd (let z = e in omega (arith, z))
-  ends_zip (r ∷ rs) (q ∷ qs) e f = (f 0 r (omega arith), ends_zip rs qs (let z = e in omega (arith, z)) (λ i d lt. f (suc i) d (omega (arith, lt))))
-
-  zip_many : (rs qs : List (LaneRun W D B G)) → AllZip (Ends count limit tables K) rs qs → length rs ≡ length qs
-  zip_many [] [] z = refl
-  zip_many [] (q ∷ qs) z = absurd z
-  zip_many (r ∷ rs) [] z = absurd z
-  zip_many (r ∷ rs) (q ∷ qs) z = let e = zip_many rs qs z.1 in omega (arith, e)
-
   runs_down : (xs : List Lane) (rs qs : List (LaneRun W D B G)) → Down (IsSetUp count limit tables K gs hs) xs rs → AllZip (Ends count limit tables K) rs qs → Runs xs rs qs
   runs_down [] [] [] d z = tt
   runs_down [] [] (q ∷ qs) d z = absurd z
   runs_down [] (r ∷ rs) qs d z = absurd d
   runs_down (x ∷ xs) [] qs d z = absurd d
   runs_down (x ∷ xs) (r ∷ rs) [] d z = absurd z
-  runs_down (x ∷ xs) (r ∷ rs) (q ∷ qs) d z = (record { set_up = subst (λ n. IsSetUp count limit tables K gs hs n x r) (zip_many rs qs z.1) d.0; ends = z.0 }, runs_down xs rs qs d.1 z.1)
+  runs_down (x ∷ xs) (r ∷ rs) (q ∷ qs) d z = (record { set_up = subst (λ n. IsSetUp count limit tables K gs hs n x r) (zip_many count limit tables K rs qs z.1) d.0; ends = z.0 }, runs_down xs rs qs d.1 z.1)
 
   pub runs_of : (lanes : List Lane) (rs qs : List (LaneRun W D B G)) → BothFrom (IsSetUp count limit tables K gs hs) 0 lanes (reverse rs) → AllZip (Ends count limit tables K) rs qs → Runs (reverse lanes) rs qs
   runs_of lanes rs qs b z = runs_down (reverse lanes) rs qs (down (IsSetUp count limit tables K gs hs) (reverse lanes) rs (subst (λ xs. BothFrom (IsSetUp count limit tables K gs hs) 0 xs (reverse rs)) (sym (reverse-reverse lanes)) b)) z
@@ -292,6 +293,3 @@ module _ {W D B : Type 0} {G : Ghosts B} where
 
   pub ends_are : (news gone : List (LaneRun W D B G)) (xs : List Lane) → news ≡ gone → AllZip (λ (r : LaneRun W D B G) (x : Lane). IsEnd r.work r.came x) gone xs → AllZip (λ (r : LaneRun W D B G) (x : Lane). IsEnd r.work r.came x) news xs
   ends_are news gone xs e z = subst (λ rs. AllZip (λ (r : LaneRun W D B G) (x : Lane). IsEnd r.work r.came x) rs xs) (sym e) z
-
-  pub chunks_are : (l n : ℕ) (owns : List (Vec (Seat (SharedLog D)))) (rs news : List (LaneRun W D B G)) → l ≡ n → rs ≡ news → Chunks l owns rs → Chunks n owns news
-  chunks_are l n owns rs news e f c = subst (λ xs. Chunks n owns xs) f (subst (λ m. Chunks m owns rs) e c)

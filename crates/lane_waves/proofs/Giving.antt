@@ -14,12 +14,12 @@ use Rattle.shard_fanout.specs.declared.tables.Locks.{Ghosts}
 use Rattle.wave_ends.specs.Dealing.{PopsEach, HaveRoom}
 use Rattle.wave_ends.specs.Rows.{AreLeft, AreBack, AreOf}
 use Rattle.wave_ends.proofs.Passing.{gathers}
+use Rattle.wave_ends.proofs.Closing.{last_first}
 use Rattle.wave_lanes.specs.Ports.{seats_of}
 use Rattle.wave_lanes.specs.declared.runs.LaneRun.{LaneRun}
 use Rattle.lane_waves.specs.Deals.{EachHolds}
 use Rattle.lane_waves.specs.Gathers.{IsSeat, AreSeats, EachTakes, IsOver, AllOver, IsEnd, IsBack, AreHome, AllGave, AllOf, Gathered, Chunks, shard_seats, home_seat}
 use Rattle.lane_waves.specs.declared.dealing.Table.{Table}
-use Rattle.lane_waves.proofs.Places.{last_first}
 
 module _ {T : Type 0} where
   pub takes_room : (n : ℕ) (rs : List (Vec T)) → 0 < n → EachTakes n rs → HaveRoom rs

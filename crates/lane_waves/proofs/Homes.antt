@@ -11,11 +11,12 @@ use Rattle.shard_fanout.specs.declared.coordinators.SharedLog.{SharedLog}
 use Rattle.shard_fanout.specs.declared.tables.Locks.{Ghosts}
 use Rattle.thread_laws.specs.Closing.{IsHand}
 use Rattle.wave_ends.specs.Rows.{AreReady}
+use Rattle.wave_ends.proofs.Closing.{first_last}
 use Rattle.wave_lanes.specs.declared.runs.LaneRun.{LaneRun}
 use Rattle.wave_records.specs.Among.{hands_at}
 use Rattle.lane_waves.specs.Gathers.{IsSeat, Chunks, home_seat}
 use Rattle.lane_waves.specs.Places.{AllFrom}
-use Rattle.lane_waves.proofs.Places.{all_more, first_last, turned_many, zero_row}
+use Rattle.lane_waves.proofs.Places.{all_more, turned_many, zero_row}
 use Rattle.lane_waves.proofs.Giving.{keeps_seat, last_seat}
 
 module _ {N : Type 0} where

@@ -6,7 +6,8 @@ use Rattle.lane_driver.specs.Reports.{CutFrom, AreReports, IsReported}
 use Rattle.lane_driver.specs.declared.fault.BatchReport.{BatchReport}
 use Rattle.ledger_runs.specs.Telling.{decided_in}
 use Rattle.thread_laws.specs.Telling.{told_in}
-use Rattle.lane_waves.proofs.Places.{first_last, append_many}
+use Rattle.wave_ends.proofs.Closing.{first_last}
+use Rattle.lane_waves.proofs.Places.{append_many}
 
 -- a write that a function does not see
 pub map_set : {A B : Type 0} (f : A → B) (xs : List A) (i : ℕ) (y d : A) → i < length xs → f y ≡ f (get_or xs i d) → map f (set xs i y) ≡ map f xs

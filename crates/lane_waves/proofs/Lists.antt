@@ -11,7 +11,7 @@ use Rattle.cbdc_model.specs.Records.{Shape}
 use Rattle.shard_fanout.specs.Nodes.{log_sight}
 use Rattle.shard_fanout.specs.declared.coordinators.SharedLog.{SharedLog}
 use Rattle.wave_ends.specs.Dealing.{PopsEach, HaveOne}
-use Rattle.wave_ends.specs.Rows.{AreLeft, AreDealt}
+use Rattle.wave_ends.specs.Rows.{AreLeft}
 use Rattle.wave_ends.proofs.Locking.{fresh_at}
 use Rattle.wave_ends.proofs.Passing.{fresh_last, HaveLanes}
 use Rattle.lane_waves.specs.Places.{AllFrom}
@@ -51,12 +51,6 @@ module _ {N : Type 0} (sight : N → Sight) where
   left_some ls (g ∷ gs) (r ∷ rs) some k =
       let e = (fresh_at sight (sight (opening_of g)) (opening_of g) g ls r.items k.0).1 in
       (omega (arith, some, e), left_some ls gs rs some k.1)
-
-  pub dealt_many : (l : ℕ) (gs : List (Guarded N)) (ss : List (Seat N)) → AreDealt sight l gs ss → length ss ≡ length gs
-  dealt_many l [] [] k = refl
-  dealt_many l [] (s ∷ ss) k = absurd k
-  dealt_many l (g ∷ gs) [] k = absurd k
-  dealt_many l (g ∷ gs) (s ∷ ss) k = let e = dealt_many l gs ss k.1 in omega (arith, e)
 
 -- the last seat that is left of a coordinator is that of its last lane that is left
 pub home_last : {D : Type 0} (K : Shape) (home : ℕ) (gs : List (Guarded (SharedLog D))) (own rest : List (Seat (SharedLog D))) (seat : Seat (SharedLog D)) → IsHomeLeft K home gs own → own ≡ rest ++ seat ∷ []

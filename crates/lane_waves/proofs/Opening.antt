@@ -24,7 +24,7 @@ use Rattle.lane_waves.specs.Places.{AllFrom, BothFrom}
 use Rattle.lane_waves.specs.Rows.{lanes_from, home_lanes, all_lanes}
 use Rattle.lane_waves.specs.Deals.{IsOpenAt, AreOpen, log_at, shard_at, IsHomeFresh}
 use Rattle.lane_waves.specs.Waves.{AreNodesOf}
-use Rattle.lane_waves.proofs.Places.{all_from, both_at}
+use Rattle.lane_waves.proofs.Places.{all_from, both_at, get_within, get_there}
 use Rattle.lane_waves.proofs.Numbers.{many_lanes}
 
 -- what is seen at a place
@@ -186,18 +186,8 @@ pub homes_fresh : {D : Type 0} (K : Shape) (gs : List (Guarded (SharedLog D))) (
 homes_fresh K gs ss b many = all_from (IsHomeFresh K gs) 0 ss (λ i s e.
     let whole : (g : _) → slice_get gs (0 + i) ≡ Some g → AreFresh (log_sight (opening_of g)) (opening_of g) (table_of g) (home_lanes K (0 + i)) s.items =
     λ g there. let same : 0 + i ≡ i = omega arith in (both_at (FreshAt log_sight (home_lanes K)) 0 gs ss i g s b (subst (λ (j : ℕ). slice_get gs j ≡ Some g) same there) e).0 in
-    let lt = (seat_get ss i s e) in
-    let got = got_at gs i (omega (arith, lt, many)) in
+    let lt = (get_within ss i s e) in
+    let got = get_there gs i (omega (arith, lt, many)) in
     let same : i ≡ 0 + i = omega arith in
     let n : length s.items ≡ K.lanes = (fresh_at log_sight (log_sight (opening_of got.0)) (opening_of got.0) got.0 (home_lanes K (0 + i)) s.items (whole got.0 (subst (λ (j : ℕ). slice_get gs j ≡ Some got.0) same got.1))).1 ∙ many_lanes ((0 + i) * K.lanes) K.lanes in
     (n, λ g there. subst (λ m. AreFresh (log_sight (opening_of g)) (opening_of g) (table_of g) (lanes_from ((0 + i) * K.lanes) m) s.items) (sym n) (whole g there)))
-  where
-    seat_get : {A : Type 0} (xs : List A) (i : ℕ) (x : A) → slice_get xs i ≡ Some x → i < length xs
-    seat_get [] i x e = absurd (let z : None ≡ Some x = e in cc)
-    seat_get (y ∷ xs) zero x e = omega arith
-    seat_get (y ∷ xs) (suc i) x e = let lt = seat_get xs i x e in omega (arith, lt)
-
-    got_at : {A : Type 0} (xs : List A) (i : ℕ) → i < length xs → (x : A) × (slice_get xs i ≡ Some x)
-    got_at [] i lt = absurd (let z : i < 0 = lt in omega (arith, z))
-    got_at (y ∷ xs) zero lt = (y, refl)
-    got_at (y ∷ xs) (suc i) lt = got_at xs i (omega (arith, lt))

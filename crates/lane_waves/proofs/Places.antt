@@ -1,15 +1,12 @@
 -- Lists by the numbers of their places.
-use Rattle.std.proofs.Common.{◌≡◌, ℕ, zero, suc, ◌+◌, ◌*◌, List, [], ◌∷◌, ◌++◌, length, reverse, take, drop, Some, None, refl, sym, ap, ◌∙◌, subst, arith}
-use Rattle.std.specs.Prelude.{slice_get}
+use Rattle.std.proofs.Common.{◌≡◌, ℕ, zero, suc, ◌+◌, ◌*◌, ◌<◌, List, [], ◌∷◌, ◌++◌, length, reverse, take, drop, Some, None, refl, sym, ap, ◌∙◌, subst, arith}
+use Rattle.std.specs.Prelude.{All, slice_get, vec_len}
+use Rattle.std.specs.Global.{Vec}
 use Rattle.std.proofs.lemmas.Grind.{common_steps}
-use Rattle.std.proofs.lemmas.List.{reverse-append, length-reverse, take_at}
+use Rattle.std.proofs.lemmas.List.{length-reverse, take_at}
+use Rattle.std.proofs.lemmas.List.Elements.{All-head, All-tail}
+use Rattle.wave_ends.proofs.Closing.{first_last}
 use Rattle.lane_waves.specs.Places.{AllFrom, BothFrom}
-
-pub last_first : {A : Type 0} (xs ys : List A) (x : A) → ys ≡ xs ++ x ∷ [] → reverse ys ≡ x ∷ reverse xs
-last_first xs ys x e = ap reverse e ∙ reverse-append xs (x ∷ [])
-
-pub first_last : {A : Type 0} (x : A) (xs : List A) → reverse (x ∷ xs) ≡ reverse xs ++ x ∷ []
-first_last x xs = reverse-append (x ∷ []) xs
 
 pub one_more : {A : Type 0} (k : ℕ) (y : A) (xs : List A) → k + length (y ∷ xs) ≡ suc k + length xs
 one_more k y xs = omega arith
@@ -108,12 +105,21 @@ snoc_many xs ys x e = ap (λ (zs : List _). length zs) e ∙ more ys x
     more : {A : Type 0} (zs : List A) (z : A) → length (zs ++ z ∷ []) ≡ length zs + 1
     more zs z = grind (arith, common_steps)
 
+pub pushed_many : {A : Type 0} (u v : Vec A) → vec_len u ≡ vec_len v + 1 → length u.items ≡ length v.items + 1
+pushed_many u v e = let a = u.ok.0 in let b = v.ok.0 in omega (arith, e, a, b)
+
+pub as_many : {A B : Type 0} (u : Vec A) (v : Vec B) → length u.items ≡ length v.items → vec_len u ≡ vec_len v
+as_many u v e = let a = u.ok.0 in let b = v.ok.0 in omega (arith, e, a, b)
+
 pub append_many : {A : Type 0} (xs ys : List A) → length (xs ++ ys) ≡ length xs + length ys
 append_many xs ys = grind (arith, common_steps)
 
 pub none_long : {A : Type 0} (xs : List A) → length xs ≡ 0 → xs ≡ []
 none_long [] e = refl
 none_long (x ∷ xs) e = absurd (let z = e in omega (arith, z))
+
+pub no_items : {A : Type 0} (v : Vec A) → v.items ≡ [] → vec_len v ≡ 0
+no_items v e = let many : length v.items ≡ 0 = ap (λ (xs : List _). length xs) e in let ok = v.ok.0 in omega (arith, many, ok)
 
 pub next_row : (c m n : ℕ) → m ≡ c + 1 → m * n ≡ c * n + n
 next_row c m n e = ap (λ k. k * n) e ∙ more c n
@@ -123,6 +129,22 @@ next_row c m n e = ap (λ k. k * n) e ∙ more c n
 
 pub zero_row : (n : ℕ) → 0 * n ≡ 0
 zero_row n = omega arith
+
+-- an item at a place
+pub get_within : {A : Type 0} (xs : List A) (i : ℕ) (x : A) → slice_get xs i ≡ Some x → i < length xs
+get_within [] i x e = absurd (let z : None ≡ Some x = e in cc)
+get_within (y ∷ xs) zero x e = omega arith
+get_within (y ∷ xs) (suc i) x e = let lt = get_within xs i x e in omega (arith, lt)
+
+pub get_there : {A : Type 0} (xs : List A) (i : ℕ) → i < length xs → (x : A) × (slice_get xs i ≡ Some x)
+get_there [] i lt = absurd (let z : i < 0 = lt in omega (arith, z))
+get_there (y ∷ xs) zero lt = (y, refl)
+get_there (y ∷ xs) (suc i) lt = get_there xs i (omega (arith, lt))
+
+pub get_all : {A : Type 0} (P : A → Type 0) (xs : List A) (n : ℕ) (x : A) → All P xs → slice_get xs n ≡ Some x → P x
+get_all P [] n x a e = absurd (let z : None ≡ Some x = e in cc)
+get_all P (y ∷ xs) zero x a e = let same : y ≡ x = let z : Some y ≡ Some x = e in cc in subst P same (All-head P y xs a)
+get_all P (y ∷ xs) (suc n) x a e = get_all P xs n x (All-tail P y xs a) e
 
 -- from the first on
 pub all_here : {A : Type 0} (P : ℕ → A → Type 0) (xs : List A) (n : ℕ) (x : A) → AllFrom P 0 xs → slice_get xs n ≡ Some x → P n x

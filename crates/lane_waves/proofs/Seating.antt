@@ -26,13 +26,14 @@ use Rattle.shard_fanout.specs.declared.seated.ShardSeat.{ShardSeat}
 use Rattle.shard_fanout.specs.declared.tables.Locks.{Ghosts}
 use Rattle.shard_fanout.proofs.Seating.{seen_here}
 use Rattle.wave_ends.specs.Rows.{AreDealt}
+use Rattle.wave_ends.proofs.Closing.{last_first}
 use Rattle.wave_lanes.specs.Held.{AreOfLane, log_of, shards_of}
 use Rattle.wave_lanes.specs.Ports.{ArePorts, AtTables, AreOpened}
 use Rattle.wave_lanes.specs.declared.runs.LaneRun.{LaneRun}
 use Rattle.lane_waves.specs.Places.{AllFrom, BothFrom}
 use Rattle.lane_waves.specs.Deals.{MayRun, started, IsOpenAt, AreOpen, log_at, shard_at, IsSetUp, HaveSeats, IsNext}
 use Rattle.lane_waves.specs.declared.dealing.Table.{Table}
-use Rattle.lane_waves.proofs.Places.{last_first, all_here}
+use Rattle.lane_waves.proofs.Places.{all_here, get_there}
 use Rattle.lane_waves.proofs.Opening.{seen_get}
 
 module _ {N : Type 0} (sight : N → Sight) where
@@ -146,7 +147,7 @@ module _ {W D B : Type 0} {G : Ghosts B} (count limit : D → ℕ) (tables : ℕ
               ∙ (ap (λ (v : Sight). (slot v.seen r.lane).phase) r_seen ∙ (ap (λ (v : Sight). (slot v.seen r.lane).phase) (sym at_home) ∙ (ap (λ l. (slot (log_at gs (home_of K lane)).seen l).phase) lane_is ∙ rest.1.idle)));
           count_is = ports_many count limit hs ss r.ports.shards.each.ports.items ports ∙ open_.shards_many;
           ledger = λ s lt.
-              let got = shard_get hs s (subst (λ n. s < n) (sym open_.shards_many) lt) in
+              let got = get_there hs s (subst (λ n. s < n) (sym open_.shards_many) lt) in
               let at = all_here (λ n x. IsOpenAt K (shard_node K n) (shard_sight count limit (opening_of x))) hs s got.0 open_.shards got.1 in
               let is : shards_of count limit tables K r s ≡ started lane (shard_sight count limit (opening_of got.0)) = shards_seen s ∙ ap (started lane) (seen_get (λ x. shard_sight count limit (opening_of x)) hs s got.0 got.1).0 in
               (ap (λ (v : Sight). v.header.shape) is ∙ at.shape, ap (λ (v : Sight). v.header.node) is ∙ at.node);
@@ -160,11 +161,6 @@ module _ {W D B : Type 0} {G : Ghosts B} (count limit : D → ℕ) (tables : ℕ
         log = log_seen;
         shards = shards_seen;
       }
-    where
-      shard_get : (xs : List (Guarded (SharedShard D))) (i : ℕ) → i < length xs → (x : Guarded (SharedShard D)) × (slice_get xs i ≡ Some x)
-      shard_get [] i lt = absurd (let z : i < 0 = lt in omega (arith, z))
-      shard_get (y ∷ xs) zero lt = (y, refl)
-      shard_get (y ∷ xs) (suc i) lt = shard_get xs i (omega (arith, lt))
 
   -- one lane more has its seats
   pub seats_more : (n : ℕ) (all : List Lane) (home : LogSeat W D B G) (t u : Table W D B G) (next : IsNext count limit hs home t u) → IsSetUp count limit tables K gs hs n next.run.work next.run

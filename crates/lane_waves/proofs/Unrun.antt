@@ -1,5 +1,6 @@
 -- Where memory was wanting before the first call: each node's lock says that nothing was done, and each lane has stopped for it.
 use Rattle.std.proofs.Common.{◌≡◌, inl, inr, ℕ, zero, suc, ◌+◌, ◌<◌, ◌≤◌, Bool, true, false, eqb, List, [], ◌∷◌, ◌++◌, map, Some, None, refl, sym, ap, ◌∙◌, subst, arith}
+use Rattle.std.specs.Prelude.{slice_get}
 use Rattle.cbdc_model.specs.Records.{Shape}
 use Rattle.cbdc_model.specs.Ranges.{home_of}
 use Rattle.cbdc_model.specs.Sights.{Sight}
@@ -85,3 +86,16 @@ unrun K logs shards log_hands shard_hands lane x y settled at_home at_shards pas
   txs = ap (λ v. v.items) txs;
   ended = inr (no_memory, (λ k t. inl (refl, refl, refl)), ((λ none. let z : None ≡ Some no_memory = sym none ∙ stopped in cc), λ old. stopped));
 }
+
+-- lanes with the same transactions
+pub same_txs : (xs ys : List Lane) (n : ℕ) (x y : Lane) → map (λ (z : Lane). z.txs) ys ≡ map (λ (z : Lane). z.txs) xs → slice_get xs n ≡ Some x → slice_get ys n ≡ Some y → y.txs ≡ x.txs
+same_txs [] ys n x y e f h = absurd (let z : None ≡ Some x = f in cc)
+same_txs (v ∷ xs) [] n x y e f h = absurd (let z : None ≡ Some y = h in cc)
+same_txs (v ∷ xs) (w ∷ ys) zero x y e f h =
+    let a : v ≡ x = let z : Some v ≡ Some x = f in cc in
+    let b : w ≡ y = let z : Some w ≡ Some y = h in cc in
+    let c : w.txs ≡ v.txs = let z : w.txs ∷ map (λ (u : Lane). u.txs) ys ≡ v.txs ∷ map (λ (u : Lane). u.txs) xs = e in cc in
+    sym (ap (λ (z : Lane). z.txs) b) ∙ (c ∙ ap (λ (z : Lane). z.txs) a)
+same_txs (v ∷ xs) (w ∷ ys) (suc n) x y e f h =
+    let c : map (λ (u : Lane). u.txs) ys ≡ map (λ (u : Lane). u.txs) xs = let z : w.txs ∷ map (λ (u : Lane). u.txs) ys ≡ v.txs ∷ map (λ (u : Lane). u.txs) xs = e in cc in
+    same_txs xs ys n x y c f h

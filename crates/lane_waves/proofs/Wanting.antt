@@ -1,8 +1,7 @@
 -- Where memory is wanting for the lanes of a wave: all seats are as they were, and no lane ran.
-use Rattle.std.proofs.Common.{◌≡◌, ℕ, zero, suc, ◌+◌, ◌*◌, ◌%◌, ◌<◌, ◌≤◌, List, [], ◌∷◌, map, length, Some, None, refl, sym, ap, ◌∙◌, subst, arith}
+use Rattle.std.proofs.Common.{◌≡◌, ℕ, zero, suc, ◌+◌, ◌*◌, ◌%◌, ◌<◌, ◌≤◌, List, [], ◌∷◌, map, length, Some, refl, sym, ap, ◌∙◌, subst, arith}
 use Rattle.std.specs.Prelude.{All, slice_get}
 use Rattle.std.specs.Global.{Vec}
-use Rattle.std.proofs.lemmas.List.Elements.{All-head, All-tail}
 use Rattle.std.proofs.lemmas.Nat.{mul-le, div_below, mod_below, div-add-mod'}
 use Rattle.cbdc_model.specs.Records.{Shape}
 use Rattle.cbdc_model.specs.Ranges.{home_of}
@@ -25,35 +24,11 @@ use Rattle.lane_waves.specs.Rows.{lanes_from, home_lanes, all_lanes}
 use Rattle.lane_waves.specs.Lanes.{HasNoMemory}
 use Rattle.lane_waves.specs.Deals.{AreOpen, log_at, shard_at, IsHomeFresh}
 use Rattle.lane_waves.specs.Waves.{AreThrough}
-use Rattle.lane_waves.proofs.Places.{all_here}
+use Rattle.lane_waves.proofs.Places.{all_here, get_within, get_all}
 use Rattle.lane_waves.proofs.Numbers.{many_lanes}
 use Rattle.lane_waves.proofs.Opening.{map_many}
 use Rattle.lane_waves.proofs.Ending.{past_end}
-use Rattle.lane_waves.proofs.Unrun.{unrun, fresh_hand}
-
--- an item at a place
-item_in : {A : Type 0} (xs : List A) (n : ℕ) (x : A) → slice_get xs n ≡ Some x → n < length xs
-item_in [] n x e = absurd (let z : None ≡ Some x = e in cc)
-item_in (y ∷ xs) zero x e = omega arith
-item_in (y ∷ xs) (suc n) x e = let lt = item_in xs n x e in omega (arith, lt)
-
-all_so : {A : Type 0} (P : A → Type 0) (xs : List A) (n : ℕ) (x : A) → All P xs → slice_get xs n ≡ Some x → P x
-all_so P [] n x a e = absurd (let z : None ≡ Some x = e in cc)
-all_so P (y ∷ xs) zero x a e = let same : y ≡ x = let z : Some y ≡ Some x = e in cc in subst P same (All-head P y xs a)
-all_so P (y ∷ xs) (suc n) x a e = all_so P xs n x (All-tail P y xs a) e
-
--- lanes with the same transactions
-same_txs : (xs ys : List Lane) (n : ℕ) (x y : Lane) → map (λ (z : Lane). z.txs) ys ≡ map (λ (z : Lane). z.txs) xs → slice_get xs n ≡ Some x → slice_get ys n ≡ Some y → y.txs ≡ x.txs
-same_txs [] ys n x y e f h = absurd (let z : None ≡ Some x = f in cc)
-same_txs (v ∷ xs) [] n x y e f h = absurd (let z : None ≡ Some y = h in cc)
-same_txs (v ∷ xs) (w ∷ ys) zero x y e f h =
-    let a : v ≡ x = let z : Some v ≡ Some x = f in cc in
-    let b : w ≡ y = let z : Some w ≡ Some y = h in cc in
-    let c : w.txs ≡ v.txs = let z : w.txs ∷ map (λ (u : Lane). u.txs) ys ≡ v.txs ∷ map (λ (u : Lane). u.txs) xs = e in cc in
-    sym (ap (λ (z : Lane). z.txs) b) ∙ (c ∙ ap (λ (z : Lane). z.txs) a)
-same_txs (v ∷ xs) (w ∷ ys) (suc n) x y e f h =
-    let c : map (λ (u : Lane). u.txs) ys ≡ map (λ (u : Lane). u.txs) xs = let z : w.txs ∷ map (λ (u : Lane). u.txs) ys ≡ v.txs ∷ map (λ (u : Lane). u.txs) xs = e in cc in
-    same_txs xs ys n x y c f h
+use Rattle.lane_waves.proofs.Unrun.{unrun, fresh_hand, same_txs}
 
 module _ {N : Type 0} (sight : N → Sight) where
   -- each lock has all its seats
@@ -146,8 +121,8 @@ module _ {D : Type 0} (count limit : D → ℕ) (tables : ℕ → TableId) (K : 
         rows_ready = left_ready (shard_sight count limit) (all_lanes K) 0 hs rows (omega (arith, one, all)) open_.shard_lanes left;
         many = sym (map_many (λ (x : Lane). x.txs) lanes') ∙ (ap (λ (xs : List _). length xs) same ∙ map_many (λ (x : Lane). x.txs) lanes);
         lanes_ran = λ lane x y e f.
-            let lt : lane < K.coordinators * K.lanes = subst (λ n. lane < n) lanes_many (item_in lanes lane x e) in
+            let lt : lane < K.coordinators * K.lanes = subst (λ n. lane < n) lanes_many (get_within lanes lane x e) in
             unrun K (log_at gs) (shard_at count limit hs) (hands_at homes) (hands_at rows) lane x y (open_.settled lane lt) (home_hand homes lane homes_many a lt)
             (λ s low. shard_hand rows lane s left lt low) (λ s le. past_end (λ h. shard_sight count limit (opening_of h)) hs s (subst (λ n. n ≤ s) (sym open_.shards_many) le))
-            (same_txs lanes lanes' lane x y same e f) (all_so HasNoMemory lanes' lane y stopped f);
+            (same_txs lanes lanes' lane x y same e f) (get_all HasNoMemory lanes' lane y stopped f);
       }

@@ -1,6 +1,6 @@
 -- A whole wave: what its locks and its lanes come to, whether the lanes ran or memory was wanting before their first calls.
-use Rattle.std.proofs.Common.{◌≡◌, inl, inr, ℕ, zero, suc, ◌+◌, ◌-◌, ◌*◌, ◌/◌, ◌<◌, ◌≤◌, List, [], ◌∷◌, map, length, Some, None, refl, sym, ap, ◌∙◌, subst, arith}
-use Rattle.std.specs.Prelude.{All, slice_get}
+use Rattle.std.proofs.Common.{◌≡◌, inl, inr, ℕ, zero, suc, ◌+◌, ◌-◌, ◌*◌, ◌/◌, ◌<◌, ◌≤◌, List, [], ◌∷◌, map, length, refl, sym, ap, ◌∙◌, subst, arith}
+use Rattle.std.specs.Prelude.{All}
 use Rattle.std.specs.Global.{Vec}
 use Rattle.std.proofs.lemmas.Nat.{mul-le, div-mul-add}
 use Rattle.std.proofs.lemmas.List.Elements.{All-head, All-tail, All-nil, All-cons}
@@ -33,10 +33,10 @@ use Rattle.lane_waves.specs.Places.{AllFrom, BothFrom}
 use Rattle.lane_waves.specs.Rows.{home_lanes, all_lanes, IsHomeRow, IsShardRow}
 use Rattle.lane_waves.specs.Deals.{MayRun, log_at}
 use Rattle.lane_waves.specs.Waves.{AreThrough}
-use Rattle.lane_waves.proofs.Places.{next_row}
+use Rattle.lane_waves.proofs.Places.{next_row, get_within, get_there, get_all}
 use Rattle.lane_waves.proofs.Numbers.{once, inside}
 use Rattle.lane_waves.proofs.Opening.{FreshAt, openings, seen_maps, map_many}
-use Rattle.lane_waves.proofs.Unrun.{unrun, still_ran, fresh_hand}
+use Rattle.lane_waves.proofs.Unrun.{unrun, still_ran, fresh_hand, same_txs}
 
 -- the seats of all lanes are left of each lock
 pub fresh_left : {N : Type 0} (sight : N → Sight) (ls : List ℕ) (k : ℕ) (gs : List (Guarded N)) (ss : List (Vec (Seat N))) → BothFrom (FreshAt sight (λ n. ls)) k gs ss → AreLeft sight ls gs ss
@@ -69,11 +69,6 @@ row_is lanes k (r ∷ rs) (suc n) a lt = let more : suc k + n ≡ k + suc n = om
 row_here : (lanes : ℕ → List ℕ) (rs : List (Vec ℕ)) (n : ℕ) → AllFrom (λ j r. r.items ≡ lanes j) 0 rs → n < length rs → row_at rs n ≡ lanes n
 row_here lanes rs n a lt = let none : 0 + n ≡ n = omega arith in row_is lanes 0 rs n a lt ∙ ap lanes none
 
-within : {A : Type 0} (xs : List A) (i : ℕ) (x : A) → slice_get xs i ≡ Some x → i < length xs
-within [] i x e = absurd (let z : None ≡ Some x = e in cc)
-within (y ∷ xs) zero x e = omega arith
-within (y ∷ xs) (suc i) x e = let lt = within xs i x e in omega (arith, lt)
-
 -- the lanes of a coordinator's row are its own
 home_drawn : (K : Shape) (n l : ℕ) → n < K.coordinators → 0 < times l (home_lanes K n) → IsLaneOf K l × (home_of K l ≡ n)
 home_drawn K n l lt some =
@@ -89,22 +84,6 @@ home_drawn K n l lt some =
 
 all_drawn : (K : Shape) (l : ℕ) → 0 < times l (all_lanes K) → IsLaneOf K l
 all_drawn K l some = let m = inside l 0 (K.coordinators * K.lanes) some in let high = m.1 in omega (arith, high)
-
-txs_at : (old new : List Lane) (n : ℕ) (x y : Lane) → map (λ z. z.txs) new ≡ map (λ z. z.txs) old → slice_get old n ≡ Some x → slice_get new n ≡ Some y → y.txs ≡ x.txs
-txs_at [] new n x y m e f = absurd (let z : None ≡ Some x = e in cc)
-txs_at (v ∷ old) [] n x y m e f = absurd (let z : None ≡ Some y = f in cc)
-txs_at (v ∷ old) (w ∷ new) zero x y m e f =
-    let a : v ≡ x = let z : Some v ≡ Some x = e in cc in
-    let b : w ≡ y = let z : Some w ≡ Some y = f in cc in
-    let c : w.txs ≡ v.txs = let z : w.txs ∷ map (λ z. z.txs) new ≡ v.txs ∷ map (λ z. z.txs) old = m in cc in
-    ap (λ (z : Lane). z.txs) (sym b) ∙ (c ∙ ap (λ (z : Lane). z.txs) a)
-txs_at (v ∷ old) (w ∷ new) (suc n) x y m e f =
-    txs_at old new n x y (let z : w.txs ∷ map (λ z. z.txs) new ≡ v.txs ∷ map (λ z. z.txs) old = m in cc) e f
-
-stopped_at : (new : List Lane) (n : ℕ) (y : Lane) → All HasNoMemory new → slice_get new n ≡ Some y → HasNoMemory y
-stopped_at [] n y a f = absurd (let z : None ≡ Some y = f in cc)
-stopped_at (w ∷ new) zero y a f = let b : w ≡ y = let z : Some w ≡ Some y = f in cc in subst HasNoMemory b (All-head HasNoMemory w new a)
-stopped_at (w ∷ new) (suc n) y a f = stopped_at new n y (All-tail HasNoMemory w new a) f
 
 pub same_many : (old new : List Lane) → map (λ z. z.txs) new ≡ map (λ z. z.txs) old → length new ≡ length old
 same_many old new m = sym (map_many (λ z. z.txs) new) ∙ (ap (λ (xs : List _). length xs) m ∙ map_many (λ z. z.txs) old)
@@ -147,10 +126,10 @@ unrun_wave K logs shards logs' shards' old new limits still_logs still_shards pa
   count = same_many old new same;
   lanes = λ lane x y e f.
       let some : 0 < K.lanes = let l = limits.some_lane in omega (arith, l) in
-      let short = within old lane x e in
+      let short = get_within old lane x e in
       let lt : lane < K.coordinators * K.lanes = omega (arith, short, many) in
       unrun K logs shards (λ n. map (fresh (logs n)) (home_lanes K n)) (λ s. map (fresh (shards s)) (all_lanes K)) lane x y (settled lane lt) (at_home K (logs (home_of K lane)) lane some)
-      (λ s le. at_shard K (shards s) lane lt) past (txs_at old new lane x y same e f) (stopped_at new lane y stopped f);
+      (λ s le. at_shard K (shards s) lane lt) past (same_txs old new lane x y same e f) (get_all HasNoMemory new lane y stopped f);
 }
 
 -- a list of nodes is still itself
@@ -204,19 +183,9 @@ may_run (v ∷ old) (w ∷ new) m a r =
     All-cons MayRun w new (record { ready = All-head IsReady w new r; limits = subst (λ t. All IsCompact t.items) (sym c) (All-head (λ z. All IsCompact z.txs.items) v old a) })
     (may_run old new more (All-tail (λ z. All IsCompact z.txs.items) v old a) (All-tail IsReady w new r))
 
-ready_at : (new : List Lane) (n : ℕ) (y : Lane) → All IsReady new → slice_get new n ≡ Some y → IsReady y
-ready_at [] n y a f = absurd (let z : None ≡ Some y = f in cc)
-ready_at (w ∷ new) zero y a f = let b : w ≡ y = let z : Some w ≡ Some y = f in cc in subst IsReady b (All-head IsReady w new a)
-ready_at (w ∷ new) (suc n) y a f = ready_at new n y (All-tail IsReady w new a) f
-
-lane_there : (xs : List Lane) (i : ℕ) → i < length xs → (x : Lane) × (slice_get xs i ≡ Some x)
-lane_there [] i lt = absurd (let z : i < 0 = lt in omega (arith, z))
-lane_there (y ∷ xs) zero lt = (y, refl)
-lane_there (y ∷ xs) (suc i) lt = lane_there xs i (omega (arith, lt))
-
 -- a lane that was made ready first ended as the lane that it was before
 ended_anew : (K : Shape) (lane : ℕ) (log : Sight) (shards : ℕ → Sight) (log' : Sight) (shards' : ℕ → Sight) (old mid new : Lane) → IsReady mid → HasEnded K lane log shards log' shards' mid new → HasEnded K lane log shards log' shards' old new
-ended_anew K lane log shards log' shards' old mid new ready (inl (d, (keeps, wants))) = inl (d, ((λ none z b. keeps none ready.decided ready.batches), λ f. wants ready.fault))
+ended_anew K lane log shards log' shards' old mid new ready (inl (d, (none, keeps))) = inl (d, (none, λ z b. keeps ready.decided ready.batches))
 ended_anew K lane log shards log' shards' old mid new ready (inr (e, stopped, (some, by))) = inr (e, stopped, (some, λ f. by ready.fault))
 
 lane_anew : (K : Shape) (logs shards : ℕ → Sight) (log_hands shard_hands : ℕ → List Hand) (lane : ℕ) (old mid new : Lane) → IsReady mid → mid.txs ≡ old.txs → LaneRan K logs shards log_hands shard_hands lane mid new → LaneRan K logs shards log_hands shard_hands lane old new
@@ -245,8 +214,8 @@ wave_anew K logs shards logs' shards' old mid new same ready w = record {
   shard_drawn = w.shard_drawn;
   count = w.count ∙ same_many old mid same;
   lanes = λ lane x y e f.
-      let lt = within old lane x e in
+      let lt = get_within old lane x e in
       let many = same_many old mid same in
-      let m = lane_there mid lane (omega (arith, lt, many)) in
-      lane_anew K logs shards w.log_hands w.shard_hands lane x m.0 y (ready_at mid lane m.0 ready m.1) (txs_at old mid lane x m.0 same e m.1) (w.lanes lane m.0 y m.1 f);
+      let m = get_there mid lane (omega (arith, lt, many)) in
+      lane_anew K logs shards w.log_hands w.shard_hands lane x m.0 y (get_all IsReady mid lane m.0 ready m.1) (same_txs old mid lane x m.0 same e m.1) (w.lanes lane m.0 y m.1 f);
 }

@@ -19,7 +19,7 @@ use Rattle.shard_fanout.specs.declared.coordinators.SharedLog.{SharedLog}
 use Rattle.shard_fanout.specs.declared.locking.SharedShard.{SharedShard}
 use Rattle.shard_fanout.specs.declared.logged.LogSeat.{LogSeat}
 use Rattle.shard_fanout.specs.declared.tables.Locks.{Ghosts}
-use Rattle.wave_ends.specs.Rows.{AreDealt}
+use Rattle.wave_ends.specs.Rows.{AreLeft, AreDealt}
 use Rattle.wave_lanes.specs.Held.{Begins, log_of, shards_of}
 use Rattle.wave_lanes.specs.Ports.{ArePorts, AtTables}
 use Rattle.wave_lanes.specs.declared.runs.LaneRun.{LaneRun}
@@ -63,6 +63,11 @@ module _ {W D B : Type 0} {G : Ghosts B} where
     pub lanes_many : length t.lanes.items ≡ n
     pub lanes_hold : length t.runs.items + n ≤ vec_capacity t.lanes
     pub runs_hold : length t.runs.items + n ≤ vec_capacity t.runs
+
+  -- so many lanes wait for their seats: these are left of each lock, and there is room for them
+  pub record IsWaiting (count limit : D → ℕ) (hs : List (Guarded (SharedShard D))) (n : ℕ) (t : Table W D B G) : Type 0 where
+    pub room : HasRoom (length hs) n t
+    pub left : AreLeft (shard_sight count limit) (lanes_from 0 n) hs t.rows.items
 
   -- the last lane got its seats
   pub record IsNext (count limit : D → ℕ) (hs : List (Guarded (SharedShard D))) (home : LogSeat W D B G) (t u : Table W D B G) : Type 0 where

@@ -2,17 +2,20 @@
 use Rattle.std.specs.Prelude.{◌≡◌, ◌⊎◌, ◌≤◌, ◌+◌, ℕ, List, [], ◌∷◌, ◌++◌, map, length, reverse, Option, Some, None, Result, IfOk, vec_capacity}
 use Rattle.std.specs.List.{AllZip}
 use Rattle.std.specs.Global.{Vec}
+use Rattle.cbdc_model.specs.Records.{Shape}
 use Rattle.lane_driver.specs.declared.fault.LaneFault.{LaneFault}
 use Rattle.lane_driver.specs.declared.fault.LaneReport.{LaneReport}
 use Rattle.ledger_runs.specs.declared.lanes.Lane.{Lane}
 use Rattle.node_lock.specs.declared.lock.Guarded.{Guarded}
 use Rattle.node_lock.specs.declared.seat.Seat.{Seat}
+use Rattle.node_lock.specs.Seats.{TableId}
 use Rattle.shard_fanout.specs.declared.coordinators.SharedLog.{SharedLog}
 use Rattle.shard_fanout.specs.declared.locking.SharedShard.{SharedShard}
 use Rattle.shard_fanout.specs.declared.tables.Locks.{Ghosts}
 use Rattle.thread_laws.specs.Telling.{told_in}
 use Rattle.wave_ends.specs.Dealing.{PopsEach}
 use Rattle.wave_ends.specs.Rows.{AreBack, AreOf}
+use Rattle.wave_lanes.specs.Held.{Ends}
 use Rattle.wave_lanes.specs.Ports.{seats_of}
 use Rattle.wave_lanes.specs.declared.runs.LaneRun.{LaneRun}
 use Rattle.lane_waves.specs.Lanes.{IsReady, IsKept}
@@ -60,6 +63,12 @@ module _ {W D B : Type 0} {G : Ghosts B} where
   abbrev pub AllOver : ℕ → List (LaneRun W D B G) → Type 0
   AllOver shards [] = Unit {0}
   AllOver shards (r ∷ rs) = IsOver shards r × AllOver shards rs
+
+  -- the runs of a table were made, each to its end, and its other lists are as before
+  pub record AreRun (count limit : D → ℕ) (tables : ℕ → TableId) (K : Shape) (t u : Table W D B G) : Type 0 where
+    pub runs : Vec (LaneRun W D B G)
+    pub rest : u ≡ record t { runs = runs }
+    pub ends : AllZip (Ends count limit tables K) t.runs.items runs.items
 
   -- there is room for all that is not back
   pub record MayGather (t : Table W D B G) : Type 0 where

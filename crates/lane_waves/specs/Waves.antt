@@ -1,5 +1,5 @@
 -- What a wave is asked, and what comes of its lanes at their seats.
-use Rattle.std.specs.Prelude.{◌≡◌, ◌<◌, ℕ, List, length}
+use Rattle.std.specs.Prelude.{◌≡◌, ◌<◌, ℕ, List, Option, length}
 use Rattle.std.specs.Global.{Vec}
 use Rattle.cbdc_model.specs.Records.{Shape}
 use Rattle.cbdc_model.specs.Ranges.{shard_node}
@@ -7,6 +7,7 @@ use Rattle.cbdc_model.specs.Sights.{Sight}
 use Rattle.ledger_runs.specs.declared.lanes.Lane.{Lane}
 use Rattle.node_lock.specs.declared.lock.Guarded.{Guarded}
 use Rattle.node_lock.specs.declared.seat.Seat.{Seat}
+use Rattle.node_ports.specs.Nodes.{IsLogHeld, IsShardHeld}
 use Rattle.shard_fanout.specs.declared.coordinators.SharedLog.{SharedLog}
 use Rattle.shard_fanout.specs.declared.locking.SharedShard.{SharedShard}
 use Rattle.thread_laws.specs.Running.{LaneRan}
@@ -19,6 +20,13 @@ use Rattle.lane_waves.specs.Deals.{log_at, shard_at}
 pub record AreNodesOf (K : Shape) (logs shards : ℕ → Sight) : Type 0 where
   pub logs_are : (n : ℕ) → n < K.coordinators → ((logs n).header.shape ≡ K) × ((logs n).header.node ≡ n)
   pub shards_are : (s : ℕ) → s < K.shards → ((shards s).header.shape ≡ K) × ((shards s).header.node ≡ shard_node K s)
+
+-- what a node's wrapper keeps of its disk, whatever is asked of it
+abbrev pub log_goes : {D : Type 0} → (D → Option (List ℕ)) → (D → List ℕ → Type 0) → SharedLog D → SharedLog D → Type 0
+log_goes content images a b = IsLogHeld content images a.node → IsLogHeld content images b.node
+
+abbrev pub shard_goes : {D : Type 0} → (D → Option (List ℕ)) → (D → List ℕ → Type 0) → SharedShard D → SharedShard D → Type 0
+shard_goes content images a b = IsShardHeld content images a.node → IsShardHeld content images b.node
 
 -- all lanes have ended at seats of these locks, and all seats are back
 pub record AreThrough {D : Type 0} (count limit : D → ℕ) (K : Shape) (gs : List (Guarded (SharedLog D))) (hs : List (Guarded (SharedShard D)))

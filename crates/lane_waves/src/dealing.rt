@@ -1,13 +1,10 @@
 // Seats dealt to lanes.
 ghost use Rattle.std.specs.Prelude.{◌≡◌, ◌≤◌, ◌<◌, ◌+◌, ◌*◌, ◌^◌, suc, [], All, List, length, IfOk, vec_len, vec_capacity};
-ghost use Rattle.node_lock.specs.Seats.{IsSeatOf, knows, opening_of, table_of, AreFresh};
-ghost use Rattle.shard_fanout.specs.Nodes.{shard_sight, log_sight};
-ghost use Rattle.wave_ends.specs.Rows.{AreLeft};
+ghost use Rattle.node_lock.specs.Seats.{knows};
 ghost use Rattle.wave_lanes.specs.Ports.{AreOpened};
 ghost use Rattle.ledger_runs.specs.declared.lanes.Lane.{Lane as LaneOf};
-ghost use Rattle.lane_waves.specs.Rows.{lanes_from, all_lanes};
 ghost use Rattle.lane_waves.specs.Places.{AllFrom};
-ghost use Rattle.lane_waves.specs.Deals.{HasRoom, IsNext, AreOpen, HaveSeats, IsHomeLeft, IsHomeFresh, IsEmptyRoom, IsNone};
+ghost use Rattle.lane_waves.specs.Deals.{IsWaiting, IsNext, AreOpen, HaveSeats, IsHomeLeft, IsHomeFresh, IsEmptyRoom, IsNone};
 
 use cbdc_types::{NodeId, Shape};
 use lane_driver::Ports;
@@ -72,10 +69,8 @@ fn deal_lane<'a, W: Wait, D: Disk, B: Locks>(
 ) -> Table<'a, W, D, B>
     requires opened { AreOpened D.count D.limit locks.now }
     requires small { first + length locks.now < 2 ^ 32 }
-    requires room { HasRoom (length locks.now) (suc (knows home.seat).lane) table }
-    requires left { AreLeft (shard_sight D.count D.limit) (lanes_from 0 (suc (knows home.seat).lane)) locks.now table.rows.items }
-    ensures room { HasRoom (length locks.now) (knows home.entry.seat).lane result }
-    ensures left { AreLeft (shard_sight D.count D.limit) (lanes_from 0 (knows home.entry.seat).lane) locks.now result.rows.items }
+    requires waiting { IsWaiting D.count D.limit locks.now (suc (knows home.seat).lane) table }
+    ensures waiting { IsWaiting D.count D.limit locks.now (knows home.entry.seat).lane result }
     ensures next { IsNext D.count D.limit locks.now home.entry table.entry result }
 {
     let Table {
@@ -131,11 +126,9 @@ fn deal_home<'a, W: Wait, D: Disk, B: Locks>(
     requires home { home < length log_locks.now }
     requires many { length own.items ≤ shape.now.lanes }
     requires own { IsHomeLeft shape.now home log_locks.now own.items }
-    requires room { HasRoom (length shard_locks.now) (home * shape.now.lanes + length own.items) table }
-    requires left { AreLeft (shard_sight D.count D.limit) (lanes_from 0 (home * shape.now.lanes + length own.items)) shard_locks.now table.rows.items }
+    requires waiting { IsWaiting D.count D.limit shard_locks.now (home * shape.now.lanes + length own.items) table }
     ensures empty { (result.0.items ≡ []) × (vec_capacity result.0 ≡ vec_capacity own) }
-    ensures room { HasRoom (length shard_locks.now) (home * shape.now.lanes) result.1 }
-    ensures left { AreLeft (shard_sight D.count D.limit) (lanes_from 0 (home * shape.now.lanes)) shard_locks.now result.1.rows.items }
+    ensures waiting { IsWaiting D.count D.limit shard_locks.now (home * shape.now.lanes) result.1 }
     ensures dealt { (lanes : List LaneOf) → HaveSeats D.count D.limit B.tables shape.now log_locks.now shard_locks.now (home * shape.now.lanes + length own.items) lanes table.entry
         → HaveSeats D.count D.limit B.tables shape.now log_locks.now shard_locks.now (home * shape.now.lanes) lanes result.1 }
 {
@@ -173,14 +166,12 @@ pub(crate) fn deal_all<'a, W: Wait, D: Disk, B: Locks>(
     requires homes { AllFrom (IsHomeFresh shape.now log_locks.now) 0 homes.items }
     requires empty { emptied.items ≡ [] }
     requires place { shape.now.coordinators ≤ vec_capacity emptied }
-    requires room { HasRoom shape.now.shards (shape.now.coordinators * shape.now.lanes) table }
-    requires left { AreLeft (shard_sight D.count D.limit) (all_lanes shape.now) shard_locks.now table.rows.items }
+    requires waiting { IsWaiting D.count D.limit shard_locks.now (shape.now.coordinators * shape.now.lanes) table }
+    requires none { table.runs.items ≡ [] }
     ensures empty { (result.0.items ≡ []) × (shape.now.coordinators ≤ vec_capacity result.0) }
     ensures emptied { (length result.1.items ≡ shape.now.coordinators) × All (IsEmptyRoom shape.now.lanes) result.1.items }
-    ensures room { HasRoom shape.now.shards 0 result.2 }
-    ensures left { AreLeft (shard_sight D.count D.limit) [] shard_locks.now result.2.rows.items }
-    ensures dealt { (lanes : List LaneOf) → HaveSeats D.count D.limit B.tables shape.now log_locks.now shard_locks.now (shape.now.coordinators * shape.now.lanes) lanes table.entry
-        → HaveSeats D.count D.limit B.tables shape.now log_locks.now shard_locks.now 0 lanes result.2 }
+    ensures waiting { IsWaiting D.count D.limit shard_locks.now 0 result.2 }
+    ensures dealt { HaveSeats D.count D.limit B.tables shape.now log_locks.now shard_locks.now 0 table.entry.lanes.items result.2 }
 {
     while let Some(own) = homes.pop() {
         let home = homes.len() as u32;

@@ -1,5 +1,5 @@
 // Seats given back, and the lanes with what came of them.
-ghost use Rattle.std.specs.Prelude.{◌≡◌, ◌≤◌, ◌<◌, ◌+◌, ◌*◌, [], All, List, length, vec_capacity};
+ghost use Rattle.std.specs.Prelude.{◌≡◌, ◌≤◌, ◌<◌, ◌*◌, [], All, List, length, vec_capacity};
 ghost use Rattle.node_lock.specs.declared.lock.Guarded.{Guarded as GuardedOf};
 ghost use Rattle.shard_fanout.specs.declared.locking.SharedShard.{SharedShard as SharedShardOf};
 ghost use Rattle.lane_waves.specs.Deals.{IsEmptyRoom};
@@ -106,6 +106,7 @@ pub(crate) fn gather_all<'a, W: Wait, D: Disk, B: Locks>(
     requires place { length emptied.items ≤ vec_capacity homes }
     requires room { MayGather table }
     ensures none { result.1.runs.items ≡ [] }
+    ensures room { MayGather result.1 }
     ensures rooms { result.1.rooms ≡ table.entry.rooms }
     ensures many { length result.0.items ≡ length emptied.items }
     ensures homes { HomesBack count table.entry.runs.items result.0.items }

@@ -1,5 +1,5 @@
 // A whole wave.
-ghost use Rattle.std.specs.Prelude.{◌≡◌, ◌≤◌, ◌<◌, ◌*◌, ℕ, [], List, All, IfOk, length, map, vec_capacity};
+ghost use Rattle.std.specs.Prelude.{◌≡◌, ◌≤◌, ◌<◌, ◌*◌, ℕ, [], All, IfOk, IfErr, length, map, vec_capacity};
 ghost use Rattle.cbdc_types.specs.Limits.{IsWithinLimits};
 ghost use Rattle.cbdc_model.specs.Grammar.{IsCompact};
 ghost use Rattle.cbdc_model.specs.Ranges.{home_of};
@@ -8,14 +8,16 @@ ghost use Rattle.shard_node.specs.Shards.{sight_of};
 ghost use Rattle.node_ports.specs.Nodes.{sight_at, IsLogHeld, IsShardHeld};
 ghost use Rattle.lane_driver.specs.Stops.{IsSettled};
 ghost use Rattle.shard_fanout.specs.Nodes.{log_sight, shard_sight};
-ghost use Rattle.wave_ends.specs.Rows.{AreLeft};
+ghost use Rattle.wave_ends.specs.Rows.{AreRows, AreLocked, AreStill, AreLeft};
+ghost use Rattle.wave_lanes.specs.Held.{Begins};
 ghost use Rattle.thread_laws.specs.Running.{WaveRan};
 ghost use Rattle.wave_records.specs.Laws.{WentOn};
 ghost use Rattle.lane_waves.specs.Places.{AllFrom};
 ghost use Rattle.lane_waves.specs.Rows.{IsHomeRow, IsShardRow, all_lanes};
-ghost use Rattle.lane_waves.specs.Deals.{MayRun, AreOpen, IsHomeFresh};
+ghost use Rattle.lane_waves.specs.Deals.{MayRun, AreOpen, IsHomeFresh, IsEmptyRoom};
+ghost use Rattle.lane_waves.specs.Gathers.{AreRun};
 ghost use Rattle.lane_waves.specs.Rooms.{IsNodeRoom, IsLaneRoom};
-ghost use Rattle.lane_waves.specs.Waves.{AreNodesOf, AreThrough};
+ghost use Rattle.lane_waves.specs.Waves.{log_goes, shard_goes, AreNodesOf, AreThrough};
 
 use crate::dealing::{Table, deal_all, port_rooms};
 use crate::gathering::gather_all;
@@ -39,7 +41,6 @@ use wave_ends::{Locked, close_all, lock_all};
 use wave_lanes::{LaneRun, run_all};
 
 /// All nodes of a ledger: its coordinators, and its shards.
-#[derive(Drop)]
 pub struct Nodes<D: Disk> {
     pub logs: Vec<CoordLog<D>>,
     pub shards: Vec<ShardNode<D>>,
@@ -56,6 +57,12 @@ struct NodeRoom<D: Disk> {
     home_rows: Vec<Vec<LaneId>>,
     shard_rows: Vec<Vec<LaneId>>,
     nodes: SharedNodes<D>,
+}
+
+// Locks round all nodes.
+struct LockedNodes<D: Disk> {
+    logs: Locked<SharedLog<D>>,
+    shards: Locked<SharedShard<D>>,
 }
 
 // The memory that its lanes want.
@@ -92,6 +99,22 @@ fn see_shards<D: Disk>(shards: &[ShardNode<D>])
     }
 }
 
+// Two empty lists with room for so many items each, or none.
+fn two_lists<S, T>(
+    alloc: Global,
+    first: usize,
+    second: usize,
+) -> Result<(Vec<S>, Vec<T>), AllocError>
+    ensures { IfOk result (λ lists. IsEmptyRoom first lists.0 × IsEmptyRoom second lists.1) }
+{
+    let one = Vec::with_capacity(alloc, first)?;
+    let Ok(other) = Vec::with_capacity(alloc, second) else {
+        one.destroy_empty();
+        return Err(AllocError);
+    };
+    Ok((one, other))
+}
+
 // The memory that the nodes of a wave want, and the lanes made ready.
 fn node_room<D: Disk>(
     alloc: Global,
@@ -104,11 +127,11 @@ fn node_room<D: Disk>(
     make_ready(lanes)?;
     let home_rows = home_rows(alloc, shape)?;
     let shard_rows = shard_rows(alloc, shape)?;
-    let logs = Vec::with_capacity(alloc, shape.coordinators() as usize)?;
-    let Ok(shards) = Vec::with_capacity(alloc, shape.shards() as usize) else {
-        logs.destroy_empty();
-        return Err(AllocError);
-    };
+    let (logs, shards) = two_lists(
+        alloc,
+        shape.coordinators() as usize,
+        shape.shards() as usize,
+    )?;
     Ok(NodeRoom {
         home_rows,
         shard_rows,
@@ -126,12 +149,17 @@ fn lane_room<'a, W: Wait, D: Disk, B: Locks>(
     let homes = shape.coordinators() as usize;
     let shards = shape.shards() as usize;
     let lanes = shape.lane_count() as usize;
-    let emptied = Vec::with_capacity(alloc, homes)?;
-    let spare = Vec::with_capacity(alloc, shards)?;
-    let seats = Vec::with_capacity(alloc, shards)?;
-    let runs = Vec::with_capacity(alloc, lanes)?;
-    let Ok(rooms) = port_rooms(alloc, lanes, shards) else {
+    let (emptied, runs) = two_lists(alloc, homes, lanes)?;
+    let Ok((spare, seats)) = two_lists(alloc, shards, shards) else {
+        emptied.destroy_empty();
         runs.destroy_empty();
+        return Err(AllocError);
+    };
+    let Ok(rooms) = port_rooms(alloc, lanes, shards) else {
+        emptied.destroy_empty();
+        runs.destroy_empty();
+        spare.destroy_empty();
+        seats.destroy_empty();
         return Err(AllocError);
     };
     Ok(LaneRoom {
@@ -141,6 +169,21 @@ fn lane_room<'a, W: Wait, D: Disk, B: Locks>(
         rooms,
         runs,
     })
+}
+
+// Runs all lanes at their seats.
+fn run_table<'a, W: Threads + Wait + Sync, D: Disk + Send, B: Locks + Send + Sync, G: Gate + Sync>(
+    rt: &'a W,
+    alloc: Global,
+    shape: &Shape,
+    mut table: Table<'a, W, D, B>,
+    gate: &G,
+) -> Table<'a, W, D, B>
+    requires begin { All (Begins D.count D.limit B.tables shape.now) table.runs.items }
+    ensures { AreRun D.count D.limit B.tables shape.now table.entry result }
+{
+    run_all(rt, alloc, shape, table.runs.as_mut_slice(), gate);
+    table
 }
 
 // Runs all lanes, each at its seats. All seats come back.
@@ -185,7 +228,7 @@ fn run_seated<'a, W: Threads + Wait + Sync, D: Disk + Send, B: Locks + Send + Sy
         lanes,
         runs,
     };
-    let (homes, emptied, mut table) = deal_all(
+    let (homes, emptied, table) = deal_all(
         rt,
         shape,
         log_locks,
@@ -194,19 +237,54 @@ fn run_seated<'a, W: Threads + Wait + Sync, D: Disk + Send, B: Locks + Send + Sy
         emptied,
         table,
     );
-    run_all(rt, alloc, shape, table.runs.as_mut_slice(), gate);
+    let table = run_table(rt, alloc, shape, table, gate);
     let (homes, table) = gather_all(shape.lanes(), emptied, homes, table);
     let Table {
         rows,
-        spare: _,
-        seats: _,
+        spare,
+        seats,
         rooms,
         lanes,
         runs,
     } = table;
+    spare.destroy_empty();
+    seats.destroy_empty();
     rooms.destroy_empty();
     runs.destroy_empty();
     SeatedLanes { homes, rows, lanes }
+}
+
+// A lock round each node, with a seat for each lane of its row. Where memory is wanting all nodes come back, asked nothing.
+fn lock_nodes<D: Disk>(
+    alloc: Global,
+    nodes: SharedNodes<D>,
+    home_rows: Vec<Vec<LaneId>>,
+    shard_rows: Vec<Vec<LaneId>>,
+) -> Result<LockedNodes<D>, SharedNodes<D>>
+    requires logs_many { length home_rows.items ≡ length nodes.logs.items }
+    requires shards_many { length shard_rows.items ≡ length nodes.shards.items }
+    requires logs_fit { AreRows home_rows.items }
+    requires shards_fit { AreRows shard_rows.items }
+    ensures logs { IfOk result (λ k. AreLocked log_sight nodes.logs.items home_rows.items k.logs.locks.items k.logs.seats.items) }
+    ensures logs_room { IfOk result (λ k. (k.logs.room.items ≡ []) × (length nodes.logs.items ≤ vec_capacity k.logs.room)) }
+    ensures shards { IfOk result (λ k. AreLocked (shard_sight D.count D.limit) nodes.shards.items shard_rows.items k.shards.locks.items k.shards.seats.items) }
+    ensures shards_room { IfOk result (λ k. (k.shards.room.items ≡ []) × (length nodes.shards.items ≤ vec_capacity k.shards.room)) }
+    ensures logs_back { IfErr result (λ n. AreStill log_sight (log_goes D.content D.images) nodes.logs.items n.logs.items) }
+    ensures shards_back { IfErr result (λ n. AreStill (shard_sight D.count D.limit) (shard_goes D.content D.images) nodes.shards.items n.shards.items) }
+{
+    let SharedNodes { logs, shards } = nodes;
+    let shards = match lock_all(alloc, shards, shard_rows) {
+        Ok(locked) => locked,
+        Err(shards) => return Err(SharedNodes { logs, shards }),
+    };
+    match lock_all(alloc, logs, home_rows) {
+        Ok(logs) => Ok(LockedNodes { logs, shards }),
+        Err(logs) => {
+            let Locked { locks, seats, room } = shards;
+            let shards = close_all(locks, seats, room);
+            Err(SharedNodes { logs, shards })
+        }
+    }
 }
 
 // A wave over nodes under their wrappers.
@@ -234,35 +312,26 @@ fn wave_shared<W: Threads + Wait + Sync, D: Disk + Send, G: Gate + Sync>(
     requires lanes { All MayRun lanes.old.items }
     requires lanes_many { length lanes.old.items ≡ shape.now.coordinators * shape.now.lanes }
     ensures ran { WaveRan shape.now (sight_at log_sight nodes.logs.items) (sight_at (shard_sight D.count D.limit) nodes.shards.items) (sight_at log_sight result.logs.items) (sight_at (shard_sight D.count D.limit) result.shards.items) lanes.old.items lanes.new.items }
-    ensures logs_go { WentOn log_sight (λ a b. IsLogHeld D.content D.images a.node → IsLogHeld D.content D.images b.node) nodes.logs.items result.logs.items }
-    ensures shards_go { WentOn (shard_sight D.count D.limit) (λ a b. IsShardHeld D.content D.images a.node → IsShardHeld D.content D.images b.node) nodes.shards.items result.shards.items }
+    ensures logs_go { WentOn log_sight (log_goes D.content D.images) nodes.logs.items result.logs.items }
+    ensures shards_go { WentOn (shard_sight D.count D.limit) (shard_goes D.content D.images) nodes.shards.items result.shards.items }
 {
-    let SharedNodes { logs, shards } = nodes;
-    let Locked {
-        locks: shard_locks,
-        seats: rows,
-        room: shard_room,
-    } = match lock_all(alloc, shards, shard_rows) {
+    let LockedNodes { logs, shards } = match lock_nodes(alloc, nodes, home_rows, shard_rows) {
         Ok(locked) => locked,
-        Err(shards) => {
+        Err(nodes) => {
             stop_all(lanes);
-            return SharedNodes { logs, shards };
+            return nodes;
         }
     };
     let Locked {
         locks: log_locks,
         seats: homes,
         room: log_room,
-    } = match lock_all(alloc, logs, home_rows) {
-        Ok(locked) => locked,
-        Err(logs) => {
-            stop_all(lanes);
-            return SharedNodes {
-                logs,
-                shards: close_all(shard_locks, rows, shard_room),
-            };
-        }
-    };
+    } = logs;
+    let Locked {
+        locks: shard_locks,
+        seats: rows,
+        room: shard_room,
+    } = shards;
     let seated = SeatedLanes {
         homes,
         rows,
@@ -281,7 +350,7 @@ fn wave_shared<W: Threads + Wait + Sync, D: Disk + Send, G: Gate + Sync>(
         seated,
         gate,
     );
-    *lanes = back;
+    mem::replace(lanes, back).destroy_empty();
     SharedNodes {
         logs: close_all(log_locks, homes, log_room),
         shards: close_all(shard_locks, rows, shard_room),

@@ -1,18 +1,17 @@
 -- What comes of a list of one lane is what comes of the lane.
-use Rattle.std.proofs.Common.{◌≡◌, ◌≢◌, ◌⊎◌, inl, inr, ℕ, Bool, List, [], ◌∷◌, ◌++◌, length, get_or, Result, Ok, Err, IfOk, IfErr, OnOk, refl, sym, ap, ◌∙◌, subst, arith}
-use Rattle.std.specs.List.{All, AllZip}
+use Rattle.std.proofs.Common.{◌≡◌, ◌≢◌, inl, inr, ℕ, Bool, List, [], ◌∷◌, ◌++◌, length, get_or, Result, Ok, Err, IfOk, IfErr, OnOk, refl, sym, ap, subst, arith}
+use Rattle.std.specs.List.{All}
 use Rattle.std.proofs.lemmas.List.{length-append}
 use Rattle.std.proofs.lemmas.List.Elements.{All-nil, All-cons, All-head}
 use Rattle.cbdc_types.specs.declared.batch.OpenLane.{OpenLane}
 use Rattle.cbdc_model.specs.Records.{Shape, Header, Compact}
 use Rattle.cbdc_model.specs.Slots.{Phase, Idle}
 use Rattle.cbdc_model.specs.Sights.{Sight}
-use Rattle.lane_laws.specs.Resuming.{IsTakenUp}
 use Rattle.lane_driver.specs.Told.{KeepsOthers}
 use Rattle.lane_driver.specs.declared.fault.LaneFault.{LaneFault}
 use Rattle.recovery.specs.declared.resumed.Resumed.{Resumed}
 use Rattle.recovery.specs.declared.resumed.ResumedBatch.{ResumedBatch}
-use Rattle.recovery.specs.Open.{KeepsUnlisted, IsResumed, AreResumed, IsUnfinished, HasItsOutcomes, IsResumeStopped, IsOneTaken, AreTakenUp, AreTried, IsStoppedAmong, AreStopped}
+use Rattle.recovery.specs.Open.{KeepsUnlisted, AreResumed, IsResumeStopped, IsOneTaken, AreTakenUp, AreTried, IsStoppedAmong, AreStopped}
 use Rattle.ledger_nodes.specs.Ones.{IsOneOf}
 
 one_batch : (o : OpenLane) (rs : List ResumedBatch) → AreResumed (o ∷ []) rs → (b : ResumedBatch) × (rs ≡ b ∷ [])

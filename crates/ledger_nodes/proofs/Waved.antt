@@ -1,5 +1,5 @@
 -- The nodes of a ledger behind a wave of its lanes.
-use Rattle.std.proofs.Common.{◌≡◌, ◌⊎◌, inl, inr, ℕ, suc, ◌+◌, ◌-◌, ◌*◌, ◌<◌, ◌≤◌, true, false, nat_lt, if◌then◌else◌, List, [], ◌∷◌, length, Option, None, refl, sym, ap, ◌∙◌, subst, arith}
+use Rattle.std.proofs.Common.{◌≡◌, ◌⊎◌, inl, inr, ℕ, suc, ◌-◌, ◌*◌, ◌<◌, ◌≤◌, true, false, nat_lt, if◌then◌else◌, List, [], ◌∷◌, length, Option, None, refl, sym, ap, ◌∙◌, subst, arith}
 use Rattle.std.specs.List.{All}
 use Rattle.std.proofs.lemmas.List.Elements.{All-nil, All-cons, All-weaker}
 use Rattle.cbdc_model.specs.Records.{Header, Shape}
@@ -13,7 +13,7 @@ use Rattle.shard_node.specs.Shards.{ShardOf, sight_of, HoldsJournal as HoldsShar
 use Rattle.node_ports.specs.Nodes.{sight_at, IsLogHeld, IsShardHeld}
 use Rattle.run_laws.specs.Flights.{flying}
 use Rattle.lane_driver.specs.Stops.{IsSettled}
-use Rattle.ledger_runs.specs.Waving.{NoFault, AreWithin}
+use Rattle.ledger_runs.specs.Waving.{AreWithin}
 use Rattle.ledger_runs.specs.declared.lanes.Lane.{Lane}
 use Rattle.thread_laws.specs.Running.{WaveNodes, WaveRan, AllSays}
 use Rattle.thread_laws.proofs.Running.{fresh_settled_law, wave_ran_law}

@@ -12,8 +12,8 @@ use Rattle.thread_laws.specs.Whole.{WaveSays}
 use Rattle.wave_records.specs.Laws.{WentOn}
 use Rattle.ledger_nodes.specs.Ledgers.{LedgerOf, IsLedger, IsLogNext, IsShardNext, journals, flights, faults, opened, capacity, IsChecked, IsQuiet, KeepsLedgerOf}
 
--- from a ledger to what it is behind the wave: it is a ledger still; all that is said of a wave; checked journals stay checked; where no lane stopped
--- nothing new is in flight; and what a call keeps of a ledger's nodes is kept
+-- from a ledger to what it is behind the wave: it is a ledger still; all that is said of a wave; checked journals stay checked; where no lane stopped,
+-- and nothing was in flight before, nothing is; and what a call keeps of a ledger's nodes is kept
 pub record IsWave {D : Type 0} (count limit : D → ℕ) (content : D → Option (List ℕ)) (images : D → List ℕ → Type 0) (before after : LedgerOf D)
     (old new : List Lane) : Type 0 where
   pub ledger : IsLedger after.header after.logs after.shards

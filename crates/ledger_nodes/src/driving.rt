@@ -1,5 +1,5 @@
 // A lane's driver at the nodes of a ledger.
-ghost use Rattle.std.specs.Prelude.{◌≡◌, ◌<◌, ◌/◌, true, [], ◌∷◌, All, Some, slice_get, IfOk, IfErr, OnOk};
+ghost use Rattle.std.specs.Prelude.{◌≡◌, ◌<◌, ◌/◌, true, [], ◌∷◌, All, Some, IfOk, IfErr, OnOk};
 ghost use Rattle.cbdc_model.specs.After.{IsJournal};
 ghost use Rattle.cbdc_model.specs.Ranges.{home_of};
 ghost use Rattle.cbdc_model.specs.Slots.{Idle};

@@ -2,7 +2,6 @@
 ghost use Rattle.std.specs.Prelude.{◌≡◌, ℕ, List, Option, IfOk, IfErr, OnOk, []};
 ghost use Rattle.cbdc_model.specs.Records.{Shape as ShapeOf, Record};
 ghost use Rattle.cbdc_model.specs.Slots.{Idle};
-ghost use Rattle.cbdc_model.specs.Lanes.{IsEnd};
 ghost use Rattle.lane_driver.specs.declared.fault.LaneFaultKind.TheVariants.{Memory};
 ghost use Rattle.ledger_runs.specs.Keeping.{KeepsLedger};
 ghost use Rattle.ledger_runs.specs.Turning.{phase_at, IsLaneOf, KeepsLanes, OfKept, StaysKept, TookUp};

@@ -99,7 +99,12 @@ fn came_of<D: Disk>(over: Result<Over, LaneFault>, shards: &[ShardNode<D>]) -> R
 }
 
 /// Brings the open batches of open nodes to their end, and runs client files.
-pub(crate) fn run_nodes<W: Wait + Threads + Sync, D: Disk + Send, V: Verifier, G: Gate + Sync>(
+pub(crate) fn run_nodes<
+    W: Wait + Threads + Sync,
+    D: Disk + Send,
+    V: Verifier + Sync,
+    G: Gate + Sync,
+>(
     rt: &W,
     alloc: Global,
     nodes: Nodes<D>,

@@ -40,7 +40,12 @@ pub(crate) struct OverRun<D: Disk> {
 }
 
 /// Brings the open batches of a ledger to their end, and runs client files. The first fault ends it.
-pub(crate) fn run_over<W: Wait + Threads + Sync, D: Disk + Send, V: Verifier, G: Gate + Sync>(
+pub(crate) fn run_over<
+    W: Wait + Threads + Sync,
+    D: Disk + Send,
+    V: Verifier + Sync,
+    G: Gate + Sync,
+>(
     rt: &W,
     alloc: Global,
     ledger: Ledger<D>,

@@ -22,7 +22,7 @@ use std::thread::Threads;
 use verifier_port::{AllGood, Verifier};
 
 /// Opens the ledger on a rack, brings its open batches to their end, runs client files and puts all disks back.
-pub fn run_on<W: Wait + Threads + Sync, R: Rack, V: Verifier, G: Gate + Sync>(
+pub fn run_on<W: Wait + Threads + Sync, R: Rack, V: Verifier + Sync, G: Gate + Sync>(
     rt: &W,
     alloc: Global,
     rack: &mut R,

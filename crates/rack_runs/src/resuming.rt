@@ -17,7 +17,6 @@ use outside::{Disk, Gate};
 use recovery::ResumedBatch;
 use std::alloc::Global;
 use std::sync::Wait;
-use std::thread::Threads;
 
 /// A ledger behind the resuming of its lanes, and the batches that were open, or the least lane's fault.
 pub(crate) struct ResumeRun<D: Disk> {
@@ -26,7 +25,7 @@ pub(crate) struct ResumeRun<D: Disk> {
 }
 
 /// Brings the open batches of a ledger to their end, as `resume_all` does, and gives the ledger back.
-pub(crate) fn resume_ledger<W: Wait + Threads + Sync, D: Disk + Send, G: Gate>(
+pub(crate) fn resume_ledger<W: Wait, D: Disk, G: Gate>(
     rt: &W,
     alloc: Global,
     ledger: Ledger<D>,

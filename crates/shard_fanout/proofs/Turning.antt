@@ -1,11 +1,29 @@
 -- Lists turned over item by item, from the last to the first.
-use Rattle.std.proofs.Common.{◌≡◌, List, [], ◌∷◌, ◌++◌, map, reverse, append_assoc, append-nil, refl, sym, ap, ◌∙◌}
+use Rattle.std.proofs.Common.{◌≡◌, ℕ, ◌+◌, ◌<◌, ◌≤◌, List, [], ◌∷◌, ◌++◌, length, map, reverse, append_assoc, append-nil, length-append, sym, ap, ◌∙◌, arith}
 use Rattle.std.proofs.lemmas.List.{reverse-append}
 
 last_first : {A : Type 0} (xs ys : List A) (x : A) → ys ≡ xs ++ x ∷ [] → reverse ys ≡ x ∷ reverse xs
 last_first xs ys x e = ap reverse e ∙ reverse-append xs (x ∷ [])
 
+pub none_left : {A : Type 0} (xs : List A) (n : ℕ) → n ≡ length xs → n ≡ 0 → xs ≡ []
+none_left [] n is zero = cc
+none_left (x ∷ xs) n is zero = absurd (omega (arith, is, zero))
+
 module _ {A B : Type 0} where
+  -- there is room for all of them where the ones go that are taken off the others
+  pub room_first : (xs : List A) (ys : List B) (capacity : ℕ) → ys ≡ [] → length xs ≤ capacity → length xs + length ys ≤ capacity
+  room_first xs ys capacity e room = omega (arith, ap {B = ℕ} length e, room)
+
+  module _ (xs xs' : List A) (ys : List B) (x : A) (capacity : ℕ) (e : xs ≡ xs' ++ x ∷ []) (room : length xs + length ys ≤ capacity) where
+    shorter : length xs ≡ length xs' + 1
+    shorter = ap {B = ℕ} length e ∙ length-append xs' (x ∷ [])
+
+    pub has_room : (n : ℕ) → n ≡ length ys → n < capacity
+    has_room n is = omega (arith, shorter, room, is)
+
+    pub room_on : (ys' : List B) (y : B) (after : ℕ) → ys' ≡ ys ++ y ∷ [] → after ≡ capacity → length xs' + length ys' ≤ after
+    room_on ys' y after h same = omega (arith, shorter, room, ap {B = ℕ} length h ∙ length-append ys (y ∷ []), same)
+
   -- those behind `xs` are in `ys`, turned round, each under f
   pub record Sharing (f : B → A) (all xs : List A) (ys : List B) : Type 0 where
     pub done : List A

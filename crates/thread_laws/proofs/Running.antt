@@ -1,18 +1,13 @@
 -- From the record of a wave to all that is said of it.
-use Rattle.std.proofs.Common.{◌≡◌, inl, inr, ℕ, zero, suc, ◌+◌, ◌-◌, ◌*◌, ◌/◌, ◌<◌, ◌≤◌, Bool, true, false, ◌||◌, not, ◌==◌, nat_lt, if◌then◌else◌, List, [], length, Some, refl, sym, ap, ◌∙◌, subst, arith}
+use Rattle.std.proofs.Common.{◌≡◌, inl, ℕ, zero, suc, ◌+◌, ◌-◌, ◌*◌, ◌/◌, ◌<◌, ◌≤◌, Bool, true, false, ◌||◌, not, ◌==◌, nat_lt, if◌then◌else◌, List, [], length, Some, refl, sym, ap, ◌∙◌, subst, arith}
 use Rattle.std.specs.Prelude.{slice_get}
 use Rattle.std.proofs.lemmas.Nat.{div_below, div-mul-add}
 use Rattle.std.proofs.lemmas.Option.{slice_get_within}
 use Rattle.cbdc_model.specs.Records.{Shape, Record, record_of, last_stamp}
 use Rattle.cbdc_model.specs.Ranges.{home_of, shard_node}
 use Rattle.cbdc_model.specs.Slots.{slot, slot_stamp}
-use Rattle.cbdc_model.specs.History.{Minted}
-use Rattle.cbdc_model.specs.World.{AreIdle}
 use Rattle.cbdc_model.specs.Sights.{Sight}
-use Rattle.lane_laws.specs.Batches.{view, Settled}
-use Rattle.lane_laws.proofs.Views.{view_home, view_shard}
-use Rattle.lane_driver.specs.Stops.{IsSettled}
-use Rattle.run_laws.specs.Checked.{CheckedJournals}
+use Rattle.lane_laws.specs.Batches.{Settled}
 use Rattle.run_laws.specs.Runs.{seen_by}
 use Rattle.run_laws.specs.Faults.{opened_by, faults_by, capacity_by}
 use Rattle.run_laws.specs.Flights.{flying}
@@ -23,17 +18,16 @@ use Rattle.ledger_runs.specs.declared.lanes.Lane.{Lane}
 use Rattle.ledger_runs.proofs.WaveKeeping.{at_place}
 use Rattle.node_lock.specs.declared.views.Hand.{Hand}
 use Rattle.node_lock.specs.Moving.{Same}
-use Rattle.node_lock.specs.Tickets.{times, fresh, Done}
-use Rattle.node_lock.specs.Viewing.{viewed}
+use Rattle.node_lock.specs.Tickets.{times, Done}
 use Rattle.thread_laws.specs.Threads.{asks}
 use Rattle.thread_laws.specs.Stopping.{NodesOf}
 use Rattle.thread_laws.specs.Closing.{Locks}
-use Rattle.thread_laws.specs.Whole.{no_memory, Went, WaveSays}
+use Rattle.thread_laws.specs.Whole.{Went, WaveSays}
 use Rattle.thread_laws.specs.Sitting.{SitsAt, Sits, Sat}
-use Rattle.thread_laws.specs.Running.{NodeRan, LaneRan, WaveRan, IsStillSight, WaveUnrun, WaveNodes, NodesSay, WaveRanLaw, WaveUnrunLaw, FreshSettledLaw}
+use Rattle.thread_laws.specs.Running.{NodeRan, LaneRan, WaveRan, WaveNodes, NodesSay, WaveRanLaw, FreshSettledLaw}
 use Rattle.thread_laws.proofs.Hands.{behind}
 use Rattle.thread_laws.proofs.Heading.{threads_next_law}
-use Rattle.thread_laws.proofs.Sitting.{Where, where_is, unseen_at, sits_law}
+use Rattle.thread_laws.proofs.Sitting.{sits_law}
 use Rattle.thread_laws.proofs.Whole.{wave_says_law}
 
 -- ---- nodes by their numbers
@@ -382,110 +376,5 @@ module _ (K : Shape) (logs shards logs' shards' : ℕ → Sight) (nodes : WaveNo
           (λ m checked. threads_next_law K m logs shards logs' shards' nodes.before nodes.behind say_nodes.log_headers say_nodes.shard_headers checked)
           (λ m checked. after_here K logs' shards' nodes.behind nodes.next m checked) went
 
-    -- ---- lanes of which none ran
-    module _ (m : Minted) (checked : CheckedJournals K m (seen_by K logs shards)) (idle : AreIdle K (seen_by K logs shards)) (unrun : WaveUnrun K logs shards logs' shards' old new) where
-      still_done : (f l : Sight) → IsStillSight f l → Done f [] [] l
-      still_done f l s = record { log = []; list = s.seen; drawn = tt; cover = λ x. refl; hands = tt; flight = elim s.flight [ inl none ↦ inl none | inr same ↦ inr (inl (same, refl)) ] }
-
-      abbrev none_at : ℕ → List ℕ
-      none_at n = []
-
-      abbrev no_hands : ℕ → List Hand
-      no_hands n = []
-
-      done_at : (n : ℕ) → Done (first n) [] [] (last n)
-      done_at n = each_node K (λ f ls hs l. Done f [] [] l) logs shards none_at none_at no_hands no_hands logs' shards'
-          (λ k lt. still_done (logs k) (logs' k) (unrun.log_still k lt)) (λ s lt. still_done (shards s) (shards' s) (unrun.shard_still s lt)) nothing n
-
-      abbrev still_locks : Locks K E X (flying K logs shards) (flying K logs' shards')
-      still_locks = record {
-        first = first;
-        last = last;
-        lanes = none_at;
-        hands = no_hands;
-        done = done_at;
-        begun = seen_is K logs shards;
-        ended = seen_is K logs' shards';
-        flew = flight_is K logs shards;
-        flies = flight_is K logs' shards';
-        drawn = λ n l some. absurd (let z : 0 < times l [] = some in omega (arith, z));
-      }
-
-      still_at : (n : ℕ) → X n ≡ E n
-      still_at n = seen_is K logs' shards' n ∙ each_node K (λ f ls hs l. l.seen ≡ f.seen) logs shards none_at none_at no_hands no_hands logs' shards'
-          (λ k lt. (unrun.log_still k lt).seen) (λ s lt. (unrun.shard_still s lt).seen) (λ s le. ap (λ x. x.seen) (nodes.beyond s le)) n ∙ sym (seen_is K logs shards n)
-
-      module _ (lane : ℕ) (x y : Lane) (here : slice_get old lane ≡ Some x) (there : slice_get new lane ≡ Some y) where
-        unrun_inside : lane < K.coordinators * K.lanes
-        unrun_inside = subst (λ n. lane < n) places (slice_get_within old lane x here)
-
-        unrun_home : home_of K lane < K.coordinators
-        unrun_home = home_inside lane K.coordinators K.lanes unrun_inside
-
-        abbrev log : Sight
-        log = viewed (logs (home_of K lane)) (fresh (logs (home_of K lane)) lane)
-
-        abbrev seen : ℕ → Sight
-        seen s = viewed (shards s) (fresh (shards s) lane)
-
-        settled : IsSettled K lane log seen
-        settled = fresh_settled_law K m logs shards lane log seen nodes.limits unrun_inside nodes.log_shapes checked idle (refl, refl) (λ s. refl)
-
-        begun_by : (n : ℕ) → Where K lane n → view K lane log seen n ≡ E n
-        begun_by n (inl e) = subst (λ k. view K lane log seen k ≡ E k) e (view_home K lane unrun_home log seen (home_of K lane) refl ∙ sym (seen_log K logs shards (home_of K lane) unrun_home))
-        begun_by n (inr (s, e, side)) = subst (λ k. view K lane log seen k ≡ E k) e (view_shard K lane unrun_home log seen s ∙ sym (seen_shard K logs shards s))
-
-        begun_at : (n : ℕ) → asks K lane n ≡ true → view K lane log seen n ≡ E n
-        begun_at n at = begun_by n (where_is K lane n at)
-
-        abbrev log_still : IsStillSight (logs (home_of K lane)) (logs' (home_of K lane))
-        log_still = unrun.log_still (home_of K lane) unrun_home
-
-        at_log : (f : (ℕ → Sight) → (ℕ → Sight) → ℕ → ℕ) (g : Sight → ℕ) → ((ls ss : ℕ → Sight) (n : ℕ) → f ls ss n ≡ g (place K ls ss n)) → f logs' shards' (home_of K lane) ≡ g (logs' (home_of K lane))
-        at_log f g is = is logs' shards' (home_of K lane) ∙ ap g (log_place K logs' shards' (home_of K lane) unrun_home)
-
-        at_shard : (f : (ℕ → Sight) → (ℕ → Sight) → ℕ → ℕ) (g : Sight → ℕ) → ((ls ss : ℕ → Sight) (n : ℕ) → f ls ss n ≡ g (place K ls ss n)) → (s : ℕ) → f logs' shards' (shard_node K s) ≡ g (shards' s)
-        at_shard f g is s = is logs' shards' (shard_node K s) ∙ ap g (shard_place K logs' shards' s)
-
-        unrun_went : Went K E X no_hands (opened_by K logs' shards') (faults_by K logs' shards') (capacity_by K logs' shards') lane x y
-        unrun_went = record {
-          number = settled.0;
-          log = log;
-          shards = seen;
-          log' = log;
-          shards' = seen;
-          settled = settled.1;
-          log_quiet = refl;
-          shard_quiet = λ s. refl;
-          seats = record { at = λ n at. (begun_at n at, inr (still_at n, begun_at n at ∙ sym (still_at n))); unseen = unseen_at K lane log seen };
-          seen_by = λ n h i is. absurd i;
-          nodes = record {
-            log_shape = nodes.log_shapes (home_of K lane) unrun_home;
-            shard_shape = nodes.shard_shapes;
-            log_opened = at_log (opened_by K) (λ x. x.opened) (opened_is K) ∙ log_still.same.opened;
-            shard_opened = λ s lt. at_shard (opened_by K) (λ x. x.opened) (opened_is K) s ∙ (unrun.shard_still s lt).same.opened;
-            log_faults = subst (λ x. log.faults ≤ x) (sym (at_log (faults_by K) (λ x. x.faults) (faults_is K))) log_still.later;
-            shard_faults = λ s lt. subst (λ x. (seen s).faults ≤ x) (sym (at_shard (faults_by K) (λ x. x.faults) (faults_is K) s)) (unrun.shard_still s lt).later;
-            log_capacity = sym (at_log (capacity_by K) (λ x. x.capacity) (capacity_is K) ∙ log_still.same.capacity);
-            shard_capacity = λ s lt. sym (at_shard (capacity_by K) (λ x. x.capacity) (capacity_is K) s ∙ (unrun.shard_still s lt).same.capacity);
-          };
-          txs = (unrun.lanes lane x y here there).txs;
-          ended = inr (no_memory, λ k z. inl (refl, refl, refl), (unrun.lanes lane x y here there).fault);
-        }
-
-      unrun_nodes : NodesSay K logs shards logs' shards'
-      unrun_nodes = says_nodes (λ n lt. ((unrun.log_still n lt).same, (unrun.log_still n lt).later)) (λ s lt. ((unrun.shard_still s lt).same, (unrun.shard_still s lt).later))
-
-      unrun_says : Says
-      unrun_says = wave_says_law K E X (flying K logs shards) (flying K logs' shards') (opened_by K logs' shards') (faults_by K logs' shards') (capacity_by K logs' shards') old new still_locks nodes.limits places unrun.count
-          (λ m checked. threads_next_law K m logs shards logs' shards' nodes.before nodes.behind unrun_nodes.log_headers unrun_nodes.shard_headers checked)
-          (λ m checked. after_here K logs' shards' nodes.behind nodes.next m checked) unrun_went
-
 pub wave_ran_law : WaveRanLaw
 wave_ran_law K logs shards logs' shards' old new nodes places ran = (ran_says K logs shards logs' shards' nodes old new places ran, say_nodes K logs shards logs' shards' nodes old new places ran)
-
-pub wave_unrun_law : WaveUnrunLaw
-wave_unrun_law K m logs shards logs' shards' old new nodes places checked idle unrun = (
-  unrun_says K logs shards logs' shards' nodes old new places m checked idle unrun,
-  says_nodes K logs shards logs' shards' nodes old new places (λ n lt. ((unrun.log_still n lt).same, (unrun.log_still n lt).later)) (λ s lt. ((unrun.shard_still s lt).same, (unrun.shard_still s lt).later)),
-)

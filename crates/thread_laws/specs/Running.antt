@@ -19,7 +19,7 @@ use Rattle.node_lock.specs.declared.views.Hand.{Hand}
 use Rattle.node_lock.specs.Moving.{Same}
 use Rattle.node_lock.specs.Tickets.{times, Done}
 use Rattle.thread_laws.specs.Sitting.{SitsAt}
-use Rattle.thread_laws.specs.Whole.{no_memory, HasEnded, EndsBy, EachPair, WaveSays}
+use Rattle.thread_laws.specs.Whole.{HasEnded, EachPair, WaveSays}
 
 -- a node whose lock was made with a seat for each of these lanes, and closed with these hands
 pub record NodeRan (first : Sight) (lanes : List ℕ) (hands : List Hand) (last : Sight) : Type 0 where
@@ -53,24 +53,14 @@ pub record WaveRan (K : Shape) (logs shards logs' shards' : ℕ → Sight) (old 
   pub count : length new ≡ length old
   pub lanes : EachPair (LaneRan K logs shards log_hands shard_hands) old new
 
--- or memory was wanting before any lane began: each node is as it was, nothing new is in flight, and no lane ran
+-- a node that was asked nothing is as it was, and nothing new is in flight
 pub record IsStillSight (old new : Sight) : Type 0 where
   pub same : Same old new
   pub seen : new.seen ≡ old.seen
   pub flight : (new.flight ≡ None) ⊎ (new.flight ≡ old.flight)
   pub later : old.faults ≤ new.faults
 
-pub record IsUnrun (old new : Lane) : Type 0 where
-  pub txs : new.txs.items ≡ old.txs.items
-  pub fault : EndsBy old new no_memory
-
-pub record WaveUnrun (K : Shape) (logs shards logs' shards' : ℕ → Sight) (old new : List Lane) : Type 0 where
-  pub log_still : (n : ℕ) → n < K.coordinators → IsStillSight (logs n) (logs' n)
-  pub shard_still : (s : ℕ) → s < K.shards → IsStillSight (shards s) (shards' s)
-  pub count : length new ≡ length old
-  pub lanes : EachPair (λ lane x y. IsUnrun x y) old new
-
--- what is known of the nodes, whether lanes ran or not: before and behind the wave each journal is one of its node's header; what is in flight behind
+-- what is known of the nodes: before and behind the wave each journal is one of its node's header; what is in flight behind
 -- it may come next there; and beyond the last shard there is nothing
 pub record WaveNodes (K : Shape) (logs shards logs' shards' : ℕ → Sight) : Type 0 where
   pub limits : IsWithinLimits K
@@ -98,12 +88,6 @@ AllSays K logs shards logs' shards' old new =
 abbrev pub WaveRanLaw : Type 0
 WaveRanLaw = (K : Shape) (logs shards logs' shards' : ℕ → Sight) (old new : List Lane) → WaveNodes K logs shards logs' shards' → length old ≡ K.coordinators * K.lanes
     → WaveRan K logs shards logs' shards' old new → AllSays K logs shards logs' shards' old new
-
--- the same where no lane ran, of checked journals of idle lanes
-abbrev pub WaveUnrunLaw : Type 0
-WaveUnrunLaw = (K : Shape) (m : Minted) (logs shards logs' shards' : ℕ → Sight) (old new : List Lane) → WaveNodes K logs shards logs' shards' → length old ≡ K.coordinators * K.lanes
-    → CheckedJournals K m (seen_by K logs shards) → AreIdle K (seen_by K logs shards)
-    → WaveUnrun K logs shards logs' shards' old new → AllSays K logs shards logs' shards' old new
 
 -- a lane's fresh seats are settled, where the journals are checked and all lanes are idle
 abbrev pub FreshSettledLaw : Type 0

@@ -1,3 +1,2 @@
 pub mod Among
-pub mod Shows
 pub mod Laws

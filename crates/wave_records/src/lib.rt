@@ -1,5 +1,4 @@
-//! From lists of locks, of seats and of nodes to the record of a wave: what each lock's closing says of the node at its place, and what a lane's seats say
-//! of the lane. It has no body that runs.
+//! From lists of locks and of nodes to the record of a wave: what each lock's closing says of the node at its place. It has no body that runs.
 #![tactic(auto)]
 
 ghost use Rattle.wave_records.specs.Laws.{HeldLaw, NodesRanLaw, NodesStillLaw};

@@ -1,11 +1,7 @@
-use Rattle.std.proofs.Common.{◌≡◌, ◌≤◌, ◌+◌, ◌*◌, List, length, vec_len}
+use Rattle.std.proofs.Common.{◌≡◌, ◌≤◌, ◌+◌, ◌*◌, length, vec_len}
 use Rattle.std.specs.Prelude.{All, vec_capacity}
-use Rattle.ledger_runs.specs.declared.lanes.Lane.{Lane}
-use Rattle.shard_fanout.specs.Nodes.{shard_sight}
-use Rattle.wave_ends.specs.Rows.{AreLeft}
 use Rattle.lane_waves.specs.Places.{AllFrom}
-use Rattle.lane_waves.specs.Rows.{lanes_from}
-use Rattle.lane_waves.specs.Deals.{HasRoom, HaveSeats, IsHomeFresh, IsEmptyRoom}
+use Rattle.lane_waves.specs.Deals.{IsWaiting, HaveSeats, IsHomeFresh, IsEmptyRoom}
 use Rattle.lane_waves.proofs.dealing.deal_all.Given as goal
 
 abbrev pub invariant-loop-own : goal.invariant-loop-own
@@ -15,10 +11,8 @@ invariant-loop-own g l = record {
   homes_room : vec_capacity l.homes ≡ vec_capacity l.fn.homes;
   place : l.shape.coordinators ≤ vec_capacity l.emptied;
   emptied : All (IsEmptyRoom l.shape.lanes) l.emptied.items;
-  room : HasRoom l.shape.shards (length l.homes.items * l.shape.lanes) l.table;
-  left : AreLeft (shard_sight g.D.Disk.count g.D.Disk.limit) (lanes_from 0 (length l.homes.items * l.shape.lanes)) l.shard_locks l.table.rows.items;
-  dealt : (lanes : List Lane) → HaveSeats g.D.Disk.count g.D.Disk.limit g.B.Locks.tables l.shape l.log_locks l.shard_locks (l.shape.coordinators * l.shape.lanes) lanes l.fn.table
-      → HaveSeats g.D.Disk.count g.D.Disk.limit g.B.Locks.tables l.shape l.log_locks l.shard_locks (length l.homes.items * l.shape.lanes) lanes l.table;
+  waiting : IsWaiting g.D.Disk.count g.D.Disk.limit l.shard_locks (length l.homes.items * l.shape.lanes) l.table;
+  dealt : HaveSeats g.D.Disk.count g.D.Disk.limit g.B.Locks.tables l.shape l.log_locks l.shard_locks (length l.homes.items * l.shape.lanes) l.fn.table.lanes.items l.table;
 }
 
 abbrev pub decreases-loop-own : goal.decreases-loop-own

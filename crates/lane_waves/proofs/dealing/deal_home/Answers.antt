@@ -1,13 +1,12 @@
-use Rattle.std.proofs.Common.{◌≡◌, ◌<◌, ◌≤◌, ◌+◌, ◌*◌, ℕ, suc, Some, length, refl, sym, ap, ◌∙◌, subst, arith}
+use Rattle.std.proofs.Common.{rules, ◌≡◌, ◌<◌, ◌≤◌, ◌+◌, ◌*◌, ℕ, suc, Some, List, [], length, refl, sym, ap, ◌∙◌, subst, arith}
 use Rattle.std.specs.Prelude.{slice_get}
 use Rattle.std.proofs.lemmas.Option.{slice_get_read}
 use Rattle.std.proofs.lemmas.List.Elements.{All-pop}
 use Rattle.node_lock.specs.declared.views.Hand.{Hand}
 use Rattle.node_lock.specs.Seats.{knows, opening_of}
 use Rattle.shard_fanout.specs.Nodes.{shard_sight, log_sight}
-use Rattle.wave_ends.specs.Rows.{AreLeft, AreDealt}
-use Rattle.lane_waves.specs.Rows.{lanes_from}
-use Rattle.lane_waves.specs.Deals.{MayRun, HasRoom, HaveSeats, IsOpenAt}
+use Rattle.wave_ends.specs.Rows.{AreDealt}
+use Rattle.lane_waves.specs.Deals.{MayRun, IsWaiting, HaveSeats, IsOpenAt}
 use Rattle.lane_waves.proofs.Places.{snoc_many, all_here}
 use Rattle.lane_waves.proofs.Lists.{home_last}
 use Rattle.lane_waves.proofs.Seating.{opened_of, set_up, seats_more}
@@ -25,13 +24,22 @@ invariant_of-port g c =
       since = subst (λ n. (log_sight (opening_of guarded)).opened ≤ n) (sym (ap (λ (h : Hand). h.faults) k.2)) open_at.since;
     }
 
+pub loop-seat-init : goal.loop-seat-init
+loop-seat-init g c = record {
+  many = c.requires.many;
+  own = c.requires.own;
+  capacity = refl;
+  waiting = c.requires.waiting;
+  dealt = λ lanes d. d;
+}
+
 pub deal_lane-table-requires-clause-opened :
     goal.deal_lane-table-requires-clause-opened
 deal_lane-table-requires-clause-opened g c = opened_of g.D.Disk.count g.D.Disk.limit c.args.shape.now 0 c.args.shard_locks.now c.requires.open.shards
 
-pub deal_lane-table-requires-clause-room :
-    goal.deal_lane-table-requires-clause-room
-deal_lane-table-requires-clause-room g c =
+pub deal_lane-table-requires-clause-waiting :
+    goal.deal_lane-table-requires-clause-waiting
+deal_lane-table-requires-clause-waiting g c =
     let gs = c.args.log_locks.now in
     let guarded = c.index-log_locks-home.result in
     let there : slice_get gs c.args.home ≡ Some guarded = slice_get_read gs _ c.args.home guarded refl c.requires.home c.index-log_locks-home.is in
@@ -39,19 +47,7 @@ deal_lane-table-requires-clause-room g c =
     let lane : (knows c.in-Some.seat).lane ≡ c.args.home * c.args.shape.now.lanes + length c.pop.new.self.items = ap (λ (h : Hand). h.lane) k.2 in
     let many = snoc_many c.loop-seat.own.items c.pop.new.self.items c.in-Some.seat c.in-Some.ensures.items in
     let all : c.args.home * c.args.shape.now.lanes + length c.loop-seat.own.items ≡ suc (knows c.in-Some.seat).lane = omega (arith, lane, many) in
-    subst (λ n. HasRoom (length c.args.shard_locks.now) n c.loop-seat.table) all c.loop-seat.invariant.room
-
-pub deal_lane-table-requires-clause-left :
-    goal.deal_lane-table-requires-clause-left
-deal_lane-table-requires-clause-left g c =
-    let gs = c.args.log_locks.now in
-    let guarded = c.index-log_locks-home.result in
-    let there : slice_get gs c.args.home ≡ Some guarded = slice_get_read gs _ c.args.home guarded refl c.requires.home c.index-log_locks-home.is in
-    let k = (home_last c.args.shape.now c.args.home gs c.loop-seat.own.items c.pop.new.self.items c.in-Some.seat c.loop-seat.invariant.own c.in-Some.ensures.items guarded there).1 in
-    let lane : (knows c.in-Some.seat).lane ≡ c.args.home * c.args.shape.now.lanes + length c.pop.new.self.items = ap (λ (h : Hand). h.lane) k.2 in
-    let many = snoc_many c.loop-seat.own.items c.pop.new.self.items c.in-Some.seat c.in-Some.ensures.items in
-    let all : c.args.home * c.args.shape.now.lanes + length c.loop-seat.own.items ≡ suc (knows c.in-Some.seat).lane = omega (arith, lane, many) in
-    subst (λ n. AreLeft (shard_sight g.D.Disk.count g.D.Disk.limit) (lanes_from 0 n) c.args.shard_locks.now c.loop-seat.table.rows.items) all c.loop-seat.invariant.left
+    subst (λ n. IsWaiting g.D.Disk.count g.D.Disk.limit c.args.shard_locks.now n c.loop-seat.table) all c.loop-seat.invariant.waiting
 
 pub loop-seat-preserved : goal.loop-seat-preserved
 loop-seat-preserved g c =
@@ -75,15 +71,28 @@ loop-seat-preserved g c =
     let e = c.deal_lane-table.ensures in
     let next = e.next in
     let u = c.deal_lane-table.result in
-    let may = (All-pop MayRun c.loop-seat.table.lanes.items u.lanes.items (Some next.run.work) next.lanes inv.room.lanes).1 in
+    let may = (All-pop MayRun c.loop-seat.table.lanes.items u.lanes.items (Some next.run.work) next.lanes inv.waiting.room.lanes).1 in
     let up = set_up count limit tables K gs hs c.requires.open c.args.home (length rest) guarded _ next.run next.seats low there refl refl k.2 (next.lane ∙ lane) next.log
     (subst (λ l. AreDealt (shard_sight count limit) l hs next.seats) lane next.dealt) next.ports may in
     record {
       many = omega (arith, low);
       own = λ x at_x. (home_last K c.args.home gs c.loop-seat.own.items rest c.in-Some.seat inv.own c.in-Some.ensures.items x at_x).0;
       capacity = c.pop.ensures.capacity ∙ inv.capacity;
-      room = subst (λ n. HasRoom (length hs) n u) lane e.room;
-      left = subst (λ n. AreLeft (shard_sight count limit) (lanes_from 0 n) hs u.rows.items) lane e.left;
+      waiting = subst (λ n. IsWaiting count limit hs n u) lane e.waiting;
       dealt = λ lanes d. seats_more count limit tables K gs hs c.requires.open at lanes _ c.loop-seat.table u next up
           (subst (λ n. HaveSeats count limit tables K gs hs n lanes c.loop-seat.table) all (inv.dealt lanes d));
     }
+
+pub returns-clause-waiting : goal.returns-clause-waiting
+returns-clause-waiting g c =
+    let none : c.loop-seat.own.items ≡ [] = search (rules, c.in_default.ensures.cases) in
+    let z = ap (λ (xs : List _). length xs) none in
+    let all : c.args.home * c.args.shape.now.lanes + length c.loop-seat.own.items ≡ c.args.home * c.args.shape.now.lanes = omega (arith, z) in
+    subst (λ n. IsWaiting g.D.Disk.count g.D.Disk.limit c.args.shard_locks.now n c.loop-seat.table) all c.loop-seat.invariant.waiting
+
+pub returns-clause-dealt : goal.returns-clause-dealt
+returns-clause-dealt g c =
+    let none : c.loop-seat.own.items ≡ [] = search (rules, c.in_default.ensures.cases) in
+    let z = ap (λ (xs : List _). length xs) none in
+    let all : c.args.home * c.args.shape.now.lanes + length c.loop-seat.own.items ≡ c.args.home * c.args.shape.now.lanes = omega (arith, z) in
+    λ lanes d. subst (λ n. HaveSeats g.D.Disk.count g.D.Disk.limit g.B.Locks.tables c.args.shape.now c.args.log_locks.now c.args.shard_locks.now n lanes c.loop-seat.table) all (c.loop-seat.invariant.dealt lanes d)

@@ -1,10 +1,7 @@
 use Rattle.std.proofs.Common.{◌≡◌, ◌≤◌, ◌+◌, ◌*◌, List, length, vec_len}
 use Rattle.std.specs.Prelude.{vec_capacity}
 use Rattle.ledger_runs.specs.declared.lanes.Lane.{Lane}
-use Rattle.shard_fanout.specs.Nodes.{shard_sight}
-use Rattle.wave_ends.specs.Rows.{AreLeft}
-use Rattle.lane_waves.specs.Rows.{lanes_from}
-use Rattle.lane_waves.specs.Deals.{HasRoom, HaveSeats, IsHomeLeft}
+use Rattle.lane_waves.specs.Deals.{IsWaiting, HaveSeats, IsHomeLeft}
 use Rattle.lane_waves.proofs.dealing.deal_home.Given as goal
 
 abbrev pub invariant-loop-seat : goal.invariant-loop-seat
@@ -12,8 +9,7 @@ invariant-loop-seat g l = record {
   many : length l.own.items ≤ l.shape.lanes;
   own : IsHomeLeft l.shape l.home l.log_locks l.own.items;
   capacity : vec_capacity l.own ≡ vec_capacity l.fn.own;
-  room : HasRoom (length l.shard_locks) (l.home * l.shape.lanes + length l.own.items) l.table;
-  left : AreLeft (shard_sight g.D.Disk.count g.D.Disk.limit) (lanes_from 0 (l.home * l.shape.lanes + length l.own.items)) l.shard_locks l.table.rows.items;
+  waiting : IsWaiting g.D.Disk.count g.D.Disk.limit l.shard_locks (l.home * l.shape.lanes + length l.own.items) l.table;
   dealt : (lanes : List Lane) → HaveSeats g.D.Disk.count g.D.Disk.limit g.B.Locks.tables l.shape l.log_locks l.shard_locks (l.home * l.shape.lanes + length l.fn.own.items) lanes l.fn.table
       → HaveSeats g.D.Disk.count g.D.Disk.limit g.B.Locks.tables l.shape l.log_locks l.shard_locks (l.home * l.shape.lanes + length l.own.items) lanes l.table;
 }

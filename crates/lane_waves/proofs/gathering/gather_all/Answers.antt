@@ -1,7 +1,7 @@
 use Rattle.std.proofs.Common.{rules, ◌≡◌, ◌+◌, ◌*◌, Some, List, [], length, refl, ap, ◌∙◌, arith}
 use Rattle.std.proofs.lemmas.List.Elements.{All-pop}
 use Rattle.lane_waves.specs.Deals.{IsEmptyRoom}
-use Rattle.lane_waves.proofs.Places.{snoc_many, next_row, zero_row, append_many, none_long}
+use Rattle.lane_waves.proofs.Places.{snoc_many, pushed_many, next_row, zero_row, append_many, none_long}
 use Rattle.lane_waves.proofs.Giving.{homes_none, homes_more, homes_all}
 use Rattle.lane_waves.proofs.gathering.gather_all.Goals as goal
 
@@ -41,7 +41,7 @@ loop-own-preserved g c =
     let row = next_row (length c.pop.new.self.items) (length c.loop-own.emptied.items) c.args.count many in
     let runs : length c.loop-own.table.runs.items ≡ length c.gather_home-own.result.1.runs.items + length e.home.gone = ap (λ (xs : List _). length xs) e.home.runs ∙ append_many c.gather_home-own.result.1.runs.items e.home.gone in
     let gone = e.home.many in
-    let more = snoc_many c.push_reserved.new.self.items c.loop-own.homes.items _ c.push_reserved.ensures.items in
+    let more = pushed_many c.push_reserved.new.self c.loop-own.homes c.push_reserved.ensures.len in
     record {
       runs = omega (arith, r, row, runs, gone);
       emptied = (All-pop (IsEmptyRoom c.args.count) c.loop-own.emptied.items c.pop.new.self.items (Some c.in-Some.own) c.in-Some.ensures.items inv.emptied).0;
@@ -69,3 +69,16 @@ pub returns-clause-homes : goal.returns-clause-homes
 returns-clause-homes g c =
     let none : c.loop-own.emptied.items ≡ [] = search (rules, c.in_default.ensures.cases) in
     homes_all c.args.count c.args.table c.loop-own.homes.items c.loop-own.table c.loop-own.invariant.homes (none_long c.loop-own.table.runs.items (c.loop-own.invariant.runs ∙ ap (λ (xs : List _). length xs * c.args.count) none ∙ zero_row c.args.count))
+
+pub returns-clause-room : goal.returns-clause-room
+returns-clause-room g c = c.loop-own.invariant.room
+
+pub returns-clause-rooms : goal.returns-clause-rooms
+returns-clause-rooms g c = c.loop-own.invariant.rooms
+
+pub returns-clause-gathered : goal.returns-clause-gathered
+returns-clause-gathered g c = c.loop-own.invariant.gathered
+
+pub gather_home-own-requires-clause-room :
+    goal.gather_home-own-requires-clause-room
+gather_home-own-requires-clause-room g c = c.loop-own.invariant.room

@@ -1,7 +1,7 @@
 use Rattle.std.proofs.Common.{◌≡◌, suc, List, length, refl, sym, ap, ◌∙◌, subst, arith}
 use Rattle.wave_ends.specs.Dealing.{PopsEach}
 use Rattle.lane_waves.specs.Gathers.{EachTakes, AllOver, MayKeep, IsEnd}
-use Rattle.lane_waves.proofs.Places.{snoc_many}
+use Rattle.lane_waves.proofs.Places.{snoc_many, pushed_many}
 use Rattle.lane_waves.proofs.Lists.{pops_many}
 use Rattle.lane_waves.proofs.Giving.{takes_room, takes_left, over_last, seats_many}
 use Rattle.lane_waves.proofs.gathering.gather_lane.Goals as goal
@@ -45,7 +45,7 @@ returns-clause-room g c =
     let room = c.requires.room in
     let over = over_last (length t.rows.items) c.pop.new.self.items c.in-Some.run' (subst (AllOver (length t.rows.items)) c.in-Some.ensures.items room.over) in
     let runs = snoc_many t.runs.items c.pop.new.self.items c.in-Some.run' c.in-Some.ensures.items in
-    let lanes = snoc_many c.push_reserved.new.self.items t.lanes.items _ c.push_reserved.ensures.items in
+    let lanes = pushed_many c.push_reserved.new.self t.lanes c.push_reserved.ensures.len in
     let many = pops_many c.gather-rows.result.rows.items t.rows.items c.seats_back.result.items c.gather-rows.ensures.added in
     let a = many.0 in let b = many.1 in
     let one : length t.runs.items ≡ suc (length c.pop.new.self.items) = omega (arith, runs) in
@@ -69,3 +69,15 @@ returns-clause-back g c =
       lanes = c.push_reserved.ensures.items;
       came = subst (λ o. IsEnd c.in-Some.run'.work o c.kept.result) (sym c.in-Some-came.is) c.kept.ensures;
     }
+
+pub seats_back-requires-clause-empty : goal.seats_back-requires-clause-empty
+seats_back-requires-clause-empty g c = c.requires.room.seats.0
+
+pub gather-rows-requires-clause-empty : goal.gather-rows-requires-clause-empty
+gather-rows-requires-clause-empty g c = c.requires.room.spare.0
+
+pub gather-rows-requires-clause-room : goal.gather-rows-requires-clause-room
+gather-rows-requires-clause-room g c = c.requires.room.spare.1
+
+pub returns-clause-rooms : goal.returns-clause-rooms
+returns-clause-rooms g c = refl

@@ -1,4 +1,5 @@
 use Rattle.std.proofs.Common.{◌≤◌, List, length, map, sym, ap, ◌∙◌, subst, arith}
+use Rattle.std.specs.Prelude.{vec_capacity}
 use Rattle.std.proofs.lemmas.List.Elements.{All-same}
 use Rattle.cbdc_model.specs.Ranges.{home_of}
 use Rattle.coord_log.specs.Logs.{sight}
@@ -120,3 +121,37 @@ returns-clause-shards_go g c =
     subst (λ xs. WentOn (sight_of g.D.Disk.count g.D.Disk.limit) (λ a b. IsShardHeld g.D.Disk.content g.D.Disk.images a → IsShardHeld g.D.Disk.content g.D.Disk.images b) xs c.own_shards.result.items) c.share_shards-shards.ensures.nodes
     (subst (λ ys. WentOn (sight_of g.D.Disk.count g.D.Disk.limit) (λ a b. IsShardHeld g.D.Disk.content g.D.Disk.images a → IsShardHeld g.D.Disk.content g.D.Disk.images b) (map (λ (s : SharedShard g.row.D.Denot). s.node) c.share_shards-shards.result.0.items) ys) (sym c.own_shards.ensures)
     (went_map (λ (s : SharedShard g.row.D.Denot). s.node) (sight_of g.D.Disk.count g.D.Disk.limit) (λ a b. IsShardHeld g.D.Disk.content g.D.Disk.images a → IsShardHeld g.D.Disk.content g.D.Disk.images b) c.share_shards-shards.result.0.items c.wave_shared-logs.result.shards.items c.wave_shared-logs.ensures.shards_go))
+
+pub share_logs-logs-requires-clause-empty : goal.share_logs-logs-requires-clause-empty
+share_logs-logs-requires-clause-empty g c = c.in-Ok.ensures.room.logs.0
+
+pub share_logs-logs-requires-clause-room : goal.share_logs-logs-requires-clause-room
+share_logs-logs-requires-clause-room g c = subst (λ n. n ≤ vec_capacity c.in-Ok.room.nodes.logs) (sym c.requires.logs_many) c.in-Ok.ensures.room.logs.1
+
+pub share_shards-shards-requires-clause-empty :
+    goal.share_shards-shards-requires-clause-empty
+share_shards-shards-requires-clause-empty g c = c.in-Ok.ensures.room.shards.0
+
+pub share_shards-shards-requires-clause-room :
+    goal.share_shards-shards-requires-clause-room
+share_shards-shards-requires-clause-room g c = subst (λ n. n ≤ vec_capacity c.in-Ok.room.nodes.shards) (sym c.requires.shards_many) c.in-Ok.ensures.room.shards.1
+
+pub wave_shared-logs-requires-clause-home_rows : goal.wave_shared-logs-requires-clause-home_rows
+wave_shared-logs-requires-clause-home_rows g c κs within = c.in-Ok.ensures.room.home_rows
+
+pub wave_shared-logs-requires-clause-home_rows_many :
+    goal.wave_shared-logs-requires-clause-home_rows_many
+wave_shared-logs-requires-clause-home_rows_many g c κs within = c.in-Ok.ensures.room.home_rows_many
+
+pub wave_shared-logs-requires-clause-shard_rows : goal.wave_shared-logs-requires-clause-shard_rows
+wave_shared-logs-requires-clause-shard_rows g c κs within = c.in-Ok.ensures.room.shard_rows
+
+pub wave_shared-logs-requires-clause-shard_rows_many :
+    goal.wave_shared-logs-requires-clause-shard_rows_many
+wave_shared-logs-requires-clause-shard_rows_many g c κs within = c.in-Ok.ensures.room.shard_rows_many
+
+pub own_logs-requires-clause-empty : goal.own_logs-requires-clause-empty
+own_logs-requires-clause-empty g c = c.share_logs-logs.ensures.room.0
+
+pub own_shards-requires-clause-empty : goal.own_shards-requires-clause-empty
+own_shards-requires-clause-empty g c = c.share_shards-shards.ensures.room.0

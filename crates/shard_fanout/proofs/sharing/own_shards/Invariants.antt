@@ -1,4 +1,4 @@
-use Rattle.std.proofs.Common.{◌≡◌, ◌≤◌, ◌+◌, length, vec_len}
+use Rattle.std.proofs.Common.{◌≤◌, ◌+◌, length, vec_len}
 use Rattle.std.specs.Prelude.{vec_capacity}
 use Rattle.shard_fanout.proofs.Turning.{Owning}
 use Rattle.shard_fanout.proofs.sharing.own_shards.Given as goal
