@@ -1,6 +1,6 @@
 // The rows.
 use crate::book::{Answer, Ask, Book, Line};
-use crate::gates::{KeepGate, MeetGate, RowGate};
+use crate::gates::{AloneGate, KeepGate, MeetGate, RowGate};
 use crate::lanes::{count_in_order, point_of, write_all};
 use cbdc_types::{Hash, Header, LaneId, NodeId, Shape};
 use node_lock::{Guarded, Node};
@@ -126,8 +126,7 @@ pub fn looks<R: Threads + Wait + Sync>(rt: &R, alloc: Global) -> Option<bool> {
 }
 
 // Whether the gate that holds one lane until the other has come lets both go.
-fn has_met<R: Threads + Wait + Sync>(rt: &R, alloc: Global, gate: MeetGate) -> Option<bool> {
-    let gate = RowGate::Meet(gate);
+fn has_met<R: Threads + Wait + Sync>(rt: &R, alloc: Global, gate: RowGate) -> Option<bool> {
     let left = write_beside(rt, alloc, 1, &gate)?;
     Some(gate.has_met() && left.book.lines().len() == 3 && (left.first, left.second) == (1, 1))
 }
@@ -136,7 +135,7 @@ fn has_met<R: Threads + Wait + Sync>(rt: &R, alloc: Global, gate: MeetGate) -> O
 pub fn beside_each_other<R: Threads + Wait + Sync>(rt: &R, alloc: Global) -> Option<bool> {
     let first = MeetGate::new(point_of(ONE, When::Before), point_of(TWO, When::After), 0);
     let second = MeetGate::new(point_of(TWO, When::Before), point_of(ONE, When::After), 0);
-    Some(has_met(rt, alloc, first)? && has_met(rt, alloc, second)?)
+    Some(has_met(rt, alloc, RowGate::Meet(first))? && has_met(rt, alloc, RowGate::Meet(second))?)
 }
 
 /// A lane has the node and keeps it for long; the other comes then, and waits for its turn.
@@ -146,7 +145,17 @@ pub fn waits<R: Threads + Wait + Sync>(rt: &R, alloc: Global) -> Option<bool> {
         point_of(ONE, When::Inside),
         100_000,
     );
-    has_met(rt, alloc, gate)
+    has_met(rt, alloc, RowGate::Meet(gate))
+}
+
+/// A lane has the node and keeps it until the other goes on from before it, and for long then; the other does not come inside meanwhile.
+pub fn keeps_out<R: Threads + Wait + Sync>(rt: &R, alloc: Global) -> Option<bool> {
+    let gate = AloneGate::new(
+        point_of(ONE, When::Inside),
+        point_of(TWO, When::Before),
+        100_000,
+    );
+    has_met(rt, alloc, RowGate::Alone(gate))
 }
 
 /// A call passes the gate before, inside and after.
