@@ -5,8 +5,9 @@ use std::sync::Wait;
 use std::thread;
 use std::time::Duration;
 
-// A seat that is at most so many turns from its own is woken at each turn; one that is farther naps, and is not.
-const NEAR: u64 = 4;
+// A seat that is at most so many turns from its own is woken at each turn; one that is farther naps, and is not. Many are near, since one that
+// overslept its turn would keep all behind it waiting.
+const NEAR: u64 = 64;
 
 // So often a near seat looks again at once, before it sleeps.
 const YIELDS: u32 = 100;
@@ -34,7 +35,8 @@ impl Waited {
         }
     }
 
-    // Half of what the turns that are left would take at the pace of the last nap: so a nap ends before the seat's turn, and few are needed.
+    // Half of what the turns that are left would take at the pace of the last nap: at a steady pace the seat is awake before it is near, and few
+    // naps are needed.
     fn next_nap(&self, turn: u64, left: u64) -> u64 {
         let passed = turn.saturating_sub(self.turn).max(1);
         let half = self.nap.saturating_mul(left) / 2 / passed;
