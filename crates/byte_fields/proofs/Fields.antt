@@ -7,7 +7,7 @@ use Rattle.cbdc_types.specs.declared.tx.OutPoint.{OutPoint}
 use Rattle.cbdc_types.specs.declared.tx.Output.{Output}
 use Rattle.cbdc_types.specs.declared.tx.Input.{Input}
 use Rattle.byte_fields.specs.declared.fault.Fault.{Fault}
-use Rattle.input_faults.specs.declared.InputKind.TheVariants.{Cut, TooLong}
+use Rattle.base_types.specs.declared.faults.InputKind.TheVariants.{Cut, TooLong}
 use Rattle.byte_fields.specs.Faults.{◌>>=◌, fault, IsBytes}
 use Rattle.byte_spelling.specs.Spelling.{number, output, input, witness, FitsNumber, FitsHash, FitsOutput, FitsInput, FitsWitness}
 use Rattle.byte_fields.specs.Reading.{field_at, number_of, hash_of, number_at, hash_at}

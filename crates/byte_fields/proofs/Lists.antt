@@ -6,7 +6,7 @@ use Rattle.cbdc_types.specs.declared.tx.Output.{Output}
 use Rattle.cbdc_types.specs.declared.tx.Input.{Input}
 use Rattle.cbdc_types.specs.declared.tx.FullTx.{FullTx}
 use Rattle.byte_fields.specs.declared.fault.Fault.{Fault}
-use Rattle.input_faults.specs.declared.InputKind.TheVariants.{TooMany}
+use Rattle.base_types.specs.declared.faults.InputKind.TheVariants.{TooMany}
 use Rattle.byte_fields.specs.Faults.{◌>>=◌, fault, IsBytes}
 use Rattle.byte_spelling.specs.Spelling.{number, counted, output, input, witness, transaction, FitsOutput, FitsInput, FitsWitness, FitsList, FitsTransaction}
 use Rattle.byte_fields.specs.Reading.{number_at, items_at, list_at}

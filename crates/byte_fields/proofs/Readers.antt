@@ -1,6 +1,6 @@
 -- Readers put together: what is read is spelled so, and what is spelled so is read again, whatever follows.
 use Rattle.std.proofs.Common.{◌≡◌, ℕ, Bool, true, false, ◌⊎◌, inl, inr, cond, List, ◌++◌, Result, Ok, Err, refl, sym, ap, subst, ◌∙◌, append_assoc}
-use Rattle.input_faults.specs.declared.InputKind.{InputKind}
+use Rattle.base_types.specs.declared.faults.InputKind.{InputKind}
 use Rattle.byte_fields.specs.declared.fault.Fault.{Fault}
 use Rattle.byte_fields.specs.Faults.{◌>>=◌, fault}
 use Rattle.byte_fields.proofs.Fields.{bind_ok, ok_is, Takes, Takes-then, IsRead}

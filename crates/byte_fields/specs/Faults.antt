@@ -1,6 +1,6 @@
 -- Results of reading: a value and the bytes behind it, or the first fault.
 use Rattle.std.specs.Prelude.{◌≡◌, ◌<◌, ℕ, List, length, slice_index, Result, Ok, Err}
-use Rattle.input_faults.specs.declared.InputKind.{InputKind}
+use Rattle.base_types.specs.declared.faults.InputKind.{InputKind}
 use Rattle.byte_fields.specs.declared.fault.Fault.{Fault}
 use Rattle.byte_fields.specs.declared.fault.ReadError.{ReadError}
 use Rattle.byte_fields.specs.declared.fault.ReadError.TheVariants as errors

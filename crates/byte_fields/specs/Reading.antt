@@ -1,7 +1,7 @@
 -- Reading from left to right, with the first fault that is met.
 use Rattle.std.specs.Prelude.{ℕ, zero, suc, List, [], ◌∷◌, length, take, drop, Result, Ok, Err, nat_lt, if◌then◌else◌}
 use Rattle.std.specs.Int.{w64, from_le_bytes}
-use Rattle.input_faults.specs.declared.InputKind.TheVariants.{Cut, TooMany}
+use Rattle.base_types.specs.declared.faults.InputKind.TheVariants.{Cut, TooMany}
 use Rattle.byte_fields.specs.declared.fault.Fault.{Fault}
 use Rattle.byte_fields.specs.Faults.{◌>>=◌, fault}
 

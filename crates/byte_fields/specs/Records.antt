@@ -8,7 +8,7 @@ use Rattle.cbdc_types.specs.declared.batch.Reply.{Reply}
 use Rattle.cbdc_types.specs.declared.batch.Reply.TheVariants as replies
 use Rattle.cbdc_types.specs.declared.batch.Outcome.{Outcome}
 use Rattle.cbdc_types.specs.declared.batch.Outcome.TheVariants as outcomes
-use Rattle.input_faults.specs.declared.InputKind.TheVariants.{Form, Large}
+use Rattle.base_types.specs.declared.faults.InputKind.TheVariants.{Form, Large}
 use Rattle.byte_fields.specs.declared.fault.Fault.{Fault}
 use Rattle.byte_fields.specs.Faults.{◌>>=◌, fault}
 use Rattle.byte_fields.specs.Reading.{field_at, number_at, hash_at, list_at}

@@ -4,7 +4,7 @@ use Rattle.cbdc_types.specs.declared.tx.OutPoint.{OutPoint}
 use Rattle.cbdc_types.specs.declared.tx.Output.{Output}
 use Rattle.cbdc_types.specs.declared.tx.Input.{Input}
 use Rattle.cbdc_types.specs.declared.tx.FullTx.{FullTx}
-use Rattle.input_faults.specs.declared.InputKind.TheVariants.{TooLong}
+use Rattle.base_types.specs.declared.faults.InputKind.TheVariants.{TooLong}
 use Rattle.byte_fields.specs.declared.fault.Fault.{Fault}
 use Rattle.byte_fields.specs.Faults.{◌>>=◌, fault}
 use Rattle.byte_fields.specs.Reading.{field_at, number_of, number_at, hash_of, list_at}

@@ -2,7 +2,7 @@
 use Rattle.std.proofs.Common.{◌≡◌, ℕ, ◌+◌, ◌-◌, ◌^◌, ◌<◌, ◌≤◌, false, cond, eqb, ltb, List, [], ◌∷◌, ◌++◌, length, Result, Ok, Err, refl, sym, ap, subst, ◌∙◌, arith, inl, inr}
 use Rattle.std.proofs.lemmas.Bool.{cases_lt, eqb-false, ne_eqb, ltb-false, le-ltb}
 use Rattle.std.proofs.lemmas.List.{append-nil}
-use Rattle.input_faults.specs.declared.InputKind.TheVariants.{TooMany, Zero}
+use Rattle.base_types.specs.declared.faults.InputKind.TheVariants.{TooMany, Zero}
 use Rattle.cbdc_types.specs.declared.tx.Output.{Output}
 use Rattle.cbdc_types.specs.declared.tx.FullTx.{FullTx}
 use Rattle.byte_fields.specs.declared.fault.Fault.{Fault}

@@ -1,2 +1,2 @@
-pub use Rattle.ledger_shape.specs.Limits
-pub use Rattle.ledger_shape.specs.Fields
+pub use Rattle.base_types.specs.Limits
+pub use Rattle.base_types.specs.Fields

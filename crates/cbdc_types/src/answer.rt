@@ -1,7 +1,6 @@
 // What the program answers.
 use crate::Header;
-use base_types::{Hash, NodeId, Stamp};
-use input_faults::InputKind;
+use base_types::{Hash, InputKind, NodeId, Stamp};
 
 /// What is wrong with a history.
 #[derive(Clone, Copy, Debug, PartialEq, Eq)]

@@ -8,13 +8,13 @@ mod record;
 mod tx;
 
 pub use answer::{Answer, UnsoundKind};
-pub use base_types::{BatchId, Hash, LaneId, List, NodeId, Stamp};
+pub use base_types::{
+    BadShape, BatchId, Hash, InputKind, LaneId, List, NodeId, Refusal, Shape, ShapeField, Stamp,
+};
 pub use batch::{
     Answered, Decisions, Entry, OpenLane, Outcome, Outcomes, Part, Phase, Replies, Reply,
     ShardReplies, Status,
 };
 pub use calls::{FinishCall, ForgetCall, LockCall, NodeFault, NodeOpenFault, Refused, Replied};
-pub use input_faults::{InputKind, Refusal};
-pub use ledger_shape::{BadShape, Shape, ShapeField};
 pub use record::{Header, Record};
 pub use tx::{Batch, CompactTx, FullTx, Input, Mint, OutPoint, Output};

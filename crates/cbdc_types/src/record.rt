@@ -1,7 +1,6 @@
 // The records of the journals.
 use crate::{Answered, CompactTx, Decisions, Outcomes};
-use base_types::{BatchId, Hash, List, NodeId, Stamp};
-use ledger_shape::Shape;
+use base_types::{BatchId, Hash, List, NodeId, Shape, Stamp};
 
 /// What each journal begins with: whose it is, how large the ledger is, and the id of its mint.
 #[derive(Clone, Copy, Debug, PartialEq, Eq)]

@@ -1,7 +1,7 @@
 -- Files, by what was read of them.
 use Rattle.std.proofs.Common.{◌≡◌, ◌≢◌, ℕ, List, [], ◌∷◌, true, false, refl, ap, ◌∙◌}
 use Rattle.std.specs.Prelude.{Bool, Option, Some, None, Result, Ok, Err}
-use Rattle.input_faults.specs.declared.InputKind.TheVariants.{Extra}
+use Rattle.base_types.specs.declared.faults.InputKind.TheVariants.{Extra}
 use Rattle.byte_fields.specs.declared.fault.Fault.{Fault}
 use Rattle.byte_fields.specs.Faults.{◌>>=◌, fault}
 use Rattle.client_files.specs.Files.{bad_at, placed, ended, ended_by, extra}

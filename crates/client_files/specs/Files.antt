@@ -1,7 +1,7 @@
 -- What client files and mint files hold, and the first fault of one.
 use Rattle.std.specs.Prelude.{◌≡◌, ℕ, ◌+◌, ◌-◌, ◌==◌, List, [], ◌∷◌, length, Bool, true, false, Option, Some, None, Result, Ok, Err, nat_lt, if◌then◌else◌}
-use Rattle.input_faults.specs.declared.InputKind.{InputKind}
-use Rattle.input_faults.specs.declared.InputKind.TheVariants.{Cut, TooMany, TooLong, Zero, Extra, Large, Form, Repeated}
+use Rattle.base_types.specs.declared.faults.InputKind.{InputKind}
+use Rattle.base_types.specs.declared.faults.InputKind.TheVariants.{Cut, TooMany, TooLong, Zero, Extra, Large, Form, Repeated}
 use Rattle.cbdc_types.specs.declared.tx.Output.{Output}
 use Rattle.cbdc_types.specs.declared.tx.FullTx.{FullTx}
 use Rattle.byte_fields.specs.declared.fault.Fault.{Fault}

@@ -2,6 +2,8 @@
 //! definitions say of its part.
 #![tactic(auto)]
 
+mod help;
+
 ghost use Rattle.std.specs.Prelude.{◌≡◌, codes, IfOk};
 ghost use Rattle.clap.specs.Words.{app_of, new_app};
 ghost use Rattle.command_form.specs.Command.{IsArg, IsLeaf, IsTop, with_settings, shards_rule, coordinators_rule, lanes_rule, batch_rule, mint_rule, verdicts_rule, client_rule, rest_rule, hash_rule, topic_rule, seed_rule, count_rule, nodes_shape, sized_shape, init_shape, run_shape, recover_shape, status_shape, audit_shape, gen_sizes, gen_shape, help_shape, main, looks, checks, hamilton};
@@ -172,7 +174,7 @@ fn init_command<'a>(alloc: Global) -> Result<Command<'a>, AllocError>
         batch: "16",
     };
     let init = with_sizes(alloc, "init", "Writes the first record of each node", sizes)?;
-    init.arg(mint_arg(alloc))
+    init.after_help(help::of_init()).arg(mint_arg(alloc))
 }
 
 // `gen` with its options.
@@ -197,7 +199,10 @@ fn gen_command<'a>(alloc: Global) -> Result<Command<'a>, AllocError>
     ensures { IfOk result (λ c. IsLeaf c gen_shape) }
 {
     let sized = gen_with_sizes(alloc)?;
-    sized.arg(seed_arg(alloc))?.arg(count_arg(alloc))
+    sized
+        .after_help(help::of_gen())
+        .arg(seed_arg(alloc))?
+        .arg(count_arg(alloc))
 }
 
 fn run_command<'a>(alloc: Global) -> Result<Command<'a>, AllocError>
@@ -205,6 +210,7 @@ fn run_command<'a>(alloc: Global) -> Result<Command<'a>, AllocError>
 {
     Command::new(alloc, "run")
         .about("Finishes what is open, and runs the transactions of files")
+        .after_help(help::of_run())
         .arg(verdicts_arg(alloc))?
         .arg(client_arg(alloc))
 }
@@ -212,7 +218,9 @@ fn run_command<'a>(alloc: Global) -> Result<Command<'a>, AllocError>
 fn recover_command<'a>(alloc: Global) -> Command<'a>
     ensures { IsLeaf result recover_shape }
 {
-    Command::new(alloc, "recover").about("Finishes the batches that are open")
+    Command::new(alloc, "recover")
+        .about("Finishes the batches that are open")
+        .after_help(help::of_recover())
 }
 
 fn status_command<'a>(alloc: Global) -> Result<Command<'a>, AllocError>
@@ -220,6 +228,7 @@ fn status_command<'a>(alloc: Global) -> Result<Command<'a>, AllocError>
 {
     Command::new(alloc, "status")
         .about("Tells whether hashes are unspent, locked or absent")
+        .after_help(help::of_status())
         .arg(hash_arg(alloc))
 }
 
@@ -228,6 +237,7 @@ fn audit_command<'a>(alloc: Global) -> Result<Command<'a>, AllocError>
 {
     Command::new(alloc, "audit")
         .about("Checks the journals and what they commit from the first record on")
+        .after_help(help::of_audit())
         .arg(mint_arg(alloc))?
         .arg(rest_arg(alloc))
 }
@@ -246,6 +256,7 @@ fn top<'a>(alloc: Global) -> Command<'a>
 {
     Command::new(alloc, "hamilton")
         .about("Keeps a ledger of unspent outputs, and runs transactions on it")
+        .after_help(help::of_all())
         .version("0.1.0")
         .subcommand_required(true)
         .disable_help_subcommand(true)

@@ -2,7 +2,7 @@
 use Rattle.std.specs.Prelude.{◌≡◌, ◌⊎◌, ℕ, Bool, true, false, IsTrue, List, [], ◌∷◌, Contains, Option, Some, None, Ok, codes, drop, map, if◌then◌else◌}
 use Rattle.std.specs.Str.{bytes_eq}
 use Rattle.hex.specs.Hex.{decode_of}
-use Rattle.ledger_shape.specs.Limits.{ShapeOf}
+use Rattle.base_types.specs.Limits.{ShapeOf}
 use Rattle.clap.specs.Words.{Text, Row, Kinds, IsAmong, all_of, fault_of, first_of, subcommand_of}
 use Rattle.clap.specs.Kinds.{or_else}
 use Rattle.clap.specs.declared.error.kind.ErrorKind.{ErrorKind}

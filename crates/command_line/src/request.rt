@@ -10,10 +10,9 @@ ghost use Rattle.command_line.specs.Words.{AreFiles, IsFirst, IsGivenBy, StandsT
 use crate::matching::matches_of;
 use crate::places::{option_of, positional_places};
 use crate::values::{hash_in, number_in, whole_in};
-use base_types::Hash;
+use base_types::{Hash, Shape};
 use clap::error::ErrorKind;
 use clap::{ArgMatches, Error};
-use ledger_shape::Shape;
 use requests::{FileWord, Request, WordsFault};
 use std::alloc::Global;
 

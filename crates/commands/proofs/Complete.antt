@@ -36,7 +36,7 @@ use Rattle.complete_laws.specs.Ready.{IsReady, limit_at}
 use Rattle.complete_laws.proofs.Audited.{audit_sound}
 use Rattle.complete_laws.proofs.Files.{read_once, not_read_none, clients_once, clients_none}
 use Rattle.complete_laws.proofs.Caused.{unsound_none}
-use Rattle.stopped_runs.proofs.Lanes.{recovery_none, run_none}
+use Rattle.rack_runs.proofs.Lanes.{recovery_none, run_none}
 use Rattle.complete_laws.proofs.Making.{made}
 use Rattle.complete_laws.proofs.Openings.{unopened_none}
 use Rattle.complete_laws.proofs.Rooms.{ample_rooms, idle_rooms}
@@ -46,7 +46,7 @@ use Rattle.command_answers.specs.Causes.{IsTold, IsWell}
 use Rattle.commands.specs.Complete.{CanInit, CanRun, CanAudit, IsUnhindered, none_sound}
 use Rattle.gen_command.specs.Generated.{WhyNoWorkload}
 use Rattle.init_command.specs.Outcomes.{WhyNoInit}
-use Rattle.stopped_runs.specs.Stops.{WhyNoTurns}
+use Rattle.rack_runs.specs.Stops.{WhyNoTurns}
 use Rattle.run_command.specs.Outcomes.{WhyNoRun}
 use Rattle.status_command.specs.Outcomes.{WhyNoStatus}
 use Rattle.commands.specs.Outcomes.{Why}

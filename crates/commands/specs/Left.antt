@@ -8,7 +8,7 @@ use Rattle.rack_nodes.specs.Racked.{AreBack}
 use Rattle.ledger_runs.specs.Least.{IsLeastOpen}
 use Rattle.rack_runs.specs.Runs.{NonePrepared, NothingNext}
 use Rattle.init_command.specs.Outcomes.{InitLeaves}
-use Rattle.stopped_runs.specs.Stops.{TurnsLeave}
+use Rattle.rack_runs.specs.Stops.{TurnsLeave}
 use Rattle.run_command.specs.Outcomes.{RunLeaves}
 
 -- what is left by what was asked for and did not come through: by `init` of a mint that its file holds all disks as they were read, or first records at

@@ -11,7 +11,7 @@ use Rattle.gen_command.specs.Generated.{PrintsWorkload, WhyNoWorkload}
 use Rattle.status_command.specs.Outcomes.{DidStatus, WhyNoStatus}
 use Rattle.init_command.specs.Outcomes.{DidInit, WhyNoInit}
 use Rattle.recover_command.specs.Outcomes.{DidRecover}
-use Rattle.stopped_runs.specs.Stops.{WhyNoTurns}
+use Rattle.rack_runs.specs.Stops.{WhyNoTurns}
 use Rattle.run_command.specs.Outcomes.{DidRun, WhyNoRun}
 
 -- what was asked for was done, and this was printed

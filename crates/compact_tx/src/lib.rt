@@ -54,18 +54,25 @@ fn made_hashes(alloc: Global, id: &Hash, outputs: &[Output]) -> Result<List<Hash
     Ok(List::from_vec(hashes))
 }
 
+/// The transaction's id, which was computed before, and the hashes of its inputs' and its outputs' coins in their order.
+pub fn compact_as(alloc: Global, id: &Hash, tx: &FullTx) -> Result<CompactTx, AllocError>
+    requires { id.now ≡ spec_id tx.now }
+    ensures { IfOk result (λ c. c ≡ compact tx.now) }
+{
+    let inputs = spent_hashes(alloc, tx.inputs.as_slice())?;
+    let outputs = made_hashes(alloc, id, tx.outputs.as_slice())?;
+    Ok(CompactTx {
+        id: *id,
+        inputs,
+        outputs,
+    })
+}
+
 /// The transaction's id, and the hashes of its inputs' and its outputs' coins in their order.
 pub fn compact(alloc: Global, tx: &FullTx) -> Result<CompactTx, AllocError>
     ensures { IfOk result (λ c. c ≡ compact tx.now) }
 {
-    let id = id_of(tx);
-    let inputs = spent_hashes(alloc, tx.inputs.as_slice())?;
-    let outputs = made_hashes(alloc, &id, tx.outputs.as_slice())?;
-    Ok(CompactTx {
-        id,
-        inputs,
-        outputs,
-    })
+    compact_as(alloc, &id_of(tx), tx)
 }
 
 /// A mint as a transaction with no inputs.

@@ -3,8 +3,8 @@ use Rattle.std.proofs.Common.{◌≡◌, inl, inr, ℕ, Bool, List, [], ◌∷�
 use Rattle.std.specs.Prelude.{IsSome}
 use Rattle.std.proofs.lemmas.Bool.{true≢false}
 use Rattle.std.proofs.lemmas.List.{reverse-append, reverse-reverse}
-use Rattle.input_faults.specs.declared.InputKind.{InputKind}
-use Rattle.input_faults.specs.declared.InputKind.TheVariants.{Form, Repeated}
+use Rattle.base_types.specs.declared.faults.InputKind.{InputKind}
+use Rattle.base_types.specs.declared.faults.InputKind.TheVariants.{Form, Repeated}
 use Rattle.cbdc_types.specs.declared.answer.Answer.{Answer}
 use Rattle.cbdc_types.specs.declared.answer.Answer.TheVariants as answers
 use Rattle.clap.specs.Words.{Text}

@@ -53,7 +53,7 @@ use Rattle.gen_command.proofs.FirstShown.{kept_journal, kept_beyond, first_kept,
 use Rattle.gen_command.proofs.Memory.{none_rose, there}
 use Rattle.complete_laws.specs.Ready.{NoneRises, ShowsKept, limit_at}
 use Rattle.complete_laws.proofs.Caused.{unsound_none}
-use Rattle.stopped_runs.proofs.Lanes.{run_none}
+use Rattle.rack_runs.proofs.Lanes.{run_none}
 use Rattle.complete_laws.proofs.Openings.{unopened_none}
 use Rattle.complete_laws.proofs.Rooms.{ample_rooms, idle_rooms, more_room, used_within}
 use Rattle.complete_laws.proofs.Sound.{never_unsound}

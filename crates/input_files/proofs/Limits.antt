@@ -6,7 +6,7 @@ use Rattle.std.proofs.lemmas.List.Elements.{All-nil, All-cons}
 use Rattle.cbdc_types.specs.declared.tx.Output.{Output}
 use Rattle.cbdc_types.specs.declared.tx.FullTx.{FullTx}
 use Rattle.byte_fields.specs.declared.fault.Fault.{Fault}
-use Rattle.input_faults.specs.declared.InputKind.TheVariants.{TooMany}
+use Rattle.base_types.specs.declared.faults.InputKind.TheVariants.{TooMany}
 use Rattle.byte_fields.specs.Faults.{◌>>=◌, fault}
 use Rattle.byte_fields.specs.Reading.{number_at, items_at, list_at}
 use Rattle.byte_fields.specs.Transactions.{input_at, output_at, witness_at, transaction_at}

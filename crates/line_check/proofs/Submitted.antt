@@ -5,7 +5,7 @@ use Rattle.std.specs.Result.{result_ok}
 use Rattle.std.specs.List.{AllZip}
 use Rattle.std.proofs.lemmas.Option.{none-some}
 use Rattle.std.proofs.lemmas.Slice.Zip.{AllZip-long}
-use Rattle.input_faults.specs.declared.Refusal.{Refusal}
+use Rattle.base_types.specs.declared.faults.Refusal.{Refusal}
 use Rattle.cbdc_model.specs.Records.{Shape, Batch, Outcome, Record}
 use Rattle.cbdc_model.specs.Coins.{FullTx}
 use Rattle.cbdc_model.specs.Waves.{sent_to}

@@ -3,8 +3,8 @@ use Rattle.std.specs.Prelude.{ℕ, List, [], ◌∷◌, codes, decimal}
 use Rattle.hex.specs.Hex.{encode_lower}
 use Rattle.cbdc_types.specs.declared.answer.Answer.{Answer}
 use Rattle.cbdc_types.specs.declared.answer.Answer.TheVariants.{Ok, BadWords, BadInput, TooMuch, NotReady, Foreign, NotEmpty, Full, Unsound, ClockEnd, Damaged, ReadFault, WriteFault, DiskFault, Memory}
-use Rattle.input_faults.specs.declared.InputKind.{InputKind}
-use Rattle.input_faults.specs.declared.InputKind.TheVariants as input
+use Rattle.base_types.specs.declared.faults.InputKind.{InputKind}
+use Rattle.base_types.specs.declared.faults.InputKind.TheVariants as input
 use Rattle.cbdc_types.specs.declared.answer.UnsoundKind.{UnsoundKind}
 use Rattle.cbdc_types.specs.declared.answer.UnsoundKind.TheVariants as unsound
 use Rattle.line_text.specs.Lines.{Text, line}

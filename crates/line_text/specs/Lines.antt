@@ -2,8 +2,8 @@
 use Rattle.std.specs.Prelude.{◌≡◌, ℕ, List, [], ◌∷◌, ◌++◌, take, Option, Some, Result, Ok, Err, codes, decimal}
 use Rattle.hex.specs.Hex.{encode_lower}
 use Rattle.outside.specs.Images.{Tells}
-use Rattle.input_faults.specs.declared.Refusal.{Refusal}
-use Rattle.input_faults.specs.declared.Refusal.TheVariants as refusal
+use Rattle.base_types.specs.declared.faults.Refusal.{Refusal}
+use Rattle.base_types.specs.declared.faults.Refusal.TheVariants as refusal
 use Rattle.cbdc_types.specs.declared.batch.Outcome.{Outcome}
 use Rattle.cbdc_types.specs.declared.batch.Outcome.TheVariants as outcome
 use Rattle.base_types.specs.declared.ids.BatchId.{BatchId}

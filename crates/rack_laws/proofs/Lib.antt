@@ -1,4 +1,3 @@
 pub mod Opened
-pub mod Behind
 pub mod Rooms
 pub mod Crashed

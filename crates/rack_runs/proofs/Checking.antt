@@ -11,7 +11,7 @@ use Rattle.shard_node.specs.Shards.{ShardOf, sight_of}
 use Rattle.node_ports.specs.Nodes.{sight_at}
 use Rattle.rack_ledgers.specs.Ledgers.{AreOpened}
 use Rattle.rack_laws.proofs.Opened.{at_place}
-use Rattle.rack_laws.proofs.Behind.{log_journal as log_seen, shard_journal as shard_seen}
+use Rattle.rack_runs.proofs.Behind.{log_journal as log_seen, shard_journal as shard_seen}
 use Rattle.caused_ledgers.specs.Caused.{journals_of as lent_journals, AreCaused}
 use Rattle.caused_ledgers.proofs.Told.{log_journal as log_told, shard_journal as shard_told, no_journal as none_told}
 use Rattle.ledger_nodes.specs.Ledgers.{journals_of, AreChecked}

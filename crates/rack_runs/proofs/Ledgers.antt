@@ -26,7 +26,7 @@ use Rattle.rack_ledgers.specs.Ledgers.{ByPlace, AreOpened}
 use Rattle.rack_nodes.specs.Racked.{OfTold}
 use Rattle.rack_laws.specs.Shown.{Shows, OfShown, KeepsEach, HoldsEach, OpenTo, LogHasRoom, ShardHasRoom, LogFits, ShardFits, HaveRoom, node_count}
 use Rattle.rack_laws.proofs.Opened.{at_place, same_shape, same_journals, logs_held, shards_held}
-use Rattle.rack_laws.proofs.Behind.{log_journal, shard_journal, are_quiet, none_fly, keeps_each, keeps_flights, holds_each, rooms_each, fits_each}
+use Rattle.rack_runs.proofs.Behind.{log_journal, shard_journal, are_quiet, none_fly, keeps_each, keeps_flights, holds_each, rooms_each, fits_each}
 use Rattle.rack_laws.proofs.Rooms.{room_behind}
 use Rattle.rack_laws.proofs.Crashed.{crashed}
 use Rattle.ledger_runs.specs.Turning.{OfKept, StaysKept}

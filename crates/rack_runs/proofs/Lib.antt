@@ -6,3 +6,6 @@ pub mod Checking
 pub mod Answering
 pub mod Flown
 pub mod Wanted
+pub mod Behind
+pub mod Lanes
+pub mod Turned

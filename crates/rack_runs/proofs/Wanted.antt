@@ -45,7 +45,7 @@ use Rattle.shard_node.specs.Shards.{ShardOf, sight_of}
 use Rattle.ledger_nodes.specs.Ledgers.{IsLedger, journals_of, AreChecked}
 use Rattle.rack_laws.specs.Shown.{node_count}
 use Rattle.rack_laws.proofs.Opened.{at_place, sight_there}
-use Rattle.rack_laws.proofs.Behind.{by_all, log_journal, shard_journal}
+use Rattle.rack_runs.proofs.Behind.{by_all, log_journal, shard_journal}
 
 -- ---- journals
 

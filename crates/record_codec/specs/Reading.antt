@@ -4,7 +4,7 @@ use Rattle.cbdc_types.specs.Limits.{ShapeOf}
 use Rattle.cbdc_types.specs.declared.record.Header.{Header}
 use Rattle.cbdc_types.specs.declared.record.Record.{Record}
 use Rattle.cbdc_types.specs.declared.record.Record.TheVariants.{Genesis, Lock, Finish, Forget, Start, Prepare, Commit, Discard, Done}
-use Rattle.input_faults.specs.declared.InputKind.TheVariants.{Form}
+use Rattle.base_types.specs.declared.faults.InputKind.TheVariants.{Form}
 use Rattle.byte_fields.specs.declared.fault.Fault.{Fault}
 use Rattle.byte_fields.specs.Faults.{◌>>=◌, fault}
 use Rattle.byte_fields.specs.Reading.{field_at, number_at, hash_at, list_at}

@@ -6,7 +6,7 @@ ghost use Rattle.printed_lines.specs.Recoveries.{won_in};
 ghost use Rattle.outside.specs.Counts.{Rose, HasCause};
 ghost use Rattle.command_answers.specs.Causes.{IsDone, IsTold, IsWell};
 ghost use Rattle.recover_command.specs.Outcomes.{DidRecover};
-ghost use Rattle.stopped_runs.specs.Stops.{WhyNoTurns, TurnsLeave};
+ghost use Rattle.rack_runs.specs.Stops.{WhyNoTurns, TurnsLeave};
 ghost use Rattle.ledger_runs.specs.Least.{IsLeastOpen};
 ghost use Rattle.rack_runs.specs.Runs.{NonePrepared, NothingNext};
 ghost use Rattle.command_answers.specs.Texts.{IsPrinted, IsSilent};

@@ -1,8 +1,7 @@
 //! What the words of the command line ask for, and why they are refused.
 #![tactic(auto)]
 
-use base_types::Hash;
-use ledger_shape::Shape;
+use base_types::{Hash, Shape};
 use thiserror::Error;
 
 /// Why words are refused.

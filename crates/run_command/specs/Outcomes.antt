@@ -18,7 +18,7 @@ use Rattle.sound_laws.specs.SoundTest.{sound_by}
 use Rattle.submission_laws.specs.Settled.{AreSettled}
 use Rattle.submission_laws.specs.Free.{AreFreeConfirmed}
 use Rattle.rack_runs.specs.Endings.{EndsRun}
-use Rattle.stopped_runs.specs.Stops.{WhyNoTurns, TurnsLeave}
+use Rattle.rack_runs.specs.Stops.{WhyNoTurns, TurnsLeave}
 
 -- the files held these transactions and verdicts, at most a million transactions; they were run over the ledger that the disks told, in which each record
 -- was caused; and where it was kept the run tells what it did

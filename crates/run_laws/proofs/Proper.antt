@@ -8,8 +8,8 @@ use Rattle.cbdc_model.specs.Coins.{Input, OutPoint, FullTx}
 use Rattle.cbdc_model.specs.Book.{key}
 use Rattle.cbdc_model.specs.Clean.{IsProper}
 use Rattle.sentinel.specs.FirstRefusal.{Verdicts, Applies, rank, HasAt, IsLeast, Repeats, input_sum, output_sum}
-use Rattle.input_faults.specs.declared.Refusal.{Refusal}
-use Rattle.input_faults.specs.declared.Refusal.TheVariants.{NoInputs, NoOutputs, WitnessCount, RepeatedInput, ZeroInput, ZeroOutput, InputOverflow, OutputOverflow, Unbalanced, BadWitness, Unverified}
+use Rattle.base_types.specs.declared.faults.Refusal.{Refusal}
+use Rattle.base_types.specs.declared.faults.Refusal.TheVariants.{NoInputs, NoOutputs, WitnessCount, RepeatedInput, ZeroInput, ZeroOutput, InputOverflow, OutputOverflow, Unbalanced, BadWitness, Unverified}
 use Rattle.run_laws.specs.Runs.{SoundLaw, ProperLaw}
 
 -- where there is no least place, there is none

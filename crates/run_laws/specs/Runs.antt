@@ -6,7 +6,7 @@ use Rattle.cbdc_model.specs.Ranges.{home_of, shard_node, part, is_no_part}
 use Rattle.cbdc_model.specs.Slots.{slot, Idle}
 use Rattle.cbdc_model.specs.Coins.{Output, FullTx}
 use Rattle.cbdc_model.specs.Clean.{Clean, IsProper, IsProperCompact}
-use Rattle.input_faults.specs.declared.Refusal.{Refusal}
+use Rattle.base_types.specs.declared.faults.Refusal.{Refusal}
 use Rattle.sentinel.specs.FirstRefusal.{Verdicts, Applies, rank, IsSound}
 use Rattle.cbdc_model.specs.After.{IsJournal}
 use Rattle.cbdc_model.specs.History.{Minted, minted, header_of}

@@ -5,3 +5,4 @@ pub mod Reports
 pub mod Batched
 pub mod Resumed
 pub mod Numbers
+pub mod Pages

@@ -5,15 +5,17 @@ ghost use Rattle.cbdc_model.specs.Records.{is_won};
 ghost use Rattle.line_text.specs.Lines.{Prints};
 ghost use Rattle.printed_lines.specs.Reports.{audit_lines};
 ghost use Rattle.printed_lines.specs.Runs.{decided_line};
+ghost use Rattle.run_report.specs.Pages.{Gathers};
 ghost use Rattle.run_report.specs.Told.{numbers_of, kept_at, told_of, told_line, told_file, told_files, told_count, told_total, one_if, batches_in, batches_told, Counted, AreCounts, IsCountable, AreNumbers, ran_text};
 
+use crate::page::Page;
 use audit::Totals;
 use cbdc_types::{BatchId, Hash, Outcome};
 use file_runs::{Ran, Wave};
 use ledger_runs::Decided;
 use line_text::{
-    AuditSummary, Summary, WriteFault, write_audit, write_confirmed, write_refused, write_rejected,
-    write_summary,
+    AuditSummary, Summary, WriteFault, write_all, write_audit, write_confirmed, write_refused,
+    write_rejected, write_summary,
 };
 use outside::Sink;
 use printed_lines::Report;
@@ -215,30 +217,60 @@ fn write_one<O: Sink>(
     }
 }
 
-// Writes the lines of a file's submissions.
-fn write_wave<O: Sink>(out: &mut O, wave: &Wave, file: u64) -> Result<(), WriteFault>
-    ensures prints { Prints (O.taken out.old) (O.taken out.new) (told_file file 0 wave.now.lanes.items wave.now.checked.items) result }
+// Puts the line of one submission on the page. Where it finds no room there, what waits is written, and the line behind it.
+fn gather_one<O: Sink>(
+    out: &mut O,
+    page: &mut Page,
+    file: u64,
+    place: u64,
+    id: &Hash,
+    report: &Option<Report>,
+) -> Result<(), WriteFault>
+    ensures gathers { Gathers (O.taken out.old) page.old.text.items (O.taken out.new) page.new.text.items (told_line file place id.now report.now) result }
+    ensures cause { HasCause (O.count out.old) (O.count out.new) result }
+{
+    let waiting = page.len();
+    match write_one(page, file, place, id, *report) {
+        Ok(()) => Ok(()),
+        Err(_) => {
+            page.truncate(waiting);
+            write_all(out, page.lines())?;
+            page.truncate(0);
+            write_one(out, file, place, id, *report)
+        }
+    }
+}
+
+// Puts the lines of a file's submissions on the page, and writes what finds no room there.
+fn gather_wave<O: Sink>(
+    out: &mut O,
+    page: &mut Page,
+    wave: &Wave,
+    file: u64,
+) -> Result<(), WriteFault>
+    ensures gathers { Gathers (O.taken out.old) page.old.text.items (O.taken out.new) page.new.text.items (told_file file 0 wave.now.lanes.items wave.now.checked.items) result }
     ensures cause { HasCause (O.count out.old) (O.count out.new) result }
 {
     let mut place = 0u64;
     'lines: for one in &wave.checked {
-        write_one(out, file, place, &one.id, report_of(wave, one))?;
+        gather_one(out, page, file, place, &one.id, &report_of(wave, one))?;
         place = place.saturating_add(1);
     }
     Ok(())
 }
 
-// Writes the lines of all files' submissions.
+// Writes the lines of all files' submissions, a page at a time.
 fn write_waves<O: Sink>(out: &mut O, waves: &[Wave]) -> Result<(), WriteFault>
     ensures prints { Prints (O.taken out.old) (O.taken out.new) (told_files 1 waves.now) result }
     ensures cause { HasCause (O.count out.old) (O.count out.new) result }
 {
+    let mut page = Page::new();
     let mut file = 1u64;
     'waves: for wave in waves {
-        write_wave(out, wave, file)?;
+        gather_wave(out, &mut page, wave, file)?;
         file = file.saturating_add(1);
     }
-    Ok(())
+    write_all(out, page.lines())
 }
 
 /// Writes a line for each submission, in order of file and place, and the summary.

@@ -3,8 +3,8 @@ use Rattle.std.proofs.Common.{rules, ◌≡◌, ℕ, ◌+◌, ◌<◌, ◌≤◌
 use Rattle.std.specs.Prelude.{Result, Ok, Err, MatchResult}
 use Rattle.std.proofs.lemmas.Bool.{cases_lt}
 use Rattle.cbdc_types.specs.declared.tx.FullTx.{FullTx}
-use Rattle.input_faults.specs.declared.Refusal.{Refusal}
-use Rattle.input_faults.specs.declared.Refusal.TheVariants.{NoInputs, NoOutputs, WitnessCount, RepeatedInput, ZeroInput, ZeroOutput, InputOverflow, OutputOverflow, Unbalanced, BadWitness, Unverified}
+use Rattle.base_types.specs.declared.faults.Refusal.{Refusal}
+use Rattle.base_types.specs.declared.faults.Refusal.TheVariants.{NoInputs, NoOutputs, WitnessCount, RepeatedInput, ZeroInput, ZeroOutput, InputOverflow, OutputOverflow, Unbalanced, BadWitness, Unverified}
 use Rattle.sentinel.specs.FirstRefusal.{Verdicts, Applies, AppliesAt, HasAt, IsFirstRefusal, IsSound, NoneAt, Repeats, rank}
 
 -- none of the reasons before this rank applies

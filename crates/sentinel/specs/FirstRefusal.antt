@@ -2,8 +2,8 @@
 use Rattle.std.specs.Prelude.{◌≡◌, ◌≢◌, ℕ, ◌^◌, ◌<◌, ◌≤◌, List, [], length, sum_by, slice_get, Some}
 use Rattle.cbdc_types.specs.declared.tx.Input.{Input}
 use Rattle.cbdc_types.specs.declared.tx.FullTx.{FullTx}
-use Rattle.input_faults.specs.declared.Refusal.{Refusal}
-use Rattle.input_faults.specs.declared.Refusal.TheVariants.{NoInputs, NoOutputs, WitnessCount, RepeatedInput, ZeroInput, ZeroOutput, InputOverflow, OutputOverflow, Unbalanced, BadWitness, Unverified}
+use Rattle.base_types.specs.declared.faults.Refusal.{Refusal}
+use Rattle.base_types.specs.declared.faults.Refusal.TheVariants.{NoInputs, NoOutputs, WitnessCount, RepeatedInput, ZeroInput, ZeroOutput, InputOverflow, OutputOverflow, Unbalanced, BadWitness, Unverified}
 use Rattle.verifier_port.specs.declared.Verdict.{Verdict}
 use Rattle.verifier_port.specs.declared.Verdict.TheVariants.{Bad, Absent}
 

@@ -4,7 +4,7 @@ use Rattle.std.specs.Prelude.{Decides}
 use Rattle.std.specs.Cmp.{both_ways}
 use Rattle.std.proofs.lemmas.Bool.{cases_lt, cases_Bool}
 use Rattle.std.proofs.lemmas.Bool.Decides.{Decides-eqb, Decides-ltb, Decides-like, Decides-and, not_from_Decides}
-use Rattle.input_faults.specs.declared.Refusal.TheVariants.{NoInputs, NoOutputs, WitnessCount, RepeatedInput, ZeroInput, ZeroOutput, InputOverflow, OutputOverflow, Unbalanced, BadWitness, Unverified}
+use Rattle.base_types.specs.declared.faults.Refusal.TheVariants.{NoInputs, NoOutputs, WitnessCount, RepeatedInput, ZeroInput, ZeroOutput, InputOverflow, OutputOverflow, Unbalanced, BadWitness, Unverified}
 use Rattle.cbdc_model.specs.Coins.{FullTx, tx_id}
 use Rattle.verifier_port.specs.declared.Verdict.TheVariants.{Bad, Absent}
 use Rattle.sentinel.specs.FirstRefusal.{Verdicts, HasAt, HasVerdict, Repeats, input_sum, output_sum, IsSound}

@@ -7,7 +7,7 @@ ghost use Rattle.cbdc_model.specs.Coins.{FullTx as Full};
 ghost use Rattle.submissions.specs.Checks.{VerdictsOf, AllEmpty, IsRuled, IsDealt, IsDealtAt, AreSubmitted};
 
 use cbdc_types::{CompactTx, FullTx, Hash, Refusal, Shape};
-use compact_tx::compact;
+use compact_tx::compact_as;
 use identifiers::tx_id;
 use rayon::prelude::*;
 use sentinel::check;
@@ -69,7 +69,7 @@ fn rule<V: Verifier>(alloc: Global, tx: &FullTx, verifier: &V) -> Result<Ruled, 
 {
     let id = tx_id(tx);
     let ruling = match check(tx, &id, verifier) {
-        Ok(()) => Ruling::Sound(compact(alloc, tx)?),
+        Ok(()) => Ruling::Sound(compact_as(alloc, &id, tx)?),
         Err(refusal) => Ruling::Refused(refusal),
     };
     Ok(Ruled { id, ruling })

@@ -5,7 +5,7 @@ use Rattle.std.proofs.lemmas.Fmt.{decimal_by_steps}
 use Rattle.hex.specs.Hex.{encode_lower, encode_with, lower_digits}
 use Rattle.std.specs.Prelude.{Err, IsSome}
 use Rattle.std.proofs.lemmas.Bool.{true≢false}
-use Rattle.input_faults.specs.declared.InputKind.TheVariants.{Form, Repeated}
+use Rattle.base_types.specs.declared.faults.InputKind.TheVariants.{Form, Repeated}
 use Rattle.verifier_port.specs.Files.{Reads}
 use Rattle.verifier_port.specs.declared.file.VerdictFault.TheVariants as fault
 use Rattle.verifier_port.specs.declared.line.Key.{Key}

@@ -1,8 +1,8 @@
 -- What is read of a verdict file.
 use Rattle.std.specs.Prelude.{◌≡◌, ◌≢◌, ◌+◌, ℕ, Bool, true, false, List, [], ◌∷◌, ◌++◌, length, Option, Some, None, Result, Ok, Err, IsSome}
 use Rattle.std.specs.Map.{lookup}
-use Rattle.input_faults.specs.declared.InputKind.{InputKind}
-use Rattle.input_faults.specs.declared.InputKind.TheVariants.{Form, Repeated}
+use Rattle.base_types.specs.declared.faults.InputKind.{InputKind}
+use Rattle.base_types.specs.declared.faults.InputKind.TheVariants.{Form, Repeated}
 use Rattle.verifier_port.specs.Lines.{Line, IsLine, spelled, IsOpen, is_key, said, Begins}
 use Rattle.verifier_port.specs.declared.Verdict.{Verdict}
 use Rattle.verifier_port.specs.declared.Verdict.TheVariants.{Good, Bad, Absent}

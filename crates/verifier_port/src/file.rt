@@ -3,8 +3,7 @@ ghost use Rattle.std.specs.Prelude.{◌≡◌};
 
 use crate::line::{Key, next_line, read_line};
 use crate::{Verdict, Verifier};
-use base_types::Hash;
-use input_faults::InputKind;
+use base_types::{Hash, InputKind};
 use std::alloc::Global;
 use std::collections::BTreeMap;
 use thiserror::Error;

@@ -1,7 +1,7 @@
 use Rattle.std.proofs.Common.{rules, ◌≡◌, ◌<◌, ◌≤◌, ◌^◌, refl, arith, inl, inr}
 use Rattle.std.proofs.lemmas.Bool.{cases_lt}
 use Rattle.std.proofs.lemmas.Result.{err_from_is_err_and}
-use Rattle.input_faults.specs.declared.Refusal.TheVariants.{InputOverflow, OutputOverflow}
+use Rattle.base_types.specs.declared.faults.Refusal.TheVariants.{InputOverflow, OutputOverflow}
 use Rattle.sentinel.specs.FirstRefusal.{input_sum, output_sum}
 use Rattle.sentinel.proofs.Ranks.{below_first, below_next, first_at, last_at}
 use Rattle.sentinel.proofs.check.Goals as goal

@@ -1,5 +1,5 @@
 use Rattle.std.proofs.Common.{◌≡◌, ◌∙◌, inl, inr, length, sym, ap, arith}
-use Rattle.rack_laws.proofs.Behind.{are_quiet, is_ledger, logs_return, shards_return, rooms_same}
+use Rattle.rack_runs.proofs.Behind.{are_quiet, is_ledger, logs_return, shards_return, rooms_same}
 use Rattle.rack_runs.proofs.Checking.{opened_checked}
 use Rattle.rack_runs.proofs.Answering.{lane_fault, took}
 use Rattle.rack_runs.proofs.Lent.{on_ok_by, on_ok_all, if_err_by, if_err_both, if_ok_all}

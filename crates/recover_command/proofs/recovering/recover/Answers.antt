@@ -1,6 +1,6 @@
-use Rattle.stopped_runs.proofs.Turned.{not_turned, not_done, turns_leave}
+use Rattle.rack_runs.proofs.Turned.{not_turned, not_done, turns_leave}
 use Rattle.std.proofs.Common.{[]}
-use Rattle.stopped_runs.specs.Stops.{WhyNoTurns}
+use Rattle.rack_runs.specs.Stops.{WhyNoTurns}
 use Rattle.ledger_runs.specs.Least.{IsLeastOpen}
 use Rattle.rack_runs.specs.Runs.{NonePrepared, NothingNext}
 use Rattle.cbdc_types.specs.declared.answer.Answer.TheVariants as answers

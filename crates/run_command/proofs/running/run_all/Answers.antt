@@ -1,4 +1,4 @@
-use Rattle.stopped_runs.proofs.Turned.{not_turned, turns_leave}
+use Rattle.rack_runs.proofs.Turned.{not_turned, turns_leave}
 use Rattle.std.proofs.Common.{◌≤◌, inl, inr, refl, sym, subst}
 use Rattle.input_files.specs.Contents.{AreRead, AreVerdicts, IsNoVerdicts, all_txs}
 use Rattle.verifier_port.specs.Files.{told}

@@ -10,7 +10,7 @@ use Rattle.rack_nodes.specs.Racked.{OfTold}
 use Rattle.rack_ledgers.specs.Ledgers.{IsUnopened}
 use Rattle.rack_ledgers.proofs.Lacks.{unopened_kind}
 use Rattle.rack_runs.specs.Kinds.{IsLaneAnswer}
-use Rattle.stopped_runs.specs.Stops.{WhyNoTurns, TurnsLeave}
+use Rattle.rack_runs.specs.Stops.{WhyNoTurns, TurnsLeave}
 use Rattle.command_answers.specs.Causes.{IsWell}
 use Rattle.command_answers.specs.Left.{IsBeforeDisks}
 use Rattle.command_answers.proofs.Refusals.{not_refused, refused_alone}

@@ -1,8 +1,8 @@
 -- Which field of a shape is outside its limit.
 use Rattle.std.specs.Prelude.{◌≡◌, ℕ, ◌<◌, ◌≤◌, ◌⊎◌}
-use Rattle.ledger_shape.specs.declared.BadShape.{BadShape}
-use Rattle.ledger_shape.specs.declared.ShapeField.{ShapeField}
-use Rattle.ledger_shape.specs.declared.ShapeField.TheVariants.{Shards, Coordinators, Lanes, Batch}
+use Rattle.base_types.specs.declared.shape.BadShape.{BadShape}
+use Rattle.base_types.specs.declared.shape.ShapeField.{ShapeField}
+use Rattle.base_types.specs.declared.shape.ShapeField.TheVariants.{Shards, Coordinators, Lanes, Batch}
 
 -- from 1 to the limit
 abbrev pub IsTo : ℕ → ℕ → Type 0

@@ -1,5 +1,4 @@
-//! What is wrong with what is handed in: why a sentinel refuses a transaction, and what is wrong with an input file.
-#![tactic(auto)]
+// What is wrong with what is handed in: why a sentinel refuses a transaction, and what is wrong with an input file.
 
 use thiserror::Error;
 

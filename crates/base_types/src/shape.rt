@@ -1,8 +1,6 @@
-//! How large a ledger is.
-#![tactic(auto)]
-
+// How large a ledger is.
 ghost use Rattle.std.specs.Prelude.{◌≡◌, ◌+◌, ◌*◌, ◌≤◌, ◌<◌, ℕ, IfOk, IfErr, MatchResult};
-ghost use Rattle.ledger_shape.specs.Fields.{IsFirstBad};
+ghost use Rattle.base_types.specs.Fields.{IsFirstBad};
 
 use std::marker::Model;
 use thiserror::Error;
@@ -17,7 +15,7 @@ pub struct Shape {
 }
 
 impl Model for Shape {
-    ghost use Rattle.ledger_shape.specs.Limits.{ShapeOf, IsWithinLimits};
+    ghost use Rattle.base_types.specs.Limits.{ShapeOf, IsWithinLimits};
 
     ghost Value = { ShapeOf };
 
@@ -56,7 +54,7 @@ fn limits(field: &ShapeField) -> &'static str {
 }
 
 impl Shape {
-    ghost use Rattle.ledger_shape.specs.Limits.{IsWithinLimits};
+    ghost use Rattle.base_types.specs.Limits.{IsWithinLimits};
 
     /// The shape with these numbers, where each is within its limit: 1 to 64 shards, 1 to 16
     /// coordinators, 1 to 16 lanes, batches of 1 to 1,024.
