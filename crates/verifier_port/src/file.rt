@@ -5,7 +5,7 @@ use crate::line::{Key, next_line, read_line};
 use crate::{Verdict, Verifier};
 use base_types::{Hash, InputKind};
 use std::alloc::Global;
-use std::collections::BTreeMap;
+use std::collections::HashMap;
 use thiserror::Error;
 
 /// The first bad line of a verdict file, from 1, and what is wrong with it: Form or Repeated.
@@ -31,7 +31,7 @@ pub enum VerdictFault {
 /// The verdicts of a file, one for each input that a line of it speaks of.
 #[derive(Drop)]
 pub struct VerdictFile {
-    words: BTreeMap<Key, bool>,
+    words: HashMap<Key, bool>,
 }
 
 // The fault of a line.
@@ -49,7 +49,7 @@ impl VerdictFile {
     pub fn read(alloc: Global, bytes: &[u8], more: bool) -> Result<VerdictFile, VerdictFault>
         ensures { Reads more bytes.now result }
     {
-        let mut words = BTreeMap::new(alloc);
+        let mut words = HashMap::new(alloc);
         let mut rest = bytes;
         let mut line = 1;
         'lines: while let Some((text, behind)) = next_line(rest) {

@@ -8,7 +8,7 @@ use itoa::Buffer;
 use memchr::memchr;
 
 /// The input that a line speaks of.
-#[derive(Clone, Copy, Debug, PartialEq, Eq, PartialOrd, Ord)]
+#[derive(Clone, Copy, Debug, PartialEq, Eq, Hash)]
 pub(crate) struct Key {
     pub(crate) tx: Hash,
     pub(crate) index: u64,
