@@ -1,37 +1,24 @@
 //! Input files, by the words that name them.
 #![tactic(auto)]
 
+mod beside;
+mod fetched;
+
 ghost use Rattle.std.specs.Prelude.{◌≡◌, ◌-◌, ◌≤◌, length, All, IfOk, IfErr, Ok};
 ghost use Rattle.outside.specs.Images.{Tells};
 ghost use Rattle.clap.specs.Words.{Text};
 ghost use Rattle.input_files.specs.Limits.{IsShort};
 ghost use Rattle.input_files.specs.Contents.{front, goes_on, txs_of_file, mint_of_file, IsNotRead, AreRead, FirstNotRead, AreVerdicts, IsNoVerdicts, IsUnfetched, IsFaultOf, IsVerdictFaultOf, all_txs};
 
+use crate::fetched::bytes_of;
+pub use beside::{Inputs, inputs_in};
 use cbdc_types::{Answer, FullTx, InputKind, List, Mint};
-use client_files::{FetchFault, FileFault, fetch, read_clients, read_mint};
+use client_files::{FileFault, read_clients, read_mint};
+pub use fetched::Fetched;
 use outside::Inbox;
 use requests::FileWord;
 use std::alloc::Global;
-use verifier_port::{BadLine, VerdictFault, VerdictFile};
-
-// The first bytes of a file, and whether it goes on.
-struct Fetched {
-    bytes: List<u8>,
-    more: bool,
-}
-
-fn bytes_of<I: Inbox>(alloc: Global, inbox: &mut I, file: &FileWord) -> Result<Fetched, Answer>
-    ensures bytes { IfOk result (λ r. Tells (I.file inbox.old file.now.name.now) (λ c. (r.bytes ≡ front c) × (r.more ≡ goes_on c))) }
-    ensures same { (other : Text) → I.file inbox.new other ≡ I.file inbox.old other }
-    ensures fault { IfErr result (IsUnfetched file.now.place (I.count inbox.old file.now.name.now) (I.count inbox.new file.now.name.now)) }
-    ensures later { (other : Text) → I.count inbox.old other ≤ I.count inbox.new other }
-{
-    match fetch(alloc, inbox, file.name) {
-        Ok((bytes, more)) => Ok(Fetched { bytes, more }),
-        Err(FetchFault::ReadFault) => Err(Answer::ReadFault { file: file.place }),
-        Err(FetchFault::Memory) => Err(Answer::Memory),
-    }
-}
+use verifier_port::{BadLine, VerdictFault};
 
 // What a fault of a file answers.
 fn answer_of(file: &FileWord, fault: FileFault) -> Answer
@@ -103,26 +90,6 @@ fn verdict_answer(file: &FileWord, fault: VerdictFault) -> Answer
             kind: InputKind::Large,
         },
         VerdictFault::Memory => Answer::Memory,
-    }
-}
-
-/// The verdicts in a file.
-pub fn verdicts_in<I: Inbox>(
-    alloc: Global,
-    inbox: &mut I,
-    file: &FileWord,
-) -> Result<VerdictFile, Answer>
-    ensures read { IfOk result (AreVerdicts (I.file inbox.old file.now.name.now)) }
-    ensures fault { IfErr result (IsNoVerdicts file.now.place (I.file inbox.old file.now.name.now) (I.count inbox.old file.now.name.now) (I.count inbox.new file.now.name.now)) }
-    ensures same { (other : Text) → I.file inbox.new other ≡ I.file inbox.old other }
-    ensures later { (other : Text) → I.count inbox.old other ≤ I.count inbox.new other }
-{
-    match bytes_of(alloc, inbox, file) {
-        Ok(Fetched { bytes, more }) => match VerdictFile::read(alloc, bytes.as_slice(), more) {
-            Ok(verdicts) => Ok(verdicts),
-            Err(fault) => Err(verdict_answer(file, fault)),
-        },
-        Err(fault) => Err(fault),
     }
 }
 

@@ -1,22 +1,31 @@
 // `run`: the transactions of client files, file by file.
 ghost use Rattle.std.specs.Prelude.{◌≡◌, ◌≤◌, ◌⊎◌, ℕ, IfOk, IfErr};
-ghost use Rattle.outside.specs.Counts.{Rose};
+ghost use Rattle.outside.specs.Counts.{HasCause, Rose};
+ghost use Rattle.run_command.specs.Reports.{Reports};
 ghost use Rattle.command_answers.specs.Causes.{IsFault, IsDone, IsTold, IsWell, OnePlace, OneRose, FileRose};
 ghost use Rattle.run_command.specs.Outcomes.{DidRun, WhyNoRun, WasRun, RunLeaves};
 ghost use Rattle.command_answers.specs.Texts.{IsPrinted, IsSilent};
 ghost use Rattle.line_text.specs.Lines.{Text};
 ghost use Rattle.command_answers.specs.Left.{IsBeforeDisks};
 
-use cbdc_types::Answer;
+use cbdc_types::{Answer, FullTx, List};
 use file_runs::Ran;
-use input_files::{all_clients_in, verdicts_in};
+use input_files::{Inputs, inputs_in};
+use line_text::WriteFault;
 use outside::{Gate, Inbox, Rack, Sink};
 use rack_runs::run_on;
 use requests::FileWord;
 use run_report::write_report;
 use std::alloc::Global;
 use std::sync::Wait;
-use std::thread::Threads;
+use std::thread::{Threads, join_mut};
+
+// What was read, and what came of running it.
+#[derive(Drop)]
+struct FilesRan {
+    inputs: Inputs,
+    ran: Ran,
+}
 
 // Reads all files, and runs them over the ledger on the rack.
 fn run_all<W: Wait + Threads + Sync, I: Inbox, R: Rack, G: Gate + Sync>(
@@ -27,11 +36,11 @@ fn run_all<W: Wait + Threads + Sync, I: Inbox, R: Rack, G: Gate + Sync>(
     inbox: &mut I,
     rack: &mut R,
     gate: &G,
-) -> Result<Ran, Answer>
+) -> Result<FilesRan, Answer>
 where
     R::Disk: Send,
     requires { (n : ℕ) → R.can_take rack.old n }
-    ensures did { IfOk result (WasRun (I.file inbox.old) R.Disk.content R.Disk.images R.Disk.limit (R.held rack.old) (R.held rack.new) verdicts.now clients.now) }
+    ensures did { IfOk result (λ r. WasRun (I.file inbox.old) R.Disk.content R.Disk.images R.Disk.limit (R.held rack.old) (R.held rack.new) verdicts.now clients.now r.ran) }
     ensures why { IfErr result (WhyNoRun (I.file inbox.old) (I.count inbox.old) (I.count inbox.new) R.Disk.content R.Disk.images R.Disk.limit R.Disk.count (R.held rack.old) (R.held rack.new) (R.count rack.old) (R.count rack.new) verdicts.now clients.now) }
     ensures fault { IfErr result (IsFault (λ place. OnePlace clients.now place ⊎ (place ≡ verdicts.now.place)) (λ place. OneRose (I.count inbox.old) (I.count inbox.new) clients.now place ⊎ FileRose (I.count inbox.old) (I.count inbox.new) verdicts.now place)) }
     ensures untouched { IfErr result (λ e. IsBeforeDisks e → rack.new ≡ rack.old) }
@@ -39,15 +48,35 @@ where
     ensures files { (name : Text) → I.file inbox.new name ≡ I.file inbox.old name }
     ensures back { (n : ℕ) → R.can_take rack.new n }
 {
-    let files = match all_clients_in(alloc, inbox, clients) {
-        Ok(files) => files,
+    let inputs = match inputs_in(rt, alloc, inbox, clients, verdicts) {
+        Ok(inputs) => inputs,
         Err(fault) => return Err(fault),
     };
-    let verdicts = match verdicts_in(alloc, inbox, verdicts) {
-        Ok(verdicts) => verdicts,
-        Err(fault) => return Err(fault),
-    };
-    run_on(rt, alloc, rack, &files, &verdicts, gate)
+    match run_on(rt, alloc, rack, &inputs.files, &inputs.verdicts, gate) {
+        Ok(ran) => Ok(FilesRan { inputs, ran }),
+        Err(fault) => Err(fault),
+    }
+}
+
+// Writes what came of a run, while another thread gives back the memory of its client files.
+fn write_beside<W: Threads, O: Sink>(
+    rt: &W,
+    out: &mut O,
+    ran: &Ran,
+    files: &mut Vec<List<FullTx>>,
+) -> Result<(), WriteFault>
+    ensures prints { Reports (O.taken out.old) (O.taken out.new) ran.now result }
+    ensures cause { HasCause (O.count out.old) (O.count out.new) result }
+{
+    let (_, written) = join_mut(
+        rt,
+        &mut || files.clear(),
+        &mut || -> Result<(), WriteFault>
+            ensures prints { Reports (O.taken out.entry.now) (O.taken out.exit.now) ran.entry.now result }
+            ensures cause { HasCause (O.count out.entry.now) (O.count out.exit.now) result }
+        { write_report(out, ran) },
+    );
+    written
 }
 
 /// Runs client files, one after another: their transactions are checked by the verdicts and brought through their
@@ -76,11 +105,11 @@ where
     ensures files { (name : Text) → I.file inbox.new name ≡ I.file inbox.old name }
     ensures back { (n : ℕ) → R.can_take rack.new n }
 {
-    let ran = match run_all(rt, alloc, clients, verdicts, inbox, rack, gate) {
-        Ok(ran) => ran,
+    let mut done = match run_all(rt, alloc, clients, verdicts, inbox, rack, gate) {
+        Ok(done) => done,
         Err(fault) => return fault,
     };
-    match write_report(out, &ran) {
+    match write_beside(rt, out, &done.ran, &mut done.inputs.files) {
         Ok(()) => Answer::Ok,
         Err(_) => Answer::WriteFault,
     }

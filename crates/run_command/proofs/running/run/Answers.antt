@@ -22,15 +22,15 @@ returns-in-Err-clause-cause g c =
 pub returns-in-Err-clause-silent : goal.returns-in-Err-clause-silent
 returns-in-Err-clause-silent g c = silent_same (g.O.Sink.taken c.args.out.now) c.in-Err.fault
 
-pub returns-in-Ok-write_report-clause-did : goal.returns-in-Ok-write_report-clause-did
-returns-in-Ok-write_report-clause-did g c well =
-    did_run (g.I.Inbox.file c.args.inbox.now) g.R.Disk.Disk.content g.R.Disk.Disk.images g.R.Disk.Disk.limit (g.R.Rack.held c.args.rack.now) (g.R.Rack.held c.run_all.new.rack) (IsPrinted (g.O.Sink.taken c.args.out.now) (g.O.Sink.taken c.write_report.new.out) answers.Ok)
-    c.args.verdicts.now c.args.clients.now c.in-Ok.ran c.in-Ok.ensures.did c.in-Ok-write_report.ensures.prints
+pub returns-in-Ok-write_beside-clause-did : goal.returns-in-Ok-write_beside-clause-did
+returns-in-Ok-write_beside-clause-did g c well =
+    did_run (g.I.Inbox.file c.args.inbox.now) g.R.Disk.Disk.content g.R.Disk.Disk.images g.R.Disk.Disk.limit (g.R.Rack.held c.args.rack.now) (g.R.Rack.held c.run_all.new.rack) (IsPrinted (g.O.Sink.taken c.args.out.now) (g.O.Sink.taken c.write_beside.new.out) answers.Ok)
+    c.args.verdicts.now c.args.clients.now c.in-Ok.done.ran c.in-Ok.ensures.did c.in-Ok-write_beside.ensures.prints.prints
 
 pub returns-clause-did : goal.returns-clause-did
 returns-clause-did g c well =
-    did_run (g.I.Inbox.file c.args.inbox.now) g.R.Disk.Disk.content g.R.Disk.Disk.images g.R.Disk.Disk.limit (g.R.Rack.held c.args.rack.now) (g.R.Rack.held c.run_all.new.rack) (IsPrinted (g.O.Sink.taken c.args.out.now) (g.O.Sink.taken c.write_report.new.out) answers.WriteFault)
-    c.args.verdicts.now c.args.clients.now c.in-Ok.ran c.in-Ok.ensures.did c.in-Err-write_report.ensures.prints
+    did_run (g.I.Inbox.file c.args.inbox.now) g.R.Disk.Disk.content g.R.Disk.Disk.images g.R.Disk.Disk.limit (g.R.Rack.held c.args.rack.now) (g.R.Rack.held c.run_all.new.rack) (IsPrinted (g.O.Sink.taken c.args.out.now) (g.O.Sink.taken c.write_beside.new.out) answers.WriteFault)
+    c.args.verdicts.now c.args.clients.now c.in-Ok.done.ran c.in-Ok.ensures.did c.in-Err-write_beside.ensures.prints.prints
 
 pub returns-in-Err-clause-left : goal.returns-in-Err-clause-left
 returns-in-Err-clause-left g c not_well = c.in-Err.ensures.left

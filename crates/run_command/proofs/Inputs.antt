@@ -1,0 +1,40 @@
+-- Why the inputs of a run are not there, as a cause of its answer.
+use Rattle.std.proofs.Common.{◌≡◌, ◌⊎◌, inl, inr, ℕ, List, Option}
+use Rattle.cbdc_types.specs.declared.answer.Answer.{Answer}
+use Rattle.cbdc_types.specs.declared.answer.Answer.TheVariants as answers
+use Rattle.requests.specs.declared.FileWord.{FileWord}
+use Rattle.line_text.specs.Lines.{Text}
+use Rattle.input_files.specs.Beside.{AreNoInputs}
+use Rattle.input_files.specs.Contents.{IsNoVerdicts}
+use Rattle.command_answers.specs.Causes.{IsFault, OnePlace, OneRose, FileRose}
+use Rattle.command_answers.proofs.Answers.{first_fault}
+
+module _ (held : Text → Option (List ℕ)) (before now : Text → ℕ) (clients : List FileWord) (verdicts : FileWord) where
+  abbrev named : ℕ → Type 0
+  named place = OnePlace clients place ⊎ (place ≡ verdicts.place)
+
+  abbrev rose : ℕ → Type 0
+  rose place = OneRose before now clients place ⊎ FileRose before now verdicts place
+
+  verdicts_fault : (a : Answer) → IsNoVerdicts verdicts.place (held verdicts.name.now) (before verdicts.name.now) (now verdicts.name.now) a → IsFault named rose a
+  verdicts_fault answers.Ok is = absurd is
+  verdicts_fault answers.BadWords is = absurd is
+  verdicts_fault (answers.BadInput file at kind) is = inr is.0
+  verdicts_fault (answers.TooMuch total) is = absurd is
+  verdicts_fault (answers.NotReady k) is = absurd is
+  verdicts_fault (answers.Foreign k kept asked) is = absurd is
+  verdicts_fault (answers.NotEmpty k) is = absurd is
+  verdicts_fault (answers.Full k used need capacity) is = absurd is
+  verdicts_fault (answers.Unsound spot kind) is = absurd is
+  verdicts_fault (answers.ClockEnd k stamp) is = absurd is
+  verdicts_fault (answers.Damaged k at) is = absurd is
+  verdicts_fault (answers.ReadFault file) is = inr (is.0, is.1)
+  verdicts_fault answers.WriteFault is = absurd is
+  verdicts_fault (answers.DiskFault k) is = absurd is
+  verdicts_fault answers.Memory is = tt
+
+  pub no_inputs_fault : (a : Answer) → AreNoInputs held before now clients verdicts a → IsFault (λ place. OnePlace clients place ⊎ (place ≡ verdicts.place)) (λ place. OneRose before now clients place ⊎ FileRose before now verdicts place) a
+  no_inputs_fault a are = elim are [
+    | inl first ↦ first_fault held before now clients named rose (λ place one. inl one) (λ place one. inl one) a first
+    | inr all ↦ verdicts_fault a all.2
+  ]
