@@ -1,5 +1,5 @@
 // What lanes ask of a shard that they share, and the shard on one disk.
-ghost use Rattle.std.specs.Prelude.{◌≡◌, ◌↔◌, ◌≤◌, true, false, length, reverse, IsTrue, IsSome};
+ghost use Rattle.std.specs.Prelude.{◌≡◌, ◌↔◌, ◌≤◌, true, false, reverse, IsTrue, IsSome};
 ghost use Rattle.cbdc_model.specs.Calls.{IsLockCall, IsFinishCall, IsForgetCall};
 ghost use Rattle.cbdc_model.specs.Sights.{Sight};
 ghost use Rattle.cbdc_model.specs.Status.{status};
