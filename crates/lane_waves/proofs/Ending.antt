@@ -21,7 +21,7 @@ use Rattle.node_lock.specs.declared.seat.Seat.{Seat}
 use Rattle.node_lock.specs.Seats.{TableId, all_known, knows, first_of}
 use Rattle.node_lock.specs.Viewing.{viewed}
 use Rattle.node_ports.specs.Nodes.{sight_at, no_node}
-use Rattle.shard_fanout.specs.Seated.{opening_sight, seat_sight}
+use Rattle.shard_fanout.specs.Seated.{opening_sight, seat_sight, Serves}
 use Rattle.shard_fanout.specs.Nodes.{shard_sight, log_sight}
 use Rattle.shard_fanout.specs.declared.coordinators.SharedLog.{SharedLog}
 use Rattle.shard_fanout.specs.declared.locking.SharedShard.{SharedShard}
@@ -57,31 +57,31 @@ past_end sight [] n le = refl
 past_end sight (x ∷ xs) zero le = absurd (omega (arith, le))
 past_end sight (x ∷ xs) (suc n) le = past_end sight xs n (omega (arith, le))
 
-module _ {W D B : Type 0} {G : Ghosts B} (count limit : D → ℕ) where
+module _ {W S B : Type 0} {G : Ghosts B} (sight : S → Sight) where
   -- the seat of a lane's port to a shard
-  port_sits : (lane : ℕ) (ps : List (ShardSeat W D B G)) (rows : List (Vec (Seat (SharedShard D)))) → AreSeats (seats_of ps) rows → AreOfLane lane ps → (s : ℕ) → s < length ps
-      → (h : Hand) × IsHand h (hands_at rows s) × (h.lane ≡ lane) × ((f : Sight) → (v : Sight) × (sight_at (λ p. seat_sight (shard_sight count limit) p.seat) ps s ≡ viewed v h))
+  port_sits : (lane : ℕ) (ps : List (ShardSeat W S B G)) (rows : List (Vec (Seat (SharedShard S)))) → AreSeats (seats_of ps) rows → AreOfLane sight lane ps → (s : ℕ) → s < length ps
+      → (h : Hand) × IsHand h (hands_at rows s) × (h.lane ≡ lane) × ((f : Sight) → (v : Sight) × (sight_at (λ p. seat_sight (shard_sight sight) p.seat) ps s ≡ viewed v h))
   port_sits lane [] rows a l s lt = absurd (let z : s < 0 = lt in omega (arith, z))
   port_sits lane (p ∷ ps) [] a l s lt = absurd a
-  port_sits lane (p ∷ ps) (row ∷ rows) a l zero lt = (knows p.seat, hand_among p.seat row.items a.0, All-head (λ q. (knows q.seat).lane ≡ lane) p ps l, λ f. (opening_sight (shard_sight count limit) (first_of p.seat), refl))
-  port_sits lane (p ∷ ps) (row ∷ rows) a l (suc s) lt = port_sits lane ps rows a.1 (All-tail (λ q. (knows q.seat).lane ≡ lane) p ps l) s (omega (arith, lt))
+  port_sits lane (p ∷ ps) (row ∷ rows) a l zero lt = (knows p.seat, hand_among p.seat row.items a.0, (All-head (λ q. Serves (shard_sight sight) q.guarded.now q.seat lane) p ps l).mine, λ f. (opening_sight (shard_sight sight) (first_of p.seat), refl))
+  port_sits lane (p ∷ ps) (row ∷ rows) a l (suc s) lt = port_sits lane ps rows a.1 (All-tail (λ q. Serves (shard_sight sight) q.guarded.now q.seat lane) p ps l) s (omega (arith, lt))
 
-module _ {W D B : Type 0} {G : Ghosts B} (count limit : D → ℕ) (tables : ℕ → TableId) (K : Shape) where
-  pub ends_zip : (rs qs : List (LaneRun W D B G)) → length qs ≡ length rs → ((i : ℕ) (d : LaneRun W D B G) → i < length rs → Ends count limit tables K (slice_index_or rs i d) (slice_index_or qs i d)) → AllZip (Ends count limit tables K) rs qs
+module _ {W D S B : Type 0} {G : Ghosts B} (sight : S → Sight) (tables : ℕ → TableId) (K : Shape) where
+  pub ends_zip : (rs qs : List (LaneRun W D S B G)) → length qs ≡ length rs → ((i : ℕ) (d : LaneRun W D S B G) → i < length rs → Ends sight tables K (slice_index_or rs i d) (slice_index_or qs i d)) → AllZip (Ends sight tables K) rs qs
   ends_zip [] [] e f = tt
   ends_zip [] (q ∷ qs) e f = absurd (let z = e in omega (arith, z))
   ends_zip (r ∷ rs) [] e f = absurd (let z = e in omega (arith, z))
   ends_zip (r ∷ rs) (q ∷ qs) e f = (f 0 r (omega arith), ends_zip rs qs (let z = e in omega (arith, z)) (λ i d lt. f (suc i) d (omega (arith, lt))))
 
-  pub zip_many : (rs qs : List (LaneRun W D B G)) → AllZip (Ends count limit tables K) rs qs → length rs ≡ length qs
+  pub zip_many : (rs qs : List (LaneRun W D S B G)) → AllZip (Ends sight tables K) rs qs → length rs ≡ length qs
   zip_many [] [] z = refl
   zip_many [] (q ∷ qs) z = absurd z
   zip_many (r ∷ rs) [] z = absurd z
   zip_many (r ∷ rs) (q ∷ qs) z = let e = zip_many rs qs z.1 in omega (arith, e)
 
-module _ {W D B : Type 0} {G : Ghosts B} (count limit : D → ℕ) (tables : ℕ → TableId) (K : Shape) (gs : List (Guarded (SharedLog D))) (hs : List (Guarded (SharedShard D))) where
+module _ {W D S B : Type 0} {G : Ghosts B} (sight : S → Sight) (tables : ℕ → TableId) (K : Shape) (gs : List (Guarded (SharedLog D))) (hs : List (Guarded (SharedShard S))) where
   -- what came of a run is known, and the lane has room for it
-  may_keep : (r q : LaneRun W D B G) → q.work ≡ r.work → (o : Option (Result LaneReport LaneFault)) → HasRun count limit tables K r q o → MayKeep q.work o
+  may_keep : (r q : LaneRun W D S B G) → q.work ≡ r.work → (o : Option (Result LaneReport LaneFault)) → HasRun sight tables K r q o → MayKeep q.work o
   may_keep r q e None k = absurd k
   may_keep r q e (Some (Ok report)) k =
       let many = reported_many r.lane K.batch r.work.txs.items report.batches k.named in
@@ -90,16 +90,16 @@ module _ {W D B : Type 0} {G : Ghosts B} (count limit : D → ℕ) (tables : ℕ
   may_keep r q e (Some (Err fault)) k = tt
 
   -- how a lane ended
-  ended_of : (lane : ℕ) (x y : Lane) (r q : LaneRun W D B G) → r.lane ≡ lane → IsSettled K r.lane (log_of count limit tables K r) (shards_of count limit tables K r) → q.work ≡ r.work
-      → (o : Option (Result LaneReport LaneFault)) → HasRun count limit tables K r q o → IsEnd q.work o y
-      → (y.txs ≡ q.work.txs) × HasEnded K lane (log_of count limit tables K r) (shards_of count limit tables K r) (log_of count limit tables K q) (shards_of count limit tables K q) x y
+  ended_of : (lane : ℕ) (x y : Lane) (r q : LaneRun W D S B G) → r.lane ≡ lane → IsSettled K r.lane (log_of sight tables K r) (shards_of sight tables K r) → q.work ≡ r.work
+      → (o : Option (Result LaneReport LaneFault)) → HasRun sight tables K r q o → IsEnd q.work o y
+      → (y.txs ≡ q.work.txs) × HasEnded K lane (log_of sight tables K r) (shards_of sight tables K r) (log_of sight tables K q) (shards_of sight tables K q) x y
   ended_of lane x y r q l settled w None k e = absurd k
   ended_of lane x y r q l settled w (Some (Ok report)) k e =
       let txs : r.work.txs.items ≡ y.txs.items = sym (ap (λ v. v.items) e.txs ∙ ap (λ (z : Lane). z.txs.items) w) in
-      let log = log_of count limit tables K r in
-      let shards = shards_of count limit tables K r in
-      let log' = log_of count limit tables K q in
-      let shards' = shards_of count limit tables K q in
+      let log = log_of sight tables K r in
+      let shards = shards_of sight tables K r in
+      let log' = log_of sight tables K q in
+      let shards' = shards_of sight tables K q in
       let none : y.fault ≡ None = e.fault in (
         e.txs,
         inl (
@@ -114,10 +114,10 @@ module _ {W D B : Type 0} {G : Ghosts B} (count limit : D → ℕ) (tables : ℕ
       )
   ended_of lane x y r q l settled w (Some (Err fault)) k e =
       let txs : r.work.txs.items ≡ y.txs.items = sym (ap (λ v. v.items) e.0 ∙ ap (λ (z : Lane). z.txs.items) w) in
-      let log = log_of count limit tables K r in
-      let shards = shards_of count limit tables K r in
-      let log' = log_of count limit tables K q in
-      let shards' = shards_of count limit tables K q in
+      let log = log_of sight tables K r in
+      let shards = shards_of sight tables K r in
+      let log' = log_of sight tables K q in
+      let shards' = shards_of sight tables K q in
       let is : y.fault ≡ Some fault = e.1 in (
         e.0,
         inr (
@@ -128,28 +128,28 @@ module _ {W D B : Type 0} {G : Ghosts B} (count limit : D → ℕ) (tables : ℕ
       )
 
   -- a lane's run from its first call to its last
-  pub record IsRun (lane : ℕ) (x : Lane) (r q : LaneRun W D B G) : Type 0 where
-    pub set_up : IsSetUp count limit tables K gs hs lane x r
-    pub ends : Ends count limit tables K r q
+  pub record IsRun (lane : ℕ) (x : Lane) (r q : LaneRun W D S B G) : Type 0 where
+    pub set_up : IsSetUp sight tables K gs hs lane x r
+    pub ends : Ends sight tables K r q
 
   -- of all lanes, the last one first
-  abbrev pub Runs : List Lane → List (LaneRun W D B G) → List (LaneRun W D B G) → Type 0
+  abbrev pub Runs : List Lane → List (LaneRun W D S B G) → List (LaneRun W D S B G) → Type 0
   Runs [] [] [] = Unit {0}
   Runs (x ∷ xs) (r ∷ rs) (q ∷ qs) = IsRun (length qs) x r q × Runs xs rs qs
   Runs xs rs qs = ⊥
 
-  runs_down : (xs : List Lane) (rs qs : List (LaneRun W D B G)) → Down (IsSetUp count limit tables K gs hs) xs rs → AllZip (Ends count limit tables K) rs qs → Runs xs rs qs
+  runs_down : (xs : List Lane) (rs qs : List (LaneRun W D S B G)) → Down (IsSetUp sight tables K gs hs) xs rs → AllZip (Ends sight tables K) rs qs → Runs xs rs qs
   runs_down [] [] [] d z = tt
   runs_down [] [] (q ∷ qs) d z = absurd z
   runs_down [] (r ∷ rs) qs d z = absurd d
   runs_down (x ∷ xs) [] qs d z = absurd d
   runs_down (x ∷ xs) (r ∷ rs) [] d z = absurd z
-  runs_down (x ∷ xs) (r ∷ rs) (q ∷ qs) d z = (record { set_up = subst (λ n. IsSetUp count limit tables K gs hs n x r) (zip_many count limit tables K rs qs z.1) d.0; ends = z.0 }, runs_down xs rs qs d.1 z.1)
+  runs_down (x ∷ xs) (r ∷ rs) (q ∷ qs) d z = (record { set_up = subst (λ n. IsSetUp sight tables K gs hs n x r) (zip_many sight tables K rs qs z.1) d.0; ends = z.0 }, runs_down xs rs qs d.1 z.1)
 
-  pub runs_of : (lanes : List Lane) (rs qs : List (LaneRun W D B G)) → BothFrom (IsSetUp count limit tables K gs hs) 0 lanes (reverse rs) → AllZip (Ends count limit tables K) rs qs → Runs (reverse lanes) rs qs
-  runs_of lanes rs qs b z = runs_down (reverse lanes) rs qs (down (IsSetUp count limit tables K gs hs) (reverse lanes) rs (subst (λ xs. BothFrom (IsSetUp count limit tables K gs hs) 0 xs (reverse rs)) (sym (reverse-reverse lanes)) b)) z
+  pub runs_of : (lanes : List Lane) (rs qs : List (LaneRun W D S B G)) → BothFrom (IsSetUp sight tables K gs hs) 0 lanes (reverse rs) → AllZip (Ends sight tables K) rs qs → Runs (reverse lanes) rs qs
+  runs_of lanes rs qs b z = runs_down (reverse lanes) rs qs (down (IsSetUp sight tables K gs hs) (reverse lanes) rs (subst (λ xs. BothFrom (IsSetUp sight tables K gs hs) 0 xs (reverse rs)) (sym (reverse-reverse lanes)) b)) z
 
-  pub all_over : (xs : List Lane) (rs qs : List (LaneRun W D B G)) → Runs xs rs qs → AllOver K.shards qs
+  pub all_over : (xs : List Lane) (rs qs : List (LaneRun W D S B G)) → Runs xs rs qs → AllOver K.shards qs
   all_over [] [] [] k = tt
   all_over [] [] (q ∷ qs) k = absurd k
   all_over [] (r ∷ rs) qs k = absurd k
@@ -164,20 +164,20 @@ module _ {W D B : Type 0} {G : Ghosts B} (count limit : D → ℕ) (tables : ℕ
     all_over xs rs qs k.1,
   )
 
-  module _ (open_ : AreOpen count limit tables K gs hs) where
-    pub all_of : (xs : List Lane) (rs qs : List (LaneRun W D B G)) → Runs xs rs qs → AllOf hs qs
+  module _ (open_ : AreOpen sight tables K gs hs) where
+    pub all_of : (xs : List Lane) (rs qs : List (LaneRun W D S B G)) → Runs xs rs qs → AllOf hs qs
     all_of [] [] [] k = tt
     all_of [] [] (q ∷ qs) k = absurd k
     all_of [] (r ∷ rs) qs k = absurd k
     all_of (x ∷ xs) [] qs k = absurd k
     all_of (x ∷ xs) (r ∷ rs) [] k = absurd k
     all_of (x ∷ xs) (r ∷ rs) (q ∷ qs) k = (
-      all_home count limit tables K hs r.ports.shards.each.ports.items q.ports.shards.each.ports.items k.0.set_up.begins.count_is k.0.ends.count_is open_.shards_many open_.shard_tables k.0.set_up.begins.ledger k.0.ends.nodes k.0.ends.seated.shards,
+      all_home sight tables K hs r.ports.shards.each.ports.items q.ports.shards.each.ports.items k.0.set_up.begins.count_is k.0.ends.count_is open_.shards_many open_.shard_tables k.0.set_up.begins.ledger k.0.ends.nodes k.0.ends.seated.shards,
       all_of xs rs qs k.1,
     )
 
     -- each lane's seat of its coordinator is of the lock that the wave picks
-    pub seats_at : (xs : List Lane) (rs qs : List (LaneRun W D B G)) → (some : 0 < K.lanes) → Runs xs rs qs → SeatsAt K.lanes some tables qs
+    pub seats_at : (xs : List Lane) (rs qs : List (LaneRun W D S B G)) → (some : 0 < K.lanes) → Runs xs rs qs → SeatsAt K.lanes some tables qs
     seats_at [] [] [] some k = tt
     seats_at [] [] (q ∷ qs) some k = absurd k
     seats_at [] (r ∷ rs) qs some k = absurd k
@@ -187,21 +187,21 @@ module _ {W D B : Type 0} {G : Ghosts B} (count limit : D → ℕ) (tables : ℕ
         (q.ports.log.own.0 ∙ (k.0.ends.seated.log ∙ ap tables (k.0.ends.at ∙ (k.0.set_up.begins.at ∙ ap (home_of K) k.0.set_up.lane_is))), seats_at xs rs qs some k.1)
 
     -- a lane of the wave
-    lane_ran : (lane : ℕ) (x y : Lane) (r q : LaneRun W D B G) (homes : List (Vec (Seat (SharedLog D)))) (rows : List (Vec (Seat (SharedShard D)))) → IsRun lane x r q → IsEnd q.work q.came y
-        → IsHand (knows (home_seat q)) (hands_at homes (home_of K lane)) → AreSeats (shard_seats q) rows → LaneRan K (log_at gs) (shard_at count limit hs) (hands_at homes) (hands_at rows) lane x y
+    lane_ran : (lane : ℕ) (x y : Lane) (r q : LaneRun W D S B G) (homes : List (Vec (Seat (SharedLog D)))) (rows : List (Vec (Seat (SharedShard S)))) → IsRun lane x r q → IsEnd q.work q.came y
+        → IsHand (knows (home_seat q)) (hands_at homes (home_of K lane)) → AreSeats (shard_seats q) rows → LaneRan K (log_at gs) (shard_at sight hs) (hands_at homes) (hands_at rows) lane x y
     lane_ran lane x y r q homes rows k e home seats =
         let begins = k.set_up.begins in
-        let log = log_of count limit tables K r in
-        let shards = shards_of count limit tables K r in
-        let log' = log_of count limit tables K q in
-        let shards' = shards_of count limit tables K q in
+        let log = log_of sight tables K r in
+        let shards = shards_of sight tables K r in
+        let log' = log_of sight tables K q in
+        let shards' = shards_of sight tables K q in
         let settled : IsSettled K lane log shards = subst (λ l. IsSettled K l log shards) k.set_up.lane_is begins.settled in
         let first : Sight = log_at gs (home_of K lane) in
         let last_is : log' ≡ seat_sight log_sight q.ports.log.seat = seen_here q.ports.log.node (seat_sight log_sight q.ports.log.seat) in
-        let still : IsStillNode log log' = subst (λ n. IsStillNode log (logs_of count limit tables K q n)) (sym k.ends.at) (k.ends.log_nodes r.ports.log.node) in
+        let still : IsStillNode log log' = subst (λ n. IsStillNode log (logs_of sight tables K q n)) (sym k.ends.at) (k.ends.log_nodes r.ports.log.node) in
         let came = ended_of lane x y r q k.set_up.lane_is begins.settled k.ends.work q.came k.ends.has_run e in
         let many : length q.ports.shards.each.ports.items ≡ K.shards = k.ends.count_is ∙ begins.count_is in
-        let ours : AreOfLane lane q.ports.shards.each.ports.items = k.ends.of_lane lane (subst (λ l. AreOfLane l r.ports.shards.each.ports.items) k.set_up.lane_is begins.ours) in
+        let ours : AreOfLane sight lane q.ports.shards.each.ports.items = k.ends.of_lane lane (subst (λ l. AreOfLane sight l r.ports.shards.each.ports.items) k.set_up.lane_is begins.ours) in
         record {
           log = log;
           seen = shards;
@@ -218,7 +218,7 @@ module _ {W D B : Type 0} {G : Ghosts B} (count limit : D → ℕ) (tables : ℕ
             later = still.later;
           };
           at_shard = λ s lt.
-              let m = port_sits count limit lane q.ports.shards.each.ports.items rows seats ours s (subst (λ n. s < n) (sym many) lt) in
+              let m = port_sits sight lane q.ports.shards.each.ports.items rows seats ours s (subst (λ n. s < n) (sym many) lt) in
               let stays = k.ends.nodes s in
               let seen_as = (m.3 first).1 in
               record {
@@ -226,22 +226,22 @@ module _ {W D B : Type 0} {G : Ghosts B} (count limit : D → ℕ) (tables : ℕ
                 among = m.1;
                 of_lane = m.2;
                 was = k.set_up.shards s;
-                is = view_is (shard_at count limit hs s) (shards' s) m.0 (stays.header ∙ ap (λ (v : Sight). v.header) (k.set_up.shards s)) (ap (λ (v : Sight). v.seen) seen_as) (ap (λ (v : Sight). v.flight) seen_as) (ap (λ (v : Sight). v.faults) seen_as)
+                is = view_is (shard_at sight hs s) (shards' s) m.0 (stays.header ∙ ap (λ (v : Sight). v.header) (k.set_up.shards s)) (ap (λ (v : Sight). v.seen) seen_as) (ap (λ (v : Sight). v.flight) seen_as) (ap (λ (v : Sight). v.faults) seen_as)
                     (stays.opened ∙ ap (λ (v : Sight). v.opened) (k.set_up.shards s)) (stays.capacity ∙ ap (λ (v : Sight). v.capacity) (k.set_up.shards s));
                 later = stays.later;
               };
           beyond = λ s le.
-              let a = past_end (λ p. seat_sight (shard_sight count limit) p.seat) r.ports.shards.each.ports.items s (subst (λ n. n ≤ s) (sym begins.count_is) le) in
-              let b = past_end (λ p. seat_sight (shard_sight count limit) p.seat) q.ports.shards.each.ports.items s (subst (λ n. n ≤ s) (sym many) le) in
+              let a = past_end (λ p. seat_sight (shard_sight sight) p.seat) r.ports.shards.each.ports.items s (subst (λ n. n ≤ s) (sym begins.count_is) le) in
+              let b = past_end (λ p. seat_sight (shard_sight sight) p.seat) q.ports.shards.each.ports.items s (subst (λ n. n ≤ s) (sym many) le) in
               (ap (λ (v : Sight). v.seen) a, ap (λ (v : Sight). v.flight) a, ap (λ (v : Sight). v.seen) b);
           txs = ap (λ v. v.items) came.0 ∙ ap (λ (z : Lane). z.txs.items) (k.ends.work ∙ k.set_up.work);
           ended = came.1;
         }
 
     -- all lanes, the last one first
-    lanes_down : (xs : List Lane) (rs qs : List (LaneRun W D B G)) (ys : List Lane) (owns : List (Vec (Seat (SharedLog D)))) (homes : List (Vec (Seat (SharedLog D)))) (rows : List (Vec (Seat (SharedShard D)))) → (some : 0 < K.lanes)
+    lanes_down : (xs : List Lane) (rs qs : List (LaneRun W D S B G)) (ys : List Lane) (owns : List (Vec (Seat (SharedLog D)))) (homes : List (Vec (Seat (SharedLog D)))) (rows : List (Vec (Seat (SharedShard S)))) → (some : 0 < K.lanes)
         → ((c : ℕ) → hands_at homes c ≡ all_known (down_at owns c)) → Runs xs rs qs → AllZip (λ r y. IsEnd r.work r.came y) qs ys → HomesHold K.lanes some owns qs → AllGave qs rows
-        → Down (LaneRan K (log_at gs) (shard_at count limit hs) (hands_at homes) (hands_at rows)) xs ys
+        → Down (LaneRan K (log_at gs) (shard_at sight hs) (hands_at homes) (hands_at rows)) xs ys
     lanes_down [] [] [] [] owns homes rows some f k z h a = tt
     lanes_down [] [] [] (y ∷ ys) owns homes rows some f k z h a = absurd z
     lanes_down [] [] (q ∷ qs) ys owns homes rows some f k z h a = absurd k
@@ -251,45 +251,45 @@ module _ {W D B : Type 0} {G : Ghosts B} (count limit : D → ℕ) (tables : ℕ
     lanes_down (x ∷ xs) (r ∷ rs) (q ∷ qs) [] owns homes rows some f k z h a = absurd z
     lanes_down (x ∷ xs) (r ∷ rs) (q ∷ qs) (y ∷ ys) owns homes rows some f k z h a =
         let many = ends_many qs ys z.1 in (
-          subst (λ n. LaneRan K (log_at gs) (shard_at count limit hs) (hands_at homes) (hands_at rows) n x y) many
+          subst (λ n. LaneRan K (log_at gs) (shard_at sight hs) (hands_at homes) (hands_at rows) n x y) many
               (lane_ran (length qs) x y r q homes rows k.0 z.0 (subst (IsHand (knows (home_seat q))) (sym (f (home_of K (length qs)))) (hand_among (home_seat q) (down_at owns (home_of K (length qs))) h.0)) a.0),
           lanes_down xs rs qs ys owns homes rows some f k.1 z.1 h.1 a.1,
         )
       where
-        ends_many : (us : List (LaneRun W D B G)) (vs : List Lane) → AllZip (λ r y. IsEnd r.work r.came y) us vs → length us ≡ length vs
+        ends_many : (us : List (LaneRun W D S B G)) (vs : List Lane) → AllZip (λ r y. IsEnd r.work r.came y) us vs → length us ≡ length vs
         ends_many [] [] z = refl
         ends_many [] (v ∷ vs) z = absurd z
         ends_many (u ∷ us) [] z = absurd z
         ends_many (u ∷ us) (v ∷ vs) z = let e = ends_many us vs z.1 in omega (arith, e)
 
-    pub lanes_ran : (lanes lanes' : List Lane) (rs qs : List (LaneRun W D B G)) (owns : List (Vec (Seat (SharedLog D)))) (homes : List (Vec (Seat (SharedLog D)))) (rows : List (Vec (Seat (SharedShard D)))) → (some : 0 < K.lanes)
+    pub lanes_ran : (lanes lanes' : List Lane) (rs qs : List (LaneRun W D S B G)) (owns : List (Vec (Seat (SharedLog D)))) (homes : List (Vec (Seat (SharedLog D)))) (rows : List (Vec (Seat (SharedShard S)))) → (some : 0 < K.lanes)
         → ((c : ℕ) → hands_at homes c ≡ all_known (down_at owns c)) → Runs (reverse lanes) rs qs → AllZip (λ r y. IsEnd r.work r.came y) qs (reverse lanes') → HomesHold K.lanes some owns qs → AllGave qs rows
-        → BothFrom (LaneRan K (log_at gs) (shard_at count limit hs) (hands_at homes) (hands_at rows)) 0 lanes lanes'
+        → BothFrom (LaneRan K (log_at gs) (shard_at sight hs) (hands_at homes) (hands_at rows)) 0 lanes lanes'
     lanes_ran lanes lanes' rs qs owns homes rows some f k z h a =
-        let P = LaneRan K (log_at gs) (shard_at count limit hs) (hands_at homes) (hands_at rows) in
+        let P = LaneRan K (log_at gs) (shard_at sight hs) (hands_at homes) (hands_at rows) in
         let b = up P (reverse lanes) (reverse lanes') (lanes_down (reverse lanes) rs qs (reverse lanes') owns homes rows some f k z h a) in
         subst (λ xs. BothFrom P 0 xs lanes') (reverse-reverse lanes) (subst (λ ys. BothFrom P 0 (reverse (reverse lanes)) ys) (reverse-reverse lanes') b)
 
-module _ {W D B : Type 0} {G : Ghosts B} (count limit : D → ℕ) (tables : ℕ → TableId) (K : Shape) (gs : List (Guarded (SharedLog D))) (hs : List (Guarded (SharedShard D))) where
+module _ {W D S B : Type 0} {G : Ghosts B} (sight : S → Sight) (tables : ℕ → TableId) (K : Shape) (gs : List (Guarded (SharedLog D))) (hs : List (Guarded (SharedShard S))) where
   -- before the dealing no lane has its seats, and behind it all have
-  pub none_seated : (n : ℕ) (t : Table W D B G) → t.runs.items ≡ [] → HaveSeats count limit tables K gs hs n t.lanes.items t
-  none_seated n t e = record { done = []; all_are = sym (append-nil t.lanes.items); set_up = subst (λ xs. BothFrom (IsSetUp count limit tables K gs hs) n [] (reverse xs)) (sym e) tt }
+  pub none_seated : (n : ℕ) (t : Table W D S B G) → t.runs.items ≡ [] → HaveSeats sight tables K gs hs n t.lanes.items t
+  none_seated n t e = record { done = []; all_are = sym (append-nil t.lanes.items); set_up = subst (λ xs. BothFrom (IsSetUp sight tables K gs hs) n [] (reverse xs)) (sym e) tt }
 
-  pub all_seated : (lanes : List Lane) (t : Table W D B G) → t.lanes.items ≡ [] → HaveSeats count limit tables K gs hs 0 lanes t → BothFrom (IsSetUp count limit tables K gs hs) 0 lanes (reverse t.runs.items)
-  all_seated lanes t e k = subst (λ xs. BothFrom (IsSetUp count limit tables K gs hs) 0 xs (reverse t.runs.items)) (sym (k.all_are ∙ ap (λ xs. xs ++ k.done) e)) k.set_up
+  pub all_seated : (lanes : List Lane) (t : Table W D S B G) → t.lanes.items ≡ [] → HaveSeats sight tables K gs hs 0 lanes t → BothFrom (IsSetUp sight tables K gs hs) 0 lanes (reverse t.runs.items)
+  all_seated lanes t e k = subst (λ xs. BothFrom (IsSetUp sight tables K gs hs) 0 xs (reverse t.runs.items)) (sym (k.all_are ∙ ap (λ xs. xs ++ k.done) e)) k.set_up
 
-  down_begin : (xs : List Lane) (rs : List (LaneRun W D B G)) → Down (IsSetUp count limit tables K gs hs) xs rs → All (Begins count limit tables K) rs
-  down_begin [] [] d = All-nil (Begins count limit tables K)
+  down_begin : (xs : List Lane) (rs : List (LaneRun W D S B G)) → Down (IsSetUp sight tables K gs hs) xs rs → All (Begins sight tables K) rs
+  down_begin [] [] d = All-nil (Begins sight tables K)
   down_begin [] (r ∷ rs) d = absurd d
   down_begin (x ∷ xs) [] d = absurd d
-  down_begin (x ∷ xs) (r ∷ rs) d = All-cons (Begins count limit tables K) r rs d.0.begins (down_begin xs rs d.1)
+  down_begin (x ∷ xs) (r ∷ rs) d = All-cons (Begins sight tables K) r rs d.0.begins (down_begin xs rs d.1)
 
-  pub all_begin : (lanes : List Lane) (rs : List (LaneRun W D B G)) → BothFrom (IsSetUp count limit tables K gs hs) 0 lanes (reverse rs) → All (Begins count limit tables K) rs
-  all_begin lanes rs b = down_begin (reverse lanes) rs (down (IsSetUp count limit tables K gs hs) (reverse lanes) rs (subst (λ xs. BothFrom (IsSetUp count limit tables K gs hs) 0 xs (reverse rs)) (sym (reverse-reverse lanes)) b))
+  pub all_begin : (lanes : List Lane) (rs : List (LaneRun W D S B G)) → BothFrom (IsSetUp sight tables K gs hs) 0 lanes (reverse rs) → All (Begins sight tables K) rs
+  all_begin lanes rs b = down_begin (reverse lanes) rs (down (IsSetUp sight tables K gs hs) (reverse lanes) rs (subst (λ xs. BothFrom (IsSetUp sight tables K gs hs) 0 xs (reverse rs)) (sym (reverse-reverse lanes)) b))
 
-module _ {W D B : Type 0} {G : Ghosts B} where
-  pub no_ends : (rs : List (LaneRun W D B G)) (xs : List Lane) → xs ≡ [] → AllZip (λ (r : LaneRun W D B G) (x : Lane). IsEnd r.work r.came x) [] (reverse xs)
-  no_ends rs xs e = subst (λ ys. AllZip (λ (r : LaneRun W D B G) (x : Lane). IsEnd r.work r.came x) [] (reverse ys)) (sym e) tt
+module _ {W D S B : Type 0} {G : Ghosts B} where
+  pub no_ends : (rs : List (LaneRun W D S B G)) (xs : List Lane) → xs ≡ [] → AllZip (λ (r : LaneRun W D S B G) (x : Lane). IsEnd r.work r.came x) [] (reverse xs)
+  no_ends rs xs e = subst (λ ys. AllZip (λ (r : LaneRun W D S B G) (x : Lane). IsEnd r.work r.came x) [] (reverse ys)) (sym e) tt
 
-  pub ends_are : (news gone : List (LaneRun W D B G)) (xs : List Lane) → news ≡ gone → AllZip (λ (r : LaneRun W D B G) (x : Lane). IsEnd r.work r.came x) gone xs → AllZip (λ (r : LaneRun W D B G) (x : Lane). IsEnd r.work r.came x) news xs
-  ends_are news gone xs e z = subst (λ rs. AllZip (λ (r : LaneRun W D B G) (x : Lane). IsEnd r.work r.came x) rs xs) (sym e) z
+  pub ends_are : (news gone : List (LaneRun W D S B G)) (xs : List Lane) → news ≡ gone → AllZip (λ (r : LaneRun W D S B G) (x : Lane). IsEnd r.work r.came x) gone xs → AllZip (λ (r : LaneRun W D S B G) (x : Lane). IsEnd r.work r.came x) news xs
+  ends_are news gone xs e z = subst (λ rs. AllZip (λ (r : LaneRun W D S B G) (x : Lane). IsEnd r.work r.came x) rs xs) (sym e) z

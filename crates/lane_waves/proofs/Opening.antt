@@ -103,7 +103,7 @@ table_get (h ∷ gs) zero g e = let same : h ≡ g = let z : Some h ≡ Some g =
 table_get (h ∷ gs) (suc n) g e = let m = table_get gs n g e in let lt = m.1 in (m.0, omega (arith, lt))
 
 -- the wave's picks: the locks of the coordinators, and then those of the shards
-abbrev pub tables_of : {D : Type 0} → ℕ → List (Guarded (SharedLog D)) → List (Guarded (SharedShard D)) → ℕ → TableId
+abbrev pub tables_of : {D S : Type 0} → ℕ → List (Guarded (SharedLog D)) → List (Guarded (SharedShard S)) → ℕ → TableId
 tables_of first gs hs n = if nat_lt n first then table_at gs n else table_at hs (n - first)
 
 pick_low : (n m : ℕ) → n < m → nat_lt n m ≡ true
@@ -112,7 +112,7 @@ pick_low n m lt = grind (arith, lt)
 pick_high : (n m : ℕ) → nat_lt (m + n) m ≡ false
 pick_high n m = grind arith
 
-module _ {D : Type 0} (count limit : D → ℕ) (K : Shape) (gs : List (Guarded (SharedLog D))) (hs : List (Guarded (SharedShard D))) where
+module _ {D S : Type 0} (sight : S → Sight) (K : Shape) (gs : List (Guarded (SharedLog D))) (hs : List (Guarded (SharedShard S))) where
   pub log_tables : length gs ≡ K.coordinators → AllFrom (λ n g. tables_of K.coordinators gs hs n ≡ table_of g) 0 gs
   log_tables many = all_from (λ n g. tables_of K.coordinators gs hs n ≡ table_of g) 0 gs (λ i g e.
       let m = table_get gs i g e in
@@ -121,7 +121,7 @@ module _ {D : Type 0} (count limit : D → ℕ) (K : Shape) (gs : List (Guarded 
       let same : 0 + i ≡ i = omega arith in
       ap (λ b. if b then table_at gs (0 + i) else table_at hs (0 + i - K.coordinators)) (pick_low (0 + i) K.coordinators low) ∙ (ap (λ j. table_at gs j) same ∙ m.0))
 
-  at_tables : (tables : ℕ → TableId) (k : ℕ) (ls : List (Guarded (SharedShard D))) → ((i : ℕ) (h : Guarded (SharedShard D)) → slice_get ls i ≡ Some h → tables (shard_node K (k + i)) ≡ table_of h) → AtTables tables K k ls
+  at_tables : (tables : ℕ → TableId) (k : ℕ) (ls : List (Guarded (SharedShard S))) → ((i : ℕ) (h : Guarded (SharedShard S)) → slice_get ls i ≡ Some h → tables (shard_node K (k + i)) ≡ table_of h) → AtTables tables K k ls
   at_tables tables k [] f = tt
   at_tables tables k (l ∷ ls) f =
       let none : k + 0 ≡ k = omega arith in
@@ -133,25 +133,25 @@ module _ {D : Type 0} (count limit : D → ℕ) (K : Shape) (gs : List (Guarded 
       let same : K.coordinators + (0 + i) - K.coordinators ≡ i = omega arith in
       ap (λ b. if b then table_at gs (K.coordinators + (0 + i)) else table_at hs (K.coordinators + (0 + i) - K.coordinators)) (pick_high (0 + i) K.coordinators) ∙ (ap (λ j. table_at hs j) same ∙ m.0))
 
-  module _ (ns : List (SharedLog D)) (ms : List (SharedShard D)) (logs_are : map opening_of gs ≡ ns) (shards_are : map opening_of hs ≡ ms) where
+  module _ (ns : List (SharedLog D)) (ms : List (SharedShard S)) (logs_are : map opening_of gs ≡ ns) (shards_are : map opening_of hs ≡ ms) where
     pub logs_at : log_at gs ≡ sight_at log_sight ns
     logs_at = seen_maps opening_of log_sight gs ns logs_are
 
-    pub shards_at : shard_at count limit hs ≡ sight_at (shard_sight count limit) ms
-    shards_at = seen_maps opening_of (shard_sight count limit) hs ms shards_are
+    pub shards_at : shard_at sight hs ≡ sight_at (shard_sight sight) ms
+    shards_at = seen_maps opening_of (shard_sight sight) hs ms shards_are
 
     since_at : {N : Type 0} (sight : N → Sight) (xs : List N) (n : ℕ) → All (λ x. (sight x).opened ≤ (sight x).faults) xs → n < length xs → (sight_at sight xs n).opened ≤ (sight_at sight xs n).faults
     since_at sight [] n a lt = absurd (let z : n < 0 = lt in omega (arith, z))
     since_at sight (x ∷ xs) zero a lt = All-head (λ x. (sight x).opened ≤ (sight x).faults) x xs a
     since_at sight (x ∷ xs) (suc n) a lt = since_at sight xs n (All-tail (λ x. (sight x).opened ≤ (sight x).faults) x xs a) (omega (arith, lt))
 
-    pub are_open : IsWithinLimits K → length ns ≡ K.coordinators → length ms ≡ K.shards → AreNodesOf K (sight_at log_sight ns) (sight_at (shard_sight count limit) ms)
-        → All (λ l. (log_sight l).opened ≤ (log_sight l).faults) ns → All (λ s. (shard_sight count limit s).opened ≤ (shard_sight count limit s).faults) ms
-        → ((lane : ℕ) → lane < K.coordinators * K.lanes → IsSettled K lane (sight_at log_sight ns (home_of K lane)) (sight_at (shard_sight count limit) ms))
-        → AllFrom (λ n g. lanes_of g ≡ home_lanes K n) 0 gs → AllFrom (λ s h. lanes_of h ≡ all_lanes K) 0 hs → AreOpen count limit (tables_of K.coordinators gs hs) K gs hs
+    pub are_open : IsWithinLimits K → length ns ≡ K.coordinators → length ms ≡ K.shards → AreNodesOf K (sight_at log_sight ns) (sight_at (shard_sight sight) ms)
+        → All (λ l. (log_sight l).opened ≤ (log_sight l).faults) ns → All (λ s. (shard_sight sight s).opened ≤ (shard_sight sight s).faults) ms
+        → ((lane : ℕ) → lane < K.coordinators * K.lanes → IsSettled K lane (sight_at log_sight ns (home_of K lane)) (sight_at (shard_sight sight) ms))
+        → AllFrom (λ n g. lanes_of g ≡ home_lanes K n) 0 gs → AllFrom (λ s h. lanes_of h ≡ all_lanes K) 0 hs → AreOpen sight (tables_of K.coordinators gs hs) K gs hs
     are_open limits logs_many shards_many ledger logs_since shards_since settled log_lanes shard_lanes =
         let gs_many : length gs ≡ length ns = sym (map_many opening_of gs) ∙ ap (λ (xs : List (SharedLog D)). length xs) logs_are in
-        let hs_many : length hs ≡ length ms = sym (map_many opening_of hs) ∙ ap (λ (xs : List (SharedShard D)). length xs) shards_are in
+        let hs_many : length hs ≡ length ms = sym (map_many opening_of hs) ∙ ap (λ (xs : List (SharedShard S)). length xs) shards_are in
         record {
           limits = limits;
           logs_many = gs_many ∙ logs_many;
@@ -165,16 +165,16 @@ module _ {D : Type 0} (count limit : D → ℕ) (K : Shape) (gs : List (Guarded 
               let zero_more : i ≡ 0 + i = omega arith in
               let at = ledger.logs_are i low in
               subst (λ s. IsOpenAt K (0 + i) s) is (record { shape = at.0; node = at.1 ∙ zero_more; since = since_at log_sight ns i logs_since within }));
-          shards = all_from (λ s h. IsOpenAt K (shard_node K s) (shard_sight count limit (opening_of h))) 0 hs (λ i h e.
-              let m = seen_get (λ x. shard_sight count limit (opening_of x)) hs i h e in
-              let is : sight_at (shard_sight count limit) ms i ≡ shard_sight count limit (opening_of h) = sym (ap (λ f. f i) shards_at) ∙ m.0 in
+          shards = all_from (λ s h. IsOpenAt K (shard_node K s) (shard_sight sight (opening_of h))) 0 hs (λ i h e.
+              let m = seen_get (λ x. shard_sight sight (opening_of x)) hs i h e in
+              let is : sight_at (shard_sight sight) ms i ≡ shard_sight sight (opening_of h) = sym (ap (λ f. f i) shards_at) ∙ m.0 in
               let lt = m.1 in
               let low : i < K.shards = omega (arith, lt, hs_many, shards_many) in
               let within : i < length ms = omega (arith, lt, hs_many) in
               let zero_more : i ≡ 0 + i = omega arith in
               let at = ledger.shards_are i low in
-              subst (λ s. IsOpenAt K (shard_node K (0 + i)) s) is (record { shape = at.0; node = at.1 ∙ ap (λ (j : ℕ). shard_node K j) zero_more; since = since_at (shard_sight count limit) ms i shards_since within }));
-          settled = λ lane lt. subst (λ f. IsSettled K lane (f (home_of K lane)) (shard_at count limit hs)) (sym logs_at) (subst (λ f. IsSettled K lane (sight_at log_sight ns (home_of K lane)) f) (sym shards_at) (settled lane lt));
+              subst (λ s. IsOpenAt K (shard_node K (0 + i)) s) is (record { shape = at.0; node = at.1 ∙ ap (λ (j : ℕ). shard_node K j) zero_more; since = since_at (shard_sight sight) ms i shards_since within }));
+          settled = λ lane lt. subst (λ f. IsSettled K lane (f (home_of K lane)) (shard_at sight hs)) (sym logs_at) (subst (λ f. IsSettled K lane (sight_at log_sight ns (home_of K lane)) f) (sym shards_at) (settled lane lt));
           log_lanes = log_lanes;
           shard_lanes = shard_lanes;
           log_tables = log_tables (gs_many ∙ logs_many);

@@ -17,7 +17,7 @@ use Rattle.node_lock.specs.Seats.{TableId, knows, first_of, opening_of, table_of
 use Rattle.node_lock.specs.Tickets.{fresh}
 use Rattle.node_lock.specs.Viewing.{viewed}
 use Rattle.node_ports.specs.Nodes.{sight_at}
-use Rattle.shard_fanout.specs.Seated.{opening_sight, seat_sight, seen_at, phase_at}
+use Rattle.shard_fanout.specs.Seated.{opening_sight, seat_sight, seen_at, phase_at, Serves}
 use Rattle.shard_fanout.specs.Nodes.{shard_sight, log_sight}
 use Rattle.shard_fanout.specs.declared.coordinators.SharedLog.{SharedLog}
 use Rattle.shard_fanout.specs.declared.locking.SharedShard.{SharedShard}
@@ -28,7 +28,7 @@ use Rattle.shard_fanout.proofs.Seating.{seen_here}
 use Rattle.wave_ends.specs.Rows.{AreDealt}
 use Rattle.wave_ends.proofs.Closing.{last_first}
 use Rattle.wave_lanes.specs.Held.{AreOfLane, log_of, shards_of}
-use Rattle.wave_lanes.specs.Ports.{ArePorts, AtTables, AreOpened}
+use Rattle.wave_lanes.specs.Ports.{ArePorts, AtTables}
 use Rattle.wave_lanes.specs.declared.runs.LaneRun.{LaneRun}
 use Rattle.lane_waves.specs.Places.{AllFrom, BothFrom}
 use Rattle.lane_waves.specs.Deals.{MayRun, started, IsOpenAt, AreOpen, log_at, shard_at, IsSetUp, HaveSeats, IsNext}
@@ -65,19 +65,19 @@ phase_mine mine lane s e = let t : (lane == mine) ≡ true = grind (arith, e) in
 pub lane_within : (home lane_count count j : ℕ) → home < count → j < lane_count → home * lane_count + j < count * lane_count
 lane_within home lane_count count j lt low = let e : home * lane_count + lane_count ≤ count * lane_count = row_fits home lane_count count lane_count lt (omega arith) in omega (arith, e, low)
 
-module _ {W D B : Type 0} {G : Ghosts B} (count limit : D → ℕ) where
+module _ {W S B : Type 0} {G : Ghosts B} (sight : S → Sight) where
   -- the ports of such seats show the shards as they were at the opening
-  pub ports_started : (lane : ℕ) (hs : List (Guarded (SharedShard D))) (ss : List (Seat (SharedShard D))) (ps : List (ShardSeat W D B G)) → AreDealt (shard_sight count limit) lane hs ss → ArePorts hs ss ps
-      → (n : ℕ) → sight_at (λ p. seat_sight (shard_sight count limit) p.seat) ps n ≡ started lane (shard_at count limit hs n)
+  pub ports_started : (lane : ℕ) (hs : List (Guarded (SharedShard S))) (ss : List (Seat (SharedShard S))) (ps : List (ShardSeat W S B G)) → AreDealt (shard_sight sight) lane hs ss → ArePorts hs ss ps
+      → (n : ℕ) → sight_at (λ p. seat_sight (shard_sight sight) p.seat) ps n ≡ started lane (shard_at sight hs n)
   ports_started lane [] [] [] d k n = refl
   ports_started lane [] [] (p ∷ ps) d k n = absurd k
   ports_started lane [] (s ∷ ss) ps d k n = absurd d
   ports_started lane (h ∷ hs) [] ps d k n = absurd d
   ports_started lane (h ∷ hs) (s ∷ ss) [] d k n = absurd k
-  ports_started lane (h ∷ hs) (s ∷ ss) (p ∷ ps) d k zero = ap (λ q. seat_sight (shard_sight count limit) q) k.0.seat ∙ seat_started (shard_sight count limit) s (opening_of h) lane d.0.1 d.0.2
+  ports_started lane (h ∷ hs) (s ∷ ss) (p ∷ ps) d k zero = ap (λ q. seat_sight (shard_sight sight) q) k.0.seat ∙ seat_started (shard_sight sight) s (opening_of h) lane d.0.1 d.0.2
   ports_started lane (h ∷ hs) (s ∷ ss) (p ∷ ps) d k (suc n) = ports_started lane hs ss ps d.1 k.1 n
 
-  pub ports_many : (hs : List (Guarded (SharedShard D))) (ss : List (Seat (SharedShard D))) (ps : List (ShardSeat W D B G)) → ArePorts hs ss ps → length ps ≡ length hs
+  pub ports_many : (hs : List (Guarded (SharedShard S))) (ss : List (Seat (SharedShard S))) (ps : List (ShardSeat W S B G)) → ArePorts hs ss ps → length ps ≡ length hs
   ports_many [] [] [] k = refl
   ports_many [] [] (p ∷ ps) k = absurd k
   ports_many [] (s ∷ ss) ps k = absurd k
@@ -85,35 +85,46 @@ module _ {W D B : Type 0} {G : Ghosts B} (count limit : D → ℕ) where
   ports_many (h ∷ hs) (s ∷ ss) [] k = absurd k
   ports_many (h ∷ hs) (s ∷ ss) (p ∷ ps) k = let e = ports_many hs ss ps k.1 in omega (arith, e)
 
-  -- and are of the lane
-  pub ports_ours : (lane : ℕ) (hs : List (Guarded (SharedShard D))) (ss : List (Seat (SharedShard D))) (ps : List (ShardSeat W D B G)) → AreDealt (shard_sight count limit) lane hs ss → ArePorts hs ss ps → AreOfLane lane ps
-  ports_ours lane [] [] [] d k = All-nil (λ p. (knows p.seat).lane ≡ lane)
-  ports_ours lane [] [] (p ∷ ps) d k = absurd k
-  ports_ours lane [] (s ∷ ss) ps d k = absurd d
-  ports_ours lane (h ∷ hs) [] ps d k = absurd d
-  ports_ours lane (h ∷ hs) (s ∷ ss) [] d k = absurd k
-  ports_ours lane (h ∷ hs) (s ∷ ss) (p ∷ ps) d k = All-cons (λ p. (knows p.seat).lane ≡ lane) p ps (ap (λ q. (knows q).lane) k.0.seat ∙ ap (λ (v : Hand). v.lane) d.0.2) (ports_ours lane hs ss ps d.1 k.1)
+  abbrev ServesLane : ℕ → ShardSeat W S B G → Type 0
+  ServesLane lane p = Serves (shard_sight sight) p.guarded.now p.seat lane
+
+  -- and take the lane's calls
+  pub ports_ours : (K : Shape) (lane k : ℕ) (hs : List (Guarded (SharedShard S))) (ss : List (Seat (SharedShard S))) (ps : List (ShardSeat W S B G)) → AreDealt (shard_sight sight) lane hs ss → ArePorts hs ss ps
+      → AllFrom (λ s h. IsOpenAt K (shard_node K s) (shard_sight sight (opening_of h))) k hs → AreOfLane sight lane ps
+  ports_ours K lane k [] [] [] d a o = All-nil (ServesLane lane)
+  ports_ours K lane k [] [] (p ∷ ps) d a o = absurd a
+  ports_ours K lane k [] (s ∷ ss) ps d a o = absurd d
+  ports_ours K lane k (h ∷ hs) [] ps d a o = absurd d
+  ports_ours K lane k (h ∷ hs) (s ∷ ss) [] d a o = absurd a
+  ports_ours K lane k (h ∷ hs) (s ∷ ss) (p ∷ ps) d a o =
+      All-cons (ServesLane lane) p ps
+      (record {
+        mine = ap (λ q. (knows q).lane) a.0.seat ∙ ap (λ (v : Hand). v.lane) d.0.2;
+        since = subst (λ n. (shard_sight sight (opening_of p.guarded.now)).opened ≤ n) (sym (ap (λ q. (knows q).faults) a.0.seat ∙ ap (λ (v : Hand). v.faults) d.0.2))
+            (subst (λ x. (shard_sight sight (opening_of x)).opened ≤ (shard_sight sight (opening_of h)).faults) (sym a.0.guarded) o.0.since);
+      })
+      (ports_ours K lane (suc k) hs ss ps d.1 a.1 o.1)
 
   -- they are of the locks that the wave picks
-  ports_picked : (tables : ℕ → TableId) (K : Shape) (lane k : ℕ) (hs : List (Guarded (SharedShard D))) (ss : List (Seat (SharedShard D))) (ps : List (ShardSeat W D B G)) → AreDealt (shard_sight count limit) lane hs ss → ArePorts hs ss ps
-      → AtTables tables K k hs → AllFrom (λ s h. IsOpenAt K (shard_node K s) (shard_sight count limit (opening_of h))) k hs
-      → All (λ p. table_of p.guarded.now ≡ tables (seat_sight (shard_sight count limit) p.seat).header.node) ps
-  ports_picked tables K lane k [] [] [] d a t o = All-nil (λ p. table_of p.guarded.now ≡ tables (seat_sight (shard_sight count limit) p.seat).header.node)
+  ports_picked : (tables : ℕ → TableId) (K : Shape) (lane k : ℕ) (hs : List (Guarded (SharedShard S))) (ss : List (Seat (SharedShard S))) (ps : List (ShardSeat W S B G)) → AreDealt (shard_sight sight) lane hs ss → ArePorts hs ss ps
+      → AtTables tables K k hs → AllFrom (λ s h. IsOpenAt K (shard_node K s) (shard_sight sight (opening_of h))) k hs
+      → All (λ p. table_of p.guarded.now ≡ tables (seat_sight (shard_sight sight) p.seat).header.node) ps
+  ports_picked tables K lane k [] [] [] d a t o = All-nil (λ p. table_of p.guarded.now ≡ tables (seat_sight (shard_sight sight) p.seat).header.node)
   ports_picked tables K lane k [] [] (p ∷ ps) d a t o = absurd a
   ports_picked tables K lane k [] (s ∷ ss) ps d a t o = absurd d
   ports_picked tables K lane k (h ∷ hs) [] ps d a t o = absurd d
   ports_picked tables K lane k (h ∷ hs) (s ∷ ss) [] d a t o = absurd a
   ports_picked tables K lane k (h ∷ hs) (s ∷ ss) (p ∷ ps) d a t o =
-      let seen : seat_sight (shard_sight count limit) p.seat ≡ started lane (shard_sight count limit (opening_of h)) = ap (λ q. seat_sight (shard_sight count limit) q) a.0.seat ∙ seat_started (shard_sight count limit) s (opening_of h) lane d.0.1 d.0.2 in
-      All-cons (λ p. table_of p.guarded.now ≡ tables (seat_sight (shard_sight count limit) p.seat).header.node) p ps
+      let seen : seat_sight (shard_sight sight) p.seat ≡ started lane (shard_sight sight (opening_of h)) = ap (λ q. seat_sight (shard_sight sight) q) a.0.seat ∙ seat_started (shard_sight sight) s (opening_of h) lane d.0.1 d.0.2 in
+      All-cons (λ p. table_of p.guarded.now ≡ tables (seat_sight (shard_sight sight) p.seat).header.node) p ps
       (ap table_of a.0.guarded ∙ (sym t.0 ∙ ap tables (sym (ap (λ (v : Sight). v.header.node) seen ∙ o.0.node))))
       (ports_picked tables K lane (suc k) hs ss ps d.1 a.1 t.1 o.1)
 
-module _ {W D B : Type 0} {G : Ghosts B} (count limit : D → ℕ) (tables : ℕ → TableId) (K : Shape) (gs : List (Guarded (SharedLog D))) (hs : List (Guarded (SharedShard D))) (open_ : AreOpen count limit tables K gs hs) where
-  pub set_up : (home j : ℕ) (g : Guarded (SharedLog D)) (p : LogSeat W D B G) (r : LaneRun W D B G) (ss : List (Seat (SharedShard D))) → j < K.lanes → slice_get gs home ≡ Some g
+module _ {W D S B : Type 0} {G : Ghosts B} (sight : S → Sight) (tables : ℕ → TableId) (K : Shape) (gs : List (Guarded (SharedLog D))) (hs : List (Guarded (SharedShard S))) (open_ : AreOpen sight tables K gs hs) where
+  pub set_up : (home j : ℕ) (g : Guarded (SharedLog D)) (p : LogSeat W D B G) (r : LaneRun W D S B G) (ss : List (Seat (SharedShard S))) → j < K.lanes → slice_get gs home ≡ Some g
       → p.guarded.now ≡ g → p.node ≡ home → knows p.seat ≡ fresh (log_sight (opening_of g)) (home * K.lanes + j) → r.lane ≡ home * K.lanes + j → r.ports.log ≡ p
-      → AreDealt (shard_sight count limit) (home * K.lanes + j) hs ss → ArePorts hs ss r.ports.shards.each.ports.items → MayRun r.work
-      → IsSetUp count limit tables K gs hs (home * K.lanes + j) r.work r
+      → AreDealt (shard_sight sight) (home * K.lanes + j) hs ss → ArePorts hs ss r.ports.shards.each.ports.items → MayRun r.work
+      → IsSetUp sight tables K gs hs (home * K.lanes + j) r.work r
   set_up home j g p r ss low there guarded node knew lane_is log_is dealt ports may =
       let lane : ℕ = home * K.lanes + j in
       let place = seen_get (λ x. log_sight (opening_of x)) gs home g there in
@@ -123,11 +134,11 @@ module _ {W D B : Type 0} {G : Ghosts B} (count limit : D → ℕ) (tables : ℕ
       let opened : IsOpenAt K home (log_sight (opening_of g)) = all_here (λ n x. IsOpenAt K n (log_sight (opening_of x))) gs home g open_.logs there in
       let seat_seen : seat_sight log_sight p.seat ≡ started lane (log_sight (opening_of g)) = seat_started log_sight p.seat (opening_of g) lane (p.own.1 ∙ ap (λ x. Some (opening_of x)) guarded) knew in
       let at_home : log_at gs (home_of K lane) ≡ log_sight (opening_of g) = ap (log_at gs) home_is ∙ place.0 in
-      let log_seen : log_of count limit tables K r ≡ started lane (log_at gs (home_of K lane)) =
+      let log_seen : log_of sight tables K r ≡ started lane (log_at gs (home_of K lane)) =
       ap (λ q. seen_at q.node (seat_sight (log_sight {D = D}) q.seat) q.node) log_is ∙ (seen_here p.node (seat_sight log_sight p.seat) ∙ (seat_seen ∙ ap (started lane) (sym at_home))) in
       let r_seen : seat_sight (log_sight {D = D}) r.ports.log.seat ≡ started lane (log_sight (opening_of g)) = ap (λ q. seat_sight (log_sight {D = D}) q.seat) log_is ∙ seat_seen in
-      let shards_seen : (s : ℕ) → shards_of count limit tables K r s ≡ started lane (shard_at count limit hs s) = ports_started count limit lane hs ss r.ports.shards.each.ports.items dealt ports in
-      let rest : IsSettled K lane (log_at gs (home_of K lane)) (shard_at count limit hs) = open_.settled lane lane_low in
+      let shards_seen : (s : ℕ) → shards_of sight tables K r s ≡ started lane (shard_at sight hs s) = ports_started sight lane hs ss r.ports.shards.each.ports.items dealt ports in
+      let rest : IsSettled K lane (log_at gs (home_of K lane)) (shard_at sight hs) = open_.settled lane lane_low in
       let my_lane : r.lane ≡ (knows r.ports.log.seat).lane = lane_is ∙ sym (ap (λ q. (knows q.seat).lane) log_is ∙ ap (λ (h : Hand). h.lane) knew) in
       let r_node : r.ports.log.node ≡ home = ap (λ q. q.node) log_is ∙ node in
       record {
@@ -137,7 +148,7 @@ module _ {W D B : Type 0} {G : Ghosts B} (count limit : D → ℕ) (tables : ℕ
         begins = record {
           seated = record {
             log = subst (λ q. table_of q.guarded.now ≡ tables q.node) (sym log_is) (ap table_of guarded ∙ (sym (all_here (λ n x. tables n ≡ table_of x) gs home g open_.log_tables there) ∙ ap tables (sym node)));
-            shards = ports_picked count limit tables K lane 0 hs ss r.ports.shards.each.ports.items dealt ports open_.shard_tables open_.shards;
+            shards = ports_picked sight tables K lane 0 hs ss r.ports.shards.each.ports.items dealt ports open_.shard_tables open_.shards;
           };
           at = r_node ∙ (sym home_is ∙ ap (home_of K) (sym lane_is));
           home = subst (λ v. IsLane v.header r.lane) (sym r_seen) (subst (λ l. IsLane (log_sight (opening_of g)).header l) (sym lane_is)
@@ -145,16 +156,16 @@ module _ {W D B : Type 0} {G : Ghosts B} (count limit : D → ℕ) (tables : ℕ
           shape = ap (λ (v : Sight). v.header.shape) r_seen ∙ opened.shape;
           idle = phase_mine (knows r.ports.log.seat).lane r.lane (seat_sight (log_sight {D = D}) r.ports.log.seat) my_lane
               ∙ (ap (λ (v : Sight). (slot v.seen r.lane).phase) r_seen ∙ (ap (λ (v : Sight). (slot v.seen r.lane).phase) (sym at_home) ∙ (ap (λ l. (slot (log_at gs (home_of K lane)).seen l).phase) lane_is ∙ rest.1.idle)));
-          count_is = ports_many count limit hs ss r.ports.shards.each.ports.items ports ∙ open_.shards_many;
+          count_is = ports_many sight hs ss r.ports.shards.each.ports.items ports ∙ open_.shards_many;
           ledger = λ s lt.
               let got = get_there hs s (subst (λ n. s < n) (sym open_.shards_many) lt) in
-              let at = all_here (λ n x. IsOpenAt K (shard_node K n) (shard_sight count limit (opening_of x))) hs s got.0 open_.shards got.1 in
-              let is : shards_of count limit tables K r s ≡ started lane (shard_sight count limit (opening_of got.0)) = shards_seen s ∙ ap (started lane) (seen_get (λ x. shard_sight count limit (opening_of x)) hs s got.0 got.1).0 in
+              let at = all_here (λ n x. IsOpenAt K (shard_node K n) (shard_sight sight (opening_of x))) hs s got.0 open_.shards got.1 in
+              let is : shards_of sight tables K r s ≡ started lane (shard_sight sight (opening_of got.0)) = shards_seen s ∙ ap (started lane) (seen_get (λ x. shard_sight sight (opening_of x)) hs s got.0 got.1).0 in
               (ap (λ (v : Sight). v.header.shape) is ∙ at.shape, ap (λ (v : Sight). v.header.node) is ∙ at.node);
-          settled = subst (λ l. IsSettled K l (log_of count limit tables K r) (shards_of count limit tables K r)) (sym lane_is)
-              (settled_like K lane (log_at gs (home_of K lane)) (log_of count limit tables K r) (shard_at count limit hs) (shards_of count limit tables K r)
+          settled = subst (λ l. IsSettled K l (log_of sight tables K r) (shards_of sight tables K r)) (sym lane_is)
+              (settled_like K lane (log_at gs (home_of K lane)) (log_of sight tables K r) (shard_at sight hs) (shards_of sight tables K r)
               (ap (λ (v : Sight). v.header) log_seen) (ap (λ (v : Sight). v.seen) log_seen) (λ s. ap (λ (v : Sight). v.seen) (shards_seen s)) rest);
-          ours = subst (λ l. AreOfLane l r.ports.shards.each.ports.items) (sym lane_is) (ports_ours count limit lane hs ss r.ports.shards.each.ports.items dealt ports);
+          ours = subst (λ l. AreOfLane sight l r.ports.shards.each.ports.items) (sym lane_is) (ports_ours sight K lane 0 hs ss r.ports.shards.each.ports.items dealt ports open_.shards);
           limits = may.limits;
         };
         mine = sym my_lane ∙ lane_is;
@@ -163,14 +174,10 @@ module _ {W D B : Type 0} {G : Ghosts B} (count limit : D → ℕ) (tables : ℕ
       }
 
   -- one lane more has its seats
-  pub seats_more : (n : ℕ) (all : List Lane) (home : LogSeat W D B G) (t u : Table W D B G) (next : IsNext count limit hs home t u) → IsSetUp count limit tables K gs hs n next.run.work next.run
-      → HaveSeats count limit tables K gs hs (suc n) all t → HaveSeats count limit tables K gs hs n all u
+  pub seats_more : (n : ℕ) (all : List Lane) (home : LogSeat W D B G) (t u : Table W D S B G) (next : IsNext sight hs home t u) → IsSetUp sight tables K gs hs n next.run.work next.run
+      → HaveSeats sight tables K gs hs (suc n) all t → HaveSeats sight tables K gs hs n all u
   seats_more n all home t u next up k = record {
     done = next.run.work ∷ k.done;
     all_are = k.all_are ∙ (ap (λ xs. xs ++ k.done) next.lanes ∙ append_assoc u.lanes.items (next.run.work ∷ []) k.done);
-    set_up = subst (λ xs. BothFrom (IsSetUp count limit tables K gs hs) n (next.run.work ∷ k.done) xs) (sym (last_first t.runs.items u.runs.items next.run next.runs)) (up, k.set_up);
+    set_up = subst (λ xs. BothFrom (IsSetUp sight tables K gs hs) n (next.run.work ∷ k.done) xs) (sym (last_first t.runs.items u.runs.items next.run next.runs)) (up, k.set_up);
   }
-
-pub opened_of : {D : Type 0} (count limit : D → ℕ) (K : Shape) (k : ℕ) (hs : List (Guarded (SharedShard D))) → AllFrom (λ s h. IsOpenAt K (shard_node K s) (shard_sight count limit (opening_of h))) k hs → AreOpened count limit hs
-opened_of count limit K k [] a = tt
-opened_of count limit K k (h ∷ hs) a = (a.0.since, opened_of count limit K (suc k) hs a.1)

@@ -6,6 +6,7 @@ use Rattle.std.specs.Global.{Vec}
 use Rattle.std.proofs.lemmas.List.{length-reverse, reverse-reverse}
 use Rattle.std.proofs.lemmas.Nat.{mul-le}
 use Rattle.cbdc_model.specs.Records.{Shape}
+use Rattle.cbdc_model.specs.Sights.{Sight}
 use Rattle.ledger_runs.specs.declared.lanes.Lane.{Lane}
 use Rattle.node_lock.specs.declared.lock.Guarded.{Guarded}
 use Rattle.node_lock.specs.declared.seat.Seat.{Seat}
@@ -35,32 +36,32 @@ use Rattle.lane_waves.proofs.Giving.{none_back, holds_take}
 use Rattle.lane_waves.proofs.Homes.{HomeAt, homes_hold, homes_at, homes_up, homes_ready, hands_down}
 use Rattle.lane_waves.proofs.Ending.{Runs, runs_of, zip_many, all_over, all_of, no_ends, all_seated, seats_at, ends_are, lanes_ran}
 
-module _ {W D B : Type 0} {G : Ghosts B} (count limit : D → ℕ) (tables : ℕ → TableId) (K : Shape) (gs : List (Guarded (SharedLog D))) (hs : List (Guarded (SharedShard D))) (open_ : AreOpen count limit tables K gs hs) where
+module _ {W D S B : Type 0} {G : Ghosts B} (sight : S → Sight) (tables : ℕ → TableId) (K : Shape) (gs : List (Guarded (SharedLog D))) (hs : List (Guarded (SharedShard S))) (open_ : AreOpen sight tables K gs hs) where
   -- each coordinator has all its seats
-  homes_back : (lanes : List Lane) (rs qs : List (LaneRun W D B G)) (homes : List (Vec (Seat (SharedLog D)))) → Runs count limit tables K gs hs (reverse lanes) rs qs → Chunks K.lanes (reverse homes) qs → AllFrom (HomeAt K.lanes tables) 0 homes
+  homes_back : (lanes : List Lane) (rs qs : List (LaneRun W D S B G)) (homes : List (Vec (Seat (SharedLog D)))) → Runs sight tables K gs hs (reverse lanes) rs qs → Chunks K.lanes (reverse homes) qs → AllFrom (HomeAt K.lanes tables) 0 homes
   homes_back lanes rs qs homes runs chunks =
       let some = open_.limits.some_lane in
-      let seats = seats_at count limit tables K gs hs open_ (reverse lanes) rs qs some runs in
+      let seats = seats_at sight tables K gs hs open_ (reverse lanes) rs qs some runs in
       subst (AllFrom (HomeAt K.lanes tables) 0) (reverse-reverse homes) (homes_up K.lanes tables (reverse homes) (homes_at K.lanes some tables (reverse homes) qs chunks seats))
 
   -- the lanes of a table have run, and may give back their seats
-  pub record HaveRun (lanes : List Lane) (t u : Table W D B G) : Type 0 where
-    pub both : BothFrom (IsSetUp count limit tables K gs hs) 0 lanes (reverse t.runs.items)
-    pub ends : AllZip (Ends count limit tables K) t.runs.items u.runs.items
+  pub record HaveRun (lanes : List Lane) (t u : Table W D S B G) : Type 0 where
+    pub both : BothFrom (IsSetUp sight tables K gs hs) 0 lanes (reverse t.runs.items)
+    pub ends : AllZip (Ends sight tables K) t.runs.items u.runs.items
     pub many : length u.runs.items ≡ K.coordinators * K.lanes
     pub room : MayGather u
     pub begun : Gathered hs u.runs.items u
 
-  run_to_end : (lanes : List Lane) (t : Table W D B G) (qs : Vec (LaneRun W D B G)) → IsWaiting count limit hs 0 t → HaveSeats count limit tables K gs hs 0 lanes t → length lanes ≡ K.coordinators * K.lanes
-      → AllZip (Ends count limit tables K) t.runs.items qs.items → HaveRun lanes t (record t { runs = qs })
+  run_to_end : (lanes : List Lane) (t : Table W D S B G) (qs : Vec (LaneRun W D S B G)) → IsWaiting sight hs 0 t → HaveSeats sight tables K gs hs 0 lanes t → length lanes ≡ K.coordinators * K.lanes
+      → AllZip (Ends sight tables K) t.runs.items qs.items → HaveRun lanes t (record t { runs = qs })
   run_to_end lanes t qs waiting seats lanes_many ends =
       let none = none_long t.lanes.items waiting.room.lanes_many in
-      let both = all_seated count limit tables K gs hs lanes t none seats in
-      let runs = runs_of count limit tables K gs hs lanes t.runs.items qs.items both ends in
-      let same = zip_many count limit tables K t.runs.items qs.items ends in
+      let both = all_seated sight tables K gs hs lanes t none seats in
+      let runs = runs_of sight tables K gs hs lanes t.runs.items qs.items both ends in
+      let same = zip_many sight tables K t.runs.items qs.items ends in
       let turned = length-reverse t.runs.items in
-      let paired = both_many (IsSetUp count limit tables K gs hs) 0 lanes (reverse t.runs.items) both in
-      let left = none_back (shard_sight count limit) hs t.rows.items waiting.left in
+      let paired = both_many (IsSetUp sight tables K gs hs) 0 lanes (reverse t.runs.items) both in
+      let left = none_back (shard_sight sight) hs t.rows.items waiting.left in
       let rows = waiting.room.rows in
       let held : length t.runs.items + 0 ≡ length qs.items = omega (arith, same) in
       record {
@@ -72,60 +73,60 @@ module _ {W D B : Type 0} {G : Ghosts B} (count limit : D → ℕ) (tables : ℕ
           seats = (waiting.room.seats.0, let a = waiting.room.seats.1 in omega (arith, a, rows));
           spare = (waiting.room.spare.0, let a = waiting.room.spare.1 in omega (arith, a, rows));
           lanes_take = let h = waiting.room.lanes_hold in let z = waiting.room.lanes_many in omega (arith, h, z, same);
-          over = subst (λ n. AllOver n qs.items) (sym (rows ∙ open_.shards_many)) (all_over count limit tables K gs hs (reverse lanes) t.runs.items qs.items runs);
+          over = subst (λ n. AllOver n qs.items) (sym (rows ∙ open_.shards_many)) (all_over sight tables K gs hs (reverse lanes) t.runs.items qs.items runs);
         };
         begun = record {
           gone = [];
           all_are = sym (append-nil qs.items);
-          of = all_of count limit tables K gs hs open_ (reverse lanes) t.runs.items qs.items runs;
+          of = all_of sight tables K gs hs open_ (reverse lanes) t.runs.items qs.items runs;
           back = left.0;
           gave = tt;
           lanes = no_ends qs.items t.lanes.items none;
         };
       }
 
-  pub have_run : (lanes : List Lane) (t u : Table W D B G) → IsWaiting count limit hs 0 t → HaveSeats count limit tables K gs hs 0 lanes t → length lanes ≡ K.coordinators * K.lanes
-      → AreRun count limit tables K t u → HaveRun lanes t u
+  pub have_run : (lanes : List Lane) (t u : Table W D S B G) → IsWaiting sight hs 0 t → HaveSeats sight tables K gs hs 0 lanes t → length lanes ≡ K.coordinators * K.lanes
+      → AreRun sight tables K t u → HaveRun lanes t u
   have_run lanes t u waiting seats lanes_many ran = subst (HaveRun lanes t) (sym ran.rest) (run_to_end lanes t ran.runs waiting seats lanes_many ran.ends)
 
   -- the runs that are gone from the list are all
-  all_gone : (news : List (LaneRun W D B G)) (u : Table W D B G) → u.runs.items ≡ [] → (k : Gathered hs news u) → news ≡ k.gone
+  all_gone : (news : List (LaneRun W D S B G)) (u : Table W D S B G) → u.runs.items ≡ [] → (k : Gathered hs news u) → news ≡ k.gone
   all_gone news u none k = k.all_are ∙ ap (λ xs. xs ++ k.gone) none
 
-  pub all_through : (lanes : List Lane) (t u v : Table W D B G) (homes : List (Vec (Seat (SharedLog D)))) → HaveRun lanes t u → Gathered hs u.runs.items v → v.runs.items ≡ [] → Chunks K.lanes (reverse homes) u.runs.items
-      → length homes ≡ length gs → length lanes ≡ K.coordinators * K.lanes → AreThrough count limit K gs hs homes v.rows.items lanes v.lanes.items
+  pub all_through : (lanes : List Lane) (t u v : Table W D S B G) (homes : List (Vec (Seat (SharedLog D)))) → HaveRun lanes t u → Gathered hs u.runs.items v → v.runs.items ≡ [] → Chunks K.lanes (reverse homes) u.runs.items
+      → length homes ≡ length gs → length lanes ≡ K.coordinators * K.lanes → AreThrough sight K gs hs homes v.rows.items lanes v.lanes.items
   all_through lanes t u v homes h back none chunks homes_many lanes_many =
       let some = open_.limits.some_lane in
       let n = K.coordinators * K.lanes in
       let one = mul-le 1 1 K.coordinators K.lanes open_.limits.some_coordinator some in
       let any : 0 < n = omega (arith, one) in
       let qs = u.runs.items in
-      let runs = runs_of count limit tables K gs hs lanes t.runs.items qs h.both h.ends in
+      let runs = runs_of sight tables K gs hs lanes t.runs.items qs h.both h.ends in
       let gone = all_gone qs v none back in
-      let gone_many : length back.gone ≡ n = sym (ap (λ (xs : List (LaneRun W D B G)). length xs) gone) ∙ h.many in
-      let ran = lanes_ran count limit tables K gs hs open_ lanes v.lanes.items t.runs.items qs (reverse homes) homes v.rows.items some
+      let gone_many : length back.gone ≡ n = sym (ap (λ (xs : List (LaneRun W D S B G)). length xs) gone) ∙ h.many in
+      let ran = lanes_ran sight tables K gs hs open_ lanes v.lanes.items t.runs.items qs (reverse homes) homes v.rows.items some
       (λ c. ap (λ (xs : List (Vec (Seat (SharedLog D)))). hands_at xs c) (sym (reverse-reverse homes)) ∙ hands_down (reverse homes) c) runs
       (ends_are qs back.gone (reverse v.lanes.items) gone back.lanes) (homes_hold K.lanes some (reverse homes) qs chunks).0 (subst (λ xs. AllGave xs v.rows.items) (sym gone) back.gave) in
       record {
         homes_ready = homes_ready K.lanes tables some (home_lanes K) 0 gs homes homes_many (λ c. many_lanes (c * K.lanes) K.lanes) (homes_back lanes t.runs.items qs homes runs chunks) open_.log_tables open_.log_lanes;
         rows_ready = all_back n hs v.rows.items any (have_lanes 0 (all_lanes K) n hs (many_lanes 0 n) open_.shard_lanes) (subst (λ m. AreBack m hs v.rows.items) gone_many back.back);
-        many = sym (both_many (LaneRan K (log_at gs) (shard_at count limit hs) (hands_at homes) (hands_at v.rows.items)) 0 lanes v.lanes.items ran);
-        lanes_ran = each_pair (LaneRan K (log_at gs) (shard_at count limit hs) (hands_at homes) (hands_at v.rows.items)) lanes v.lanes.items ran;
+        many = sym (both_many (LaneRan K (log_at gs) (shard_at sight hs) (hands_at homes) (hands_at v.rows.items)) 0 lanes v.lanes.items ran);
+        lanes_ran = each_pair (LaneRan K (log_at gs) (shard_at sight hs) (hands_at homes) (hands_at v.rows.items)) lanes v.lanes.items ran;
       }
 
 -- before the dealing all lanes of a wave wait for their seats
-pub lanes_wait : {W D B : Type 0} {G : Ghosts B} (count limit : D → ℕ) (K : Shape) (hs : List (Guarded (SharedShard D))) (rows : Vec (Vec (Seat (SharedShard D)))) (lanes : Vec Lane) (room : LaneRoom W D B G)
-    → length hs ≡ K.shards → AreLeft (shard_sight count limit) (all_lanes K) hs rows.items → All MayRun lanes.items → length lanes.items ≡ K.coordinators * K.lanes → IsLaneRoom K room
-    → IsWaiting count limit hs (K.coordinators * K.lanes) (record { rows = rows; spare = room.spare; seats = room.seats; rooms = room.rooms; lanes = lanes; runs = room.runs })
-lanes_wait count limit K hs rows lanes room shards_many left may lanes_many k =
-    let sight = shard_sight count limit in
+pub lanes_wait : {W D S B : Type 0} {G : Ghosts B} (sight : S → Sight) (K : Shape) (hs : List (Guarded (SharedShard S))) (rows : Vec (Vec (Seat (SharedShard S)))) (lanes : Vec Lane) (room : LaneRoom W D S B G)
+    → length hs ≡ K.shards → AreLeft (shard_sight sight) (all_lanes K) hs rows.items → All MayRun lanes.items → length lanes.items ≡ K.coordinators * K.lanes → IsLaneRoom K room
+    → IsWaiting sight hs (K.coordinators * K.lanes) (record { rows = rows; spare = room.spare; seats = room.seats; rooms = room.rooms; lanes = lanes; runs = room.runs })
+lanes_wait sight K hs rows lanes room shards_many left may lanes_many k =
+    let seen = shard_sight sight in
     let none : length room.runs.items ≡ 0 = ap (λ (xs : List _). length xs) k.runs.0 in
     let many = many_lanes 0 (K.coordinators * K.lanes) in
     let all : length (all_lanes K) ≡ length room.runs.items + K.coordinators * K.lanes = omega (arith, none, many) in
     record {
       room = record {
-        rows = left_many sight (all_lanes K) hs rows.items left;
-        rows_hold = subst (λ n. EachHolds n rows.items) all (left_holds sight (all_lanes K) hs rows.items left);
+        rows = left_many seen (all_lanes K) hs rows.items left;
+        rows_hold = subst (λ n. EachHolds n rows.items) all (left_holds seen (all_lanes K) hs rows.items left);
         seats = (k.seats.0, subst (λ n. n ≤ vec_capacity room.seats) (sym shards_many) k.seats.1);
         spare = (k.spare.0, subst (λ n. n ≤ vec_capacity room.spare) (sym shards_many) k.spare.1);
         rooms = subst (λ n. All (IsEmptyRoom n) room.rooms.items) (sym shards_many) k.rooms;

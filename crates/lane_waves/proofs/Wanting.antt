@@ -79,7 +79,7 @@ module _ {N : Type 0} (sight : N → Sight) where
       (fresh_hands lanes (suc k) gs rows i (let z = e in omega (arith, z)) (omega (arith, lt))
       (λ j h s at there. let next : k + suc j ≡ suc k + j = omega arith in subst (λ n. AreFresh (sight (opening_of h)) (opening_of h) (table_of h) (lanes n) s.items) next (f (suc j) h s at there)))
 
-module _ {D : Type 0} (count limit : D → ℕ) (tables : ℕ → TableId) (K : Shape) (gs : List (Guarded (SharedLog D))) (hs : List (Guarded (SharedShard D))) (open_ : AreOpen count limit tables K gs hs) where
+module _ {D S : Type 0} (sight : S → Sight) (tables : ℕ → TableId) (K : Shape) (gs : List (Guarded (SharedLog D))) (hs : List (Guarded (SharedShard S))) (open_ : AreOpen sight tables K gs hs) where
   homes_so : (homes : List (Vec (Seat (SharedLog D)))) → AllFrom (IsHomeFresh K gs) 0 homes → Fresh log_sight (λ i. home_lanes K (0 + i)) gs homes
   homes_so homes a i g r at there =
       let m = all_here (IsHomeFresh K gs) homes i r a there in
@@ -100,29 +100,29 @@ module _ {D : Type 0} (count limit : D → ℕ) (tables : ℕ → TableId) (K : 
       (fresh_hand (log_at gs home) (home * K.lanes) K.lanes (lane % K.lanes) (mod_below lane K.lanes open_.limits.some_lane)))
 
   -- its seat of a shard
-  shard_hand : (rows : List (Vec (Seat (SharedShard D)))) (lane s : ℕ) → AreLeft (shard_sight count limit) (all_lanes K) hs rows → lane < K.coordinators * K.lanes → s < K.shards
-      → IsHand (fresh (shard_at count limit hs s) lane) (hands_at rows s)
+  shard_hand : (rows : List (Vec (Seat (SharedShard S)))) (lane s : ℕ) → AreLeft (shard_sight sight) (all_lanes K) hs rows → lane < K.coordinators * K.lanes → s < K.shards
+      → IsHand (fresh (shard_at sight hs s) lane) (hands_at rows s)
   shard_hand rows lane s left lt low =
-      let first : Sight = shard_at count limit hs s in
-      let known = left_hands (shard_sight count limit) (all_lanes K) hs rows s (subst (λ n. s < n) (sym open_.shards_many) low) left in
+      let first : Sight = shard_at sight hs s in
+      let known = left_hands (shard_sight sight) (all_lanes K) hs rows s (subst (λ n. s < n) (sym open_.shards_many) low) left in
       let none : 0 + lane ≡ lane = omega arith in
       subst (IsHand (fresh first lane)) (sym known) (subst (λ l. IsHand (fresh first l) (map (fresh first) (all_lanes K))) none (fresh_hand first 0 (K.coordinators * K.lanes) lane lt))
 
   -- no lane ran, and all seats are as they were
-  pub not_run : (homes : List (Vec (Seat (SharedLog D)))) (rows : List (Vec (Seat (SharedShard D)))) (lanes lanes' : List Lane)
-      → AllFrom (IsHomeFresh K gs) 0 homes → length homes ≡ K.coordinators → AreLeft (shard_sight count limit) (all_lanes K) hs rows → length lanes ≡ K.coordinators * K.lanes
-      → map (λ (x : Lane). x.txs) lanes' ≡ map (λ (x : Lane). x.txs) lanes → All HasNoMemory lanes' → AreThrough count limit K gs hs homes rows lanes lanes'
+  pub not_run : (homes : List (Vec (Seat (SharedLog D)))) (rows : List (Vec (Seat (SharedShard S)))) (lanes lanes' : List Lane)
+      → AllFrom (IsHomeFresh K gs) 0 homes → length homes ≡ K.coordinators → AreLeft (shard_sight sight) (all_lanes K) hs rows → length lanes ≡ K.coordinators * K.lanes
+      → map (λ (x : Lane). x.txs) lanes' ≡ map (λ (x : Lane). x.txs) lanes → All HasNoMemory lanes' → AreThrough sight K gs hs homes rows lanes lanes'
   not_run homes rows lanes lanes' a homes_many left lanes_many same stopped =
       let one = mul-le 1 1 K.coordinators K.lanes open_.limits.some_coordinator open_.limits.some_lane in
       let all = many_lanes 0 (K.coordinators * K.lanes) in
       record {
         homes_ready = fresh_ready log_sight (home_lanes K) 0 gs homes (homes_many ∙ sym open_.logs_many)
             (λ i. subst (λ n. 0 < n) (sym (many_lanes (i * K.lanes) K.lanes)) open_.limits.some_lane) open_.log_lanes (homes_so homes a);
-        rows_ready = left_ready (shard_sight count limit) (all_lanes K) 0 hs rows (omega (arith, one, all)) open_.shard_lanes left;
+        rows_ready = left_ready (shard_sight sight) (all_lanes K) 0 hs rows (omega (arith, one, all)) open_.shard_lanes left;
         many = sym (map_many (λ (x : Lane). x.txs) lanes') ∙ (ap (λ (xs : List _). length xs) same ∙ map_many (λ (x : Lane). x.txs) lanes);
         lanes_ran = λ lane x y e f.
             let lt : lane < K.coordinators * K.lanes = subst (λ n. lane < n) lanes_many (get_within lanes lane x e) in
-            unrun K (log_at gs) (shard_at count limit hs) (hands_at homes) (hands_at rows) lane x y (open_.settled lane lt) (home_hand homes lane homes_many a lt)
-            (λ s low. shard_hand rows lane s left lt low) (λ s le. past_end (λ h. shard_sight count limit (opening_of h)) hs s (subst (λ n. n ≤ s) (sym open_.shards_many) le))
+            unrun K (log_at gs) (shard_at sight hs) (hands_at homes) (hands_at rows) lane x y (open_.settled lane lt) (home_hand homes lane homes_many a lt)
+            (λ s low. shard_hand rows lane s left lt low) (λ s le. past_end (λ h. shard_sight sight (opening_of h)) hs s (subst (λ n. n ≤ s) (sym open_.shards_many) le))
             (same_txs lanes lanes' lane x y same e f) (get_all HasNoMemory lanes' lane y stopped f);
       }

@@ -46,9 +46,9 @@ fresh_left sight ls k (g ∷ gs) [] b = absurd b
 fresh_left sight ls k (g ∷ gs) (s ∷ ss) b = (b.0.0, fresh_left sight ls (suc k) gs ss b.1)
 
 -- a node goes on from itself
-pub went_same : {N : Type 0} (sight : N → Sight) (P : N → Type 0) (ns : List N) → WentOn sight (λ a b. P a → P b) ns ns
-went_same sight P [] = tt
-went_same sight P (n ∷ ns) = ((λ p. p), went_same sight P ns)
+pub went_same : {N : Type 0} (sight : N → Sight) (goes : N → N → Type 0) → ((n : N) → goes n n) → (ns : List N) → WentOn sight goes ns ns
+went_same sight goes same [] = tt
+went_same sight goes same (n ∷ ns) = (same n, went_same sight goes same ns)
 
 -- as many locks as nodes
 pub locks_many : {N : Type 0} (sight : N → Sight) (ns : List N) (rs : List (Vec ℕ)) (gs : List (Guarded N)) (ss : List (Vec (Seat N))) → AreLocked sight ns rs gs ss → length gs ≡ length ns
@@ -137,27 +137,27 @@ pub still_itself : (s : Sight) → IsStillSight s s
 still_itself s = record { same = record { header = refl; opened = refl; capacity = refl }; seen = refl; flight = inr refl; later = omega arith }
 
 -- nodes whose locks were made and closed, and lanes that ran at their seats
-module _ {D : Type 0} (count limit : D → ℕ) (log_goes : SharedLog D → SharedLog D → Type 0) (shard_goes : SharedShard D → SharedShard D → Type 0) (K : Shape) where
-  pub ran_wave : (ns ns' : List (SharedLog D)) (ms ms' : List (SharedShard D)) (home_rows shard_rows : List (Vec ℕ)) (gs : List (Guarded (SharedLog D))) (hs : List (Guarded (SharedShard D)))
-      (homes homes' : List (Vec (Seat (SharedLog D)))) (rows rows' : List (Vec (Seat (SharedShard D)))) (old new : List Lane)
+module _ {D S : Type 0} (sight : S → Sight) (log_goes : SharedLog D → SharedLog D → Type 0) (shard_goes : SharedShard S → SharedShard S → Type 0) (K : Shape) where
+  pub ran_wave : (ns ns' : List (SharedLog D)) (ms ms' : List (SharedShard S)) (home_rows shard_rows : List (Vec ℕ)) (gs : List (Guarded (SharedLog D))) (hs : List (Guarded (SharedShard S)))
+      (homes homes' : List (Vec (Seat (SharedLog D)))) (rows rows' : List (Vec (Seat (SharedShard S)))) (old new : List Lane)
       → length ns ≡ K.coordinators → length ms ≡ K.shards → AllFrom (IsHomeRow K) 0 home_rows → length home_rows ≡ K.coordinators → AllFrom (IsShardRow K) 0 shard_rows → length shard_rows ≡ K.shards
-      → AreLocked log_sight ns home_rows gs homes → AreLocked (shard_sight count limit) ms shard_rows hs rows → AreClosed log_sight log_goes gs homes' ns' → AreClosed (shard_sight count limit) shard_goes hs rows' ms'
-      → AreThrough count limit K gs hs homes' rows' old new
-      → WaveRan K (sight_at log_sight ns) (sight_at (shard_sight count limit) ms) (sight_at log_sight ns') (sight_at (shard_sight count limit) ms') old new
+      → AreLocked log_sight ns home_rows gs homes → AreLocked (shard_sight sight) ms shard_rows hs rows → AreClosed log_sight log_goes gs homes' ns' → AreClosed (shard_sight sight) shard_goes hs rows' ms'
+      → AreThrough sight K gs hs homes' rows' old new
+      → WaveRan K (sight_at log_sight ns) (sight_at (shard_sight sight) ms) (sight_at log_sight ns') (sight_at (shard_sight sight) ms') old new
   ran_wave ns ns' ms ms' home_rows shard_rows gs hs homes homes' rows rows' old new logs_many shards_many home_lanes_are home_many shard_lanes_are shard_many logs_locked shards_locked logs_closed shards_closed through =
       let logs_are = seen_maps opening_of log_sight gs ns (openings log_sight ns home_rows gs homes logs_locked) in
-      let shards_are = seen_maps opening_of (shard_sight count limit) hs ms (openings (shard_sight count limit) ms shard_rows hs rows shards_locked) in
+      let shards_are = seen_maps opening_of (shard_sight sight) hs ms (openings (shard_sight sight) ms shard_rows hs rows shards_locked) in
       record {
         log_lanes = row_at home_rows;
         log_hands = hands_at homes';
         shard_lanes = row_at shard_rows;
         shard_hands = hands_at rows';
         log_ran = λ n lt. nodes_ran log_sight log_goes ns home_rows gs homes homes' ns' logs_locked logs_closed n (omega (arith, lt, logs_many));
-        shard_ran = λ s lt. nodes_ran (shard_sight count limit) shard_goes ms shard_rows hs rows rows' ms' shards_locked shards_closed s (omega (arith, lt, shards_many));
+        shard_ran = λ s lt. nodes_ran (shard_sight sight) shard_goes ms shard_rows hs rows rows' ms' shards_locked shards_closed s (omega (arith, lt, shards_many));
         log_drawn = λ n l lt some. home_drawn K n l lt (subst (λ ls. 0 < times l ls) (row_here (home_lanes K) home_rows n home_lanes_are (omega (arith, lt, home_many))) some);
         shard_drawn = λ s l lt some. all_drawn K l (subst (λ ls. 0 < times l ls) (row_here (λ n. all_lanes K) shard_rows s shard_lanes_are (omega (arith, lt, shard_many))) some);
         count = through.many;
-        lanes = subst (λ f. EachPair (LaneRan K f (sight_at (shard_sight count limit) ms) (hands_at homes') (hands_at rows')) old new) logs_are
+        lanes = subst (λ f. EachPair (LaneRan K f (sight_at (shard_sight sight) ms) (hands_at homes') (hands_at rows')) old new) logs_are
             (subst (λ f. EachPair (LaneRan K (log_at gs) f (hands_at homes') (hands_at rows')) old new) shards_are through.lanes_ran);
       }
 

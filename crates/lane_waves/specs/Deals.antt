@@ -50,9 +50,9 @@ IsEmptyRoom n r = (r.items ≡ []) × (n ≤ vec_capacity r)
 abbrev pub started : ℕ → Sight → Sight
 started lane first = viewed first (fresh first lane)
 
-module _ {W D B : Type 0} {G : Ghosts B} where
+module _ {W D S B : Type 0} {G : Ghosts B} where
   -- so many lanes have no seats yet, and there is room for theirs
-  pub record HasRoom (shards n : ℕ) (t : Table W D B G) : Type 0 where
+  pub record HasRoom (shards n : ℕ) (t : Table W D S B G) : Type 0 where
     pub rows : length t.rows.items ≡ shards
     pub rows_hold : EachHolds (length t.runs.items + n) t.rows.items
     pub seats : (t.seats.items ≡ []) × (shards ≤ vec_capacity t.seats)
@@ -65,19 +65,19 @@ module _ {W D B : Type 0} {G : Ghosts B} where
     pub runs_hold : length t.runs.items + n ≤ vec_capacity t.runs
 
   -- so many lanes wait for their seats: these are left of each lock, and there is room for them
-  pub record IsWaiting (count limit : D → ℕ) (hs : List (Guarded (SharedShard D))) (n : ℕ) (t : Table W D B G) : Type 0 where
+  pub record IsWaiting (sight : S → Sight) (hs : List (Guarded (SharedShard S))) (n : ℕ) (t : Table W D S B G) : Type 0 where
     pub room : HasRoom (length hs) n t
-    pub left : AreLeft (shard_sight count limit) (lanes_from 0 n) hs t.rows.items
+    pub left : AreLeft (shard_sight sight) (lanes_from 0 n) hs t.rows.items
 
   -- the last lane got its seats
-  pub record IsNext (count limit : D → ℕ) (hs : List (Guarded (SharedShard D))) (home : LogSeat W D B G) (t u : Table W D B G) : Type 0 where
-    pub run : LaneRun W D B G
+  pub record IsNext (sight : S → Sight) (hs : List (Guarded (SharedShard S))) (home : LogSeat W D B G) (t u : Table W D S B G) : Type 0 where
+    pub run : LaneRun W D S B G
     pub runs : u.runs.items ≡ t.runs.items ++ run ∷ []
     pub lanes : t.lanes.items ≡ u.lanes.items ++ run.work ∷ []
     pub lane : run.lane ≡ (knows home.seat).lane
     pub log : run.ports.log ≡ home
-    pub seats : List (Seat (SharedShard D))
-    pub dealt : AreDealt (shard_sight count limit) (knows home.seat).lane hs seats
+    pub seats : List (Seat (SharedShard S))
+    pub dealt : AreDealt (shard_sight sight) (knows home.seat).lane hs seats
     pub ports : ArePorts hs seats run.ports.shards.each.ports.items
 
 module _ {D : Type 0} where
@@ -99,18 +99,18 @@ pub record IsOpenAt (K : Shape) (n : ℕ) (s : Sight) : Type 0 where
 abbrev pub log_at : {D : Type 0} → List (Guarded (SharedLog D)) → ℕ → Sight
 log_at gs = sight_at (λ g. log_sight (opening_of g)) gs
 
-abbrev pub shard_at : {D : Type 0} → (D → ℕ) → (D → ℕ) → List (Guarded (SharedShard D)) → ℕ → Sight
-shard_at count limit hs = sight_at (λ h. shard_sight count limit (opening_of h)) hs
+abbrev pub shard_at : {S : Type 0} → (S → Sight) → List (Guarded (SharedShard S)) → ℕ → Sight
+shard_at sight hs = sight_at (λ h. shard_sight sight (opening_of h)) hs
 
-module _ {D : Type 0} (count limit : D → ℕ) (tables : ℕ → TableId) (K : Shape) (gs : List (Guarded (SharedLog D))) (hs : List (Guarded (SharedShard D))) where
+module _ {D S : Type 0} (sight : S → Sight) (tables : ℕ → TableId) (K : Shape) (gs : List (Guarded (SharedLog D))) (hs : List (Guarded (SharedShard S))) where
   -- the locks are of the ledger's nodes, whose lanes are settled; and the wave's picks are these locks
   pub record AreOpen : Type 0 where
     pub limits : IsWithinLimits K
     pub logs_many : length gs ≡ K.coordinators
     pub shards_many : length hs ≡ K.shards
     pub logs : AllFrom (λ n g. IsOpenAt K n (log_sight (opening_of g))) 0 gs
-    pub shards : AllFrom (λ s h. IsOpenAt K (shard_node K s) (shard_sight count limit (opening_of h))) 0 hs
-    pub settled : (lane : ℕ) → lane < K.coordinators * K.lanes → IsSettled K lane (log_at gs (home_of K lane)) (shard_at count limit hs)
+    pub shards : AllFrom (λ s h. IsOpenAt K (shard_node K s) (shard_sight sight (opening_of h))) 0 hs
+    pub settled : (lane : ℕ) → lane < K.coordinators * K.lanes → IsSettled K lane (log_at gs (home_of K lane)) (shard_at sight hs)
     pub log_lanes : AllFrom (λ n g. lanes_of g ≡ home_lanes K n) 0 gs
     pub shard_lanes : AllFrom (λ s h. lanes_of h ≡ all_lanes K) 0 hs
     pub log_tables : AllFrom (λ n g. tables n ≡ table_of g) 0 gs
@@ -118,17 +118,17 @@ module _ {D : Type 0} (count limit : D → ℕ) (tables : ℕ → TableId) (K : 
 
   module _ {W B : Type 0} {G : Ghosts B} where
     -- the run of a lane that has all its seats, before its first call
-    pub record IsSetUp (lane : ℕ) (x : Lane) (r : LaneRun W D B G) : Type 0 where
+    pub record IsSetUp (lane : ℕ) (x : Lane) (r : LaneRun W D S B G) : Type 0 where
       pub lane_is : r.lane ≡ lane
       pub work : r.work ≡ x
       pub ready : IsReady x
-      pub begins : Begins count limit tables K r
+      pub begins : Begins sight tables K r
       pub mine : (knows r.ports.log.seat).lane ≡ lane
-      pub log : log_of count limit tables K r ≡ started lane (log_at gs (home_of K lane))
-      pub shards : (s : ℕ) → shards_of count limit tables K r s ≡ started lane (shard_at count limit hs s)
+      pub log : log_of sight tables K r ≡ started lane (log_at gs (home_of K lane))
+      pub shards : (s : ℕ) → shards_of sight tables K r s ≡ started lane (shard_at sight hs s)
 
     -- of these lanes those from the n-th on have their seats
-    pub record HaveSeats (n : ℕ) (lanes : List Lane) (t : Table W D B G) : Type 0 where
+    pub record HaveSeats (n : ℕ) (lanes : List Lane) (t : Table W D S B G) : Type 0 where
       pub done : List Lane
       pub all_are : lanes ≡ t.lanes.items ++ done
       pub set_up : BothFrom IsSetUp n done (reverse t.runs.items)

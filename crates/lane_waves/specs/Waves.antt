@@ -7,7 +7,7 @@ use Rattle.cbdc_model.specs.Sights.{Sight}
 use Rattle.ledger_runs.specs.declared.lanes.Lane.{Lane}
 use Rattle.node_lock.specs.declared.lock.Guarded.{Guarded}
 use Rattle.node_lock.specs.declared.seat.Seat.{Seat}
-use Rattle.node_ports.specs.Nodes.{IsLogHeld, IsShardHeld}
+use Rattle.node_ports.specs.Nodes.{IsLogHeld}
 use Rattle.shard_fanout.specs.declared.coordinators.SharedLog.{SharedLog}
 use Rattle.shard_fanout.specs.declared.locking.SharedShard.{SharedShard}
 use Rattle.thread_laws.specs.Running.{LaneRan}
@@ -21,17 +21,17 @@ pub record AreNodesOf (K : Shape) (logs shards : ℕ → Sight) : Type 0 where
   pub logs_are : (n : ℕ) → n < K.coordinators → ((logs n).header.shape ≡ K) × ((logs n).header.node ≡ n)
   pub shards_are : (s : ℕ) → s < K.shards → ((shards s).header.shape ≡ K) × ((shards s).header.node ≡ shard_node K s)
 
--- what a node's wrapper keeps of its disk, whatever is asked of it
+-- what stays true of a node under its wrapper, whatever is asked of it
 abbrev pub log_goes : {D : Type 0} → (D → Option (List ℕ)) → (D → List ℕ → Type 0) → SharedLog D → SharedLog D → Type 0
 log_goes content images a b = IsLogHeld content images a.node → IsLogHeld content images b.node
 
-abbrev pub shard_goes : {D : Type 0} → (D → Option (List ℕ)) → (D → List ℕ → Type 0) → SharedShard D → SharedShard D → Type 0
-shard_goes content images a b = IsShardHeld content images a.node → IsShardHeld content images b.node
+abbrev pub shard_goes : {S : Type 0} → (S → S → Type 0) → SharedShard S → SharedShard S → Type 0
+shard_goes goes a b = goes a.node b.node
 
 -- all lanes have ended at seats of these locks, and all seats are back
-pub record AreThrough {D : Type 0} (count limit : D → ℕ) (K : Shape) (gs : List (Guarded (SharedLog D))) (hs : List (Guarded (SharedShard D)))
-    (homes : List (Vec (Seat (SharedLog D)))) (rows : List (Vec (Seat (SharedShard D)))) (lanes lanes' : List Lane) : Type 0 where
+pub record AreThrough {D S : Type 0} (sight : S → Sight) (K : Shape) (gs : List (Guarded (SharedLog D))) (hs : List (Guarded (SharedShard S)))
+    (homes : List (Vec (Seat (SharedLog D)))) (rows : List (Vec (Seat (SharedShard S)))) (lanes lanes' : List Lane) : Type 0 where
   pub homes_ready : AreReady gs homes
   pub rows_ready : AreReady hs rows
   pub many : length lanes' ≡ length lanes
-  pub lanes_ran : EachPair (LaneRan K (log_at gs) (shard_at count limit hs) (hands_at homes) (hands_at rows)) lanes lanes'
+  pub lanes_ran : EachPair (LaneRan K (log_at gs) (shard_at sight hs) (hands_at homes) (hands_at rows)) lanes lanes'

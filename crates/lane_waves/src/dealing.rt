@@ -1,7 +1,6 @@
 // Seats dealt to lanes.
 ghost use Rattle.std.specs.Prelude.{◌≡◌, ◌≤◌, ◌<◌, ◌+◌, ◌*◌, ◌^◌, suc, [], All, List, length, IfOk, vec_len, vec_capacity};
 ghost use Rattle.node_lock.specs.Seats.{knows};
-ghost use Rattle.wave_lanes.specs.Ports.{AreOpened};
 ghost use Rattle.ledger_runs.specs.declared.lanes.Lane.{Lane as LaneOf};
 ghost use Rattle.lane_waves.specs.Places.{AllFrom};
 ghost use Rattle.lane_waves.specs.Deals.{IsWaiting, IsNext, AreOpen, HaveSeats, IsHomeLeft, IsHomeFresh, IsEmptyRoom, IsNone};
@@ -12,7 +11,7 @@ use ledger_runs::Lane;
 use node_lock::{Guarded, Seat};
 use outside::Disk;
 use port_sets::EachPort;
-use shard_fanout::{Locks, LogSeat, ShardSeat, SharedLog, SharedShard};
+use shard_fanout::{Locks, LogSeat, Shard, ShardSeat, SharedLog, SharedShard};
 use std::alloc::{AllocError, Global};
 use std::marker::PhantomData;
 use std::sync::Wait;
@@ -20,21 +19,21 @@ use wave_ends::{Dealt, deal};
 use wave_lanes::{LaneRun, SeatSet, ports_over};
 
 /// The shards' seats that no lane has, a list for each shard; the lanes that have none; and the runs of those that have theirs. The other lists give room.
-pub(crate) struct Table<'a, W: Wait, D: Disk, B: Locks> {
-    pub rows: Vec<Vec<Seat<SharedShard<D>>>>,
-    pub spare: Vec<Vec<Seat<SharedShard<D>>>>,
-    pub seats: Vec<Seat<SharedShard<D>>>,
-    pub rooms: Vec<Vec<ShardSeat<'a, W, D, B>>>,
+pub(crate) struct Table<'a, W: Wait, D: Disk, S: Shard, B: Locks> {
+    pub rows: Vec<Vec<Seat<SharedShard<S>>>>,
+    pub spare: Vec<Vec<Seat<SharedShard<S>>>>,
+    pub seats: Vec<Seat<SharedShard<S>>>,
+    pub rooms: Vec<Vec<ShardSeat<'a, W, S, B>>>,
     pub lanes: Vec<Lane>,
-    pub runs: Vec<LaneRun<'a, W, D, B>>,
+    pub runs: Vec<LaneRun<'a, W, D, S, B>>,
 }
 
 /// An empty list with room for a port to each shard, for each of so many lanes.
-pub(crate) fn port_rooms<'a, W: Wait, D: Disk, B: Locks>(
+pub(crate) fn port_rooms<'a, W: Wait, S: Shard, B: Locks>(
     alloc: Global,
     lanes: usize,
     shards: usize,
-) -> Result<Vec<Vec<ShardSeat<'a, W, D, B>>>, AllocError>
+) -> Result<Vec<Vec<ShardSeat<'a, W, S, B>>>, AllocError>
     ensures rooms { IfOk result (λ v. All (IsEmptyRoom shards) v.items) }
     ensures as_many { IfOk result (λ v. vec_len v ≡ lanes) }
 {
@@ -60,18 +59,17 @@ pub(crate) fn let_go<T>(mut rooms: Vec<Vec<T>>)
 }
 
 // The last lane gets its seat of each shard, beside that of its coordinator.
-fn deal_lane<'a, W: Wait, D: Disk, B: Locks>(
+fn deal_lane<'a, W: Wait, D: Disk, S: Shard, B: Locks>(
     rt: &'a W,
     first: u32,
-    locks: &'a [Guarded<SharedShard<D>>],
+    locks: &'a [Guarded<SharedShard<S>>],
     home: LogSeat<'a, W, D, B>,
-    table: Table<'a, W, D, B>,
-) -> Table<'a, W, D, B>
-    requires opened { AreOpened D.count D.limit locks.now }
+    table: Table<'a, W, D, S, B>,
+) -> Table<'a, W, D, S, B>
     requires small { first + length locks.now < 2 ^ 32 }
-    requires waiting { IsWaiting D.count D.limit locks.now (suc (knows home.seat).lane) table }
-    ensures waiting { IsWaiting D.count D.limit locks.now (knows home.entry.seat).lane result }
-    ensures next { IsNext D.count D.limit locks.now home.entry table.entry result }
+    requires waiting { IsWaiting S.sight locks.now (suc (knows home.seat).lane) table }
+    ensures waiting { IsWaiting S.sight locks.now (knows home.entry.seat).lane result }
+    ensures next { IsNext S.sight locks.now home.entry table.entry result }
 {
     let Table {
         rows,
@@ -113,24 +111,24 @@ fn deal_lane<'a, W: Wait, D: Disk, B: Locks>(
 }
 
 // The lanes of a coordinator get their seats, the last one first. Its list of seats is empty then.
-fn deal_home<'a, W: Wait, D: Disk, B: Locks>(
+fn deal_home<'a, W: Wait, D: Disk, S: Shard, B: Locks>(
     rt: &'a W,
     shape: &Shape,
     home: u32,
     log_locks: &'a [Guarded<SharedLog<D>>],
-    shard_locks: &'a [Guarded<SharedShard<D>>],
+    shard_locks: &'a [Guarded<SharedShard<S>>],
     mut own: Vec<Seat<SharedLog<D>>>,
-    mut table: Table<'a, W, D, B>,
-) -> (Vec<Seat<SharedLog<D>>>, Table<'a, W, D, B>)
-    requires open { AreOpen D.count D.limit B.tables shape.now log_locks.now shard_locks.now }
+    mut table: Table<'a, W, D, S, B>,
+) -> (Vec<Seat<SharedLog<D>>>, Table<'a, W, D, S, B>)
+    requires open { AreOpen S.sight B.tables shape.now log_locks.now shard_locks.now }
     requires home { home < length log_locks.now }
     requires many { length own.items ≤ shape.now.lanes }
     requires own { IsHomeLeft shape.now home log_locks.now own.items }
-    requires waiting { IsWaiting D.count D.limit shard_locks.now (home * shape.now.lanes + length own.items) table }
+    requires waiting { IsWaiting S.sight shard_locks.now (home * shape.now.lanes + length own.items) table }
     ensures empty { (result.0.items ≡ []) × (vec_capacity result.0 ≡ vec_capacity own) }
-    ensures waiting { IsWaiting D.count D.limit shard_locks.now (home * shape.now.lanes) result.1 }
-    ensures dealt { (lanes : List LaneOf) → HaveSeats D.count D.limit B.tables shape.now log_locks.now shard_locks.now (home * shape.now.lanes + length own.items) lanes table.entry
-        → HaveSeats D.count D.limit B.tables shape.now log_locks.now shard_locks.now (home * shape.now.lanes) lanes result.1 }
+    ensures waiting { IsWaiting S.sight shard_locks.now (home * shape.now.lanes) result.1 }
+    ensures dealt { (lanes : List LaneOf) → HaveSeats S.sight B.tables shape.now log_locks.now shard_locks.now (home * shape.now.lanes + length own.items) lanes table.entry
+        → HaveSeats S.sight B.tables shape.now log_locks.now shard_locks.now (home * shape.now.lanes) lanes result.1 }
 {
     let first = shape.coordinators();
     let guarded = &log_locks[home as usize];
@@ -148,30 +146,30 @@ fn deal_home<'a, W: Wait, D: Disk, B: Locks>(
 }
 
 /// All lanes get their seats, those of the last coordinator first. The coordinators' lists of seats are empty then, the last one first.
-pub(crate) fn deal_all<'a, W: Wait, D: Disk, B: Locks>(
+pub(crate) fn deal_all<'a, W: Wait, D: Disk, S: Shard, B: Locks>(
     rt: &'a W,
     shape: &Shape,
     log_locks: &'a [Guarded<SharedLog<D>>],
-    shard_locks: &'a [Guarded<SharedShard<D>>],
+    shard_locks: &'a [Guarded<SharedShard<S>>],
     mut homes: Vec<Vec<Seat<SharedLog<D>>>>,
     mut emptied: Vec<Vec<Seat<SharedLog<D>>>>,
-    mut table: Table<'a, W, D, B>,
+    mut table: Table<'a, W, D, S, B>,
 ) -> (
     Vec<Vec<Seat<SharedLog<D>>>>,
     Vec<Vec<Seat<SharedLog<D>>>>,
-    Table<'a, W, D, B>,
+    Table<'a, W, D, S, B>,
 )
-    requires open { AreOpen D.count D.limit B.tables shape.now log_locks.now shard_locks.now }
+    requires open { AreOpen S.sight B.tables shape.now log_locks.now shard_locks.now }
     requires many { length homes.items ≡ shape.now.coordinators }
     requires homes { AllFrom (IsHomeFresh shape.now log_locks.now) 0 homes.items }
     requires empty { emptied.items ≡ [] }
     requires place { shape.now.coordinators ≤ vec_capacity emptied }
-    requires waiting { IsWaiting D.count D.limit shard_locks.now (shape.now.coordinators * shape.now.lanes) table }
+    requires waiting { IsWaiting S.sight shard_locks.now (shape.now.coordinators * shape.now.lanes) table }
     requires none { table.runs.items ≡ [] }
     ensures empty { (result.0.items ≡ []) × (shape.now.coordinators ≤ vec_capacity result.0) }
     ensures emptied { (length result.1.items ≡ shape.now.coordinators) × All (IsEmptyRoom shape.now.lanes) result.1.items }
-    ensures waiting { IsWaiting D.count D.limit shard_locks.now 0 result.2 }
-    ensures dealt { HaveSeats D.count D.limit B.tables shape.now log_locks.now shard_locks.now 0 table.entry.lanes.items result.2 }
+    ensures waiting { IsWaiting S.sight shard_locks.now 0 result.2 }
+    ensures dealt { HaveSeats S.sight B.tables shape.now log_locks.now shard_locks.now 0 table.entry.lanes.items result.2 }
 {
     while let Some(own) = homes.pop() {
         let home = homes.len() as u32;

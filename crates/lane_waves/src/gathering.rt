@@ -11,15 +11,15 @@ use lane_driver::Ports;
 use node_lock::Seat;
 use outside::Disk;
 use port_sets::EachPort;
-use shard_fanout::{Locks, LogSeat, SharedLog};
+use shard_fanout::{Locks, LogSeat, Shard, SharedLog};
 use std::sync::Wait;
 use wave_ends::{Dealt, gather};
 use wave_lanes::{LaneRun, SeatSet, seats_back};
 
 // The first lane that is not back gives back its seats: those of the shards onto their lists, that of its coordinator to the caller.
-fn gather_lane<'a, W: Wait, D: Disk, B: Locks>(
-    table: Table<'a, W, D, B>,
-) -> (Seat<SharedLog<D>>, Table<'a, W, D, B>)
+fn gather_lane<'a, W: Wait, D: Disk, S: Shard, B: Locks>(
+    table: Table<'a, W, D, S, B>,
+) -> (Seat<SharedLog<D>>, Table<'a, W, D, S, B>)
     requires some { 0 < length table.runs.items }
     requires room { MayGather table }
     ensures room { MayGather result.1 }
@@ -72,18 +72,18 @@ fn gather_lane<'a, W: Wait, D: Disk, B: Locks>(
 }
 
 // So many lanes give back their seats, those of their coordinator onto its list.
-fn gather_home<'a, W: Wait, D: Disk, B: Locks>(
+fn gather_home<'a, W: Wait, D: Disk, S: Shard, B: Locks>(
     count: u32,
     mut own: Vec<Seat<SharedLog<D>>>,
-    mut table: Table<'a, W, D, B>,
-) -> (Vec<Seat<SharedLog<D>>>, Table<'a, W, D, B>)
+    mut table: Table<'a, W, D, S, B>,
+) -> (Vec<Seat<SharedLog<D>>>, Table<'a, W, D, S, B>)
     requires some { count ≤ length table.runs.items }
     requires own { IsEmptyRoom count own }
     requires room { MayGather table }
     ensures room { MayGather result.1 }
     ensures rooms { result.1.rooms ≡ table.entry.rooms }
     ensures home { AreHome count table.entry result.0.items result.1 }
-    ensures gathered { (locks : List (GuardedOf (SharedShardOf D))) (all : _) → Gathered locks all table.entry → Gathered locks all result.1 }
+    ensures gathered { (locks : List (GuardedOf (SharedShardOf S))) (all : _) → Gathered locks all table.entry → Gathered locks all result.1 }
 {
     for _place in 0..count {
         let (seat, rest) = gather_lane(table);
@@ -94,12 +94,12 @@ fn gather_home<'a, W: Wait, D: Disk, B: Locks>(
 }
 
 /// All lanes give back their seats, those of the first coordinator first, for which there is an empty list each, the last one first.
-pub(crate) fn gather_all<'a, W: Wait, D: Disk, B: Locks>(
+pub(crate) fn gather_all<'a, W: Wait, D: Disk, S: Shard, B: Locks>(
     count: u32,
     mut emptied: Vec<Vec<Seat<SharedLog<D>>>>,
     mut homes: Vec<Vec<Seat<SharedLog<D>>>>,
-    mut table: Table<'a, W, D, B>,
-) -> (Vec<Vec<Seat<SharedLog<D>>>>, Table<'a, W, D, B>)
+    mut table: Table<'a, W, D, S, B>,
+) -> (Vec<Vec<Seat<SharedLog<D>>>>, Table<'a, W, D, S, B>)
     requires runs { length table.runs.items ≡ length emptied.items * count }
     requires emptied { All (IsEmptyRoom count) emptied.items }
     requires empty { homes.items ≡ [] }
@@ -110,7 +110,7 @@ pub(crate) fn gather_all<'a, W: Wait, D: Disk, B: Locks>(
     ensures rooms { result.1.rooms ≡ table.entry.rooms }
     ensures many { length result.0.items ≡ length emptied.items }
     ensures homes { HomesBack count table.entry.runs.items result.0.items }
-    ensures gathered { (locks : List (GuardedOf (SharedShardOf D))) (all : _) → Gathered locks all table.entry → Gathered locks all result.1 }
+    ensures gathered { (locks : List (GuardedOf (SharedShardOf S))) (all : _) → Gathered locks all table.entry → Gathered locks all result.1 }
 {
     while let Some(own) = emptied.pop() {
         let (own, rest) = gather_home(count, own, table);

@@ -4,8 +4,7 @@ ghost use Rattle.cbdc_types.specs.Limits.{IsWithinLimits};
 ghost use Rattle.cbdc_model.specs.Grammar.{IsCompact};
 ghost use Rattle.cbdc_model.specs.Ranges.{home_of};
 ghost use Rattle.coord_log.specs.Logs.{sight};
-ghost use Rattle.shard_node.specs.Shards.{sight_of};
-ghost use Rattle.node_ports.specs.Nodes.{sight_at, IsLogHeld, IsShardHeld};
+ghost use Rattle.node_ports.specs.Nodes.{sight_at, IsLogHeld};
 ghost use Rattle.lane_driver.specs.Stops.{IsSettled};
 ghost use Rattle.shard_fanout.specs.Nodes.{log_sight, shard_sight};
 ghost use Rattle.wave_ends.specs.Rows.{AreRows, AreLocked, AreStill, AreLeft};
@@ -29,9 +28,8 @@ use ledger_runs::Lane;
 use node_lock::{Guarded, Seat};
 use outside::{Disk, Gate};
 use shard_fanout::{
-    Locks, ShardSeat, SharedLog, SharedShard, own_logs, own_shards, share_logs, share_shards,
+    Locks, Shard, ShardSeat, SharedLog, SharedShard, own_logs, own_shards, share_logs, share_shards,
 };
-use shard_node::ShardNode;
 use std::alloc::{AllocError, Global};
 use std::marker::Brand;
 use std::mem;
@@ -41,43 +39,43 @@ use wave_ends::{Locked, close_all, lock_all};
 use wave_lanes::{LaneRun, run_all};
 
 /// All nodes of a ledger: its coordinators, and its shards.
-pub struct Nodes<D: Disk> {
+pub struct Nodes<D: Disk, S: Shard> {
     pub logs: Vec<CoordLog<D>>,
-    pub shards: Vec<ShardNode<D>>,
+    pub shards: Vec<S>,
 }
 
 // All nodes under the wrappers that lanes share.
-struct SharedNodes<D: Disk> {
+struct SharedNodes<D: Disk, S: Shard> {
     logs: Vec<SharedLog<D>>,
-    shards: Vec<SharedShard<D>>,
+    shards: Vec<SharedShard<S>>,
 }
 
 // The memory of a wave that its nodes want: the lanes that each is locked for, and a list for them under their wrappers.
-struct NodeRoom<D: Disk> {
+struct NodeRoom<D: Disk, S: Shard> {
     home_rows: Vec<Vec<LaneId>>,
     shard_rows: Vec<Vec<LaneId>>,
-    nodes: SharedNodes<D>,
+    nodes: SharedNodes<D, S>,
 }
 
 // Locks round all nodes.
-struct LockedNodes<D: Disk> {
+struct LockedNodes<D: Disk, S: Shard> {
     logs: Locked<SharedLog<D>>,
-    shards: Locked<SharedShard<D>>,
+    shards: Locked<SharedShard<S>>,
 }
 
 // The memory that its lanes want.
-struct LaneRoom<'a, W: Wait, D: Disk, B: Locks> {
+struct LaneRoom<'a, W: Wait, D: Disk, S: Shard, B: Locks> {
     emptied: Vec<Vec<Seat<SharedLog<D>>>>,
-    spare: Vec<Vec<Seat<SharedShard<D>>>>,
-    seats: Vec<Seat<SharedShard<D>>>,
-    rooms: Vec<Vec<ShardSeat<'a, W, D, B>>>,
-    runs: Vec<LaneRun<'a, W, D, B>>,
+    spare: Vec<Vec<Seat<SharedShard<S>>>>,
+    seats: Vec<Seat<SharedShard<S>>>,
+    rooms: Vec<Vec<ShardSeat<'a, W, S, B>>>,
+    runs: Vec<LaneRun<'a, W, D, S, B>>,
 }
 
 // The seats of all locks, a list for each lock, and the lanes.
-struct SeatedLanes<D: Disk> {
+struct SeatedLanes<D: Disk, S: Shard> {
     homes: Vec<Vec<Seat<SharedLog<D>>>>,
-    rows: Vec<Vec<Seat<SharedShard<D>>>>,
+    rows: Vec<Vec<Seat<SharedShard<S>>>>,
     lanes: Vec<Lane>,
 }
 
@@ -90,9 +88,10 @@ fn see_logs<D: Disk>(logs: &[CoordLog<D>])
     }
 }
 
-// Each shard's disk has failed no less often than when it was opened.
-fn see_shards<D: Disk>(shards: &[ShardNode<D>])
-    ensures { All (λ s. s.opened ≤ D.count s.disk) shards.now }
+// Each shard has failed no less often than when it was opened. A shard that is asked nothing stays.
+fn see_shards<S: Shard>(shards: &[S])
+    ensures since { All (λ s. (S.sight s).opened ≤ (S.sight s).faults) shards.now }
+    ensures stay { (s : _) → S.goes s s }
 {
     'shards: for shard in shards {
         let _header = shard.header();
@@ -116,11 +115,11 @@ fn two_lists<S, T>(
 }
 
 // The memory that the nodes of a wave want, and the lanes made ready.
-fn node_room<D: Disk>(
+fn node_room<D: Disk, S: Shard>(
     alloc: Global,
     shape: &Shape,
     lanes: &mut Vec<Lane>,
-) -> Result<NodeRoom<D>, AllocError>
+) -> Result<NodeRoom<D, S>, AllocError>
     ensures same { map (λ x. x.txs) lanes.new.items ≡ map (λ x. x.txs) lanes.old.items }
     ensures room { IfOk result (λ r. IsNodeRoom shape.now r lanes.new.items) }
 {
@@ -140,10 +139,10 @@ fn node_room<D: Disk>(
 }
 
 // The memory that the lanes of a wave want.
-fn lane_room<'a, W: Wait, D: Disk, B: Locks>(
+fn lane_room<'a, W: Wait, D: Disk, S: Shard, B: Locks>(
     alloc: Global,
     shape: &Shape,
-) -> Result<LaneRoom<'a, W, D, B>, AllocError>
+) -> Result<LaneRoom<'a, W, D, S, B>, AllocError>
     ensures { IfOk result (λ r. IsLaneRoom shape.now r) }
 {
     let homes = shape.coordinators() as usize;
@@ -172,44 +171,58 @@ fn lane_room<'a, W: Wait, D: Disk, B: Locks>(
 }
 
 // Runs all lanes at their seats.
-fn run_table<'a, W: Threads + Wait + Sync, D: Disk + Send, B: Locks + Send + Sync, G: Gate + Sync>(
+fn run_table<
+    'a,
+    W: Threads + Wait + Sync,
+    D: Disk + Send,
+    S: Shard + Send,
+    B: Locks + Send + Sync,
+    G: Gate + Sync,
+>(
     rt: &'a W,
     alloc: Global,
     shape: &Shape,
-    mut table: Table<'a, W, D, B>,
+    mut table: Table<'a, W, D, S, B>,
     gate: &G,
-) -> Table<'a, W, D, B>
-    requires begin { All (Begins D.count D.limit B.tables shape.now) table.runs.items }
-    ensures { AreRun D.count D.limit B.tables shape.now table.entry result }
+) -> Table<'a, W, D, S, B>
+    requires begin { All (Begins S.sight B.tables shape.now) table.runs.items }
+    ensures { AreRun S.sight B.tables shape.now table.entry result }
 {
     run_all(rt, alloc, shape, table.runs.as_mut_slice(), gate);
     table
 }
 
 // Runs all lanes, each at its seats. All seats come back.
-fn run_seated<'a, W: Threads + Wait + Sync, D: Disk + Send, B: Locks + Send + Sync, G: Gate + Sync>(
+fn run_seated<
+    'a,
+    W: Threads + Wait + Sync,
+    D: Disk + Send,
+    S: Shard + Send,
+    B: Locks + Send + Sync,
+    G: Gate + Sync,
+>(
     rt: &'a W,
     alloc: Global,
     shape: &Shape,
     log_locks: &'a [Guarded<SharedLog<D>>],
-    shard_locks: &'a [Guarded<SharedShard<D>>],
-    seated: SeatedLanes<D>,
+    shard_locks: &'a [Guarded<SharedShard<S>>],
+    seated: SeatedLanes<D, S>,
     gate: &G,
-) -> SeatedLanes<D>
-    requires open { AreOpen D.count D.limit B.tables shape.now log_locks.now shard_locks.now }
+) -> SeatedLanes<D, S>
+    requires open { AreOpen S.sight B.tables shape.now log_locks.now shard_locks.now }
     requires homes { AllFrom (IsHomeFresh shape.now log_locks.now) 0 seated.homes.items }
     requires homes_many { length seated.homes.items ≡ shape.now.coordinators }
-    requires left { AreLeft (shard_sight D.count D.limit) (all_lanes shape.now) shard_locks.now seated.rows.items }
+    requires left { AreLeft (shard_sight S.sight) (all_lanes shape.now) shard_locks.now seated.rows.items }
     requires lanes { All MayRun seated.lanes.items }
     requires lanes_many { length seated.lanes.items ≡ shape.now.coordinators * shape.now.lanes }
-    ensures { AreThrough D.count D.limit shape.now log_locks.now shard_locks.now result.homes.items result.rows.items seated.lanes.items result.lanes.items }
+    ensures { AreThrough S.sight shape.now log_locks.now shard_locks.now result.homes.items result.rows.items seated.lanes.items result.lanes.items }
 {
     let SeatedLanes {
         homes,
         rows,
         mut lanes,
     } = seated;
-    let Ok(room) = lane_room::<W, D, B>(alloc, shape) else {
+    let Ok(room) = lane_room::<W, D, S, B>(alloc, shape) else {
         stop_all(&mut lanes);
         return SeatedLanes { homes, rows, lanes };
     };
@@ -255,22 +268,22 @@ fn run_seated<'a, W: Threads + Wait + Sync, D: Disk + Send, B: Locks + Send + Sy
 }
 
 // A lock round each node, with a seat for each lane of its row. Where memory is wanting all nodes come back, asked nothing.
-fn lock_nodes<D: Disk>(
+fn lock_nodes<D: Disk, S: Shard>(
     alloc: Global,
-    nodes: SharedNodes<D>,
+    nodes: SharedNodes<D, S>,
     home_rows: Vec<Vec<LaneId>>,
     shard_rows: Vec<Vec<LaneId>>,
-) -> Result<LockedNodes<D>, SharedNodes<D>>
+) -> Result<LockedNodes<D, S>, SharedNodes<D, S>>
     requires logs_many { length home_rows.items ≡ length nodes.logs.items }
     requires shards_many { length shard_rows.items ≡ length nodes.shards.items }
     requires logs_fit { AreRows home_rows.items }
     requires shards_fit { AreRows shard_rows.items }
     ensures logs { IfOk result (λ k. AreLocked log_sight nodes.logs.items home_rows.items k.logs.locks.items k.logs.seats.items) }
     ensures logs_room { IfOk result (λ k. (k.logs.room.items ≡ []) × (length nodes.logs.items ≤ vec_capacity k.logs.room)) }
-    ensures shards { IfOk result (λ k. AreLocked (shard_sight D.count D.limit) nodes.shards.items shard_rows.items k.shards.locks.items k.shards.seats.items) }
+    ensures shards { IfOk result (λ k. AreLocked (shard_sight S.sight) nodes.shards.items shard_rows.items k.shards.locks.items k.shards.seats.items) }
     ensures shards_room { IfOk result (λ k. (k.shards.room.items ≡ []) × (length nodes.shards.items ≤ vec_capacity k.shards.room)) }
     ensures logs_back { IfErr result (λ n. AreStill log_sight (log_goes D.content D.images) nodes.logs.items n.logs.items) }
-    ensures shards_back { IfErr result (λ n. AreStill (shard_sight D.count D.limit) (shard_goes D.content D.images) nodes.shards.items n.shards.items) }
+    ensures shards_back { IfErr result (λ n. AreStill (shard_sight S.sight) (shard_goes S.goes) nodes.shards.items n.shards.items) }
 {
     let SharedNodes { logs, shards } = nodes;
     let shards = match lock_all(alloc, shards, shard_rows) {
@@ -288,32 +301,32 @@ fn lock_nodes<D: Disk>(
 }
 
 // A wave over nodes under their wrappers.
-fn wave_shared<W: Threads + Wait + Sync, D: Disk + Send, G: Gate + Sync>(
+fn wave_shared<W: Threads + Wait + Sync, D: Disk + Send, S: Shard + Send, G: Gate + Sync>(
     rt: &W,
     alloc: Global,
     shape: &Shape,
-    nodes: SharedNodes<D>,
+    nodes: SharedNodes<D, S>,
     home_rows: Vec<Vec<LaneId>>,
     shard_rows: Vec<Vec<LaneId>>,
     lanes: &mut Vec<Lane>,
     gate: &G,
-) -> SharedNodes<D>
+) -> SharedNodes<D, S>
     requires limits { IsWithinLimits shape.now }
     requires logs_many { length nodes.logs.items ≡ shape.now.coordinators }
     requires shards_many { length nodes.shards.items ≡ shape.now.shards }
-    requires ledger { AreNodesOf shape.now (sight_at log_sight nodes.logs.items) (sight_at (shard_sight D.count D.limit) nodes.shards.items) }
+    requires ledger { AreNodesOf shape.now (sight_at log_sight nodes.logs.items) (sight_at (shard_sight S.sight) nodes.shards.items) }
     requires logs_since { All (λ l. (log_sight l).opened ≤ (log_sight l).faults) nodes.logs.items }
-    requires shards_since { All (λ s. (shard_sight D.count D.limit s).opened ≤ (shard_sight D.count D.limit s).faults) nodes.shards.items }
-    requires settled { (lane : ℕ) → lane < shape.now.coordinators * shape.now.lanes → IsSettled shape.now lane (sight_at log_sight nodes.logs.items (home_of shape.now lane)) (sight_at (shard_sight D.count D.limit) nodes.shards.items) }
+    requires shards_since { All (λ s. (shard_sight S.sight s).opened ≤ (shard_sight S.sight s).faults) nodes.shards.items }
+    requires settled { (lane : ℕ) → lane < shape.now.coordinators * shape.now.lanes → IsSettled shape.now lane (sight_at log_sight nodes.logs.items (home_of shape.now lane)) (sight_at (shard_sight S.sight) nodes.shards.items) }
     requires home_rows { AllFrom (IsHomeRow shape.now) 0 home_rows.items }
     requires home_rows_many { length home_rows.items ≡ shape.now.coordinators }
     requires shard_rows { AllFrom (IsShardRow shape.now) 0 shard_rows.items }
     requires shard_rows_many { length shard_rows.items ≡ shape.now.shards }
     requires lanes { All MayRun lanes.old.items }
     requires lanes_many { length lanes.old.items ≡ shape.now.coordinators * shape.now.lanes }
-    ensures ran { WaveRan shape.now (sight_at log_sight nodes.logs.items) (sight_at (shard_sight D.count D.limit) nodes.shards.items) (sight_at log_sight result.logs.items) (sight_at (shard_sight D.count D.limit) result.shards.items) lanes.old.items lanes.new.items }
+    ensures ran { WaveRan shape.now (sight_at log_sight nodes.logs.items) (sight_at (shard_sight S.sight) nodes.shards.items) (sight_at log_sight result.logs.items) (sight_at (shard_sight S.sight) result.shards.items) lanes.old.items lanes.new.items }
     ensures logs_go { WentOn log_sight (log_goes D.content D.images) nodes.logs.items result.logs.items }
-    ensures shards_go { WentOn (shard_sight D.count D.limit) (shard_goes D.content D.images) nodes.shards.items result.shards.items }
+    ensures shards_go { WentOn (shard_sight S.sight) (shard_goes S.goes) nodes.shards.items result.shards.items }
 {
     let LockedNodes { logs, shards } = match lock_nodes(alloc, nodes, home_rows, shard_rows) {
         Ok(locked) => locked,
@@ -341,7 +354,7 @@ fn wave_shared<W: Threads + Wait + Sync, D: Disk + Send, G: Gate + Sync>(
         homes,
         rows,
         lanes: back,
-    } = run_seated::<W, D, Brand, G>(
+    } = run_seated::<W, D, S, Brand, G>(
         rt,
         alloc,
         shape,
@@ -359,28 +372,28 @@ fn wave_shared<W: Threads + Wait + Sync, D: Disk + Send, G: Gate + Sync>(
 
 /// Runs a wave of lanes that are all settled: each lane on a thread of its own, over locks round all nodes. Where memory is wanting before their first
 /// calls all lanes stop for it, and no node was asked.
-pub fn wave<W: Threads + Wait + Sync, D: Disk + Send, G: Gate + Sync>(
+pub fn wave<W: Threads + Wait + Sync, D: Disk + Send, S: Shard + Send, G: Gate + Sync>(
     rt: &W,
     alloc: Global,
     shape: &Shape,
-    nodes: Nodes<D>,
+    nodes: Nodes<D, S>,
     lanes: &mut Vec<Lane>,
     gate: &G,
-) -> Nodes<D>
+) -> Nodes<D, S>
     requires logs_many { length nodes.logs.items ≡ shape.now.coordinators }
     requires shards_many { length nodes.shards.items ≡ shape.now.shards }
-    requires ledger { AreNodesOf shape.now (sight_at sight nodes.logs.items) (sight_at (sight_of D.count D.limit) nodes.shards.items) }
-    requires settled { (lane : ℕ) → lane < shape.now.coordinators * shape.now.lanes → IsSettled shape.now lane (sight_at sight nodes.logs.items (home_of shape.now lane)) (sight_at (sight_of D.count D.limit) nodes.shards.items) }
+    requires ledger { AreNodesOf shape.now (sight_at sight nodes.logs.items) (sight_at S.sight nodes.shards.items) }
+    requires settled { (lane : ℕ) → lane < shape.now.coordinators * shape.now.lanes → IsSettled shape.now lane (sight_at sight nodes.logs.items (home_of shape.now lane)) (sight_at S.sight nodes.shards.items) }
     requires limits { All (λ x. All IsCompact x.txs.items) lanes.old.items }
     requires lanes_many { length lanes.old.items ≡ shape.now.coordinators * shape.now.lanes }
-    ensures ran { WaveRan shape.now (sight_at sight nodes.logs.items) (sight_at (sight_of D.count D.limit) nodes.shards.items) (sight_at sight result.logs.items) (sight_at (sight_of D.count D.limit) result.shards.items) lanes.old.items lanes.new.items }
+    ensures ran { WaveRan shape.now (sight_at sight nodes.logs.items) (sight_at S.sight nodes.shards.items) (sight_at sight result.logs.items) (sight_at S.sight result.shards.items) lanes.old.items lanes.new.items }
     ensures logs_go { WentOn sight (λ a b. IsLogHeld D.content D.images a → IsLogHeld D.content D.images b) nodes.logs.items result.logs.items }
-    ensures shards_go { WentOn (sight_of D.count D.limit) (λ a b. IsShardHeld D.content D.images a → IsShardHeld D.content D.images b) nodes.shards.items result.shards.items }
+    ensures shards_go { WentOn S.sight S.goes nodes.shards.items result.shards.items }
 {
     see_logs(nodes.logs.as_slice());
     see_shards(nodes.shards.as_slice());
     let _lanes = shape.lanes();
-    let Ok(room) = node_room::<D>(alloc, shape, lanes) else {
+    let Ok(room) = node_room::<D, S>(alloc, shape, lanes) else {
         stop_all(lanes);
         return nodes;
     };

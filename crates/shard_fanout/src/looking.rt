@@ -4,6 +4,7 @@ ghost use Rattle.shard_fanout.specs.Looks.{tells_of, lists_all};
 
 use crate::coordinators::SharedLog;
 use crate::locking::SharedShard;
+use crate::nodes::Shard;
 use cbdc_types::{Hash, Record, Status};
 use node_lock::Asked;
 use outside::Disk;
@@ -42,7 +43,7 @@ fn copied(alloc: Global, records: &[Record]) -> Result<Vec<Record>, AllocError>
     Ok(all)
 }
 
-impl<D: Disk> Asked for SharedShard<D> {
+impl<S: Shard> Asked for SharedShard<S> {
     type Ask = ShardAsk;
 
     type Answer = ShardAnswer;

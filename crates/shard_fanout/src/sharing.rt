@@ -3,15 +3,15 @@ ghost use Rattle.std.specs.Prelude.{◌≡◌, ◌≤◌, [], length, map, rever
 
 use crate::coordinators::SharedLog;
 use crate::locking::SharedShard;
+use crate::nodes::Shard;
 use coord_log::CoordLog;
 use outside::Disk;
-use shard_node::ShardNode;
 
 /// The shards, each under its wrapper, and the list that they stood in, which is empty.
-pub fn share_shards<D: Disk>(
-    mut nodes: Vec<ShardNode<D>>,
-    mut shared: Vec<SharedShard<D>>,
-) -> (Vec<SharedShard<D>>, Vec<ShardNode<D>>)
+pub fn share_shards<S: Shard>(
+    mut nodes: Vec<S>,
+    mut shared: Vec<SharedShard<S>>,
+) -> (Vec<SharedShard<S>>, Vec<S>)
     requires empty { shared.items ≡ [] }
     requires room { length nodes.items ≤ vec_capacity shared }
     ensures nodes { map (λ s. s.node) result.0.items ≡ nodes.items }
@@ -25,10 +25,7 @@ pub fn share_shards<D: Disk>(
 }
 
 /// The shards, taken out of their wrappers.
-pub fn own_shards<D: Disk>(
-    mut shared: Vec<SharedShard<D>>,
-    mut nodes: Vec<ShardNode<D>>,
-) -> Vec<ShardNode<D>>
+pub fn own_shards<S: Shard>(mut shared: Vec<SharedShard<S>>, mut nodes: Vec<S>) -> Vec<S>
     requires empty { nodes.items ≡ [] }
     requires room { length shared.items ≤ vec_capacity nodes }
     ensures { result.items ≡ map (λ s. s.node) shared.items }

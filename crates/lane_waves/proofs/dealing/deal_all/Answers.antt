@@ -36,13 +36,12 @@ deal_home-own-requires-clause-waiting g c =
     let row = next_row c.len-home.result (length c.loop-own.homes.items) c.args.shape.now.lanes (omega (arith, many, at)) in
     let full = m.0 in
     let all : length c.loop-own.homes.items * c.args.shape.now.lanes ≡ c.len-home.result * c.args.shape.now.lanes + length c.in-Some.own.items = omega (arith, row, full) in
-    subst (λ n. IsWaiting g.D.Disk.count g.D.Disk.limit c.args.shard_locks.now n c.loop-own.table) all c.loop-own.invariant.waiting
+    subst (λ n. IsWaiting g.S.Shard.sight c.args.shard_locks.now n c.loop-own.table) all c.loop-own.invariant.waiting
 
 pub loop-own-init : goal.loop-own-init
 loop-own-init g c =
     let K = c.args.shape.now in
-    let count = g.D.Disk.count in
-    let limit = g.D.Disk.limit in
+    let sight = g.S.Shard.sight in
     let hs = c.args.shard_locks.now in
     let none = ap (λ (xs : List _). length xs) c.requires.empty in
     let m = c.requires.many in
@@ -52,8 +51,8 @@ loop-own-init g c =
       homes_room = refl;
       place = c.requires.place;
       emptied = subst (All (IsEmptyRoom K.lanes)) (sym c.requires.empty) (All-nil (IsEmptyRoom K.lanes));
-      waiting = subst (λ n. IsWaiting count limit hs (n * K.lanes) c.args.table) (sym m) c.requires.waiting;
-      dealt = none_seated count limit g.B.Locks.tables K c.args.log_locks.now hs (length c.args.homes.items * K.lanes) c.args.table c.requires.none;
+      waiting = subst (λ n. IsWaiting sight hs (n * K.lanes) c.args.table) (sym m) c.requires.waiting;
+      dealt = none_seated sight g.B.Locks.tables K c.args.log_locks.now hs (length c.args.homes.items * K.lanes) c.args.table c.requires.none;
     }
 
 pub loop-own-preserved : goal.loop-own-preserved
@@ -62,8 +61,7 @@ loop-own-preserved g c =
     let K = c.args.shape.now in
     let gs = c.args.log_locks.now in
     let hs = c.args.shard_locks.now in
-    let count = g.D.Disk.count in
-    let limit = g.D.Disk.limit in
+    let sight = g.S.Shard.sight in
     let P = IsHomeFresh K gs in
     let both = all_last P 0 c.pop.new.self.items c.in-Some.own (subst (AllFrom P 0) c.in-Some.ensures.items inv.homes) in
     let ok = c.pop.new.self.ok.0 in
@@ -84,9 +82,9 @@ loop-own-preserved g c =
       homes_room = c.pop.ensures.capacity ∙ inv.homes_room;
       place = let p = inv.place in let k = c.push_reserved.ensures.capacity in omega (arith, p, k);
       emptied = All-same (IsEmptyRoom K.lanes) c.push_reserved.new.self.items _ c.push_reserved.ensures.items (All-push (IsEmptyRoom K.lanes) c.loop-own.emptied.items c.deal_home-own.result.0 inv.emptied (e.empty.0, omega (arith, a, b, cap, full)));
-      waiting = subst (λ n. IsWaiting count limit hs (n * K.lanes) u) at e.waiting;
-      dealt = subst (λ n. HaveSeats count limit g.B.Locks.tables K gs hs (n * K.lanes) c.args.table.lanes.items u) at (e.dealt c.args.table.lanes.items
-          (subst (λ n. HaveSeats count limit g.B.Locks.tables K gs hs n c.args.table.lanes.items c.loop-own.table) all inv.dealt));
+      waiting = subst (λ n. IsWaiting sight hs (n * K.lanes) u) at e.waiting;
+      dealt = subst (λ n. HaveSeats sight g.B.Locks.tables K gs hs (n * K.lanes) c.args.table.lanes.items u) at (e.dealt c.args.table.lanes.items
+          (subst (λ n. HaveSeats sight g.B.Locks.tables K gs hs n c.args.table.lanes.items c.loop-own.table) all inv.dealt));
     }
 
 pub returns-clause-emptied : goal.returns-clause-emptied
@@ -100,13 +98,13 @@ pub returns-clause-waiting : goal.returns-clause-waiting
 returns-clause-waiting g c =
     let none : c.loop-own.homes.items ≡ [] = search (rules, c.in_default.ensures.cases) in
     let all = ap (λ (xs : List _). length xs * c.args.shape.now.lanes) none ∙ zero_row c.args.shape.now.lanes in
-    subst (λ n. IsWaiting g.D.Disk.count g.D.Disk.limit c.args.shard_locks.now n c.loop-own.table) all c.loop-own.invariant.waiting
+    subst (λ n. IsWaiting g.S.Shard.sight c.args.shard_locks.now n c.loop-own.table) all c.loop-own.invariant.waiting
 
 pub returns-clause-dealt : goal.returns-clause-dealt
 returns-clause-dealt g c =
     let none : c.loop-own.homes.items ≡ [] = search (rules, c.in_default.ensures.cases) in
     let all = ap (λ (xs : List _). length xs * c.args.shape.now.lanes) none ∙ zero_row c.args.shape.now.lanes in
-    subst (λ n. HaveSeats g.D.Disk.count g.D.Disk.limit g.B.Locks.tables c.args.shape.now c.args.log_locks.now c.args.shard_locks.now n c.args.table.lanes.items c.loop-own.table) all c.loop-own.invariant.dealt
+    subst (λ n. HaveSeats g.S.Shard.sight g.B.Locks.tables c.args.shape.now c.args.log_locks.now c.args.shard_locks.now n c.args.table.lanes.items c.loop-own.table) all c.loop-own.invariant.dealt
 
 pub deal_home-own-requires-clause-open : goal.deal_home-own-requires-clause-open
 deal_home-own-requires-clause-open g c = c.requires.open

@@ -11,8 +11,8 @@ invariant-loop-own g l = record {
   homes_room : vec_capacity l.homes ≡ vec_capacity l.fn.homes;
   place : l.shape.coordinators ≤ vec_capacity l.emptied;
   emptied : All (IsEmptyRoom l.shape.lanes) l.emptied.items;
-  waiting : IsWaiting g.D.Disk.count g.D.Disk.limit l.shard_locks (length l.homes.items * l.shape.lanes) l.table;
-  dealt : HaveSeats g.D.Disk.count g.D.Disk.limit g.B.Locks.tables l.shape l.log_locks l.shard_locks (length l.homes.items * l.shape.lanes) l.fn.table.lanes.items l.table;
+  waiting : IsWaiting g.S.Shard.sight l.shard_locks (length l.homes.items * l.shape.lanes) l.table;
+  dealt : HaveSeats g.S.Shard.sight g.B.Locks.tables l.shape l.log_locks l.shard_locks (length l.homes.items * l.shape.lanes) l.fn.table.lanes.items l.table;
 }
 
 abbrev pub decreases-loop-own : goal.decreases-loop-own

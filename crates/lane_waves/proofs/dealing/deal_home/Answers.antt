@@ -9,7 +9,7 @@ use Rattle.wave_ends.specs.Rows.{AreDealt}
 use Rattle.lane_waves.specs.Deals.{MayRun, IsWaiting, HaveSeats, IsOpenAt}
 use Rattle.lane_waves.proofs.Places.{snoc_many, all_here}
 use Rattle.lane_waves.proofs.Lists.{home_last}
-use Rattle.lane_waves.proofs.Seating.{opened_of, set_up, seats_more}
+use Rattle.lane_waves.proofs.Seating.{set_up, seats_more}
 use Rattle.lane_waves.proofs.dealing.deal_home.Goals as goal
 
 pub invariant_of-port : goal.invariant_of-port
@@ -33,10 +33,6 @@ loop-seat-init g c = record {
   dealt = λ lanes d. d;
 }
 
-pub deal_lane-table-requires-clause-opened :
-    goal.deal_lane-table-requires-clause-opened
-deal_lane-table-requires-clause-opened g c = opened_of g.D.Disk.count g.D.Disk.limit c.args.shape.now 0 c.args.shard_locks.now c.requires.open.shards
-
 pub deal_lane-table-requires-clause-waiting :
     goal.deal_lane-table-requires-clause-waiting
 deal_lane-table-requires-clause-waiting g c =
@@ -47,7 +43,7 @@ deal_lane-table-requires-clause-waiting g c =
     let lane : (knows c.in-Some.seat).lane ≡ c.args.home * c.args.shape.now.lanes + length c.pop.new.self.items = ap (λ (h : Hand). h.lane) k.2 in
     let many = snoc_many c.loop-seat.own.items c.pop.new.self.items c.in-Some.seat c.in-Some.ensures.items in
     let all : c.args.home * c.args.shape.now.lanes + length c.loop-seat.own.items ≡ suc (knows c.in-Some.seat).lane = omega (arith, lane, many) in
-    subst (λ n. IsWaiting g.D.Disk.count g.D.Disk.limit c.args.shard_locks.now n c.loop-seat.table) all c.loop-seat.invariant.waiting
+    subst (λ n. IsWaiting g.S.Shard.sight c.args.shard_locks.now n c.loop-seat.table) all c.loop-seat.invariant.waiting
 
 pub loop-seat-preserved : goal.loop-seat-preserved
 loop-seat-preserved g c =
@@ -55,8 +51,7 @@ loop-seat-preserved g c =
     let K = c.args.shape.now in
     let gs = c.args.log_locks.now in
     let hs = c.args.shard_locks.now in
-    let count = g.D.Disk.count in
-    let limit = g.D.Disk.limit in
+    let sight = g.S.Shard.sight in
     let tables = g.B.Locks.tables in
     let rest = c.pop.new.self.items in
     let guarded = c.index-log_locks-home.result in
@@ -72,15 +67,15 @@ loop-seat-preserved g c =
     let next = e.next in
     let u = c.deal_lane-table.result in
     let may = (All-pop MayRun c.loop-seat.table.lanes.items u.lanes.items (Some next.run.work) next.lanes inv.waiting.room.lanes).1 in
-    let up = set_up count limit tables K gs hs c.requires.open c.args.home (length rest) guarded _ next.run next.seats low there refl refl k.2 (next.lane ∙ lane) next.log
-    (subst (λ l. AreDealt (shard_sight count limit) l hs next.seats) lane next.dealt) next.ports may in
+    let up = set_up sight tables K gs hs c.requires.open c.args.home (length rest) guarded _ next.run next.seats low there refl refl k.2 (next.lane ∙ lane) next.log
+    (subst (λ l. AreDealt (shard_sight sight) l hs next.seats) lane next.dealt) next.ports may in
     record {
       many = omega (arith, low);
       own = λ x at_x. (home_last K c.args.home gs c.loop-seat.own.items rest c.in-Some.seat inv.own c.in-Some.ensures.items x at_x).0;
       capacity = c.pop.ensures.capacity ∙ inv.capacity;
-      waiting = subst (λ n. IsWaiting count limit hs n u) lane e.waiting;
-      dealt = λ lanes d. seats_more count limit tables K gs hs c.requires.open at lanes _ c.loop-seat.table u next up
-          (subst (λ n. HaveSeats count limit tables K gs hs n lanes c.loop-seat.table) all (inv.dealt lanes d));
+      waiting = subst (λ n. IsWaiting sight hs n u) lane e.waiting;
+      dealt = λ lanes d. seats_more sight tables K gs hs c.requires.open at lanes _ c.loop-seat.table u next up
+          (subst (λ n. HaveSeats sight tables K gs hs n lanes c.loop-seat.table) all (inv.dealt lanes d));
     }
 
 pub returns-clause-waiting : goal.returns-clause-waiting
@@ -88,11 +83,11 @@ returns-clause-waiting g c =
     let none : c.loop-seat.own.items ≡ [] = search (rules, c.in_default.ensures.cases) in
     let z = ap (λ (xs : List _). length xs) none in
     let all : c.args.home * c.args.shape.now.lanes + length c.loop-seat.own.items ≡ c.args.home * c.args.shape.now.lanes = omega (arith, z) in
-    subst (λ n. IsWaiting g.D.Disk.count g.D.Disk.limit c.args.shard_locks.now n c.loop-seat.table) all c.loop-seat.invariant.waiting
+    subst (λ n. IsWaiting g.S.Shard.sight c.args.shard_locks.now n c.loop-seat.table) all c.loop-seat.invariant.waiting
 
 pub returns-clause-dealt : goal.returns-clause-dealt
 returns-clause-dealt g c =
     let none : c.loop-seat.own.items ≡ [] = search (rules, c.in_default.ensures.cases) in
     let z = ap (λ (xs : List _). length xs) none in
     let all : c.args.home * c.args.shape.now.lanes + length c.loop-seat.own.items ≡ c.args.home * c.args.shape.now.lanes = omega (arith, z) in
-    λ lanes d. subst (λ n. HaveSeats g.D.Disk.count g.D.Disk.limit g.B.Locks.tables c.args.shape.now c.args.log_locks.now c.args.shard_locks.now n lanes c.loop-seat.table) all (c.loop-seat.invariant.dealt lanes d)
+    λ lanes d. subst (λ n. HaveSeats g.S.Shard.sight g.B.Locks.tables c.args.shape.now c.args.log_locks.now c.args.shard_locks.now n lanes c.loop-seat.table) all (c.loop-seat.invariant.dealt lanes d)

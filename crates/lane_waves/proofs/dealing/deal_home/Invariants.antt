@@ -9,9 +9,9 @@ invariant-loop-seat g l = record {
   many : length l.own.items ≤ l.shape.lanes;
   own : IsHomeLeft l.shape l.home l.log_locks l.own.items;
   capacity : vec_capacity l.own ≡ vec_capacity l.fn.own;
-  waiting : IsWaiting g.D.Disk.count g.D.Disk.limit l.shard_locks (l.home * l.shape.lanes + length l.own.items) l.table;
-  dealt : (lanes : List Lane) → HaveSeats g.D.Disk.count g.D.Disk.limit g.B.Locks.tables l.shape l.log_locks l.shard_locks (l.home * l.shape.lanes + length l.fn.own.items) lanes l.fn.table
-      → HaveSeats g.D.Disk.count g.D.Disk.limit g.B.Locks.tables l.shape l.log_locks l.shard_locks (l.home * l.shape.lanes + length l.own.items) lanes l.table;
+  waiting : IsWaiting g.S.Shard.sight l.shard_locks (l.home * l.shape.lanes + length l.own.items) l.table;
+  dealt : (lanes : List Lane) → HaveSeats g.S.Shard.sight g.B.Locks.tables l.shape l.log_locks l.shard_locks (l.home * l.shape.lanes + length l.fn.own.items) lanes l.fn.table
+      → HaveSeats g.S.Shard.sight g.B.Locks.tables l.shape l.log_locks l.shard_locks (l.home * l.shape.lanes + length l.own.items) lanes l.table;
 }
 
 abbrev pub decreases-loop-seat : goal.decreases-loop-seat

@@ -16,16 +16,16 @@ use Rattle.lane_waves.proofs.dealing.deal_lane.Goals as goal
 pub deal-rows-requires-clause-some : goal.deal-rows-requires-clause-some
 deal-rows-requires-clause-some g c =
     let n = (knows c.args.home.seat).lane in
-    left_some (shard_sight g.D.Disk.count g.D.Disk.limit) (lanes_from 0 (suc n)) c.args.locks.now c.args.table.rows.items (subst (λ m. 0 < m) (sym (many_lanes 0 (suc n))) (omega arith)) c.requires.waiting.left
+    left_some (shard_sight g.S.Shard.sight) (lanes_from 0 (suc n)) c.args.locks.now c.args.table.rows.items (subst (λ m. 0 < m) (sym (many_lanes 0 (suc n))) (omega arith)) c.requires.waiting.left
 
 pub ports_over-ports-requires-clause-seated :
     goal.ports_over-ports-requires-clause-seated
 ports_over-ports-requires-clause-seated g c =
     let n = (knows c.args.home.seat).lane in
-    let sight = shard_sight g.D.Disk.count g.D.Disk.limit in
+    let sight = shard_sight g.S.Shard.sight in
     let none : 0 + n ≡ n = omega arith in
     let both = deals sight (lanes_from 0 n) (0 + n) c.args.locks.now c.args.table.rows.items c.deal-rows.result.rows.items c.deal-rows.result.items.items c.requires.waiting.left c.deal-rows.ensures.taken in
-    all_seated g.D.Disk.count g.D.Disk.limit n c.args.locks.now c.deal-rows.result.items.items c.requires.opened (subst (λ l. AreDealt sight l c.args.locks.now c.deal-rows.result.items.items) none both.1)
+    all_seated sight n c.args.locks.now c.deal-rows.result.items.items (subst (λ l. AreDealt sight l c.args.locks.now c.deal-rows.result.items.items) none both.1)
 
 pub ports_over-ports-requires-clause-empty :
     goal.ports_over-ports-requires-clause-empty
@@ -64,13 +64,13 @@ returns-clause-waiting g c =
         lanes_hold = let h = room.lanes_hold in let k = c.in-Some-pop.ensures.capacity in omega (arith, h, k, same);
         runs_hold = let h = room.runs_hold in let k = c.push_reserved.ensures.capacity in omega (arith, h, k, same);
       };
-      left = (deals (shard_sight g.D.Disk.count g.D.Disk.limit) (lanes_from 0 n) (0 + n) c.args.locks.now t.rows.items c.deal-rows.result.rows.items c.deal-rows.result.items.items c.requires.waiting.left c.deal-rows.ensures.taken).0;
+      left = (deals (shard_sight g.S.Shard.sight) (lanes_from 0 n) (0 + n) c.args.locks.now t.rows.items c.deal-rows.result.rows.items c.deal-rows.result.items.items c.requires.waiting.left c.deal-rows.ensures.taken).0;
     }
 
 pub returns-clause-next : goal.returns-clause-next
 returns-clause-next g c =
     let n = (knows c.args.home.seat).lane in
-    let sight = shard_sight g.D.Disk.count g.D.Disk.limit in
+    let sight = shard_sight g.S.Shard.sight in
     let none : 0 + n ≡ n = omega arith in
     let both = deals sight (lanes_from 0 n) (0 + n) c.args.locks.now c.args.table.rows.items c.deal-rows.result.rows.items c.deal-rows.result.items.items c.requires.waiting.left c.deal-rows.ensures.taken in
     record {

@@ -13,17 +13,17 @@ pub returns-in-Err-clause-shards_back : goal.returns-in-Err-clause-shards_back
 returns-in-Err-clause-shards_back g c = c.in-Err.ensures.back
 
 pub close_all-shards-requires-clause-ready : goal.close_all-shards-requires-clause-ready
-close_all-shards-requires-clause-ready g c = locked_ready (shard_sight g.D.Disk.count g.D.Disk.limit) c.args.nodes.shards.items c.args.shard_rows.items c.in-Ok.locked.locks.items c.in-Ok.locked.seats.items c.in-Ok.ensures.locked
+close_all-shards-requires-clause-ready g c = locked_ready (shard_sight g.S.Shard.sight) c.args.nodes.shards.items c.args.shard_rows.items c.in-Ok.locked.locks.items c.in-Ok.locked.seats.items c.in-Ok.ensures.locked
 
 pub close_all-shards-requires-clause-room : goal.close_all-shards-requires-clause-room
 close_all-shards-requires-clause-room g c =
-    let same = locks_many (shard_sight g.D.Disk.count g.D.Disk.limit) c.args.nodes.shards.items c.args.shard_rows.items c.in-Ok.locked.locks.items c.in-Ok.locked.seats.items c.in-Ok.ensures.locked in
+    let same = locks_many (shard_sight g.S.Shard.sight) c.args.nodes.shards.items c.args.shard_rows.items c.in-Ok.locked.locks.items c.in-Ok.locked.seats.items c.in-Ok.ensures.locked in
     let room = c.in-Ok.ensures.room.1 in
     omega (arith, same, room)
 
 pub returns-in-Err-lock_all-clause-shards_back : goal.returns-in-Err-lock_all-clause-shards_back
 returns-in-Err-lock_all-clause-shards_back g c =
-    all_still (shard_sight g.D.Disk.count g.D.Disk.limit) (shard_goes g.D.Disk.content g.D.Disk.images) c.args.nodes.shards.items c.args.shard_rows.items c.in-Ok.locked.locks.items
+    all_still (shard_sight g.S.Shard.sight) (shard_goes g.S.Shard.goes) c.args.nodes.shards.items c.args.shard_rows.items c.in-Ok.locked.locks.items
     c.in-Ok.locked.seats.items c.close_all-shards.result.items c.in-Ok.ensures.locked c.close_all-shards.ensures
 
 pub lock_all-requires-clause-count : goal.lock_all-requires-clause-count

@@ -8,11 +8,11 @@ use Rattle.lane_waves.proofs.Ending.{ends_zip}
 use Rattle.lane_waves.proofs.waves.run_table.Goals as goal
 
 pub run_all-requires-clause-begin : goal.run_all-requires-clause-begin
-run_all-requires-clause-begin g c κ lives = All-same (Begins g.D.Disk.count g.D.Disk.limit g.B.Locks.tables c.args.shape.now) c.as_mut_slice.result.now c.args.table.runs.items c.as_mut_slice.ensures.value c.requires.begin
+run_all-requires-clause-begin g c κ lives = All-same (Begins g.S.Shard.sight g.B.Locks.tables c.args.shape.now) c.as_mut_slice.result.now c.args.table.runs.items c.as_mut_slice.ensures.value c.requires.begin
 
 pub returns : goal.returns
 returns g c =
-    let E = Ends g.D.Disk.count g.D.Disk.limit g.B.Locks.tables c.args.shape.now in
+    let E = Ends g.S.Shard.sight g.B.Locks.tables c.args.shape.now in
     let olds = c.args.table.runs in
     let news = c.run_all.new.runs in
     let same : length news ≡ length olds.items = c.run_all.auto.runs ∙ ap (λ (xs : List _). length xs) c.as_mut_slice.ensures.value in
@@ -20,5 +20,5 @@ returns g c =
     record {
       runs = _;
       rest = refl;
-      ends = subst (λ xs. AllZip E olds.items xs) (sym (all_anew olds.len news olds.items same olds.ok.0)) (ends_zip g.D.Disk.count g.D.Disk.limit g.B.Locks.tables c.args.shape.now olds.items news same end);
+      ends = subst (λ xs. AllZip E olds.items xs) (sym (all_anew olds.len news olds.items same olds.ok.0)) (ends_zip g.S.Shard.sight g.B.Locks.tables c.args.shape.now olds.items news same end);
     }

@@ -38,8 +38,8 @@ lock_nodes-requires-clause-shards_fit g c =
 pub returns-in-Err-clause-ran : goal.returns-in-Err-clause-ran
 returns-in-Err-clause-ran g c =
     let K = c.args.shape.now in
-    let seen = shard_sight g.D.Disk.count g.D.Disk.limit in
-    let goes = shard_goes g.D.Disk.content g.D.Disk.images in
+    let seen = shard_sight g.S.Shard.sight in
+    let goes = shard_goes g.S.Shard.goes in
     let ns = c.args.nodes.logs.items in
     let ms = c.args.nodes.shards.items in
     let ns' = c.in-Err.nodes.logs.items in
@@ -57,25 +57,24 @@ pub returns-in-Err-clause-logs_go : goal.returns-in-Err-clause-logs_go
 returns-in-Err-clause-logs_go g c = (held log_sight (log_goes g.D.Disk.content g.D.Disk.images)).1 c.args.nodes.logs.items c.in-Err.nodes.logs.items c.in-Err.ensures.logs_back
 
 pub returns-in-Err-clause-shards_go : goal.returns-in-Err-clause-shards_go
-returns-in-Err-clause-shards_go g c = (held (shard_sight g.D.Disk.count g.D.Disk.limit) (shard_goes g.D.Disk.content g.D.Disk.images)).1 c.args.nodes.shards.items c.in-Err.nodes.shards.items c.in-Err.ensures.shards_back
+returns-in-Err-clause-shards_go g c = (held (shard_sight g.S.Shard.sight) (shard_goes g.S.Shard.goes)).1 c.args.nodes.shards.items c.in-Err.nodes.shards.items c.in-Err.ensures.shards_back
 
 pub run_seated-homes-requires-clause-open : goal.run_seated-homes-requires-clause-open
 run_seated-homes-requires-clause-open g c κs within =
     let K = c.args.shape.now in
-    let count = g.D.Disk.count in
-    let limit = g.D.Disk.limit in
+    let sight = g.S.Shard.sight in
     let k = c.in-Ok.locked in
     let e = c.in-Ok.ensures in
     let gs = k.logs.locks.items in
     let hs = k.shards.locks.items in
     let ns = c.args.nodes.logs.items in
     let ms = c.args.nodes.shards.items in
-    subst (λ xs. AreOpen count limit (tables_of K.coordinators xs c.as_slice-2.result.now) K xs c.as_slice-2.result.now) (sym c.as_slice.ensures.value)
-    (subst (λ ys. AreOpen count limit (tables_of K.coordinators gs ys) K gs ys) (sym c.as_slice-2.ensures.value)
-    (are_open count limit K gs hs ns ms (openings log_sight ns c.args.home_rows.items gs k.logs.seats.items e.logs) (openings (shard_sight count limit) ms c.args.shard_rows.items hs k.shards.seats.items e.shards)
+    subst (λ xs. AreOpen sight (tables_of K.coordinators xs c.as_slice-2.result.now) K xs c.as_slice-2.result.now) (sym c.as_slice.ensures.value)
+    (subst (λ ys. AreOpen sight (tables_of K.coordinators gs ys) K gs ys) (sym c.as_slice-2.ensures.value)
+    (are_open sight K gs hs ns ms (openings log_sight ns c.args.home_rows.items gs k.logs.seats.items e.logs) (openings (shard_sight sight) ms c.args.shard_rows.items hs k.shards.seats.items e.shards)
     c.requires.limits c.requires.logs_many c.requires.shards_many c.requires.ledger c.requires.logs_since c.requires.shards_since c.requires.settled
     (lanes_are log_sight (home_lanes K) 0 gs k.logs.seats.items (are_fresh log_sight (home_lanes K) 0 ns c.args.home_rows.items gs k.logs.seats.items c.requires.home_rows e.logs))
-    (lanes_are (shard_sight count limit) (λ n. all_lanes K) 0 hs k.shards.seats.items (are_fresh (shard_sight count limit) (λ n. all_lanes K) 0 ms c.args.shard_rows.items hs k.shards.seats.items c.requires.shard_rows e.shards))))
+    (lanes_are (shard_sight sight) (λ n. all_lanes K) 0 hs k.shards.seats.items (are_fresh (shard_sight sight) (λ n. all_lanes K) 0 ms c.args.shard_rows.items hs k.shards.seats.items c.requires.shard_rows e.shards))))
 
 pub run_seated-homes-requires-clause-homes : goal.run_seated-homes-requires-clause-homes
 run_seated-homes-requires-clause-homes g c κs within =
@@ -94,7 +93,7 @@ run_seated-homes-requires-clause-homes_many g c κs within =
 pub run_seated-homes-requires-clause-left : goal.run_seated-homes-requires-clause-left
 run_seated-homes-requires-clause-left g c κs within =
     let K = c.args.shape.now in
-    let seen = shard_sight g.D.Disk.count g.D.Disk.limit in
+    let seen = shard_sight g.S.Shard.sight in
     let k = c.in-Ok.locked.shards in
     subst (λ ys. AreLeft seen (all_lanes K) ys k.seats.items) (sym c.as_slice-2.ensures.value)
     (fresh_left seen (all_lanes K) 0 k.locks.items k.seats.items (are_fresh seen (λ n. all_lanes K) 0 c.args.nodes.shards.items c.args.shard_rows.items k.locks.items k.seats.items c.requires.shard_rows c.in-Ok.ensures.shards))
@@ -112,30 +111,29 @@ close_all-requires-clause-room g c =
 pub close_all-requires-2-clause-room : goal.close_all-requires-2-clause-room
 close_all-requires-2-clause-room g c =
     let k = c.in-Ok.locked.shards in
-    let same = locks_many (shard_sight g.D.Disk.count g.D.Disk.limit) c.args.nodes.shards.items c.args.shard_rows.items k.locks.items k.seats.items c.in-Ok.ensures.shards in
+    let same = locks_many (shard_sight g.S.Shard.sight) c.args.nodes.shards.items c.args.shard_rows.items k.locks.items k.seats.items c.in-Ok.ensures.shards in
     let room = c.in-Ok.ensures.shards_room.1 in
     omega (arith, same, room)
 
 pub returns-clause-ran : goal.returns-clause-ran
 returns-clause-ran g c =
     let K = c.args.shape.now in
-    let count = g.D.Disk.count in
-    let limit = g.D.Disk.limit in
+    let sight = g.S.Shard.sight in
     let k = c.in-Ok.locked in
     let e = c.in-Ok.ensures in
     let s = c.run_seated-homes.result in
     let homes = s.homes.items in
     let rows = s.rows.items in
     let new = s.lanes.items in
-    let through = subst (λ xs. AreThrough count limit K xs k.shards.locks.items homes rows c.args.lanes.now.items new) c.as_slice.ensures.value
-    (subst (λ ys. AreThrough count limit K c.as_slice.result.now ys homes rows c.args.lanes.now.items new) c.as_slice-2.ensures.value
-    (subst (λ zs. AreThrough count limit K c.as_slice.result.now c.as_slice-2.result.now homes rows zs new) (ap (λ v. v.items) c.replace.ensures.value) c.run_seated-homes.ensures)) in
+    let through = subst (λ xs. AreThrough sight K xs k.shards.locks.items homes rows c.args.lanes.now.items new) c.as_slice.ensures.value
+    (subst (λ ys. AreThrough sight K c.as_slice.result.now ys homes rows c.args.lanes.now.items new) c.as_slice-2.ensures.value
+    (subst (λ zs. AreThrough sight K c.as_slice.result.now c.as_slice-2.result.now homes rows zs new) (ap (λ v. v.items) c.replace.ensures.value) c.run_seated-homes.ensures)) in
     let ns = c.args.nodes.logs.items in
     let ms = c.args.nodes.shards.items in
     let ns' = c.close_all.result.items in
     let ms' = c.close_all-2.result.items in
-    subst (λ (v : Vec Lane). WaveRan K (sight_at log_sight ns) (sight_at (shard_sight count limit) ms) (sight_at log_sight ns') (sight_at (shard_sight count limit) ms') c.args.lanes.now.items v.items) (sym c.replace-2.ensures.after)
-    (ran_wave count limit (log_goes g.D.Disk.content g.D.Disk.images) (shard_goes g.D.Disk.content g.D.Disk.images) K
+    subst (λ (v : Vec Lane). WaveRan K (sight_at log_sight ns) (sight_at (shard_sight sight) ms) (sight_at log_sight ns') (sight_at (shard_sight sight) ms') c.args.lanes.now.items v.items) (sym c.replace-2.ensures.after)
+    (ran_wave sight (log_goes g.D.Disk.content g.D.Disk.images) (shard_goes g.S.Shard.goes) K
     ns ns' ms ms' c.args.home_rows.items c.args.shard_rows.items k.logs.locks.items k.shards.locks.items
     k.logs.seats.items homes k.shards.seats.items rows c.args.lanes.now.items new
     c.requires.logs_many c.requires.shards_many c.requires.home_rows c.requires.home_rows_many c.requires.shard_rows c.requires.shard_rows_many
@@ -150,7 +148,7 @@ returns-clause-logs_go g c =
 pub returns-clause-shards_go : goal.returns-clause-shards_go
 returns-clause-shards_go g c =
     let k = c.in-Ok.locked.shards in
-    (held (shard_sight g.D.Disk.count g.D.Disk.limit) (shard_goes g.D.Disk.content g.D.Disk.images)).0 c.args.nodes.shards.items c.args.shard_rows.items k.locks.items
+    (held (shard_sight g.S.Shard.sight) (shard_goes g.S.Shard.goes)).0 c.args.nodes.shards.items c.args.shard_rows.items k.locks.items
     k.seats.items c.run_seated-homes.result.rows.items c.close_all-2.result.items c.in-Ok.ensures.shards c.close_all-2.ensures
 
 pub run_seated-homes-requires-clause-lanes_many : goal.run_seated-homes-requires-clause-lanes_many
