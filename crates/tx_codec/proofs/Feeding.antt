@@ -18,6 +18,7 @@ use Rattle.tx_codec.specs.declared.feed.Fed.TheVariants as feds
 use Rattle.tx_codec.specs.declared.feed.FeedState.{FeedState}
 use Rattle.tx_codec.specs.Places.{IsSpelledAt, IsFirstFault, IfBad}
 use Rattle.tx_codec.specs.Feeds.{Judges, JudgesRead, IsLater, IsCutAt, IsWithin}
+use Rattle.tx_codec.proofs.Stays.{bad_stays}
 use Rattle.tx_codec.proofs.Found.{is_read, no_fault, spelled_first}
 
 -- what was read, told of a piece
@@ -28,7 +29,7 @@ told all before (Ok x) r j ok err =
     rw (j.0, j.1) (subst (λ (k : ℕ). IsSpelledAt all 0 k x.0) n ok.1, refl)
 told all before (Err (Bad bad)) r j ok err = elim j [
   | inl cut ↦ rw (cut.1, cut.2) ((bad, (err, cut.0)), (bad, refl, (err, cut.0)))
-  | inr other ↦ rw (other.1, other.2) ((err, other.0), refl)
+  | inr other ↦ rw (other.1, other.2) (record { first = err; kind = other.0; stays = bad_stays all bad err other.0 }, refl)
 ]
 told all before (Err Memory) r j ok err = rw (j.0, j.1) (tt, refl)
 

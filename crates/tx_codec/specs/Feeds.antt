@@ -1,5 +1,5 @@
 -- What a feed is seen as, and what it answers.
-use Rattle.std.specs.Prelude.{◌≡◌, ◌≢◌, ◌⊎◌, ℕ, ◌+◌, ◌≤◌, ◌-◌, List, [], length, Result, Ok, Err}
+use Rattle.std.specs.Prelude.{◌≡◌, ◌≢◌, ◌⊎◌, ℕ, ◌+◌, ◌≤◌, ◌-◌, List, [], ◌++◌, length, Result, Ok, Err}
 use Rattle.cbdc_types.specs.declared.tx.FullTx.{FullTx}
 use Rattle.base_types.specs.declared.faults.InputKind.TheVariants as kinds
 use Rattle.tx_codec.specs.declared.reading.BadTx.{BadTx}
@@ -28,11 +28,17 @@ IsState bytes (states.Failed bad) = bad.kind ≢ kinds.Cut
 IsState bytes states.Done = Unit {0}
 IsState bytes states.NoMemory = Unit {0}
 
+-- a field is bad, and it is the first one whatever bytes come behind
+pub record IsBadIn (bytes : List ℕ) (bad : BadTx) : Type 0 where
+  pub first : IsFirstFault bytes 0 bad
+  pub kind : bad.kind ≢ kinds.Cut
+  pub stays : (later : List ℕ) → IsFirstFault (bytes ++ later) 0 bad
+
 -- the answer to a piece behind so many bytes says what reading all bytes does
 abbrev pub Judges : List ℕ → ℕ → Result Fed ReadFault → Type 0
 Judges all before (Ok feds.More) = (bad : BadTx) × IsCutAt all bad
 Judges all before (Ok (feds.Done t taken)) = IsSpelledAt all 0 (before + taken) t
-Judges all before (Err (faults.Bad bad)) = IsFirstFault all 0 bad × (bad.kind ≢ kinds.Cut)
+Judges all before (Err (faults.Bad bad)) = IsBadIn all bad
 Judges all before (Err faults.Memory) = Unit {0}
 
 -- the state behind an answer
