@@ -1,5 +1,5 @@
 -- What reading all bytes says of their pieces.
-use Rattle.std.proofs.Common.{◌≡◌, inl, inr, ℕ, ◌+◌, ◌-◌, ◌≤◌, List, [], ◌∷◌, ◌++◌, length, take, drop, Result, Ok, Err, IfOk, IfErr, refl, sym, ap, ◌∙◌, subst, arith}
+use Rattle.std.proofs.Common.{◌≡◌, inl, inr, ℕ, ◌+◌, ◌-◌, ◌≤◌, List, [], ◌∷◌, ◌++◌, length, take, drop, Result, Ok, Err, IfOk, IfErr, refl, sym, ap, ◌∙◌, subst, append_assoc, arith}
 use Rattle.std.proofs.lemmas.Bool.{cases_lt}
 use Rattle.std.proofs.lemmas.List.{length-append, take-append-drop, take_at, take-append-le}
 use Rattle.cbdc_types.specs.declared.tx.FullTx.{FullTx}
@@ -19,6 +19,7 @@ use Rattle.tx_codec.specs.declared.feed.FeedState.{FeedState}
 use Rattle.tx_codec.specs.Places.{IsSpelledAt, IsFirstFault, IfBad}
 use Rattle.tx_codec.specs.Feeds.{Judges, JudgesRead, IsLater, IsCutAt, IsWithin}
 use Rattle.tx_codec.proofs.Stays.{bad_stays}
+use Rattle.byte_fields.proofs.Lists.{transaction_item}
 use Rattle.tx_codec.proofs.Found.{is_read, no_fault, spelled_first}
 
 -- what was read, told of a piece
@@ -64,7 +65,7 @@ pub told_more : (old piece : List ℕ) (bad : BadTx) (read : Result (FullTx × �
 told_more old piece bad (Ok x) r j cut ok err = told (old ++ piece) (length old) (Ok x) r j (not_before old piece x.1 x.0 bad cut ok, ok) err
 told_more old piece bad (Err e) r j cut ok err = told (old ++ piece) (length old) (Err e) r j ok err
 
-nothing_read : transaction_at [] ≡ Err (fault Cut [])
+pub nothing_read : transaction_at [] ≡ Err (fault Cut [])
 unfolding transaction_at list_at
 nothing_read = refl
 
@@ -91,3 +92,8 @@ pub within : (old piece : List ℕ) (r : Result Fed ReadFault) → Judges (old +
 within old piece (Ok feds.More) j = tt
 within old piece (Ok (feds.Done t taken)) j = omega (arith, (is_read (old ++ piece) 0 (length old + taken) t (omega arith) j).0, length-append old piece)
 within old piece (Err e) j = tt
+
+-- what is spelled at the front is read, whatever comes behind
+pub reads_later : (all : List ℕ) (end : ℕ) (t : FullTx) → IsSpelledAt all 0 end t → (later : List ℕ) → transaction_at (all ++ later) ≡ Ok (t, drop end all ++ later)
+reads_later all end t s later =
+    ap (λ (l : List ℕ). transaction_at (l ++ later)) s.parts ∙ ap transaction_at (append_assoc (transaction t) (drop end all) later) ∙ transaction_item.again t (drop end all ++ later) s.fits
