@@ -1,5 +1,5 @@
 -- What client files and mint files hold, and the first fault of one.
-use Rattle.std.specs.Prelude.{◌≡◌, ℕ, ◌+◌, ◌-◌, ◌==◌, List, [], ◌∷◌, length, Bool, true, false, Option, Some, None, Result, Ok, Err, nat_lt, if◌then◌else◌}
+use Rattle.std.specs.Prelude.{◌≡◌, ℕ, ◌+◌, ◌-◌, ◌==◌, List, [], ◌∷◌, length, take, Bool, true, false, Option, Some, None, Result, Ok, Err, nat_lt, if◌then◌else◌}
 use Rattle.base_types.specs.declared.faults.InputKind.{InputKind}
 use Rattle.base_types.specs.declared.faults.InputKind.TheVariants.{Cut, TooMany, TooLong, Zero, Extra, Large, Form, Repeated}
 use Rattle.cbdc_types.specs.declared.tx.Output.{Output}
@@ -11,6 +11,13 @@ use Rattle.byte_fields.specs.Transactions.{output_at, transaction_at}
 use Rattle.client_files.specs.declared.fault.BadFile.{BadFile}
 use Rattle.client_files.specs.declared.fault.FileFault.{FileFault}
 use Rattle.client_files.specs.declared.fault.FileFault.TheVariants.{Bad, Memory}
+
+-- the bytes of a file that are read, the first 2^30, and whether it goes on behind them
+abbrev pub front : List ℕ → List ℕ
+front c = take 1073741824 c
+
+abbrev pub goes_on : List ℕ → Bool
+goes_on c = nat_lt 1073741824 (length c)
 
 -- a file that goes on is cut nowhere: the field reaches past the first 2^30 bytes
 abbrev pub bad_at : ℕ → Bool → ℕ → InputKind → BadFile

@@ -27,3 +27,14 @@ pub enum FetchFault {
     #[error("out of memory")]
     Memory,
 }
+
+/// Why the transactions of a file were not read.
+#[derive(Clone, Copy, Debug, PartialEq, Eq, Error)]
+pub enum StreamFault {
+    #[error(transparent)]
+    Bad(BadFile),
+    #[error("the file cannot be read")]
+    ReadFault,
+    #[error("out of memory")]
+    Memory,
+}

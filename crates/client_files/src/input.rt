@@ -9,7 +9,8 @@ use cbdc_types::List;
 use outside::{Failed, Inbox};
 use std::alloc::Global;
 
-const PIECE: usize = 65_536;
+/// How many bytes are asked for at once.
+pub(crate) const PIECE: usize = 65_536;
 
 // Reads what comes next of a file, none at its end.
 fn read_more<I: Inbox>(
@@ -37,8 +38,8 @@ fn read_more<I: Inbox>(
     }
 }
 
-// Whether the file goes on behind a place.
-fn is_longer<I: Inbox>(inbox: &mut I, name: &str, at: usize) -> Result<bool, FetchFault>
+/// Whether the file goes on behind a place.
+pub(crate) fn is_longer<I: Inbox>(inbox: &mut I, name: &str, at: usize) -> Result<bool, FetchFault>
     ensures more { IfOk result (λ b. Tells (I.file inbox.old name.now) (λ c. IsTrue b ↔ (at < length c))) }
     ensures same { (other : List ℕ) → I.file inbox.new other ≡ I.file inbox.old other }
     ensures later { (other : List ℕ) → I.count inbox.old other ≤ I.count inbox.new other }

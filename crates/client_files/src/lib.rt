@@ -6,8 +6,11 @@ mod fault;
 mod input;
 mod mint;
 mod places;
+mod stream;
+mod window;
 
 pub use clients::read_clients;
-pub use fault::{BadFile, FetchFault, FileFault};
+pub use fault::{BadFile, FetchFault, FileFault, StreamFault};
 pub use input::fetch;
 pub use mint::read_mint;
+pub use stream::stream_clients;

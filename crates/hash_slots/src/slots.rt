@@ -1,9 +1,10 @@
 // The slots.
-ghost use Rattle.std.specs.Prelude.{◌≡◌, ◌+◌, ◌*◌, ◌≤◌, ◌<◌, ◌^◌, ◌↔◌, [], None, Some, length, if◌then◌else◌, is_some, IsTrue, replicate, IfOk, OnOk, OnErr};
+ghost use Rattle.std.specs.Prelude.{◌≡◌, ℕ, ◌+◌, ◌*◌, ◌≤◌, ◌<◌, ◌^◌, ◌↔◌, [], None, Some, length, if◌then◌else◌, is_some, IsTrue, replicate, IfOk, OnOk, OnErr};
 ghost use Rattle.cbdc_model.specs.Records.{Digest, same_digest};
 ghost use Rattle.hash_slots.specs.Entries.{lookup, IsOnce};
-ghost use Rattle.hash_slots.specs.Slots.{limit_of, gather, AreOnce, IsSound};
+ghost use Rattle.hash_slots.specs.Slots.{limit_of, gather, AreOnce, IsSize, IsSound};
 
+use crate::pages::Pages;
 use crate::placing::{fill, get, take_out};
 use base_types::Hash;
 use std::alloc::{AllocError, Global};
@@ -20,8 +21,7 @@ pub struct Kept<V> {
 #[derive(Drop)]
 pub struct HashSlots<V> {
     alloc: Global,
-    slots: Vec<Option<Kept<V>>>,
-    homes: u64,
+    slots: Pages<V>,
     count: u64,
 }
 
@@ -32,74 +32,61 @@ impl<V> Model for HashSlots<V> {
 
     ghost Value = { SlotsOf V };
 
-    ghost view = { λ s. record { entries = gather s.slots.items; spare = limit_of s.homes - s.count } };
+    ghost view = { λ s. record { entries = gather s.slots; spare = limit_of (length s.slots) - s.count } };
 
-    ghost invariant = { λ s. IsFilled s.slots.items s.homes s.count };
+    ghost invariant = { λ s. IsFilled s.slots s.count };
 }
 
 /// The most hashes that there may ever be room for.
 const MOST: u64 = 1 << 60;
 
-// The least number of homes, doubled from so many on, that has room for so many hashes.
-fn homes_for(need: u64, homes: u64) -> u64
+// The least number of slots, doubled from so many on, that has room for so many hashes.
+fn slots_for(need: u64, slots: u64) -> u64
     requires few { need ≤ 2 ^ 60 }
-    requires homes { homes ≤ 2 ^ 62 }
+    requires slots { slots ≤ 2 ^ 62 }
+    requires size { IsSize slots }
     ensures room { need ≤ limit_of result }
     ensures bound { result ≤ 2 ^ 62 }
-    ensures some { 0 < result }
+    ensures size { (k : ℕ) × (result ≡ 256 * 2 ^ k) }
 {
-    let mut wanted = homes.max(16);
+    let mut wanted = slots.max(256);
     while wanted / 4 * 3 < need {
         wanted *= 2;
     }
     wanted
 }
 
-// Free slots for so many homes.
-fn vacant<V: Copy>(alloc: Global, homes: u64) -> Result<Vec<Option<Kept<V>>>, AllocError>
-    requires bound { homes ≤ 2 ^ 62 }
-    ensures { IfOk result (λ v. v.items ≡ replicate (homes + limit_of homes) None) }
-{
-    let mut slots = Vec::new(alloc);
-    slots.resize((homes + homes / 4 * 3) as usize, None)?;
-    Ok(slots)
-}
-
 // Puts the hashes of these slots into free ones.
-fn fill_all<V: Copy>(slots: &[Option<Kept<V>>], wider: &mut [Option<Kept<V>>], homes: u64)
+fn fill_all<V: Copy>(slots: &Pages<V>, wider: &mut Pages<V>)
     requires once { AreOnce slots.now }
-    requires some { 0 < homes }
-    requires room { length (gather slots.now) ≤ limit_of homes }
-    requires free { wider.old ≡ replicate (homes + limit_of homes) None }
-    ensures len { length wider.new ≡ homes + limit_of homes }
-    ensures sound { IsSound wider.new homes }
+    requires size { IsSize (length wider.old) }
+    requires room { length (gather slots.now) < length wider.old }
+    requires free { wider.old ≡ replicate (length wider.old) None }
+    ensures len { length wider.new ≡ length wider.old }
+    ensures sound { IsSound wider.new (length wider.old) }
     ensures kept { (x : Digest) → lookup (gather wider.new) x ≡ lookup (gather slots.now) x }
     ensures count { length (gather wider.new) ≡ length (gather slots.now) }
 {
     for at in 0..slots.len() {
-        if let Some(kept) = slots[at] {
-            fill(wider, homes, kept);
+        if let Some(kept) = *slots.at(at) {
+            fill(wider, kept);
         }
     }
 }
 
-// The same hashes in slots of so many homes.
-fn moved<V: Copy>(
-    alloc: Global,
-    slots: &[Option<Kept<V>>],
-    homes: u64,
-) -> Result<Vec<Option<Kept<V>>>, AllocError>
+// The same hashes in so many slots. All their pages are taken before a hash is put into one.
+fn moved<V: Copy>(alloc: Global, slots: &Pages<V>, homes: u64) -> Result<Pages<V>, AllocError>
     requires once { AreOnce slots.now }
-    requires some { 0 < homes }
+    requires size { (k : ℕ) × (homes ≡ 256 * 2 ^ k) }
     requires bound { homes ≤ 2 ^ 62 }
     requires room { length (gather slots.now) ≤ limit_of homes }
-    ensures len { IfOk result (λ v. length v.items ≡ homes + limit_of homes) }
-    ensures sound { IfOk result (λ v. IsSound v.items homes) }
-    ensures kept { IfOk result (λ v. (x : Digest) → lookup (gather v.items) x ≡ lookup (gather slots.now) x) }
-    ensures count { IfOk result (λ v. length (gather v.items) ≡ length (gather slots.now)) }
+    ensures len { IfOk result (λ p. length p ≡ homes) }
+    ensures sound { IfOk result (λ p. IsSound p homes) }
+    ensures kept { IfOk result (λ p. (x : Digest) → lookup (gather p) x ≡ lookup (gather slots.now) x) }
+    ensures count { IfOk result (λ p. length (gather p) ≡ length (gather slots.now)) }
 {
-    let mut wider = vacant(alloc, homes)?;
-    fill_all(slots, &mut wider, homes);
+    let mut wider = Pages::vacant(alloc, homes / 256)?;
+    fill_all(slots, &mut wider);
     Ok(wider)
 }
 
@@ -111,8 +98,7 @@ impl<V: Copy> HashSlots<V> {
     {
         HashSlots {
             alloc,
-            slots: Vec::new(alloc),
-            homes: 0,
+            slots: Pages::new(alloc),
             count: 0,
         }
     }
@@ -136,14 +122,14 @@ impl<V: Copy> HashSlots<V> {
     pub fn spare(&self) -> u64
         ensures { result ≡ self.now.spare }
     {
-        self.homes / 4 * 3 - self.count
+        self.slots.len() as u64 / 4 * 3 - self.count
     }
 
     /// What is kept under a hash. Takes no memory.
     pub fn get(&self, x: &Hash) -> Option<V>
         ensures { result ≡ lookup self.now.entries x.now }
     {
-        get(&self.slots, self.homes, x)
+        get(&self.slots, x)
     }
 
     /// Makes room for n more hashes. Where memory runs out all is as before.
@@ -161,9 +147,8 @@ impl<V: Copy> HashSlots<V> {
         if n > MOST - self.count.min(MOST) {
             return Err(AllocError);
         }
-        let homes = homes_for(self.count + n, self.homes);
+        let homes = slots_for(self.count + n, self.slots.len() as u64);
         self.slots = moved(self.alloc, &self.slots, homes)?;
-        self.homes = homes;
         Ok(())
     }
 
@@ -175,7 +160,7 @@ impl<V: Copy> HashSlots<V> {
         ensures len { length self.new.entries ≡ length self.old.entries + 1 }
         ensures spare { self.new.spare + 1 ≡ self.old.spare }
     {
-        fill(&mut self.slots, self.homes, Kept { hash: x, value });
+        fill(&mut self.slots, Kept { hash: x, value });
         self.count += 1;
     }
 
@@ -186,7 +171,7 @@ impl<V: Copy> HashSlots<V> {
         ensures len { length self.new.entries + (if is_some result then 1 else 0) ≡ length self.old.entries }
         ensures spare { self.new.spare ≡ self.old.spare + (if is_some result then 1 else 0) }
     {
-        let value = take_out(&mut self.slots, self.homes, x)?;
+        let value = take_out(&mut self.slots, x)?;
         self.count -= 1;
         Some(value)
     }

@@ -4,14 +4,17 @@ use Rattle.outside.specs.Images.{Tells}
 use Rattle.cbdc_types.specs.declared.answer.Answer.{Answer}
 use Rattle.cbdc_types.specs.declared.answer.Answer.TheVariants as answers
 use Rattle.cbdc_types.specs.declared.tx.FullTx.{FullTx}
-use Rattle.client_files.specs.Files.{GivesFile}
+use Rattle.client_files.specs.Files.{GivesFile, clients_in}
+use Rattle.client_files.specs.Streams.{Stops, Holds}
+use Rattle.client_files.specs.declared.fault.StreamFault.{StreamFault}
+use Rattle.client_files.specs.declared.fault.StreamFault.TheVariants as stream_fault
 use Rattle.client_files.specs.declared.fault.BadFile.{BadFile}
 use Rattle.client_files.specs.declared.fault.FileFault.{FileFault}
 use Rattle.client_files.specs.declared.fault.FileFault.TheVariants.{Bad, Memory}
 use Rattle.verifier_port.specs.Files.{Reads}
 use Rattle.verifier_port.specs.declared.file.VerdictFault.{VerdictFault}
 use Rattle.verifier_port.specs.declared.file.VerdictFault.TheVariants as verdict_fault
-use Rattle.input_files.specs.Contents.{front, goes_on, IsNotRead, IsFaultOf, IsVerdictFaultOf, IsNoVerdicts, IsUnfetched, AreRead, FirstNotRead, txs_of_file, all_txs}
+use Rattle.input_files.specs.Contents.{front, goes_on, IsNotRead, IsFaultOf, IsStreamFaultOf, IsVerdictFaultOf, IsNoVerdicts, IsUnfetched, AreRead, FirstNotRead, txs_of_file, all_txs}
 use Rattle.std.proofs.Common.{suc, add-one}
 use Rattle.std.proofs.Math.Seq.{take-suc, drop-cons}
 use Rattle.std.proofs.lemmas.List.{take-append-drop}
@@ -42,6 +45,19 @@ unfetched place told read before now (answers.ClockEnd node stamp) h = h
 unfetched place told read before now (answers.Damaged node at) h = h
 unfetched place told read before now answers.WriteFault h = h
 unfetched place told read before now (answers.DiskFault node) h = h
+
+-- what a client file holds is read of it
+pub held : (told : Option (List ℕ)) (before : ℕ) (r : Result (List FullTx) BadFile) → Holds told before r → Tells told (λ c. txs_of_file before c ≡ r)
+held told before r h c e = subst (λ b. clients_in before (goes_on c) b ≡ r) (h.whole c e).0 (subst (λ m. clients_in before m h.bytes ≡ r) (h.whole c e).1 h.is)
+
+pub stream_not_read : (place : ℕ) (told : Option (List ℕ)) (before old now : ℕ) (fault : StreamFault) (answer : Answer) → IsStreamFaultOf place fault answer → Stops (λ bad. Holds told before (Err bad)) old now fault
+    → IsNotRead place told (txs_of_file before) old now answer
+stream_not_read place told before old now (stream_fault.Bad bad) answer is stops =
+    subst (λ a. IsNotRead place told (txs_of_file before) old now a) (sym is) (refl, held told before (Err bad) stops)
+stream_not_read place told before old now stream_fault.ReadFault answer is stops =
+    subst (λ a. IsNotRead place told (txs_of_file before) old now a) (sym is) (refl, stops)
+stream_not_read place told before old now stream_fault.Memory answer is stops =
+    subst (λ a. IsNotRead place told (txs_of_file before) old now a) (sym is) tt
 
 pub no_verdicts : (place : ℕ) (told : Option (List ℕ)) (before now : ℕ) (more : Bool) (bytes : List ℕ) (fault : VerdictFault) (answer : Answer)
     → IsVerdictFaultOf place fault answer → Tells told (λ c. (bytes ≡ front c) × (more ≡ goes_on c)) → Reads more bytes (Err fault)

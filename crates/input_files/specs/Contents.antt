@@ -8,22 +8,18 @@ use Rattle.base_types.specs.declared.faults.InputKind.TheVariants.{Large}
 use Rattle.cbdc_types.specs.declared.tx.Output.{Output}
 use Rattle.cbdc_types.specs.declared.tx.FullTx.{FullTx}
 use Rattle.client_files.specs.Files.{clients_in, mint_in}
+pub use Rattle.client_files.specs.Files.{front, goes_on}
 use Rattle.client_files.specs.declared.fault.BadFile.{BadFile}
 use Rattle.client_files.specs.declared.fault.FileFault.{FileFault}
 use Rattle.client_files.specs.declared.fault.FileFault.TheVariants.{Bad, Memory}
+use Rattle.client_files.specs.declared.fault.StreamFault.{StreamFault}
+use Rattle.client_files.specs.declared.fault.StreamFault.TheVariants as stream_fault
 use Rattle.verifier_port.specs.Files.{Reads}
 use Rattle.verifier_port.specs.declared.file.VerdictFile.{VerdictFile}
 use Rattle.verifier_port.specs.declared.file.VerdictFault.{VerdictFault}
 use Rattle.verifier_port.specs.declared.file.VerdictFault.TheVariants as verdict_fault
 use Rattle.requests.specs.declared.FileWord.{FileWord}
 use Rattle.clap.specs.Words.{Text}
-
--- the bytes of a file that are read, the first 2^30, and whether it goes on behind them
-abbrev pub front : List ℕ → List ℕ
-front c = take 1073741824 c
-
-abbrev pub goes_on : List ℕ → Bool
-goes_on c = nat_lt 1073741824 (length c)
 
 -- the transactions of a client file, where so many stand in the files before it
 abbrev pub txs_of_file : ℕ → List ℕ → Result (List FullTx) BadFile
@@ -85,6 +81,11 @@ IsUnfetched place before now other = ⊥
 abbrev pub IsFaultOf : ℕ → FileFault → Answer → Type 0
 IsFaultOf place (Bad bad) answer = answer ≡ answers.BadInput place bad.at bad.kind
 IsFaultOf place Memory answer = answer ≡ answers.Memory
+
+abbrev pub IsStreamFaultOf : ℕ → StreamFault → Answer → Type 0
+IsStreamFaultOf place (stream_fault.Bad bad) answer = answer ≡ answers.BadInput place bad.at bad.kind
+IsStreamFaultOf place stream_fault.ReadFault answer = answer ≡ answers.ReadFault place
+IsStreamFaultOf place stream_fault.Memory answer = answer ≡ answers.Memory
 
 abbrev pub IsVerdictFaultOf : ℕ → VerdictFault → Answer → Type 0
 IsVerdictFaultOf place (verdict_fault.Bad bad) answer = answer ≡ answers.BadInput place bad.line bad.kind

@@ -8,12 +8,12 @@ ghost use Rattle.std.specs.Prelude.{◌≡◌, ◌-◌, ◌≤◌, length, All, 
 ghost use Rattle.outside.specs.Images.{Tells};
 ghost use Rattle.clap.specs.Words.{Text};
 ghost use Rattle.input_files.specs.Limits.{IsShort};
-ghost use Rattle.input_files.specs.Contents.{front, goes_on, txs_of_file, mint_of_file, IsNotRead, AreRead, FirstNotRead, AreVerdicts, IsNoVerdicts, IsUnfetched, IsFaultOf, IsVerdictFaultOf, all_txs};
+ghost use Rattle.input_files.specs.Contents.{txs_of_file, mint_of_file, IsNotRead, AreRead, FirstNotRead, IsFaultOf, IsStreamFaultOf, IsVerdictFaultOf, all_txs};
 
 use crate::fetched::bytes_of;
 pub use beside::{Inputs, inputs_in};
 use cbdc_types::{Answer, FullTx, InputKind, List, Mint};
-use client_files::{FileFault, read_clients, read_mint};
+use client_files::{FileFault, StreamFault, read_mint, stream_clients};
 pub use fetched::Fetched;
 use outside::Inbox;
 use requests::FileWord;
@@ -51,6 +51,21 @@ pub fn mint_in<I: Inbox>(alloc: Global, inbox: &mut I, file: &FileWord) -> Resul
     }
 }
 
+// What a fault of a client file answers.
+fn stream_answer(file: &FileWord, fault: StreamFault) -> Answer
+    ensures { IsStreamFaultOf file.now.place fault result }
+{
+    match fault {
+        StreamFault::Bad(bad) => Answer::BadInput {
+            file: file.place,
+            at: bad.at,
+            kind: bad.kind,
+        },
+        StreamFault::ReadFault => Answer::ReadFault { file: file.place },
+        StreamFault::Memory => Answer::Memory,
+    }
+}
+
 /// The transactions in a client file, where the client files before it have so many.
 pub fn clients_in<I: Inbox>(
     alloc: Global,
@@ -65,12 +80,9 @@ pub fn clients_in<I: Inbox>(
     ensures same { (other : Text) → I.file inbox.new other ≡ I.file inbox.old other }
     ensures later { (other : Text) → I.count inbox.old other ≤ I.count inbox.new other }
 {
-    match bytes_of(alloc, inbox, file) {
-        Ok(Fetched { bytes, more }) => match read_clients(alloc, bytes.as_slice(), more, before) {
-            Ok(txs) => Ok(txs),
-            Err(fault) => Err(answer_of(file, fault)),
-        },
-        Err(fault) => Err(fault),
+    match stream_clients(alloc, inbox, file.name, before) {
+        Ok(txs) => Ok(txs),
+        Err(fault) => Err(stream_answer(file, fault)),
     }
 }
 

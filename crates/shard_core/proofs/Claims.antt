@@ -42,3 +42,41 @@ one_reply J b before rs all e es i r l is reply old =
 pub claims_more : (xs before old new : List Digest) → ((y : Digest) → has old y ≡ has before y) → ((y : Digest) → has new y ≡ (has xs y || has old y)) → (y : Digest)
     → has new y ≡ has (xs ++ before) y
 claims_more xs before old new claims more y = more y ∙ ap (λ (t : Bool). has xs y || t) (claims y) ∙ sym (has_append xs before y)
+
+-- ---- a few hashes in a list, and the others in a table
+
+pub has_here : (xs : List Digest) (i : ℕ) (x y : Digest) → i < length xs → x ≡ get_or xs i x → same_digest x y ≡ true → has xs y ≡ true
+has_here [] i x y l e same = absurd (omega arith)
+has_here (z ∷ xs) zero x y l e same = let here : same_digest z y ≡ true = ap (λ (w : Digest). same_digest w y) (sym e) ∙ same in rw here refl
+has_here (z ∷ xs) (suc i) x y l e same = let rest = has_here xs i x y (omega arith) e same in rw rest (or_true (same_digest z y))
+  where
+    or_true : (a : Bool) → (a || true) ≡ true
+    or_true true = refl
+    or_true false = refl
+
+pub not_yet : (xs : List Digest) (i : ℕ) (x y : Digest) → i < length xs → x ≡ get_or xs i x → has (take i xs) y ≡ false → same_digest x y ≡ false → has (take (suc i) xs) y ≡ false
+not_yet xs i x y l e before here = has_take xs i x y l e ∙ rw (before, here) refl
+
+or_first : (a b : Bool) → a ≡ true → true ≡ (a || b)
+or_first true b e = refl
+or_first false b e = absurd (cc)
+
+or_second : (a b : Bool) → a ≡ false → b ≡ (a || b)
+or_second true b e = absurd (cc)
+or_second false b e = refl
+
+pub in_few : (few many : List Digest) (y : Digest) → has few y ≡ true → true ≡ has (few ++ many) y
+in_few few many y e = or_first (has few y) (has many y) e ∙ sym (has_append few many y)
+
+pub in_many : (few many : List Digest) (y : Digest) → has few y ≡ false → has many y ≡ has (few ++ many) y
+in_many few many y e = or_second (has few y) (has many y) e ∙ sym (has_append few many y)
+
+pub few_more : (few more many : List Digest) (y : Digest) → has ((few ++ more) ++ many) y ≡ (has more y || has (few ++ many) y)
+few_more few more many y =
+    has_append (few ++ more) many y ∙ ap (λ (t : Bool). t || has many y) (has_append few more y) ∙ sym (or_swap (has more y) (has few y) (has many y))
+    ∙ ap (λ (t : Bool). has more y || t) (sym (has_append few many y))
+
+pub many_more : (few more many new : List Digest) (y : Digest) → has new y ≡ (has more y || has many y) → has (few ++ new) y ≡ (has more y || has (few ++ many) y)
+many_more few more many new y e =
+    has_append few new y ∙ ap (λ (t : Bool). has few y || t) e ∙ or_swap (has few y) (has more y) (has many y) ∙ sym (or_assoc (has more y) (has few y) (has many y))
+    ∙ ap (λ (t : Bool). has more y || t) (sym (has_append few many y))

@@ -2,6 +2,7 @@
 #![tactic(auto)]
 
 mod applying;
+mod claiming;
 mod comparing;
 mod copying;
 mod core_state;

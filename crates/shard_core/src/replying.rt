@@ -1,10 +1,11 @@
 // What a shard replies to a part.
-ghost use Rattle.std.specs.Prelude.{◌≡◌, ◌||◌, List as Items, [], length, IfOk, OnOk};
+ghost use Rattle.std.specs.Prelude.{◌≡◌, List as Items, [], length, IfOk};
 ghost use Rattle.cbdc_model.specs.Records.{Digest, Record};
 ghost use Rattle.cbdc_model.specs.Status.{has, status};
 ghost use Rattle.cbdc_model.specs.Replies.{refusal, reply_to as the_reply, answered, replies as replies_in};
 ghost use Rattle.shard_core.specs.Agrees.{Agrees};
 
+use crate::claiming::Claims;
 use crate::comparing::is_held;
 use cbdc_types::{BatchId, Entry, Hash, Reply, Status};
 use shard_locks::Locks;
@@ -45,11 +46,11 @@ fn refused(status: Status, x: &Hash, claimed: bool, batch: &BatchId) -> Option<R
 fn reply_to(
     unspent: &Table,
     locks: &Locks,
-    claimed: &Table,
+    claimed: &Claims,
     inputs: &[Hash],
     batch: &BatchId,
 ) -> Reply
-    ensures { (J : Items Record) (before : Items Digest) → Agrees unspent.now.hashes locks.now.held J → ((y : Digest) → has claimed.now.hashes y ≡ has before y)
+    ensures { (J : Items Record) (before : Items Digest) → Agrees unspent.now.hashes locks.now.held J → ((y : Digest) → has claimed.now y ≡ has before y)
         → result ≡ the_reply J batch.now before inputs.now }
 {
     for x in inputs {
@@ -59,17 +60,6 @@ fn reply_to(
         }
     }
     Reply::Held
-}
-
-// Adds the inputs of a Held entry to those that are claimed.
-fn claim(claimed: &mut Table, inputs: &[Hash]) -> Result<(), AllocError>
-    ensures { OnOk result ((y : Digest) → has claimed.new.hashes y ≡ (has inputs.now y || has claimed.old.hashes y)) }
-{
-    claimed.reserve(inputs.len() as u64)?;
-    for x in inputs {
-        claimed.insert(*x);
-    }
-    Ok(())
 }
 
 /// The replies to a part, in the order of its entries.
@@ -83,13 +73,13 @@ pub fn replies_to(
     ensures len { IfOk result (λ v. length v.items ≡ length entries.now) }
     ensures replies { IfOk result (λ v. (J : Items Record) → Agrees unspent.now.hashes locks.now.held J → v.items ≡ replies_in (answered J batch.now [] entries.now)) }
 {
-    let mut claimed = Table::new(alloc);
+    let mut claimed = Claims::new(alloc);
     let mut replies = Vec::with_capacity(alloc, entries.len())?;
     for entry in entries {
         let inputs = entry.inputs.as_slice();
         let reply = reply_to(unspent, locks, &claimed, inputs, batch);
         if is_held(&reply) {
-            claim(&mut claimed, inputs)?;
+            claimed.claim(inputs)?;
         }
         replies.push(reply)?;
     }

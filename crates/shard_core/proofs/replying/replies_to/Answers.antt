@@ -10,7 +10,7 @@ use Rattle.shard_core.proofs.replying.replies_to.Goals.{then-is_held+in_ok-claim
 pub loop-entry-init : goal.loop-entry-init
 loop-entry-init c = record {
   len = rw c.in_ok-replies.ensures.items;
-  replies = λ J a. ([], (λ y. ap (λ (hs : List Digest). has hs y) c.new-claimed.ensures.hashes), rw c.in_ok-replies.ensures.items);
+  replies = λ J a. ([], (λ y. ap (λ (hs : List Digest). has hs y) c.new-claimed.ensures), rw c.in_ok-replies.ensures.items);
 }
 
 pub loop-entry-preserved : goal.loop-entry-preserved
@@ -29,8 +29,8 @@ loop-entry-preserved c = record {
           | then-is_held+in_ok-claim w ↦
               let held : is_held c.reply_to-reply.result ≡ true = sym c.is_held.ensures ∙ w.if-is_held.true in
               let h = w.in_ok-claim in
-              rw (held, w.claimed-is) (claims_more e.inputs p.0 c.loop-entry.claimed.hashes w.claim.new.claimed.hashes p.1
-              (λ y. w.in_ok-claim.ensures y ∙ ap (λ (xs : List Digest). has xs y || has c.loop-entry.claimed.hashes y) c.as_slice-inputs.ensures))
+              rw (held, w.claimed-is) (claims_more e.inputs p.0 c.loop-entry.claimed w.claim.new.self p.1
+              (λ y. w.in_ok-claim.ensures y ∙ ap (λ (xs : List Digest). has xs y || has c.loop-entry.claimed y) c.as_slice-inputs.ensures))
           | else-is_held w ↦
               let free : is_held c.reply_to-reply.result ≡ false = sym c.is_held.ensures ∙ w.if-is_held.false in
               rw (free, w.claimed-is) p.1

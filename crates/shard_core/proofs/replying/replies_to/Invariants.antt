@@ -9,6 +9,6 @@ use Rattle.shard_core.proofs.replying.replies_to.Given as goal
 abbrev pub invariant-loop-entry : goal.invariant-loop-entry
 invariant-loop-entry l = record {
   len : length l.replies.items ≡ l.entry-index;
-  replies : (J : List Record) → Agrees l.unspent.hashes l.locks.held J → (before : List Digest) × ((y : Digest) → has l.claimed.hashes y ≡ has before y)
+  replies : (J : List Record) → Agrees l.unspent.hashes l.locks.held J → (before : List Digest) × ((y : Digest) → has l.claimed y ≡ has before y)
       × (l.replies.items ++ replies (answered J l.batch before (drop l.entry-index l.entries)) ≡ replies (answered J l.batch [] l.entries));
 }
