@@ -18,8 +18,7 @@ use Rattle.tx_codec.specs.declared.reading.BadTx.{BadTx}
 use Rattle.tx_codec.specs.declared.feed.FeedState.{FeedState}
 use Rattle.tx_codec.specs.declared.feed.FeedState.TheVariants as states
 use Rattle.tx_codec.specs.Places.{IsSpelledAt, IsFirstFault}
-use Rattle.tx_codec.specs.declared.feed.Fed.TheVariants as feds
-use Rattle.tx_codec.specs.Feeds.{IsGoing, IsCutAt, IsBadIn, IsAfter}
+use Rattle.tx_codec.specs.Feeds.{IsGoing, IsCutAt, IsBadIn}
 use Rattle.tx_codec.proofs.Feeding.{nothing_read, reads_later}
 use Rattle.client_files.proofs.PieceLemmas.{piece_is, one_piece}
 use Rattle.client_files.proofs.Ends.{file_ok, file_extra, file_fault, extra_some}
@@ -609,10 +608,6 @@ no_bytes (x ∷ l) e = absurd (omega (arith, e))
 pub some_bytes : (b : Bool) (n : ℕ) → b ≡ (n == 0) → b ≡ false → 0 < n
 some_bytes b zero is e = absurd (let t : (0 == 0) ≡ true = refl in cc)
 some_bytes b (suc n) is e = omega arith
-
-pub going_after : (all : List ℕ) (state : FeedState) → IsAfter all (Ok feds.More) state → IsGoing state
-going_after all state (inl none) = subst IsGoing (sym none.2) tt
-going_after all state (inr later) = subst IsGoing (sym later.1) tt
 
 pub of_same : (told now : Option (List ℕ)) (w : WindowOf) (bad : BadFile) → now ≡ told → OfRead now w.had (Meets now transaction_at w.unread bad) → OfRead told w.had (Meets told transaction_at w.unread bad)
 of_same told now w bad same meets = subst (λ (t : Option (List ℕ)). OfRead t w.had (Meets t transaction_at w.unread bad)) same meets

@@ -36,8 +36,8 @@ pub fn mint_file(state: &State, words: &[&str], told: &mut Told) {
     }
 }
 
-// Transactions behind their number are written as these bytes.
-fn check_written(txs: &[FullTx], wanted: &[u8], told: &mut Told) {
+/// Transactions behind their number are written as these bytes.
+pub fn check_written(txs: &[FullTx], wanted: &[u8], told: &mut Told) {
     let alloc = told.alloc;
     let mut came = Vec::new(alloc);
     told.made(put_number(&mut came, txs.len() as u64));

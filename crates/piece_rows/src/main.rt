@@ -15,6 +15,7 @@ mod reader;
 mod records;
 mod repeats;
 mod state;
+mod streams;
 mod subject;
 mod transactions;
 mod verbs;

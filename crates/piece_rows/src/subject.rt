@@ -9,7 +9,8 @@ use crate::messages::messages;
 use crate::records::{reads_first, reads_record, record_bytes};
 use crate::repeats::repeated;
 use crate::state::State;
-use crate::transactions::{reads_tx, tx_bytes};
+use crate::streams::streamed;
+use crate::transactions::{feeds, reads_tx, tx_bytes};
 use crate::verbs::{Verb, is_for, takes_text, verb_of};
 use crate::words::{shows, shows_like, words_ask};
 use row_records::{Mint, Told, name_form, name_hash, name_tx, shape};
@@ -70,8 +71,10 @@ fn look(state: &State, verb: Verb, words: &[&str], text: &str, told: &mut Told) 
         Verb::VerdictFile => verdict_file(state, words, told),
         Verb::Verdict => verdict(state, words, told),
         Verb::Fetch => fetched(state, words, told),
+        Verb::Streams => streamed(state, words, told),
         Verb::Small => small_bytes(state, words, told),
         Verb::ReadsTx => reads_tx(state, words, told),
+        Verb::Feeds => feeds(state, words, told),
         Verb::RecordBytes => record_bytes(state, words, told),
         Verb::ReadsRecord => reads_record(state, words, told),
         Verb::ReadsFirst => reads_first(state, words, told),

@@ -1,4 +1,6 @@
 // Transactions as bytes, both ways.
+ghost use Rattle.tx_codec.specs.Feeds.{IsGoing};
+
 use crate::bytes::{behind_others, bytes_of};
 use crate::kinds::tell_bad;
 use crate::state::State;
@@ -6,7 +8,7 @@ use cbdc_types::FullTx;
 use row_records::Told;
 use row_text::rest;
 use std::alloc::{AllocError, Global};
-use tx_codec::{BadTx, ReadFault, read_back, read_tx, write_tx};
+use tx_codec::{BadTx, Fed, ReadFault, TxFeed, read_back, read_tx, write_tx};
 
 // A transaction written behind other bytes.
 fn written(alloc: Global, tx: &FullTx) -> Result<Vec<u8>, AllocError> {
@@ -64,4 +66,49 @@ pub fn reads_tx(state: &State, words: &[&str], told: &mut Told) {
         Err(ReadFault::Bad(BadTx { at, kind })) => tell_bad(told, at as u64, kind),
         Err(ReadFault::Memory) => told.word("memory"),
     }
+}
+
+// What a feed tells where no more bytes come, behind so many that it took.
+fn tell_end(feed: &TxFeed, more: u64, told: &mut Told)
+    requires { IsGoing feed.now.state }
+{
+    told.number(more);
+    told.word("more");
+    match feed.end() {
+        Some(BadTx { at, kind }) => tell_bad(told, at as u64, kind),
+        None => told.word("nothing"),
+    }
+}
+
+// Pushes bytes one by one, behind so many.
+fn push_each(feed: &mut TxFeed, bytes: &[u8], more: u64, told: &mut Told)
+    requires { IsGoing feed.old.state }
+{
+    let [_, later @ ..] = bytes else {
+        tell_end(feed, more, told);
+        return;
+    };
+    match feed.push(&bytes[..1]) {
+        Ok(Fed::More) => push_each(feed, later, more.saturating_add(1), told),
+        Ok(Fed::Done(tx, taken)) => {
+            told.number(more);
+            told.word("more");
+            told.named("done", taken as u128);
+            told.check_yes(tx.inputs.len() > 0);
+        }
+        Err(ReadFault::Bad(BadTx { at, kind })) => {
+            told.number(more);
+            told.word("bad");
+            tell_bad(told, at as u64, kind);
+        }
+        Err(ReadFault::Memory) => told.word("memory"),
+    }
+}
+
+/// `feeds PIECE..`: the bytes come one by one. `N more`, how many did not make the transaction whole, and `done TAKEN`, how many of the
+/// last piece are its; or `at N KIND`, what is wrong where no more come, `nothing` where none came; `N bad at N KIND` of a bad field.
+pub fn feeds(state: &State, words: &[&str], told: &mut Told) {
+    let bytes = bytes_of(state, words, told);
+    let mut feed = TxFeed::new(told.alloc);
+    push_each(&mut feed, &bytes, 0, told);
 }

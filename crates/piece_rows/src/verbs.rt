@@ -19,11 +19,13 @@ pub enum Verb {
     VerdictFile,
     Verdict,
     Fetch,
+    Streams,
     Number,
     Small,
     Fields,
     TxBytes,
     ReadsTx,
+    Feeds,
     RecordBytes,
     ReadsRecord,
     ReadsFirst,
@@ -43,7 +45,7 @@ pub enum Verb {
     Messages,
 }
 
-const VERBS: [(&str, Verb); 37] = [
+const VERBS: [(&str, Verb); 39] = [
     ("hash", Verb::Hash),
     ("shape", Verb::Shape),
     ("genesis", Verb::Genesis),
@@ -59,11 +61,13 @@ const VERBS: [(&str, Verb); 37] = [
     ("verdict-file", Verb::VerdictFile),
     ("verdict", Verb::Verdict),
     ("fetch", Verb::Fetch),
+    ("streams", Verb::Streams),
     ("number", Verb::Number),
     ("small", Verb::Small),
     ("fields", Verb::Fields),
     ("tx-bytes", Verb::TxBytes),
     ("reads-tx", Verb::ReadsTx),
+    ("feeds", Verb::Feeds),
     ("record-bytes", Verb::RecordBytes),
     ("reads-record", Verb::ReadsRecord),
     ("reads-first", Verb::ReadsFirst),

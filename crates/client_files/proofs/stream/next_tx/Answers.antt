@@ -5,7 +5,7 @@ use Rattle.tx_codec.specs.Feeds.{IsBadIn, IsAfter}
 use Rattle.tx_codec.specs.declared.feed.Fed.TheVariants as feds
 use Rattle.client_files.specs.Files.{bad_at}
 use Rattle.client_files.specs.Streams.{WindowOf, OfRead, Meets}
-use Rattle.client_files.proofs.Streaming.{stops_on, stop_bad, end_for, so_more, so_at, tx_took, tx_cut_later, tx_bad, going_after}
+use Rattle.client_files.proofs.Streaming.{stops_on, stop_bad, end_for, so_more, so_at, tx_took, tx_cut_later, tx_bad}
 use Rattle.client_files.proofs.stream.next_tx.Goals as goal
 
 pub returns-in-Ok-Done-clause-taken : goal.returns-in-Ok-Done-clause-taken
@@ -56,7 +56,7 @@ pieces-preserved g c =
     record {
       so_far = so_more told (g.I.Inbox.file c.pieces.inbox name) old c.take_all.new.self new c.in_ok-more-in-Ok-More.field-0 all (fed ++ new.unread) (c.pieces.invariant.same name)
           (so_at told old c.pieces.window.had c.take_all.new.self.had all all used refl c.pieces.invariant.so_far) m (ap (λ (l : List ℕ). l ++ new.unread) pushed ∙ ap (λ (l : List ℕ). all ++ l) came);
-      going = going_after (c.pieces.feed.bytes ++ c.unread.result.now) c.push.new.self.state (rw c.in-Ok-More.field-0-is at (c.in-Ok-More.ensures.state c.pieces.invariant.going));
+      going = (rw c.in-Ok-More.field-0-is at (c.in-Ok-More.ensures.going c.pieces.invariant.going)) refl;
       start = c.pieces.invariant.start;
       same = λ other. c.more.ensures.same other ∙ c.pieces.invariant.same other;
       later = λ other. omega (arith, c.pieces.invariant.later other, c.more.ensures.later other);
