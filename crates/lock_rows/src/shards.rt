@@ -1,8 +1,9 @@
-// A shard under a lock for two lanes, of which one makes a batch's calls.
+// A shard under a lock for two lanes, of which one makes a batch's calls: one on a disk, and one in memory.
 ghost use Rattle.std.specs.Prelude.{◌≡◌, IfSome};
 ghost use Rattle.cbdc_model.specs.Calls.{IsLockCall, IsFinishCall};
 ghost use Rattle.node_lock.specs.Seats.{knows, opening_of, IsSeatOf};
 
+use crate::frozen::Frozen;
 use crate::gates::RowGate;
 use crate::lanes::point_of;
 use cbdc_types::{
@@ -259,4 +260,25 @@ pub fn shows_output<R: Threads + Wait + Sync>(
         at_last: Status::Unspent,
     };
     Some(told == shown)
+}
+
+/// The same lanes at a copy of the shard that stands on no disk and takes no batch. Whether neither call is done, and the coin is absent for both lanes.
+pub fn takes_none<R: Threads + Wait + Sync>(rt: &R, alloc: Global) -> Option<bool> {
+    let node = opened(alloc)?;
+    let frozen = Frozen::of(alloc, &node)?;
+    let calls = calls_of(alloc, ONE, true)?;
+    if !is_lock_call(frozen.header(), &calls.lock)
+        || !is_finish_call(frozen.header(), &calls.finish)
+    {
+        return None;
+    }
+    let told = at_shard(rt, alloc, frozen, &calls)?;
+    let refused = Told {
+        locked: false,
+        finished: false,
+        before: Status::Absent,
+        behind: Status::Absent,
+        at_last: Status::Absent,
+    };
+    Some(told == refused)
 }
