@@ -3,6 +3,7 @@
 #![tactic(auto)]
 
 mod book;
+mod frozen;
 mod gates;
 mod lanes;
 mod rows;
@@ -58,13 +59,17 @@ fn main(rt: HostRuntime) -> io::Result<ExitCode> {
             "differs a Finish that commits nothing makes an output",
             shards::shows_output(&rt, alloc, false),
         ),
+        (
+            "row two lanes at a shard that stands on no disk and takes no batch: a Lock and a Finish are not done, and both lanes look and see the output absent",
+            shards::takes_none(&rt, alloc),
+        ),
     ];
     let mut held = 0u32;
     for (row, holds) in told {
         held = held.saturating_add(tell(&rt, row, holds)?);
     }
-    println!(&rt; "{held} of 8 rows came to what they should")?;
-    if held == 8 {
+    println!(&rt; "{held} of 9 rows came to what they should")?;
+    if held == 9 {
         Ok(ExitCode::from(0))
     } else {
         Ok(ExitCode::from(1))

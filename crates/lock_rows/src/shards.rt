@@ -1,8 +1,9 @@
-// A shard under a lock for two lanes, of which one makes a batch's calls.
+// A shard under a lock for two lanes, of which one makes a batch's calls: one on a disk, and one in memory.
 ghost use Rattle.std.specs.Prelude.{◌≡◌, IfSome};
 ghost use Rattle.cbdc_model.specs.Calls.{IsLockCall, IsFinishCall};
 ghost use Rattle.node_lock.specs.Seats.{knows, opening_of, IsSeatOf};
 
+use crate::frozen::Frozen;
 use crate::gates::RowGate;
 use crate::lanes::point_of;
 use cbdc_types::{
@@ -13,13 +14,11 @@ use mem_devices::PlainDisk;
 use node_lock::{Guarded, Seat};
 use outside::When;
 use rack_nodes::{Wrote, write_first};
-use shard_fanout::{ShardAnswer, ShardAsk, ShardCall, SharedShard};
+use shard_fanout::{Shard, ShardAnswer, ShardAsk, ShardCall, ShardReply, SharedShard};
 use shard_node::{ShardNode, is_finish_call, is_lock_call};
 use std::alloc::Global;
 use std::sync::Wait;
 use std::thread::{Threads, join};
-
-type Shard = SharedShard<PlainDisk>;
 
 // The lane that makes the calls, and the one that only looks.
 const ONE: LaneId = LaneId(0);
@@ -38,10 +37,22 @@ struct Calls {
     finish: FinishCall,
 }
 
-// What a lane is told of the coin that its batch makes: before its Finish, and behind it.
+// Whether a batch's Lock and Finish were done, and what is told of the coin that it makes: before the Finish, behind it, and to another lane at last.
+#[derive(Clone, Copy, Debug, PartialEq, Eq)]
+struct Told {
+    locked: bool,
+    finished: bool,
+    before: Status,
+    behind: Status,
+    at_last: Status,
+}
+
+// What the lane that makes the calls is told, and its seat.
 #[derive(Drop)]
-struct Spent {
-    seat: Seat<Shard>,
+struct Spent<S: Shard> {
+    seat: Seat<SharedShard<S>>,
+    locked: bool,
+    finished: bool,
     before: Status,
     behind: Status,
 }
@@ -98,8 +109,19 @@ fn calls_of(alloc: Global, lane: LaneId, committed: bool) -> Option<Calls>
     Some(Calls { lock, finish })
 }
 
+fn is_done(reply: &ShardReply) -> bool {
+    match reply {
+        ShardReply::Locked(answer) => answer.is_ok(),
+        ShardReply::Stamped(answer) => answer.is_ok(),
+    }
+}
+
 // What is told of the coin that the batch makes.
-fn look<R: Wait>(rt: &R, guarded: &Guarded<Shard>, seat: &mut Seat<Shard>) -> Status
+fn look<R: Wait, S: Shard>(
+    rt: &R,
+    guarded: &Guarded<SharedShard<S>>,
+    seat: &mut Seat<SharedShard<S>>,
+) -> Status
     requires seat { IsSeatOf guarded.now seat.old }
     ensures seat { IsSeatOf guarded.now seat.new }
     ensures lane { (knows seat.new).lane ≡ (knows seat.old).lane }
@@ -111,30 +133,41 @@ fn look<R: Wait>(rt: &R, guarded: &Guarded<Shard>, seat: &mut Seat<Shard>) -> St
 }
 
 // Makes the two calls, and looks before the Finish and behind it.
-fn spend<R: Wait>(rt: &R, guarded: &Guarded<Shard>, mut seat: Seat<Shard>, calls: &Calls) -> Spent
+fn spend<R: Wait, S: Shard>(
+    rt: &R,
+    guarded: &Guarded<SharedShard<S>>,
+    mut seat: Seat<SharedShard<S>>,
+    calls: &Calls,
+) -> Spent<S>
     requires seat { IsSeatOf guarded.now seat }
     requires lock { calls.now.lock.batch.lane ≡ (knows seat).lane }
     requires finish { calls.now.finish.batch.lane ≡ (knows seat).lane }
-    requires may_lock { IsLockCall (opening_of guarded.now).node.header calls.now.lock }
-    requires may_finish { IsFinishCall (opening_of guarded.now).node.header calls.now.finish }
+    requires may_lock { IsLockCall (S.sight (opening_of guarded.now).node).header calls.now.lock }
+    requires may_finish { IsFinishCall (S.sight (opening_of guarded.now).node).header calls.now.finish }
     ensures seat { IsSeatOf guarded.now result.seat }
 {
     let at = point_of(seat.lane(), When::Before);
     let mut lock = ShardCall::Lock(&calls.lock);
-    let _ = guarded.call(rt, &mut seat, &mut lock, &RowGate::Open, &at);
+    let locked = guarded.call(rt, &mut seat, &mut lock, &RowGate::Open, &at);
     let before = look(rt, guarded, &mut seat);
     let mut finish = ShardCall::Finish(&calls.finish);
-    let _ = guarded.call(rt, &mut seat, &mut finish, &RowGate::Open, &at);
+    let finished = guarded.call(rt, &mut seat, &mut finish, &RowGate::Open, &at);
     let behind = look(rt, guarded, &mut seat);
     Spent {
         seat,
+        locked: is_done(&locked),
+        finished: is_done(&finished),
         before,
         behind,
     }
 }
 
 // Looks once.
-fn watch<R: Wait>(rt: &R, guarded: &Guarded<Shard>, mut seat: Seat<Shard>) -> Seat<Shard>
+fn watch<R: Wait, S: Shard>(
+    rt: &R,
+    guarded: &Guarded<SharedShard<S>>,
+    mut seat: Seat<SharedShard<S>>,
+) -> Seat<SharedShard<S>>
     requires seat { IsSeatOf guarded.now seat }
     ensures seat { IsSeatOf guarded.now result }
 {
@@ -143,19 +176,19 @@ fn watch<R: Wait>(rt: &R, guarded: &Guarded<Shard>, mut seat: Seat<Shard>) -> Se
 }
 
 // Both lanes beside each other, and behind the join what the second is told.
-fn beside<R: Threads + Wait + Sync>(
+fn beside<R: Threads + Wait + Sync, S: Shard + Send>(
     rt: &R,
-    guarded: &Guarded<Shard>,
-    one: Seat<Shard>,
-    two: Seat<Shard>,
+    guarded: &Guarded<SharedShard<S>>,
+    one: Seat<SharedShard<S>>,
+    two: Seat<SharedShard<S>>,
     calls: &Calls,
-) -> (Spent, Seat<Shard>, Status)
+) -> (Spent<S>, Seat<SharedShard<S>>, Status)
     requires one { IsSeatOf guarded.now one }
     requires two { IsSeatOf guarded.now two }
     requires lock { calls.now.lock.batch.lane ≡ (knows one).lane }
     requires finish { calls.now.finish.batch.lane ≡ (knows one).lane }
-    requires may_lock { IsLockCall (opening_of guarded.now).node.header calls.now.lock }
-    requires may_finish { IsFinishCall (opening_of guarded.now).node.header calls.now.finish }
+    requires may_lock { IsLockCall (S.sight (opening_of guarded.now).node).header calls.now.lock }
+    requires may_finish { IsFinishCall (S.sight (opening_of guarded.now).node).header calls.now.finish }
     ensures one { IsSeatOf guarded.now result.0.seat }
     ensures two { IsSeatOf guarded.now result.1 }
 {
@@ -169,16 +202,16 @@ fn beside<R: Threads + Wait + Sync>(
 }
 
 // Both lanes at a shard that may be asked so.
-fn at_shard<R: Threads + Wait + Sync>(
+fn at_shard<R: Threads + Wait + Sync, S: Shard + Send + Drop>(
     rt: &R,
     alloc: Global,
-    node: ShardNode<PlainDisk>,
+    node: S,
     calls: &Calls,
-) -> Option<(Status, Status, Status)>
+) -> Option<Told>
     requires lock { calls.now.lock.batch.lane ≡ 0 }
     requires finish { calls.now.finish.batch.lane ≡ 0 }
-    requires may_lock { IsLockCall node.header calls.now.lock }
-    requires may_finish { IsFinishCall node.header calls.now.finish }
+    requires may_lock { IsLockCall (S.sight node).header calls.now.lock }
+    requires may_finish { IsFinishCall (S.sight node).header calls.now.finish }
 {
     let Ok((guarded, mut seats)) = Guarded::new(alloc, SharedShard { node }, &[ONE, TWO]) else {
         return None;
@@ -186,16 +219,24 @@ fn at_shard<R: Threads + Wait + Sync>(
     let (Some(two), Some(one)) = (seats.pop(), seats.pop()) else {
         unreachable!()
     };
-    let (spent, two, seen) = beside(rt, &guarded, one, two, calls);
+    let (spent, two, at_last) = beside(rt, &guarded, one, two, calls);
     let Spent {
         seat,
+        locked,
+        finished,
         before,
         behind,
     } = spent;
     seats.push_reserved(seat);
     seats.push_reserved(two);
     let _node = guarded.close(seats);
-    Some((before, behind, seen))
+    Some(Told {
+        locked,
+        finished,
+        before,
+        behind,
+        at_last,
+    })
 }
 
 /// A lane locks a part and finishes it while another looks. Whether the coin that is made is absent before the Finish, and unspent behind it:
@@ -211,5 +252,33 @@ pub fn shows_output<R: Threads + Wait + Sync>(
         return None;
     }
     let told = at_shard(rt, alloc, node, &calls)?;
-    Some(told == (Status::Absent, Status::Unspent, Status::Unspent))
+    let shown = Told {
+        locked: true,
+        finished: true,
+        before: Status::Absent,
+        behind: Status::Unspent,
+        at_last: Status::Unspent,
+    };
+    Some(told == shown)
+}
+
+/// The same lanes at a copy of the shard that stands on no disk and takes no batch. Whether neither call is done, and the coin is absent for both lanes.
+pub fn takes_none<R: Threads + Wait + Sync>(rt: &R, alloc: Global) -> Option<bool> {
+    let node = opened(alloc)?;
+    let frozen = Frozen::of(alloc, &node)?;
+    let calls = calls_of(alloc, ONE, true)?;
+    if !is_lock_call(frozen.header(), &calls.lock)
+        || !is_finish_call(frozen.header(), &calls.finish)
+    {
+        return None;
+    }
+    let told = at_shard(rt, alloc, frozen, &calls)?;
+    let refused = Told {
+        locked: false,
+        finished: false,
+        before: Status::Absent,
+        behind: Status::Absent,
+        at_last: Status::Absent,
+    };
+    Some(told == refused)
 }
