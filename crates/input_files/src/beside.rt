@@ -48,7 +48,10 @@ fn read_beside<W: Threads, I: Inbox>(
     clients: &[FileWord],
     verdicts: &FileWord,
     had: &Result<Fetched, Answer>,
-) -> (Result<VerdictFile, Answer>, Result<Vec<List<FullTx>>, Answer>)
+) -> (
+    Result<VerdictFile, Answer>,
+    Result<Vec<List<FullTx>>, Answer>,
+)
     ensures verdicts { IfOk result.0 (AreHadVerdicts had.now) }
     ensures unread { IfErr result.0 (AreNoHadVerdicts verdicts.now.place had.now) }
     ensures read { IfOk result.1 (λ v. AreRead (I.file inbox.old) 0 clients.now v.items) }

@@ -1,0 +1,136 @@
+//! Puts hashes into a shard's table and into std's hash map, finds them there and takes them out. It prints to standard error how long
+//! each took, for 125,000 hashes and twice as many each time, up to a million.
+#![tactic(auto)]
+
+use cbdc_types::Hash;
+use shard_table::Table;
+use std::alloc::{AllocError, Global};
+use std::collections::HashMap;
+use std::io::{self, ErrorKind};
+use std::time::Instant;
+
+/// What the three parts of a measure took, in seconds.
+#[derive(Clone, Copy, Debug)]
+struct Times {
+    put: f64,
+    found: f64,
+    taken: f64,
+}
+
+// A hash with the digits of a number spread over its bytes, as a digest's are.
+fn hash_of(i: u64) -> Hash {
+    let a = i.wrapping_mul(0x9E37_79B9_7F4A_7C15);
+    let b = (a ^ (a >> 29)).wrapping_mul(0xBF58_476D_1CE4_E5B9);
+    let c = (b ^ (b >> 32)).wrapping_mul(0x94D0_49BB_1331_11EB);
+    let mut bytes = [0u8; 32];
+    bytes[0..8].copy_from_slice(&a.to_be_bytes());
+    bytes[8..16].copy_from_slice(&c.to_be_bytes());
+    bytes[16..24].copy_from_slice(&b.to_be_bytes());
+    bytes[24..32].copy_from_slice(&i.to_be_bytes());
+    Hash(bytes)
+}
+
+fn hashes_of(alloc: Global, count: u64) -> Result<Vec<Hash>, AllocError> {
+    let mut hashes = Vec::with_capacity(alloc, count as usize)?;
+    for i in 0..count {
+        hashes.push(hash_of(i))?;
+    }
+    Ok(hashes)
+}
+
+fn put_all(table: &mut Table, hashes: &[Hash]) -> Result<(), AllocError> {
+    for x in hashes {
+        table.reserve(1)?;
+        table.insert(*x);
+    }
+    Ok(())
+}
+
+fn count_found(table: &Table, hashes: &[Hash]) -> usize {
+    hashes.iter().filter(|x| table.contains(x)).count()
+}
+
+fn take_all(table: &mut Table, hashes: &[Hash]) {
+    for x in hashes {
+        table.remove(x);
+    }
+}
+
+fn put_all_mapped(map: &mut HashMap<Hash, ()>, hashes: &[Hash]) -> Result<(), AllocError> {
+    for x in hashes {
+        map.insert(*x, ())?;
+    }
+    Ok(())
+}
+
+fn count_mapped(map: &HashMap<Hash, ()>, hashes: &[Hash]) -> usize {
+    hashes.iter().filter(|x| map.contains_key(*x)).count()
+}
+
+fn take_all_mapped(map: &mut HashMap<Hash, ()>, hashes: &[Hash]) {
+    for x in hashes {
+        map.remove(x);
+    }
+}
+
+// An answer that is not what it must be ends the program.
+fn check(holds: bool) -> io::Result<()> {
+    if holds {
+        Ok(())
+    } else {
+        Err(io::Error::from(ErrorKind::InvalidData))
+    }
+}
+
+fn measure_table(rt: &HostRuntime, hashes: &[Hash]) -> io::Result<Times> {
+    let mut table = Table::new(rt.alloc());
+    let start = Instant::now(rt)?;
+    put_all(&mut table, hashes)?;
+    let put = start.elapsed(rt)?.as_secs_f64();
+    let start = Instant::now(rt)?;
+    check(count_found(&table, hashes) == hashes.len())?;
+    let found = start.elapsed(rt)?.as_secs_f64();
+    let start = Instant::now(rt)?;
+    take_all(&mut table, hashes);
+    let taken = start.elapsed(rt)?.as_secs_f64();
+    check(table.is_empty())?;
+    Ok(Times { put, found, taken })
+}
+
+fn measure_map(rt: &HostRuntime, hashes: &[Hash]) -> io::Result<Times> {
+    let mut map = HashMap::new(rt.alloc());
+    let start = Instant::now(rt)?;
+    put_all_mapped(&mut map, hashes)?;
+    let put = start.elapsed(rt)?.as_secs_f64();
+    let start = Instant::now(rt)?;
+    check(count_mapped(&map, hashes) == hashes.len())?;
+    let found = start.elapsed(rt)?.as_secs_f64();
+    let start = Instant::now(rt)?;
+    take_all_mapped(&mut map, hashes);
+    let taken = start.elapsed(rt)?.as_secs_f64();
+    check(map.is_empty())?;
+    Ok(Times { put, found, taken })
+}
+
+fn tell(rt: &HostRuntime, name: &str, count: usize, times: &Times) -> io::Result<()> {
+    eprintln!(rt;
+        "{count} hashes in {name}: put in {} s, found in {} s, taken out in {} s",
+        times.put, times.found, times.taken
+    )?;
+    Ok(())
+}
+
+fn measure(rt: &HostRuntime, count: u64) -> io::Result<()> {
+    let hashes = hashes_of(rt.alloc(), count)?;
+    let table = measure_table(rt, hashes.as_slice())?;
+    tell(rt, "a table", hashes.len(), &table)?;
+    let map = measure_map(rt, hashes.as_slice())?;
+    tell(rt, "a hash map", hashes.len(), &map)
+}
+
+fn main(rt: HostRuntime) -> io::Result<()> {
+    measure(&rt, 125_000)?;
+    measure(&rt, 250_000)?;
+    measure(&rt, 500_000)?;
+    measure(&rt, 1_000_000)
+}
