@@ -23,7 +23,7 @@ IsCutAt bytes bad = IsFirstFault bytes 0 bad × (bad.kind ≡ kinds.Cut)
 -- what the state says of the bytes
 abbrev pub IsState : List ℕ → FeedState → Type 0
 IsState bytes states.Empty = bytes ≡ []
-IsState bytes (states.Cut bad) = IsCutAt bytes bad
+IsState bytes (states.Cut bad) = IsCutAt bytes bad × (bytes ≢ [])
 IsState bytes (states.Failed bad) = bad.kind ≢ kinds.Cut
 IsState bytes states.Done = Unit {0}
 IsState bytes states.NoMemory = Unit {0}
