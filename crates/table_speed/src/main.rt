@@ -1,11 +1,12 @@
 //! Puts hashes into a shard's table and into std's hash map, finds them there and takes them out. It prints to standard error how long
-//! each took, for 125,000 hashes and twice as many each time, up to a million.
+//! each took, for as many hashes as each word says (100,000 where there is none).
 #![tactic(auto)]
 
 use cbdc_types::Hash;
 use shard_table::Table;
 use std::alloc::{AllocError, Global};
 use std::collections::HashMap;
+use std::env;
 use std::io::{self, ErrorKind};
 use std::time::Instant;
 
@@ -128,9 +129,19 @@ fn measure(rt: &HostRuntime, count: u64) -> io::Result<()> {
     tell(rt, "a hash map", hashes.len(), &map)
 }
 
+// The number that a word spells.
+fn number(word: &str) -> io::Result<u64> {
+    match word.parse::<u64>() {
+        Ok(count) => Ok(count),
+        Err(_) => Err(io::Error::from(ErrorKind::InvalidInput)),
+    }
+}
+
 fn main(rt: HostRuntime) -> io::Result<()> {
-    measure(&rt, 125_000)?;
-    measure(&rt, 250_000)?;
-    measure(&rt, 500_000)?;
-    measure(&rt, 1_000_000)
+    let mut asked = false;
+    for word in env::args(&rt)?.skip(1) {
+        measure(&rt, number(word.as_str())?)?;
+        asked = true;
+    }
+    if asked { Ok(()) } else { measure(&rt, 100_000) }
 }
