@@ -85,7 +85,7 @@ pub all_more : (read : List (List FullTx)) (txs : List FullTx) → all_txs (read
 all_more [] txs = omega arith
 all_more (r ∷ read) txs = let e = all_more read txs in omega (arith, e)
 
-pub earlier : {X : Type 0} (place : ℕ) (told : Option (List ℕ)) (read : List ℕ → Result X BadFile) (before mid now : ℕ) (answer : Answer) → before ≤ mid
+earlier : {X : Type 0} (place : ℕ) (told : Option (List ℕ)) (read : List ℕ → Result X BadFile) (before mid now : ℕ) (answer : Answer) → before ≤ mid
     → IsNotRead place told read mid now answer → IsNotRead place told read before now answer
 earlier place told read before mid now answers.Ok le h = h
 earlier place told read before mid now answers.BadWords le h = h

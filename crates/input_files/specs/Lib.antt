@@ -1,3 +1,3 @@
 pub mod Contents
-pub mod Beside
+pub mod Inputs
 pub mod Limits

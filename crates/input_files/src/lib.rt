@@ -1,8 +1,8 @@
 //! Input files, by the words that name them.
 #![tactic(auto)]
 
-mod beside;
 mod fetched;
+mod inputs;
 
 ghost use Rattle.std.specs.Prelude.{◌≡◌, ◌-◌, ◌≤◌, length, All, IfOk, IfErr, Ok};
 ghost use Rattle.outside.specs.Images.{Tells};
@@ -11,10 +11,10 @@ ghost use Rattle.input_files.specs.Limits.{IsShort};
 ghost use Rattle.input_files.specs.Contents.{txs_of_file, mint_of_file, IsNotRead, AreRead, FirstNotRead, IsFaultOf, IsStreamFaultOf, IsVerdictFaultOf, all_txs};
 
 use crate::fetched::bytes_of;
-pub use beside::{Inputs, inputs_in};
 use cbdc_types::{Answer, FullTx, InputKind, List, Mint};
 use client_files::{FileFault, StreamFault, read_mint, stream_clients};
 pub use fetched::Fetched;
+pub use inputs::{Inputs, inputs_in};
 use outside::Inbox;
 use requests::FileWord;
 use std::alloc::Global;

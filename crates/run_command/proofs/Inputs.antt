@@ -4,7 +4,7 @@ use Rattle.cbdc_types.specs.declared.answer.Answer.{Answer}
 use Rattle.cbdc_types.specs.declared.answer.Answer.TheVariants as answers
 use Rattle.requests.specs.declared.FileWord.{FileWord}
 use Rattle.line_text.specs.Lines.{Text}
-use Rattle.input_files.specs.Beside.{AreNoInputs}
+use Rattle.input_files.specs.Inputs.{AreNoInputs}
 use Rattle.input_files.specs.Contents.{IsNoVerdicts}
 use Rattle.command_answers.specs.Causes.{IsFault, OnePlace, OneRose, FileRose}
 use Rattle.command_answers.proofs.Answers.{first_fault}

@@ -48,7 +48,7 @@ where
     ensures files { (name : Text) → I.file inbox.new name ≡ I.file inbox.old name }
     ensures back { (n : ℕ) → R.can_take rack.new n }
 {
-    let inputs = match inputs_in(rt, alloc, inbox, clients, verdicts) {
+    let inputs = match inputs_in(alloc, inbox, clients, verdicts) {
         Ok(inputs) => inputs,
         Err(fault) => return Err(fault),
     };

@@ -1,4 +1,4 @@
--- What is read of client files and of the verdicts beside them.
+-- What is read of client files and of the verdicts behind them.
 use Rattle.std.specs.Prelude.{◌≡◌, ◌⊎◌, ℕ, List, Option, Result, Ok, Err}
 use Rattle.cbdc_types.specs.declared.answer.Answer.{Answer}
 use Rattle.cbdc_types.specs.declared.tx.FullTx.{FullTx}

@@ -1,8 +1,8 @@
-// What a run reads: client files, and the verdicts beside them.
+// What a run reads: client files, and the verdicts behind them.
 ghost use Rattle.std.specs.Prelude.{◌≡◌, ◌≤◌, All, IfOk, IfErr};
 ghost use Rattle.clap.specs.Words.{Text};
-ghost use Rattle.input_files.specs.Beside.{AreHadVerdicts, AreNoHadVerdicts, AreNoInputs};
-ghost use Rattle.input_files.specs.Contents.{AreRead, AreVerdicts, FirstNotRead, all_txs};
+ghost use Rattle.input_files.specs.Inputs.{AreHadVerdicts, AreNoHadVerdicts, AreNoInputs};
+ghost use Rattle.input_files.specs.Contents.{AreRead, AreVerdicts, all_txs};
 ghost use Rattle.input_files.specs.Limits.{IsShort};
 
 use crate::fetched::{Fetched, bytes_of};
@@ -11,7 +11,6 @@ use cbdc_types::{Answer, FullTx, List};
 use outside::Inbox;
 use requests::FileWord;
 use std::alloc::Global;
-use std::thread::{Threads, join_mut};
 use verifier_port::VerdictFile;
 
 /// The transactions of client files, in their order, and the verdicts on their witnesses.
@@ -40,38 +39,8 @@ fn verdicts_of(
     }
 }
 
-// The verdicts in what was had of a file, by another thread, and the transactions of client files beside them.
-fn read_beside<W: Threads, I: Inbox>(
-    rt: &W,
-    alloc: Global,
-    inbox: &mut I,
-    clients: &[FileWord],
-    verdicts: &FileWord,
-    had: &Result<Fetched, Answer>,
-) -> (
-    Result<VerdictFile, Answer>,
-    Result<Vec<List<FullTx>>, Answer>,
-)
-    ensures verdicts { IfOk result.0 (AreHadVerdicts had.now) }
-    ensures unread { IfErr result.0 (AreNoHadVerdicts verdicts.now.place had.now) }
-    ensures read { IfOk result.1 (λ v. AreRead (I.file inbox.old) 0 clients.now v.items) }
-    ensures few { IfOk result.1 (λ v. all_txs v.items ≤ 1000000) }
-    ensures short { IfOk result.1 (λ v. All (λ txs. All IsShort txs) v.items) }
-    ensures fault { IfErr result.1 (FirstNotRead (I.file inbox.old) (I.count inbox.old) (I.count inbox.new) clients.now) }
-    ensures same { (other : Text) → I.file inbox.new other ≡ I.file inbox.old other }
-    ensures later { (other : Text) → I.count inbox.old other ≤ I.count inbox.new other }
-{
-    join_mut(
-        rt,
-        &mut || verdicts_of(alloc, verdicts, had),
-        &mut || all_clients_in(alloc, inbox, clients),
-    )
-}
-
-/// Reads client files and a verdict file. The verdicts are read by another thread beside the transactions, but the first fault
-/// that is told is that of the client files.
-pub fn inputs_in<W: Threads, I: Inbox>(
-    rt: &W,
+/// Reads client files, and the verdict file behind them.
+pub fn inputs_in<I: Inbox>(
     alloc: Global,
     inbox: &mut I,
     clients: &[FileWord],
@@ -85,13 +54,12 @@ pub fn inputs_in<W: Threads, I: Inbox>(
     ensures same { (other : Text) → I.file inbox.new other ≡ I.file inbox.old other }
     ensures later { (other : Text) → I.count inbox.old other ≤ I.count inbox.new other }
 {
-    let had = bytes_of(alloc, inbox, verdicts);
-    let (verdicts, files) = read_beside(rt, alloc, inbox, clients, verdicts, &had);
-    let files = match files {
+    let files = match all_clients_in(alloc, inbox, clients) {
         Ok(files) => files,
         Err(fault) => return Err(fault),
     };
-    match verdicts {
+    let had = bytes_of(alloc, inbox, verdicts);
+    match verdicts_of(alloc, verdicts, &had) {
         Ok(verdicts) => Ok(Inputs { files, verdicts }),
         Err(fault) => Err(fault),
     }
