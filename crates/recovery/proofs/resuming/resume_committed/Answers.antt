@@ -1,7 +1,7 @@
 use Rattle.std.proofs.Common.{◌∙◌, refl, sym, ap, subst, length}
 use Rattle.std.proofs.lemmas.List.{length-map}
 use Rattle.recovery.specs.Open.{HasOutcomes, HasItsOutcomes}
-use Rattle.lane_driver.proofs.Ready.{lock_shards, lock_sizes, later_room}
+use Rattle.lane_driver.proofs.Rooming.{lock_shards, lock_sizes, later_room}
 use Rattle.cbdc_model.specs.Grammar.{HasSize, IsBatchOf, IsCompact}
 use Rattle.std.specs.List.{All}
 use Rattle.lane_driver.proofs.Fitting.{parts_fit, locks_ready}

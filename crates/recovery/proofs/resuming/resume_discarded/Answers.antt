@@ -1,6 +1,6 @@
 use Rattle.std.proofs.Common.{◌∙◌, refl, sym, subst}
 use Rattle.cbdc_model.specs.Grammar.{IsBatchOf}
-use Rattle.lane_driver.proofs.Ready.{lock_shards}
+use Rattle.lane_driver.proofs.Rooming.{lock_shards}
 use Rattle.recovery.proofs.Taking.{discarded_taken, discarded_granted, discarded_left, discarded_told}
 use Rattle.cbdc_types.specs.declared.batch.Phase.TheVariants.{Discarded}
 use Rattle.recovery.specs.Open.{HasItsOutcomes}
