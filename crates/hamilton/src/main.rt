@@ -6,9 +6,8 @@ use commands::{Done, process};
 use host_devices::{FileInbox, FileRack, StdoutSink};
 use line_text::{status_code, write_fault};
 use outside::OpenGate;
-use std::env;
-use std::io;
 use std::process::ExitCode;
+use std::{env, io};
 
 // The status of an answer that comes before the top call can be made.
 fn early(out: &mut StdoutSink<&HostRuntime>, answer: Answer) -> ExitCode {

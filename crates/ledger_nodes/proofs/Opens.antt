@@ -1,11 +1,10 @@
 -- What is told of the lanes' open batches by their coordinators' journals.
-use Rattle.std.proofs.Common.{◌≡◌, ◌≢◌, ℕ, ◌<◌, List, get_or, Option, Some, None, Result, Ok, Err, IfOk, IfSome, refl, sym, ap, ◌∙◌, subst}
+use Rattle.std.proofs.Common.{◌≡◌, ℕ, ◌<◌, List, get_or, Option, Some, None, Result, Ok, Err, IfOk, IfSome, refl, sym, ap, ◌∙◌, subst}
 use Rattle.std.specs.Prelude.{option_map}
 use Rattle.cbdc_types.specs.declared.batch.OpenLane.{OpenLane}
 use Rattle.cbdc_model.specs.Records.{Shape, Header, Batch, Compact, Outcome, Record, txs_in, outcomes_in, txs_of, outcomes_of}
-use Rattle.cbdc_model.specs.Slots.{Slot, slot, slot_stamp, Idle}
+use Rattle.cbdc_model.specs.Slots.{Slot, slot, slot_stamp}
 use Rattle.cbdc_model.specs.Ranges.{home_of}
-use Rattle.cbdc_model.specs.Sights.{Sight}
 use Rattle.cbdc_model.specs.Grammar.{HasSize}
 use Rattle.coord_log.specs.Logs.{LogOf, sight}
 use Rattle.coord_log.specs.OpenLanes.{open_lane, open_phase}
@@ -15,7 +14,7 @@ use Rattle.lane_laws.specs.Batches.{own}
 use Rattle.lane_laws.proofs.Own.{slot_own, stamp_own}
 use Rattle.lane_laws.proofs.Runs.{same_record}
 use Rattle.run_laws.proofs.Seen.{seen_log}
-use Rattle.ledger_runs.specs.Turning.{IsLaneOf, phase_at}
+use Rattle.ledger_runs.specs.Turning.{IsLaneOf}
 use Rattle.ledger_runs.specs.Faults.{GrowBy}
 use Rattle.ledger_runs.specs.Planning.{IsFound, KeepsOpens}
 use Rattle.ledger_runs.proofs.Others.{own_same}
@@ -29,6 +28,7 @@ told_by : ℕ → Slot → ℕ → List Compact → List Outcome → Option Open
 told_by lane s stamp txs outcomes = option_map (λ p. record { batch = record { lane = lane; number = s.number }; phase = p; stamp = stamp; txs = txs; outcomes = outcomes }) (open_phase s.phase)
 
 same_open : (lane : ℕ) (L M : List Record) → own lane M ≡ own lane L → open_lane M lane ≡ open_lane L lane
+unfolding told_by
 same_open lane L M same =
     ap (λ s. told_by lane s (slot_stamp M lane) (txs_of M (record { lane = lane; number = s.number })) (outcomes_of M (record { lane = lane; number = s.number }))) slots
     ∙ ap (λ t. told_by lane (slot L lane) t (txs_of M b) (outcomes_of M b)) stamps

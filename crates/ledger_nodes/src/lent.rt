@@ -114,16 +114,6 @@ impl<'r, W: Wait, D: Disk> Turns for LentLedger<'r, W, D> {
         plan: Plan<'_>,
         gate: &G,
     ) -> Result<ResumedBatch, LaneFault> {
-        match drive_resume(
-            &self.header,
-            lane,
-            unfinished,
-            plan,
-            &mut self.ports,
-            gate,
-        ) {
-            Ok(batch) => Ok(batch),
-            Err(fault) => Err(fault),
-        }
+        drive_resume(&self.header, lane, unfinished, plan, &mut self.ports, gate)
     }
 }
