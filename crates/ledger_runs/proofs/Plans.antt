@@ -1,7 +1,7 @@
 -- What was found of lanes, and their plans, taken from the end as the lanes are taken up.
 use Rattle.std.proofs.Common.{◌≡◌, ◌≢◌, ◌⊎◌, inl, inr, ℕ, suc, ◌+◌, ◌*◌, ◌<◌, ◌≤◌, List, [], ◌∷◌, ◌++◌, length, get_or, take, drop, reverse, Option, Some, None, refl, arith, sym, ap, ◌∙◌, subst, add-one, drop-cons}
 use Rattle.std.specs.List.{AllZip}
-use Rattle.std.proofs.lemmas.List.{reverse-append, reverse-reverse, take_more, take_all, get_or_push, get_or_append_left, get_or_default}
+use Rattle.std.proofs.lemmas.List.{reverse-append, take_more, get_or_default}
 use Rattle.std.proofs.lemmas.Slice.Zip.{all_zipped_more}
 use Rattle.cbdc_types.specs.declared.batch.OpenLane.{OpenLane}
 use Rattle.cbdc_model.specs.Records.{Shape, Record}
@@ -9,7 +9,6 @@ use Rattle.cbdc_model.specs.Slots.{Idle}
 use Rattle.recovery.specs.Planned.{PlanOf}
 use Rattle.ledger_runs.specs.Turning.{phase_at, IsLaneOf, KeepsLanes}
 use Rattle.ledger_runs.specs.Planning.{IsFound, IsPlanOf, KeepsOpens}
-use Rattle.ledger_runs.proofs.Keeping.{lt_or_eq}
 
 -- ---- a value for each of a list, taken from the end
 
@@ -50,22 +49,7 @@ module _ {A B : Type 0} (Fits : A → B → Type 0) (os : List A) (i : ℕ) (d :
   pub some_at : (bs : List B) → bs ≡ [] → AllZip Fits (drop i os) (reverse bs) → ⊥
   some_at = one_left Fits os i (get_or os i d) lt there
 
-pub all_turned : {A B : Type 0} (Fits : A → B → Type 0) (os : List A) (n : ℕ) (bs turned : List B) → n ≡ length os → turned ≡ reverse bs → AllZip Fits (take n os) bs → AllZip Fits os (reverse turned)
-all_turned Fits os n bs turned all e each =
-    subst (λ rs. AllZip Fits os rs) (sym (ap reverse e ∙ reverse-reverse bs))
-    (subst (λ xs. AllZip Fits xs bs) (take_all n os (omega (arith, all))) each)
-
 -- ---- what was found
-
--- one more lane
-pub found_more : (K : Shape) (I : ℕ → List Record) (opens : ℕ → Option OpenLane) (lane : ℕ) (found after : List (Option OpenLane)) (one : Option OpenLane) → length found ≡ lane → after ≡ found ++ one ∷ []
-    → ((k : ℕ) → k < lane → IsFound K I opens k (get_or found k None)) → IsFound K I opens lane one → (k : ℕ) → k < lane + 1 → IsFound K I opens k (get_or after k None)
-found_more K I opens lane found after one len is each here k low = go (lt_or_eq k lane low)
-  where
-    go : (k < lane) ⊎ (k ≡ lane) → IsFound K I opens k (get_or after k None)
-    go (inl lt) = subst (λ x. IsFound K I opens k x) (sym (ap (λ xs. get_or xs k None) is ∙ get_or_append_left found (one ∷ []) None k (omega (arith, lt, len)))) (each k lt)
-    go (inr same) = subst (λ n. IsFound K I opens n (get_or after n None)) (sym same)
-        (subst (λ x. IsFound K I opens lane x) (sym (ap (λ xs. get_or xs lane None) is ∙ get_or_push found one None lane len)) here)
 
 -- it is still so of the later lanes behind the turn of another
 pub found_on : (K H : Shape) (turn : ℕ) (I J : ℕ → List Record) (opens now : ℕ → Option OpenLane) → H ≡ K → KeepsLanes H turn I J → KeepsOpens H turn opens now → (k : ℕ) → turn + 1 ≤ k → IsLaneOf K k
