@@ -6,8 +6,8 @@ use commands::{Done, process};
 use host_devices::{FileInbox, FileRack, StdoutSink};
 use line_text::{status_code, write_fault};
 use outside::OpenGate;
-use std::env;
 use std::process::ExitCode;
+use std::{env, io};
 
 // The status of an answer that comes before the top call can be made.
 fn early(out: &mut StdoutSink<&HostRuntime>, answer: Answer) -> ExitCode {
@@ -18,8 +18,12 @@ fn early(out: &mut StdoutSink<&HostRuntime>, answer: Answer) -> ExitCode {
 fn main(rt: HostRuntime) -> ExitCode {
     let alloc = rt.alloc();
     let mut out = StdoutSink::new(&rt);
-    let Ok(args) = env::args(&rt) else {
-        return early(&mut out, Answer::BadWords);
+    let args = match env::args(&rt) {
+        Ok(args) => args,
+        Err(fault) if fault.kind() == io::ErrorKind::OutOfMemory => {
+            return early(&mut out, Answer::Memory);
+        }
+        Err(_) => return early(&mut out, Answer::BadWords),
     };
     let Ok(words) = args.collect::<Vec<String>>(alloc) else {
         return early(&mut out, Answer::Memory);

@@ -1,5 +1,5 @@
 -- A turn at the nodes of a ledger, and what it comes to for their journals.
-use Rattle.std.proofs.Common.{◌≡◌, ℕ, zero, suc, ◌-◌, ◌<◌, nat_lt, if◌then◌else◌, true, false, List, [], ◌∷◌, length, get_or, Option, Some, None, Result, Ok, Err, IfErr, OnOk, refl, sym, ap, ◌∙◌, subst, arith}
+use Rattle.std.proofs.Common.{◌≡◌, ℕ, zero, suc, ◌-◌, ◌<◌, nat_lt, if◌then◌else◌, true, false, List, [], ◌∷◌, length, get_or, Option, Some, None, Result, Ok, Err, IfOk, IfErr, OnOk, refl, sym, ap, ◌∙◌, subst, arith}
 use Rattle.cbdc_types.specs.declared.batch.OpenLane.{OpenLane}
 use Rattle.cbdc_model.specs.Records.{Shape, Header, Compact, Record}
 use Rattle.cbdc_model.specs.Slots.{slot, Idle}
@@ -27,6 +27,8 @@ use Rattle.turn_laws.proofs.Checking.{IsCheckedTurn, taken_checked, taken_unprep
 use Rattle.turn_laws.proofs.Turned.{resume_keeps, left_keeps, resume_took}
 use Rattle.turn_laws.proofs.Flying.{resume_flies, left_flies}
 use Rattle.turn_laws.proofs.Launching.{resume_same, resume_launches, left_launches}
+use Rattle.lane_driver.specs.declared.fault.LaneFaultKind.TheVariants.{Memory as NoMemory}
+use Rattle.ledger_runs.specs.Telling.{IsOpened}
 use Rattle.ledger_runs.specs.Flying.{FliesOn, Launches}
 use Rattle.ledger_runs.specs.Pieces.{HasPrepared}
 use Rattle.ledger_runs.specs.Faults.{IsOpenCause, HaveFailed, MayHold, Nothing}
@@ -89,8 +91,12 @@ module _ {D : Type 0} (count limit : D → ℕ) (content : D → Option (List �
       (unfinished K lane (L (home_of K lane)) S o told (checked_resume_law K c.0 lane L S some home shape c.1))
 
   -- a batch that was resumed is the one that is open there
-  pub is_opened : (o : OpenLane) → open_lane (L (home_of K lane)).seen lane ≡ Some o → (r : ResumedBatch) → IsResumed o r → r.batch ≡ open_batch (I (home_of K lane)) lane
+  is_opened : (o : OpenLane) → open_lane (L (home_of K lane)).seen lane ≡ Some o → (r : ResumedBatch) → IsResumed o r → r.batch ≡ open_batch (I (home_of K lane)) lane
   is_opened o told r resumed = resumed.batch ∙ batch_of (L (home_of K lane)).seen lane (open_phase (slot (L (home_of K lane)).seen lane).phase) o told ∙ ap (λ J. open_batch J lane) (sym at_log)
+
+  pub all_opened : (o : OpenLane) → open_lane (L (home_of K lane)).seen lane ≡ Some o → (came : Result ResumedBatch LaneFault) → IfOk came (IsResumed o) → IfOk came (λ r. IsOpened K lane I (Some r))
+  all_opened o told (Ok r) resumed = is_opened o told r resumed
+  all_opened o told (Err e) resumed = tt
 
   module _ (at : ℕ) (x : LogOf D) (at_is : at ≡ home_of K lane) (is : x ≡ get_or logs at x) where
     here : L (home_of K lane) ≡ sight x
@@ -169,20 +175,40 @@ module _ {D : Type 0} (count limit : D → ℕ) (content : D → Option (List �
       resumed_unprepared (Err e) taken stop c =
           left_unprepared K lane L S L' S' ledger.limits home shape shard_shapes step.elsewhere (are_nodes count limit h logs shards ledger) (are_nodes count limit h logs' shards' step.ledger) step.log_nodes step.shard_nodes c.0 c.1 o told e stop
 
-      pub resumed_cause : (e : LaneFault) → IsResumeStopped K true o (L (home_of K lane)) S (L' (home_of K lane)) S' e → AreChecked count limit K logs shards
+      resumed_cause : (e : LaneFault) → IsResumeStopped K true o (L (home_of K lane)) S (L' (home_of K lane)) S' e → AreChecked count limit K logs shards
           → IsOpenCause K lane I J (HaveFailed (opened_of count limit K logs' shards') (faults_of count limit K logs' shards')) (MayHold (capacity_of count limit K logs' shards')) e
       resumed_cause e stop c =
           left_cause K lane L S L' S' ledger.limits home shape shard_shapes step.elsewhere (are_nodes count limit h logs shards ledger) (are_nodes count limit h logs' shards' step.ledger) step.log_nodes step.shard_nodes c.0 c.1 o told e stop
 
-      pub resumed_quiet : (IsUnfinished o.phase K o (L (home_of K lane)) S → IsTakenUp K true o.batch (L (home_of K lane)) S (L' (home_of K lane)) S') → AreChecked count limit K logs shards → AreQuiet logs shards → AreQuiet logs' shards'
-      resumed_quiet taken c = quiet_on (resume_same K lane L S L' S' ledger.limits home shape shard_shapes step.elsewhere (are_nodes count limit h logs shards ledger) (are_nodes count limit h logs' shards' step.ledger) step.log_nodes step.shard_nodes step.next c.0 c.1 o told taken)
+      pub resumed_fault : (came : Result ResumedBatch LaneFault) → IfErr came (IsResumeStopped K true o (L (home_of K lane)) S (L' (home_of K lane)) S') → AreChecked count limit K logs shards
+          → IfErr came (IsOpenCause K lane I J (HaveFailed (opened_of count limit K logs' shards') (faults_of count limit K logs' shards')) (MayHold (capacity_of count limit K logs' shards')))
+      resumed_fault (Ok r) stop c = tt
+      resumed_fault (Err e) stop c = resumed_cause e stop c
+
+      quiet_behind : (IsUnfinished o.phase K o (L (home_of K lane)) S → IsTakenUp K true o.batch (L (home_of K lane)) S (L' (home_of K lane)) S') → AreChecked count limit K logs shards → AreQuiet logs shards → AreQuiet logs' shards'
+      quiet_behind taken c = quiet_on (resume_same K lane L S L' S' ledger.limits home shape shard_shapes step.elsewhere (are_nodes count limit h logs shards ledger) (are_nodes count limit h logs' shards' step.ledger) step.log_nodes step.shard_nodes step.next c.0 c.1 o told taken)
+
+      pub resumed_quiet : (came : Result ResumedBatch LaneFault) → OnOk came (IsUnfinished o.phase K o (L (home_of K lane)) S → IsTakenUp K true o.batch (L (home_of K lane)) S (L' (home_of K lane)) S') → AreChecked count limit K logs shards
+          → OnOk came (AreQuiet logs shards → AreQuiet logs' shards')
+      resumed_quiet (Ok r) taken c = quiet_behind taken c
+      resumed_quiet (Err e) taken c = tt
 
       pub resumed_launches : (came : Result ResumedBatch LaneFault) → OnOk came (IsUnfinished o.phase K o (L (home_of K lane)) S → IsTakenUp K true o.batch (L (home_of K lane)) S (L' (home_of K lane)) S')
           → IfErr came (IsResumeStopped K true o (L (home_of K lane)) S (L' (home_of K lane)) S') → AreChecked count limit K logs shards → Launches K (λ _. Nothing) I J (flights_of count limit K logs shards) (flights_of count limit K logs' shards')
       resumed_launches (Ok r) taken stop c = resume_launches K lane L S L' S' ledger.limits home shape shard_shapes step.elsewhere (are_nodes count limit h logs shards ledger) (are_nodes count limit h logs' shards' step.ledger) step.log_nodes step.shard_nodes step.next c.0 c.1 o told taken
       resumed_launches (Err e) taken stop c = left_launches K lane L S L' S' ledger.limits home shape shard_shapes step.elsewhere (are_nodes count limit h logs shards ledger) (are_nodes count limit h logs' shards' step.ledger) step.log_nodes step.shard_nodes step.next c.0 c.1 o told e stop
 
-      pub resumed_took : (r : ResumedBatch) → IsResumed o r → (IsUnfinished o.phase K o (L (home_of K lane)) S → IsTakenUp K true o.batch (L (home_of K lane)) S (L' (home_of K lane)) S')
+      took_behind : (r : ResumedBatch) → IsResumed o r → (IsUnfinished o.phase K o (L (home_of K lane)) S → IsTakenUp K true o.batch (L (home_of K lane)) S (L' (home_of K lane)) S')
           → (IsUnfinished o.phase K o (L (home_of K lane)) S → HasItsOutcomes o.phase o (L' (home_of K lane)).seen r) → OfKept K I (λ _ _. TookUp K lane I J (Some r))
-      resumed_took r resumed taken has =
+      took_behind r resumed taken has =
           resume_took K lane L S L' S' some home shape step.elsewhere (are_nodes count limit h logs shards ledger) (are_nodes count limit h logs' shards' step.ledger) step.log_nodes step.shard_nodes o told r resumed taken has
+
+      pub resumed_took : (came : Result ResumedBatch LaneFault) → IfOk came (IsResumed o) → OnOk came (IsUnfinished o.phase K o (L (home_of K lane)) S → IsTakenUp K true o.batch (L (home_of K lane)) S (L' (home_of K lane)) S')
+          → IfOk came (λ r. IsUnfinished o.phase K o (L (home_of K lane)) S → HasItsOutcomes o.phase o (L' (home_of K lane)).seen r) → IfOk came (λ r. OfKept K I (λ _ _. TookUp K lane I J (Some r)))
+      resumed_took (Ok r) resumed taken has = took_behind r resumed taken has
+      resumed_took (Err e) resumed taken has = tt
+
+-- nothing is said of memory that was wanting
+pub any_want : (came : Result ResumedBatch LaneFault) → IfErr came (λ e. e.fault ≡ NoMemory → Unit {0})
+any_want (Ok r) = tt
+any_want (Err e) = λ want. tt

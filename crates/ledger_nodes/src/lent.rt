@@ -1,18 +1,21 @@
 // The nodes of a ledger, lent to the ports of its lanes.
 ghost use Rattle.std.specs.Prelude.{◌≡◌};
+ghost use Rattle.cbdc_model.specs.Ranges.{home_of};
+ghost use Rattle.coord_log.specs.Logs.{sight};
+ghost use Rattle.coord_log.specs.OpenLanes.{open_lane};
+ghost use Rattle.node_ports.specs.Nodes.{sight_at};
 ghost use Rattle.ledger_nodes.specs.Ledgers.{journals_of, flights_of, faults_of, opened_of, capacity_of, AreChecked, AreStored, AreQuiet};
 
 use crate::driving::{drive_resume, home};
 use crate::ledger::Ledger;
-use cbdc_types::{Header, LaneId, Shape};
-use lane_driver::{LaneFault, Ports, no_memory};
+use cbdc_types::{Header, LaneId, OpenLane, Shape};
+use lane_driver::{LaneFault, Ports};
 use ledger_runs::Turns;
 use node_ports::{NodeLogs, NodeShards};
 use outside::{Disk, Gate};
-use recovery::{ResumedBatch, plan};
-use std::alloc::Global;
+use recovery::{Plan, ResumedBatch};
+use std::alloc::AllocError;
 use std::marker::Model;
-use std::slice::from_ref;
 use std::sync::Wait;
 
 /// All nodes of a ledger behind the ports of its lanes. Contracts see its header and its nodes, which are a ledger's.
@@ -89,6 +92,8 @@ impl<'r, W: Wait, D: Disk> Turns for LentLedger<'r, W, D> {
 
     ghost quiet = { λ l. AreQuiet l.logs l.shards };
 
+    ghost opens = { λ l lane. open_lane (sight_at sight l.logs (home_of l.header.shape lane)).seen lane };
+
     ghost wanting = { λ l lane. Unit {0} };
 
     ghost holds = { λ l. AreStored D.content D.images l.logs l.shards };
@@ -97,32 +102,18 @@ impl<'r, W: Wait, D: Disk> Turns for LentLedger<'r, W, D> {
         &self.header.shape
     }
 
+    fn open_lane(&self, lane: LaneId) -> Result<Option<OpenLane>, AllocError> {
+        let at = home(&self.header.shape, lane) as usize;
+        self.ports.log.logs[at].open_lane(lane)
+    }
+
     fn take_up<G: Gate>(
         &mut self,
-        alloc: Global,
         lane: LaneId,
+        unfinished: &OpenLane,
+        plan: Plan<'_>,
         gate: &G,
-    ) -> Result<Option<ResumedBatch>, LaneFault> {
-        let at = home(&self.header.shape, lane) as usize;
-        let Ok(found) = self.ports.log.logs[at].open_lane(lane) else {
-            return Err(no_memory());
-        };
-        let Some(unfinished) = found else {
-            return Ok(None);
-        };
-        let Ok(plan) = plan(alloc, &self.header.shape, from_ref(&unfinished)) else {
-            return Err(no_memory());
-        };
-        match drive_resume(
-            &self.header,
-            lane,
-            &unfinished,
-            plan,
-            &mut self.ports,
-            gate,
-        ) {
-            Ok(batch) => Ok(Some(batch)),
-            Err(fault) => Err(fault),
-        }
+    ) -> Result<ResumedBatch, LaneFault> {
+        drive_resume(&self.header, lane, unfinished, plan, &mut self.ports, gate)
     }
 }

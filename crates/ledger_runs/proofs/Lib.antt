@@ -11,3 +11,4 @@ pub mod Least
 pub mod Flying
 pub mod Onward
 pub mod Launching
+mod Plans

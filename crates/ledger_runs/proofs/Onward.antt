@@ -41,15 +41,13 @@ untouched_on lane turn apart E J L grown was n = own_same lane turn apart J L gr
 
 -- a lane waits while another goes on
 waits_stay : (K : Shape) (lane turn : ℕ) → turn ≢ lane → (E J L : ℕ → List Record) → GrowBy turn J L → Waits K lane E J → Waits K lane E L
-waits_stay K lane turn apart E J L grown (inl none) = inl (untouched_on lane turn apart E J L grown none)
-waits_stay K lane turn apart E J L grown (inr (phase, none)) =
-    inr (ap (λ s. s.phase) (slot_same lane turn apart J L grown (home_of K lane)) ∙ phase, same_prepared lane turn apart J L grown (home_of K lane) ∙ none)
+waits_stay K lane turn apart E J L grown (phase, none) =
+    (ap (λ s. s.phase) (slot_same lane turn apart J L grown (home_of K lane)) ∙ phase, same_prepared lane turn apart J L grown (home_of K lane) ∙ none)
 
 -- or from an earlier entry, since which nothing of it was written
 waits_since : (K : Shape) (lane : ℕ) (E J L : ℕ → List Record) → IsUntouched lane E J → Waits K lane J L → Waits K lane E L
-waits_since K lane E J L none (inl still) = inl (λ n. still n ∙ none n)
-waits_since K lane E J L none (inr (phase, still)) =
-    inr (phase, still ∙ (prepared_own lane (J (home_of K lane)) ∙ ap batches.prepared (none (home_of K lane)) ∙ sym (prepared_own lane (E (home_of K lane)))))
+waits_since K lane E J L none (phase, still) =
+    (phase, still ∙ (prepared_own lane (J (home_of K lane)) ∙ ap batches.prepared (none (home_of K lane)) ∙ sym (prepared_own lane (E (home_of K lane)))))
 
 -- a lane rests while another goes on
 rests_stay : (K : Shape) (lane turn : ℕ) → turn ≢ lane → (J L : ℕ → List Record) (failed fails : ℕ → Type 0) → GrowBy turn J L → ((n : ℕ) → failed n → fails n) → Rests K lane J failed → Rests K lane L fails
@@ -142,9 +140,9 @@ first_cause K E X failed holds e (lane, inside, inr cause, lesser) = cause_any K
 
 -- whatever came, each lane rests, or it waits where it was
 pub rests_told : (K : Shape) (E X : ℕ → List Record) (failed wanting : ℕ → Type 0) (e : LaneFault) → IsUnbegun E X e ⊎ AllRestOrWait K E X failed wanting → AllRestSince K E X failed
-rests_told K E X failed wanting e (inl unbegun) lane inside = inr (inl (λ n. ap (own lane) (unbegun.1 n)))
-rests_told K E X failed wanting e (inr all) lane inside = go (all lane inside)
+rests_told K E X failed wanting e (inl unbegun) = inl unbegun.1
+rests_told K E X failed wanting e (inr all) = inr (λ lane inside. go lane (all lane inside))
   where
-    go : RestsOrWaits K lane E X failed (wanting lane) → RestsSince K lane E X failed
-    go (inl rests) = inl rests
-    go (inr (want, waits)) = inr waits
+    go : (lane : ℕ) → RestsOrWaits K lane E X failed (wanting lane) → RestsSince K lane E X failed
+    go lane (inl rests) = inl rests
+    go lane (inr (want, waits)) = inr waits

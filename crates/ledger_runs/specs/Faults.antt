@@ -136,9 +136,9 @@ AllRest K X failed = (lane : ℕ) → IsLaneOf K lane → Rests K lane X failed
 abbrev pub IsUntouched : ℕ → (ℕ → List Record) → (ℕ → List Record) → Type 0
 IsUntouched lane E X = (n : ℕ) → own lane (X n) ≡ own lane (E n)
 
--- the lane waits where it was: nothing of it was written; or its batch was prepared, and is so still
+-- the lane waits where it was: its batch was prepared, and is so still
 abbrev pub Waits : Shape → ℕ → (ℕ → List Record) → (ℕ → List Record) → Type 0
-Waits K lane E X = IsUntouched lane E X ⊎ ((phase_at K X lane ≡ InPrepare) × HasPrepared K lane [] E X)
+Waits K lane E X = (phase_at K X lane ≡ InPrepare) × HasPrepared K lane [] E X
 
 -- the cause of the fault of a lane whose open batch is brought to its end; for want of memory it may wait, too
 abbrev pub IsOpenCause : Shape → ℕ → (ℕ → List Record) → (ℕ → List Record) → (ℕ → Type 0) → (ℕ → ℕ → Type 0) → LaneFault → Type 0
@@ -155,8 +155,9 @@ AllRestOrWait K E X failed wanting = (lane : ℕ) → IsLaneOf K lane → RestsO
 abbrev pub RestsSince : Shape → ℕ → (ℕ → List Record) → (ℕ → List Record) → (ℕ → Type 0) → Type 0
 RestsSince K lane E X failed = Rests K lane X failed ⊎ Waits K lane E X
 
+-- so does each lane, or nothing was written
 abbrev pub AllRestSince : Shape → (ℕ → List Record) → (ℕ → List Record) → (ℕ → Type 0) → Type 0
-AllRestSince K E X failed = (lane : ℕ) → IsLaneOf K lane → RestsSince K lane E X failed
+AllRestSince K E X failed = ((n : ℕ) → X n ≡ E n) ⊎ ((lane : ℕ) → IsLaneOf K lane → RestsSince K lane E X failed)
 
 -- each lane that has stopped has its cause
 abbrev pub HaveCauses : Shape → (ℕ → List Record) → (ℕ → List Record) → (ℕ → Type 0) → (ℕ → ℕ → Type 0) → List Lane → Type 0

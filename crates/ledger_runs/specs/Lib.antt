@@ -6,3 +6,4 @@ pub mod Faults
 pub mod Flying
 pub mod Least
 pub mod Keeping
+pub mod Planning

@@ -3,6 +3,7 @@
 #![tactic(auto)]
 
 mod lanes;
+mod openings;
 mod resuming;
 mod turns;
 

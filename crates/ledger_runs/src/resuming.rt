@@ -1,5 +1,5 @@
 // Batches that an earlier run left open.
-ghost use Rattle.std.specs.Prelude.{◌≡◌, ◌⊎◌, ◌≤◌, ◌<◌, ◌+◌, ◌*◌, ℕ, [], ◌++◌, IfOk, IfErr, OnOk};
+ghost use Rattle.std.specs.Prelude.{◌≡◌, ◌⊎◌, ◌≤◌, ◌<◌, ◌+◌, ◌*◌, ℕ, [], IfOk, IfErr, OnOk};
 ghost use Rattle.std.specs.Vec.{vec_len, vec_capacity};
 ghost use Rattle.cbdc_model.specs.Lanes.{IsEnd};
 ghost use Rattle.lane_driver.specs.declared.fault.LaneFaultKind.TheVariants.{Memory};
@@ -7,7 +7,8 @@ ghost use Rattle.cbdc_model.specs.World.{AreIdle};
 ghost use Rattle.cbdc_model.specs.Waves.{IsResumed};
 ghost use Rattle.cbdc_model.specs.Slots.{Idle};
 ghost use Rattle.ledger_runs.specs.Keeping.{KeepsLedger};
-ghost use Rattle.ledger_runs.specs.Turning.{phase_at, IsLaneOf, KeepsLanes, OfKept, StaysKept, listed, TookUpOne};
+ghost use Rattle.ledger_runs.specs.Turning.{phase_at, IsLaneOf, KeepsLanes, OfKept, StaysKept, TookUpOne};
+ghost use Rattle.ledger_runs.specs.Planning.{IsFound, IsPlanOf, KeepsOpens};
 ghost use Rattle.ledger_runs.specs.Flying.{FliesOn, Launches};
 ghost use Rattle.ledger_runs.specs.Least.{IsUnbegun, IsLeastOpen};
 ghost use Rattle.ledger_runs.specs.Telling.{TakesUp, TellResumed, SamePrepared};
@@ -15,40 +16,33 @@ ghost use Rattle.ledger_runs.specs.Pieces.{HasPrepared};
 ghost use Rattle.ledger_runs.specs.Faults.{GrowBy, TakesInOrder, IsOpenCause, IsRunCause, AllRestOrWait, HaveFailed, MayHold, Nothing};
 
 use crate::Turns;
-use cbdc_types::LaneId;
+use crate::openings::{open_lanes, plan_lanes};
+use cbdc_types::{LaneId, OpenLane};
 use lane_driver::{LaneFault, no_memory};
 use outside::Gate;
-use recovery::ResumedBatch;
+use recovery::{Plan, ResumedBatch};
 use std::alloc::Global;
-
-// Keeps what came of a lane behind what came of others.
-fn keep(batches: &mut Vec<ResumedBatch>, found: Option<ResumedBatch>)
-    requires room { vec_len batches.old < vec_capacity batches.old }
-    ensures kept { batches.new.items ≡ batches.old.items ++ listed found }
-    ensures len { vec_len batches.new ≤ vec_len batches.old + 1 }
-    ensures capacity { vec_capacity batches.new ≡ vec_capacity batches.old }
-{
-    if let Some(batch) = found {
-        batches.push_reserved(batch);
-    }
-}
 
 // Brings the open batch of a lane to its end, if it has one, and keeps what came of it.
 fn resume_next<L: Turns, G: Gate>(
-    alloc: Global,
     ledger: &mut L,
     lane: LaneId,
+    found: &Option<OpenLane>,
+    planned: Option<Plan>,
     batches: &mut Vec<ResumedBatch>,
     gate: &G,
 ) -> Result<(), LaneFault>
     requires lane { IsLaneOf (L.shape ledger.old) lane }
     requires checked { L.checked ledger.old }
+    requires found { IsFound (L.shape ledger.old) (L.journals ledger.old) (L.opens ledger.old) lane found.now }
+    requires planned { IsPlanOf (L.shape ledger.old) found.now planned }
     requires room { vec_len batches.old < vec_capacity batches.old }
     ensures len { vec_len batches.new ≤ vec_len batches.old + 1 }
     ensures capacity { vec_capacity batches.new ≡ vec_capacity batches.old }
     ensures keeps_ledger { KeepsLedger L.shape L.opened L.faults L.capacity L.holds ledger.old ledger.new }
     ensures idle { OnOk result (phase_at (L.shape ledger.old) (L.journals ledger.new) lane ≡ Idle) }
     ensures others { KeepsLanes (L.shape ledger.old) lane (L.journals ledger.old) (L.journals ledger.new) }
+    ensures opens_same { KeepsOpens (L.shape ledger.old) lane (L.opens ledger.old) (L.opens ledger.new) }
     ensures keeps { OfKept (L.shape ledger.old) (L.journals ledger.old) (StaysKept (L.shape ledger.old) (L.journals ledger.old) (L.journals ledger.new)) }
     ensures took { OnOk result (OfKept (L.shape ledger.old) (L.journals ledger.old)
         (λ _ _. TookUpOne (L.shape ledger.old) lane (L.journals ledger.old) (L.journals ledger.new) batches.old.items batches.new.items)) }
@@ -65,17 +59,20 @@ fn resume_next<L: Turns, G: Gate>(
     ensures wanting { IfErr result (λ e. e.fault ≡ Memory → L.wanting ledger.new lane) }
     ensures wanting_same { (n : ℕ) → L.wanting ledger.old n → L.wanting ledger.new n }
 {
-    match ledger.take_up(alloc, lane, gate) {
-        Ok(found) => {
-            keep(batches, found);
+    let (Some(unfinished), Some(plan)) = (found, planned) else {
+        return Ok(());
+    };
+    match ledger.take_up(lane, unfinished, plan, gate) {
+        Ok(batch) => {
+            batches.push_reserved(batch);
             Ok(())
         }
         Err(fault) => Err(fault),
     }
 }
 
-/// Brings the open batches of all lanes to their end, in rising order of the lanes. A lane that meets a fault ends; the others go
-/// on. The answer is then the least lane's fault.
+/// Brings the open batches of all lanes to their end, in rising order of the lanes, and takes all memory for that before the first
+/// is taken up. A lane that meets a fault ends; the others go on. The answer is then the least lane's fault.
 pub fn resume_all<L: Turns, G: Gate>(
     alloc: Global,
     ledger: &mut L,
@@ -104,12 +101,12 @@ pub fn resume_all<L: Turns, G: Gate>(
     ensures fault { IfErr result (IsRunCause (L.shape ledger.old) (λ _. Nothing) (L.journals ledger.old) (L.journals ledger.new)
         (HaveFailed (L.opened ledger.new) (L.faults ledger.new)) (MayHold (L.capacity ledger.new))) }
 
-    // It is that of the least lane that met one: all lesser lanes are idle. Only where there is no memory for the list of batches is
-    // nothing done.
+    // It is that of the least lane that met one: all lesser lanes are idle. Only where memory ran out before the first was taken up
+    // is nothing done.
     ensures least { IfErr result (IsLeastOpen (L.shape ledger.old) (L.journals ledger.old) (L.journals ledger.new) (HaveFailed (L.opened ledger.new) (L.faults ledger.new)) (MayHold (L.capacity ledger.new))) }
 
     // Behind the fault of a lane each lane was taken up: it is between batches, or its batch lacks a Lock, or the disk of a node that it
-    // asks has failed; or memory was wanting for it, and it waits where it was.
+    // asks has failed; or memory was wanting for its Locks, and it is prepared still.
     ensures rests { IfErr result (λ e. IsUnbegun (L.journals ledger.old) (L.journals ledger.new) e ⊎ AllRestOrWait (L.shape ledger.old) (L.journals ledger.old) (L.journals ledger.new)
         (HaveFailed (L.opened ledger.new) (L.faults ledger.new)) (L.wanting ledger.new)) }
 {
@@ -117,9 +114,26 @@ pub fn resume_all<L: Turns, G: Gate>(
     let Ok(mut batches) = Vec::with_capacity(alloc, count as usize) else {
         return Err(no_memory());
     };
+    let Ok(opened) = open_lanes(alloc, ledger) else {
+        return Err(no_memory());
+    };
+    let found = opened.as_slice();
+    let Ok(mut plans) = plan_lanes(alloc, ledger.shape(), found) else {
+        return Err(no_memory());
+    };
     let mut first = None;
     'lanes: for lane in 0..count {
-        let came = resume_next(alloc, ledger, LaneId(lane), &mut batches, gate);
+        let Some(planned) = plans.pop() else {
+            unreachable!()
+        };
+        let came = resume_next(
+            ledger,
+            LaneId(lane),
+            &found[lane as usize],
+            planned,
+            &mut batches,
+            gate,
+        );
         first = first.or(came.err());
     }
     match first {

@@ -210,12 +210,13 @@ module _ (K : Shape) (failed fails : ℕ → Type 0) (holds held : ℕ → ℕ �
   ends_by verdicts files E X e (inr (middle, grows, unprepared, idle, ends)) = inr (middle, grows, unprepared, idle, files_by verdicts files middle X e ends)
 
   rest_by : (E X : ℕ → List Record) → AllRestSince K E X failed → AllRestSince K E X fails
-  rest_by E X h lane inside = go (h lane inside)
+  rest_by E X (inl still) = inl still
+  rest_by E X (inr all) = inr (λ lane inside. go lane (all lane inside))
     where
-      go : RestsSince K lane E X failed → RestsSince K lane E X fails
-      go (inl (inl before)) = inl (inl before)
-      go (inl (inr (node, failure))) = inl (inr (node, record { inside = failure.inside; asked = failure.asked; did = failed_on node failure.inside failure.did }))
-      go (inr waits) = inr waits
+      go : (lane : ℕ) → RestsSince K lane E X failed → RestsSince K lane E X fails
+      go lane (inl (inl before)) = inl (inl before)
+      go lane (inl (inr (node, failure))) = inl (inr (node, record { inside = failure.inside; asked = failure.asked; did = failed_on node failure.inside failure.did }))
+      go lane (inr waits) = inr waits
 
   pub answer_by : (verdicts : VerdictsOf) (files : List (List FullTx)) (E X : ℕ → List Record) (a : Answer) → IsLeastAnswer (EndsRun verdicts files K E X failed holds) a → IsLeastAnswer (EndsRun verdicts files K E X fails held) a
   answer_by verdicts files E X a (inl memory) = inl memory

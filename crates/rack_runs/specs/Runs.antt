@@ -94,8 +94,8 @@ KeepsFlights images held K X flights = (n : ℕ) → n < node_count K → OfTold
 -- that are caused too, as a run that began so far grows them; a record is in flight only at a node whose disk has failed since, a Prepare only of
 -- transactions that are next for its lane, and where the disks told all each keeps its journal, with what is in flight there or without; the answer has
 -- its cause, by the counts of faults before and now and by what the disks that were told may hold; it is the least lane's that met one; whatever a lane
--- wants may come next where it would stand; each lane is between batches, or its batch lacks a Lock, or the disk of a node that it asks has failed, or it
--- waits where it was, for want of memory: nothing of it was written, or its batch was prepared and is so still; each disk of the ledger had room for its
+-- wants may come next where it would stand; nothing was written, or each lane is between batches, or its batch lacks a Lock,
+-- or the disk of a node that it asks has failed, or its batch was prepared and is so still, for want of memory; each disk of the ledger had room for its
 -- journal and for what is kept for the batches that were open there, in each place there is as much room as there was, and so for its journal at
 -- exit; the disks that are no nodes of it are as before; and where the ledger was kept it is cut short
 pub record IsLaneFault {D : Type 0} (content : D → Option (List ℕ)) (images : D → List ℕ → Type 0) (limit : D → ℕ) (held back : ℕ → Option D) (before now : ℕ → ℕ) (next : Shape → (ℕ → List Record) → (ℕ → List Record) → ℕ → List Compact → Type 0)

@@ -172,8 +172,8 @@ pub(crate) fn run_nodes<
     ensures flown { (n : ℕ) (r : Record) → flights_of D.count D.limit nodes.header.shape result.nodes.logs.items result.nodes.shards.items n ≡ Some r
         → HaveFailed (opened_of D.count D.limit nodes.header.shape nodes.logs.items nodes.shards.items) (faults_of D.count D.limit nodes.header.shape result.nodes.logs.items result.nodes.shards.items) n }
 
-    // Each lane is between batches, or its batch lacks a Lock, or the disk of a node that it asks has failed; or it waits where it was, for want
-    // of memory: nothing of it was written, or its batch was prepared and is so still.
+    // Nothing was written, or each lane is between batches, or its batch lacks a Lock, or the disk of a node that it asks has failed, or its
+    // batch was prepared and is so still, for want of memory.
     ensures rests { AllRestSince nodes.header.shape (journals_of D.count D.limit nodes.header.shape nodes.logs.items nodes.shards.items)
         (journals_of D.count D.limit nodes.header.shape result.nodes.logs.items result.nodes.shards.items)
         (HaveFailed (opened_of D.count D.limit nodes.header.shape nodes.logs.items nodes.shards.items) (faults_of D.count D.limit nodes.header.shape result.nodes.logs.items result.nodes.shards.items)) }

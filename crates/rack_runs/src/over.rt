@@ -86,8 +86,8 @@ pub(crate) fn run_over<
     ensures fault { IfErr result.came (IsRunCause ledger.header.shape (IsFilesPiece ledger.header.shape (V.verdict_of verifier.now) files.now (journals D.count D.limit ledger) (journals D.count D.limit result.ledger)) (journals D.count D.limit ledger) (journals D.count D.limit result.ledger)
         (HaveFailed (opened D.count D.limit result.ledger) (faults D.count D.limit result.ledger)) (MayHold (capacity D.count D.limit result.ledger))) }
 
-    // Whatever came, each lane is between batches, or its batch lacks a Lock, or the disk of a node that it asks has failed; or it waits where
-    // it was, for want of memory: nothing of it was written, or its batch was prepared and is so still.
+    // Whatever came, nothing was written, or each lane is between batches, or its batch lacks a Lock, or the disk of a node that it asks has
+    // failed, or its batch was prepared and is so still, for want of memory.
     ensures rests { AllRestSince ledger.header.shape (journals D.count D.limit ledger) (journals D.count D.limit result.ledger) (HaveFailed (opened D.count D.limit result.ledger) (faults D.count D.limit result.ledger)) }
 
     // And it is the least lane's that met one.

@@ -54,12 +54,12 @@ pub(crate) fn resume_ledger<W: Wait, D: Disk, G: Gate>(
     ensures fault { IfErr result.came (IsRunCause ledger.header.shape (λ _. Nothing) (journals D.count D.limit ledger) (journals D.count D.limit result.ledger)
         (HaveFailed (opened D.count D.limit result.ledger) (faults D.count D.limit result.ledger)) (MayHold (capacity D.count D.limit result.ledger))) }
 
-    // It is that of the least lane that met one: all lesser lanes are idle. Only where there is no memory for the list of batches is
-    // nothing done.
+    // It is that of the least lane that met one: all lesser lanes are idle. Only where memory ran out before the first was taken up
+    // is nothing done.
     ensures least { IfErr result.came (IsLeastOpen ledger.header.shape (journals D.count D.limit ledger) (journals D.count D.limit result.ledger) (HaveFailed (opened D.count D.limit result.ledger) (faults D.count D.limit result.ledger)) (MayHold (capacity D.count D.limit result.ledger))) }
 
     // Behind the fault of a lane each lane was taken up: it is between batches, or its batch lacks a Lock, or the disk of a node that it
-    // asks has failed; or memory was wanting for it, and it waits where it was.
+    // asks has failed; or memory was wanting for its Locks, and it is prepared still.
     ensures rests { IfErr result.came (λ e. IsUnbegun (journals D.count D.limit ledger) (journals D.count D.limit result.ledger) e ⊎ AllRestOrWait ledger.header.shape (journals D.count D.limit ledger) (journals D.count D.limit result.ledger)
         (HaveFailed (opened D.count D.limit result.ledger) (faults D.count D.limit result.ledger)) (λ _. Unit {0})) }
 {

@@ -22,18 +22,8 @@ module _ (K : Shape) (os : List OpenLane) (i : ℕ) (o : OpenLane) (lt : i < len
   pub rooms_less : (rooms less : List LaneRoom) (r : LaneRoom) → rooms ≡ less ++ r ∷ [] → AllZip (IsLaneRoom K) (drop i os) (reverse rooms) → AllZip (IsLaneRoom K) (drop (i + 1) os) (reverse less)
   rooms_less rooms less r e each = (last_two rooms less r e each).1
 
-  -- and there is one
-  pub some_room : (rooms : List LaneRoom) → rooms ≡ [] → AllZip (IsLaneRoom K) (drop i os) (reverse rooms) → ⊥
-  some_room rooms none each = subst (λ xs. AllZip (IsLaneRoom K) xs []) (split_rest os i o lt is) (subst (λ rs. AllZip (IsLaneRoom K) (drop i os) (reverse rs)) none each)
-
   -- the memory of one more
   pub rooms_more : (rooms : List LaneRoom) (r : LaneRoom) → AllZip (IsLaneRoom K) (take i os) rooms → IsLaneRoom K o r → AllZip (IsLaneRoom K) (take (i + 1) os) (rooms ++ r ∷ [])
   rooms_more rooms r so here =
       subst (λ xs. AllZip (IsLaneRoom K) xs (rooms ++ r ∷ [])) (sym (take_more os i o lt))
       (all_zipped_more (IsLaneRoom K) (take i os) rooms (get_or os i o) r so (subst (λ x. IsLaneRoom K x r) is here))
-
--- that of all, once it stands from the end on
-pub rooms_all : (K : Shape) (os : List OpenLane) (n : ℕ) (rooms turned : List LaneRoom) → n ≡ length os → turned ≡ reverse rooms → AllZip (IsLaneRoom K) (take n os) rooms → AllZip (IsLaneRoom K) os (reverse turned)
-rooms_all K os n rooms turned all e each =
-    subst (λ rs. AllZip (IsLaneRoom K) os rs) (sym (ap reverse e ∙ reverse-reverse rooms))
-    (subst (λ xs. AllZip (IsLaneRoom K) xs rooms) (take_all n os (omega (arith, all))) each)

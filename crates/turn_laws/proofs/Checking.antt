@@ -216,4 +216,4 @@ module _ (K : Shape) (lane : ℕ) (logs shards logs' shards' : ℕ → Sight) (l
         let turn = left_checked e stop in
         free_cause K lane Nothing I J (opened_by K logs' shards') (faults_by K logs' shards') (capacity_by K logs' shards') turn.grows e s.0 s.1 s.2
         ((stop_law K m lane logs' shards' s.3.txs s.0 s.1 limits home shape_still shard_shapes turn.checked).1 o.batch lane_is s.3.fault)
-        (λ memory. inr (prepared_still (in_prepare K o.batch s.3.txs log' shards' s.0 s.1 memory s.3.fault.call), left_unprepared e stop))
+        (λ memory. (prepared_still (in_prepare K o.batch s.3.txs log' shards' s.0 s.1 memory s.3.fault.call), left_unprepared e stop))

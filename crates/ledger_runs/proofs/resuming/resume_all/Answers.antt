@@ -1,4 +1,7 @@
-use Rattle.std.proofs.Common.{◌≡◌, ◌≢◌, inr, ◌*◌, arith, refl, sym, ap, ◌∙◌, subst, None}
+use Rattle.std.proofs.lemmas.List.{get_or_default}
+use Rattle.std.proofs.Common.{rules, ◌≡◌, ◌≢◌, inr, ◌*◌, ◌<◌, length, get_or, reverse, arith, refl, sym, ap, ◌∙◌, subst, None}
+use Rattle.std.specs.List.{AllZip}
+use Rattle.ledger_runs.specs.Planning.{IsFound, IsPlanOf}
 use Rattle.std.specs.Option.{option_or}
 use Rattle.std.specs.Result.{result_err}
 use Rattle.run_laws.specs.WaveSteps.{ResumedSo, ResumingStepLaw, ResumingSkipLaw, ResumingBeginsLaw, ResumingEndsLaw}
@@ -14,6 +17,7 @@ use Rattle.ledger_runs.proofs.Flying.{flies_next}
 use Rattle.ledger_runs.proofs.Launching.{launches_begin, launches_next}
 use Rattle.ledger_runs.proofs.WaveTelling.{resumed_told}
 use Rattle.ledger_runs.proofs.Preparing.{resumed_none}
+use Rattle.ledger_runs.proofs.Plans.{here_at, less_at, some_at, found_on}
 use Rattle.ledger_runs.proofs.resuming.resume_all.Goals as goal
 
 pub lanes-init : goal.lanes-init
@@ -21,9 +25,11 @@ lanes-init g c =
     let K = g.L.Turns.shape c.args.ledger.now in
     let E = g.L.Turns.journals c.args.ledger.now in
     let begins : ResumingBeginsLaw = resuming_begins_law in
+    let count = c.lane_count-count.ensures.value ∙ ap (λ s. s.coordinators * s.lanes) c.shape.ensures in
+    let as_many = ap length c.as_slice-found.ensures.value ∙ (c.in-Ok-open_lanes.ensures.as_many ∙ sym count) in
     record {
       keeps_ledger = ledger_same c.args.ledger.now;
-      count = c.lane_count-count.ensures.value ∙ ap (λ s. s.coordinators * s.lanes) c.shape.ensures;
+      count = count;
       idle = λ none lane low. absurd (omega (arith, low));
       keeps = stays K E;
       so = λ none _ _ _. begins K E;
@@ -38,6 +44,9 @@ lanes-init g c =
       untouched = λ lane low n. refl;
       first = first_begin K E (HaveFailed (g.L.Turns.opened c.args.ledger.now) (g.L.Turns.faults c.args.ledger.now)) (MayHold (g.L.Turns.capacity c.args.ledger.now));
       rests = rests_begin K E (HaveFailed (g.L.Turns.opened c.args.ledger.now) (g.L.Turns.faults c.args.ledger.now)) (g.L.Turns.wanting c.args.ledger.now);
+      as_many = as_many;
+      found = λ k low within. subst (λ xs. IsFound K E (g.L.Turns.opens c.args.ledger.now) k (get_or xs k None)) (sym c.as_slice-found.ensures.value) (c.in-Ok-open_lanes.ensures.each k (omega (arith, within, as_many, ap length c.as_slice-found.ensures.value)));
+      plans = subst (λ k. AllZip (IsPlanOf k) c.as_slice-found.result.now (reverse c.in-Ok-plan_lanes.plans.items)) c.shape-2.ensures c.in-Ok-plan_lanes.ensures;
       len = omega (arith, c.in-Ok.ensures.len);
       room = c.in-Ok.ensures.exact;
     }
@@ -82,6 +91,9 @@ lanes-preserved g c =
       first = λ e some. first_next K H turn E J L failed fails holds held so.keeps_ledger.shape_same inside so.grows did.grows failed_on held_on (so.untouched turn (omega arith)) came did.fault did.others c.lanes.first so.idle so.first e (sym is ∙ some);
       rests = rests_next K H turn E J L failed fails holds held so.keeps_ledger.shape_same inside so.grows did.grows failed_on held_on (so.untouched turn (omega arith)) came did.fault
           (g.L.Turns.wanting c.lanes.ledger) (g.L.Turns.wanting c.resume_next-came.new.ledger) did.wanting_same did.idle did.wanting so.rests;
+      as_many = so.as_many;
+      found = λ k low inside_k. found_on K H turn J L (g.L.Turns.opens c.lanes.ledger) (g.L.Turns.opens c.resume_next-came.new.ledger) so.keeps_ledger.shape_same did.others did.opens_same k low (omega (arith, inside_k, so.count)) _ (so.found k (omega (arith, low)) inside_k);
+      plans = less_at (IsPlanOf K) c.as_slice-found.result.now turn None (omega (arith, c.lanes-test.true, so.as_many)) c.lanes.plans.items c.pop.new.self.items c.in-Some.planned c.in-Some.ensures.items so.plans;
       len = omega (arith, did.len, so.len);
       room = did.capacity ∙ so.room;
     }
@@ -89,23 +101,23 @@ lanes-preserved g c =
 pub returns-in_default-clause-order : goal.returns-in_default-clause-order
 returns-in_default-clause-order g c = none_taken (g.L.Turns.shape c.args.ledger.now) (g.L.Turns.journals c.args.ledger.now)
 
-pub returns-in-Some-clause-fault : goal.returns-in-Some-clause-fault
-returns-in-Some-clause-fault g c =
+pub returns-in-Some-first-clause-fault : goal.returns-in-Some-first-clause-fault
+returns-in-Some-first-clause-fault g c =
     let K = g.L.Turns.shape c.args.ledger.now in
     let E = g.L.Turns.journals c.args.ledger.now in
     let X = g.L.Turns.journals c.lanes.ledger in
     let failed = HaveFailed (g.L.Turns.opened c.lanes.ledger) (g.L.Turns.faults c.lanes.ledger) in
     let holds = MayHold (g.L.Turns.capacity c.lanes.ledger) in
-    first_cause K E X failed holds c.in-Some.fault
-    (first_end K c.lanes.lane E X failed holds c.in-Some.fault (omega (arith, c.lanes.invariant.count, c.lanes.auto.lane-end)) (c.lanes.invariant.first c.in-Some.fault c.in-Some.is))
+    first_cause K E X failed holds c.in-Some-first.fault
+    (first_end K c.lanes.lane E X failed holds c.in-Some-first.fault (omega (arith, c.lanes.invariant.count, c.lanes.auto.lane-end)) (c.lanes.invariant.first c.in-Some-first.fault c.in-Some-first.is))
 
-pub returns-in-Some-clause-least : goal.returns-in-Some-clause-least
-returns-in-Some-clause-least g c = inr (first_end (g.L.Turns.shape c.args.ledger.now) c.lanes.lane (g.L.Turns.journals c.args.ledger.now) (g.L.Turns.journals c.lanes.ledger)
-    (HaveFailed (g.L.Turns.opened c.lanes.ledger) (g.L.Turns.faults c.lanes.ledger)) (MayHold (g.L.Turns.capacity c.lanes.ledger)) c.in-Some.fault
-    (omega (arith, c.lanes.invariant.count, c.lanes.auto.lane-end)) (c.lanes.invariant.first c.in-Some.fault c.in-Some.is))
+pub returns-in-Some-first-clause-least : goal.returns-in-Some-first-clause-least
+returns-in-Some-first-clause-least g c = inr (first_end (g.L.Turns.shape c.args.ledger.now) c.lanes.lane (g.L.Turns.journals c.args.ledger.now) (g.L.Turns.journals c.lanes.ledger)
+    (HaveFailed (g.L.Turns.opened c.lanes.ledger) (g.L.Turns.faults c.lanes.ledger)) (MayHold (g.L.Turns.capacity c.lanes.ledger)) c.in-Some-first.fault
+    (omega (arith, c.lanes.invariant.count, c.lanes.auto.lane-end)) (c.lanes.invariant.first c.in-Some-first.fault c.in-Some-first.is))
 
-pub returns-in-Some-clause-rests : goal.returns-in-Some-clause-rests
-returns-in-Some-clause-rests g c = inr (rests_end (g.L.Turns.shape c.args.ledger.now) c.lanes.lane (g.L.Turns.journals c.args.ledger.now) (g.L.Turns.journals c.lanes.ledger)
+pub returns-in-Some-first-clause-rests : goal.returns-in-Some-first-clause-rests
+returns-in-Some-first-clause-rests g c = inr (rests_end (g.L.Turns.shape c.args.ledger.now) c.lanes.lane (g.L.Turns.journals c.args.ledger.now) (g.L.Turns.journals c.lanes.ledger)
     (HaveFailed (g.L.Turns.opened c.lanes.ledger) (g.L.Turns.faults c.lanes.ledger)) (g.L.Turns.wanting c.lanes.ledger) (omega (arith, c.lanes.invariant.count, c.lanes-test.false)) c.lanes.invariant.rests)
 
 pub returns-in-None-clause-resumed : goal.returns-in-None-clause-resumed
@@ -128,3 +140,28 @@ returns-in_default-clause-launches g c = launches_begin (g.L.Turns.shape c.args.
 
 pub returns-in_default-clause-keeps_ledger : goal.returns-in_default-clause-keeps_ledger
 returns-in_default-clause-keeps_ledger g c = ledger_same c.args.ledger.now
+
+pub unreachable-requires : goal.unreachable-requires
+unreachable-requires g c =
+    let so = c.lanes.invariant in
+    some_at (IsPlanOf (g.L.Turns.shape c.args.ledger.now)) c.as_slice-found.result.now c.lanes.lane None (omega (arith, c.lanes-test.true, so.as_many)) c.lanes.plans.items (search rules) so.plans
+
+pub resume_next-came-requires-clause-found : goal.resume_next-came-requires-clause-found
+resume_next-came-requires-clause-found g c =
+    let so = c.lanes.invariant in
+    let I = g.L.Turns.journals c.lanes.ledger in
+    let opens = g.L.Turns.opens c.lanes.ledger in
+    let it = c.index-found-lane.result in
+    subst (λ k. IsFound k I opens c.lanes.lane it) (sym so.keeps_ledger.shape_same)
+    (subst (λ x. IsFound (g.L.Turns.shape c.args.ledger.now) I opens c.lanes.lane x) (sym (c.index-found-lane.is ∙ get_or_default c.as_slice-found.result.now c.lanes.lane it None (omega (arith, c.lanes-test.true, so.as_many))))
+    (so.found c.lanes.lane (omega arith) c.lanes-test.true))
+
+pub resume_next-came-requires-clause-planned : goal.resume_next-came-requires-clause-planned
+resume_next-came-requires-clause-planned g c =
+    let so = c.lanes.invariant in
+    let K = g.L.Turns.shape c.args.ledger.now in
+    let it = c.index-found-lane.result in
+    let low : c.lanes.lane < length c.as_slice-found.result.now = omega (arith, c.lanes-test.true, so.as_many) in
+    subst (λ k. IsPlanOf k it c.in-Some.planned) (sym so.keeps_ledger.shape_same)
+    (subst (λ x. IsPlanOf K x c.in-Some.planned) (sym (c.index-found-lane.is ∙ get_or_default c.as_slice-found.result.now c.lanes.lane it None low))
+    (here_at (IsPlanOf K) c.as_slice-found.result.now c.lanes.lane None low c.lanes.plans.items c.pop.new.self.items c.in-Some.planned c.in-Some.ensures.items so.plans))

@@ -1,4 +1,5 @@
-use Rattle.std.proofs.Common.{◌≡◌, ◌≤◌, ◌<◌, ◌*◌, ℕ, Some, None}
+use Rattle.std.proofs.Common.{◌≡◌, ◌≤◌, ◌<◌, ◌*◌, ℕ, Some, None, length, get_or, drop, reverse}
+use Rattle.std.specs.List.{AllZip}
 use Rattle.std.specs.Vec.{vec_len, vec_capacity}
 use Rattle.cbdc_model.specs.Slots.{Idle}
 use Rattle.cbdc_model.specs.Lanes.{IsEnd}
@@ -9,6 +10,7 @@ use Rattle.ledger_runs.specs.Turning.{phase_at, OfKept, StaysKept}
 use Rattle.ledger_runs.specs.Flying.{FliesOn, Launches}
 use Rattle.ledger_runs.specs.Telling.{TellResumed, SamePrepared}
 use Rattle.ledger_runs.specs.Faults.{TookLanes, HaveFailed, MayHold, Nothing, IsUntouched, RestsOrWaits}
+use Rattle.ledger_runs.specs.Planning.{IsFound, IsPlanOf}
 use Rattle.ledger_runs.proofs.Onward.{FirstBelow}
 use Rattle.ledger_runs.proofs.resuming.resume_all.Given as goal
 
@@ -34,6 +36,9 @@ invariant-lanes g l =
       untouched : (lane : ℕ) → l.lane ≤ lane → IsUntouched lane E J;
       first : (e : LaneFault) → l.first ≡ Some e → FirstBelow K l.lane E J (HaveFailed (g.L.Turns.opened l.ledger) (g.L.Turns.faults l.ledger)) (MayHold (g.L.Turns.capacity l.ledger)) e;
       rests : (lane : ℕ) → lane < l.lane → RestsOrWaits K lane E J (HaveFailed (g.L.Turns.opened l.ledger) (g.L.Turns.faults l.ledger)) (g.L.Turns.wanting l.ledger lane);
+      as_many : length l.found ≡ l.count;
+      found : (k : ℕ) → l.lane ≤ k → k < l.count → IsFound K J (g.L.Turns.opens l.ledger) k (get_or l.found k None);
+      plans : AllZip (IsPlanOf K) (drop l.lane l.found) (reverse l.plans.items);
       len : vec_len l.batches ≤ l.lane;
       room : vec_capacity l.batches ≡ l.count;
     }

@@ -180,15 +180,15 @@ returns-in-Err-clause-rests g c =
     (λ _. Unit {0}) c.in-Err.fault (of_fault _ c.resume_ledger-ledger.result.came c.in-Err.fault c.in-Err.is c.resume_ledger-ledger.ensures.rests)
 
 pub returns-then-is_empty-clause-rests : goal.returns-then-is_empty-clause-rests
-returns-then-is_empty-clause-rests g c lane inside = inl (inl (inl ((when_whole c.resume_ledger-ledger.result.came c.in-Ok.resumed c.in-Ok.is c.resume_ledger-ledger.ensures.idle) lane inside)))
+returns-then-is_empty-clause-rests g c = inr (λ lane inside. inl (inl (inl ((when_whole c.resume_ledger-ledger.result.came c.in-Ok.resumed c.in-Ok.is c.resume_ledger-ledger.ensures.idle) lane inside))))
 
 pub returns-in-Ok-came-clause-rests : goal.returns-in-Ok-came-clause-rests
-returns-in-Ok-came-clause-rests g c lane inside =
-    inl (subst (λ k. AllRest k (journals g.D.Disk.count g.D.Disk.limit c.run_files-ledger.result.ledger) (HaveFailed (opened g.D.Disk.count g.D.Disk.limit c.run_files-ledger.result.ledger) (faults g.D.Disk.count g.D.Disk.limit c.run_files-ledger.result.ledger))) c.resume_ledger-ledger.ensures.keeps_ledger.shape_same c.run_files-ledger.ensures.rests lane inside)
+returns-in-Ok-came-clause-rests g c =
+    inr (λ lane inside. inl (subst (λ k. AllRest k (journals g.D.Disk.count g.D.Disk.limit c.run_files-ledger.result.ledger) (HaveFailed (opened g.D.Disk.count g.D.Disk.limit c.run_files-ledger.result.ledger) (faults g.D.Disk.count g.D.Disk.limit c.run_files-ledger.result.ledger))) c.resume_ledger-ledger.ensures.keeps_ledger.shape_same c.run_files-ledger.ensures.rests lane inside))
 
 pub returns-in-Err-came-clause-rests : goal.returns-in-Err-came-clause-rests
-returns-in-Err-came-clause-rests g c lane inside =
-    inl (subst (λ k. AllRest k (journals g.D.Disk.count g.D.Disk.limit c.run_files-ledger.result.ledger) (HaveFailed (opened g.D.Disk.count g.D.Disk.limit c.run_files-ledger.result.ledger) (faults g.D.Disk.count g.D.Disk.limit c.run_files-ledger.result.ledger))) c.resume_ledger-ledger.ensures.keeps_ledger.shape_same c.run_files-ledger.ensures.rests lane inside)
+returns-in-Err-came-clause-rests g c =
+    inr (λ lane inside. inl (subst (λ k. AllRest k (journals g.D.Disk.count g.D.Disk.limit c.run_files-ledger.result.ledger) (HaveFailed (opened g.D.Disk.count g.D.Disk.limit c.run_files-ledger.result.ledger) (faults g.D.Disk.count g.D.Disk.limit c.run_files-ledger.result.ledger))) c.resume_ledger-ledger.ensures.keeps_ledger.shape_same c.run_files-ledger.ensures.rests lane inside))
 
 pub run_files-ledger-requires-clause-idle : goal.run_files-ledger-requires-clause-idle
 run_files-ledger-requires-clause-idle g c κs k = subst (λ h. AreIdle h (journals g.D.Disk.count g.D.Disk.limit c.resume_ledger-ledger.result.ledger)) (sym c.resume_ledger-ledger.ensures.keeps_ledger.shape_same) (when_whole c.resume_ledger-ledger.result.came c.in-Ok.resumed c.in-Ok.is c.resume_ledger-ledger.ensures.idle)
