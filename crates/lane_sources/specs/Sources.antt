@@ -1,0 +1,39 @@
+-- What a source of a lane knows of its file.
+use Rattle.std.specs.Prelude.{◌≡◌, ◌+◌, ◌*◌, ◌<◌, ◌≤◌, ℕ, Bool, List, map, length, drop, slice_get, Some}
+use Rattle.std.specs.List.{filter}
+use Rattle.cbdc_model.specs.Records.{Shape, Compact}
+use Rattle.cbdc_model.specs.Coins.{FullTx, compact, tx_id}
+use Rattle.cbdc_model.specs.Waves.{share, sent_to}
+use Rattle.sound_laws.specs.SoundTest.{sound_by}
+use Rattle.submissions.specs.Checks.{VerdictsOf, IsSaid}
+use Rattle.submissions.specs.declared.Checked.{Checked}
+
+-- what contracts see of a source: its lane, the place of its next submission in the file, what it gave last, and what was said of its submissions so far
+pub record SourceOf : Type 0 where
+  pub lane : ℕ
+  pub at : ℕ
+  pub given : List Compact
+  pub checked : List Checked
+
+-- how many lanes there are
+abbrev pub lanes_of : Shape → ℕ
+lanes_of K = K.coordinators * K.lanes
+
+-- what a file sends to a lane, and what of it comes from the submissions from this place on
+abbrev pub all_of : Shape → VerdictsOf → List FullTx → ℕ → List Compact
+all_of K verdicts file lane = sent_to K (sound_by verdicts) file lane
+
+abbrev pub left_at : Shape → VerdictsOf → List FullTx → ℕ → ℕ → List Compact
+left_at K verdicts file lane at = map compact (filter (sound_by verdicts) (share (lanes_of K) lane at (drop at file)))
+
+-- what was said of the first submissions of a lane, in order: the i-th stands at place lane + i * lanes
+abbrev pub AreSaid : Shape → VerdictsOf → List FullTx → ℕ → List Checked → Type 0
+AreSaid K verdicts file lane checked = (i : ℕ) (c : Checked) (t : FullTx) → slice_get checked i ≡ Some c → slice_get file (lane + lanes_of K * i) ≡ Some t
+    → (c.id ≡ tx_id t) × IsSaid K verdicts file (lane + lanes_of K * i) t c.judgement
+
+-- it has come to this place: it said so much of the submissions before it, `sent` of which are sound
+pub record HasComeTo (K : Shape) (verdicts : VerdictsOf) (file : List FullTx) (lane at sent : ℕ) (checked : List Checked) : Type 0 where
+  pub within : lane < lanes_of K
+  pub at_is : at ≡ lane + lanes_of K * length checked
+  pub sent_is : sent + length (left_at K verdicts file lane at) ≡ length (all_of K verdicts file lane)
+  pub said : AreSaid K verdicts file lane checked
