@@ -1,12 +1,11 @@
 -- What of a file is still to go to a lane.
 use Rattle.std.proofs.Common.{◌≡◌, ◌≢◌, ◌⊎◌, inl, inr, ℕ, zero, suc, ◌+◌, ◌*◌, ◌%◌, ◌<◌, ◌≤◌, Bool, true, false, ◌==◌, List, [], ◌∷◌, ◌++◌, length, map, take, drop, if◌then◌else◌, refl, sym, ap, ◌∙◌, subst, arith}
-use Rattle.std.specs.Prelude.{slice_get, Some, None}
+use Rattle.std.specs.Prelude.{slice_get, Option, Some, None}
 use Rattle.std.specs.List.{filter}
 use Rattle.std.proofs.lemmas.Bool.Decides.{eqb_tells}
 use Rattle.std.proofs.lemmas.List.Elements.{filter-append}
-use Rattle.std.proofs.lemmas.List.{map-append}
+use Rattle.std.proofs.lemmas.List.{map-append, drop-drop, drop_all, take-append-drop, length-take-le}
 use Rattle.std.proofs.lemmas.Nat.{mod-mul-add}
-use Rattle.std.proofs.Math.Nat.{mul-add-mod_self_left}
 use Rattle.cbdc_model.specs.Records.{Shape, Compact}
 use Rattle.cbdc_model.specs.Coins.{FullTx, compact}
 use Rattle.cbdc_model.specs.Waves.{share, sent_to}
@@ -22,6 +21,13 @@ eqb_true m n e = elim (eqb_tells m n) [ inl h ↦ h.0 | inr h ↦ absurd (h.1 e)
 
 eqb_false : (m n : ℕ) → m ≢ n → (m == n) ≡ false
 eqb_false m n e = elim (eqb_tells m n) [ inl h ↦ absurd (e h.1) | inr h ↦ h.0 ]
+
+-- a place's lane
+pub mod_of : (n q lane : ℕ) → lane < n → (lane + n * q) % n ≡ lane
+mod_of n q lane within = ap (λ j. j % n) (swap n q lane) ∙ mod-mul-add q n lane within
+  where
+    swap : (n q lane : ℕ) → lane + n * q ≡ q * n + lane
+    swap n q lane = omega arith
 
 -- places that go elsewhere are passed over
 pub share_skip : {A : Type 0} (n lane k m : ℕ) (xs : List A) → ((i : ℕ) → i < m → (k + i) % n ≢ lane) → share n lane k xs ≡ share n lane (k + m) (drop m xs)
@@ -52,10 +58,100 @@ other_places n lane q i within low e = elim (lt_cases (suc (lane + i)) n) [
 ]
   where
     mod_small : (n q r : ℕ) → r < n → (n * q + r) % n ≡ r
-    mod_small n q r low = ap (λ m. (m + r) % n) (omega arith) ∙ mod-mul-add q n r low
+    mod_small n q r low = ap (λ j. j % n) (swap n q r) ∙ mod-mul-add q n r low
+
+    swap : (n q r : ℕ) → n * q + r ≡ q * n + r
+    swap n q r = omega arith
 
     lt_cases : (a b : ℕ) → (a < b) ⊎ ((r : ℕ) × (a ≡ b + r))
     lt_cases a b = grind arith
 
     mul_more : (n q r lane i : ℕ) → suc (lane + i) ≡ n + r → n * suc q + r ≡ suc (lane + n * q) + i
     mul_more n q r lane i is = omega (arith, is)
+
+beyond : (xs : List FullTx) (k : ℕ) → slice_get xs k ≡ None → length xs ≤ k
+beyond [] k e = omega arith
+beyond (x ∷ xs) zero e = absurd (let z : Some x ≡ None = e in cc)
+beyond (x ∷ xs) (suc k) e = let h = beyond xs k e in omega (arith, h)
+
+-- what is left from a place on that goes to the lane: the submission there, where it is sound, and what is left from the next such place on
+module _ (K : Shape) (sound : FullTx → Bool) (file : List FullTx) (lane : ℕ) (within : lane < K.coordinators * K.lanes) where
+  abbrev n : ℕ
+  n = K.coordinators * K.lanes
+
+  abbrev left : ℕ → List Compact
+  left at = map compact (filter sound (share n lane at (drop at file)))
+
+  pub left_end : (at : ℕ) → length file ≤ at → left at ≡ []
+  left_end at past = ap (λ xs. map compact (filter sound (share n lane at xs))) (drop_all at file past)
+
+  pub left_begin : sent_to K sound file lane ≡ left lane
+  left_begin = ap (λ xs. map compact (filter sound xs)) (share_skip n lane 0 lane file (λ i low e. let m : i % n ≡ i = small i (omega (arith, low, within)) in let f : i ≡ lane = sym m ∙ e in omega (arith, f, low)))
+    where
+      small : (i : ℕ) → i < n → i % n ≡ i
+      small i low = mod-mul-add 0 n i low
+
+  share_at : (q : ℕ) (t : FullTx) → slice_get file (lane + n * q) ≡ Some t
+      → share n lane (lane + n * q) (drop (lane + n * q) file) ≡ t ∷ share n lane (lane + n * q + n) (drop (lane + n * q + n) file)
+  share_at q t there =
+      ap (λ xs. share n lane at xs) (drop_get at file t there)
+      ∙ if_true (at % n == lane) (t ∷ share n lane (suc at) (drop (suc at) file)) (share n lane (suc at) (drop (suc at) file)) (eqb_true (at % n) lane here)
+      ∙ ap (λ xs. t ∷ xs) (next n refl)
+    where
+      at : ℕ
+      at = lane + n * q
+
+      here : at % n ≡ lane
+      here = mod_of n q lane within
+
+      drop_get : (k : ℕ) (xs : List FullTx) (x : FullTx) → slice_get xs k ≡ Some x → drop k xs ≡ x ∷ drop (suc k) xs
+      drop_get k [] x e = absurd (let z : None ≡ Some x = e in cc)
+      drop_get zero (y ∷ xs) x e = ap (λ z. z ∷ xs) (let z : Some y ≡ Some x = e in cc)
+      drop_get (suc k) (y ∷ xs) x e = drop_get k xs x e
+
+      next : (m : ℕ) → m ≡ n → share n lane (suc at) (drop (suc at) file) ≡ share n lane (at + n) (drop (at + n) file)
+      next zero is = absurd (omega (arith, within, is))
+      next (suc m) is =
+          share_skip n lane (suc at) m (drop (suc at) file) (λ i low. other_places n lane q i within (omega (arith, low, is)))
+          ∙ ap (λ xs. share n lane (suc at + m) xs) (drop-drop m (suc at) file)
+          ∙ ap (λ j. share n lane j (drop j file)) (omega (arith, is))
+
+  pub left_sound : (q : ℕ) (t : FullTx) → slice_get file (lane + n * q) ≡ Some t → sound t ≡ true → left (lane + n * q) ≡ compact t ∷ left (lane + n * q + n)
+  left_sound q t there is = ap (λ xs. map compact (filter sound xs)) (share_at q t there) ∙ ap (λ xs. map compact xs) (if_true (sound t) (t ∷ more) more is)
+    where
+      more : List FullTx
+      more = filter sound (share n lane (lane + n * q + n) (drop (lane + n * q + n) file))
+
+  pub left_refused : (q : ℕ) (t : FullTx) → slice_get file (lane + n * q) ≡ Some t → sound t ≡ false → left (lane + n * q) ≡ left (lane + n * q + n)
+  left_refused q t there is = ap (λ xs. map compact (filter sound xs)) (share_at q t there) ∙ ap (λ xs. map compact xs) (if_false (sound t) (t ∷ more) more is)
+    where
+      more : List FullTx
+      more = filter sound (share n lane (lane + n * q + n) (drop (lane + n * q + n) file))
+
+  -- all is what went there from the places before, and what is left
+  pub left_split : (at : ℕ) → at ≤ length file → sent_to K sound file lane ≡ sent_to K sound (take at file) lane ++ left at
+  left_split at inside =
+      ap (λ xs. map compact (filter sound (share n lane 0 xs))) (sym (take-append-drop at file))
+      ∙ ap (λ xs. map compact (filter sound xs)) (share_append n lane 0 (take at file) (drop at file) ∙ ap (λ j. share n lane 0 (take at file) ++ share n lane j (drop at file)) (length-take-le at file inside))
+      ∙ ap (λ xs. map compact xs) (filter-append sound (share n lane 0 (take at file)) (share n lane at (drop at file)))
+      ∙ map-append compact (filter sound (share n lane 0 (take at file))) (filter sound (share n lane at (drop at file)))
+
+  -- so many steps lead past the end, and each gives one transaction at most
+  pub left_few : (m q : ℕ) → length file ≤ lane + n * q + n * m → length (left (lane + n * q)) ≤ m
+  left_few zero q past = let e : length (left (lane + n * q)) ≡ 0 = ap (λ xs. length xs) (left_end (lane + n * q) (omega (arith, past))) in omega (arith, e)
+  left_few (suc m) q past = go (slice_get file (lane + n * q)) refl
+    where
+      next : lane + n * q + n ≡ lane + n * suc q
+      next = omega arith
+
+      more : length (left (lane + n * q + n)) ≤ m
+      more = subst (λ j. length (left j) ≤ m) (sym next) (left_few m (suc q) (omega (arith, past)))
+
+      sound_or : (t : FullTx) → slice_get file (lane + n * q) ≡ Some t → (b : Bool) → sound t ≡ b → length (left (lane + n * q)) ≤ suc m
+      sound_or t there true is = let e : length (left (lane + n * q)) ≡ suc (length (left (lane + n * q + n))) = ap (λ xs. length xs) (left_sound q t there is) in omega (arith, e, more)
+      sound_or t there false is = let e : length (left (lane + n * q)) ≡ length (left (lane + n * q + n)) = ap (λ xs. length xs) (left_refused q t there is) in omega (arith, e, more)
+
+      go : (o : Option FullTx) → slice_get file (lane + n * q) ≡ o → length (left (lane + n * q)) ≤ suc m
+      go None e = let past_it : length file ≤ lane + n * q = beyond file (lane + n * q) e in
+          let z : length (left (lane + n * q)) ≡ 0 = ap (λ xs. length xs) (left_end (lane + n * q) past_it) in omega (arith, z)
+      go (Some t) e = sound_or t e (sound t) refl

@@ -1,6 +1,8 @@
 -- What a source of a lane knows of its file.
 use Rattle.std.specs.Prelude.{◌≡◌, ◌+◌, ◌*◌, ◌<◌, ◌≤◌, ℕ, Bool, List, map, length, drop, slice_get, Some}
 use Rattle.std.specs.List.{filter}
+use Rattle.std.specs.Global.{Vec}
+use Rattle.std.specs.Vec.{vec_capacity}
 use Rattle.cbdc_model.specs.Records.{Shape, Compact}
 use Rattle.cbdc_model.specs.Coins.{FullTx, compact, tx_id}
 use Rattle.cbdc_model.specs.Waves.{share, sent_to}
@@ -37,3 +39,19 @@ pub record HasComeTo (K : Shape) (verdicts : VerdictsOf) (file : List FullTx) (l
   pub at_is : at ≡ lane + lanes_of K * length checked
   pub sent_is : sent + length (left_at K verdicts file lane at) ≡ length (all_of K verdicts file lane)
   pub said : AreSaid K verdicts file lane checked
+
+-- and there is room for what it says of the others
+pub record IsSource (K : Shape) (verdicts : VerdictsOf) (file : List FullTx) (lane at sent : ℕ) (checked : Vec Checked) : Type 0 where
+  pub come : HasComeTo K verdicts file lane at sent checked.items
+  pub room : length file ≤ lanes_of K * vec_capacity checked
+
+-- so it is of the submission at a place, where there is one
+abbrev pub SubmissionAt : List FullTx → ℕ → (FullTx → Type 0) → Type 0
+SubmissionAt file at P = (t : FullTx) → slice_get file at ≡ Some t → P t
+
+-- each source is its lane's, by its place, and has come to the end
+abbrev pub IsFinished : List FullTx → ℕ → SourceOf → Type 0
+IsFinished file lane s = (s.lane ≡ lane) × (length file ≤ s.at)
+
+abbrev pub AreFinished : List FullTx → List SourceOf → Type 0
+AreFinished file sources = (lane : ℕ) (s : SourceOf) → slice_get sources lane ≡ Some s → IsFinished file lane s

@@ -1,5 +1,5 @@
 // A client file, and what is said of its witnesses.
-ghost use Rattle.std.specs.Prelude.{◌≡◌, ◌*◌, ◌<◌, ℕ, List};
+ghost use Rattle.std.specs.Prelude.{◌≡◌, ◌+◌, ◌*◌, ◌^◌, ◌<◌, ℕ, List, [], length};
 ghost use Rattle.cbdc_model.specs.Coins.{FullTx as Full};
 ghost use Rattle.cbdc_model.specs.Records.{Shape as ShapeOf};
 ghost use Rattle.submissions.specs.Checks.{VerdictsOf};
@@ -34,7 +34,7 @@ impl Deals for Brand {
 pub struct FileOf<'a, V: Verifier, F: Deals> {
     txs: &'a [FullTx],
     verifier: &'a V,
-    lanes: usize,
+    lanes: u32,
     of: PhantomData<F>,
 }
 
@@ -43,12 +43,12 @@ impl<'a, V: Verifier, F: Deals> Model for FileOf<'a, V, F> {
 
     ghost view = { λ f. f.lanes };
 
-    ghost invariant = { λ f. (f.txs.now ≡ F.file) × (V.verdict_of f.verifier.now ≡ F.verdicts) × (f.lanes ≡ F.shape.coordinators * F.shape.lanes) × (0 < f.lanes) };
+    ghost invariant = { λ f. (f.txs.now ≡ F.file) × (V.verdict_of f.verifier.now ≡ F.verdicts) × (f.lanes ≡ F.shape.coordinators * F.shape.lanes) × (0 < f.lanes) × (length f.txs.now < 2 ^ 63) };
 }
 
 impl<'a, V: Verifier, F: Deals> FileOf<'a, V, F> {
     /// The file that is picked.
-    pub fn new(txs: &'a [FullTx], verifier: &'a V, lanes: usize) -> FileOf<'a, V, F>
+    pub fn new(txs: &'a [FullTx], verifier: &'a V, lanes: u32) -> FileOf<'a, V, F>
         requires file { txs.now ≡ F.file }
         requires verdicts { V.verdict_of verifier.now ≡ F.verdicts }
         requires lanes { lanes ≡ F.shape.coordinators * F.shape.lanes }
@@ -82,7 +82,8 @@ impl<'a, V: Verifier, F: Deals> FileOf<'a, V, F> {
         ensures same { result ≡ self.now }
         ensures lanes { result ≡ F.shape.coordinators * F.shape.lanes }
         ensures some { 0 < result }
+        ensures fits { length F.file + result < 2 ^ 64 }
     {
-        self.lanes
+        self.lanes as usize
     }
 }

@@ -95,7 +95,7 @@ module _ {W D S B X : Type 0} {G : Ghosts B} (sight : S → Sight) (tables : ℕ
       → (y.txs ≡ q.work.txs) × HasEnded K lane (log_of sight tables K r) (shards_of sight tables K r) (log_of sight tables K q) (shards_of sight tables K q) x y
   ended_of lane x y r q l settled w None k e = absurd k
   ended_of lane x y r q l settled w (Some (Ok report)) k e =
-      let txs : r.work.txs ≡ y.txs = sym (ap (λ v. v.items) e.txs ∙ ap (λ (z : LaneOf). z.txs) w) in
+      let txs : r.work.txs ≡ y.txs = sym (e.txs ∙ ap (λ (z : LaneOf). z.txs) w) in
       let log = log_of sight tables K r in
       let shards = shards_of sight tables K r in
       let log' = log_of sight tables K q in
@@ -113,7 +113,7 @@ module _ {W D S B X : Type 0} {G : Ghosts B} (sight : S → Sight) (tables : ℕ
         ),
       )
   ended_of lane x y r q l settled w (Some (Err fault)) k e =
-      let txs : r.work.txs ≡ y.txs = sym (ap (λ v. v.items) e.0 ∙ ap (λ (z : LaneOf). z.txs) w) in
+      let txs : r.work.txs ≡ y.txs = sym (e.0 ∙ ap (λ (z : LaneOf). z.txs) w) in
       let log = log_of sight tables K r in
       let shards = shards_of sight tables K r in
       let log' = log_of sight tables K q in
@@ -234,7 +234,7 @@ module _ {W D S B X : Type 0} {G : Ghosts B} (sight : S → Sight) (tables : ℕ
               let a = past_end (λ p. seat_sight (shard_sight sight) p.seat) r.ports.shards.each.ports.items s (subst (λ n. n ≤ s) (sym begins.count_is) le) in
               let b = past_end (λ p. seat_sight (shard_sight sight) p.seat) q.ports.shards.each.ports.items s (subst (λ n. n ≤ s) (sym many) le) in
               (ap (λ (v : Sight). v.seen) a, ap (λ (v : Sight). v.flight) a, ap (λ (v : Sight). v.seen) b);
-          txs = ap (λ v. v.items) came.0 ∙ ap (λ (z : LaneOf). z.txs) (k.ends.work ∙ k.set_up.work);
+          txs = came.0 ∙ ap (λ (z : LaneOf). z.txs) (k.ends.work ∙ k.set_up.work);
           ended = came.1;
         }
 

@@ -142,7 +142,7 @@ module _ {W D S B X : Type 0} {G : Ghosts B} where
     pub chunks : Chunks n (reverse homes) gone
 
   pub homes_none : (n : ℕ) (t : Table W D S B X G) (homes : List (Vec (Seat (SharedLog D)))) → homes ≡ [] → HomesGone n t homes t
-  homes_none n t homes e = record { gone = []; runs = sym (append-nil t.runs.items); chunks = let z : Chunks {W = W} {D = D} {S = S} {B = B} {G = G} n [] [] = refl in subst (λ xs. Chunks {W = W} {D = D} {S = S} {B = B} {G = G} n (reverse xs) []) (sym e) z }
+  homes_none n t homes e = record { gone = []; runs = sym (append-nil t.runs.items); chunks = let z : Chunks {W = W} {D = D} {S = S} {B = B} {X = X} {G = G} n [] [] = refl in subst (λ xs. Chunks {W = W} {D = D} {S = S} {B = B} {X = X} {G = G} n (reverse xs) []) (sym e) z }
 
   pub homes_more : (n : ℕ) (t : Table W D S B X G) (homes homes' : List (Vec (Seat (SharedLog D)))) (own : Vec (Seat (SharedLog D))) (u v : Table W D S B X G) → HomesGone n t homes u → AreHome n u own.items v → homes' ≡ homes ++ own ∷ [] → HomesGone n t homes' v
   homes_more n t homes homes' own u v k h e = record {

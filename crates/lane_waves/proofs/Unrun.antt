@@ -83,7 +83,7 @@ unrun K logs shards log_hands shard_hands lane x y settled at_home at_shards pas
   at_log = record { now = fresh (logs (home_of K lane)) lane; among = at_home; of_lane = refl; was = refl; is = refl; later = omega arith };
   at_shard = λ s lt. record { now = fresh (shards s) lane; among = at_shards s lt; of_lane = refl; was = refl; is = refl; later = omega arith };
   beyond = λ s le. (ap (λ (v : Sight). v.seen) (past s le), refl, ap (λ (v : Sight). v.seen) (past s le));
-  txs = ap (λ v. v.items) txs;
+  txs = txs;
   ended = inr (no_memory, (λ k t. inl (refl, refl, refl)), ((λ none. let z : None ≡ Some no_memory = sym none ∙ stopped in cc), λ old. stopped));
 }
 

@@ -180,7 +180,7 @@ may_run [] (w ∷ new) m a r = absurd (let z : w.txs ∷ map (λ z. z.txs) new �
 may_run (v ∷ old) (w ∷ new) m a r =
     let c : w.txs ≡ v.txs = let z : w.txs ∷ map (λ z. z.txs) new ≡ v.txs ∷ map (λ z. z.txs) old = m in cc in
     let more : map (λ z. z.txs) new ≡ map (λ z. z.txs) old = let z : w.txs ∷ map (λ z. z.txs) new ≡ v.txs ∷ map (λ z. z.txs) old = m in cc in
-    All-cons MayRun w new (record { ready = All-head IsReady w new r; limits = subst (λ t. All IsCompact t.items) (sym c) (All-head (λ z. All IsCompact z.txs) v old a) })
+    All-cons MayRun w new (record { ready = All-head IsReady w new r; limits = subst (λ t. All IsCompact t) (sym c) (All-head (λ z. All IsCompact z.txs) v old a) })
     (may_run old new more (All-tail (λ z. All IsCompact z.txs) v old a) (All-tail IsReady w new r))
 
 -- a lane that was made ready first ended as the lane that it was before
@@ -198,7 +198,7 @@ lane_anew K logs shards log_hands shard_hands lane old mid new ready txs r = rec
   at_log = r.at_log;
   at_shard = r.at_shard;
   beyond = r.beyond;
-  txs = r.txs ∙ ap (λ v. v.items) txs;
+  txs = r.txs ∙ txs;
   ended = ended_anew K lane r.log r.seen r.log' r.seen' old mid new ready r.ended;
 }
 

@@ -51,7 +51,7 @@ fn stop<X: Source>(work: &mut Work<X>)
 pub(crate) fn kept<X: Source>(mut work: Work<X>, came: Result<LaneReport, LaneFault>) -> Work<X>
     requires ready { IsReady work }
     requires room { IfOk came (λ r. length (told_in r.batches) ≤ length work.txs) }
-    ensures { IsKept work.entry came result }
+    ensures { IsKept work came result }
 {
     match came {
         Ok(report) => keep_all(&mut work.lane, report.batches.as_slice()),

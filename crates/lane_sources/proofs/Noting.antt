@@ -1,0 +1,53 @@
+-- What a source keeps, and its room for it.
+use Rattle.std.proofs.Common.{◌≡◌, ◌⊎◌, inl, inr, ℕ, zero, suc, ◌+◌, ◌*◌, ◌<◌, ◌≤◌, List, [], ◌∷◌, ◌++◌, length, take, get_or, refl, sym, ap, ◌∙◌, subst, arith, Some, None}
+use Rattle.std.specs.Prelude.{slice_get}
+use Rattle.std.specs.Vec.{vec_capacity, vec_len}
+use Rattle.std.specs.Global.{Vec}
+use Rattle.std.proofs.Math.Nat.{mul-le-mul_left}
+use Rattle.std.proofs.lemmas.Option.{slice_get-get_or}
+use Rattle.cbdc_model.specs.Records.{Shape, Compact}
+use Rattle.cbdc_model.specs.Coins.{FullTx, compact, tx_id}
+use Rattle.base_types.specs.declared.faults.Refusal.{Refusal}
+use Rattle.sentinel.specs.FirstRefusal.{IsSound, IsFirstRefusal}
+use Rattle.submissions.specs.Checks.{VerdictsOf}
+use Rattle.submissions.specs.declared.Checked.{Checked}
+use Rattle.submissions.specs.declared.Judgement.TheVariants.{Refused, Sound}
+use Rattle.lane_sources.specs.Sources.{lanes_of, all_of, left_at, HasComeTo, IsSource, SubmissionAt}
+use Rattle.lane_sources.proofs.Saying.{come_refused, come_sound, sound_left, all_few}
+
+-- there is room where it has not come to the end
+pub room_left : (n lane len cap size at : ℕ) → at ≡ lane + n * len → size ≤ n * cap → at < size → len < cap
+room_left n lane len cap size at is room inside = go (cases len cap)
+  where
+    cases : (a b : ℕ) → (a < b) ⊎ ((r : ℕ) × (a ≡ b + r))
+    cases a b = grind arith
+
+    go : (len < cap) ⊎ ((r : ℕ) × (len ≡ cap + r)) → len < cap
+    go (inl h) = h
+    go (inr (r, e)) = let more : n * cap ≤ n * len = mul-le-mul_left n (omega (arith, e)) in absurd (omega (arith, more, is, room, inside))
+
+there_at : (file : List FullTx) (at : ℕ) → at < length file → (t : FullTx) × (slice_get file at ≡ Some t)
+there_at [] at inside = absurd (omega (arith, inside))
+there_at (x ∷ xs) zero inside = (x, refl)
+there_at (x ∷ xs) (suc at) inside = there_at xs at (omega (arith, inside))
+
+module _ (K : Shape) (verdicts : VerdictsOf) (file : List FullTx) (lane at sent : ℕ) (checked : List Checked) (come : HasComeTo K verdicts file lane at sent checked) (inside : at < length file) where
+  pub noted_sound : (id : List ℕ) → SubmissionAt file at (λ t. (id ≡ tx_id t) × IsSound t (verdicts (tx_id t)))
+      → HasComeTo K verdicts file lane (at + lanes_of K) (sent + 1) (checked ++ record { id = id; judgement = Sound lane sent } ∷ [])
+  noted_sound id said = let (t, there) = there_at file at inside in let k = said t there in come_sound K verdicts file lane at sent checked t come there id k.0 k.1
+
+  pub noted_refused : (id : List ℕ) (r : Refusal) → SubmissionAt file at (λ t. (id ≡ tx_id t) × IsFirstRefusal t (verdicts (tx_id t)) r)
+      → HasComeTo K verdicts file lane (at + lanes_of K) sent (checked ++ record { id = id; judgement = Refused r } ∷ [])
+  noted_refused id r said = let (t, there) = there_at file at inside in let k = said t there in come_refused K verdicts file lane at sent checked t come there id r k.0 k.1
+
+  -- no more go to the lane than there are
+  pub sent_fits : (id : List ℕ) → SubmissionAt file at (λ t. (id ≡ tx_id t) × IsSound t (verdicts (tx_id t))) → sent + 1 ≤ length file
+  sent_fits id said =
+      let (t, there) = there_at file at inside in
+      let e : length (left_at K verdicts file lane at) ≡ suc (length (left_at K verdicts file lane (at + lanes_of K))) = ap (λ xs. length xs) (sound_left K verdicts file lane at sent checked t come there (said t there).1) in
+      let few : length (all_of K verdicts file lane) ≤ length file = all_few K verdicts file lane (length file) come.within (one_more (lanes_of K) (length file) (omega (arith, come.within))) in
+      let is = come.sent_is in
+      omega (arith, e, few, is)
+    where
+      one_more : (n m : ℕ) → 0 < n → m ≤ n * m
+      one_more n m some = let h : m * 1 ≤ m * n = mul-le-mul_left m (omega (arith, some)) in omega (arith, h)
