@@ -10,6 +10,15 @@ use Rattle.cbdc_model.specs.Records.{Shape, Compact}
 use Rattle.cbdc_model.specs.Coins.{FullTx, compact}
 use Rattle.cbdc_model.specs.Waves.{share, sent_to}
 
+turned : (n q r : ℕ) → n * q + r ≡ q * n + r
+turned n q r = omega arith
+
+none_and : (m i : ℕ) → i ≡ 0 * m + i
+none_and m i = omega arith
+
+pub zero_add : (n : ℕ) → 0 + n ≡ n
+zero_add n = omega arith
+
 if_false : {A : Type 0} (b : Bool) (x y : A) → b ≡ false → (if b then x else y) ≡ y
 if_false b x y e = ap (λ c. if c then x else y) e
 
@@ -58,13 +67,13 @@ other_places n lane q i within low e = elim (lt_cases (suc (lane + i)) n) [
 ]
   where
     mod_small : (n q r : ℕ) → r < n → (n * q + r) % n ≡ r
-    mod_small n q r low = ap (λ j. j % n) (swap n q r) ∙ mod-mul-add q n r low
-
-    swap : (n q r : ℕ) → n * q + r ≡ q * n + r
-    swap n q r = omega arith
+    mod_small n q r low = ap (λ j. j % n) (turned n q r) ∙ mod-mul-add q n r low
 
     lt_cases : (a b : ℕ) → (a < b) ⊎ ((r : ℕ) × (a ≡ b + r))
-    lt_cases a b = grind arith
+    lt_cases zero zero = inr (0, refl)
+    lt_cases zero (suc b) = inl (omega arith)
+    lt_cases (suc a) zero = inr (suc a, omega arith)
+    lt_cases (suc a) (suc b) = elim (lt_cases a b) [ inl h ↦ inl (omega (arith, h)) | inr (r, e) ↦ inr (r, omega (arith, e)) ]
 
     mul_more : (n q r lane i : ℕ) → suc (lane + i) ≡ n + r → n * suc q + r ≡ suc (lane + n * q) + i
     mul_more n q r lane i is = omega (arith, is)
@@ -89,7 +98,7 @@ module _ (K : Shape) (sound : FullTx → Bool) (file : List FullTx) (lane : ℕ)
   left_begin = ap (λ xs. map compact (filter sound xs)) (share_skip n lane 0 lane file (λ i low e. let m : i % n ≡ i = small i (omega (arith, low, within)) in let f : i ≡ lane = sym m ∙ e in omega (arith, f, low)))
     where
       small : (i : ℕ) → i < n → i % n ≡ i
-      small i low = mod-mul-add 0 n i low
+      small i low = ap (λ j. j % n) (none_and n i) ∙ mod-mul-add 0 n i low
 
   share_at : (q : ℕ) (t : FullTx) → slice_get file (lane + n * q) ≡ Some t
       → share n lane (lane + n * q) (drop (lane + n * q) file) ≡ t ∷ share n lane (lane + n * q + n) (drop (lane + n * q + n) file)
@@ -132,20 +141,19 @@ module _ (K : Shape) (sound : FullTx → Bool) (file : List FullTx) (lane : ℕ)
   pub left_split : (at : ℕ) → at ≤ length file → sent_to K sound file lane ≡ sent_to K sound (take at file) lane ++ left at
   left_split at inside =
       ap (λ xs. map compact (filter sound (share n lane 0 xs))) (sym (take-append-drop at file))
-      ∙ ap (λ xs. map compact (filter sound xs)) (share_append n lane 0 (take at file) (drop at file) ∙ ap (λ j. share n lane 0 (take at file) ++ share n lane j (drop at file)) (length-take-le at file inside))
+      ∙ ap (λ xs. map compact (filter sound xs)) (share_append n lane 0 (take at file) (drop at file) ∙ ap (λ j. share n lane 0 (take at file) ++ share n lane j (drop at file)) (let z : 0 + length (take at file) ≡ at = ap (λ m. 0 + m) (length-take-le at file inside) ∙ zero_add at in z))
       ∙ ap (λ xs. map compact xs) (filter-append sound (share n lane 0 (take at file)) (share n lane at (drop at file)))
       ∙ map-append compact (filter sound (share n lane 0 (take at file))) (filter sound (share n lane at (drop at file)))
 
   -- so many steps lead past the end, and each gives one transaction at most
-  pub left_few : (m q : ℕ) → length file ≤ lane + n * q + n * m → length (left (lane + n * q)) ≤ m
-  left_few zero q past = let e : length (left (lane + n * q)) ≡ 0 = ap (λ xs. length xs) (left_end (lane + n * q) (omega (arith, past))) in omega (arith, e)
-  left_few (suc m) q past = go (slice_get file (lane + n * q)) refl
+  few_more : (m q : ℕ) → length (left (lane + n * suc q)) ≤ m → length (left (lane + n * q)) ≤ suc m
+  few_more m q few = go (slice_get file (lane + n * q)) refl
     where
-      next : lane + n * q + n ≡ lane + n * suc q
-      next = omega arith
+      next : (n q : ℕ) → lane + n * q + n ≡ lane + n * suc q
+      next n q = omega arith
 
       more : length (left (lane + n * q + n)) ≤ m
-      more = subst (λ j. length (left j) ≤ m) (sym next) (left_few m (suc q) (omega (arith, past)))
+      more = subst (λ j. length (left j) ≤ m) (sym (next n q)) few
 
       sound_or : (t : FullTx) → slice_get file (lane + n * q) ≡ Some t → (b : Bool) → sound t ≡ b → length (left (lane + n * q)) ≤ suc m
       sound_or t there true is = let e : length (left (lane + n * q)) ≡ suc (length (left (lane + n * q + n))) = ap (λ xs. length xs) (left_sound q t there is) in omega (arith, e, more)
@@ -155,3 +163,10 @@ module _ (K : Shape) (sound : FullTx → Bool) (file : List FullTx) (lane : ℕ)
       go None e = let past_it : length file ≤ lane + n * q = beyond file (lane + n * q) e in
           let z : length (left (lane + n * q)) ≡ 0 = ap (λ xs. length xs) (left_end (lane + n * q) past_it) in omega (arith, z)
       go (Some t) e = sound_or t e (sound t) refl
+
+  pub left_few : (m q : ℕ) → length file ≤ lane + n * q + n * m → length (left (lane + n * q)) ≤ m
+  left_few zero q past = let e : length (left (lane + n * q)) ≡ 0 = ap (λ xs. length xs) (left_end (lane + n * q) (omega (arith, past))) in omega (arith, e)
+  left_few (suc m) q past = few_more m q (left_few m (suc q) (shift n q m past))
+    where
+      shift : (n q m : ℕ) → length file ≤ lane + n * q + n * suc m → length file ≤ lane + n * suc q + n * m
+      shift n q m past = omega (arith, past)

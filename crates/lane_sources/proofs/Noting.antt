@@ -3,7 +3,9 @@ use Rattle.std.proofs.Common.{◌≡◌, ◌⊎◌, inl, inr, ℕ, zero, suc, �
 use Rattle.std.specs.Prelude.{slice_get}
 use Rattle.std.specs.Vec.{vec_capacity, vec_len}
 use Rattle.std.specs.Global.{Vec}
+use Rattle.std.specs.Int.{div_ceil}
 use Rattle.std.proofs.Math.Nat.{mul-le-mul_left}
+use Rattle.std.proofs.lemmas.Grind.{div_ceil_times}
 use Rattle.std.proofs.lemmas.Option.{slice_get-get_or}
 use Rattle.cbdc_model.specs.Records.{Shape, Compact}
 use Rattle.cbdc_model.specs.Coins.{FullTx, compact, tx_id}
@@ -15,18 +17,26 @@ use Rattle.submissions.specs.declared.Judgement.TheVariants.{Refused, Sound}
 use Rattle.lane_sources.specs.Sources.{lanes_of, all_of, left_at, HasComeTo, IsSource, SubmissionAt}
 use Rattle.lane_sources.proofs.Saying.{come_refused, come_sound, sound_left, all_few}
 
+lt_or : (a b : ℕ) → (a < b) ⊎ ((r : ℕ) × (a ≡ b + r))
+lt_or zero zero = inr (0, refl)
+lt_or zero (suc b) = inl (omega arith)
+lt_or (suc a) zero = inr (suc a, omega arith)
+lt_or (suc a) (suc b) = elim (lt_or a b) [ inl h ↦ inl (omega (arith, h)) | inr (r, e) ↦ inr (r, omega (arith, e)) ]
+
 -- there is room where it has not come to the end
-pub room_left : (n lane len cap size at : ℕ) → at ≡ lane + n * len → size ≤ n * cap → at < size → len < cap
-room_left n lane len cap size at is room inside = go (cases len cap)
+pub room_left : (n lane len most size at : ℕ) → at ≡ lane + n * len → size ≤ n * most → at < size → len < most
+room_left n lane len most size at is room inside = go (lt_or len most)
   where
-    cases : (a b : ℕ) → (a < b) ⊎ ((r : ℕ) × (a ≡ b + r))
-    cases a b = grind arith
 
-    go : (len < cap) ⊎ ((r : ℕ) × (len ≡ cap + r)) → len < cap
+    go : (len < most) ⊎ ((r : ℕ) × (len ≡ most + r)) → len < most
     go (inl h) = h
-    go (inr (r, e)) = let more : n * cap ≤ n * len = mul-le-mul_left n (omega (arith, e)) in absurd (omega (arith, more, is, room, inside))
+    go (inr (r, e)) = let more : n * most ≤ n * len = mul-le-mul_left n (omega (arith, e)) in absurd (omega (arith, more, is, room, inside))
 
-there_at : (file : List FullTx) (at : ℕ) → at < length file → (t : FullTx) × (slice_get file at ≡ Some t)
+-- so many rounds of the lanes take all
+pub room_ceil : (size n m : ℕ) → 0 < n → m ≡ div_ceil size n → size ≤ n * m
+room_ceil size n m some is = let h : size ≤ div_ceil size n * n = (div_ceil_times size n some).0 in let k : size ≤ m * n = subst (λ x. size ≤ x * n) (sym is) h in omega (arith, k)
+
+pub there_at : (file : List FullTx) (at : ℕ) → at < length file → (t : FullTx) × (slice_get file at ≡ Some t)
 there_at [] at inside = absurd (omega (arith, inside))
 there_at (x ∷ xs) zero inside = (x, refl)
 there_at (x ∷ xs) (suc at) inside = there_at xs at (omega (arith, inside))

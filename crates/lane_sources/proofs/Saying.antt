@@ -14,7 +14,7 @@ use Rattle.submissions.specs.declared.Checked.{Checked}
 use Rattle.submissions.specs.declared.Judgement.TheVariants.{Refused, Sound}
 use Rattle.submissions.proofs.Placing.{snoc_get}
 use Rattle.lane_sources.specs.Sources.{lanes_of, all_of, left_at, AreSaid, HasComeTo, SubmissionAt}
-use Rattle.lane_sources.proofs.Leaving.{left_begin, left_sound, left_refused, left_split, left_end, left_few, mod_of}
+use Rattle.lane_sources.proofs.Leaving.{left_begin, left_sound, left_refused, left_split, left_end, left_few, mod_of, zero_add}
 
 some_same : {A : Type 0} (x y : A) → Some x ≡ Some y → x ≡ y
 some_same x y e = cc
@@ -34,7 +34,7 @@ module _ (K : Shape) (verdicts : VerdictsOf) (file : List FullTx) where
   come_begin lane within = record {
     within = within;
     at_is = omega arith;
-    sent_is = ap (λ xs. length xs) (sym (left_begin K (sound_by verdicts) file lane within));
+    sent_is = zero_add (length (left_at K verdicts file lane lane)) ∙ ap (λ xs. length xs) (sym (left_begin K (sound_by verdicts) file lane within));
     said = λ i c t has there. absurd (let z : None ≡ Some c = has in cc);
   }
 

@@ -63,14 +63,15 @@ impl<'a, V: Verifier, F: Deals> LaneSource<'a, V, F> {
         ensures at { self.new.at ≡ self.old.at + lanes_of F.shape }
         ensures given { self.new.given ≡ self.old.given }
     {
+        let file = self.file;
+        let lanes = file.lanes();
         let judgement = Judgement::Sound {
             lane: self.lane,
             place: self.sent,
         };
         self.checked.push_reserved(Checked { id, judgement });
         self.sent += 1;
-        let file = self.file;
-        self.at += file.lanes();
+        self.at += lanes;
     }
 
     // Keeps why it is refused, and goes to the one behind it.
@@ -81,10 +82,11 @@ impl<'a, V: Verifier, F: Deals> LaneSource<'a, V, F> {
         ensures at { self.new.at ≡ self.old.at + lanes_of F.shape }
         ensures given { self.new.given ≡ self.old.given }
     {
+        let file = self.file;
+        let lanes = file.lanes();
         let judgement = Judgement::Refused(refusal);
         self.checked.push_reserved(Checked { id, judgement });
-        let file = self.file;
-        self.at += file.lanes();
+        self.at += lanes;
     }
 
     // Checks the next submission. Its compact form, where it is sound, goes to the end of the piece.
