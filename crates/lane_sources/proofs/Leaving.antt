@@ -13,7 +13,7 @@ use Rattle.cbdc_model.specs.Waves.{share, sent_to}
 turned : (n q r : ℕ) → n * q + r ≡ q * n + r
 turned n q r = omega arith
 
-none_and : (m i : ℕ) → i ≡ 0 * m + i
+pub none_and : (m i : ℕ) → i ≡ 0 * m + i
 none_and m i = omega arith
 
 pub zero_add : (n : ℕ) → 0 + n ≡ n
@@ -95,7 +95,7 @@ module _ (K : Shape) (sound : FullTx → Bool) (file : List FullTx) (lane : ℕ)
   left_end at past = ap (λ xs. map compact (filter sound (share n lane at xs))) (drop_all at file past)
 
   pub left_begin : sent_to K sound file lane ≡ left lane
-  left_begin = ap (λ xs. map compact (filter sound xs)) (share_skip n lane 0 lane file (λ i low e. let m : i % n ≡ i = small i (omega (arith, low, within)) in let f : i ≡ lane = sym m ∙ e in omega (arith, f, low)))
+  left_begin = ap (λ xs. map compact (filter sound xs)) (share_skip n lane 0 lane file (λ i low e. let m : i % n ≡ i = small i (omega (arith, low, within)) in let f : i ≡ lane = sym m ∙ (ap (λ j. j % n) (sym (zero_add i)) ∙ e) in omega (arith, f, low)) ∙ ap (λ j. share n lane j (drop lane file)) (zero_add lane))
     where
       small : (i : ℕ) → i < n → i % n ≡ i
       small i low = ap (λ j. j % n) (none_and n i) ∙ mod-mul-add 0 n i low

@@ -1,21 +1,23 @@
 -- What a source keeps, and its room for it.
-use Rattle.std.proofs.Common.{◌≡◌, ◌⊎◌, inl, inr, ℕ, zero, suc, ◌+◌, ◌*◌, ◌<◌, ◌≤◌, List, [], ◌∷◌, ◌++◌, length, take, get_or, refl, sym, ap, ◌∙◌, subst, arith, Some, None}
-use Rattle.std.specs.Prelude.{slice_get}
+use Rattle.std.proofs.Common.{◌≡◌, ◌⊎◌, inl, inr, ℕ, zero, suc, ◌+◌, ◌*◌, ◌/◌, ◌%◌, ◌<◌, ◌≤◌, List, [], ◌∷◌, ◌++◌, length, get_or, append_assoc, refl, sym, ap, ◌∙◌, subst, arith, Some, None, Result, Ok, Err}
+use Rattle.std.specs.Prelude.{slice_get, IfErr}
 use Rattle.std.specs.Vec.{vec_capacity, vec_len}
 use Rattle.std.specs.Global.{Vec}
 use Rattle.std.specs.Int.{div_ceil}
-use Rattle.std.proofs.Math.Nat.{mul-le-mul_left}
+use Rattle.std.proofs.Math.Nat.{mul-le-mul_left, div-add-mod}
 use Rattle.std.proofs.lemmas.Grind.{div_ceil_times}
 use Rattle.std.proofs.lemmas.Option.{slice_get-get_or}
 use Rattle.cbdc_model.specs.Records.{Shape, Compact}
 use Rattle.cbdc_model.specs.Coins.{FullTx, compact, tx_id}
 use Rattle.base_types.specs.declared.faults.Refusal.{Refusal}
 use Rattle.sentinel.specs.FirstRefusal.{IsSound, IsFirstRefusal}
-use Rattle.submissions.specs.Checks.{VerdictsOf}
+use Rattle.submissions.specs.Checks.{VerdictsOf, IsRuling, IsRuled}
+use Rattle.submissions.specs.declared.Ruled.{Ruled}
+use Rattle.submissions.specs.declared.Ruling.TheVariants as ruling
 use Rattle.submissions.specs.declared.Checked.{Checked}
 use Rattle.submissions.specs.declared.Judgement.TheVariants.{Refused, Sound}
 use Rattle.lane_sources.specs.Sources.{lanes_of, all_of, left_at, HasComeTo, IsSource, SubmissionAt}
-use Rattle.lane_sources.proofs.Saying.{come_refused, come_sound, sound_left, all_few}
+use Rattle.lane_sources.proofs.Saying.{come_refused, come_sound, sound_left, refused_left, all_few}
 
 lt_or : (a b : ℕ) → (a < b) ⊎ ((r : ℕ) × (a ≡ b + r))
 lt_or zero zero = inr (0, refl)
@@ -61,3 +63,55 @@ module _ (K : Shape) (verdicts : VerdictsOf) (file : List FullTx) (lane at sent 
     where
       one_more : (n m : ℕ) → 0 < n → m ≤ n * m
       one_more n m some = let h : m * 1 ≤ m * n = mul-le-mul_left m (omega (arith, some)) in omega (arith, h)
+
+-- ---- what is made of a submission
+
+some_same : {A : Type 0} (x y : A) → Some x ≡ Some y → x ≡ y
+some_same x y e = cc
+
+pub any_err : {A E : Type 0} (r : Result A E) (P : Type 0) → P → IfErr r (λ _. P)
+any_err (Ok a) P p = tt
+any_err (Err e) P p = p
+
+-- an item that was read at a place is the one that stands there
+pub there_is : (file txs : List FullTx) (at : ℕ) (x : FullTx) → txs ≡ file → at < length txs → x ≡ get_or txs at x → slice_get file at ≡ Some x
+there_is file txs at x same low is = subst (λ f. slice_get f at ≡ Some x) same (slice_get-get_or txs at x low ∙ ap (λ y. Some y) (sym is))
+
+pub only_one : (file : List FullTx) (at : ℕ) (t x : FullTx) → slice_get file at ≡ Some t → slice_get file at ≡ Some x → x ≡ t
+only_one file at t x a b = some_same x t (sym b ∙ a)
+
+pub ruled_sound : (verdicts : VerdictsOf) (t : FullTx) (r : Ruled) (own : Compact) → IsRuled verdicts t r → r.ruling ≡ ruling.Sound own → (r.id ≡ tx_id t) × IsSound t (verdicts (tx_id t)) × (own ≡ compact t)
+ruled_sound verdicts t r own (id, is) e = let k : IsRuling verdicts t (ruling.Sound own) = subst (λ x. IsRuling verdicts t x) e is in (id, k.0, k.1)
+
+pub ruled_refused : (verdicts : VerdictsOf) (t : FullTx) (r : Ruled) (why : Refusal) → IsRuled verdicts t r → r.ruling ≡ ruling.Refused why → (r.id ≡ tx_id t) × IsFirstRefusal t (verdicts (tx_id t)) why
+ruled_refused verdicts t r why (id, is) e = (id, subst (λ x. IsRuling verdicts t x) e is)
+
+module _ (K : Shape) (verdicts : VerdictsOf) (file : List FullTx) (lane at sent : ℕ) (checked : List Checked) (t : FullTx) (come : HasComeTo K verdicts file lane at sent checked) (there : slice_get file at ≡ Some t) where
+  pub left_some : IsSound t (verdicts (tx_id t)) → 0 < length (left_at K verdicts file lane at)
+  left_some s = let e : length (left_at K verdicts file lane at) ≡ suc (length (left_at K verdicts file lane (at + lanes_of K))) = ap (λ xs. length xs) (sound_left K verdicts file lane at sent checked t come there s) in omega (arith, e)
+
+  pub given_sound : (piece new : List Compact) (own : Compact) (next : ℕ) → IsSound t (verdicts (tx_id t)) → own ≡ compact t → new ≡ piece ++ own ∷ [] → next ≡ at + lanes_of K
+      → new ++ left_at K verdicts file lane next ≡ piece ++ left_at K verdicts file lane at
+  given_sound piece new own next s own_is new_is next_is =
+      ap (λ xs. xs ++ left_at K verdicts file lane next) new_is
+      ∙ append_assoc piece (own ∷ []) (left_at K verdicts file lane next)
+      ∙ ap (λ xs. piece ++ xs) (ap (λ k. k ∷ left_at K verdicts file lane next) own_is ∙ (ap (λ j. compact t ∷ left_at K verdicts file lane j) next_is ∙ sym (sound_left K verdicts file lane at sent checked t come there s)))
+
+  pub given_refused : (piece new : List Compact) (next : ℕ) (r : Refusal) → IsFirstRefusal t (verdicts (tx_id t)) r → new ≡ piece → next ≡ at + lanes_of K
+      → new ++ left_at K verdicts file lane next ≡ piece ++ left_at K verdicts file lane at
+  given_refused piece new next r f new_is next_is =
+      ap (λ xs. xs ++ left_at K verdicts file lane next) new_is
+      ∙ ap (λ xs. piece ++ xs) (ap (λ j. left_at K verdicts file lane j) next_is ∙ sym (refused_left K verdicts file lane at sent checked t come there r f))
+
+-- a submission that lies before where the source has come to has its number
+pub index_in : (n lane len at i : ℕ) → at ≡ lane + n * len → lane + n * i < at → i < len
+index_in n lane len at i is low = go (lt_or i len)
+  where
+    go : (i < len) ⊎ ((r : ℕ) × (i ≡ len + r)) → i < len
+    go (inl h) = h
+    go (inr (r, e)) = let more : n * len ≤ n * i = mul-le-mul_left n (omega (arith, e)) in absurd (omega (arith, more, is, low))
+
+-- a place, by its lane and its number there
+pub place_of : (n lanes place lane : ℕ) → lanes ≡ n → lane ≡ place % lanes → lane + n * (place / lanes) ≡ place
+place_of n lanes place lane many is = subst (λ m. lane + m * (place / lanes) ≡ place) many
+    (let h : lanes * (place / lanes) + place % lanes ≡ place = div-add-mod place lanes in omega (arith, h, is))
