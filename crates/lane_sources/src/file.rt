@@ -31,6 +31,7 @@ impl Deals for Brand {
 
 /// The submissions of the file that `F` picks, with what tells verdicts, and the number of lanes. Contracts see the number alone; the
 /// rest is what the type says.
+#[derive(Drop)]
 pub struct FileOf<'a, V: Verifier, F: Deals> {
     txs: &'a [FullTx],
     verifier: &'a V,

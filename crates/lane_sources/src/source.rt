@@ -15,6 +15,7 @@ use verifier_port::Verifier;
 
 /// What a file sends to a lane: the submission at place j goes to lane j modulo the number of lanes, and the compact forms of the sound
 /// ones are sent. Each is checked when the lane comes to it, and what is said of it is kept.
+#[derive(Drop)]
 pub struct LaneSource<'a, V: Verifier, F: Deals> {
     file: &'a FileOf<'a, V, F>,
     lane: usize,
