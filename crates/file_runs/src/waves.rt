@@ -11,6 +11,7 @@ use lane_driver::{LaneFault, no_memory};
 use ledger_nodes::{Ledger, run_wave};
 use ledger_runs::{Lane, first_fault};
 use outside::{Disk, Gate};
+use requests::RunOptions;
 use std::alloc::{AllocError, Global};
 use std::sync::Wait;
 use std::thread::Threads;
@@ -32,12 +33,16 @@ pub struct FileRun<D: Disk> {
 }
 
 // The lanes of a wave, none of which has run anything.
-fn lanes_of(alloc: Global, lists: Vec<Vec<CompactTx>>) -> Result<Vec<Lane>, AllocError>
+fn lanes_of(
+    alloc: Global,
+    lists: Vec<Vec<CompactTx>>,
+    repeats: u32,
+) -> Result<Vec<Lane>, AllocError>
     ensures { IfOk result (λ v. AreLanesOf lists.items v.items) }
 {
     let mut lanes = Vec::with_capacity(alloc, lists.len())?;
     'lists: for txs in lists {
-        lanes.push(Lane::new(alloc, txs)?)?;
+        lanes.push(Lane::new(alloc, txs, repeats)?)?;
     }
     Ok(lanes)
 }
@@ -50,6 +55,7 @@ pub fn run_file<W: Wait + Threads + Sync, D: Disk + Send, V: Verifier + Sync, G:
     ledger: Ledger<D>,
     txs: &[FullTx],
     verifier: &V,
+    options: RunOptions,
     gate: &G,
 ) -> FileRun<D>
     requires idle { AreIdle ledger.header.shape (journals D.count D.limit ledger) }
@@ -69,7 +75,7 @@ pub fn run_file<W: Wait + Threads + Sync, D: Disk + Send, V: Verifier + Sync, G:
             came: Err(no_memory()),
         };
     };
-    let Ok(mut lanes) = lanes_of(alloc, lanes) else {
+    let Ok(mut lanes) = lanes_of(alloc, lanes, options.repeats) else {
         return FileRun {
             ledger,
             came: Err(no_memory()),

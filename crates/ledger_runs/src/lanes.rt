@@ -13,11 +13,12 @@ pub struct Decided {
     pub outcome: Outcome,
 }
 
-/// A lane of a wave: its transactions, what was decided of those that it ran, how many batches that took, and why it stopped, if it
-/// did.
+/// A lane of a wave: its transactions, how many times more each of their shard calls is made, what was decided of those that it ran,
+/// how many batches that took, and why it stopped, if it did.
 #[derive(Drop)]
 pub struct Lane {
     pub txs: Vec<CompactTx>,
+    pub repeats: u32,
     pub decided: Vec<Decided>,
     pub batches: u64,
     pub fault: Option<LaneFault>,
@@ -25,14 +26,15 @@ pub struct Lane {
 
 impl Lane {
     /// A lane that has run none of its transactions.
-    pub fn new(alloc: Global, txs: Vec<CompactTx>) -> Result<Lane, AllocError>
-        ensures txs { IfOk result (λ l. l.txs ≡ txs) }
+    pub fn new(alloc: Global, txs: Vec<CompactTx>, repeats: u32) -> Result<Lane, AllocError>
+        ensures txs { IfOk result (λ l. (l.txs ≡ txs) × (l.repeats ≡ repeats)) }
         ensures fault { IfOk result (λ l. l.fault ≡ None) }
         ensures fresh { IfOk result (λ l. (l.decided.items ≡ []) × (l.batches ≡ 0)) }
     {
         let decided = Vec::with_capacity(alloc, txs.len())?;
         Ok(Lane {
             txs,
+            repeats,
             decided,
             batches: 0,
             fault: None,
