@@ -79,7 +79,11 @@ fn name_at<'a>(request: &Request<'a>, place: u64) -> &'a str
 {
     match request {
         Request::Init { mint, .. } => mint.name,
-        Request::Run { verdicts, clients } => match client_at(clients, place) {
+        Request::Run {
+            verdicts,
+            clients,
+            ..
+        } => match client_at(clients, place) {
             Some(name) => name,
             None => verdicts.name,
         },
@@ -130,9 +134,13 @@ where
 {
     match request {
         Request::Init { shape, mint } => init(alloc, shape, mint, inbox, rack, out),
-        Request::Run { verdicts, clients } => {
-            run(rt, alloc, clients, verdicts, inbox, rack, out, gate)
-        }
+        Request::Run {
+            verdicts,
+            clients,
+            options,
+        } => run(
+            rt, alloc, clients, verdicts, *options, inbox, rack, out, gate,
+        ),
         Request::Recover => recover(rt, alloc, rack, out, gate),
         Request::Status { hashes } => status(alloc, hashes, rack, out),
         Request::Audit { mint, clients } => audit(alloc, mint, clients, inbox, rack, out),

@@ -16,6 +16,7 @@ use ledger_nodes::{Ledger, run_wave};
 use lane_sources::{Deals, FileOf, LaneSource, checks_of};
 use ledger_runs::{Lane, Work, first_fault};
 use outside::{Disk, Gate};
+use requests::RunOptions;
 use std::alloc::{AllocError, Global};
 use std::marker::Brand;
 use std::sync::Wait;
@@ -64,13 +65,18 @@ fn wave_room<'a, V: Verifier, F: Deals>(
 fn works_of<'a, V: Verifier, F: Deals>(
     alloc: Global,
     file: &'a FileOf<'a, V, F>,
+    repeats: u32,
 ) -> Result<Vec<Work<LaneSource<'a, V, F>>>, AllocError>
     ensures { IfOk result (λ v. AreLanesOf F.shape F.verdicts F.file v.items) }
 {
     let count = file.lanes();
     let mut works = Vec::with_capacity(alloc, count)?;
     'lanes: for lane in 0..count {
-        works.push(Work::new(alloc, LaneSource::new(alloc, file, lane)?))?;
+        works.push(Work::new(
+            alloc,
+            LaneSource::new(alloc, file, lane)?,
+            repeats,
+        ))?;
     }
     Ok(works)
 }
@@ -115,6 +121,7 @@ fn run_picked<
     ledger: Ledger<D>,
     txs: &[FullTx],
     verifier: &V,
+    options: RunOptions,
     gate: &G,
 ) -> FileRun<D>
     requires shape { F.shape ≡ ledger.header.shape }
@@ -126,7 +133,7 @@ fn run_picked<
     ensures { RanFile D.count D.limit D.content D.images F.verdicts F.file ledger result.ledger result.came }
 {
     let file: FileOf<'_, V, F> = FileOf::new(txs, verifier, ledger.shape().lane_count());
-    let Ok(mut works) = works_of(alloc, &file) else {
+    let Ok(mut works) = works_of(alloc, &file, options.repeats) else {
         return FileRun {
             ledger,
             came: Err(no_memory()),
@@ -159,6 +166,7 @@ pub fn run_file<W: Wait + Threads + Sync, D: Disk + Send, V: Verifier + Sync, G:
     ledger: Ledger<D>,
     txs: &[FullTx],
     verifier: &V,
+    options: RunOptions,
     gate: &G,
 ) -> FileRun<D>
     requires idle { AreIdle ledger.header.shape (journals D.count D.limit ledger) }
@@ -166,5 +174,5 @@ pub fn run_file<W: Wait + Threads + Sync, D: Disk + Send, V: Verifier + Sync, G:
     requires checked { IsChecked D.count D.limit ledger }
     ensures { RanFile D.count D.limit D.content D.images (V.verdict_of verifier.now) txs.now ledger result.ledger result.came }
 {
-    run_picked::<W, D, V, Brand, G>(rt, alloc, ledger, txs, verifier, gate)
+    run_picked::<W, D, V, Brand, G>(rt, alloc, ledger, txs, verifier, options, gate)
 }

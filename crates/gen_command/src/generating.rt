@@ -21,6 +21,7 @@ use ledger_init::{Made, make_ledger};
 use outside::{Gate, Sink};
 use plain_rack::PlainRack;
 use rack_runs::run_on;
+use requests::RunOptions;
 use run_report::write_generated;
 use std::alloc::{AllocError, Global};
 use std::sync::Wait;
@@ -100,7 +101,8 @@ fn run_files<W: Wait + Threads + Sync, G: Gate + Sync>(
         Ok(made) => made,
         Err(fault) => return Err(fault),
     };
-    run_on(rt, alloc, rack, clients, &AllGood, gate)
+    let options = RunOptions { repeats: 0 };
+    run_on(rt, alloc, rack, clients, &AllGood, options, gate)
 }
 
 // Checks the ledger against its mint and client files.

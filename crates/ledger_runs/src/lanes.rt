@@ -1,5 +1,5 @@
 // The lanes of a wave.
-ghost use Rattle.std.specs.Prelude.{◌≡◌, [], None, IfOk};
+ghost use Rattle.std.specs.Prelude.{◌≡◌, [], None};
 ghost use Rattle.ledger_runs.specs.Waving.{FirstFaultIs};
 
 use cbdc_types::{BatchId, Outcome};
@@ -23,10 +23,12 @@ pub struct Lane {
     pub fault: Option<LaneFault>,
 }
 
-/// A lane of a wave: where its transactions come from, and what came of it. Contracts see all that the source gives.
+/// A lane of a wave: where its transactions come from, how many times more each of their shard calls is made, and what came of it.
+/// Contracts see all that the source gives.
 #[derive(Drop)]
 pub struct Work<X: Source> {
     pub source: X,
+    pub repeats: u32,
     pub lane: Lane,
 }
 
@@ -35,18 +37,19 @@ impl<X: Source> Model for Work<X> {
 
     ghost Value = { LaneOf };
 
-    ghost view = { λ w. record { txs = X.all w.source; decided = w.lane.decided; batches = w.lane.batches; fault = w.lane.fault } };
+    ghost view = { λ w. record { txs = X.all w.source; repeats = w.repeats; decided = w.lane.decided; batches = w.lane.batches; fault = w.lane.fault } };
 }
 
 impl<X: Source> Work<X> {
     /// A lane that has run none of its transactions.
-    pub fn new(alloc: Global, source: X) -> Work<X>
-        ensures txs { result.txs ≡ X.all source }
+    pub fn new(alloc: Global, source: X, repeats: u32) -> Work<X>
+        ensures txs { (result.txs ≡ X.all source) × (result.repeats ≡ repeats) }
         ensures fault { result.fault ≡ None }
         ensures fresh { (result.decided.items ≡ []) × (result.batches ≡ 0) }
     {
         Work {
             source,
+            repeats,
             lane: Lane {
                 decided: Vec::new(alloc),
                 batches: 0,
