@@ -23,7 +23,7 @@ use std::alloc::Global;
 /// call. With repeats, each shard call of a batch is made so many times more after its phase, and all its shard calls
 /// after it is done. The first batch that meets a fault ends it, and that fault is the answer. Where no other lane's
 /// records come meanwhile, the other lanes are as before.
-pub fn run_lane<S: PortSet, L: LogPort, G: Gate>(
+pub fn run_lane<S: PortSet<G>, L: LogPort, G: Gate>(
     alloc: Global,
     shape: &Shape,
     lane: LaneId,

@@ -1,75 +1,183 @@
-// The calls of a phase, made at once.
-ghost use Rattle.std.specs.Prelude.{◌≡◌, ◌<◌, length};
-ghost use denote.Param.Send.{IsSync, IsSend};
-ghost use Rattle.port_sets.specs.Phase.{Accepts, Makes, IsPhase, IsPhaseMade};
+// The shards of a ledger, each through a port of its own, and the calls of a phase at them.
+ghost use Rattle.std.specs.Prelude.{◌≡◌, ◌≢◌, ◌≤◌, ◌<◌, ℕ, true, false, length, IfOk, All};
+ghost use Rattle.cbdc_model.specs.Calls.{IsLockCall, IsFinishCall, IsForgetCall};
+ghost use Rattle.cbdc_model.specs.Grammar.{IsReply};
+ghost use Rattle.cbdc_model.specs.Due.{lock_due, finish_due, forget_due};
+ghost use Rattle.cbdc_model.specs.Sights.{Told};
+ghost use Rattle.lane_driver.specs.Told.{IsStamp, KeepNodes};
+ghost use Rattle.node_ports.specs.Nodes.{sight_at};
+ghost use Rattle.port_sets.specs.Phase.{TakesPhase, PhaseCalled, MakesAll};
 
-use std::thread::{Threads, join_mut};
+use cbdc_types::{FinishCall, ForgetCall, LockCall, NodeFault, Replied, Stamp};
+use lane_driver::{PortSet, ShardPort};
+use outside::{Gate, Point};
+use std::sync::Wait;
 
-/// Calls `f` with each call and the port of its shard, all but one in a thread of its own where one can be made. The ports stand for the
-/// shards from `first` on, and the calls' shards rise.
-//
-// The calls are halved at each step and one half goes to a new thread, so the stack grows as the logarithm of their number.
-#[cycle(halves)]
-pub(crate) fn at_each<
-    R: Threads + Sync,
-    P: Send,
-    C: Sync,
-    A: Send + Drop,
-    F: Fn(&mut P, &C) -> A + Sync,
->(rt: &R, f: &F, first: u32, calls: &[(u32, C)], answers: &mut [A], ports: &mut [P])
-    requires { IsPhase (Accepts F.Fn f.now) first calls.now ports.old answers.old }
-    ensures { IsPhaseMade (Makes F.Fn f.now) first calls.now ports.old ports.new answers.new }
-{
-    let Some(((shard, call), rest)) = calls.split_first() else {
-        return;
-    };
-    if rest.is_empty() {
-        answers[0] = f(&mut ports[(*shard - first) as usize], call);
-        return;
-    }
-    let half = calls.len() / 2;
-    let (low, high) = calls.split_at(half);
-    let at = high[0].0;
-    let (low_answers, high_answers) = answers.split_at_mut(half);
-    let (low_ports, high_ports) = ports.split_at_mut((at - first) as usize);
-    both_halves(
-        rt, f, first, low, low_answers, low_ports, at, high, high_answers, high_ports,
-    );
+/// A gate, and what makes the calls of a phase at once: each is given the calls, a place for their answers, and the ports.
+#[derive(Drop)]
+pub struct AtOnce<'g, G, L, N, T> {
+    pub gate: &'g G,
+    pub lock: &'g L,
+    pub finish: &'g N,
+    pub forget: &'g T,
 }
 
-// Apart from `at_each`, so that what the closures require is what this function is given.
-#[cycle(halves)]
-fn both_halves<
-    R: Threads + Sync,
-    P: Send,
-    C: Sync,
-    A: Send + Drop,
-    F: Fn(&mut P, &C) -> A + Sync,
->(
-    rt: &R,
+impl<'g, G: Gate, L, N, T> Gate for AtOnce<'g, G, L, N, T> {
+    fn pass<W: Wait>(&self, rt: &W, point: &Point) {
+        self.gate.pass(rt, point);
+    }
+}
+
+/// The shards of a ledger for one lane, each through a port of its own. With `at_once` the calls of a phase of more than one are made at once, by
+/// what comes with the gate; else one after another by the caller.
+pub struct Fanout<P> {
+    pub at_once: bool,
+    pub ports: Vec<P>,
+}
+
+// Has the calls of a phase made.
+fn make_phase<P, C, A, F: Fn(&[(u32, C)], &mut Vec<A>, &mut [P])>(
     f: &F,
-    first: u32,
-    low: &[(u32, C)],
-    low_answers: &mut [A],
-    low_ports: &mut [P],
-    at: u32,
-    high: &[(u32, C)],
-    high_answers: &mut [A],
-    high_ports: &mut [P],
+    calls: &[(u32, C)],
+    out: &mut Vec<A>,
+    ports: &mut [P],
 )
-    requires some { (0 < length low.now) × (0 < length high.now) }
-    requires low { IsPhase (Accepts F.Fn f.now) first low.now low_ports.old low_answers.old }
-    requires high { IsPhase (Accepts F.Fn f.now) at high.now high_ports.old high_answers.old }
-    ensures low { IsPhaseMade (Makes F.Fn f.now) first low.now low_ports.old low_ports.new low_answers.new }
-    ensures high { IsPhaseMade (Makes F.Fn f.now) at high.now high_ports.old high_ports.new high_answers.new }
+    requires { TakesPhase F.Fn f.now calls.now out.old ports.old }
+    ensures { PhaseCalled F.Fn f.now calls.now out.old ports.old out.new ports.new }
 {
-    let mut front = ||
-        requires { IsSync R.row × IsSync F.row × IsSync C.row × IsSend P.row × IsSend A.row × IsPhase (Accepts F.Fn f.now) first low.now low_ports.now low_answers.now }
-        ensures { IsPhaseMade (Makes F.Fn f.entry.now) first low.entry.now low_ports.entry.now low_ports.exit.now low_answers.exit.now }
-    { at_each(rt, f, first, low, low_answers, low_ports) };
-    let mut back = ||
-        requires { IsSync R.row × IsSync F.row × IsSync C.row × IsSend P.row × IsSend A.row × IsPhase (Accepts F.Fn f.now) at high.now high_ports.now high_answers.now }
-        ensures { IsPhaseMade (Makes F.Fn f.entry.now) at high.entry.now high_ports.entry.now high_ports.exit.now high_answers.exit.now }
-    { at_each(rt, f, at, high, high_answers, high_ports) };
-    join_mut(rt, &mut front, &mut back);
+    f(calls, out, ports);
+}
+
+impl<P: ShardPort> Fanout<P> {
+    fn lock_one<G: Gate>(
+        &mut self,
+        shard: u32,
+        call: &LockCall,
+        gate: &G,
+    ) -> Result<Replied, NodeFault>
+        requires place { shard < length self.old.ports.items }
+        requires call { IsLockCall (sight_at P.sight self.old.ports.items shard).header call.now }
+        requires mine { All (λ p. P.serves p call.now.batch.lane) self.old.ports.items }
+        ensures answer { Told P.alone call.now.batch.lane true (lock_due (sight_at P.sight self.old.ports.items shard).header.shape (sight_at P.sight self.old.ports.items shard).capacity call.now) (sight_at P.sight self.old.ports.items shard) (sight_at P.sight self.new.ports.items shard) result }
+        ensures told { IfOk result (λ a. IsStamp a.stamp × All (IsReply (sight_at P.sight self.old.ports.items shard).header.shape) a.replies) }
+        ensures elsewhere { (n : ℕ) → n ≢ shard → sight_at P.sight self.new.ports.items n ≡ sight_at P.sight self.old.ports.items n }
+        ensures nodes { KeepNodes (sight_at P.sight self.old.ports.items) (sight_at P.sight self.new.ports.items) }
+        ensures count { length self.new.ports.items ≡ length self.old.ports.items }
+        ensures later { (n : ℕ) → (sight_at P.sight self.old.ports.items n).faults ≤ (sight_at P.sight self.new.ports.items n).faults }
+        ensures holds { All P.holds self.old.ports.items → All P.holds self.new.ports.items }
+        ensures serves { (l : ℕ) → All (λ p. P.serves p l) self.old.ports.items → All (λ p. P.serves p l) self.new.ports.items }
+    {
+        self.ports[shard as usize].lock(call, gate)
+    }
+
+    fn finish_one<G: Gate>(
+        &mut self,
+        shard: u32,
+        call: &FinishCall,
+        gate: &G,
+    ) -> Result<Stamp, NodeFault>
+        requires place { shard < length self.old.ports.items }
+        requires call { IsFinishCall (sight_at P.sight self.old.ports.items shard).header call.now }
+        requires mine { All (λ p. P.serves p call.now.batch.lane) self.old.ports.items }
+        ensures answer { Told P.alone call.now.batch.lane false (finish_due call.now) (sight_at P.sight self.old.ports.items shard) (sight_at P.sight self.new.ports.items shard) result }
+        ensures told { IfOk result IsStamp }
+        ensures elsewhere { (n : ℕ) → n ≢ shard → sight_at P.sight self.new.ports.items n ≡ sight_at P.sight self.old.ports.items n }
+        ensures nodes { KeepNodes (sight_at P.sight self.old.ports.items) (sight_at P.sight self.new.ports.items) }
+        ensures count { length self.new.ports.items ≡ length self.old.ports.items }
+        ensures later { (n : ℕ) → (sight_at P.sight self.old.ports.items n).faults ≤ (sight_at P.sight self.new.ports.items n).faults }
+        ensures holds { All P.holds self.old.ports.items → All P.holds self.new.ports.items }
+        ensures serves { (l : ℕ) → All (λ p. P.serves p l) self.old.ports.items → All (λ p. P.serves p l) self.new.ports.items }
+    {
+        self.ports[shard as usize].finish(call, gate)
+    }
+
+    fn forget_one<G: Gate>(
+        &mut self,
+        shard: u32,
+        call: &ForgetCall,
+        gate: &G,
+    ) -> Result<Stamp, NodeFault>
+        requires place { shard < length self.old.ports.items }
+        requires call { IsForgetCall (sight_at P.sight self.old.ports.items shard).header call.now }
+        requires mine { All (λ p. P.serves p call.now.batch.lane) self.old.ports.items }
+        ensures answer { Told P.alone call.now.batch.lane false (forget_due call.now) (sight_at P.sight self.old.ports.items shard) (sight_at P.sight self.new.ports.items shard) result }
+        ensures told { IfOk result IsStamp }
+        ensures elsewhere { (n : ℕ) → n ≢ shard → sight_at P.sight self.new.ports.items n ≡ sight_at P.sight self.old.ports.items n }
+        ensures nodes { KeepNodes (sight_at P.sight self.old.ports.items) (sight_at P.sight self.new.ports.items) }
+        ensures count { length self.new.ports.items ≡ length self.old.ports.items }
+        ensures later { (n : ℕ) → (sight_at P.sight self.old.ports.items n).faults ≤ (sight_at P.sight self.new.ports.items n).faults }
+        ensures holds { All P.holds self.old.ports.items → All P.holds self.new.ports.items }
+        ensures serves { (l : ℕ) → All (λ p. P.serves p l) self.old.ports.items → All (λ p. P.serves p l) self.new.ports.items }
+    {
+        self.ports[shard as usize].forget(call, gate)
+    }
+}
+
+impl<
+    'g,
+    P: ShardPort,
+    G: Gate,
+    L: Fn(&[(u32, LockCall)], &mut Vec<Result<Replied, NodeFault>>, &mut [P]),
+    N: Fn(&[(u32, FinishCall)], &mut Vec<Result<Stamp, NodeFault>>, &mut [P]),
+    T: Fn(&[(u32, ForgetCall)], &mut Vec<Result<Stamp, NodeFault>>, &mut [P]),
+> PortSet<AtOnce<'g, G, L, N, T>> for Fanout<P> {
+    ghost sights = { λ p n. sight_at P.sight p.ports.items n };
+
+    ghost alone = { P.alone };
+
+    ghost count = { λ p. length p.ports.items };
+
+    ghost faults = { λ p n. (sight_at P.sight p.ports.items n).faults };
+
+    ghost holds = { λ p. All P.holds p.ports.items };
+
+    ghost serves = { λ p lane. All (λ q. P.serves q lane) p.ports.items × MakesAll L.Fn N.Fn T.Fn P.sight P.serves P.alone P.at P.faults P.holds };
+
+    fn lock(
+        &mut self,
+        calls: &[(u32, LockCall)],
+        out: &mut Vec<Result<Replied, NodeFault>>,
+        gate: &AtOnce<'g, G, L, N, T>,
+    ) {
+        if self.at_once && calls.len() > 1 {
+            make_phase(gate.lock, calls, out, self.ports.as_mut_slice());
+            return;
+        }
+        'calls: for (shard, call) in calls {
+            let answer = self.lock_one(*shard, call, gate);
+            out.push_reserved(answer);
+        }
+    }
+
+    fn finish(
+        &mut self,
+        calls: &[(u32, FinishCall)],
+        out: &mut Vec<Result<Stamp, NodeFault>>,
+        gate: &AtOnce<'g, G, L, N, T>,
+    ) {
+        if self.at_once && calls.len() > 1 {
+            make_phase(gate.finish, calls, out, self.ports.as_mut_slice());
+            return;
+        }
+        'calls: for (shard, call) in calls {
+            let answer = self.finish_one(*shard, call, gate);
+            out.push_reserved(answer);
+        }
+    }
+
+    fn forget(
+        &mut self,
+        calls: &[(u32, ForgetCall)],
+        out: &mut Vec<Result<Stamp, NodeFault>>,
+        gate: &AtOnce<'g, G, L, N, T>,
+    ) {
+        if self.at_once && calls.len() > 1 {
+            make_phase(gate.forget, calls, out, self.ports.as_mut_slice());
+            return;
+        }
+        'calls: for (shard, call) in calls {
+            let answer = self.forget_one(*shard, call, gate);
+            out.push_reserved(answer);
+        }
+    }
 }

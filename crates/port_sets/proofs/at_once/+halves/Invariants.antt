@@ -1,5 +1,5 @@
 use Rattle.std.proofs.Common.{◌+◌, ◌-◌, ◌*◌, length}
-use Rattle.port_sets.proofs.fanout.+halves.Given as goal
+use Rattle.port_sets.proofs.at_once.+halves.Given as goal
 
 abbrev pub decreases-at_each : goal.decreases-at_each
 decreases-at_each g l = 4 * length l.calls.now

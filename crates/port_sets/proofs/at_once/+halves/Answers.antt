@@ -1,7 +1,7 @@
 use Rattle.std.proofs.Common.{rules, ◌≡◌, ◌<◌, length, ℕ, ◌+◌, ◌-◌, ◌≤◌, ◌∷◌, ◌++◌, sym, refl, subst, arith}
 use Rattle.port_sets.specs.Phase.{Accepts, Makes, IsPhaseMade}
 use Rattle.port_sets.proofs.Halves.{first_call, inside, port_is, made_alone, first_taken, cut_at, low_phase, high_phase, all_made}
-use Rattle.port_sets.proofs.fanout.+halves.Goals as goal
+use Rattle.port_sets.proofs.at_once.+halves.Goals as goal
 
 pub at_each-bounds-ports-shard : goal.at_each-bounds-ports-shard
 at_each-bounds-ports-shard g t c =
