@@ -37,7 +37,7 @@ fn home(shape: &Shape, lane: LaneId) -> NodeId
 
 /// Takes a discarded batch to its end: the shards forget it, and it is done. Its forget calls are made so many times
 /// more after their phase. There is room for the calls.
-pub fn from_discarded<S: PortSet, L: LogPort, G: Gate>(
+pub fn from_discarded<S: PortSet<G>, L: LogPort, G: Gate>(
     shape: &Shape,
     batch: &BatchId,
     cause: Stamp,
@@ -88,7 +88,7 @@ pub fn from_discarded<S: PortSet, L: LogPort, G: Gate>(
 
 /// Takes a committed batch to its end: the shards apply it, it is discarded, and the shards forget it. Its finish and
 /// forget calls are made so many times more after their phase, and all its calls after it is done.
-pub fn from_committed<S: PortSet, L: LogPort, G: Gate>(
+pub fn from_committed<S: PortSet<G>, L: LogPort, G: Gate>(
     shape: &Shape,
     batch: &BatchId,
     cause: Stamp,
@@ -166,7 +166,7 @@ pub fn from_committed<S: PortSet, L: LogPort, G: Gate>(
 
 /// Takes a prepared batch to its end: its shards lock their parts, it is decided by their replies, and what follows
 /// a Commit. Each shard call is made so many times more after its phase, and all its calls after it is done.
-pub fn from_prepared<S: PortSet, L: LogPort, G: Gate>(
+pub fn from_prepared<S: PortSet<G>, L: LogPort, G: Gate>(
     shape: &Shape,
     batch: &BatchId,
     cause: Stamp,
@@ -229,7 +229,7 @@ pub fn from_prepared<S: PortSet, L: LogPort, G: Gate>(
 }
 
 // One batch of an idle lane, from its Prepare to its end.
-pub(crate) fn one_batch<S: PortSet, L: LogPort, G: Gate>(
+pub(crate) fn one_batch<S: PortSet<G>, L: LogPort, G: Gate>(
     alloc: Global,
     shape: &Shape,
     lane: LaneId,
@@ -286,7 +286,7 @@ pub(crate) fn one_batch<S: PortSet, L: LogPort, G: Gate>(
 /// Runs one batch of an idle lane: 1 to `batch` transactions. With repeats, each shard call is made so many times
 /// more after its phase, and all its shard calls after it is done. Where no other lane's records come meanwhile, the other
 /// lanes are as before.
-pub fn run_batch<S: PortSet, L: LogPort, G: Gate>(
+pub fn run_batch<S: PortSet<G>, L: LogPort, G: Gate>(
     alloc: Global,
     shape: &Shape,
     lane: LaneId,

@@ -24,7 +24,7 @@ use std::alloc::Global;
 /// call. Each batch is taken from the source when those before it are done; where memory runs out there, the lane ends. With repeats, each shard call of a batch is made so many times more after its phase, and all its shard calls
 /// after it is done. The first batch that meets a fault ends it, and that fault is the answer. Where no other lane's
 /// records come meanwhile, the other lanes are as before.
-pub fn run_lane<S: PortSet, L: LogPort, X: Source, G: Gate>(
+pub fn run_lane<S: PortSet<G>, L: LogPort, X: Source, G: Gate>(
     alloc: Global,
     shape: &Shape,
     lane: LaneId,

@@ -30,7 +30,7 @@ fn of_shard(shape: &Shape, fault: ShardFault) -> Stop
 }
 
 /// Makes the lock calls again, so many times, and drops the answers.
-pub fn lock_again<S: PortSet, G: Gate>(
+pub fn lock_again<S: PortSet<G>, G: Gate>(
     shards: &mut S,
     calls: &[(u32, LockCall)],
     answers: &mut Vec<Result<Replied, NodeFault>>,
@@ -52,7 +52,7 @@ pub fn lock_again<S: PortSet, G: Gate>(
 }
 
 /// Makes the finish calls again, so many times, and drops the answers.
-pub fn finish_again<S: PortSet, G: Gate>(
+pub fn finish_again<S: PortSet<G>, G: Gate>(
     shards: &mut S,
     calls: &[(u32, FinishCall)],
     answers: &mut Vec<Result<Stamp, NodeFault>>,
@@ -74,7 +74,7 @@ pub fn finish_again<S: PortSet, G: Gate>(
 }
 
 /// Makes the forget calls again, so many times, and drops the answers.
-pub fn forget_again<S: PortSet, G: Gate>(
+pub fn forget_again<S: PortSet<G>, G: Gate>(
     shards: &mut S,
     calls: &[(u32, ForgetCall)],
     answers: &mut Vec<Result<Stamp, NodeFault>>,
@@ -96,7 +96,7 @@ pub fn forget_again<S: PortSet, G: Gate>(
 }
 
 /// Locks the parts at their shards, and gathers the replies, or tells the fault of the least shard that had one.
-pub fn lock_phase<S: PortSet, G: Gate>(
+pub fn lock_phase<S: PortSet<G>, G: Gate>(
     shape: &Shape,
     shards: &mut S,
     calls: &[(u32, LockCall)],
@@ -127,7 +127,7 @@ pub fn lock_phase<S: PortSet, G: Gate>(
 }
 
 /// Applies the batch at its shards: the greatest stamp of its Finishes, or the fault of the least shard that had one.
-pub fn finish_phase<S: PortSet, G: Gate>(
+pub fn finish_phase<S: PortSet<G>, G: Gate>(
     shape: &Shape,
     shards: &mut S,
     calls: &[(u32, FinishCall)],
@@ -155,7 +155,7 @@ pub fn finish_phase<S: PortSet, G: Gate>(
 }
 
 /// Lets the shards forget the batch: the greatest stamp of its Forgets, or the fault of the least shard that had one.
-pub fn forget_phase<S: PortSet, G: Gate>(
+pub fn forget_phase<S: PortSet<G>, G: Gate>(
     shape: &Shape,
     shards: &mut S,
     calls: &[(u32, ForgetCall)],

@@ -26,7 +26,7 @@ fn copied(alloc: Global, outcomes: &[Outcome]) -> Result<Outcomes, AllocError>
 }
 
 // A prepared batch asks Lock again and goes on.
-fn resume_prepared<S: PortSet, L: LogPort, G: Gate>(
+fn resume_prepared<S: PortSet<G>, L: LogPort, G: Gate>(
     alloc: Global,
     shape: &Shape,
     unfinished: &OpenLane,
@@ -77,7 +77,7 @@ fn resume_prepared<S: PortSet, L: LogPort, G: Gate>(
 }
 
 // A committed batch asks Finish and goes on.
-fn resume_committed<S: PortSet, L: LogPort, G: Gate>(
+fn resume_committed<S: PortSet<G>, L: LogPort, G: Gate>(
     alloc: Global,
     shape: &Shape,
     unfinished: &OpenLane,
@@ -145,7 +145,7 @@ fn resume_committed<S: PortSet, L: LogPort, G: Gate>(
 }
 
 // A discarded batch asks Forget and goes on.
-fn resume_discarded<S: PortSet, L: LogPort, G: Gate>(
+fn resume_discarded<S: PortSet<G>, L: LogPort, G: Gate>(
     alloc: Global,
     shape: &Shape,
     unfinished: &OpenLane,
@@ -218,7 +218,7 @@ fn resume_discarded<S: PortSet, L: LogPort, G: Gate>(
 }
 
 // Takes one open batch to its end, from the phase in which it stands.
-fn resume_lane<S: PortSet, L: LogPort, G: Gate>(
+fn resume_lane<S: PortSet<G>, L: LogPort, G: Gate>(
     alloc: Global,
     shape: &Shape,
     unfinished: &OpenLane,
@@ -276,7 +276,7 @@ fn keep(
 /// idle, each once, in rising order. Where it has more than one, no other lane writes meanwhile: a port tells of the lane that
 /// it is called for and lets records of all others come, those of the list's later lanes too. Where none write, the lanes that
 /// are not listed are as before. A lane that meets a fault ends; the others go on. The answer is then the least lane's fault.
-pub fn resume<S: PortSet, L: LogPort, G: Gate>(
+pub fn resume<S: PortSet<G>, L: LogPort, G: Gate>(
     alloc: Global,
     shape: &Shape,
     lanes: &[OpenLane],
