@@ -16,7 +16,7 @@ use Rattle.lane_laws.proofs.Laning.{lane_goes_on, lane_stops}
 use Rattle.lane_driver.specs.declared.fault.LaneFault.{LaneFault}
 use Rattle.lane_driver.specs.declared.fault.Stop.{Stop}
 use Rattle.lane_driver.specs.declared.fault.LaneFaultKind.TheVariants.{Memory as NoMemory}
-use Rattle.lane_driver.specs.Stops.{IsFaultOf, IsStopOf, HasNoMemory, IsPreparedStopped, IsOneStopped, IsOneTold, IsBatchStopped, IsBatchTold}
+use Rattle.lane_driver.specs.Stops.{IsFaultOf, IsStopOf, HasNoMemory, IsPreparedStopped, IsOneStoppedAt, IsOneToldAt, IsOneStopped, IsOneTold, IsBatchStoppedAt, IsBatchToldAt, IsBatchStopped, IsBatchTold}
 use Rattle.lane_driver.specs.declared.fault.BatchReport.{BatchReport}
 use Rattle.lane_driver.specs.Reports.{AreDone}
 use Rattle.std.specs.Prelude.{◌++◌, reverse}
@@ -24,43 +24,54 @@ use Rattle.std.proofs.lemmas.List.{reverse-append}
 use Rattle.std.proofs.Common.{ap}
 
 module _ (K : Shape) (alone : Bool) (lane : ℕ) (txs : List Compact) (n : ℕ) (parts : List (ℕ × List Entry)) (log log1 : Sight) (I : ℕ → Sight) (are : AreParts K txs parts) where
-  pub prepare_stops : (f : NodeFault) (e : Stop) → IsStopOf e (home_of K lane) f → Told alone lane true (prepare_due log.header.shape log.capacity lane txs) log log1 (Err f) → IsOneStopped K alone lane txs log I log1 I e
-  prepare_stops f e at told = inr (λ k st. (home_of K lane, f, at, batch_stopped K alone lane k txs n parts log log1 I I (home_of K lane) f st are (at_prepare told (λ s. refl) refl)))
+  pub prepare_stops : (f : NodeFault) (e : Stop) → IsStopOf e (home_of K lane) f → Told alone lane true (prepare_due log.header.shape log.capacity lane txs) log log1 (Err f) → IsOneStoppedAt K alone lane txs log I log1 I e
+  prepare_stops f e at told = λ k st. (home_of K lane, f, at, batch_stopped K alone lane k txs n parts log log1 I I (home_of K lane) f st are (at_prepare told (λ s. refl) refl))
 
-  pub prepare_told : (f : NodeFault) (e : Stop) → IsStopOf e (home_of K lane) f → Told alone lane true (prepare_due log.header.shape log.capacity lane txs) log log1 (Err f) → IsOneTold K alone lane txs n log I log1 I e
-  prepare_told f e at told = inr (parts, are, home_of K lane, f, at, at_prepare told (λ s. refl) refl)
+  pub prepare_told : (f : NodeFault) (e : Stop) → IsStopOf e (home_of K lane) f → Told alone lane true (prepare_due log.header.shape log.capacity lane txs) log log1 (Err f) → IsOneToldAt K alone lane txs n log I log1 I e
+  prepare_told f e at told = (parts, are, home_of K lane, f, at, at_prepare told (λ s. refl) refl)
 
   module _ (b : Batch) (t : ℕ) (told : Told alone lane true (prepare_due log.header.shape log.capacity lane txs) log log1 (Ok (b, t))) (log' : Sight) (J : ℕ → Sight) where
     pub prepared_done : (os : List Outcome) → ToldPrepared alone b t n parts log1 log' I J os → (k : ℕ) → Settled K lane k log I → BatchDone K alone lane k txs log I log' J b os
     prepared_done os rest k st = batch_done K alone lane k txs n parts log log' I J b os st are (record { log_prepared = log1; prepared = t; prepare = told; rest = rest })
 
-    pub prepared_stops : (e : Stop) → IsPreparedStopped K alone b t n parts log1 log' I J e → IsOneStopped K alone lane txs log I log' J e
-    prepared_stops e (node, f, at, stop) = inr (λ k st. (node, f, at, batch_stopped K alone lane k txs n parts log log' I J node f st are (behind_prepare b log1 t told stop)))
+    pub prepared_stops : (e : Stop) → IsPreparedStopped K alone b t n parts log1 log' I J e → IsOneStoppedAt K alone lane txs log I log' J e
+    prepared_stops e (node, f, at, stop) = λ k st. (node, f, at, batch_stopped K alone lane k txs n parts log log' I J node f st are (behind_prepare b log1 t told stop))
 
-    pub prepared_told : (e : Stop) → IsPreparedStopped K alone b t n parts log1 log' I J e → IsOneTold K alone lane txs n log I log' J e
-    prepared_told e (node, f, at, stop) = inr (parts, are, node, f, at, behind_prepare b log1 t told stop)
+    pub prepared_told : (e : Stop) → IsPreparedStopped K alone b t n parts log1 log' I J e → IsOneToldAt K alone lane txs n log I log' J e
+    prepared_told e (node, f, at, stop) = (parts, are, node, f, at, behind_prepare b log1 t told stop)
 
--- a batch of a settled lane that stopped: no shard refused, and its lane stopped so
+-- a batch of a settled lane that stopped at a node's answer: no shard refused, and its lane stopped so
+module _ (K : Shape) (alone : Bool) (lane : ℕ) (txs : List Compact) (log log' : Sight) (I J : ℕ → Sight) (e : Stop) where
+  pub at_granted : IsOneStoppedAt K alone lane txs log I log' J e → (k : ℕ) → Settled K lane k log I → IsNoRefusal e.fault
+  at_granted stop k st = let s = stop k st in subst (λ x. IsNoRefusal x.fault) (sym s.2) s.3.granted
+
+  pub at_stops : IsOneStoppedAt K alone lane txs log I log' J e → (l : LaneFault) → IsFaultOf l e.node e.fault → IsBatchStoppedAt K alone lane txs log I log' J l
+  at_stops stop l told k st = let s = stop k st in (s.0, s.1, subst (λ x. IsFaultOf l x.node x.fault) s.2 told, s.3)
+
+  pub at_told : (n : ℕ) (l : LaneFault) → IsFaultOf l e.node e.fault → IsOneToldAt K alone lane txs n log I log' J e → IsBatchToldAt K alone lane txs n log I log' J l
+  at_told n l is s = (s.0, s.1, s.2, s.3, subst (λ x. IsFaultOf l x.node x.fault) s.4 is, s.5)
+
+-- the same where it may not have been begun
 module _ (K : Shape) (alone : Bool) (lane : ℕ) (txs : List Compact) (log log' : Sight) (I J : ℕ → Sight) (e : Stop) (stop : IsOneStopped K alone lane txs log I log' J e) where
   pub one_granted : (k : ℕ) → Settled K lane k log I → IsNoRefusal e.fault
   one_granted k st = go stop
     where
       go : IsOneStopped K alone lane txs log I log' J e → IsNoRefusal e.fault
       go (inl h) = subst (λ x. IsNoRefusal x.fault) (sym h.0) tt
-      go (inr h) = let s = h k st in subst (λ x. IsNoRefusal x.fault) (sym s.2) s.3.granted
+      go (inr h) = at_granted K alone lane txs log log' I J e h k st
 
   pub one_stops : (l : LaneFault) → IsFaultOf l e.node e.fault → IsBatchStopped K alone lane txs log I log' J l
   one_stops l told = go stop
     where
       go : IsOneStopped K alone lane txs log I log' J e → IsBatchStopped K alone lane txs log I log' J l
       go (inl h) = inl (subst (λ x. IsFaultOf l x.node x.fault) h.0 told, h.1, h.2)
-      go (inr h) = inr (λ k st. (let s = h k st in (s.0, s.1, subst (λ x. IsFaultOf l x.node x.fault) s.2 told, s.3)))
+      go (inr h) = inr (at_stops K alone lane txs log log' I J e h l told)
 
 -- what was told of it is told of the lane
 pub one_told : (K : Shape) (alone : Bool) (lane : ℕ) (txs : List Compact) (n : ℕ) (log log' : Sight) (I J : ℕ → Sight) (e : Stop) (l : LaneFault) → IsFaultOf l e.node e.fault → IsOneTold K alone lane txs n log I log' J e
     → IsBatchTold K alone lane txs n log I log' J l
 one_told K alone lane txs n log log' I J e l is (inl h) = inl (subst (λ x. IsFaultOf l x.node x.fault) h.0 is, h.1, h.2)
-one_told K alone lane txs n log log' I J e l is (inr s) = inr (s.0, s.1, s.2, s.3, subst (λ x. IsFaultOf l x.node x.fault) s.4 is, s.5)
+one_told K alone lane txs n log log' I J e l is (inr s) = inr (at_told K alone lane txs log log' I J e n l is s)
 
 -- a lane goes on by a batch, or stops at one
 module _ (K : Shape) (alone : Bool) (lane : ℕ) (txs rest piece : List Compact) (log0 log1 log2 : Sight) (I0 I1 I2 : ℕ → Sight) (so : LaneSo K alone lane txs rest log0 I0 log1 I1)

@@ -3,7 +3,7 @@ pub mod Greatest
 pub mod Faulted
 pub mod Phasing
 pub mod Rising
-pub mod Ready
+pub mod Rooming
 pub mod Fitting
 pub mod Cutting
 mod Telling
@@ -12,3 +12,4 @@ mod Batching
 pub mod Causing
 pub mod Serving
 pub mod Keeping
+pub mod Wanting

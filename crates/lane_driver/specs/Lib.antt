@@ -7,3 +7,5 @@ pub mod Reports
 pub mod Stops
 pub mod Causes
 pub mod Keeping
+pub mod Wanting
+pub mod Readied

@@ -1,20 +1,24 @@
 // A batch of a lane, phase by phase.
-ghost use Rattle.std.specs.Prelude.{◌≡◌, ◌≤◌, ◌<◌, true, [], ◌∷◌, length, map, IfOk, IfErr, OnOk, All, ℕ};
+ghost use Rattle.std.specs.Prelude.{◌≡◌, ◌≢◌, ◌≤◌, ◌<◌, true, [], ◌∷◌, length, map, IfOk, IfErr, OnOk, All, ℕ};
 ghost use Rattle.std.specs.Vec.{vec_capacity};
+ghost use Rattle.cbdc_types.specs.declared.calls.NodeFault.TheVariants.{Memory};
 ghost use Rattle.cbdc_model.specs.Slots.{Idle, InPrepare, InCommit, InDiscard};
 ghost use Rattle.cbdc_model.specs.Ranges.{home_of};
 ghost use Rattle.cbdc_model.specs.Grammar.{HasSize, IsBatchOf, IsCompact};
-ghost use Rattle.lane_driver.specs.Calls.{shard, forget_of};
+ghost use Rattle.lane_driver.specs.Calls.{shard, forget_of, AreParts};
 ghost use Rattle.lane_driver.specs.Keeping.{KeepsLog, KeepsShards};
 ghost use Rattle.lane_driver.specs.Told.{IsLane, KeepsOthers, AreShardsOf, AreLockCalls, AreFitParts, IsStamp, AreShards};
 ghost use Rattle.lane_driver.specs.Rooms.{IsBatchRoom, IsLaterRoom};
 ghost use Rattle.lane_driver.specs.Reports.{AreReports};
 ghost use Rattle.lane_driver.specs.Causes.{IsCausedStop, IsCausedFault};
-ghost use Rattle.lane_driver.specs.Stops.{IsDiscardedStopped, IsCommittedStopped, IsPreparedStopped, IsOneStopped, IsOneTold, IsBatchStopped, IsBatchTold, IsOneBatch, IsSettled};
+ghost use Rattle.lane_driver.specs.Stops.{IsDiscardedStopped, IsCommittedStopped, IsPreparedStopped, IsOneStopped, IsOneTold, IsOneStoppedAt, IsOneToldAt, IsBatchStopped, IsBatchTold, IsOneBatch, IsSettled};
+ghost use Rattle.lane_driver.specs.Readied.{IsReadied};
+ghost use Rattle.lane_driver.specs.Wanting.{IsLockWant, IsBatchWant};
 ghost use Rattle.lane_laws.specs.Batches.{Settled, BatchDone};
 ghost use Rattle.lane_laws.specs.Traces.{ToldDiscarded, ToldCommitted, ToldPrepared};
 
-use crate::fault::{BatchReport, LaneFault, LaneReport, Stop, lane_fault, no_memory};
+use crate::fault::{BatchReport, LaneFault, LaneReport, Stop, no_memory};
+use crate::making::ready;
 use crate::order::{finish_calls, forget_calls, lock_calls};
 use crate::phase::{
     finish_again, finish_phase, forget_again, forget_phase, lock_again, lock_phase,
@@ -36,7 +40,7 @@ fn home(shape: &Shape, lane: LaneId) -> NodeId
 }
 
 /// Takes a discarded batch to its end: the shards forget it, and it is done. Its forget calls are made so many times
-/// more after their phase. There is room for the calls.
+/// more after their phase. There is room for the calls, and no memory is wanted.
 pub fn from_discarded<S: PortSet<G>, L: LogPort, G: Gate>(
     shape: &Shape,
     batch: &BatchId,
@@ -64,6 +68,7 @@ pub fn from_discarded<S: PortSet<G>, L: LogPort, G: Gate>(
     ensures told { OnOk result (ToldDiscarded L.alone batch.now cause repeats locks.now (L.sights ports.old.log (L.at ports.old.log)) (L.sights ports.new.log (L.at ports.new.log)) (S.sights ports.old.shards) (S.sights ports.new.shards)) }
     ensures stopped { IfErr result (IsDiscardedStopped shape.now L.alone batch.now cause repeats locks.now (L.sights ports.old.log (L.at ports.old.log)) (L.sights ports.new.log (L.at ports.new.log)) (S.sights ports.old.shards) (S.sights ports.new.shards)) }
     ensures fault { IfErr result (λ e. IsCausedStop shape.now (L.sights ports.new.log) (S.sights ports.new.shards) e.node e.fault) }
+    ensures no_want { IfErr result (λ e. e.fault ≢ Memory) }
     ensures phase { OnOk result (L.phase ports.new.log batch.now.lane ≡ Idle) }
     ensures others { L.alone ≡ true → KeepsOthers (L.header ports.old.log) batch.now.lane (L.phase ports.old.log) (L.phase ports.new.log) (L.open_txs ports.old.log) (L.open_txs ports.new.log) }
     ensures keeps_log { KeepsLog L.at L.header L.count L.sights L.faults L.holds ports.old.log ports.new.log }
@@ -87,7 +92,7 @@ pub fn from_discarded<S: PortSet<G>, L: LogPort, G: Gate>(
 }
 
 /// Takes a committed batch to its end: the shards apply it, it is discarded, and the shards forget it. Its finish and
-/// forget calls are made so many times more after their phase, and all its calls after it is done.
+/// forget calls are made so many times more after their phase, and all its calls after it is done. No memory is wanted.
 pub fn from_committed<S: PortSet<G>, L: LogPort, G: Gate>(
     shape: &Shape,
     batch: &BatchId,
@@ -118,6 +123,7 @@ pub fn from_committed<S: PortSet<G>, L: LogPort, G: Gate>(
     ensures told { OnOk result (ToldCommitted L.alone batch.now cause outcomes.now repeats locks.now (L.sights ports.old.log (L.at ports.old.log)) (L.sights ports.new.log (L.at ports.new.log)) (S.sights ports.old.shards) (S.sights ports.new.shards)) }
     ensures stopped { IfErr result (IsCommittedStopped shape.now L.alone batch.now cause outcomes.now repeats locks.now (L.sights ports.old.log (L.at ports.old.log)) (L.sights ports.new.log (L.at ports.new.log)) (S.sights ports.old.shards) (S.sights ports.new.shards)) }
     ensures fault { IfErr result (λ e. IsCausedStop shape.now (L.sights ports.new.log) (S.sights ports.new.shards) e.node e.fault) }
+    ensures no_want { IfErr result (λ e. e.fault ≢ Memory) }
     ensures phase { OnOk result (L.phase ports.new.log batch.now.lane ≡ Idle) }
     ensures others { L.alone ≡ true → KeepsOthers (L.header ports.old.log) batch.now.lane (L.phase ports.old.log) (L.phase ports.new.log) (L.open_txs ports.old.log) (L.open_txs ports.new.log) }
     ensures keeps_log { KeepsLog L.at L.header L.count L.sights L.faults L.holds ports.old.log ports.new.log }
@@ -165,7 +171,8 @@ pub fn from_committed<S: PortSet<G>, L: LogPort, G: Gate>(
 }
 
 /// Takes a prepared batch to its end: its shards lock their parts, it is decided by their replies, and what follows
-/// a Commit. Each shard call is made so many times more after its phase, and all its calls after it is done.
+/// a Commit. Each shard call is made so many times more after its phase, and all its calls after it is done. Memory is
+/// wanted only at a Lock.
 pub fn from_prepared<S: PortSet<G>, L: LogPort, G: Gate>(
     shape: &Shape,
     batch: &BatchId,
@@ -190,6 +197,7 @@ pub fn from_prepared<S: PortSet<G>, L: LogPort, G: Gate>(
     ensures told { IfOk result (ToldPrepared L.alone batch.now cause repeats room.parts (L.sights ports.old.log (L.at ports.old.log)) (L.sights ports.new.log (L.at ports.new.log)) (S.sights ports.old.shards) (S.sights ports.new.shards)) }
     ensures stopped { IfErr result (IsPreparedStopped shape.now L.alone batch.now cause repeats room.parts (L.sights ports.old.log (L.at ports.old.log)) (L.sights ports.new.log (L.at ports.new.log)) (S.sights ports.old.shards) (S.sights ports.new.shards)) }
     ensures fault { IfErr result (λ e. IsCausedStop shape.now (L.sights ports.new.log) (S.sights ports.new.shards) e.node e.fault) }
+    ensures want { IfErr result (λ e. e.fault ≡ Memory → IsLockWant shape.now L.alone batch.now cause room.parts (L.sights ports.old.log (L.at ports.old.log)) (L.sights ports.new.log (L.at ports.new.log)) (S.sights ports.old.shards) (S.sights ports.new.shards) e.node) }
     ensures phase { OnOk result (L.phase ports.new.log batch.now.lane ≡ Idle) }
     ensures others { L.alone ≡ true → KeepsOthers (L.header ports.old.log) batch.now.lane (L.phase ports.old.log) (L.phase ports.new.log) (L.open_txs ports.old.log) (L.open_txs ports.new.log) }
     ensures keeps_log { KeepsLog L.at L.header L.count L.sights L.faults L.holds ports.old.log ports.new.log }
@@ -228,7 +236,55 @@ pub fn from_prepared<S: PortSet<G>, L: LogPort, G: Gate>(
     }
 }
 
-// One batch of an idle lane, from its Prepare to its end.
+// One batch of an idle lane, from its Prepare to its end. Its memory is there, cut into its parts.
+pub(crate) fn drive_batch<S: PortSet<G>, L: LogPort, G: Gate>(
+    shape: &Shape,
+    lane: LaneId,
+    txs: &[CompactTx],
+    room: BatchRoom,
+    ports: &mut Ports<S, L>,
+    repeats: u32,
+    gate: &G,
+) -> Result<BatchReport, Stop>
+    requires same { S.alone ≡ L.alone }
+    requires at { L.at ports.old.log ≡ home_of shape.now lane }
+    requires home { IsLane (L.header ports.old.log) lane }
+    requires shape { (L.header ports.old.log).shape ≡ shape.now }
+    requires idle { L.phase ports.old.log lane ≡ Idle }
+    requires count { S.count ports.old.shards ≡ shape.now.shards }
+    requires ledger { AreShardsOf shape.now (S.sights ports.old.shards) }
+    requires mine { S.serves ports.old.shards lane }
+    requires size { HasSize shape.now txs.now }
+    requires limits { All IsCompact txs.now }
+    requires readied { IsReadied shape.now txs.now room }
+    ensures done { IfOk result (λ r. (k : ℕ) → Settled shape.now lane k (L.sights ports.old.log (L.at ports.old.log)) (S.sights ports.old.shards) → BatchDone shape.now L.alone lane k txs.now (L.sights ports.old.log (L.at ports.old.log)) (S.sights ports.old.shards) (L.sights ports.new.log (L.at ports.new.log)) (S.sights ports.new.shards) r.batch r.outcomes) }
+    ensures stopped { IfErr result (IsOneStoppedAt shape.now L.alone lane txs.now (L.sights ports.old.log (L.at ports.old.log)) (S.sights ports.old.shards) (L.sights ports.new.log (L.at ports.new.log)) (S.sights ports.new.shards)) }
+    ensures told { IfErr result (IsOneToldAt shape.now L.alone lane txs.now repeats (L.sights ports.old.log (L.at ports.old.log)) (S.sights ports.old.shards) (L.sights ports.new.log (L.at ports.new.log)) (S.sights ports.new.shards)) }
+    ensures fault { IfErr result (λ e. IsCausedStop shape.now (L.sights ports.new.log) (S.sights ports.new.shards) e.node e.fault) }
+    ensures want { IfErr result (λ e. e.fault ≡ Memory → IsBatchWant shape.now L.alone lane txs.now (L.sights ports.old.log (L.at ports.old.log)) (S.sights ports.old.shards) (L.sights ports.new.log (L.at ports.new.log)) (S.sights ports.new.shards) e.node) }
+    ensures idle { OnOk result (L.phase ports.new.log lane ≡ Idle) }
+    ensures others { L.alone ≡ true → KeepsOthers (L.header ports.old.log) lane (L.phase ports.old.log) (L.phase ports.new.log) (L.open_txs ports.old.log) (L.open_txs ports.new.log) }
+    ensures keeps_log { KeepsLog L.at L.header L.count L.sights L.faults L.holds ports.old.log ports.new.log }
+    ensures keeps_shards { KeepsShards S.count S.sights S.faults S.holds S.serves ports.old.shards ports.new.shards }
+    ensures report { IfOk result (λ r. (r.batch.lane ≡ lane) × (length r.outcomes ≡ length txs.now)) }
+{
+    let _limit = shape.batch();
+    let (batch, prepared) = match ports.log.prepare(lane, txs, gate) {
+        Ok(prepared) => prepared,
+        Err(fault) => {
+            return Err(Stop {
+                node: home(shape, lane),
+                fault,
+            });
+        }
+    };
+    match from_prepared(shape, &batch, prepared, room, ports, repeats, gate) {
+        Ok(outcomes) => Ok(BatchReport { batch, outcomes }),
+        Err(fault) => Err(fault),
+    }
+}
+
+// One batch of an idle lane, from its Prepare to its end: all its driver's memory is taken first.
 pub(crate) fn one_batch<S: PortSet<G>, L: LogPort, G: Gate>(
     alloc: Global,
     shape: &Shape,
@@ -259,33 +315,18 @@ pub(crate) fn one_batch<S: PortSet<G>, L: LogPort, G: Gate>(
     ensures report { IfOk result (λ r. (r.batch.lane ≡ lane) × (length r.outcomes ≡ length txs.now)) }
 {
     let _limit = shape.batch();
-    let room = match BatchRoom::take(alloc, shape, txs) {
-        Ok(room) => room,
-        Err(_) => {
-            return Err(Stop {
-                node: NodeId(0),
-                fault: NodeFault::Memory,
-            });
-        }
-    };
-    let (batch, prepared) = match ports.log.prepare(lane, txs, gate) {
-        Ok(prepared) => prepared,
-        Err(fault) => {
-            return Err(Stop {
-                node: home(shape, lane),
-                fault,
-            });
-        }
-    };
-    match from_prepared(shape, &batch, prepared, room, ports, repeats, gate) {
-        Ok(outcomes) => Ok(BatchReport { batch, outcomes }),
-        Err(fault) => Err(fault),
+    match BatchRoom::take(alloc, shape, txs) {
+        Ok(room) => drive_batch(shape, lane, txs, room, ports, repeats, gate),
+        Err(_) => Err(Stop {
+            node: NodeId(0),
+            fault: NodeFault::Memory,
+        }),
     }
 }
 
 /// Runs one batch of an idle lane: 1 to `batch` transactions. With repeats, each shard call is made so many times
 /// more after its phase, and all its shard calls after it is done. Where no other lane's records come meanwhile, the other
-/// lanes are as before.
+/// lanes are as before. All the driver's memory is taken before the first call.
 pub fn run_batch<S: PortSet<G>, L: LogPort, G: Gate>(
     alloc: Global,
     shape: &Shape,
@@ -320,13 +361,18 @@ pub fn run_batch<S: PortSet<G>, L: LogPort, G: Gate>(
         Ok(batches) => batches,
         Err(_) => return Err(no_memory()),
     };
-    match one_batch(alloc, shape, lane, txs, ports, repeats, gate) {
+    let _limit = shape.batch();
+    let ready = match ready(alloc, shape, lane, txs) {
+        Ok(ready) => ready,
+        Err(_) => return Err(no_memory()),
+    };
+    match ready.go(ports, repeats, gate) {
         Ok(report) => {
             batches.push_reserved(report);
             Ok(LaneReport {
                 batches: List::from_vec(batches),
             })
         }
-        Err(stop) => Err(lane_fault(stop)),
+        Err(fault) => Err(fault),
     }
 }

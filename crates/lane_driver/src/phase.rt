@@ -1,7 +1,8 @@
 // The phases of a batch at its shards, and its calls again.
-ghost use Rattle.std.specs.Prelude.{◌≡◌, ◌<◌, ◌≤◌, [], length, IfOk, IfErr, MatchResult, All};
+ghost use Rattle.std.specs.Prelude.{◌≡◌, ◌≢◌, ◌<◌, ◌≤◌, [], length, IfOk, IfErr, MatchResult, All};
 ghost use Rattle.std.specs.Vec.{vec_capacity};
 ghost use Rattle.lane_driver.specs.Calls.{shard};
+ghost use Rattle.cbdc_types.specs.declared.calls.NodeFault.TheVariants.{Memory};
 ghost use Rattle.cbdc_model.specs.Ranges.{shard_node};
 ghost use Rattle.lane_laws.specs.Answers.{LockAnswer, FinishAnswer, ForgetAnswer, AskedTimes, Locked, Stamped};
 ghost use Rattle.lane_driver.specs.Causes.{IsShardCause};
@@ -126,7 +127,8 @@ pub fn lock_phase<S: PortSet<G>, G: Gate>(
     }
 }
 
-/// Applies the batch at its shards: the greatest stamp of its Finishes, or the fault of the least shard that had one.
+/// Applies the batch at its shards: the greatest stamp of its Finishes, or the fault of the least shard that had one, which is
+/// never want of memory.
 pub fn finish_phase<S: PortSet<G>, G: Gate>(
     shape: &Shape,
     shards: &mut S,
@@ -144,6 +146,7 @@ pub fn finish_phase<S: PortSet<G>, G: Gate>(
     ensures told { IfOk result (Stamped (FinishAnswer S.alone) calls.now (S.sights shards.old) (S.sights shards.new)) }
     ensures stopped { IfErr result (IsStoppedAt shape.now (FinishAnswer S.alone) calls.now (S.sights shards.old) (S.sights shards.new)) }
     ensures fault { IfErr result (λ e. IsShardCause shape.now (S.sights shards.new) e.node e.fault) }
+    ensures no_want { IfErr result (λ e. e.fault ≢ Memory) }
     ensures stamp { IfOk result IsStamp }
 {
     answers.clear();
@@ -154,7 +157,8 @@ pub fn finish_phase<S: PortSet<G>, G: Gate>(
     }
 }
 
-/// Lets the shards forget the batch: the greatest stamp of its Forgets, or the fault of the least shard that had one.
+/// Lets the shards forget the batch: the greatest stamp of its Forgets, or the fault of the least shard that had one, which is
+/// never want of memory.
 pub fn forget_phase<S: PortSet<G>, G: Gate>(
     shape: &Shape,
     shards: &mut S,
@@ -172,6 +176,7 @@ pub fn forget_phase<S: PortSet<G>, G: Gate>(
     ensures told { IfOk result (Stamped (ForgetAnswer S.alone) calls.now (S.sights shards.old) (S.sights shards.new)) }
     ensures stopped { IfErr result (IsStoppedAt shape.now (ForgetAnswer S.alone) calls.now (S.sights shards.old) (S.sights shards.new)) }
     ensures fault { IfErr result (λ e. IsShardCause shape.now (S.sights shards.new) e.node e.fault) }
+    ensures no_want { IfErr result (λ e. e.fault ≢ Memory) }
     ensures stamp { IfOk result IsStamp }
 {
     answers.clear();

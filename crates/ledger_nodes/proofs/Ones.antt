@@ -11,7 +11,7 @@ use Rattle.lane_driver.specs.Told.{KeepsOthers}
 use Rattle.lane_driver.specs.declared.fault.LaneFault.{LaneFault}
 use Rattle.recovery.specs.declared.resumed.Resumed.{Resumed}
 use Rattle.recovery.specs.declared.resumed.ResumedBatch.{ResumedBatch}
-use Rattle.recovery.specs.Open.{KeepsUnlisted, AreResumed, IsResumeStopped, IsOneTaken, AreTakenUp, AreTried, IsStoppedAmong, AreStopped}
+use Rattle.recovery.specs.Open.{KeepsUnlisted, AreResumed, IsResumeStopped, IsOneTaken, AreTakenUp, AreTried, IsStoppedAmong}
 use Rattle.ledger_nodes.specs.Ones.{IsOneOf}
 
 one_batch : (o : OpenLane) (rs : List ResumedBatch) → AreResumed (o ∷ []) rs → (b : ResumedBatch) × (rs ≡ b ∷ [])
@@ -65,15 +65,11 @@ stopped_one K alone o log log' I J e among = go among.before among.batches among
     go (p ∷ ps) bs behind came is taken tried = absurd (omega (arith, ap length is, length-append ps (among.stopped_at ∷ behind)))
 
 pub one_left : (K : Shape) (alone : Bool) (o : OpenLane) (log log' : Sight) (I J : ℕ → Sight) (came : Result Resumed LaneFault) (one : Result ResumedBatch LaneFault) → IsOneOf came one
-    → IfErr came (AreStopped K alone (o ∷ []) log I log' J) → IfErr one (IsResumeStopped K alone o log I log' J)
+    → IfErr came (IsStoppedAmong K alone (o ∷ []) log I log' J) → IfErr one (IsResumeStopped K alone o log I log' J)
 one_left K alone o log log' I J (Ok r) (Ok b) is left = tt
 one_left K alone o log log' I J (Ok r) (Err f) is left = absurd is
 one_left K alone o log log' I J (Err e) (Ok b) is left = absurd is
-one_left K alone o log log' I J (Err e) (Err f) is left = subst (IsResumeStopped K alone o log I log' J) (sym is) (go left)
-  where
-    go : AreStopped K alone (o ∷ []) log I log' J e → IsResumeStopped K alone o log I log' J e
-    go (inl none) = inl none
-    go (inr among) = stopped_one K alone o log log' I J e among
+one_left K alone o log log' I J (Err e) (Err f) is left = subst (IsResumeStopped K alone o log I log' J) (sym is) (stopped_one K alone o log log' I J e left)
 
 -- what holds anyhow holds on a condition
 pub given_ok : {A E : Type 0} (r : Result A E) (P : A → Type 0) (Q R : Type 0) → IfOk r P → ((a : A) → P a → R) → OnOk r (Q → R)

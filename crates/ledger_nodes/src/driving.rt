@@ -20,10 +20,8 @@ use coord_log::CoordLog;
 use lane_driver::{LaneFault, Ports};
 use node_ports::{NodeLogs, NodeShards};
 use outside::{Disk, Gate};
-use recovery::{Resumed, ResumedBatch, resume};
+use recovery::{Plan, Resumed, ResumedBatch};
 use shard_node::ShardNode;
-use std::alloc::Global;
-use std::slice::from_ref;
 use std::sync::Wait;
 
 /// The place of a lane's coordinator.
@@ -70,18 +68,19 @@ fn one_of(came: Result<Resumed, LaneFault>) -> Result<ResumedBatch, LaneFault>
     }
 }
 
-/// Takes a lane's open batch to its end.
+/// Takes a lane's open batch to its end, with the memory that was taken for it.
 pub(crate) fn drive_resume<W: Wait, D: Disk, G: Gate>(
-    alloc: Global,
     header: &Header,
     lane: LaneId,
     unfinished: &OpenLane,
+    plan: Plan,
     ports: &mut Ports<NodeShards<W, D>, NodeLogs<W, D>>,
     gate: &G,
 ) -> Result<ResumedBatch, LaneFault>
     requires ledger { IsLedger header.now ports.old.log.logs.items ports.old.shards.nodes.items }
     requires lane { IsLaneOf header.now.shape lane }
     requires told { open_lane (sight_at sight ports.old.log.logs.items (home_of header.now.shape lane)).seen lane ≡ Some unfinished.now }
+    requires plan { plan ≡ record { shape = header.now.shape; lanes = unfinished.now ∷ [] } }
     requires checked { AreChecked D.count D.limit header.now.shape ports.old.log.logs.items ports.old.shards.nodes.items }
     ensures step { IsStep D.count D.limit D.content D.images header.now lane ports.old.log.logs.items ports.old.shards.nodes.items ports.new.log.logs.items ports.new.shards.nodes.items }
     ensures taken { OnOk result (IsUnfinished unfinished.now.phase header.now.shape unfinished.now
@@ -100,7 +99,7 @@ pub(crate) fn drive_resume<W: Wait, D: Disk, G: Gate>(
 {
     ports.log.at = home(&header.shape, lane);
     ports.shards.lane = lane;
-    let came = resume(alloc, &header.shape, from_ref(unfinished), ports, gate);
+    let came = plan.go(ports, gate);
     see_logs(ports.log.logs.as_slice());
     see_shards(ports.shards.nodes.as_slice());
     one_of(came)

@@ -9,9 +9,10 @@ use lane_driver::{LaneFault, Ports, no_memory};
 use ledger_runs::Turns;
 use node_ports::{NodeLogs, NodeShards};
 use outside::{Disk, Gate};
-use recovery::ResumedBatch;
+use recovery::{ResumedBatch, plan};
 use std::alloc::Global;
 use std::marker::Model;
+use std::slice::from_ref;
 use std::sync::Wait;
 
 /// All nodes of a ledger behind the ports of its lanes. Contracts see its header and its nodes, which are a ledger's.
@@ -109,11 +110,14 @@ impl<'r, W: Wait, D: Disk> Turns for LentLedger<'r, W, D> {
         let Some(unfinished) = found else {
             return Ok(None);
         };
+        let Ok(plan) = plan(alloc, &self.header.shape, from_ref(&unfinished)) else {
+            return Err(no_memory());
+        };
         match drive_resume(
-            alloc,
             &self.header,
             lane,
             &unfinished,
+            plan,
             &mut self.ports,
             gate,
         ) {

@@ -1,6 +1,6 @@
 -- Lanes that are resumed one behind the other.
-use Rattle.std.proofs.Common.{◌≡◌, ◌≢◌, ℕ, ◌+◌, ◌<◌, Bool, List, [], ◌∷◌, ◌++◌, length, get_or, take, drop, refl, sym, ap, ◌∙◌, subst, append_assoc, arith, Some, None}
-use Rattle.std.specs.Prelude.{Option, Result, Ok, Err, OnOk, IfOk, IfErr}
+use Rattle.std.proofs.Common.{◌≡◌, ◌≢◌, ℕ, suc, ◌+◌, ◌<◌, Bool, List, [], ◌∷◌, ◌++◌, length, get_or, take, drop, refl, sym, ap, ◌∙◌, subst, append_assoc, arith, Some, None}
+use Rattle.std.specs.Prelude.{Contains, Option, Result, Ok, Err, OnOk, IfOk, IfErr}
 use Rattle.std.specs.List.{All}
 use Rattle.std.proofs.lemmas.List.{take_more}
 use Rattle.std.proofs.lemmas.List.Elements.{All-nil, All-get_or, All-push, All-weaker}
@@ -12,7 +12,8 @@ use Rattle.lane_laws.specs.Resuming.{IsTakenUp}
 use Rattle.lane_driver.specs.Told.{IsLane, KeepsOthers}
 use Rattle.recovery.specs.declared.resumed.ResumedBatch.{ResumedBatch}
 use Rattle.lane_driver.specs.declared.fault.LaneFault.{LaneFault}
-use Rattle.recovery.specs.Open.{IsOpen, LanesAbove, LanesRise, KeepsUnlisted, IsResumed, IsUnfinished, HasItsOutcomes, IsResumeStopped, IsResumeTold, IsOneTaken, AreTakenUp, CameOf, AreTried, IsStoppedAmong, Keeps}
+use Rattle.lane_driver.specs.declared.fault.LaneFaultKind.TheVariants.{Memory as NoMemory}
+use Rattle.recovery.specs.Open.{IsOpen, LanesAbove, LanesRise, KeepsUnlisted, IsResumed, IsUnfinished, HasItsOutcomes, IsResumeStopped, IsResumeTold, WantsAtLock, HasPrepared, IsOneTaken, AreTakenUp, CameOf, AreTried, IsStoppedAmong, Keeps}
 use Rattle.recovery.proofs.Rest.{split_rest, open_here, more_before}
 
 -- ---- what was taken
@@ -30,9 +31,9 @@ taken_one_more K alone (p ∷ os) (q ∷ rs) o r log between log' I N J (first, 
 -- what came of one, by what is told of it
 pub came_of : (K : Shape) (alone : Bool) (o : OpenLane) (c : Result ResumedBatch LaneFault) (log log' : Sight) (I J : ℕ → Sight) → IsUnfinished o.phase K o log I
     → OnOk c (IsUnfinished o.phase K o log I → IsTakenUp K alone o.batch log I log' J) → IfOk c (IsResumed o) → IfOk c (λ r. IsUnfinished o.phase K o log I → HasItsOutcomes o.phase o log'.seen r)
-    → IfErr c (IsResumeStopped K alone o log I log' J) → IfErr c (IsResumeTold K alone o log I log' J) → CameOf K alone o c log I log' J
-came_of K alone o (Ok r) log log' I J stands taken resumed outcomes left told = record { taken = taken stands; resumed = resumed; outcomes = outcomes stands }
-came_of K alone o (Err e) log log' I J stands taken resumed outcomes left told = (stands, left, told)
+    → IfErr c (IsResumeStopped K alone o log I log' J) → IfErr c (IsResumeTold K alone o log I log' J) → IfErr c (WantsAtLock K alone o log I log' J) → CameOf K alone o c log I log' J
+came_of K alone o (Ok r) log log' I J stands taken resumed outcomes left told want = record { taken = taken stands; resumed = resumed; outcomes = outcomes stands }
+came_of K alone o (Err e) log log' I J stands taken resumed outcomes left told want = (stands, left, told, want)
 
 -- one more, whatever came of it
 tried_one_more : (K : Shape) (alone : Bool) (os : List OpenLane) (cs : List (Result ResumedBatch LaneFault)) (o : OpenLane) (c : Result ResumedBatch LaneFault) (log between log' : Sight) (I N J : ℕ → Sight)
@@ -80,6 +81,7 @@ came_one_more K alone os before after None now o (Err e) log between log' I N J 
       shards_then = J;
       stopped = one.1;
       told = one.2;
+      want = one.3;
       came = [];
       went_on = (refl, refl);
     })
@@ -98,9 +100,23 @@ came_one_more K alone os before after (Some f) now o c log between log' I N J so
       shards_then = so.shards_then;
       stopped = so.stopped;
       told = so.told;
+      want = so.want;
       came = so.came ++ c ∷ [];
       went_on = tried_one_more K alone so.behind so.came o c so.log_then between log' so.shards_then N J so.went_on one;
     })
+
+-- where one stopped for want of memory, one was prepared
+among_prepared : (K : Shape) (alone : Bool) (os : List OpenLane) (log log' : Sight) (I J : ℕ → Sight) (e : LaneFault) → IsStoppedAmong K alone os log I log' J e → e.fault ≡ NoMemory → HasPrepared os
+among_prepared K alone os log log' I J e among want = (among.stopped_at, subst (λ xs. Contains xs among.stopped_at) (sym among.are) (middle_there among.before among.stopped_at among.behind), (among.want want).0)
+  where
+    middle_there : (xs : List OpenLane) (x : OpenLane) (ys : List OpenLane) → Contains (xs ++ x ∷ ys) x
+    middle_there [] x ys = (0, omega arith, refl)
+    middle_there (z ∷ xs) x ys = let m = middle_there xs x ys in (suc m.0, omega (arith, m.1), m.2)
+
+pub prepared_by : {A : Type 0} (K : Shape) (alone : Bool) (os : List OpenLane) (log log' : Sight) (I J : ℕ → Sight) (came : Result A LaneFault) → IfErr came (IsStoppedAmong K alone os log I log' J)
+    → IfErr came (λ e. e.fault ≡ NoMemory → HasPrepared os)
+prepared_by K alone os log log' I J (Ok r) left = tt
+prepared_by K alone os log log' I J (Err e) left = among_prepared K alone os log log' I J e left
 
 -- ---- the lanes so far are idle, and below those that are left
 

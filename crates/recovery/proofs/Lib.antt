@@ -3,3 +3,4 @@ mod Taking
 mod InOrder
 mod Onward
 mod Untouched
+mod Rooming

@@ -7,7 +7,7 @@ use Rattle.cbdc_model.specs.Records.{Shape}
 use Rattle.cbdc_model.specs.Ranges.{home_of, shard_node}
 use Rattle.cbdc_model.specs.Lanes.{IsEnd, Made}
 use Rattle.cbdc_model.specs.Sights.{Sight}
-use Rattle.ledger_laws.proofs.Cuts.{made_none, end_self, end_trans}
+use Rattle.ledger_laws.proofs.Cuts.{end_self, end_trans}
 use Rattle.lane_laws.specs.Batches.{view}
 use Rattle.lane_laws.proofs.Views.{view_home, view_shard}
 use Rattle.lane_driver.specs.Told.{KeepNodes}
@@ -23,10 +23,7 @@ use Rattle.recovery.proofs.InOrder.{kept_first}
 pub made_by : (K : Shape) (alone : Bool) (o : OpenLane) (c : Result ResumedBatch LaneFault) (log log' : Sight) (I J : ℕ → Sight) → CameOf K alone o c log I log' J
     → Made K [] alone o.batch.lane (view K o.batch.lane log I) (view K o.batch.lane log' J)
 made_by K alone o (Ok r) log log' I J one = one.taken.made
-made_by K alone o (Err e) log log' I J (stands, inl none, told) =
-    subst (λ x. Made K [] alone o.batch.lane (view K o.batch.lane log I) (view K o.batch.lane x J)) (sym none.1)
-    (subst (λ X. Made K [] alone o.batch.lane (view K o.batch.lane log I) (view K o.batch.lane log X)) (sym none.2) (made_none K [] alone o.batch.lane (view K o.batch.lane log I)))
-made_by K alone o (Err e) log log' I J (stands, inr stop, told) = (stop stands).3.made
+made_by K alone o (Err e) log log' I J (stands, stop, told, want) = (stop stands).3.made
 
 module _ (K : Shape) (lane : ℕ) (home : home_of K lane < K.coordinators) (alone : Bool) (log log' : Sight) (I J : ℕ → Sight) (made : Made K [] alone lane (view K lane log I) (view K lane log' J)) where
   pub log_grows : IsEnd log.seen log'.seen

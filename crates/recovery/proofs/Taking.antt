@@ -1,5 +1,5 @@
 -- What was told of a resumed batch, and what it comes to.
-use Rattle.std.proofs.Common.{◌≡◌, inr, ℕ, Bool, true, List, [], ◌∷◌, Some, map, refl, sym, ap, ◌∙◌, subst, arith}
+use Rattle.std.proofs.Common.{◌≡◌, ℕ, Bool, true, List, [], ◌∷◌, Some, map, refl, sym, ap, ◌∙◌, subst, arith}
 use Rattle.cbdc_types.specs.declared.batch.OpenLane.{OpenLane}
 use Rattle.cbdc_types.specs.declared.batch.Phase.{Phase as OpenPhase}
 use Rattle.cbdc_types.specs.declared.batch.Phase.TheVariants.{Prepared, Committed, Discarded}
@@ -56,11 +56,11 @@ module _ (K : Shape) (alone : Bool) (o : OpenLane) (log log' : Sight) (I J : ℕ
     prepared_granted h = subst (λ x. IsNoRefusal x.fault) (sym stop.2) (leaves_prepared K alone o.batch o.txs o.stamp log log' I J n parts stop.0 stop.1 (at_phase Prepared phase h) own_parts stop.3).granted
 
     pub prepared_left : (fault : LaneFault) → IsFaultOf fault e.node e.fault → IsResumeStopped K alone o log I log' J fault
-    prepared_left fault is = inr (λ h. (stop.0, stop.1, subst (λ x. IsFaultOf fault x.node x.fault) stop.2 is, leaves_prepared K alone o.batch o.txs o.stamp log log' I J n parts stop.0 stop.1 (at_phase Prepared phase h) own_parts stop.3))
+    prepared_left fault is = λ h. (stop.0, stop.1, subst (λ x. IsFaultOf fault x.node x.fault) stop.2 is, leaves_prepared K alone o.batch o.txs o.stamp log log' I J n parts stop.0 stop.1 (at_phase Prepared phase h) own_parts stop.3)
 
   -- what was told of it
   pub prepared_told : (e : Stop) → o.phase ≡ Prepared → IsPreparedStopped K alone o.batch o.stamp 0 parts log log' I J e → (fault : LaneFault) → IsFaultOf fault e.node e.fault → IsResumeTold K alone o log I log' J fault
-  prepared_told e phase stop fault is = inr (
+  prepared_told e phase stop fault is = (
     parts,
     own_parts,
     stop.0,
@@ -89,11 +89,11 @@ module _ (K : Shape) (alone : Bool) (o : OpenLane) (log log' : Sight) (I J : ℕ
       committed_granted h = subst (λ x. IsNoRefusal x.fault) (sym stop.2) (left h).granted
 
       pub committed_left : (fault : LaneFault) → IsFaultOf fault e.node e.fault → IsResumeStopped K alone o log I log' J fault
-      committed_left fault is = inr (λ h. (stop.0, stop.1, subst (λ x. IsFaultOf fault x.node x.fault) stop.2 is, left h))
+      committed_left fault is = λ h. (stop.0, stop.1, subst (λ x. IsFaultOf fault x.node x.fault) stop.2 is, left h)
 
     pub committed_told : (os : List Outcome) (e : Stop) → os ≡ o.outcomes → o.phase ≡ Committed → IsCommittedStopped K alone o.batch o.stamp os 0 locks log log' I J e
         → (fault : LaneFault) → IsFaultOf fault e.node e.fault → IsResumeTold K alone o log I log' J fault
-    committed_told os e os_are phase stop fault is = inr (
+    committed_told os e os_are phase stop fault is = (
       parts,
       own_parts,
       stop.0,
@@ -106,7 +106,7 @@ module _ (K : Shape) (alone : Bool) (o : OpenLane) (log log' : Sight) (I J : ℕ
 
     pub discarded_told : (e : Stop) → o.phase ≡ Discarded → IsDiscardedStopped K alone o.batch o.stamp 0 locks log log' I J e
         → (fault : LaneFault) → IsFaultOf fault e.node e.fault → IsResumeTold K alone o log I log' J fault
-    discarded_told e phase stop fault is = inr (
+    discarded_told e phase stop fault is = (
       parts,
       own_parts,
       stop.0,
@@ -127,4 +127,4 @@ module _ (K : Shape) (alone : Bool) (o : OpenLane) (log log' : Sight) (I J : ℕ
       discarded_granted h = subst (λ x. IsNoRefusal x.fault) (sym stop.2) (gone h).granted
 
       pub discarded_left : (fault : LaneFault) → IsFaultOf fault e.node e.fault → IsResumeStopped K alone o log I log' J fault
-      discarded_left fault is = inr (λ h. (stop.0, stop.1, subst (λ x. IsFaultOf fault x.node x.fault) stop.2 is, gone h))
+      discarded_left fault is = λ h. (stop.0, stop.1, subst (λ x. IsFaultOf fault x.node x.fault) stop.2 is, gone h)

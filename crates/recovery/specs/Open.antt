@@ -1,5 +1,5 @@
 -- The lanes that are open at a coordinator.
-use Rattle.std.specs.Prelude.{◌≡◌, ◌≢◌, ◌⊎◌, ℕ, ◌<◌, Bool, List, [], ◌∷◌, ◌++◌, length, map, Option, Some, None, Result, Ok, Err}
+use Rattle.std.specs.Prelude.{◌≡◌, ◌≢◌, ◌⊎◌, ℕ, ◌<◌, Bool, List, [], ◌∷◌, ◌++◌, length, map, Contains, Option, Some, None, Result, Ok, Err}
 use Rattle.std.specs.List.{All, AllZip}
 use Rattle.cbdc_types.specs.declared.batch.OpenLane.{OpenLane}
 use Rattle.cbdc_types.specs.declared.batch.Phase.{Phase as OpenPhase}
@@ -15,7 +15,9 @@ use Rattle.lane_laws.specs.Calls.{AreParts, lock_of}
 use Rattle.lane_laws.specs.Traces.{DiscardedStopped, CommittedStopped, PreparedStopped}
 use Rattle.lane_laws.specs.Resuming.{IsPreparedAt, IsCommittedAt, IsDiscardedAt, IsTakenUp, IsLeft}
 use Rattle.lane_driver.specs.declared.fault.LaneFault.{LaneFault}
+use Rattle.lane_driver.specs.declared.fault.LaneFaultKind.TheVariants.{Memory as NoMemory}
 use Rattle.lane_driver.specs.Causes.{IsCausedFault}
+use Rattle.lane_driver.specs.Wanting.{IsLockWant}
 use Rattle.lane_driver.specs.Stops.{IsFaultOf, HasNoMemory}
 use Rattle.lane_driver.specs.Told.{IsLane, IsStamp, IsStillNode}
 use Rattle.recovery.specs.declared.resumed.ResumedBatch.{ResumedBatch}
@@ -81,10 +83,9 @@ HasItsOutcomes Prepared o J r = r.outcomes ≡ outcomes_of J o.batch
 HasItsOutcomes Committed o J r = r.outcomes ≡ o.outcomes
 HasItsOutcomes Discarded o J r = r.outcomes ≡ o.outcomes
 
--- it stopped at a node's fault, or was not begun for want of memory
+-- it stopped at a node's fault
 abbrev pub IsResumeStopped : Shape → Bool → OpenLane → Sight → (ℕ → Sight) → Sight → (ℕ → Sight) → LaneFault → Type 0
-IsResumeStopped K alone o log I log' J e =
-    HasNoMemory e log I log' J ⊎ (IsUnfinished o.phase K o log I → (n : ℕ) × (f : NodeFault) × IsFaultOf e n f × IsLeft K alone o.batch log I log' J n f)
+IsResumeStopped K alone o log I log' J e = IsUnfinished o.phase K o log I → (n : ℕ) × (f : NodeFault) × IsFaultOf e n f × IsLeft K alone o.batch log I log' J n f
 
 -- what was told of it, call by call, from the phase on in which it stood: each concerned shard of a phase answered as it does (a lock with `Memory`
 -- maybe unasked), and where one of them did not do what it was asked, the least such shard's fault is this
@@ -93,11 +94,19 @@ IsToldFrom Prepared K alone o parts log I log' J n f = PreparedStopped K alone o
 IsToldFrom Committed K alone o parts log I log' J n f = CommittedStopped K alone o.batch o.stamp o.outcomes 0 (map (lock_of o.batch o.stamp) parts) log log' I J n f
 IsToldFrom Discarded K alone o parts log I log' J n f = DiscardedStopped K alone o.batch o.stamp 0 (map (lock_of o.batch o.stamp) parts) log log' I J n f
 
--- the same, or it was not begun for want of memory
+-- the same of a batch that is cut into its parts
 abbrev pub IsResumeTold : Shape → Bool → OpenLane → Sight → (ℕ → Sight) → Sight → (ℕ → Sight) → LaneFault → Type 0
 IsResumeTold K alone o log I log' J e =
-    HasNoMemory e log I log' J
-    ⊎ ((parts : List (ℕ × List Entry)) × AreParts K o.txs parts × (n : ℕ) × (f : NodeFault) × IsFaultOf e n f × IsToldFrom o.phase K alone o parts log I log' J n f)
+    (parts : List (ℕ × List Entry)) × AreParts K o.txs parts × (n : ℕ) × (f : NodeFault) × IsFaultOf e n f × IsToldFrom o.phase K alone o parts log I log' J n f
+
+-- it was prepared, and stopped for want of memory at the Lock of a shard, with nothing asked behind the Locks
+abbrev pub IsResumeWant : Shape → Bool → OpenLane → Sight → (ℕ → Sight) → Sight → (ℕ → Sight) → LaneFault → Type 0
+IsResumeWant K alone o log I log' J e =
+    (o.phase ≡ Prepared) × (parts : List (ℕ × List Entry)) × AreParts K o.txs parts × IsLockWant K alone o.batch o.stamp parts log log' I J e.node
+
+-- so where it stopped for want of memory
+abbrev pub WantsAtLock : Shape → Bool → OpenLane → Sight → (ℕ → Sight) → Sight → (ℕ → Sight) → LaneFault → Type 0
+WantsAtLock K alone o log I log' J e = e.fault ≡ NoMemory → IsResumeWant K alone o log I log' J e
 
 -- the open batch was taken to its end, and it is told with the phase in which it stood and its outcomes
 pub record IsOneTaken (K : Shape) (alone : Bool) (o : OpenLane) (log : Sight) (I : ℕ → Sight) (log' : Sight) (J : ℕ → Sight) (r : ResumedBatch) : Type 0 where
@@ -116,7 +125,8 @@ AreTakenUp K alone (o ∷ os) (r ∷ rs) log I log' J =
 -- what came of one of them: it was taken to its end, or it stood open and stopped
 abbrev pub CameOf : Shape → Bool → OpenLane → Result ResumedBatch LaneFault → Sight → (ℕ → Sight) → Sight → (ℕ → Sight) → Type 0
 CameOf K alone o (Ok r) log I log' J = IsOneTaken K alone o log I log' J r
-CameOf K alone o (Err e) log I log' J = IsUnfinished o.phase K o log I × IsResumeStopped K alone o log I log' J e × IsResumeTold K alone o log I log' J e
+CameOf K alone o (Err e) log I log' J =
+    IsUnfinished o.phase K o log I × IsResumeStopped K alone o log I log' J e × IsResumeTold K alone o log I log' J e × WantsAtLock K alone o log I log' J e
 
 -- each of them was taken up, one behind the other, whatever came of those before it
 abbrev pub AreTried : Shape → Bool → List OpenLane → List (Result ResumedBatch LaneFault) → Sight → (ℕ → Sight) → Sight → (ℕ → Sight) → Type 0
@@ -141,12 +151,17 @@ pub record IsStoppedAmong (K : Shape) (alone : Bool) (os : List OpenLane) (log :
   pub shards_then : ℕ → Sight
   pub stopped : IsResumeStopped K alone stopped_at log_there shards_there log_then shards_then e
   pub told : IsResumeTold K alone stopped_at log_there shards_there log_then shards_then e
+  pub want : WantsAtLock K alone stopped_at log_there shards_there log_then shards_then e
   pub came : List (Result ResumedBatch LaneFault)
   pub went_on : AreTried K alone behind came log_then shards_then log' J
 
 -- that, or they were not begun for want of memory
 abbrev pub AreStopped : Shape → Bool → List OpenLane → Sight → (ℕ → Sight) → Sight → (ℕ → Sight) → LaneFault → Type 0
 AreStopped K alone os log I log' J e = HasNoMemory e log I log' J ⊎ IsStoppedAmong K alone os log I log' J e
+
+-- one of them was prepared
+abbrev pub HasPrepared : List OpenLane → Type 0
+HasPrepared os = (o : OpenLane) × Contains os o × (o.phase ≡ Prepared)
 
 -- a node has gone on from how it stood: it is the same still, and its journal has grown at its end
 pub record HasGoneOn (old new : Sight) : Type 0 where

@@ -196,8 +196,7 @@ module _ (K : Shape) (lane : ℕ) (logs shards logs' shards' : ℕ → Sight) (l
     taken_checked taken = turned [] ((taken_law K lane logs shards logs' shards' elsewhere).2 o.batch lane_is (taken still))
 
     pub left_checked : (e : LaneFault) → IsResumeStopped K true o log shards log' shards' e → IsCheckedTurn K m lane I J
-    left_checked e (inl none) = none_done none.1 none.2
-    left_checked e (inr stop) =
+    left_checked e stop =
         let s = stop still in
         turned [] ((taken_law K lane logs shards logs' shards' elsewhere).3 o.batch s.0 s.1 lane_is s.3)
 
@@ -206,17 +205,15 @@ module _ (K : Shape) (lane : ℕ) (logs shards logs' shards' : ℕ → Sight) (l
     taken_unprepared taken = unprepared ((taken_law K lane logs shards logs' shards' elsewhere).2 o.batch lane_is (taken still))
 
     pub left_unprepared : (e : LaneFault) → IsResumeStopped K true o log shards log' shards' e → HasPrepared K lane [] I J
-    left_unprepared e (inl none) = unprepared ((taken_law K lane logs shards logs' shards' elsewhere).4 none.1 none.2)
-    left_unprepared e (inr stop) =
+    left_unprepared e stop =
         let s = stop still in
         unprepared ((taken_law K lane logs shards logs' shards' elsewhere).3 o.batch s.0 s.1 lane_is s.3)
 
     pub left_cause : (e : LaneFault) → IsResumeStopped K true o log shards log' shards' e
         → IsOpenCause K lane I J (HaveFailed (opened_by K logs' shards') (faults_by K logs' shards')) (MayHold (capacity_by K logs' shards')) e
-    left_cause e (inl none) = inl (ap (λ x. x.fault) none.0, inl (λ n. ap (λ L. own lane (L n)) (same_journals none.1 none.2)))
-    left_cause e (inr stop) =
+    left_cause e stop =
         let s = stop still in
-        let turn = left_checked e (inr stop) in
+        let turn = left_checked e stop in
         free_cause K lane Nothing I J (opened_by K logs' shards') (faults_by K logs' shards') (capacity_by K logs' shards') turn.grows e s.0 s.1 s.2
         ((stop_law K m lane logs' shards' s.3.txs s.0 s.1 limits home shape_still shard_shapes turn.checked).1 o.batch lane_is s.3.fault)
-        (λ memory. inr (prepared_still (in_prepare K o.batch s.3.txs log' shards' s.0 s.1 memory s.3.fault.call), left_unprepared e (inr stop)))
+        (λ memory. inr (prepared_still (in_prepare K o.batch s.3.txs log' shards' s.0 s.1 memory s.3.fault.call), left_unprepared e stop))

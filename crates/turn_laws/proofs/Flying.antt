@@ -140,5 +140,4 @@ module _ (K : Shape) (lane : ℕ) (logs shards logs' shards' : ℕ → Sight) (s
         (left_keeps K lane logs shards logs' shards' some home shape elsewhere nodes nodes' log_nodes shard_nodes o told e stop mint submissions kept)
       where
         flown : IsResumeStopped K true o log shards log' shards' e → Flown K [] lane log shards log' shards'
-        flown (inl none) = none_done [] none.1 none.2
-        flown (inr s) = subst (λ l. Flown K [] l log shards log' shards') (told_lane log.seen lane o told) (s (still mint submissions kept)).3.flown
+        flown s = subst (λ l. Flown K [] l log shards log' shards') (told_lane log.seen lane o told) (s (still mint submissions kept)).3.flown

@@ -138,5 +138,4 @@ module _ (K : Shape) (lane : ℕ) (logs shards logs' shards' : ℕ → Sight) (l
         (left_checked K lane logs shards logs' shards' limits home shape shard_shapes elsewhere nodes nodes' log_nodes shard_nodes m checked o told e stop).checked (flown stop)
       where
         flown : IsResumeStopped K true o log shards log' shards' e → Flown K [] lane log shards log' shards'
-        flown (inl none) = nothing_done [] none.1 none.2
-        flown (inr s) = subst (λ l. Flown K [] l log shards log' shards') (told_lane log.seen lane o told) (s unfinished_there).3.flown
+        flown s = subst (λ l. Flown K [] l log shards log' shards') (told_lane log.seen lane o told) (s unfinished_there).3.flown

@@ -92,8 +92,7 @@ module _ (K : Shape) (lane : ℕ) (logs shards logs' shards' : ℕ → Sight) (s
         ((taken_law K lane logs shards logs' shards' elsewhere).2 o.batch lane_is (taken (still mint submissions kept))) kept
 
     pub left_keeps : (e : LaneFault) → IsResumeStopped K true o log shards log' shards' e → OfKept K I (StaysKept K I J)
-    left_keeps e (inl none) mint submissions kept = none_done none.1 none.2 mint submissions kept
-    left_keeps e (inr stop) mint submissions kept =
+    left_keeps e stop mint submissions kept =
         let s = stop (still mint submissions kept) in
         stays [] mint submissions (pass_none (IsProperCompact submissions)) ((taken_law K lane logs shards logs' shards' elsewhere).3 o.batch s.0 s.1 lane_is s.3) kept
 

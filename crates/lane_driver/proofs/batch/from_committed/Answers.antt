@@ -4,9 +4,10 @@ use Rattle.lane_laws.specs.Calls.{finish_of, forget_of}
 use Rattle.lane_laws.specs.Answers.{LockAnswer, FinishAnswer, ForgetAnswer}
 use Rattle.lane_driver.proofs.Turning.{turn_stamped, turn_times, finish_stops, discard_stops, later_stops, home_stop}
 use Rattle.cbdc_model.specs.Calls.{IsLockCall, IsFinishCall, IsForgetCall}
-use Rattle.lane_driver.proofs.Ready.{finish_shards, forget_shards}
+use Rattle.lane_driver.proofs.Rooming.{finish_shards, forget_shards}
 use Rattle.lane_driver.proofs.Fitting.{finishes_ready, forgets_ready, calls_kept, ledger_kept}
 use Rattle.std.proofs.Common.{inr}
+use Rattle.lane_driver.proofs.Wanting.{told_free}
 use Rattle.lane_driver.proofs.Causing.{log_fault, discard_caused}
 use Rattle.lane_driver.proofs.Serving.{own_served, finishes_served, forgets_served}
 use Rattle.lane_driver.proofs.Keeping.{log_same, log_on, shards_on}
@@ -133,3 +134,6 @@ returns-clause-keeps_log g c = log_on c.in-Ok-discard.ensures.keeps c.in-Ok-from
 
 pub returns-clause-keeps_shards : goal.returns-clause-keeps_shards
 returns-clause-keeps_shards g c = shards_on (shards_on (shards_on (shards_on (shards_on c.in-Ok.ensures.keeps c.finish_again.ensures.keeps) c.in-Ok-from_discarded.ensures.keeps_shards) c.lock_again.ensures.keeps) c.finish_again-2.ensures.keeps) c.forget_again.ensures.keeps
+
+pub returns-in-Err-discard-clause-no_want : goal.returns-in-Err-discard-clause-no_want
+returns-in-Err-discard-clause-no_want g c = told_free c.in-Err-discard.ensures.told

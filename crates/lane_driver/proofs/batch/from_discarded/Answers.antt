@@ -3,10 +3,11 @@ use Rattle.cbdc_model.specs.Ranges.{home_of}
 use Rattle.lane_laws.specs.Calls.{forget_of}
 use Rattle.lane_laws.specs.Answers.{ForgetAnswer}
 use Rattle.lane_driver.proofs.Turning.{turn_stamped, turn_times, forget_stops, done_stops, home_stop}
-use Rattle.lane_driver.proofs.Ready.{forget_shards}
+use Rattle.lane_driver.proofs.Rooming.{forget_shards}
 use Rattle.lane_driver.proofs.Fitting.{forgets_ready, calls_kept}
 use Rattle.cbdc_model.specs.Calls.{IsForgetCall}
 use Rattle.std.proofs.Common.{inr}
+use Rattle.lane_driver.proofs.Wanting.{told_free}
 use Rattle.lane_driver.proofs.Causing.{log_fault, done_caused}
 use Rattle.lane_driver.proofs.Serving.{forgets_served}
 use Rattle.lane_driver.proofs.Keeping.{log_same, shards_on}
@@ -72,3 +73,6 @@ returns-in-Ok-done-clause-keeps_shards g c = shards_on c.in-Ok.ensures.keeps c.f
 
 pub returns-in-Err-done-clause-keeps_shards : goal.returns-in-Err-done-clause-keeps_shards
 returns-in-Err-done-clause-keeps_shards g c = shards_on c.in-Ok.ensures.keeps c.forget_again.ensures.keeps
+
+pub returns-in-Err-done-clause-no_want : goal.returns-in-Err-done-clause-no_want
+returns-in-Err-done-clause-no_want g c = told_free c.in-Err-done.ensures.told

@@ -4,10 +4,11 @@ use Rattle.lane_laws.specs.Calls.{lock_of}
 use Rattle.lane_laws.specs.Answers.{LockAnswer}
 use Rattle.lane_driver.proofs.Turning.{turn_locked, turn_times, turn_committed, lock_stops, decide_stops, commit_stops, home_stop}
 use Rattle.std.proofs.lemmas.List.{length-map}
-use Rattle.lane_driver.proofs.Ready.{lock_shards, lock_sizes, later_room}
+use Rattle.lane_driver.proofs.Rooming.{lock_shards, lock_sizes, later_room}
 use Rattle.cbdc_model.specs.Calls.{IsLockCall}
 use Rattle.lane_driver.proofs.Fitting.{locks_ready, calls_kept, ledger_kept}
 use Rattle.std.proofs.Common.{inr}
+use Rattle.lane_driver.proofs.Wanting.{lock_want, decide_free}
 use Rattle.lane_driver.proofs.Causing.{log_fault, decide_caused}
 use Rattle.lane_driver.proofs.Serving.{locks_own, locks_served}
 use Rattle.lane_driver.proofs.Keeping.{log_same, log_on, shards_on}
@@ -117,3 +118,13 @@ returns-clause-keeps_log g c = log_on c.in-Ok-decide.ensures.keeps c.in-Err-from
 
 pub returns-clause-keeps_shards : goal.returns-clause-keeps_shards
 returns-clause-keeps_shards g c = shards_on (shards_on c.in-Ok.ensures.keeps c.lock_again.ensures.keeps) c.in-Err-from_committed.ensures.keeps_shards
+
+pub returns-in-Err-clause-want : goal.returns-in-Err-clause-want
+returns-in-Err-clause-want g c = lock_want c.args.shape.now g.S.PortSet.alone g.L.LogPort.alone c.args.batch.now c.args.cause c.args.room.parts c.deref.result.now (g.L.LogPort.sights c.args.ports.now.log (g.L.LogPort.at c.args.ports.now.log))
+    (g.S.PortSet.sights c.args.ports.now.shards) (g.S.PortSet.sights c.lock_phase.new.shards) c.in-Err.fault c.requires.same (c.deref.ensures.value ∙ c.lock_calls.ensures) c.in-Err.ensures.stopped
+
+pub returns-in-Err-decide-clause-want : goal.returns-in-Err-decide-clause-want
+returns-in-Err-decide-clause-want g c want = absurd (decide_free c.in-Err-decide.fault (g.L.LogPort.sights c.decide.new.self (g.L.LogPort.at c.decide.new.self)) c.in-Err-decide.ensures.fault want)
+
+pub returns-clause-want : goal.returns-clause-want
+returns-clause-want g c want = absurd (c.in-Err-from_committed.ensures.no_want want)

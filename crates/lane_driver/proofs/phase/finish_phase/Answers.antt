@@ -6,6 +6,7 @@ use Rattle.lane_laws.specs.Gathering.{IsLatest, FirstFault}
 use Rattle.lane_laws.specs.Answers.{FinishAnswer}
 use Rattle.lane_driver.proofs.Telling.{stopped_at}
 use Rattle.lane_driver.proofs.Phasing.{fault_inside, latest_small}
+use Rattle.lane_driver.proofs.Wanting.{phase_free, told_free}
 use Rattle.lane_driver.proofs.Causing.{shard_fault, finish_caused}
 use Rattle.lane_driver.proofs.phase.finish_phase.Goals as goal
 
@@ -32,3 +33,8 @@ pub returns-in-Err-clause-fault : goal.returns-in-Err-clause-fault
 returns-in-Err-clause-fault g c =
     shard_fault c.args.shape.now (FinishAnswer g.S.PortSet.alone) c.args.calls.now (g.S.PortSet.sights c.args.shards.now) (g.S.PortSet.sights c.finish.new.self) c.of_shard.result
     (λ d old new f t. finish_caused g.S.PortSet.alone d old new f t) c.requires.shards (returns-in-Err-clause-stopped g c)
+
+pub returns-in-Err-clause-no_want : goal.returns-in-Err-clause-no_want
+returns-in-Err-clause-no_want g c =
+    phase_free c.args.shape.now (FinishAnswer g.S.PortSet.alone) c.args.calls.now (g.S.PortSet.sights c.args.shards.now) (g.S.PortSet.sights c.finish.new.self) c.of_shard.result
+    (λ d old new f t. told_free t) (returns-in-Err-clause-stopped g c)

@@ -1,11 +1,12 @@
-use Rattle.std.proofs.Common.{◌≡◌, ◌≤◌, true, length, take, drop, Some, None}
-use Rattle.std.specs.List.{All}
+use Rattle.std.proofs.Common.{◌≡◌, ◌≤◌, true, length, take, drop, reverse, Some, None}
+use Rattle.std.specs.List.{All, AllZip}
 use Rattle.std.specs.Vec.{vec_capacity, vec_len}
 use Rattle.lane_driver.specs.Keeping.{KeepsLog, KeepsShards}
 use Rattle.lane_driver.specs.declared.fault.LaneFault.{LaneFault}
 use Rattle.recovery.specs.Open.{IsOpen, LanesRise, KeepsUnlisted, AreResumed, AreUnfinished, WasCaused}
+use Rattle.recovery.specs.Planned.{IsLaneRoom}
 use Rattle.recovery.proofs.InOrder.{IsOver, CameSo}
-use Rattle.recovery.proofs.resuming.resume.Given as goal
+use Rattle.recovery.proofs.driving.drive_lanes.Given as goal
 
 abbrev pub invariant-loop-unfinished : goal.invariant-loop-unfinished
 invariant-loop-unfinished g l = record {
@@ -21,5 +22,6 @@ invariant-loop-unfinished g l = record {
   over : l.first ≡ None → All (IsOver (g.L.LogPort.header l.ports.log) (g.L.LogPort.phase l.ports.log) (drop l.unfinished-index l.lanes)) (take l.unfinished-index l.lanes);
   others : g.L.LogPort.alone ≡ true → KeepsUnlisted (g.L.LogPort.header l.initial.ports.log) l.lanes (g.L.LogPort.phase l.initial.ports.log) (g.L.LogPort.phase l.ports.log) (g.L.LogPort.open_txs l.initial.ports.log) (g.L.LogPort.open_txs l.ports.log);
   len : vec_len l.batches ≤ l.unfinished-index;
-  room : vec_capacity l.batches ≡ length l.lanes;
+  room : length l.lanes ≤ vec_capacity l.batches;
+  rooms : AllZip (IsLaneRoom l.shape) (drop l.unfinished-index l.lanes) (reverse l.rooms.items);
 }

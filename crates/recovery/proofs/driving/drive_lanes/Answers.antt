@@ -1,19 +1,19 @@
-use Rattle.std.proofs.Common.{inl, ◌≡◌, ◌<◌, ◌∙◌, ◌+◌, [], refl, sym, ap, subst, take, arith}
+use Rattle.std.proofs.Common.{◌≡◌, ◌<◌, ◌∙◌, ◌+◌, [], sym, ap, subst, take, arith}
 use Rattle.std.specs.Prelude.{OnOk, IfOk}
 use Rattle.cbdc_model.specs.Ranges.{home_of}
 use Rattle.cbdc_model.specs.Slots.{Idle}
 use Rattle.recovery.specs.Open.{IsResumed, AreResumed, IsUnfinished, CameOf}
 use Rattle.lane_driver.proofs.Fitting.{ledger_kept}
-use Rattle.lane_driver.proofs.Keeping.{log_same, log_on, shards_same, shards_on}
+use Rattle.lane_driver.proofs.Keeping.{log_on, shards_on}
+use Rattle.recovery.proofs.Rooming.{room_here, rooms_less}
 use Rattle.lane_laws.specs.Batches.{view}
 use Rattle.cbdc_model.specs.Lanes.{Made}
 use Rattle.recovery.proofs.Untouched.{stands_here, stand_rest, home_there, still_shape}
 use Rattle.recovery.proofs.Rest.{open_here, rise_rest, open_rest, resumed_more}
 use Rattle.recovery.proofs.InOrder.{came_of, came_more, kept_none, over_more, unlisted_more}
-use Rattle.recovery.proofs.Onward.{made_by, log_grows, shard_grows, logs_gone, shards_gone, caused_now, caused_more}
-use Rattle.cbdc_types.specs.declared.calls.NodeFault.TheVariants.{Memory}
+use Rattle.recovery.proofs.Onward.{made_by, log_grows, shard_grows, logs_gone, shards_gone, caused_more}
 use Rattle.cbdc_types.specs.declared.batch.OpenLane.{OpenLane}
-use Rattle.recovery.proofs.resuming.resume.Goals as goal
+use Rattle.recovery.proofs.driving.drive_lanes.Goals as goal
 
 pub resume_lane-came-requires-clause-is_open : goal.resume_lane-came-requires-clause-is_open
 resume_lane-came-requires-clause-is_open g c =
@@ -37,7 +37,7 @@ loop-unfinished-preserved g c =
     let J = g.S.PortSet.sights c.resume_lane-came.new.ports.shards in
     let stands : IsUnfinished o.phase K o (logs at) I = stands_here K (logs at) I c.args.lanes.now i o inside c.unfinished-item.is inv.stand in
     let home : home_of K o.batch.lane < K.coordinators = home_there K o (logs at) I o.phase stands in
-    let one : CameOf K alone o came (logs at) I (logs' at') J = came_of K alone o came (logs at) (logs' at') I J stands told.taken told.resumed told.outcomes told.left told.told in
+    let one : CameOf K alone o came (logs at) I (logs' at') J = came_of K alone o came (logs at) (logs' at') I J stands told.taken told.resumed told.outcomes told.left told.told told.want in
     let made : Made K [] alone o.batch.lane (view K o.batch.lane (logs at) I) (view K o.batch.lane (logs' at') J) = made_by K alone o came (logs at) (logs' at') I J one in
     let kept = c.keep-first.ensures.kept in
     let before = c.loop-unfinished.batches.items in
@@ -65,7 +65,8 @@ loop-unfinished-preserved g c =
           (subst (λ x. OnOk x (g.L.LogPort.phase c.resume_lane-came.new.ports.log o.batch.lane ≡ Idle)) k.2 told.idle) inv.rise inv.open_rest (inv.over k.0);
       others = λ quiet. unlisted_more c.args.lanes.now i o inside c.unfinished-item.is _ _ _ _ _ _ _ _ inv.keeps_log.header_same (inv.others quiet) (told.others quiet);
       len = omega (arith, c.keep-first.ensures.len, inv.len);
-      room = c.keep-first.ensures.capacity ∙ inv.room;
+      room = omega (arith, c.keep-first.ensures.capacity, inv.room);
+      rooms = rooms_less K c.args.lanes.now i o inside c.unfinished-item.is c.loop-unfinished.rooms.items c.pop.new.self.items c.in-Some.room c.in-Some.ensures.items inv.rooms;
     }
 
 pub resume_lane-came-requires-clause-at : goal.resume_lane-came-requires-clause-at
@@ -78,17 +79,12 @@ pub resume_lane-came-requires-clause-stands : goal.resume_lane-came-requires-cla
 resume_lane-came-requires-clause-stands g c =
     stands_here c.args.shape.now (g.L.LogPort.sights c.loop-unfinished.ports.log (g.L.LogPort.at c.loop-unfinished.ports.log)) (g.S.PortSet.sights c.loop-unfinished.ports.shards) c.args.lanes.now c.loop-unfinished.unfinished-index _ c.loop-unfinished-test.true c.unfinished-item.is c.loop-unfinished.invariant.stand
 
-pub returns-in-Err-clause-fault : goal.returns-in-Err-clause-fault
-returns-in-Err-clause-fault g c =
-    caused_now c.args.shape.now (g.L.LogPort.sights c.args.ports.now.log) (g.S.PortSet.sights c.args.ports.now.shards) c.no_memory.result (0, Memory, c.no_memory.ensures, inl (refl, refl))
-
 pub resume_lane-came-requires-clause-mine : goal.resume_lane-came-requires-clause-mine
 resume_lane-came-requires-clause-mine g c =
     subst (λ (o : OpenLane). g.S.PortSet.serves c.loop-unfinished.ports.shards o.batch.lane) (sym c.unfinished-item.is)
     (c.loop-unfinished.invariant.keeps_shards.served _ (c.requires.mine c.loop-unfinished.unfinished-index c.unfinished-item.result c.loop-unfinished-test.true))
 
-pub returns-in-Err-clause-keeps_log : goal.returns-in-Err-clause-keeps_log
-returns-in-Err-clause-keeps_log g c = log_same c.args.ports.now.log
-
-pub returns-in-Err-clause-keeps_shards : goal.returns-in-Err-clause-keeps_shards
-returns-in-Err-clause-keeps_shards g c = shards_same c.args.ports.now.shards
+pub resume_lane-came-requires-clause-room : goal.resume_lane-came-requires-clause-room
+resume_lane-came-requires-clause-room g c =
+    room_here c.args.shape.now c.args.lanes.now c.loop-unfinished.unfinished-index c.unfinished-item.result c.loop-unfinished-test.true c.unfinished-item.is c.loop-unfinished.rooms.items c.pop.new.self.items c.in-Some.room c.in-Some.ensures.items
+    c.loop-unfinished.invariant.rooms

@@ -1,0 +1,39 @@
+-- The memory of open batches, taken from the end as they are taken up.
+use Rattle.std.proofs.Common.{◌≡◌, ℕ, arith, ◌+◌, ◌<◌, List, [], ◌∷◌, ◌++◌, length, get_or, take, drop, reverse, sym, ap, ◌∙◌, subst}
+use Rattle.std.specs.List.{AllZip}
+use Rattle.std.proofs.lemmas.List.{reverse-append, reverse-reverse, take_more, take_all}
+use Rattle.std.proofs.lemmas.Slice.Zip.{all_zipped_more}
+use Rattle.cbdc_types.specs.declared.batch.OpenLane.{OpenLane}
+use Rattle.cbdc_model.specs.Records.{Shape}
+use Rattle.recovery.specs.declared.planning.LaneRoom.{LaneRoom}
+use Rattle.recovery.specs.Planned.{IsLaneRoom}
+use Rattle.recovery.proofs.Rest.{split_rest}
+
+module _ (K : Shape) (os : List OpenLane) (i : ℕ) (o : OpenLane) (lt : i < length os) (is : o ≡ get_or os i o) where
+  -- the last one is that of the batch that is next
+  last_two : (rooms less : List LaneRoom) (r : LaneRoom) → rooms ≡ less ++ r ∷ [] → AllZip (IsLaneRoom K) (drop i os) (reverse rooms) → AllZip (IsLaneRoom K) (o ∷ drop (i + 1) os) (r ∷ reverse less)
+  last_two rooms less r e each =
+      subst (λ xs. AllZip (IsLaneRoom K) xs (r ∷ reverse less)) (split_rest os i o lt is)
+      (subst (λ rs. AllZip (IsLaneRoom K) (drop i os) rs) (ap reverse e ∙ reverse-append less (r ∷ [])) each)
+
+  pub room_here : (rooms less : List LaneRoom) (r : LaneRoom) → rooms ≡ less ++ r ∷ [] → AllZip (IsLaneRoom K) (drop i os) (reverse rooms) → IsLaneRoom K o r
+  room_here rooms less r e each = (last_two rooms less r e each).0
+
+  pub rooms_less : (rooms less : List LaneRoom) (r : LaneRoom) → rooms ≡ less ++ r ∷ [] → AllZip (IsLaneRoom K) (drop i os) (reverse rooms) → AllZip (IsLaneRoom K) (drop (i + 1) os) (reverse less)
+  rooms_less rooms less r e each = (last_two rooms less r e each).1
+
+  -- and there is one
+  pub some_room : (rooms : List LaneRoom) → rooms ≡ [] → AllZip (IsLaneRoom K) (drop i os) (reverse rooms) → ⊥
+  some_room rooms none each = subst (λ xs. AllZip (IsLaneRoom K) xs []) (split_rest os i o lt is) (subst (λ rs. AllZip (IsLaneRoom K) (drop i os) (reverse rs)) none each)
+
+  -- the memory of one more
+  pub rooms_more : (rooms : List LaneRoom) (r : LaneRoom) → AllZip (IsLaneRoom K) (take i os) rooms → IsLaneRoom K o r → AllZip (IsLaneRoom K) (take (i + 1) os) (rooms ++ r ∷ [])
+  rooms_more rooms r so here =
+      subst (λ xs. AllZip (IsLaneRoom K) xs (rooms ++ r ∷ [])) (sym (take_more os i o lt))
+      (all_zipped_more (IsLaneRoom K) (take i os) rooms (get_or os i o) r so (subst (λ x. IsLaneRoom K x r) is here))
+
+-- that of all, once it stands from the end on
+pub rooms_all : (K : Shape) (os : List OpenLane) (n : ℕ) (rooms turned : List LaneRoom) → n ≡ length os → turned ≡ reverse rooms → AllZip (IsLaneRoom K) (take n os) rooms → AllZip (IsLaneRoom K) os (reverse turned)
+rooms_all K os n rooms turned all e each =
+    subst (λ rs. AllZip (IsLaneRoom K) os rs) (sym (ap reverse e ∙ reverse-reverse rooms))
+    (subst (λ xs. AllZip (IsLaneRoom K) xs rooms) (take_all n os (omega (arith, all))) each)
