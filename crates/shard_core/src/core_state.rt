@@ -97,6 +97,15 @@ fn empty_decisions(alloc: Global, lanes: u32) -> Result<Vec<Vec<bool>>, AllocErr
     Ok(decisions)
 }
 
+// The part of a finished batch, none of another one.
+fn finished_part(alloc: Global, slot: Slot) -> Vec<Entry> {
+    match slot {
+        Slot::Finished(_, part, _, _, _, _) => part.into_vec(),
+        Slot::Idle(_, _) => Vec::new(alloc),
+        Slot::Locked(_, _, _, _) => Vec::new(alloc),
+    }
+}
+
 // Puts other memory in the place of a lane's.
 fn swap_memory(memories: &mut Vec<Vec<bool>>, lane: LaneId, memory: Vec<bool>) -> Vec<bool>
     requires { lane < length memories.old.items }
@@ -494,9 +503,7 @@ impl ShardCore {
         let forgotten = self.slots.take(batch.lane);
         self.slots.put(batch.lane, Slot::Idle(batch.number, *stamp));
         self.last = *stamp;
-        if let Slot::Finished(_, part, _, _, _, _) = forgotten {
-            self.spare = part.into_vec();
-        }
+        self.spare = finished_part(self.alloc, forgotten);
     }
 
     /// What the shard knows of a hash. Takes no memory.

@@ -10,7 +10,7 @@ invariant_of-self c =
     let q = rw c.in-Forget.is at c.requires in
     let lane : c.in-Forget.batch.lane < length self.slots = let l = q.0.0 in let n = self.lanes in omega (arith, l, n) in
     let slots : c.put.new.self ≡ set self.slots c.in-Forget.batch.lane (Free c.in-Forget.batch.number c.in-Forget.stamp) =
-    rw c.take.ensures.after at c.put.ensures ∙ set_set self.slots c.in-Forget.batch.lane (Free 0 0) _ in
+    rw c.take-forgotten.ensures.after at c.put.ensures ∙ set_set self.slots c.in-Forget.batch.lane (Free 0 0) _ in
     record {
       lanes = rw slots (set_length self.slots c.in-Forget.batch.lane _ ∙ self.lanes);
       memories = self.memories;
@@ -28,7 +28,7 @@ pub returns-clause-stands : goal.returns-clause-stands
 returns-clause-stands c = λ J old.
     let self = c.args.self.now in
     let slots : c.put.new.self ≡ set self.slots c.in-Forget.batch.lane (Free c.in-Forget.batch.number c.in-Forget.stamp) =
-    rw c.take.ensures.after at c.put.ensures ∙ set_set self.slots c.in-Forget.batch.lane (Free 0 0) _ in
+    rw c.take-forgotten.ensures.after at c.put.ensures ∙ set_set self.slots c.in-Forget.batch.lane (Free 0 0) _ in
     rw c.in-Forget.is
     (record {
       lanes = rw slots (forget_stands self.slots J c.in-Forget.stamp c.in-Forget.batch old.lanes);
