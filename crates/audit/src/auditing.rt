@@ -38,6 +38,7 @@ fn commit(
     handed: &[FullTx],
     fold: &mut Fold,
 ) -> Result<Option<UnsoundKind>, AllocError>
+    requires { IsIndex handed.now ids.now }
     ensures { (mint : Items ModelOutput) → (forms : Items Compact) → (J : ℕ → Items ModelRecord) → Knows (read journals.now) known.now J
         → IsIndex handed.now ids.now → HasSpent mint handed.now forms fold.old
         → IfOk result (λ o. MatchOption o (HasSpent mint handed.now (forms ++ newly_won r.now (J node)) fold.new)
@@ -66,7 +67,8 @@ fn walk(
     handed: &[FullTx],
     fold: &mut Fold,
 ) -> Result<Walked, AllocError>
-    requires { All (IsPlace (read journals.now)) history.now }
+    requires places { All (IsPlace (read journals.now)) history.now }
+    requires index { IsIndex handed.now ids.now }
     ensures { (mint : Items ModelOutput) → IsIndex handed.now ids.now → HasSpent mint handed.now [] fold.old
         → IfOk result (IsWalked shape.now mint handed.now (read journals.now) history.now fold.new) }
 {

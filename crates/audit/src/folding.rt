@@ -42,6 +42,7 @@ impl Fold {
         handed: &[FullTx],
         form: &CompactTx,
     ) -> Result<Option<UnsoundKind>, AllocError>
+        requires { IsIndex handed.now ids.now }
         ensures { (mint : Items ModelOutput) → (forms : Items Compact) → IsIndex handed.now ids.now → HasSpent mint handed.now forms self.old
             → IfOk result (λ o. MatchOption o (HasSpent mint handed.now (forms ++ form.now ∷ []) self.new)
             (λ kind. (b : ModelBook) × AreSpent mint handed.now forms b × IsWrong handed.now b form.now kind)) }
@@ -49,7 +50,7 @@ impl Fold {
         let Some(tx) = ids.first_with(alloc, handed, form)? else {
             return Ok(Some(UnsoundKind::Unknown(form.id)));
         };
-        if !self.book.spend(tx)? {
+        if !self.book.spend(tx, &form.id)? {
             return Ok(Some(UnsoundKind::Unfunded(form.id)));
         }
         let Some(committed) = self.committed.checked_add(1) else {
@@ -68,6 +69,7 @@ impl Fold {
         txs: &[CompactTx],
         outcomes: &[Outcome],
     ) -> Result<Option<UnsoundKind>, AllocError>
+        requires { IsIndex handed.now ids.now }
         ensures { (mint : Items ModelOutput) → (forms : Items Compact) → IsIndex handed.now ids.now → HasSpent mint handed.now forms self.old
             → IfOk result (λ o. MatchOption o (HasSpent mint handed.now (forms ++ won_txs txs.now outcomes.now) self.new)
             (IsFirstWrong mint handed.now forms (won_txs txs.now outcomes.now))) }

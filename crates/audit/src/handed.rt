@@ -1,11 +1,11 @@
 // The transactions that were handed in, by their ids.
 ghost use Rattle.std.specs.Prelude.{◌≡◌, ◌++◌, ◌∷◌, [], List as Items, length, None, Some, IfOk, OnOk, MatchOption};
-ghost use Rattle.cbdc_model.specs.Coins.{FullTx as ModelTx, compact};
+ghost use Rattle.cbdc_model.specs.Coins.{FullTx as ModelTx, compact, tx_id as id_of_tx};
 ghost use Rattle.cbdc_model.specs.History.{same_compact, first_with};
 ghost use Rattle.audit.specs.Keeping.{IsIndex};
 
 use cbdc_types::{CompactTx, FullTx, Hash};
-use compact_tx::compact;
+use compact_tx::{compact, compact_as};
 use identifiers::tx_id;
 use same_records::is_same_compact;
 use std::alloc::{AllocError, Global};
@@ -15,6 +15,14 @@ use std::collections::HashMap;
 #[derive(Drop)]
 pub(crate) struct ById {
     pub(crate) firsts: HashMap<Hash, u64>,
+}
+
+// Whether a transaction, which has the form's id, has a compact form.
+fn has_form_as(alloc: Global, tx: &FullTx, form: &CompactTx) -> Result<bool, AllocError>
+    requires { form.now.id ≡ id_of_tx tx.now }
+    ensures { IfOk result (λ yes. yes ≡ same_compact (compact tx.now) form.now) }
+{
+    Ok(is_same_compact(&compact_as(alloc, &form.id, tx)?, form))
 }
 
 // Whether a transaction has a compact form.
@@ -73,6 +81,7 @@ impl ById {
         txs: &'a [FullTx],
         form: &CompactTx,
     ) -> Result<Option<&'a FullTx>, AllocError>
+        requires { IsIndex txs.now self.now }
         ensures { IsIndex txs.now self.now
             → IfOk result (λ o. MatchOption o (first_with txs.now form.now ≡ None) (λ t. first_with txs.now form.now ≡ Some t.now)) }
     {
@@ -82,7 +91,7 @@ impl ById {
         let Some(first) = txs.get(*at as usize) else {
             return Ok(None);
         };
-        if has_form(alloc, first, form)? {
+        if has_form_as(alloc, first, form)? {
             return Ok(Some(first));
         }
         search(alloc, txs, form)

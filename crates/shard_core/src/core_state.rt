@@ -53,6 +53,8 @@ pub struct ShardCore {
     decisions: Vec<Vec<bool>>,
     // How many hashes the locked batches may still bring to the table.
     owed: u64,
+    // A part that was forgotten, whose memory is that of the next one.
+    spare: Vec<Entry>,
     ghost lanes: { length slots ≡ header.shape.coordinators * header.shape.lanes },
     ghost memories: { length decisions.items ≡ header.shape.coordinators * header.shape.lanes },
     ghost clock: { last < 2 ^ 63 },
@@ -93,6 +95,15 @@ fn empty_decisions(alloc: Global, lanes: u32) -> Result<Vec<Vec<bool>>, AllocErr
         decisions.push(Vec::new(alloc))?;
     }
     Ok(decisions)
+}
+
+// The part of a finished batch, none of another one.
+fn finished_part(alloc: Global, slot: Slot) -> Vec<Entry> {
+    match slot {
+        Slot::Finished(_, part, _, _, _, _) => part.into_vec(),
+        Slot::Idle(_, _) => Vec::new(alloc),
+        Slot::Locked(_, _, _, _) => Vec::new(alloc),
+    }
 }
 
 // Puts other memory in the place of a lane's.
@@ -174,6 +185,7 @@ impl ShardCore {
     ghost use Rattle.shard_core.specs.Admitted.{IsAdmitted, IsLockAdmitted, IsFinishAdmitted, IsForgetAdmitted, IsOfLane, IsFinishable};
     ghost use Rattle.shard_core.specs.Next.{StandsFor, IsOpenTo};
     ghost use Rattle.cbdc_model.specs.After.{After, Follows};
+    ghost use Rattle.cbdc_model.specs.Grammar.{IsInGrammar};
     ghost use Rattle.cbdc_model.specs.Room.{kept_room as room_kept};
     ghost use Rattle.cbdc_model.specs.Fates.{fate};
     ghost use Rattle.shard_core.specs.Counts.{Counts};
@@ -197,6 +209,7 @@ impl ShardCore {
             ready: None,
             decisions,
             owed: 0,
+            spare: Vec::new(alloc),
         })
     }
 
@@ -245,7 +258,7 @@ impl ShardCore {
                     entries,
                     &call.batch,
                 )?;
-                let part = copy_of(self.alloc, entries)?;
+                let part = copy_of(self.alloc, &mut self.spare, entries)?;
                 let kept = Vec::from_slice(self.alloc, replies.as_slice())?;
                 self.make_room(List::from_vec(part), List::from_vec(kept))?;
                 Ok(LockPlan::Append(Replied {
@@ -307,6 +320,16 @@ impl ShardCore {
         if !is_in_grammar(&self.header, r) {
             return Ok(false);
         }
+        self.admit_known(r)
+    }
+
+    /// The same of a record that is known to be in the grammar of the shard's journals.
+    pub fn admit_known(&mut self, r: &Record) -> Result<bool, AllocError>
+        requires { IsInGrammar self.old.header r.now }
+        ensures same { IsSameState self.old self.new }
+        ensures admitted { IfOk result (λ yes. OnTrue yes (IsAdmitted self.new r.now)) }
+        ensures next { IfOk result (λ yes. (J : Items Record) → StandsFor self.old J → (IsTrue yes ↔ After self.old.header J r.now)) }
+    {
         match r {
             Record::Lock {
                 stamp,
@@ -338,7 +361,7 @@ impl ShardCore {
         if !self.is_open_to(stamp, batch) {
             return Ok(false);
         }
-        let entries = entries_of(self.alloc, answered)?;
+        let entries = entries_of(self.alloc, &mut self.spare, answered)?;
         let replies = replies_to(
             self.alloc,
             &self.unspent,
@@ -477,8 +500,10 @@ impl ShardCore {
         let Record::Forget { stamp, batch } = r else {
             unreachable!();
         };
+        let forgotten = self.slots.take(batch.lane);
         self.slots.put(batch.lane, Slot::Idle(batch.number, *stamp));
         self.last = *stamp;
+        self.spare = finished_part(self.alloc, forgotten);
     }
 
     /// What the shard knows of a hash. Takes no memory.
