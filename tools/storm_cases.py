@@ -123,7 +123,7 @@ class Case:
         one = dice.random() < 0.45
         self.shape = Shape(dice.randint(1, 4), 1 if one else dice.randint(1, 3), 1 if one else dice.randint(1, 3), dice.randint(1, 8))
         self.nodes = self.shape.coordinators + self.shape.shards
-        self.mint = Mint([(dice.randrange(2**20), self.value()) for _ in range(dice.choice((0, 1, 2, 3, 4, 4, 5, 6, 8, 8)))])
+        self.mint = Mint([(dice.randrange(2**20), self.value()) for _ in range(dice.choice((dice.randint(0, 3), 3, 4, 6, 8, 10)))])
         self.txs, self.files, self.verdicts = [], {}, {}
         self.make_txs()
         self.make_files()
@@ -137,13 +137,24 @@ class Case:
     # Transactions.
 
     def make_txs(self):
+        """The transactions by rounds: most spend what was there when their round begins."""
         dice, pool, spent = self.dice, list(self.mint.tx.coins), []
-        for at in range(dice.randint(0, 24)):
-            tx = Tx(f"t{at}", *self.parts(pool, spent))
-            self.txs.append(tx)
-            if not tx.refusal(AllGood()):
-                spent += [it for it in tx.inputs if it in pool]
-                pool = [it for it in pool if it not in tx.inputs] + tx.coins
+        self.rounds = []
+        for round_ in range(dice.choice((1, 1, 2, 2, 3, 4))):
+            green, own = [], []
+            for at in range(dice.randint(0, 10)):
+                tx = Tx(f"t{round_}.{at}", *self.parts(pool if dice.random() < 0.92 else pool + green, spent))
+                own.append(tx)
+                if dice.random() < 0.03:
+                    # the same id with another number of witnesses
+                    own.append(Tx(f"w{round_}.{at}", tx.inputs, tx.outputs, tx.witnesses + 1))
+                if not tx.refusal(AllGood()):
+                    spent += [it for it in tx.inputs if it in pool]
+                    pool = [it for it in pool if it not in tx.inputs]
+                    green += tx.coins
+            pool += green
+            self.rounds.append(own)
+        self.txs = [tx for own in self.rounds for tx in own]
 
     def coin(self):
         """A coin that no transaction makes."""
@@ -158,11 +169,11 @@ class Case:
     def parts(self, pool, spent):
         dice = self.dice
         kind = dice.random()
-        source = pool if pool and (kind < 0.62 or not spent) else pool + spent if kind < 0.84 and spent else []
+        source = pool + spent if spent and (kind < 0.2 or not pool) else pool
         inputs = dice.sample(source, min(len(source), dice.choice((1, 1, 1, 2, 2, 3)))) if source else [self.coin()]
-        if 0.62 <= kind < 0.68:
+        if 0.2 < kind < 0.23:
             inputs.append(self.coin())
-        if 0.68 <= kind < 0.71:
+        if 0.23 < kind < 0.25:
             inputs[0] = inputs[0]._replace(value=inputs[0].value + 1)
         outputs = self.split(min(sum(it.value for it in inputs), LIMIT - 1))
         return self.spoilt(inputs, outputs) if kind > 0.9 else (inputs, outputs)
@@ -193,16 +204,14 @@ class Case:
     # Files.
 
     def make_files(self):
-        dice, at = self.dice, 0
-        many = dice.choice((1, 1, 2, 2, 3, 4))
-        for file in range(many):
-            size = dice.randint(0, 2 * len(self.txs) // many + 1)
-            own = self.txs[at : at + size] if file < many - 1 else self.txs[at:]
-            at += size
+        """A file for each round, and transactions that were or will be handed in by another one."""
+        dice = self.dice
+        for file, txs in enumerate(self.rounds):
+            own = list(txs)
             for _ in range(dice.choice((0, 0, 0, 1, 2))):
                 if self.txs:
                     own.insert(dice.randint(0, len(own)), dice.choice(self.txs))
-            if dice.random() < 0.15:
+            if dice.random() < 0.1:
                 dice.shuffle(own)
             self.files[f"c{file}"] = own
 

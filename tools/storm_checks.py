@@ -411,4 +411,7 @@ class Checks:
     def end(self, seen):
         must(seen.is_ledger, "at the end there is no ledger")
         must(not seen.open(), "at the end a batch is open")
-        self.tally["committed"] += len(list(seen.committed()))
+        outcomes = collections.Counter(outcome[0] for batch in seen.batches.values() for outcome in batch.outcomes)
+        for kind, many in outcomes.items():
+            self.tally[f"outcomes in the end: {kind}"] += many
+        self.tally["cases with a conflict"] += bool(outcomes["Locked"] + outcomes["Missing"])
