@@ -1,7 +1,8 @@
 """What tools/storm tries: random cases, and the rows of `ledger_rows` that each becomes.
 
-A case is a shape, a mint, transactions, client files with their verdicts, and stages: each makes the ledger, runs files or recovers, on disks that may
-fail, stop or be full, over an output that may be short, and may be followed by a crash. Files are written and hashes computed by docs/FORMATS.md alone.
+A case is a shape, a mint, transactions, client files with their verdicts, and stages: each makes the ledger, runs files or recovers, on disks that
+may fail, stop or be full, over an output that may be short, and may be followed by a crash. Files are written and hashes computed by
+docs/FORMATS.md alone.
 """
 import collections
 import copy
@@ -234,12 +235,11 @@ class Case:
         while len(self.stages) < 4 and not self.stages[-1].is_quiet() and dice.random() < 0.93:
             caps = self.wider(caps)
             self.stages.append(self.stage("init", 10, caps))
-        names = list(self.files)
-        at = 0
-        for _ in range(dice.choice((1, 1, 1, 2, 2, 3))):
+        names, at = list(self.files), 0
+        for _ in range(dice.choice((1, 1, 2, 2, 3, 4))):
             upto = dice.randint(at + 1, len(names)) if at < len(names) else at
-            files, at = names[at:upto], upto
-            if not files or dice.random() < 0.2:
+            files = names[at:upto] or [dice.choice(names)]
+            if dice.random() < 0.12:
                 files = files + [dice.choice(names)]
             caps = self.wider(caps)
             batches = sum(len(self.files[it]) for it in files) // self.shape.batch + 1
@@ -247,7 +247,9 @@ class Case:
             stage.repeats = dice.choice((0, 0, 1, 2, 3)) if repeats else 0
             self.stages.append(stage)
             while dice.random() < 0.4:
-                self.stages.append(self.stage("recover", 32, caps))
+                self.stages.append(self.stage("recover", dice.choice((2, 8, 16, 32)), caps))
+            # behind a stop the same files may be handed in again
+            at = at if stage.faults and dice.random() < 0.6 else upto
         self.stages += [Stage("init"), Stage("recover")]
 
     def stage(self, verb, calls, caps, files=()):
@@ -265,7 +267,8 @@ class Case:
     def small_disks(self):
         """Disks that have room for little more than their first records, and some not for these."""
         dice = self.dice
-        return [self.first_size(node) + dice.choice((dice.randint(-2, 10), dice.randint(0, 900), dice.randint(200, 4000))) for node in range(self.nodes)]
+        sizes = [dice.choice((dice.randint(-2, 10), dice.randint(0, 900), dice.randint(200, 4000))) for _ in range(self.nodes)]
+        return [self.first_size(node) + more for node, more in enumerate(sizes)]
 
     def first_size(self, node):
         """The size of a node's first record, with a gate behind it."""
@@ -323,8 +326,8 @@ class Case:
 
 
 class Rows:
-    """The lines of a case's file. What stands before its first row does the case once and keeps the disks of each stage; the rows behind it tell them, each
-    by a last step that can't hold."""
+    """The lines of a case's file. What stands before its first row does the case once and keeps the disks of each stage; the rows behind it tell
+    them, each by a last step that can't hold."""
 
     def __init__(self, case, spoils_byte=False):
         self.case, self.lines, self.spoils_byte = case, [], spoils_byte

@@ -1,7 +1,8 @@
 """What tools/storm sees of a case: that what each stage printed, left on its disks and would have left behind a crash is what it must be.
 
-Journals are read by `racks.py`, which goes by docs/FORMATS.md alone, checks that each record is in the grammar and may come next, and finds the first
-that lacks what it rests on. Texts are told from the journals, as docs/FORMATS.md says; statuses are those that docs/OPERATING.md has for what was done.
+Journals are read by `racks.py`, which goes by docs/FORMATS.md alone, checks that each record is in the grammar and may come next, and finds the
+first that lacks what it rests on. Texts are told from the journals, as docs/FORMATS.md says; statuses are those that docs/OPERATING.md has for
+what was done.
 """
 import collections
 
@@ -195,8 +196,8 @@ class Checks:
             self.tally[f"lines{word}".strip()] += text.count(word) if stage.verb == "run" and not status else 0
 
     def images(self, entry, left, status):
-        """What was there stays there, and a crash leaves all that was finished, and of the record that was being written all or nothing. Where there is no
-        ledger yet, a node has its first record or none."""
+        """What was there stays there, and a crash leaves all that was finished, and of the record that was being written all or nothing. Where there
+        is no ledger yet, a node has its first record or none."""
         if not entry.is_ledger:
             must(all(len(it) <= 1 for seen in left for it in seen.records), "a node has a second record where there is no ledger")
             must(status not in (0, 11) or left.live.records == left.none.records == left.torn.records, "an init that ended well was not safe")
@@ -281,8 +282,8 @@ class Checks:
 
     def init(self, stage, entry, live):
         must(not entry.is_ledger and live.is_ledger and all(len(it) == 1 for it in live.records), "an init that made no ledger")
-        mint = self.case.mint
-        must(list(live.held) == [it for shard in range(self.case.shape.shards) for it in mint.hashes_on(shard, self.case.shape.shards)], "other minted hashes")
+        mint, shards = self.case.mint, self.case.shape.shards
+        must(list(live.held) == [it for shard in range(shards) for it in mint.hashes_on(shard, shards)], "other minted hashes")
         must(live.records[0][0].header.genesis == mint.tx.id, "another genesis")
         return f"coins {len(mint.tx.outputs)}\nminted {mint.value}\ngenesis {mint.tx.id.hex()}\n"
 
@@ -388,7 +389,8 @@ class Checks:
         same("`status`", text, "".join(map(seen.status_line, self.case.hashes())))
         text, status = self.told.ran(f"audit{at}")
         if seen.open():
-            must(status == 6 and text.startswith("fault unsound ") and text.endswith(" unfinished\n"), f"an audit with open batches ended with {status} and {text!r}")
+            is_told = status == 6 and text.startswith("fault unsound ") and text.endswith(" unfinished\n")
+            must(is_told, f"an audit with open batches ended with {status} and {text!r}")
         else:
             must(status == 0, f"an audit ended with {status} and {text!r}")
             same("the audit", text, self.audit(seen))
