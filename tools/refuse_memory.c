@@ -1,0 +1,78 @@
+/* Refuses one growth of memory to the program before which it is loaded (LD_PRELOAD): the REFUSE_AT-th time, from 1, that the program itself, and
+   no library of its, calls malloc, calloc or realloc. The file REFUSE_TOLD has how often the program did, as a number of eight bytes. */
+#define _GNU_SOURCE
+#include <errno.h>
+#include <fcntl.h>
+#include <link.h>
+#include <stdatomic.h>
+#include <stdlib.h>
+#include <sys/mman.h>
+#include <unistd.h>
+
+extern void *__libc_malloc(size_t);
+extern void *__libc_calloc(size_t, size_t);
+extern void *__libc_realloc(void *, size_t);
+
+static atomic_ulong none_told;
+static atomic_ulong *calls = &none_told;
+static unsigned long refused_at;
+static char *low, *high;
+
+/* The first object that is told is the program. */
+static int bounds(struct dl_phdr_info *info, size_t size, void *data)
+{
+    (void)size;
+    (void)data;
+    for (int i = 0; i < info->dlpi_phnum; i++) {
+        const ElfW(Phdr) *part = &info->dlpi_phdr[i];
+        char *from = (char *)info->dlpi_addr + part->p_vaddr;
+        if (part->p_type != PT_LOAD)
+            continue;
+        if (!low || from < low)
+            low = from;
+        if (from + part->p_memsz > high)
+            high = from + part->p_memsz;
+    }
+    return 1;
+}
+
+__attribute__((constructor)) static void begin(void)
+{
+    const char *at = getenv("REFUSE_AT");
+    refused_at = at ? strtoul(at, NULL, 10) : 0;
+    const char *name = getenv("REFUSE_TOLD");
+    int file = name ? open(name, O_RDWR | O_CREAT | O_TRUNC, 0644) : -1;
+    if (file >= 0 && !ftruncate(file, sizeof *calls)) {
+        void *told = mmap(NULL, sizeof *calls, PROT_READ | PROT_WRITE, MAP_SHARED, file, 0);
+        if (told != MAP_FAILED)
+            calls = told;
+    }
+    if (file >= 0)
+        close(file);
+    dl_iterate_phdr(bounds, NULL);
+}
+
+static int refuses(const void *caller)
+{
+    if ((char *)caller < low || (char *)caller >= high)
+        return 0;
+    if (atomic_fetch_add(calls, 1) + 1 != refused_at)
+        return 0;
+    errno = ENOMEM;
+    return 1;
+}
+
+void *malloc(size_t size)
+{
+    return refuses(__builtin_return_address(0)) ? NULL : __libc_malloc(size);
+}
+
+void *calloc(size_t count, size_t size)
+{
+    return refuses(__builtin_return_address(0)) ? NULL : __libc_calloc(count, size);
+}
+
+void *realloc(void *old, size_t size)
+{
+    return refuses(__builtin_return_address(0)) ? NULL : __libc_realloc(old, size);
+}
