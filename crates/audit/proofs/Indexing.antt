@@ -182,10 +182,5 @@ find_true p (x ∷ xs) y h =
       | false ↦ λ e n. find_true p xs y n
     ] refl h
 
-pub found_id : (txs : List FullTx) (m : ById) (form : Compact) (i : ℕ) (t : FullTx) → IsIndex txs m → first_of m form.id ≡ Some i → t ≡ get_or txs i t → form.id ≡ tx_id t
-found_id txs m form i t h e is =
-    sym (same_digest_is (tx_id t) form.id (find_true (λ u. same_digest (tx_id u) form.id) txs t
-    (sym (h.first form.id) ∙ ap (option_map (λ j. get_or txs j no_tx)) e ∙ ap (λ u. Some u) (same_there txs i t (h.inside form.id i e) is))))
-
 pub first_has_id : (txs : List FullTx) (form : Compact) (t : FullTx) → first_with txs form ≡ Some t → form.id ≡ tx_id t
 first_has_id txs form t h = sym (same_digest_is (tx_id t) form.id (form_id (compact t) form (find_true (λ u. same_compact (compact u) form) txs t h)))

@@ -149,7 +149,7 @@ where
         ),
         Request::Recover => recover(rt, alloc, rack, out, gate),
         Request::Status { hashes } => status(alloc, hashes, rack, out),
-        Request::Audit { mint, clients } => audit(alloc, mint, clients, inbox, rack, out),
+        Request::Audit { mint, clients } => audit(rt, alloc, mint, clients, inbox, rack, out),
         Request::Gen { shape, seed, count } => {
             generated(rt, alloc, shape, *seed, *count, out, gate)
         }

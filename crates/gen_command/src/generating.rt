@@ -106,7 +106,8 @@ fn run_files<W: Wait + Threads + Sync, G: Gate + Sync>(
 }
 
 // Checks the ledger against its mint and client files.
-fn check_files(
+fn check_files<W: Threads + Sync>(
+    rt: &W,
     alloc: Global,
     mint: &[Output],
     clients: Vec<List<FullTx>>,
@@ -119,7 +120,7 @@ fn check_files(
     let Ok(handed) = joined(alloc, clients) else {
         return Err(Answer::Memory);
     };
-    match audit_on(alloc, rack, mint, &handed) {
+    match audit_on(rt, alloc, rack, mint, &handed) {
         Ok(Verdict::Sound(totals)) => Ok(totals),
         Ok(Verdict::Unsound { place, kind }) => Err(Answer::Unsound { place, kind }),
         Err(fault) => Err(fault),
@@ -159,7 +160,7 @@ fn run_workload<W: Wait + Threads + Sync, G: Gate + Sync>(
         Ok(ran) => ran,
         Err(fault) => return Err(fault),
     };
-    match check_files(alloc, kept.as_slice(), clients, &mut rack) {
+    match check_files(rt, alloc, kept.as_slice(), clients, &mut rack) {
         Ok(totals) => Ok(Came { ran, totals }),
         Err(fault) => Err(fault),
     }
