@@ -13,13 +13,14 @@ ghost use Rattle.file_runs.specs.Runs.{AreLanesOf};
 use cbdc_types::FullTx;
 use lane_driver::{LaneFault, no_memory};
 use ledger_nodes::{Ledger, run_wave};
-use lane_sources::{Deals, FileOf, LaneSource, checks_of};
+use lane_sources::{Deals, FileOf, LaneSource, RuledAt, checks_of, rule_ahead};
 use ledger_runs::{Lane, Work, first_fault};
 use outside::{Disk, Gate};
 use requests::RunOptions;
 use std::alloc::{AllocError, Global};
 use std::marker::Brand;
 use std::sync::Wait;
+use std::thread;
 use std::thread::Threads;
 use submissions::Checked;
 use verifier_port::Verifier;
@@ -61,8 +62,32 @@ fn wave_room<'a, V: Verifier, F: Deals>(
     })
 }
 
+// Whether there are fewer lanes than processors, so that lanes that check their own submissions would leave some idle.
+fn are_few<W: Threads>(rt: &W, lanes: usize) -> bool {
+    match thread::available_parallelism(rt) {
+        Ok(processors) => lanes < processors.get(),
+        Err(_) => false,
+    }
+}
+
+// What sentinels make of a lane's submissions, by all processors, where it is to be found before the wave; or memory ran out.
+fn found_ahead<'a, W: Threads + Sync, V: Verifier + Sync, F: Deals + Send + Sync>(
+    rt: &W,
+    alloc: Global,
+    file: &FileOf<'a, V, F>,
+    lane: usize,
+    few: bool,
+) -> Result<Vec<RuledAt<F>>, AllocError> {
+    if few {
+        rule_ahead(rt, alloc, file, lane, file.txs().len())
+    } else {
+        Ok(Vec::new(alloc))
+    }
+}
+
 // The lanes of a wave, none of which has run anything.
-fn works_of<'a, V: Verifier, F: Deals>(
+fn works_of<'a, W: Threads + Sync, V: Verifier + Sync, F: Deals + Send + Sync>(
+    rt: &W,
     alloc: Global,
     file: &'a FileOf<'a, V, F>,
     repeats: u32,
@@ -70,13 +95,12 @@ fn works_of<'a, V: Verifier, F: Deals>(
     ensures { IfOk result (λ v. AreLanesOf F.shape F.verdicts F.file v.items) }
 {
     let count = file.lanes();
+    let few = are_few(rt, count);
     let mut works = Vec::with_capacity(alloc, count)?;
     'lanes: for lane in 0..count {
-        works.push(Work::new(
-            alloc,
-            LaneSource::new(alloc, file, lane)?,
-            repeats,
-        ))?;
+        let ahead = found_ahead(rt, alloc, file, lane, few)?;
+        let source = LaneSource::new(alloc, file, lane, ahead)?;
+        works.push(Work::new(alloc, source, repeats))?;
     }
     Ok(works)
 }
@@ -100,7 +124,11 @@ fn wave_of<'a, V: Verifier, F: Deals>(
         mut checked,
     } = room;
     'works: for work in works {
-        let Work { source, lane } = work;
+        let Work {
+            source,
+            repeats: _,
+            lane,
+        } = work;
         sources.push_reserved(source);
         lanes.push_reserved(lane);
     }
@@ -133,7 +161,7 @@ fn run_picked<
     ensures { RanFile D.count D.limit D.content D.images F.verdicts F.file ledger result.ledger result.came }
 {
     let file: FileOf<'_, V, F> = FileOf::new(txs, verifier, ledger.shape().lane_count());
-    let Ok(mut works) = works_of(alloc, &file, options.repeats) else {
+    let Ok(mut works) = works_of(rt, alloc, &file, options.repeats) else {
         return FileRun {
             ledger,
             came: Err(no_memory()),

@@ -1,6 +1,7 @@
 -- What a source keeps, and its room for it.
 use Rattle.std.proofs.Common.{◌≡◌, ◌⊎◌, inl, inr, ℕ, zero, suc, ◌+◌, ◌*◌, ◌/◌, ◌%◌, ◌<◌, ◌≤◌, List, [], ◌∷◌, ◌++◌, length, get_or, append_assoc, refl, sym, ap, ◌∙◌, subst, arith, Some, None, Result, Ok, Err}
-use Rattle.std.specs.Prelude.{slice_get, IfErr}
+use Rattle.std.specs.Prelude.{slice_get, IfOk, IfErr}
+use Rattle.std.specs.declared.alloc.AllocError.{AllocError}
 use Rattle.std.specs.Vec.{vec_capacity, vec_len}
 use Rattle.std.specs.Global.{Vec}
 use Rattle.std.specs.Int.{div_ceil}
@@ -13,10 +14,11 @@ use Rattle.base_types.specs.declared.faults.Refusal.{Refusal}
 use Rattle.sentinel.specs.FirstRefusal.{IsSound, IsFirstRefusal}
 use Rattle.submissions.specs.Checks.{VerdictsOf, IsRuling, IsRuled}
 use Rattle.submissions.specs.declared.Ruled.{Ruled}
+use Rattle.submissions.specs.declared.Ruling.{Ruling}
 use Rattle.submissions.specs.declared.Ruling.TheVariants as ruling
 use Rattle.submissions.specs.declared.Checked.{Checked}
 use Rattle.submissions.specs.declared.Judgement.TheVariants.{Refused, Sound}
-use Rattle.lane_sources.specs.Sources.{lanes_of, all_of, left_at, HasComeTo, IsSource, SubmissionAt}
+use Rattle.lane_sources.specs.Sources.{lanes_of, all_of, left_at, HasComeTo, IsSource, LeavesBehind, SubmissionAt}
 use Rattle.lane_sources.proofs.Saying.{come_refused, come_sound, sound_left, refused_left, all_few}
 
 lt_or : (a b : ℕ) → (a < b) ⊎ ((r : ℕ) × (a ≡ b + r))
@@ -73,13 +75,6 @@ pub any_err : {A E : Type 0} (r : Result A E) (P : Type 0) → P → IfErr r (λ
 any_err (Ok a) P p = tt
 any_err (Err e) P p = p
 
--- an item that was read at a place is the one that stands there
-pub there_is : (file txs : List FullTx) (at : ℕ) (x : FullTx) → txs ≡ file → at < length txs → x ≡ get_or txs at x → slice_get file at ≡ Some x
-there_is file txs at x same low is = subst (λ f. slice_get f at ≡ Some x) same (slice_get-get_or txs at x low ∙ ap (λ y. Some y) (sym is))
-
-pub only_one : (file : List FullTx) (at : ℕ) (t x : FullTx) → slice_get file at ≡ Some t → slice_get file at ≡ Some x → x ≡ t
-only_one file at t x a b = some_same x t (sym b ∙ a)
-
 pub ruled_sound : (verdicts : VerdictsOf) (t : FullTx) (r : Ruled) (own : Compact) → IsRuled verdicts t r → r.ruling ≡ ruling.Sound own → (r.id ≡ tx_id t) × IsSound t (verdicts (tx_id t)) × (own ≡ compact t)
 ruled_sound verdicts t r own (id, is) e = let k : IsRuling verdicts t (ruling.Sound own) = subst (λ x. IsRuling verdicts t x) e is in (id, k.0, k.1)
 
@@ -90,18 +85,22 @@ module _ (K : Shape) (verdicts : VerdictsOf) (file : List FullTx) (lane at sent 
   pub left_some : IsSound t (verdicts (tx_id t)) → 0 < length (left_at K verdicts file lane at)
   left_some s = let e : length (left_at K verdicts file lane at) ≡ suc (length (left_at K verdicts file lane (at + lanes_of K))) = ap (λ xs. length xs) (sound_left K verdicts file lane at sent checked t come there s) in omega (arith, e)
 
-  pub given_sound : (piece new : List Compact) (own : Compact) (next : ℕ) → IsSound t (verdicts (tx_id t)) → own ≡ compact t → new ≡ piece ++ own ∷ [] → next ≡ at + lanes_of K
-      → new ++ left_at K verdicts file lane next ≡ piece ++ left_at K verdicts file lane at
-  given_sound piece new own next s own_is new_is next_is =
-      ap (λ xs. xs ++ left_at K verdicts file lane next) new_is
-      ∙ append_assoc piece (own ∷ []) (left_at K verdicts file lane next)
-      ∙ ap (λ xs. piece ++ xs) (ap (λ k. k ∷ left_at K verdicts file lane next) own_is ∙ (ap (λ j. compact t ∷ left_at K verdicts file lane j) next_is ∙ sym (sound_left K verdicts file lane at sent checked t come there s)))
+  pub leaves : (r : Ruled) → IsRuled verdicts t r → LeavesBehind K verdicts file lane at r.ruling
+  leaves r ruled = go r.ruling ruled.1
+    where
+      go : (x : Ruling) → IsRuling verdicts t x → LeavesBehind K verdicts file lane at x
+      go (ruling.Refused why) is = refused_left K verdicts file lane at sent checked t come there why is
+      go (ruling.Sound own) is = sound_left K verdicts file lane at sent checked t come there is.0 ∙ ap (λ k. k ∷ left_at K verdicts file lane (at + lanes_of K)) (sym is.1)
 
-  pub given_refused : (piece new : List Compact) (next : ℕ) (r : Refusal) → IsFirstRefusal t (verdicts (tx_id t)) r → new ≡ piece → next ≡ at + lanes_of K
-      → new ++ left_at K verdicts file lane next ≡ piece ++ left_at K verdicts file lane at
-  given_refused piece new next r f new_is next_is =
-      ap (λ xs. xs ++ left_at K verdicts file lane next) new_is
-      ∙ ap (λ xs. piece ++ xs) (ap (λ j. left_at K verdicts file lane j) next_is ∙ sym (refused_left K verdicts file lane at sent checked t come there r f))
+-- the same by what is said of the submission at the place, which there is
+module _ (K : Shape) (verdicts : VerdictsOf) (file : List FullTx) (lane at sent : ℕ) (checked : List Checked) (come : HasComeTo K verdicts file lane at sent checked) (inside : at < length file) where
+  pub ruled_left : (came : Result Ruled AllocError) → IfOk came (λ r. SubmissionAt file at (λ t. IsRuled verdicts t r)) → IfOk came (λ r. LeavesBehind K verdicts file lane at r.ruling)
+  ruled_left (Ok r) ruled = let (t, there) = there_at file at inside in leaves K verdicts file lane at sent checked t come there r (ruled t there)
+  ruled_left (Err e) ruled = tt
+
+  pub sound_some : (came : Result Ruled AllocError) → IfErr came (λ _. SubmissionAt file at (λ t. IsSound t (verdicts (tx_id t)))) → IfErr came (λ _. 0 < length (left_at K verdicts file lane at))
+  sound_some (Ok r) sound = tt
+  sound_some (Err e) sound = let (t, there) = there_at file at inside in left_some K verdicts file lane at sent checked t come there (sound t there)
 
 -- a submission that lies before where the source has come to has its number
 pub index_in : (n lane len at i : ℕ) → at ≡ lane + n * len → lane + n * i < at → i < len

@@ -1,5 +1,5 @@
 -- What a source of a lane knows of its file.
-use Rattle.std.specs.Prelude.{◌≡◌, ◌+◌, ◌*◌, ◌<◌, ◌≤◌, ℕ, Bool, List, map, length, drop, slice_get, Some}
+use Rattle.std.specs.Prelude.{◌≡◌, ◌+◌, ◌*◌, ◌<◌, ◌≤◌, ℕ, Bool, List, ◌∷◌, map, length, drop, slice_get, Some}
 use Rattle.std.specs.List.{filter}
 use Rattle.std.specs.Global.{Vec}
 use Rattle.std.specs.Vec.{vec_capacity}
@@ -7,8 +7,11 @@ use Rattle.cbdc_model.specs.Records.{Shape, Compact}
 use Rattle.cbdc_model.specs.Coins.{FullTx, compact, tx_id}
 use Rattle.cbdc_model.specs.Waves.{share, sent_to}
 use Rattle.sound_laws.specs.SoundTest.{sound_by}
-use Rattle.submissions.specs.Checks.{VerdictsOf, IsSaid}
+use Rattle.submissions.specs.Checks.{VerdictsOf, IsSaid, IsRuled}
 use Rattle.submissions.specs.declared.Checked.{Checked}
+use Rattle.submissions.specs.declared.Ruled.{Ruled}
+use Rattle.submissions.specs.declared.Ruling.{Ruling}
+use Rattle.submissions.specs.declared.Ruling.TheVariants.{Refused, Sound}
 
 -- what contracts see of a source: its lane, the place of its next submission in the file, what it gave last, and what was said of its submissions so far
 pub record SourceOf : Type 0 where
@@ -55,3 +58,17 @@ IsFinished file lane s = (s.lane ≡ lane) × (length file ≤ s.at)
 
 abbrev pub AreFinished : List FullTx → List SourceOf → Type 0
 AreFinished file sources = (lane : ℕ) (s : SourceOf) → slice_get sources lane ≡ Some s → IsFinished file lane s
+
+-- what contracts see of a ruling: the place of the submission, and what is made of it
+pub record RuledOf : Type 0 where
+  pub place : ℕ
+  pub ruled : Ruled
+
+-- it is what a sentinel makes of the submission there
+abbrev pub IsRuledAt : VerdictsOf → List FullTx → ℕ → Ruled → Type 0
+IsRuledAt verdicts file place ruled = SubmissionAt file place (λ t. IsRuled verdicts t ruled)
+
+-- what is left from a place on, by what is made of the submission there: its compact form, where it is sound, and what is left behind it
+abbrev pub LeavesBehind : Shape → VerdictsOf → List FullTx → ℕ → ℕ → Ruling → Type 0
+LeavesBehind K verdicts file lane at (Refused why) = left_at K verdicts file lane at ≡ left_at K verdicts file lane (at + lanes_of K)
+LeavesBehind K verdicts file lane at (Sound own) = left_at K verdicts file lane at ≡ own ∷ left_at K verdicts file lane (at + lanes_of K)

@@ -3,8 +3,10 @@
 
 mod behind;
 mod file;
+mod ruled;
 mod source;
 
 pub use behind::checks_of;
 pub use file::{Deals, FileOf};
+pub use ruled::{RuledAt, rule_ahead, rule_at};
 pub use source::LaneSource;

@@ -2,15 +2,16 @@
 ghost use Rattle.std.specs.Prelude.{◌≡◌, ◌+◌, ◌*◌, ◌<◌, ◌≤◌, ◌++◌, [], length, IfOk, IfErr, OnOk};
 ghost use Rattle.cbdc_model.specs.Coins.{FullTx as Full, tx_id as spec_id};
 ghost use Rattle.sentinel.specs.FirstRefusal.{IsSound, IsFirstRefusal};
-ghost use Rattle.submissions.specs.Checks.{IsSaid};
-ghost use Rattle.lane_sources.specs.Sources.{lanes_of, all_of, left_at, SubmissionAt};
+ghost use Rattle.submissions.specs.Checks.{IsSaid, IsRuled};
+ghost use Rattle.lane_sources.specs.Sources.{lanes_of, all_of, left_at, LeavesBehind, SubmissionAt};
 
 use crate::file::{Deals, FileOf};
+use crate::ruled::{RuledAt, found_or_now};
 use cbdc_types::{CompactTx, Hash, Refusal};
 use lane_driver::Source;
 use std::alloc::{AllocError, Global};
 use std::marker::Model;
-use submissions::{Checked, Judged, Judgement, Ruled, Ruling, judge, rule};
+use submissions::{Checked, Judged, Judgement, Ruled, Ruling, judge};
 use verifier_port::Verifier;
 
 /// What a file sends to a lane: the submission at place j goes to lane j modulo the number of lanes, and the compact forms of the sound
@@ -23,6 +24,7 @@ pub struct LaneSource<'a, V: Verifier, F: Deals> {
     sent: usize,
     checked: Vec<Checked>,
     piece: Vec<CompactTx>,
+    ahead: Vec<RuledAt<F>>,
 }
 
 impl<'a, V: Verifier, F: Deals> Model for LaneSource<'a, V, F> {
@@ -36,11 +38,13 @@ impl<'a, V: Verifier, F: Deals> Model for LaneSource<'a, V, F> {
 }
 
 impl<'a, V: Verifier, F: Deals> LaneSource<'a, V, F> {
-    /// The source of a lane, or memory ran out.
+    /// The source of a lane, or memory ran out. What was found ahead of the lane's first submissions, in order from the end of the list,
+    /// is not sought again.
     pub fn new(
         alloc: Global,
         file: &'a FileOf<'a, V, F>,
         lane: usize,
+        ahead: Vec<RuledAt<F>>,
     ) -> Result<LaneSource<'a, V, F>, AllocError>
         requires { lane < file.now }
         ensures { IfOk result (λ s. s.lane ≡ lane) }
@@ -53,6 +57,7 @@ impl<'a, V: Verifier, F: Deals> LaneSource<'a, V, F> {
             sent: 0,
             checked: Vec::with_capacity(alloc, room)?,
             piece: Vec::new(alloc),
+            ahead,
         })
     }
 
@@ -90,6 +95,19 @@ impl<'a, V: Verifier, F: Deals> LaneSource<'a, V, F> {
         self.at += lanes;
     }
 
+    // What a sentinel makes of the next submission, found ahead or now.
+    fn rule_next(&mut self, alloc: Global) -> Result<Ruled, AllocError>
+        requires { self.old.at < length F.file }
+        ensures same { self.new ≡ self.old }
+        ensures ruled { IfOk result (λ r. SubmissionAt F.file self.old.at (λ t. IsRuled F.verdicts t r)) }
+        ensures left { IfOk result (λ r. LeavesBehind F.shape F.verdicts F.file self.old.lane self.old.at r.ruling) }
+        ensures some { IfErr result (λ _. 0 < length (left_at F.shape F.verdicts F.file self.old.lane self.old.at)) }
+    {
+        let found = self.ahead.pop();
+        let file = self.file;
+        found_or_now(alloc, file, self.at, found)
+    }
+
     // Checks the next submission. Its compact form, where it is sound, goes to the end of the piece.
     fn take_next(&mut self, alloc: Global) -> Result<(), AllocError>
         requires { self.old.at < length F.file }
@@ -99,8 +117,7 @@ impl<'a, V: Verifier, F: Deals> LaneSource<'a, V, F> {
         ensures one { OnOk result (length self.new.given ≤ length self.old.given + 1) }
         ensures left { IfErr result (λ _. 0 < length (left_at F.shape F.verdicts F.file self.old.lane self.old.at)) }
     {
-        let file = self.file;
-        let Ruled { id, ruling } = rule(alloc, &file.txs()[self.at], file.verifier())?;
+        let Ruled { id, ruling } = self.rule_next(alloc)?;
         match ruling {
             Ruling::Sound(own) => {
                 self.piece.push(own)?;

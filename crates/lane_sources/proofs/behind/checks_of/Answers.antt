@@ -5,7 +5,7 @@ use Rattle.cbdc_model.specs.Coins.{FullTx, tx_id}
 use Rattle.submissions.specs.Checks.{IsSaid}
 use Rattle.submissions.proofs.Placing.{snoc_get}
 use Rattle.lane_sources.specs.Sources.{lanes_of, SubmissionAt}
-use Rattle.lane_sources.proofs.Noting.{only_one, place_of}
+use Rattle.lane_sources.proofs.Noting.{place_of}
 use Rattle.lane_sources.proofs.behind.checks_of.Goals as goal
 
 pub places-preserved : goal.places-preserved
