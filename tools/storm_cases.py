@@ -124,7 +124,7 @@ class Case:
         one = dice.random() < 0.45
         self.shape = Shape(dice.randint(1, 4), 1 if one else dice.randint(1, 3), 1 if one else dice.randint(1, 3), dice.randint(1, 8))
         self.nodes = self.shape.coordinators + self.shape.shards
-        self.mint = Mint([(dice.randrange(2**20), self.value()) for _ in range(dice.choice((dice.randint(0, 3), 3, 4, 6, 8, 10)))])
+        self.mint = Mint([(dice.randrange(2**20), self.value()) for _ in range(dice.choice((dice.randint(0, 3), 4, 6, 8, 10, 12)))])
         self.txs, self.files, self.verdicts = [], {}, {}
         self.make_txs()
         self.make_files()
@@ -143,7 +143,7 @@ class Case:
         self.rounds = []
         for round_ in range(dice.choice((1, 1, 2, 2, 3, 4))):
             green, own = [], []
-            for at in range(dice.randint(0, 10)):
+            for at in range(dice.randint(0, min(len(pool) + 2, 12))):
                 tx = Tx(f"t{round_}.{at}", *self.parts(pool if dice.random() < 0.92 else pool + green, spent))
                 own.append(tx)
                 if dice.random() < 0.03:
@@ -254,7 +254,7 @@ class Case:
 
     def stage(self, verb, calls, caps, files=()):
         dice, faults = self.dice, {}
-        if dice.random() < {"init": 0.3, "run": 0.6, "recover": 0.55}[verb]:
+        if dice.random() < {"init": 0.25, "run": 0.5, "recover": 0.55}[verb]:
             for _ in range(dice.choice((1, 1, 1, 2))):
                 faults[dice.randrange(self.nodes)] = [dice.choice(("fails", "stops", "stops")), dice.randint(0, calls)]
         room = dice.choice((0, dice.randint(0, 60), dice.randint(0, 600))) if dice.random() < 0.08 else None
