@@ -159,6 +159,11 @@ empty_index m e = record {
     none : (x : Digest) → first_of m x ≡ None
     none x = ap (λ es. lookup (eq-value.it x) es) e
 
+same_there : (xs : List FullTx) (k : ℕ) (t : FullTx) → k < length xs → t ≡ get_or xs k t → get_or xs k no_tx ≡ t
+same_there [] k t lt e = absurd (omega arith)
+same_there (x ∷ xs) zero t lt e = sym e
+same_there (x ∷ xs) (suc k) t lt e = same_there xs k t (omega arith) e
+
 -- what a look-up by the id gives
 pub found_none : (txs : List FullTx) (m : ById) (form : Compact) → IsIndex txs m → first_of m form.id ≡ None → first_with txs form ≡ None
 found_none txs m form h e = no_such_id txs form (sym (h.first form.id) ∙ ap (option_map (λ i. get_or txs i no_tx)) e)
@@ -167,8 +172,15 @@ pub found_first : (txs : List FullTx) (m : ById) (form : Compact) (i : ℕ) (t :
     → same_compact (compact t) form ≡ true → first_with txs form ≡ Some t
 found_first txs m form i t h e is fits =
     first_id txs form t (sym (h.first form.id) ∙ ap (option_map (λ j. get_or txs j no_tx)) e ∙ ap (λ u. Some u) (same_there txs i t (h.inside form.id i e) is)) fits
-  where
-    same_there : (xs : List FullTx) (k : ℕ) (t : FullTx) → k < length xs → t ≡ get_or xs k t → get_or xs k no_tx ≡ t
-    same_there [] k t lt e = absurd (omega arith)
-    same_there (x ∷ xs) zero t lt e = sym e
-    same_there (x ∷ xs) (suc k) t lt e = same_there xs k t (omega arith) e
+
+-- what is found has the id that was looked for
+find_true : {X : Type 0} (p : X → Bool) (xs : List X) (y : X) → find p xs ≡ Some y → p y ≡ true
+find_true p [] y h = absurd (let z : None ≡ Some y = h in cc)
+find_true p (x ∷ xs) y h =
+    elim (p x) as (λ c. p x ≡ c → cond c (Some x) (find p xs) ≡ Some y → p y ≡ true) [
+      | true ↦ λ e n. let same : x ≡ y = (let z : Some x ≡ Some y = n in cc) in subst (λ u. p u ≡ true) same e
+      | false ↦ λ e n. find_true p xs y n
+    ] refl h
+
+pub first_has_id : (txs : List FullTx) (form : Compact) (t : FullTx) → first_with txs form ≡ Some t → form.id ≡ tx_id t
+first_has_id txs form t h = sym (same_digest_is (tx_id t) form.id (form_id (compact t) form (find_true (λ u. same_compact (compact u) form) txs t h)))

@@ -1,3 +1,4 @@
+pub mod Aside
 pub mod Finding
 pub mod Deciding
 pub mod Steps

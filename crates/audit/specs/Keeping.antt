@@ -4,7 +4,7 @@ use Rattle.std.specs.HashMap.{get, values, hash_map_len}
 use Rattle.std.specs.FinMap as book
 use Rattle.base_types.specs.contracts.hash.HashPartialEq.TheImpl.{eq-value}
 use Rattle.cbdc_model.specs.Records.{Digest, same_digest, Shape, Compact, Record, journal}
-use Rattle.cbdc_model.specs.Coins.{OutPoint, Output, FullTx, tx_id}
+use Rattle.cbdc_model.specs.Coins.{OutPoint, Output, FullTx, tx_id, compact}
 use Rattle.cbdc_model.specs.Book.{Book, key, value}
 use Rattle.cbdc_model.specs.History.{committed}
 use Rattle.history.specs.declared.place.Place.{Place}
@@ -38,6 +38,10 @@ IsLeft true m (Some b) = Keeps m b
 IsLeft true m None = ⊥
 IsLeft false m (Some b) = ⊥
 IsLeft false m None = Unit {0}
+
+-- this is the compact form of a transaction
+abbrev pub IsFormOf : FullTx → Compact → Type 0
+IsFormOf tx form = form ≡ compact tx
 
 -- a transaction, where none stands
 abbrev pub no_tx : FullTx

@@ -1,5 +1,6 @@
 // The audit of a history.
 ghost use Rattle.std.specs.Prelude.{◌≡◌, ◌↔◌, ◌++◌, [], ℕ, All, List as Items, IfOk, IsTrue, MatchOption};
+ghost use Rattle.std.specs.List.{AllZip};
 ghost use Rattle.cbdc_model.specs.Records.{Compact, Record as ModelRecord};
 ghost use Rattle.cbdc_model.specs.Coins.{Output as ModelOutput};
 ghost use Rattle.cbdc_model.specs.Clean.{value_out};
@@ -9,16 +10,18 @@ ghost use Rattle.audit.specs.Knowing.{Knows};
 ghost use Rattle.audit.specs.Walks.{AllDone, IsDone, IsFirstOpen};
 ghost use Rattle.audit.specs.Spending.{IsFirstWrong};
 ghost use Rattle.audit.specs.Verdicts.{IsVerdict};
-ghost use Rattle.audit.specs.Keeping.{IsIndex, HasSpent, IsWalked};
+ghost use Rattle.audit.specs.Keeping.{IsIndex, IsFormOf, HasSpent, IsWalked};
 
 use crate::caused::{home_of, is_caused, txs_of};
+use crate::compacting::forms_of;
 use crate::folding::Fold;
 use crate::handed::ById;
 use crate::known::Known;
 use crate::verdict::{Totals, Verdict};
-use cbdc_types::{FullTx, Output, Record, Shape, UnsoundKind};
+use cbdc_types::{CompactTx, FullTx, Output, Record, Shape, UnsoundKind};
 use history::{Place, record_at};
 use std::alloc::{AllocError, Global};
+use std::thread::Threads;
 
 // What a walk has come to: all places, with what is known then, or the first place at which something is wrong.
 #[derive(Drop)]
@@ -29,15 +32,17 @@ enum Walked {
 
 // Spends what a record commits. What is wrong, if something is.
 fn commit(
-    alloc: Global,
     known: &Known,
     journals: &[&[Record]],
     node: u32,
     r: &Record,
     ids: &ById,
     handed: &[FullTx],
+    compacts: &[CompactTx],
     fold: &mut Fold,
 ) -> Result<Option<UnsoundKind>, AllocError>
+    requires index { IsIndex handed.now ids.now }
+    requires compacts { AllZip IsFormOf handed.now compacts.now }
     ensures { (mint : Items ModelOutput) → (forms : Items Compact) → (J : ℕ → Items ModelRecord) → Knows (read journals.now) known.now J
         → IsIndex handed.now ids.now → HasSpent mint handed.now forms fold.old
         → IfOk result (λ o. MatchOption o (HasSpent mint handed.now (forms ++ newly_won r.now (J node)) fold.new)
@@ -50,7 +55,7 @@ fn commit(
             ..
         } => {
             let txs = txs_of(known, journals, node, batch);
-            fold.commit(alloc, ids, handed, txs, outcomes.as_slice())
+            fold.commit(ids, handed, compacts, txs, outcomes.as_slice())
         }
         _ => Ok(None),
     }
@@ -64,9 +69,12 @@ fn walk(
     history: &[Place],
     ids: &ById,
     handed: &[FullTx],
+    compacts: &[CompactTx],
     fold: &mut Fold,
 ) -> Result<Walked, AllocError>
-    requires { All (IsPlace (read journals.now)) history.now }
+    requires places { All (IsPlace (read journals.now)) history.now }
+    requires index { IsIndex handed.now ids.now }
+    requires compacts { AllZip IsFormOf handed.now compacts.now }
     ensures { (mint : Items ModelOutput) → IsIndex handed.now ids.now → HasSpent mint handed.now [] fold.old
         → IfOk result (IsWalked shape.now mint handed.now (read journals.now) history.now fold.new) }
 {
@@ -80,7 +88,7 @@ fn walk(
                 kind: UnsoundKind::Cause,
             });
         }
-        if let Some(kind) = commit(alloc, &known, journals, place.node, r, ids, handed, fold)? {
+        if let Some(kind) = commit(&known, journals, place.node, r, ids, handed, compacts, fold)? {
             return Ok(Walked::Stopped {
                 place: at as u64,
                 kind,
@@ -139,8 +147,9 @@ fn minted(mint: &[Output]) -> u128
 /// Commit, for each committed transaction in the order of the batch, whether a transaction with its compact form was handed in, and
 /// whether the first such one can be spent from the book, which begins as the mint. The first failure is the answer. Then the first
 /// Prepare whose batch is not done is, if there is one. Else the answer is what the last book, the mint and the committed transactions
-/// come to.
-pub fn audit(
+/// come to. The compact forms of what was handed in are made by all processors.
+pub fn audit<W: Threads + Sync>(
+    rt: &W,
     alloc: Global,
     shape: &Shape,
     journals: &[&[Record]],
@@ -151,9 +160,10 @@ pub fn audit(
     requires { All (IsPlace (read journals.now)) history.now }
     ensures { IfOk result (IsVerdict shape.now mint.now handed.now (rows_at (read journals.now) history.now)) }
 {
-    let ids = ById::of(alloc, handed)?;
+    let compacts = forms_of(rt, alloc, handed)?;
+    let ids = ById::of(alloc, handed, &compacts)?;
     let mut fold = Fold::of_mint(alloc, mint, handed)?;
-    match walk(alloc, shape, journals, history, &ids, handed, &mut fold)? {
+    match walk(alloc, shape, journals, history, &ids, handed, &compacts, &mut fold)? {
         Walked::Stopped { place, kind } => Ok(Verdict::Unsound { place, kind }),
         Walked::Whole(known) => match first_open(&known, journals, shape, history) {
             Some(place) => Ok(Verdict::Unsound {

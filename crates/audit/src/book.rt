@@ -3,11 +3,10 @@ ghost use Rattle.std.specs.Prelude.{◌≡◌, ◌<◌, ◌^◌, IfOk, OnOk, Som
 ghost use Rattle.std.specs.FinMap as book;
 ghost use Rattle.std.specs.HashMap.{values, hash_map_len};
 ghost use Rattle.cbdc_model.specs.Book.{Book as ModelBook, key, take_out, take_all, put_all, spend, genesis_book};
-ghost use Rattle.cbdc_model.specs.Coins.{made_coins};
+ghost use Rattle.cbdc_model.specs.Coins.{made_coins, tx_id};
 
 use cbdc_types::{FullTx, Hash, Input, Output};
 use compact_tx::genesis_id;
-use identifiers::tx_id;
 use same_records::is_same_output;
 use std::alloc::{AllocError, Global};
 use std::collections::HashMap;
@@ -88,14 +87,16 @@ impl Book {
         true
     }
 
-    /// Takes the inputs of a transaction out and puts its outputs in. False where an input is not there as claimed, or stands twice.
-    pub(crate) fn spend(&mut self, tx: &FullTx) -> Result<bool, AllocError>
+    /// Takes the inputs of the transaction with this id out and puts its outputs in. False where an input is not there as claimed, or stands
+    /// twice.
+    pub(crate) fn spend(&mut self, tx: &FullTx, id: &Hash) -> Result<bool, AllocError>
+        requires { id.now ≡ tx_id tx.now }
         ensures { (b : ModelBook) → Keeps self.old b → IfOk result (λ yes. IsLeft yes self.new (spend b tx.now)) }
     {
         if !self.take_all(tx.inputs.as_slice()) {
             return Ok(false);
         }
-        self.put_all(&tx_id(tx), tx.outputs.as_slice())?;
+        self.put_all(id, tx.outputs.as_slice())?;
         Ok(true)
     }
 

@@ -20,7 +20,8 @@ pub(crate) struct Fold {
 }
 
 impl Fold {
-    ghost use Rattle.audit.specs.Keeping.{IsIndex, HasSpent};
+    ghost use Rattle.std.specs.List.{AllZip};
+    ghost use Rattle.audit.specs.Keeping.{IsIndex, IsFormOf, HasSpent};
 
     /// A mint, with nothing spent.
     pub(crate) fn of_mint(
@@ -37,19 +38,21 @@ impl Fold {
     // Spends the first transaction that was handed in with this compact form. What is wrong with it, if anything is.
     fn spend(
         &mut self,
-        alloc: Global,
         ids: &ById,
         handed: &[FullTx],
+        compacts: &[CompactTx],
         form: &CompactTx,
     ) -> Result<Option<UnsoundKind>, AllocError>
+        requires index { IsIndex handed.now ids.now }
+        requires compacts { AllZip IsFormOf handed.now compacts.now }
         ensures { (mint : Items ModelOutput) → (forms : Items Compact) → IsIndex handed.now ids.now → HasSpent mint handed.now forms self.old
             → IfOk result (λ o. MatchOption o (HasSpent mint handed.now (forms ++ form.now ∷ []) self.new)
             (λ kind. (b : ModelBook) × AreSpent mint handed.now forms b × IsWrong handed.now b form.now kind)) }
     {
-        let Some(tx) = ids.first_with(alloc, handed, form)? else {
+        let Some(tx) = ids.first_with(handed, compacts, form) else {
             return Ok(Some(UnsoundKind::Unknown(form.id)));
         };
-        if !self.book.spend(tx)? {
+        if !self.book.spend(tx, &form.id)? {
             return Ok(Some(UnsoundKind::Unfunded(form.id)));
         }
         let Some(committed) = self.committed.checked_add(1) else {
@@ -62,19 +65,21 @@ impl Fold {
     /// Spends those transactions of a batch that are committed, in order. What is wrong with the first that can't be spent, if one can't.
     pub(crate) fn commit(
         &mut self,
-        alloc: Global,
         ids: &ById,
         handed: &[FullTx],
+        compacts: &[CompactTx],
         txs: &[CompactTx],
         outcomes: &[Outcome],
     ) -> Result<Option<UnsoundKind>, AllocError>
+        requires index { IsIndex handed.now ids.now }
+        requires compacts { AllZip IsFormOf handed.now compacts.now }
         ensures { (mint : Items ModelOutput) → (forms : Items Compact) → IsIndex handed.now ids.now → HasSpent mint handed.now forms self.old
             → IfOk result (λ o. MatchOption o (HasSpent mint handed.now (forms ++ won_txs txs.now outcomes.now) self.new)
             (IsFirstWrong mint handed.now forms (won_txs txs.now outcomes.now))) }
     {
         'txs: for at in 0..txs.len().min(outcomes.len()) {
             if is_won(&outcomes[at]) {
-                if let Some(kind) = self.spend(alloc, ids, handed, &txs[at])? {
+                if let Some(kind) = self.spend(ids, handed, compacts, &txs[at])? {
                     return Ok(Some(kind));
                 }
             }

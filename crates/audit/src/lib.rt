@@ -4,6 +4,7 @@
 mod auditing;
 mod book;
 mod caused;
+mod compacting;
 mod folding;
 mod handed;
 mod known;

@@ -18,6 +18,7 @@ use line_text::{AuditSummary, write_audit};
 use outside::{Inbox, Rack, Sink};
 use requests::FileWord;
 use std::alloc::{AllocError, Global};
+use std::thread::Threads;
 
 // The transactions of files in one list.
 pub fn joined(alloc: Global, files: Vec<List<FullTx>>) -> Result<Vec<FullTx>, AllocError>
@@ -32,7 +33,8 @@ pub fn joined(alloc: Global, files: Vec<List<FullTx>>) -> Result<Vec<FullTx>, Al
 }
 
 // Reads all files, and audits the ledger on the rack. All files are read before the rack is taken.
-fn audit_all<I: Inbox, R: Rack>(
+fn audit_all<W: Threads + Sync, I: Inbox, R: Rack>(
+    rt: &W,
     alloc: Global,
     mint: &FileWord,
     clients: &[FileWord],
@@ -59,7 +61,7 @@ fn audit_all<I: Inbox, R: Rack>(
     let Ok(handed) = joined(alloc, files) else {
         return Err(Answer::Memory);
     };
-    audit_on(alloc, rack, mint.as_slice(), &handed)
+    audit_on(rt, alloc, rack, mint.as_slice(), &handed)
 }
 
 // Prints what a sound ledger comes to.
@@ -84,7 +86,8 @@ fn print<O: Sink>(out: &mut O, totals: &Totals) -> Answer
 }
 
 /// Checks the journals against a mint and the transactions that were handed in. No journal changes.
-pub fn audit<I: Inbox, R: Rack, O: Sink>(
+pub fn audit<W: Threads + Sync, I: Inbox, R: Rack, O: Sink>(
+    rt: &W,
     alloc: Global,
     mint: &FileWord,
     clients: &[FileWord],
@@ -104,7 +107,7 @@ pub fn audit<I: Inbox, R: Rack, O: Sink>(
     ensures files { (name : Text) → I.file inbox.new name ≡ I.file inbox.old name }
     ensures back { (n : ℕ) → R.can_take rack.new n }
 {
-    match audit_all(alloc, mint, clients, inbox, rack) {
+    match audit_all(rt, alloc, mint, clients, inbox, rack) {
         Ok(Verdict::Sound(totals)) => print(out, &totals),
         Ok(Verdict::Unsound { place, kind }) => Answer::Unsound { place, kind },
         Err(fault) => fault,

@@ -16,9 +16,11 @@ use history::merge;
 use outside::{Disk, Rack};
 use rack_ledgers::{Nodes, close_nodes, open_minted};
 use std::alloc::{AllocError, Global};
+use std::thread::Threads;
 
 // The verdict on the history of open nodes.
-fn verdict_of<D: Disk>(
+fn verdict_of<W: Threads + Sync, D: Disk>(
+    rt: &W,
     alloc: Global,
     nodes: &Nodes<D>,
     mint: &[Output],
@@ -34,6 +36,7 @@ fn verdict_of<D: Disk>(
     lend_shards(nodes.shards.as_slice(), &mut all)?;
     let history = merge(alloc, &all)?;
     audit(
+        rt,
         alloc,
         &nodes.header.shape,
         &all,
@@ -44,8 +47,9 @@ fn verdict_of<D: Disk>(
 }
 
 /// Audits the ledger on a rack, which should be that of a mint, with transactions that were handed in. All disks are back, and no journal
-/// has changed.
-pub fn audit_on<R: Rack>(
+/// has changed. All processors make the compact forms of what was handed in.
+pub fn audit_on<W: Threads + Sync, R: Rack>(
+    rt: &W,
     alloc: Global,
     rack: &mut R,
     mint: &[Output],
@@ -78,7 +82,7 @@ pub fn audit_on<R: Rack>(
         Ok(nodes) => nodes,
         Err(fault) => return Err(fault),
     };
-    let verdict = verdict_of(alloc, &nodes, mint, handed);
+    let verdict = verdict_of(rt, alloc, &nodes, mint, handed);
     close_nodes(rack, nodes);
     match verdict {
         Ok(verdict) => Ok(verdict),

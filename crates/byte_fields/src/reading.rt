@@ -74,7 +74,7 @@ impl Item for Hash {
     }
 }
 
-/// So many items.
+/// So many items, in memory for just so many: each has at least a byte, so a number that is too large takes no more than the bytes ask for.
 pub fn items<T: Item>(
     alloc: Global,
     count: u64,
@@ -82,7 +82,8 @@ pub fn items<T: Item>(
 ) -> Result<(List<T>, &[u8]), ReadError>
     ensures { Gives (λ x. (x.0, x.1.now)) result (items_at T.item_at count bytes.now) }
 {
-    let mut items = List::new(alloc);
+    let room = count.min(bytes.len() as u64) as usize;
+    let mut items = List::from_vec(Vec::with_capacity(alloc, room)?);
     let mut rest = bytes;
     'items: for i in 0..count {
         let (item, after) = T::read(alloc, rest)?;

@@ -33,7 +33,8 @@ fn minted(bytes: &[u8]) -> Result<(Output, &[u8]), ReadError>
 fn outputs(alloc: Global, count: u64, bytes: &[u8]) -> Result<(List<Output>, &[u8]), ReadError>
     ensures { Gives (λ x. (x.0, x.1.now)) result (items_at minted_at count bytes.now) }
 {
-    let mut items = List::new(alloc);
+    let room = count.min(bytes.len() as u64) as usize;
+    let mut items = List::from_vec(Vec::with_capacity(alloc, room)?);
     let mut rest = bytes;
     'items: for i in 0..count {
         match minted(rest) {

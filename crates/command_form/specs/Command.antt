@@ -39,6 +39,9 @@ mint_rule = required (codes "mint")
 abbrev pub verdicts_rule : Rule
 verdicts_rule = record (required (codes "verdicts")) { long = Some (codes "verdicts") }
 
+abbrev pub repeats_rule : Rule
+repeats_rule = option (codes "repeats") (codes "0")
+
 abbrev pub client_rule : Rule
 client_rule = some (codes "client")
 
@@ -82,7 +85,7 @@ abbrev pub gen_shape : Shape
 gen_shape = with_arg (with_arg gen_sizes seed_rule) count_rule
 
 abbrev pub run_shape : Shape
-run_shape = (with_rule (with_rule (new_app (codes "run")) verdicts_rule) client_rule).top
+run_shape = (with_rule (with_rule (with_rule (new_app (codes "run")) verdicts_rule) repeats_rule) client_rule).top
 
 abbrev pub recover_shape : Shape
 recover_shape = (new_app (codes "recover")).top

@@ -6,7 +6,7 @@ mod help;
 
 ghost use Rattle.std.specs.Prelude.{◌≡◌, codes, IfOk};
 ghost use Rattle.clap.specs.Words.{app_of, new_app};
-ghost use Rattle.command_form.specs.Command.{IsArg, IsLeaf, IsTop, with_settings, shards_rule, coordinators_rule, lanes_rule, batch_rule, mint_rule, verdicts_rule, client_rule, rest_rule, hash_rule, topic_rule, seed_rule, count_rule, nodes_shape, sized_shape, init_shape, run_shape, recover_shape, status_shape, audit_shape, gen_sizes, gen_shape, help_shape, main, looks, checks, hamilton};
+ghost use Rattle.command_form.specs.Command.{IsArg, IsLeaf, IsTop, with_settings, shards_rule, coordinators_rule, lanes_rule, batch_rule, mint_rule, verdicts_rule, repeats_rule, client_rule, rest_rule, hash_rule, topic_rule, seed_rule, count_rule, nodes_shape, sized_shape, init_shape, run_shape, recover_shape, status_shape, audit_shape, gen_sizes, gen_shape, help_shape, main, looks, checks, hamilton};
 
 use clap::{Arg, Command};
 use std::alloc::{AllocError, Global};
@@ -68,6 +68,16 @@ fn verdicts_arg<'a>(alloc: Global) -> Arg<'a>
         .required(true)
         .value_name("FILE")
         .help("The file of the verdicts on witnesses")
+}
+
+fn repeats_arg<'a>(alloc: Global) -> Arg<'a>
+    ensures { IsArg result repeats_rule }
+{
+    Arg::new(alloc, "repeats")
+        .long("repeats")
+        .value_name("K")
+        .default_value("0")
+        .help("How many times more each call of a new batch at a shard is made, 0 to 3")
 }
 
 fn client_arg<'a>(alloc: Global) -> Arg<'a>
@@ -212,6 +222,7 @@ fn run_command<'a>(alloc: Global) -> Result<Command<'a>, AllocError>
         .about("Finishes what is open, and runs the transactions of files")
         .after_help(help::of_run())
         .arg(verdicts_arg(alloc))?
+        .arg(repeats_arg(alloc))?
         .arg(client_arg(alloc))
 }
 

@@ -2,7 +2,7 @@
 use Rattle.std.proofs.Common.{◌≡◌, ◌∙◌, List, Option, Some, inl, inr, refl, sym, ap, subst, codes}
 use Rattle.clap.specs.Words.{Row, Text, Kinds, all_of, fault_of, first_of, subcommand_of}
 use Rattle.clap.specs.Kinds.{or_else}
-use Rattle.command_line.specs.Asked.{HasMistake, HasNoHashes, HasNoShape, HasNoWorkload, HasWish, IsRefused, Meets, faults_of, help_words, topic_faults}
+use Rattle.command_line.specs.Asked.{HasMistake, HasNoHashes, HasNoRepeats, HasNoShape, HasNoWorkload, HasWish, IsRefused, Meets, faults_of, help_words, topic_faults}
 use Rattle.command_form.specs.Command.{hamilton}
 use Rattle.requests.specs.declared.WordsFault.{WordsFault}
 use Rattle.requests.specs.declared.WordsFault.TheVariants.{Bad, Memory}
@@ -27,5 +27,9 @@ refused_hashes words given rows Bad m all none = inr (inr (inl (rows, given, m, 
 refused_hashes words given rows Memory m all none = tt
 
 pub refused_workload : (words : List Text) (rows : List Row) (e : WordsFault) → Meets words (codes "gen") rows → (e ≡ Bad → HasNoWorkload rows) → IsRefused words e
-refused_workload words rows Bad m none = inr (inr (inr (rows, m, none refl)))
+refused_workload words rows Bad m none = inr (inr (inr (inl (rows, m, none refl))))
 refused_workload words rows Memory m none = tt
+
+pub refused_repeats : (words : List Text) (rows : List Row) (e : WordsFault) → Meets words (codes "run") rows → (e ≡ Bad → HasNoRepeats rows) → IsRefused words e
+refused_repeats words rows Bad m none = inr (inr (inr (inr (rows, m, none refl))))
+refused_repeats words rows Memory m none = tt

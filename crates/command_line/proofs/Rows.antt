@@ -37,7 +37,7 @@ first_mistake (x ∷ xs) b has = has
 pub asked_by_wish : (words : List Text) (r : Result Request WordsFault) → IfOk r IsShow → (IsOk r → HasWish (faults_of words)) → IfOk r (λ q. IsAsked words q)
 asked_by_wish words (Ok (Show text)) shows wish = wish (search rules)
 asked_by_wish words (Ok (Init shape mint)) shows wish = absurd shows
-asked_by_wish words (Ok (Run verdicts clients)) shows wish = absurd shows
+asked_by_wish words (Ok (Run verdicts clients options)) shows wish = absurd shows
 asked_by_wish words (Ok Recover) shows wish = absurd shows
 asked_by_wish words (Ok (Audit mint clients)) shows wish = absurd shows
 asked_by_wish words (Ok (Status hashes)) shows wish = absurd shows

@@ -8,12 +8,13 @@ use Rattle.clap.specs.Kinds.{or_else}
 use Rattle.clap.specs.declared.error.kind.ErrorKind.{ErrorKind}
 use Rattle.clap.specs.declared.error.kind.ErrorKind.TheVariants.{DisplayHelp, DisplayVersion, OutOfMemory}
 use Rattle.command_form.specs.Command.{hamilton}
-use Rattle.command_line.specs.Values.{IsHashText, IsNumber, IsWhole}
+use Rattle.command_line.specs.Values.{IsHashText, IsNumber, IsUpTo, IsWhole}
 use Rattle.command_line.specs.Places.{positional_places}
 use Rattle.command_line.specs.Words.{AreFiles, IsFirst, IsGivenBy}
 use Rattle.requests.specs.declared.FileWord.{FileWord}
 use Rattle.requests.specs.declared.Request.{Request}
 use Rattle.requests.specs.declared.Request.TheVariants.{Init, Run, Recover, Status, Audit, Gen, Show}
+use Rattle.requests.specs.declared.RunOptions.{RunOptions}
 use Rattle.requests.specs.declared.WordsFault.{WordsFault}
 use Rattle.requests.specs.declared.WordsFault.TheVariants.{Bad, Memory}
 
@@ -81,6 +82,13 @@ HasNoShape rows =
     HasNoNumber rows (codes "shards") 64
     ⊎ (HasNoNumber rows (codes "coordinators") 16 ⊎ (HasNoNumber rows (codes "lanes") 16 ⊎ HasNoNumber rows (codes "batch") 1024))
 
+-- so many times more is each shard call made, or the option is out of form
+abbrev pub HasRepeats : List Row → ℕ → Type 0
+HasRepeats rows n = (text : Text) × (first_of (codes "repeats") rows ≡ Some text) × IsUpTo 3 text n
+
+abbrev pub HasNoRepeats : List Row → Type 0
+HasNoRepeats rows = (text : Text) × (first_of (codes "repeats") rows ≡ Some text) × ((n : ℕ) → ¬ (IsUpTo 3 text n))
+
 -- the workload's seed is this number, or is none
 abbrev pub HasSeed : List Row → ℕ → Type 0
 HasSeed rows seed = (text : Text) × (first_of (codes "seed") rows ≡ Some text) × IsWhole text seed
@@ -107,10 +115,11 @@ abbrev pub IsInit : List Text → List Row → ShapeOf → FileWord → Type 0
 IsInit words rows shape mint =
     Meets words (codes "init") rows × HasShape rows shape × (first_of (codes "mint") rows ≡ Some mint.name.now) × IsFirst words mint
 
-abbrev pub IsRun : List Text → List Row → FileWord → List FileWord → Type 0
-IsRun words rows verdicts clients =
+abbrev pub IsRun : List Text → List Row → FileWord → List FileWord → RunOptions → Type 0
+IsRun words rows verdicts clients options =
     Meets words (codes "run") rows × (first_of (codes "verdicts") rows ≡ Some verdicts.name.now) × IsGivenBy (codes "verdicts") words verdicts
     × ((names : List Text) × (all_of (codes "client") rows ≡ Some names) × AreFiles words (positional_places words) names clients)
+    × HasRepeats rows options.repeats
 
 abbrev pub IsStatus : List Text → List Row → List (List ℕ) → Type 0
 IsStatus words rows hashes =
@@ -132,19 +141,20 @@ IsGen words rows shape seed count = Meets words (codes "gen") rows × HasShape r
 
 abbrev pub IsAsked : List Text → Request → Type 0
 IsAsked words (Init shape mint) = (rows : List Row) × IsInit words rows shape mint
-IsAsked words (Run verdicts clients) = (rows : List Row) × IsRun words rows verdicts clients.items
+IsAsked words (Run verdicts clients options) = (rows : List Row) × IsRun words rows verdicts clients.items options
 IsAsked words Recover = (rows : List Row) × Meets words (codes "recover") rows
 IsAsked words (Status hashes) = (rows : List Row) × IsStatus words rows hashes.items
 IsAsked words (Audit mint clients) = (rows : List Row) × IsAudit words rows mint clients.items
 IsAsked words (Gen shape seed count) = (rows : List Row) × IsGen words rows shape seed count
 IsAsked words (Show text) = HasWish (faults_of words)
 
--- a value is out of form: a number of `init` or of `gen`, or a hash of `status`
+-- a value is out of form: a number of `init`, of `gen` or of `run`, or a hash of `status`
 abbrev pub HasBadValue : List Text → Type 0
 HasBadValue words =
     ((rows : List Row) × Meets words (codes "init") rows × HasNoShape rows)
     ⊎ (((rows : List Row) × (given : List Text) × Meets words (codes "status") rows × (all_of (codes "hash") rows ≡ Some given) × HasNoHashes given)
-    ⊎ ((rows : List Row) × Meets words (codes "gen") rows × HasNoWorkload rows))
+    ⊎ (((rows : List Row) × Meets words (codes "gen") rows × HasNoWorkload rows)
+    ⊎ ((rows : List Row) × Meets words (codes "run") rows × HasNoRepeats rows)))
 
 abbrev pub IsRefused : List Text → WordsFault → Type 0
 IsRefused words Bad = HasMistake (faults_of words) ⊎ HasBadValue words

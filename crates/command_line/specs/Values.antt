@@ -10,6 +10,11 @@ pub record IsNumber (most : ℕ) (text : Text) (n : ℕ) : Type 0 where
   pub some : 1 ≤ n
   pub bound : n ≤ most
 
+-- the text spells the number in decimal digits, and it is at most the limit
+pub record IsUpTo (most : ℕ) (text : Text) (n : ℕ) : Type 0 where
+  pub spelled : text ≡ decimal n
+  pub bound : n ≤ most
+
 -- the text spells the number in decimal digits, and 64 bits hold it
 pub record IsWhole (text : Text) (n : ℕ) : Type 0 where
   pub spelled : text ≡ decimal n

@@ -2,18 +2,18 @@
 ghost use Rattle.std.specs.Prelude.{◌≡◌, ◌≤◌, [], codes, drop, length, map, IsTrue, IfSome, IfOk, IfErr, IsErrOf, IsOk, Some, None, Ok};
 ghost use Rattle.hex.specs.Hex.{decode_of};
 ghost use Rattle.clap.specs.Words.{all_of, fault_of, first_of, found_of, kind_of, rows_of, subcommand_of, subcommand_rows_of};
-ghost use Rattle.command_line.specs.Asked.{IsAsked, IsRefused, IsShow, HasMistake, HasWish, HasNumber, HasNoNumber, HasShape, HasNoShape, HasNoHashes, HasSeed, HasNoSeed, HasNoWorkload, Meets, is_mistake, is_wish, help_words, listed};
+ghost use Rattle.command_line.specs.Asked.{IsAsked, IsRefused, IsShow, HasMistake, HasWish, HasNumber, HasNoNumber, HasShape, HasNoShape, HasNoHashes, HasRepeats, HasNoRepeats, HasSeed, HasNoSeed, HasNoWorkload, Meets, is_mistake, is_wish, help_words, listed};
 ghost use Rattle.command_form.specs.Command.{hamilton};
 ghost use Rattle.command_line.specs.Places.{positional_places};
 ghost use Rattle.command_line.specs.Words.{AreFiles, IsFirst, IsGivenBy, StandsThere, texts};
 
 use crate::matching::matches_of;
 use crate::places::{option_of, positional_places};
-use crate::values::{hash_in, number_in, whole_in};
+use crate::values::{hash_in, number_in, up_to_in, whole_in};
 use base_types::{Hash, Shape};
 use clap::error::ErrorKind;
 use clap::{ArgMatches, Error};
-use requests::{FileWord, Request, WordsFault};
+use requests::{FileWord, Request, RunOptions, WordsFault};
 use std::alloc::Global;
 
 // What a fault of the words answers: help and the version are texts to print.
@@ -214,14 +214,31 @@ fn verdicts_of<'a>(words: &'a [String], name: &'a str) -> Option<FileWord<'a>>
     }
 }
 
-// What the matches of `run` ask for.
+// How many times more each shard call is made.
 #[tactic(auto, using(crate::proofs::Rows::rows))]
-fn run_request<'a>(
+fn repeats_of<'a>(inner: &ArgMatches<'a>) -> Result<u32, WordsFault>
+    ensures repeats { IfOk result (λ n. HasRepeats (rows_of (found_of inner.now)) n) }
+    ensures none { IsErrOf result WordsFault.Bad → HasNoRepeats (rows_of (found_of inner.now)) }
+{
+    let Some(text) = inner.get_str("repeats") else {
+        return Err(WordsFault::Memory);
+    };
+    match up_to_in(text, 3) {
+        Some(n) => Ok(n),
+        None => Err(WordsFault::Bad),
+    }
+}
+
+// What the matches of `run` ask for, by its options.
+#[tactic(auto, using(crate::proofs::Rows::rows))]
+fn files_to_run<'a>(
     alloc: Global,
     words: &'a [String],
     inner: &ArgMatches<'a>,
+    options: RunOptions,
 ) -> Option<Request<'a>>
-    requires { Meets (texts words.now) (codes "run") (rows_of (found_of inner.now)) }
+    requires met { Meets (texts words.now) (codes "run") (rows_of (found_of inner.now)) }
+    requires repeats { HasRepeats (rows_of (found_of inner.now)) options.repeats }
     ensures { IfSome result (λ r. IsAsked (texts words.entry.now) r) }
 {
     let Some(name) = inner.get_str("verdicts") else {
@@ -237,8 +254,30 @@ fn run_request<'a>(
         return None;
     };
     match files_at(alloc, words, places.as_slice(), names) {
-        Some(clients) => Some(Request::Run { verdicts, clients }),
+        Some(clients) => Some(Request::Run {
+            verdicts,
+            clients,
+            options,
+        }),
         None => None,
+    }
+}
+
+// What the matches of `run` ask for.
+fn run_request<'a>(
+    alloc: Global,
+    words: &'a [String],
+    inner: &ArgMatches<'a>,
+) -> Result<Request<'a>, WordsFault>
+    requires { Meets (texts words.now) (codes "run") (rows_of (found_of inner.now)) }
+    ensures asked { IfOk result (λ r. IsAsked (texts words.entry.now) r) }
+    ensures refused { IfErr result (λ e. IsRefused (texts words.entry.now) e) }
+{
+    match repeats_of(inner) {
+        Ok(repeats) => {
+            files_to_run(alloc, words, inner, RunOptions { repeats }).ok_or(WordsFault::Memory)
+        }
+        Err(fault) => Err(fault),
     }
 }
 
@@ -393,7 +432,7 @@ fn asked_of<'a>(
         return init_request(alloc, words, inner);
     }
     if name == "run" {
-        return run_request(alloc, words, inner).ok_or(WordsFault::Memory);
+        return run_request(alloc, words, inner);
     }
     if name == "recover" {
         return Ok(Request::Recover);

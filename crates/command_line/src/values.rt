@@ -1,7 +1,7 @@
 // What texts among the words spell.
 ghost use Rattle.std.specs.Prelude.{◌≡◌, ◌≤◌, ℕ, map, decimal, MatchOption, IfOk, IsErrOf, Ok};
 ghost use Rattle.hex.specs.Hex.{decode_of};
-ghost use Rattle.command_line.specs.Values.{IsHashText, IsNumber, IsWhole};
+ghost use Rattle.command_line.specs.Values.{IsHashText, IsNumber, IsUpTo, IsWhole};
 
 use base_types::Hash;
 use hex::FromHex;
@@ -40,6 +40,19 @@ pub(crate) fn whole_in(text: &str) -> Option<u64>
         return Some(n);
     }
     None
+}
+
+/// The number up to a limit that a text spells in decimal digits, without a sign or a leading zero.
+pub(crate) fn up_to_in(text: &str, most: u32) -> Option<u32>
+    ensures { MatchOption result ((n : ℕ) → ¬ (IsUpTo most text.now n)) (λ n. IsUpTo most text.now n) }
+{
+    let Some(n) = whole_in(text) else {
+        return None;
+    };
+    if n > most as u64 {
+        return None;
+    }
+    Some(n as u32)
 }
 
 /// The hash that 64 hexadecimal digits spell, in either case.

@@ -171,7 +171,7 @@ module _ {D : Type 0} (files : Text → Option (List ℕ)) (files_before files_n
   -- nothing but want of memory is the cause
   why_none : (r : Request) (answer : Answer) → Free r → Caused r answer → answer ≡ answers.Memory
   why_none (Init shape mint) answer free why = init_none shape mint answer free why
-  why_none (Run verdicts clients) answer free why = run_unhindered verdicts clients.items free answer why
+  why_none (Run verdicts clients options) answer free why = run_unhindered verdicts clients.items free answer why
   why_none Recover answer free why = recover_none answer free why
   why_none (Status hashes) answer free why = status_none answer free.1 why
   why_none (Audit mint clients) answer free why = audit_none mint clients.items free answer why
@@ -183,7 +183,7 @@ module _ {D : Type 0} (files : Text → Option (List ℕ)) (files_before files_n
   free_alike (Init shape mint) (Init kind file) alike free =
       subst (λ (s : Shape). CanInit files files_before files_now content limit held before now s file.name.now) alike.0
       (subst (λ (name : Text). CanInit files files_before files_now content limit held before now shape name) alike.1 free)
-  free_alike (Run verdicts clients) (Run others words) alike free =
+  free_alike (Run verdicts clients options) (Run others words settings) alike free =
       subst (λ (names : List Text). CanRun files files_before files_now content limit held before now others.name.now names) alike.1
       (subst (λ (name : Text). CanRun files files_before files_now content limit held before now name (names_of clients.items)) alike.0 free)
   free_alike Recover Recover alike free = free
@@ -198,7 +198,7 @@ module _ {D : Type 0} (files : Text → Option (List ℕ)) (files_before files_n
   has_hashes : (r : Request) → Free r → HasHashes r
   has_hashes (Status hashes) free = free.0
   has_hashes (Init shape mint) free = tt
-  has_hashes (Run verdicts clients) free = tt
+  has_hashes (Run verdicts clients options) free = tt
   has_hashes Recover free = tt
   has_hashes (Audit mint clients) free = tt
   has_hashes (Gen shape seed size) free = tt

@@ -15,7 +15,7 @@ use Rattle.command_answers.specs.Texts.{IsPrinted}
 module _ {D : Type 0} (files : Text → Option (List ℕ)) (content : D → Option (List ℕ)) (images : D → List ℕ → Type 0) (limit : D → ℕ) (before now : ℕ → Option D) (P Q : Text → Type 0) (by : (text : Text) → P text → Q text) where
   pub did_by : (r : Request) → Did files content images limit before now P r → Did files content images limit before now Q r
   did_by (Init shape mint) is = init_by files content images limit before now P Q by shape mint is
-  did_by (Run verdicts clients) is = record {
+  did_by (Run verdicts clients options) is = record {
     handed = is.handed;
     known = is.known;
     read = is.read;

@@ -77,7 +77,7 @@ module _ {D : Type 0} (content : D → Option (List ℕ)) (images : D → List �
 
     -- what was done
     did_exact : (now : ℕ → Option D) (printed : Text → Type 0) (r : Request) → Did files content images limit held now printed r → IsExact files content images limit count held r
-    did_exact now printed (Run verdicts clients) did = resumed did.caused.ledger did.caused.room
+    did_exact now printed (Run verdicts clients options) did = resumed did.caused.ledger did.caused.room
     did_exact now printed Recover did = resumed did.0.ledger did.0.room
     did_exact now printed (Status hashes) did = record {
       shape = did.shape;
@@ -98,7 +98,7 @@ module _ {D : Type 0} (content : D → Option (List ℕ)) (images : D → List �
     unsound_exact now file clients answer was = absurd was
 
     later_exact : (now : ℕ → Option D) (disks_before disks_now : ℕ → ℕ) (r : Request) (answer : Answer) → IsEndedLater files content images limit held now disks_before disks_now r answer → IsExact files content images limit count held r
-    later_exact now disks_before disks_now (Run verdicts clients) answer later = let lane = later.2 in resumed lane.ledger lane.room
+    later_exact now disks_before disks_now (Run verdicts clients options) answer later = let lane = later.2 in resumed lane.ledger lane.room
     later_exact now disks_before disks_now Recover answer lane = resumed lane.ledger lane.room
     later_exact now disks_before disks_now (Audit mint clients) answer was = unsound_exact now mint clients.items answer was
     later_exact now disks_before disks_now r answer later = absurd later
@@ -106,7 +106,7 @@ module _ {D : Type 0} (content : D → Option (List ℕ)) (images : D → List �
     -- the same request
     exact_alike : (r other : Request) → AreAlike r other → IsExact files content images limit count held r → IsExact files content images limit count held other
     exact_alike (Init shape mint) (Init kind file) alike exact = tt
-    exact_alike (Run verdicts clients) (Run told words) alike exact = exact
+    exact_alike (Run verdicts clients options) (Run told words settings) alike exact = exact
     exact_alike Recover Recover alike exact = exact
     exact_alike (Status hashes) (Status sought) alike exact = exact
     exact_alike (Audit mint clients) (Audit file words) alike exact = subst (λ (name : Text). HasNoCause content held (IsUnopenedOf files content images limit count held name)) alike.0 exact

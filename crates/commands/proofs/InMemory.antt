@@ -60,7 +60,7 @@ module _ {D : Type 0} (files : Text → Option (List ℕ)) (files_before files_n
         can = free.can;
         steady = steady shape shaped.shards.2.bound shaped.coordinators.2.bound;
       }
-  unhindered words (Run verdicts clients) asked free = record {
+  unhindered words (Run verdicts clients options) asked free = record {
     known = free.known;
     handed = free.handed;
     knows = holds_verdicts verdicts.name.now free.known free.knows;

@@ -6,3 +6,4 @@ pub mod Complete
 mod Exact
 mod InMemory
 pub mod Spared
+mod Survival

@@ -13,7 +13,7 @@ use Rattle.commands.specs.Causes.{RequestPlace, RequestRose, RequestNames, Asked
 -- a file whose count of faults rose has its place
 pub rose_placed : (r : Request) (b n : Text → ℕ) (place : ℕ) → RequestRose r b n place → RequestPlace r place
 rose_placed (Init shape mint) b n place rose = rose.0
-rose_placed (Run verdicts clients) b n place rose = ⊎_elim (λ one. inl (one.0, one.1, one.2, one.3.0)) (λ own. inr own.0) rose
+rose_placed (Run verdicts clients options) b n place rose = ⊎_elim (λ one. inl (one.0, one.1, one.2, one.3.0)) (λ own. inr own.0) rose
 rose_placed Recover b n place rose = absurd rose
 rose_placed (Status hashes) b n place rose = absurd rose
 rose_placed (Audit mint clients) b n place rose = ⊎_elim (λ own. inl own.0) (λ one. inr (one.0, one.1, one.2, one.3.0)) rose

@@ -12,7 +12,7 @@ alike_spared : (r other : Request) → AreAlike r other → IsOfNoRack r → IsO
 alike_spared (Gen shape seed size) (Gen kind number count) alike of = tt
 alike_spared (Show text) (Show other) alike of = tt
 alike_spared (Init shape mint) _ alike of = absurd of
-alike_spared (Run verdicts clients) _ alike of = absurd of
+alike_spared (Run verdicts clients options) _ alike of = absurd of
 alike_spared Recover _ alike of = absurd of
 alike_spared (Status hashes) _ alike of = absurd of
 alike_spared (Audit mint clients) _ alike of = absurd of
@@ -28,7 +28,7 @@ alike_unread (Status hashes) (Status sought) alike of = tt
 alike_unread (Gen shape seed size) (Gen kind number count) alike of = tt
 alike_unread (Show text) (Show other) alike of = tt
 alike_unread (Init shape mint) _ alike of = absurd of
-alike_unread (Run verdicts clients) _ alike of = absurd of
+alike_unread (Run verdicts clients options) _ alike of = absurd of
 alike_unread (Audit mint clients) _ alike of = absurd of
 alike_unread _ _ alike of = absurd alike
 

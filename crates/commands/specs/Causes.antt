@@ -13,14 +13,14 @@ use Rattle.command_answers.specs.Causes.{FileRose, OnePlace, OneRose}
 -- one of the files that are asked for does so
 abbrev pub RequestRose : Request → (Text → ℕ) → (Text → ℕ) → ℕ → Type 0
 RequestRose (Init shape mint) before now place = FileRose before now mint place
-RequestRose (Run verdicts clients) before now place = OneRose before now clients.items place ⊎ FileRose before now verdicts place
+RequestRose (Run verdicts clients options) before now place = OneRose before now clients.items place ⊎ FileRose before now verdicts place
 RequestRose (Audit mint clients) before now place = FileRose before now mint place ⊎ OneRose before now clients.items place
 RequestRose other before now place = ⊥
 
 -- one of the files that are asked for has this place
 abbrev pub RequestPlace : Request → ℕ → Type 0
 RequestPlace (Init shape mint) place = place ≡ mint.place
-RequestPlace (Run verdicts clients) place = OnePlace clients.items place ⊎ (place ≡ verdicts.place)
+RequestPlace (Run verdicts clients options) place = OnePlace clients.items place ⊎ (place ≡ verdicts.place)
 RequestPlace (Audit mint clients) place = (place ≡ mint.place) ⊎ OnePlace clients.items place
 RequestPlace other place = ⊥
 
@@ -31,7 +31,7 @@ OneNamed files place name = (k : ℕ) × (file : FileWord) × (slice_get files k
 -- one of the files that are asked for has this place and this name
 abbrev pub RequestNames : Request → ℕ → Text → Type 0
 RequestNames (Init shape mint) place name = (place ≡ mint.place) × (name ≡ mint.name.now)
-RequestNames (Run verdicts clients) place name = OneNamed clients.items place name ⊎ ((place ≡ verdicts.place) × (name ≡ verdicts.name.now))
+RequestNames (Run verdicts clients options) place name = OneNamed clients.items place name ⊎ ((place ≡ verdicts.place) × (name ≡ verdicts.name.now))
 RequestNames (Audit mint clients) place name = ((place ≡ mint.place) × (name ≡ mint.name.now)) ⊎ OneNamed clients.items place name
 RequestNames other place name = ⊥
 

@@ -60,7 +60,7 @@ none_sound t = false
 -- hashes they are `Ample`), and none of them fails; each hash that is looked for has its 32 bytes; no hashes of a workload clash
 abbrev pub IsUnhindered : {D : Type 0} → (Text → Option (List ℕ)) → (Text → ℕ) → (Text → ℕ) → (D → Option (List ℕ)) → (D → ℕ) → (ℕ → Option D) → (ℕ → ℕ) → (ℕ → ℕ) → Request → Type 0
 IsUnhindered files files_before files_now content limit held before now (Init shape mint) = CanInit files files_before files_now content limit held before now shape mint.name.now
-IsUnhindered files files_before files_now content limit held before now (Run verdicts clients) =
+IsUnhindered files files_before files_now content limit held before now (Run verdicts clients options) =
     CanRun files files_before files_now content limit held before now verdicts.name.now (names_of clients.items)
 IsUnhindered files files_before files_now content limit held before now Recover = IsReady content limit held before now none_sound []
 IsUnhindered files files_before files_now content limit held before now (Status hashes) = AreWhole hashes.items × IsReady content limit held before now none_sound []

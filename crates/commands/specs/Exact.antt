@@ -43,7 +43,7 @@ IsUnopenedOf files content images limit count held name before now answer =
 -- no refusal of what is asked has its cause in the disks: of the ledger that `run` and `recover` resume, that `status` opens, and that `audit` opens by
 -- its mint; of other requests nothing is said
 abbrev pub IsExact : {D : Type 0} → (Text → Option (List ℕ)) → (D → Option (List ℕ)) → (D → List ℕ → Type 0) → (D → ℕ) → (D → ℕ) → (ℕ → Option D) → Request → Type 0
-IsExact files content images limit count held (Run verdicts clients) = HasNoCause content held (IsUnresumed content images limit count held)
+IsExact files content images limit count held (Run verdicts clients options) = HasNoCause content held (IsUnresumed content images limit count held)
 IsExact files content images limit count held Recover = HasNoCause content held (IsUnresumed content images limit count held)
 IsExact files content images limit count held (Status hashes) = HasNoCause content held (IsUnopened content images limit count held)
 IsExact files content images limit count held (Audit mint clients) = HasNoCause content held (IsUnopenedOf files content images limit count held mint.name.now)
@@ -51,7 +51,7 @@ IsExact files content images limit count held other = Unit {0}
 
 -- what was asked ended behind the opening of the ledger: a lane met a fault, or an audit found something wrong
 abbrev pub IsEndedLater : {D : Type 0} → (Text → Option (List ℕ)) → (D → Option (List ℕ)) → (D → List ℕ → Type 0) → (D → ℕ) → (ℕ → Option D) → (ℕ → Option D) → (ℕ → ℕ) → (ℕ → ℕ) → Request → Answer → Type 0
-IsEndedLater files content images limit disks now disks_before disks_now (Run verdicts clients) answer =
+IsEndedLater files content images limit disks now disks_before disks_now (Run verdicts clients options) answer =
     (handed : List (List FullTx)) × (known : VerdictFile)
     × IsLaneFault content images limit disks now disks_before disks_now (PieceNext (told known) handed) (EndsRun (told known) handed) (PiecesPrepared (told known) handed) handed answer
 IsEndedLater files content images limit disks now disks_before disks_now Recover answer = IsLaneFault content images limit disks now disks_before disks_now NothingNext IsLeastOpen NonePrepared [] answer

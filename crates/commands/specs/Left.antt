@@ -16,7 +16,7 @@ use Rattle.run_command.specs.Outcomes.{RunLeaves}
 -- as a lane's fault leaves them; by `status` and `audit` all disks as they were read; of a workload and of a text that is shown nothing is said here
 abbrev pub Leaves : {D : Type 0} → (Text → Option (List ℕ)) → (D → Option (List ℕ)) → (D → List ℕ → Type 0) → (D → ℕ) → (ℕ → Option D) → (ℕ → Option D) → (ℕ → ℕ) → (ℕ → ℕ) → Request → Answer → Type 0
 Leaves files content images limit before now disks_before disks_now (Init shape mint) answer = InitLeaves files content images limit before now disks_before disks_now shape mint answer
-Leaves files content images limit before now disks_before disks_now (Run verdicts clients) answer = RunLeaves files content images limit before now disks_before disks_now verdicts clients.items answer
+Leaves files content images limit before now disks_before disks_now (Run verdicts clients options) answer = RunLeaves files content images limit before now disks_before disks_now verdicts clients.items answer
 Leaves files content images limit before now disks_before disks_now Recover answer = TurnsLeave content images limit before now disks_before disks_now NothingNext IsLeastOpen NonePrepared [] answer
 Leaves files content images limit before now disks_before disks_now (Status hashes) answer = AreBack content images limit disks_before disks_now before now
 Leaves files content images limit before now disks_before disks_now (Audit mint clients) answer = AreBack content images limit disks_before disks_now before now

@@ -7,3 +7,4 @@ pub mod Spared
 pub mod Complete
 pub mod Exact
 pub mod InMemory
+pub mod Survival

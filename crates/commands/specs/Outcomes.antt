@@ -17,7 +17,7 @@ use Rattle.run_command.specs.Outcomes.{DidRun, WhyNoRun}
 -- what was asked for was done, and this was printed
 abbrev pub Did : {D : Type 0} → (Text → Option (List ℕ)) → (D → Option (List ℕ)) → (D → List ℕ → Type 0) → (D → ℕ) → (ℕ → Option D) → (ℕ → Option D) → (Text → Type 0) → Request → Type 0
 Did files content images limit before now printed (Init shape mint) = DidInit files content images limit before now printed shape mint
-Did files content images limit before now printed (Run verdicts clients) = DidRun files content images limit before now printed verdicts clients.items
+Did files content images limit before now printed (Run verdicts clients options) = DidRun files content images limit before now printed verdicts clients.items
 Did files content images limit before now printed Recover = DidRecover content images limit before now printed
 Did files content images limit before now printed (Status hashes) = DidStatus content images limit before now printed hashes.items
 Did files content images limit before now printed (Audit mint clients) = DidAudit files content images limit before now printed mint clients.items
@@ -28,7 +28,7 @@ Did files content images limit before now printed (Show text) = printed (string_
 abbrev pub Why : {D : Type 0} → (Text → Option (List ℕ)) → (Text → ℕ) → (Text → ℕ) → (D → Option (List ℕ)) → (D → List ℕ → Type 0) → (D → ℕ) → (D → ℕ) → (ℕ → Option D) → (ℕ → Option D) → (ℕ → ℕ) → (ℕ → ℕ) → Request → Answer → Type 0
 Why files files_before files_now content images limit count disks now disks_before disks_now (Init shape mint) answer =
     WhyNoInit files files_before files_now content limit disks disks_before disks_now shape mint answer
-Why files files_before files_now content images limit count disks now disks_before disks_now (Run verdicts clients) answer =
+Why files files_before files_now content images limit count disks now disks_before disks_now (Run verdicts clients options) answer =
     WhyNoRun files files_before files_now content images limit count disks now disks_before disks_now verdicts clients.items answer
 Why files files_before files_now content images limit count disks now disks_before disks_now Recover answer =
     WhyNoTurns content images limit count disks now disks_before disks_now NothingNext IsLeastOpen NonePrepared [] answer

@@ -1,5 +1,5 @@
 // The top call.
-ghost use Rattle.std.specs.Prelude.{◌≡◌, ◌≤◌, ◌⊎◌, ℕ, MatchOption};
+ghost use Rattle.std.specs.Prelude.{◌≡◌, ◌≤◌, ◌⊎◌, ℕ, List, Some, MatchOption};
 ghost use Rattle.commands.specs.Texts.{IsFaultPrinted};
 ghost use Rattle.command_answers.specs.Texts.{IsPrinted, IsSilent};
 ghost use Rattle.command_line.specs.Asked.{IsRefused};
@@ -15,6 +15,7 @@ ghost use Rattle.commands.specs.Outcomes.{Did, Why};
 ghost use Rattle.command_answers.specs.Left.{IsBeforeDisks};
 ghost use Rattle.commands.specs.Left.{IsOfNoFile, IsOfNoRack, Leaves};
 ghost use Rattle.commands.specs.Spared.{AreBadOr};
+ghost use Rattle.commands.specs.Survival.{StaysKeptWhatever};
 ghost use Rattle.line_text.specs.Lines.{Text};
 ghost use Rattle.outside.specs.Counts.{Rose};
 ghost use Rattle.printed_lines.specs.Reports.{Names};
@@ -25,7 +26,7 @@ use command_line::parse;
 use gen_command::generated;
 use init_command::init;
 use line_text::{write_all, write_fault};
-use outside::{Gate, Inbox, Rack, Sink};
+use outside::{Disk, Gate, Inbox, Rack, Sink};
 use recover_command::recover;
 use requests::{FileWord, Request, WordsFault};
 use run_command::run;
@@ -46,6 +47,11 @@ struct Answered<'a> {
     status: Answer,
     name: &'a str,
 }
+
+// What a disk tells is what a crash may leave of it, if nothing else is.
+fn see_images<D: Disk>()
+    ensures { (d : D) (c : List ℕ) → D.content d ≡ Some c → D.images d c }
+{}
 
 // Prints a text that the words ask for.
 fn show<O: Sink>(out: &mut O, text: &str) -> Answer
@@ -79,7 +85,11 @@ fn name_at<'a>(request: &Request<'a>, place: u64) -> &'a str
 {
     match request {
         Request::Init { mint, .. } => mint.name,
-        Request::Run { verdicts, clients } => match client_at(clients, place) {
+        Request::Run {
+            verdicts,
+            clients,
+            ..
+        } => match client_at(clients, place) {
             Some(name) => name,
             None => verdicts.name,
         },
@@ -130,12 +140,16 @@ where
 {
     match request {
         Request::Init { shape, mint } => init(alloc, shape, mint, inbox, rack, out),
-        Request::Run { verdicts, clients } => {
-            run(rt, alloc, clients, verdicts, inbox, rack, out, gate)
-        }
+        Request::Run {
+            verdicts,
+            clients,
+            options,
+        } => run(
+            rt, alloc, clients, verdicts, *options, inbox, rack, out, gate,
+        ),
         Request::Recover => recover(rt, alloc, rack, out, gate),
         Request::Status { hashes } => status(alloc, hashes, rack, out),
-        Request::Audit { mint, clients } => audit(alloc, mint, clients, inbox, rack, out),
+        Request::Audit { mint, clients } => audit(rt, alloc, mint, clients, inbox, rack, out),
         Request::Gen { shape, seed, count } => {
             generated(rt, alloc, shape, *seed, *count, out, gate)
         }
@@ -252,6 +266,11 @@ where
     // and a crash leaves of its own no first record, or what it might have left before, or, where the disk failed, the new one alone.
     ensures left { (IsWell result.status → ⊥) → (result.rack ≡ rack) ⊎ ((r : Asked) × IsAsked (texts words.now) r × Leaves (I.file inbox.old) R.Disk.content R.Disk.images R.Disk.limit (R.held rack) (R.held result.rack) (R.count rack) (R.count result.rack) r result.status) }
 
+    // Whatever was answered: of a kept ledger that the disks showed, and that was kept whatever a crash before the call left of them, whatever a
+    // crash behind it leaves opens to kept journals, with the transactions of the files that were to be run besides or without. Each of these has
+    // grown at its end from a journal that a crash before might have left of its disk: where nothing was unsynced there, of what the disk told.
+    ensures survives { StaysKeptWhatever (I.file inbox.old) R.Disk.content R.Disk.images (R.held rack) (R.held result.rack) (texts words.now) }
+
     // Where it came through, and where it ended behind the opening of the ledger by a lane's fault or what an audit found wrong, no refusal of the opening
     // has its cause in the disks at entry, if they tell all of that ledger. So a node is refused as NotReady, Damaged, Foreign or Full, or a record
     // as not caused, only where it is so, and nothing is done over a ledger where it is so.
@@ -267,6 +286,7 @@ where
     ensures read { (file : ℕ) → result.status ≡ Answer.ReadFault file → NamedRose (texts words.now) (I.count inbox.old) (I.count inbox.new) file }
     ensures written { result.status ≡ Answer.WriteFault → Rose (O.count out.old) (O.count out.new) }
 {
+    see_images::<R::Disk>();
     let mut rack = rack;
     let Answered { status, name } = answer_words(rt, alloc, words, inbox, &mut rack, out, gate);
     let _ = write_fault(out, &status, name);

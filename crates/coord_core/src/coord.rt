@@ -349,6 +349,19 @@ impl CoordCore {
         self.admit_next(next)
     }
 
+    /// The same of a record that is known to be in the grammar of this coordinator's journals.
+    pub fn admit_known(&mut self, next: &Record) -> Result<bool, AllocError>
+        requires { IsInGrammar self.old.header next.now }
+        ensures next { IfOk result (λ b. IsTrue b ↔ IsAdmitted self.old next.now) }
+        ensures after { IfOk result (λ b. (J : List AnyRecord) → StandsFor self.old J → J ≢ [] → (IsTrue b ↔ After self.old.header J next.now)) }
+        ensures same { IsSameButRoom self.old self.new }
+        ensures grown { HasGrown self.old self.new }
+        ensures room { IfOk result (λ b. IsTrue b → IsNext self.new next.now) }
+    {
+        let _ = &self.lanes;
+        self.admit_next(next)
+    }
+
     // Whether a record is next on its lane.
     fn admit_next(&mut self, next: &Record) -> Result<bool, AllocError>
         ensures next { IfOk result (λ b. IsTrue b ↔ IsAdmitted self.old next.now) }

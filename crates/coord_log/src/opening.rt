@@ -53,7 +53,7 @@ fn replayed(alloc: Global, header: &Header, records: &[Record]) -> Result<CoordC
     let mut at = size_of_record(&records[0]);
     'records: for i in 1..records.len() {
         let next = &records[i];
-        match core.admit(next) {
+        match core.admit_known(next) {
             Ok(true) => core.apply(next),
             Ok(false) => return Err(NodeOpenFault::Damaged { at }),
             Err(_) => return Err(NodeOpenFault::Memory),

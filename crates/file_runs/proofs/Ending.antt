@@ -1,21 +1,20 @@
 -- Whose fault ended files.
 use Rattle.std.proofs.Common.{◌≡◌, inl, inr, ℕ, ◌*◌, ◌+◌, ◌<◌, List, [], ◌∷◌, ◌++◌, length, take, drop, get_or, Some, refl, sym, ap, ◌∙◌, subst}
-use Rattle.std.specs.Global.{Vec}
 use Rattle.std.proofs.lemmas.List.{append_assoc, take-append-drop}
-use Rattle.cbdc_types.specs.declared.tx.CompactTx.{CompactTx}
 use Rattle.cbdc_model.specs.Records.{Shape, Compact, Record}
 use Rattle.cbdc_model.specs.Coins.{FullTx}
 use Rattle.cbdc_model.specs.World.{AreIdle}
 use Rattle.cbdc_model.specs.Waves.{sent_to}
 use Rattle.cbdc_model.specs.Lanes.{IsEnd}
-use Rattle.submissions.specs.Checks.{VerdictsOf, AreSent}
+use Rattle.submissions.specs.Checks.{VerdictsOf}
 use Rattle.lane_driver.specs.declared.fault.LaneFault.{LaneFault}
 use Rattle.lane_driver.specs.declared.fault.LaneFaultKind.TheVariants.{Memory as NoMemory}
 use Rattle.ledger_runs.specs.Waving.{HaveSent, FirstFaultIs}
 use Rattle.ledger_runs.specs.Faults.{HaveCauses}
 use Rattle.ledger_runs.specs.Least.{RunTheirs}
-use Rattle.ledger_runs.specs.declared.lanes.Lane.{Lane}
+use Rattle.ledger_runs.specs.Lanes.{LaneOf}
 use Rattle.ledger_runs.proofs.Least.{least_fault}
+use Rattle.file_runs.proofs.Sending.{sent_is, sent_from}
 use Rattle.file_runs.specs.Runs.{AreLanesOf, HavePreparedFiles, HaveBegunFile, IsSentPiece}
 use Rattle.file_runs.specs.Endings.{EndsFile, EndsFirst, EndsFiles}
 use Rattle.file_runs.proofs.Causing.{sent_piece}
@@ -23,13 +22,13 @@ use Rattle.file_runs.proofs.Pieces.{file_unbegun}
 use Rattle.file_runs.proofs.Joining.{so_far}
 
 -- the first fault of a file's lanes
-pub file_ends : (K : Shape) (verdicts : VerdictsOf) (file : List FullTx) (lists : List (Vec CompactTx)) (lanes after : List Lane) (I J : ℕ → List Record) (failed : ℕ → Type 0) (holds : ℕ → ℕ → Type 0)
-    → length after ≡ K.coordinators * K.lanes → AreSent K verdicts file lists → AreLanesOf lists lanes → ((sent : ℕ → List Compact) → HaveSent sent lanes → HaveSent sent after)
+pub file_ends : (K : Shape) (verdicts : VerdictsOf) (file : List FullTx) (lanes after : List LaneOf) (I J : ℕ → List Record) (failed : ℕ → Type 0) (holds : ℕ → ℕ → Type 0)
+    → length after ≡ K.coordinators * K.lanes → AreLanesOf K verdicts file lanes → ((sent : ℕ → List Compact) → HaveSent sent lanes → HaveSent sent after)
     → HaveCauses K I J failed holds after → RunTheirs K I J after → (e : LaneFault) → FirstFaultIs after (Some e) → EndsFile K verdicts file I J failed holds e
-file_ends K verdicts file lists lanes after I J failed holds count are_sent are keeps causes theirs e first =
+file_ends K verdicts file lanes after I J failed holds count are keeps causes theirs e first =
     inr (λ sound tells. least_fault K (sent_to K sound file) (IsSentPiece K verdicts file I J) I J failed holds after count
-    (keeps (sent_to K sound file) (λ l y t. are_sent sound tells l y.txs (are.each l y t)))
-    (λ lane x there txs piece. sent_piece K verdicts file lists lanes after I J are_sent are keeps lane x there txs piece) causes theirs e first)
+    (keeps (sent_to K sound file) (λ l y t. sent_is K verdicts file lanes are sound tells l y t))
+    (λ lane x there txs piece. sent_piece K verdicts file lanes after I J are keeps lane x there txs piece) causes theirs e first)
 
 unbegun_first : (K : Shape) (verdicts : VerdictsOf) (more : List (List FullTx)) (I : ℕ → List Record) (failed : ℕ → Type 0) (holds : ℕ → ℕ → Type 0) (e : LaneFault) → e.fault ≡ NoMemory → EndsFirst K verdicts more I I failed holds e
 unbegun_first K verdicts [] I failed holds e is = (is, λ n. refl)

@@ -2,18 +2,16 @@
 use Rattle.std.proofs.Common.{◌≡◌, ℕ, ◌+◌, ◌<◌, ◌≤◌, List, [], ◌∷◌, ◌++◌, length, take, drop, get_or, Option, sym, ap, ◌∙◌, subst}
 use Rattle.std.proofs.lemmas.List.{append_assoc, take_all, take-append-drop}
 use Rattle.std.proofs.lemmas.List.Elements.{Contains-append_left, All-weaker}
-use Rattle.std.specs.Global.{Vec}
-use Rattle.cbdc_types.specs.declared.tx.CompactTx.{CompactTx}
 use Rattle.cbdc_model.specs.Records.{Shape, Compact, Record, Genesis, Lock, Finish, Forget, Start, Prepare, Commit, Discard, Done}
 use Rattle.cbdc_model.specs.Coins.{Output, FullTx}
 use Rattle.cbdc_model.specs.Clean.{IsProperCompact}
 use Rattle.cbdc_model.specs.History.{TxsPass}
 use Rattle.run_laws.specs.Flights.{MayCome}
-use Rattle.submissions.specs.Checks.{VerdictsOf, AreSentFrom}
+use Rattle.submissions.specs.Checks.{VerdictsOf}
 use Rattle.ledger_runs.specs.Turning.{OfKept}
 use Rattle.ledger_runs.specs.Waving.{HaveSent}
 use Rattle.ledger_runs.specs.Flying.{AllMayCome, FliesSent}
-use Rattle.ledger_runs.specs.declared.lanes.Lane.{Lane}
+use Rattle.ledger_runs.specs.Lanes.{LaneOf}
 use Rattle.file_runs.specs.Runs.{joined, AreLanesOf, FliesWith}
 use Rattle.file_runs.proofs.Filing.{kept_more, each_proper, gets, have_gets, gets_all}
 use Rattle.file_runs.proofs.Joining.{joined_append, joined_next, so_far, KeepsFiles}
@@ -41,11 +39,11 @@ pub flies_none : (K : Shape) (more : List FullTx) (I : ℕ → List Record) (F :
 flies_none K more I F mint submissions kept may = may_more K mint submissions more I F may
 
 -- the wave of a file
-pub flies_file : (K : Shape) (verdicts : VerdictsOf) (file : List FullTx) (lists : List (Vec CompactTx)) (lanes : List Lane) (I J : ℕ → List Record) (F G : ℕ → Option Record)
-    → AreSentFrom verdicts file lists → AreLanesOf lists lanes → ((sent : ℕ → List Compact) → HaveSent sent lanes → OfKept K I (FliesSent K sent I J F G)) → OfKept K I (FliesWith K file I J F G)
-flies_file K verdicts file lists lanes I J F G from are flies mint submissions kept may =
+pub flies_file : (K : Shape) (verdicts : VerdictsOf) (file : List FullTx) (lanes : List LaneOf) (I J : ℕ → List Record) (F G : ℕ → Option Record)
+    → AreLanesOf K verdicts file lanes → ((sent : ℕ → List Compact) → HaveSent sent lanes → OfKept K I (FliesSent K sent I J F G)) → OfKept K I (FliesWith K file I J F G)
+flies_file K verdicts file lanes I J F G are flies mint submissions kept may =
     flies (gets lanes) (have_gets lanes) mint (submissions ++ file) (kept_more K mint submissions file I kept)
-    (λ lane low. gets_all (IsProperCompact (submissions ++ file)) lanes (each_proper verdicts file submissions lists lanes from are) lane)
+    (λ lane low. gets_all (IsProperCompact (submissions ++ file)) lanes (each_proper K verdicts file submissions lanes are) lane)
     (may_more K mint submissions file I F may)
 
 -- over files that have been run

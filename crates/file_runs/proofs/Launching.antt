@@ -1,13 +1,11 @@
 -- Prepares in flight are those of next pieces, file after file.
 use Rattle.std.proofs.Common.{◌≡◌, ℕ, ◌*◌, ◌<◌, List, length, take, get_or, Option, ◌∙◌, subst, arith}
-use Rattle.std.specs.Global.{Vec}
-use Rattle.cbdc_types.specs.declared.tx.CompactTx.{CompactTx}
 use Rattle.cbdc_model.specs.Records.{Shape, Compact, Record}
 use Rattle.cbdc_model.specs.Coins.{FullTx}
-use Rattle.submissions.specs.Checks.{VerdictsOf, AreSent}
+use Rattle.submissions.specs.Checks.{VerdictsOf}
 use Rattle.ledger_runs.specs.Waving.{HaveSent}
 use Rattle.ledger_runs.specs.Flying.{Launches, AreNextPieces}
-use Rattle.ledger_runs.specs.declared.lanes.Lane.{Lane}
+use Rattle.ledger_runs.specs.Lanes.{LaneOf}
 use Rattle.ledger_runs.proofs.WaveKeeping.{at_place}
 use Rattle.ledger_runs.proofs.Launching.{launches_by, launches_on}
 use Rattle.file_runs.specs.Runs.{AreLanesOf, HavePreparedFiles, IsSentPiece, IsFilesPiece}
@@ -15,12 +13,12 @@ use Rattle.file_runs.proofs.Causing.{sent_piece}
 use Rattle.file_runs.proofs.Pieces.{files_piece}
 
 -- the wave of a file
-pub file_launches : (K : Shape) (verdicts : VerdictsOf) (file : List FullTx) (lists : List (Vec CompactTx)) (lanes after : List Lane) (I J : ℕ → List Record) (F G : ℕ → Option Record)
-    → length after ≡ K.coordinators * K.lanes → AreSent K verdicts file lists → AreLanesOf lists lanes → ((sent : ℕ → List Compact) → HaveSent sent lanes → HaveSent sent after)
+pub file_launches : (K : Shape) (verdicts : VerdictsOf) (file : List FullTx) (lanes after : List LaneOf) (I J : ℕ → List Record) (F G : ℕ → Option Record)
+    → length after ≡ K.coordinators * K.lanes → AreLanesOf K verdicts file lanes → ((sent : ℕ → List Compact) → HaveSent sent lanes → HaveSent sent after)
     → Launches K (AreNextPieces K after I J) I J F G → Launches K (IsSentPiece K verdicts file I J) I J F G
-file_launches K verdicts file lists lanes after I J F G count are_sent are keeps =
+file_launches K verdicts file lanes after I J F G count are keeps =
     launches_by K (AreNextPieces K after I J) (IsSentPiece K verdicts file I J) I J F G
-    (λ lane txs inside pieces. (let x = at_place after lane (omega (arith, inside, count)) in sent_piece K verdicts file lists lanes after I J are_sent are keeps lane x.0 x.1 txs (pieces x.0 x.1)))
+    (λ lane txs inside pieces. (let x = at_place after lane (omega (arith, inside, count)) in sent_piece K verdicts file lanes after I J are keeps lane x.0 x.1 txs (pieces x.0 x.1)))
 
 -- files that have been run, and one more
 pub files_launch : (K H : Shape) (verdicts : VerdictsOf) (files : List (List FullTx)) (i : ℕ) (file : List FullTx) (E J L : ℕ → List Record) (F G M : ℕ → Option Record) → H ≡ K → i < length files → file ≡ get_or files i file

@@ -8,3 +8,4 @@ pub mod Ending
 pub mod Cutting
 pub mod Launching
 pub mod Whole
+pub mod Sending

@@ -1,7 +1,5 @@
 -- Client files that are run one after another.
-use Rattle.std.specs.Prelude.{◌≡◌, ℕ, Bool, List, [], ◌∷◌, ◌++◌, length, Option, None, Some, slice_get}
-use Rattle.std.specs.Global.{Vec}
-use Rattle.cbdc_types.specs.declared.tx.CompactTx.{CompactTx}
+use Rattle.std.specs.Prelude.{◌≡◌, ℕ, ◌*◌, Bool, List, [], ◌∷◌, ◌++◌, length, Option, None, Some, slice_get}
 use Rattle.cbdc_model.specs.Records.{Shape, Compact, Record}
 use Rattle.cbdc_model.specs.Coins.{Output, FullTx}
 use Rattle.cbdc_model.specs.Waves.{IsCut, sent_to}
@@ -9,7 +7,8 @@ use Rattle.submissions.specs.Checks.{VerdictsOf, TellsSound}
 use Rattle.ledger_runs.specs.Turning.{IsLaneOf}
 use Rattle.ledger_runs.specs.Pieces.{HasPrepared, HasPreparedAll, IsNextOf, IsNextPiece, HasBegun}
 use Rattle.ledger_runs.specs.Flying.{AllMayCome}
-use Rattle.ledger_runs.specs.declared.lanes.Lane.{Lane}
+use Rattle.ledger_runs.specs.Lanes.{LaneOf}
+use Rattle.lane_sources.specs.Sources.{all_of}
 
 -- all in one list
 abbrev pub joined : {A : Type 0} → List (List A) → List A
@@ -53,9 +52,9 @@ abbrev pub HaveBegunFiles : Shape → VerdictsOf → List (List FullTx) → (ℕ
 HaveBegunFiles K verdicts files I J = (lane : ℕ) → IsLaneOf K lane → (sound : FullTx → Bool) → TellsSound verdicts sound
     → (done : List (List Compact)) × (more : List (List Compact)) × AreFilesPieces K sound lane files (done ++ more) × HasPrepared K lane done I J
 
--- a lane for each list, with its transactions, which has done nothing and has not stopped
-pub record AreLanesOf (lists : List (Vec CompactTx)) (lanes : List Lane) : Type 0 where
-  pub count : length lanes ≡ length lists
-  pub each : (n : ℕ) (x : Lane) → slice_get lanes n ≡ Some x → slice_get lists n ≡ Some x.txs
-  pub fresh : (n : ℕ) (x : Lane) → slice_get lanes n ≡ Some x → x.fault ≡ None
-  pub untold : (n : ℕ) (x : Lane) → slice_get lanes n ≡ Some x → (x.decided.items ≡ []) × (x.batches ≡ 0)
+-- a lane for each of the ledger's, which gets what the file sends it, has done nothing and has not stopped
+pub record AreLanesOf (K : Shape) (verdicts : VerdictsOf) (file : List FullTx) (lanes : List LaneOf) : Type 0 where
+  pub count : length lanes ≡ K.coordinators * K.lanes
+  pub each : (n : ℕ) (x : LaneOf) → slice_get lanes n ≡ Some x → x.txs ≡ all_of K verdicts file n
+  pub fresh : (n : ℕ) (x : LaneOf) → slice_get lanes n ≡ Some x → x.fault ≡ None
+  pub untold : (n : ℕ) (x : LaneOf) → slice_get lanes n ≡ Some x → (x.decided.items ≡ []) × (x.batches ≡ 0)

@@ -20,6 +20,7 @@ use cbdc_types::{FullTx, List};
 use lane_driver::{LaneFault, no_memory};
 use ledger_nodes::Ledger;
 use outside::{Disk, Gate};
+use requests::RunOptions;
 use std::alloc::Global;
 use std::sync::Wait;
 use std::thread::Threads;
@@ -39,6 +40,7 @@ pub fn run_files<W: Wait + Threads + Sync, D: Disk + Send, V: Verifier + Sync, G
     ledger: Ledger<D>,
     files: &[List<FullTx>],
     verifier: &V,
+    options: RunOptions,
     gate: &G,
 ) -> FilesRun<D>
     requires idle { AreIdle ledger.header.shape (journals D.count D.limit ledger) }
@@ -96,7 +98,7 @@ pub fn run_files<W: Wait + Threads + Sync, D: Disk + Send, V: Verifier + Sync, G
         let FileRun {
             ledger: behind,
             came,
-        } = run_file(rt, alloc, ledger, txs.as_slice(), verifier, gate);
+        } = run_file(rt, alloc, ledger, txs.as_slice(), verifier, options, gate);
         ledger = behind;
         let wave = match came {
             Ok(wave) => wave,

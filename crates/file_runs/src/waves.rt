@@ -1,20 +1,28 @@
-// One client file: its submissions are checked, and the sound ones are a wave.
-ghost use Rattle.std.specs.Prelude.{All, IfOk};
+// One client file: its lanes check its submissions, and the sound ones are a wave.
+ghost use Rattle.std.specs.Prelude.{◌≡◌, ◌≤◌, All, IfOk, [], length, map};
+ghost use Rattle.std.specs.Vec.{vec_capacity};
 ghost use Rattle.cbdc_model.specs.World.{AreIdle};
 ghost use Rattle.input_files.specs.Limits.{IsShort};
 ghost use Rattle.ledger_nodes.specs.Ledgers.{journals, IsChecked};
 ghost use Rattle.file_runs.specs.FileRuns.{RanFile};
+ghost use Rattle.ledger_runs.specs.Lanes.{came_of};
+ghost use Rattle.submissions.specs.Checks.{AreChecked};
+ghost use Rattle.lane_sources.specs.Sources.{lanes_of};
 ghost use Rattle.file_runs.specs.Runs.{AreLanesOf};
 
-use cbdc_types::{CompactTx, FullTx};
+use cbdc_types::FullTx;
 use lane_driver::{LaneFault, no_memory};
 use ledger_nodes::{Ledger, run_wave};
-use ledger_runs::{Lane, first_fault};
+use lane_sources::{Deals, FileOf, LaneSource, RuledAt, checks_of, rule_ahead};
+use ledger_runs::{Lane, Work, first_fault};
 use outside::{Disk, Gate};
+use requests::RunOptions;
 use std::alloc::{AllocError, Global};
+use std::marker::Brand;
 use std::sync::Wait;
+use std::thread;
 use std::thread::Threads;
-use submissions::{Checked, Submitted, check_all_beside};
+use submissions::Checked;
 use verifier_port::Verifier;
 
 /// A client file that was run: each submission in order, and the lanes with what was decided.
@@ -31,25 +39,162 @@ pub struct FileRun<D: Disk> {
     pub came: Result<Wave, LaneFault>,
 }
 
-// The lanes of a wave, none of which has run anything.
-fn lanes_of(alloc: Global, lists: Vec<Vec<CompactTx>>) -> Result<Vec<Lane>, AllocError>
-    ensures { IfOk result (λ v. AreLanesOf lists.items v.items) }
-{
-    let mut lanes = Vec::with_capacity(alloc, lists.len())?;
-    'lists: for txs in lists {
-        lanes.push(Lane::new(alloc, txs)?)?;
-    }
-    Ok(lanes)
+// The memory of what is put together behind a wave.
+#[derive(Drop)]
+struct WaveRoom<'a, V: Verifier, F: Deals> {
+    sources: Vec<LaneSource<'a, V, F>>,
+    lanes: Vec<Lane>,
+    checked: Vec<Checked>,
 }
 
-/// Runs the submissions of a client file over the nodes of a ledger with no open batch. The fault of the least lane that meets
-/// one ends it, once the others have run what they got.
+fn wave_room<'a, V: Verifier, F: Deals>(
+    alloc: Global,
+    file: &FileOf<'a, V, F>,
+) -> Result<WaveRoom<'a, V, F>, AllocError>
+    ensures sources { IfOk result (λ r. (r.sources.items ≡ []) × (lanes_of F.shape ≤ vec_capacity r.sources)) }
+    ensures lanes { IfOk result (λ r. (r.lanes.items ≡ []) × (lanes_of F.shape ≤ vec_capacity r.lanes)) }
+    ensures checked { IfOk result (λ r. (r.checked.items ≡ []) × (length F.file ≤ vec_capacity r.checked)) }
+{
+    Ok(WaveRoom {
+        sources: Vec::with_capacity(alloc, file.lanes())?,
+        lanes: Vec::with_capacity(alloc, file.lanes())?,
+        checked: Vec::with_capacity(alloc, file.txs().len())?,
+    })
+}
+
+// Whether there are fewer lanes than processors, so that lanes that check their own submissions would leave some idle.
+fn are_few<W: Threads>(rt: &W, lanes: usize) -> bool {
+    match thread::available_parallelism(rt) {
+        Ok(processors) => lanes < processors.get(),
+        Err(_) => false,
+    }
+}
+
+// What sentinels make of a lane's submissions, by all processors, where it is to be found before the wave; or memory ran out.
+fn found_ahead<'a, W: Threads + Sync, V: Verifier + Sync, F: Deals + Send + Sync>(
+    rt: &W,
+    alloc: Global,
+    file: &FileOf<'a, V, F>,
+    lane: usize,
+    few: bool,
+) -> Result<Vec<RuledAt<F>>, AllocError> {
+    if few {
+        rule_ahead(rt, alloc, file, lane, file.txs().len())
+    } else {
+        Ok(Vec::new(alloc))
+    }
+}
+
+// The lanes of a wave, none of which has run anything.
+fn works_of<'a, W: Threads + Sync, V: Verifier + Sync, F: Deals + Send + Sync>(
+    rt: &W,
+    alloc: Global,
+    file: &'a FileOf<'a, V, F>,
+    repeats: u32,
+) -> Result<Vec<Work<LaneSource<'a, V, F>>>, AllocError>
+    ensures { IfOk result (λ v. AreLanesOf F.shape F.verdicts F.file v.items) }
+{
+    let count = file.lanes();
+    let few = are_few(rt, count);
+    let mut works = Vec::with_capacity(alloc, count)?;
+    'lanes: for lane in 0..count {
+        let ahead = found_ahead(rt, alloc, file, lane, few)?;
+        let source = LaneSource::new(alloc, file, lane, ahead)?;
+        works.push(Work::new(alloc, source, repeats))?;
+    }
+    Ok(works)
+}
+
+// What came of a wave, with what was said of the submissions.
+fn wave_of<'a, V: Verifier, F: Deals>(
+    file: &FileOf<'a, V, F>,
+    works: Vec<Work<LaneSource<'a, V, F>>>,
+    room: WaveRoom<'a, V, F>,
+) -> Wave
+    requires many { length works.items ≡ lanes_of F.shape }
+    requires sources { (room.sources.items ≡ []) × (lanes_of F.shape ≤ vec_capacity room.sources) }
+    requires lanes { (room.lanes.items ≡ []) × (lanes_of F.shape ≤ vec_capacity room.lanes) }
+    requires checked { (room.checked.items ≡ []) × (length F.file ≤ vec_capacity room.checked) }
+    ensures lanes { result.lanes.items ≡ map came_of works.entry.items }
+    ensures checked { AreChecked F.shape F.verdicts F.file result.checked.items }
+{
+    let WaveRoom {
+        mut sources,
+        mut lanes,
+        mut checked,
+    } = room;
+    'works: for work in works {
+        let Work {
+            source,
+            repeats: _,
+            lane,
+        } = work;
+        sources.push_reserved(source);
+        lanes.push_reserved(lane);
+    }
+    checks_of(file, sources.as_mut_slice(), &mut checked);
+    Wave { checked, lanes }
+}
+
+// The same of the file that `F` picks.
+fn run_picked<
+    W: Wait + Threads + Sync,
+    D: Disk + Send,
+    V: Verifier + Sync,
+    F: Deals + Send + Sync,
+    G: Gate + Sync,
+>(
+    rt: &W,
+    alloc: Global,
+    ledger: Ledger<D>,
+    txs: &[FullTx],
+    verifier: &V,
+    options: RunOptions,
+    gate: &G,
+) -> FileRun<D>
+    requires shape { F.shape ≡ ledger.header.shape }
+    requires file { F.file ≡ txs.now }
+    requires verdicts { F.verdicts ≡ V.verdict_of verifier.now }
+    requires idle { AreIdle ledger.header.shape (journals D.count D.limit ledger) }
+    requires short { All IsShort txs.now }
+    requires checked { IsChecked D.count D.limit ledger }
+    ensures { RanFile D.count D.limit D.content D.images F.verdicts F.file ledger result.ledger result.came }
+{
+    let file: FileOf<'_, V, F> = FileOf::new(txs, verifier, ledger.shape().lane_count());
+    let Ok(mut works) = works_of(rt, alloc, &file, options.repeats) else {
+        return FileRun {
+            ledger,
+            came: Err(no_memory()),
+        };
+    };
+    let Ok(room) = wave_room(alloc, &file) else {
+        return FileRun {
+            ledger,
+            came: Err(no_memory()),
+        };
+    };
+    let ledger = run_wave(rt, alloc, ledger, &mut works, gate);
+    match first_fault(&works) {
+        Some(fault) => FileRun {
+            ledger,
+            came: Err(fault),
+        },
+        None => FileRun {
+            ledger,
+            came: Ok(wave_of(&file, works, room)),
+        },
+    }
+}
+
+/// Runs the submissions of a client file over the nodes of a ledger with no open batch. Each lane checks what is for it as it comes to
+/// it. The fault of the least lane that meets one ends it, once the others have run what they got.
 pub fn run_file<W: Wait + Threads + Sync, D: Disk + Send, V: Verifier + Sync, G: Gate + Sync>(
     rt: &W,
     alloc: Global,
     ledger: Ledger<D>,
     txs: &[FullTx],
     verifier: &V,
+    options: RunOptions,
     gate: &G,
 ) -> FileRun<D>
     requires idle { AreIdle ledger.header.shape (journals D.count D.limit ledger) }
@@ -57,33 +202,5 @@ pub fn run_file<W: Wait + Threads + Sync, D: Disk + Send, V: Verifier + Sync, G:
     requires checked { IsChecked D.count D.limit ledger }
     ensures { RanFile D.count D.limit D.content D.images (V.verdict_of verifier.now) txs.now ledger result.ledger result.came }
 {
-    let Ok(Submitted { checked, lanes }) = check_all_beside(
-        rt,
-        alloc,
-        txs,
-        ledger.shape(),
-        verifier,
-    ) else {
-        return FileRun {
-            ledger,
-            came: Err(no_memory()),
-        };
-    };
-    let Ok(mut lanes) = lanes_of(alloc, lanes) else {
-        return FileRun {
-            ledger,
-            came: Err(no_memory()),
-        };
-    };
-    let ledger = run_wave(rt, alloc, ledger, &mut lanes, gate);
-    match first_fault(&lanes) {
-        Some(fault) => FileRun {
-            ledger,
-            came: Err(fault),
-        },
-        None => FileRun {
-            ledger,
-            came: Ok(Wave { checked, lanes }),
-        },
-    }
+    run_picked::<W, D, V, Brand, G>(rt, alloc, ledger, txs, verifier, options, gate)
 }

@@ -21,6 +21,7 @@ use ledger_init::{Made, make_ledger};
 use outside::{Gate, Sink};
 use plain_rack::PlainRack;
 use rack_runs::run_on;
+use requests::RunOptions;
 use run_report::write_generated;
 use std::alloc::{AllocError, Global};
 use std::sync::Wait;
@@ -100,11 +101,13 @@ fn run_files<W: Wait + Threads + Sync, G: Gate + Sync>(
         Ok(made) => made,
         Err(fault) => return Err(fault),
     };
-    run_on(rt, alloc, rack, clients, &AllGood, gate)
+    let options = RunOptions { repeats: 0 };
+    run_on(rt, alloc, rack, clients, &AllGood, options, gate)
 }
 
 // Checks the ledger against its mint and client files.
-fn check_files(
+fn check_files<W: Threads + Sync>(
+    rt: &W,
     alloc: Global,
     mint: &[Output],
     clients: Vec<List<FullTx>>,
@@ -117,7 +120,7 @@ fn check_files(
     let Ok(handed) = joined(alloc, clients) else {
         return Err(Answer::Memory);
     };
-    match audit_on(alloc, rack, mint, &handed) {
+    match audit_on(rt, alloc, rack, mint, &handed) {
         Ok(Verdict::Sound(totals)) => Ok(totals),
         Ok(Verdict::Unsound { place, kind }) => Err(Answer::Unsound { place, kind }),
         Err(fault) => Err(fault),
@@ -157,7 +160,7 @@ fn run_workload<W: Wait + Threads + Sync, G: Gate + Sync>(
         Ok(ran) => ran,
         Err(fault) => return Err(fault),
     };
-    match check_files(alloc, kept.as_slice(), clients, &mut rack) {
+    match check_files(rt, alloc, kept.as_slice(), clients, &mut rack) {
         Ok(totals) => Ok(Came { ran, totals }),
         Err(fault) => Err(fault),
     }

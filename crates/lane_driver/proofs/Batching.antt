@@ -1,6 +1,5 @@
 -- What was told of a whole batch, and what it comes to.
-use Rattle.std.proofs.Common.{◌≡◌, ◌⊎◌, inl, inr, ℕ, suc, ◌<◌, ◌==◌, min, Bool, true, List, [], ◌∷◌, length, take, drop, Ok, Err, refl, sym, ◌∙◌, subst, arith}
-use Rattle.std.proofs.lemmas.List.{take_min, drop_min}
+use Rattle.std.proofs.Common.{◌≡◌, ◌⊎◌, inl, inr, ℕ, zero, suc, ◌<◌, ◌==◌, Bool, true, List, [], ◌∷◌, length, take, drop, Ok, Err, refl, sym, ◌∙◌, subst, arith}
 use Rattle.cbdc_types.specs.declared.calls.NodeFault.{NodeFault}
 use Rattle.cbdc_model.specs.Records.{Shape, Batch, Compact, Entry, Outcome}
 use Rattle.cbdc_model.specs.Ranges.{home_of}
@@ -76,14 +75,14 @@ one_told K alone lane txs n log log' I J e l is (inr s) = inr (at_told K alone l
 
 -- a lane goes on by a batch, or stops at one
 module _ (K : Shape) (alone : Bool) (lane : ℕ) (txs rest piece : List Compact) (log0 log1 log2 : Sight) (I0 I1 I2 : ℕ → Sight) (so : LaneSo K alone lane txs rest log0 I0 log1 I1)
-    (front : piece ≡ take (min K.batch (length rest)) rest) where
-  pub lane_on : (more : List Compact) (b : Batch) (os : List Outcome) → 0 < length rest → more ≡ drop (min K.batch (length rest)) rest
+    (front : piece ≡ take K.batch rest) where
+  pub lane_on : (more : List Compact) (b : Batch) (os : List Outcome) → 0 < length rest → more ≡ drop K.batch rest
       → ((k : ℕ) → Settled K lane k log1 I1 → BatchDone K alone lane k piece log1 I1 log2 I2 b os) → LaneSo K alone lane txs more log0 I0 log2 I2
   lane_on more b os some back done =
-      subst (λ r. LaneSo K alone lane txs r log0 I0 log2 I2) (sym (back ∙ drop_min K.batch rest))
-      (lane_goes_on K alone lane txs rest log0 log1 log2 I0 I1 I2 so piece b os some (front ∙ take_min K.batch rest) (done (slot log1.seen lane).number so.settled))
+      subst (λ r. LaneSo K alone lane txs r log0 I0 log2 I2) (sym back)
+      (lane_goes_on K alone lane txs rest log0 log1 log2 I0 I1 I2 so piece b os some front (done (slot log1.seen lane).number so.settled))
 
-  pub done_on : (more : List Compact) (reports news : List BatchReport) (r : BatchReport) → news ≡ reports ++ r ∷ [] → 0 < length rest → more ≡ drop (min K.batch (length rest)) rest
+  pub done_on : (more : List Compact) (reports news : List BatchReport) (r : BatchReport) → news ≡ reports ++ r ∷ [] → 0 < length rest → more ≡ drop K.batch rest
       → AreDone K alone lane txs log0 I0 (reverse reports) rest log1 I1 → ((k : ℕ) → Settled K lane k log1 I1 → BatchDone K alone lane k piece log1 I1 log2 I2 r.batch r.outcomes)
       → AreDone K alone lane txs log0 I0 (reverse news) more log2 I2
   done_on more reports news r is some back older done =
@@ -93,8 +92,8 @@ module _ (K : Shape) (alone : Bool) (lane : ℕ) (txs rest piece : List Compact)
         I1,
         older,
         some,
-        back ∙ drop_min K.batch rest,
-        subst (λ p. BatchDone K alone lane (slot log1.seen lane).number p log1 I1 log2 I2 r.batch r.outcomes) (front ∙ take_min K.batch rest) (done (slot log1.seen lane).number so.settled),
+        back,
+        subst (λ p. BatchDone K alone lane (slot log1.seen lane).number p log1 I1 log2 I2 r.batch r.outcomes) front (done (slot log1.seen lane).number so.settled),
       ) in
       subst (λ rs. AreDone K alone lane txs log0 I0 rs more log2 I2) (sym (ap reverse is ∙ reverse-append reports (r ∷ []))) next
 
@@ -106,13 +105,13 @@ module _ (K : Shape) (alone : Bool) (lane : ℕ) (txs rest piece : List Compact)
       inr (inl (h.0, rest, some, subst (λ (X : ℕ → Sight). LaneSo K alone lane txs rest log0 I0 log2 X) (sym h.2) (subst (λ l. LaneSo K alone lane txs rest log0 I0 l I1) (sym h.1) so)))
   lane_off e some (inr h) =
       let s = h (slot log1.seen lane).number so.settled in
-      inr (inr (s.0, s.1, s.2, lane_stops K alone lane txs rest log0 log1 log2 I0 I1 I2 so piece s.0 s.1 some (front ∙ take_min K.batch rest) s.3))
+      inr (inr (s.0, s.1, s.2, lane_stops K alone lane txs rest log0 log1 log2 I0 I1 I2 so piece s.0 s.1 some front s.3))
 
   pub lane_told : (n : ℕ) (e : LaneFault) → 0 < length rest → IsBatchTold K alone lane piece n log1 I1 log2 I2 e
       → HasNoMemory e log0 I0 log2 I2
       ⊎ ((rest : List Compact) × (0 < length rest) × (before : Sight) × (shards_before : ℕ → Sight) × LaneSo K alone lane txs rest log0 I0 before shards_before
       × IsBatchTold K alone lane (take K.batch rest) n before shards_before log2 I2 e)
-  lane_told n e some told = inr (rest, some, log1, I1, so, subst (λ p. IsBatchTold K alone lane p n log1 I1 log2 I2 e) (front ∙ take_min K.batch rest) told)
+  lane_told n e some told = inr (rest, some, log1, I1, so, subst (λ p. IsBatchTold K alone lane p n log1 I1 log2 I2 e) front told)
 
 pub none_left : (xs : List Compact) → true ≡ (length xs == 0) → xs ≡ []
 none_left [] h = refl
@@ -120,3 +119,18 @@ none_left (x ∷ xs) h = absurd (some (length xs) (sym h))
   where
     some : (n : ℕ) → (suc n == 0) ≡ true → ⊥
     some n h = grind (arith, h)
+
+-- there is something left where a piece of it is not empty
+pub some_left : (n : ℕ) (rest piece : List Compact) → piece ≡ take n rest → 0 < length piece → 0 < length rest
+some_left n [] piece is some = let none : 0 < 0 = subst (λ xs. 0 < length xs) (is ∙ take_nil n) some in absurd (omega (arith, none))
+  where
+    take_nil : (n : ℕ) → take {A = Compact} n [] ≡ []
+    take_nil zero = refl
+    take_nil (suc n) = refl
+some_left n (x ∷ rest) piece is some = omega arith
+
+-- and nothing where a piece of some size is
+pub none_after : (n : ℕ) (rest piece : List Compact) → 0 < n → piece ≡ take n rest → piece ≡ [] → rest ≡ []
+none_after n [] piece size is none = refl
+none_after zero (x ∷ rest) piece size is none = absurd (omega (arith, size))
+none_after (suc n) (x ∷ rest) piece size is none = absurd (let z : x ∷ take n rest ≡ [] = sym is ∙ none in cc)

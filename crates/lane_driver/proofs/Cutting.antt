@@ -1,7 +1,7 @@
 -- A lane's list, cut into batches.
-use Rattle.std.proofs.Common.{◌≡◌, ℕ, ◌+◌, ◌*◌, ◌<◌, ◌≤◌, min, List, [], ◌∷◌, ◌++◌, length, take, drop, reverse, arith, ◌∙◌, sym, subst}
+use Rattle.std.proofs.Common.{◌≡◌, ℕ, ◌+◌, ◌-◌, ◌*◌, ◌<◌, ◌≤◌, min, List, [], ◌∷◌, ◌++◌, length, take, drop, reverse, arith, ◌∙◌, sym, subst}
 use Rattle.std.proofs.Math.Nat.{mul-le-mul_left}
-use Rattle.std.proofs.lemmas.List.{take_min, drop_min}
+use Rattle.std.proofs.lemmas.List.{length-take, length-drop}
 use Rattle.std.proofs.lemmas.Slice.Zip.{all_zipped_more}
 use Rattle.std.proofs.lemmas.Grind.{reverse_onto}
 use Rattle.cbdc_model.specs.Records.{Compact}
@@ -9,18 +9,18 @@ use Rattle.lane_driver.specs.declared.fault.BatchReport.{BatchReport}
 use Rattle.lane_driver.specs.Reports.{IsReported, AreReports}
 
 -- a piece more needs no more room than there is
-pub room_after : (r b n c m k d : ℕ) → 0 < r → r + b * n ≤ b * c → m + min b r ≡ r → n < c → k ≡ n + 1 → d ≡ c → m + b * k ≤ b * d
+pub room_after : (r b n c m k d : ℕ) → 0 < r → r + b * n ≤ b * c → m ≡ r - b → n < c → k ≡ n + 1 → d ≡ c → m + b * k ≤ b * d
 room_after r b n c m k d some room e lt ek ed =
     let more : b * (n + 1) ≤ b * c = mul-le-mul_left b (omega arith) in
     let now : m + b * (n + 1) ≤ b * c = omega (arith, more) in
     subst (λ k. m + b * k ≤ b * d) (sym ek) (subst (λ d. m + b * (n + 1) ≤ b * d) (sym ed) now)
 
 pub reported_more : (lane n : ℕ) (txs rest piece more : List Compact) (reports : List BatchReport) (r : BatchReport)
-    → IsReported lane n txs rest reports → 0 < length rest → piece ≡ take (min n (length rest)) rest → more ≡ drop (min n (length rest)) rest
+    → IsReported lane n txs rest reports → 0 < length rest → piece ≡ take n rest → more ≡ drop n rest
     → (r.batch.lane ≡ lane) × (length r.outcomes ≡ length piece) → IsReported lane n txs more (reports ++ r ∷ [])
 reported_more lane n txs rest piece more reports r so some p m is = (
   piece ∷ so.0,
-  (rest, so.1, some, p ∙ take_min n rest, m ∙ drop_min n rest),
+  (rest, so.1, some, p, m),
   subst (λ pieces. AreReports lane (reports ++ r ∷ []) pieces) (sym (reverse_onto so.0 piece []))
       (all_zipped_more (λ (r : BatchReport) (piece : List Compact). (r.batch.lane ≡ lane) × (length r.outcomes ≡ length piece)) reports (reverse so.0) r piece so.2 is),
 )

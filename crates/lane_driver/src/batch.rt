@@ -41,7 +41,7 @@ fn home(shape: &Shape, lane: LaneId) -> NodeId
 
 /// Takes a discarded batch to its end: the shards forget it, and it is done. Its forget calls are made so many times
 /// more after their phase. There is room for the calls, and no memory is wanted.
-pub fn from_discarded<S: PortSet, L: LogPort, G: Gate>(
+pub fn from_discarded<S: PortSet<G>, L: LogPort, G: Gate>(
     shape: &Shape,
     batch: &BatchId,
     cause: Stamp,
@@ -93,7 +93,7 @@ pub fn from_discarded<S: PortSet, L: LogPort, G: Gate>(
 
 /// Takes a committed batch to its end: the shards apply it, it is discarded, and the shards forget it. Its finish and
 /// forget calls are made so many times more after their phase, and all its calls after it is done. No memory is wanted.
-pub fn from_committed<S: PortSet, L: LogPort, G: Gate>(
+pub fn from_committed<S: PortSet<G>, L: LogPort, G: Gate>(
     shape: &Shape,
     batch: &BatchId,
     cause: Stamp,
@@ -173,7 +173,7 @@ pub fn from_committed<S: PortSet, L: LogPort, G: Gate>(
 /// Takes a prepared batch to its end: its shards lock their parts, it is decided by their replies, and what follows
 /// a Commit. Each shard call is made so many times more after its phase, and all its calls after it is done. Memory is
 /// wanted only at a Lock.
-pub fn from_prepared<S: PortSet, L: LogPort, G: Gate>(
+pub fn from_prepared<S: PortSet<G>, L: LogPort, G: Gate>(
     shape: &Shape,
     batch: &BatchId,
     cause: Stamp,
@@ -237,7 +237,7 @@ pub fn from_prepared<S: PortSet, L: LogPort, G: Gate>(
 }
 
 // One batch of an idle lane, from its Prepare to its end. Its memory is there, cut into its parts.
-pub(crate) fn drive_batch<S: PortSet, L: LogPort, G: Gate>(
+pub(crate) fn drive_batch<S: PortSet<G>, L: LogPort, G: Gate>(
     shape: &Shape,
     lane: LaneId,
     txs: &[CompactTx],
@@ -285,7 +285,7 @@ pub(crate) fn drive_batch<S: PortSet, L: LogPort, G: Gate>(
 }
 
 // One batch of an idle lane, from its Prepare to its end: all its driver's memory is taken first.
-pub(crate) fn one_batch<S: PortSet, L: LogPort, G: Gate>(
+pub(crate) fn one_batch<S: PortSet<G>, L: LogPort, G: Gate>(
     alloc: Global,
     shape: &Shape,
     lane: LaneId,
@@ -327,7 +327,7 @@ pub(crate) fn one_batch<S: PortSet, L: LogPort, G: Gate>(
 /// Runs one batch of an idle lane: 1 to `batch` transactions. With repeats, each shard call is made so many times
 /// more after its phase, and all its shard calls after it is done. Where no other lane's records come meanwhile, the other
 /// lanes are as before. All the driver's memory is taken before the first call.
-pub fn run_batch<S: PortSet, L: LogPort, G: Gate>(
+pub fn run_batch<S: PortSet<G>, L: LogPort, G: Gate>(
     alloc: Global,
     shape: &Shape,
     lane: LaneId,

@@ -15,19 +15,20 @@ ghost use Rattle.lane_driver.specs.Reports.{IsReported, AreDone};
 use crate::batch::one_batch;
 use crate::fault::{LaneFault, LaneReport, lane_fault, no_memory};
 use crate::port::{LogPort, PortSet, Ports};
-use cbdc_types::{CompactTx, LaneId, List, Shape};
+use crate::source::Source;
+use cbdc_types::{LaneId, List, Shape};
 use outside::Gate;
 use std::alloc::Global;
 
-/// Runs the transactions of an idle lane in order, in batches of `batch`, the last maybe shorter; with none it makes no
-/// call. With repeats, each shard call of a batch is made so many times more after its phase, and all its shard calls
+/// Runs all that a source gives to an idle lane in order, in batches of `batch`, the last maybe shorter; with nothing it makes no
+/// call. Each batch is taken from the source when those before it are done; where memory runs out there, the lane ends. With repeats, each shard call of a batch is made so many times more after its phase, and all its shard calls
 /// after it is done. The first batch that meets a fault ends it, and that fault is the answer. Where no other lane's
 /// records come meanwhile, the other lanes are as before.
-pub fn run_lane<S: PortSet, L: LogPort, G: Gate>(
+pub fn run_lane<S: PortSet<G>, L: LogPort, X: Source, G: Gate>(
     alloc: Global,
     shape: &Shape,
     lane: LaneId,
-    txs: &[CompactTx],
+    source: &mut X,
     ports: &mut Ports<S, L>,
     repeats: u32,
     gate: &G,
@@ -41,33 +42,39 @@ pub fn run_lane<S: PortSet, L: LogPort, G: Gate>(
     requires ledger { AreShardsOf shape.now (S.sights ports.old.shards) }
     requires mine { S.serves ports.old.shards lane }
     requires settled { IsSettled shape.now lane (L.sights ports.old.log (L.at ports.old.log)) (S.sights ports.old.shards) }
-    requires limits { All IsCompact txs.now }
-    ensures done { OnOk result ((k : ℕ) → Settled shape.now lane k (L.sights ports.old.log (L.at ports.old.log)) (S.sights ports.old.shards) → LaneSo shape.now L.alone lane txs.now [] (L.sights ports.old.log (L.at ports.old.log)) (S.sights ports.old.shards) (L.sights ports.new.log (L.at ports.new.log)) (S.sights ports.new.shards)) }
-    ensures stopped { IfErr result (IsLaneStopped shape.now L.alone lane txs.now (L.sights ports.old.log (L.at ports.old.log)) (S.sights ports.old.shards) (L.sights ports.new.log (L.at ports.new.log)) (S.sights ports.new.shards)) }
-    ensures told { IfErr result (IsLaneTold shape.now L.alone lane txs.now repeats (L.sights ports.old.log (L.at ports.old.log)) (S.sights ports.old.shards) (L.sights ports.new.log (L.at ports.new.log)) (S.sights ports.new.shards)) }
+    requires limits { All IsCompact (X.all source.old) }
+    ensures same { X.all source.new ≡ X.all source.old }
+    ensures done { OnOk result ((k : ℕ) → Settled shape.now lane k (L.sights ports.old.log (L.at ports.old.log)) (S.sights ports.old.shards) → LaneSo shape.now L.alone lane (X.all source.old) [] (L.sights ports.old.log (L.at ports.old.log)) (S.sights ports.old.shards) (L.sights ports.new.log (L.at ports.new.log)) (S.sights ports.new.shards)) }
+    ensures stopped { IfErr result (IsLaneStopped shape.now L.alone lane (X.all source.old) (L.sights ports.old.log (L.at ports.old.log)) (S.sights ports.old.shards) (L.sights ports.new.log (L.at ports.new.log)) (S.sights ports.new.shards)) }
+    ensures told { IfErr result (IsLaneTold shape.now L.alone lane (X.all source.old) repeats (L.sights ports.old.log (L.at ports.old.log)) (S.sights ports.old.shards) (L.sights ports.new.log (L.at ports.new.log)) (S.sights ports.new.shards)) }
     ensures fault { IfErr result (IsCausedFault shape.now (L.sights ports.new.log) (S.sights ports.new.shards)) }
     ensures idle { OnOk result (L.phase ports.new.log lane ≡ Idle) }
     ensures others { L.alone ≡ true → KeepsOthers (L.header ports.old.log) lane (L.phase ports.old.log) (L.phase ports.new.log) (L.open_txs ports.old.log) (L.open_txs ports.new.log) }
     ensures keeps_log { KeepsLog L.at L.header L.count L.sights L.faults L.holds ports.old.log ports.new.log }
     ensures keeps_shards { KeepsShards S.count S.sights S.faults S.holds S.serves ports.old.shards ports.new.shards }
-    ensures report { IfOk result (λ r. IsReported lane shape.now.batch txs.now [] r.batches) }
+    ensures report { IfOk result (λ r. IsReported lane shape.now.batch (X.all source.old) [] r.batches) }
 
     // Each reported batch was done behind the one before it, with the outcomes of its Commit.
-    ensures batches { IfOk result (λ r. (k : ℕ) → Settled shape.now lane k (L.sights ports.old.log (L.at ports.old.log)) (S.sights ports.old.shards) → AreDone shape.now L.alone lane txs.now (L.sights ports.old.log (L.at ports.old.log)) (S.sights ports.old.shards) (reverse r.batches) [] (L.sights ports.new.log (L.at ports.new.log)) (S.sights ports.new.shards)) }
+    ensures batches { IfOk result (λ r. (k : ℕ) → Settled shape.now lane k (L.sights ports.old.log (L.at ports.old.log)) (S.sights ports.old.shards) → AreDone shape.now L.alone lane (X.all source.old) (L.sights ports.old.log (L.at ports.old.log)) (S.sights ports.old.shards) (reverse r.batches) [] (L.sights ports.new.log (L.at ports.new.log)) (S.sights ports.new.shards)) }
 {
     let size = shape.batch() as usize;
-    let mut batches = match Vec::with_capacity(alloc, txs.len().div_ceil(size)) {
+    let mut batches = match Vec::with_capacity(alloc, source.begin().div_ceil(size)) {
         Ok(batches) => batches,
         Err(_) => return Err(no_memory()),
     };
-    let mut rest = txs;
-    'pieces: while !rest.is_empty() {
-        let (piece, more) = rest.split_at(size.min(rest.len()));
+    'pieces: loop {
+        match source.advance(alloc, size) {
+            Ok(()) => {}
+            Err(_) => return Err(no_memory()),
+        }
+        let piece = source.piece();
+        if piece.is_empty() {
+            break;
+        }
         match one_batch(alloc, shape, lane, piece, ports, repeats, gate) {
             Ok(report) => batches.push_reserved(report),
             Err(stop) => return Err(lane_fault(stop)),
         }
-        rest = more;
     }
     Ok(LaneReport {
         batches: List::from_vec(batches),

@@ -11,6 +11,7 @@ mod order;
 mod phase;
 mod port;
 mod room;
+mod source;
 
 pub use answer::{ShardFault, gather, latest};
 pub use batch::{from_committed, from_discarded, from_prepared, run_batch};
@@ -21,3 +22,4 @@ pub use making::ready;
 pub use order::{finish_calls, forget_calls, lock_calls};
 pub use port::{LogPort, PortSet, Ports, ShardPort};
 pub use room::{BatchRoom, LaterRoom};
+pub use source::{Source, SliceSource};

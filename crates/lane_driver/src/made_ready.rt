@@ -43,7 +43,7 @@ impl<'a> Ready<'a> {
     /// Runs the batch at its lane, which is idle: 1 to `batch` transactions. With repeats, each shard call is made so many
     /// times more after its phase, and all its shard calls after it is done. It takes no memory of its own: it answers out of
     /// memory only where a node did, at the Prepare or at a Lock.
-    pub fn go<S: PortSet, L: LogPort, G: Gate>(
+    pub fn go<S: PortSet<G>, L: LogPort, G: Gate>(
         self,
         ports: &mut Ports<S, L>,
         repeats: u32,

@@ -31,7 +31,7 @@ fn of_shard(shape: &Shape, fault: ShardFault) -> Stop
 }
 
 /// Makes the lock calls again, so many times, and drops the answers.
-pub fn lock_again<S: PortSet, G: Gate>(
+pub fn lock_again<S: PortSet<G>, G: Gate>(
     shards: &mut S,
     calls: &[(u32, LockCall)],
     answers: &mut Vec<Result<Replied, NodeFault>>,
@@ -53,7 +53,7 @@ pub fn lock_again<S: PortSet, G: Gate>(
 }
 
 /// Makes the finish calls again, so many times, and drops the answers.
-pub fn finish_again<S: PortSet, G: Gate>(
+pub fn finish_again<S: PortSet<G>, G: Gate>(
     shards: &mut S,
     calls: &[(u32, FinishCall)],
     answers: &mut Vec<Result<Stamp, NodeFault>>,
@@ -75,7 +75,7 @@ pub fn finish_again<S: PortSet, G: Gate>(
 }
 
 /// Makes the forget calls again, so many times, and drops the answers.
-pub fn forget_again<S: PortSet, G: Gate>(
+pub fn forget_again<S: PortSet<G>, G: Gate>(
     shards: &mut S,
     calls: &[(u32, ForgetCall)],
     answers: &mut Vec<Result<Stamp, NodeFault>>,
@@ -97,7 +97,7 @@ pub fn forget_again<S: PortSet, G: Gate>(
 }
 
 /// Locks the parts at their shards, and gathers the replies, or tells the fault of the least shard that had one.
-pub fn lock_phase<S: PortSet, G: Gate>(
+pub fn lock_phase<S: PortSet<G>, G: Gate>(
     shape: &Shape,
     shards: &mut S,
     calls: &[(u32, LockCall)],
@@ -129,7 +129,7 @@ pub fn lock_phase<S: PortSet, G: Gate>(
 
 /// Applies the batch at its shards: the greatest stamp of its Finishes, or the fault of the least shard that had one, which is
 /// never want of memory.
-pub fn finish_phase<S: PortSet, G: Gate>(
+pub fn finish_phase<S: PortSet<G>, G: Gate>(
     shape: &Shape,
     shards: &mut S,
     calls: &[(u32, FinishCall)],
@@ -159,7 +159,7 @@ pub fn finish_phase<S: PortSet, G: Gate>(
 
 /// Lets the shards forget the batch: the greatest stamp of its Forgets, or the fault of the least shard that had one, which is
 /// never want of memory.
-pub fn forget_phase<S: PortSet, G: Gate>(
+pub fn forget_phase<S: PortSet<G>, G: Gate>(
     shape: &Shape,
     shards: &mut S,
     calls: &[(u32, ForgetCall)],

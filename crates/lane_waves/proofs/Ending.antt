@@ -14,7 +14,7 @@ use Rattle.lane_driver.specs.Stops.{IsSettled, IsLaneStopped}
 use Rattle.lane_driver.specs.Reports.{IsReported, AreDone}
 use Rattle.lane_driver.specs.declared.fault.LaneFault.{LaneFault}
 use Rattle.lane_driver.specs.declared.fault.LaneReport.{LaneReport}
-use Rattle.ledger_runs.specs.declared.lanes.Lane.{Lane}
+use Rattle.ledger_runs.specs.Lanes.{LaneOf}
 use Rattle.node_lock.specs.declared.views.Hand.{Hand}
 use Rattle.node_lock.specs.declared.lock.Guarded.{Guarded}
 use Rattle.node_lock.specs.declared.seat.Seat.{Seat}
@@ -66,36 +66,36 @@ module _ {W S B : Type 0} {G : Ghosts B} (sight : S → Sight) where
   port_sits lane (p ∷ ps) (row ∷ rows) a l zero lt = (knows p.seat, hand_among p.seat row.items a.0, (All-head (λ q. Serves (shard_sight sight) q.guarded.now q.seat lane) p ps l).mine, λ f. (opening_sight (shard_sight sight) (first_of p.seat), refl))
   port_sits lane (p ∷ ps) (row ∷ rows) a l (suc s) lt = port_sits lane ps rows a.1 (All-tail (λ q. Serves (shard_sight sight) q.guarded.now q.seat lane) p ps l) s (omega (arith, lt))
 
-module _ {W D S B : Type 0} {G : Ghosts B} (sight : S → Sight) (tables : ℕ → TableId) (K : Shape) where
-  pub ends_zip : (rs qs : List (LaneRun W D S B G)) → length qs ≡ length rs → ((i : ℕ) (d : LaneRun W D S B G) → i < length rs → Ends sight tables K (slice_index_or rs i d) (slice_index_or qs i d)) → AllZip (Ends sight tables K) rs qs
+module _ {W D S B X : Type 0} {G : Ghosts B} (sight : S → Sight) (tables : ℕ → TableId) (K : Shape) where
+  pub ends_zip : (rs qs : List (LaneRun W D S B X G)) → length qs ≡ length rs → ((i : ℕ) (d : LaneRun W D S B X G) → i < length rs → Ends sight tables K (slice_index_or rs i d) (slice_index_or qs i d)) → AllZip (Ends sight tables K) rs qs
   ends_zip [] [] e f = tt
   ends_zip [] (q ∷ qs) e f = absurd (let z = e in omega (arith, z))
   ends_zip (r ∷ rs) [] e f = absurd (let z = e in omega (arith, z))
   ends_zip (r ∷ rs) (q ∷ qs) e f = (f 0 r (omega arith), ends_zip rs qs (let z = e in omega (arith, z)) (λ i d lt. f (suc i) d (omega (arith, lt))))
 
-  pub zip_many : (rs qs : List (LaneRun W D S B G)) → AllZip (Ends sight tables K) rs qs → length rs ≡ length qs
+  pub zip_many : (rs qs : List (LaneRun W D S B X G)) → AllZip (Ends sight tables K) rs qs → length rs ≡ length qs
   zip_many [] [] z = refl
   zip_many [] (q ∷ qs) z = absurd z
   zip_many (r ∷ rs) [] z = absurd z
   zip_many (r ∷ rs) (q ∷ qs) z = let e = zip_many rs qs z.1 in omega (arith, e)
 
-module _ {W D S B : Type 0} {G : Ghosts B} (sight : S → Sight) (tables : ℕ → TableId) (K : Shape) (gs : List (Guarded (SharedLog D))) (hs : List (Guarded (SharedShard S))) where
+module _ {W D S B X : Type 0} {G : Ghosts B} (sight : S → Sight) (tables : ℕ → TableId) (K : Shape) (gs : List (Guarded (SharedLog D))) (hs : List (Guarded (SharedShard S))) where
   -- what came of a run is known, and the lane has room for it
-  may_keep : (r q : LaneRun W D S B G) → q.work ≡ r.work → (o : Option (Result LaneReport LaneFault)) → HasRun sight tables K r q o → MayKeep q.work o
+  may_keep : (r q : LaneRun W D S B X G) → q.work ≡ r.work → (o : Option (Result LaneReport LaneFault)) → HasRun sight tables K r q o → MayKeep q.work o
   may_keep r q e None k = absurd k
   may_keep r q e (Some (Ok report)) k =
-      let many = reported_many r.lane K.batch r.work.txs.items report.batches k.named in
-      let same : length q.work.txs.items ≡ length r.work.txs.items = ap (λ (x : Lane). length x.txs.items) e in
+      let many = reported_many r.lane K.batch r.work.txs report.batches k.named in
+      let same : length q.work.txs ≡ length r.work.txs = ap (λ (x : LaneOf). length x.txs) e in
       omega (arith, many, same)
   may_keep r q e (Some (Err fault)) k = tt
 
   -- how a lane ended
-  ended_of : (lane : ℕ) (x y : Lane) (r q : LaneRun W D S B G) → r.lane ≡ lane → IsSettled K r.lane (log_of sight tables K r) (shards_of sight tables K r) → q.work ≡ r.work
+  ended_of : (lane : ℕ) (x y : LaneOf) (r q : LaneRun W D S B X G) → r.lane ≡ lane → IsSettled K r.lane (log_of sight tables K r) (shards_of sight tables K r) → q.work ≡ r.work
       → (o : Option (Result LaneReport LaneFault)) → HasRun sight tables K r q o → IsEnd q.work o y
       → (y.txs ≡ q.work.txs) × HasEnded K lane (log_of sight tables K r) (shards_of sight tables K r) (log_of sight tables K q) (shards_of sight tables K q) x y
   ended_of lane x y r q l settled w None k e = absurd k
   ended_of lane x y r q l settled w (Some (Ok report)) k e =
-      let txs : r.work.txs.items ≡ y.txs.items = sym (ap (λ v. v.items) e.txs ∙ ap (λ (z : Lane). z.txs.items) w) in
+      let txs : r.work.txs ≡ y.txs = sym (e.txs ∙ ap (λ (z : LaneOf). z.txs) w) in
       let log = log_of sight tables K r in
       let shards = shards_of sight tables K r in
       let log' = log_of sight tables K q in
@@ -104,16 +104,16 @@ module _ {W D S B : Type 0} {G : Ghosts B} (sight : S → Sight) (tables : ℕ �
         e.txs,
         inl (
           record {
-            so = subst (λ n. LaneSo K false n y.txs.items [] log shards log' shards') l (subst (λ ts. LaneSo K false r.lane ts [] log shards log' shards') txs (k.done settled.0 settled.1));
+            so = subst (λ n. LaneSo K false n y.txs [] log shards log' shards') l (subst (λ ts. LaneSo K false r.lane ts [] log shards log' shards') txs (k.done settled.0 settled.1));
             batches = report.batches;
-            done = subst (λ n. AreDone K false n y.txs.items log shards (reverse report.batches) [] log' shards') l (subst (λ ts. AreDone K false r.lane ts log shards (reverse report.batches) [] log' shards') txs (k.batches settled.0 settled.1));
-            reported = subst (λ n. IsReported n K.batch y.txs.items [] report.batches) l (subst (λ ts. IsReported r.lane K.batch ts [] report.batches) txs k.named);
+            done = subst (λ n. AreDone K false n y.txs log shards (reverse report.batches) [] log' shards') l (subst (λ ts. AreDone K false r.lane ts log shards (reverse report.batches) [] log' shards') txs (k.batches settled.0 settled.1));
+            reported = subst (λ n. IsReported n K.batch y.txs [] report.batches) l (subst (λ ts. IsReported r.lane K.batch ts [] report.batches) txs k.named);
           },
           (none, λ a b. (e.kept, e.count)),
         ),
       )
   ended_of lane x y r q l settled w (Some (Err fault)) k e =
-      let txs : r.work.txs.items ≡ y.txs.items = sym (ap (λ v. v.items) e.0 ∙ ap (λ (z : Lane). z.txs.items) w) in
+      let txs : r.work.txs ≡ y.txs = sym (e.0 ∙ ap (λ (z : LaneOf). z.txs) w) in
       let log = log_of sight tables K r in
       let shards = shards_of sight tables K r in
       let log' = log_of sight tables K q in
@@ -122,23 +122,23 @@ module _ {W D S B : Type 0} {G : Ghosts B} (sight : S → Sight) (tables : ℕ �
         e.0,
         inr (
           fault,
-          subst (λ n. IsLaneStopped K false n y.txs.items log shards log' shards' fault) l (subst (λ ts. IsLaneStopped K false r.lane ts log shards log' shards' fault) txs k.stopped),
+          subst (λ n. IsLaneStopped K false n y.txs log shards log' shards' fault) l (subst (λ ts. IsLaneStopped K false r.lane ts log shards log' shards' fault) txs k.stopped),
           ((λ none. let z : None ≡ Some fault = sym none ∙ is in cc), λ z. is),
         ),
       )
 
   -- a lane's run from its first call to its last
-  pub record IsRun (lane : ℕ) (x : Lane) (r q : LaneRun W D S B G) : Type 0 where
+  pub record IsRun (lane : ℕ) (x : LaneOf) (r q : LaneRun W D S B X G) : Type 0 where
     pub set_up : IsSetUp sight tables K gs hs lane x r
     pub ends : Ends sight tables K r q
 
   -- of all lanes, the last one first
-  abbrev pub Runs : List Lane → List (LaneRun W D S B G) → List (LaneRun W D S B G) → Type 0
+  abbrev pub Runs : List LaneOf → List (LaneRun W D S B X G) → List (LaneRun W D S B X G) → Type 0
   Runs [] [] [] = Unit {0}
   Runs (x ∷ xs) (r ∷ rs) (q ∷ qs) = IsRun (length qs) x r q × Runs xs rs qs
   Runs xs rs qs = ⊥
 
-  runs_down : (xs : List Lane) (rs qs : List (LaneRun W D S B G)) → Down (IsSetUp sight tables K gs hs) xs rs → AllZip (Ends sight tables K) rs qs → Runs xs rs qs
+  runs_down : (xs : List LaneOf) (rs qs : List (LaneRun W D S B X G)) → Down (IsSetUp sight tables K gs hs) xs rs → AllZip (Ends sight tables K) rs qs → Runs xs rs qs
   runs_down [] [] [] d z = tt
   runs_down [] [] (q ∷ qs) d z = absurd z
   runs_down [] (r ∷ rs) qs d z = absurd d
@@ -146,10 +146,10 @@ module _ {W D S B : Type 0} {G : Ghosts B} (sight : S → Sight) (tables : ℕ �
   runs_down (x ∷ xs) (r ∷ rs) [] d z = absurd z
   runs_down (x ∷ xs) (r ∷ rs) (q ∷ qs) d z = (record { set_up = subst (λ n. IsSetUp sight tables K gs hs n x r) (zip_many sight tables K rs qs z.1) d.0; ends = z.0 }, runs_down xs rs qs d.1 z.1)
 
-  pub runs_of : (lanes : List Lane) (rs qs : List (LaneRun W D S B G)) → BothFrom (IsSetUp sight tables K gs hs) 0 lanes (reverse rs) → AllZip (Ends sight tables K) rs qs → Runs (reverse lanes) rs qs
+  pub runs_of : (lanes : List LaneOf) (rs qs : List (LaneRun W D S B X G)) → BothFrom (IsSetUp sight tables K gs hs) 0 lanes (reverse rs) → AllZip (Ends sight tables K) rs qs → Runs (reverse lanes) rs qs
   runs_of lanes rs qs b z = runs_down (reverse lanes) rs qs (down (IsSetUp sight tables K gs hs) (reverse lanes) rs (subst (λ xs. BothFrom (IsSetUp sight tables K gs hs) 0 xs (reverse rs)) (sym (reverse-reverse lanes)) b)) z
 
-  pub all_over : (xs : List Lane) (rs qs : List (LaneRun W D S B G)) → Runs xs rs qs → AllOver K.shards qs
+  pub all_over : (xs : List LaneOf) (rs qs : List (LaneRun W D S B X G)) → Runs xs rs qs → AllOver K.shards qs
   all_over [] [] [] k = tt
   all_over [] [] (q ∷ qs) k = absurd k
   all_over [] (r ∷ rs) qs k = absurd k
@@ -165,7 +165,7 @@ module _ {W D S B : Type 0} {G : Ghosts B} (sight : S → Sight) (tables : ℕ �
   )
 
   module _ (open_ : AreOpen sight tables K gs hs) where
-    pub all_of : (xs : List Lane) (rs qs : List (LaneRun W D S B G)) → Runs xs rs qs → AllOf hs qs
+    pub all_of : (xs : List LaneOf) (rs qs : List (LaneRun W D S B X G)) → Runs xs rs qs → AllOf hs qs
     all_of [] [] [] k = tt
     all_of [] [] (q ∷ qs) k = absurd k
     all_of [] (r ∷ rs) qs k = absurd k
@@ -177,7 +177,7 @@ module _ {W D S B : Type 0} {G : Ghosts B} (sight : S → Sight) (tables : ℕ �
     )
 
     -- each lane's seat of its coordinator is of the lock that the wave picks
-    pub seats_at : (xs : List Lane) (rs qs : List (LaneRun W D S B G)) → (some : 0 < K.lanes) → Runs xs rs qs → SeatsAt K.lanes some tables qs
+    pub seats_at : (xs : List LaneOf) (rs qs : List (LaneRun W D S B X G)) → (some : 0 < K.lanes) → Runs xs rs qs → SeatsAt K.lanes some tables qs
     seats_at [] [] [] some k = tt
     seats_at [] [] (q ∷ qs) some k = absurd k
     seats_at [] (r ∷ rs) qs some k = absurd k
@@ -187,7 +187,7 @@ module _ {W D S B : Type 0} {G : Ghosts B} (sight : S → Sight) (tables : ℕ �
         (q.ports.log.own.0 ∙ (k.0.ends.seated.log ∙ ap tables (k.0.ends.at ∙ (k.0.set_up.begins.at ∙ ap (home_of K) k.0.set_up.lane_is))), seats_at xs rs qs some k.1)
 
     -- a lane of the wave
-    lane_ran : (lane : ℕ) (x y : Lane) (r q : LaneRun W D S B G) (homes : List (Vec (Seat (SharedLog D)))) (rows : List (Vec (Seat (SharedShard S)))) → IsRun lane x r q → IsEnd q.work q.came y
+    lane_ran : (lane : ℕ) (x y : LaneOf) (r q : LaneRun W D S B X G) (homes : List (Vec (Seat (SharedLog D)))) (rows : List (Vec (Seat (SharedShard S)))) → IsRun lane x r q → IsEnd q.work q.came y
         → IsHand (knows (home_seat q)) (hands_at homes (home_of K lane)) → AreSeats (shard_seats q) rows → LaneRan K (log_at gs) (shard_at sight hs) (hands_at homes) (hands_at rows) lane x y
     lane_ran lane x y r q homes rows k e home seats =
         let begins = k.set_up.begins in
@@ -234,12 +234,12 @@ module _ {W D S B : Type 0} {G : Ghosts B} (sight : S → Sight) (tables : ℕ �
               let a = past_end (λ p. seat_sight (shard_sight sight) p.seat) r.ports.shards.each.ports.items s (subst (λ n. n ≤ s) (sym begins.count_is) le) in
               let b = past_end (λ p. seat_sight (shard_sight sight) p.seat) q.ports.shards.each.ports.items s (subst (λ n. n ≤ s) (sym many) le) in
               (ap (λ (v : Sight). v.seen) a, ap (λ (v : Sight). v.flight) a, ap (λ (v : Sight). v.seen) b);
-          txs = ap (λ v. v.items) came.0 ∙ ap (λ (z : Lane). z.txs.items) (k.ends.work ∙ k.set_up.work);
+          txs = came.0 ∙ ap (λ (z : LaneOf). z.txs) (k.ends.work ∙ k.set_up.work);
           ended = came.1;
         }
 
     -- all lanes, the last one first
-    lanes_down : (xs : List Lane) (rs qs : List (LaneRun W D S B G)) (ys : List Lane) (owns : List (Vec (Seat (SharedLog D)))) (homes : List (Vec (Seat (SharedLog D)))) (rows : List (Vec (Seat (SharedShard S)))) → (some : 0 < K.lanes)
+    lanes_down : (xs : List LaneOf) (rs qs : List (LaneRun W D S B X G)) (ys : List LaneOf) (owns : List (Vec (Seat (SharedLog D)))) (homes : List (Vec (Seat (SharedLog D)))) (rows : List (Vec (Seat (SharedShard S)))) → (some : 0 < K.lanes)
         → ((c : ℕ) → hands_at homes c ≡ all_known (down_at owns c)) → Runs xs rs qs → AllZip (λ r y. IsEnd r.work r.came y) qs ys → HomesHold K.lanes some owns qs → AllGave qs rows
         → Down (LaneRan K (log_at gs) (shard_at sight hs) (hands_at homes) (hands_at rows)) xs ys
     lanes_down [] [] [] [] owns homes rows some f k z h a = tt
@@ -256,13 +256,13 @@ module _ {W D S B : Type 0} {G : Ghosts B} (sight : S → Sight) (tables : ℕ �
           lanes_down xs rs qs ys owns homes rows some f k.1 z.1 h.1 a.1,
         )
       where
-        ends_many : (us : List (LaneRun W D S B G)) (vs : List Lane) → AllZip (λ r y. IsEnd r.work r.came y) us vs → length us ≡ length vs
+        ends_many : (us : List (LaneRun W D S B X G)) (vs : List LaneOf) → AllZip (λ r y. IsEnd r.work r.came y) us vs → length us ≡ length vs
         ends_many [] [] z = refl
         ends_many [] (v ∷ vs) z = absurd z
         ends_many (u ∷ us) [] z = absurd z
         ends_many (u ∷ us) (v ∷ vs) z = let e = ends_many us vs z.1 in omega (arith, e)
 
-    pub lanes_ran : (lanes lanes' : List Lane) (rs qs : List (LaneRun W D S B G)) (owns : List (Vec (Seat (SharedLog D)))) (homes : List (Vec (Seat (SharedLog D)))) (rows : List (Vec (Seat (SharedShard S)))) → (some : 0 < K.lanes)
+    pub lanes_ran : (lanes lanes' : List LaneOf) (rs qs : List (LaneRun W D S B X G)) (owns : List (Vec (Seat (SharedLog D)))) (homes : List (Vec (Seat (SharedLog D)))) (rows : List (Vec (Seat (SharedShard S)))) → (some : 0 < K.lanes)
         → ((c : ℕ) → hands_at homes c ≡ all_known (down_at owns c)) → Runs (reverse lanes) rs qs → AllZip (λ r y. IsEnd r.work r.came y) qs (reverse lanes') → HomesHold K.lanes some owns qs → AllGave qs rows
         → BothFrom (LaneRan K (log_at gs) (shard_at sight hs) (hands_at homes) (hands_at rows)) 0 lanes lanes'
     lanes_ran lanes lanes' rs qs owns homes rows some f k z h a =
@@ -270,26 +270,26 @@ module _ {W D S B : Type 0} {G : Ghosts B} (sight : S → Sight) (tables : ℕ �
         let b = up P (reverse lanes) (reverse lanes') (lanes_down (reverse lanes) rs qs (reverse lanes') owns homes rows some f k z h a) in
         subst (λ xs. BothFrom P 0 xs lanes') (reverse-reverse lanes) (subst (λ ys. BothFrom P 0 (reverse (reverse lanes)) ys) (reverse-reverse lanes') b)
 
-module _ {W D S B : Type 0} {G : Ghosts B} (sight : S → Sight) (tables : ℕ → TableId) (K : Shape) (gs : List (Guarded (SharedLog D))) (hs : List (Guarded (SharedShard S))) where
+module _ {W D S B X : Type 0} {G : Ghosts B} (sight : S → Sight) (tables : ℕ → TableId) (K : Shape) (gs : List (Guarded (SharedLog D))) (hs : List (Guarded (SharedShard S))) where
   -- before the dealing no lane has its seats, and behind it all have
-  pub none_seated : (n : ℕ) (t : Table W D S B G) → t.runs.items ≡ [] → HaveSeats sight tables K gs hs n t.lanes.items t
+  pub none_seated : (n : ℕ) (t : Table W D S B X G) → t.runs.items ≡ [] → HaveSeats sight tables K gs hs n t.lanes.items t
   none_seated n t e = record { done = []; all_are = sym (append-nil t.lanes.items); set_up = subst (λ xs. BothFrom (IsSetUp sight tables K gs hs) n [] (reverse xs)) (sym e) tt }
 
-  pub all_seated : (lanes : List Lane) (t : Table W D S B G) → t.lanes.items ≡ [] → HaveSeats sight tables K gs hs 0 lanes t → BothFrom (IsSetUp sight tables K gs hs) 0 lanes (reverse t.runs.items)
+  pub all_seated : (lanes : List LaneOf) (t : Table W D S B X G) → t.lanes.items ≡ [] → HaveSeats sight tables K gs hs 0 lanes t → BothFrom (IsSetUp sight tables K gs hs) 0 lanes (reverse t.runs.items)
   all_seated lanes t e k = subst (λ xs. BothFrom (IsSetUp sight tables K gs hs) 0 xs (reverse t.runs.items)) (sym (k.all_are ∙ ap (λ xs. xs ++ k.done) e)) k.set_up
 
-  down_begin : (xs : List Lane) (rs : List (LaneRun W D S B G)) → Down (IsSetUp sight tables K gs hs) xs rs → All (Begins sight tables K) rs
+  down_begin : (xs : List LaneOf) (rs : List (LaneRun W D S B X G)) → Down (IsSetUp sight tables K gs hs) xs rs → All (Begins sight tables K) rs
   down_begin [] [] d = All-nil (Begins sight tables K)
   down_begin [] (r ∷ rs) d = absurd d
   down_begin (x ∷ xs) [] d = absurd d
   down_begin (x ∷ xs) (r ∷ rs) d = All-cons (Begins sight tables K) r rs d.0.begins (down_begin xs rs d.1)
 
-  pub all_begin : (lanes : List Lane) (rs : List (LaneRun W D S B G)) → BothFrom (IsSetUp sight tables K gs hs) 0 lanes (reverse rs) → All (Begins sight tables K) rs
+  pub all_begin : (lanes : List LaneOf) (rs : List (LaneRun W D S B X G)) → BothFrom (IsSetUp sight tables K gs hs) 0 lanes (reverse rs) → All (Begins sight tables K) rs
   all_begin lanes rs b = down_begin (reverse lanes) rs (down (IsSetUp sight tables K gs hs) (reverse lanes) rs (subst (λ xs. BothFrom (IsSetUp sight tables K gs hs) 0 xs (reverse rs)) (sym (reverse-reverse lanes)) b))
 
-module _ {W D S B : Type 0} {G : Ghosts B} where
-  pub no_ends : (rs : List (LaneRun W D S B G)) (xs : List Lane) → xs ≡ [] → AllZip (λ (r : LaneRun W D S B G) (x : Lane). IsEnd r.work r.came x) [] (reverse xs)
-  no_ends rs xs e = subst (λ ys. AllZip (λ (r : LaneRun W D S B G) (x : Lane). IsEnd r.work r.came x) [] (reverse ys)) (sym e) tt
+module _ {W D S B X : Type 0} {G : Ghosts B} where
+  pub no_ends : (rs : List (LaneRun W D S B X G)) (xs : List LaneOf) → xs ≡ [] → AllZip (λ (r : LaneRun W D S B X G) (x : LaneOf). IsEnd r.work r.came x) [] (reverse xs)
+  no_ends rs xs e = subst (λ ys. AllZip (λ (r : LaneRun W D S B X G) (x : LaneOf). IsEnd r.work r.came x) [] (reverse ys)) (sym e) tt
 
-  pub ends_are : (news gone : List (LaneRun W D S B G)) (xs : List Lane) → news ≡ gone → AllZip (λ (r : LaneRun W D S B G) (x : Lane). IsEnd r.work r.came x) gone xs → AllZip (λ (r : LaneRun W D S B G) (x : Lane). IsEnd r.work r.came x) news xs
-  ends_are news gone xs e z = subst (λ rs. AllZip (λ (r : LaneRun W D S B G) (x : Lane). IsEnd r.work r.came x) rs xs) (sym e) z
+  pub ends_are : (news gone : List (LaneRun W D S B X G)) (xs : List LaneOf) → news ≡ gone → AllZip (λ (r : LaneRun W D S B X G) (x : LaneOf). IsEnd r.work r.came x) gone xs → AllZip (λ (r : LaneRun W D S B X G) (x : LaneOf). IsEnd r.work r.came x) news xs
+  ends_are news gone xs e z = subst (λ rs. AllZip (λ (r : LaneRun W D S B X G) (x : LaneOf). IsEnd r.work r.came x) rs xs) (sym e) z

@@ -97,21 +97,21 @@ module _ {W S B : Type 0} {G : Ghosts B} where
   seats_many [] = refl
   seats_many (p ∷ ps) = let e = seats_many ps in omega (arith, e)
 
-module _ {W D S B : Type 0} {G : Ghosts B} where
-  pub over_last : (n : ℕ) (rs : List (LaneRun W D S B G)) (r : LaneRun W D S B G) → AllOver n (rs ++ r ∷ []) → AllOver n rs × IsOver n r
+module _ {W D S B X : Type 0} {G : Ghosts B} where
+  pub over_last : (n : ℕ) (rs : List (LaneRun W D S B X G)) (r : LaneRun W D S B X G) → AllOver n (rs ++ r ∷ []) → AllOver n rs × IsOver n r
   over_last n [] r k = (tt, k.0)
   over_last n (x ∷ rs) r k = let m = over_last n rs r k.1 in ((k.0, m.0), m.1)
 
-  of_at : (locks : List (Guarded (SharedShard S))) (xs : List (LaneRun W D S B G)) (r : LaneRun W D S B G) (ys : List (LaneRun W D S B G)) → AllOf locks (xs ++ r ∷ ys) → AreOf locks (shard_seats r)
+  of_at : (locks : List (Guarded (SharedShard S))) (xs : List (LaneRun W D S B X G)) (r : LaneRun W D S B X G) (ys : List (LaneRun W D S B X G)) → AllOf locks (xs ++ r ∷ ys) → AreOf locks (shard_seats r)
   of_at locks [] r ys k = k.0
   of_at locks (x ∷ xs) r ys k = of_at locks xs r ys k.1
 
-  keep_gave : (gone : List (LaneRun W D S B G)) (qs rs : List (Vec (Seat (SharedShard S)))) (ts : List (Seat (SharedShard S))) → PopsEach qs rs ts → AllGave gone rs → AllGave gone qs
+  keep_gave : (gone : List (LaneRun W D S B X G)) (qs rs : List (Vec (Seat (SharedShard S)))) (ts : List (Seat (SharedShard S))) → PopsEach qs rs ts → AllGave gone rs → AllGave gone qs
   keep_gave [] qs rs ts p k = tt
   keep_gave (r ∷ gone) qs rs ts p k = (keep_seats (shard_seats r) qs rs ts p k.0, keep_gave gone qs rs ts p k.1)
 
   -- a lane more is back
-  pub gathered_more : (locks : List (Guarded (SharedShard S))) (all : List (LaneRun W D S B G)) (t : Table W D S B G) (home : Seat (SharedLog D)) (u : Table W D S B G) → IsBack t home u → Gathered locks all t → Gathered locks all u
+  pub gathered_more : (locks : List (Guarded (SharedShard S))) (all : List (LaneRun W D S B X G)) (t : Table W D S B X G) (home : Seat (SharedLog D)) (u : Table W D S B X G) → IsBack t home u → Gathered locks all t → Gathered locks all u
   gathered_more locks all t home u b k =
       let are : all ≡ u.runs.items ++ b.run ∷ k.gone = k.all_are ∙ (ap (λ xs. xs ++ k.gone) b.runs ∙ append_assoc u.runs.items (b.run ∷ []) k.gone) in
       let one : length k.gone + 1 ≡ length (b.run ∷ k.gone) = omega arith in record {
@@ -124,10 +124,10 @@ module _ {W D S B : Type 0} {G : Ghosts B} where
       }
 
   -- and its seat of its coordinator
-  pub home_none : (t : Table W D S B G) (own : List (Seat (SharedLog D))) → own ≡ [] → AreHome 0 t own t
+  pub home_none : (t : Table W D S B X G) (own : List (Seat (SharedLog D))) → own ≡ [] → AreHome 0 t own t
   home_none t own e = record { gone = []; runs = sym (append-nil t.runs.items); many = refl; seats = ap reverse e }
 
-  pub home_more : (n : ℕ) (t : Table W D S B G) (own own' : List (Seat (SharedLog D))) (u v : Table W D S B G) (home : Seat (SharedLog D)) → AreHome n t own u → IsBack u home v → own' ≡ own ++ home ∷ [] → AreHome (n + 1) t own' v
+  pub home_more : (n : ℕ) (t : Table W D S B X G) (own own' : List (Seat (SharedLog D))) (u v : Table W D S B X G) (home : Seat (SharedLog D)) → AreHome n t own u → IsBack u home v → own' ≡ own ++ home ∷ [] → AreHome (n + 1) t own' v
   home_more n t own own' u v home k b e = record {
     gone = b.run ∷ k.gone;
     runs = k.runs ∙ (ap (λ xs. xs ++ k.gone) b.runs ∙ append_assoc v.runs.items (b.run ∷ []) k.gone);
@@ -136,20 +136,20 @@ module _ {W D S B : Type 0} {G : Ghosts B} where
   }
 
   -- lists of coordinators, from the first on
-  pub record HomesGone (n : ℕ) (t : Table W D S B G) (homes : List (Vec (Seat (SharedLog D)))) (u : Table W D S B G) : Type 0 where
-    pub gone : List (LaneRun W D S B G)
+  pub record HomesGone (n : ℕ) (t : Table W D S B X G) (homes : List (Vec (Seat (SharedLog D)))) (u : Table W D S B X G) : Type 0 where
+    pub gone : List (LaneRun W D S B X G)
     pub runs : t.runs.items ≡ u.runs.items ++ gone
     pub chunks : Chunks n (reverse homes) gone
 
-  pub homes_none : (n : ℕ) (t : Table W D S B G) (homes : List (Vec (Seat (SharedLog D)))) → homes ≡ [] → HomesGone n t homes t
-  homes_none n t homes e = record { gone = []; runs = sym (append-nil t.runs.items); chunks = let z : Chunks {W = W} {D = D} {S = S} {B = B} {G = G} n [] [] = refl in subst (λ xs. Chunks {W = W} {D = D} {S = S} {B = B} {G = G} n (reverse xs) []) (sym e) z }
+  pub homes_none : (n : ℕ) (t : Table W D S B X G) (homes : List (Vec (Seat (SharedLog D)))) → homes ≡ [] → HomesGone n t homes t
+  homes_none n t homes e = record { gone = []; runs = sym (append-nil t.runs.items); chunks = let z : Chunks {W = W} {D = D} {S = S} {B = B} {X = X} {G = G} n [] [] = refl in subst (λ xs. Chunks {W = W} {D = D} {S = S} {B = B} {X = X} {G = G} n (reverse xs) []) (sym e) z }
 
-  pub homes_more : (n : ℕ) (t : Table W D S B G) (homes homes' : List (Vec (Seat (SharedLog D)))) (own : Vec (Seat (SharedLog D))) (u v : Table W D S B G) → HomesGone n t homes u → AreHome n u own.items v → homes' ≡ homes ++ own ∷ [] → HomesGone n t homes' v
+  pub homes_more : (n : ℕ) (t : Table W D S B X G) (homes homes' : List (Vec (Seat (SharedLog D)))) (own : Vec (Seat (SharedLog D))) (u v : Table W D S B X G) → HomesGone n t homes u → AreHome n u own.items v → homes' ≡ homes ++ own ∷ [] → HomesGone n t homes' v
   homes_more n t homes homes' own u v k h e = record {
     gone = h.gone ++ k.gone;
     runs = k.runs ∙ (ap (λ xs. xs ++ k.gone) h.runs ∙ append_assoc v.runs.items h.gone k.gone);
     chunks = subst (λ xs. Chunks n xs (h.gone ++ k.gone)) (sym (last_first homes homes' own e)) (h.gone, k.gone, refl, h.many, h.seats, k.chunks);
   }
 
-  pub homes_all : (n : ℕ) (t : Table W D S B G) (homes : List (Vec (Seat (SharedLog D)))) (u : Table W D S B G) → HomesGone n t homes u → u.runs.items ≡ [] → Chunks n (reverse homes) t.runs.items
+  pub homes_all : (n : ℕ) (t : Table W D S B X G) (homes : List (Vec (Seat (SharedLog D)))) (u : Table W D S B X G) → HomesGone n t homes u → u.runs.items ≡ [] → Chunks n (reverse homes) t.runs.items
   homes_all n t homes u k e = subst (Chunks n (reverse homes)) (sym (k.runs ∙ ap (λ xs. xs ++ k.gone) e)) k.chunks

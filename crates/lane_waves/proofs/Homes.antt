@@ -84,37 +84,37 @@ module _ {D : Type 0} (n : ℕ) (tables : ℕ → TableId) where
         homes_ready some lanes (suc k) gs homes (let z = e in omega (arith, z)) m h.1 t.1 l.1,
       )
 
-module _ {W D S B : Type 0} {G : Ghosts B} (n : ℕ) (some : 0 < n) where
+module _ {W D S B X : Type 0} {G : Ghosts B} (n : ℕ) (some : 0 < n) where
   -- each run's seat of its coordinator is in the list of that
-  abbrev pub HomesHold : List (Vec (Seat (SharedLog D))) → List (LaneRun W D S B G) → Type 0
+  abbrev pub HomesHold : List (Vec (Seat (SharedLog D))) → List (LaneRun W D S B X G) → Type 0
   HomesHold owns [] = Unit {0}
   HomesHold owns (q ∷ qs) = IsSeat (home_seat q) (down_at owns (length qs / n)) × HomesHold owns qs
 
-  abbrev EachIn : List (Seat (SharedLog D)) → List (LaneRun W D S B G) → Type 0
+  abbrev EachIn : List (Seat (SharedLog D)) → List (LaneRun W D S B X G) → Type 0
   EachIn zs [] = Unit {0}
   EachIn zs (q ∷ qs) = IsSeat (home_seat q) zs × EachIn zs qs
 
-  each_more : (z : Seat (SharedLog D)) (zs : List (Seat (SharedLog D))) (qs : List (LaneRun W D S B G)) → EachIn zs qs → EachIn (z ∷ zs) qs
+  each_more : (z : Seat (SharedLog D)) (zs : List (Seat (SharedLog D))) (qs : List (LaneRun W D S B X G)) → EachIn zs qs → EachIn (z ∷ zs) qs
   each_more z zs [] k = tt
   each_more z zs (q ∷ qs) k = (inr k.0, each_more z zs qs k.1)
 
-  each_self : (qs : List (LaneRun W D S B G)) → EachIn (map home_seat qs) qs
+  each_self : (qs : List (LaneRun W D S B X G)) → EachIn (map home_seat qs) qs
   each_self [] = tt
   each_self (q ∷ qs) = (inl refl, each_more (home_seat q) (map home_seat qs) qs (each_self qs))
 
-  each_turned : (zs : List (Seat (SharedLog D))) (qs : List (LaneRun W D S B G)) → EachIn zs qs → EachIn (reverse zs) qs
+  each_turned : (zs : List (Seat (SharedLog D))) (qs : List (LaneRun W D S B X G)) → EachIn zs qs → EachIn (reverse zs) qs
   each_turned zs [] k = tt
   each_turned zs (q ∷ qs) k = (turned_seat (home_seat q) zs k.0, each_turned zs qs k.1)
 
   -- those behind are in the lists behind
-  older : (own : Vec (Seat (SharedLog D))) (owns : List (Vec (Seat (SharedLog D)))) (qs : List (LaneRun W D S B G)) → length qs ≤ length owns * n → HomesHold owns qs → HomesHold (own ∷ owns) qs
+  older : (own : Vec (Seat (SharedLog D))) (owns : List (Vec (Seat (SharedLog D)))) (qs : List (LaneRun W D S B X G)) → length qs ≤ length owns * n → HomesHold owns qs → HomesHold (own ∷ owns) qs
   older own owns [] le k = tt
   older own owns (q ∷ qs) le k =
       let low : length qs / n < length owns = div_below (length qs) n (length owns) some (omega (arith, le)) in
       let t : (length qs / n == length owns) ≡ false = grind (arith, low) in
       (subst (λ b. IsSeat (home_seat q) (if b then own.items else down_at owns (length qs / n))) (sym t) k.0, older own owns qs (omega (arith, le)) k.1)
 
-  chunk_hold : (own : Vec (Seat (SharedLog D))) (owns : List (Vec (Seat (SharedLog D)))) (cs rest : List (LaneRun W D S B G)) → length cs ≤ n → length rest ≡ length owns * n → EachIn own.items cs → HomesHold owns rest → HomesHold (own ∷ owns) (cs ++ rest)
+  chunk_hold : (own : Vec (Seat (SharedLog D))) (owns : List (Vec (Seat (SharedLog D)))) (cs rest : List (LaneRun W D S B X G)) → length cs ≤ n → length rest ≡ length owns * n → EachIn own.items cs → HomesHold owns rest → HomesHold (own ∷ owns) (cs ++ rest)
   chunk_hold own owns [] rest le many k h = older own owns rest (omega (arith, many)) h
   chunk_hold own owns (c ∷ cs) rest le many k h =
       let both : length (cs ++ rest) ≡ length cs + length rest = grind (arith, common_steps) in
@@ -123,27 +123,27 @@ module _ {W D S B : Type 0} {G : Ghosts B} (n : ℕ) (some : 0 < n) where
       let t : (length (cs ++ rest) / n == length owns) ≡ true = grind (arith, home) in
       (subst (λ b. IsSeat (home_seat c) (if b then own.items else down_at owns (length (cs ++ rest) / n))) (sym t) k.0, chunk_hold own owns cs rest (omega (arith, le)) many k.1 h)
 
-  own_holds : (own : Vec (Seat (SharedLog D))) (cs : List (LaneRun W D S B G)) → reverse own.items ≡ map home_seat cs → EachIn own.items cs
+  own_holds : (own : Vec (Seat (SharedLog D))) (cs : List (LaneRun W D S B X G)) → reverse own.items ≡ map home_seat cs → EachIn own.items cs
   own_holds own cs e = subst (λ zs. EachIn zs cs) (ap reverse (sym e) ∙ reverse-reverse own.items) (each_turned (map home_seat cs) cs (each_self cs))
 
-  pub homes_hold : (owns : List (Vec (Seat (SharedLog D)))) (qs : List (LaneRun W D S B G)) → Chunks n owns qs → HomesHold owns qs × (length qs ≡ length owns * n)
-  homes_hold [] qs e = (subst (HomesHold []) (sym e) tt, ap (λ (zs : List (LaneRun W D S B G)). length zs) e ∙ sym (zero_row n))
+  pub homes_hold : (owns : List (Vec (Seat (SharedLog D)))) (qs : List (LaneRun W D S B X G)) → Chunks n owns qs → HomesHold owns qs × (length qs ≡ length owns * n)
+  homes_hold [] qs e = (subst (HomesHold []) (sym e) tt, ap (λ (zs : List (LaneRun W D S B X G)). length zs) e ∙ sym (zero_row n))
   homes_hold (own ∷ owns) qs (chunk, rest, is, many, seats, more) =
       let m = homes_hold owns rest more in
       let both : length (chunk ++ rest) ≡ length chunk + length rest = grind (arith, common_steps) in
       let a = m.1 in
       let wider : length (own ∷ owns) * n ≡ length owns * n + n = grind (arith, common_steps) in (
         subst (HomesHold (own ∷ owns)) (sym is) (chunk_hold own owns chunk rest (omega (arith, many)) a (own_holds own chunk seats) m.0),
-        ap (λ (zs : List (LaneRun W D S B G)). length zs) is ∙ omega (arith, both, many, a, wider),
+        ap (λ (zs : List (LaneRun W D S B X G)). length zs) is ∙ omega (arith, both, many, a, wider),
       )
 
   module _ (tables : ℕ → TableId) where
     -- each run's seat of its coordinator is of the lock that the wave picks
-    abbrev pub SeatsAt : List (LaneRun W D S B G) → Type 0
+    abbrev pub SeatsAt : List (LaneRun W D S B X G) → Type 0
     SeatsAt [] = Unit {0}
     SeatsAt (q ∷ qs) = ((home_seat q).token.table_id ≡ tables (length qs / n)) × SeatsAt qs
 
-    chunk_at : (c : ℕ) (cs rest : List (LaneRun W D S B G)) → length cs ≤ n → length rest ≡ c * n → SeatsAt (cs ++ rest) → AllAt (tables c) (map home_seat cs) × SeatsAt rest
+    chunk_at : (c : ℕ) (cs rest : List (LaneRun W D S B X G)) → length cs ≤ n → length rest ≡ c * n → SeatsAt (cs ++ rest) → AllAt (tables c) (map home_seat cs) × SeatsAt rest
     chunk_at c [] rest le many k = (tt, k)
     chunk_at c (q ∷ cs) rest le many k =
         let both : length (cs ++ rest) ≡ length cs + length rest = grind (arith, common_steps) in
@@ -152,11 +152,11 @@ module _ {W D S B : Type 0} {G : Ghosts B} (n : ℕ) (some : 0 < n) where
         let m = chunk_at c cs rest (omega (arith, le)) many k.1 in
         ((k.0 ∙ ap tables home, m.0), m.1)
 
-    map_many : (cs : List (LaneRun W D S B G)) → length (map home_seat cs) ≡ length cs
+    map_many : (cs : List (LaneRun W D S B X G)) → length (map home_seat cs) ≡ length cs
     map_many [] = refl
     map_many (q ∷ cs) = let e = map_many cs in omega (arith, e)
 
-    pub homes_at : (owns : List (Vec (Seat (SharedLog D)))) (qs : List (LaneRun W D S B G)) → Chunks n owns qs → SeatsAt qs → HomesAt n tables owns
+    pub homes_at : (owns : List (Vec (Seat (SharedLog D)))) (qs : List (LaneRun W D S B X G)) → Chunks n owns qs → SeatsAt qs → HomesAt n tables owns
     homes_at [] qs e k = tt
     homes_at (own ∷ owns) qs (chunk, rest, is, many, seats, more) k =
         let m = chunk_at (length owns) chunk rest (omega (arith, many)) (homes_hold owns rest more).1 (subst SeatsAt is k) in

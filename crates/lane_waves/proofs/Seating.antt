@@ -9,7 +9,7 @@ use Rattle.cbdc_model.specs.Ranges.{home_of, shard_node}
 use Rattle.cbdc_model.specs.Sights.{Sight}
 use Rattle.lane_driver.specs.Told.{IsLane}
 use Rattle.lane_driver.specs.Stops.{IsSettled}
-use Rattle.ledger_runs.specs.declared.lanes.Lane.{Lane}
+use Rattle.ledger_runs.specs.Lanes.{LaneOf}
 use Rattle.node_lock.specs.declared.lock.Guarded.{Guarded}
 use Rattle.node_lock.specs.declared.seat.Seat.{Seat}
 use Rattle.node_lock.specs.declared.views.Hand.{Hand}
@@ -120,8 +120,8 @@ module _ {W S B : Type 0} {G : Ghosts B} (sight : S → Sight) where
       (ap table_of a.0.guarded ∙ (sym t.0 ∙ ap tables (sym (ap (λ (v : Sight). v.header.node) seen ∙ o.0.node))))
       (ports_picked tables K lane (suc k) hs ss ps d.1 a.1 t.1 o.1)
 
-module _ {W D S B : Type 0} {G : Ghosts B} (sight : S → Sight) (tables : ℕ → TableId) (K : Shape) (gs : List (Guarded (SharedLog D))) (hs : List (Guarded (SharedShard S))) (open_ : AreOpen sight tables K gs hs) where
-  pub set_up : (home j : ℕ) (g : Guarded (SharedLog D)) (p : LogSeat W D B G) (r : LaneRun W D S B G) (ss : List (Seat (SharedShard S))) → j < K.lanes → slice_get gs home ≡ Some g
+module _ {W D S B X : Type 0} {G : Ghosts B} (sight : S → Sight) (tables : ℕ → TableId) (K : Shape) (gs : List (Guarded (SharedLog D))) (hs : List (Guarded (SharedShard S))) (open_ : AreOpen sight tables K gs hs) where
+  pub set_up : (home j : ℕ) (g : Guarded (SharedLog D)) (p : LogSeat W D B G) (r : LaneRun W D S B X G) (ss : List (Seat (SharedShard S))) → j < K.lanes → slice_get gs home ≡ Some g
       → p.guarded.now ≡ g → p.node ≡ home → knows p.seat ≡ fresh (log_sight (opening_of g)) (home * K.lanes + j) → r.lane ≡ home * K.lanes + j → r.ports.log ≡ p
       → AreDealt (shard_sight sight) (home * K.lanes + j) hs ss → ArePorts hs ss r.ports.shards.each.ports.items → MayRun r.work
       → IsSetUp sight tables K gs hs (home * K.lanes + j) r.work r
@@ -174,7 +174,7 @@ module _ {W D S B : Type 0} {G : Ghosts B} (sight : S → Sight) (tables : ℕ �
       }
 
   -- one lane more has its seats
-  pub seats_more : (n : ℕ) (all : List Lane) (home : LogSeat W D B G) (t u : Table W D S B G) (next : IsNext sight hs home t u) → IsSetUp sight tables K gs hs n next.run.work next.run
+  pub seats_more : (n : ℕ) (all : List LaneOf) (home : LogSeat W D B G) (t u : Table W D S B X G) (next : IsNext sight hs home t u) → IsSetUp sight tables K gs hs n next.run.work next.run
       → HaveSeats sight tables K gs hs (suc n) all t → HaveSeats sight tables K gs hs n all u
   seats_more n all home t u next up k = record {
     done = next.run.work ∷ k.done;

@@ -7,7 +7,7 @@ use Rattle.std.proofs.lemmas.List.{length-reverse, reverse-reverse}
 use Rattle.std.proofs.lemmas.Nat.{mul-le}
 use Rattle.cbdc_model.specs.Records.{Shape}
 use Rattle.cbdc_model.specs.Sights.{Sight}
-use Rattle.ledger_runs.specs.declared.lanes.Lane.{Lane}
+use Rattle.ledger_runs.specs.Lanes.{LaneOf}
 use Rattle.node_lock.specs.declared.lock.Guarded.{Guarded}
 use Rattle.node_lock.specs.declared.seat.Seat.{Seat}
 use Rattle.node_lock.specs.Seats.{TableId}
@@ -36,23 +36,23 @@ use Rattle.lane_waves.proofs.Giving.{none_back, holds_take}
 use Rattle.lane_waves.proofs.Homes.{HomeAt, homes_hold, homes_at, homes_up, homes_ready, hands_down}
 use Rattle.lane_waves.proofs.Ending.{Runs, runs_of, zip_many, all_over, all_of, no_ends, all_seated, seats_at, ends_are, lanes_ran}
 
-module _ {W D S B : Type 0} {G : Ghosts B} (sight : S → Sight) (tables : ℕ → TableId) (K : Shape) (gs : List (Guarded (SharedLog D))) (hs : List (Guarded (SharedShard S))) (open_ : AreOpen sight tables K gs hs) where
+module _ {W D S B X : Type 0} {G : Ghosts B} (sight : S → Sight) (tables : ℕ → TableId) (K : Shape) (gs : List (Guarded (SharedLog D))) (hs : List (Guarded (SharedShard S))) (open_ : AreOpen sight tables K gs hs) where
   -- each coordinator has all its seats
-  homes_back : (lanes : List Lane) (rs qs : List (LaneRun W D S B G)) (homes : List (Vec (Seat (SharedLog D)))) → Runs sight tables K gs hs (reverse lanes) rs qs → Chunks K.lanes (reverse homes) qs → AllFrom (HomeAt K.lanes tables) 0 homes
+  homes_back : (lanes : List LaneOf) (rs qs : List (LaneRun W D S B X G)) (homes : List (Vec (Seat (SharedLog D)))) → Runs sight tables K gs hs (reverse lanes) rs qs → Chunks K.lanes (reverse homes) qs → AllFrom (HomeAt K.lanes tables) 0 homes
   homes_back lanes rs qs homes runs chunks =
       let some = open_.limits.some_lane in
       let seats = seats_at sight tables K gs hs open_ (reverse lanes) rs qs some runs in
       subst (AllFrom (HomeAt K.lanes tables) 0) (reverse-reverse homes) (homes_up K.lanes tables (reverse homes) (homes_at K.lanes some tables (reverse homes) qs chunks seats))
 
   -- the lanes of a table have run, and may give back their seats
-  pub record HaveRun (lanes : List Lane) (t u : Table W D S B G) : Type 0 where
+  pub record HaveRun (lanes : List LaneOf) (t u : Table W D S B X G) : Type 0 where
     pub both : BothFrom (IsSetUp sight tables K gs hs) 0 lanes (reverse t.runs.items)
     pub ends : AllZip (Ends sight tables K) t.runs.items u.runs.items
     pub many : length u.runs.items ≡ K.coordinators * K.lanes
     pub room : MayGather u
     pub begun : Gathered hs u.runs.items u
 
-  run_to_end : (lanes : List Lane) (t : Table W D S B G) (qs : Vec (LaneRun W D S B G)) → IsWaiting sight hs 0 t → HaveSeats sight tables K gs hs 0 lanes t → length lanes ≡ K.coordinators * K.lanes
+  run_to_end : (lanes : List LaneOf) (t : Table W D S B X G) (qs : Vec (LaneRun W D S B X G)) → IsWaiting sight hs 0 t → HaveSeats sight tables K gs hs 0 lanes t → length lanes ≡ K.coordinators * K.lanes
       → AllZip (Ends sight tables K) t.runs.items qs.items → HaveRun lanes t (record t { runs = qs })
   run_to_end lanes t qs waiting seats lanes_many ends =
       let none = none_long t.lanes.items waiting.room.lanes_many in
@@ -85,15 +85,15 @@ module _ {W D S B : Type 0} {G : Ghosts B} (sight : S → Sight) (tables : ℕ �
         };
       }
 
-  pub have_run : (lanes : List Lane) (t u : Table W D S B G) → IsWaiting sight hs 0 t → HaveSeats sight tables K gs hs 0 lanes t → length lanes ≡ K.coordinators * K.lanes
+  pub have_run : (lanes : List LaneOf) (t u : Table W D S B X G) → IsWaiting sight hs 0 t → HaveSeats sight tables K gs hs 0 lanes t → length lanes ≡ K.coordinators * K.lanes
       → AreRun sight tables K t u → HaveRun lanes t u
   have_run lanes t u waiting seats lanes_many ran = subst (HaveRun lanes t) (sym ran.rest) (run_to_end lanes t ran.runs waiting seats lanes_many ran.ends)
 
   -- the runs that are gone from the list are all
-  all_gone : (news : List (LaneRun W D S B G)) (u : Table W D S B G) → u.runs.items ≡ [] → (k : Gathered hs news u) → news ≡ k.gone
+  all_gone : (news : List (LaneRun W D S B X G)) (u : Table W D S B X G) → u.runs.items ≡ [] → (k : Gathered hs news u) → news ≡ k.gone
   all_gone news u none k = k.all_are ∙ ap (λ xs. xs ++ k.gone) none
 
-  pub all_through : (lanes : List Lane) (t u v : Table W D S B G) (homes : List (Vec (Seat (SharedLog D)))) → HaveRun lanes t u → Gathered hs u.runs.items v → v.runs.items ≡ [] → Chunks K.lanes (reverse homes) u.runs.items
+  pub all_through : (lanes : List LaneOf) (t u v : Table W D S B X G) (homes : List (Vec (Seat (SharedLog D)))) → HaveRun lanes t u → Gathered hs u.runs.items v → v.runs.items ≡ [] → Chunks K.lanes (reverse homes) u.runs.items
       → length homes ≡ length gs → length lanes ≡ K.coordinators * K.lanes → AreThrough sight K gs hs homes v.rows.items lanes v.lanes.items
   all_through lanes t u v homes h back none chunks homes_many lanes_many =
       let some = open_.limits.some_lane in
@@ -103,7 +103,7 @@ module _ {W D S B : Type 0} {G : Ghosts B} (sight : S → Sight) (tables : ℕ �
       let qs = u.runs.items in
       let runs = runs_of sight tables K gs hs lanes t.runs.items qs h.both h.ends in
       let gone = all_gone qs v none back in
-      let gone_many : length back.gone ≡ n = sym (ap (λ (xs : List (LaneRun W D S B G)). length xs) gone) ∙ h.many in
+      let gone_many : length back.gone ≡ n = sym (ap (λ (xs : List (LaneRun W D S B X G)). length xs) gone) ∙ h.many in
       let ran = lanes_ran sight tables K gs hs open_ lanes v.lanes.items t.runs.items qs (reverse homes) homes v.rows.items some
       (λ c. ap (λ (xs : List (Vec (Seat (SharedLog D)))). hands_at xs c) (sym (reverse-reverse homes)) ∙ hands_down (reverse homes) c) runs
       (ends_are qs back.gone (reverse v.lanes.items) gone back.lanes) (homes_hold K.lanes some (reverse homes) qs chunks).0 (subst (λ xs. AllGave xs v.rows.items) (sym gone) back.gave) in
@@ -115,7 +115,7 @@ module _ {W D S B : Type 0} {G : Ghosts B} (sight : S → Sight) (tables : ℕ �
       }
 
 -- before the dealing all lanes of a wave wait for their seats
-pub lanes_wait : {W D S B : Type 0} {G : Ghosts B} (sight : S → Sight) (K : Shape) (hs : List (Guarded (SharedShard S))) (rows : Vec (Vec (Seat (SharedShard S)))) (lanes : Vec Lane) (room : LaneRoom W D S B G)
+pub lanes_wait : {W D S B X : Type 0} {G : Ghosts B} (sight : S → Sight) (K : Shape) (hs : List (Guarded (SharedShard S))) (rows : Vec (Vec (Seat (SharedShard S)))) (lanes : Vec LaneOf) (room : LaneRoom W D S B X G)
     → length hs ≡ K.shards → AreLeft (shard_sight sight) (all_lanes K) hs rows.items → All MayRun lanes.items → length lanes.items ≡ K.coordinators * K.lanes → IsLaneRoom K room
     → IsWaiting sight hs (K.coordinators * K.lanes) (record { rows = rows; spare = room.spare; seats = room.seats; rooms = room.rooms; lanes = lanes; runs = room.runs })
 lanes_wait sight K hs rows lanes room shards_many left may lanes_many k =

@@ -5,7 +5,7 @@ use Rattle.cbdc_model.specs.Records.{Shape}
 use Rattle.cbdc_model.specs.Ranges.{home_of}
 use Rattle.cbdc_model.specs.Sights.{Sight}
 use Rattle.lane_driver.specs.Stops.{IsSettled}
-use Rattle.ledger_runs.specs.declared.lanes.Lane.{Lane}
+use Rattle.ledger_runs.specs.Lanes.{LaneOf}
 use Rattle.node_lock.specs.declared.views.Hand.{Hand}
 use Rattle.node_lock.specs.Tickets.{times, total, lane_at, fresh, AllHands}
 use Rattle.node_ports.specs.Nodes.{no_node}
@@ -71,7 +71,7 @@ still_ran first last ls apart still = record {
 }
 
 -- a lane that was not run
-pub unrun : (K : Shape) (logs shards : ℕ → Sight) (log_hands shard_hands : ℕ → List Hand) (lane : ℕ) (x y : Lane)
+pub unrun : (K : Shape) (logs shards : ℕ → Sight) (log_hands shard_hands : ℕ → List Hand) (lane : ℕ) (x y : LaneOf)
     → IsSettled K lane (logs (home_of K lane)) shards → IsHand (fresh (logs (home_of K lane)) lane) (log_hands (home_of K lane)) → ((s : ℕ) → s < K.shards → IsHand (fresh (shards s) lane) (shard_hands s))
     → ((s : ℕ) → K.shards ≤ s → shards s ≡ no_node) → y.txs ≡ x.txs → HasNoMemory y → LaneRan K logs shards log_hands shard_hands lane x y
 unrun K logs shards log_hands shard_hands lane x y settled at_home at_shards past txs stopped = record {
@@ -83,19 +83,19 @@ unrun K logs shards log_hands shard_hands lane x y settled at_home at_shards pas
   at_log = record { now = fresh (logs (home_of K lane)) lane; among = at_home; of_lane = refl; was = refl; is = refl; later = omega arith };
   at_shard = λ s lt. record { now = fresh (shards s) lane; among = at_shards s lt; of_lane = refl; was = refl; is = refl; later = omega arith };
   beyond = λ s le. (ap (λ (v : Sight). v.seen) (past s le), refl, ap (λ (v : Sight). v.seen) (past s le));
-  txs = ap (λ v. v.items) txs;
+  txs = txs;
   ended = inr (no_memory, (λ k t. inl (refl, refl, refl)), ((λ none. let z : None ≡ Some no_memory = sym none ∙ stopped in cc), λ old. stopped));
 }
 
 -- lanes with the same transactions
-pub same_txs : (xs ys : List Lane) (n : ℕ) (x y : Lane) → map (λ (z : Lane). z.txs) ys ≡ map (λ (z : Lane). z.txs) xs → slice_get xs n ≡ Some x → slice_get ys n ≡ Some y → y.txs ≡ x.txs
+pub same_txs : (xs ys : List LaneOf) (n : ℕ) (x y : LaneOf) → map (λ (z : LaneOf). z.txs) ys ≡ map (λ (z : LaneOf). z.txs) xs → slice_get xs n ≡ Some x → slice_get ys n ≡ Some y → y.txs ≡ x.txs
 same_txs [] ys n x y e f h = absurd (let z : None ≡ Some x = f in cc)
 same_txs (v ∷ xs) [] n x y e f h = absurd (let z : None ≡ Some y = h in cc)
 same_txs (v ∷ xs) (w ∷ ys) zero x y e f h =
     let a : v ≡ x = let z : Some v ≡ Some x = f in cc in
     let b : w ≡ y = let z : Some w ≡ Some y = h in cc in
-    let c : w.txs ≡ v.txs = let z : w.txs ∷ map (λ (u : Lane). u.txs) ys ≡ v.txs ∷ map (λ (u : Lane). u.txs) xs = e in cc in
-    sym (ap (λ (z : Lane). z.txs) b) ∙ (c ∙ ap (λ (z : Lane). z.txs) a)
+    let c : w.txs ≡ v.txs = let z : w.txs ∷ map (λ (u : LaneOf). u.txs) ys ≡ v.txs ∷ map (λ (u : LaneOf). u.txs) xs = e in cc in
+    sym (ap (λ (z : LaneOf). z.txs) b) ∙ (c ∙ ap (λ (z : LaneOf). z.txs) a)
 same_txs (v ∷ xs) (w ∷ ys) (suc n) x y e f h =
-    let c : map (λ (u : Lane). u.txs) ys ≡ map (λ (u : Lane). u.txs) xs = let z : w.txs ∷ map (λ (u : Lane). u.txs) ys ≡ v.txs ∷ map (λ (u : Lane). u.txs) xs = e in cc in
+    let c : map (λ (u : LaneOf). u.txs) ys ≡ map (λ (u : LaneOf). u.txs) xs = let z : w.txs ∷ map (λ (u : LaneOf). u.txs) ys ≡ v.txs ∷ map (λ (u : LaneOf). u.txs) xs = e in cc in
     same_txs xs ys n x y c f h

@@ -6,7 +6,7 @@ use Rattle.std.proofs.lemmas.Nat.{mul-le, div_below, mod_below, div-add-mod'}
 use Rattle.cbdc_model.specs.Records.{Shape}
 use Rattle.cbdc_model.specs.Ranges.{home_of}
 use Rattle.cbdc_model.specs.Sights.{Sight}
-use Rattle.ledger_runs.specs.declared.lanes.Lane.{Lane}
+use Rattle.ledger_runs.specs.Lanes.{LaneOf}
 use Rattle.node_lock.specs.declared.lock.Guarded.{Guarded}
 use Rattle.node_lock.specs.declared.seat.Seat.{Seat}
 use Rattle.node_lock.specs.Seats.{TableId, AreFresh, opening_of, table_of, lanes_of}
@@ -109,9 +109,9 @@ module _ {D S : Type 0} (sight : S → Sight) (tables : ℕ → TableId) (K : Sh
       subst (IsHand (fresh first lane)) (sym known) (subst (λ l. IsHand (fresh first l) (map (fresh first) (all_lanes K))) none (fresh_hand first 0 (K.coordinators * K.lanes) lane lt))
 
   -- no lane ran, and all seats are as they were
-  pub not_run : (homes : List (Vec (Seat (SharedLog D)))) (rows : List (Vec (Seat (SharedShard S)))) (lanes lanes' : List Lane)
+  pub not_run : (homes : List (Vec (Seat (SharedLog D)))) (rows : List (Vec (Seat (SharedShard S)))) (lanes lanes' : List LaneOf)
       → AllFrom (IsHomeFresh K gs) 0 homes → length homes ≡ K.coordinators → AreLeft (shard_sight sight) (all_lanes K) hs rows → length lanes ≡ K.coordinators * K.lanes
-      → map (λ (x : Lane). x.txs) lanes' ≡ map (λ (x : Lane). x.txs) lanes → All HasNoMemory lanes' → AreThrough sight K gs hs homes rows lanes lanes'
+      → map (λ (x : LaneOf). x.txs) lanes' ≡ map (λ (x : LaneOf). x.txs) lanes → All HasNoMemory lanes' → AreThrough sight K gs hs homes rows lanes lanes'
   not_run homes rows lanes lanes' a homes_many left lanes_many same stopped =
       let one = mul-le 1 1 K.coordinators K.lanes open_.limits.some_coordinator open_.limits.some_lane in
       let all = many_lanes 0 (K.coordinators * K.lanes) in
@@ -119,7 +119,7 @@ module _ {D S : Type 0} (sight : S → Sight) (tables : ℕ → TableId) (K : Sh
         homes_ready = fresh_ready log_sight (home_lanes K) 0 gs homes (homes_many ∙ sym open_.logs_many)
             (λ i. subst (λ n. 0 < n) (sym (many_lanes (i * K.lanes) K.lanes)) open_.limits.some_lane) open_.log_lanes (homes_so homes a);
         rows_ready = left_ready (shard_sight sight) (all_lanes K) 0 hs rows (omega (arith, one, all)) open_.shard_lanes left;
-        many = sym (map_many (λ (x : Lane). x.txs) lanes') ∙ (ap (λ (xs : List _). length xs) same ∙ map_many (λ (x : Lane). x.txs) lanes);
+        many = sym (map_many (λ (x : LaneOf). x.txs) lanes') ∙ (ap (λ (xs : List _). length xs) same ∙ map_many (λ (x : LaneOf). x.txs) lanes);
         lanes_ran = λ lane x y e f.
             let lt : lane < K.coordinators * K.lanes = subst (λ n. lane < n) lanes_many (get_within lanes lane x e) in
             unrun K (log_at gs) (shard_at sight hs) (hands_at homes) (hands_at rows) lane x y (open_.settled lane lt) (home_hand homes lane homes_many a lt)

@@ -11,7 +11,7 @@ use Rattle.cbdc_model.specs.Ranges.{home_of}
 use Rattle.cbdc_model.specs.Sights.{Sight}
 use Rattle.lane_driver.specs.Stops.{IsSettled}
 use Rattle.ledger_runs.specs.Turning.{IsLaneOf}
-use Rattle.ledger_runs.specs.declared.lanes.Lane.{Lane}
+use Rattle.ledger_runs.specs.Lanes.{LaneOf}
 use Rattle.node_lock.specs.declared.lock.Guarded.{Guarded}
 use Rattle.node_lock.specs.declared.seat.Seat.{Seat}
 use Rattle.node_lock.specs.Seats.{opening_of}
@@ -85,7 +85,7 @@ home_drawn K n l lt some =
 all_drawn : (K : Shape) (l : ℕ) → 0 < times l (all_lanes K) → IsLaneOf K l
 all_drawn K l some = let m = inside l 0 (K.coordinators * K.lanes) some in let high = m.1 in omega (arith, high)
 
-pub same_many : (old new : List Lane) → map (λ z. z.txs) new ≡ map (λ z. z.txs) old → length new ≡ length old
+pub same_many : (old new : List LaneOf) → map (λ z. z.txs) new ≡ map (λ z. z.txs) old → length new ≡ length old
 same_many old new m = sym (map_many (λ z. z.txs) new) ∙ (ap (λ (xs : List _). length xs) m ∙ map_many (λ z. z.txs) old)
 
 -- a place is in its row
@@ -111,7 +111,7 @@ at_shard : (K : Shape) (first : Sight) (lane : ℕ) → lane < K.coordinators * 
 at_shard K first lane lt = let is : 0 + lane ≡ lane = omega arith in subst (λ l. IsHand (fresh first l) (map (fresh first) (all_lanes K))) is (fresh_hand first 0 (K.coordinators * K.lanes) lane lt)
 
 -- nodes that were asked nothing, and lanes that have stopped for want of memory
-pub unrun_wave : (K : Shape) (logs shards logs' shards' : ℕ → Sight) (old new : List Lane) → IsWithinLimits K → ((n : ℕ) → n < K.coordinators → IsStillSight (logs n) (logs' n)) → ((s : ℕ) → s < K.shards → IsStillSight (shards s) (shards' s))
+pub unrun_wave : (K : Shape) (logs shards logs' shards' : ℕ → Sight) (old new : List LaneOf) → IsWithinLimits K → ((n : ℕ) → n < K.coordinators → IsStillSight (logs n) (logs' n)) → ((s : ℕ) → s < K.shards → IsStillSight (shards s) (shards' s))
     → ((s : ℕ) → K.shards ≤ s → shards s ≡ no_node) → ((lane : ℕ) → lane < K.coordinators * K.lanes → IsSettled K lane (logs (home_of K lane)) shards) → length old ≡ K.coordinators * K.lanes
     → map (λ z. z.txs) new ≡ map (λ z. z.txs) old → All HasNoMemory new → WaveRan K logs shards logs' shards' old new
 unrun_wave K logs shards logs' shards' old new limits still_logs still_shards past settled many same stopped = record {
@@ -139,7 +139,7 @@ still_itself s = record { same = record { header = refl; opened = refl; capacity
 -- nodes whose locks were made and closed, and lanes that ran at their seats
 module _ {D S : Type 0} (sight : S → Sight) (log_goes : SharedLog D → SharedLog D → Type 0) (shard_goes : SharedShard S → SharedShard S → Type 0) (K : Shape) where
   pub ran_wave : (ns ns' : List (SharedLog D)) (ms ms' : List (SharedShard S)) (home_rows shard_rows : List (Vec ℕ)) (gs : List (Guarded (SharedLog D))) (hs : List (Guarded (SharedShard S)))
-      (homes homes' : List (Vec (Seat (SharedLog D)))) (rows rows' : List (Vec (Seat (SharedShard S)))) (old new : List Lane)
+      (homes homes' : List (Vec (Seat (SharedLog D)))) (rows rows' : List (Vec (Seat (SharedShard S)))) (old new : List LaneOf)
       → length ns ≡ K.coordinators → length ms ≡ K.shards → AllFrom (IsHomeRow K) 0 home_rows → length home_rows ≡ K.coordinators → AllFrom (IsShardRow K) 0 shard_rows → length shard_rows ≡ K.shards
       → AreLocked log_sight ns home_rows gs homes → AreLocked (shard_sight sight) ms shard_rows hs rows → AreClosed log_sight log_goes gs homes' ns' → AreClosed (shard_sight sight) shard_goes hs rows' ms'
       → AreThrough sight K gs hs homes' rows' old new
@@ -174,21 +174,21 @@ module _ {M N : Type 0} (f : M → N) where
   all_map P (x ∷ xs) a = All-cons (λ x. P (f x)) x xs (All-head P (f x) (map f xs) a) (all_map P xs (All-tail P (f x) (map f xs) a))
 
 -- lanes that were made ready may run
-pub may_run : (old new : List Lane) → map (λ z. z.txs) new ≡ map (λ z. z.txs) old → All (λ z. All IsCompact z.txs.items) old → All IsReady new → All MayRun new
+pub may_run : (old new : List LaneOf) → map (λ z. z.txs) new ≡ map (λ z. z.txs) old → All (λ z. All IsCompact z.txs) old → All IsReady new → All MayRun new
 may_run old [] m a r = All-nil MayRun
 may_run [] (w ∷ new) m a r = absurd (let z : w.txs ∷ map (λ z. z.txs) new ≡ [] = m in cc)
 may_run (v ∷ old) (w ∷ new) m a r =
     let c : w.txs ≡ v.txs = let z : w.txs ∷ map (λ z. z.txs) new ≡ v.txs ∷ map (λ z. z.txs) old = m in cc in
     let more : map (λ z. z.txs) new ≡ map (λ z. z.txs) old = let z : w.txs ∷ map (λ z. z.txs) new ≡ v.txs ∷ map (λ z. z.txs) old = m in cc in
-    All-cons MayRun w new (record { ready = All-head IsReady w new r; limits = subst (λ t. All IsCompact t.items) (sym c) (All-head (λ z. All IsCompact z.txs.items) v old a) })
-    (may_run old new more (All-tail (λ z. All IsCompact z.txs.items) v old a) (All-tail IsReady w new r))
+    All-cons MayRun w new (record { ready = All-head IsReady w new r; limits = subst (λ t. All IsCompact t) (sym c) (All-head (λ z. All IsCompact z.txs) v old a) })
+    (may_run old new more (All-tail (λ z. All IsCompact z.txs) v old a) (All-tail IsReady w new r))
 
 -- a lane that was made ready first ended as the lane that it was before
-ended_anew : (K : Shape) (lane : ℕ) (log : Sight) (shards : ℕ → Sight) (log' : Sight) (shards' : ℕ → Sight) (old mid new : Lane) → IsReady mid → HasEnded K lane log shards log' shards' mid new → HasEnded K lane log shards log' shards' old new
+ended_anew : (K : Shape) (lane : ℕ) (log : Sight) (shards : ℕ → Sight) (log' : Sight) (shards' : ℕ → Sight) (old mid new : LaneOf) → IsReady mid → HasEnded K lane log shards log' shards' mid new → HasEnded K lane log shards log' shards' old new
 ended_anew K lane log shards log' shards' old mid new ready (inl (d, (none, keeps))) = inl (d, (none, λ z b. keeps ready.decided ready.batches))
 ended_anew K lane log shards log' shards' old mid new ready (inr (e, stopped, (some, by))) = inr (e, stopped, (some, λ f. by ready.fault))
 
-lane_anew : (K : Shape) (logs shards : ℕ → Sight) (log_hands shard_hands : ℕ → List Hand) (lane : ℕ) (old mid new : Lane) → IsReady mid → mid.txs ≡ old.txs → LaneRan K logs shards log_hands shard_hands lane mid new → LaneRan K logs shards log_hands shard_hands lane old new
+lane_anew : (K : Shape) (logs shards : ℕ → Sight) (log_hands shard_hands : ℕ → List Hand) (lane : ℕ) (old mid new : LaneOf) → IsReady mid → mid.txs ≡ old.txs → LaneRan K logs shards log_hands shard_hands lane mid new → LaneRan K logs shards log_hands shard_hands lane old new
 lane_anew K logs shards log_hands shard_hands lane old mid new ready txs r = record {
   log = r.log;
   seen = r.seen;
@@ -198,11 +198,11 @@ lane_anew K logs shards log_hands shard_hands lane old mid new ready txs r = rec
   at_log = r.at_log;
   at_shard = r.at_shard;
   beyond = r.beyond;
-  txs = r.txs ∙ ap (λ v. v.items) txs;
+  txs = r.txs ∙ txs;
   ended = ended_anew K lane r.log r.seen r.log' r.seen' old mid new ready r.ended;
 }
 
-pub wave_anew : (K : Shape) (logs shards logs' shards' : ℕ → Sight) (old mid new : List Lane) → map (λ z. z.txs) mid ≡ map (λ z. z.txs) old → All IsReady mid → WaveRan K logs shards logs' shards' mid new → WaveRan K logs shards logs' shards' old new
+pub wave_anew : (K : Shape) (logs shards logs' shards' : ℕ → Sight) (old mid new : List LaneOf) → map (λ z. z.txs) mid ≡ map (λ z. z.txs) old → All IsReady mid → WaveRan K logs shards logs' shards' mid new → WaveRan K logs shards logs' shards' old new
 wave_anew K logs shards logs' shards' old mid new same ready w = record {
   log_lanes = w.log_lanes;
   log_hands = w.log_hands;

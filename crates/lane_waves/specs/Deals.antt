@@ -7,7 +7,7 @@ use Rattle.cbdc_model.specs.Grammar.{IsCompact}
 use Rattle.cbdc_model.specs.Ranges.{home_of, shard_node}
 use Rattle.cbdc_model.specs.Sights.{Sight}
 use Rattle.lane_driver.specs.Stops.{IsSettled}
-use Rattle.ledger_runs.specs.declared.lanes.Lane.{Lane}
+use Rattle.ledger_runs.specs.Lanes.{LaneOf}
 use Rattle.node_lock.specs.declared.lock.Guarded.{Guarded}
 use Rattle.node_lock.specs.declared.seat.Seat.{Seat}
 use Rattle.node_lock.specs.Seats.{TableId, AreFresh, knows, opening_of, table_of, lanes_of}
@@ -29,9 +29,9 @@ use Rattle.lane_waves.specs.Rows.{lanes_from, home_lanes, all_lanes}
 use Rattle.lane_waves.specs.declared.dealing.Table.{Table}
 
 -- a lane that a run may be made of
-pub record MayRun (x : Lane) : Type 0 where
+pub record MayRun (x : LaneOf) : Type 0 where
   pub ready : IsReady x
-  pub limits : All IsCompact x.txs.items
+  pub limits : All IsCompact x.txs
 
 -- each list has room for so many items in all
 abbrev pub EachHolds : {T : Type 0} → ℕ → List (Vec T) → Type 0
@@ -50,9 +50,9 @@ IsEmptyRoom n r = (r.items ≡ []) × (n ≤ vec_capacity r)
 abbrev pub started : ℕ → Sight → Sight
 started lane first = viewed first (fresh first lane)
 
-module _ {W D S B : Type 0} {G : Ghosts B} where
+module _ {W D S B X : Type 0} {G : Ghosts B} where
   -- so many lanes have no seats yet, and there is room for theirs
-  pub record HasRoom (shards n : ℕ) (t : Table W D S B G) : Type 0 where
+  pub record HasRoom (shards n : ℕ) (t : Table W D S B X G) : Type 0 where
     pub rows : length t.rows.items ≡ shards
     pub rows_hold : EachHolds (length t.runs.items + n) t.rows.items
     pub seats : (t.seats.items ≡ []) × (shards ≤ vec_capacity t.seats)
@@ -65,13 +65,13 @@ module _ {W D S B : Type 0} {G : Ghosts B} where
     pub runs_hold : length t.runs.items + n ≤ vec_capacity t.runs
 
   -- so many lanes wait for their seats: these are left of each lock, and there is room for them
-  pub record IsWaiting (sight : S → Sight) (hs : List (Guarded (SharedShard S))) (n : ℕ) (t : Table W D S B G) : Type 0 where
+  pub record IsWaiting (sight : S → Sight) (hs : List (Guarded (SharedShard S))) (n : ℕ) (t : Table W D S B X G) : Type 0 where
     pub room : HasRoom (length hs) n t
     pub left : AreLeft (shard_sight sight) (lanes_from 0 n) hs t.rows.items
 
   -- the last lane got its seats
-  pub record IsNext (sight : S → Sight) (hs : List (Guarded (SharedShard S))) (home : LogSeat W D B G) (t u : Table W D S B G) : Type 0 where
-    pub run : LaneRun W D S B G
+  pub record IsNext (sight : S → Sight) (hs : List (Guarded (SharedShard S))) (home : LogSeat W D B G) (t u : Table W D S B X G) : Type 0 where
+    pub run : LaneRun W D S B X G
     pub runs : u.runs.items ≡ t.runs.items ++ run ∷ []
     pub lanes : t.lanes.items ≡ u.lanes.items ++ run.work ∷ []
     pub lane : run.lane ≡ (knows home.seat).lane
@@ -116,9 +116,9 @@ module _ {D S : Type 0} (sight : S → Sight) (tables : ℕ → TableId) (K : Sh
     pub log_tables : AllFrom (λ n g. tables n ≡ table_of g) 0 gs
     pub shard_tables : AtTables tables K 0 hs
 
-  module _ {W B : Type 0} {G : Ghosts B} where
+  module _ {W B X : Type 0} {G : Ghosts B} where
     -- the run of a lane that has all its seats, before its first call
-    pub record IsSetUp (lane : ℕ) (x : Lane) (r : LaneRun W D S B G) : Type 0 where
+    pub record IsSetUp (lane : ℕ) (x : LaneOf) (r : LaneRun W D S B X G) : Type 0 where
       pub lane_is : r.lane ≡ lane
       pub work : r.work ≡ x
       pub ready : IsReady x
@@ -128,7 +128,7 @@ module _ {D S : Type 0} (sight : S → Sight) (tables : ℕ → TableId) (K : Sh
       pub shards : (s : ℕ) → shards_of sight tables K r s ≡ started lane (shard_at sight hs s)
 
     -- of these lanes those from the n-th on have their seats
-    pub record HaveSeats (n : ℕ) (lanes : List Lane) (t : Table W D S B G) : Type 0 where
-      pub done : List Lane
+    pub record HaveSeats (n : ℕ) (lanes : List LaneOf) (t : Table W D S B X G) : Type 0 where
+      pub done : List LaneOf
       pub all_are : lanes ≡ t.lanes.items ++ done
       pub set_up : BothFrom IsSetUp n done (reverse t.runs.items)

@@ -6,7 +6,7 @@ use Rattle.cbdc_model.specs.Records.{Shape}
 use Rattle.cbdc_model.specs.Sights.{Sight}
 use Rattle.lane_driver.specs.declared.fault.LaneFault.{LaneFault}
 use Rattle.lane_driver.specs.declared.fault.LaneReport.{LaneReport}
-use Rattle.ledger_runs.specs.declared.lanes.Lane.{Lane}
+use Rattle.ledger_runs.specs.Lanes.{LaneOf}
 use Rattle.node_lock.specs.declared.lock.Guarded.{Guarded}
 use Rattle.node_lock.specs.declared.seat.Seat.{Seat}
 use Rattle.node_lock.specs.Seats.{TableId}
@@ -40,39 +40,39 @@ EachTakes n [] = Unit {0}
 EachTakes n (r ∷ rs) = (length r.items + n ≤ vec_capacity r) × EachTakes n rs
 
 -- what came of a run is known, and the lane has room for it
-abbrev pub MayKeep : Lane → Option (Result LaneReport LaneFault) → Type 0
+abbrev pub MayKeep : LaneOf → Option (Result LaneReport LaneFault) → Type 0
 MayKeep x None = ⊥
-MayKeep x (Some came) = IfOk came (λ report. length (told_in report.batches) ≤ length x.txs.items)
+MayKeep x (Some came) = IfOk came (λ report. length (told_in report.batches) ≤ length x.txs)
 
-abbrev pub IsEnd : Lane → Option (Result LaneReport LaneFault) → Lane → Type 0
+abbrev pub IsEnd : LaneOf → Option (Result LaneReport LaneFault) → LaneOf → Type 0
 IsEnd x None y = ⊥
 IsEnd x (Some came) y = IsKept x came y
 
-module _ {W D S B : Type 0} {G : Ghosts B} where
+module _ {W D S B X : Type 0} {G : Ghosts B} where
   -- its seats of the shards, and that of its coordinator
-  abbrev pub shard_seats : LaneRun W D S B G → List (Seat (SharedShard S))
+  abbrev pub shard_seats : LaneRun W D S B X G → List (Seat (SharedShard S))
   shard_seats r = seats_of r.ports.shards.each.ports.items
 
-  abbrev pub home_seat : LaneRun W D S B G → Seat (SharedLog D)
+  abbrev pub home_seat : LaneRun W D S B X G → Seat (SharedLog D)
   home_seat r = r.ports.log.seat
 
-  pub record IsOver (shards : ℕ) (r : LaneRun W D S B G) : Type 0 where
+  pub record IsOver (shards : ℕ) (r : LaneRun W D S B X G) : Type 0 where
     pub many : length r.ports.shards.each.ports.items ≡ shards
     pub ready : IsReady r.work
     pub came : MayKeep r.work r.came
 
-  abbrev pub AllOver : ℕ → List (LaneRun W D S B G) → Type 0
+  abbrev pub AllOver : ℕ → List (LaneRun W D S B X G) → Type 0
   AllOver shards [] = Unit {0}
   AllOver shards (r ∷ rs) = IsOver shards r × AllOver shards rs
 
   -- the runs of a table were made, each to its end, and its other lists are as before
-  pub record AreRun (sight : S → Sight) (tables : ℕ → TableId) (K : Shape) (t u : Table W D S B G) : Type 0 where
-    pub runs : Vec (LaneRun W D S B G)
+  pub record AreRun (sight : S → Sight) (tables : ℕ → TableId) (K : Shape) (t u : Table W D S B X G) : Type 0 where
+    pub runs : Vec (LaneRun W D S B X G)
     pub rest : u ≡ record t { runs = runs }
     pub ends : AllZip (Ends sight tables K) t.runs.items runs.items
 
   -- there is room for all that is not back
-  pub record MayGather (t : Table W D S B G) : Type 0 where
+  pub record MayGather (t : Table W D S B X G) : Type 0 where
     pub rows_take : EachTakes (length t.runs.items) t.rows.items
     pub seats : (t.seats.items ≡ []) × (length t.rows.items ≤ vec_capacity t.seats)
     pub spare : (t.spare.items ≡ []) × (length t.rows.items ≤ vec_capacity t.spare)
@@ -80,34 +80,34 @@ module _ {W D S B : Type 0} {G : Ghosts B} where
     pub over : AllOver (length t.rows.items) t.runs.items
 
   -- the last run was taken apart
-  pub record IsBack (t : Table W D S B G) (home : Seat (SharedLog D)) (u : Table W D S B G) : Type 0 where
-    pub run : LaneRun W D S B G
+  pub record IsBack (t : Table W D S B X G) (home : Seat (SharedLog D)) (u : Table W D S B X G) : Type 0 where
+    pub run : LaneRun W D S B X G
     pub runs : t.runs.items ≡ u.runs.items ++ run ∷ []
     pub home_is : home ≡ home_seat run
     pub rows : PopsEach u.rows.items t.rows.items (shard_seats run)
-    pub lane : Lane
+    pub lane : LaneOf
     pub lanes : u.lanes.items ≡ t.lanes.items ++ lane ∷ []
     pub came : IsEnd run.work run.came lane
 
   -- so many runs were, and these are their seats of their coordinator
-  pub record AreHome (n : ℕ) (t : Table W D S B G) (own : List (Seat (SharedLog D))) (u : Table W D S B G) : Type 0 where
-    pub gone : List (LaneRun W D S B G)
+  pub record AreHome (n : ℕ) (t : Table W D S B X G) (own : List (Seat (SharedLog D))) (u : Table W D S B X G) : Type 0 where
+    pub gone : List (LaneRun W D S B X G)
     pub runs : t.runs.items ≡ u.runs.items ++ gone
     pub many : length gone ≡ n
     pub seats : reverse own ≡ map home_seat gone
 
   -- each of these runs gave its seats of the shards back
-  abbrev pub AllGave : List (LaneRun W D S B G) → List (Vec (Seat (SharedShard S))) → Type 0
+  abbrev pub AllGave : List (LaneRun W D S B X G) → List (Vec (Seat (SharedShard S))) → Type 0
   AllGave [] rows = Unit {0}
   AllGave (r ∷ rs) rows = AreSeats (shard_seats r) rows × AllGave rs rows
 
-  abbrev pub AllOf : List (Guarded (SharedShard S)) → List (LaneRun W D S B G) → Type 0
+  abbrev pub AllOf : List (Guarded (SharedShard S)) → List (LaneRun W D S B X G) → Type 0
   AllOf locks [] = Unit {0}
   AllOf locks (r ∷ rs) = AreOf locks (shard_seats r) × AllOf locks rs
 
   -- of these runs, whose seats are of these locks, those that are not in the list any more are back, with their lanes
-  pub record Gathered (locks : List (Guarded (SharedShard S))) (all : List (LaneRun W D S B G)) (t : Table W D S B G) : Type 0 where
-    pub gone : List (LaneRun W D S B G)
+  pub record Gathered (locks : List (Guarded (SharedShard S))) (all : List (LaneRun W D S B X G)) (t : Table W D S B X G) : Type 0 where
+    pub gone : List (LaneRun W D S B X G)
     pub all_are : all ≡ t.runs.items ++ gone
     pub of : AllOf locks all
     pub back : AreBack (length gone) locks t.rows.items
@@ -115,9 +115,9 @@ module _ {W D S B : Type 0} {G : Ghosts B} where
     pub lanes : AllZip (λ r x. IsEnd r.work r.came x) gone (reverse t.lanes.items)
 
   -- so many runs for each list, which has their seats, the last list first
-  abbrev pub Chunks : ℕ → List (Vec (Seat (SharedLog D))) → List (LaneRun W D S B G) → Type 0
+  abbrev pub Chunks : ℕ → List (Vec (Seat (SharedLog D))) → List (LaneRun W D S B X G) → Type 0
   Chunks n [] runs = runs ≡ []
-  Chunks n (own ∷ owns) runs = (chunk : List (LaneRun W D S B G)) × (rest : List (LaneRun W D S B G)) × (runs ≡ chunk ++ rest) × (length chunk ≡ n) × (reverse own.items ≡ map home_seat chunk) × Chunks n owns rest
+  Chunks n (own ∷ owns) runs = (chunk : List (LaneRun W D S B X G)) × (rest : List (LaneRun W D S B X G)) × (runs ≡ chunk ++ rest) × (length chunk ≡ n) × (reverse own.items ≡ map home_seat chunk) × Chunks n owns rest
 
-  abbrev pub HomesBack : ℕ → List (LaneRun W D S B G) → List (Vec (Seat (SharedLog D))) → Type 0
+  abbrev pub HomesBack : ℕ → List (LaneRun W D S B X G) → List (Vec (Seat (SharedLog D))) → Type 0
   HomesBack n runs homes = Chunks n (reverse homes) runs

@@ -3,29 +3,29 @@ use Rattle.std.specs.Prelude.{◌≡◌, ◌≤◌, [], length, min, Some, None,
 use Rattle.lane_driver.specs.declared.fault.LaneFault.{LaneFault}
 use Rattle.lane_driver.specs.declared.fault.LaneReport.{LaneReport}
 use Rattle.lane_driver.specs.declared.fault.LaneFaultKind.TheVariants.{Memory}
-use Rattle.ledger_runs.specs.declared.lanes.Lane.{Lane}
+use Rattle.ledger_runs.specs.Lanes.{LaneOf}
 use Rattle.ledger_runs.specs.Telling.{kept_by}
 use Rattle.thread_laws.specs.Telling.{told_in}
 
 -- nothing is decided of its transactions, and there is room for an outcome of each
-pub record IsReady (x : Lane) : Type 0 where
+pub record IsReady (x : LaneOf) : Type 0 where
   pub decided : x.decided.items ≡ []
-  pub room : length x.txs.items ≤ vec_capacity x.decided
+  pub room : length x.txs ≤ vec_capacity x.decided
   pub batches : x.batches ≡ 0
   pub fault : x.fault ≡ None
 
 -- it stopped for want of memory, before its first call
-abbrev pub HasNoMemory : Lane → Type 0
+abbrev pub HasNoMemory : LaneOf → Type 0
 HasNoMemory x = x.fault ≡ Some (record { node = 0; fault = Memory })
 
 -- it keeps what its batches came to, in order
-pub record Keeps (x : Lane) (report : LaneReport) (y : Lane) : Type 0 where
+pub record Keeps (x : LaneOf) (report : LaneReport) (y : LaneOf) : Type 0 where
   pub txs : y.txs ≡ x.txs
   pub fault : y.fault ≡ None
   pub kept : kept_by y.decided.items ≡ told_in report.batches
   pub count : y.batches ≡ min (length report.batches) 18446744073709551615
 
 -- the lane with what came of its run
-abbrev pub IsKept : Lane → Result LaneReport LaneFault → Lane → Type 0
+abbrev pub IsKept : LaneOf → Result LaneReport LaneFault → LaneOf → Type 0
 IsKept x (Ok report) y = Keeps x report y
 IsKept x (Err e) y = (y.txs ≡ x.txs) × (y.fault ≡ Some e)

@@ -4,7 +4,7 @@ use Rattle.std.specs.Global.{Vec}
 use Rattle.cbdc_model.specs.Records.{Shape}
 use Rattle.cbdc_model.specs.Ranges.{shard_node}
 use Rattle.cbdc_model.specs.Sights.{Sight}
-use Rattle.ledger_runs.specs.declared.lanes.Lane.{Lane}
+use Rattle.ledger_runs.specs.Lanes.{LaneOf}
 use Rattle.node_lock.specs.declared.lock.Guarded.{Guarded}
 use Rattle.node_lock.specs.declared.seat.Seat.{Seat}
 use Rattle.node_ports.specs.Nodes.{IsLogHeld}
@@ -30,7 +30,7 @@ shard_goes goes a b = goes a.node b.node
 
 -- all lanes have ended at seats of these locks, and all seats are back
 pub record AreThrough {D S : Type 0} (sight : S → Sight) (K : Shape) (gs : List (Guarded (SharedLog D))) (hs : List (Guarded (SharedShard S)))
-    (homes : List (Vec (Seat (SharedLog D)))) (rows : List (Vec (Seat (SharedShard S)))) (lanes lanes' : List Lane) : Type 0 where
+    (homes : List (Vec (Seat (SharedLog D)))) (rows : List (Vec (Seat (SharedShard S)))) (lanes lanes' : List LaneOf) : Type 0 where
   pub homes_ready : AreReady gs homes
   pub rows_ready : AreReady hs rows
   pub many : length lanes' ≡ length lanes

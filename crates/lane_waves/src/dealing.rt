@@ -1,13 +1,13 @@
 // Seats dealt to lanes.
 ghost use Rattle.std.specs.Prelude.{◌≡◌, ◌≤◌, ◌<◌, ◌+◌, ◌*◌, ◌^◌, suc, [], All, List, length, IfOk, vec_len, vec_capacity};
 ghost use Rattle.node_lock.specs.Seats.{knows};
-ghost use Rattle.ledger_runs.specs.declared.lanes.Lane.{Lane as LaneOf};
+ghost use Rattle.ledger_runs.specs.Lanes.{LaneOf};
 ghost use Rattle.lane_waves.specs.Places.{AllFrom};
 ghost use Rattle.lane_waves.specs.Deals.{IsWaiting, IsNext, AreOpen, HaveSeats, IsHomeLeft, IsHomeFresh, IsEmptyRoom, IsNone};
 
 use cbdc_types::{NodeId, Shape};
-use lane_driver::Ports;
-use ledger_runs::Lane;
+use lane_driver::{Ports, Source};
+use ledger_runs::Work;
 use node_lock::{Guarded, Seat};
 use outside::Disk;
 use port_sets::EachPort;
@@ -19,13 +19,13 @@ use wave_ends::{Dealt, deal};
 use wave_lanes::{LaneRun, SeatSet, ports_over};
 
 /// The shards' seats that no lane has, a list for each shard; the lanes that have none; and the runs of those that have theirs. The other lists give room.
-pub(crate) struct Table<'a, W: Wait, D: Disk, S: Shard, B: Locks> {
+pub(crate) struct Table<'a, W: Wait, D: Disk, S: Shard, B: Locks, X: Source> {
     pub rows: Vec<Vec<Seat<SharedShard<S>>>>,
     pub spare: Vec<Vec<Seat<SharedShard<S>>>>,
     pub seats: Vec<Seat<SharedShard<S>>>,
     pub rooms: Vec<Vec<ShardSeat<'a, W, S, B>>>,
-    pub lanes: Vec<Lane>,
-    pub runs: Vec<LaneRun<'a, W, D, S, B>>,
+    pub lanes: Vec<Work<X>>,
+    pub runs: Vec<LaneRun<'a, W, D, S, B, X>>,
 }
 
 /// An empty list with room for a port to each shard, for each of so many lanes.
@@ -59,13 +59,13 @@ pub(crate) fn let_go<T>(mut rooms: Vec<Vec<T>>)
 }
 
 // The last lane gets its seat of each shard, beside that of its coordinator.
-fn deal_lane<'a, W: Wait, D: Disk, S: Shard, B: Locks>(
+fn deal_lane<'a, W: Wait, D: Disk, S: Shard, B: Locks, X: Source>(
     rt: &'a W,
     first: u32,
     locks: &'a [Guarded<SharedShard<S>>],
     home: LogSeat<'a, W, D, B>,
-    table: Table<'a, W, D, S, B>,
-) -> Table<'a, W, D, S, B>
+    table: Table<'a, W, D, S, B, X>,
+) -> Table<'a, W, D, S, B, X>
     requires small { first + length locks.now < 2 ^ 32 }
     requires waiting { IsWaiting S.sight locks.now (suc (knows home.seat).lane) table }
     ensures waiting { IsWaiting S.sight locks.now (knows home.entry.seat).lane result }
@@ -111,15 +111,15 @@ fn deal_lane<'a, W: Wait, D: Disk, S: Shard, B: Locks>(
 }
 
 // The lanes of a coordinator get their seats, the last one first. Its list of seats is empty then.
-fn deal_home<'a, W: Wait, D: Disk, S: Shard, B: Locks>(
+fn deal_home<'a, W: Wait, D: Disk, S: Shard, B: Locks, X: Source>(
     rt: &'a W,
     shape: &Shape,
     home: u32,
     log_locks: &'a [Guarded<SharedLog<D>>],
     shard_locks: &'a [Guarded<SharedShard<S>>],
     mut own: Vec<Seat<SharedLog<D>>>,
-    mut table: Table<'a, W, D, S, B>,
-) -> (Vec<Seat<SharedLog<D>>>, Table<'a, W, D, S, B>)
+    mut table: Table<'a, W, D, S, B, X>,
+) -> (Vec<Seat<SharedLog<D>>>, Table<'a, W, D, S, B, X>)
     requires open { AreOpen S.sight B.tables shape.now log_locks.now shard_locks.now }
     requires home { home < length log_locks.now }
     requires many { length own.items ≤ shape.now.lanes }
@@ -146,18 +146,18 @@ fn deal_home<'a, W: Wait, D: Disk, S: Shard, B: Locks>(
 }
 
 /// All lanes get their seats, those of the last coordinator first. The coordinators' lists of seats are empty then, the last one first.
-pub(crate) fn deal_all<'a, W: Wait, D: Disk, S: Shard, B: Locks>(
+pub(crate) fn deal_all<'a, W: Wait, D: Disk, S: Shard, B: Locks, X: Source>(
     rt: &'a W,
     shape: &Shape,
     log_locks: &'a [Guarded<SharedLog<D>>],
     shard_locks: &'a [Guarded<SharedShard<S>>],
     mut homes: Vec<Vec<Seat<SharedLog<D>>>>,
     mut emptied: Vec<Vec<Seat<SharedLog<D>>>>,
-    mut table: Table<'a, W, D, S, B>,
+    mut table: Table<'a, W, D, S, B, X>,
 ) -> (
     Vec<Vec<Seat<SharedLog<D>>>>,
     Vec<Vec<Seat<SharedLog<D>>>>,
-    Table<'a, W, D, S, B>,
+    Table<'a, W, D, S, B, X>,
 )
     requires open { AreOpen S.sight B.tables shape.now log_locks.now shard_locks.now }
     requires many { length homes.items ≡ shape.now.coordinators }

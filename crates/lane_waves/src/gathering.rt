@@ -7,7 +7,7 @@ ghost use Rattle.lane_waves.specs.Gathers.{MayGather, IsBack, Gathered, AreHome,
 
 use crate::dealing::Table;
 use crate::lanes::kept;
-use lane_driver::Ports;
+use lane_driver::{Ports, Source};
 use node_lock::Seat;
 use outside::Disk;
 use port_sets::EachPort;
@@ -17,9 +17,9 @@ use wave_ends::{Dealt, gather};
 use wave_lanes::{LaneRun, SeatSet, seats_back};
 
 // The first lane that is not back gives back its seats: those of the shards onto their lists, that of its coordinator to the caller.
-fn gather_lane<'a, W: Wait, D: Disk, S: Shard, B: Locks>(
-    table: Table<'a, W, D, S, B>,
-) -> (Seat<SharedLog<D>>, Table<'a, W, D, S, B>)
+fn gather_lane<'a, W: Wait, D: Disk, S: Shard, B: Locks, X: Source>(
+    table: Table<'a, W, D, S, B, X>,
+) -> (Seat<SharedLog<D>>, Table<'a, W, D, S, B, X>)
     requires some { 0 < length table.runs.items }
     requires room { MayGather table }
     ensures room { MayGather result.1 }
@@ -72,11 +72,11 @@ fn gather_lane<'a, W: Wait, D: Disk, S: Shard, B: Locks>(
 }
 
 // So many lanes give back their seats, those of their coordinator onto its list.
-fn gather_home<'a, W: Wait, D: Disk, S: Shard, B: Locks>(
+fn gather_home<'a, W: Wait, D: Disk, S: Shard, B: Locks, X: Source>(
     count: u32,
     mut own: Vec<Seat<SharedLog<D>>>,
-    mut table: Table<'a, W, D, S, B>,
-) -> (Vec<Seat<SharedLog<D>>>, Table<'a, W, D, S, B>)
+    mut table: Table<'a, W, D, S, B, X>,
+) -> (Vec<Seat<SharedLog<D>>>, Table<'a, W, D, S, B, X>)
     requires some { count ≤ length table.runs.items }
     requires own { IsEmptyRoom count own }
     requires room { MayGather table }
@@ -94,12 +94,12 @@ fn gather_home<'a, W: Wait, D: Disk, S: Shard, B: Locks>(
 }
 
 /// All lanes give back their seats, those of the first coordinator first, for which there is an empty list each, the last one first.
-pub(crate) fn gather_all<'a, W: Wait, D: Disk, S: Shard, B: Locks>(
+pub(crate) fn gather_all<'a, W: Wait, D: Disk, S: Shard, B: Locks, X: Source>(
     count: u32,
     mut emptied: Vec<Vec<Seat<SharedLog<D>>>>,
     mut homes: Vec<Vec<Seat<SharedLog<D>>>>,
-    mut table: Table<'a, W, D, S, B>,
-) -> (Vec<Vec<Seat<SharedLog<D>>>>, Table<'a, W, D, S, B>)
+    mut table: Table<'a, W, D, S, B, X>,
+) -> (Vec<Vec<Seat<SharedLog<D>>>>, Table<'a, W, D, S, B, X>)
     requires runs { length table.runs.items ≡ length emptied.items * count }
     requires emptied { All (IsEmptyRoom count) emptied.items }
     requires empty { homes.items ≡ [] }

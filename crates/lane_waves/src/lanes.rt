@@ -5,12 +5,12 @@ ghost use Rattle.thread_laws.specs.Telling.{told_in};
 ghost use Rattle.lane_waves.specs.Lanes.{IsReady, HasNoMemory, IsKept};
 
 use cbdc_types::{BatchId, Outcome};
-use lane_driver::{BatchReport, LaneFault, LaneReport, no_memory};
-use ledger_runs::{Decided, Lane};
+use lane_driver::{BatchReport, LaneFault, LaneReport, Source, no_memory};
+use ledger_runs::{Decided, Lane, Work};
 use std::alloc::AllocError;
 
 /// Makes the lanes ready for a wave: nothing is decided of their transactions, and there is room for an outcome of each.
-pub(crate) fn make_ready(lanes: &mut Vec<Lane>) -> Result<(), AllocError>
+pub(crate) fn make_ready<X: Source>(lanes: &mut Vec<Work<X>>) -> Result<(), AllocError>
     ensures same { map (λ x. x.txs) lanes.new.items ≡ map (λ x. x.txs) lanes.old.items }
     ensures ready { OnOk result (All IsReady lanes.new.items) }
 {
@@ -20,43 +20,50 @@ pub(crate) fn make_ready(lanes: &mut Vec<Lane>) -> Result<(), AllocError>
     Ok(())
 }
 
-fn make_one_ready(lane: &mut Lane) -> Result<(), AllocError>
-    ensures same { lane.new.txs ≡ lane.old.txs }
-    ensures ready { OnOk result (IsReady lane.new) }
+fn make_one_ready<X: Source>(work: &mut Work<X>) -> Result<(), AllocError>
+    ensures same { work.new.txs ≡ work.old.txs }
+    ensures ready { OnOk result (IsReady work.new) }
 {
-    lane.decided.clear();
-    lane.batches = 0;
-    lane.fault = None;
-    lane.decided.reserve(lane.txs.len())
+    work.lane.decided.clear();
+    work.lane.batches = 0;
+    work.lane.fault = None;
+    work.lane.decided.reserve(work.source.most())
 }
 
 /// Stops all lanes for want of memory.
-pub(crate) fn stop_all(lanes: &mut Vec<Lane>)
+pub(crate) fn stop_all<X: Source>(lanes: &mut Vec<Work<X>>)
     ensures same { map (λ x. x.txs) lanes.new.items ≡ map (λ x. x.txs) lanes.old.items }
     ensures stopped { All HasNoMemory lanes.new.items }
 {
     for place in 0..lanes.len() {
-        lanes[place].fault = Some(no_memory());
+        stop(&mut lanes[place]);
     }
 }
 
+fn stop<X: Source>(work: &mut Work<X>)
+    ensures same { work.new.txs ≡ work.old.txs }
+    ensures stopped { HasNoMemory work.new }
+{
+    work.lane.fault = Some(no_memory());
+}
+
 /// The lane with what came of its run.
-pub(crate) fn kept(mut lane: Lane, came: Result<LaneReport, LaneFault>) -> Lane
-    requires ready { IsReady lane }
-    requires room { IfOk came (λ r. length (told_in r.batches) ≤ length lane.txs.items) }
-    ensures { IsKept lane came result }
+pub(crate) fn kept<X: Source>(mut work: Work<X>, came: Result<LaneReport, LaneFault>) -> Work<X>
+    requires ready { IsReady work }
+    requires room { IfOk came (λ r. length (told_in r.batches) ≤ length work.txs) }
+    ensures { IsKept work came result }
 {
     match came {
-        Ok(report) => keep_all(&mut lane, report.batches.as_slice()),
-        Err(fault) => lane.fault = Some(fault),
+        Ok(report) => keep_all(&mut work.lane, report.batches.as_slice()),
+        Err(fault) => work.lane.fault = Some(fault),
     }
-    lane
+    work
 }
 
 // Keeps what came of batches.
 fn keep_all(lane: &mut Lane, reports: &[BatchReport])
     requires room { vec_len lane.old.decided + length (told_in reports.now) ≤ vec_capacity lane.old.decided }
-    ensures same { (lane.new.txs ≡ lane.old.txs) × (lane.new.fault ≡ lane.old.fault) }
+    ensures same { lane.new.fault ≡ lane.old.fault }
     ensures kept { kept_by lane.new.decided.items ≡ kept_by lane.old.decided.items ++ told_in reports.now }
     ensures count { lane.old.batches ≡ 0 → lane.new.batches ≡ min (length reports.now) 18446744073709551615 }
 {
@@ -68,7 +75,7 @@ fn keep_all(lane: &mut Lane, reports: &[BatchReport])
 // Keeps what came of a batch.
 fn keep(lane: &mut Lane, report: &BatchReport)
     requires room { vec_len lane.old.decided + length report.now.outcomes ≤ vec_capacity lane.old.decided }
-    ensures same { (lane.new.txs ≡ lane.old.txs) × (lane.new.fault ≡ lane.old.fault) }
+    ensures same { lane.new.fault ≡ lane.old.fault }
     ensures room { (vec_capacity lane.new.decided ≡ vec_capacity lane.old.decided) × (vec_len lane.new.decided ≡ vec_len lane.old.decided + length report.now.outcomes) }
     ensures kept { kept_by lane.new.decided.items ≡ kept_by lane.old.decided.items ++ decided_in report.now.batch report.now.outcomes }
     ensures count { lane.new.batches ≡ min (lane.old.batches + 1) 18446744073709551615 }

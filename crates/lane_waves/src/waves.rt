@@ -24,7 +24,8 @@ use crate::lanes::{make_ready, stop_all};
 use crate::rows::{home_rows, shard_rows};
 use cbdc_types::{LaneId, Shape};
 use coord_log::CoordLog;
-use ledger_runs::Lane;
+use lane_driver::Source;
+use ledger_runs::Work;
 use node_lock::{Guarded, Seat};
 use outside::{Disk, Gate};
 use shard_fanout::{
@@ -64,19 +65,19 @@ struct LockedNodes<D: Disk, S: Shard> {
 }
 
 // The memory that its lanes want.
-struct LaneRoom<'a, W: Wait, D: Disk, S: Shard, B: Locks> {
+struct LaneRoom<'a, W: Wait, D: Disk, S: Shard, B: Locks, X: Source> {
     emptied: Vec<Vec<Seat<SharedLog<D>>>>,
     spare: Vec<Vec<Seat<SharedShard<S>>>>,
     seats: Vec<Seat<SharedShard<S>>>,
     rooms: Vec<Vec<ShardSeat<'a, W, S, B>>>,
-    runs: Vec<LaneRun<'a, W, D, S, B>>,
+    runs: Vec<LaneRun<'a, W, D, S, B, X>>,
 }
 
 // The seats of all locks, a list for each lock, and the lanes.
-struct SeatedLanes<D: Disk, S: Shard> {
+struct SeatedLanes<D: Disk, S: Shard, X: Source> {
     homes: Vec<Vec<Seat<SharedLog<D>>>>,
     rows: Vec<Vec<Seat<SharedShard<S>>>>,
-    lanes: Vec<Lane>,
+    lanes: Vec<Work<X>>,
 }
 
 // Each coordinator's disk has failed no less often than when it was opened.
@@ -115,10 +116,10 @@ fn two_lists<S, T>(
 }
 
 // The memory that the nodes of a wave want, and the lanes made ready.
-fn node_room<D: Disk, S: Shard>(
+fn node_room<D: Disk, S: Shard, X: Source>(
     alloc: Global,
     shape: &Shape,
-    lanes: &mut Vec<Lane>,
+    lanes: &mut Vec<Work<X>>,
 ) -> Result<NodeRoom<D, S>, AllocError>
     ensures same { map (λ x. x.txs) lanes.new.items ≡ map (λ x. x.txs) lanes.old.items }
     ensures room { IfOk result (λ r. IsNodeRoom shape.now r lanes.new.items) }
@@ -139,10 +140,10 @@ fn node_room<D: Disk, S: Shard>(
 }
 
 // The memory that the lanes of a wave want.
-fn lane_room<'a, W: Wait, D: Disk, S: Shard, B: Locks>(
+fn lane_room<'a, W: Wait, D: Disk, S: Shard, B: Locks, X: Source>(
     alloc: Global,
     shape: &Shape,
-) -> Result<LaneRoom<'a, W, D, S, B>, AllocError>
+) -> Result<LaneRoom<'a, W, D, S, B, X>, AllocError>
     ensures { IfOk result (λ r. IsLaneRoom shape.now r) }
 {
     let homes = shape.coordinators() as usize;
@@ -177,14 +178,15 @@ fn run_table<
     D: Disk + Send,
     S: Shard + Send,
     B: Locks + Send + Sync,
+    X: Source + Send,
     G: Gate + Sync,
 >(
     rt: &'a W,
     alloc: Global,
     shape: &Shape,
-    mut table: Table<'a, W, D, S, B>,
+    mut table: Table<'a, W, D, S, B, X>,
     gate: &G,
-) -> Table<'a, W, D, S, B>
+) -> Table<'a, W, D, S, B, X>
     requires begin { All (Begins S.sight B.tables shape.now) table.runs.items }
     ensures { AreRun S.sight B.tables shape.now table.entry result }
 {
@@ -199,6 +201,7 @@ fn run_seated<
     D: Disk + Send,
     S: Shard + Send,
     B: Locks + Send + Sync,
+    X: Source + Send,
     G: Gate + Sync,
 >(
     rt: &'a W,
@@ -206,9 +209,9 @@ fn run_seated<
     shape: &Shape,
     log_locks: &'a [Guarded<SharedLog<D>>],
     shard_locks: &'a [Guarded<SharedShard<S>>],
-    seated: SeatedLanes<D, S>,
+    seated: SeatedLanes<D, S, X>,
     gate: &G,
-) -> SeatedLanes<D, S>
+) -> SeatedLanes<D, S, X>
     requires open { AreOpen S.sight B.tables shape.now log_locks.now shard_locks.now }
     requires homes { AllFrom (IsHomeFresh shape.now log_locks.now) 0 seated.homes.items }
     requires homes_many { length seated.homes.items ≡ shape.now.coordinators }
@@ -222,7 +225,7 @@ fn run_seated<
         rows,
         mut lanes,
     } = seated;
-    let Ok(room) = lane_room::<W, D, S, B>(alloc, shape) else {
+    let Ok(room) = lane_room::<W, D, S, B, X>(alloc, shape) else {
         stop_all(&mut lanes);
         return SeatedLanes { homes, rows, lanes };
     };
@@ -301,14 +304,20 @@ fn lock_nodes<D: Disk, S: Shard>(
 }
 
 // A wave over nodes under their wrappers.
-fn wave_shared<W: Threads + Wait + Sync, D: Disk + Send, S: Shard + Send, G: Gate + Sync>(
+fn wave_shared<
+    W: Threads + Wait + Sync,
+    D: Disk + Send,
+    S: Shard + Send,
+    X: Source + Send,
+    G: Gate + Sync,
+>(
     rt: &W,
     alloc: Global,
     shape: &Shape,
     nodes: SharedNodes<D, S>,
     home_rows: Vec<Vec<LaneId>>,
     shard_rows: Vec<Vec<LaneId>>,
-    lanes: &mut Vec<Lane>,
+    lanes: &mut Vec<Work<X>>,
     gate: &G,
 ) -> SharedNodes<D, S>
     requires limits { IsWithinLimits shape.now }
@@ -354,7 +363,7 @@ fn wave_shared<W: Threads + Wait + Sync, D: Disk + Send, S: Shard + Send, G: Gat
         homes,
         rows,
         lanes: back,
-    } = run_seated::<W, D, S, Brand, G>(
+    } = run_seated::<W, D, S, Brand, X, G>(
         rt,
         alloc,
         shape,
@@ -372,19 +381,25 @@ fn wave_shared<W: Threads + Wait + Sync, D: Disk + Send, S: Shard + Send, G: Gat
 
 /// Runs a wave of lanes that are all settled: each lane on a thread of its own, over locks round all nodes. Where memory is wanting before their first
 /// calls all lanes stop for it, and no node was asked.
-pub fn wave<W: Threads + Wait + Sync, D: Disk + Send, S: Shard + Send, G: Gate + Sync>(
+pub fn wave<
+    W: Threads + Wait + Sync,
+    D: Disk + Send,
+    S: Shard + Send,
+    X: Source + Send,
+    G: Gate + Sync,
+>(
     rt: &W,
     alloc: Global,
     shape: &Shape,
     nodes: Nodes<D, S>,
-    lanes: &mut Vec<Lane>,
+    lanes: &mut Vec<Work<X>>,
     gate: &G,
 ) -> Nodes<D, S>
     requires logs_many { length nodes.logs.items ≡ shape.now.coordinators }
     requires shards_many { length nodes.shards.items ≡ shape.now.shards }
     requires ledger { AreNodesOf shape.now (sight_at sight nodes.logs.items) (sight_at S.sight nodes.shards.items) }
     requires settled { (lane : ℕ) → lane < shape.now.coordinators * shape.now.lanes → IsSettled shape.now lane (sight_at sight nodes.logs.items (home_of shape.now lane)) (sight_at S.sight nodes.shards.items) }
-    requires limits { All (λ x. All IsCompact x.txs.items) lanes.old.items }
+    requires limits { All (λ x. All IsCompact x.txs) lanes.old.items }
     requires lanes_many { length lanes.old.items ≡ shape.now.coordinators * shape.now.lanes }
     ensures ran { WaveRan shape.now (sight_at sight nodes.logs.items) (sight_at S.sight nodes.shards.items) (sight_at sight result.logs.items) (sight_at S.sight result.shards.items) lanes.old.items lanes.new.items }
     ensures logs_go { WentOn sight (λ a b. IsLogHeld D.content D.images a → IsLogHeld D.content D.images b) nodes.logs.items result.logs.items }
@@ -393,7 +408,7 @@ pub fn wave<W: Threads + Wait + Sync, D: Disk + Send, S: Shard + Send, G: Gate +
     see_logs(nodes.logs.as_slice());
     see_shards(nodes.shards.as_slice());
     let _lanes = shape.lanes();
-    let Ok(room) = node_room::<D, S>(alloc, shape, lanes) else {
+    let Ok(room) = node_room::<D, S, X>(alloc, shape, lanes) else {
         stop_all(lanes);
         return nodes;
     };

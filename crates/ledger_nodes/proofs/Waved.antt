@@ -14,7 +14,7 @@ use Rattle.node_ports.specs.Nodes.{sight_at, IsLogHeld, IsShardHeld}
 use Rattle.run_laws.specs.Flights.{flying}
 use Rattle.lane_driver.specs.Stops.{IsSettled}
 use Rattle.ledger_runs.specs.Waving.{AreWithin}
-use Rattle.ledger_runs.specs.declared.lanes.Lane.{Lane}
+use Rattle.ledger_runs.specs.Lanes.{LaneOf}
 use Rattle.thread_laws.specs.Running.{WaveNodes, WaveRan, AllSays}
 use Rattle.thread_laws.proofs.Running.{fresh_settled_law, wave_ran_law}
 use Rattle.lane_waves.specs.Waves.{AreNodesOf}
@@ -45,7 +45,7 @@ module _ (K : Shape) (logs shards : ℕ → Sight) where
       back = omega arith
 
 module _ {D : Type 0} (count limit : D → ℕ) (content : D → Option (List ℕ)) (images : D → List ℕ → Type 0) (h : Header) (logs : List (LogOf D)) (shards : List (ShardOf D)) (logs' : List (LogOf D)) (shards' : List (ShardOf D))
-    (old new : List Lane) (ledger : IsLedger h logs shards) (places : length old ≡ h.shape.coordinators * h.shape.lanes)
+    (old new : List LaneOf) (ledger : IsLedger h logs shards) (places : length old ≡ h.shape.coordinators * h.shape.lanes)
     (ran : WaveRan h.shape (sight_at sight logs) (sight_at (sight_of count limit) shards) (sight_at sight logs') (sight_at (sight_of count limit) shards') old new)
     (logs_go : WentOn sight (λ a b. IsLogHeld content images a → IsLogHeld content images b) logs logs') (shards_go : WentOn (sight_of count limit) (λ a b. IsShardHeld content images a → IsShardHeld content images b) shards shards')
     (log_journals : All (λ l. IsJournal l.header l.journal) logs') (log_flights : All IsLogNext logs') (shard_journals : All (λ s. IsJournal s.header s.journal) shards') (shard_flights : All IsShardNext shards') where
@@ -127,7 +127,7 @@ module _ {D : Type 0} (count limit : D → ℕ) (content : D → Option (List �
       log_at n (inr le) = ap (λ x. x.flight) (past_end sight LogGoes logs' n (subst (λ m. m ≤ n) (sym still.coordinators) le))
 
 pub wave_law : {D : Type 0} (count limit : D → ℕ) (content : D → Option (List ℕ)) (images : D → List ℕ → Type 0) (h : Header) (logs : List (LogOf D)) (shards : List (ShardOf D)) (logs' : List (LogOf D)) (shards' : List (ShardOf D))
-    (old new : List Lane) → WaveLaw count limit content images h logs shards logs' shards' old new
+    (old new : List LaneOf) → WaveLaw count limit content images h logs shards logs' shards' old new
 wave_law count limit content images h logs shards logs' shards' old new ledger places ran logs_go shards_go log_journals log_flights shard_journals shard_flights =
     let a = all count limit content images h logs shards logs' shards' old new ledger places ran logs_go shards_go log_journals log_flights shard_journals shard_flights in
     record {
@@ -159,6 +159,6 @@ module _ {D : Type 0} (count limit : D → ℕ) (h : Header) (logs : List (LogOf
   all_settled c idle lane lt = fresh_settled_law h.shape c.0 (sight_at sight logs) (sight_at (sight_of count limit) shards) lane (sight_at sight logs (home_of h.shape lane)) (sight_at (sight_of count limit) shards)
       ledger.limits lt (λ n low. (nodes_of.logs_are n low).0) c.1 idle (refl, refl) (λ s. refl)
 
-pub all_within : (lanes : List Lane) → AreWithin lanes → All (λ x. All IsCompact x.txs.items) lanes
-all_within [] within = All-nil (λ x. All IsCompact x.txs.items)
-all_within (x ∷ lanes) within = All-cons (λ y. All IsCompact y.txs.items) x lanes (within 0 x refl) (all_within lanes (λ lane y there. within (suc lane) y there))
+pub all_within : (lanes : List LaneOf) → AreWithin lanes → All (λ x. All IsCompact x.txs) lanes
+all_within [] within = All-nil (λ x. All IsCompact x.txs)
+all_within (x ∷ lanes) within = All-cons (λ y. All IsCompact y.txs) x lanes (within 0 x refl) (all_within lanes (λ lane y there. within (suc lane) y there))

@@ -6,7 +6,7 @@ use Rattle.coord_log.specs.Logs.{LogOf, sight}
 use Rattle.shard_node.specs.Shards.{ShardOf, sight_of}
 use Rattle.node_ports.specs.Nodes.{sight_at, IsLogHeld, IsShardHeld}
 use Rattle.ledger_runs.specs.Waving.{NoFault}
-use Rattle.ledger_runs.specs.declared.lanes.Lane.{Lane}
+use Rattle.ledger_runs.specs.Lanes.{LaneOf}
 use Rattle.thread_laws.specs.Running.{WaveRan}
 use Rattle.thread_laws.specs.Whole.{WaveSays}
 use Rattle.wave_records.specs.Laws.{WentOn}
@@ -15,7 +15,7 @@ use Rattle.ledger_nodes.specs.Ledgers.{LedgerOf, IsLedger, IsLogNext, IsShardNex
 -- from a ledger to what it is behind the wave: it is a ledger still; all that is said of a wave; checked journals stay checked; where no lane stopped,
 -- and nothing was in flight before, nothing is; and what a call keeps of a ledger's nodes is kept
 pub record IsWave {D : Type 0} (count limit : D → ℕ) (content : D → Option (List ℕ)) (images : D → List ℕ → Type 0) (before after : LedgerOf D)
-    (old new : List Lane) : Type 0 where
+    (old new : List LaneOf) : Type 0 where
   pub ledger : IsLedger after.header after.logs after.shards
   pub says : WaveSays before.header.shape (journals count limit before) (journals count limit after) (flights count limit before) (flights count limit after)
       (opened count limit after) (faults count limit after) (capacity count limit after) old new
@@ -24,7 +24,7 @@ pub record IsWave {D : Type 0} (count limit : D → ℕ) (content : D → Option
   pub keeps_ledger : KeepsLedgerOf count limit content images before after
 
 module _ {D : Type 0} (count limit : D → ℕ) (content : D → Option (List ℕ)) (images : D → List ℕ → Type 0) (h : Header) (logs : List (LogOf D)) (shards : List (ShardOf D)) (logs' : List (LogOf D)) (shards' : List (ShardOf D))
-    (old new : List Lane) where
+    (old new : List LaneOf) where
   -- so it is where a wave ran at a ledger's nodes, each of which went on from what it was, with a journal of its header and what may come next in flight
   abbrev pub WaveLaw : Type 0
   WaveLaw = IsLedger h logs shards → length old ≡ h.shape.coordinators * h.shape.lanes

@@ -7,19 +7,25 @@ ghost use Rattle.ledger_nodes.specs.Waving.{IsWave};
 
 use crate::driving::{see_logs, see_shards};
 use crate::ledger::Ledger;
+use lane_driver::Source;
 use lane_waves::{Nodes, wave};
-use ledger_runs::Lane;
+use ledger_runs::Work;
 use outside::{Disk, Gate};
 use std::alloc::Global;
 use std::sync::Wait;
 use std::thread::Threads;
 
 /// Runs a wave of idle lanes at the nodes of a ledger, each lane on a thread of its own.
-pub fn run_wave<W: Threads + Wait + Sync, D: Disk + Send, G: Gate + Sync>(
+pub fn run_wave<
+    W: Threads + Wait + Sync,
+    D: Disk + Send,
+    X: Source + Send,
+    G: Gate + Sync,
+>(
     rt: &W,
     alloc: Global,
     ledger: Ledger<D>,
-    lanes: &mut Vec<Lane>,
+    lanes: &mut Vec<Work<X>>,
     gate: &G,
 ) -> Ledger<D>
     requires count { length lanes.old.items ≡ ledger.header.shape.coordinators * ledger.header.shape.lanes }

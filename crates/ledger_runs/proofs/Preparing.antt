@@ -9,7 +9,7 @@ use Rattle.run_laws.proofs.TurnKinds.{prepared_own}
 use Rattle.ledger_runs.specs.Telling.{SamePrepared}
 use Rattle.ledger_runs.specs.Pieces.{HasPrepared, HaveBegun}
 use Rattle.ledger_runs.specs.Faults.{GrowBy}
-use Rattle.ledger_runs.specs.declared.lanes.Lane.{Lane}
+use Rattle.ledger_runs.specs.Lanes.{LaneOf}
 use Rattle.ledger_runs.proofs.Others.{own_same}
 
 -- ---- records of another lane prepare nothing for this one
@@ -45,5 +45,5 @@ cut_of n xs some = cut_within n (length xs) xs some (omega arith)
 
 -- ---- the lanes of a wave
 
-pub none_begun : (K : Shape) (E : ℕ → List Record) (lanes : List Lane) → 0 < K.batch → HaveBegun K E E lanes
-none_begun K E lanes some lane x there = let pieces : (ps : List (List Compact)) × IsCut K.batch x.txs.items ps = cut_of K.batch x.txs.items some in ([], pieces.0, pieces.1, refl)
+pub none_begun : (K : Shape) (E : ℕ → List Record) (lanes : List LaneOf) → 0 < K.batch → HaveBegun K E E lanes
+none_begun K E lanes some lane x there = let pieces : (ps : List (List Compact)) × IsCut K.batch x.txs ps = cut_of K.batch x.txs some in ([], pieces.0, pieces.1, refl)

@@ -17,7 +17,7 @@ use Rattle.lane_driver.specs.declared.fault.LaneFaultKind.TheVariants.{DiskFault
 use Rattle.ledger_runs.specs.Turning.{phase_at, IsLaneOf}
 use Rattle.ledger_runs.specs.Waving.{EachLane}
 use Rattle.ledger_runs.specs.Pieces.{HasPrepared, IsNextPiece}
-use Rattle.ledger_runs.specs.declared.lanes.Lane.{Lane}
+use Rattle.ledger_runs.specs.Lanes.{LaneOf}
 
 -- all of these records are the lane's
 abbrev pub AreOfLane : ℕ → List Record → Type 0
@@ -160,5 +160,5 @@ abbrev pub AllRestSince : Shape → (ℕ → List Record) → (ℕ → List Reco
 AllRestSince K E X failed = ((n : ℕ) → X n ≡ E n) ⊎ ((lane : ℕ) → IsLaneOf K lane → RestsSince K lane E X failed)
 
 -- each lane that has stopped has its cause
-abbrev pub HaveCauses : Shape → (ℕ → List Record) → (ℕ → List Record) → (ℕ → Type 0) → (ℕ → ℕ → Type 0) → List Lane → Type 0
-HaveCauses K E X failed may_hold lanes = EachLane (λ lane x. (e : LaneFault) → x.fault ≡ Some e → IsLaneCause K lane (IsNextPiece K lane x.txs.items E X) E X failed may_hold e) lanes
+abbrev pub HaveCauses : Shape → (ℕ → List Record) → (ℕ → List Record) → (ℕ → Type 0) → (ℕ → ℕ → Type 0) → List LaneOf → Type 0
+HaveCauses K E X failed may_hold lanes = EachLane (λ lane x. (e : LaneFault) → x.fault ≡ Some e → IsLaneCause K lane (IsNextPiece K lane x.txs E X) E X failed may_hold e) lanes

@@ -6,7 +6,7 @@ use Rattle.run_laws.specs.Flights.{MayCome}
 use Rattle.ledger_runs.specs.Turning.{IsLaneOf}
 use Rattle.ledger_runs.specs.Waving.{AllProper}
 use Rattle.ledger_runs.specs.Pieces.{HasPrepared, IsNextPiece}
-use Rattle.ledger_runs.specs.declared.lanes.Lane.{Lane}
+use Rattle.ledger_runs.specs.Lanes.{LaneOf}
 
 -- each may come next at its node of these journals
 abbrev pub AllMayCome : Shape → List Output → List FullTx → (ℕ → List Record) → (ℕ → Option Record) → Type 0
@@ -28,5 +28,5 @@ Launches K next I J before after = (n t : ℕ) (b : Batch) (txs : List Compact) 
     → ((before n ≡ Some (Prepare t b txs)) × HasPrepared K b.lane [] I J) ⊎ (IsLaneOf K b.lane × next b.lane txs)
 
 -- for each lane the next piece of what it gets is
-abbrev pub AreNextPieces : Shape → List Lane → (ℕ → List Record) → (ℕ → List Record) → ℕ → List Compact → Type 0
-AreNextPieces K lanes I J lane txs = (x : Lane) → slice_get lanes lane ≡ Some x → IsNextPiece K lane x.txs.items I J txs
+abbrev pub AreNextPieces : Shape → List LaneOf → (ℕ → List Record) → (ℕ → List Record) → ℕ → List Compact → Type 0
+AreNextPieces K lanes I J lane txs = (x : LaneOf) → slice_get lanes lane ≡ Some x → IsNextPiece K lane x.txs I J txs

@@ -8,15 +8,15 @@ use Rattle.ledger_runs.specs.Turning.{phase_at, IsLaneOf}
 use Rattle.ledger_runs.specs.Waving.{EachLane}
 use Rattle.ledger_runs.specs.Pieces.{HasPreparedAll}
 use Rattle.ledger_runs.specs.Faults.{IsLaneCause, IsOpenCause}
-use Rattle.ledger_runs.specs.declared.lanes.Lane.{Lane}
+use Rattle.ledger_runs.specs.Lanes.{LaneOf}
 
 -- from journals I to J the lane has prepared all that it got, in pieces of a batch's size and in order, and is idle
 abbrev pub HasRun : Shape → ℕ → List Compact → (ℕ → List Record) → (ℕ → List Record) → Type 0
 HasRun K lane all I J = HasPreparedAll K lane all I J × (phase_at K J lane ≡ Idle)
 
 -- so has each lane that met no fault
-abbrev pub RunTheirs : Shape → (ℕ → List Record) → (ℕ → List Record) → List Lane → Type 0
-RunTheirs K I J lanes = EachLane (λ lane x. x.fault ≡ None → HasRun K lane x.txs.items I J) lanes
+abbrev pub RunTheirs : Shape → (ℕ → List Record) → (ℕ → List Record) → List LaneOf → Type 0
+RunTheirs K I J lanes = EachLane (λ lane x. x.fault ≡ None → HasRun K lane x.txs I J) lanes
 
 -- the fault is a lane's, has its cause, and each lesser lane has run all that it got
 pub record IsLeastFault (K : Shape) (sent : ℕ → List Compact) (next : ℕ → List Compact → Type 0) (I J : ℕ → List Record) (failed : ℕ → Type 0) (may_hold : ℕ → ℕ → Type 0) (e : LaneFault) : Type 0 where

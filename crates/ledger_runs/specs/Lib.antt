@@ -1,3 +1,4 @@
+pub mod Lanes
 pub mod Turning
 pub mod Waving
 pub mod Telling

@@ -4,7 +4,7 @@ use Rattle.cbdc_model.specs.Records.{Shape, Compact, Record}
 use Rattle.cbdc_model.specs.Ranges.{home_of}
 use Rattle.cbdc_model.specs.Waves.{IsCut, prepared}
 use Rattle.ledger_runs.specs.Waving.{EachLane}
-use Rattle.ledger_runs.specs.declared.lanes.Lane.{Lane}
+use Rattle.ledger_runs.specs.Lanes.{LaneOf}
 
 -- from journals I to J the lane has prepared these pieces, in order, and nothing else
 abbrev pub HasPrepared : Shape → ℕ → List (List Compact) → (ℕ → List Record) → (ℕ → List Record) → Type 0
@@ -23,8 +23,8 @@ abbrev pub IsNextPiece : Shape → ℕ → List Compact → (ℕ → List Record
 IsNextPiece K lane all I J txs = (pieces : List (List Compact)) × IsCut K.batch all pieces × IsNextOf K lane pieces I J txs
 
 -- each lane has prepared all of them
-abbrev pub HavePreparedAll : Shape → (ℕ → List Record) → (ℕ → List Record) → List Lane → Type 0
-HavePreparedAll K I J lanes = EachLane (λ lane x. HasPreparedAll K lane x.txs.items I J) lanes
+abbrev pub HavePreparedAll : Shape → (ℕ → List Record) → (ℕ → List Record) → List LaneOf → Type 0
+HavePreparedAll K I J lanes = EachLane (λ lane x. HasPreparedAll K lane x.txs I J) lanes
 
 -- ---- whether a lane has stopped or not
 
@@ -33,5 +33,5 @@ abbrev pub HasBegun : Shape → ℕ → List Compact → (ℕ → List Record) �
 HasBegun K lane all I J = (done : List (List Compact)) × (more : List (List Compact)) × IsCut K.batch all (done ++ more) × HasPrepared K lane done I J
 
 -- each lane has begun with what it gets
-abbrev pub HaveBegun : Shape → (ℕ → List Record) → (ℕ → List Record) → List Lane → Type 0
-HaveBegun K I J lanes = EachLane (λ lane x. HasBegun K lane x.txs.items I J) lanes
+abbrev pub HaveBegun : Shape → (ℕ → List Record) → (ℕ → List Record) → List LaneOf → Type 0
+HaveBegun K I J lanes = EachLane (λ lane x. HasBegun K lane x.txs I J) lanes

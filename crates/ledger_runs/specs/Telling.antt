@@ -1,5 +1,5 @@
 -- What lanes tell of their batches: what was decided of each transaction, by what their coordinators wrote down.
-use Rattle.std.specs.Prelude.{◌≡◌, ℕ, zero, suc, ◌<◌, List, [], ◌∷◌, ◌++◌, map, min, length, Option, Some, None}
+use Rattle.std.specs.Prelude.{◌≡◌, ℕ, zero, suc, ◌<◌, List, [], ◌∷◌, ◌++◌, map, min, length, Option, Some, None, slice_get}
 use Rattle.cbdc_model.specs.Records.{Shape, Batch, Outcome, Record, outcomes_of}
 use Rattle.cbdc_model.specs.Slots.{Idle}
 use Rattle.cbdc_model.specs.Ranges.{home_of}
@@ -11,6 +11,7 @@ use Rattle.recovery.specs.Open.{phase_of}
 use Rattle.ledger_runs.specs.Turning.{phase_at, listed, TookUp}
 use Rattle.ledger_runs.specs.Waving.{EachLane}
 use Rattle.ledger_runs.specs.declared.lanes.Decided.{Decided}
+use Rattle.ledger_runs.specs.Lanes.{LaneOf}
 use Rattle.ledger_runs.specs.declared.lanes.Lane.{Lane}
 
 -- ---- batches that were open
@@ -75,8 +76,8 @@ TellsNew K I J lane x = (more : List Record) → J (home_of K lane) ≡ more ++ 
     → KeepsDecided (J (home_of K lane)) (sized_onto lane more []) (kept_by x.decided.items) x.batches
 
 abbrev pub AllTell : Shape → (ℕ → List Record) → (ℕ → List Record) → List Lane → Type 0
-AllTell K I J lanes = EachLane (TellsNew K I J) lanes
+AllTell K I J lanes = (lane : ℕ) (x : Lane) → slice_get lanes lane ≡ Some x → TellsNew K I J lane x
 
 -- no lane has done anything
-abbrev pub AreFresh : List Lane → Type 0
+abbrev pub AreFresh : List LaneOf → Type 0
 AreFresh lanes = EachLane (λ lane x. (x.decided.items ≡ []) × (x.batches ≡ 0)) lanes

@@ -1,10 +1,11 @@
 // The lanes of a wave.
-ghost use Rattle.std.specs.Prelude.{◌≡◌, [], None, IfOk};
+ghost use Rattle.std.specs.Prelude.{◌≡◌, [], None};
 ghost use Rattle.ledger_runs.specs.Waving.{FirstFaultIs};
 
-use cbdc_types::{BatchId, CompactTx, Outcome};
-use lane_driver::LaneFault;
-use std::alloc::{AllocError, Global};
+use cbdc_types::{BatchId, Outcome};
+use lane_driver::{LaneFault, Source};
+use std::alloc::Global;
+use std::marker::Model;
 
 /// What was decided of a transaction, and in which batch.
 #[derive(Clone, Copy, Debug)]
@@ -13,39 +14,57 @@ pub struct Decided {
     pub outcome: Outcome,
 }
 
-/// A lane of a wave: its transactions, what was decided of those that it ran, how many batches that took, and why it stopped, if it
-/// did.
+/// What came of a lane of a wave: what was decided of the transactions that it ran, how many batches that took, and why it stopped, if
+/// it did.
 #[derive(Drop)]
 pub struct Lane {
-    pub txs: Vec<CompactTx>,
     pub decided: Vec<Decided>,
     pub batches: u64,
     pub fault: Option<LaneFault>,
 }
 
-impl Lane {
+/// A lane of a wave: where its transactions come from, how many times more each of their shard calls is made, and what came of it.
+/// Contracts see all that the source gives.
+#[derive(Drop)]
+pub struct Work<X: Source> {
+    pub source: X,
+    pub repeats: u32,
+    pub lane: Lane,
+}
+
+impl<X: Source> Model for Work<X> {
+    ghost use Rattle.ledger_runs.specs.Lanes.{LaneOf};
+
+    ghost Value = { LaneOf };
+
+    ghost view = { λ w. record { txs = X.all w.source; repeats = w.repeats; decided = w.lane.decided; batches = w.lane.batches; fault = w.lane.fault } };
+}
+
+impl<X: Source> Work<X> {
     /// A lane that has run none of its transactions.
-    pub fn new(alloc: Global, txs: Vec<CompactTx>) -> Result<Lane, AllocError>
-        ensures txs { IfOk result (λ l. l.txs ≡ txs) }
-        ensures fault { IfOk result (λ l. l.fault ≡ None) }
-        ensures fresh { IfOk result (λ l. (l.decided.items ≡ []) × (l.batches ≡ 0)) }
+    pub fn new(alloc: Global, source: X, repeats: u32) -> Work<X>
+        ensures txs { (result.txs ≡ X.all source) × (result.repeats ≡ repeats) }
+        ensures fault { result.fault ≡ None }
+        ensures fresh { (result.decided.items ≡ []) × (result.batches ≡ 0) }
     {
-        let decided = Vec::with_capacity(alloc, txs.len())?;
-        Ok(Lane {
-            txs,
-            decided,
-            batches: 0,
-            fault: None,
-        })
+        Work {
+            source,
+            repeats,
+            lane: Lane {
+                decided: Vec::new(alloc),
+                batches: 0,
+                fault: None,
+            },
+        }
     }
 }
 
 /// The fault of the least lane that has one.
-pub fn first_fault(lanes: &[Lane]) -> Option<LaneFault>
+pub fn first_fault<X: Source>(lanes: &[Work<X>]) -> Option<LaneFault>
     ensures { FirstFaultIs lanes.now result }
 {
-    'lanes: for lane in lanes {
-        if let Some(fault) = lane.fault {
+    'lanes: for work in lanes {
+        if let Some(fault) = work.lane.fault {
             return Some(fault);
         }
     }

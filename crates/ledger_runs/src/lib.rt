@@ -7,6 +7,6 @@ mod openings;
 mod resuming;
 mod turns;
 
-pub use lanes::{Decided, Lane, first_fault};
+pub use lanes::{Decided, Lane, Work, first_fault};
 pub use resuming::resume_all;
 pub use turns::Turns;

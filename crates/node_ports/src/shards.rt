@@ -101,7 +101,7 @@ impl<'r, W: Wait, D: Disk> NodeShards<'r, W, D> {
     }
 }
 
-impl<'r, W: Wait, D: Disk> PortSet for NodeShards<'r, W, D> {
+impl<'r, W: Wait, D: Disk, G: Gate> PortSet<G> for NodeShards<'r, W, D> {
     ghost sights = { λ p n. sight_at (sight_of D.count D.limit) p.nodes.items n };
 
     ghost alone = { true };
@@ -114,7 +114,7 @@ impl<'r, W: Wait, D: Disk> PortSet for NodeShards<'r, W, D> {
 
     ghost serves = { λ p l. Unit {0} };
 
-    fn lock<G: Gate>(
+    fn lock(
         &mut self,
         calls: &[(u32, LockCall)],
         out: &mut Vec<Result<Replied, NodeFault>>,
@@ -126,7 +126,7 @@ impl<'r, W: Wait, D: Disk> PortSet for NodeShards<'r, W, D> {
         }
     }
 
-    fn finish<G: Gate>(
+    fn finish(
         &mut self,
         calls: &[(u32, FinishCall)],
         out: &mut Vec<Result<Stamp, NodeFault>>,
@@ -138,7 +138,7 @@ impl<'r, W: Wait, D: Disk> PortSet for NodeShards<'r, W, D> {
         }
     }
 
-    fn forget<G: Gate>(
+    fn forget(
         &mut self,
         calls: &[(u32, ForgetCall)],
         out: &mut Vec<Result<Stamp, NodeFault>>,

@@ -12,11 +12,12 @@ use shard_node::ShardNode;
 // Tells how many bodies there are, and of each its digits, or how many bytes it has.
 fn tell_bodies(told: &mut Told, bodies: &Bodies) {
     told.named("bodies", bodies.len() as u128);
-    for body in bodies.as_slice() {
+    for i in 0..bodies.len() {
+        let body = bodies.body(i);
         if body.is_empty() || body.len() > 64 {
             told.named("bytes", body.len() as u128);
         } else {
-            told.digits(body.as_slice());
+            told.digits(body);
         }
     }
 }

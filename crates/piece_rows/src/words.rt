@@ -1,7 +1,7 @@
 // What words ask for.
 use cbdc_types::{Hash, Shape};
 use command_line::parse;
-use requests::{FileWord, Request, WordsFault};
+use requests::{FileWord, Request, RunOptions, WordsFault};
 use row_records::Told;
 use row_text::words_around;
 use std::alloc::{AllocError, Global};
@@ -29,6 +29,15 @@ fn tell_files(told: &mut Told, command: &str, first: &FileWord, others: &[FileWo
     }
 }
 
+// A run that repeats no call is told without a number for that.
+fn tell_run(told: &mut Told, verdicts: &FileWord, clients: &[FileWord], options: &RunOptions) {
+    tell_files(told, "run", verdicts, clients);
+    if options.repeats > 0 {
+        told.word("repeats");
+        told.number(options.repeats as u64);
+    }
+}
+
 fn tell_init(told: &mut Told, shape: &Shape, mint: &FileWord) {
     told.word("init");
     tell_shape(told, shape);
@@ -53,7 +62,11 @@ fn tell_gen(told: &mut Told, shape: &Shape, seed: u64, count: u32) {
 fn tell_request(told: &mut Told, request: &Request) {
     match request {
         Request::Init { shape, mint } => tell_init(told, shape, mint),
-        Request::Run { verdicts, clients } => tell_files(told, "run", verdicts, clients),
+        Request::Run {
+            verdicts,
+            clients,
+            options,
+        } => tell_run(told, verdicts, clients, options),
         Request::Recover => told.word("recover"),
         Request::Status { hashes } => tell_status(told, hashes),
         Request::Audit { mint, clients } => tell_files(told, "audit", mint, clients),

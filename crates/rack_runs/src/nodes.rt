@@ -28,6 +28,7 @@ use lane_driver::LaneFault;
 use ledger_nodes::Ledger;
 use outside::{Disk, Gate};
 use rack_ledgers::Nodes;
+use requests::RunOptions;
 use shard_node::ShardNode;
 use std::alloc::Global;
 use std::sync::Wait;
@@ -110,6 +111,7 @@ pub(crate) fn run_nodes<
     nodes: Nodes<D>,
     files: &[List<FullTx>],
     verifier: &V,
+    options: RunOptions,
     gate: &G,
 ) -> Behind<D>
     requires ledger { IsLedger nodes.header nodes.logs.items nodes.shards.items }
@@ -207,6 +209,7 @@ pub(crate) fn run_nodes<
         },
         files,
         verifier,
+        options,
         gate,
     );
     let Ledger {

@@ -21,6 +21,7 @@ use lane_driver::LaneFault;
 use ledger_nodes::Ledger;
 use outside::{Disk, Gate};
 use recovery::ResumedBatch;
+use requests::RunOptions;
 use std::alloc::Global;
 use std::sync::Wait;
 use std::thread::Threads;
@@ -51,6 +52,7 @@ pub(crate) fn run_over<
     ledger: Ledger<D>,
     files: &[List<FullTx>],
     verifier: &V,
+    options: RunOptions,
     gate: &G,
 ) -> OverRun<D>
     requires short { All (λ txs. All IsShort txs) files.now }
@@ -112,7 +114,7 @@ pub(crate) fn run_over<
             }),
         };
     }
-    let FilesRun { ledger, came } = run_files(rt, alloc, ledger, files, verifier, gate);
+    let FilesRun { ledger, came } = run_files(rt, alloc, ledger, files, verifier, options, gate);
     match came {
         Ok(waves) => OverRun {
             ledger,

@@ -16,6 +16,7 @@ use cbdc_types::{Answer, FullTx, List};
 use file_runs::Ran;
 use outside::{Gate, Rack};
 use rack_ledgers::close_nodes;
+use requests::RunOptions;
 use std::alloc::Global;
 use std::sync::Wait;
 use std::thread::Threads;
@@ -28,6 +29,7 @@ pub fn run_on<W: Wait + Threads + Sync, R: Rack, V: Verifier + Sync, G: Gate + S
     rack: &mut R,
     files: &[List<FullTx>],
     verifier: &V,
+    options: RunOptions,
     gate: &G,
 ) -> Result<Ran, Answer>
 where
@@ -61,7 +63,7 @@ where
         Ok(nodes) => nodes,
         Err(fault) => return Err(fault),
     };
-    let Behind { nodes, came } = run_nodes(rt, alloc, nodes, files, verifier, gate);
+    let Behind { nodes, came } = run_nodes(rt, alloc, nodes, files, verifier, options, gate);
     close_nodes(rack, nodes);
     came
 }
@@ -85,5 +87,6 @@ where
     ensures back { (n : ℕ) → R.can_take rack.new n }
     ensures later { (n : ℕ) → R.count rack.old n ≤ R.count rack.new n }
 {
-    run_on(rt, alloc, rack, &[], &AllGood, gate)
+    let options = RunOptions { repeats: 0 };
+    run_on(rt, alloc, rack, &[], &AllGood, options, gate)
 }

@@ -1,5 +1,5 @@
 -- Rows that were read, one after another.
-use Rattle.std.proofs.Common.{◌≡◌, ℕ, ◌+◌, ◌<◌, ◌≤◌, min, List, [], ◌∷◌, ◌++◌, length, take, drop, get_or, Some, sym, ◌∙◌, ap, ap₂, subst, arith, length-append, take-append-drop, add-one, suc, take_all, drop-cons}
+use Rattle.std.proofs.Common.{◌≡◌, ℕ, zero, ◌+◌, ◌<◌, ◌≤◌, min, List, [], ◌∷◌, ◌++◌, length, take, drop, get_or, Some, sym, ◌∙◌, ap, ap₂, subst, arith, length-append, take-append-drop, add-one, suc, take_all, drop-cons}
 use Rattle.std.specs.Prelude.{slice_get}
 use Rattle.std.proofs.lemmas.List.{map-append}
 use Rattle.std.proofs.lemmas.List.Elements.{All-push}
@@ -73,3 +73,9 @@ no_first [] b is none = tt
 no_first (c ∷ bodies) b is none =
     let same : b ≡ c = cc in
     subst (λ (x : List ℕ). (r : Record) → IsFirstBody x r → ⊥) same none
+
+-- what stands at a place, read with itself for a default
+pub at_place : (bodies : List (List ℕ)) (i : ℕ) (b : List ℕ) → slice_get bodies i ≡ Some b → b ≡ get_or bodies i b
+at_place [] i b h = cc
+at_place (x ∷ xs) zero b h = cc
+at_place (x ∷ xs) (suc i) b h = at_place xs i b h

@@ -13,8 +13,8 @@ ghost use Rattle.record_log.specs.Reading.{IsRead, IsUnread, IsNoLog, HoldsBefor
 ghost use Rattle.record_log.specs.Logs.{HoldsAll};
 
 use crate::RecordLog;
-use cbdc_types::{Header, List, NodeOpenFault, Record};
-use gate_journal::{Journal, OpenFault};
+use cbdc_types::{Header, NodeOpenFault, Record};
+use gate_journal::{Bodies, Journal, OpenFault};
 use outside::Disk;
 use record_codec::{RecordFault, read_first, read_record};
 use std::alloc::Global;
@@ -66,7 +66,7 @@ fn later_records(
     alloc: Global,
     header: Header,
     first: Record,
-    bodies: &[List<u8>],
+    bodies: &Bodies,
 ) -> Result<Read, NodeOpenFault>
     requires some { 0 < length bodies.now }
     requires first { MayHold header (first ∷ []) }
@@ -78,9 +78,9 @@ fn later_records(
         return Err(NodeOpenFault::Memory);
     };
     records.push(first).unwrap();
-    let mut at = row_size(bodies[0].as_slice());
+    let mut at = row_size(bodies.body(0));
     'bodies: for i in 1..bodies.len() {
-        let body = bodies[i].as_slice();
+        let body = bodies.body(i);
         match read_record(alloc, body, &header) {
             Ok(record) => match records.push(record) {
                 Ok(()) => {}
@@ -105,14 +105,14 @@ fn later_records(
 }
 
 // The records that bodies spell, where the first body is a first record.
-fn records_of(alloc: Global, bodies: &[List<u8>]) -> Result<Read, NodeOpenFault>
+fn records_of(alloc: Global, bodies: &Bodies) -> Result<Read, NodeOpenFault>
     ensures read { IfOk result (λ r. MayHold r.header r.records.items × IsRead r.header r.records.items r.cut bodies.now) }
     ensures unread { IfErr result (λ e. IsUnread bodies.now e) }
 {
     if bodies.is_empty() {
         return Err(NodeOpenFault::NotReady);
     }
-    match read_first(alloc, bodies[0].as_slice()) {
+    match read_first(alloc, bodies.body(0)) {
         Ok(first) => match header_of(&first) {
             Some(header) => later_records(alloc, header, first, bodies),
             None => unreachable!(),
@@ -184,7 +184,7 @@ fn cut_at(read: Read, damaged: u64) -> NoLog
 }
 
 // What is told of a disk that is damaged at a place behind these bodies.
-fn cut_of(alloc: Global, before: &[List<u8>], damaged: u64) -> NoLog
+fn cut_of(alloc: Global, before: &Bodies, damaged: u64) -> NoLog
     ensures told { result ≢ NoLog.Fault NodeOpenFault.DiskFault }
     ensures grammar { HoldsBefore result }
     ensures cut { (c : Items ℕ) → Breaks before.now c → damaged ≡ length (rows before.now) → 1 ≤ length before.now → IsNoLog c result }
@@ -204,7 +204,7 @@ fn refusal_of(alloc: Global, fault: OpenFault) -> NoLog
     ensures grammar { HoldsBefore result }
 {
     match fault {
-        OpenFault::Damaged { at, before } => cut_of(alloc, before.as_slice(), at),
+        OpenFault::Damaged { at, before } => cut_of(alloc, &before, at),
         OpenFault::DiskFault => NoLog::Fault(NodeOpenFault::DiskFault),
         OpenFault::NotReady => NoLog::Fault(NodeOpenFault::NotReady),
         OpenFault::Memory => NoLog::Fault(NodeOpenFault::Memory),
@@ -234,7 +234,7 @@ pub fn open_records<D: Disk>(alloc: Global, disk: D) -> Result<RecordLog<D>, (D,
         (λ e. Leaves D.tells_past D.moment D.images_since D.images disk e.0 (D.images disk)) }
 {
     match Journal::open(alloc, disk) {
-        Ok((journal, bodies)) => match records_of(alloc, bodies.as_slice()) {
+        Ok((journal, bodies)) => match records_of(alloc, &bodies) {
             Ok(read) => log_of(alloc, journal, read),
             Err(fault) => Err((journal.into_disk(), NoLog::Fault(fault))),
         },

@@ -35,7 +35,7 @@ fn keep(
 }
 
 // Takes each of these batches to its end, with its memory; there is room for what they tell.
-pub(crate) fn drive_lanes<S: PortSet, L: LogPort, G: Gate>(
+pub(crate) fn drive_lanes<S: PortSet<G>, L: LogPort, G: Gate>(
     shape: &Shape,
     lanes: &[OpenLane],
     mut rooms: Vec<LaneRoom>,

@@ -42,7 +42,7 @@ impl<'a> Plan<'a> {
     /// has more than one, no other lane writes meanwhile: a port tells of the lane that it is called for and lets records of all
     /// others come, those of the list's later lanes too. Where none write, the lanes that are not listed are as before. A lane that
     /// meets a fault ends; the others go on. The answer is then the least lane's fault. It takes no memory of its own.
-    pub fn go<S: PortSet, L: LogPort, G: Gate>(
+    pub fn go<S: PortSet<G>, L: LogPort, G: Gate>(
         self,
         ports: &mut Ports<S, L>,
         gate: &G,

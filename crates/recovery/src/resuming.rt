@@ -20,7 +20,7 @@ use lane_driver::{
 use outside::Gate;
 
 // A prepared batch asks Lock again and goes on.
-fn resume_prepared<S: PortSet, L: LogPort, G: Gate>(
+fn resume_prepared<S: PortSet<G>, L: LogPort, G: Gate>(
     shape: &Shape,
     unfinished: &OpenLane,
     room: BatchRoom,
@@ -68,7 +68,7 @@ fn resume_prepared<S: PortSet, L: LogPort, G: Gate>(
 }
 
 // A committed batch asks Finish and goes on.
-fn resume_committed<S: PortSet, L: LogPort, G: Gate>(
+fn resume_committed<S: PortSet<G>, L: LogPort, G: Gate>(
     shape: &Shape,
     unfinished: &OpenLane,
     room: BatchRoom,
@@ -131,7 +131,7 @@ fn resume_committed<S: PortSet, L: LogPort, G: Gate>(
 }
 
 // A discarded batch asks Forget and goes on.
-fn resume_discarded<S: PortSet, L: LogPort, G: Gate>(
+fn resume_discarded<S: PortSet<G>, L: LogPort, G: Gate>(
     shape: &Shape,
     unfinished: &OpenLane,
     room: BatchRoom,
@@ -199,7 +199,7 @@ fn resume_discarded<S: PortSet, L: LogPort, G: Gate>(
 }
 
 // Takes one open batch to its end, from the phase in which it stands.
-pub(crate) fn resume_lane<S: PortSet, L: LogPort, G: Gate>(
+pub(crate) fn resume_lane<S: PortSet<G>, L: LogPort, G: Gate>(
     shape: &Shape,
     unfinished: &OpenLane,
     room: LaneRoom,

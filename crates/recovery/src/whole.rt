@@ -14,7 +14,7 @@ use std::alloc::Global;
 
 /// Takes each open batch of a coordinator's lanes to its end, as `Plan::go` does, and takes all memory for that before the first
 /// call: where it runs out of it, no node was asked.
-pub fn resume<S: PortSet, L: LogPort, G: Gate>(
+pub fn resume<S: PortSet<G>, L: LogPort, G: Gate>(
     alloc: Global,
     shape: &Shape,
     lanes: &[OpenLane],

@@ -21,6 +21,13 @@ pub struct FileWord<'a> {
     pub place: u64,
 }
 
+/// How client files are run, where words say more than which.
+#[derive(Clone, Copy, Debug)]
+pub struct RunOptions {
+    /// How many times more each shard call of a new batch is made, 0 to 3.
+    pub repeats: u32,
+}
+
 /// What the words ask for.
 #[derive(Drop)]
 pub enum Request<'a> {
@@ -33,6 +40,7 @@ pub enum Request<'a> {
     Run {
         verdicts: FileWord<'a>,
         clients: Vec<FileWord<'a>>,
+        options: RunOptions,
     },
     /// Finish the batches that are open.
     Recover,

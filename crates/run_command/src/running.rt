@@ -14,7 +14,7 @@ use input_files::{Inputs, inputs_in};
 use line_text::WriteFault;
 use outside::{Gate, Inbox, Rack, Sink};
 use rack_runs::run_on;
-use requests::FileWord;
+use requests::{FileWord, RunOptions};
 use run_report::write_report;
 use std::alloc::Global;
 use std::sync::Wait;
@@ -33,6 +33,7 @@ fn run_all<W: Wait + Threads + Sync, I: Inbox, R: Rack, G: Gate + Sync>(
     alloc: Global,
     clients: &[FileWord],
     verdicts: &FileWord,
+    options: RunOptions,
     inbox: &mut I,
     rack: &mut R,
     gate: &G,
@@ -52,7 +53,15 @@ where
         Ok(inputs) => inputs,
         Err(fault) => return Err(fault),
     };
-    match run_on(rt, alloc, rack, &inputs.files, &inputs.verdicts, gate) {
+    match run_on(
+        rt,
+        alloc,
+        rack,
+        &inputs.files,
+        &inputs.verdicts,
+        options,
+        gate,
+    ) {
         Ok(ran) => Ok(FilesRan { inputs, ran }),
         Err(fault) => Err(fault),
     }
@@ -86,6 +95,7 @@ pub fn run<W: Wait + Threads + Sync, I: Inbox, R: Rack, O: Sink, G: Gate + Sync>
     alloc: Global,
     clients: &[FileWord],
     verdicts: &FileWord,
+    options: RunOptions,
     inbox: &mut I,
     rack: &mut R,
     out: &mut O,
@@ -105,7 +115,7 @@ where
     ensures files { (name : Text) → I.file inbox.new name ≡ I.file inbox.old name }
     ensures back { (n : ℕ) → R.can_take rack.new n }
 {
-    let mut done = match run_all(rt, alloc, clients, verdicts, inbox, rack, gate) {
+    let mut done = match run_all(rt, alloc, clients, verdicts, options, inbox, rack, gate) {
         Ok(done) => done,
         Err(fault) => return fault,
     };

@@ -1,5 +1,5 @@
 // What the entries of a part claim.
-ghost use Rattle.std.specs.Prelude.{◌≡◌, ◌||◌, [], OnOk};
+ghost use Rattle.std.specs.Prelude.{◌≡◌, ◌||◌, [], IfOk, OnOk};
 ghost use Rattle.cbdc_model.specs.Records.{Digest};
 ghost use Rattle.cbdc_model.specs.Status.{has};
 
@@ -9,12 +9,13 @@ use shard_table::Table;
 use std::alloc::{AllocError, Global};
 use std::marker::Model;
 
-// So many hashes are kept in a list and compared one by one; those of a large part go into a table.
+// The hashes of a part that has no more than so many are kept in a list and compared one by one; those of a larger one go into a table.
 const FEW: usize = 16;
 
 /// The hashes that the Held entries of a part claim.
 #[derive(Drop)]
 pub struct Claims {
+    room: usize,
     few: Vec<Hash>,
     many: Table,
 }
@@ -51,15 +52,27 @@ fn put_all(table: &mut Table, hashes: &[Hash]) -> Result<(), AllocError>
     Ok(())
 }
 
+// A table for the hashes of a part with so many, which has no room where they go into a list.
+fn table_for(alloc: Global, count: u64) -> Result<Table, AllocError>
+    ensures { IfOk result (λ t. t.hashes ≡ []) }
+{
+    let mut table = Table::new(alloc);
+    if count > FEW as u64 {
+        table.reserve(count)?;
+    }
+    Ok(table)
+}
+
 impl Claims {
-    /// No hash, which takes no memory.
-    pub fn new(alloc: Global) -> Claims
-        ensures { result ≡ [] }
+    /// No hash, where the part has so many.
+    pub fn of_part(alloc: Global, count: u64) -> Result<Claims, AllocError>
+        ensures { IfOk result (λ c. c ≡ []) }
     {
-        Claims {
+        Ok(Claims {
+            room: if count > FEW as u64 { 0 } else { FEW },
             few: Vec::new(alloc),
-            many: Table::new(alloc),
-        }
+            many: table_for(alloc, count)?,
+        })
     }
 
     /// Whether the hash is claimed. Takes no memory.
@@ -73,7 +86,7 @@ impl Claims {
     pub fn claim(&mut self, inputs: &[Hash]) -> Result<(), AllocError>
         ensures { OnOk result ((y : Digest) → has self.new y ≡ (has inputs.now y || has self.old y)) }
     {
-        if inputs.len() <= FEW.saturating_sub(self.few.len()) {
+        if inputs.len() <= self.room.saturating_sub(self.few.len()) {
             self.few.extend_from_slice(inputs)?;
         } else {
             put_all(&mut self.many, inputs)?;

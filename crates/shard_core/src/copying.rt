@@ -2,7 +2,7 @@
 ghost use Rattle.std.specs.Prelude.{◌≡◌, ◌↔◌, length, IfOk, IsTrue};
 ghost use Rattle.cbdc_model.specs.Replies.{entries as parts_of, replies as replies_of};
 
-use cbdc_types::{Answered, Entry, List, Reply};
+use cbdc_types::{Answered, Entry, Hash, List, Reply};
 use std::alloc::{AllocError, Global};
 
 fn is_same_reply(x: &Reply, y: &Reply) -> bool
@@ -39,24 +39,68 @@ fn copy_of_entry(alloc: Global, entry: &Entry) -> Result<Entry, AllocError>
     })
 }
 
-// A copy of a part.
-pub fn copy_of(alloc: Global, entries: &[Entry]) -> Result<Vec<Entry>, AllocError>
+// A list of these hashes, in this memory if they have room there.
+fn list_in(alloc: Global, memory: List<Hash>, xs: &[Hash]) -> Result<List<Hash>, AllocError>
+    ensures { IfOk result (λ l. l ≡ xs.now) }
+{
+    let mut list = memory.into_vec();
+    if list.capacity() < xs.len() {
+        return Ok(List::from_vec(Vec::from_slice(alloc, xs)?));
+    }
+    list.clear();
+    list.extend_from_slice(xs)?;
+    Ok(List::from_vec(list))
+}
+
+// A copy of an entry, in the memory of the last of these entries, which goes.
+fn copy_in(alloc: Global, memory: &mut Vec<Entry>, entry: &Entry) -> Result<Entry, AllocError>
+    ensures { IfOk result (λ e. e ≡ entry.now) }
+{
+    let Some(old) = memory.pop() else {
+        return copy_of_entry(alloc, entry);
+    };
+    let Entry {
+        place: _,
+        id: _,
+        inputs,
+        outputs,
+    } = old;
+    let inputs = list_in(alloc, inputs, entry.inputs.as_slice())?;
+    let outputs = list_in(alloc, outputs, entry.outputs.as_slice())?;
+    Ok(Entry {
+        place: entry.place,
+        id: entry.id,
+        inputs,
+        outputs,
+    })
+}
+
+// A copy of a part, in the memory of these entries as far as it goes.
+pub fn copy_of(
+    alloc: Global,
+    memory: &mut Vec<Entry>,
+    entries: &[Entry],
+) -> Result<Vec<Entry>, AllocError>
     ensures { IfOk result (λ v. v.items ≡ entries.now) }
 {
     let mut copies = Vec::with_capacity(alloc, entries.len())?;
     for entry in entries {
-        copies.push(copy_of_entry(alloc, entry)?)?;
+        copies.push(copy_in(alloc, memory, entry)?)?;
     }
     Ok(copies)
 }
 
-// The entries of a Lock without their replies.
-pub fn entries_of(alloc: Global, answered: &[Answered]) -> Result<Vec<Entry>, AllocError>
+// The entries of a Lock without their replies, in the memory of these entries as far as it goes.
+pub fn entries_of(
+    alloc: Global,
+    memory: &mut Vec<Entry>,
+    answered: &[Answered],
+) -> Result<Vec<Entry>, AllocError>
     ensures { IfOk result (λ v. v.items ≡ parts_of answered.now) }
 {
     let mut entries = Vec::with_capacity(alloc, answered.len())?;
     for one in answered {
-        entries.push(copy_of_entry(alloc, &one.entry)?)?;
+        entries.push(copy_in(alloc, memory, &one.entry)?)?;
     }
     Ok(entries)
 }

@@ -53,6 +53,8 @@ pub struct ShardCore {
     decisions: Vec<Vec<bool>>,
     // How many hashes the locked batches may still bring to the table.
     owed: u64,
+    // For each lane, the part that was forgotten last, whose memory is that of the next one.
+    spare: Vec<Vec<Entry>>,
     ghost lanes: { length slots ≡ header.shape.coordinators * header.shape.lanes },
     ghost memories: { length decisions.items ≡ header.shape.coordinators * header.shape.lanes },
     ghost clock: { last < 2 ^ 63 },
@@ -93,6 +95,39 @@ fn empty_decisions(alloc: Global, lanes: u32) -> Result<Vec<Vec<bool>>, AllocErr
         decisions.push(Vec::new(alloc))?;
     }
     Ok(decisions)
+}
+
+// A part of no entries for each lane.
+fn no_parts(alloc: Global, lanes: u32) -> Result<Vec<Vec<Entry>>, AllocError> {
+    let mut parts = Vec::with_capacity(alloc, lanes as usize)?;
+    for _lane in 0..lanes {
+        parts.push(Vec::new(alloc))?;
+    }
+    Ok(parts)
+}
+
+// Takes a lane's part out.
+fn taken(alloc: Global, parts: &mut Vec<Vec<Entry>>, lane: LaneId) -> Vec<Entry> {
+    match parts.get_mut(lane.0 as usize) {
+        Some(part) => mem::replace(part, Vec::new(alloc)),
+        None => Vec::new(alloc),
+    }
+}
+
+// Keeps a part as the lane's.
+fn keep(parts: &mut Vec<Vec<Entry>>, lane: LaneId, part: Vec<Entry>) {
+    if let Some(place) = parts.get_mut(lane.0 as usize) {
+        *place = part;
+    }
+}
+
+// The part of a finished batch, none of another one.
+fn finished_part(alloc: Global, slot: Slot) -> Vec<Entry> {
+    match slot {
+        Slot::Finished(_, part, _, _, _, _) => part.into_vec(),
+        Slot::Idle(_, _) => Vec::new(alloc),
+        Slot::Locked(_, _, _, _) => Vec::new(alloc),
+    }
 }
 
 // Puts other memory in the place of a lane's.
@@ -174,6 +209,7 @@ impl ShardCore {
     ghost use Rattle.shard_core.specs.Admitted.{IsAdmitted, IsLockAdmitted, IsFinishAdmitted, IsForgetAdmitted, IsOfLane, IsFinishable};
     ghost use Rattle.shard_core.specs.Next.{StandsFor, IsOpenTo};
     ghost use Rattle.cbdc_model.specs.After.{After, Follows};
+    ghost use Rattle.cbdc_model.specs.Grammar.{IsInGrammar};
     ghost use Rattle.cbdc_model.specs.Room.{kept_room as room_kept};
     ghost use Rattle.cbdc_model.specs.Fates.{fate};
     ghost use Rattle.shard_core.specs.Counts.{Counts};
@@ -186,6 +222,7 @@ impl ShardCore {
         let lanes = header.shape.lane_count();
         let slots = Slots::new(alloc, lanes)?;
         let decisions = empty_decisions(alloc, lanes)?;
+        let spare = no_parts(alloc, lanes)?;
         let unspent = table_of(alloc, hashes)?;
         Ok(ShardCore {
             alloc,
@@ -197,6 +234,7 @@ impl ShardCore {
             ready: None,
             decisions,
             owed: 0,
+            spare,
         })
     }
 
@@ -245,7 +283,8 @@ impl ShardCore {
                     entries,
                     &call.batch,
                 )?;
-                let part = copy_of(self.alloc, entries)?;
+                let mut spare = taken(self.alloc, &mut self.spare, call.batch.lane);
+                let part = copy_of(self.alloc, &mut spare, entries)?;
                 let kept = Vec::from_slice(self.alloc, replies.as_slice())?;
                 self.make_room(List::from_vec(part), List::from_vec(kept))?;
                 Ok(LockPlan::Append(Replied {
@@ -307,6 +346,16 @@ impl ShardCore {
         if !is_in_grammar(&self.header, r) {
             return Ok(false);
         }
+        self.admit_known(r)
+    }
+
+    /// The same of a record that is known to be in the grammar of the shard's journals.
+    pub fn admit_known(&mut self, r: &Record) -> Result<bool, AllocError>
+        requires { IsInGrammar self.old.header r.now }
+        ensures same { IsSameState self.old self.new }
+        ensures admitted { IfOk result (λ yes. OnTrue yes (IsAdmitted self.new r.now)) }
+        ensures next { IfOk result (λ yes. (J : Items Record) → StandsFor self.old J → (IsTrue yes ↔ After self.old.header J r.now)) }
+    {
         match r {
             Record::Lock {
                 stamp,
@@ -338,7 +387,8 @@ impl ShardCore {
         if !self.is_open_to(stamp, batch) {
             return Ok(false);
         }
-        let entries = entries_of(self.alloc, answered)?;
+        let mut spare = taken(self.alloc, &mut self.spare, batch.lane);
+        let entries = entries_of(self.alloc, &mut spare, answered)?;
         let replies = replies_to(
             self.alloc,
             &self.unspent,
@@ -477,8 +527,10 @@ impl ShardCore {
         let Record::Forget { stamp, batch } = r else {
             unreachable!();
         };
+        let forgotten = self.slots.take(batch.lane);
         self.slots.put(batch.lane, Slot::Idle(batch.number, *stamp));
         self.last = *stamp;
+        keep(&mut self.spare, batch.lane, finished_part(self.alloc, forgotten));
     }
 
     /// What the shard knows of a hash. Takes no memory.

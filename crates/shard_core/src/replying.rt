@@ -5,6 +5,7 @@ ghost use Rattle.cbdc_model.specs.Status.{has, status};
 ghost use Rattle.cbdc_model.specs.Replies.{refusal, reply_to as the_reply, answered, replies as replies_in};
 ghost use Rattle.shard_core.specs.Agrees.{Agrees};
 
+use crate::applying::hash_count;
 use crate::claiming::Claims;
 use crate::comparing::is_held;
 use cbdc_types::{BatchId, Entry, Hash, Reply, Status};
@@ -73,7 +74,7 @@ pub fn replies_to(
     ensures len { IfOk result (λ v. length v.items ≡ length entries.now) }
     ensures replies { IfOk result (λ v. (J : Items Record) → Agrees unspent.now.hashes locks.now.held J → v.items ≡ replies_in (answered J batch.now [] entries.now)) }
 {
-    let mut claimed = Claims::new(alloc);
+    let mut claimed = Claims::of_part(alloc, hash_count(entries))?;
     let mut replies = Vec::with_capacity(alloc, entries.len())?;
     for entry in entries {
         let inputs = entry.inputs.as_slice();

@@ -65,7 +65,7 @@ fn replayed(alloc: Global, header: &Header, records: &[Record]) -> Result<ShardC
     let mut at = size_of_record(&records[0]);
     'records: for i in 1..records.len() {
         let next = &records[i];
-        match core.admit(next) {
+        match core.admit_known(next) {
             Ok(true) => apply(&mut core, next),
             Ok(false) => return Err(NodeOpenFault::Damaged { at }),
             Err(_) => return Err(NodeOpenFault::Memory),

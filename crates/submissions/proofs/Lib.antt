@@ -1,4 +1,3 @@
 pub mod Shares
 pub mod Placing
-pub mod Beside
 pub mod Turning

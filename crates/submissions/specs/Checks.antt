@@ -1,15 +1,17 @@
 -- What sentinels make of the submissions of a file.
-use Rattle.std.specs.Prelude.{◌≡◌, ◌≢◌, ◌↔◌, ℕ, ◌*◌, ◌%◌, Bool, true, List, [], ◌∷◌, ◌++◌, length, take, slice_get, Some, All, Contains}
+use Rattle.std.specs.Prelude.{◌≡◌, ◌≢◌, ◌↔◌, ℕ, ◌*◌, ◌%◌, Bool, true, List, [], ◌∷◌, ◌++◌, length, take, slice_get, Option, None, Some, All, Contains}
 use Rattle.std.specs.Global.{Vec}
 use Rattle.cbdc_types.specs.declared.tx.CompactTx.{CompactTx}
 use Rattle.cbdc_model.specs.Records.{Shape}
 use Rattle.cbdc_model.specs.Coins.{FullTx, compact, tx_id}
 use Rattle.cbdc_model.specs.Waves.{sent_to}
+use Rattle.base_types.specs.declared.faults.Refusal.{Refusal}
 use Rattle.verifier_port.specs.declared.Verdict.{Verdict}
 use Rattle.sentinel.specs.FirstRefusal.{IsSound, IsFirstRefusal}
 use Rattle.submissions.specs.declared.Checked.{Checked}
 use Rattle.submissions.specs.declared.Judgement.{Judgement}
 use Rattle.submissions.specs.declared.Judgement.TheVariants.{Refused, Sound}
+use Rattle.submissions.specs.declared.Judged.{Judged}
 use Rattle.submissions.specs.declared.Ruled.{Ruled}
 use Rattle.submissions.specs.declared.Ruling.{Ruling}
 use Rattle.submissions.specs.declared.Ruling.TheVariants as ruling
@@ -26,6 +28,14 @@ TellsSound verdicts sound = (t : FullTx) → (sound t ≡ true) ↔ IsSound t (v
 -- nothing in any list
 abbrev pub AllEmpty : List (Vec CompactTx) → Type 0
 AllEmpty lanes = (lane : ℕ) (list : Vec CompactTx) → slice_get lanes lane ≡ Some list → list.items ≡ []
+
+-- what a sentinel says of a transaction by itself: it is sound, or the first reason to refuse it
+abbrev pub IsRefusal : VerdictsOf → FullTx → Option Refusal → Type 0
+IsRefusal verdicts t None = IsSound t (verdicts (tx_id t))
+IsRefusal verdicts t (Some r) = IsFirstRefusal t (verdicts (tx_id t)) r
+
+abbrev pub IsJudged : VerdictsOf → FullTx → Judged → Type 0
+IsJudged verdicts t j = (j.id ≡ tx_id t) × IsRefusal verdicts t j.refusal
 
 -- what a sentinel makes of a transaction by itself: the first reason to refuse it; or it is sound, and this is its compact form
 abbrev pub IsRuling : VerdictsOf → FullTx → Ruling → Type 0

@@ -1,18 +1,17 @@
 //! What sentinels make of a file's submissions: an id for each, and a refusal or a place on a lane.
 #![tactic(auto)]
 
-ghost use Rattle.std.specs.Prelude.{◌≡◌, ◌+◌, ◌%◌, ◌<◌, ℕ, List, length, IfOk};
+ghost use Rattle.std.specs.Prelude.{◌≡◌, ◌+◌, ◌%◌, ◌<◌, ℕ, List, length, IfOk, IfErr};
 ghost use Rattle.std.specs.List.{AllZip};
-ghost use Rattle.cbdc_model.specs.Coins.{FullTx as Full};
-ghost use Rattle.submissions.specs.Checks.{VerdictsOf, AllEmpty, IsRuled, IsDealt, IsDealtAt, AreSubmitted};
+ghost use Rattle.cbdc_model.specs.Coins.{FullTx as Full, tx_id as spec_id};
+ghost use Rattle.sentinel.specs.FirstRefusal.{IsSound};
+ghost use Rattle.submissions.specs.Checks.{VerdictsOf, AllEmpty, IsJudged, IsRuled, IsDealt, IsDealtAt, AreSubmitted};
 
 use cbdc_types::{CompactTx, FullTx, Hash, Refusal, Shape};
 use compact_tx::compact_as;
 use identifiers::tx_id;
-use rayon::prelude::*;
 use sentinel::check;
 use std::alloc::{AllocError, Global};
-use std::thread::Threads;
 use verifier_port::Verifier;
 
 /// What a sentinel says of a submission.
@@ -30,18 +29,25 @@ pub struct Checked {
     pub judgement: Judgement,
 }
 
-// What a sentinel makes of a transaction: the first reason to refuse it, or its compact form.
+/// What a sentinel makes of a transaction: the first reason to refuse it, or its compact form.
 #[derive(Drop)]
-enum Ruling {
+pub enum Ruling {
     Refused(Refusal),
     Sound(CompactTx),
 }
 
-// A transaction's id, and what a sentinel makes of it.
+/// A transaction's id, and what a sentinel makes of it.
 #[derive(Drop)]
-struct Ruled {
-    id: Hash,
-    ruling: Ruling,
+pub struct Ruled {
+    pub id: Hash,
+    pub ruling: Ruling,
+}
+
+/// A transaction's id, and the first reason to refuse it, if there is one.
+#[derive(Clone, Copy, Debug)]
+pub struct Judged {
+    pub id: Hash,
+    pub refusal: Option<Refusal>,
 }
 
 /// The submissions of a file: what a sentinel says of each, and the compact forms of the sound ones by lane, in order.
@@ -63,16 +69,36 @@ fn empty_lanes(alloc: Global, count: u32) -> Result<Vec<Vec<CompactTx>>, AllocEr
     Ok(lanes)
 }
 
-// What a sentinel makes of a transaction.
-fn rule<V: Verifier>(alloc: Global, tx: &FullTx, verifier: &V) -> Result<Ruled, AllocError>
-    ensures { IfOk result (IsRuled (V.verdict_of verifier.now) tx.now) }
+/// What a sentinel says of a transaction. It takes no memory.
+pub fn judge<V: Verifier>(tx: &FullTx, verifier: &V) -> Judged
+    ensures { IsJudged (V.verdict_of verifier.now) tx.now result }
 {
     let id = tx_id(tx);
-    let ruling = match check(tx, &id, verifier) {
-        Ok(()) => Ruling::Sound(compact_as(alloc, &id, tx)?),
-        Err(refusal) => Ruling::Refused(refusal),
-    };
-    Ok(Ruled { id, ruling })
+    match check(tx, &id, verifier) {
+        Ok(()) => Judged { id, refusal: None },
+        Err(refusal) => Judged {
+            id,
+            refusal: Some(refusal),
+        },
+    }
+}
+
+/// What a sentinel makes of a transaction. Memory runs out only for one that is sound.
+pub fn rule<V: Verifier>(alloc: Global, tx: &FullTx, verifier: &V) -> Result<Ruled, AllocError>
+    ensures ruled { IfOk result (IsRuled (V.verdict_of verifier.now) tx.now) }
+    ensures sound { IfErr result (λ _. IsSound tx.now (V.verdict_of verifier.now (spec_id tx.now))) }
+{
+    let id = tx_id(tx);
+    match check(tx, &id, verifier) {
+        Ok(()) => Ok(Ruled {
+            id,
+            ruling: Ruling::Sound(compact_as(alloc, &id, tx)?),
+        }),
+        Err(refusal) => Ok(Ruled {
+            id,
+            ruling: Ruling::Refused(refusal),
+        }),
+    }
 }
 
 // The same of each, one after another.
@@ -88,24 +114,6 @@ fn rule_each<V: Verifier>(
         ruled.push(rule(alloc, tx, verifier)?)?;
     }
     Ok(ruled)
-}
-
-// The same of each, in two pieces a processor where there are many.
-fn rule_beside<W: Threads + Sync, V: Verifier + Sync>(
-    rt: &W,
-    alloc: Global,
-    txs: &[FullTx],
-    verifier: &V,
-) -> Result<Vec<Ruled>, AllocError>
-    ensures { IfOk result (λ v. AllZip (IsRuled (V.verdict_of verifier.now)) txs.now v.items) }
-{
-    txs.par_iter()
-        .map(
-            |tx: &FullTx| -> Result<Ruled, AllocError>
-                ensures { IfOk result (IsRuled (V.verdict_of verifier.entry.now) tx.now) }
-            { rule(alloc, tx, verifier) },
-        )
-        .collect::<Result<Vec<Ruled>, AllocError>>(rt, alloc)?
 }
 
 // Keeps what was made of a transaction that goes to this lane; where it is sound, its compact form goes to the end of the lane's list.
@@ -175,17 +183,4 @@ pub fn check_all<V: Verifier>(
     ensures { IfOk result (AreSubmitted shape.now (V.verdict_of verifier.now) txs.now) }
 {
     deal(alloc, rule_each(alloc, txs, verifier)?, shape)
-}
-
-/// The same with all processors: each takes some of the submissions.
-pub fn check_all_beside<W: Threads + Sync, V: Verifier + Sync>(
-    rt: &W,
-    alloc: Global,
-    txs: &[FullTx],
-    shape: &Shape,
-    verifier: &V,
-) -> Result<Submitted, AllocError>
-    ensures { IfOk result (AreSubmitted shape.now (V.verdict_of verifier.now) txs.now) }
-{
-    deal(alloc, rule_beside(rt, alloc, txs, verifier)?, shape)
 }

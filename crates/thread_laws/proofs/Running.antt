@@ -14,7 +14,7 @@ use Rattle.run_laws.specs.Flights.{flying}
 use Rattle.run_laws.proofs.Seen.{seen_log, seen_shard}
 use Rattle.run_laws.proofs.Rests.{checked_rest_law}
 use Rattle.turn_laws.proofs.Flying.{after_here}
-use Rattle.ledger_runs.specs.declared.lanes.Lane.{Lane}
+use Rattle.ledger_runs.specs.Lanes.{LaneOf}
 use Rattle.ledger_runs.proofs.WaveKeeping.{at_place}
 use Rattle.node_lock.specs.declared.views.Hand.{Hand}
 use Rattle.node_lock.specs.Moving.{Same}
@@ -201,7 +201,7 @@ module _ (K : Shape) (logs shards logs' shards' : ℕ → Sight) (nodes : WaveNo
   nothing : (s : ℕ) → K.shards ≤ s → Done (shards s) [] [] (shards' s)
   nothing s le = record { log = []; list = ap (λ x. x.seen) (nodes.beyond s le); drawn = tt; cover = λ x. refl; hands = tt; flight = inl (nodes.next.beyond s le) }
 
-  module _ (old new : List Lane) (places : length old ≡ K.coordinators * K.lanes) where
+  module _ (old new : List LaneOf) (places : length old ≡ K.coordinators * K.lanes) where
     abbrev Says : Type 0
     Says = WaveSays K E X (flying K logs shards) (flying K logs' shards') (opened_by K logs' shards') (faults_by K logs' shards') (capacity_by K logs' shards') old new
 
@@ -281,7 +281,7 @@ module _ (K : Shape) (logs shards logs' shards' : ℕ → Sight) (nodes : WaveNo
           at true e = let low = lt_of n K.coordinators e in ((ran.log_ran n low).same, nodes.log_shapes n low)
           at false e = let high : s < K.shards = let le = le_of n K.coordinators e in omega (arith, le, lt) in ((ran.shard_ran s high).same, nodes.shard_shapes s high)
 
-      module _ (lane : ℕ) (x y : Lane) (here : slice_get old lane ≡ Some x) (there : slice_get new lane ≡ Some y) where
+      module _ (lane : ℕ) (x y : LaneOf) (here : slice_get old lane ≡ Some x) (there : slice_get new lane ≡ Some y) where
         r : LaneRan K logs shards ran.log_hands ran.shard_hands lane x y
         r = ran.lanes lane x y here there
 
@@ -335,7 +335,7 @@ module _ (K : Shape) (logs shards logs' shards' : ℕ → Sight) (nodes : WaveNo
           let on : o.faults ≤ p.faults = s.later in
           omega (arith, start, end, last_one, on)
 
-      lane_at : (lane : ℕ) → lane < K.coordinators * K.lanes → (x : Lane) × (y : Lane) × LaneRan K logs shards ran.log_hands ran.shard_hands lane x y
+      lane_at : (lane : ℕ) → lane < K.coordinators * K.lanes → (x : LaneOf) × (y : LaneOf) × LaneRan K logs shards ran.log_hands ran.shard_hands lane x y
       lane_at lane lt =
           let o = at_place old lane (subst (λ n. lane < n) (sym places) lt) in
           let n = at_place new lane (subst (λ n. lane < n) (sym (ran.count ∙ places)) lt) in

@@ -14,7 +14,7 @@ use Rattle.run_laws.specs.Faults.{opened_by, faults_by, capacity_by}
 use Rattle.run_laws.specs.Flights.{flying}
 use Rattle.turn_laws.specs.Nodes.{AreNodes, AreNext}
 use Rattle.ledger_runs.specs.Turning.{IsLaneOf}
-use Rattle.ledger_runs.specs.declared.lanes.Lane.{Lane}
+use Rattle.ledger_runs.specs.Lanes.{LaneOf}
 use Rattle.node_lock.specs.declared.views.Hand.{Hand}
 use Rattle.node_lock.specs.Moving.{Same}
 use Rattle.node_lock.specs.Tickets.{times, Done}
@@ -28,7 +28,7 @@ pub record NodeRan (first : Sight) (lanes : List ℕ) (hands : List Hand) (last 
   pub same : Same first last
 
 -- a lane with a seat at its coordinator and at each shard, from fresh seats on, and how it ended
-pub record LaneRan (K : Shape) (logs shards : ℕ → Sight) (log_hands shard_hands : ℕ → List Hand) (lane : ℕ) (old new : Lane) : Type 0 where
+pub record LaneRan (K : Shape) (logs shards : ℕ → Sight) (log_hands shard_hands : ℕ → List Hand) (lane : ℕ) (old new : LaneOf) : Type 0 where
   pub log : Sight
   pub seen : ℕ → Sight
   pub log' : Sight
@@ -37,11 +37,11 @@ pub record LaneRan (K : Shape) (logs shards : ℕ → Sight) (log_hands shard_ha
   pub at_log : SitsAt lane (logs (home_of K lane)) (log_hands (home_of K lane)) log log'
   pub at_shard : (s : ℕ) → s < K.shards → SitsAt lane (shards s) (shard_hands s) (seen s) (seen' s)
   pub beyond : (s : ℕ) → K.shards ≤ s → ((seen s).seen ≡ []) × ((seen s).flight ≡ None) × ((seen' s).seen ≡ [])
-  pub txs : new.txs.items ≡ old.txs.items
+  pub txs : new.txs ≡ old.txs
   pub ended : HasEnded K lane log seen log' seen' old new
 
 -- a wave: each coordinator has the lanes that are its own, and each shard has all
-pub record WaveRan (K : Shape) (logs shards logs' shards' : ℕ → Sight) (old new : List Lane) : Type 0 where
+pub record WaveRan (K : Shape) (logs shards logs' shards' : ℕ → Sight) (old new : List LaneOf) : Type 0 where
   pub log_lanes : ℕ → List ℕ
   pub log_hands : ℕ → List Hand
   pub shard_lanes : ℕ → List ℕ
@@ -80,13 +80,13 @@ pub record NodesSay (K : Shape) (logs shards logs' shards' : ℕ → Sight) : Ty
   pub capacity_same : (n : ℕ) → capacity_by K logs' shards' n ≡ capacity_by K logs shards n
 
 -- all that is said of a wave, and of the nodes at which it ran
-abbrev pub AllSays : Shape → (ℕ → Sight) → (ℕ → Sight) → (ℕ → Sight) → (ℕ → Sight) → List Lane → List Lane → Type 0
+abbrev pub AllSays : Shape → (ℕ → Sight) → (ℕ → Sight) → (ℕ → Sight) → (ℕ → Sight) → List LaneOf → List LaneOf → Type 0
 AllSays K logs shards logs' shards' old new =
     WaveSays K (seen_by K logs shards) (seen_by K logs' shards') (flying K logs shards) (flying K logs' shards') (opened_by K logs' shards') (faults_by K logs' shards') (capacity_by K logs' shards') old new
     × NodesSay K logs shards logs' shards'
 
 abbrev pub WaveRanLaw : Type 0
-WaveRanLaw = (K : Shape) (logs shards logs' shards' : ℕ → Sight) (old new : List Lane) → WaveNodes K logs shards logs' shards' → length old ≡ K.coordinators * K.lanes
+WaveRanLaw = (K : Shape) (logs shards logs' shards' : ℕ → Sight) (old new : List LaneOf) → WaveNodes K logs shards logs' shards' → length old ≡ K.coordinators * K.lanes
     → WaveRan K logs shards logs' shards' old new → AllSays K logs shards logs' shards' old new
 
 -- a lane's fresh seats are settled, where the journals are checked and all lanes are idle

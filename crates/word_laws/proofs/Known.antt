@@ -30,7 +30,7 @@ pub init_known : AreKnown (leaf init_shape)
 init_known = (is_option _ _ (record { named = refl; takes = refl; most = refl; wants = λ rows e. absurd (cc); found = refl; taken = record { action = inl refl; missing = refl }; short = λ x. refl }), (is_option _ _ (record { named = refl; takes = refl; most = refl; wants = λ rows e. absurd (cc); found = refl; taken = record { action = inl refl; missing = refl }; short = λ x. refl }), (is_option _ _ (record { named = refl; takes = refl; most = refl; wants = λ rows e. absurd (cc); found = refl; taken = record { action = inl refl; missing = refl }; short = λ x. refl }), (is_option _ _ (record { named = refl; takes = refl; most = refl; wants = λ rows e. absurd (cc); found = refl; taken = record { action = inl refl; missing = refl }; short = λ x. refl }), (is_place _ _ refl (record { found = refl; taken = record { action = inl refl; missing = refl }; last = refl }), (is_flag _ _ refl (record { takes = refl; told = λ rows e. absurd (cc) }), tt))))))
 
 pub run_known : AreKnown (leaf run_shape)
-run_known = (is_option _ _ (record { named = refl; takes = refl; most = refl; wants = λ rows e. absurd (cc); found = refl; taken = record { action = inl refl; missing = refl }; short = λ x. refl }), (is_place _ _ refl (record { found = refl; taken = record { action = inr refl; missing = refl }; last = refl }), (is_flag _ _ refl (record { takes = refl; told = λ rows e. absurd (cc) }), tt)))
+run_known = (is_option _ _ (record { named = refl; takes = refl; most = refl; wants = λ rows e. absurd (cc); found = refl; taken = record { action = inl refl; missing = refl }; short = λ x. refl }), (is_option _ _ (record { named = refl; takes = refl; most = refl; wants = λ rows e. absurd (cc); found = refl; taken = record { action = inl refl; missing = refl }; short = λ x. refl }), (is_place _ _ refl (record { found = refl; taken = record { action = inr refl; missing = refl }; last = refl }), (is_flag _ _ refl (record { takes = refl; told = λ rows e. absurd (cc) }), tt))))
 
 pub audit_known : AreKnown (leaf audit_shape)
 audit_known = (is_place _ _ refl (record { found = refl; taken = record { action = inl refl; missing = refl }; last = refl }), (is_place _ _ refl (record { found = refl; taken = record { action = inr refl; missing = refl }; last = refl }), (is_flag _ _ refl (record { takes = refl; told = λ rows e. absurd (cc) }), tt)))

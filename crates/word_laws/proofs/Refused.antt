@@ -10,9 +10,9 @@ use Rattle.hex.proofs.HexLemmas.{decode_of-ok}
 use Rattle.cbdc_types.specs.Limits.{ShapeOf}
 use Rattle.clap.specs.Words.{Text, Row, Kinds, all_of, fault_of, first_of, subcommand_of}
 use Rattle.clap.specs.Kinds.{or_else}
-use Rattle.command_line.specs.Asked.{HasBadValue, HasMistake, HasNoHashes, HasNoNumber, HasNoSeed, HasNoShape, HasNoWorkload, HasNumber, HasSeed, HasShape, HasWish, Meets, faults_of, help_words, topic_faults}
+use Rattle.command_line.specs.Asked.{HasBadValue, HasMistake, HasNoHashes, HasNoNumber, HasNoRepeats, HasNoSeed, HasNoShape, HasNoWorkload, HasNumber, HasRepeats, HasSeed, HasShape, HasWish, Meets, faults_of, help_words, topic_faults}
 use Rattle.command_form.specs.Command.{hamilton}
-use Rattle.command_line.specs.Values.{IsHashText, IsNumber, IsWhole}
+use Rattle.command_line.specs.Values.{IsHashText, IsNumber, IsUpTo, IsWhole}
 use Rattle.requests.specs.declared.Request.TheVariants.{Init, Run, Recover, Status, Audit, Gen, Show}
 use Rattle.word_laws.specs.Refused.{AskedLaw, AreWhole}
 use Rattle.word_laws.proofs.Pure.{IsPure, none, after, either, fault_pure}
@@ -59,10 +59,11 @@ pub other_command : (c d : Text) (rows others : List Row) → met_as c rows ≡ 
 other_command c d rows others e itself apart = true≢false (sym itself ∙ ap (λ (o : Option (Text × List Row)). option_map_or (λ p. bytes_eq p.0 c) o false) e ∙ apart)
 
 no_bad_value : (words : List Text) (c : Text) (rows : List Row) → Meets words c rows → bytes_eq c c ≡ true → bytes_eq (codes "init") c ≡ false → bytes_eq (codes "status") c ≡ false
-    → bytes_eq (codes "gen") c ≡ false → HasBadValue words → ⊥
-no_bad_value words c rows m itself init status gen (inl b) = other_command c (codes "init") rows b.0 (one_met words c (codes "init") rows b.0 m b.1) itself init
-no_bad_value words c rows m itself init status gen (inr (inl b)) = other_command c (codes "status") rows b.0 (one_met words c (codes "status") rows b.0 m b.2) itself status
-no_bad_value words c rows m itself init status gen (inr (inr b)) = other_command c (codes "gen") rows b.0 (one_met words c (codes "gen") rows b.0 m b.1) itself gen
+    → bytes_eq (codes "gen") c ≡ false → bytes_eq (codes "run") c ≡ false → HasBadValue words → ⊥
+no_bad_value words c rows m itself init status gen run (inl b) = other_command c (codes "init") rows b.0 (one_met words c (codes "init") rows b.0 m b.1) itself init
+no_bad_value words c rows m itself init status gen run (inr (inl b)) = other_command c (codes "status") rows b.0 (one_met words c (codes "status") rows b.0 m b.2) itself status
+no_bad_value words c rows m itself init status gen run (inr (inr (inl b))) = other_command c (codes "gen") rows b.0 (one_met words c (codes "gen") rows b.0 m b.1) itself gen
+no_bad_value words c rows m itself init status gen run (inr (inr (inr b))) = other_command c (codes "run") rows b.0 (one_met words c (codes "run") rows b.0 m b.1) itself run
 
 -- ---- values
 
@@ -83,6 +84,9 @@ no_shape rows shape has (inr (inr (inr none))) = no_number rows (codes "batch") 
 
 no_seed : (rows : List Row) (n : ℕ) → HasSeed rows n → HasNoSeed rows → ⊥
 no_seed rows n has none = none.2 n (subst (λ (t : Text). IsWhole t n) (one_text has.0 none.0 (sym has.1 ∙ none.1)) has.2)
+
+no_repeats : (rows : List Row) (n : ℕ) → HasRepeats rows n → HasNoRepeats rows → ⊥
+no_repeats rows n has none = none.2 n (subst (λ (t : Text). IsUpTo 3 t n) (one_text has.0 none.0 (sym has.1 ∙ none.1)) has.2)
 
 no_workload : (rows : List Row) (shape : ShapeOf) (seed count : ℕ) → HasShape rows shape → HasSeed rows seed → HasNumber rows (codes "count") 10000 count → HasNoWorkload rows → ⊥
 no_workload rows shape seed count sized seeded counted (inl none) = no_shape rows shape sized none
@@ -124,12 +128,22 @@ asked_law words (Init shape mint) whole asked (inr (inl b)) =
     no_shape asked.0 shape asked.1.1 (subst (λ (r : List Row). HasNoShape r) same b.2)
 asked_law words (Init shape mint) whole asked (inr (inr (inl b))) =
     other_command (codes "init") (codes "status") asked.0 b.0 (one_met words (codes "init") (codes "status") asked.0 b.0 asked.1.0 b.2) refl refl
-asked_law words (Init shape mint) whole asked (inr (inr (inr b))) =
+asked_law words (Init shape mint) whole asked (inr (inr (inr (inl b)))) =
     other_command (codes "init") (codes "gen") asked.0 b.0 (one_met words (codes "init") (codes "gen") asked.0 b.0 asked.1.0 b.1) refl refl
-asked_law words (Run verdicts clients) whole asked (inl mistake) = no_mistake words (codes "run") asked.0 asked.1.0 refl mistake
-asked_law words (Run verdicts clients) whole asked (inr bad) = no_bad_value words (codes "run") asked.0 asked.1.0 refl refl refl refl bad
+asked_law words (Init shape mint) whole asked (inr (inr (inr (inr b)))) =
+    other_command (codes "init") (codes "run") asked.0 b.0 (one_met words (codes "init") (codes "run") asked.0 b.0 asked.1.0 b.1) refl refl
+asked_law words (Run verdicts clients options) whole asked (inl mistake) = no_mistake words (codes "run") asked.0 asked.1.0 refl mistake
+asked_law words (Run verdicts clients options) whole asked (inr (inl b)) =
+    other_command (codes "run") (codes "init") asked.0 b.0 (one_met words (codes "run") (codes "init") asked.0 b.0 asked.1.0 b.1) refl refl
+asked_law words (Run verdicts clients options) whole asked (inr (inr (inl b))) =
+    other_command (codes "run") (codes "status") asked.0 b.0 (one_met words (codes "run") (codes "status") asked.0 b.0 asked.1.0 b.2) refl refl
+asked_law words (Run verdicts clients options) whole asked (inr (inr (inr (inl b)))) =
+    other_command (codes "run") (codes "gen") asked.0 b.0 (one_met words (codes "run") (codes "gen") asked.0 b.0 asked.1.0 b.1) refl refl
+asked_law words (Run verdicts clients options) whole asked (inr (inr (inr (inr b)))) =
+    let same = same_rows (codes "run") (codes "run") b.0 asked.0 (one_met words (codes "run") (codes "run") b.0 asked.0 b.1 asked.1.0) in
+    no_repeats asked.0 options.repeats asked.1.4 (subst (λ (r : List Row). HasNoRepeats r) same b.2)
 asked_law words Recover whole asked (inl mistake) = no_mistake words (codes "recover") asked.0 asked.1 refl mistake
-asked_law words Recover whole asked (inr bad) = no_bad_value words (codes "recover") asked.0 asked.1 refl refl refl refl bad
+asked_law words Recover whole asked (inr bad) = no_bad_value words (codes "recover") asked.0 asked.1 refl refl refl refl refl bad
 asked_law words (Status hashes) whole asked (inl mistake) = no_mistake words (codes "status") asked.0 asked.1.0 refl mistake
 asked_law words (Status hashes) whole asked (inr (inl b)) =
     other_command (codes "status") (codes "init") asked.0 b.0 (one_met words (codes "status") (codes "init") asked.0 b.0 asked.1.0 b.1) refl refl
@@ -137,19 +151,24 @@ asked_law words (Status hashes) whole asked (inr (inr (inl b))) =
     let same = same_rows (codes "status") (codes "status") b.0 asked.0 (one_met words (codes "status") (codes "status") b.0 asked.0 b.2 asked.1.0) in
     let given : b.1 ≡ asked.1.1.0 = one_list b.1 asked.1.1.0 (sym b.3 ∙ ap (λ (r : List Row). all_of (codes "hash") r) same ∙ asked.1.1.1) in
     no_hashes asked.1.1.0 hashes.items asked.1.1.2 whole (subst (λ (g : List Text). HasNoHashes g) given b.4)
-asked_law words (Status hashes) whole asked (inr (inr (inr b))) =
+asked_law words (Status hashes) whole asked (inr (inr (inr (inl b)))) =
     other_command (codes "status") (codes "gen") asked.0 b.0 (one_met words (codes "status") (codes "gen") asked.0 b.0 asked.1.0 b.1) refl refl
+asked_law words (Status hashes) whole asked (inr (inr (inr (inr b)))) =
+    other_command (codes "status") (codes "run") asked.0 b.0 (one_met words (codes "status") (codes "run") asked.0 b.0 asked.1.0 b.1) refl refl
 asked_law words (Audit mint clients) whole asked (inl mistake) = no_mistake words (codes "audit") asked.0 asked.1.0 refl mistake
-asked_law words (Audit mint clients) whole asked (inr bad) = no_bad_value words (codes "audit") asked.0 asked.1.0 refl refl refl refl bad
+asked_law words (Audit mint clients) whole asked (inr bad) = no_bad_value words (codes "audit") asked.0 asked.1.0 refl refl refl refl refl bad
 asked_law words (Gen shape seed count) whole asked (inl mistake) = no_mistake words (codes "gen") asked.0 asked.1.0 refl mistake
 asked_law words (Gen shape seed count) whole asked (inr (inl b)) =
     other_command (codes "gen") (codes "init") asked.0 b.0 (one_met words (codes "gen") (codes "init") asked.0 b.0 asked.1.0 b.1) refl refl
 asked_law words (Gen shape seed count) whole asked (inr (inr (inl b))) =
     other_command (codes "gen") (codes "status") asked.0 b.0 (one_met words (codes "gen") (codes "status") asked.0 b.0 asked.1.0 b.2) refl refl
-asked_law words (Gen shape seed count) whole asked (inr (inr (inr b))) =
+asked_law words (Gen shape seed count) whole asked (inr (inr (inr (inr b)))) =
+    other_command (codes "gen") (codes "run") asked.0 b.0 (one_met words (codes "gen") (codes "run") asked.0 b.0 asked.1.0 b.1) refl refl
+asked_law words (Gen shape seed count) whole asked (inr (inr (inr (inl b)))) =
     let same = same_rows (codes "gen") (codes "gen") b.0 asked.0 (one_met words (codes "gen") (codes "gen") b.0 asked.0 b.1 asked.1.0) in
     no_workload asked.0 shape seed count asked.1.1 asked.1.2 asked.1.3 (subst (λ (r : List Row). HasNoWorkload r) same b.2)
 asked_law words (Show text) whole asked (inl mistake) = (faults_pure words).apart mistake asked
 asked_law words (Show text) whole asked (inr (inl b)) = no_wish words (codes "init") b.0 b.1 refl asked
 asked_law words (Show text) whole asked (inr (inr (inl b))) = no_wish words (codes "status") b.0 b.2 refl asked
-asked_law words (Show text) whole asked (inr (inr (inr b))) = no_wish words (codes "gen") b.0 b.1 refl asked
+asked_law words (Show text) whole asked (inr (inr (inr (inl b)))) = no_wish words (codes "gen") b.0 b.1 refl asked
+asked_law words (Show text) whole asked (inr (inr (inr (inr b)))) = no_wish words (codes "run") b.0 b.1 refl asked

@@ -8,7 +8,7 @@ use Rattle.hex.specs.Hex.{decode_of}
 use Rattle.hex.specs.declared.error.FromHexError.{FromHexError}
 use Rattle.cbdc_types.specs.Limits.{ShapeOf}
 use Rattle.clap.specs.Words.{Text, Row, first_of}
-use Rattle.command_line.specs.Asked.{HasNumber, HasSeed, HasShape, IsAudit, IsGen, IsInit, IsRun, IsStatus, Meets}
+use Rattle.command_line.specs.Asked.{HasNumber, HasRepeats, HasSeed, HasShape, IsAudit, IsGen, IsInit, IsRun, IsStatus, Meets}
 use Rattle.command_line.specs.Places.{option_at, option_place, positional_places}
 use Rattle.command_line.specs.Words.{IsFirst, IsGivenBy, StandsThere}
 use Rattle.requests.specs.declared.FileWord.{FileWord}
@@ -41,6 +41,13 @@ module _ (rows : List Row) where
       let a = one.2 in
       let b = other.2 in
       decimal_injective n m a.bound b.bound (sym a.spelled ∙ text ∙ b.spelled)
+
+  one_repeats : (n m : ℕ) → HasRepeats rows n → HasRepeats rows m → n ≡ m
+  one_repeats n m one other =
+      let text : one.0 ≡ other.0 = first_once (codes "repeats") one.0 other.0 one.1 other.1 in
+      let a = one.2 in
+      let b = other.2 in
+      decimal_injective n m (omega (arith, a.bound)) (omega (arith, b.bound)) (sym a.spelled ∙ text ∙ b.spelled)
 
   one_shape : (shape kind : ShapeOf) → HasShape rows shape → HasShape rows kind → shape ≡ kind
   one_shape shape kind one other =
@@ -95,36 +102,38 @@ one_request_law words (Init shape mint) (Init kind file) asked also =
     let same : asked.0 ≡ also.0 = rows_of words (codes "init") asked.0 also.0 asked.1.0 also.1.0 in
     let own : IsInit words also.0 shape mint = subst (λ (r : List Row). IsInit words r shape mint) same asked.1 in
     (one_shape also.0 shape kind own.1 also.1.1, first_once also.0 (codes "mint") mint.name.now file.name.now own.2 also.1.2, first_once_placed words mint file own.3 also.1.3)
-one_request_law words (Init shape mint) (Run told files) asked also = absurd (apart words (codes "init") (codes "run") asked.0 also.0 asked.1.0 also.1.0 refl refl)
+one_request_law words (Init shape mint) (Run told files others) asked also = absurd (apart words (codes "init") (codes "run") asked.0 also.0 asked.1.0 also.1.0 refl refl)
 one_request_law words (Init shape mint) Recover asked also = absurd (apart words (codes "init") (codes "recover") asked.0 also.0 asked.1.0 also.1 refl refl)
 one_request_law words (Init shape mint) (Status sought) asked also = absurd (apart words (codes "init") (codes "status") asked.0 also.0 asked.1.0 also.1.0 refl refl)
 one_request_law words (Init shape mint) (Audit file files) asked also = absurd (apart words (codes "init") (codes "audit") asked.0 also.0 asked.1.0 also.1.0 refl refl)
 one_request_law words (Init shape mint) (Gen kind number size) asked also = absurd (apart words (codes "init") (codes "gen") asked.0 also.0 asked.1.0 also.1.0 refl refl)
 one_request_law words (Init shape mint) (Show other) asked also = absurd (no_wish words (codes "init") asked.0 asked.1.0 refl also)
-one_request_law words (Run verdicts clients) (Init kind file) asked also = absurd (apart words (codes "run") (codes "init") asked.0 also.0 asked.1.0 also.1.0 refl refl)
-one_request_law words (Run verdicts clients) (Run told files) asked also =
+one_request_law words (Run verdicts clients options) (Init kind file) asked also = absurd (apart words (codes "run") (codes "init") asked.0 also.0 asked.1.0 also.1.0 refl refl)
+one_request_law words (Run verdicts clients options) (Run told files others) asked also =
     let same : asked.0 ≡ also.0 = rows_of words (codes "run") asked.0 also.0 asked.1.0 also.1.0 in
-    let own : IsRun words also.0 verdicts clients.items = subst (λ (r : List Row). IsRun words r verdicts clients.items) same asked.1 in
+    let own : IsRun words also.0 verdicts clients.items options = subst (λ (r : List Row). IsRun words r verdicts clients.items options) same asked.1 in
     let named : own.3.0 ≡ also.1.3.0 = one_list own.3.0 also.1.3.0 (sym own.3.1 ∙ also.1.3.1) in (
       first_once also.0 (codes "verdicts") verdicts.name.now told.name.now own.1 also.1.1,
       own.3.2.named ∙ named ∙ sym also.1.3.2.named,
       given_once (codes "verdicts") words verdicts told own.2 also.1.2,
       own.3.2.placed ∙ sym also.1.3.2.placed,
+      let repeats : options.repeats ≡ others.repeats = one_repeats also.0 options.repeats others.repeats own.4 also.1.4 in
+          λ i. record { repeats = repeats i },
     )
-one_request_law words (Run verdicts clients) Recover asked also = absurd (apart words (codes "run") (codes "recover") asked.0 also.0 asked.1.0 also.1 refl refl)
-one_request_law words (Run verdicts clients) (Status sought) asked also = absurd (apart words (codes "run") (codes "status") asked.0 also.0 asked.1.0 also.1.0 refl refl)
-one_request_law words (Run verdicts clients) (Audit file files) asked also = absurd (apart words (codes "run") (codes "audit") asked.0 also.0 asked.1.0 also.1.0 refl refl)
-one_request_law words (Run verdicts clients) (Gen kind number size) asked also = absurd (apart words (codes "run") (codes "gen") asked.0 also.0 asked.1.0 also.1.0 refl refl)
-one_request_law words (Run verdicts clients) (Show other) asked also = absurd (no_wish words (codes "run") asked.0 asked.1.0 refl also)
+one_request_law words (Run verdicts clients options) Recover asked also = absurd (apart words (codes "run") (codes "recover") asked.0 also.0 asked.1.0 also.1 refl refl)
+one_request_law words (Run verdicts clients options) (Status sought) asked also = absurd (apart words (codes "run") (codes "status") asked.0 also.0 asked.1.0 also.1.0 refl refl)
+one_request_law words (Run verdicts clients options) (Audit file files) asked also = absurd (apart words (codes "run") (codes "audit") asked.0 also.0 asked.1.0 also.1.0 refl refl)
+one_request_law words (Run verdicts clients options) (Gen kind number size) asked also = absurd (apart words (codes "run") (codes "gen") asked.0 also.0 asked.1.0 also.1.0 refl refl)
+one_request_law words (Run verdicts clients options) (Show other) asked also = absurd (no_wish words (codes "run") asked.0 asked.1.0 refl also)
 one_request_law words Recover (Init kind file) asked also = absurd (apart words (codes "recover") (codes "init") asked.0 also.0 asked.1 also.1.0 refl refl)
-one_request_law words Recover (Run told files) asked also = absurd (apart words (codes "recover") (codes "run") asked.0 also.0 asked.1 also.1.0 refl refl)
+one_request_law words Recover (Run told files others) asked also = absurd (apart words (codes "recover") (codes "run") asked.0 also.0 asked.1 also.1.0 refl refl)
 one_request_law words Recover Recover asked also = tt
 one_request_law words Recover (Status sought) asked also = absurd (apart words (codes "recover") (codes "status") asked.0 also.0 asked.1 also.1.0 refl refl)
 one_request_law words Recover (Audit file files) asked also = absurd (apart words (codes "recover") (codes "audit") asked.0 also.0 asked.1 also.1.0 refl refl)
 one_request_law words Recover (Gen kind number size) asked also = absurd (apart words (codes "recover") (codes "gen") asked.0 also.0 asked.1 also.1.0 refl refl)
 one_request_law words Recover (Show other) asked also = absurd (no_wish words (codes "recover") asked.0 asked.1 refl also)
 one_request_law words (Status hashes) (Init kind file) asked also = absurd (apart words (codes "status") (codes "init") asked.0 also.0 asked.1.0 also.1.0 refl refl)
-one_request_law words (Status hashes) (Run told files) asked also = absurd (apart words (codes "status") (codes "run") asked.0 also.0 asked.1.0 also.1.0 refl refl)
+one_request_law words (Status hashes) (Run told files others) asked also = absurd (apart words (codes "status") (codes "run") asked.0 also.0 asked.1.0 also.1.0 refl refl)
 one_request_law words (Status hashes) Recover asked also = absurd (apart words (codes "status") (codes "recover") asked.0 also.0 asked.1.0 also.1 refl refl)
 one_request_law words (Status hashes) (Status sought) asked also =
     let same : asked.0 ≡ also.0 = rows_of words (codes "status") asked.0 also.0 asked.1.0 also.1.0 in
@@ -135,7 +144,7 @@ one_request_law words (Status hashes) (Audit file files) asked also = absurd (ap
 one_request_law words (Status hashes) (Gen kind number size) asked also = absurd (apart words (codes "status") (codes "gen") asked.0 also.0 asked.1.0 also.1.0 refl refl)
 one_request_law words (Status hashes) (Show other) asked also = absurd (no_wish words (codes "status") asked.0 asked.1.0 refl also)
 one_request_law words (Audit mint clients) (Init kind file) asked also = absurd (apart words (codes "audit") (codes "init") asked.0 also.0 asked.1.0 also.1.0 refl refl)
-one_request_law words (Audit mint clients) (Run told files) asked also = absurd (apart words (codes "audit") (codes "run") asked.0 also.0 asked.1.0 also.1.0 refl refl)
+one_request_law words (Audit mint clients) (Run told files others) asked also = absurd (apart words (codes "audit") (codes "run") asked.0 also.0 asked.1.0 also.1.0 refl refl)
 one_request_law words (Audit mint clients) Recover asked also = absurd (apart words (codes "audit") (codes "recover") asked.0 also.0 asked.1.0 also.1 refl refl)
 one_request_law words (Audit mint clients) (Status sought) asked also = absurd (apart words (codes "audit") (codes "status") asked.0 also.0 asked.1.0 also.1.0 refl refl)
 one_request_law words (Audit mint clients) (Audit file files) asked also =
@@ -149,7 +158,7 @@ one_request_law words (Audit mint clients) (Audit file files) asked also =
 one_request_law words (Audit mint clients) (Gen kind number size) asked also = absurd (apart words (codes "audit") (codes "gen") asked.0 also.0 asked.1.0 also.1.0 refl refl)
 one_request_law words (Audit mint clients) (Show other) asked also = absurd (no_wish words (codes "audit") asked.0 asked.1.0 refl also)
 one_request_law words (Gen shape seed count) (Init kind file) asked also = absurd (apart words (codes "gen") (codes "init") asked.0 also.0 asked.1.0 also.1.0 refl refl)
-one_request_law words (Gen shape seed count) (Run told files) asked also = absurd (apart words (codes "gen") (codes "run") asked.0 also.0 asked.1.0 also.1.0 refl refl)
+one_request_law words (Gen shape seed count) (Run told files others) asked also = absurd (apart words (codes "gen") (codes "run") asked.0 also.0 asked.1.0 also.1.0 refl refl)
 one_request_law words (Gen shape seed count) Recover asked also = absurd (apart words (codes "gen") (codes "recover") asked.0 also.0 asked.1.0 also.1 refl refl)
 one_request_law words (Gen shape seed count) (Status sought) asked also = absurd (apart words (codes "gen") (codes "status") asked.0 also.0 asked.1.0 also.1.0 refl refl)
 one_request_law words (Gen shape seed count) (Audit file files) asked also = absurd (apart words (codes "gen") (codes "audit") asked.0 also.0 asked.1.0 also.1.0 refl refl)
@@ -159,7 +168,7 @@ one_request_law words (Gen shape seed count) (Gen kind number size) asked also =
     (one_shape also.0 shape kind own.1 also.1.1, one_seed also.0 seed number own.2 also.1.2, one_number also.0 (codes "count") 10000 count size (omega arith) own.3 also.1.3)
 one_request_law words (Gen shape seed count) (Show other) asked also = absurd (no_wish words (codes "gen") asked.0 asked.1.0 refl also)
 one_request_law words (Show text) (Init kind file) asked also = absurd (no_wish words (codes "init") also.0 also.1.0 refl asked)
-one_request_law words (Show text) (Run told files) asked also = absurd (no_wish words (codes "run") also.0 also.1.0 refl asked)
+one_request_law words (Show text) (Run told files others) asked also = absurd (no_wish words (codes "run") also.0 also.1.0 refl asked)
 one_request_law words (Show text) Recover asked also = absurd (no_wish words (codes "recover") also.0 also.1 refl asked)
 one_request_law words (Show text) (Status sought) asked also = absurd (no_wish words (codes "status") also.0 also.1.0 refl asked)
 one_request_law words (Show text) (Audit file files) asked also = absurd (no_wish words (codes "audit") also.0 also.1.0 refl asked)

@@ -126,7 +126,7 @@ data Either : ℕ → Type 0 where
   two : Either 2
 
 client_of_run : Picks (codes "client") (leaf run_shape).rules First (λ k l. l)
-client_of_run = record { no_option = no_option_of (codes "client") (leaf run_shape).rules (λ e. refl, (λ e. absurd (true≢false e), (λ e. refl, tt))); none = λ k at. refl; on = on; adds = adds }
+client_of_run = record { no_option = no_option_of (codes "client") (leaf run_shape).rules (λ e. refl, (λ e. refl, (λ e. absurd (true≢false e), (λ e. refl, tt)))); none = λ k at. refl; on = on; adds = adds }
   where
     on : (k : ℕ) → First k → First (after (arg_by_index (leaf run_shape).rules k) k)
     on k first_place = first_place
@@ -202,18 +202,19 @@ turned a b e = go (bytes_eq b a) refl
     go false f = f
 
 verdicts_of_run : IsNamed (codes "verdicts") (leaf run_shape).rules
-verdicts_of_run = record { named = named; no_place = no_place_of (codes "verdicts") (leaf run_shape).rules (λ e. absurd (true≢false (sym e)), (λ e. refl, (λ e. refl, tt))) }
+verdicts_of_run = record { named = named; no_place = no_place_of (codes "verdicts") (leaf run_shape).rules (λ e. absurd (true≢false (sym e)), (λ e. refl, (λ e. refl, (λ e. refl, tt)))) }
   where
     named : (name v : Text) → placed (codes "verdicts") (arg_by_long (leaf run_shape).rules name) v ≡ cond (bytes_eq name (codes "verdicts")) (v ∷ []) []
-    named name v = go (bytes_eq (codes "verdicts") name) refl (bytes_eq (codes "help") name) refl
+    named name v = go (bytes_eq (codes "verdicts") name) refl (bytes_eq (codes "repeats") name) refl (bytes_eq (codes "help") name) refl
       where
-        go : (a : Bool) → bytes_eq (codes "verdicts") name ≡ a → (b : Bool) → bytes_eq (codes "help") name ≡ b
+        go : (a : Bool) → bytes_eq (codes "verdicts") name ≡ a → (b : Bool) → bytes_eq (codes "repeats") name ≡ b → (d : Bool) → bytes_eq (codes "help") name ≡ d
             → placed (codes "verdicts") (arg_by_long (leaf run_shape).rules name) v ≡ cond (bytes_eq name (codes "verdicts")) (v ∷ []) []
-        go true e b f =
+        go true e b f d h =
             let here : bytes_eq name (codes "verdicts") ≡ true = sym (ap (λ t. bytes_eq t (codes "verdicts")) (same_text (codes "verdicts") name e)) in
             rw (e, here) refl
-        go false e true f = let here : bytes_eq name (codes "verdicts") ≡ false = turned (codes "verdicts") name e in rw (e, f, here) refl
-        go false e false f = let here : bytes_eq name (codes "verdicts") ≡ false = turned (codes "verdicts") name e in rw (e, f, here) refl
+        go false e true f d h = let here : bytes_eq name (codes "verdicts") ≡ false = turned (codes "verdicts") name e in rw (e, f, here) refl
+        go false e false f true h = let here : bytes_eq name (codes "verdicts") ≡ false = turned (codes "verdicts") name e in rw (e, f, h, here) refl
+        go false e false f false h = let here : bytes_eq name (codes "verdicts") ≡ false = turned (codes "verdicts") name e in rw (e, f, h, here) refl
 
 -- ---- the law
 
@@ -237,8 +238,8 @@ run_law : (words : List Text) (rows : List Row) → Meets words (codes "run") ro
     → (first_of (codes "verdicts") rows ≡ option_word (codes "verdicts") words) × (listed (all_of (codes "client") rows) ≡ positional_words words)
 run_law words rows m =
     let c = (leaf run_shape).rules in
-    let v = has_of (codes "run") (leaf run_shape) all_run run_known refl words rows m (codes "verdicts") (λ e. refl, (λ e. refl, (λ e. refl, tt))) in
-    let h = has_of (codes "run") (leaf run_shape) all_run run_known refl words rows m (codes "client") (λ e. refl, (λ e. refl, (λ e. refl, tt))) in (
+    let v = has_of (codes "run") (leaf run_shape) all_run run_known refl words rows m (codes "verdicts") (λ e. refl, (λ e. absurd (true≢false (sym e)), (λ e. refl, (λ e. refl, tt)))) in
+    let h = has_of (codes "run") (leaf run_shape) all_run run_known refl words rows m (codes "client") (λ e. refl, (λ e. absurd (true≢false (sym e)), (λ e. refl, (λ e. refl, tt)))) in (
       first_values (codes "verdicts") rows ∙ ap (λ l. slice_get l 0) v.has ∙ first words (codes "verdicts") c verdicts_of_run (drop 2 words) 2 None 1 (omega arith) refl refl tt v.follows
           ∙ ap (λ n. option_and_then (value_at words) (find (names_option (codes "verdicts") words) (range_with_len 2 n))) (behind words),
       h.has ∙ picked (codes "client") c First (λ k l. l) client_of_run (drop 2 words) false None 1 first_place tt h.follows ∙ own_positional words,

@@ -16,8 +16,9 @@ places_of files = map (λ (f : FileWord). f.place) files
 -- requests for the same: of the same command with the same values, whose files have the same names and the same places among the words
 abbrev pub AreAlike : Request → Request → Type 0
 AreAlike (Init shape mint) (Init kind file) = (shape ≡ kind) × (mint.name.now ≡ file.name.now) × (mint.place ≡ file.place)
-AreAlike (Run verdicts clients) (Run told files) =
+AreAlike (Run verdicts clients options) (Run told files others) =
     (verdicts.name.now ≡ told.name.now) × (names_of clients.items ≡ names_of files.items) × (verdicts.place ≡ told.place) × (places_of clients.items ≡ places_of files.items)
+    × (options ≡ others)
 AreAlike Recover Recover = Unit {0}
 AreAlike (Status hashes) (Status sought) = hashes.items ≡ sought.items
 AreAlike (Audit mint clients) (Audit file files) =

@@ -1,6 +1,6 @@
 use Rattle.std.proofs.Common.{◌≡◌, ◌∷◌, [], ◌++◌, ◌+◌, take, ap, ◌∙◌, sym, add-one}
 use Rattle.std.proofs.Math.Seq.{take-suc}
-use Rattle.rayon.proofs.ListFacts.{AllZip-append}
+use Rattle.std.proofs.lemmas.Slice.Zip.{all_zipped_more}
 use Rattle.submissions.specs.Checks.{IsRuled}
 use Rattle.submissions.proofs.rule_each.Goals as goal
 
@@ -11,4 +11,4 @@ transactions-preserved g c =
     let i = c.transactions.tx-index in
     let t = c.tx-item.result in
     let front : take (i + 1) txs ≡ take i txs ++ t ∷ [] = ap (λ n. take n txs) (add-one i) ∙ take-suc txs i t c.transactions-test.true ∙ ap (λ x. take i txs ++ x ∷ []) (sym c.tx-item.is) in
-    rw (front, c.in_ok-push.ensures.items) (AllZip-append R (take i txs) (t ∷ []) _ (c.in_ok-rule.field-0 ∷ []) c.transactions.invariant (c.in_ok-rule.ensures, tt))
+    rw (front, c.in_ok-push.ensures.items) (all_zipped_more R (take i txs) _ t c.in_ok-rule.field-0 c.transactions.invariant c.in_ok-rule.ensures.ruled)

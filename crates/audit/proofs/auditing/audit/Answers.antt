@@ -8,13 +8,13 @@ use Rattle.audit.proofs.Steps.{verdict_of}
 use Rattle.audit.proofs.auditing.audit.Goals as goal
 
 pub returns-in-Stopped : goal.returns-in-Stopped
-returns-in-Stopped c =
+returns-in-Stopped g c =
     verdict_of c.args.shape.now c.args.mint.now c.args.handed.now (rows_at (read c.args.journals.now) c.args.history.now) c.in-Stopped.place c.in-Stopped.kind
     (subst (IsWalked c.args.shape.now c.args.mint.now c.args.handed.now (read c.args.journals.now) c.args.history.now c.walk.new.fold) c.in-Stopped.is
     (c.in_ok-place.ensures c.args.mint.now c.in_ok-ids.ensures c.in_ok-fold.ensures))
 
 pub returns-in-Some : goal.returns-in-Some
-returns-in-Some c =
+returns-in-Some g c =
     let w = subst (IsWalked c.args.shape.now c.args.mint.now c.args.handed.now (read c.args.journals.now) c.args.history.now c.walk.new.fold) c.in-Whole.is
     (c.in_ok-place.ensures c.args.mint.now c.in_ok-ids.ensures c.in_ok-fold.ensures) in
     record {
@@ -26,7 +26,7 @@ returns-in-Some c =
     }
 
 pub returns : goal.returns
-returns c =
+returns g c =
     let w = subst (IsWalked c.args.shape.now c.args.mint.now c.args.handed.now (read c.args.journals.now) c.args.history.now c.walk.new.fold) c.in-Whole.is
     (c.in_ok-place.ensures c.args.mint.now c.in_ok-ids.ensures c.in_ok-fold.ensures) in
     record {

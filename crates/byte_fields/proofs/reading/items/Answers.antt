@@ -5,7 +5,7 @@ use Rattle.byte_fields.proofs.reading.items.Goals as goal
 
 pub returns-in_err-item : goal.returns-in_err-item
 returns-in_err-item g c =
-    let p = err_from_is_err_and c.from_residual.result c.from_residual.ensures.1 in
+    let p = err_from_is_err_and c.from_residual-in_err-item.result c.from_residual-in_err-item.ensures.1 in
     rw (p.1, p.2) (ends g.T.Item.item_at c.in_err-item.field-0.0 c.items.items c.args.count c.items.i c.items.rest.now (items_at g.T.Item.item_at c.args.count c.args.bytes.now) c.items-test.true c.in_err-item.ensures c.items.invariant)
 
 pub items-preserved : goal.items-preserved

@@ -1,4 +1,4 @@
-use Rattle.std.proofs.Common.{inl, inr, ⊎_elim, subst, arith}
+use Rattle.std.proofs.Common.{ℕ, inl, inr, ⊎_elim, ap, subst, arith}
 use Rattle.std.proofs.lemmas.Result.{on_err_weaker}
 use Rattle.outside.specs.Counts.{Rose}
 use Rattle.command_line.specs.Words.{texts}
@@ -9,6 +9,7 @@ use Rattle.commands.proofs.Exact.{exact}
 use Rattle.command_answers.proofs.Counts.{rose_later}
 use Rattle.commands.proofs.Did.{did_by, printed_still}
 use Rattle.commands.proofs.Faults.{fault_printed}
+use Rattle.commands.proofs.Survival.{survives}
 use Rattle.commands.proofs.top.process.Goals as goal
 
 pub returns-clause-did : goal.returns-clause-did
@@ -63,3 +64,12 @@ returns-clause-exact g c r asked came =
     exact g.R.Disk.Disk.content g.R.Disk.Disk.images g.R.Disk.Disk.limit g.R.Disk.Disk.count (g.R.Rack.held c.args.rack) (g.I.Inbox.file c.args.inbox.now) (g.R.Rack.held c.answer_words-status.new.rack) (g.R.Rack.count c.args.rack) (g.R.Rack.count c.answer_words-status.new.rack)
     (IsPrinted (g.O.Sink.taken c.args.out.now) (g.O.Sink.taken c.answer_words-status.new.out) c.answer_words-status.result.status) (texts c.args.words.now) r c.answer_words-status.result.status asked
     (⊎_elim (λ well. inl (c.answer_words-status.ensures.did well)) (λ later. inr later) came)
+
+pub returns-clause-survives : goal.returns-clause-survives
+returns-clause-survives g c K mint submissions E within shown kept whatever =
+    let e = c.answer_words-status.ensures in
+    survives g.R.Disk.Disk.content g.R.Disk.Disk.images c.see_images.ensures g.R.Disk.Disk.limit (g.R.Rack.held c.args.rack) (g.R.Rack.held c.answer_words-status.new.rack) K mint submissions E within shown kept
+    (g.I.Inbox.file c.args.inbox.now) (texts c.args.words.now) (g.R.Rack.count c.args.rack) (g.R.Rack.count c.answer_words-status.new.rack)
+    (IsPrinted (g.O.Sink.taken c.args.out.now) (g.O.Sink.taken c.answer_words-status.new.out) c.answer_words-status.result.status) whatever
+    (λ of n. ap (λ r. g.R.Rack.held r n) (e.spared of)) c.answer_words-status.result.status e.did
+    (λ ill. ⊎_elim (λ same. inl (λ (n : ℕ). ap (λ r. g.R.Rack.held r n) same)) (λ left. inr left) (e.left ill))

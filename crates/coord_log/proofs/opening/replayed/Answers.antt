@@ -15,9 +15,9 @@ records-preserved c =
     let I : Record → Type 0 = λ x. IsInGrammar c.args.header.now x in
     let grammar : IsInGrammar c.args.header.now c.index-records-i.result = subst I (sym c.index-records-i.is) (grammar_of c.args.header.now c.args.records.now c.requires c.records.i c.index-records-i.result c.records-test.true) in
     let played : IsPlayed c.args.header.now c.apply.new.self (reverse (take (c.records.i + 1) c.args.records.now)) =
-    rw on (next_played c.args.header.now c.records.core c.admit.new.self c.apply.new.self (reverse (take c.records.i c.args.records.now)) c.index-records-i.result c.records.invariant.played c.apply.ensures.whole c.admit.ensures.same
-    c.admit.ensures.grown (c.in-Ok-true.ensures.room c.in-Ok-true.field-0-test) grammar c.apply.ensures.taken
-    (c.apply.ensures.stands (reverse (take c.records.i c.args.records.now)) (stands_same c.records.core c.admit.new.self _ c.admit.ensures.same c.records.invariant.played.stands))) in
+    rw on (next_played c.args.header.now c.records.core c.admit_known.new.self c.apply.new.self (reverse (take c.records.i c.args.records.now)) c.index-records-i.result c.records.invariant.played c.apply.ensures.whole c.admit_known.ensures.same
+    c.admit_known.ensures.grown (c.in-Ok-true.ensures.room c.in-Ok-true.field-0-test) grammar c.apply.ensures.taken
+    (c.apply.ensures.stands (reverse (take c.records.i c.args.records.now)) (stands_same c.records.core c.admit_known.new.self _ c.admit_known.ensures.same c.records.invariant.played.stands))) in
     record {
       played = played;
       place = place_more c.args.records.now c.records.at c.records.i c.size_of_record.result c.saturating_add-at.result c.index-records-i.result c.records-test.true c.index-records-i.is c.records.invariant.place c.size_of_record.ensures

@@ -6,7 +6,7 @@ use Rattle.lane_waves.proofs.lanes.keep_all.Given as goal
 
 abbrev pub invariant-reports : goal.invariant-reports
 invariant-reports l = record {
-  same : (l.lane.txs ≡ l.fn.lane.txs) × (l.lane.fault ≡ l.fn.lane.fault);
+  same : l.lane.fault ≡ l.fn.lane.fault;
   kept : kept_by l.lane.decided.items ++ told_in (drop l.report-index l.reports) ≡ kept_by l.fn.lane.decided.items ++ told_in l.reports;
   room : vec_len l.lane.decided + length (told_in (drop l.report-index l.reports)) ≤ vec_capacity l.lane.decided;
   count : l.fn.lane.batches ≡ 0 → l.lane.batches ≡ min l.report-index 18446744073709551615;

@@ -1,7 +1,7 @@
 use Rattle.std.proofs.Common.{◌<◌, ◌≤◌, ◌*◌, length, sym, ap, ◌∙◌, subst, arith}
 use Rattle.std.specs.Global.{Vec}
 use Rattle.std.proofs.lemmas.List.Elements.{All-same}
-use Rattle.ledger_runs.specs.declared.lanes.Lane.{Lane}
+use Rattle.ledger_runs.specs.Lanes.{LaneOf}
 use Rattle.node_ports.specs.Nodes.{sight_at}
 use Rattle.shard_fanout.specs.Nodes.{log_sight, shard_sight}
 use Rattle.thread_laws.specs.Running.{WaveRan}
@@ -132,7 +132,7 @@ returns-clause-ran g c =
     let ms = c.args.nodes.shards.items in
     let ns' = c.close_all.result.items in
     let ms' = c.close_all-2.result.items in
-    subst (λ (v : Vec Lane). WaveRan K (sight_at log_sight ns) (sight_at (shard_sight sight) ms) (sight_at log_sight ns') (sight_at (shard_sight sight) ms') c.args.lanes.now.items v.items) (sym c.replace-2.ensures.after)
+    subst (λ (v : Vec LaneOf). WaveRan K (sight_at log_sight ns) (sight_at (shard_sight sight) ms) (sight_at log_sight ns') (sight_at (shard_sight sight) ms') c.args.lanes.now.items v.items) (sym c.replace-2.ensures.after)
     (ran_wave sight (log_goes g.D.Disk.content g.D.Disk.images) (shard_goes g.S.Shard.goes) K
     ns ns' ms ms' c.args.home_rows.items c.args.shard_rows.items k.logs.locks.items k.shards.locks.items
     k.logs.seats.items homes k.shards.seats.items rows c.args.lanes.now.items new

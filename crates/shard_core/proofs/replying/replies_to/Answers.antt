@@ -10,7 +10,7 @@ use Rattle.shard_core.proofs.replying.replies_to.Goals.{then-is_held+in_ok-claim
 pub loop-entry-init : goal.loop-entry-init
 loop-entry-init c = record {
   len = rw c.in_ok-replies.ensures.items;
-  replies = λ J a. ([], (λ y. ap (λ (hs : List Digest). has hs y) c.new-claimed.ensures), rw c.in_ok-replies.ensures.items);
+  replies = λ J a. ([], (λ y. ap (λ (hs : List Digest). has hs y) c.in_ok-claimed.ensures), rw c.in_ok-replies.ensures.items);
 }
 
 pub loop-entry-preserved : goal.loop-entry-preserved

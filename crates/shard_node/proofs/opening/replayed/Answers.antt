@@ -9,7 +9,7 @@ records-preserved c =
     let on : reverse (take (c.records.i + 1) c.args.records.now) ≡ c.index-records-i.result ∷ reverse (take c.records.i c.args.records.now)
     = went_on c.args.records.now c.records.i c.index-records-i.result c.records-test.true c.index-records-i.is in
     let played : IsPlayed c.args.header.now c.apply.new.core (reverse (take (c.records.i + 1) c.args.records.now)) =
-    rw on (plays c.args.header.now c.records.core c.admit.new.self c.apply.new.core (reverse (take c.records.i c.args.records.now)) c.index-records-i.result c.in-Ok-true.field-0 c.records.invariant.played c.admit.ensures.same
+    rw on (plays c.args.header.now c.records.core c.admit_known.new.self c.apply.new.core (reverse (take c.records.i c.args.records.now)) c.index-records-i.result c.in-Ok-true.field-0 c.records.invariant.played c.admit_known.ensures.same
     c.in-Ok-true.field-0-test c.in-Ok-true.ensures.next c.apply.ensures.stands c.apply.ensures.header) in
     record {
       played = played;

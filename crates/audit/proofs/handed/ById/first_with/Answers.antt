@@ -5,10 +5,10 @@ use Rattle.audit.proofs.handed.ById.first_with.Goals as goal
 pub returns-in_default : goal.returns-in_default
 returns-in_default c = λ h. found_none c.args.txs.now c.args.self.now c.args.form.now h (sym c.in_default.ensures.value)
 
-pub returns-then-branch : goal.returns-then-branch
-returns-then-branch c = λ h.
+pub returns-then-has_form : goal.returns-then-has_form
+returns-then-has_form c = λ h.
     found_first c.args.txs.now c.args.self.now c.args.form.now c.in-Some.at.now c.in-Some-get.first.now h (sym c.in-Some.ensures.value) c.in-Some-get.ensures.lookup.1
-    (sym c.in_ok-has_form.ensures ∙ c.if-branch.true)
+    (sym (c.has_form.ensures c.args.txs.now c.in-Some-get.first.now c.requires (h.inside c.args.form.now.id c.in-Some.at.now (sym c.in-Some.ensures.value)) c.in-Some-get.ensures.lookup.1) ∙ c.if-has_form.true)
 
 pub returns : goal.returns
 returns c = λ h. c.search.ensures

@@ -1,0 +1,19 @@
+use Rattle.std.proofs.Common.{rules, ◌≡◌, ◌+◌, ◌*◌, ◌<◌, ◌≤◌, ◌++◌, ◌∷◌, [], length, append_assoc, refl, sym, ap, ◌∙◌, subst, arith, ℕ, Some, Ok, Err}
+use Rattle.std.specs.Prelude.{slice_get, IfOk, IfErr}
+use Rattle.cbdc_model.specs.Coins.{FullTx as Full, tx_id as spec_id}
+use Rattle.sentinel.specs.FirstRefusal.{IsSound, IsFirstRefusal}
+use Rattle.submissions.specs.Checks.{IsRuled}
+use Rattle.submissions.specs.declared.Ruling.TheVariants.{Refused, Sound}
+use Rattle.lane_sources.specs.Sources.{lanes_of, all_of, left_at, HasComeTo, LeavesBehind, SubmissionAt}
+use Rattle.lane_sources.proofs.Noting.{ruled_left, sound_some}
+use Rattle.lane_sources.proofs.source.LaneSource.rule_next.Goals as goal
+
+pub returns-clause-left : goal.returns-clause-left
+returns-clause-left g c =
+    let inside : c.self.inside.at < length g.F.Deals.file = subst (λ s. s.at < length g.F.Deals.file) (sym c.self.view_is) c.requires in
+    subst (λ s. IfOk c.found_or_now.result (λ r. LeavesBehind g.F.Deals.shape g.F.Deals.verdicts g.F.Deals.file s.lane s.at r.ruling)) c.self.view_is (ruled_left g.F.Deals.shape g.F.Deals.verdicts g.F.Deals.file c.self.inside.lane c.self.inside.at c.self.inside.sent c.self.inside.checked.items c.self.invariant.come inside c.found_or_now.result c.found_or_now.ensures.ruled)
+
+pub returns-clause-some : goal.returns-clause-some
+returns-clause-some g c =
+    let inside : c.self.inside.at < length g.F.Deals.file = subst (λ s. s.at < length g.F.Deals.file) (sym c.self.view_is) c.requires in
+    subst (λ s. IfErr c.found_or_now.result (λ _. 0 < length (left_at g.F.Deals.shape g.F.Deals.verdicts g.F.Deals.file s.lane s.at))) c.self.view_is (sound_some g.F.Deals.shape g.F.Deals.verdicts g.F.Deals.file c.self.inside.lane c.self.inside.at c.self.inside.sent c.self.inside.checked.items c.self.invariant.come inside c.found_or_now.result c.found_or_now.ensures.sound)

@@ -1,0 +1,13 @@
+use Rattle.std.proofs.Common.{rules, ◌≡◌, ◌+◌, ◌*◌, ◌<◌, ◌≤◌, ◌++◌, ◌∷◌, [], length, refl, sym, ap, ◌∙◌, subst, arith, ℕ}
+use Rattle.std.specs.Vec.{vec_capacity}
+use Rattle.cbdc_model.specs.Coins.{FullTx as Full, tx_id as spec_id}
+use Rattle.sentinel.specs.FirstRefusal.{IsSound, IsFirstRefusal}
+use Rattle.lane_sources.specs.Sources.{lanes_of, all_of, left_at, HasComeTo, SubmissionAt}
+use Rattle.lane_sources.proofs.Saying.{come_begin}
+use Rattle.lane_sources.proofs.source.LaneSource.start.Goals as goal
+
+pub invariant_of-self : goal.invariant_of-self
+invariant_of-self g c = record {
+  come = subst (λ xs. HasComeTo g.F.Deals.shape g.F.Deals.verdicts g.F.Deals.file c.args.lane c.args.lane 0 xs) (sym c.clear.ensures.items) (come_begin g.F.Deals.shape g.F.Deals.verdicts g.F.Deals.file c.args.lane c.requires);
+  room = subst (λ m. length g.F.Deals.file ≤ lanes_of g.F.Deals.shape * m) (sym c.clear.ensures.capacity) c.self.invariant.room;
+}

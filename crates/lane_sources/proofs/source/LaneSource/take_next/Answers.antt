@@ -1,0 +1,15 @@
+use Rattle.std.proofs.Common.{rules, ◌≡◌, ◌+◌, ◌*◌, ◌<◌, ◌≤◌, ◌++◌, ◌∷◌, [], length, append_assoc, refl, sym, ap, ◌∙◌, subst, arith, ℕ, Some, Ok, Err}
+use Rattle.std.specs.Prelude.{slice_get}
+use Rattle.cbdc_model.specs.Coins.{FullTx as Full, tx_id as spec_id}
+use Rattle.sentinel.specs.FirstRefusal.{IsSound, IsFirstRefusal}
+use Rattle.submissions.specs.Checks.{IsRuled}
+use Rattle.submissions.specs.declared.Ruling.TheVariants.{Refused, Sound}
+use Rattle.lane_sources.specs.Sources.{lanes_of, all_of, left_at, HasComeTo, LeavesBehind, SubmissionAt}
+use Rattle.lane_sources.proofs.Noting.{ruled_sound}
+use Rattle.lane_sources.proofs.source.LaneSource.take_next.Goals as goal
+
+pub note_sound-requires-clause-sound : goal.note_sound-requires-clause-sound
+note_sound-requires-clause-sound g c t there =
+    let at : c.self.inside.at ≡ c.args.self.now.at = ap (λ s. s.at) (c.self.view_is ∙ c.rule_next.ensures.same) in
+    let ruled : IsRuled g.F.Deals.verdicts t c.in_ok-id.field-0 = c.in_ok-id.ensures.ruled t (subst (λ a. slice_get g.F.Deals.file a ≡ Some t) at there) in
+    (ruled.0, (ruled_sound g.F.Deals.verdicts t c.in_ok-id.field-0 c.in-Sound.own ruled c.in-Sound.is).1)

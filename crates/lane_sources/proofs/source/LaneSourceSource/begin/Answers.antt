@@ -1,0 +1,16 @@
+use Rattle.std.proofs.Common.{rules, ◌≡◌, ◌+◌, ◌*◌, ◌<◌, ◌≤◌, ◌++◌, ◌∷◌, [], length, refl, sym, ap, ◌∙◌, subst, arith, ℕ}
+use Rattle.std.specs.Vec.{vec_capacity}
+use Rattle.cbdc_model.specs.Coins.{FullTx as Full, tx_id as spec_id}
+use Rattle.sentinel.specs.FirstRefusal.{IsSound, IsFirstRefusal}
+use Rattle.lane_sources.specs.Sources.{lanes_of, all_of, left_at, HasComeTo, SubmissionAt}
+use Rattle.lane_sources.proofs.Leaving.{left_begin}
+use Rattle.sound_laws.specs.SoundTest.{sound_by}
+use Rattle.lane_sources.proofs.source.LaneSourceSource.begin.Goals as goal
+
+pub returns-clause-rest : goal.returns-clause-rest
+returns-clause-rest g c =
+    let lane : c.start.new.self.lane ≡ c.self.inside.lane = c.start.ensures.lane in
+    let at : c.start.new.self.at ≡ c.self.inside.lane = c.start.ensures.at in
+    subst (λ l. left_at g.F.Deals.shape g.F.Deals.verdicts g.F.Deals.file l c.start.new.self.at ≡ all_of g.F.Deals.shape g.F.Deals.verdicts g.F.Deals.file l) (sym lane)
+    (subst (λ a. left_at g.F.Deals.shape g.F.Deals.verdicts g.F.Deals.file c.self.inside.lane a ≡ all_of g.F.Deals.shape g.F.Deals.verdicts g.F.Deals.file c.self.inside.lane) (sym at)
+    (sym (left_begin g.F.Deals.shape (sound_by g.F.Deals.verdicts) g.F.Deals.file c.self.inside.lane c.self.invariant.come.within)))

@@ -1,0 +1,129 @@
+// What sentinels make of the submissions of a file.
+ghost use Rattle.std.specs.Prelude.{◌≡◌, ◌<◌, length, IfOk, IfErr};
+ghost use Rattle.cbdc_model.specs.Coins.{tx_id as spec_id};
+ghost use Rattle.sentinel.specs.FirstRefusal.{IsSound};
+ghost use Rattle.submissions.specs.Checks.{IsRuled};
+ghost use Rattle.lane_sources.specs.Sources.{SubmissionAt};
+
+use crate::file::{Deals, FileOf};
+use rayon::prelude::*;
+use std::alloc::{AllocError, Global};
+use std::marker::{Model, PhantomData};
+use std::thread::Threads;
+use submissions::{Ruled, rule};
+use verifier_port::Verifier;
+
+/// A place of the file that `F` picks, with what a sentinel makes of the submission there: its type says that it is this one's.
+#[derive(Drop)]
+pub struct RuledAt<F: Deals> {
+    place: usize,
+    ruled: Ruled,
+    of: PhantomData<F>,
+}
+
+impl<F: Deals> Model for RuledAt<F> {
+    ghost use Rattle.lane_sources.specs.Sources.{RuledOf, IsRuledAt};
+
+    ghost Value = { RuledOf };
+
+    ghost view = { λ r. record { place = r.place; ruled = r.ruled } };
+
+    ghost invariant = { λ r. IsRuledAt F.verdicts F.file r.place r.ruled };
+}
+
+impl<F: Deals> RuledAt<F> {
+    /// The place.
+    pub fn place(&self) -> usize
+        ensures { result ≡ self.now.place }
+    {
+        self.place
+    }
+
+    /// What a sentinel makes of the submission there.
+    pub fn take(self) -> Ruled
+        ensures { SubmissionAt F.file self.place (λ t. IsRuled F.verdicts t result) }
+    {
+        self.ruled
+    }
+}
+
+/// What a sentinel makes of the submission at a place. Memory runs out only for a sound one.
+pub fn rule_at<'a, V: Verifier, F: Deals>(
+    alloc: Global,
+    file: &FileOf<'a, V, F>,
+    place: usize,
+) -> Result<RuledAt<F>, AllocError>
+    requires { place < length F.file }
+    ensures place { IfOk result (λ r. r.place ≡ place) }
+    ensures sound { IfErr result (λ _. SubmissionAt F.file place (λ t. IsSound t (F.verdicts (spec_id t)))) }
+{
+    Ok(RuledAt {
+        place,
+        ruled: rule(alloc, &file.txs()[place], file.verifier())?,
+        of: PhantomData,
+    })
+}
+
+/// What was found ahead, where it is of this place; or what a sentinel makes of the submission there now. Memory runs out only for a sound
+/// one.
+pub(crate) fn found_or_now<'a, V: Verifier, F: Deals>(
+    alloc: Global,
+    file: &FileOf<'a, V, F>,
+    place: usize,
+    ahead: Option<RuledAt<F>>,
+) -> Result<Ruled, AllocError>
+    requires { place < length F.file }
+    ensures ruled { IfOk result (λ r. SubmissionAt F.file place (λ t. IsRuled F.verdicts t r)) }
+    ensures sound { IfErr result (λ _. SubmissionAt F.file place (λ t. IsSound t (F.verdicts (spec_id t)))) }
+{
+    if let Some(found) = ahead {
+        if found.place() == place {
+            return Ok(found.take());
+        }
+    }
+    Ok(rule_at(alloc, file, place)?.take())
+}
+
+// The same, or nothing past the end.
+fn rule_within<'a, V: Verifier, F: Deals>(
+    alloc: Global,
+    file: &FileOf<'a, V, F>,
+    place: usize,
+) -> Result<RuledAt<F>, AllocError> {
+    if place < file.txs().len() {
+        rule_at(alloc, file, place)
+    } else {
+        Err(AllocError)
+    }
+}
+
+// So many places of a lane from one on, the last one first.
+fn places_from(alloc: Global, from: usize, step: usize, end: usize, many: usize) -> Result<Vec<usize>, AllocError> {
+    let mut places = Vec::new(alloc);
+    let mut place = from;
+    'places: for _ in 0..many {
+        if place >= end {
+            break;
+        }
+        places.push(place)?;
+        place = place.saturating_add(step);
+    }
+    places.as_mut_slice().reverse();
+    Ok(places)
+}
+
+/// What sentinels make of so many submissions of a lane from a place on, the last one first, in as many threads as there are processors;
+/// or memory ran out.
+pub fn rule_ahead<'a, W: Threads + Sync, V: Verifier + Sync, F: Deals + Send + Sync>(
+    rt: &W,
+    alloc: Global,
+    file: &FileOf<'a, V, F>,
+    from: usize,
+    many: usize,
+) -> Result<Vec<RuledAt<F>>, AllocError> {
+    let places = places_from(alloc, from, file.lanes(), file.txs().len(), many)?;
+    places
+        .par_iter()
+        .map(|place: &usize| -> Result<RuledAt<F>, AllocError> { rule_within(alloc, file, *place) })
+        .collect::<Result<Vec<RuledAt<F>>, AllocError>>(rt, alloc)?
+}
