@@ -18,6 +18,9 @@ use lane_driver::{
 use outside::Gate;
 use std::alloc::{AllocError, Global};
 
+// Batches that an earlier run left open are not repeated.
+const REPEATS: u32 = 0;
+
 // The outcomes once more.
 fn copied(alloc: Global, outcomes: &[Outcome]) -> Result<Outcomes, AllocError>
     ensures { IfOk result (λ os. os ≡ outcomes.now) }
@@ -64,7 +67,7 @@ fn resume_prepared<S: PortSet, L: LogPort, G: Gate>(
         unfinished.stamp,
         room,
         ports,
-        0,
+        REPEATS,
         gate,
     ) {
         Ok(outcomes) => Ok(ResumedBatch {
@@ -132,7 +135,7 @@ fn resume_committed<S: PortSet, L: LogPort, G: Gate>(
         &mut again,
         later,
         ports,
-        0,
+        REPEATS,
         gate,
     ) {
         Ok(()) => Ok(ResumedBatch {
@@ -205,7 +208,7 @@ fn resume_discarded<S: PortSet, L: LogPort, G: Gate>(
         &mut forgets,
         &mut stamped,
         ports,
-        0,
+        REPEATS,
         gate,
     ) {
         Ok(()) => Ok(ResumedBatch {
