@@ -19,6 +19,9 @@ use lane_driver::{
 };
 use outside::Gate;
 
+// Batches that an earlier run left open are not repeated.
+const REPEATS: u32 = 0;
+
 // A prepared batch asks Lock again and goes on.
 fn resume_prepared<S: PortSet<G>, L: LogPort, G: Gate>(
     shape: &Shape,
@@ -55,7 +58,7 @@ fn resume_prepared<S: PortSet<G>, L: LogPort, G: Gate>(
         unfinished.stamp,
         room,
         ports,
-        0,
+        REPEATS,
         gate,
     ) {
         Ok(outcomes) => Ok(ResumedBatch {
@@ -118,7 +121,7 @@ fn resume_committed<S: PortSet<G>, L: LogPort, G: Gate>(
         &mut again,
         later,
         ports,
-        0,
+        REPEATS,
         gate,
     ) {
         Ok(()) => Ok(ResumedBatch {
@@ -186,7 +189,7 @@ fn resume_discarded<S: PortSet<G>, L: LogPort, G: Gate>(
         &mut forgets,
         &mut stamped,
         ports,
-        0,
+        REPEATS,
         gate,
     ) {
         Ok(()) => Ok(ResumedBatch {
