@@ -12,8 +12,8 @@ ghost use Rattle.file_runs.specs.Runs.{AreLanesOf};
 
 use cbdc_types::FullTx;
 use lane_driver::{LaneFault, no_memory};
-use ledger_nodes::{Ledger, run_wave};
 use lane_sources::{Deals, FileOf, LaneSource, RuledAt, checks_of, rule_ahead};
+use ledger_nodes::{Ledger, run_wave};
 use ledger_runs::{Lane, Work, first_fault};
 use outside::{Disk, Gate};
 use requests::RunOptions;

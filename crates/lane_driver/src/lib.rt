@@ -22,4 +22,4 @@ pub use making::ready;
 pub use order::{finish_calls, forget_calls, lock_calls};
 pub use port::{LogPort, PortSet, Ports, ShardPort};
 pub use room::{BatchRoom, LaterRoom};
-pub use source::{Source, SliceSource};
+pub use source::{SliceSource, Source};

@@ -31,7 +31,6 @@ lt_or (suc a) (suc b) = elim (lt_or a b) [ inl h ↦ inl (omega (arith, h)) | in
 pub room_left : (n lane len most size at : ℕ) → at ≡ lane + n * len → size ≤ n * most → at < size → len < most
 room_left n lane len most size at is room inside = go (lt_or len most)
   where
-
     go : (len < most) ⊎ ((r : ℕ) × (len ≡ most + r)) → len < most
     go (inl h) = h
     go (inr (r, e)) = let more : n * most ≤ n * len = mul-le-mul_left n (omega (arith, e)) in absurd (omega (arith, more, is, room, inside))

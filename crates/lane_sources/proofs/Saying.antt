@@ -85,7 +85,7 @@ module _ (K : Shape) (verdicts : VerdictsOf) (file : List FullTx) where
         by =
             let inside : at ≤ length file = (let lt = slice_get_within file at t there in omega (arith, lt)) in
             let both : length (all_of K verdicts file lane) ≡ length (sent_to K (sound_by verdicts) (take at file) lane) + length (left_at K verdicts file lane at) =
-                ap (λ xs. length xs) (left_split K (sound_by verdicts) file lane come.within at inside) ∙ length-append (sent_to K (sound_by verdicts) (take at file) lane) (left_at K verdicts file lane at) in
+            ap (λ xs. length xs) (left_split K (sound_by verdicts) file lane come.within at inside) ∙ length-append (sent_to K (sound_by verdicts) (take at file) lane) (left_at K verdicts file lane at) in
             let is = come.sent_is in omega (arith, both, is)
 
     at_lane : lane ≡ at % lanes_of K

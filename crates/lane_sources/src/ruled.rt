@@ -98,7 +98,13 @@ fn rule_within<'a, V: Verifier, F: Deals>(
 }
 
 // So many places of a lane from one on, the last one first.
-fn places_from(alloc: Global, from: usize, step: usize, end: usize, many: usize) -> Result<Vec<usize>, AllocError> {
+fn places_from(
+    alloc: Global,
+    from: usize,
+    step: usize,
+    end: usize,
+    many: usize,
+) -> Result<Vec<usize>, AllocError> {
     let mut places = Vec::new(alloc);
     let mut place = from;
     'places: for _ in 0..many {

@@ -16,12 +16,7 @@ use std::sync::Wait;
 use std::thread::Threads;
 
 /// Runs a wave of idle lanes at the nodes of a ledger, each lane on a thread of its own.
-pub fn run_wave<
-    W: Threads + Wait + Sync,
-    D: Disk + Send,
-    X: Source + Send,
-    G: Gate + Sync,
->(
+pub fn run_wave<W: Threads + Wait + Sync, D: Disk + Send, X: Source + Send, G: Gate + Sync>(
     rt: &W,
     alloc: Global,
     ledger: Ledger<D>,

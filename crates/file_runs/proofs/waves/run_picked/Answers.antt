@@ -76,95 +76,95 @@ pub returns-in-Some : goal.returns-in-Some
 returns-in-Some g c =
     let are : AreLanesOf c.args.ledger.header.shape g.F.Deals.verdicts g.F.Deals.file c.in-Ok.works.items = are_of g.F.Deals.shape c.args.ledger.header.shape g.F.Deals.verdicts g.F.Deals.file c.in-Ok.works.items c.requires.shape c.in-Ok.ensures in
     record {
-  keeps_ledger = c.run_wave-ledger.ensures.wave.keeps_ledger;
-  idle = search rules;
-  keeps = keeps_file c.args.ledger.header.shape g.F.Deals.verdicts g.F.Deals.file c.in-Ok.works.items
-      (journals g.D.Disk.count g.D.Disk.limit c.args.ledger) (journals g.D.Disk.count g.D.Disk.limit c.run_wave-ledger.result) are c.run_wave-ledger.ensures.wave.says.keeps;
-  runs = search rules;
-  quiet = search rules;
-  checked = search rules;
-  told = search rules;
-  flies = flies_file c.args.ledger.header.shape g.F.Deals.verdicts g.F.Deals.file c.in-Ok.works.items
-      (journals g.D.Disk.count g.D.Disk.limit c.args.ledger) (journals g.D.Disk.count g.D.Disk.limit c.run_wave-ledger.result) (flights g.D.Disk.count g.D.Disk.limit c.args.ledger) (flights g.D.Disk.count g.D.Disk.limit c.run_wave-ledger.result)
-      are c.run_wave-ledger.ensures.wave.says.flies;
-  launches = let K = c.args.ledger.header.shape in
-      let verdicts = g.F.Deals.verdicts in
-      file_launches K verdicts g.F.Deals.file c.in-Ok.works.items c.run_wave-ledger.new.lanes.items (journals g.D.Disk.count g.D.Disk.limit c.args.ledger) (journals g.D.Disk.count g.D.Disk.limit c.run_wave-ledger.result)
-      (flights g.D.Disk.count g.D.Disk.limit c.args.ledger) (flights g.D.Disk.count g.D.Disk.limit c.run_wave-ledger.result) (c.run_wave-ledger.ensures.wave.says.count ∙ are.count) are c.run_wave-ledger.ensures.wave.says.sent (c.run_wave-ledger.ensures.wave.says.launches c.requires.checked.0 c.requires.checked.1);
-  still = c.run_wave-ledger.ensures.wave.checked c.requires.checked;
-  grows = search rules;
-  prepared = search rules;
-  begun = λ some. let K = c.args.ledger.header.shape in
-      let verdicts = g.F.Deals.verdicts in
-      file_begun K verdicts g.F.Deals.file c.in-Ok.works.items c.run_wave-ledger.new.lanes.items (journals g.D.Disk.count g.D.Disk.limit c.args.ledger) (journals g.D.Disk.count g.D.Disk.limit c.run_wave-ledger.result)
-      (c.run_wave-ledger.ensures.wave.says.count ∙ are.count) are c.run_wave-ledger.ensures.wave.says.sent c.run_wave-ledger.ensures.wave.says.begun;
-  fault = let K = c.args.ledger.header.shape in
-      let verdicts = g.F.Deals.verdicts in
-      let first = subst (λ ls. FirstFaultIs ls (Some c.in-Some.fault)) c.deref.ensures.value (subst (λ o. FirstFaultIs c.deref.result.now o) c.in-Some.is c.first_fault.ensures) in
-      file_cause K verdicts g.F.Deals.file c.in-Ok.works.items c.run_wave-ledger.new.lanes.items (journals g.D.Disk.count g.D.Disk.limit c.args.ledger) (journals g.D.Disk.count g.D.Disk.limit c.run_wave-ledger.result)
-      (HaveFailed (opened g.D.Disk.count g.D.Disk.limit c.run_wave-ledger.result) (faults g.D.Disk.count g.D.Disk.limit c.run_wave-ledger.result)) (MayHold (capacity g.D.Disk.count g.D.Disk.limit c.run_wave-ledger.result))
-      (c.run_wave-ledger.ensures.wave.says.count ∙ are.count) are c.run_wave-ledger.ensures.wave.says.sent (c.run_wave-ledger.ensures.wave.says.causes c.requires.checked.0 c.requires.checked.1 are.fresh) c.in-Some.fault first;
-  rests = wave_rests c.args.ledger.header.shape c.run_wave-ledger.new.lanes.items (journals g.D.Disk.count g.D.Disk.limit c.args.ledger) (journals g.D.Disk.count g.D.Disk.limit c.run_wave-ledger.result)
-      (HaveFailed (opened g.D.Disk.count g.D.Disk.limit c.run_wave-ledger.result) (faults g.D.Disk.count g.D.Disk.limit c.run_wave-ledger.result)) (MayHold (capacity g.D.Disk.count g.D.Disk.limit c.run_wave-ledger.result))
-      (c.run_wave-ledger.ensures.wave.says.count ∙ are.count) (c.run_wave-ledger.ensures.wave.says.causes c.requires.checked.0 c.requires.checked.1 are.fresh) c.run_wave-ledger.ensures.wave.says.theirs;
-  least = let K = c.args.ledger.header.shape in
-      let verdicts = g.F.Deals.verdicts in
-      let first = subst (λ ls. FirstFaultIs ls (Some c.in-Some.fault)) c.deref.ensures.value (subst (λ o. FirstFaultIs c.deref.result.now o) c.in-Some.is c.first_fault.ensures) in
-      file_ends K verdicts g.F.Deals.file c.in-Ok.works.items c.run_wave-ledger.new.lanes.items (journals g.D.Disk.count g.D.Disk.limit c.args.ledger) (journals g.D.Disk.count g.D.Disk.limit c.run_wave-ledger.result)
-      (HaveFailed (opened g.D.Disk.count g.D.Disk.limit c.run_wave-ledger.result) (faults g.D.Disk.count g.D.Disk.limit c.run_wave-ledger.result)) (MayHold (capacity g.D.Disk.count g.D.Disk.limit c.run_wave-ledger.result))
-      (c.run_wave-ledger.ensures.wave.says.count ∙ are.count) are c.run_wave-ledger.ensures.wave.says.sent (c.run_wave-ledger.ensures.wave.says.causes c.requires.checked.0 c.requires.checked.1 are.fresh) c.run_wave-ledger.ensures.wave.says.theirs c.in-Some.fault first;
-}
+      keeps_ledger = c.run_wave-ledger.ensures.wave.keeps_ledger;
+      idle = search rules;
+      keeps = keeps_file c.args.ledger.header.shape g.F.Deals.verdicts g.F.Deals.file c.in-Ok.works.items
+          (journals g.D.Disk.count g.D.Disk.limit c.args.ledger) (journals g.D.Disk.count g.D.Disk.limit c.run_wave-ledger.result) are c.run_wave-ledger.ensures.wave.says.keeps;
+      runs = search rules;
+      quiet = search rules;
+      checked = search rules;
+      told = search rules;
+      flies = flies_file c.args.ledger.header.shape g.F.Deals.verdicts g.F.Deals.file c.in-Ok.works.items
+          (journals g.D.Disk.count g.D.Disk.limit c.args.ledger) (journals g.D.Disk.count g.D.Disk.limit c.run_wave-ledger.result) (flights g.D.Disk.count g.D.Disk.limit c.args.ledger) (flights g.D.Disk.count g.D.Disk.limit c.run_wave-ledger.result)
+          are c.run_wave-ledger.ensures.wave.says.flies;
+      launches = let K = c.args.ledger.header.shape in
+          let verdicts = g.F.Deals.verdicts in
+          file_launches K verdicts g.F.Deals.file c.in-Ok.works.items c.run_wave-ledger.new.lanes.items (journals g.D.Disk.count g.D.Disk.limit c.args.ledger) (journals g.D.Disk.count g.D.Disk.limit c.run_wave-ledger.result)
+          (flights g.D.Disk.count g.D.Disk.limit c.args.ledger) (flights g.D.Disk.count g.D.Disk.limit c.run_wave-ledger.result) (c.run_wave-ledger.ensures.wave.says.count ∙ are.count) are c.run_wave-ledger.ensures.wave.says.sent (c.run_wave-ledger.ensures.wave.says.launches c.requires.checked.0 c.requires.checked.1);
+      still = c.run_wave-ledger.ensures.wave.checked c.requires.checked;
+      grows = search rules;
+      prepared = search rules;
+      begun = λ some. let K = c.args.ledger.header.shape in
+          let verdicts = g.F.Deals.verdicts in
+          file_begun K verdicts g.F.Deals.file c.in-Ok.works.items c.run_wave-ledger.new.lanes.items (journals g.D.Disk.count g.D.Disk.limit c.args.ledger) (journals g.D.Disk.count g.D.Disk.limit c.run_wave-ledger.result)
+          (c.run_wave-ledger.ensures.wave.says.count ∙ are.count) are c.run_wave-ledger.ensures.wave.says.sent c.run_wave-ledger.ensures.wave.says.begun;
+      fault = let K = c.args.ledger.header.shape in
+          let verdicts = g.F.Deals.verdicts in
+          let first = subst (λ ls. FirstFaultIs ls (Some c.in-Some.fault)) c.deref.ensures.value (subst (λ o. FirstFaultIs c.deref.result.now o) c.in-Some.is c.first_fault.ensures) in
+          file_cause K verdicts g.F.Deals.file c.in-Ok.works.items c.run_wave-ledger.new.lanes.items (journals g.D.Disk.count g.D.Disk.limit c.args.ledger) (journals g.D.Disk.count g.D.Disk.limit c.run_wave-ledger.result)
+          (HaveFailed (opened g.D.Disk.count g.D.Disk.limit c.run_wave-ledger.result) (faults g.D.Disk.count g.D.Disk.limit c.run_wave-ledger.result)) (MayHold (capacity g.D.Disk.count g.D.Disk.limit c.run_wave-ledger.result))
+          (c.run_wave-ledger.ensures.wave.says.count ∙ are.count) are c.run_wave-ledger.ensures.wave.says.sent (c.run_wave-ledger.ensures.wave.says.causes c.requires.checked.0 c.requires.checked.1 are.fresh) c.in-Some.fault first;
+      rests = wave_rests c.args.ledger.header.shape c.run_wave-ledger.new.lanes.items (journals g.D.Disk.count g.D.Disk.limit c.args.ledger) (journals g.D.Disk.count g.D.Disk.limit c.run_wave-ledger.result)
+          (HaveFailed (opened g.D.Disk.count g.D.Disk.limit c.run_wave-ledger.result) (faults g.D.Disk.count g.D.Disk.limit c.run_wave-ledger.result)) (MayHold (capacity g.D.Disk.count g.D.Disk.limit c.run_wave-ledger.result))
+          (c.run_wave-ledger.ensures.wave.says.count ∙ are.count) (c.run_wave-ledger.ensures.wave.says.causes c.requires.checked.0 c.requires.checked.1 are.fresh) c.run_wave-ledger.ensures.wave.says.theirs;
+      least = let K = c.args.ledger.header.shape in
+          let verdicts = g.F.Deals.verdicts in
+          let first = subst (λ ls. FirstFaultIs ls (Some c.in-Some.fault)) c.deref.ensures.value (subst (λ o. FirstFaultIs c.deref.result.now o) c.in-Some.is c.first_fault.ensures) in
+          file_ends K verdicts g.F.Deals.file c.in-Ok.works.items c.run_wave-ledger.new.lanes.items (journals g.D.Disk.count g.D.Disk.limit c.args.ledger) (journals g.D.Disk.count g.D.Disk.limit c.run_wave-ledger.result)
+          (HaveFailed (opened g.D.Disk.count g.D.Disk.limit c.run_wave-ledger.result) (faults g.D.Disk.count g.D.Disk.limit c.run_wave-ledger.result)) (MayHold (capacity g.D.Disk.count g.D.Disk.limit c.run_wave-ledger.result))
+          (c.run_wave-ledger.ensures.wave.says.count ∙ are.count) are c.run_wave-ledger.ensures.wave.says.sent (c.run_wave-ledger.ensures.wave.says.causes c.requires.checked.0 c.requires.checked.1 are.fresh) c.run_wave-ledger.ensures.wave.says.theirs c.in-Some.fault first;
+    }
 
 pub returns-in-None : goal.returns-in-None
 returns-in-None g c =
     let are : AreLanesOf c.args.ledger.header.shape g.F.Deals.verdicts g.F.Deals.file c.in-Ok.works.items = are_of g.F.Deals.shape c.args.ledger.header.shape g.F.Deals.verdicts g.F.Deals.file c.in-Ok.works.items c.requires.shape c.in-Ok.ensures in
     record {
-  keeps_ledger = c.run_wave-ledger.ensures.wave.keeps_ledger;
-  idle = let none = subst (λ o. FirstFaultIs c.deref.result.now o) c.in-None.is c.first_fault.ensures in
-      c.run_wave-ledger.ensures.wave.says.idle (subst (λ ls. NoFault ls) c.deref.ensures.value none);
-  keeps = keeps_file c.args.ledger.header.shape g.F.Deals.verdicts g.F.Deals.file c.in-Ok.works.items
-      (journals g.D.Disk.count g.D.Disk.limit c.args.ledger) (journals g.D.Disk.count g.D.Disk.limit c.run_wave-ledger.result) are c.run_wave-ledger.ensures.wave.says.keeps;
-  runs = let K = c.args.ledger.header.shape in
-      let none = subst (λ o. FirstFaultIs c.deref.result.now o) c.in-None.is c.first_fault.ensures in
-      runs_file K g.F.Deals.verdicts g.F.Deals.file c.in-Ok.works.items c.run_wave-ledger.new.lanes.items
-      (journals g.D.Disk.count g.D.Disk.limit c.args.ledger) (journals g.D.Disk.count g.D.Disk.limit c.run_wave-ledger.result) are (subst (λ ls. NoFault ls) c.deref.ensures.value none) c.run_wave-ledger.ensures.wave.says.runs;
-  quiet = let none = subst (λ o. FirstFaultIs c.deref.result.now o) c.in-None.is c.first_fault.ensures in
-      c.run_wave-ledger.ensures.wave.quiet (subst (λ ls. NoFault ls) c.deref.ensures.value none);
-  checked = subst (λ k. AreChecked k g.F.Deals.verdicts g.F.Deals.file c.wave_of.result.checked.items) c.requires.shape c.wave_of.ensures.checked;
-  told = λ mint submissions kept. let K = c.args.ledger.header.shape in
-      let verdicts = g.F.Deals.verdicts in
-      let I = journals g.D.Disk.count g.D.Disk.limit c.args.ledger in
-      let J = journals g.D.Disk.count g.D.Disk.limit c.run_wave-ledger.result in
-      let none = subst (λ ls. NoFault ls) c.deref.ensures.value (subst (λ o. FirstFaultIs c.deref.result.now o) c.in-None.is c.first_fault.ensures) in
-      record {
-        checked = subst (λ k. AreChecked k verdicts g.F.Deals.file c.wave_of.result.checked.items) c.requires.shape c.wave_of.ensures.checked;
-        count = ap (λ ls. length ls) c.wave_of.ensures.lanes ∙ (length-map c.run_wave-ledger.new.lanes.items came_of ∙ (c.run_wave-ledger.ensures.wave.says.count ∙ are.count));
-        runs = runs_file K verdicts g.F.Deals.file c.in-Ok.works.items c.run_wave-ledger.new.lanes.items I J are none c.run_wave-ledger.ensures.wave.says.runs mint submissions kept;
-        tell = subst (λ ls. AllTell K I J ls) (sym c.wave_of.ensures.lanes)
-            (of_wave K verdicts g.F.Deals.file c.in-Ok.works.items c.run_wave-ledger.new.lanes.items I (AreFresh c.in-Ok.works.items → AllTell K I J (map came_of c.run_wave-ledger.new.lanes.items))
-            are none c.run_wave-ledger.ensures.wave.says.told mint submissions kept are.untold);
-      };
-  flies = flies_file c.args.ledger.header.shape g.F.Deals.verdicts g.F.Deals.file c.in-Ok.works.items
-      (journals g.D.Disk.count g.D.Disk.limit c.args.ledger) (journals g.D.Disk.count g.D.Disk.limit c.run_wave-ledger.result) (flights g.D.Disk.count g.D.Disk.limit c.args.ledger) (flights g.D.Disk.count g.D.Disk.limit c.run_wave-ledger.result)
-      are c.run_wave-ledger.ensures.wave.says.flies;
-  launches = let K = c.args.ledger.header.shape in
-      let verdicts = g.F.Deals.verdicts in
-      file_launches K verdicts g.F.Deals.file c.in-Ok.works.items c.run_wave-ledger.new.lanes.items (journals g.D.Disk.count g.D.Disk.limit c.args.ledger) (journals g.D.Disk.count g.D.Disk.limit c.run_wave-ledger.result)
-      (flights g.D.Disk.count g.D.Disk.limit c.args.ledger) (flights g.D.Disk.count g.D.Disk.limit c.run_wave-ledger.result) (c.run_wave-ledger.ensures.wave.says.count ∙ are.count) are c.run_wave-ledger.ensures.wave.says.sent (c.run_wave-ledger.ensures.wave.says.launches c.requires.checked.0 c.requires.checked.1);
-  still = c.run_wave-ledger.ensures.wave.checked c.requires.checked;
-  grows = search rules;
-  prepared = let K = c.args.ledger.header.shape in
-      let verdicts = g.F.Deals.verdicts in
-      let none = subst (λ ls. NoFault ls) c.deref.ensures.value (subst (λ o. FirstFaultIs c.deref.result.now o) c.in-None.is c.first_fault.ensures) in
-      file_done K verdicts g.F.Deals.file c.in-Ok.works.items c.run_wave-ledger.new.lanes.items (journals g.D.Disk.count g.D.Disk.limit c.args.ledger) (journals g.D.Disk.count g.D.Disk.limit c.run_wave-ledger.result)
-      (c.run_wave-ledger.ensures.wave.says.count ∙ are.count) are c.run_wave-ledger.ensures.wave.says.sent (c.run_wave-ledger.ensures.wave.says.prepared none);
-  begun = λ some. let K = c.args.ledger.header.shape in
-      let verdicts = g.F.Deals.verdicts in
-      file_begun K verdicts g.F.Deals.file c.in-Ok.works.items c.run_wave-ledger.new.lanes.items (journals g.D.Disk.count g.D.Disk.limit c.args.ledger) (journals g.D.Disk.count g.D.Disk.limit c.run_wave-ledger.result)
-      (c.run_wave-ledger.ensures.wave.says.count ∙ are.count) are c.run_wave-ledger.ensures.wave.says.sent c.run_wave-ledger.ensures.wave.says.begun;
-  fault = search rules;
-  rests = wave_rests c.args.ledger.header.shape c.run_wave-ledger.new.lanes.items (journals g.D.Disk.count g.D.Disk.limit c.args.ledger) (journals g.D.Disk.count g.D.Disk.limit c.run_wave-ledger.result)
-      (HaveFailed (opened g.D.Disk.count g.D.Disk.limit c.run_wave-ledger.result) (faults g.D.Disk.count g.D.Disk.limit c.run_wave-ledger.result)) (MayHold (capacity g.D.Disk.count g.D.Disk.limit c.run_wave-ledger.result))
-      (c.run_wave-ledger.ensures.wave.says.count ∙ are.count) (c.run_wave-ledger.ensures.wave.says.causes c.requires.checked.0 c.requires.checked.1 are.fresh) c.run_wave-ledger.ensures.wave.says.theirs;
-  least = search rules;
-}
+      keeps_ledger = c.run_wave-ledger.ensures.wave.keeps_ledger;
+      idle = let none = subst (λ o. FirstFaultIs c.deref.result.now o) c.in-None.is c.first_fault.ensures in
+          c.run_wave-ledger.ensures.wave.says.idle (subst (λ ls. NoFault ls) c.deref.ensures.value none);
+      keeps = keeps_file c.args.ledger.header.shape g.F.Deals.verdicts g.F.Deals.file c.in-Ok.works.items
+          (journals g.D.Disk.count g.D.Disk.limit c.args.ledger) (journals g.D.Disk.count g.D.Disk.limit c.run_wave-ledger.result) are c.run_wave-ledger.ensures.wave.says.keeps;
+      runs = let K = c.args.ledger.header.shape in
+          let none = subst (λ o. FirstFaultIs c.deref.result.now o) c.in-None.is c.first_fault.ensures in
+          runs_file K g.F.Deals.verdicts g.F.Deals.file c.in-Ok.works.items c.run_wave-ledger.new.lanes.items
+          (journals g.D.Disk.count g.D.Disk.limit c.args.ledger) (journals g.D.Disk.count g.D.Disk.limit c.run_wave-ledger.result) are (subst (λ ls. NoFault ls) c.deref.ensures.value none) c.run_wave-ledger.ensures.wave.says.runs;
+      quiet = let none = subst (λ o. FirstFaultIs c.deref.result.now o) c.in-None.is c.first_fault.ensures in
+          c.run_wave-ledger.ensures.wave.quiet (subst (λ ls. NoFault ls) c.deref.ensures.value none);
+      checked = subst (λ k. AreChecked k g.F.Deals.verdicts g.F.Deals.file c.wave_of.result.checked.items) c.requires.shape c.wave_of.ensures.checked;
+      told = λ mint submissions kept. let K = c.args.ledger.header.shape in
+          let verdicts = g.F.Deals.verdicts in
+          let I = journals g.D.Disk.count g.D.Disk.limit c.args.ledger in
+          let J = journals g.D.Disk.count g.D.Disk.limit c.run_wave-ledger.result in
+          let none = subst (λ ls. NoFault ls) c.deref.ensures.value (subst (λ o. FirstFaultIs c.deref.result.now o) c.in-None.is c.first_fault.ensures) in
+          record {
+            checked = subst (λ k. AreChecked k verdicts g.F.Deals.file c.wave_of.result.checked.items) c.requires.shape c.wave_of.ensures.checked;
+            count = ap (λ ls. length ls) c.wave_of.ensures.lanes ∙ (length-map c.run_wave-ledger.new.lanes.items came_of ∙ (c.run_wave-ledger.ensures.wave.says.count ∙ are.count));
+            runs = runs_file K verdicts g.F.Deals.file c.in-Ok.works.items c.run_wave-ledger.new.lanes.items I J are none c.run_wave-ledger.ensures.wave.says.runs mint submissions kept;
+            tell = subst (λ ls. AllTell K I J ls) (sym c.wave_of.ensures.lanes)
+                (of_wave K verdicts g.F.Deals.file c.in-Ok.works.items c.run_wave-ledger.new.lanes.items I (AreFresh c.in-Ok.works.items → AllTell K I J (map came_of c.run_wave-ledger.new.lanes.items))
+                are none c.run_wave-ledger.ensures.wave.says.told mint submissions kept are.untold);
+          };
+      flies = flies_file c.args.ledger.header.shape g.F.Deals.verdicts g.F.Deals.file c.in-Ok.works.items
+          (journals g.D.Disk.count g.D.Disk.limit c.args.ledger) (journals g.D.Disk.count g.D.Disk.limit c.run_wave-ledger.result) (flights g.D.Disk.count g.D.Disk.limit c.args.ledger) (flights g.D.Disk.count g.D.Disk.limit c.run_wave-ledger.result)
+          are c.run_wave-ledger.ensures.wave.says.flies;
+      launches = let K = c.args.ledger.header.shape in
+          let verdicts = g.F.Deals.verdicts in
+          file_launches K verdicts g.F.Deals.file c.in-Ok.works.items c.run_wave-ledger.new.lanes.items (journals g.D.Disk.count g.D.Disk.limit c.args.ledger) (journals g.D.Disk.count g.D.Disk.limit c.run_wave-ledger.result)
+          (flights g.D.Disk.count g.D.Disk.limit c.args.ledger) (flights g.D.Disk.count g.D.Disk.limit c.run_wave-ledger.result) (c.run_wave-ledger.ensures.wave.says.count ∙ are.count) are c.run_wave-ledger.ensures.wave.says.sent (c.run_wave-ledger.ensures.wave.says.launches c.requires.checked.0 c.requires.checked.1);
+      still = c.run_wave-ledger.ensures.wave.checked c.requires.checked;
+      grows = search rules;
+      prepared = let K = c.args.ledger.header.shape in
+          let verdicts = g.F.Deals.verdicts in
+          let none = subst (λ ls. NoFault ls) c.deref.ensures.value (subst (λ o. FirstFaultIs c.deref.result.now o) c.in-None.is c.first_fault.ensures) in
+          file_done K verdicts g.F.Deals.file c.in-Ok.works.items c.run_wave-ledger.new.lanes.items (journals g.D.Disk.count g.D.Disk.limit c.args.ledger) (journals g.D.Disk.count g.D.Disk.limit c.run_wave-ledger.result)
+          (c.run_wave-ledger.ensures.wave.says.count ∙ are.count) are c.run_wave-ledger.ensures.wave.says.sent (c.run_wave-ledger.ensures.wave.says.prepared none);
+      begun = λ some. let K = c.args.ledger.header.shape in
+          let verdicts = g.F.Deals.verdicts in
+          file_begun K verdicts g.F.Deals.file c.in-Ok.works.items c.run_wave-ledger.new.lanes.items (journals g.D.Disk.count g.D.Disk.limit c.args.ledger) (journals g.D.Disk.count g.D.Disk.limit c.run_wave-ledger.result)
+          (c.run_wave-ledger.ensures.wave.says.count ∙ are.count) are c.run_wave-ledger.ensures.wave.says.sent c.run_wave-ledger.ensures.wave.says.begun;
+      fault = search rules;
+      rests = wave_rests c.args.ledger.header.shape c.run_wave-ledger.new.lanes.items (journals g.D.Disk.count g.D.Disk.limit c.args.ledger) (journals g.D.Disk.count g.D.Disk.limit c.run_wave-ledger.result)
+          (HaveFailed (opened g.D.Disk.count g.D.Disk.limit c.run_wave-ledger.result) (faults g.D.Disk.count g.D.Disk.limit c.run_wave-ledger.result)) (MayHold (capacity g.D.Disk.count g.D.Disk.limit c.run_wave-ledger.result))
+          (c.run_wave-ledger.ensures.wave.says.count ∙ are.count) (c.run_wave-ledger.ensures.wave.says.causes c.requires.checked.0 c.requires.checked.1 are.fresh) c.run_wave-ledger.ensures.wave.says.theirs;
+      least = search rules;
+    }

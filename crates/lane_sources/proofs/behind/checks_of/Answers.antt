@@ -21,7 +21,7 @@ places-preserved g c =
     let lane : s.lane ≡ place % lanes = (c.finish_all.ensures.end (place % lanes) s (slice_get-get_or c.finish_all.new.sources (place % lanes) c.index-sources-place.result low)).0 in
     let is : s.lane + lanes_of K * (place / lanes) ≡ place = place_of (lanes_of K) lanes place s.lane c.lanes-lanes.ensures.lanes lane in
     let said : SubmissionAt file place (λ t. (one.id ≡ tx_id t) × IsSaid K verdicts file place t one.judgement) =
-        subst (λ j. SubmissionAt file j (λ t. (one.id ≡ tx_id t) × IsSaid K verdicts file j t one.judgement)) is c.said.ensures in
+    subst (λ j. SubmissionAt file j (λ t. (one.id ≡ tx_id t) × IsSaid K verdicts file j t one.judgement)) is c.said.ensures in
     record {
       count = ap (λ xs. length xs) c.push_reserved.ensures.items ∙ (length-append c.places.checked.items (one ∷ []) ∙ ap (λ n. n + 1) c.places.invariant.count);
       room = c.push_reserved.ensures.capacity ∙ c.places.invariant.room;
