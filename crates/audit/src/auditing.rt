@@ -163,7 +163,9 @@ pub fn audit<W: Threads + Sync>(
     let compacts = forms_of(rt, alloc, handed)?;
     let ids = ById::of(alloc, handed, &compacts)?;
     let mut fold = Fold::of_mint(alloc, mint, handed)?;
-    match walk(alloc, shape, journals, history, &ids, handed, &compacts, &mut fold)? {
+    match walk(
+        alloc, shape, journals, history, &ids, handed, &compacts, &mut fold,
+    )? {
         Walked::Stopped { place, kind } => Ok(Verdict::Unsound { place, kind }),
         Walked::Whole(known) => match first_open(&known, journals, shape, history) {
             Some(place) => Ok(Verdict::Unsound {

@@ -53,11 +53,7 @@ impl ById {
     }
 
     /// Takes transactions in, whose compact forms are these.
-    pub(crate) fn of(
-        alloc: Global,
-        txs: &[FullTx],
-        forms: &[CompactTx],
-    ) -> Result<ById, AllocError>
+    pub(crate) fn of(alloc: Global, txs: &[FullTx], forms: &[CompactTx]) -> Result<ById, AllocError>
         requires { AllZip IsFormOf txs.now forms.now }
         ensures { IfOk result (IsIndex txs.now) }
     {

@@ -530,7 +530,11 @@ impl ShardCore {
         let forgotten = self.slots.take(batch.lane);
         self.slots.put(batch.lane, Slot::Idle(batch.number, *stamp));
         self.last = *stamp;
-        keep(&mut self.spare, batch.lane, finished_part(self.alloc, forgotten));
+        keep(
+            &mut self.spare,
+            batch.lane,
+            finished_part(self.alloc, forgotten),
+        );
     }
 
     /// What the shard knows of a hash. Takes no memory.
