@@ -149,8 +149,8 @@ class Case:
                 if dice.random() < 0.03:
                     # the same id with another number of witnesses
                     own.append(Tx(f"w{round_}.{at}", tx.inputs, tx.outputs, tx.witnesses + 1))
-                if not tx.refusal(AllGood()):
-                    spent += [it for it in tx.inputs if it in pool]
+                if not tx.refusal(AllGood()) and all(it in pool for it in tx.inputs):
+                    spent += tx.inputs
                     pool = [it for it in pool if it not in tx.inputs]
                     green += tx.coins
             pool += green
