@@ -149,8 +149,8 @@ class Case:
                 if dice.random() < 0.03:
                     # the same id with another number of witnesses
                     own.append(Tx(f"w{round_}.{at}", tx.inputs, tx.outputs, tx.witnesses + 1))
-                if not tx.refusal(AllGood()):
-                    spent += [it for it in tx.inputs if it in pool]
+                if not tx.refusal(AllGood()) and all(it in pool for it in tx.inputs):
+                    spent += tx.inputs
                     pool = [it for it in pool if it not in tx.inputs]
                     green += tx.coins
             pool += green
@@ -262,7 +262,7 @@ class Case:
         if dice.random() < 0.3:
             crash = [dice.choice(("none", "all", "torn"))] * self.nodes
         crash = crash if dice.random() < (0.75 if faults else 0.15) else None
-        return Stage(verb, files, faults, room, caps, crash, dice.choice((0, 1, 7, dice.randrange(256))))
+        return Stage(verb, files, faults, room, caps, crash, dice.choice((0, 1, 1, 7, dice.randrange(256))))
 
     def small_disks(self):
         """Disks that have room for little more than their first records, and some not for these."""
@@ -283,8 +283,8 @@ class Case:
     # What is known of a case without the program.
 
     def hashes(self):
-        """The hashes of all coins that are spoken of."""
-        known = dict.fromkeys(self.mint.tx.made)
+        """The hashes of all coins that are spoken of, and one of none."""
+        known = dict.fromkeys([sha(b"none"), *self.mint.tx.made])
         for tx in self.txs:
             known.update(dict.fromkeys(tx.spent + tx.made))
         return list(known)
