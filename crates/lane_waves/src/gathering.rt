@@ -10,7 +10,7 @@ use crate::lanes::kept;
 use lane_driver::{Ports, Source};
 use node_lock::Seat;
 use outside::Disk;
-use port_sets::EachPort;
+use port_sets::Fanout;
 use shard_fanout::{Locks, LogSeat, Shard, SharedLog};
 use std::sync::Wait;
 use wave_ends::{Dealt, gather};
@@ -49,7 +49,7 @@ fn gather_lane<'a, W: Wait, D: Disk, S: Shard, B: Locks, X: Source>(
         locks: _,
         each,
     } = shards;
-    let EachPort { ports } = each;
+    let Fanout { at_once: _, ports } = each;
     let LogSeat {
         rt: _,
         node: _,

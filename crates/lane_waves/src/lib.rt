@@ -2,6 +2,7 @@
 //! and behind the lanes' ends all seats and all nodes are given back.
 #![tactic(auto)]
 
+mod choosing;
 mod dealing;
 mod gathering;
 mod lanes;

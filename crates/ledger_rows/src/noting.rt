@@ -28,10 +28,29 @@ impl NotingGate {
         self.order.is_kept()
     }
 
-    /// The points that were passed.
+    /// The points that were passed, those of a phase by their nodes.
     pub fn into_points(self) -> Vec<Point> {
         let NotingGate { points, order: _ } = self;
-        points.into_inner()
+        let mut points = points.into_inner();
+        put_by_nodes(points.as_mut_slice());
+        points
+    }
+}
+
+// Whether a point belongs before the one that was passed just before it: of a call of the same phase, at a lesser node.
+fn belongs_before(point: &Point, last: &Point) -> bool {
+    point.lane == last.lane && point.kind == last.kind && point.node.0 < last.node.0
+}
+
+// Puts the points of each phase in the order of their nodes, since its calls may be made at once.
+fn put_by_nodes(points: &mut [Point]) {
+    for end in 1..points.len() {
+        for at in (1..end + 1).rev() {
+            if !belongs_before(&points[at], &points[at - 1]) {
+                break;
+            }
+            points.swap(at - 1, at);
+        }
     }
 }
 

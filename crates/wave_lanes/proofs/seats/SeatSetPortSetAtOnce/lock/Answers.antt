@@ -1,11 +1,11 @@
-use Rattle.wave_lanes.proofs.seats.SeatSetPortSet.finish.Goals as goal
+use Rattle.wave_lanes.proofs.seats.SeatSetPortSetAtOnce.lock.Goals as goal
 
-pub finish-requires : goal.finish-requires
-finish-requires g c = record { shards = c.requires.shards; calls = c.requires.calls; mine = c.requires.mine; empty = c.requires.empty; room = c.requires.room }
+pub lock-requires : goal.lock-requires
+lock-requires g c = record { shards = c.requires.shards; calls = c.requires.calls; mine = c.requires.mine; empty = c.requires.empty; room = c.requires.room }
 
 pub returns : goal.returns
 returns g c =
-    let e = c.finish.ensures in
+    let e = c.lock.ensures in
     let k = e.keeps in
     record {
       each = e.each;

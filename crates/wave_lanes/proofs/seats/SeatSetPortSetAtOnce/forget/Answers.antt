@@ -1,4 +1,4 @@
-use Rattle.wave_lanes.proofs.seats.SeatSetPortSet.forget.Goals as goal
+use Rattle.wave_lanes.proofs.seats.SeatSetPortSetAtOnce.forget.Goals as goal
 
 pub forget-requires : goal.forget-requires
 forget-requires g c = record { shards = c.requires.shards; calls = c.requires.calls; mine = c.requires.mine; empty = c.requires.empty; room = c.requires.room }
