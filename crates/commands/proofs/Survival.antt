@@ -1,16 +1,19 @@
 -- What a crash behind a call leaves of a kept ledger.
-use Rattle.std.proofs.Common.{◌≡◌, ◌∙◌, ◌⊎◌, inl, inr, ℕ, ◌<◌, ◌≤◌, List, [], ◌++◌, reverse, Option, Some, None, refl, sym, ap, subst, arith}
+use Rattle.std.proofs.Common.{◌≡◌, ◌∙◌, ◌⊎◌, inl, inr, ℕ, ◌<◌, ◌≤◌, List, [], ◌∷◌, ◌++◌, reverse, Bool, true, false, ◌==◌, if◌then◌else◌, Option, Some, None, refl, sym, ap, subst, arith}
 use Rattle.std.proofs.lemmas.List.{append-nil}
 use Rattle.outside.specs.Images.{NoMore}
 use Rattle.line_text.specs.Lines.{Text}
 use Rattle.cbdc_types.specs.Limits.{IsWithinLimits}
 use Rattle.cbdc_types.specs.declared.answer.Answer.{Answer}
 use Rattle.cbdc_types.specs.declared.answer.Answer.TheVariants as answers
-use Rattle.cbdc_model.specs.Records.{Shape, Record}
+use Rattle.cbdc_model.specs.Records.{Shape, Header, Record, Row, journal}
 use Rattle.cbdc_model.specs.Coins.{Output, FullTx, genesis_id}
-use Rattle.cbdc_model.specs.History.{header_of}
+use Rattle.cbdc_model.specs.After.{After, IsJournal}
+use Rattle.cbdc_model.specs.Clean.{IsProperCompact}
+use Rattle.cbdc_model.specs.History.{minted, header_of, first_rows, IsSteady}
 use Rattle.cbdc_model.specs.Lanes.{IsEnd}
 use Rattle.cbdc_model.specs.World.{KeptJournals}
+use Rattle.ledger_laws.proofs.FirstJournals.{never_empty}
 use Rattle.command_answers.specs.Causes.{IsWell}
 use Rattle.command_line.specs.Asked.{IsAsked}
 use Rattle.requests.specs.declared.Request.{Request}
@@ -19,6 +22,7 @@ use Rattle.file_runs.specs.Runs.{joined}
 use Rattle.ledger_init.specs.Made.{MayBeMade}
 use Rattle.record_log.specs.Held.{OpensTo}
 use Rattle.opening_laws.proofs.Fronts.{has_first, whole_fronts}
+use Rattle.opening_laws.proofs.Once.{opens_once_law}
 use Rattle.rack_nodes.specs.Racked.{OfTold, AreBack, AreUnchanged}
 use Rattle.rack_laws.specs.Shown.{AreLeft, HoldsEach, OpenTo, Shows, node_count}
 use Rattle.rack_runs.specs.Runs.{IsGrown, SurvivesCrashes}
@@ -26,6 +30,48 @@ use Rattle.commands.specs.Left.{IsOfNoRack, Leaves}
 use Rattle.commands.specs.Outcomes.{Did}
 use Rattle.commands.specs.Spared.{AreBadOr}
 use Rattle.commands.specs.Survival.{GrewFrom, GrowsWhatever, IsKeptWhatever, Survives}
+
+-- ---- the journals of kept ledgers with one beginning
+
+one_less : (h : Header) (J : List Record) (r : Record) → (J ≡ [] → ⊥) → IsJournal h (r ∷ J) → IsJournal h J
+one_less h [] r some is = absurd (some refl)
+one_less h (q ∷ J) r some is = is.1
+
+one_more : (h : Header) (J : List Record) (r : Record) → (J ≡ [] → ⊥) → After h J r → IsJournal h J → IsJournal h (r ∷ J)
+one_more h [] r some after is = absurd (some refl)
+one_more h (q ∷ J) r some after is = (after, is)
+
+module _ (K : Shape) (mint : List Output) (n : ℕ) (inside : n < node_count K) where
+  abbrev H : Header
+  H = header_of K (genesis_id mint) n
+
+  abbrev at : List Row → List Record
+  at later = journal n (later ++ first_rows K (minted mint))
+
+  first_journal : (later : List Row) → IsJournal H (at later) → IsJournal H (at [])
+  first_journal [] is = is
+  first_journal (row ∷ later) is = first_journal later (go (row.node == n) is)
+    where
+      go : (b : Bool) → IsJournal H (if b then row.what ∷ at later else at later) → IsJournal H (at later)
+      go true more = one_less H (at later) row.what (never_empty K (minted mint) later n inside) more
+      go false more = more
+
+  later_journal : (submissions : List FullTx) (later : List Row) → IsSteady K (minted mint) (IsProperCompact submissions) later → IsJournal H (at []) → IsJournal H (at later)
+  later_journal submissions [] kept is = is
+  later_journal submissions (row ∷ later) kept is = go (row.node == n) refl (later_journal submissions later kept.3 is)
+    where
+      go : (b : Bool) → (row.node == n) ≡ b → IsJournal H (at later) → IsJournal H (if b then row.what ∷ at later else at later)
+      go true t rest =
+          let same : row.node ≡ n = grind (arith, t) in
+          one_more H (at later) row.what (never_empty K (minted mint) later n inside) (subst (λ m. After (header_of K (genesis_id mint) m) (journal m (later ++ first_rows K (minted mint))) row.what) same kept.0) rest
+      go false t rest = rest
+
+  -- so is each node's journal of the one, if it is of the other
+  journal_too : (submissions others : List FullTx) (E X : ℕ → List Record) → KeptJournals K mint submissions E → KeptJournals K mint others X → IsJournal H (E n) → IsJournal H (X n)
+  journal_too submissions others E X one other is =
+      subst (IsJournal H) (other.history.journals_are n) (later_journal others other.later other.kept (first_journal one.later (subst (IsJournal H) (sym (one.history.journals_are n)) is)))
+
+-- ---- disks
 
 -- what a disk tells, or nothing
 abbrev told_or : Option (List ℕ) → List ℕ
@@ -67,7 +113,7 @@ module _ {D : Type 0} (content : D → Option (List ℕ)) (images : D → List �
       go None e = shown_image n d inside is
       go (Some x) e = fewer n inside d is x e (contents n) (left n inside x e)
 
-  stays : LeavesNoMore → IsKeptWhatever images before K mint submissions → GrowsWhatever images before now K mint submissions
+  stays : LeavesNoMore → IsKeptWhatever images before K mint submissions → GrowsWhatever images before now K mint submissions E
   stays fewer whatever contents left = (k.0, opens, k.2, grew)
     where
       old : AreLeft images before K (chosen contents)
@@ -81,19 +127,37 @@ module _ {D : Type 0} (content : D → Option (List ℕ)) (images : D → List �
           let s = shown n inside in
           subst (λ (o : Option D). OpensTo (reverse (k.0 n)) (pick o (bytes_of (before n)) (contents n))) is (k.1 n inside s.0 s.1)
 
-      grew : (n : ℕ) → n < node_count K → GrewFrom images (before n) (k.0 n)
-      grew n inside d is = (chosen contents n, k.0 n, old n inside d is, k.1 n inside d is, ([], refl))
+      grew : (n : ℕ) → n < node_count K → OfTold (before n) (λ d. GrewFrom images d (E n) (k.0 n))
+      grew n inside d is = record {
+        image = chosen contents n;
+        could = old n inside d is;
+        old = k.0 n;
+        opens = k.1 n inside d is;
+        grows = ([], refl);
+        synced = λ c only. (let s = shown n inside in
+            let told : bytes_of (before n) ≡ chosen contents n = only (bytes_of (before n)) (shown_image n d inside is) ∙ sym (only (chosen contents n) (old n inside d is)) in
+            let opens : OpensTo (reverse (k.0 n)) s.2.0 = subst (λ (l : List ℕ). OpensTo (reverse (k.0 n)) l) (sym told ∙ shown_bytes n inside) (k.1 n inside d is) in
+            let journal : IsJournal (header_of K (genesis_id mint) n) (k.0 n) = journal_too K mint n inside submissions submissions E k.0 kept k.2 s.2.2.journal in
+            let one = opens_once_law (header_of K (genesis_id mint) n) (header_of K (genesis_id mint) n) (k.0 n) (E n) s.2.0 s.2.2.limits s.2.2.limits journal s.2.2.journal opens s.2.2.opens in
+            ([], one.1));
+      }
 
   -- a journal that has grown from the one at entry has grown from that of an image
-  from_entry : (X : ℕ → List Record) → ((n : ℕ) → IsEnd (E n) (X n)) → (n : ℕ) → n < node_count K → GrewFrom images (before n) (X n)
+  from_entry : (X : ℕ → List Record) → ((n : ℕ) → IsEnd (E n) (X n)) → (n : ℕ) → n < node_count K → OfTold (before n) (λ d. GrewFrom images d (E n) (X n))
   from_entry X grows n inside d is =
-      let s = shown n inside in
-      (bytes_of (before n), E n, shown_image n d inside is, subst (λ (c : List ℕ). OpensTo (reverse (E n)) c) (sym (shown_bytes n inside)) s.2.2.opens, grows n)
+      record {
+        image = bytes_of (before n);
+        could = shown_image n d inside is;
+        old = E n;
+        opens = subst (λ (c : List ℕ). OpensTo (reverse (E n)) c) (sym (shown_bytes n inside)) (shown n inside).2.2.opens;
+        grows = grows n;
+        synced = λ c only. grows n;
+      }
 
-  cut_short : (txs : List FullTx) → SurvivesCrashes images limit now K mint (submissions ++ txs) E → GrowsWhatever images before now K mint (submissions ++ txs)
+  cut_short : (txs : List FullTx) → SurvivesCrashes images limit now K mint (submissions ++ txs) E → GrowsWhatever images before now K mint (submissions ++ txs) E
   cut_short txs crashes contents left = let k = crashes contents left in (k.0, k.1, k.2.kept, from_entry k.0 k.2.grows)
 
-  come_through : (txs : List FullTx) (exit : ℕ → List Record) → HoldsEach images now K exit → IsGrown K mint (submissions ++ txs) E exit → GrowsWhatever images before now K mint (submissions ++ txs)
+  come_through : (txs : List FullTx) (exit : ℕ → List Record) → HoldsEach images now K exit → IsGrown K mint (submissions ++ txs) E exit → GrowsWhatever images before now K mint (submissions ++ txs) E
   come_through txs exit holds grown contents left = (exit, (λ n inside d is. holds n inside d is (contents n) (left n inside d is)), grown.kept, from_entry exit grown.grows)
 
   -- no other ledger is made over the one that the disks show
@@ -107,13 +171,13 @@ module _ {D : Type 0} (content : D → Option (List ℕ)) (images : D → List �
   module _ (files : Text → Option (List ℕ)) (words : List Text) (disks_before disks_now : ℕ → ℕ) (printed : Text → Type 0) (whatever : IsKeptWhatever images before K mint submissions)
       (spared : AreBadOr IsOfNoRack words → (n : ℕ) → now n ≡ before n) where
     abbrev Survived : Type 0
-    Survived = Survives files images before now words K mint submissions
+    Survived = Survives files images before now words K mint submissions E
 
-    no_more : GrowsWhatever images before now K mint (submissions ++ []) → Survived
+    no_more : GrowsWhatever images before now K mint (submissions ++ []) E → Survived
     no_more grows = record { txs = []; handed_in = inl refl; grows = grows }
 
     stayed : LeavesNoMore → Survived
-    stayed fewer = no_more (subst (λ (l : List FullTx). GrowsWhatever images before now K mint l) (sym (append-nil submissions)) (stays fewer whatever))
+    stayed fewer = no_more (subst (λ (l : List FullTx). GrowsWhatever images before now K mint l E) (sym (append-nil submissions)) (stays fewer whatever))
 
     same : ((n : ℕ) → now n ≡ before n) → Survived
     same e = stayed (λ n inside was told is back c image. let one : was ≡ is = let z : Some was ≡ Some is = sym told ∙ sym (e n) ∙ back in cc in subst (λ (x : D). images x c) (sym one) image)

@@ -268,7 +268,7 @@ where
 
     // Whatever was answered: of a kept ledger that the disks showed, and that was kept whatever a crash before the call left of them, whatever a
     // crash behind it leaves opens to kept journals, with the transactions of the files that were to be run besides or without. Each of these has
-    // grown at its end from a journal that a crash before might have left of its disk: where nothing was unsynced there, of what the disk told.
+    // grown at its end from a journal that a crash before might have left of its disk: where nothing was unsynced there, from the one that it told.
     ensures survives { StaysKeptWhatever (I.file inbox.old) R.Disk.content R.Disk.images (R.held rack) (R.held result.rack) (texts words.now) }
 
     // Where it came through, and where it ended behind the opening of the ledger by a lane's fault or what an audit found wrong, no refusal of the opening
