@@ -157,7 +157,7 @@ pub fn audit<W: Threads + Sync>(
     mint: &[Output],
     handed: &[FullTx],
 ) -> Result<Verdict, AllocError>
-    requires { All (IsPlace (read journals.now)) history.now }
+    requires places { All (IsPlace (read journals.now)) history.now }
     ensures { IfOk result (IsVerdict shape.now mint.now handed.now (rows_at (read journals.now) history.now)) }
 {
     let compacts = forms_of(rt, alloc, handed)?;

@@ -27,7 +27,7 @@ use std::alloc::{AllocError, Global};
 use std::sync::Wait;
 use std::thread::Threads;
 use verifier_port::AllGood;
-use workload::{Workload, generate};
+use workload::{Clients, generate_clients};
 
 // What the run and the audit of a workload come to.
 #[derive(Drop)]
@@ -51,12 +51,11 @@ fn files_of(alloc: Global, seed: u64, count: u32) -> Result<Files, AllocError>
     ensures few { IfOk result (λ f. length f.mint ≤ 1000000) }
     ensures short { IfOk result (λ f. All (λ txs. All IsShort txs) f.clients.items) }
 {
-    let Workload {
+    let Clients {
         mint,
         splits,
         joins,
-        ..
-    } = generate(alloc, seed, u64::from(count))?;
+    } = generate_clients(alloc, seed, u64::from(count))?;
     let mut clients = Vec::with_capacity(alloc, 2)?;
     clients.push(splits)?;
     clients.push(joins)?;

@@ -8,10 +8,10 @@ pub returns-in_default-clause-refusal : goal.returns-in_default-clause-refusal
 returns-in_default-clause-refusal g c = inr refl
 
 pub verdict_of-verdict-requires-clause-logs : goal.verdict_of-verdict-requires-clause-logs
-verdict_of-verdict-requires-clause-logs g c n x is = (c.in-Ok-open_minted.ensures.opened.logs_at n x is).journal
+verdict_of-verdict-requires-clause-logs g c κs k n x is = (c.in-Ok-open_minted.ensures.opened.logs_at n x is).journal
 
 pub verdict_of-verdict-requires-clause-shards : goal.verdict_of-verdict-requires-clause-shards
-verdict_of-verdict-requires-clause-shards g c n x is = (c.in-Ok-open_minted.ensures.opened.shards_at n x is).journal
+verdict_of-verdict-requires-clause-shards g c κs k n x is = (c.in-Ok-open_minted.ensures.opened.shards_at n x is).journal
 
 pub returns-in-Ok-verdict-clause-audited : goal.returns-in-Ok-verdict-clause-audited
 returns-in-Ok-verdict-clause-audited g c =

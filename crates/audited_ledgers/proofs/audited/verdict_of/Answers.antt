@@ -13,8 +13,8 @@ merge-requires g c =
     c.new-all.ensures.items c.as_slice.ensures.value c.as_slice-2.ensures.value c.in_ok-lend_logs.ensures c.in_ok-lend_shards.ensures c.deref.ensures.value in
     omega (arith, lent_count c.args.nodes.now.logs.items c.args.nodes.now.shards.items c.deref.result.now same, c.requires.few)
 
-pub audit-requires : goal.audit-requires
-audit-requires g c =
+pub audit-requires-clause-places : goal.audit-requires-clause-places
+audit-requires-clause-places g c κs k =
     let slices : c.deref.result.now ≡ c.deref-2.result.now = c.deref.ensures.value ∙ sym c.deref-2.ensures.value in
     subst (λ (l : List Place). All (IsPlace (read c.deref-2.result.now)) l) (sym c.as_slice-3.ensures)
     (subst (λ s. All (IsPlace (read s)) c.in_ok-history.history) slices c.in_ok-history.ensures.places)
