@@ -35,28 +35,45 @@ def same(what, came, wanted):
     raise Wrong(f"{what}: line {at + 1} is {one[at:at + 1]}, wanted {other[at:at + 1]}")
 
 
+class Rack(racks.Rack):
+    """A rack by journals that were read."""
+
+    def __init__(self, journals):
+        self.journals, self.header = journals, journals[0].header
+        self.faults = [fault for it in journals for fault in self.fault_of(it)]
+
+
+class Reader:
+    """Reads the disks of a case, each journal and each rack once."""
+
+    def __init__(self):
+        self.journals, self.racks = {}, {}
+
+    def journal(self, node, data):
+        if (node, data) not in self.journals:
+            self.journals[node, data] = racks.Journal(node, data)
+        return self.journals[node, data]
+
+    def rack(self, disks):
+        disks = tuple(disks)
+        if disks not in self.racks:
+            self.racks[disks] = Seen(disks, [self.journal(node, data) for node, data in enumerate(disks)])
+        return self.racks[disks]
+
+
 class Seen:
     """Disks, and what their journals say."""
 
-    journals = {}
-
-    def __init__(self, disks):
+    def __init__(self, disks, journals):
         self.disks = disks
-        self.records = [self.journal(node, data).records for node, data in enumerate(disks)]
-        self.used = [self.journal(node, data).used for node, data in enumerate(disks)]
+        self.records = [it.records for it in journals]
+        self.used = [it.used for it in journals]
         self.is_ledger = bool(self.records[0])
         self.batches, self.held, self.history = {}, {}, []
         if self.is_ledger:
-            self.look()
+            self.look(Rack(journals))
 
-    def journal(self, node, data):
-        key = node, data
-        if key not in Seen.journals:
-            Seen.journals[key] = racks.Journal(node, data)
-        return Seen.journals[key]
-
-    def look(self):
-        rack = racks.rack_of(self.disks)
+    def look(self, rack):
         must(not rack.faults, f"a journal is {rack.faults[:1]}")
         found = rack.uncaused()
         must(not found, f"a record is not caused: {found}")
@@ -147,10 +164,10 @@ class Checks:
 
     def __init__(self, case, told, spoil, tally):
         self.case, self.told, self.spoil, self.tally = case, told, spoil, tally
+        self.reader = Reader()
 
     def all(self):
-        Seen.journals.clear()
-        entry = Seen([b""] * self.case.nodes)
+        entry = self.reader.rack([b""] * self.case.nodes)
         for at, stage in enumerate(self.case.stages):
             entry = self.stage(at, stage, entry)
         self.end(entry)
@@ -158,7 +175,7 @@ class Checks:
     # A stage.
 
     def stage(self, at, stage, entry):
-        left = Left(*(Seen(self.told.disks(f"{kind}{at}")) for kind in ("live", "none", "torn")))
+        left = Left(*(self.reader.rack(self.told.disks(f"{kind}{at}")) for kind in ("live", "none", "torn")))
         if self.spoil == "image":
             left = self.shortened(left)
         text, status = self.told.ran(f"text{at}")
@@ -171,7 +188,7 @@ class Checks:
             self.rooms(stage, left)
             self.status(stage, entry, left, text, status)
             if self.case.is_steady(stage):
-                self.again(at, stage, status)
+                self.again(at, stage, text, status)
                 self.text(stage, entry, left.live, text, status)
             elif stage.verb == "run":
                 self.prepared(stage, entry, left.live, False)
@@ -187,7 +204,7 @@ class Checks:
         if left.none.records[node]:
             at = left.none.records[node][-1].at
             disks[node] = disks[node][:at] + b"\0"
-        return left._replace(none=Seen(disks))
+        return left._replace(none=self.reader.rack(disks))
 
     def count(self, stage, entry, text, status):
         self.tally[f"{stage.verb} {status}"] += 1
@@ -214,11 +231,15 @@ class Checks:
             if left.live.is_ledger:
                 must(left.live.used[node] + left.live.kept_room(node) <= capacity, f"node {node} has no room for what its batches will need")
 
-    def again(self, at, stage, status):
+    def again(self, at, stage, text, status):
+        """Which calls failed, and that the status is the one for them. A disk that is full is told where it comes first: of the nodes that are asked in
+        one phase the least is told, and of the lanes that are resumed."""
         faults = self.told.faults(f"again{at}")
         hit = {node for node, many in enumerate(faults) if many}
         must(hit <= set(stage.faults), f"calls of {hit} failed")
-        must((status == 12) == bool(hit), f"status {status} where calls of {hit} failed")
+        is_full = status == 5 and stage.verb != "init"
+        is_first = is_full and (not self.case.is_one_lane() or stage.room is not None or int(text.split()[2]) < min(hit, default=0))
+        must((status == 12) == bool(hit) or is_first, f"status {status} where calls of {hit} failed")
         self.tally["stages with a call that failed"] += bool(hit)
 
     def status(self, stage, entry, left, text, status):
@@ -264,8 +285,11 @@ class Checks:
         if stage.verb == "init":
             nodes = [it for it in range(self.case.nodes) if self.case.first_size(it) > stage.caps[it]]
             must((node, used, need) == (max(nodes, default=None), 0, self.case.first_size(node)), f"{text!r}, and {nodes} are full")
-        elif self.case.is_steady(stage):
+        elif self.case.is_one_lane():
             must(used == left.live.used[node], f"{text!r}, and {left.live.used[node]} are used")
+        elif self.case.is_steady(stage):
+            # lanes behind the one that is told may have gone on
+            must(entry.used[node] <= used <= left.live.used[node], f"{text!r}, and {left.live.used[node]} are used")
 
     # Texts.
 
@@ -378,7 +402,7 @@ class Checks:
         """The disks that the next stage finds, and what an audit and `status` say of them."""
         kinds = stage.crash or ["all"] * self.case.nodes
         by = {"all": left.live, "none": left.none, "torn": left.torn}
-        seen = Seen([by[kind].disks[node] for node, kind in enumerate(kinds)])
+        seen = self.reader.rack([by[kind].disks[node] for node, kind in enumerate(kinds)])
         self.tally["crashes"] += bool(stage.crash)
         if not seen.is_ledger:
             for name in ("audit", "status"):
