@@ -1,14 +1,12 @@
 -- What was found of lanes, and their plans, taken from the end as the lanes are taken up.
-use Rattle.std.proofs.Common.{◌≡◌, ◌≢◌, ◌⊎◌, inl, inr, ℕ, suc, ◌+◌, ◌*◌, ◌<◌, ◌≤◌, List, [], ◌∷◌, ◌++◌, length, get_or, take, drop, reverse, Option, Some, None, refl, arith, sym, ap, ◌∙◌, subst, add-one, drop-cons}
+use Rattle.std.proofs.Common.{◌≡◌, ℕ, suc, ◌+◌, ◌<◌, ◌≤◌, List, [], ◌∷◌, ◌++◌, length, get_or, take, drop, reverse, Option, arith, sym, ap, ◌∙◌, subst, add-one, drop-cons}
 use Rattle.std.specs.List.{AllZip}
 use Rattle.std.proofs.lemmas.List.{reverse-append, take_more, get_or_default}
 use Rattle.std.proofs.lemmas.Slice.Zip.{all_zipped_more}
 use Rattle.cbdc_types.specs.declared.batch.OpenLane.{OpenLane}
 use Rattle.cbdc_model.specs.Records.{Shape, Record}
-use Rattle.cbdc_model.specs.Slots.{Idle}
-use Rattle.recovery.specs.Planned.{PlanOf}
-use Rattle.ledger_runs.specs.Turning.{phase_at, IsLaneOf, KeepsLanes}
-use Rattle.ledger_runs.specs.Planning.{IsFound, IsPlanOf, KeepsOpens}
+use Rattle.ledger_runs.specs.Turning.{IsLaneOf, KeepsLanes}
+use Rattle.ledger_runs.specs.Planning.{IsFound, KeepsOpens}
 
 -- ---- a value for each of a list, taken from the end
 
