@@ -176,16 +176,7 @@ pub(crate) fn deal_all<'a, W: Wait, D: Disk, S: Shard, B: Locks, X: Source>(
 {
     while let Some(own) = homes.pop() {
         let home = homes.len() as u32;
-        let (own, rest) = deal_home(
-            rt,
-            at_once,
-            shape,
-            home,
-            log_locks,
-            shard_locks,
-            own,
-            table,
-        );
+        let (own, rest) = deal_home(rt, at_once, shape, home, log_locks, shard_locks, own, table);
         emptied.push_reserved(own);
         table = rest;
     }

@@ -202,9 +202,12 @@ module _ {P C A : Type 0} (makes : C → P → P → A → Type 0) where
   module _ (first at : ℕ) (fs bs gs hs : List P) (cut : first + length fs ≡ at) (same : length gs ≡ length fs) where
     low_made : (c : ℕ × C) (a : A) → IsMade makes first fs gs c a → IsMade makes first (fs ++ bs) (gs ++ hs) c a
     low_made c a m = record {
-      place = m.place; place_is = m.place_is;
-      before = m.before; was = in_front fs bs m.place m.before m.was;
-      after = m.after; is = in_front gs hs m.place m.after m.is;
+      place = m.place;
+      place_is = m.place_is;
+      before = m.before;
+      was = in_front fs bs m.place m.before m.was;
+      after = m.after;
+      is = in_front gs hs m.place m.after m.is;
       made = m.made;
     }
 
@@ -212,9 +215,12 @@ module _ {P C A : Type 0} (makes : C → P → P → A → Type 0) where
     high_made c a m =
         let place = m.place_is in
         let there : length fs + m.place ≡ length gs + m.place = omega (arith, same) in record {
-          place = length fs + m.place; place_is = omega (arith, place, cut);
-          before = m.before; was = back fs bs (length fs + m.place) m.place refl ∙ m.was;
-          after = m.after; is = back gs hs (length fs + m.place) m.place there ∙ m.is;
+          place = length fs + m.place;
+          place_is = omega (arith, place, cut);
+          before = m.before;
+          was = back fs bs (length fs + m.place) m.place refl ∙ m.was;
+          after = m.after;
+          is = back gs hs (length fs + m.place) m.place there ∙ m.is;
           made = m.made;
         }
 
@@ -234,11 +240,11 @@ module _ {P C A : Type 0} (makes : C → P → P → A → Type 0) where
         others n not = elim (cases_lt n (length fs)) [
           | inl lt ↦ front gs hs n (omega (arith, lt, same)) ∙ (l.others n (not_front low high (first + n) not) ∙ sym (front fs bs n lt))
           | inr ge ↦
-            let m = n - length fs in
-            let here : n ≡ length fs + m = omega (arith, ge) in
-            let there : n ≡ length gs + m = omega (arith, ge, same) in
-            let shard_is : first + n ≡ at + m = omega (arith, ge, cut) in
-            back gs hs n m there ∙ (h.others m (subst (NotAmong shard high) shard_is (not_back low high (first + n) not)) ∙ sym (back fs bs n m here))
+              let m = n - length fs in
+              let here : n ≡ length fs + m = omega (arith, ge) in
+              let there : n ≡ length gs + m = omega (arith, ge, same) in
+              let shard_is : first + n ≡ at + m = omega (arith, ge, cut) in
+              back gs hs n m there ∙ (h.others m (subst (NotAmong shard high) shard_is (not_back low high (first + n) not)) ∙ sym (back fs bs n m here))
         ]
 
   pub all_made : (first at : ℕ) (calls low high : List (ℕ × C)) (ports fs bs gs hs : List P) (xs ys : List A) → calls ≡ low ++ high → ports ≡ fs ++ bs → first + length fs ≡ at

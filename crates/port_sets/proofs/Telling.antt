@@ -21,7 +21,10 @@ use Rattle.port_sets.proofs.Halves.{read}
 module _ {P C : Type 0} (sight : P → Sight) (accepts : C → P → Type 0) (fits : Sight → C → Type 0) (mine : C → P → Type 0) (accept : (c : C) (p : P) → fits (sight p) c → mine c p → accepts c p) (ps : List P) where
   one_taken : (c : ℕ × C) → (p : P) → slice_get ps c.0 ≡ Some p → sight_at sight ps c.0 ≡ sight p → fits (sight_at sight ps c.0) c.1 → mine c.1 p → IsTaken accepts 0 ps c
   one_taken c p found seen fit own = record {
-    place = c.0; place_is = omega arith; port = p; found = found;
+    place = c.0;
+    place_is = omega arith;
+    port = p;
+    found = found;
     accepted = accept c.1 p (subst (λ s. fits s c.1) seen fit) own;
   }
 
@@ -37,7 +40,7 @@ module _ {P C : Type 0} (sight : P → Sight) (accepts : C → P → Type 0) (fi
       let lt = All-head (λ (d : ℕ × C). d.0 < length ps) c cs inside in
       let at = there ps c.0 lt in (
         one_taken c at.0 at.1 at.2 (All-head (λ (d : ℕ × C). fits (sight_at sight ps d.0) d.1) c cs fit)
-        (subst (mine c.1) at.3 (All-head (λ (d : ℕ × C). All (λ p. mine d.1 p) ps) c cs own c.0 at.0 lt)),
+            (subst (mine c.1) at.3 (All-head (λ (d : ℕ × C). All (λ p. mine d.1 p) ps) c cs own c.0 at.0 lt)),
         all_taken cs (All-tail (λ (d : ℕ × C). d.0 < length ps) c cs inside) (All-tail (λ (d : ℕ × C). fits (sight_at sight ps d.0) d.1) c cs fit) (All-tail (λ (d : ℕ × C). All (λ p. mine d.1 p) ps) c cs own),
       )
 
@@ -180,12 +183,12 @@ module _ {P C A : Type 0} (told : ℕ × C → Sight → Sight → A → Type 0)
   place_kept (c ∷ cs) [] z n p q e f = absurd z
   place_kept (c ∷ cs) (a ∷ answers) z n p q e f = elim (cases_eq c.0 n) [
     | inl same ↦
-      let m = z.0 in
-      let place = m.place_is in
-      let here : m.place ≡ n = omega (arith, place, same) in
-      let before : m.before ≡ p = cc (sym (subst (λ k. slice_get ps k ≡ Some m.before) here m.was), e) in
-      let after : m.after ≡ q = cc (sym (subst (λ k. slice_get qs k ≡ Some m.after) here m.is), f) in
-      inr (subst (λ x. keeps x q) before (subst (λ y. keeps m.before y) after m.made.keeps))
+        let m = z.0 in
+        let place = m.place_is in
+        let here : m.place ≡ n = omega (arith, place, same) in
+        let before : m.before ≡ p = cc (sym (subst (λ k. slice_get ps k ≡ Some m.before) here m.was), e) in
+        let after : m.after ≡ q = cc (sym (subst (λ k. slice_get qs k ≡ Some m.after) here m.is), f) in
+        inr (subst (λ x. keeps x q) before (subst (λ y. keeps m.before y) after m.made.keeps))
     | inr other ↦ elim (place_kept cs answers z.1 n p q e f) [
       | inl not ↦ inl (unequal c.0 n other, not)
       | inr kept ↦ inr kept

@@ -83,13 +83,14 @@ fn hold_places<A: Drop>(out: &mut Vec<Result<A, NodeFault>>, count: usize)
 //
 // The calls are halved at each step and one half goes to a new thread, so the stack grows as the logarithm of their number.
 #[cycle(halves)]
-fn at_each<
-    R: Threads + Sync,
-    P: Send,
-    C: Sync,
-    A: Send + Drop,
-    F: Fn(&mut P, &C) -> A + Sync,
->(rt: &R, f: &F, first: u32, calls: &[(u32, C)], answers: &mut [A], ports: &mut [P])
+fn at_each<R: Threads + Sync, P: Send, C: Sync, A: Send + Drop, F: Fn(&mut P, &C) -> A + Sync>(
+    rt: &R,
+    f: &F,
+    first: u32,
+    calls: &[(u32, C)],
+    answers: &mut [A],
+    ports: &mut [P],
+)
     requires { IsPhase (Accepts F.Fn f.now) first calls.now ports.old answers.old }
     ensures { IsPhaseMade (Makes F.Fn f.now) first calls.now ports.old ports.new answers.new }
 {
@@ -106,19 +107,22 @@ fn at_each<
     let (low_answers, high_answers) = answers.split_at_mut(half);
     let (low_ports, high_ports) = ports.split_at_mut((at - first) as usize);
     both_halves(
-        rt, f, first, low, low_answers, low_ports, at, high, high_answers, high_ports,
+        rt,
+        f,
+        first,
+        low,
+        low_answers,
+        low_ports,
+        at,
+        high,
+        high_answers,
+        high_ports,
     );
 }
 
 // Apart from `at_each`, so that what the closures require is what this function is given.
 #[cycle(halves)]
-fn both_halves<
-    R: Threads + Sync,
-    P: Send,
-    C: Sync,
-    A: Send + Drop,
-    F: Fn(&mut P, &C) -> A + Sync,
->(
+fn both_halves<R: Threads + Sync, P: Send, C: Sync, A: Send + Drop, F: Fn(&mut P, &C) -> A + Sync>(
     rt: &R,
     f: &F,
     first: u32,

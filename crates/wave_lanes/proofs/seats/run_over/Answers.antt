@@ -5,8 +5,7 @@ use Rattle.wave_lanes.proofs.seats.run_over.Goals as goal
 
 pub run_lane-requires-clause-mine : goal.run_lane-requires-clause-mine
 run_lane-requires-clause-mine g c =
-    let P = g.P.ShardPort in
-    (
+    let P = g.P.ShardPort in (
       c.requires.mine,
       record {
         lock = record {
@@ -32,18 +31,21 @@ returns-clause-keeps_shards g c =
       count_same = k.count_same;
       nodes = k.nodes;
       held = k.held;
-      served = λ l h. (k.served l (h, record {
-        lock = record {
-          takes = λ f cs os ps asks calls out ports d e h. let asked = asked_at (AsksLocks P.sight P.serves) cs calls.now os out.now ps ports.now d e h asks in search rules;
-          tells = λ f cs os ps os' ps' d. told_at (IsToldAtOnce (Locks P.sight P.serves P.alone P.at P.faults P.holds)) d.calls.now cs d.out.now os d.ports.now ps d.after_out.now os' d.after_ports.now ps' d.calls_are d.out_is d.ports_are d.left_out d.left_ports d.called;
-        };
-        finish = record {
-          takes = λ f cs os ps asks calls out ports d e h. let asked = asked_at (AsksFinishes P.sight P.serves) cs calls.now os out.now ps ports.now d e h asks in search rules;
-          tells = λ f cs os ps os' ps' d. told_at (IsToldAtOnce (Finishes P.sight P.serves P.alone P.at P.faults P.holds)) d.calls.now cs d.out.now os d.ports.now ps d.after_out.now os' d.after_ports.now ps' d.calls_are d.out_is d.ports_are d.left_out d.left_ports d.called;
-        };
-        forget = record {
-          takes = λ f cs os ps asks calls out ports d e h. let asked = asked_at (AsksForgets P.sight P.serves) cs calls.now os out.now ps ports.now d e h asks in search rules;
-          tells = λ f cs os ps os' ps' d. told_at (IsToldAtOnce (Forgets P.sight P.serves P.alone P.at P.faults P.holds)) d.calls.now cs d.out.now os d.ports.now ps d.after_out.now os' d.after_ports.now ps' d.calls_are d.out_is d.ports_are d.left_out d.left_ports d.called;
-        };
-      })).0;
+      served = λ l h. (k.served l (
+        h,
+        record {
+          lock = record {
+            takes = λ f cs os ps asks calls out ports d e h. let asked = asked_at (AsksLocks P.sight P.serves) cs calls.now os out.now ps ports.now d e h asks in search rules;
+            tells = λ f cs os ps os' ps' d. told_at (IsToldAtOnce (Locks P.sight P.serves P.alone P.at P.faults P.holds)) d.calls.now cs d.out.now os d.ports.now ps d.after_out.now os' d.after_ports.now ps' d.calls_are d.out_is d.ports_are d.left_out d.left_ports d.called;
+          };
+          finish = record {
+            takes = λ f cs os ps asks calls out ports d e h. let asked = asked_at (AsksFinishes P.sight P.serves) cs calls.now os out.now ps ports.now d e h asks in search rules;
+            tells = λ f cs os ps os' ps' d. told_at (IsToldAtOnce (Finishes P.sight P.serves P.alone P.at P.faults P.holds)) d.calls.now cs d.out.now os d.ports.now ps d.after_out.now os' d.after_ports.now ps' d.calls_are d.out_is d.ports_are d.left_out d.left_ports d.called;
+          };
+          forget = record {
+            takes = λ f cs os ps asks calls out ports d e h. let asked = asked_at (AsksForgets P.sight P.serves) cs calls.now os out.now ps ports.now d e h asks in search rules;
+            tells = λ f cs os ps os' ps' d. told_at (IsToldAtOnce (Forgets P.sight P.serves P.alone P.at P.faults P.holds)) d.calls.now cs d.out.now os d.ports.now ps d.after_out.now os' d.after_ports.now ps' d.calls_are d.out_is d.ports_are d.left_out d.left_ports d.called;
+          };
+        },
+      )).0;
     }
