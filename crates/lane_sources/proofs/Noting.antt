@@ -1,13 +1,10 @@
 -- What a source keeps, and its room for it.
-use Rattle.std.proofs.Common.{◌≡◌, ◌⊎◌, inl, inr, ℕ, zero, suc, ◌+◌, ◌*◌, ◌/◌, ◌%◌, ◌<◌, ◌≤◌, List, [], ◌∷◌, ◌++◌, length, get_or, append_assoc, refl, sym, ap, ◌∙◌, subst, arith, Some, None, Result, Ok, Err}
+use Rattle.std.proofs.Common.{◌≡◌, ◌⊎◌, inl, inr, ℕ, zero, suc, ◌+◌, ◌*◌, ◌/◌, ◌%◌, ◌<◌, ◌≤◌, List, [], ◌∷◌, ◌++◌, length, refl, sym, ap, ◌∙◌, subst, arith, Some, Result, Ok, Err}
 use Rattle.std.specs.Prelude.{slice_get, IfOk, IfErr}
 use Rattle.std.specs.declared.alloc.AllocError.{AllocError}
-use Rattle.std.specs.Vec.{vec_capacity, vec_len}
-use Rattle.std.specs.Global.{Vec}
 use Rattle.std.specs.Int.{div_ceil}
 use Rattle.std.proofs.Math.Nat.{mul-le-mul_left, div-add-mod}
 use Rattle.std.proofs.lemmas.Grind.{div_ceil_times}
-use Rattle.std.proofs.lemmas.Option.{slice_get-get_or}
 use Rattle.cbdc_model.specs.Records.{Shape, Compact}
 use Rattle.cbdc_model.specs.Coins.{FullTx, compact, tx_id}
 use Rattle.base_types.specs.declared.faults.Refusal.{Refusal}
@@ -18,7 +15,7 @@ use Rattle.submissions.specs.declared.Ruling.{Ruling}
 use Rattle.submissions.specs.declared.Ruling.TheVariants as ruling
 use Rattle.submissions.specs.declared.Checked.{Checked}
 use Rattle.submissions.specs.declared.Judgement.TheVariants.{Refused, Sound}
-use Rattle.lane_sources.specs.Sources.{lanes_of, all_of, left_at, HasComeTo, IsSource, LeavesBehind, SubmissionAt}
+use Rattle.lane_sources.specs.Sources.{lanes_of, all_of, left_at, HasComeTo, LeavesBehind, SubmissionAt}
 use Rattle.lane_sources.proofs.Saying.{come_refused, come_sound, sound_left, refused_left, all_few}
 
 lt_or : (a b : ℕ) → (a < b) ⊎ ((r : ℕ) × (a ≡ b + r))

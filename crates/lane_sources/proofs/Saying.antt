@@ -1,8 +1,8 @@
 -- What is said of a lane's next submission.
-use Rattle.std.proofs.Common.{◌≡◌, ◌⊎◌, inl, inr, ℕ, zero, suc, ◌+◌, ◌*◌, ◌%◌, ◌<◌, ◌≤◌, Bool, true, false, List, [], ◌∷◌, ◌++◌, length, length-append, take, refl, sym, ap, ◌∙◌, subst, arith, Some, None}
+use Rattle.std.proofs.Common.{◌≡◌, inl, inr, ℕ, suc, ◌+◌, ◌*◌, ◌%◌, ◌<◌, ◌≤◌, Bool, true, false, List, [], ◌∷◌, ◌++◌, length, length-append, take, refl, sym, ap, ◌∙◌, subst, arith, Some, None}
 use Rattle.std.specs.Prelude.{slice_get}
 use Rattle.std.proofs.lemmas.Option.{slice_get_within}
-use Rattle.cbdc_model.specs.Records.{Shape, Compact}
+use Rattle.cbdc_model.specs.Records.{Shape}
 use Rattle.cbdc_model.specs.Coins.{FullTx, compact, tx_id}
 use Rattle.cbdc_model.specs.Waves.{sent_to}
 use Rattle.base_types.specs.declared.faults.Refusal.{Refusal}
@@ -13,8 +13,8 @@ use Rattle.submissions.specs.Checks.{VerdictsOf, TellsSound, IsSaid}
 use Rattle.submissions.specs.declared.Checked.{Checked}
 use Rattle.submissions.specs.declared.Judgement.TheVariants.{Refused, Sound}
 use Rattle.submissions.proofs.Placing.{snoc_get}
-use Rattle.lane_sources.specs.Sources.{lanes_of, all_of, left_at, AreSaid, HasComeTo, SubmissionAt}
-use Rattle.lane_sources.proofs.Leaving.{left_begin, left_sound, left_refused, left_split, left_end, left_few, mod_of, zero_add}
+use Rattle.lane_sources.specs.Sources.{lanes_of, all_of, left_at, AreSaid, HasComeTo}
+use Rattle.lane_sources.proofs.Leaving.{left_begin, left_sound, left_refused, left_split, left_few, mod_of, zero_add}
 
 some_same : {A : Type 0} (x y : A) → Some x ≡ Some y → x ≡ y
 some_same x y e = cc

@@ -1,7 +1,7 @@
-use Rattle.std.proofs.Common.{rules, ◌≡◌, ◌+◌, ◌*◌, ◌/◌, ◌%◌, ◌<◌, length, length-append, [], ◌∷◌, get_or, sym, ap, ◌∙◌, subst, arith, inl, inr, Some}
+use Rattle.std.proofs.Common.{rules, ◌≡◌, ◌+◌, ◌*◌, ◌/◌, ◌%◌, ◌<◌, length, length-append, [], ◌∷◌, get_or, sym, ap, ◌∙◌, subst, inl, inr, Some}
 use Rattle.std.specs.Prelude.{slice_get}
 use Rattle.std.proofs.lemmas.Option.{slice_get-get_or}
-use Rattle.cbdc_model.specs.Coins.{FullTx, tx_id}
+use Rattle.cbdc_model.specs.Coins.{tx_id}
 use Rattle.submissions.specs.Checks.{IsSaid}
 use Rattle.submissions.proofs.Placing.{snoc_get}
 use Rattle.lane_sources.specs.Sources.{lanes_of, SubmissionAt}

@@ -1,8 +1,5 @@
-use Rattle.std.proofs.Common.{rules, ◌≡◌, ◌+◌, ◌*◌, ◌<◌, ◌≤◌, ◌++◌, ◌∷◌, [], length, refl, sym, ap, ◌∙◌, subst, arith, ℕ}
-use Rattle.std.specs.Vec.{vec_capacity}
-use Rattle.cbdc_model.specs.Coins.{FullTx as Full, tx_id as spec_id}
-use Rattle.sentinel.specs.FirstRefusal.{IsSound, IsFirstRefusal}
-use Rattle.lane_sources.specs.Sources.{lanes_of, all_of, left_at, HasComeTo, SubmissionAt}
+use Rattle.std.proofs.Common.{◌*◌, ◌≤◌, length, ap, subst}
+use Rattle.lane_sources.specs.Sources.{lanes_of, all_of}
 use Rattle.lane_sources.proofs.Saying.{all_few}
 use Rattle.lane_sources.proofs.Noting.{room_ceil}
 use Rattle.lane_sources.proofs.source.LaneSource.few.Goals as goal

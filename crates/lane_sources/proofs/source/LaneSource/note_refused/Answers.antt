@@ -1,8 +1,7 @@
-use Rattle.std.proofs.Common.{rules, ◌≡◌, ◌+◌, ◌*◌, ◌<◌, ◌≤◌, ◌++◌, ◌∷◌, [], length, refl, sym, ap, ◌∙◌, subst, arith, ℕ}
-use Rattle.std.specs.Vec.{vec_capacity}
-use Rattle.cbdc_model.specs.Coins.{FullTx as Full, tx_id as spec_id}
-use Rattle.sentinel.specs.FirstRefusal.{IsSound, IsFirstRefusal}
-use Rattle.lane_sources.specs.Sources.{lanes_of, all_of, left_at, HasComeTo, SubmissionAt}
+use Rattle.std.proofs.Common.{◌≡◌, ◌+◌, ◌*◌, ◌<◌, ◌≤◌, length, sym, ap, subst}
+use Rattle.cbdc_model.specs.Coins.{tx_id as spec_id}
+use Rattle.sentinel.specs.FirstRefusal.{IsFirstRefusal}
+use Rattle.lane_sources.specs.Sources.{lanes_of, HasComeTo, SubmissionAt}
 use Rattle.lane_sources.proofs.Noting.{noted_refused}
 use Rattle.lane_sources.proofs.source.LaneSource.note_refused.Goals as goal
 

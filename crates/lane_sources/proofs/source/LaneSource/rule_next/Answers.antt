@@ -1,10 +1,6 @@
-use Rattle.std.proofs.Common.{rules, ◌≡◌, ◌+◌, ◌*◌, ◌<◌, ◌≤◌, ◌++◌, ◌∷◌, [], length, append_assoc, refl, sym, ap, ◌∙◌, subst, arith, ℕ, Some, Ok, Err}
-use Rattle.std.specs.Prelude.{slice_get, IfOk, IfErr}
-use Rattle.cbdc_model.specs.Coins.{FullTx as Full, tx_id as spec_id}
-use Rattle.sentinel.specs.FirstRefusal.{IsSound, IsFirstRefusal}
-use Rattle.submissions.specs.Checks.{IsRuled}
-use Rattle.submissions.specs.declared.Ruling.TheVariants.{Refused, Sound}
-use Rattle.lane_sources.specs.Sources.{lanes_of, all_of, left_at, HasComeTo, LeavesBehind, SubmissionAt}
+use Rattle.std.proofs.Common.{◌<◌, length, sym, subst}
+use Rattle.std.specs.Prelude.{IfOk, IfErr}
+use Rattle.lane_sources.specs.Sources.{left_at, LeavesBehind}
 use Rattle.lane_sources.proofs.Noting.{ruled_left, sound_some}
 use Rattle.lane_sources.proofs.source.LaneSource.rule_next.Goals as goal
 

@@ -1,11 +1,6 @@
-use Rattle.std.proofs.Common.{rules, ◌≡◌, ◌+◌, ◌*◌, ◌<◌, ◌≤◌, ◌++◌, ◌∷◌, [], length, refl, sym, ap, ◌∙◌, subst, arith, ℕ, Some}
-use Rattle.std.specs.Prelude.{slice_get}
-use Rattle.cbdc_model.specs.Coins.{FullTx as Full, tx_id as spec_id}
-use Rattle.sentinel.specs.FirstRefusal.{IsSound, IsFirstRefusal}
-use Rattle.submissions.specs.Checks.{IsRuled}
-use Rattle.lane_sources.specs.Sources.{lanes_of, all_of, left_at, HasComeTo, SubmissionAt}
-use Rattle.std.specs.Prelude.{slice_get}
-use Rattle.std.proofs.Common.{get_or}
+use Rattle.std.proofs.Common.{◌≡◌, ◌+◌, ◌*◌, ◌<◌, length, sym, ap, ◌∙◌, subst, Some}
+use Rattle.cbdc_model.specs.Coins.{tx_id as spec_id}
+use Rattle.lane_sources.specs.Sources.{lanes_of, SubmissionAt}
 use Rattle.std.proofs.lemmas.Option.{slice_get-get_or}
 use Rattle.submissions.specs.Checks.{IsSaid}
 use Rattle.lane_sources.proofs.Noting.{index_in}

@@ -1,8 +1,5 @@
-use Rattle.std.proofs.Common.{rules, ◌≡◌, ◌+◌, ◌*◌, ◌<◌, ◌≤◌, ◌++◌, ◌∷◌, [], length, refl, sym, ap, ◌∙◌, subst, arith, ℕ}
-use Rattle.std.specs.Vec.{vec_capacity}
-use Rattle.cbdc_model.specs.Coins.{FullTx as Full, tx_id as spec_id}
-use Rattle.sentinel.specs.FirstRefusal.{IsSound, IsFirstRefusal}
-use Rattle.lane_sources.specs.Sources.{lanes_of, all_of, left_at, HasComeTo, SubmissionAt}
+use Rattle.std.proofs.Common.{◌*◌, ◌≤◌, length, sym, subst}
+use Rattle.lane_sources.specs.Sources.{lanes_of, HasComeTo}
 use Rattle.lane_sources.proofs.Saying.{come_begin}
 use Rattle.lane_sources.proofs.source.LaneSource.start.Goals as goal
 

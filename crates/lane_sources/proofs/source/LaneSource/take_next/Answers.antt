@@ -1,10 +1,6 @@
-use Rattle.std.proofs.Common.{rules, ◌≡◌, ◌+◌, ◌*◌, ◌<◌, ◌≤◌, ◌++◌, ◌∷◌, [], length, append_assoc, refl, sym, ap, ◌∙◌, subst, arith, ℕ, Some, Ok, Err}
+use Rattle.std.proofs.Common.{◌≡◌, ap, ◌∙◌, subst, Some}
 use Rattle.std.specs.Prelude.{slice_get}
-use Rattle.cbdc_model.specs.Coins.{FullTx as Full, tx_id as spec_id}
-use Rattle.sentinel.specs.FirstRefusal.{IsSound, IsFirstRefusal}
 use Rattle.submissions.specs.Checks.{IsRuled}
-use Rattle.submissions.specs.declared.Ruling.TheVariants.{Refused, Sound}
-use Rattle.lane_sources.specs.Sources.{lanes_of, all_of, left_at, HasComeTo, LeavesBehind, SubmissionAt}
 use Rattle.lane_sources.proofs.Noting.{ruled_sound}
 use Rattle.lane_sources.proofs.source.LaneSource.take_next.Goals as goal
 

@@ -1,8 +1,5 @@
-use Rattle.std.proofs.Common.{rules, ◌≡◌, ◌+◌, ◌*◌, ◌<◌, ◌≤◌, ◌++◌, ◌∷◌, [], length, refl, sym, ap, ◌∙◌, subst, arith, ℕ}
-use Rattle.std.specs.Vec.{vec_capacity}
-use Rattle.cbdc_model.specs.Coins.{FullTx as Full, tx_id as spec_id}
-use Rattle.sentinel.specs.FirstRefusal.{IsSound, IsFirstRefusal}
-use Rattle.lane_sources.specs.Sources.{lanes_of, all_of, left_at, HasComeTo, SubmissionAt}
+use Rattle.std.proofs.Common.{◌≡◌, sym, subst}
+use Rattle.lane_sources.specs.Sources.{all_of, left_at}
 use Rattle.lane_sources.proofs.Leaving.{left_begin}
 use Rattle.sound_laws.specs.SoundTest.{sound_by}
 use Rattle.lane_sources.proofs.source.LaneSourceSource.begin.Goals as goal
