@@ -20,10 +20,11 @@ use cbdc_types::{LaneId, List, Shape};
 use outside::Gate;
 use std::alloc::Global;
 
-/// Runs all that a source gives to an idle lane in order, in batches of `batch`, the last maybe shorter; with nothing it makes no
-/// call. Each batch is taken from the source when those before it are done; where memory runs out there, the lane ends. With repeats, each shard call of a batch is made so many times more after its phase, and all its shard calls
-/// after it is done. The first batch that meets a fault ends it, and that fault is the answer. Where no other lane's
-/// records come meanwhile, the other lanes are as before.
+/// Runs all that a source gives to an idle lane in order, in batches of `batch`, the last maybe shorter; with nothing it
+/// makes no call. Each batch is taken from the source when those before it are done; where memory runs out there, the lane
+/// ends. With repeats, each shard call of a batch is made so many times more after its phase, and all its shard calls after
+/// it is done. The first batch that meets a fault ends it, and that fault is the answer. Where no other lane's records come
+/// meanwhile, the other lanes are as before.
 pub fn run_lane<S: PortSet<G>, L: LogPort, X: Source, G: Gate>(
     alloc: Global,
     shape: &Shape,

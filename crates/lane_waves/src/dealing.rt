@@ -147,7 +147,8 @@ fn deal_home<'a, W: Wait, D: Disk, S: Shard, B: Locks, X: Source>(
     (own, table)
 }
 
-/// All lanes get their seats, those of the last coordinator first. Their phases are made as told, at once or not. The coordinators' lists of seats are empty then, the last one first.
+/// All lanes get their seats, those of the last coordinator first. Their phases are made as told, at once or not. The
+/// coordinators' lists of seats are empty then, the last one first.
 pub(crate) fn deal_all<'a, W: Wait, D: Disk, S: Shard, B: Locks, X: Source>(
     rt: &'a W,
     at_once: bool,

@@ -81,7 +81,7 @@ struct SeatedLanes<D: Disk, S: Shard, X: Source> {
     lanes: Vec<Work<X>>,
 }
 
-// Each coordinator's disk has failed no less often than when it was opened.
+// Each coordinator's disk has failed no less often than when it was opened: a call that reads it says so.
 fn see_logs<D: Disk>(logs: &[CoordLog<D>])
     ensures { All (λ l. l.opened ≤ l.faults) logs.now }
 {
@@ -90,7 +90,7 @@ fn see_logs<D: Disk>(logs: &[CoordLog<D>])
     }
 }
 
-// Each shard has failed no less often than when it was opened. A shard that is asked nothing stays.
+// Each shard has failed no less often than when it was opened, and one that is asked nothing stays: a call that reads it says so.
 fn see_shards<S: Shard>(shards: &[S])
     ensures since { All (λ s. (S.sight s).opened ≤ (S.sight s).faults) shards.now }
     ensures stay { (s : _) → S.goes s s }
