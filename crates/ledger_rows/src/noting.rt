@@ -5,7 +5,7 @@ use crate::ordering::PointOrder;
 use cbdc_types::NodeId;
 use mem_devices::{FaultDisk, MemInbox, MemRack};
 use outside::{Failed, Gate, Inbox, Point, Rack};
-use std::alloc::Global;
+use std::alloc::{AllocError, Global};
 use std::sync::{Mutex, Wait};
 
 /// A gate that notes the points that are passed, and holds those of an order to it.
@@ -29,29 +29,36 @@ impl NotingGate {
     }
 
     /// The points that were passed, those of a phase by their nodes.
-    pub fn into_points(self) -> Vec<Point> {
+    pub fn into_points(self, alloc: Global) -> Result<Vec<Point>, AllocError> {
         let NotingGate { points, order: _ } = self;
-        let mut points = points.into_inner();
-        put_by_nodes(points.as_mut_slice());
-        points
+        let points = points.into_inner();
+        by_nodes(alloc, points.as_slice())
     }
 }
 
-// Whether a point belongs before the one that was passed just before it: of a call of the same phase, at a lesser node.
-fn belongs_before(point: &Point, last: &Point) -> bool {
-    point.lane == last.lane && point.kind == last.kind && point.node.0 < last.node.0
+// Whether two points are of calls of one phase.
+fn is_of_phase(point: &Point, last: &Point) -> bool {
+    point.lane == last.lane && point.kind == last.kind
 }
 
-// Puts the points of each phase in the order of their nodes, since its calls may be made at once.
-fn put_by_nodes(points: &mut [Point]) {
-    for end in 1..points.len() {
-        for at in (1..end + 1).rev() {
-            if !belongs_before(&points[at], &points[at - 1]) {
-                break;
-            }
-            points.swap(at - 1, at);
+// The points of each phase in the order of their nodes, since its calls may be made at once.
+fn by_nodes(alloc: Global, points: &[Point]) -> Result<Vec<Point>, AllocError> {
+    let mut numbered = Vec::with_capacity(alloc, points.len())?;
+    let mut phase = 0u64;
+    let mut last = None;
+    for point in points {
+        if last.is_some_and(|last| !is_of_phase(point, &last)) {
+            phase = phase.wrapping_add(1);
         }
+        numbered.push((phase, *point))?;
+        last = Some(*point);
     }
+    numbered.sort_by_key(|(phase, point)| (*phase, point.node.0))?;
+    let mut ordered = Vec::with_capacity(alloc, numbered.len())?;
+    for (_, point) in &numbered {
+        ordered.push(*point)?;
+    }
+    Ok(ordered)
 }
 
 impl Gate for NotingGate {

@@ -151,7 +151,7 @@ pub fn play<W: Wait + Threads + Sync>(
     }
     Ok(Ran {
         status: u64::from(status_code(&status)),
-        points: gate.into_points(),
+        points: gate.into_points(alloc)?,
         files: inbox.names,
         nodes: rack.nodes,
         out,
