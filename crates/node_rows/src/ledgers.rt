@@ -8,7 +8,7 @@ use crate::state::Seen;
 use cbdc_types::{BatchId, CompactTx, LaneId, Record, Shape, Stamp};
 use coord_core::LanePhase;
 use coord_log::CoordLog;
-use lane_driver::{LaneFault, LaneReport, Ports, run_batch, run_lane};
+use lane_driver::{LaneFault, LaneReport, Ports, SliceSource, run_batch, run_lane};
 use mem_devices::FaultDisk;
 use model_check::{Phase, copy_of_record, is_compact, last_stamp, slot_of, slot_stamp};
 use node_ports::{NodeLogs, NodeShards};
@@ -235,7 +235,8 @@ fn run_all<W: Wait>(
     requires rests { MayRun shape.now lane ports.old.log.at ports.old.log.logs.items ports.old.shards.nodes.items }
     requires limits { All IsCompact txs.now }
 {
-    run_lane(alloc, shape, lane, txs, ports, repeats, gate)
+    let mut source = SliceSource::new(txs);
+    run_lane(alloc, shape, lane, &mut source, ports, repeats, gate)
 }
 
 // Runs one batch of a lane.
