@@ -6,9 +6,11 @@ use Rattle.cbdc_model.specs.History.{Minted, first_rows}
 use Rattle.cbdc_model.specs.Coins.{FullTx}
 use Rattle.ample_laws.specs.Ample.{Ample}
 
+-- a shape of one coordinator, one shard and one lane
 abbrev pub one_of_each : Shape
 one_of_each = record { shards = 1; coordinators = 1; lanes = 1; batch = 16 }
 
+-- its first records
 abbrev pub first_journals : Minted → ℕ → List Record
 first_journals m n = journal n (first_rows one_of_each m)
 

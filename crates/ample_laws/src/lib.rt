@@ -5,6 +5,9 @@ ghost use Rattle.ample_laws.specs.Enough.{IdleRoomLaw, KeptRoomLaw, LockRoomLaw,
 ghost use Rattle.ample_laws.specs.Row.{RowLaw};
 
 /// What one transaction needs on a new ledger of one shard and one coordinator.
+///
+/// One transaction of one input and one output on a new ledger of one shard and one coordinator needs 420 bytes at the coordinator and 427 at the
+/// shard.
 pub fn row_law()
     ensures { RowLaw }
 {}

@@ -47,6 +47,7 @@ IsFormOf tx form = form ≡ compact tx
 abbrev pub no_tx : FullTx
 no_tx = record { inputs = []; outputs = []; witnesses = [] }
 
+-- a node's journal of first records
 abbrev pub first_of : ById → Digest → Option ℕ
 first_of ids x = get eq-value.it ids.firsts x
 

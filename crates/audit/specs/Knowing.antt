@@ -9,6 +9,7 @@ use Rattle.audit.specs.declared.known.Known.{Known}
 abbrev pub Key : Type 0
 Key = ℕ × ℕ × ℕ × ℕ
 
+-- whether two are the same
 abbrev pub same_key : Key → Key → Bool
 same_key x y = ((nat_eq x.0 y.0 && nat_eq x.1 y.1) && nat_eq x.2 y.2) && nat_eq x.3 y.3
 

@@ -57,6 +57,7 @@ pub record IsSound (K : Shape) (mint : List Output) (handed : List FullTx) (rows
   pub minted : totals.minted ≡ value_out mint
   pub committed : totals.committed ≡ length (committed (reverse rows))
 
+-- an audit's verdict
 abbrev pub IsVerdict : Shape → List Output → List FullTx → List Row → Verdict → Type 0
 IsVerdict K mint handed rows (Sound totals) = IsSound K mint handed rows totals
 IsVerdict K mint handed rows (Unsound place Cause) = IsFirstFault K mint handed rows place Cause

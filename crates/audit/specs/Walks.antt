@@ -32,6 +32,7 @@ abbrev pub IsDone : Shape → (ℕ → List Record) → Record → Type 0
 IsDone K J (Prepare stamp b txs) = is_some (record_of 9 (J (home_of K b.lane)) b) ≡ true
 IsDone K J other = Unit {0}
 
+-- each has
 abbrev pub AllDone : Shape → (ℕ → List Record) → List Row → Type 0
 AllDone K J rows = All (λ row. IsDone K J row.what) rows
 

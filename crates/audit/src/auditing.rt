@@ -148,6 +148,8 @@ fn minted(mint: &[Output]) -> u128
 /// whether the first such one can be spent from the book, which begins as the mint. The first failure is the answer. Then the first
 /// Prepare whose batch is not done is, if there is one. Else the answer is what the last book, the mint and the committed transactions
 /// come to. The compact forms of what was handed in are made by all processors.
+///
+/// Tested in `ledger_rows` (`audit.rows`). `unspent_law` holds where no hashes clash.
 pub fn audit<W: Threads + Sync>(
     rt: &W,
     alloc: Global,

@@ -8,6 +8,7 @@ use Rattle.base_types.specs.declared.shape.ShapeField.TheVariants.{Shards, Coord
 abbrev pub IsTo : ℕ → ℕ → Type 0
 IsTo limit n = (1 ≤ n) × (n ≤ limit)
 
+-- one that is not
 abbrev pub IsOutside : ℕ → ℕ → Type 0
 IsOutside limit n = (n < 1) ⊎ (limit < n)
 
@@ -20,5 +21,6 @@ IsFirstBadField shards coordinators lanes batch Lanes value =
 IsFirstBadField shards coordinators lanes batch Batch value =
     IsTo 64 shards × IsTo 16 coordinators × IsTo 16 lanes × IsOutside 1024 batch × (value ≡ batch)
 
+-- `IsFirstBadField`, `IsFirstBad`: the field is outside its limit, and those before it are within theirs: shards, coordinators, lanes, batch
 abbrev pub IsFirstBad : ℕ → ℕ → ℕ → ℕ → BadShape → Type 0
 IsFirstBad shards coordinators lanes batch bad = IsFirstBadField shards coordinators lanes batch bad.field bad.value

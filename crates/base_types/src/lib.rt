@@ -1,5 +1,7 @@
 //! What all other types are made of: hashes, the names of lanes, nodes and batches, stamps, lists, how large a ledger is, and what
 //! is wrong with what is handed in.
+//!
+//! - Open: tests are missing.
 #![tactic(auto)]
 
 mod faults;

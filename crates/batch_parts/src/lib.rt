@@ -1,4 +1,6 @@
 //! What of a batch lies on a shard, computed by a plain program whose contracts are the definitions.
+//!
+//! - Tested in `journal_rows`.
 #![tactic(auto)]
 
 mod parts;

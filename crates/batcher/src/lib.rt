@@ -1,4 +1,6 @@
 //! Gathers transactions into batches.
+//!
+//! - Tested in `piece_rows` (`batches.rows`). The program itself gathers no transactions: it cuts what a file sends a lane into pieces.
 #![tactic(auto)]
 
 ghost use Rattle.std.specs.Prelude.{◌≡◌, ◌↔◌, ◌<◌, ◌≤◌, ◌++◌, ◌∷◌, [], ℕ, length, IsTrue, OnOk, OnErr, IfErr, MatchOption};

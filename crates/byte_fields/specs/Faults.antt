@@ -15,6 +15,8 @@ abbrev pub Fails : {Y : Type 0} → ReadError → Result Y Fault → Type 0
 Fails errors.Memory read = Unit {0}
 Fails (errors.Bad f) read = read ≡ Err f
 
+-- `fault`, `Fails`, `Gives`: a fault at the front of these bytes; reading on behind a value; what a function returned is what reading gives, unless
+-- memory ran out
 abbrev pub Gives : {X Y : Type 0} → (X → Y) → Result X ReadError → Result Y Fault → Type 0
 Gives view (Ok x) read = read ≡ Ok (view x)
 Gives view (Err e) read = Fails e read
@@ -23,5 +25,6 @@ Gives view (Err e) read = Fails e read
 abbrev pub fault : InputKind → List ℕ → Fault
 fault kind bytes = record { left = length bytes; kind = kind }
 
+-- numbers below 256
 abbrev pub IsBytes : List ℕ → Type 0
 IsBytes bytes = (i : ℕ) → slice_index bytes i < 256

@@ -5,10 +5,11 @@ use Rattle.base_types.specs.declared.faults.InputKind.TheVariants.{Cut, TooMany}
 use Rattle.byte_fields.specs.declared.fault.Fault.{Fault}
 use Rattle.byte_fields.specs.Faults.{◌>>=◌, fault}
 
--- a field of n bytes
+-- a field of so many bytes, which is cut where fewer are left
 abbrev pub field_at : {X : Type 0} → ℕ → (List ℕ → X) → List ℕ → Result (X × List ℕ) Fault
 field_at n of bytes = if nat_lt (length bytes) n then Err (fault Cut bytes) else Ok (of (take n bytes), drop n bytes)
 
+-- `number_of`, `number_at`, `hash_of`, `hash_at`: the number or the hash at the front
 abbrev pub number_of : List ℕ → ℕ
 number_of bytes = from_le_bytes w64 bytes
 

@@ -14,6 +14,8 @@ use Rattle.byte_fields.specs.Faults.{◌>>=◌, fault}
 use Rattle.byte_fields.specs.Reading.{field_at, number_at, hash_at, list_at}
 use Rattle.byte_spelling.specs.Spelling.{number, counted}
 
+-- `hashes`, `batch`, `compact`, `entry`, `reply`, `answered`, `outcome`, `decision`: the one spelling of each part of a record; a reply and an
+-- outcome have a byte in front: 0 Held, 1 missing, 2 locked
 abbrev pub hashes : List (List ℕ) → List ℕ
 hashes hs = counted (λ h. h) hs
 
@@ -47,6 +49,7 @@ decision false = 0 ∷ []
 abbrev pub byte_of : List ℕ → ℕ
 byte_of bytes = slice_index bytes 0
 
+-- `byte_of`, `byte_at`, `small_at`: one byte; a number below 2^32
 abbrev pub byte_at : List ℕ → Result (ℕ × List ℕ) Fault
 byte_at bytes = field_at 1 byte_of bytes
 
@@ -56,6 +59,8 @@ small_at bytes = do
   n ← number_at bytes
   if nat_lt n.0 (2 ^ 32) then Ok (n.0, n.1) else Err (fault Large bytes)
 
+-- `batch_at`, `compact_at`, `entry_at`, `reply_at`, `missing_reply_at`, `locked_reply_at`, `answered_at`, `outcome_at`, `missing_outcome_at`,
+-- `locked_outcome_at`, `decision_at`: each of these parts read at the front
 unfoldable pub batch_at : List ℕ → Result (BatchId × List ℕ) Fault
 batch_at bytes = do
   lane ← small_at bytes

@@ -9,6 +9,7 @@ use Rattle.byte_fields.specs.declared.fault.Fault.{Fault}
 use Rattle.byte_fields.specs.Faults.{◌>>=◌, fault}
 use Rattle.byte_fields.specs.Reading.{field_at, number_of, number_at, hash_of, list_at}
 
+-- `output_of`, `output_at`, `point_of`, `input_of`, `input_at`: an output is one field of 40 bytes, an input one of 80
 unfoldable pub output_of : List ℕ → Output
 output_of bytes = record { program = hash_of bytes; value = number_of (drop 32 bytes) }
 
@@ -31,6 +32,7 @@ witness_at bytes = do
   n ← number_at bytes
   if nat_lt 4096 n.0 then Err (fault TooLong bytes) else field_at n.0 (λ w. w) n.1
 
+-- a transaction at the front
 unfoldable pub transaction_at : List ℕ → Result (FullTx × List ℕ) Fault
 transaction_at bytes = do
   inputs ← list_at 255 input_at bytes

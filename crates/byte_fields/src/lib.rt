@@ -1,4 +1,6 @@
 //! The fields that files and journals are made of: numbers, hashes and counted lists, read and written.
+//!
+//! - Tested in `piece_rows` (`records.rows`, `transactions.rows`): the bytes of numbers, and fields one after another.
 #![tactic(auto)]
 
 mod fault;

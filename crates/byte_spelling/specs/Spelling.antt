@@ -14,15 +14,19 @@ number n = to_le_bytes w64 n
 abbrev pub counted : {X : Type 0} → (X → List ℕ) → List X → List ℕ
 counted item xs = number (length xs) ++ flat_map item xs
 
+-- the one spelling of each: program and value
 abbrev pub output : Output → List ℕ
 output o = o.program ++ number o.value
 
+-- outpoint and claimed output
 abbrev pub input : Input → List ℕ
 input i = i.point.tx ++ number i.point.index ++ output i.output
 
+-- length and bytes
 abbrev pub witness : List ℕ → List ℕ
 witness w = number (length w) ++ w
 
+-- the lists of inputs, outputs and witnesses
 abbrev pub transaction : FullTx → List ℕ
 transaction t = counted input t.inputs ++ counted output t.outputs ++ counted witness t.witnesses
 
@@ -30,6 +34,8 @@ transaction t = counted input t.inputs ++ counted output t.outputs ++ counted wi
 abbrev pub FitsNumber : ℕ → Type 0
 FitsNumber n = n < 2 ^ 64
 
+-- `FitsNumber`, `FitsHash`, `FitsOutput`, `FitsInput`, `FitsWitness`, `FitsList`, `FitsTransaction`: what has a spelling: numbers below 2^64,
+-- hashes of 32 bytes, witnesses of at most 4,096, lists of at most 255
 abbrev pub FitsHash : List ℕ → Type 0
 FitsHash h = length h ≡ 32
 

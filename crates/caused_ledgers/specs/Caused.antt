@@ -46,7 +46,7 @@ pub record IsToldHistory {D : Type 0} (content : D → Option (List ℕ)) (held 
   pub others : (n : ℕ) → K.coordinators + K.shards ≤ n → journal n (reverse rows) ≡ []
   pub ordered : IsOrdered (reverse rows)
 
--- the disks tell a ledger, and each row of its history is caused by those before it
+-- there are a shape within its limits, a genesis and rows that are such a history, and each row is caused by those before it
 pub record IsCausedLedger {D : Type 0} (content : D → Option (List ℕ)) (held : ℕ → Option D) : Type 0 where
   pub shape : Shape
   pub genesis : Digest

@@ -31,6 +31,8 @@ fn first_uncaused<D: Disk>(alloc: Global, nodes: &Nodes<D>) -> Result<Option<u64
 }
 
 /// Opens all nodes, where each record of their history is caused by what stands before it. After a fault all disks are back.
+///
+/// Out of memory: all disks are back as they were read.
 pub fn open_caused<R: Rack>(alloc: Global, rack: &mut R) -> Result<Nodes<R::Disk>, Answer>
     requires { (n : ℕ) → R.can_take rack.old n }
     // They are all nodes of the ledger, each stands for what was told of its disk, and their history is caused.

@@ -14,6 +14,7 @@ key p = p.index ∷ p.tx
 abbrev pub Book : Type 0
 Book = book.FinMap (slice_cmp nat_cmp) Output
 
+-- whether two outputs are the same
 abbrev pub same_output : Output → Output → Bool
 same_output o p = same_digest o.program p.program && (o.value == p.value)
 
@@ -22,6 +23,7 @@ abbrev pub taken : Book → Coin → Option Output → Option Book
 taken b c None = None
 taken b c (Some o) = if same_output o c.output then Some (book.remove b (key c.point)) else None
 
+-- a book without a coin; none where the coin isn't there as claimed
 abbrev pub take_out : Book → Coin → Option Book
 take_out b c = taken b c (book.get b (key c.point))
 
@@ -31,10 +33,12 @@ take_all None cs = None
 take_all (Some b) [] = Some b
 take_all (Some b) (c ∷ cs) = take_all (take_out b c) cs
 
+-- a book with coins put in
 abbrev pub put_all : Book → List Coin → Book
 put_all b [] = b
 put_all b (c ∷ cs) = put_all (book.insert b (key c.point) c.output) cs
 
+-- a book from which the inputs were taken, with the outputs put in
 abbrev pub spend_from : Option Book → FullTx → Option Book
 spend_from None t = None
 spend_from (Some b) t = Some (put_all b (tx_coins t))

@@ -20,6 +20,7 @@ pub record IsPartEntry (h : Header) (e : Entry) : Type 0 where
   pub inputs_here : AreHere h.shape h.node e.inputs
   pub outputs_here : AreHere h.shape h.node e.outputs
 
+-- a batch of one of the lanes, a cause below 2^63, and 1 to as many entries as a batch may have, whose places rise
 pub record IsLockCall (h : Header) (c : LockCall) : Type 0 where
   pub batch : IsBatchOf h.shape c.batch
   pub cause : c.cause < 2 ^ 63
@@ -27,6 +28,7 @@ pub record IsLockCall (h : Header) (c : LockCall) : Type 0 where
   pub places : PlacesRise 0 h.shape.batch c.part
   pub entries : All (IsPartEntry h) c.part
 
+-- `IsFinishCall`, `IsForgetCall`: a batch and a cause like these, and as many decisions
 pub record IsFinishCall (h : Header) (c : FinishCall) : Type 0 where
   pub batch : IsBatchOf h.shape c.batch
   pub cause : c.cause < 2 ^ 63

@@ -18,9 +18,11 @@ pub record Clean (mint : List Output) (submissions : List FullTx) : Type 0 where
   pub ids : (t u : FullTx) → IsMember mint submissions t → IsMember mint submissions u → tx_id t ≡ tx_id u → (t.inputs ≡ u.inputs) × (t.outputs ≡ u.outputs)
   pub hashes : (c d : Coin) → IsNamed mint submissions c → IsNamed mint submissions d → coin_hash c ≡ coin_hash d → c ≡ d
 
+-- the sum of the values that inputs claim
 abbrev pub value_in : List Input → ℕ
 value_in inputs = sum_by (λ c. c.output.value) inputs
 
+-- the sum of the values of outputs
 abbrev pub value_out : List Output → ℕ
 value_out outputs = sum_by (λ o. o.value) outputs
 

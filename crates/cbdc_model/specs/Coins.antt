@@ -20,6 +20,7 @@ coin_hash c = sha256 (input c)
 unfoldable pub id_of : List Input → List Output → Digest
 id_of inputs outputs = sha256 (counted input inputs ++ counted output outputs)
 
+-- the id of a transaction
 abbrev pub tx_id : FullTx → Digest
 tx_id t = id_of t.inputs t.outputs
 

@@ -11,10 +11,12 @@ abbrev pub replies_at : List ShardReplies → ℕ → Option ShardReplies
 replies_at [] s = None
 replies_at (r ∷ rs) s = if r.shard == s then Some r else replies_at rs s
 
+-- the replies in what a shard replied, none where it did not
 abbrev pub replies_in : Option ShardReplies → List Reply
 replies_in None = []
 replies_in (Some r) = r.replies
 
+-- the stamp of the Lock that keeps them, 0 where the shard did not reply
 abbrev pub reply_stamp : Option ShardReplies → ℕ
 reply_stamp None = 0
 reply_stamp (Some r) = r.stamp

@@ -14,6 +14,7 @@ use Rattle.cbdc_model.specs.Next.{Plan, RepliesAt, Kept, Append, Refuse, next_lo
 use Rattle.cbdc_model.specs.Deciding.{decided, reply_cause}
 use Rattle.cbdc_model.specs.Room.{size_of, need_of}
 
+-- an answer at once, or a record to be written with the answer behind it
 pub data Due (A : Type 0) : Type 0 where
   Answers : (result : Result A NodeFault) → Due A
   Writes : (answer : A) (r : Record) → Due A
@@ -23,11 +24,11 @@ abbrev pub unless_broken : {A : Type 0} → Option ℕ → Due A → Due A
 unless_broken (Some since) due = Answers (Err (Broken since))
 unless_broken None due = due
 
--- a new record's stamp is within its bound
+-- a new record's stamp is within its bound, else the clock's end is told with it
 abbrev pub if_early : {A : Type 0} → ℕ → ℕ → Due A → Due A
 if_early bound stamp due = if nat_lt bound stamp then Answers (Err (ClockEnd stamp)) else due
 
--- the disk has room for what a new record needs
+-- the disk has room for what a new record needs, else full is told with the numbers
 abbrev pub if_room : {A : Type 0} → ℕ → ℕ → ℕ → Due A → Due A
 if_room used need capacity due = if nat_lt capacity (used + need) then Answers (Err (Full used need capacity)) else due
 
@@ -39,6 +40,7 @@ used_of J = 1 + sum_by size_of J
 abbrev pub last_early : ℕ
 last_early = 2 ^ 62
 
+-- `last_early`, `last_late`: the last stamp of a Prepare and a Lock, and of the records behind them
 abbrev pub last_late : ℕ
 last_late = 2 ^ 62 + 2 ^ 20
 
@@ -46,9 +48,11 @@ last_late = 2 ^ 62 + 2 ^ 20
 abbrev pub lock_record : List Record → LockCall → Record
 lock_record J c = Lock (next_stamp J c.cause) c.batch (answered J c.batch [] c.part)
 
+-- kept replies and their stamp as they are answered
 abbrev pub replied_of : RepliesAt → Replied
 replied_of a = record { replies = a.given; stamp = a.at }
 
+-- `lock_record`, `lock_by`, `lock_due`: the Lock that a call at a shard appends, and what the call is owed
 abbrev pub lock_by : Plan RepliesAt → Shape → ℕ → List Record → LockCall → Due Replied
 lock_by (Kept a) K capacity J c = Answers (Ok (replied_of a))
 lock_by (Refuse why) K capacity J c = Answers (Err (Refuses why))
@@ -64,6 +68,7 @@ stamp_by (Kept t) r = Answers (Ok t)
 stamp_by (Refuse why) r = Answers (Err (Refuses why))
 stamp_by (Append t) r = if_early last_late t (Writes t r)
 
+-- `stamp_by`, `finish_due`, `forget_due`: what a call to finish or to forget is owed at a shard: a new record has a stamp, and room was kept for it
 abbrev pub finish_due : FinishCall → Option ℕ → List Record → Due ℕ
 finish_due c broken J =
     unless_broken broken (stamp_by (next_finish J c.batch c.decisions c.cause) (Finish (next_stamp J c.cause) c.batch c.decisions))
@@ -75,6 +80,7 @@ forget_due c broken J = unless_broken broken (stamp_by (next_forget J c.batch c.
 abbrev pub open_batch : List Record → ℕ → Batch
 open_batch J lane = record { lane = lane; number = (slot J lane).number }
 
+-- the batch that a lane's slot names, and the one behind it
 abbrev pub new_batch : List Record → ℕ → Batch
 new_batch J lane = record { lane = lane; number = suc (slot J lane).number }
 
@@ -82,6 +88,7 @@ new_batch J lane = record { lane = lane; number = suc (slot J lane).number }
 abbrev pub prepare_record : List Record → ℕ → List Compact → Record
 prepare_record J lane txs = Prepare (next_stamp J 0) (new_batch J lane) txs
 
+-- `prepare_record`, `prepare_due`: the Prepare of an idle lane, and what the call is owed
 abbrev pub prepare_due : Shape → ℕ → ℕ → List Compact → Option ℕ → List Record → Due (Batch × ℕ)
 prepare_due K capacity lane txs broken J =
     unless_broken broken (if_early last_early (next_stamp J 0)
@@ -92,6 +99,7 @@ abbrev pub commit_record : Shape → ℕ → List ShardReplies → List Record �
 commit_record K lane replies J =
     Commit (next_stamp J (reply_cause K replies)) (open_batch J lane) (decided K (txs_of J (open_batch J lane)) replies)
 
+-- `commit_record`, `decide_due`: the Commit of a prepared batch by what its shards replied, and what the call is owed
 abbrev pub decide_due : Shape → ℕ → List ShardReplies → Option ℕ → List Record → Due ℕ
 decide_due K lane replies broken J =
     unless_broken broken (if_early last_late (next_stamp J (reply_cause K replies)) (Writes (next_stamp J (reply_cause K replies)) (commit_record K lane replies J)))
@@ -100,6 +108,7 @@ decide_due K lane replies broken J =
 abbrev pub discard_record : ℕ → ℕ → List Record → Record
 discard_record lane cause J = Discard (next_stamp J cause) (open_batch J lane)
 
+-- `discard_record`, `discard_due`, `done_record`, `done_due`: the Discard and the Done of a lane's open batch, and what the calls are owed
 abbrev pub discard_due : ℕ → ℕ → Option ℕ → List Record → Due ℕ
 discard_due lane cause broken J = unless_broken broken (if_early last_late (next_stamp J cause) (Writes (next_stamp J cause) (discard_record lane cause J)))
 

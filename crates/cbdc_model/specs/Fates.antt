@@ -36,6 +36,7 @@ lane_fate J id lane =
     let b : Batch = record { lane = lane; number = (slot J lane).number } in
     fate_in (slot J lane).phase J b id
 
+-- the first of two that is there
 abbrev pub or_else : Option Fate → Option Fate → Option Fate
 or_else None later = later
 or_else (Some f) later = Some f

@@ -7,18 +7,23 @@ use Rattle.cbdc_model.specs.Ranges.{shard_of, shard_node}
 abbrev pub IsEarly : ℕ → Type 0
 IsEarly stamp = (1 ≤ stamp) × (stamp ≤ 2 ^ 62)
 
+-- a stamp from 1 to 2^62 + 2^20
 abbrev pub IsLater : ℕ → Type 0
 IsLater stamp = (1 ≤ stamp) × (stamp ≤ 2 ^ 62 + 2 ^ 20)
 
+-- a list of 32 numbers
 abbrev pub IsHash : Digest → Type 0
 IsHash x = length x ≡ 32
 
+-- a batch of one of the lanes, with a number from 1 to 2^62
 abbrev pub IsBatchOf : Shape → Batch → Type 0
 IsBatchOf K b = (b.lane < K.coordinators * K.lanes) × (1 ≤ b.number) × (b.number ≤ 2 ^ 62)
 
+-- at most 255 hashes
 abbrev pub IsHashList : List Digest → Type 0
 IsHashList xs = (length xs ≤ 255) × All IsHash xs
 
+-- the node of a shard
 abbrev pub IsShard : Shape → ℕ → Type 0
 IsShard K node = (K.coordinators ≤ node) × (node < K.coordinators + K.shards)
 
@@ -26,6 +31,7 @@ IsShard K node = (K.coordinators ≤ node) × (node < K.coordinators + K.shards)
 abbrev pub AreHere : Shape → ℕ → List Digest → Type 0
 AreHere K node xs = All (λ x. shard_node K (shard_of K.shards x) ≡ node) xs
 
+-- a list of 1 to as many items as a batch may have
 abbrev pub HasSize : {X : Type 0} → Shape → List X → Type 0
 HasSize K xs = (1 ≤ length xs) × (length xs ≤ K.batch)
 
@@ -34,11 +40,13 @@ abbrev pub RisesFrom : ℕ → ℕ → List Answered → Type 0
 RisesFrom low limit [] = Unit {0}
 RisesFrom low limit (a ∷ es) = (low ≤ a.entry.place) × (a.entry.place < limit) × RisesFrom (a.entry.place + 1) limit es
 
+-- a reply whose hash and batch are in the grammar
 abbrev pub IsReply : Shape → Reply → Type 0
 IsReply K Held = Unit {0}
 IsReply K (Missing x) = IsHash x
 IsReply K (Taken x by) = IsHash x × IsBatchOf K by
 
+-- an outcome whose shard, hash and batch are in the grammar
 abbrev pub IsOutcome : Shape → Outcome → Type 0
 IsOutcome K Won = Unit {0}
 IsOutcome K (Lacks shard x) = (shard < K.shards) × IsHash x
@@ -54,12 +62,13 @@ pub record IsEntry (K : Shape) (node : ℕ) (a : Answered) : Type 0 where
   pub outputs_here : AreHere K node a.entry.outputs
   pub reply : IsReply K a.reply
 
+-- a compact transaction whose id is a hash and whose hash lists are in the grammar
 pub record IsCompact (t : Compact) : Type 0 where
   pub id : IsHash t.id
   pub inputs : IsHashList t.inputs
   pub outputs : IsHashList t.outputs
 
--- a record of the grammar, at the node and under the shape of this header
+-- a record of the grammar, at the node and under the shape of this header; that the shape is within its limits is the type's
 abbrev pub IsInGrammar : Header → Record → Type 0
 IsInGrammar h (Genesis header hs) =
     (header ≡ h) × IsHash h.genesis × IsShard h.shape h.node × (length hs ≤ 1000000) × All IsHash hs × AreHere h.shape h.node hs

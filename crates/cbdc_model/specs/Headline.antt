@@ -7,6 +7,7 @@ use Rattle.cbdc_model.specs.Book.{key, Book, InBook, fold_txs, genesis_book, val
 use Rattle.cbdc_model.specs.History.{minted, history_of, committed, AreCommitted}
 use Rattle.cbdc_model.specs.World.{IsHistory, IsUnspent, Alike}
 
+-- the coins that transactions spend
 abbrev pub all_spent : List FullTx → List Coin
 all_spent [] = []
 all_spent (t ∷ ts) = t.inputs ++ all_spent ts

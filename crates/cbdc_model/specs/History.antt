@@ -14,6 +14,7 @@ pub record Minted : Type 0 where
   pub id : Digest
   pub hashes : List Digest
 
+-- the id of a mint and the hashes of its coins
 abbrev pub minted : List Output → Minted
 minted mint = record { id = genesis_id mint; hashes = genesis_hashes mint }
 
@@ -26,11 +27,13 @@ abbrev pub starts : Shape → Minted → ℕ → List Row
 starts K m zero = []
 starts K m (suc n) = record { node = n; what = Start (header_of K m.id n) } ∷ starts K m n
 
+-- the Genesis rows of the shards below a number
 abbrev pub geneses : Shape → Minted → ℕ → List Row
 geneses K m zero = []
 geneses K m (suc s) =
     record { node = shard_node K s; what = Genesis (header_of K m.id (shard_node K s)) (on_shard K.shards s m.hashes) } ∷ geneses K m s
 
+-- all first rows of a ledger
 abbrev pub first_rows : Shape → Minted → List Row
 first_rows K m = geneses K m K.shards ++ starts K m K.coordinators
 
@@ -61,6 +64,7 @@ IsKept K mint submissions later = IsSteady K (minted mint) (IsProperCompact subm
 abbrev pub goes_above : Row → Row → Bool
 goes_above row head = nat_lt (stamp_of head.what) (stamp_of row.what) || ((stamp_of head.what == stamp_of row.what) && nat_lt head.node row.node)
 
+-- a row goes above the newest of a list
 abbrev pub IsAbove : Row → List Row → Type 0
 IsAbove row [] = Unit {0}
 IsAbove row (next ∷ later) = goes_above row next ≡ true
@@ -89,14 +93,17 @@ committed (row ∷ past) = committed past ++ newly_won row.what (journal row.nod
 abbrev pub won_of : Shape → List Row → Batch → List Compact
 won_of K past b = won_txs (txs_of (lane_journal K past b) b) (outcomes_of (lane_journal K past b) b)
 
+-- the input hashes of compact transactions
 abbrev pub all_inputs : List Compact → List Digest
 all_inputs [] = []
 all_inputs (t ∷ ts) = t.inputs ++ all_inputs ts
 
+-- the output hashes of compact transactions
 abbrev pub all_outputs : List Compact → List Digest
 all_outputs [] = []
 all_outputs (t ∷ ts) = t.outputs ++ all_outputs ts
 
+-- whether two compact transactions are the same
 abbrev pub same_compact : Compact → Compact → Bool
 same_compact a b = same_digest a.id b.id && (same_digests a.inputs b.inputs && same_digests a.outputs b.outputs)
 

@@ -19,19 +19,23 @@ difference same [] (y ∷ ys) = Some 0
 difference same (x ∷ xs) [] = Some 0
 difference same (x ∷ xs) (y ∷ ys) = if same x y then option_map (λ n. suc n) (difference same xs ys) else Some 0
 
+-- whether two lists of hashes are the same
 abbrev pub same_digests : List Digest → List Digest → Bool
 same_digests [] [] = true
 same_digests [] (y ∷ ys) = false
 same_digests (x ∷ xs) [] = false
 same_digests (x ∷ xs) (y ∷ ys) = same_digest x y && same_digests xs ys
 
+-- whether two entries are the same
 abbrev pub same_entry : Entry → Entry → Bool
 same_entry e f = (e.place == f.place) && (same_digest e.id f.id && (same_digests e.inputs f.inputs && same_digests e.outputs f.outputs))
 
+-- whether two decisions are the same
 abbrev pub same_decision : Bool → Bool → Bool
 same_decision true d = d
 same_decision false d = not d
 
+-- whether a phase is Idle
 abbrev pub is_idle : Phase → Bool
 is_idle Idle = true
 is_idle InLock = false
@@ -49,6 +53,7 @@ pub record RepliesAt : Type 0 where
   pub given : List Reply
   pub at : ℕ
 
+-- the answer to a Lock of a batch that is locked or finished: as before for the same part, else where the parts differ
 abbrev pub lock_again : Option ℕ → List Record → Batch → Plan RepliesAt
 lock_again (Some at) J b = Refuse (OtherPart at)
 lock_again None J b = Kept (record { given = replies (lock_of J b); at = stamp_in (record_of 2 J b) })
@@ -71,14 +76,17 @@ misfit [] (d ∷ ds) = Some 0
 misfit (a ∷ es) [] = Some 0
 misfit (a ∷ es) (d ∷ ds) = if d && not (is_held a.reply) then Some 0 else option_map (λ n. suc n) (misfit es ds)
 
+-- the answer to a Finish of a batch that is finished: as before for the same decisions, else where they differ
 abbrev pub finish_again : Option ℕ → List Record → Batch → Plan ℕ
 finish_again (Some at) J b = Refuse (OtherOutcome at)
 finish_again None J b = Kept (stamp_in (record_of 3 J b))
 
+-- the answer to a Finish of a locked batch: other decisions than the part allows and an early cause refuse
 abbrev pub finish_now : Option ℕ → List Record → ℕ → ℕ → Plan ℕ
 finish_now (Some at) J lane cause = Refuse (OtherOutcome at)
 finish_now None J lane cause = if not (nat_lt (slot_stamp J lane) cause) then Refuse (EarlyStamp (slot_stamp J lane)) else Append (next_stamp J cause)
 
+-- the answer to a Finish of the lane's batch, by its phase
 abbrev pub finish_in : Phase → List Record → Batch → List Bool → ℕ → Plan ℕ
 finish_in InFinish J b ds cause = finish_again (difference same_decision (decisions_in (record_of 3 J b)) ds) J b
 finish_in InLock J b ds cause = finish_now (misfit (lock_of J b) ds) J b.lane cause
@@ -94,6 +102,7 @@ next_finish J b ds cause =
     if nat_lt s.number b.number then Refuse (NotLocked s.number) else
     finish_in s.phase J b ds cause
 
+-- the answer to a Forget of the lane's batch, by its phase
 abbrev pub forget_in : Phase → List Record → Batch → ℕ → Plan ℕ
 forget_in Idle J b cause = Kept (slot_stamp J b.lane)
 forget_in InFinish J b cause = if not (nat_lt (slot_stamp J b.lane) cause) then Refuse (EarlyStamp (slot_stamp J b.lane)) else Append (next_stamp J cause)

@@ -18,6 +18,7 @@ abbrev pub sized_before : ℕ → Record → List Sized → List Sized
 sized_before lane (Prepare stamp b txs) others = if b.lane == lane then record { batch = b; size = length txs } ∷ others else others
 sized_before lane other others = others
 
+-- `Sized`, `sized_before`, `sized_onto`: the batches that new Prepares of a lane name, the oldest first, each with its number of transactions
 abbrev pub sized_onto : ℕ → List Record → List Sized → List Sized
 sized_onto lane [] others = others
 sized_onto lane (r ∷ more) others = sized_onto lane more (sized_before lane r others)

@@ -6,7 +6,7 @@ use Rattle.cbdc_model.specs.Records.{Digest, Shape, Compact, Entry, Record, Row,
 unfoldable pub first_byte : Digest → ℕ
 first_byte x = slice_index x 0 % 256
 
--- the shard that holds the hash: the first byte times the number of shards, divided by 256
+-- the shard that holds the hash: floor(b S / 256) for its first byte b and S shards, so each shard has 256 / S first bytes, rounded up or down
 unfoldable pub shard_of : ℕ → Digest → ℕ
 shard_of shards x = first_byte x * shards / 256
 
@@ -14,6 +14,7 @@ shard_of shards x = first_byte x * shards / 256
 abbrev pub shard_node : Shape → ℕ → ℕ
 shard_node K s = K.coordinators + s
 
+-- the coordinator's node of a lane
 abbrev pub home_of : Shape → ℕ → ℕ
 home_of K lane = lane / K.lanes
 
@@ -21,6 +22,7 @@ home_of K lane = lane / K.lanes
 abbrev pub journal_at : Shape → List Row → Digest → List Record
 journal_at K past x = journal (shard_node K (shard_of K.shards x)) past
 
+-- the journal of the coordinator of a batch's lane, in a history
 abbrev pub lane_journal : Shape → List Row → Batch → List Record
 lane_journal K past b = journal (home_of K b.lane) past
 
@@ -29,6 +31,7 @@ abbrev pub on_shard : ℕ → ℕ → List Digest → List Digest
 on_shard shards s [] = []
 on_shard shards s (x ∷ xs) = if shard_of shards x == s then x ∷ on_shard shards s xs else on_shard shards s xs
 
+-- whether a list of hashes is empty
 abbrev pub is_empty : List Digest → Bool
 is_empty [] = true
 is_empty (x ∷ xs) = false
@@ -45,6 +48,7 @@ part shards s k (t ∷ ts) =
     then part shards s (suc k) ts
     else entry_of shards s k t ∷ part shards s (suc k) ts
 
+-- whether a part has no entry
 abbrev pub is_no_part : List Entry → Bool
 is_no_part [] = true
 is_no_part (e ∷ es) = false

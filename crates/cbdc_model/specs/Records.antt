@@ -22,15 +22,19 @@ Digest = List ℕ
 unfoldable pub same_digest : Digest → Digest → Bool
 same_digest x y = bytes_eq x y
 
+-- a batch's name: its lane and its number there
 abbrev pub Batch : Type 0
 Batch = BatchId
 
+-- a transaction as coordinators and shards see it
 abbrev pub Compact : Type 0
 Compact = CompactTx
 
+-- whether two names are of one batch
 abbrev pub same_batch : Batch → Batch → Bool
 same_batch a b = (a.lane == b.lane) && (a.number == b.number)
 
+-- whether a reply is Held
 abbrev pub is_held : Reply → Bool
 is_held Held = true
 is_held (Missing x) = false
@@ -94,23 +98,27 @@ is_in_lane lane (Done stamp c) = c.lane == lane
 abbrev pub record_of : ℕ → List Record → Batch → Option Record
 record_of kind past b = find (λ r. (kind_of r == kind) && is_of b r) past
 
--- what stands in a record that was found
+-- the answered entries of a Lock that was found, none of another record
 abbrev pub entries_in : Option Record → List Answered
 entries_in (Some (Lock stamp b es)) = es
 entries_in other = []
 
+-- the transactions of a Prepare that was found
 abbrev pub txs_in : Option Record → List Compact
 txs_in (Some (Prepare stamp b txs)) = txs
 txs_in other = []
 
+-- the outcomes of a Commit that was found
 abbrev pub outcomes_in : Option Record → List Outcome
 outcomes_in (Some (Commit stamp b os)) = os
 outcomes_in other = []
 
+-- the decisions of a Finish that was found
 abbrev pub decisions_in : Option Record → List Bool
 decisions_in (Some (Finish stamp b ds)) = ds
 decisions_in other = []
 
+-- the stamp of a record that was found, 0 where none was
 abbrev pub stamp_in : Option Record → ℕ
 stamp_in (Some r) = stamp_of r
 stamp_in None = 0
@@ -119,9 +127,11 @@ stamp_in None = 0
 abbrev pub txs_of : List Record → Batch → List Compact
 txs_of past b = txs_in (record_of 6 past b)
 
+-- the outcomes of a batch's Commit in a journal
 abbrev pub outcomes_of : List Record → Batch → List Outcome
 outcomes_of past b = outcomes_in (record_of 7 past b)
 
+-- the answered entries of a batch's Lock in a journal
 abbrev pub lock_of : List Record → Batch → List Answered
 lock_of past b = entries_in (record_of 2 past b)
 

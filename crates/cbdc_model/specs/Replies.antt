@@ -10,6 +10,7 @@ refusal Unspent x false b = None
 refusal (Locked by) x claimed b = Some (Taken x by)
 refusal Absent x claimed b = Some (Missing x)
 
+-- a refusal where there is one, else the reply to the other inputs
 abbrev pub first_reply : Option Reply → Reply → Reply
 first_reply (Some r) rest = r
 first_reply None rest = rest
@@ -30,5 +31,6 @@ answered past b claimed (e ∷ es) =
 abbrev pub entries : List Answered → List Entry
 entries es = map (λ a. a.entry) es
 
+-- the replies of an answered part alone
 abbrev pub replies : List Answered → List Reply
 replies es = map (λ a. a.reply) es

@@ -3,19 +3,23 @@ use Rattle.std.specs.Prelude.{ℕ, zero, suc, ◌+◌, ◌*◌, List, length, su
 use Rattle.cbdc_model.specs.Records.{Shape, Batch, Compact, Reply, Outcome, Answered, Record, txs_of, lock_of, Held, Missing, Taken, Won, Lacks, Blocked, Genesis, Lock, Finish, Forget, Start, Prepare, Commit, Discard, Done}
 use Rattle.cbdc_model.specs.Slots.{Phase, slot, Idle, InLock, InFinish, InPrepare, InCommit, InDiscard}
 
+-- the bytes of a reply
 abbrev pub reply_size : Reply → ℕ
 reply_size Held = 1
 reply_size (Missing x) = 33
 reply_size (Taken x by) = 49
 
+-- the bytes of an outcome
 abbrev pub outcome_size : Outcome → ℕ
 outcome_size Won = 1
 outcome_size (Lacks shard x) = 41
 outcome_size (Blocked shard x by) = 57
 
+-- the bytes of a compact transaction
 abbrev pub compact_size : Compact → ℕ
 compact_size t = 48 + 32 * (length t.inputs + length t.outputs)
 
+-- the bytes of an entry with its reply
 abbrev pub answered_size : Answered → ℕ
 answered_size a = 56 + 32 * (length a.entry.inputs + length a.entry.outputs) + reply_size a.reply
 
@@ -35,6 +39,7 @@ size_of (Done stamp b) = 34
 abbrev pub room_behind_lock : ℕ → ℕ
 room_behind_lock m = 76 + m
 
+-- the bytes kept for the later records of a batch of so many transactions: its Commit, Discard and Done
 abbrev pub room_behind_prepare : ℕ → ℕ
 room_behind_prepare n = 110 + 57 * n
 
@@ -47,6 +52,7 @@ room_in InPrepare m n = room_behind_prepare n
 room_in InCommit m n = 68
 room_in InDiscard m n = 34
 
+-- the bytes kept for a lane's unfinished batch at a node
 abbrev pub lane_room : List Record → ℕ → ℕ
 lane_room J lane =
     let s = slot J lane in
@@ -58,10 +64,12 @@ abbrev pub kept_below : List Record → ℕ → ℕ
 kept_below J zero = 0
 kept_below J (suc n) = kept_below J n + lane_room J n
 
+-- the bytes kept for all unfinished batches at a node
 abbrev pub kept_room : Shape → List Record → ℕ
 kept_room K J = kept_below J (K.coordinators * K.lanes)
 
--- what a Lock or a Prepare needs: its own bytes, those of its batch's later records, and those kept for other batches
+-- what a Lock or a Prepare needs: its own bytes, those of its batch's later records, and those kept for other batches; of another record its own
+-- bytes
 abbrev pub need_of : Shape → List Record → Record → ℕ
 need_of K J (Lock stamp b es) = size_of (Lock stamp b es) + room_behind_lock (length es) + kept_room K J
 need_of K J (Prepare stamp b txs) = size_of (Prepare stamp b txs) + room_behind_prepare (length txs) + kept_room K J

@@ -21,7 +21,7 @@ pub record Sight : Type 0 where
 abbrev pub HasRisen : ℕ → ℕ → Type 0
 HasRisen before now = min (before + 1) (2 ^ 64 - 1) ≤ now
 
--- what no call changes
+-- what no call changes: header, capacity, the count at opening; the count does not fall
 pub record IsSameNode (old new : Sight) : Type 0 where
   pub header : new.header ≡ old.header
   pub opened : new.opened ≡ old.opened

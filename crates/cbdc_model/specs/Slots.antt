@@ -11,10 +11,12 @@ pub data Phase : Type 0 where
   InCommit : Phase
   InDiscard : Phase
 
+-- a lane's number and phase at a node
 pub record Slot : Type 0 where
   pub number : ℕ
   pub phase : Phase
 
+-- a lane's slot, by the newest record of the lane
 abbrev pub slot : List Record → ℕ → Slot
 slot [] lane = record { number = 0; phase = Idle }
 slot (Genesis header hs ∷ past) lane = slot past lane

@@ -26,6 +26,7 @@ abbrev pub prepared_before : ℕ → Record → List (List Compact) → List (Li
 prepared_before lane (Prepare stamp b txs) older = if b.lane == lane then txs ∷ older else older
 prepared_before lane other older = older
 
+-- `prepared_before`, `prepared`: the transactions of a lane's Prepares in a journal, the newest first
 abbrev pub prepared : ℕ → List Record → List (List Compact)
 prepared lane [] = []
 prepared lane (r ∷ J) = prepared_before lane r (prepared lane J)
@@ -39,6 +40,7 @@ pub record Adds (of : Batch → Type 0) (I J : ℕ → List Record) : Type 0 whe
 abbrev pub has_prepare : Shape → (ℕ → List Record) → Batch → Bool
 has_prepare K J b = is_some (record_of 6 (J (home_of K b.lane)) b)
 
+-- `has_prepare`, `has_done`: the batch has its Prepare, and the batch has its Done
 abbrev pub has_done : Shape → (ℕ → List Record) → Batch → Bool
 has_done K J b = is_some (record_of 9 (J (home_of K b.lane)) b)
 

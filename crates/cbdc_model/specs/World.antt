@@ -18,21 +18,25 @@ use Rattle.cbdc_model.specs.Coins.{Output, FullTx}
 use Rattle.cbdc_model.specs.Clean.{IsProperCompact}
 use Rattle.cbdc_model.specs.History.{Minted, minted, header_of, first_rows, TxsPass, IsKept, IsOrdered}
 
--- a node: its journal, whether it is up, and the record that was begun there and is not ended, if there is one
+-- a node: its journal, whether it is up or down, and the record that was begun there and is not ended, if there is one (a crash leaves none)
 pub record Node : Type 0 where
   pub journal : List Record
   pub up : Bool
   pub flight : Option Record
 
+-- the nodes in order of their numbers
 abbrev pub World : Type 0
 World = List Node
 
+-- what is taken for a node that isn't there
 abbrev pub no_node : Node
 no_node = record { journal = []; up = false; flight = None }
 
+-- the node with a number
 abbrev pub node_at : World → ℕ → Node
 node_at w n = slice_index_or w n no_node
 
+-- the journals of a world, by node
 abbrev pub journals : World → ℕ → List Record
 journals w n = (node_at w n).journal
 
@@ -43,9 +47,11 @@ first_record K m n =
     then Start (header_of K m.id n)
     else Genesis (header_of K m.id n) (on_shard K.shards (n - K.coordinators) m.hashes)
 
+-- a node as the ledger begins
 abbrev pub first_node : Shape → Minted → ℕ → Node
 first_node K m n = record { journal = first_record K m n ∷ []; up = true; flight = None }
 
+-- the world as the ledger begins
 abbrev pub init : Shape → Minted → World
 init K m = map (first_node K m) (range_with_len 0 (K.coordinators + K.shards))
 
@@ -55,6 +61,7 @@ pub data ShardCall : Type 0 where
   Finish_call : (call : FinishCall) → ShardCall
   Forget_call : (call : ForgetCall) → ShardCall
 
+-- the batch of a call
 abbrev pub batch_of : ShardCall → Batch
 batch_of (Lock_call call) = call.batch
 batch_of (Finish_call call) = call.batch
@@ -139,6 +146,7 @@ abbrev pub EventPasses : (Compact → Type 0) → Event → Type 0
 EventPasses P (Begin n r) = TxsPass P r
 EventPasses P other = Unit {0}
 
+-- each Prepare that events begin has transactions that pass
 abbrev pub EventsPass : (Compact → Type 0) → List Event → Type 0
 EventsPass P [] = Unit {0}
 EventsPass P (e ∷ es) = EventPasses P e × EventsPass P es

@@ -35,6 +35,8 @@ extra true rest = Some (fault Extra rest)
 extra false [] = None
 extra false (b ∷ bs) = Some (fault Extra (b ∷ bs))
 
+-- `counted_behind`, `minted_at`, `extra`, `ended_by`, `ended`: their parts: so many transactions; an output that is not zero; nothing behind the
+-- items
 abbrev pub ended_by : {X : Type 0} → X → Option Fault → Result X Fault
 ended_by items None = Ok items
 ended_by items (Some f) = Err f
@@ -48,7 +50,8 @@ counted_behind before bytes = do
   n ← number_at bytes
   if nat_lt 1000000 (before + n.0) then Err (fault TooMany bytes) else items_at transaction_at n.0 n.1
 
--- the transactions of a client file, where so many stand in the files before it
+-- the transactions of a client file, or its first bad field: their number, which with those of the files before it is at most 1,000,000, the
+-- transactions, and the end
 abbrev pub clients_in : ℕ → Bool → List ℕ → Result (List FullTx) BadFile
 clients_in before more bytes = placed (length bytes) more (counted_behind before bytes >>= ended more)
 
@@ -56,7 +59,7 @@ clients_in before more bytes = placed (length bytes) more (counted_behind before
 abbrev pub minted_at : List ℕ → Result (Output × List ℕ) Fault
 minted_at bytes = output_at bytes >>= λ read. if read.0.value == 0 then Err (fault Zero bytes) else Ok read
 
--- the outputs of a mint file
+-- the outputs of a mint file, or its first bad field: at most 1,000,000, each of value at least 1, and the end
 abbrev pub mint_in : Bool → List ℕ → Result (List Output) BadFile
 mint_in more bytes = placed (length bytes) more (list_at 1000000 minted_at bytes >>= ended more)
 

@@ -1,4 +1,4 @@
--- A client file read in pieces: what came of it so far, and what is said of the whole file before all of it came.
+-- A client file read in pieces: what was read of it so far, and what is said of the whole file before all of it was.
 use Rattle.std.specs.Prelude.{◌≡◌, ℕ, ◌+◌, ◌-◌, ◌≤◌, List, ◌++◌, length, take, Bool, Option, Some, Result, Ok, Err, nat_lt, if◌then◌else◌}
 use Rattle.outside.specs.Counts.{Rose}
 use Rattle.outside.specs.Images.{Tells}
@@ -12,7 +12,7 @@ use Rattle.client_files.specs.declared.fault.StreamFault.{StreamFault}
 use Rattle.client_files.specs.declared.fault.StreamFault.TheVariants as faults
 use Rattle.client_files.specs.Files.{front, goes_on, bad_at, extra, clients_in}
 
--- what came of a file and was not used, and how many bytes came
+-- what was read of a file and not used, and how many bytes were read
 pub record WindowOf : Type 0 where
   pub unread : List ℕ
   pub had : ℕ
@@ -42,6 +42,7 @@ pub record HasMore (told : Option (List ℕ)) (old new : WindowOf) (n : ℕ) : T
   pub unread : new.unread ≡ old.unread ++ piece
   pub come : HasCome told old.had new.had piece
   pub bound : new.had ≤ 1073741824
+  -- their parts: so many transactions; an output that is not zero; nothing behind the items
   pub ended : n ≡ 0 → IsEnd told old.had
 
 -- this was read of the bytes that were not used and those that came, whatever comes behind them

@@ -53,6 +53,8 @@ pub(crate) fn is_longer<I: Inbox>(inbox: &mut I, name: &str, at: usize) -> Resul
 }
 
 /// The first 2^30 bytes of a file, and whether it goes on behind them.
+///
+/// The first 2^30 bytes and whether there are more, where the inbox tells the file; ReadFault only where the count rose; files stay.
 pub fn fetch<I: Inbox>(
     alloc: Global,
     inbox: &mut I,

@@ -1,4 +1,7 @@
 //! Input files: their bytes, and the transactions or minted outputs in them.
+//!
+//! - Tested in `piece_rows` (`files.rows`): small client files and mints, and each kind of fault at its place; a file longer than one read, and a
+//!   name that is not there.
 #![tactic(auto)]
 
 mod clients;

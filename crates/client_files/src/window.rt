@@ -1,4 +1,4 @@
-// What came of a file and was not used.
+// What was read of a file and not used.
 ghost use Rattle.std.specs.Prelude.{◌≡◌, ◌+◌, ◌≤◌, [], ◌++◌, length, drop, OnOk};
 
 use std::alloc::{AllocError, Global};

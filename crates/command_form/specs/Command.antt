@@ -21,6 +21,8 @@ some id = record (required id) { range = Some (record { start_inclusive = 1; end
 abbrev pub option : Text → Text → Rule
 option id default = record (new_rule id) { long = Some id; value_names = 1; defaults = default ∷ [] }
 
+-- `shards_rule`, `coordinators_rule`, `lanes_rule`, `batch_rule`, `mint_rule`, `verdicts_rule`, `client_rule`, `rest_rule`, `hash_rule`,
+-- `seed_rule`, `count_rule`, `topic_rule`: the arguments by their names
 abbrev pub shards_rule : Text → Rule
 shards_rule = option (codes "shards")
 
@@ -72,6 +74,8 @@ with_arg s r = record s { rules = s.rules ++ r ∷ [] }
 abbrev pub nodes_shape : Text → Text → Text → Shape
 nodes_shape name shards coordinators = with_arg (with_arg (new_app name).top (shards_rule shards)) (coordinators_rule coordinators)
 
+-- `required`, `some`, `option`, `with_arg`, `nodes_shape`, `sized_shape`: an argument that has to be there; one or more; an option with its
+-- default; a command with one argument more; with the options of a shape
 abbrev pub sized_shape : Shape → Text → Text → Shape
 sized_shape s lanes batch = with_arg (with_arg s (lanes_rule lanes)) (batch_rule batch)
 
@@ -121,6 +125,8 @@ looks = with_subcommand (with_subcommand main recover_shape) status_shape
 abbrev pub checks : App
 checks = with_subcommand (with_subcommand looks audit_shape) gen_shape
 
+-- the whole command line, built up in `main`, `looks` and `checks` from `init_shape`, `run_shape`, `recover_shape`, `status_shape`, `audit_shape`,
+-- `gen_shape` (with `gen_sizes`) and `help_shape`, by `with_settings`
 abbrev pub hamilton : App
 hamilton = with_subcommand checks help_shape
 

@@ -1,5 +1,7 @@
 //! The form of the command line: the program's command as clap reads it, and the same as data. Each function states what the
 //! definitions say of its part.
+//!
+//! - The texts of help are no data of `hamilton`; rows test them.
 #![tactic(auto)]
 
 mod help;
@@ -302,6 +304,8 @@ fn with_checks<'a>(alloc: Global) -> Result<Command<'a>, AllocError>
 }
 
 /// The program's command.
+///
+/// At Ok the command is `hamilton`, as clap's definitions read a command.
 pub fn program<'a>(alloc: Global) -> Result<Command<'a>, AllocError>
     ensures { IfOk result (λ c. app_of c ≡ hamilton) }
 {

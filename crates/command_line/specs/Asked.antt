@@ -20,7 +20,7 @@ use Rattle.requests.specs.declared.WordsFault.TheVariants.{Bad, Memory}
 
 -- ---- faults
 
--- a fault that is no wish for help or the version, and no want of memory
+-- a fault that is no wish for help or the version, and not that memory ran out
 abbrev pub is_mistake : ErrorKind → Bool
 is_mistake DisplayHelp = false
 is_mistake DisplayVersion = false
@@ -33,6 +33,8 @@ is_wish DisplayHelp = true
 is_wish DisplayVersion = true
 is_wish _ = false
 
+-- `is_mistake`, `is_wish`, `HasMistake`, `HasWish`: a fault of the words that is no wish for help or the version, and not that memory ran out; such
+-- a wish
 abbrev pub HasMistake : Kinds → Type 0
 HasMistake kinds = (k : ErrorKind) × IsAmong k kinds × IsTrue (is_mistake k)
 
@@ -86,6 +88,8 @@ HasNoShape rows =
 abbrev pub HasRepeats : List Row → ℕ → Type 0
 HasRepeats rows n = (text : Text) × (first_of (codes "repeats") rows ≡ Some text) × IsUpTo 3 text n
 
+-- `HasNumber`, `HasNoNumber`, `HasShape`, `HasNoShape`, `HasRepeats`, `HasNoRepeats`, `HasSeed`, `HasNoSeed`, `HasNoWorkload`, `HasNoHashes`: an
+-- option has such a number or has none; and so a ledger's shape, how often calls are repeated, a workload's numbers, the hashes
 abbrev pub HasNoRepeats : List Row → Type 0
 HasNoRepeats rows = (text : Text) × (first_of (codes "repeats") rows ≡ Some text) × ((n : ℕ) → ¬ (IsUpTo 3 text n))
 
@@ -106,6 +110,7 @@ HasNoHashes given = (text : Text) × Contains given text × (¬ (IsHashText text
 
 -- ---- requests
 
+-- `IsInit`, `IsRun`, `IsStatus`, `IsAudit`, `IsGen`, `IsShow`, `IsAsked`, `listed`: what the words of each command ask for
 abbrev pub IsShow : Request → Type 0
 IsShow (Show text) = Unit {0}
 IsShow _ = ⊥
@@ -156,6 +161,7 @@ HasBadValue words =
     ⊎ (((rows : List Row) × Meets words (codes "gen") rows × HasNoWorkload rows)
     ⊎ ((rows : List Row) × Meets words (codes "run") rows × HasNoRepeats rows)))
 
+-- why words are refused
 abbrev pub IsRefused : List Text → WordsFault → Type 0
 IsRefused words Bad = HasMistake (faults_of words) ⊎ HasBadValue words
 IsRefused words Memory = Unit {0}

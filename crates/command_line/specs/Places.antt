@@ -6,6 +6,7 @@ use Rattle.std.specs.Str.{bytes_eq}
 use Rattle.clap.specs.Lexer.{long_of}
 use Rattle.clap.specs.Words.{Text}
 
+-- the word at a place
 abbrev pub word_at : List Text → ℕ → Text
 word_at words place = slice_index_or words place []
 
@@ -13,6 +14,7 @@ word_at words place = slice_index_or words place []
 abbrev pub places_before : ℕ → List ℕ
 places_before place = range_with_len 2 (place - 2)
 
+-- the word is `--`
 abbrev pub is_dashes : Text → Bool
 is_dashes word = bytes_eq word (codes "--")
 
@@ -24,6 +26,7 @@ is_trailing words place = list_any (λ p. is_dashes (word_at words p)) (places_b
 abbrev pub option_at : List Text → ℕ → Option (Text × Option Text)
 option_at words place = if is_trailing words place then None else long_of (word_at words place)
 
+-- it has none
 abbrev pub lacks_value : Option (Text × Option Text) → Bool
 lacks_value option = option_map_or (λ o. not (is_some o.1)) option false
 

@@ -453,6 +453,16 @@ fn asked_of<'a>(
 }
 
 /// Parses the words, the first of which is the program's name.
+///
+/// Init, Run, Recover and Status name a command of sound words. Init's numbers are those that its options spell in decimal, within their limits;
+/// its mint is the first word that is a value of its own (no option, no option's value and not the first `--`; behind that each word is one), and
+/// its place is that word's; Run's clients are all such words, in order, each at its place; its verdicts are the value of the first `--verdicts`,
+/// at the place of that option where a `=` joins them, else of the next word, and its repeats the number from 0 to 3 that its option spells in
+/// decimal, 0 where it is left out; Status has the hash of each word in order; Audit's mint is the first such word, and its clients are all others.
+/// Each name is what clap took, too. Show only where help or the version is wished.
+///
+/// Bad only where there is a mistake, an option of Init or of Gen or the repeats of Run are no number within their limit, or a word of Status is
+/// not 64 hexadecimal digits.
 pub fn parse<'a>(alloc: Global, words: &'a [String]) -> Result<Request<'a>, WordsFault>
     ensures asked { IfOk result (λ r. IsAsked (texts words.entry.now) r) }
     ensures refused { IfErr result (λ e. IsRefused (texts words.entry.now) e) }

@@ -22,7 +22,7 @@ use Rattle.complete_laws.specs.Files.{HoldsFile, HoldsVerdicts, HoldClients}
 use Rattle.complete_laws.specs.Making.{CanMake}
 use Rattle.complete_laws.specs.Ready.{IsReady, ShowsKept, NoneRises, limit_at}
 
--- the file holds a mint of which a ledger can be made, and no disk fails
+-- the file holds a mint of which a ledger can be made (`CanMake`), and no count of faults of its nodes rises
 pub record CanInit {D : Type 0} (files : Text → Option (List ℕ)) (files_before files_now : Text → ℕ) (content : D → Option (List ℕ)) (limit : D → ℕ) (held : ℕ → Option D) (before now : ℕ → ℕ) (shape : Shape) (name : Text) : Type 0 where
   pub mint : List Output
   pub holds : HoldsFile files files_before files_now mint_of_file name mint
@@ -37,8 +37,8 @@ pub record CanRun {D : Type 0} (files : Text → Option (List ℕ)) (files_befor
   pub holds : HoldClients files files_before files_now 0 clients handed
   pub ready : IsReady content limit held before now (sound_by (told known)) handed
 
--- the files hold the mint of the ledger that the disks show and transactions of which it is kept, all batches of which are at their end; no hashes
--- clash, what the disks hold is within their limits, and none fails
+-- the files hold a mint and transactions, no hashes of which clash; the disks show a kept ledger of this mint and these transactions, every lane of
+-- which is idle; each disk may hold the bytes that its journal takes; and no count of faults of its nodes rises
 pub record CanAudit {D : Type 0} (files : Text → Option (List ℕ)) (files_before files_now : Text → ℕ) (content : D → Option (List ℕ)) (limit : D → ℕ) (held : ℕ → Option D) (before now : ℕ → ℕ) (name : Text) (clients : List Text) : Type 0 where
   pub mint : List Output
   pub handed : List (List FullTx)
@@ -56,8 +56,9 @@ pub record CanAudit {D : Type 0} (files : Text → Option (List ℕ)) (files_bef
 abbrev pub none_sound : FullTx → Bool
 none_sound t = false
 
--- nothing hinders what is asked: its files are read, its disks tell what it is about and have the room for it (of a run, a recovery and a look at
--- hashes they are `Ample`), and none of them fails; each hash that is looked for has its 32 bytes; no hashes of a workload clash
+-- nothing hinders what is asked: of `init` `CanInit`; of `run` `CanRun`; of `recover` `IsReady` of no files; of `status` the same, and each hash
+-- has its 32 bytes; of `audit` `CanAudit`; of `gen` that no hashes of its workload clash; of a text that is shown nothing more. So of `run`,
+-- `recover` and `status` the disks are `Ample`
 abbrev pub IsUnhindered : {D : Type 0} → (Text → Option (List ℕ)) → (Text → ℕ) → (Text → ℕ) → (D → Option (List ℕ)) → (D → ℕ) → (ℕ → Option D) → (ℕ → ℕ) → (ℕ → ℕ) → Request → Type 0
 IsUnhindered files files_before files_now content limit held before now (Init shape mint) = CanInit files files_before files_now content limit held before now shape mint.name.now
 IsUnhindered files files_before files_now content limit held before now (Run verdicts clients options) =

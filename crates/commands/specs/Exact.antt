@@ -19,7 +19,8 @@ use Rattle.audit_command.specs.Audits.{IsUnsoundBy, WasAudited}
 use Rattle.rack_runs.specs.Endings.{EndsRun}
 use Rattle.rack_runs.specs.Runs.{IsLaneFault, NonePrepared, NothingNext, PieceNext, PiecesPrepared}
 
--- what the disks hold and their room decide this answer: a node is refused for it, or a record is the first that is not caused
+-- what the disks hold and their room decide the answer: a node is refused as NotReady, Damaged, Full or Foreign, or a record is the first that is
+-- not caused
 abbrev pub IsOfDisks : Answer → Type 0
 IsOfDisks (answers.Unsound place kind) = Unit {0}
 IsOfDisks answer = IsOfBytes answer
@@ -34,7 +35,7 @@ pub record HasNoCause {D : Type 0} (content : D → Option (List ℕ)) (held : �
   pub opens : EachOpens content held shape genesis journals
   pub none : AllTell content held shape → (before now : ℕ → ℕ) (answer : Answer) → IsOfDisks answer → cause before now answer → ⊥
 
--- the ledger of the mint that this file is told to hold is not opened
+-- the ledger of the mint that a file is told to hold is not opened: the first node that can't be, or node 0 where another mint began it
 abbrev pub IsUnopenedOf : {D : Type 0} → (Text → Option (List ℕ)) → (D → Option (List ℕ)) → (D → List ℕ → Type 0) → (D → ℕ) → (D → ℕ) → (ℕ → Option D) → Text → (ℕ → ℕ) → (ℕ → ℕ) → Answer → Type 0
 IsUnopenedOf files content images limit count held name before now answer =
     (bytes : List ℕ) × (mint : List Output) × (files name ≡ Some bytes) × (mint_of_file bytes ≡ Ok mint)
@@ -49,7 +50,7 @@ IsExact files content images limit count held (Status hashes) = HasNoCause conte
 IsExact files content images limit count held (Audit mint clients) = HasNoCause content held (IsUnopenedOf files content images limit count held mint.name.now)
 IsExact files content images limit count held other = Unit {0}
 
--- what was asked ended behind the opening of the ledger: a lane met a fault, or an audit found something wrong
+-- what was asked ended behind the opening of the ledger: a lane met a fault (`IsLaneFault`), or an audit found something wrong (`IsUnsoundBy`)
 abbrev pub IsEndedLater : {D : Type 0} → (Text → Option (List ℕ)) → (D → Option (List ℕ)) → (D → List ℕ → Type 0) → (D → ℕ) → (ℕ → Option D) → (ℕ → Option D) → (ℕ → ℕ) → (ℕ → ℕ) → Request → Answer → Type 0
 IsEndedLater files content images limit disks now disks_before disks_now (Run verdicts clients options) answer =
     (handed : List (List FullTx)) × (known : VerdictFile)

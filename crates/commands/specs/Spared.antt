@@ -5,6 +5,6 @@ use Rattle.command_line.specs.Asked.{IsAsked, IsRefused}
 use Rattle.requests.specs.declared.Request.{Request}
 use Rattle.requests.specs.declared.WordsFault.TheVariants.{Bad}
 
--- the words are bad, or ask for what has this property
+-- the words are bad, or ask for what has a property: so `spared` and `unread` speak of `IsOfNoRack` and `IsOfNoFile`
 abbrev pub AreBadOr : (Request → Type 0) → List Text → Type 0
 AreBadOr P words = IsRefused words Bad ⊎ ((r : Request) × IsAsked words r × P r)

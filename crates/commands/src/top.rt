@@ -36,13 +36,13 @@ use std::sync::Wait;
 use std::thread::Threads;
 use word_laws::see_request;
 
-/// What came of the words, and the rack with every disk back in its place.
+/// The status, and the rack with every disk back in its place.
 pub struct Done<R> {
     pub status: Answer,
     pub rack: R,
 }
 
-// What came of the words, and the name of the file that the answer speaks of.
+// The status, and the name of the file that the answer speaks of.
 struct Answered<'a> {
     status: Answer,
     name: &'a str,
@@ -203,6 +203,30 @@ where
 }
 
 /// Does what the words ask for, and prints the line of a fault. Every disk that was taken is put back.
+///
+/// What `did` comes to stands at the function of each command: `init`, `run`, `recover`, `status`, `audit`, `generated`. The text of a command is
+/// the whole of what the sink took at Ok, and a front of it at WriteFault, where all was done and a line could not be printed.
+///
+/// Out of memory: at any moment; `left` holds then, and of a run or a recovery all that a lane's fault leaves, or the disks are as they were read.
+///
+/// - Of `gen`: whatever it answers, the rack is as it was (`spared`). Where no hashes of its workload clash it is proved that the same words give
+///   the same text; that they don't is a hypothesis. Tested in `ledger_rows` (`gen.rows`: one transaction, a thousand twice, one lane) and on the
+///   README's block.
+/// - Of `init`, `run`, `status`, `recover`, `audit`: the printed text (which is proved too), the status, and what then stands on the disks are
+///   tested by rows of `ledger_rows`: `bytes.rows` (the places of all records of one transaction on both disks), `run.rows` (one coin to two, the
+///   same twice, two spenders in one file and in two, an output spent in its own batch and later, three files in one run, wrong claims, a full disk,
+///   what is known of hashes), `init.rows` (mints, a disk without room, a second `init`, words, a run over empty disks), `refusal.rows` (each reason
+///   to refuse a submission, files outside their grammar, verdict files, a damaged shard), `audit.rows` and `several.rows` (audits, journals that do
+///   not fit together), `left.rows` (what refusals leave of the disks, byte by byte), `bad_words.rows` (words that ask for nothing; which files are
+///   read and which disks taken), `points.rows` (what is asked of nodes, in order), `stop.rows` (two shards: a run stopped behind each record and
+///   recovered, what `status` tells of one, a torn gate, `run` that resumes first, two files stopped anywhere and brought to their end, a disk that
+///   fails at each of its first calls, disks of another mint and of the other kind, an output that takes a part, help), `stops.rows` (two runs of two
+///   files, recoveries in each phase and an `init`: each disk stopped at each of its calls, or failing at that one alone, crashed in four ways
+///   (nothing that was not synced, all, torn bytes of two kinds), recovered and audited, with what is committed then; a rack that lacks a disk; an
+///   output that takes less than the text, by each number of bytes), `bad_bytes.rows` (files and disks with bad bytes behind a run of one
+///   transaction), `repeats.rows` (with repeats: the calls that are made, the same text and bytes, resumed batches without), `lanes.rows` (two lanes)
+///   `threads.rows` (three lanes, each in its shard's lock, or its coordinator's, until another has done its batch; a lane behind a shard's lock
+///   until another has done its batch there) and `many_lanes.rows` (sixteen lanes, all on the way at one time).
 pub fn process<W: Wait + Threads + Sync, I: Inbox, R: Rack, O: Sink, G: Gate + Sync>(
     rt: &W,
     alloc: Global,
@@ -215,6 +239,8 @@ pub fn process<W: Wait + Threads + Sync, I: Inbox, R: Rack, O: Sink, G: Gate + S
 where
     R::Disk: Send,
     requires { (n : ℕ) → R.can_take rack n }
+
+    // All disks of the rack may be taken again when it ends.
     ensures back { (n : ℕ) → R.can_take result.rack n }
     // What the words ask for was done, whether its lines could be written or not: a ledger was made, files were run over one, its open
     // batches were brought to their end, hashes were looked up, or its journals were audited and are sound. Each disk of a ledger that was
@@ -233,37 +259,58 @@ where
     // journal that was read.
     ensures did { IsWell result.status → (r : Asked) × IsAsked (texts words.now) r × Did (I.file inbox.old) R.Disk.content R.Disk.images R.Disk.limit (R.held rack) (R.held result.rack) (IsPrinted (O.taken out.old) (O.taken out.new) result.status) r }
 
-    // Else the line of the fault is printed and nothing else, or a front of it where the sink's count rose.
+    // At every other status the sink took the line of the fault and nothing else, or, where its count rose, a front of it. At BadInput and
+    // ReadFault the file has a place among the words, and the name in the line is the one that stands there (verdicts may stand behind their
+    // option).
     ensures fault_line { IsFaultPrinted (texts words.now) (O.taken out.old) (O.taken out.new) (Rose (O.count out.old) (O.count out.new)) result.status }
 
-    // And why not: a file that is not read, a ledger that can't be made or opened, a record that is not caused, a fault of a lane of a ledger in
-    // which each is, with its cause and what it leaves, or the first place at which an audit, which changed nothing, finds something wrong, and
-    // what it is; of a workload only where two of its outputs share a hash, or two transactions an id. Whatever a lane of that ledger wants may
-    // come next where it would stand, as may a record that found no room; one that found no stamp breaks no rule but that of its stamp. What a
-    // lane's fault leaves lies within the disks' capacities; a Prepare that it may have left on a disk or not is that of its lane's next piece.
+    // Every other answer of `init`, `run`, `recover`, `status` and `audit` but BadWords and Memory has its cause: a file that is the first not
+    // read, with its place; verdicts that are not read, where all client files are; a ledger that can't be made, by the first reason (a DiskFault
+    // only where that node's count rose, no node before it being in use); one that can't be opened, by the first node in order or (at `run` and
+    // `recover`) the first record that is not caused, and the disks are back as they were read; a lane's fault, where the disks told a ledger in
+    // which each record was caused; or, of an audit, that the one verdict of the rows of which `did` speaks is Unsound with just this place and
+    // kind: the disks had the room that is said there, hold their journals in these rows still, and are back unchanged.
+    // A lane's fault has its own cause, as of `run_on`: the count of that node, which the lane asks, rose in this call; or the numbers, or the
+    // stamp, are those of the first Lock that a prepared batch still lacks, or of the Prepare of the next piece of what the files send an idle
+    // lane. Whatever a lane wants may come next where it would stand, but for a stamp past the last one. The fault is that of the least lane that
+    // met one.
+    // It leaves this: the journals of that ledger have grown at their ends, by records that are caused too, and for them and for what is kept each
+    // disk has room, in each place as much as there was; where all disks were told each keeps its journal, with what is in flight there or without;
+    // the disks that are no nodes of it are as before. Each lane has prepared the first of the pieces that the files send it, in order, and nothing
+    // else (at a recovery, nothing), and the open batches are taken up in rising order of their lanes, before all else. Nothing was written then,
+    // or each lane is idle, or its batch lacks a Lock, or the disk of a node that it asks has failed, or its batch is prepared still, because
+    // memory ran out. A record is in flight only where the node's count rose, a Prepare only that of its lane's next piece.
+    // Of whatever kept ledger the disks showed, the journals are kept then, each by its disk, with one record more or without; whatever a crash
+    // leaves of the disks is kept; nothing of the files behind the one at which the run ended was prepared; and at every node, shards too, the
+    // records of the open batches come first and then those of one file after another.
+    // `gen` ends with Ok, WriteFault or Memory; or its audit is Unsound with just this place and kind, and then two outputs of the workload share a
+    // hash or two transactions an id. No other answer comes: the workload fits, its nodes in memory have room and stamps for all that it writes,
+    // none of them is at fault or in use, and no record is without its cause.
     ensures why { IsTold (λ a. (r : Asked) × IsAsked (texts words.now) r × Why (I.file inbox.old) (I.count inbox.old) (I.count inbox.new) R.Disk.content R.Disk.images R.Disk.limit R.Disk.count (R.held rack) (R.held result.rack) (R.count rack) (R.count result.rack) r a) result.status }
 
-    // Where words are bad, a file is not read or a mint is too much, the rack is as it was.
+    // At BadWords, BadInput, ReadFault and TooMuch the rack is as it was: no disk was taken. Tested in `ledger_rows` (`left.rows`,
+    // `bad_words.rows`).
     ensures untouched { IsBeforeDisks result.status → result.rack ≡ rack }
 
-    // Bad words, a workload and a text that is shown leave the rack as it was, whatever is answered.
+    // Of words that are refused, of `gen`, `--help` and `--version`: whatever is answered, also where memory ran out, the rack is as it was.
     ensures spared { AreBadOr IsOfNoRack (texts words.now) → result.rack ≡ rack }
 
-    // Where words are bad no file is read, whatever is answered, and none by a recovery, a look at hashes, a workload and a text that is shown.
+    // Of words that are refused, of `recover`, `status`, `gen`, `--help` and `--version`: no file is read, whatever is answered.
     ensures unread { AreBadOr IsOfNoFile (texts words.now) → inbox.new ≡ inbox.old }
 
-    // What the files hold is as before.
+    // The inbox tells of each file what it told before.
     ensures files { (name : Text) → I.file inbox.new name ≡ I.file inbox.old name }
 
-    // Behind `status` and `audit` all disks are as they were read, whatever was answered: a crash leaves nothing of a disk that it could not
-    // leave before, and the disk reads as it did wherever its node's count of faults did not rise in this call.
-    // Where a run or a recovery did not come through, whatever the answer, want of memory too, all disks are as they were or as they were
-    // read, or all is as a lane's fault leaves it: the journals of the ledger that the disks told have grown at their ends, each lane by the
-    // first pieces that it got, in each of its places there is as much room as there was, and all other disks are as before; where it was kept
+    // Behind `status` and `audit` all disks are as they were read, whatever was answered: a crash leaves nothing of a disk that it could not leave
+    // before, and the disk reads as it did wherever its node's count of faults did not rise in this call.
+    // Where a run or a recovery did not come through, whatever the answer, also where memory ran out, all disks are as they were or as they were
+    // read, or all is as a lane's fault leaves it (`why`): the journals of the ledger that the disks told have grown at their ends, each lane by
+    // the first pieces that it got, in each of its places there is as much room as there was, and all other disks are as before; where it was kept
     // it still is, whatever a crash leaves of the disks.
-    // Where a ledger was not made, all disks are as they were or as they were read; or the writing of first records stopped at a node that
-    // has no room or whose disk failed, or for want of memory: those below it are as they were read, those above it hold their first records,
-    // and a crash leaves of its own no first record, or what it might have left before, or, where the disk failed, the new one alone.
+    // Where a ledger was not made (any status of `init` but 0 and 11), the rack is as it was, or all disks are as they were read (so where a node
+    // is in use); or the writing of first records stopped at a node that has no room or whose disk failed, or where memory ran out: the disks of
+    // the nodes below it are unchanged, those above it hold their first records, and a crash leaves of its own no first record, or what it might
+    // have left before, or, where the disk failed, the new one alone. Tested in `left.rows`.
     ensures left { (IsWell result.status → ⊥) → (result.rack ≡ rack) ⊎ ((r : Asked) × IsAsked (texts words.now) r × Leaves (I.file inbox.old) R.Disk.content R.Disk.images R.Disk.limit (R.held rack) (R.held result.rack) (R.count rack) (R.count result.rack) r result.status) }
 
     // Whatever was answered: of a kept ledger that the disks showed, and that was kept whatever a crash before the call left of them, whatever a
@@ -271,19 +318,36 @@ where
     // grown at its end from a journal that a crash before might have left of its disk: where nothing was unsynced there, from the one that it told.
     ensures survives { StaysKeptWhatever (I.file inbox.old) R.Disk.content R.Disk.images (R.held rack) (R.held result.rack) (texts words.now) }
 
-    // Where it came through, and where it ended behind the opening of the ledger by a lane's fault or what an audit found wrong, no refusal of the opening
-    // has its cause in the disks at entry, if they tell all of that ledger. So a node is refused as NotReady, Damaged, Foreign or Full, or a record
-    // as not caused, only where it is so, and nothing is done over a ledger where it is so.
+    // Of `run`, `recover`, `status`, `audit`: where it comes through (Ok or WriteFault), where a lane's fault ends a run or a recovery, and where
+    // an audit finds something wrong, nothing that the disks held at entry was to be refused: what is told of them opens to the journals of a
+    // ledger within its limits, and if each of its nodes' disks is told, with its content, then no node has a cause to be refused as NotReady,
+    // Damaged, Foreign or Full, whatever the counts of faults (at `audit` in the ledger of the mint that the file is told to hold), nor at `run`
+    // and `recover` any record to be the first that is not caused. So, but for a disk's fault and running out of memory, the ledger is refused only
+    // where it is so (`why`), and nothing is done over one where it is so.
     ensures exact { (r : Asked) → IsAsked (texts words.now) r → IsWell result.status ⊎ IsEndedLater (I.file inbox.old) R.Disk.content R.Disk.images R.Disk.limit (R.held rack) (R.held result.rack) (R.count rack) (R.count result.rack) r result.status
         → IsExact (I.file inbox.old) R.Disk.content R.Disk.images R.Disk.limit R.Disk.count (R.held rack) r }
 
-    // Where nothing hinders what is asked, it was done, unless memory ran out; and its lines were written, unless the sink's count rose (`written`).
+    // Where nothing hinders what is asked it ends with Ok or Memory, or with WriteFault, where the sink's count rose (`written`). Nothing does
+    // where no count of a file that is named or of a node of the ledger rises, all files and disks that it is about are told, and
+    // of `init` the file holds a mint whose values fit, no node is in use, and each has room for its first record and a gate;
+    // of `run` the files hold verdicts and transactions, and the disks show a kept ledger with room for every record that is still to come of its
+    // open batches and of the sound transactions, each record at its largest, and with stamps for them all up to 2^62 (`Ample`); of `recover` the
+    // same of no transactions; of `status` the same, and each hash has its 32 bytes;
+    // of `audit` the files hold the mint of the kept ledger that the disks show and transactions of which it is kept, all lanes are idle, no hashes
+    // clash, and what is used is within each disk's limit; of `gen` no hashes of its workload clash.
     ensures complete { (r : Asked) → IsAsked (texts words.now) r → IsUnhindered (I.file inbox.old) (I.count inbox.old) (I.count inbox.new) R.Disk.content R.Disk.limit (R.held rack) (R.count rack) (R.count result.rack) r
         → IsWell result.status ⊎ (result.status ≡ Answer.Memory) }
 
+    // BadWords only where the words have a mistake, or a value is out of form (as `parse` refuses them).
     ensures bad_words { result.status ≡ Answer.BadWords → IsRefused (texts words.now) WordsFault.Bad }
+
+    // Words that have a mistake, or a value out of form, end as BadWords, or as Memory where memory ran out.
     ensures told { IsRefused (texts words.now) WordsFault.Bad → (result.status ≡ Answer.BadWords) ⊎ (result.status ≡ Answer.Memory) }
+
+    // ReadFault only where the words ask for a file with that place, and the inbox's count of its name rose.
     ensures read { (file : ℕ) → result.status ≡ Answer.ReadFault file → NamedRose (texts words.now) (I.count inbox.old) (I.count inbox.new) file }
+
+    // WriteFault only where the sink's count rose.
     ensures written { result.status ≡ Answer.WriteFault → Rose (O.count out.old) (O.count out.new) }
 {
     see_images::<R::Disk>();

@@ -1,4 +1,6 @@
 //! What coordinators and shards see of a transaction: its id and the hashes of its coins; and a mint as a transaction, with its id.
+//!
+//! - Tested in `piece_rows` (`hashes.rows`), on hashes computed elsewhere.
 #![tactic(auto)]
 
 ghost use Rattle.std.specs.Prelude.{◌≡◌, map, IfOk};

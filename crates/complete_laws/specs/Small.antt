@@ -12,6 +12,7 @@ abbrev pub AreSmall : List FullTx → Type 0
 AreSmall [] = Unit {0}
 AreSmall (t ∷ more) = (length t.inputs + length t.outputs ≤ 3) × AreSmall more
 
+-- `AreSmall`, `AllSmall`: each transaction spends and makes three coins at most
 abbrev pub AllSmall : List (List FullTx) → Type 0
 AllSmall [] = Unit {0}
 AllSmall (file ∷ files) = AreSmall file × AllSmall files

@@ -1,4 +1,8 @@
 //! When what is asked of a rack is done, unless memory runs out. There is no code here that runs.
+//!
+//! - What opens where the disks have the room that their journals need and do not fail: a node, a ledger, and one by its mint; a kept ledger that
+//!   its disks show passes its audit; a ledger is made where nothing hinders it; files that hold what is asked are read; no lane of a run or a
+//!   recovery meets a fault where there is room and no disk fails.
 #![tactic(auto)]
 
 ghost use Rattle.std.specs.Prelude.{◌≡◌, ℕ, Some, List};
@@ -38,6 +42,9 @@ pub fn ledger_opens_law<R: Rack>(old: &R, new: &R)
 {}
 
 /// A new ledger has room and stamps for small transactions, by so many bytes for each.
+///
+/// A new ledger has room and stamps for transactions that spend and make three coins at most, where a coordinator's disk has 353 bytes for each
+/// behind its first record and a shard's 320.
 pub fn new_room_law()
     ensures { NewRoomLaw }
 {}

@@ -29,6 +29,7 @@ abbrev pub RisesBelow : ℕ → ℕ → List ShardReplies → Type 0
 RisesBelow low limit [] = Unit {0}
 RisesBelow low limit (r ∷ rs) = (low < suc r.shard) × (r.shard < limit) × RisesBelow (suc r.shard) limit rs
 
+-- `RisesBelow`, `AllEarlier`: shards rise, and are below the limit
 abbrev pub AllEarlier : ℕ → List ShardReplies → Type 0
 AllEarlier limit [] = Unit {0}
 AllEarlier limit (r ∷ rs) = (r.stamp < limit) × AllEarlier limit rs

@@ -19,6 +19,7 @@ pub record CoordOf : Type 0 where
   pub last : ℕ
   pub lanes : List LaneOf
 
+-- what stands for a lane that is not there
 abbrev pub no_lane : LaneOf
 no_lane = record { slot = record { number = 0; phase = Idle }; masks = []; room = 0 }
 
@@ -29,15 +30,19 @@ IsOwn h lane = home_of h.shape lane ≡ h.node
 abbrev pub lane_at : CoordOf → ℕ → LaneOf
 lane_at c lane = slice_index_or c.lanes (lane % c.header.shape.lanes) no_lane
 
+-- the coordinator with another lane in its place
 abbrev pub with_lane : CoordOf → ℕ → LaneOf → CoordOf
 with_lane c lane l = record c { lanes = slice_set c.lanes (lane % c.header.shape.lanes) l }
 
+-- a lane's number is at most this
 abbrev pub IsLaneUpTo : ℕ → LaneOf → Type 0
 IsLaneUpTo last l = l.slot.number ≤ last
 
+-- it has at most 1,024 transactions
 abbrev pub IsSmall : LaneOf → Type 0
 IsSmall l = length l.masks ≤ 1024
 
+-- numbers and lists are within the limits
 pub record IsWhole (c : CoordOf) : Type 0 where
   pub limits : IsWithinLimits c.header.shape
   pub node : c.header.node < c.header.shape.coordinators
@@ -46,9 +51,11 @@ pub record IsWhole (c : CoordOf) : Type 0 where
   pub numbers : All (IsLaneUpTo c.last) c.lanes
   pub small : All IsSmall c.lanes
 
+-- the batch that a lane's slot names, and the one behind it
 abbrev pub open_batch : CoordOf → ℕ → Batch
 open_batch c lane = record { lane = lane; number = (lane_at c lane).slot.number }
 
+-- the batch behind its last one
 abbrev pub next_batch : CoordOf → ℕ → Batch
 next_batch c lane = record { lane = lane; number = (lane_at c lane).slot.number + 1 }
 
@@ -73,6 +80,7 @@ Takes c d other = d ≡ c
 abbrev pub IsLaterAt : CoordOf → ℕ → Batch → Type 0
 IsLaterAt c stamp b = IsOwn c.header b.lane × (c.last < stamp) × (stamp ≤ 2 ^ 62 + 2 ^ 20)
 
+-- `IsLaterAt`, `IsPrepareAt`, `IsCommitAt`: a record of this stamp and batch may come: on a lane of this coordinator, behind the last stamp
 abbrev pub IsPrepareAt : CoordOf → ℕ → Batch → Type 0
 IsPrepareAt c stamp b = IsLaterAt c stamp b × ((lane_at c b.lane).slot.phase ≡ Idle) × (b.number ≡ (lane_at c b.lane).slot.number + 1)
 
@@ -112,6 +120,7 @@ pub record IsFresh (h : Header) (c : CoordOf) : Type 0 where
 abbrev pub lane_kept : LaneOf → ℕ
 lane_kept l = room_in l.slot.phase 0 (length l.masks)
 
+-- `lane_kept`, `kept_of`: the bytes that are kept for a lane's batch, and for those of some lanes
 abbrev pub kept_of : List LaneOf → ℕ
 kept_of ls = sum_by lane_kept ls
 
@@ -124,6 +133,7 @@ ahead_in InPrepare = 3
 ahead_in InCommit = 2
 ahead_in InDiscard = 1
 
+-- `ahead_in`, `ahead_of`: how many records are still to come of a batch in a phase, and of the batches of some lanes
 abbrev pub ahead_of : List LaneOf → ℕ
 ahead_of ls = sum_by (λ l. ahead_in l.slot.phase) ls
 
@@ -148,6 +158,7 @@ KeepsOthers old new lane = (other : ℕ) → other % old.header.shape.lanes ≢ 
 abbrev pub IsRoomed : LaneOf → Type 0
 IsRoomed l = l.slot.phase ≡ InPrepare → length l.masks ≤ l.room
 
+-- `IsRoomed`, `AllRoomed`, `OthersRoomed`: a prepared batch has room for its outcomes: on this lane, on all lanes, on all but one
 abbrev pub AllRoomed : CoordOf → Type 0
 AllRoomed c = (lane : ℕ) → IsRoomed (lane_at c lane)
 

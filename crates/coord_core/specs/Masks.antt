@@ -8,6 +8,7 @@ abbrev pub marked : ℕ → ℕ → List Digest → ℕ
 marked shards m [] = m
 marked shards m (x ∷ xs) = marked shards (bit_or m (2 ^ shard_of shards x)) xs
 
+-- `marked`, `mask_of`, `masks_of`: the bits of these hashes' shards, set in m
 abbrev pub mask_of : ℕ → Compact → ℕ
 mask_of shards t = marked shards (marked shards 0 t.inputs) t.outputs
 

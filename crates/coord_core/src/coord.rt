@@ -109,6 +109,8 @@ impl CoordCore {
 
     /// The Prepare of a batch of 1 to `batch` transactions on an idle lane of this coordinator. The memory of its
     /// Commit is taken too.
+    ///
+    /// `prepare` and `admit` take the memory of the batch's Commit, `decide` gives it away.
     pub fn prepare(&mut self, lane: LaneId, txs: &[CompactTx]) -> Result<Record, AllocError>
         requires own { IsOwn self.old.header lane }
         requires idle { (lane_at self.old lane).slot.phase ≡ Idle }

@@ -1,4 +1,6 @@
 //! A coordinator's lanes: which record comes next on each, and what becomes of a batch by its shards' replies.
+//!
+//! - Tested in `node_rows` (`coordinators.rows`).
 #![tactic(auto)]
 
 mod combine;

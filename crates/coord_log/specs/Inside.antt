@@ -54,6 +54,8 @@ pub record StandsOn {D : Type 0} {G : Ghosts D} (l : RecordLog D G) (c : CoordOf
   pub stands : StandsFor c (reverse l.records.items)
   pub journal : IsJournal l.header (reverse l.records.items)
 
+-- the lanes stand for the journal, no append has failed but one since the coordinator was opened, what is in flight may come next and had room, and
+-- the open batches have theirs
 pub record IsSound {D : Type 0} {G : Ghosts D} (l : RecordLog D G) (c : CoordOf) (opened : ℕ) (flight : Option Record) : Type 0 where
   pub on : StandsOn l c
   pub since_opened : opened ≤ G.count (disk_of l.journal)
@@ -64,7 +66,7 @@ pub record IsSound {D : Type 0} {G : Ghosts D} (l : RecordLog D G) (c : CoordOf)
   pub fits : IfSome flight (λ r. used_of (reverse l.records.items) + need_of l.header.shape (reverse l.records.items) r ≤ G.limit (disk_of l.journal))
   pub free : used_of (reverse l.records.items) + kept_of c.lanes ≤ G.limit (disk_of l.journal)
 
--- the record is next, in the grammar, and has its place
+-- the record is next, in the grammar, and has its place and the room that it needs
 pub record IsDue {D : Type 0} {G : Ghosts D} (l : RecordLog D G) (c : CoordOf) (flight : Option Record) (r : Record) : Type 0 where
   pub on : StandsOn l c
   pub whole : broken_of l.journal ≡ None

@@ -24,6 +24,6 @@ batch_in J lane p = record {
   outcomes = outcomes_of J (open_batch J lane);
 }
 
--- none where the lane is idle
+-- a lane's open batch as its journal tells it; none where the lane is idle
 abbrev pub open_lane : List Record → ℕ → Option OpenLane
 open_lane J lane = option_map (batch_in J lane) (open_phase (slot J lane).phase)

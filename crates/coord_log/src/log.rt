@@ -121,6 +121,8 @@ impl<D: Disk> CoordLog<D> {
 
     /// Begins a batch of 1 to `batch` transactions on an idle lane of this coordinator. The room and the memory for
     /// its later records are taken here.
+    ///
+    /// Out of memory: before its first write; the coordinator's journal is as before.
     pub fn prepare(
         &mut self,
         lane: LaneId,
@@ -171,6 +173,8 @@ impl<D: Disk> CoordLog<D> {
 
     /// Decides a lane's prepared batch by the replies of each shard that it concerns, as many as its part has
     /// entries, and puts the outcomes in place of what a vector holds that has room for them. Takes no memory.
+    ///
+    /// Out of memory: never.
     pub fn decide(
         &mut self,
         lane: LaneId,
@@ -225,6 +229,8 @@ impl<D: Disk> CoordLog<D> {
 
     /// Discards a lane's committed batch, once it is applied at each shard. The cause is the greatest stamp of its
     /// Finishes. Takes no memory.
+    ///
+    /// Out of memory: never.
     pub fn discard(&mut self, lane: LaneId, cause: Stamp) -> Result<Stamp, NodeFault>
         requires own { IsOwn self.old.header lane }
         requires committed { (slot self.old.journal lane).phase ≡ InCommit }
@@ -257,6 +263,8 @@ impl<D: Disk> CoordLog<D> {
 
     /// Ends a lane's discarded batch, once each shard has forgotten it. The cause is the greatest stamp of its
     /// Forgets. Takes no memory.
+    ///
+    /// Out of memory: never.
     pub fn done(&mut self, lane: LaneId, cause: Stamp) -> Result<Stamp, NodeFault>
         requires own { IsOwn self.old.header lane }
         requires discarded { (slot self.old.journal lane).phase ≡ InDiscard }

@@ -129,6 +129,13 @@ fn no_log_fault(alloc: Global, refused: NoLog) -> NodeOpenFault
 
 impl<D: Disk> CoordLog<D> {
     /// Opens a coordinator's disk. A refusal hands the disk back.
+    ///
+    /// At Ok the coordinator's journal is that of the disk's bytes, each record after those before it, with nothing in flight, and its bytes with
+    /// those kept for its open batches lie within the capacity; else which refusal it is: no whole first record, a shard's journal, damaged at the
+    /// first open gate with no whole next record, or too full, with its numbers; DiskFault only where the count rose; unless the disk failed, it
+    /// reads as before; a crash leaves nothing new.
+    ///
+    /// Out of memory: the disk comes back as it was read.
     pub fn open(alloc: Global, disk: D) -> Result<CoordLog<D>, (D, NodeOpenFault)>
         // The content opens to just this journal, and a crash leaves nothing else.
         ensures opens { IfOk result (λ l. Tells (D.content disk) (λ c. IsCoordJournal l.header l.journal c × HoldsJournal D.content D.images l)) }

@@ -35,7 +35,7 @@ pub record EndsFiles (K : Shape) (verdicts : VerdictsOf) (files : List (List Ful
   pub idle : AreIdle K middle
   pub ends : EndsFirst K verdicts more middle J failed may_hold e
 
--- of more files, from journals M to X, the first alone has been begun; without one nothing was done
+-- of more files the first alone has been begun: each lane has prepared the first pieces of what it sends; without one nothing was done
 abbrev pub HasBegunFirst : Shape → (FullTx → Bool) → List (List FullTx) → (ℕ → List Record) → (ℕ → List Record) → Type 0
 HasBegunFirst K sound [] M X = (n : ℕ) → X n ≡ M n
 HasBegunFirst K sound (file ∷ more) M X = 0 < K.batch → (lane : ℕ) → IsLaneOf K lane → HasBegun K lane (sent_to K sound file lane) M X

@@ -24,7 +24,7 @@ use Rattle.workload.specs.Generator.{mint_of, minted_of, joined_of}
 use Rattle.workload_laws.specs.Whole.{left_of, totals_of}
 pub use Rattle.workload_laws.specs.Files.{all_good, files_of, all_of, first_journals, made_for}
 
--- the workload's files were run from those journals to journals X, which are kept
+-- these journals are kept, of the workload's mint and transactions, and from `made_for` on they have the waves of its files
 pub record IsWorkloadRun (K : Shape) (seed n : ℕ) (X : ℕ → List Record) : Type 0 where
   pub kept : KeptJournals K (mint_of seed n) (all_of seed n) X
   pub waves : Waves K (sound_by all_good) (files_of seed n) (made_for K seed n) X
@@ -49,10 +49,13 @@ abbrev pub cut_below : Shape → ℕ → ℕ → ℕ
 cut_below K n zero = 0
 cut_below K n (suc lane) = cut_below K n lane + (rounded_up (sent_of K (minted_of n) lane) K.batch + rounded_up (sent_of K (joined_of n) lane) K.batch)
 
+-- `rounded_up`, `sent_of`, `cut_below`, `batches_for`: how many pieces a list is cut into; how many of the first places of a file go to a lane; the
+-- batches that the lanes below a number, and all lanes, cut the two files of a workload into
 abbrev pub batches_for : Shape → ℕ → ℕ
 batches_for K n = cut_below K n (K.coordinators * K.lanes)
 
--- the numbers that end the text of a run of the workload to journals X: nothing was open before, and each of the n submissions is confirmed or rejected
+-- the text is the six numbers that end a run of the workload to these journals: nothing was open before, the batches are `batches_for`, each
+-- submission is confirmed or rejected by its outcome there, and none is refused
 pub record EndsWorkload (K : Shape) (seed n : ℕ) (X : ℕ → List Record) (text : Text) : Type 0 where
   pub all : List (List Report)
   pub are : AreAllReports K all_good (sound_by all_good) (made_for K seed n) X (files_of seed n) all
@@ -66,7 +69,8 @@ pub record EndsWorkload (K : Shape) (seed n : ℕ) (X : ℕ → List Record) (te
 abbrev pub clean_text : Shape → ℕ → ℕ → Text
 clean_text K seed n = summary_text 0 (batches_for K n) n 0 0 (left_of n) ++ audit_lines (totals_of seed n)
 
--- the text of a workload: the numbers that end a run of it, and those of an audit behind it, which is sound; where no hashes clash it is one text
+-- there are journals of such a run; the text is the numbers that end it (`EndsWorkload`), and behind them the four totals with which an audit finds
+-- it sound; and where no hashes of the workload clash it is `clean_text`
 pub record IsWorkloadText (K : Shape) (seed n : ℕ) (text : Text) : Type 0 where
   pub exit : ℕ → List Record
   pub run : IsWorkloadRun K seed n exit

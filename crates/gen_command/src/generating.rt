@@ -133,7 +133,7 @@ fn copied(mint: &Mint) -> Result<Mint, AllocError>
     mint.clone()
 }
 
-// Makes the workload, runs it over nodes in memory and checks what came of it.
+// Makes the workload, runs it over nodes in memory and checks the result.
 fn run_workload<W: Wait + Threads + Sync, G: Gate + Sync>(
     rt: &W,
     alloc: Global,
@@ -167,6 +167,17 @@ fn run_workload<W: Wait + Threads + Sync, G: Gate + Sync>(
 
 /// Makes the workload of so many transactions from a seed, runs it over nodes in memory and prints the numbers that
 /// end a run and those of an audit. The rack that the program was handed is not touched.
+///
+/// Where it comes through: the rack is as it was. The text is that of a run of the workload between kept journals and of a sound audit of them;
+/// where no hashes of the workload clash it is one text for every schedule, with all transactions confirmed.
+///
+/// In full (clause `did` of `process`): the rack holds what it held; there are journals that are kept, of the workload's mint and transactions, and
+/// in which the waves of its two files, every witness being good, follow the first records of that mint; what is printed is the six numbers that
+/// end a run between these journals (0 resumed; as many batches as the lanes cut the two files into; how many of the submissions are confirmed and
+/// how many rejected, by their outcomes there, which together are all; 0 refused; the hashes that are unspent), and the four totals with which an
+/// audit of their history finds them sound; and where no hashes of the workload clash this is one text, whatever the order in which the lanes come
+/// to the nodes: all n transactions are confirmed and none is rejected, two hashes for each coin of the mint, less one for each join, are unspent,
+/// as many coins are in the audit's book, of the value minted, and n are committed.
 pub fn generated<W: Wait + Threads + Sync, O: Sink, G: Gate + Sync>(
     rt: &W,
     alloc: Global,

@@ -9,6 +9,7 @@ abbrev pub IsBelow : Row → List Row → Type 0
 IsBelow row [] = Unit {0}
 IsBelow row (next ∷ later) = goes_above next row ≡ true
 
+-- `IsBelow`, `RiseAll`: the next row goes above the one before
 abbrev pub RiseAll : List Row → Type 0
 RiseAll [] = Unit {0}
 RiseAll (row ∷ later) = IsBelow row later × RiseAll later

@@ -20,6 +20,8 @@ no_record = Done 0 (record { lane = 0; number = 0 })
 abbrev pub IsPlace : List (List Record) → Place → Type 0
 IsPlace all p = p.index < length (journal_in all p.node)
 
+-- `journal_in`, `record_at`, `row_at`, `rows_at`, `newest_first`, `IsPlace`: the records at places of journals; the rows of places in order, and
+-- the other way round
 abbrev pub record_at : List (List Record) → Place → Record
 record_at all p = slice_index_or (journal_in all p.node) p.index no_record
 

@@ -1,4 +1,6 @@
 //! The history of a ledger: the records of all its journals in one order, by stamp and node.
+//!
+//! - Open: tests are missing.
 #![tactic(auto)]
 
 mod laws;

@@ -1,4 +1,7 @@
 //! Ids of transactions and hashes of coins. Nothing here takes memory.
+//!
+//! - Open: that hashes don't collide is a hypothesis wherever it is needed.
+//! - Tested in `piece_rows` (`hashes.rows`): digests that another program computed; witnesses change no id.
 #![tactic(auto)]
 
 ghost use Rattle.std.specs.Prelude.{◌≡◌, ◌++◌, List, ℕ, length};

@@ -40,6 +40,19 @@ fn make<I: Inbox, R: Rack>(
 }
 
 /// The first records of the ledger of a shape that a mint in a file begins, and its lines.
+///
+/// What `process` promises where the words ask for it, by clauses of the same names (without those of the words and of the line of a fault). So do
+/// `run`, `recover`, `status`, `audit` and `generated` of the crates beside it. `cause` also says that a bad file has its place, and that a fault
+/// of reading or writing has its cause.
+///
+/// Where it comes through: no node was in use and each disk had room for its first record. Each that told its content holds that record alone,
+/// whatever a crash leaves; all other disks are as before. These journals are a kept ledger of the mint in the file. Printed: how many coins it
+/// has, what they come to, its id.
+///
+/// In full (clause `did` of `process`): the file, where told, held the mint, no node was in use, each disk had room for its first record and a
+/// closing gate, and each that told its content holds that record alone, and whatever a crash leaves of it opens to that, each disk of the ledger
+/// having as much room as the one that was in its place, while all other disks are as before; these journals are a kept ledger of the mint, to
+/// which nothing was handed in yet; what is printed is how many coins the mint has, what they come to, and its id.
 pub fn init<I: Inbox, R: Rack, O: Sink>(
     alloc: Global,
     shape: &Shape,

@@ -87,6 +87,7 @@ IsStreamFaultOf place (stream_fault.Bad bad) answer = answer ≡ answers.BadInpu
 IsStreamFaultOf place stream_fault.ReadFault answer = answer ≡ answers.ReadFault place
 IsStreamFaultOf place stream_fault.Memory answer = answer ≡ answers.Memory
 
+-- `IsUnfetched`, `IsFaultOf`, `IsVerdictFaultOf`: a file that could not be had; what a file's fault is answered with
 abbrev pub IsVerdictFaultOf : ℕ → VerdictFault → Answer → Type 0
 IsVerdictFaultOf place (verdict_fault.Bad bad) answer = answer ≡ answers.BadInput place bad.line bad.kind
 IsVerdictFaultOf place verdict_fault.Large answer = answer ≡ answers.BadInput place 1073741824 Large

@@ -1,6 +1,10 @@
 //! Whether submissions are clean, and journals kept and finished alike, as a plain program: slow functions whose contracts
 //! are the definitions, and which compute them on small inputs. Journals and histories are lists whose newest record comes
 //! first.
+//!
+//! - A plain, slow program as `model_check` is, on top of it. Journals and histories are given newest record first.
+//! - Open: no test shows submissions that are not clean: that would be a collision of SHA-256.
+//! - Tested in `journal_rows` (`plain.rows`, `shards.rows`): `is_clean`, `history_of`, `is_kept_ledger`, `is_alike` and `are_alike`.
 #![tactic(auto)]
 
 mod agreeing;

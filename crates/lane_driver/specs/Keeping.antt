@@ -4,8 +4,8 @@ use Rattle.cbdc_model.specs.Records.{Header}
 use Rattle.cbdc_model.specs.Sights.{Sight}
 use Rattle.lane_driver.specs.Told.{IsStillNode, KeepNodes}
 
--- the log is that of the same coordinator, and no other one was asked; each coordinator is the node that it was, its disk has failed no less often,
--- and what held of them holds
+-- what a call keeps of its port to a coordinator: it goes to the same one, under the same header, and no other one was asked; there are as many,
+-- each is the node that it was, its disk has failed no less often, and what held of them holds
 pub record KeepsLog {L : Type 0} (at : L → ℕ) (header : L → Header) (count : L → ℕ) (sights : L → ℕ → Sight) (faults : L → ℕ → ℕ) (holds : L → Type 0)
     (old new : L) : Type 0 where
   pub at_same : at new ≡ at old
@@ -16,8 +16,8 @@ pub record KeepsLog {L : Type 0} (at : L → ℕ) (header : L → Header) (count
   pub later : (n : ℕ) → faults old n ≤ faults new n
   pub held : holds old → holds new
 
--- the port goes to the same shard; it is the node that it was, its disk has failed no less often, what held of it holds, and each lane that the port
--- served it serves
+-- what a call keeps of its port to a shard: it goes to the same one, which is the node that it was, its disk has failed no less often, what held of
+-- it holds, and each lane that the port served it serves
 pub record KeepsShard {P : Type 0} (at : P → ℕ) (sight : P → Sight) (faults : P → ℕ) (holds : P → Type 0) (serves : P → ℕ → Type 0)
     (old new : P) : Type 0 where
   pub at_same : at new ≡ at old

@@ -8,7 +8,7 @@ use Rattle.cbdc_model.specs.Sights.{Sight, Told}
 use Rattle.lane_laws.specs.Calls.{AreParts, lock_of}
 use Rattle.lane_laws.specs.Answers.{LockAnswer, StoppedAt}
 
--- a prepared batch stopped for want of memory: at the Lock of a shard, with nothing asked behind the Locks
+-- a prepared batch stopped because memory ran out: at the Lock of a shard, with nothing asked behind the Locks
 pub record IsLockWant (K : Shape) (alone : Bool) (b : Batch) (cause : ℕ) (parts : List (ℕ × List Entry)) (log log' : Sight) (I J : ℕ → Sight) (node : ℕ) : Type 0 where
   pub shard : ℕ
   pub stopped : StoppedAt (LockAnswer alone) (map (lock_of b cause) parts) I J shard Memory

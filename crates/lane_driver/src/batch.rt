@@ -327,6 +327,8 @@ pub(crate) fn one_batch<S: PortSet<G>, L: LogPort, G: Gate>(
 /// Runs one batch of an idle lane: 1 to `batch` transactions. With repeats, each shard call is made so many times
 /// more after its phase, and all its shard calls after it is done. Where no other lane's records come meanwhile, the other
 /// lanes are as before. All the driver's memory is taken before the first call.
+///
+/// Out of memory: as `ready` and `Ready::go`.
 pub fn run_batch<S: PortSet<G>, L: LogPort, G: Gate>(
     alloc: Global,
     shape: &Shape,

@@ -35,7 +35,7 @@ pub enum LaneFaultKind {
     Memory,
 }
 
-/// Where a lane stopped: the node, or 0 at the driver's own want of memory.
+/// Where a lane stopped: the node, or 0 where the driver itself ran out of memory.
 #[derive(Clone, Copy, Debug, PartialEq, Eq, Error)]
 #[error("node {}: {fault}", .node.0)]
 pub struct LaneFault {
@@ -43,7 +43,7 @@ pub struct LaneFault {
     pub fault: LaneFaultKind,
 }
 
-/// Where a batch stopped: the node, and what it answered; node 0 and Memory at the driver's own want of memory.
+/// Where a batch stopped: the node, and what it answered; node 0 and Memory where the driver itself ran out of memory.
 #[derive(Clone, Copy, Debug, PartialEq, Eq, Error)]
 #[error("node {}: {fault}", .node.0)]
 pub struct Stop {

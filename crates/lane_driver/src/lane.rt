@@ -25,6 +25,12 @@ use std::alloc::Global;
 /// ends. With repeats, each shard call of a batch is made so many times more after its phase, and all its shard calls after
 /// it is done. The first batch that meets a fault ends it, and that fault is the answer. Where no other lane's records come
 /// meanwhile, the other lanes are as before.
+///
+/// With three repeats a shard is asked seven times for each batch to lock, to finish and to forget, and nothing more is written; an output is
+/// missing in its own batch and there in the next; a lane ends with the clock, and where its coordinator is full, with the numbers. Tested in
+/// `node_rows` (`repeats.rows`, `lanes.rows`).
+///
+/// Out of memory: before its first call, between batches, or at a batch as `run_batch`; the batches before it are done.
 pub fn run_lane<S: PortSet<G>, L: LogPort, X: Source, G: Gate>(
     alloc: Global,
     shape: &Shape,

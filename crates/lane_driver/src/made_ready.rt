@@ -43,6 +43,10 @@ impl<'a> Ready<'a> {
     /// Runs the batch at its lane, which is idle: 1 to `batch` transactions. With repeats, each shard call is made so many
     /// times more after its phase, and all its shard calls after it is done. It takes no memory of its own: it answers out of
     /// memory only where a node did, at the Prepare or at a Lock.
+    ///
+    /// Out of memory: where a node ran out of it, its coordinator at the Prepare or a shard at a Lock (`want`). Nothing of the batch stands at its
+    /// coordinator and the shards then; or its Prepare does, and what the other shards answered to their Locks, and behind the Locks nothing was
+    /// asked.
     pub fn go<S: PortSet<G>, L: LogPort, G: Gate>(
         self,
         ports: &mut Ports<S, L>,

@@ -7,6 +7,8 @@ use cbdc_types::{CompactTx, LaneId, Shape};
 use std::alloc::{AllocError, Global};
 
 /// Takes all memory that the driver of a lane's batch needs, or memory ran out. No node is asked.
+///
+/// Out of memory: where the driver's own memory runs out; no node was asked.
 pub fn ready<'a>(
     alloc: Global,
     shape: &Shape,

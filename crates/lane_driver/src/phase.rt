@@ -128,7 +128,7 @@ pub fn lock_phase<S: PortSet<G>, G: Gate>(
 }
 
 /// Applies the batch at its shards: the greatest stamp of its Finishes, or the fault of the least shard that had one, which is
-/// never want of memory.
+/// never that memory ran out.
 pub fn finish_phase<S: PortSet<G>, G: Gate>(
     shape: &Shape,
     shards: &mut S,
@@ -158,7 +158,7 @@ pub fn finish_phase<S: PortSet<G>, G: Gate>(
 }
 
 /// Lets the shards forget the batch: the greatest stamp of its Forgets, or the fault of the least shard that had one, which is
-/// never want of memory.
+/// never that memory ran out.
 pub fn forget_phase<S: PortSet<G>, G: Gate>(
     shape: &Shape,
     shards: &mut S,

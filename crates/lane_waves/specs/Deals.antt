@@ -28,7 +28,7 @@ use Rattle.lane_waves.specs.Places.{AllFrom, BothFrom}
 use Rattle.lane_waves.specs.Rows.{lanes_from, home_lanes, all_lanes}
 use Rattle.lane_waves.specs.declared.dealing.Table.{Table}
 
--- a lane that a run may be made of
+-- a lane that is ready, and whose transactions are within the limits
 pub record MayRun (x : LaneOf) : Type 0 where
   pub ready : IsReady x
   pub limits : All IsCompact x.txs
@@ -69,7 +69,7 @@ module _ {W D S B X : Type 0} {G : Ghosts B} where
     pub room : HasRoom (length hs) n t
     pub left : AreLeft (shard_sight sight) (lanes_from 0 n) hs t.rows.items
 
-  -- the last lane got its seats
+  -- the last lane got its seats: that of its coordinator, and a fresh one of each shard
   pub record IsNext (sight : S → Sight) (hs : List (Guarded (SharedShard S))) (home : LogSeat W D B G) (t u : Table W D S B X G) : Type 0 where
     pub run : LaneRun W D S B X G
     pub runs : u.runs.items ≡ t.runs.items ++ run ∷ []
@@ -86,10 +86,11 @@ module _ {D : Type 0} where
   IsHomeLeft K home gs ss = (g : Guarded (SharedLog D)) → slice_get gs home ≡ Some g
       → AreFresh (log_sight (opening_of g)) (opening_of g) (table_of g) (lanes_from (home * K.lanes) (length ss)) ss
 
+  -- all of its lanes
   abbrev pub IsHomeFresh : Shape → List (Guarded (SharedLog D)) → ℕ → Vec (Seat (SharedLog D)) → Type 0
   IsHomeFresh K gs home ss = (length ss.items ≡ K.lanes) × IsHomeLeft K home gs ss.items
 
--- an open node of the ledger
+-- an open node of the ledger, at its place, whose disk has failed no less often than when it was opened
 pub record IsOpenAt (K : Shape) (n : ℕ) (s : Sight) : Type 0 where
   pub shape : s.header.shape ≡ K
   pub node : s.header.node ≡ n
@@ -99,11 +100,12 @@ pub record IsOpenAt (K : Shape) (n : ℕ) (s : Sight) : Type 0 where
 abbrev pub log_at : {D : Type 0} → List (Guarded (SharedLog D)) → ℕ → Sight
 log_at gs = sight_at (λ g. log_sight (opening_of g)) gs
 
+-- `log_at`, `shard_at`: the nodes as they were at the opening of their locks
 abbrev pub shard_at : {S : Type 0} → (S → Sight) → List (Guarded (SharedShard S)) → ℕ → Sight
 shard_at sight hs = sight_at (λ h. shard_sight sight (opening_of h)) hs
 
 module _ {D S : Type 0} (sight : S → Sight) (tables : ℕ → TableId) (K : Shape) (gs : List (Guarded (SharedLog D))) (hs : List (Guarded (SharedShard S))) where
-  -- the locks are of the ledger's nodes, whose lanes are settled; and the wave's picks are these locks
+  -- the locks are of the ledger's nodes, each for the lanes that ask it; all lanes are settled there; and the wave's picks are these locks
   pub record AreOpen : Type 0 where
     pub limits : IsWithinLimits K
     pub logs_many : length gs ≡ K.coordinators

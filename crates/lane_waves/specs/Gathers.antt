@@ -39,11 +39,12 @@ abbrev pub EachTakes : {T : Type 0} → ℕ → List (Vec T) → Type 0
 EachTakes n [] = Unit {0}
 EachTakes n (r ∷ rs) = (length r.items + n ≤ vec_capacity r) × EachTakes n rs
 
--- what came of a run is known, and the lane has room for it
+-- the result of a run is known, and the lane has room for it
 abbrev pub MayKeep : LaneOf → Option (Result LaneReport LaneFault) → Type 0
 MayKeep x None = ⊥
 MayKeep x (Some came) = IfOk came (λ report. length (told_in report.batches) ≤ length x.txs)
 
+-- the older list is what the newer one began as
 abbrev pub IsEnd : LaneOf → Option (Result LaneReport LaneFault) → LaneOf → Type 0
 IsEnd x None y = ⊥
 IsEnd x (Some came) y = IsKept x came y
@@ -53,14 +54,17 @@ module _ {W D S B X : Type 0} {G : Ghosts B} where
   abbrev pub shard_seats : LaneRun W D S B X G → List (Seat (SharedShard S))
   shard_seats r = seats_of r.ports.shards.each.ports.items
 
+  -- `shard_seats`, `home_seat`: a run's seats of the shards, and that of its coordinator
   abbrev pub home_seat : LaneRun W D S B X G → Seat (SharedLog D)
   home_seat r = r.ports.log.seat
 
+  -- a run that has ended: its result is known
   pub record IsOver (shards : ℕ) (r : LaneRun W D S B X G) : Type 0 where
     pub many : length r.ports.shards.each.ports.items ≡ shards
     pub ready : IsReady r.work
     pub came : MayKeep r.work r.came
 
+  -- so have all
   abbrev pub AllOver : ℕ → List (LaneRun W D S B X G) → Type 0
   AllOver shards [] = Unit {0}
   AllOver shards (r ∷ rs) = IsOver shards r × AllOver shards rs
@@ -71,7 +75,7 @@ module _ {W D S B X : Type 0} {G : Ghosts B} where
     pub rest : u ≡ record t { runs = runs }
     pub ends : AllZip (Ends sight tables K) t.runs.items runs.items
 
-  -- there is room for all that is not back
+  -- there is room for all seats and lanes that are not back
   pub record MayGather (t : Table W D S B X G) : Type 0 where
     pub rows_take : EachTakes (length t.runs.items) t.rows.items
     pub seats : (t.seats.items ≡ []) × (length t.rows.items ≤ vec_capacity t.seats)
@@ -101,6 +105,7 @@ module _ {W D S B X : Type 0} {G : Ghosts B} where
   AllGave [] rows = Unit {0}
   AllGave (r ∷ rs) rows = AreSeats (shard_seats r) rows × AllGave rs rows
 
+  -- each had seats of these locks
   abbrev pub AllOf : List (Guarded (SharedShard S)) → List (LaneRun W D S B X G) → Type 0
   AllOf locks [] = Unit {0}
   AllOf locks (r ∷ rs) = AreOf locks (shard_seats r) × AllOf locks rs
@@ -119,5 +124,6 @@ module _ {W D S B X : Type 0} {G : Ghosts B} where
   Chunks n [] runs = runs ≡ []
   Chunks n (own ∷ owns) runs = (chunk : List (LaneRun W D S B X G)) × (rest : List (LaneRun W D S B X G)) × (runs ≡ chunk ++ rest) × (length chunk ≡ n) × (reverse own.items ≡ map home_seat chunk) × Chunks n owns rest
 
+  -- `Chunks`, `HomesBack`: so many runs for each list, which has their seats of one coordinator
   abbrev pub HomesBack : ℕ → List (LaneRun W D S B X G) → List (Vec (Seat (SharedLog D))) → Type 0
   HomesBack n runs homes = Chunks n (reverse homes) runs

@@ -1,4 +1,4 @@
--- The lanes of a wave, ready for it, and with what came of them.
+-- The lanes of a wave, ready for it, and with their results.
 use Rattle.std.specs.Prelude.{◌≡◌, ◌≤◌, [], length, min, Some, None, Result, Ok, Err, vec_capacity}
 use Rattle.lane_driver.specs.declared.fault.LaneFault.{LaneFault}
 use Rattle.lane_driver.specs.declared.fault.LaneReport.{LaneReport}
@@ -7,14 +7,14 @@ use Rattle.ledger_runs.specs.Lanes.{LaneOf}
 use Rattle.ledger_runs.specs.Telling.{kept_by}
 use Rattle.thread_laws.specs.Telling.{told_in}
 
--- nothing is decided of its transactions, and there is room for an outcome of each
+-- nothing is decided of the lane's transactions, there is room for an outcome of each, and it has not stopped
 pub record IsReady (x : LaneOf) : Type 0 where
   pub decided : x.decided.items ≡ []
   pub room : length x.txs ≤ vec_capacity x.decided
   pub batches : x.batches ≡ 0
   pub fault : x.fault ≡ None
 
--- it stopped for want of memory, before its first call
+-- it stopped because memory ran out, before its first call
 abbrev pub HasNoMemory : LaneOf → Type 0
 HasNoMemory x = x.fault ≡ Some (record { node = 0; fault = Memory })
 
@@ -25,7 +25,7 @@ pub record Keeps (x : LaneOf) (report : LaneReport) (y : LaneOf) : Type 0 where
   pub kept : kept_by y.decided.items ≡ told_in report.batches
   pub count : y.batches ≡ min (length report.batches) 18446744073709551615
 
--- the lane with what came of its run
+-- the lane with the result of its run
 abbrev pub IsKept : LaneOf → Result LaneReport LaneFault → LaneOf → Type 0
 IsKept x (Ok report) y = Keeps x report y
 IsKept x (Err e) y = (y.txs ≡ x.txs) × (y.fault ≡ Some e)

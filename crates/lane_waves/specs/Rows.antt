@@ -12,9 +12,11 @@ lanes_from first (suc n) = lanes_from first n ++ (first + n) ∷ []
 abbrev pub home_lanes : Shape → ℕ → List ℕ
 home_lanes K home = lanes_from (home * K.lanes) K.lanes
 
+-- all lanes
 abbrev pub all_lanes : Shape → List ℕ
 all_lanes K = lanes_from 0 (K.coordinators * K.lanes)
 
+-- `IsHomeRow`, `IsShardRow`: the lanes for which a coordinator is locked, and a shard
 abbrev pub IsHomeRow : Shape → ℕ → Vec ℕ → Type 0
 IsHomeRow K home row = row.items ≡ home_lanes K home
 

@@ -25,6 +25,8 @@ pub record AreNodesOf (K : Shape) (logs shards : ℕ → Sight) : Type 0 where
 abbrev pub log_goes : {D : Type 0} → (D → Option (List ℕ)) → (D → List ℕ → Type 0) → SharedLog D → SharedLog D → Type 0
 log_goes content images a b = IsLogHeld content images a.node → IsLogHeld content images b.node
 
+-- `log_goes`, `shard_goes`: what stays true of a node under its wrapper: of a coordinator, that its disk holds its journal, if it did; of a shard,
+-- what its type keeps
 abbrev pub shard_goes : {S : Type 0} → (S → S → Type 0) → SharedShard S → SharedShard S → Type 0
 shard_goes goes a b = goes a.node b.node
 

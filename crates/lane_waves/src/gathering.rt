@@ -1,4 +1,4 @@
-// Seats given back, and the lanes with what came of them.
+// Seats given back, and the lanes with their results.
 ghost use Rattle.std.specs.Prelude.{◌≡◌, ◌≤◌, ◌<◌, ◌*◌, [], All, List, length, vec_capacity};
 ghost use Rattle.node_lock.specs.declared.lock.Guarded.{Guarded as GuardedOf};
 ghost use Rattle.shard_fanout.specs.declared.locking.SharedShard.{SharedShard as SharedShardOf};

@@ -1,4 +1,4 @@
-// The lanes of a wave: made ready for it, and with what came of them.
+// The lanes of a wave: made ready for it, and with their results.
 ghost use Rattle.std.specs.Prelude.{◌≡◌, ◌≤◌, ◌+◌, ◌++◌, All, Some, map, min, length, OnOk, IfOk, vec_len, vec_capacity};
 ghost use Rattle.ledger_runs.specs.Telling.{kept_by, decided_in};
 ghost use Rattle.thread_laws.specs.Telling.{told_in};
@@ -30,7 +30,7 @@ fn make_one_ready<X: Source>(work: &mut Work<X>) -> Result<(), AllocError>
     work.lane.decided.reserve(work.source.most())
 }
 
-/// Stops all lanes for want of memory.
+/// Stops all lanes because memory ran out.
 pub(crate) fn stop_all<X: Source>(lanes: &mut Vec<Work<X>>)
     ensures same { map (λ x. x.txs) lanes.new.items ≡ map (λ x. x.txs) lanes.old.items }
     ensures stopped { All HasNoMemory lanes.new.items }
@@ -47,7 +47,7 @@ fn stop<X: Source>(work: &mut Work<X>)
     work.lane.fault = Some(no_memory());
 }
 
-/// The lane with what came of its run.
+/// The lane with the result of its run.
 pub(crate) fn kept<X: Source>(mut work: Work<X>, came: Result<LaneReport, LaneFault>) -> Work<X>
     requires ready { IsReady work }
     requires room { IfOk came (λ r. length (told_in r.batches) ≤ length work.txs) }
@@ -60,7 +60,7 @@ pub(crate) fn kept<X: Source>(mut work: Work<X>, came: Result<LaneReport, LaneFa
     work
 }
 
-// Keeps what came of batches.
+// Keeps the result of batches.
 fn keep_all(lane: &mut Lane, reports: &[BatchReport])
     requires room { vec_len lane.old.decided + length (told_in reports.now) ≤ vec_capacity lane.old.decided }
     ensures same { lane.new.fault ≡ lane.old.fault }
@@ -72,7 +72,7 @@ fn keep_all(lane: &mut Lane, reports: &[BatchReport])
     }
 }
 
-// Keeps what came of a batch.
+// Keeps the result of a batch.
 fn keep(lane: &mut Lane, report: &BatchReport)
     requires room { vec_len lane.old.decided + length report.now.outcomes ≤ vec_capacity lane.old.decided }
     ensures same { lane.new.fault ≡ lane.old.fault }

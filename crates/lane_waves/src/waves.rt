@@ -384,6 +384,12 @@ fn wave_shared<
 
 /// Runs a wave of lanes that are all settled: each lane on a thread of its own, over locks round all nodes. Where memory is wanting before their first
 /// calls all lanes stop for it, and no node was asked.
+///
+/// A wave of settled lanes over the nodes of a ledger. Each node was locked with a seat for each lane that asks it, at most one a lane, and closed
+/// with all of them, as `Guarded::close` says. Each lane had fresh seats, of its coordinator and of each shard, and has ended: it has done all that
+/// it got, met no fault, and keeps what it decided and how many batches that were; or it stopped, with its fault, which may be that memory ran out
+/// before its first call. Its transactions are as they were. What stays true of a node is true behind the wave, if it was before: of a coordinator
+/// that its disk holds its journal, of a shard what its type keeps (ran (`WaveRan`), logs_go, shards_go).
 pub fn wave<
     W: Threads + Wait + Sync,
     D: Disk + Send,

@@ -37,6 +37,7 @@ LeavesBut content images P old new = OfTold old (λ was. OfTold new (λ now. IsS
 abbrev pub ToldInUse : {D : Type 0} → (D → Option (List ℕ)) → (ℕ → Option D) → ℕ → Type 0
 ToldInUse content held n = OfTold (held n) (λ was. Tells (content was) (IsInUse n))
 
+-- `ToldInUse`, `ToldUnused`: the node's disk tells that it is in use, or that it is not
 abbrev pub ToldUnused : {D : Type 0} → (D → Option (List ℕ)) → (ℕ → Option D) → ℕ → Type 0
 ToldUnused content held n = OfTold (held n) (λ was. Tells (content was) (IsUnused n))
 
@@ -75,15 +76,16 @@ IsUnmade K mint content limit held before now other = ⊥
 
 -- ---- what is left of the disks of a ledger that was not made
 
--- the answer speaks of this node: its disk has no room, or failed; want of memory may come at any node
+-- the answer speaks of this node: its disk has no room, or failed; memory may run out at any node
 abbrev pub IsOfNode : ℕ → Answer → Type 0
 IsOfNode k (answers.Full n used need capacity) = n ≡ k
 IsOfNode k (answers.DiskFault n) = n ≡ k
 IsOfNode k answers.Memory = Unit {0}
 IsOfNode k other = ⊥
 
--- No node was in use, and the writing, from the highest node down, stopped at this one. The disks of those below it are unchanged. A crash leaves of its own no
--- first record, or what it might have left before, or, where the disk failed, its first record alone. Those above it hold their first records.
+-- no node was in use (`MayBeMade`), and the writing of first records, from the highest node down, stopped at this one, of which the answer speaks:
+-- the disks of the nodes below it are unchanged, those above it hold their first records, and a crash leaves of its own no first record, what it
+-- might have left before, or, where the disk failed, the new one alone
 pub record StoppedAt {D : Type 0} (K : Shape) (mint : List Output) (content : D → Option (List ℕ)) (images : D → List ℕ → Type 0) (limit : D → ℕ) (before now : ℕ → Option D) (answer : Answer) (k : ℕ) : Type 0 where
   pub was : MayBeMade K mint content before
   pub inside : k < node_count K

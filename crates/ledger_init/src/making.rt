@@ -76,6 +76,8 @@ fn make_nodes<R: Rack>(
 
 /// Makes the ledger of a shape that a mint begins, on disks that are not in use: each node's first record, that of the
 /// highest node first and that of node 0 last.
+///
+/// Tested in `ledger_rows` (`init.rows`, `left.rows`).
 pub fn make_ledger<R: Rack>(
     alloc: Global,
     rack: &mut R,
@@ -104,7 +106,7 @@ pub fn make_ledger<R: Rack>(
     ensures lead { IfErr result (λ e. e ≢ Answer.DiskFault 0 → LeavesBut R.Disk.content R.Disk.images IsEmptied (R.held rack.old 0) (R.held rack.new 0)) }
 
     // All disks are as they were read, as where a node is in use or a disk fails as it is taken or opened. Or the writing stopped at a node, which
-    // has no room or whose disk fails, or for want of memory: the disks of those below it are unchanged, and those above it hold their first records.
+    // has no room or whose disk fails, or where memory ran out: the disks of those below it are unchanged, and those above it hold their first records.
     ensures stops { IfErr result (IsLeft shape.now mint R.Disk.content R.Disk.images R.Disk.limit (R.held rack.old) (R.held rack.new) (R.count rack.old) (R.count rack.new)) }
 
     // Where the sum is too much, the rack is as it was.

@@ -1,4 +1,7 @@
 //! The laws of the ledger: functions with an empty body, whose contracts are the theorems. Nothing of them runs.
+//!
+//! - `fold_law`, `headline_law`, `recovered_law`, `idle_law`, `maker_law`: Where no hashes clash (`Clean`). The other laws ask nothing of hashes.
+//! - Laws about every history of the model; they have no body that runs.
 #![tactic(auto)]
 
 ghost use Rattle.ledger_laws.specs.Laws.{AnswerLaw, CutLaw, FlightLaw, FoldLaw, HeadlineLaw, IdleLaw, KeptLaw, LateLaw, LocalLaw, MakerLaw, MoreLaw, OneHistoryLaw, PhaseLaw, ReachLaw, RecoveredLaw, RecoveryLaw, SettledLaw, StepLaw, WaveLaw};

@@ -43,6 +43,7 @@ faults_of count limit K logs shards n =
 abbrev pub opened_of : {D : Type 0} → (D → ℕ) → (D → ℕ) → Shape → List (LogOf D) → List (ShardOf D) → ℕ → ℕ
 opened_of count limit K logs shards = opened_by K (sight_at sight logs) (sight_at (sight_of count limit) shards)
 
+-- how many bytes it may hold
 abbrev pub capacity_of : {D : Type 0} → (D → ℕ) → (D → ℕ) → Shape → List (LogOf D) → List (ShardOf D) → ℕ → ℕ
 capacity_of count limit K logs shards = capacity_by K (sight_at sight logs) (sight_at (sight_of count limit) shards)
 
@@ -54,6 +55,7 @@ flights_of count limit K logs shards = flying K (sight_at sight logs) (sight_at 
 abbrev pub IsLogNext : {D : Type 0} → LogOf D → Type 0
 IsLogNext l = IfSome l.flight (After l.header l.journal)
 
+-- `flights_of`, `IsLogNext`, `IsShardNext`: the record in flight at each node; a coordinator's may come next there, and a shard's
 abbrev pub IsShardNext : {D : Type 0} → ShardOf D → Type 0
 IsShardNext s = IfSome s.flight (After s.header s.journal)
 
@@ -78,6 +80,7 @@ module _ {D : Type 0} (count limit : D → ℕ) where
   abbrev pub journals : LedgerOf D → ℕ → List Record
   journals l = journals_of count limit l.header.shape l.logs l.shards
 
+  -- `journals`, `flights`, `faults`, `opened`, `capacity`, `IsChecked`, `IsQuiet`, `IsStored`: the same of a ledger, by its own shape
   abbrev pub flights : LedgerOf D → ℕ → Option Record
   flights l = flights_of count limit l.header.shape l.logs l.shards
 
@@ -104,6 +107,7 @@ IsQuiet l = AreQuiet l.logs l.shards
 
 -- what a call keeps of a ledger's nodes
 module _ {D : Type 0} (count limit : D → ℕ) (content : D → Option (List ℕ)) (images : D → List ℕ → Type 0) where
+  -- `KeepsLedger` (ledger_runs) of a ledger's nodes: what their disks held they hold
   abbrev pub KeepsLedgerOf : LedgerOf D → LedgerOf D → Type 0
   KeepsLedgerOf before after =
       KeepsLedger (λ (l : LedgerOf D). l.header.shape) (opened count limit) (faults count limit) (capacity count limit) (IsStored content images) before after

@@ -54,7 +54,7 @@ pub(crate) fn see_shards<D: Disk>(shards: &[ShardNode<D>])
     }
 }
 
-// What came of a list of one lane.
+// The result of a list of one lane.
 fn one_of(came: Result<Resumed, LaneFault>) -> Result<ResumedBatch, LaneFault>
     requires { IfOk came (λ r. (b : BatchOf) × (r.batches ≡ b ∷ [])) }
     ensures { IsOneOf came result }

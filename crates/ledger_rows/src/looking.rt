@@ -124,7 +124,7 @@ fn put_faults(state: &State, alloc: Global, came: &mut String, ran: &Ran) -> Res
     Ok(())
 }
 
-// Appends what came of the last run's calls.
+// Appends the result of the last run's calls.
 fn put_of_run(state: &State, alloc: Global, came: &mut String, verb: Verb) -> Result<(), Wrong> {
     let ran = state.last_run()?;
     match verb {

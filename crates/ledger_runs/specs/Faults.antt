@@ -33,6 +33,7 @@ abbrev pub TookLanes : ℕ → (ℕ → List Record) → (ℕ → List Record) �
 TookLanes zero E X = (n : ℕ) → X n ≡ E n
 TookLanes (suc lane) E X = (middle : ℕ → List Record) × TookLanes lane E middle × GrowBy lane middle X
 
+-- so has some number of the lanes
 abbrev pub TakesInOrder : Shape → (ℕ → List Record) → (ℕ → List Record) → Type 0
 TakesInOrder K E X = (lanes : ℕ) × (lanes ≤ K.coordinators * K.lanes) × TookLanes lanes E X
 
@@ -101,16 +102,20 @@ IsCauseOf K lane next E X failed may_hold node (NoRoom used need capacity) = Has
 IsCauseOf K lane next E X failed may_hold node (NoStamp stamp) = HasNoStampFor K lane next E X node stamp
 IsCauseOf K lane next E X failed may_hold node NoMemory = IsBeforeLocks K lane X
 
+-- `IsCauseOf`, `IsLaneCause`, `IsOpenCause`: the cause of a lane's fault, by its kind: a node that the lane asks has a disk that failed; no room;
+-- no stamp; memory ran out, and the lane is before the Locks of a batch (`IsBeforeLocks`); the same where an open batch is brought to its end, and
+-- where memory ran out the lane may wait (`Waits`), too
 abbrev pub IsLaneCause : Shape → ℕ → (List Compact → Type 0) → (ℕ → List Record) → (ℕ → List Record) → (ℕ → Type 0) → (ℕ → ℕ → Type 0) → LaneFault → Type 0
 IsLaneCause K lane next E X failed may_hold e = IsCauseOf K lane next E X failed may_hold e.node e.fault
 
--- the same of some lane, each with the transactions that are next for it; want of memory is free
+-- the same of some lane, each with the transactions that are next for it; that memory ran out is free
 abbrev pub IsSomeCauseOf : Shape → (ℕ → List Compact → Type 0) → (ℕ → List Record) → (ℕ → List Record) → (ℕ → Type 0) → (ℕ → ℕ → Type 0) → ℕ → LaneFaultKind → Type 0
 IsSomeCauseOf K next E X failed may_hold node DiskStopped = (lane : ℕ) × IsLaneOf K lane × HasNoDiskFor K lane (next lane) X failed node
 IsSomeCauseOf K next E X failed may_hold node (NoRoom used need capacity) = (lane : ℕ) × IsLaneOf K lane × HasNoRoomFor K lane (next lane) E X may_hold node used need capacity
 IsSomeCauseOf K next E X failed may_hold node (NoStamp stamp) = (lane : ℕ) × IsLaneOf K lane × HasNoStampFor K lane (next lane) E X node stamp
 IsSomeCauseOf K next E X failed may_hold node NoMemory = Unit {0}
 
+-- `IsSomeCauseOf`, `IsRunCause`: the same of some lane
 abbrev pub IsRunCause : Shape → (ℕ → List Compact → Type 0) → (ℕ → List Record) → (ℕ → List Record) → (ℕ → Type 0) → (ℕ → ℕ → Type 0) → LaneFault → Type 0
 IsRunCause K next E X failed may_hold e = IsSomeCauseOf K next E X failed may_hold e.node e.fault
 
@@ -118,10 +123,11 @@ IsRunCause K next E X failed may_hold e = IsSomeCauseOf K next E X failed may_ho
 abbrev pub HaveFailed : (ℕ → ℕ) → (ℕ → ℕ) → ℕ → Type 0
 HaveFailed opened faults n = HasRisen (opened n) (faults n)
 
+-- how many bytes each may hold
 abbrev pub MayHold : (ℕ → ℕ) → ℕ → ℕ → Type 0
 MayHold capacity n c = c ≡ capacity n
 
--- nothing is next
+-- no transactions are next for a lane
 abbrev pub Nothing : List Compact → Type 0
 Nothing txs = ⊥
 
@@ -129,6 +135,7 @@ Nothing txs = ⊥
 abbrev pub Rests : Shape → ℕ → (ℕ → List Record) → (ℕ → Type 0) → Type 0
 Rests K lane X failed = IsBeforeLocks K lane X ⊎ ((node : ℕ) × HasNoDiskFor K lane Nothing X failed node)
 
+-- `Rests`, `AllRest`: where a lane, or each, stands: `IsBeforeLocks`, or the disk of a node that it asks for its open batch has failed
 abbrev pub AllRest : Shape → (ℕ → List Record) → (ℕ → Type 0) → Type 0
 AllRest K X failed = (lane : ℕ) → IsLaneOf K lane → Rests K lane X failed
 
@@ -140,7 +147,7 @@ IsUntouched lane E X = (n : ℕ) → own lane (X n) ≡ own lane (E n)
 abbrev pub Waits : Shape → ℕ → (ℕ → List Record) → (ℕ → List Record) → Type 0
 Waits K lane E X = (phase_at K X lane ≡ InPrepare) × HasPrepared K lane [] E X
 
--- the cause of the fault of a lane whose open batch is brought to its end; for want of memory it may wait, too
+-- the cause of the fault of a lane whose open batch is brought to its end; where memory ran out it may wait, too
 abbrev pub IsOpenCause : Shape → ℕ → (ℕ → List Record) → (ℕ → List Record) → (ℕ → Type 0) → (ℕ → ℕ → Type 0) → LaneFault → Type 0
 IsOpenCause K lane E X failed may_hold e = ((e.fault ≡ NoMemory) × Waits K lane E X) ⊎ IsLaneCause K lane Nothing E X failed may_hold e
 
@@ -148,10 +155,12 @@ IsOpenCause K lane E X failed may_hold e = ((e.fault ≡ NoMemory) × Waits K la
 abbrev pub RestsOrWaits : Shape → ℕ → (ℕ → List Record) → (ℕ → List Record) → (ℕ → Type 0) → Type 0 → Type 0
 RestsOrWaits K lane E X failed wanting = Rests K lane X failed ⊎ (wanting × Waits K lane E X)
 
+-- `RestsOrWaits`, `AllRestOrWait`, `RestsSince`, `AllRestSince`: a lane, or each, rests, or memory ran out for it and it waits; the same where
+-- nothing reports that memory ran out
 abbrev pub AllRestOrWait : Shape → (ℕ → List Record) → (ℕ → List Record) → (ℕ → Type 0) → (ℕ → Type 0) → Type 0
 AllRestOrWait K E X failed wanting = (lane : ℕ) → IsLaneOf K lane → RestsOrWaits K lane E X failed (wanting lane)
 
--- the same where want of memory is told by nothing
+-- the same where nothing reports that memory ran out
 abbrev pub RestsSince : Shape → ℕ → (ℕ → List Record) → (ℕ → List Record) → (ℕ → Type 0) → Type 0
 RestsSince K lane E X failed = Rests K lane X failed ⊎ Waits K lane E X
 

@@ -6,7 +6,7 @@ use Rattle.lane_driver.specs.declared.fault.LaneFault.{LaneFault}
 use Rattle.ledger_runs.specs.declared.lanes.Decided.{Decided}
 use Rattle.ledger_runs.specs.declared.lanes.Lane.{Lane}
 
--- all that its source gives, how many times more each shard call is made, and what came of it
+-- all that its source gives, how many times more each shard call is made, and its result
 pub record LaneOf : Type 0 where
   pub txs : List Compact
   pub repeats : ℕ

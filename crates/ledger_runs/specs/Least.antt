@@ -33,5 +33,6 @@ IsUnbegun I J e = (e.fault ≡ NoMemory) × ((n : ℕ) → J n ≡ I n)
 abbrev pub IsFirstOpen : Shape → (ℕ → List Record) → (ℕ → List Record) → (ℕ → Type 0) → (ℕ → ℕ → Type 0) → LaneFault → Type 0
 IsFirstOpen K I J failed may_hold e = (lane : ℕ) × IsLaneOf K lane × IsOpenCause K lane I J failed may_hold e × ((other : ℕ) → other < lane → phase_at K J other ≡ Idle)
 
+-- that, or `IsUnbegun`
 abbrev pub IsLeastOpen : Shape → (ℕ → List Record) → (ℕ → List Record) → (ℕ → Type 0) → (ℕ → ℕ → Type 0) → LaneFault → Type 0
 IsLeastOpen K I J failed may_hold e = IsUnbegun I J e ⊎ IsFirstOpen K I J failed may_hold e

@@ -27,6 +27,8 @@ pub record TellsResumed (K : Shape) (lane : ℕ) (E X : ℕ → List Record) (r 
   pub phase_is : phase_of r.phase ≡ phase_at K E lane
   pub outcomes_are : r.outcomes ≡ outcomes_of (X (home_of K lane)) r.batch
 
+-- `TellsResumed`, `IsResumedAt`: a lane's batch that was open in journals E: which it is, the phase in which it stood, and what is decided of it in
+-- journals X
 abbrev pub IsResumedAt : Shape → ℕ → (ℕ → List Record) → (ℕ → List Record) → Option ResumedBatch → Type 0
 IsResumedAt K lane E X None = phase_at K E lane ≡ Idle
 IsResumedAt K lane E X (Some r) = TellsResumed K lane E X r
@@ -36,7 +38,7 @@ abbrev pub TellResumed : Shape → (ℕ → List Record) → (ℕ → List Recor
 TellResumed K E X zero rs = rs ≡ []
 TellResumed K E X (suc lane) rs = (before : List ResumedBatch) × (found : Option ResumedBatch) × TellResumed K E X lane before × IsResumedAt K lane E X found × (rs ≡ before ++ listed found)
 
--- what came of a lane's open batch is kept behind what came of others
+-- the result of a lane's open batch is kept behind the result of others
 abbrev pub TakesUp : Shape → ℕ → (ℕ → List Record) → (ℕ → List Record) → List ResumedBatch → List ResumedBatch → Type 0
 TakesUp K lane I J before after = (found : Option ResumedBatch) × TookUp K lane I J found × IsOpened K lane I found × (after ≡ before ++ listed found)
 
@@ -75,6 +77,7 @@ abbrev pub TellsNew : Shape → (ℕ → List Record) → (ℕ → List Record) 
 TellsNew K I J lane x = (more : List Record) → J (home_of K lane) ≡ more ++ I (home_of K lane)
     → KeepsDecided (J (home_of K lane)) (sized_onto lane more []) (kept_by x.decided.items) x.batches
 
+-- so have all lanes
 abbrev pub AllTell : Shape → (ℕ → List Record) → (ℕ → List Record) → List Lane → Type 0
 AllTell K I J lanes = (lane : ℕ) (x : Lane) → slice_get lanes lane ≡ Some x → TellsNew K I J lane x
 

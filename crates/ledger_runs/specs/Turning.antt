@@ -14,6 +14,7 @@ use Rattle.run_laws.specs.Turns.{ResumesBatch}
 abbrev pub phase_at : Shape → (ℕ → List Record) → ℕ → Phase
 phase_at K J lane = (slot (J (home_of K lane)) lane).phase
 
+-- a lane of this shape
 abbrev pub IsLaneOf : Shape → ℕ → Type 0
 IsLaneOf K lane = lane < K.coordinators * K.lanes
 
@@ -40,11 +41,11 @@ abbrev pub listed : {A : Type 0} → Option A → List A
 listed None = []
 listed (Some x) = x ∷ []
 
--- an idle lane has nothing to bring to its end
+-- a lane was idle and nothing was done, or its open batch was brought to its end
 abbrev pub TookUp : Shape → ℕ → (ℕ → List Record) → (ℕ → List Record) → Option ResumedBatch → Type 0
 TookUp K lane I J None = (phase_at K I lane ≡ Idle) × ((n : ℕ) → J n ≡ I n)
 TookUp K lane I J (Some r) = DidResume K lane I J r
 
--- what came of a lane, kept behind what came of others
+-- the result of a lane, kept behind the result of others
 abbrev pub TookUpOne : Shape → ℕ → (ℕ → List Record) → (ℕ → List Record) → List ResumedBatch → List ResumedBatch → Type 0
 TookUpOne K lane I J before after = (found : Option ResumedBatch) × TookUp K lane I J found × (after ≡ before ++ listed found)

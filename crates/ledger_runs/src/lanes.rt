@@ -14,7 +14,7 @@ pub struct Decided {
     pub outcome: Outcome,
 }
 
-/// What came of a lane of a wave: what was decided of the transactions that it ran, how many batches that took, and why it stopped, if
+/// The result of a lane of a wave: what was decided of the transactions that it ran, how many batches that took, and why it stopped, if
 /// it did.
 #[derive(Drop)]
 pub struct Lane {
@@ -23,7 +23,7 @@ pub struct Lane {
     pub fault: Option<LaneFault>,
 }
 
-/// A lane of a wave: where its transactions come from, how many times more each of their shard calls is made, and what came of it.
+/// A lane of a wave: where its transactions come from, how many times more each of their shard calls is made, and its result.
 /// Contracts see all that the source gives.
 #[derive(Drop)]
 pub struct Work<X: Source> {

@@ -1,5 +1,10 @@
 //! What each command prints, computed by a plain program: slow functions whose contracts are the definitions of `printed_lines`. Journals
 //! are lists whose newest record comes first.
+//!
+//! - What each command prints by the definitions of `printed_lines`, as a plain, slow program for small inputs; the running program uses none of
+//!   it. That each command prints this text is a promise of `process`; of `gen` these are the numbers that end a run and those of an audit.
+//! - Open: that a text is given wherever one belongs to the journals.
+//! - Tested in `journal_rows` and `piece_rows`.
 #![tactic(auto)]
 
 mod counting;

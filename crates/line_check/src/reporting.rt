@@ -1,4 +1,4 @@
-// What came of submissions.
+// The result of submissions.
 ghost use Rattle.std.specs.Prelude.{◌≡◌, ◌<◌, Bool, length, IfSome};
 ghost use Rattle.cbdc_model.specs.Coins.{FullTx as Full};
 ghost use Rattle.cbdc_model.specs.Waves.{sent_to};
@@ -48,7 +48,7 @@ fn sent_before<V: Verifier>(
     own.checked_add(others)
 }
 
-// What came of a submission of a file behind earlier ones, of which a sentinel said this. None where memory ran out, or the
+// The result of a submission of a file behind earlier ones, of which a sentinel said this. None where memory ran out, or the
 // journals do not decide it.
 fn report_of<V: Verifier>(
     alloc: Global,
@@ -93,7 +93,7 @@ fn reports_in<V: Verifier>(
     with_front(report, behind).ok()
 }
 
-// What came of the submissions of a file behind earlier ones.
+// The result of the submissions of a file behind earlier ones.
 fn reports_of_file<V: Verifier>(
     alloc: Global,
     shape: &Shape,
@@ -117,7 +117,7 @@ fn reports_of_file<V: Verifier>(
     )
 }
 
-/// What came of each submission of files, by the journals of all nodes at entry and at exit. None where memory ran out,
+/// The result of each submission of files, by the journals of all nodes at entry and at exit. None where memory ran out,
 /// or the journals do not decide every sound one.
 pub fn reports_of<V: Verifier>(
     alloc: Global,

@@ -9,6 +9,8 @@ use Rattle.cbdc_types.specs.declared.answer.UnsoundKind.{UnsoundKind}
 use Rattle.cbdc_types.specs.declared.answer.UnsoundKind.TheVariants as unsound
 use Rattle.line_text.specs.Lines.{Text, line}
 
+-- `fault_text`, `input_word`, `unsound_words`, `status_of`: the line of each answer, none of Ok and of a write fault; its words; the status with
+-- which the program ends
 abbrev pub input_word : InputKind → Text
 input_word input.Cut = codes "cut"
 input_word input.TooMany = codes "too-many"

@@ -8,6 +8,8 @@ use Rattle.cbdc_types.specs.declared.batch.Outcome.{Outcome}
 use Rattle.cbdc_types.specs.declared.batch.Outcome.TheVariants as outcome
 use Rattle.base_types.specs.declared.ids.BatchId.{BatchId}
 
+-- `Text`, `line`, `continued`, `Prints`: bytes; words with a space between them and a line feed; a sink has taken a text, or at a fault a front of
+-- it
 abbrev pub Text : Type 0
 Text = List ℕ
 
@@ -27,6 +29,7 @@ Prints old new text (Err e) = Tells old (λ t. (n : ℕ) × (new ≡ Some (t ++ 
 
 -- ---- init
 
+-- `init_text`, `confirmed_line`, `rejected_line`, `refused_line`, `refusal_words`, `summary_text`: the lines of `init` and `run`
 abbrev pub init_text : ℕ → ℕ → Text → Text
 init_text coins minted genesis =
     (line (codes "coins" ∷ decimal coins ∷ []) ++ line (codes "minted" ∷ decimal minted ∷ []))
@@ -71,6 +74,7 @@ refused_line file place id why = line (
 
 -- ---- the summary
 
+-- the line of a name and a number
 abbrev pub counted : Text → ℕ → Text
 counted name n = line (name ∷ decimal n ∷ [])
 

@@ -8,6 +8,7 @@ use Rattle.cbdc_types.specs.declared.batch.Status.TheVariants.{Unspent, Locked, 
 use Rattle.base_types.specs.declared.ids.BatchId.{BatchId}
 use Rattle.line_text.specs.Lines.{Text, line, counted}
 
+-- `status_line`, `status_words`, `resumed_line`, `phase_word`, `recovery_text`, `audit_text`: the lines of `status`, `recover` and `audit`
 abbrev pub status_words : Status → List Text
 status_words Unspent = codes "unspent" ∷ []
 status_words (Locked batch) = codes "locked" ∷ decimal batch.lane ∷ decimal batch.number ∷ []

@@ -1,6 +1,8 @@
 //! The lines that the program prints, and the status that it ends with.
 //!
 //! A line is made in a fixed array and then handed to the sink, so no call takes memory.
+//!
+//! - Tested in `piece_rows` (`lines.rows`, `faults.rows`): every line, and the status of each answer.
 #![tactic(auto)]
 
 mod faults;

@@ -16,6 +16,9 @@ pub enum Slot<D> {
 }
 
 /// The disks by node. A node past the list is a fault.
+///
+/// `take` and `put`: that node's disk comes out, or goes back into its place, and no other place changes; `take` fails, and the count goes up, by
+/// one, where the rack has no place for the node, and nowhere else. Tested in `node_rows` (`devices.rows`).
 #[derive(Drop)]
 pub struct MemRack<D: Disk + Drop> {
     slots: Vec<Slot<D>>,

@@ -4,8 +4,10 @@ use Rattle.std.specs.FinMap as book
 use Rattle.cbdc_model.specs.Coins.{Coin, Output}
 use Rattle.cbdc_model.specs.Book.{Book, key}
 
+-- a transaction's entry at shard s, k being its place
 abbrev pub entry_of : Coin → List ℕ × Output
 entry_of c = (key c.point, c.output)
 
+-- the book that a list of coins is
 abbrev pub book_of : List Coin → Book
 book_of coins = book.from_entries (map entry_of coins)

@@ -2,6 +2,7 @@
 use Rattle.std.specs.Prelude.{ℕ, zero, suc, List, [], ◌∷◌, slice_index_or}
 use Rattle.cbdc_model.specs.Records.{Record, Row, journal}
 
+-- the journals of a list of them, by node
 abbrev pub journals_in : List (List Record) → ℕ → List Record
 journals_in all n = slice_index_or all n []
 

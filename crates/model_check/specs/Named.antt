@@ -4,6 +4,7 @@ use Rattle.cbdc_model.specs.Records.{Digest, Shape, Answered, Record, lock_of, G
 use Rattle.cbdc_model.specs.Status.{Status, status, has, Unspent, Locked, Absent}
 use Rattle.cbdc_model.specs.Ranges.{shard_of, shard_node}
 
+-- the inputs and outputs of entries
 abbrev pub entry_hashes : List Answered → List Digest
 entry_hashes [] = []
 entry_hashes (a ∷ es) = a.entry.inputs ++ (a.entry.outputs ++ entry_hashes es)
@@ -26,15 +27,17 @@ abbrev pub named_below : Shape → (ℕ → List Record) → ℕ → List Digest
 named_below K J zero = []
 named_below K J (suc n) = named (J (shard_node K n)) ++ named_below K J n
 
+-- whether a status is Unspent
 abbrev pub is_unspent : Status → Bool
 is_unspent Unspent = true
 is_unspent (Locked b) = false
 is_unspent Absent = false
 
+-- whether a hash is, at its shard
 abbrev pub is_unspent_at : Shape → (ℕ → List Record) → Digest → Bool
 is_unspent_at K J x = is_unspent (status (J (shard_node K (shard_of K.shards x))) x)
 
--- the unspent ones, each once
+-- the unspent ones of these hashes, each once
 abbrev pub unspent_among : Shape → (ℕ → List Record) → List Digest → List Digest
 unspent_among K J [] = []
 unspent_among K J (x ∷ xs) = if is_unspent_at K J x && not (has xs x) then x ∷ unspent_among K J xs else unspent_among K J xs

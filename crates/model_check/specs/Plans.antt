@@ -10,6 +10,7 @@ use Rattle.model_check.specs.declared.plans.StampPlan.TheVariants.{Kept as Stamp
 abbrev pub replies_at : Replied → RepliesAt
 replies_at r = record { given = r.replies; at = r.stamp }
 
+-- `lock_plan`, `stamp_plan`: plans of the program as those of the definitions
 abbrev pub lock_plan : LockPlan → Plan RepliesAt
 lock_plan (LockKept r) = Kept (replies_at r)
 lock_plan (LockAppend r) = Append (replies_at r)

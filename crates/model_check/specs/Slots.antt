@@ -4,6 +4,7 @@ use Rattle.model_check.specs.declared.slots.Phase.{Phase}
 use Rattle.model_check.specs.declared.slots.Phase.TheVariants.{Idle, InLock, InFinish, InPrepare, InCommit, InDiscard}
 use Rattle.model_check.specs.declared.slots.Slot.{Slot}
 
+-- `phase_in`, `slot_in`: phases and slots of the program as those of the definitions
 abbrev pub phase_in : Phase → model.Phase
 phase_in Idle = model.Idle
 phase_in InLock = model.InLock

@@ -1,5 +1,11 @@
 //! The definitions of the ledger as a plain program: slow functions whose contracts are the definitions, word for
 //! word, and which compute them on small inputs. Journals and histories are lists whose newest record comes first.
+//!
+//! - The definitions of `cbdc_model` as a plain, slow program for small inputs: the contract of each function is the definition that it computes.
+//!   The running program uses none of it. Journals and histories are given newest record first.
+//! - Tested in `journal_rows`, on worked examples whose numbers come from the rules of these documents and not from the program. Ids, compact
+//!   forms, shard numbers and a sentinel's first refusal these rows take from the program itself (`identifiers`, `compact_tx`, `shard_ranges`,
+//!   `sentinel`), whose contracts are the definitions.
 #![tactic(auto)]
 
 mod books;

@@ -82,6 +82,8 @@ pub record HandOk (start : List Record) (log : List Record) (flight : Option Rec
   pub below : h.faults ≤ faults
   pub stuck : (r : Record) → h.left ≡ Some r → (flight ≡ Some r) × (rest ≡ [])
 
+-- `HandOk`, `AllHands`: what a hand has seen is a beginning of the journal; the records of its lane behind the opening are those that it made, each
+-- once, in its order, and it has seen them; what it left in flight is so still, with nothing behind it
 abbrev pub AllHands : List Record → List Record → Option Record → ℕ → List Hand → Type 0
 AllHands start log flight faults [] = Unit {0}
 AllHands start log flight faults (h ∷ hs) = HandOk start log flight faults h × AllHands start log flight faults hs
@@ -96,7 +98,8 @@ abbrev pub AllDrawn : List ℕ → List Record → Type 0
 AllDrawn lanes [] = Unit {0}
 AllDrawn lanes (r ∷ rs) = ((l : ℕ) × (is_in_lane l r ≡ true) × (0 < times l lanes)) × AllDrawn lanes rs
 
--- What is known of a node that was `first` at the opening and is given back as `last`, and of the hands of all its seats: one for each lane
+-- what is known of a node that was given back: its journal is the opening one and records of the seats' lanes, there is a hand for each lane, and
+-- each knows what it says; what is in flight was so at the opening, and nothing was written since, or some hand left it
 pub record Done (first : Sight) (lanes : List ℕ) (hs : List Hand) (last : Sight) : Type 0 where
   pub log : List Record
   pub list : last.seen ≡ log ++ first.seen

@@ -31,7 +31,7 @@ pub record IsLogHeld {D : Type 0} (content : D → Option (List ℕ)) (images : 
   pub journal : IsJournal l.header l.journal
   pub held : HoldsLog content images l
 
--- the shard's
+-- a shard's journal is one of its header, and its disk holds it
 pub record IsShardHeld {D : Type 0} (content : D → Option (List ℕ)) (images : D → List ℕ → Type 0) (s : ShardOf D) : Type 0 where
   pub journal : IsJournal s.header s.journal
   pub held : HoldsShard content images s
@@ -40,6 +40,7 @@ pub record IsShardHeld {D : Type 0} (content : D → Option (List ℕ)) (images 
 abbrev pub AreLogsHeld : {D : Type 0} → (D → Option (List ℕ)) → (D → List ℕ → Type 0) → List (LogOf D) → Type 0
 AreLogsHeld content images ls = All (IsLogHeld content images) ls
 
+-- with all shards
 abbrev pub AreShardsHeld : {D : Type 0} → (D → Option (List ℕ)) → (D → List ℕ → Type 0) → List (ShardOf D) → Type 0
 AreShardsHeld content images ss = All (IsShardHeld content images) ss
 

@@ -166,7 +166,7 @@ fn are_compact(txs: &[CompactTx]) -> bool
     txs.iter().all(|t| is_compact(t))
 }
 
-// What was asked of each node, in order, and whether some of it is left out for want of memory.
+// What was asked of each node, in order, and whether some of it is left out because memory ran out.
 #[derive(Drop)]
 struct Notes {
     seen: Vec<Seen>,

@@ -8,7 +8,7 @@ use Rattle.cbdc_model.specs.Due.{used_of}
 use Rattle.shard_node.specs.Opening.{IsShardJournal, IsNoShard}
 use Rattle.coord_log.specs.Opening.{IsCoordJournal, IsNoCoord}
 
--- the bytes and the capacity alone decide this refusal
+-- a refusal that the bytes and the capacity alone decide: not a fault of the disk, nor that memory ran out
 abbrev pub IsOfBytes : NodeOpenFault → Type 0
 IsOfBytes DiskFault = ⊥
 IsOfBytes Memory = ⊥
@@ -30,5 +30,6 @@ NoRefusal Is IsNo = (h : Header) (J : List Record) (limit : ℕ) (bytes : List �
 abbrev pub OneRefusalLaw : Type 0
 OneRefusalLaw = OneRefusal IsNoShard × OneRefusal IsNoCoord
 
+-- `OneRefusalLaw`, `NoRefusalLaw`: these of shards, and of coordinators
 abbrev pub NoRefusalLaw : Type 0
 NoRefusalLaw = NoRefusal IsShardJournal IsNoShard × NoRefusal IsCoordJournal IsNoCoord

@@ -5,6 +5,8 @@ ghost use Rattle.opening_laws.specs.Once.{OpensOnceLaw};
 ghost use Rattle.opening_laws.specs.Refusals.{OneRefusalLaw, NoRefusalLaw};
 
 /// A file opens to one journal at most, of one header.
+///
+/// A disk's bytes open to one header and one journal.
 pub fn opens_once_law()
     ensures { OpensOnceLaw }
 {}

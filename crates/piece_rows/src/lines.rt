@@ -108,7 +108,7 @@ fn audit(page: &mut Page, words: &mut Reader) -> bool {
     write_audit(page, &summary).is_ok()
 }
 
-// Prints a line that tells what came of a command; whether the page took it.
+// Prints a line that tells the result of a command; whether the page took it.
 fn print_line(page: &mut Page, kind: &str, words: &mut Reader) -> bool {
     match kind {
         "confirmed" => confirmed(page, words),

@@ -12,6 +12,8 @@ disk_at rack n = disk_in (slice_get rack.places.items n)
 abbrev pub bytes_told : PlainDisk → Option (List ℕ)
 bytes_told d = Some d.bytes.items
 
+-- `bytes_told`, `bytes_left`, `room_of`, `faults_of`, `IsEmptyAt`: what its disks read as, what a crash leaves of them, their room, and their count
+-- of faults, which is 0; that a node's disk is there, empty, with so much room
 abbrev pub bytes_left : PlainDisk → List ℕ → Type 0
 bytes_left d c = c ≡ d.bytes.items
 

@@ -11,6 +11,9 @@ use std::alloc::{AllocError, Global};
 const PLACES: u32 = 80;
 
 /// A place for each node that a ledger may have, with a disk that never fails. A node past them is a fault.
+///
+/// Keeps the trait `Rack`: a place for each of the 80 nodes that a ledger may have, with a disk that never fails; the count of each of these nodes
+/// is 0 always, and a take past them is a fault.
 #[derive(Drop)]
 pub struct PlainRack {
     places: Vec<Option<PlainDisk>>,

@@ -6,6 +6,8 @@ use outside::{Failed, Sink};
 use std::alloc::{AllocError, Global};
 
 /// Takes `N` bytes. Only a piece behind them is a fault.
+///
+/// Keeps the trait `Sink`, and takes as many bytes as its type names: its count is 0 while it has room, and a piece past its end is a fault.
 #[derive(Drop)]
 pub struct PlainSink<const N: usize> {
     bytes: Vec<u8>,

@@ -23,5 +23,6 @@ abbrev pub batches_below : Shape → (ℕ → List Record) → (ℕ → List Rec
 batches_below K E X zero = 0
 batches_below K E X (suc lane) = batches_below K E X lane + length (prepared lane (added (E (home_of K lane)) (X (home_of K lane))))
 
+-- how many new Prepares all lanes have
 abbrev pub new_batches : Shape → (ℕ → List Record) → (ℕ → List Record) → ℕ
 new_batches K E X = batches_below K E X (K.coordinators * K.lanes)

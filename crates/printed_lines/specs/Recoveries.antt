@@ -23,6 +23,7 @@ open_phase InDiscard = Some Discarded
 abbrev pub won_in : List Outcome → ℕ
 won_in os = length (filter is_won os)
 
+-- `won_in`, `lost_in`: how many of a batch's outcomes commit their transactions, and how many do not
 abbrev pub lost_in : List Outcome → ℕ
 lost_in os = length (filter (λ o. not (is_won o)) os)
 
@@ -40,6 +41,7 @@ abbrev pub resumed_below : Shape → (ℕ → List Record) → (ℕ → List Rec
 resumed_below K E X zero = []
 resumed_below K E X (suc lane) = resumed_below K E X lane ++ lane_line lane (E (home_of K lane)) (X (home_of K lane))
 
+-- of all lanes, in rising order
 abbrev pub resumed_lines : Shape → (ℕ → List Record) → (ℕ → List Record) → Text
 resumed_lines K E X = resumed_below K E X (K.coordinators * K.lanes)
 
@@ -48,6 +50,7 @@ abbrev pub open_below : Shape → (ℕ → List Record) → ℕ → ℕ
 open_below K E zero = 0
 open_below K E (suc lane) = open_below K E lane + (if is_some (open_phase (slot (E (home_of K lane)) lane).phase) then 1 else 0)
 
+-- how many lanes are open at E
 abbrev pub resumed_count : Shape → (ℕ → List Record) → ℕ
 resumed_count K E = open_below K E (K.coordinators * K.lanes)
 
@@ -55,5 +58,6 @@ resumed_count K E = open_below K E (K.coordinators * K.lanes)
 abbrev pub recover_lines : Shape → (ℕ → List Record) → (ℕ → List Record) → ℕ → Text
 recover_lines K E X unspent = resumed_lines K E X ++ recovery_text (resumed_count K E) unspent
 
+-- the text of a recovery from E to X
 abbrev pub IsRecoverText : Shape → (ℕ → List Record) → (ℕ → List Record) → Text → Type 0
 IsRecoverText K E X text = (unspent : ℕ) × IsUnspentCount K X unspent × (text ≡ recover_lines K E X unspent)

@@ -25,7 +25,7 @@ sent_before K sound files lane = sum_by (λ file. length (sent_to K sound file l
 abbrev pub turn : Shape → (FullTx → Bool) → List (List FullTx) → List FullTx → ℕ → ℕ
 turn K sound earlier file place = sent_before K sound earlier (lane_at K place) + length (sent_to K sound (take place file) (lane_at K place))
 
--- what came of the submission t at a place of a file behind earlier ones: it was refused for the first reason that applies; or it is sound, and
+-- the result of the submission t at a place of a file behind earlier ones: it was refused for the first reason that applies; or it is sound, and
 -- stands at its turn among the transactions of its lane's new Prepares, with its batch and outcome
 abbrev pub IsReport : Shape → VerdictsOf → (FullTx → Bool) → (ℕ → List Record) → (ℕ → List Record) → List (List FullTx) → List FullTx → ℕ → FullTx → Report → Type 0
 IsReport K verdicts sound E X earlier file place t (Refused why) = IsFirstRefusal t (verdicts (tx_id t)) why
@@ -48,7 +48,7 @@ abbrev pub IsSubmissionLine : Shape → VerdictsOf → (FullTx → Bool) → (�
 IsSubmissionLine K verdicts sound E X earlier file place t text =
     (r : Report) × IsReport K verdicts sound E X earlier file place t r × (text ≡ report_line (suc (length earlier)) place (tx_id t) r)
 
--- what came of each submission of a file
+-- the result of each submission of a file
 pub record AreReports (K : Shape) (verdicts : VerdictsOf) (sound : FullTx → Bool) (E X : ℕ → List Record) (earlier : List (List FullTx)) (file : List FullTx) (reports : List Report) : Type 0 where
   pub count : length reports ≡ length file
   pub each : (place : ℕ) (t : FullTx) (r : Report) → slice_get file place ≡ Some t → slice_get reports place ≡ Some r

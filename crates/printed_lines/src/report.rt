@@ -1,7 +1,7 @@
-// What came of a submission.
+// The result of a submission.
 use cbdc_types::{BatchId, Outcome, Refusal};
 
-/// What came of a submission: a sentinel refused it, or it was decided in a batch.
+/// The result of a submission: a sentinel refused it, or it was decided in a batch.
 #[derive(Clone, Copy, Debug)]
 pub enum Report {
     Refused(Refusal),

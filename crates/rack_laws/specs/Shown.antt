@@ -25,7 +25,7 @@ Shows {D} content held K genesis J = (n : ℕ) → n < node_count K
 abbrev pub Stores : {D : Type 0} → (D → List ℕ → Type 0) → (ℕ → Option D) → Shape → Digest → (ℕ → List Record) → Type 0
 Stores images held K genesis J = (n : ℕ) → n < node_count K → OfTold (held n) (λ d. (c : List ℕ) → images d c → IsNodeJournal (header_of K genesis n) (J n) c)
 
--- of whatever mint and submissions the ledger that the rack shows is kept
+-- of whatever ledger the rack shows whose journals are kept (of whatever mint and submissions), this holds
 abbrev pub OfShown : {D : Type 0} → (D → Option (List ℕ)) → (ℕ → Option D) → (Shape → List Output → List FullTx → (ℕ → List Record) → Type 0) → Type 0
 OfShown content held P = (K : Shape) (mint : List Output) (submissions : List FullTx) (J : ℕ → List Record)
     → IsWithinLimits K → Shows content held K (genesis_id mint) J → KeptJournals K mint submissions J → P K mint submissions J
@@ -51,6 +51,7 @@ OpenTo held K contents X = (n : ℕ) → n < node_count K → OfTold (held n) (�
 abbrev pub LogHasRoom : {D : Type 0} → (D → ℕ) → LogOf D → Type 0
 LogHasRoom limit l = used_of l.journal + kept_room l.header.shape l.journal ≤ limit l.disk
 
+-- `LogHasRoom`, `ShardHasRoom`: a coordinator's disk, and a shard's, has room for its journal and for what is kept for its open batches
 abbrev pub ShardHasRoom : {D : Type 0} → (D → ℕ) → ShardOf D → Type 0
 ShardHasRoom limit s = used_of s.journal + kept_room s.header.shape s.journal ≤ limit s.disk
 
@@ -58,6 +59,7 @@ ShardHasRoom limit s = used_of s.journal + kept_room s.header.shape s.journal �
 abbrev pub LogFits : {D : Type 0} → (D → ℕ) → LogOf D → Type 0
 LogFits limit l = IfSome l.flight (λ r. used_of l.journal + need_of l.header.shape l.journal r ≤ limit l.disk)
 
+-- `LogFits`, `ShardFits`: a record in flight there had the room that it needs
 abbrev pub ShardFits : {D : Type 0} → (D → ℕ) → ShardOf D → Type 0
 ShardFits limit s = IfSome s.flight (λ r. used_of s.journal + need_of s.header.shape s.journal r ≤ limit s.disk)
 

@@ -173,6 +173,8 @@ fn open_ledger<R: Rack>(
 }
 
 /// Opens all nodes of the ledger whose first node is node 0, one after another. After a fault all disks are back.
+///
+/// Out of memory: all disks are back as they were read.
 pub fn open_nodes<R: Rack>(alloc: Global, rack: &mut R) -> Result<Nodes<R::Disk>, Answer>
     requires { (n : ℕ) → R.can_take rack.old n }
     // They are all nodes of the ledger, and each stands for what was told of its disk.
@@ -200,6 +202,8 @@ pub fn open_nodes<R: Rack>(alloc: Global, rack: &mut R) -> Result<Nodes<R::Disk>
 
 /// Opens all nodes of the ledger whose first node is node 0 and which the mint with this id began, one after another. Node 0 is foreign
 /// where another mint did. After a fault all disks are back.
+///
+/// Out of memory: all disks are back as they were read.
 pub fn open_minted<R: Rack>(
     alloc: Global,
     rack: &mut R,

@@ -8,6 +8,7 @@ abbrev pub asked_of : ℕ → Option Header → Header → Header
 asked_of node (Some ledger) kept = record { node = node; shape = ledger.shape; genesis = ledger.genesis }
 asked_of node None kept = record { node = node; shape = kept.shape; genesis = kept.genesis }
 
+-- `asked_of`, `IsAsked`: the header that a node should have: its own number, and node 0's shape and genesis
 abbrev pub IsAsked : ℕ → Option Header → Header → Type 0
 IsAsked node ledger kept = kept ≡ asked_of node ledger kept
 
@@ -15,5 +16,6 @@ IsAsked node ledger kept = kept ≡ asked_of node ledger kept
 abbrev pub IsCoordinator : Header → Type 0
 IsCoordinator h = h.node < h.shape.coordinators
 
+-- `IsCoordinator`, `IsShardNode`: the header names a coordinator; a shard
 abbrev pub IsShardNode : Header → Type 0
 IsShardNode h = IsShard h.shape h.node

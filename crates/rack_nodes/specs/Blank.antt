@@ -27,6 +27,8 @@ abbrev pub IsInUse : ℕ → List ℕ → Type 0
 IsInUse zero bytes = HasFirst bytes
 IsInUse (suc n) bytes = HasSecond bytes
 
+-- `HasFirst`, `HasSecond`, `IsInUse`, `IsUnused`, `IsNoBlank`: a whole first record; a second one that its header allows; node 0 is in use from its
+-- first on, another from its second; why a disk may not become a node
 abbrev pub IsUnused : ℕ → List ℕ → Type 0
 IsUnused node bytes = IsInUse node bytes → ⊥
 
@@ -42,7 +44,7 @@ IsNoBlank node bytes (answers.DiskFault n) = n ≡ node
 IsNoBlank node bytes answers.Memory = Unit {0}
 IsNoBlank node bytes other = ⊥
 
--- the answers that there may be
+-- the answers that there may be where a disk may not become a node
 abbrev pub IsBlankRefusal : Answer → Type 0
 IsBlankRefusal (answers.NotEmpty n) = Unit {0}
 IsBlankRefusal (answers.DiskFault n) = Unit {0}

@@ -13,7 +13,7 @@ use Rattle.gate_journal.specs.Formatting.{IsEmptied}
 abbrev pub IsBegun : (List ℕ → Type 0) → Record → List ℕ → Type 0
 IsBegun before first bytes = IsEmptied before bytes ⊎ OpensTo (first ∷ []) bytes
 
--- the same, with a journal of this body alone
+-- no first record, or what a crash might have left before, or a journal of this body alone
 abbrev pub IsStored : (List ℕ → Type 0) → List ℕ → List ℕ → Type 0
 IsStored before body bytes = IsEmptied before bytes ⊎ Opens (body ∷ []) bytes
 

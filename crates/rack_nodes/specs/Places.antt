@@ -28,6 +28,6 @@ IsOpening node before now (answers.DiskFault n) = (n ≡ node) × Rose before no
 IsOpening node before now answers.Memory = Unit {0}
 IsOpening node before now other = ⊥
 
--- the same of some node of a range
+-- what may be answered where a node of a range can't be opened
 abbrev pub IsOpeningIn : ℕ → ℕ → (ℕ → ℕ) → (ℕ → ℕ) → Answer → Type 0
 IsOpeningIn first end before now answer = (n : ℕ) × (first ≤ n) × (n < end) × IsOpening n (before n) (now n) answer

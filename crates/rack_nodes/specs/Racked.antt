@@ -21,6 +21,7 @@ pub record IsSameDisk {D : Type 0} (content : D → Option (List ℕ)) (images :
   pub read : IsRead images limit was is
   pub same : content is ≡ content was
 
+-- of the disks that were told and are
 abbrev pub IsUnchanged : {D : Type 0} → (D → Option (List ℕ)) → (D → List ℕ → Type 0) → (D → ℕ) → Option D → Option D → Type 0
 IsUnchanged content images limit old new = OfTold old (λ was. OfTold new (λ is. IsSameDisk content images limit was is))
 

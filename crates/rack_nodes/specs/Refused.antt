@@ -53,7 +53,7 @@ IsNoNode Is node ledger limit bytes (answers.DiskFault n) = n ≡ node
 IsNoNode Is node ledger limit bytes answers.Memory = Unit {0}
 IsNoNode Is node ledger limit bytes other = ⊥
 
--- the answers that there may be
+-- the answers that there may be where a disk is no node
 abbrev pub IsNodeRefusal : Answer → Type 0
 IsNodeRefusal (answers.NotReady n) = Unit {0}
 IsNodeRefusal (answers.Damaged n at) = Unit {0}

@@ -8,6 +8,8 @@ use cbdc_types::NodeId;
 use outside::Rack;
 
 /// Puts the disks of nodes back, the first of which has this place.
+///
+/// All these disks are back, each in its place, and each node's count is no less than its disk's; others untouched.
 pub fn close_all<R: Rack, N: OnDisk<R::Disk>>(rack: &mut R, first: u32, nodes: Vec<N>)
     requires few { first + length nodes.items < 2 ^ 32 }
     requires out { EachFrom (MayReturn (λ n. R.Disk.count (N.disk_of n)) (R.can_put rack.old)) first nodes.items }

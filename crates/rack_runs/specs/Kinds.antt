@@ -24,6 +24,7 @@ answer_at node (NoRoom used need capacity) = answers.Full node used need capacit
 answer_at node (NoStamp stamp) = answers.ClockEnd node stamp
 answer_at node NoMemory = answers.Memory
 
+-- `answer_at`, `answer_to`: what a lane's fault answers: its kind, with its node and its numbers
 abbrev pub answer_to : LaneFault → Answer
 answer_to e = answer_at e.node e.fault
 
@@ -36,8 +37,9 @@ IsLaneAnswer K next E X failed may_hold (answers.ClockEnd node stamp) = (lane : 
 IsLaneAnswer K next E X failed may_hold answers.Memory = Unit {0}
 IsLaneAnswer K next E X failed may_hold other = ⊥
 
--- from journals E to X of the ledger with this genesis, whatever a lane wants may come next behind each front of its node's journal since which nothing
--- of the lane came; a record whose stamp is past the last one breaks no rule but that of its stamp
+-- whatever a lane wants (`IsWanted`) may come next in the ledger behind each front of its node's journal, from that at entry on, since which
+-- nothing of the lane came: it is in the grammar of its node and follows the rules; of a record whose stamp is past the last one the rules hold,
+-- but for its stamp
 abbrev pub MayComeNext : Shape → Digest → (ℕ → List Compact → Type 0) → (ℕ → List Record) → (ℕ → List Record) → Type 0
 MayComeNext K genesis next E X = (lane node : ℕ) (front : List Record) (wanted : Record) → IsLaneOf K lane → IsEnd (E node) front → IsEnd front (X node) → slot front lane ≡ slot (X node) lane
     → IsWanted K lane (next lane) X node front wanted → Follows (header_of K genesis node) front wanted × (stamp_of wanted ≤ 2 ^ 62 → After (header_of K genesis node) front wanted)
@@ -46,6 +48,7 @@ MayComeNext K genesis next E X = (lane node : ℕ) (front : List Record) (wanted
 abbrev pub FliesBroken : {D : Type 0} → LogOf D → Type 0
 FliesBroken l = (r : Record) → l.flight ≡ Some r → HasRisen l.opened l.faults
 
+-- `FliesBroken`, `ShardFliesBroken`: a record is in flight at a node only where its disk has failed since it was opened
 abbrev pub ShardFliesBroken : {D : Type 0} → (D → ℕ) → ShardOf D → Type 0
 ShardFliesBroken count s = (r : Record) → s.flight ≡ Some r → HasRisen s.opened (count s.disk)
 

@@ -127,12 +127,13 @@ NothingNext K E X lane txs = ⊥
 abbrev pub PieceNext : VerdictsOf → List (List FullTx) → Shape → (ℕ → List Record) → (ℕ → List Record) → ℕ → List Compact → Type 0
 PieceNext verdicts files K E X = IsFilesPiece K verdicts files E X
 
--- all new records are of batches that were open
+-- all new records, at coordinators and shards, are of batches that were open at entry
 abbrev pub AddsOpen : Shape → (ℕ → List Record) → (ℕ → List Record) → Type 0
 AddsOpen K E X = Adds (λ b. (has_prepare K E b ≡ true) × (has_done K E b ≡ false)) E X
 
--- the order of a run that was cut short: all new records are of batches that were open; or, where there are files, the open batches and then the waves
--- of the first of the files are at their end, and all records behind those are of batches that are new then and that the next file alone has begun
+-- `AddsOpen`; or, where there are files, the open batches and then the waves of the first of the files are at their end (`Waves`), and all records
+-- behind those are of batches that were not prepared then and that the next file alone has begun (`HasBegunFirst`): no record of a file comes
+-- before all batches of the open ones and of the files before are done
 abbrev pub IsCutWaves : Shape → (FullTx → Bool) → List (List FullTx) → (ℕ → List Record) → (ℕ → List Record) → Type 0
 IsCutWaves K sound files E X =
     AddsOpen K E X

@@ -14,7 +14,7 @@ abbrev pub CountAll : List (List Record) → ℕ → Type 0
 CountAll [] n = n ≡ 0
 CountAll (J ∷ more) n = (own : ℕ) × (rest : ℕ) × Counts J own × CountAll more rest × (n ≡ own + rest)
 
--- a run, which tells what it did, from journals E to those at its exit
+-- `IsRun` holds, and the run tells what it did, by the journals at entry and those at its exit
 pub record IsTold {D : Type 0} (images : D → List ℕ → Type 0) (limit : D → ℕ) (held : ℕ → Option D) (verdicts : VerdictsOf) (files : List (List FullTx)) (ran : Ran) (K : Shape) (mint : List Output) (submissions : List FullTx) (E : ℕ → List Record) : Type 0 where
   pub run : IsRun images limit held verdicts files K mint submissions E
   pub tells : TellsRun K verdicts files E run.exit ran.resumed.items ran.waves.items

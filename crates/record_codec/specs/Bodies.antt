@@ -10,6 +10,7 @@ use Rattle.byte_fields.specs.Records.{hashes, batch, compact, answered, outcome,
 abbrev pub magic : List ℕ
 magic = 72 ∷ 65 ∷ 77 ∷ 74 ∷ 82 ∷ 78 ∷ 76 ∷ 49 ∷ []
 
+-- it and a header's numbers and genesis id
 abbrev pub header : Header → List ℕ
 header h = magic ++ number h.node ++ number h.shape.shards ++ number h.shape.coordinators ++ number h.shape.lanes ++ number h.shape.batch ++ h.genesis
 
@@ -17,6 +18,7 @@ header h = magic ++ number h.node ++ number h.shape.shards ++ number h.shape.coo
 abbrev pub head : ℕ → ℕ → List ℕ
 head kind stamp = kind ∷ [] ++ number stamp
 
+-- the one spelling of a record
 abbrev pub body_of : Record → List ℕ
 body_of (Genesis h hs) = head 1 0 ++ header h ++ hashes hs
 body_of (Lock stamp b es) = head 2 stamp ++ batch b ++ counted answered es

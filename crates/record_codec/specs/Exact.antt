@@ -23,6 +23,7 @@ IsFirst (Commit stamp b os) = ⊥
 IsFirst (Discard stamp b) = ⊥
 IsFirst (Done stamp b) = ⊥
 
+-- the bytes are its body
 abbrev pub IsFirstBody : List ℕ → Record → Type 0
 IsFirstBody bytes r = (bytes ≡ body_of r) × IsFirst r
 

@@ -5,6 +5,7 @@ use Rattle.byte_fields.specs.declared.fault.ReadError.TheVariants as errors
 use Rattle.record_codec.specs.declared.fault.RecordFault.{RecordFault}
 use Rattle.record_codec.specs.declared.fault.RecordFault.TheVariants.{NotARecord, Memory}
 
+-- how a reader's fault is told
 abbrev pub IsTaken : ReadError → RecordFault → Type 0
 IsTaken errors.Memory f = f ≡ Memory
 IsTaken (errors.Bad b) f = f ≡ NotARecord

@@ -12,6 +12,9 @@ use Rattle.byte_fields.specs.Records.{byte_at, small_at, batch_at, compact_at, a
 use Rattle.record_codec.specs.declared.reading.Head.{Head}
 use Rattle.record_codec.specs.Bodies.{magic}
 
+-- `magic_at`, `is_to`, `is_shape`, `sizes_at`, `shape_at`, `header_at`, `zero_at`, `head_at`, `genesis_at`, `lock_at`, `finish_at`, `forget_at`,
+-- `start_at`, `prepare_at`, `commit_at`, `discard_at`, `done_at`, `body_at`: a record's body read from left to right, whatever the journal: its
+-- kind first, lists within the greatest limits of any ledger
 unfoldable pub magic_at : List ℕ → Result (List ℕ × List ℕ) Fault
 magic_at bytes = do
   m ← field_at 8 (λ b. b) bytes

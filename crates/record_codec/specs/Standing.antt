@@ -3,6 +3,7 @@ use Rattle.std.specs.Prelude.{◌≡◌, ◌+◌, ◌<◌, ◌≤◌, length, Al
 use Rattle.cbdc_model.specs.Records.{Shape, Header, Reply, Outcome, Answered, Record, Held, Missing, Taken, Won, Lacks, Blocked, Genesis, Lock, Finish, Forget, Start, Prepare, Commit, Discard, Done}
 use Rattle.cbdc_model.specs.Grammar.{IsEarly, IsLater, IsBatchOf, IsShard, AreHere, HasSize, RisesFrom}
 
+-- `MayReply`, `MayDecide`, `MayEnter`, `MayStand`, `MayBegin`: what a header asks of a record besides what its spelling has already
 abbrev pub MayReply : Shape → Reply → Type 0
 MayReply K Held = Unit {0}
 MayReply K (Missing x) = Unit {0}

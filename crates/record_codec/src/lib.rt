@@ -1,4 +1,7 @@
 //! The records of the journals as bytes, both ways.
+//!
+//! - Tested in `piece_rows` (`records.rows`): the bytes and sizes of the records of one batch, the longest replies and outcomes, bodies that are no
+//!   records.
 #![tactic(auto)]
 
 mod fault;

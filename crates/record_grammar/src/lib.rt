@@ -1,4 +1,6 @@
 //! Which records may stand in a journal, whatever stands before them.
+//!
+//! - Tested in `journal_rows`.
 #![tactic(auto)]
 
 mod entries;

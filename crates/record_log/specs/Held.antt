@@ -7,6 +7,7 @@ use Rattle.record_codec.specs.Exact.{IsFirst}
 use Rattle.gate_journal.specs.Rows.{row, rows, Opens, OpensWithOrWithout}
 use Rattle.gate_journal.specs.Stands.{StandsFor}
 
+-- `bodies_of`, `OpensTo`, `OpensToEither`: whole rows of these records and then a closed gate; the same with or without one in flight
 abbrev pub bodies_of : List Record → List (List ℕ)
 bodies_of records = map body_of records
 
@@ -44,7 +45,7 @@ pub record CutsOff (P : Record → Type 0) (records : List Record) (at : ℕ) (b
   pub opened : IsOpen rest
   pub none : HasRow P rest → ⊥
 
--- no first record is whole
+-- no first record is whole: the disk is not ready
 abbrev pub HasNoRecord : List ℕ → Type 0
 HasNoRecord bytes = HasRow IsFirst bytes → ⊥
 

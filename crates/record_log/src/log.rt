@@ -157,6 +157,8 @@ impl<D: Disk> RecordLog<D> {
     }
 
     /// Writes a record and keeps it, in memory that was taken before.
+    ///
+    /// Out of memory: never; `reserve` took what it needs, or the answer is NoRoom.
     pub fn append(&mut self, added: Record) -> Result<(), LogFault>
         ensures kept { OnOk result (self.new.records.items ≡ self.old.records.items ++ added ∷ []) }
         ensures as_before { OnErr result (self.new.records.items ≡ self.old.records.items) }

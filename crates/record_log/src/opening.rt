@@ -212,6 +212,8 @@ fn refusal_of(alloc: Global, fault: OpenFault) -> NoLog
 }
 
 /// Opens a disk's journal into records. A refusal hands the disk back.
+///
+/// Out of memory: the disk comes back as it was read.
 pub fn open_records<D: Disk>(alloc: Global, disk: D) -> Result<RecordLog<D>, (D, NoLog)>
     // The content opens to just these records, and a crash leaves nothing else.
     ensures opens { IfOk result (λ l. Tells (D.content disk) (λ c. OpensTo l.records.items c × HoldsAll l l.records.items)) }

@@ -50,6 +50,7 @@ abbrev pub LanesAbove : ℕ → List OpenLane → Type 0
 LanesAbove n [] = Unit {0}
 LanesAbove n (o ∷ os) = (n < o.batch.lane) × LanesAbove n os
 
+-- `LanesAbove`, `LanesRise`: the lanes of the open batches rise
 abbrev pub LanesRise : List OpenLane → Type 0
 LanesRise [] = Unit {0}
 LanesRise (o ∷ os) = LanesAbove o.batch.lane os × LanesRise os
@@ -64,6 +65,7 @@ pub record IsResumed (o : OpenLane) (r : ResumedBatch) : Type 0 where
   pub phase_is : r.phase ≡ o.phase
   pub outcomes : length r.outcomes ≡ length o.txs
 
+-- each of these was resumed, in order
 abbrev pub AreResumed : List OpenLane → List ResumedBatch → Type 0
 AreResumed os rs = AllZip IsResumed os rs
 
@@ -99,12 +101,12 @@ abbrev pub IsResumeTold : Shape → Bool → OpenLane → Sight → (ℕ → Sig
 IsResumeTold K alone o log I log' J e =
     (parts : List (ℕ × List Entry)) × AreParts K o.txs parts × (n : ℕ) × (f : NodeFault) × IsFaultOf e n f × IsToldFrom o.phase K alone o parts log I log' J n f
 
--- it was prepared, and stopped for want of memory at the Lock of a shard, with nothing asked behind the Locks
+-- it was prepared, and stopped because memory ran out at the Lock of a shard, with nothing asked behind the Locks
 abbrev pub IsResumeWant : Shape → Bool → OpenLane → Sight → (ℕ → Sight) → Sight → (ℕ → Sight) → LaneFault → Type 0
 IsResumeWant K alone o log I log' J e =
     (o.phase ≡ Prepared) × (parts : List (ℕ × List Entry)) × AreParts K o.txs parts × IsLockWant K alone o.batch o.stamp parts log log' I J e.node
 
--- so where it stopped for want of memory
+-- so where it stopped because memory ran out
 abbrev pub WantsAtLock : Shape → Bool → OpenLane → Sight → (ℕ → Sight) → Sight → (ℕ → Sight) → LaneFault → Type 0
 WantsAtLock K alone o log I log' J e = e.fault ≡ NoMemory → IsResumeWant K alone o log I log' J e
 
@@ -122,7 +124,7 @@ AreTakenUp K alone (o ∷ os) [] log I log' J = ⊥
 AreTakenUp K alone (o ∷ os) (r ∷ rs) log I log' J =
     (between : Sight) × (shards_between : ℕ → Sight) × IsOneTaken K alone o log I between shards_between r × AreTakenUp K alone os rs between shards_between log' J
 
--- what came of one of them: it was taken to its end, or it stood open and stopped
+-- the result of one of them: it was taken to its end, or it stood open and stopped
 abbrev pub CameOf : Shape → Bool → OpenLane → Result ResumedBatch LaneFault → Sight → (ℕ → Sight) → Sight → (ℕ → Sight) → Type 0
 CameOf K alone o (Ok r) log I log' J = IsOneTaken K alone o log I log' J r
 CameOf K alone o (Err e) log I log' J =
@@ -155,7 +157,7 @@ pub record IsStoppedAmong (K : Shape) (alone : Bool) (os : List OpenLane) (log :
   pub came : List (Result ResumedBatch LaneFault)
   pub went_on : AreTried K alone behind came log_then shards_then log' J
 
--- that, or they were not begun for want of memory
+-- that, or they were not begun because memory ran out
 abbrev pub AreStopped : Shape → Bool → List OpenLane → Sight → (ℕ → Sight) → Sight → (ℕ → Sight) → LaneFault → Type 0
 AreStopped K alone os log I log' J e = HasNoMemory e log I log' J ⊎ IsStoppedAmong K alone os log I log' J e
 

@@ -14,7 +14,7 @@ use cbdc_types::{List, OpenLane, Shape};
 use lane_driver::{LaneFault, LogPort, PortSet, Ports};
 use outside::Gate;
 
-// Keeps what came of a lane: its batch, or its fault, where none came before.
+// Keeps the result of a lane: its batch, or its fault, where none came before.
 fn keep(
     batches: &mut Vec<ResumedBatch>,
     first: Option<LaneFault>,

@@ -35,6 +35,8 @@ fn lane_room(alloc: Global, shape: &Shape, unfinished: &OpenLane) -> Result<Lane
 
 /// Takes all memory that takes these open batches to their end, and room for what they tell, or memory ran out. No node is
 /// asked.
+///
+/// Out of memory: where the driver's own memory runs out; no node was asked.
 pub fn plan<'a>(alloc: Global, shape: &Shape, lanes: &'a [OpenLane]) -> Result<Plan<'a>, AllocError>
     requires { All (λ o. HasSize shape.now o.txs) lanes.now }
     ensures { IfOk result (λ p. p ≡ record { shape = shape.now; lanes = lanes.now }) }

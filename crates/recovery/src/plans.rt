@@ -42,6 +42,9 @@ impl<'a> Plan<'a> {
     /// has more than one, no other lane writes meanwhile: a port tells of the lane that it is called for and lets records of all
     /// others come, those of the list's later lanes too. Where none write, the lanes that are not listed are as before. A lane that
     /// meets a fault ends; the others go on. The answer is then the least lane's fault. It takes no memory of its own.
+    ///
+    /// Out of memory: where a shard ran out of it at a Lock of a batch that was prepared (`want`); with none prepared never. That batch is prepared
+    /// still; those before it are at their end, and those behind it were taken up.
     pub fn go<S: PortSet<G>, L: LogPort, G: Gate>(
         self,
         ports: &mut Ports<S, L>,

@@ -14,6 +14,11 @@ use std::alloc::Global;
 
 /// Takes each open batch of a coordinator's lanes to its end, as `Plan::go` does, and takes all memory for that before the first
 /// call: where it runs out of it, no node was asked.
+///
+/// A batch stopped behind each of its records goes on from its phase and leaves the bytes of a run that was not stopped. Tested in `ledger_rows`
+/// (`stop.rows`).
+///
+/// Out of memory: as `plan` and `Plan::go`.
 pub fn resume<S: PortSet<G>, L: LogPort, G: Gate>(
     alloc: Global,
     shape: &Shape,

@@ -5,7 +5,7 @@ use row_text::{Wrong, check_text, differ, put_word};
 use std::alloc::Global;
 use std::fmt::{Display, Write};
 
-/// An answer in words and lines. What goes wrong on the way to it, in the words of its step or for want of memory, is kept, and the first of it
+/// An answer in words and lines. What goes wrong on the way to it, in the words of its step or because memory ran out, is kept, and the first of it
 /// is told at the end: so a step need not stop where a word is none that it may have, and goes on with 0 or with nothing.
 #[derive(Drop)]
 pub struct Told {

@@ -50,7 +50,7 @@ fn is_no_step(line: &str) -> bool {
     line.is_empty() || line.starts_with('#') || line.starts_with("case ") || is_of_block(line)
 }
 
-// What came of steps: they held, one came to something else, or one is none that a row may have.
+// The result of steps: they held, one came to something else, or one is none that a row may have.
 #[derive(Clone, Copy, PartialEq, Eq, Drop)]
 enum End {
     Held,
@@ -320,7 +320,7 @@ fn rows<W: Print, S: Subject, F: Fn(&mut S, &str, &Block)>(
     Ok(counts)
 }
 
-/// Does the rows of the files that the program's words name, each file with a new subject, and tells what came of them, how many held, how
+/// Does the rows of the files that the program's words name, each file with a new subject, and tells the result of each, how many held, how
 /// many differed as they should, and how many did neither. The answer is whether there is none of the last.
 pub fn run_files<
     R: AllocGlobal + Env + Files + Print,

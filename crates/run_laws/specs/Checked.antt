@@ -5,8 +5,8 @@ use Rattle.cbdc_model.specs.Coins.{Output, FullTx}
 use Rattle.cbdc_model.specs.History.{Minted, minted, IsSteady}
 use Rattle.cbdc_model.specs.World.{IsHistory, KeptJournals}
 
--- they have a history in which each record is after its journal and caused, whatever hashes the first records hold and whatever transactions
--- are prepared
+-- the journals have a history in which each record is after its journal and caused, whatever hashes the first records hold and whatever
+-- transactions are prepared: what the program itself checks
 pub record CheckedJournals (K : Shape) (m : Minted) (J : ℕ → List Record) : Type 0 where
   pub later : List Row
   pub history : IsHistory K m J later

@@ -89,6 +89,8 @@ IsStopBy K lane next J opened faults capacity node Memory = Unit {0}
 abbrev pub opened_by : Shape → (ℕ → Sight) → (ℕ → Sight) → ℕ → ℕ
 opened_by K logs shards n = if nat_lt n K.coordinators then (logs n).opened else (shards (n - K.coordinators)).opened
 
+-- `opened_by`, `faults_by`, `capacity_by`: of each node: how often its disk had failed when it was opened, how often it has by now, how many bytes
+-- it may hold
 abbrev pub faults_by : Shape → (ℕ → Sight) → (ℕ → Sight) → ℕ → ℕ
 faults_by K logs shards n = if nat_lt n K.coordinators then (logs n).faults else (shards (n - K.coordinators)).faults
 

@@ -54,7 +54,7 @@ CheckedRestLaw = (K : Shape) (m : Minted) (lane : ℕ) (logs shards : ℕ → Si
     → 0 < K.shards → home_of K lane < K.coordinators → (logs (home_of K lane)).header.shape ≡ K → CheckedJournals K m (seen_by K logs shards)
     → (slot (logs (home_of K lane)).seen lane).phase ≡ Idle → Settled K lane (slot (logs (home_of K lane)).seen lane).number (logs (home_of K lane)) shards
 
--- what a turn of a lane leaves of the other lanes
+-- what a turn of a lane leaves of the other lanes: their slots, and no new Prepare
 pub record LeavesOthers (K : Shape) (lane : ℕ) (I J : ℕ → List Record) : Type 0 where
   pub slots : (other n : ℕ) → other ≢ lane → slot (J n) other ≡ slot (I n) other
   pub prepares : (other n : ℕ) → other ≢ lane → prepared other (J n) ≡ prepared other (I n)

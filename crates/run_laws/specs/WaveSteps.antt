@@ -13,6 +13,7 @@ pub record ResumedSo (K : Shape) (l : ℕ) (E J : ℕ → List Record) : Type 0 
   pub idle : (lane : ℕ) → lane < l → (slot (J (home_of K lane)) lane).phase ≡ Idle
   pub rest : (lane : ℕ) → l ≤ lane → slot (J (home_of K lane)) lane ≡ slot (E (home_of K lane)) lane
 
+-- `ResumedSo`, `ResumingBeginsLaw`: from journals E to J the lanes below l that were open were resumed, and the others are as they were
 abbrev pub ResumingBeginsLaw : Type 0
 ResumingBeginsLaw = (K : Shape) (E : ℕ → List Record) → ResumedSo K 0 E E
 
@@ -26,6 +27,7 @@ abbrev pub ResumingSkipLaw : Type 0
 ResumingSkipLaw = (K : Shape) (l m : ℕ) (E J : ℕ → List Record)
     → ResumedSo K l E J → l ≤ m → ((lane : ℕ) → l ≤ lane → lane < m → (slot (J (home_of K lane)) lane).phase ≡ Idle) → ResumedSo K m E J
 
+-- `ResumingSkipLaw`, `ResumingEndsLaw`: resuming goes on past lanes that are idle, and ends behind the last
 abbrev pub ResumingEndsLaw : Type 0
 ResumingEndsLaw = (K : Shape) (E J : ℕ → List Record) → ResumedSo K (K.coordinators * K.lanes) E J → IsResumed K E J
 
@@ -33,6 +35,7 @@ ResumingEndsLaw = (K : Shape) (E J : ℕ → List Record) → ResumedSo K (K.coo
 abbrev pub WavesBeginLaw : Type 0
 WavesBeginLaw = (K : Shape) (sound : FullTx → Bool) (E R : ℕ → List Record) → IsResumed K E R → Waves K sound [] E R
 
+-- `WavesBeginLaw`, `WavesStepLaw`: the waves begin behind the resuming, and go on by a file
 abbrev pub WavesStepLaw : Type 0
 WavesStepLaw = (K : Shape) (sound : FullTx → Bool) (files : List (List FullTx)) (file : List FullTx) (E J X : ℕ → List Record)
     → Waves K sound files E J → IsFileRun K (sent_to K sound file) J X → Waves K sound (files ++ file ∷ []) E X

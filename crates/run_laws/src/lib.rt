@@ -1,4 +1,10 @@
 //! Laws that take what lanes say of their turns to the journals of the whole ledger. They have no body that runs.
+//!
+//! - What joins what lanes do into a run. They have no body that runs.
+//! - `ledger_nodes`, `file_runs` and `rack_runs` rest on these laws.
+//! - `kept_is_checked_law`, `checked_turn_law`, `checked_rest_law`, `checked_resume_law`: No contract of a public function cites them; the proofs
+//!   of `ledger_nodes` use the last two, those of `thread_laws` that of idle lanes.
+//! - `proper_law`, `grant_law`, `stop_law`: No contract of a public function cites them; the proofs of `turn_laws` use `stop_law`.
 #![tactic(auto)]
 
 ghost use Rattle.run_laws.specs.Checked.{KeptIsCheckedLaw};
@@ -61,6 +67,8 @@ pub fn grow_law()
 {}
 
 /// Where journals are kept and every lane is idle, the sentence holds of them.
+///
+/// Where no hashes clash (`Clean`).
 pub fn end_law()
     ensures { EndLaw }
 {}
@@ -88,6 +96,10 @@ pub fn grant_law()
 
 /// In checked journals a lane stops with Full or ClockEnd only at the record that it needs next, by its numbers there, with a disk's fault
 /// only where that node's disk has failed since it was opened, and never because a shard refuses.
+///
+/// In checked journals a lane stops with Full or ClockEnd only at the record that it needs next at that node (its next Prepare, or the Lock of a
+/// concerned shard that has not come to the batch), with the numbers of the journal there; with a disk's fault only where that node's disk has
+/// failed since it was opened; and never because a shard refuses.
 pub fn stop_law()
     ensures { StopLaw }
 {}

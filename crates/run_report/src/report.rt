@@ -39,7 +39,7 @@ fn kept_at(wave: &Wave, lane: usize, place: usize) -> Option<Decided>
     }
 }
 
-// What came of a submission.
+// The result of a submission.
 fn report_of(wave: &Wave, one: &Checked) -> Option<Report>
     ensures { result ≡ told_of wave.now.lanes.items one.now.judgement }
 {

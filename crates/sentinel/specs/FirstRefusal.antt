@@ -24,6 +24,8 @@ pub record IsLeast (P : ℕ → Type 0) (i : ℕ) : Type 0 where
 abbrev pub Repeats : List Input → ℕ → Type 0
 Repeats inputs i = HasAt (λ x. (k : ℕ) × (k < i) × HasAt (λ y. y.point ≡ x.point) inputs k) inputs i
 
+-- `HasAt`, `IsLeast`, `Repeats`, `HasVerdict`, `input_sum`, `output_sum`: the item at a place has a property; no earlier place has it; an outpoint
+-- stands earlier; an input has this verdict; the sums of the values
 abbrev pub HasVerdict : Verdict → List Input → Verdicts → ℕ → Type 0
 HasVerdict verdict inputs verdicts i = (i < length inputs) × (verdicts i ≡ verdict)
 

@@ -2,6 +2,8 @@
 //!
 //! Nothing here takes memory. A repeated outpoint is sought by comparing each input with those before it,
 //! at most 255 * 254 / 2 comparisons.
+//!
+//! - Tested in `piece_rows` (`refusals.rows`): every reason to refuse a transaction.
 #![tactic(auto)]
 
 mod places;

@@ -24,6 +24,7 @@ abbrev pub IsLockAdmitted : ShardCore → Record → Type 0
 IsLockAdmitted core (Lock stamp b es) = IsOfLane core b stamp × IsFree core b.lane × IsReady core (entries es) (replies es)
 IsLockAdmitted core other = ⊥
 
+-- `IsLockAdmitted`, `IsFinishAdmitted`, `IsForgetAdmitted`, `IsAdmitted`: the shard can take this record in: its memory is there
 abbrev pub IsFinishAdmitted : ShardCore → Record → Type 0
 IsFinishAdmitted core (Finish stamp b ds) = IsOfLane core b stamp × IsFinishable core b ds
 IsFinishAdmitted core other = ⊥

@@ -5,6 +5,7 @@ use Rattle.cbdc_model.specs.Status.{Status, status, has, Unspent, Locked, Absent
 use Rattle.hash_slots.specs.declared.slots.Kept.{Kept}
 use Rattle.hash_slots.specs.Entries.{lookup}
 
+-- whether a status is Unspent
 abbrev pub is_unspent : Status → Bool
 is_unspent Unspent = true
 is_unspent (Locked by) = false

@@ -14,6 +14,7 @@ use Rattle.shard_core.specs.declared.judging.LockAnswer.TheVariants.{Refused, Ag
 abbrev pub kept_at : List Record → Batch → RepliesAt
 kept_at J b = record { given = replies (lock_of J b); at = stamp_in (record_of 2 J b) }
 
+-- the answer to a Lock, before any memory is taken, is the definitions'
 abbrev pub IsJudged : LockAnswer → List Record → Batch → List Entry → ℕ → Type 0
 IsJudged (Refused why) J b part cause = next_lock J b part cause ≡ Refuse why
 IsJudged Again J b part cause = next_lock J b part cause ≡ Kept (kept_at J b)
@@ -56,6 +57,7 @@ IsNextLock (Refused why) s = Unit {0}
 IsNextLock Again s = Unit {0}
 IsNextLock Next s = IsIdle s
 
+-- `IsNextLock`, `IsNextFinish`, `IsNextForget`: where a record is to be appended, the slot allows it
 abbrev pub IsNextFinish : StampPlan → LaneSlot → ℕ → List Bool → Type 0
 IsNextFinish (StampKept stamp) s m ds = Unit {0}
 IsNextFinish (StampNext stamp) s m ds = IsLocked s m ds

@@ -10,6 +10,7 @@ locked_entries (Free n t) = 0
 locked_entries (Taken n part rs t) = length part
 locked_entries (Finished n part rs ds t u) = 0
 
+-- `locked_entries`, `locked_replies`: how many entries and replies a locked batch has
 abbrev pub locked_replies : LaneSlot → ℕ
 locked_replies (Free n t) = 0
 locked_replies (Taken n part rs t) = length rs

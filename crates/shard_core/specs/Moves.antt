@@ -10,6 +10,7 @@ inputs_where [] ds = []
 inputs_where (e ∷ es) [] = []
 inputs_where (e ∷ es) (d ∷ ds) = if d then e.inputs ++ inputs_where es ds else inputs_where es ds
 
+-- `inputs_where`, `outputs_where`: the inputs and the outputs of the committed entries
 abbrev pub outputs_where : List Entry → List Bool → List Digest
 outputs_where [] ds = []
 outputs_where (e ∷ es) [] = []
@@ -28,6 +29,7 @@ abbrev pub inputs_in : List Entry → ℕ
 inputs_in [] = 0
 inputs_in (e ∷ es) = length e.inputs + inputs_in es
 
+-- `inputs_in`, `outputs_in`, `hashes_in`: how many inputs and outputs there are
 abbrev pub outputs_in : List Entry → ℕ
 outputs_in [] = 0
 outputs_in (e ∷ es) = length e.outputs + outputs_in es
@@ -42,6 +44,7 @@ owed_by (Free n t) = 0
 owed_by (Taken n part rs t) = hashes_in part
 owed_by (Finished n part rs ds t u) = 0
 
+-- `owed_by`, `owed_in`: how many hashes the locked batches may still bring to the table
 abbrev pub owed_in : List LaneSlot → ℕ
 owed_in [] = 0
 owed_in (s ∷ slots) = owed_by s + owed_in slots

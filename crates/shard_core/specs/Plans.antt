@@ -11,6 +11,7 @@ use Rattle.shard_core.specs.declared.plans.LockPlan.{LockPlan}
 use Rattle.shard_core.specs.declared.plans.LockPlan.TheVariants.{Kept as LockKept, Append as LockNext, Refused as LockRefused}
 use Rattle.cbdc_types.specs.declared.calls.Replied.{Replied}
 
+-- `stamp_plan`, `replies_at`, `lock_plan`: the plans of the program, and their replies, as those of the definitions
 abbrev pub stamp_plan : StampPlan → Plan ℕ
 stamp_plan (StampKept stamp) = Kept stamp
 stamp_plan (StampNext stamp) = Append stamp

@@ -5,6 +5,7 @@ use Rattle.cbdc_model.specs.Fates.{Fate, Waiting, Committed, Rejected}
 use Rattle.shard_core.specs.declared.plans.Remembered.{Remembered}
 use Rattle.shard_core.specs.declared.plans.Remembered.TheVariants.{Waiting as Waits, Committed as Commits, Rejected as Rejects}
 
+-- `as_fate`, `told`: what the program remembers, and its answer, as the definitions have it
 abbrev pub as_fate : Remembered → Fate
 as_fate Waits = Waiting
 as_fate Commits = Committed
@@ -20,6 +21,7 @@ abbrev pub has_id : List Entry → Digest → Bool
 has_id [] id = false
 has_id (e ∷ es) id = same_digest e.id id || has_id es id
 
+-- what the first such entry's decision says
 abbrev pub fate_of : List Entry → List Bool → Digest → Option Fate
 fate_of [] ds id = None
 fate_of (e ∷ es) [] id = None

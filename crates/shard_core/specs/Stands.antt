@@ -43,9 +43,11 @@ pub record IsReady (core : ShardCore) (part : List Entry) (rs : List Reply) : Ty
   pub unspent : core.owed + hashes_in part ≤ core.unspent.spare
   pub fits : core.owed + hashes_in part < 2 ^ 62
 
+-- of the lane's batch in the core
 abbrev pub IsDone : ShardCore → ℕ → Type 0
 IsDone core lane = (s : LaneSlot) → slice_get core.slots lane ≡ Some s → IsPast s
 
+-- no batch of the lane is remembered in the core
 abbrev pub IsFree : ShardCore → ℕ → Type 0
 IsFree core lane = (s : LaneSlot) → slice_get core.slots lane ≡ Some s → IsIdle s
 

@@ -338,6 +338,9 @@ impl ShardCore {
 
     /// Whether a record is the next one. Where it is, the memory of its apply is there. Where memory runs out the
     /// shard is as before.
+    ///
+    /// State as before; yes only where the record may be taken in; for a core that stands for a shard's journal with its first record, yes exactly
+    /// where the record is in the grammar and follows the journal, a Lock with the replies that the shard gives.
     pub fn admit(&mut self, r: &Record) -> Result<bool, AllocError>
         ensures same { IsSameState self.old self.new }
         ensures admitted { IfOk result (λ yes. OnTrue yes (IsAdmitted self.new r.now)) }

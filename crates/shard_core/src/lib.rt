@@ -1,4 +1,8 @@
 //! A shard without its disk: what each call answers, and what each record changes.
+//!
+//! - `Stands` ties the unspent hashes and the locks at each hash to the status, the slot of each lane and the last stamp to a list of records.
+//! - Tested in `journal_rows`, in which the same rows are done by the definitions: each refusal with what was kept, what a batch leaves at its
+//!   hashes and transactions phase by phase, which records are next; parts over four shards. In `node_rows` (`tables.rows`): `answered`.
 #![tactic(auto)]
 
 mod applying;

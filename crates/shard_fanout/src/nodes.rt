@@ -16,6 +16,10 @@ use outside::Disk;
 use shard_node::ShardNode;
 
 /// A shard of a ledger: it keeps a journal, and does on it what each call owes.
+///
+/// What lanes ask of a shard, of whatever kind: each call does what the shard owes on its journal, with an answer that is good by the journal
+/// behind it, and what is to stay true of the shard does (gives, goes). `ShardNode` keeps it: what stays true is that its disk holds its journal.
+/// So does a shard in memory that takes no batch (`lock_rows`).
 pub trait Shard {
     /// Its header, its journal, its record in flight, how often it has failed, and how much it may hold.
     ghost sight: { Self → Sight };

@@ -56,6 +56,8 @@ impl<D: Disk> ShardNode<D> {
 
     /// Locks a part for a batch, answers as before, or refuses and changes nothing. What is needed for the batch's later
     /// records is taken here.
+    ///
+    /// Out of memory: before its first write; the shard's journal is as before.
     pub fn lock(&mut self, call: &LockCall) -> Result<Replied, NodeFault>
         requires { IsLockCall self.old.header call.now }
         ensures meets { Meets true (lock_due self.old.header.shape (D.limit self.old.disk) call.now self.old.broken self.old.journal)
@@ -73,6 +75,8 @@ impl<D: Disk> ShardNode<D> {
     }
 
     /// Applies a locked batch, answers as before, or refuses and changes nothing. Takes no memory.
+    ///
+    /// Out of memory: never.
     pub fn finish(&mut self, call: &FinishCall) -> Result<Stamp, NodeFault>
         requires { IsFinishCall self.old.header call.now }
         ensures meets { Meets false (finish_due call.now self.old.broken self.old.journal)
@@ -90,6 +94,8 @@ impl<D: Disk> ShardNode<D> {
     }
 
     /// Forgets a finished batch, answers as before, or refuses and changes nothing. Takes no memory.
+    ///
+    /// Out of memory: never.
     pub fn forget(&mut self, call: &ForgetCall) -> Result<Stamp, NodeFault>
         requires { IsForgetCall self.old.header call.now }
         ensures meets { Meets false (forget_due call.now self.old.broken self.old.journal)

@@ -155,6 +155,8 @@ fn no_log_fault(alloc: Global, refused: NoLog) -> NodeOpenFault
 
 impl<D: Disk> ShardNode<D> {
     /// Opens a shard's disk. A refusal hands the disk back.
+    ///
+    /// Out of memory: the disk comes back as it was read.
     pub fn open(alloc: Global, disk: D) -> Result<ShardNode<D>, (D, NodeOpenFault)>
         // The content opens to just this journal, and a crash leaves nothing else.
         ensures opens { IfOk result (λ n. Tells (D.content disk) (λ c. IsShardJournal n.header n.journal c × HoldsJournal D.content D.images n)) }

@@ -23,6 +23,7 @@ NotAmong shard (c ∷ cs) s = ((shard c == s) ≡ false) × NotAmong shard cs s
 abbrev pub is_concerned : Shape → List Compact → ℕ → Bool
 is_concerned K txs s = nat_lt s K.shards && not (is_no_part (part K.shards s 0 txs))
 
+-- a property holds of each in a list
 abbrev pub Every : {C : Type 0} → (C → Type 0) → List C → Type 0
 Every P [] = Unit {0}
 Every P (c ∷ cs) = P c × Every P cs
@@ -33,6 +34,7 @@ pub record AreCalls (K : Shape) (txs : List Compact) {C : Type 0} (shard : C →
   pub rising : IsRising shard cs
   pub covers : (s : ℕ) → is_concerned K txs s ≡ true → NotAmong shard cs s → ⊥
 
+-- the shard of a part
 abbrev pub shard : {A : Type 0} → ℕ × A → ℕ
 shard c = c.0
 

@@ -1,4 +1,6 @@
 //! A set of hashes that takes its memory ahead.
+//!
+//! - Tested in `node_rows` (`tables.rows`).
 #![tactic(auto)]
 
 mod table;

@@ -9,7 +9,7 @@ use Rattle.verifier_port.specs.declared.Verdict.TheVariants.{Good, Bad, Absent}
 use Rattle.sentinel.specs.FirstRefusal.{Verdicts, input_sum, output_sum}
 use Rattle.submissions.specs.Checks.{VerdictsOf, TellsSound}
 
--- two outpoints are one
+-- whether two outpoints have the same transaction and index
 abbrev pub same_point : OutPoint → OutPoint → Bool
 same_point p q = bytes_eq p.tx q.tx && p.index == q.index
 
@@ -23,17 +23,20 @@ abbrev pub each_below : (ℕ → Bool) → ℕ → Bool
 each_below test zero = true
 each_below test (suc n) = test n && each_below test n
 
+-- whether the verdict is Bad
 abbrev pub is_bad : Verdict → Bool
 is_bad Good = false
 is_bad Bad = true
 is_bad Absent = false
 
+-- whether it is Absent
 abbrev pub is_absent : Verdict → Bool
 is_absent Good = false
 is_absent Bad = false
 is_absent Absent = true
 
--- none of the reasons to refuse applies: a line for each, in their order
+-- some inputs; some outputs; as many witnesses as inputs; no outpoint twice; no input of value 0; no output of value 0; a sum of the inputs below
+-- 2^64, and one of the outputs; equal sums; no witness of an input that is bad, and none of which nothing is known
 abbrev pub is_sound : FullTx → Verdicts → Bool
 is_sound t verdicts =
     nat_lt 0 (length t.inputs)
@@ -48,7 +51,7 @@ is_sound t verdicts =
     && each_below (λ i. not (is_bad (verdicts i))) (length t.inputs)
     && each_below (λ i. not (is_absent (verdicts i))) (length t.inputs)
 
--- whether a transaction is sound by the verdicts on its id
+-- whether a transaction is sound by the verdicts on its id: the test by which `process` tells the waves of a run
 abbrev pub sound_by : VerdictsOf → FullTx → Bool
 sound_by verdicts t = is_sound t (verdicts (tx_id t))
 

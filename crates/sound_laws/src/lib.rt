@@ -1,4 +1,7 @@
 //! That there is a test that says yes exactly for the sound transactions, and that there is one alone. Nothing here runs.
+//!
+//! - No contract of a public function cites these laws: what `check_all`, `run_file` and `process` say of every test that tells the sound
+//!   transactions is, by them, said of one.
 #![tactic(auto)]
 
 ghost use Rattle.sound_laws.specs.SoundTest.{IsSoundLaw, OneTestLaw, SoundTestLaw};

@@ -26,7 +26,7 @@ pub record IsSettled (K : Shape) (verdicts : VerdictsOf) (files : List (List Ful
   pub replied : IsReplied K X place (compact t) outcome
   pub told : (r : Report) → IsReport K verdicts (sound_by verdicts) E X (take k files) file j t r → r ≡ Decided place.batch outcome
 
--- each sound submission of a run has its one place in one new Prepare, and nothing else has one
+-- each sound submission is so, no two have one place, and each transaction of a new Prepare is that of a sound submission at its place
 pub record AreSettled (K : Shape) (verdicts : VerdictsOf) (files : List (List FullTx)) (E X : ℕ → List Record) : Type 0 where
   -- each has a place
   pub each : (k j : ℕ) (t : FullTx) (it : IsSent verdicts files k j t) → IsSettled K verdicts files E X k it.file j t

@@ -42,6 +42,8 @@ abbrev pub IsRuling : VerdictsOf → FullTx → Ruling → Type 0
 IsRuling verdicts t (ruling.Refused r) = IsFirstRefusal t (verdicts (tx_id t)) r
 IsRuling verdicts t (ruling.Sound k) = IsSound t (verdicts (tx_id t)) × (k ≡ compact t)
 
+-- `IsRuling`, `IsRuled`: what a sentinel makes of a transaction by itself: its id, and the first reason to refuse it or, where it is sound, its
+-- compact form
 abbrev pub IsRuled : VerdictsOf → FullTx → Ruled → Type 0
 IsRuled verdicts t r = (r.id ≡ tx_id t) × IsRuling verdicts t r.ruling
 
@@ -50,6 +52,8 @@ abbrev pub IsDealtBy : Ruling → ℕ → List CompactTx → List CompactTx → 
 IsDealtBy (ruling.Refused why) at before after j = (j ≡ Refused why) × (after ≡ before)
 IsDealtBy (ruling.Sound k) at before after j = (j ≡ Sound at (length before)) × (after ≡ before ++ k ∷ [])
 
+-- `IsDealtBy`, `IsDealt`, `IsDealtAt`: what is kept of that: the reason, or a place at the end of a lane's list, which gets the compact form; the
+-- lists of the others stay
 abbrev pub IsDealt : Ruled → ℕ → List CompactTx → List CompactTx → Checked → Type 0
 IsDealt r at before after c = (c.id ≡ r.id) × IsDealtBy r.ruling at before after c.judgement
 

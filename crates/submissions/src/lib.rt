@@ -174,6 +174,10 @@ fn deal(alloc: Global, ruled: Vec<Ruled>, shape: &Shape) -> Result<Submitted, Al
 }
 
 /// Checks the submissions of a file. The one at place j goes to lane j modulo the number of lanes.
+///
+/// Each submission's id, with the first reason to refuse it, or its lane and place; each lane gets the compact forms of the sound ones that go to
+/// it, in order (said by every test that says yes exactly for the sound ones; that there is one, and one alone, is a law: `sound_laws`), and
+/// nothing else (said outright) ((`AreSubmitted`)).
 pub fn check_all<V: Verifier>(
     alloc: Global,
     txs: &[FullTx],

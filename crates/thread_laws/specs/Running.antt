@@ -40,7 +40,7 @@ pub record LaneRan (K : Shape) (logs shards : ℕ → Sight) (log_hands shard_ha
   pub txs : new.txs ≡ old.txs
   pub ended : HasEnded K lane log seen log' seen' old new
 
--- a wave: each coordinator has the lanes that are its own, and each shard has all
+-- a wave: each coordinator has seats for lanes of its own, each shard for any, each node has run, and so has each lane
 pub record WaveRan (K : Shape) (logs shards logs' shards' : ℕ → Sight) (old new : List LaneOf) : Type 0 where
   pub log_lanes : ℕ → List ℕ
   pub log_hands : ℕ → List Hand
@@ -85,6 +85,7 @@ AllSays K logs shards logs' shards' old new =
     WaveSays K (seen_by K logs shards) (seen_by K logs' shards') (flying K logs shards) (flying K logs' shards') (opened_by K logs' shards') (faults_by K logs' shards') (capacity_by K logs' shards') old new
     × NodesSay K logs shards logs' shards'
 
+-- so it is where lanes ran
 abbrev pub WaveRanLaw : Type 0
 WaveRanLaw = (K : Shape) (logs shards logs' shards' : ℕ → Sight) (old new : List LaneOf) → WaveNodes K logs shards logs' shards' → length old ≡ K.coordinators * K.lanes
     → WaveRan K logs shards logs' shards' old new → AllSays K logs shards logs' shards' old new

@@ -16,6 +16,7 @@ pub record IsLine (l : Line) : Type 0 where
   pub bytes : IsBytes l.tx
   pub place : l.index ≤ 254
 
+-- `Line`, `IsLine`, `word`, `spelled`: a verdict on an input: an id, a place from 0 to 254, good or bad; its spelling before the line feed
 abbrev pub word : Bool → List ℕ
 word true = codes "good"
 word false = codes "bad"
@@ -30,6 +31,7 @@ IsOpen bytes = AllByRecursion (λ b. b ≢ 10) bytes
 
 -- ---- lines one after another, the last of them first
 
+-- `is_key`, `said`: what lines say of an input
 abbrev pub is_key : List ℕ → ℕ → List ℕ → ℕ → Bool
 is_key tx index other place = bytes_eq tx other && (index == place)
 
@@ -38,6 +40,7 @@ abbrev pub said : List Line → List ℕ → ℕ → Option Bool
 said [] tx index = None
 said (l ∷ earlier) tx index = if is_key l.tx l.index tx index then Some l.good else said earlier tx index
 
+-- the text of lines
 abbrev pub text : List Line → List ℕ
 text [] = []
 text (l ∷ earlier) = text earlier ++ (spelled l ++ 10 ∷ [])

@@ -29,6 +29,8 @@ pub enum VerdictFault {
 }
 
 /// The verdicts of a file, one for each input that a line of it speaks of.
+///
+/// Its `verdict` is what the file gives this input; takes no memory.
 #[derive(Drop)]
 pub struct VerdictFile {
     words: HashMap<Key, bool>,
@@ -46,6 +48,9 @@ impl VerdictFile {
 
     /// Reads the lines of a verdict file: its first bytes, and whether it goes on behind them. The first bad line
     /// is told, whatever stands behind it.
+    ///
+    /// At Ok the bytes are lines in form, each for an input of its own, the file doesn't go on, and the file gives each input its line's word and
+    /// no other input any; else the first wrong line with its kind, or that the file goes on and no whole line is wrong; or memory ran out.
     pub fn read(alloc: Global, bytes: &[u8], more: bool) -> Result<VerdictFile, VerdictFault>
         ensures { Reads more bytes.now result }
     {

@@ -1,4 +1,7 @@
 //! Verdicts on the witnesses of transactions.
+//!
+//! - Open: that bytes have only one reading is not a law of its own. No signature is checked here.
+//! - Tested in `piece_rows` (`verdicts.rows`).
 #![tactic(auto)]
 
 mod file;

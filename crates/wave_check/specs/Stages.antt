@@ -14,6 +14,7 @@ abbrev pub items_of : Option (Vec CompactTx) → List CompactTx
 items_of None = []
 items_of (Some list) = list.items
 
+-- `sent_in`, `items_of`: what a lane gets, by lists of lanes, and nothing past the last
 abbrev pub sent_in : List (Vec CompactTx) → ℕ → List CompactTx
 sent_in lists lane = items_of (slice_get lists lane)
 

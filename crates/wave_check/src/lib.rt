@@ -1,5 +1,7 @@
 //! What a run adds to the journals, wave after wave, as a plain program: slow functions whose contracts are the definitions, and
 //! which compute them on small inputs. Journals are lists whose newest record comes first.
+//!
+//! - A plain, slow program as `model_check` is, on top of it: it tries all journals that those at exit may have been once.
 #![tactic(auto)]
 
 mod adding;

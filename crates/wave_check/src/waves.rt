@@ -45,6 +45,11 @@ fn add_stages<V: Verifier>(
 }
 
 /// Whether the journals at exit are those at entry, resumed, and then these files' waves, one file after another.
+///
+/// By each test that tells the sound submissions under these verdicts: true exactly where the journals at exit are those at entry, resumed, and
+/// then the files' waves (memory alone may run out).
+///
+/// Tested in `journal_rows` (`plain.rows`, `shards.rows`).
 #[tactic(auto, using(crate::proofs::Staging::waves_by))]
 pub fn are_waves<V: Verifier>(
     alloc: Global,

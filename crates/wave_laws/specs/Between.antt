@@ -13,7 +13,7 @@ pub record BeginsWave (K : Shape) (sound : FullTx → Bool) (files : List (List 
   pub before : AreFilesRun K sound (take k files) resumed M
   pub behind : AreFilesRun K sound (drop k files) M X
 
--- each file's wave begins somewhere
+-- each file's wave begins somewhere between the journals at entry and at exit
 abbrev pub BeginLaw : Type 0
 BeginLaw = (K : Shape) (sound : FullTx → Bool) (files : List (List FullTx)) (k : ℕ) (E X : ℕ → List Record) → Waves K sound files E X → (M : ℕ → List Record) × BeginsWave K sound files k E X M
 

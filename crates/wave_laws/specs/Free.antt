@@ -17,6 +17,7 @@ IsAlone sound t others = All (λ u. sound u ≡ true → (x : Digest) → has (c
 abbrev pub lane_behind : Shape → List FullTx → ℕ
 lane_behind K before = length before % (K.coordinators * K.lanes)
 
+-- `lane_behind`, `sound_behind`: the lane of the submission behind these, and the number of sound ones that the lane has of these
 abbrev pub sound_behind : Shape → (FullTx → Bool) → List FullTx → ℕ
 sound_behind K sound before = length (filter sound (share (K.coordinators * K.lanes) (lane_behind K before) 0 before))
 

@@ -26,6 +26,7 @@ module _ {N : Type 0} (sight : N → Sight) (goes : N → N → Type 0) where
   WentOn (x ∷ xs) (y ∷ ys) = goes x y × WentOn xs ys
   WentOn xs ys = ⊥
 
+  -- so it is behind the closing, and where nothing was asked
   abbrev pub HeldLaw : Type 0
   HeldLaw = ((nodes : List N) (rows : List (Vec ℕ)) (locks : List (Guarded N)) (first last : List (Vec (Seat N))) (closed : List N)
       → AreLocked sight nodes rows locks first → AreClosed sight goes locks last closed → WentOn nodes closed)

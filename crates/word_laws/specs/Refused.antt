@@ -15,6 +15,6 @@ abbrev pub HasHashes : Request → Type 0
 HasHashes (Status hashes) = AreWhole hashes.items
 HasHashes _ = Unit {0}
 
--- what the words ask for tells that they are not refused, but for want of memory
+-- what the words ask for tells that they are not refused, but where memory ran out
 abbrev pub AskedLaw : Type 0
 AskedLaw = (words : List Text) (r : Request) → HasHashes r → IsAsked words r → IsRefused words Bad → ⊥

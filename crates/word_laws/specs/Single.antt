@@ -10,6 +10,7 @@ use Rattle.requests.specs.declared.Request.TheVariants.{Init, Run, Recover, Stat
 abbrev pub names_of : List FileWord → List Text
 names_of files = map (λ (f : FileWord). f.name.now) files
 
+-- `names_of`, `places_of`: the names of files, and their places
 abbrev pub places_of : List FileWord → List ℕ
 places_of files = map (λ (f : FileWord). f.place) files
 

@@ -13,6 +13,7 @@ abbrev pub value_behind : List Text → ℕ → Text × Option Text → Option T
 value_behind words place (name, Some value) = Some value
 value_behind words place (name, None) = slice_get words (place + 1)
 
+-- of the option at a place
 abbrev pub value_at : List Text → ℕ → Option Text
 value_at words place = option_and_then (value_behind words place) (option_at words place)
 

@@ -15,6 +15,7 @@ program k = number k ++ replicate 24 0
 abbrev pub coin_value : ℕ → ℕ → ℕ
 coin_value seed i = 2 + (seed % 100 + i) % 100
 
+-- the coin
 abbrev pub coin : ℕ → ℕ → Output
 coin seed i = record { program = program i; value = coin_value seed i }
 
@@ -22,9 +23,11 @@ coin seed i = record { program = program i; value = coin_value seed i }
 abbrev pub minted_of : ℕ → ℕ
 minted_of n = n - n / 2
 
+-- `minted_of`, `joined_of`: how many coins are minted for n transactions, and how many pairs are joined again
 abbrev pub joined_of : ℕ → ℕ
 joined_of n = n / 2
 
+-- the coins of the mint
 abbrev pub mint_of : ℕ → ℕ → List Output
 mint_of seed n = map (coin seed) (range_with_len 0 (minted_of n))
 
@@ -36,6 +39,7 @@ witness = replicate 64 0
 abbrev pub low_half : ℕ → ℕ → ℕ → Output
 low_half seed n i = record { program = program (n + 2 * i); value = coin_value seed i / 2 }
 
+-- `low_half`, `high_half`, `split_of`, `splits_of`: the two halves of a coin, the transaction that splits it, and the first client file
 abbrev pub high_half : ℕ → ℕ → ℕ → Output
 high_half seed n i = record { program = program (n + 2 * i + 1); value = coin_value seed i - coin_value seed i / 2 }
 
@@ -59,6 +63,7 @@ join_by seed n i split = record {
   witnesses = witness ∷ witness ∷ [];
 }
 
+-- `join_by`, `join_of`, `joins_of`: the transaction that joins the halves of a coin again, and the second client file
 abbrev pub join_of : ℕ → ℕ → Digest → ℕ → FullTx
 join_of seed n genesis i = join_by seed n i (tx_id (split_of seed n genesis i))
 
@@ -73,6 +78,7 @@ good_line id index = spelled (record { tx = id; index = index; good = true }) ++
 abbrev pub split_lines : FullTx → List ℕ
 split_lines t = good_line (tx_id t) 0
 
+-- `good_line`, `split_lines`, `join_lines`, `verdicts_of`: the verdict lines: each input's witness is good
 abbrev pub join_lines : FullTx → List ℕ
 join_lines t = good_line (tx_id t) 0 ++ good_line (tx_id t) 1
 

@@ -1,4 +1,6 @@
 //! A workload from a number: as many transactions as wanted, all sound and free of conflict.
+//!
+//! - Tested in `piece_rows` (`batches.rows`), on ids computed elsewhere.
 #![tactic(auto)]
 
 mod coins;

@@ -7,7 +7,7 @@ use Rattle.verifier_port.specs.declared.Verdict.TheVariants.{Good}
 use Rattle.submissions.specs.Checks.{VerdictsOf}
 use Rattle.workload.specs.Generator.{mint_of, splits_of, joins_of}
 
--- every witness is good
+-- the verdicts of a verifier for which every witness is good
 abbrev pub all_good : VerdictsOf
 all_good id index = Good
 
@@ -15,6 +15,7 @@ all_good id index = Good
 abbrev pub files_of : ℕ → ℕ → List (List FullTx)
 files_of seed n = splits_of seed n ∷ joins_of seed n ∷ []
 
+-- all its transactions in one list
 abbrev pub all_of : ℕ → ℕ → List FullTx
 all_of seed n = splits_of seed n ++ (joins_of seed n ++ [])
 
@@ -22,5 +23,6 @@ all_of seed n = splits_of seed n ++ (joins_of seed n ++ [])
 abbrev pub first_journals : Shape → List Output → ℕ → List Record
 first_journals K mint node = journal node (first_rows K (minted mint))
 
+-- `first_journals` of the workload's mint
 abbrev pub made_for : Shape → ℕ → ℕ → ℕ → List Record
 made_for K seed n = first_journals K (mint_of seed n)

@@ -23,7 +23,8 @@ left_of n = 2 * minted_of n - joined_of n
 abbrev pub totals_of : ℕ → ℕ → Totals
 totals_of seed n = record { coins = left_of n; value = value_out (mint_of seed n); minted = value_out (mint_of seed n); committed = n }
 
--- each transaction is confirmed, so many hashes are unspent, and these are the totals of an audit that finds all sound
+-- behind a run of a workload each of its transactions is confirmed, `left_of` hashes are unspent, and the totals of an audit that finds all sound
+-- are `totals_of`
 pub record IsWhole (K : Shape) (seed n : ℕ) (X : ℕ → List Record) : Type 0 where
   pub confirmed : (k j : ℕ) (t : FullTx) (it : IsSent all_good (files_of seed n) k j t) → IsConfirmed K all_good (files_of seed n) (made_for K seed n) X k it.file j t
   pub unspent : (m : ℕ) → IsUnspentCount K X m → m ≡ left_of n

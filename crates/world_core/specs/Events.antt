@@ -9,6 +9,7 @@ use Rattle.world_core.specs.declared.events.ShardCall.TheVariants.{Lock, Finish,
 use Rattle.world_core.specs.declared.events.Event.{Event}
 use Rattle.world_core.specs.declared.events.Event.TheVariants.{Begin, End, Crash, Reopen, Repeat}
 
+-- `call_in`, `event_in`: calls and events of the program as those of the definitions
 abbrev pub call_in : ShardCall → model.ShardCall
 call_in (Lock c) = model.Lock_call c
 call_in (Finish c) = model.Finish_call c

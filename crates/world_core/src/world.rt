@@ -81,7 +81,7 @@ impl World {
         })
     }
 
-    /// The world after an event. An event that isn't allowed leaves it as it is, and so does want of memory.
+    /// The world after an event. An event that isn't allowed leaves it as it is, and so does running out of memory.
     pub fn step(&mut self, alloc: Global, event: &Event) -> Result<(), AllocError>
         ensures ok { (hashes : Items Digest) → OnOk result (Step self.old.shape (mint_of self.old.genesis hashes) self.old.nodes.items (event_in event.now) self.new.nodes.items) }
         ensures err { OnErr result (self.new.nodes.items ≡ self.old.nodes.items) }

@@ -17,6 +17,7 @@ abbrev pub lacks_lock_by : Shape → List Record → List Record → ℕ → ℕ
 lacks_lock_by K home own s lane =
     not (is_no_part (part K.shards s 0 (txs_of home (open_batch home lane)))) && not (is_some (record_of 2 own (open_batch home lane)))
 
+-- a lane's last batch has a part for a shard, and no Lock there
 abbrev pub lacks_lock : Shape → (ℕ → List Record) → ℕ → ℕ → Bool
 lacks_lock K J s lane = lacks_lock_by K (J (home_of K lane)) (J (shard_node K s)) s lane
 
@@ -29,6 +30,7 @@ locks_due K J s (suc n) = (if lacks_lock K J s n then 1 else 0) + locks_due K J 
 abbrev pub lock_cause : Shape → (ℕ → List Record) → ℕ → ℕ
 lock_cause K J lane = stamp_in (record_of 6 (J (home_of K lane)) (open_batch (J (home_of K lane)) lane))
 
+-- the greater of the shard's last stamp and that of the lane's Prepare: its Lock's stamp is one more
 abbrev pub before_lock : Shape → (ℕ → List Record) → ℕ → ℕ → ℕ
 before_lock K J s lane = max (last_stamp (J (shard_node K s))) (lock_cause K J lane)
 
@@ -50,6 +52,7 @@ abbrev pub IsLock : Record → Type 0
 IsLock (Lock stamp b es) = Unit {0}
 IsLock other = ⊥
 
+-- `IsLock`, `BeginsLock`, `BeginLocks`: the events begin Locks alone
 abbrev pub BeginsLock : Event → Type 0
 BeginsLock (Begin n r) = IsLock r
 BeginsLock other = Unit {0}

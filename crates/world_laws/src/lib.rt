@@ -1,5 +1,9 @@
 //! Further laws of every kept world, on which no crate of the program rests: what is committed, what is in flight, that stamps above
 //! 2^62 are few, and recovery. Functions with an empty body, whose contracts are the theorems. Nothing of them runs.
+//!
+//! - `once_law`, `taken_law`, `none_open_law`: Where no hashes clash (`Clean`). The other laws ask nothing of hashes.
+//! - Further laws of every kept world. Nothing of them runs; that late stamps are few is used by `stop_law` of `run_laws`.
+//! - Open: the laws write all Locks first; the program brings one lane after another to its end, and what stops it is said of its own calls.
 #![tactic(auto)]
 
 ghost use Rattle.world_laws.specs.Laws.{CheckedLaw, CountedLaw, FewLateLaw, GrowLaw, NoneOpenLaw, NoneRefusedLaw, OnceLaw, PassLaw, RecoveryLaw, ShardKindsLaw, StuckLaw, TakenLaw};
@@ -11,6 +15,9 @@ pub fn once_law()
 {}
 
 /// An input of a committed transaction, Locked or not, is in none of the three sets that make up the book's hashes.
+///
+/// An input of a committed transaction, still Locked or not, is neither Unspent, nor Locked for an entry that isn't committed, nor an output that
+/// is still to come.
 pub fn taken_law()
     ensures { TakenLaw }
 {}
@@ -39,6 +46,9 @@ pub fn pass_law()
 {}
 
 /// No stamp of kept journals is above 2^62 by more than the later records of one batch a lane.
+///
+/// No stamp of kept journals is above 2^62 by more than the records of one batch a lane that come behind its Locks: a Finish and a Forget of each
+/// shard, a Commit, a Discard and a Done.
 pub fn few_late_law()
     ensures { FewLateLaw }
 {}
