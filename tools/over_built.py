@@ -1,0 +1,82 @@
+"""What tools/over-built, build-up, try-wrong and plant-over share: one crate, checked or built over libraries that are built already.
+
+A library is sought where `tools/over-built lib` has left it in this checkout (crates/NAME/out/over), then where `rt ci` or `rt lib` has
+(crates/NAME/out/rlib) in this checkout or in the one that BUILT names, then in the kit.
+"""
+import os
+import subprocess
+import sys
+
+TOP = os.path.dirname(os.path.dirname(os.path.realpath(__file__)))
+KIT = os.path.dirname(subprocess.run(["rt", "doc"], stdout=subprocess.PIPE, text=True, check=True).stdout.split()[-1])
+BUILT = os.path.abspath(os.environ.get("BUILT", TOP))
+TARGET = "x86_64-unknown-linux-gnu"
+
+
+def uses():
+    """The libraries that each crate uses, by its line of crates.txt."""
+    found = {}
+    with open(f"{TOP}/crates.txt", encoding="utf-8") as lines:
+        for line in lines:
+            name, colon, rest = line.split("#")[0].partition(":")
+            if colon:
+                found[name.split()[0]] = rest.split()
+    return found
+
+
+def is_program(crate):
+    return os.path.isfile(f"{TOP}/crates/{crate}/src/main.rt")
+
+
+def library(name):
+    """The path of a library. It must be somewhere."""
+    places = [f"{TOP}/crates/{name}/out/over", f"{TOP}/crates/{name}/out/rlib", f"{BUILT}/crates/{name}/out/rlib", f"{KIT}/rlibs"]
+    for place in places:
+        if os.path.exists(f"{place}/{name}.rlib"):
+            return f"{place}/{name}.rlib"
+    sys.exit(f"over-built: {name} is built nowhere: neither here nor in {BUILT}; run `rt ci` there, or tools/build-up")
+
+
+def below(crate, known, found):
+    """The libraries that a crate stands on, each once, those that it names and those below them."""
+    for name in known.get(crate, []):
+        if name not in found:
+            found.append(name)
+            below(name, known, found)
+    return found
+
+
+def words_for(crate, folder, flags):
+    """The words of a check or a build of a crate whose sources stand in a folder; what was proved is kept there, in out/over/inc."""
+    known = uses()
+    root = "src/main.rt" if is_program(crate) else "src/lib.rt"
+    words = ["--crate-name", crate, root, "--extern", f"std={KIT}/rlibs/std.rlib", "-L", f"dependency={KIT}/rlibs"]
+    for name in known[crate]:
+        words += ["--extern", f"{name}={library(name)}"]
+    for place in dict.fromkeys(os.path.dirname(library(name)) for name in below(crate, known, [])):
+        words += ["-L", f"dependency={place}"]
+    words += ["--antt-project", f"{KIT}/rattle/logic/antt-project.json", "--logic-built", f"{KIT}/logic_built"]
+    return words + ["--jobs", os.environ.get("JOBS", "1"), "--incremental", f"{folder}/out/over/inc", *flags]
+
+
+def commands(what, crate, folder, flags):
+    """The commands that check a crate, or build it as a library or a program into out/over of its folder."""
+    words, out = words_for(crate, folder, flags), f"{folder}/out/over"
+    if what == "check":
+        return [[f"{KIT}/bin/rattle", "check", *words]]
+    if what == "lib":
+        return [[f"{KIT}/bin/rattle", "build", *words, "--links", f"{crate}=", "-o", f"{out}/{crate}.rlib"]]
+    build = [f"{KIT}/bin/rattle", "build", *words, "--links", f"{crate}=", "--toolchain", f"{KIT}/toolchain", "-o", f"{out}/{crate}.o"]
+    link = [f"{KIT}/bin/rattle-link", "--target", TARGET, "--toolchain", f"{KIT}/toolchain", "-o", f"{out}/{crate}", f"{out}/{crate}.o"]
+    return [build, [*link, f"{KIT}/c/libos_c.a", f"{KIT}/c/liblibc_c.a"]]
+
+
+def run(what, crate, flags=(), folder=None, **how):
+    """Checks or builds a crate; the status of the first command that fails, or 0."""
+    folder = folder or f"{TOP}/crates/{crate}"
+    os.makedirs(f"{folder}/out/over", exist_ok=True)
+    for command in commands(what, crate, folder, flags):
+        status = subprocess.run(command, cwd=folder, stdin=subprocess.DEVNULL, **how).returncode
+        if status:
+            return status
+    return 0
