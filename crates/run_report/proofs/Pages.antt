@@ -10,14 +10,6 @@ use Rattle.run_report.specs.Pages.{Gathers}
 some_is : {A : Type 0} (a b : A) → Some a ≡ Some b → a ≡ b
 some_is a b e = cc
 
--- a text that found room on the page
-pub on_page : (E : Type 0) (old : Option Text) (waited waits text : Text) (done : Unit {0}) → Tells (Some waited) (λ t. Some waits ≡ Some (t ++ text)) → Gathers {E = E} old waited old waits text (Ok done)
-on_page E old waited waits text done on = (
-  [],
-  (λ t is. is ∙ ap (λ (l : Text). Some l) (sym (append-nil t))),
-  some_is waits (waited ++ text) (on waited refl),
-)
-
 -- what stands on the page once a text that found no room there is taken away
 pub cut_back : (waited half text : Text) → Tells (Some waited) (λ t. (n : ℕ) × (Some half ≡ Some (t ++ take n text))) → take (length waited) half ≡ waited
 cut_back waited half text off =
