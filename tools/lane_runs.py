@@ -9,8 +9,10 @@ import itertools
 import os
 import subprocess
 
-# The words of a command in a folder beside the files.
-INIT = "init --shards 8 --coordinators 4 --lanes 2 --batch 16 ../mint".split()
+# The words of a command in a folder beside the files. Ledgers are made in two shapes, in turn: many lanes, each of which makes one call after
+# another, and one lane, which makes the calls of a phase at all shards at once, as it does with the largest batches and fewer lanes than shards.
+SHAPES = {"8 lanes": "--shards 8 --coordinators 4 --lanes 2 --batch 16", "1 lane": "--shards 8 --coordinators 1 --lanes 1 --batch 1024"}
+INIT = {name: f"init {shape} ../mint".split() for name, shape in SHAPES.items()}
 RUN = "run --verdicts ../verdicts ../client-1 ../client-2".split()
 AUDIT = "audit ../mint ../client-1 ../client-2".split()
 RECOVER = ["recover"]
@@ -60,8 +62,9 @@ def transaction(spent, outputs):
 class Work:
     """A mint, and two client files: each transaction of the first splits a coin in two, the one at its place in the second joins the halves.
 
-    Of the first file one in 25 is a rival: it spends the coin of the one before it, which another lane runs. Which of the two is confirmed is
-    a matter of the schedule, and so which of their joins is. How many are confirmed, and of what value, is the same in every schedule."""
+    Of the first file one in 25 is a rival: it spends the coin of the one before it, which another lane runs, where there are several. Which of the
+    two is confirmed is a matter of the schedule then, and so which of their joins is. How many are confirmed, and of what value, is the same in every
+    schedule."""
 
     def __init__(self, count):
         places = range(count // 2)
