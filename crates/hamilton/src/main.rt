@@ -7,9 +7,8 @@
 
 use cbdc_types::Answer;
 use commands::{Done, process};
-use host_devices::{FileInbox, FileRack, StdoutSink};
+use host_devices::{CallTimes, FileInbox, FileRack, StdoutSink};
 use line_text::{status_code, write_fault};
-use outside::OpenGate;
 use std::process::ExitCode;
 use std::{env, io};
 
@@ -41,7 +40,7 @@ fn main(rt: HostRuntime) -> ExitCode {
         &mut inbox,
         rack,
         &mut out,
-        &OpenGate,
+        &CallTimes::new(&rt),
     );
     ExitCode::from(status_code(&status))
 }

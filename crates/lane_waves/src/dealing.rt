@@ -10,7 +10,7 @@ use lane_driver::{Ports, Source};
 use ledger_runs::Work;
 use node_lock::{Guarded, Seat};
 use outside::Disk;
-use port_sets::Fanout;
+use port_sets::{Fanout, Pace};
 use shard_fanout::{Locks, LogSeat, Shard, ShardSeat, SharedLog, SharedShard};
 use std::alloc::{AllocError, Global};
 use std::marker::PhantomData;
@@ -61,7 +61,7 @@ pub(crate) fn let_go<T>(mut rooms: Vec<Vec<T>>)
 // The last lane gets its seat of each shard, beside that of its coordinator.
 fn deal_lane<'a, W: Wait, D: Disk, S: Shard, B: Locks, X: Source>(
     rt: &'a W,
-    at_once: bool,
+    pace: Pace,
     first: u32,
     locks: &'a [Guarded<SharedShard<S>>],
     home: LogSeat<'a, W, D, B>,
@@ -95,7 +95,7 @@ fn deal_lane<'a, W: Wait, D: Disk, S: Shard, B: Locks, X: Source>(
             shards: SeatSet {
                 rt,
                 locks,
-                each: Fanout { at_once, ports },
+                each: Fanout { pace, ports },
             },
             log: home,
         },
@@ -114,7 +114,7 @@ fn deal_lane<'a, W: Wait, D: Disk, S: Shard, B: Locks, X: Source>(
 // The lanes of a coordinator get their seats, the last one first. Its list of seats is empty then.
 fn deal_home<'a, W: Wait, D: Disk, S: Shard, B: Locks, X: Source>(
     rt: &'a W,
-    at_once: bool,
+    pace: Pace,
     shape: &Shape,
     home: u32,
     log_locks: &'a [Guarded<SharedLog<D>>],
@@ -142,7 +142,7 @@ fn deal_home<'a, W: Wait, D: Disk, S: Shard, B: Locks, X: Source>(
             seat,
             of: PhantomData,
         };
-        table = deal_lane(rt, at_once, first, shard_locks, port, table);
+        table = deal_lane(rt, pace, first, shard_locks, port, table);
     }
     (own, table)
 }
@@ -151,7 +151,7 @@ fn deal_home<'a, W: Wait, D: Disk, S: Shard, B: Locks, X: Source>(
 /// coordinators' lists of seats are empty then, the last one first.
 pub(crate) fn deal_all<'a, W: Wait, D: Disk, S: Shard, B: Locks, X: Source>(
     rt: &'a W,
-    at_once: bool,
+    pace: Pace,
     shape: &Shape,
     log_locks: &'a [Guarded<SharedLog<D>>],
     shard_locks: &'a [Guarded<SharedShard<S>>],
@@ -177,7 +177,7 @@ pub(crate) fn deal_all<'a, W: Wait, D: Disk, S: Shard, B: Locks, X: Source>(
 {
     while let Some(own) = homes.pop() {
         let home = homes.len() as u32;
-        let (own, rest) = deal_home(rt, at_once, shape, home, log_locks, shard_locks, own, table);
+        let (own, rest) = deal_home(rt, pace, shape, home, log_locks, shard_locks, own, table);
         emptied.push_reserved(own);
         table = rest;
     }

@@ -49,7 +49,7 @@ fn gather_lane<'a, W: Wait, D: Disk, S: Shard, B: Locks, X: Source>(
         locks: _,
         each,
     } = shards;
-    let Fanout { at_once: _, ports } = each;
+    let Fanout { pace: _, ports } = each;
     let LogSeat {
         rt: _,
         node: _,

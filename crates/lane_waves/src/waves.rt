@@ -18,7 +18,7 @@ ghost use Rattle.lane_waves.specs.Gathers.{AreRun};
 ghost use Rattle.lane_waves.specs.Rooms.{IsNodeRoom, IsLaneRoom};
 ghost use Rattle.lane_waves.specs.Waves.{log_goes, shard_goes, AreNodesOf, AreThrough};
 
-use crate::choosing::worth_threads;
+use crate::choosing::pace_of;
 use crate::dealing::{Table, deal_all, port_rooms};
 use crate::gathering::gather_all;
 use crate::lanes::{make_ready, stop_all};
@@ -237,7 +237,7 @@ fn run_seated<
         rooms,
         runs,
     } = room;
-    let at_once = worth_threads(shape, lanes.as_slice());
+    let pace = pace_of(shape, lanes.as_slice());
     let table = Table {
         rows,
         spare,
@@ -248,7 +248,7 @@ fn run_seated<
     };
     let (homes, emptied, table) = deal_all(
         rt,
-        at_once,
+        pace,
         shape,
         log_locks,
         shard_locks,
