@@ -9,3 +9,4 @@ pub mod Cutting
 pub mod Launching
 pub mod Whole
 pub mod Sending
+pub mod Holding

@@ -1,6 +1,7 @@
 //! Client files over the nodes of a ledger: each file is a wave, which begins when those of the files before it are done.
 #![tactic(auto)]
 
+mod fed;
 mod files;
 mod ran;
 mod waves;

@@ -10,17 +10,18 @@ ghost use Rattle.submissions.specs.Checks.{AreChecked};
 ghost use Rattle.lane_sources.specs.Sources.{lanes_of};
 ghost use Rattle.file_runs.specs.Runs.{AreLanesOf};
 
+use crate::fed::{Waved, ahead_of, checkers_of, run_fed};
 use cbdc_types::FullTx;
 use lane_driver::{LaneFault, no_memory};
-use lane_sources::{Deals, FileOf, LaneSource, RuledAt, checks_of, rule_ahead};
-use ledger_nodes::{Ledger, run_wave};
+use lane_sources::{Deals, FileOf, LaneSource, checks_of};
+use ledger_nodes::Ledger;
 use ledger_runs::{Lane, Work, first_fault};
 use outside::{Disk, Gate};
 use requests::RunOptions;
+use sentinel_pipe::Feeder;
 use std::alloc::{AllocError, Global};
 use std::marker::Brand;
 use std::sync::Wait;
-use std::thread;
 use std::thread::Threads;
 use submissions::Checked;
 use verifier_port::Verifier;
@@ -41,16 +42,16 @@ pub struct FileRun<D: Disk> {
 
 // The memory of what is put together behind a wave.
 #[derive(Drop)]
-struct WaveRoom<'a, V: Verifier, F: Deals> {
-    sources: Vec<LaneSource<'a, V, F>>,
+struct WaveRoom<'a, W: Wait, V: Verifier, F: Deals> {
+    sources: Vec<LaneSource<'a, W, V, F>>,
     lanes: Vec<Lane>,
     checked: Vec<Checked>,
 }
 
-fn wave_room<'a, V: Verifier, F: Deals>(
+fn wave_room<'a, W: Wait, V: Verifier, F: Deals>(
     alloc: Global,
     file: &FileOf<'a, V, F>,
-) -> Result<WaveRoom<'a, V, F>, AllocError>
+) -> Result<WaveRoom<'a, W, V, F>, AllocError>
     ensures sources { IfOk result (λ r. (r.sources.items ≡ []) × (lanes_of F.shape ≤ vec_capacity r.sources)) }
     ensures lanes { IfOk result (λ r. (r.lanes.items ≡ []) × (lanes_of F.shape ≤ vec_capacity r.lanes)) }
     ensures checked { IfOk result (λ r. (r.checked.items ≡ []) × (length F.file ≤ vec_capacity r.checked)) }
@@ -62,54 +63,32 @@ fn wave_room<'a, V: Verifier, F: Deals>(
     })
 }
 
-// Whether there are fewer lanes than processors, so that lanes that check their own submissions would leave some idle.
-fn are_few<W: Threads>(rt: &W, lanes: usize) -> bool {
-    match thread::available_parallelism(rt) {
-        Ok(processors) => lanes < processors.get(),
-        Err(_) => false,
-    }
-}
-
-// What sentinels make of a lane's submissions, by all processors, where it is to be found before the wave; or memory ran out.
-fn found_ahead<'a, W: Threads + Sync, V: Verifier + Sync, F: Deals + Send + Sync>(
-    rt: &W,
-    alloc: Global,
-    file: &FileOf<'a, V, F>,
-    lane: usize,
-    few: bool,
-) -> Result<Vec<RuledAt<F>>, AllocError> {
-    if few {
-        rule_ahead(rt, alloc, file, lane, file.txs().len())
-    } else {
-        Ok(Vec::new(alloc))
-    }
-}
-
-// The lanes of a wave, none of which has run anything.
-fn works_of<'a, W: Threads + Sync, V: Verifier + Sync, F: Deals + Send + Sync>(
-    rt: &W,
+// The lanes of a wave, none of which has run anything. Their feeders are put to the others.
+fn works_of<'a, W: Wait + Threads + Sync, V: Verifier + Sync, F: Deals + Send + Sync>(
+    rt: &'a W,
     alloc: Global,
     file: &'a FileOf<'a, V, F>,
     repeats: u32,
-) -> Result<Vec<Work<LaneSource<'a, V, F>>>, AllocError>
+    feeders: &mut Vec<Feeder<F>>,
+) -> Result<Vec<Work<LaneSource<'a, W, V, F>>>, AllocError>
     ensures { IfOk result (λ v. AreLanesOf F.shape F.verdicts F.file v.items) }
 {
     let count = file.lanes();
-    let few = are_few(rt, count);
+    let checkers = checkers_of(rt, file);
     let mut works = Vec::with_capacity(alloc, count)?;
     'lanes: for lane in 0..count {
-        let ahead = found_ahead(rt, alloc, file, lane, few)?;
-        let source = LaneSource::new(alloc, file, lane, ahead)?;
+        let ahead = ahead_of(rt, alloc, file, lane, checkers, feeders)?;
+        let source = LaneSource::new(rt, alloc, file, lane, ahead)?;
         works.push(Work::new(alloc, source, repeats))?;
     }
     Ok(works)
 }
 
 // What came of a wave, with what was said of the submissions.
-fn wave_of<'a, V: Verifier, F: Deals>(
+fn wave_of<'a, W: Wait, V: Verifier, F: Deals>(
     file: &FileOf<'a, V, F>,
-    works: Vec<Work<LaneSource<'a, V, F>>>,
-    room: WaveRoom<'a, V, F>,
+    works: Vec<Work<LaneSource<'a, W, V, F>>>,
+    room: WaveRoom<'a, W, V, F>,
 ) -> Wave
     requires many { length works.items ≡ lanes_of F.shape }
     requires sources { (room.sources.items ≡ []) × (lanes_of F.shape ≤ vec_capacity room.sources) }
@@ -137,18 +116,68 @@ fn wave_of<'a, V: Verifier, F: Deals>(
 }
 
 // The same of the file that `F` picks.
-fn run_picked<
+fn run_dealt<
+    'a,
     W: Wait + Threads + Sync,
     D: Disk + Send,
     V: Verifier + Sync,
     F: Deals + Send + Sync,
     G: Gate + Sync,
 >(
-    rt: &W,
+    rt: &'a W,
+    alloc: Global,
+    file: &'a FileOf<'a, V, F>,
+    ledger: Ledger<D>,
+    repeats: u32,
+    gate: &G,
+) -> FileRun<D>
+    requires shape { F.shape ≡ ledger.header.shape }
+    requires idle { AreIdle ledger.header.shape (journals D.count D.limit ledger) }
+    requires short { All IsShort F.file }
+    requires checked { IsChecked D.count D.limit ledger }
+    ensures { RanFile D.count D.limit D.content D.images F.verdicts F.file ledger result.ledger result.came }
+{
+    let mut feeders = Vec::new(alloc);
+    let Ok(works) = works_of(rt, alloc, file, repeats, &mut feeders) else {
+        return FileRun {
+            ledger,
+            came: Err(no_memory()),
+        };
+    };
+    let Ok(room) = wave_room(alloc, file) else {
+        return FileRun {
+            ledger,
+            came: Err(no_memory()),
+        };
+    };
+    let Waved { ledger, works } =
+        run_fed::<W, D, V, F, Brand, G>(rt, alloc, file, ledger, works, feeders, gate);
+    match first_fault(&works) {
+        Some(fault) => FileRun {
+            ledger,
+            came: Err(fault),
+        },
+        None => FileRun {
+            ledger,
+            came: Ok(wave_of(file, works, room)),
+        },
+    }
+}
+
+// Picks the file.
+fn run_picked<
+    'a,
+    W: Wait + Threads + Sync,
+    D: Disk + Send,
+    V: Verifier + Sync,
+    F: Deals + Send + Sync,
+    G: Gate + Sync,
+>(
+    rt: &'a W,
     alloc: Global,
     ledger: Ledger<D>,
-    txs: &[FullTx],
-    verifier: &V,
+    txs: &'a [FullTx],
+    verifier: &'a V,
     options: RunOptions,
     gate: &G,
 ) -> FileRun<D>
@@ -161,29 +190,7 @@ fn run_picked<
     ensures { RanFile D.count D.limit D.content D.images F.verdicts F.file ledger result.ledger result.came }
 {
     let file: FileOf<'_, V, F> = FileOf::new(txs, verifier, ledger.shape().lane_count());
-    let Ok(mut works) = works_of(rt, alloc, &file, options.repeats) else {
-        return FileRun {
-            ledger,
-            came: Err(no_memory()),
-        };
-    };
-    let Ok(room) = wave_room(alloc, &file) else {
-        return FileRun {
-            ledger,
-            came: Err(no_memory()),
-        };
-    };
-    let ledger = run_wave(rt, alloc, ledger, &mut works, gate);
-    match first_fault(&works) {
-        Some(fault) => FileRun {
-            ledger,
-            came: Err(fault),
-        },
-        None => FileRun {
-            ledger,
-            came: Ok(wave_of(&file, works, room)),
-        },
-    }
+    run_dealt(rt, alloc, &file, ledger, options.repeats, gate)
 }
 
 /// Runs the submissions of a client file over the nodes of a ledger with no open batch. Each lane checks what is for it as it comes to

@@ -6,11 +6,12 @@ ghost use Rattle.lane_sources.specs.Sources.{lanes_of, AreFinished};
 
 use crate::file::{Deals, FileOf};
 use crate::source::LaneSource;
+use std::sync::Wait;
 use submissions::Checked;
 use verifier_port::Verifier;
 
 // Each source comes to the end of the file, the one at each place for the lane of that number.
-fn finish_all<'a, V: Verifier, F: Deals>(sources: &mut [LaneSource<'a, V, F>])
+fn finish_all<'a, W: Wait, V: Verifier, F: Deals>(sources: &mut [LaneSource<'a, W, V, F>])
     requires { length sources.old ≡ lanes_of F.shape }
     ensures count { length sources.new ≡ length sources.old }
     ensures end { AreFinished F.file sources.new }
@@ -22,9 +23,9 @@ fn finish_all<'a, V: Verifier, F: Deals>(sources: &mut [LaneSource<'a, V, F>])
 
 /// Puts what the sources of a file's lanes said in the order of the file. A submission that its lane did not come to is checked now. It takes
 /// no memory.
-pub fn checks_of<'a, V: Verifier, F: Deals>(
+pub fn checks_of<'a, W: Wait, V: Verifier, F: Deals>(
     file: &FileOf<'a, V, F>,
-    sources: &mut [LaneSource<'a, V, F>],
+    sources: &mut [LaneSource<'a, W, V, F>],
     checked: &mut Vec<Checked>,
 )
     requires lanes { length sources.old ≡ lanes_of F.shape }

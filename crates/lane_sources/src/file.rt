@@ -84,6 +84,7 @@ impl<'a, V: Verifier, F: Deals> FileOf<'a, V, F> {
         ensures lanes { result ≡ F.shape.coordinators * F.shape.lanes }
         ensures some { 0 < result }
         ensures fits { length F.file + result < 2 ^ 64 }
+        ensures small { result < 2 ^ 32 }
     {
         self.lanes as usize
     }

@@ -5,29 +5,33 @@ ghost use Rattle.sentinel.specs.FirstRefusal.{IsSound, IsFirstRefusal};
 ghost use Rattle.submissions.specs.Checks.{IsSaid, IsRuled};
 ghost use Rattle.lane_sources.specs.Sources.{lanes_of, all_of, left_at, LeavesBehind, SubmissionAt};
 
+use crate::ahead::Ahead;
 use crate::file::{Deals, FileOf};
-use crate::ruled::{RuledAt, found_or_now};
+use crate::ruled::found_or_now;
 use cbdc_types::{CompactTx, Hash, Refusal};
 use lane_driver::Source;
 use std::alloc::{AllocError, Global};
 use std::marker::Model;
+use std::sync::Wait;
 use submissions::{Checked, Judged, Judgement, Ruled, Ruling, judge};
 use verifier_port::Verifier;
 
 /// What a file sends to a lane: the submission at place j goes to lane j modulo the number of lanes, and the compact forms of the sound
-/// ones are sent. Each is checked when the lane comes to it, and what is said of it is kept.
+/// ones are sent. Each is checked when the lane comes to it, unless what a sentinel makes of it was found ahead, and what is said of it is
+/// kept.
 #[derive(Drop)]
-pub struct LaneSource<'a, V: Verifier, F: Deals> {
+pub struct LaneSource<'a, W: Wait, V: Verifier, F: Deals> {
+    rt: &'a W,
     file: &'a FileOf<'a, V, F>,
     lane: usize,
     at: usize,
     sent: usize,
     checked: Vec<Checked>,
     piece: Vec<CompactTx>,
-    ahead: Vec<RuledAt<F>>,
+    ahead: Ahead<F>,
 }
 
-impl<'a, V: Verifier, F: Deals> Model for LaneSource<'a, V, F> {
+impl<'a, W: Wait, V: Verifier, F: Deals> Model for LaneSource<'a, W, V, F> {
     ghost use Rattle.lane_sources.specs.Sources.{SourceOf, IsSource};
 
     ghost Value = { SourceOf };
@@ -37,20 +41,21 @@ impl<'a, V: Verifier, F: Deals> Model for LaneSource<'a, V, F> {
     ghost invariant = { λ s. IsSource F.shape F.verdicts F.file s.lane s.at s.sent s.checked };
 }
 
-impl<'a, V: Verifier, F: Deals> LaneSource<'a, V, F> {
-    /// The source of a lane, or memory ran out. What was found ahead of the lane's first submissions, in order from the end of the list,
-    /// is not sought again.
+impl<'a, W: Wait, V: Verifier, F: Deals> LaneSource<'a, W, V, F> {
+    /// The source of a lane, or memory ran out. What is found ahead of the lane is not sought again.
     pub fn new(
+        rt: &'a W,
         alloc: Global,
         file: &'a FileOf<'a, V, F>,
         lane: usize,
-        ahead: Vec<RuledAt<F>>,
-    ) -> Result<LaneSource<'a, V, F>, AllocError>
+        ahead: Ahead<F>,
+    ) -> Result<LaneSource<'a, W, V, F>, AllocError>
         requires { lane < file.now }
         ensures { IfOk result (λ s. s.lane ≡ lane) }
     {
         let room = file.txs().len().div_ceil(file.lanes());
         Ok(LaneSource {
+            rt,
             file,
             lane,
             at: lane,
@@ -59,6 +64,13 @@ impl<'a, V: Verifier, F: Deals> LaneSource<'a, V, F> {
             piece: Vec::new(alloc),
             ahead,
         })
+    }
+
+    /// Takes nothing more that is found ahead, and drops the receiving end of what is sent.
+    pub fn end_ahead(&mut self)
+        ensures { self.new ≡ self.old }
+    {
+        self.ahead = Ahead::Nothing;
     }
 
     // Keeps that the next submission is sound, and goes to the one behind it.
@@ -103,7 +115,7 @@ impl<'a, V: Verifier, F: Deals> LaneSource<'a, V, F> {
         ensures left { IfOk result (λ r. LeavesBehind F.shape F.verdicts F.file self.old.lane self.old.at r.ruling) }
         ensures some { IfErr result (λ _. 0 < length (left_at F.shape F.verdicts F.file self.old.lane self.old.at)) }
     {
-        let found = self.ahead.pop();
+        let found = self.ahead.next(self.rt);
         let file = self.file;
         found_or_now(alloc, file, self.at, found)
     }
@@ -188,7 +200,7 @@ impl<'a, V: Verifier, F: Deals> LaneSource<'a, V, F> {
     }
 }
 
-impl<'a, V: Verifier, F: Deals> Source for LaneSource<'a, V, F> {
+impl<'a, W: Wait, V: Verifier, F: Deals> Source for LaneSource<'a, W, V, F> {
     ghost all = { λ s. all_of F.shape F.verdicts F.file s.lane };
 
     ghost rest = { λ s. left_at F.shape F.verdicts F.file s.lane s.at };

@@ -8,7 +8,7 @@ use outside::{Failed, Gate, Inbox, Point, Rack};
 use std::alloc::{AllocError, Global};
 use std::sync::{Mutex, Wait};
 
-/// A gate that notes the points that are passed, and holds those of an order to it.
+/// A gate that notes the points of calls that are passed, and holds all points of an order to it.
 #[derive(Drop)]
 pub struct NotingGate {
     points: Mutex<Vec<Point>>,
@@ -28,12 +28,17 @@ impl NotingGate {
         self.order.is_kept()
     }
 
-    /// The points that were passed, those of a phase by their nodes.
+    /// The points of calls that were passed, those of a phase by their nodes.
     pub fn into_points(self, alloc: Global) -> Result<Vec<Point>, AllocError> {
         let NotingGate { points, order: _ } = self;
         let points = points.into_inner();
         by_nodes(alloc, points.as_slice())
     }
+}
+
+// Whether a point is of a call at a node. Those behind the messages of a sentinel ahead of a lane are not, and come whenever it gets on.
+fn is_of_call(point: &Point) -> bool {
+    point.kind != 0
 }
 
 // Whether two points are of calls of one phase.
@@ -64,8 +69,10 @@ fn by_nodes(alloc: Global, points: &[Point]) -> Result<Vec<Point>, AllocError> {
 impl Gate for NotingGate {
     fn pass<W: Wait>(&self, rt: &W, point: &Point) {
         self.order.pass(point);
-        let mut points = self.points.lock(rt);
-        let _ = points.push(*point);
+        if is_of_call(point) {
+            let mut points = self.points.lock(rt);
+            let _ = points.push(*point);
+        }
     }
 }
 

@@ -1,8 +1,10 @@
-//! Rows on the lock round a node, which need threads: what lanes that run beside each other leave, what a look tells, and where calls wait.
+//! Rows on the lock round a node, which need threads: what lanes that run beside each other leave, what a look tells, and where calls wait; and
+//! on a sentinel ahead of a lane.
 //! A row whose name begins with `differs` does not hold.
 #![tactic(auto)]
 
 mod book;
+mod feeding;
 mod frozen;
 mod gates;
 mod lanes;
@@ -63,13 +65,21 @@ fn main(rt: HostRuntime) -> io::Result<ExitCode> {
             "row two lanes at a shard that stands on no disk and takes no batch: a Lock and a Finish are not done, and both lanes look and see the output absent",
             shards::takes_none(&rt, alloc),
         ),
+        (
+            "row a sentinel ahead of a lane sends three messages for three submissions, in their order, the second with its refusal, and then no more",
+            feeding::sends_three(&rt, alloc),
+        ),
+        (
+            "row a lane whose sentinel sends, one whose sentinel was dropped before its first message and one that has none get the same transactions",
+            feeding::has_the_same(&rt, alloc),
+        ),
     ];
     let mut held = 0u32;
     for (row, holds) in told {
         held = held.saturating_add(tell(&rt, row, holds)?);
     }
-    println!(&rt; "{held} of 9 rows came to what they should")?;
-    if held == 9 {
+    println!(&rt; "{held} of 11 rows came to what they should")?;
+    if held == 11 {
         Ok(ExitCode::from(0))
     } else {
         Ok(ExitCode::from(1))

@@ -1,0 +1,234 @@
+// What is found ahead of the lanes of a file, and a wave with the lanes' feeders beside it.
+ghost use Rattle.std.specs.Prelude.{◌≡◌, ◌<◌, ◌^◌, true, List, []};
+ghost use denote.Param.Send.{IsSync, IsSend};
+ghost use Rattle.ledger_runs.specs.Lanes.{LaneOf};
+ghost use Rattle.ledger_nodes.specs.Ledgers.{LedgerOf};
+ghost use Rattle.ledger_nodes.specs.Waving.{IsWave};
+ghost use Rattle.file_runs.specs.Feeding.{CanWave, no_ledger};
+
+use cbdc_types::{LaneId, Shape};
+use lane_sources::{Ahead, Deals, FileOf, LaneSource, rule_ahead};
+use ledger_nodes::{Ledger, run_wave};
+use ledger_runs::Work;
+use outside::{Disk, Gate};
+use sentinel_pipe::{Feeder, feed, pipe};
+use std::alloc::{AllocError, Global};
+use std::marker::{Brand, Model, PhantomData};
+use std::mem;
+use std::sync::Wait;
+use std::thread;
+use std::thread::Threads;
+use verifier_port::Verifier;
+
+// From how many submissions of a lane on no feeder checks them.
+const SHARE: usize = 2048;
+
+/// Who checks the submissions of a file.
+#[derive(Clone, Copy)]
+pub(crate) enum Checkers {
+    /// All processors, before the wave.
+    Processors,
+    /// A feeder of each lane, beside it.
+    Feeders,
+    /// Each lane, as it comes to them.
+    Lanes,
+}
+
+// Whether there are fewer lanes than processors, so that lanes that check their own submissions would leave some idle.
+fn are_few<W: Threads>(rt: &W, lanes: usize) -> bool {
+    match thread::available_parallelism(rt) {
+        Ok(processors) => lanes < processors.get(),
+        Err(_) => false,
+    }
+}
+
+/// Who checks the submissions of a file: where a lane has many, all processors, or the lanes, if there are enough of them.
+pub(crate) fn checkers_of<W: Threads, V: Verifier, F: Deals>(
+    rt: &W,
+    file: &FileOf<'_, V, F>,
+) -> Checkers {
+    let lanes = file.lanes();
+    if file.txs().len() / lanes < SHARE {
+        Checkers::Feeders
+    } else if are_few(rt, lanes) {
+        Checkers::Processors
+    } else {
+        Checkers::Lanes
+    }
+}
+
+/// What is found ahead of a lane, by these. Its feeder, where it has one, is put to the others. Or memory ran out.
+pub(crate) fn ahead_of<'a, W: Threads + Sync, V: Verifier + Sync, F: Deals + Send + Sync>(
+    rt: &W,
+    alloc: Global,
+    file: &FileOf<'a, V, F>,
+    lane: usize,
+    checkers: Checkers,
+    feeders: &mut Vec<Feeder<F>>,
+) -> Result<Ahead<F>, AllocError>
+    requires { lane < 2 ^ 32 }
+{
+    let count = file.txs().len();
+    match checkers {
+        Checkers::Processors => Ok(Ahead::Found(rule_ahead(rt, alloc, file, lane, count)?)),
+        Checkers::Feeders if lane < count => {
+            let (feeder, messages) = pipe(alloc, LaneId(lane as u32))?;
+            feeders.push(feeder)?;
+            Ok(Ahead::Sent(messages))
+        }
+        _ => Ok(Ahead::Nothing),
+    }
+}
+
+// No lane takes anything more that is found ahead of it, so that each feeder that still waits for room ends.
+fn end_ahead<'a, W: Wait, V: Verifier, F: Deals>(works: &mut Vec<Work<LaneSource<'a, W, V, F>>>)
+    ensures { works.new.items ≡ works.old.items }
+{
+    'works: for lane in 0..works.len() {
+        let work = &mut works[lane];
+        work.source.end_ahead();
+    }
+}
+
+/// Which wave runs. A call at `Brand` picks it.
+pub(crate) trait Waving<D> {
+    /// The ledger before it.
+    ghost before: { LedgerOf D };
+
+    /// Its lanes before it.
+    ghost lanes: { List LaneOf };
+}
+
+impl<D> Waving<D> for Brand {
+    ghost before = { no_ledger };
+
+    ghost lanes = { [] };
+}
+
+// The ledger and the lanes of the wave that `B` picks, before it or behind it. Contracts see whether it has run; the rest is what the type
+// says, since a scope tells nothing of what its closure has changed.
+struct Held<'a, W: Wait, D: Disk, V: Verifier, F: Deals, B: Waving<D>> {
+    ledger: Option<Ledger<D>>,
+    works: Vec<Work<LaneSource<'a, W, V, F>>>,
+    has_run: bool,
+    of: PhantomData<B>,
+}
+
+impl<'a, W: Wait, D: Disk, V: Verifier, F: Deals, B: Waving<D>> Model for Held<'a, W, D, V, F, B> {
+    ghost use Rattle.std.specs.Prelude.{Bool};
+    ghost use Rattle.file_runs.specs.Feeding.{IsHeld};
+
+    ghost Value = { Bool };
+
+    ghost view = { λ h. h.has_run };
+
+    ghost invariant = { λ h. IsHeld D.count D.limit D.content D.images B.before B.lanes h.ledger h.works.items h.has_run };
+}
+
+// Runs the wave, unless it has run.
+fn run_held<
+    'a,
+    W: Wait + Threads + Sync,
+    D: Disk + Send,
+    V: Verifier + Sync,
+    F: Deals + Send + Sync,
+    B: Waving<D>,
+    G: Gate + Sync,
+>(rt: &W, alloc: Global, held: &mut Held<'a, W, D, V, F, B>, gate: &G)
+    ensures { held.new ≡ true }
+{
+    if held.has_run {
+        return;
+    }
+    let Some(ledger) = mem::replace(&mut held.ledger, None) else {
+        unreachable!()
+    };
+    let ledger = run_wave(rt, alloc, ledger, &mut held.works, gate);
+    end_ahead(&mut held.works);
+    match mem::replace(&mut held.ledger, Some(ledger)) {
+        None => held.has_run = true,
+        Some(_other) => unreachable!(),
+    }
+}
+
+// Runs the wave, with a feeder of each lane beside it, on a thread of its own. One that can't be started is dropped.
+fn run_beside<
+    'a,
+    W: Wait + Threads + Sync,
+    D: Disk + Send,
+    V: Verifier + Sync,
+    F: Deals + Send + Sync,
+    B: Waving<D>,
+    G: Gate + Sync,
+>(
+    rt: &W,
+    alloc: Global,
+    shape: Shape,
+    file: &FileOf<'a, V, F>,
+    held: &mut Held<'a, W, D, V, F, B>,
+    feeders: Vec<Feeder<F>>,
+    gate: &G,
+) {
+    thread::scope(
+        thread::scope_env(),
+        rt,
+        move |scope|
+            requires { IsSync W.row × IsSend D.row × IsSync V.row × IsSend F.row × IsSync F.row × IsSync G.row }
+        {
+            'feeders: for feeder in feeders {
+                let _ = scope.spawn(move || feed(rt, alloc, &shape, file, feeder, gate));
+            }
+            run_held(rt, alloc, held, gate);
+        },
+    );
+}
+
+/// A ledger behind a wave, and its lanes.
+pub(crate) struct Waved<'a, W: Wait, D: Disk, V: Verifier, F: Deals> {
+    pub(crate) ledger: Ledger<D>,
+    pub(crate) works: Vec<Work<LaneSource<'a, W, V, F>>>,
+}
+
+/// Runs the wave that `B` picks, with the feeders of its lanes beside it.
+pub(crate) fn run_fed<
+    'a,
+    W: Wait + Threads + Sync,
+    D: Disk + Send,
+    V: Verifier + Sync,
+    F: Deals + Send + Sync,
+    B: Waving<D>,
+    G: Gate + Sync,
+>(
+    rt: &W,
+    alloc: Global,
+    file: &FileOf<'a, V, F>,
+    ledger: Ledger<D>,
+    works: Vec<Work<LaneSource<'a, W, V, F>>>,
+    feeders: Vec<Feeder<F>>,
+    gate: &G,
+) -> Waved<'a, W, D, V, F>
+    requires before { ledger ≡ B.before }
+    requires lanes { works.items ≡ B.lanes }
+    requires can { CanWave D.count D.limit B.before B.lanes }
+    ensures { IsWave D.count D.limit D.content D.images B.before result.ledger B.lanes result.works.items }
+{
+    let shape = *ledger.shape();
+    let mut held: Held<'a, W, D, V, F, B> = Held {
+        ledger: Some(ledger),
+        works,
+        has_run: false,
+        of: PhantomData,
+    };
+    run_beside(rt, alloc, shape, file, &mut held, feeders, gate);
+    run_held(rt, alloc, &mut held, gate);
+    let Held {
+        ledger,
+        works,
+        has_run: _,
+        of: _,
+    } = held;
+    let Some(ledger) = ledger else {
+        unreachable!()
+    };
+    Waved { ledger, works }
+}

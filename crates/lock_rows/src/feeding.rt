@@ -1,0 +1,159 @@
+// A sentinel ahead of a lane, and a lane to which it sends.
+ghost use Rattle.std.specs.Prelude.{◌≡◌, ◌<◌};
+
+use cbdc_types::{CompactTx, FullTx, Hash, Input, LaneId, List, OutPoint, Output, Refusal, Shape};
+use crossbeam_channel::Receiver;
+use lane_driver::Source;
+use lane_sources::{Ahead, Deals, FileOf, LaneSource, RuledAt};
+use outside::OpenGate;
+use sentinel_pipe::{feed, pipe};
+use std::alloc::{AllocError, Global};
+use std::marker::Brand;
+use std::sync::Wait;
+use submissions::Ruling;
+use verifier_port::{AllGood, Verifier};
+
+// A transaction that spends the output of this number, or nothing where there is none.
+fn payment(alloc: Global, number: Option<u8>) -> Result<FullTx, AllocError> {
+    let mut inputs = Vec::new(alloc);
+    let mut outputs = Vec::new(alloc);
+    let mut witnesses = Vec::new(alloc);
+    if let Some(number) = number {
+        inputs.push(Input {
+            point: OutPoint {
+                tx: Hash([number; 32]),
+                index: 0,
+            },
+            output: Output {
+                program: Hash([1; 32]),
+                value: 7,
+            },
+        })?;
+        witnesses.push(List::new(alloc))?;
+    }
+    outputs.push(Output {
+        program: Hash([2; 32]),
+        value: 7,
+    })?;
+    Ok(FullTx {
+        inputs: List::from_vec(inputs),
+        outputs: List::from_vec(outputs),
+        witnesses: List::from_vec(witnesses),
+    })
+}
+
+// Three submissions, of which the second has no inputs.
+fn three(alloc: Global) -> Result<Vec<FullTx>, AllocError> {
+    let mut txs = Vec::new(alloc);
+    for number in [Some(3), None, Some(4)] {
+        txs.push(payment(alloc, number)?)?;
+    }
+    Ok(txs)
+}
+
+// What the sentinel ahead of the only lane sends, for which its channel has room; nothing where it is dropped before its first message.
+fn sent<R: Wait, V: Verifier, F: Deals>(
+    rt: &R,
+    alloc: Global,
+    shape: &Shape,
+    file: &FileOf<'_, V, F>,
+    starts: bool,
+) -> Result<Receiver<RuledAt<F>>, AllocError> {
+    let (feeder, messages) = pipe(alloc, LaneId(0))?;
+    if starts {
+        feed(rt, alloc, shape, file, feeder, &OpenGate);
+    } else {
+        drop(feeder);
+    }
+    Ok(messages)
+}
+
+// Whether a message is of this place, with a refusal for want of inputs at the second one, and a compact form elsewhere.
+fn is_of<F: Deals>(message: RuledAt<F>, place: usize) -> bool {
+    if message.place() != place {
+        return false;
+    }
+    match message.take().ruling {
+        Ruling::Refused(refusal) => place == 1 && refusal == Refusal::NoInputs,
+        Ruling::Sound(_) => place != 1,
+    }
+}
+
+// Whether these messages come, in this order, and then no more.
+fn come<R: Wait, F: Deals>(rt: &R, messages: &Receiver<RuledAt<F>>) -> bool {
+    for place in 0..3 {
+        let Ok(message) = messages.recv(rt) else {
+            return false;
+        };
+        if !is_of(message, place) {
+            return false;
+        }
+    }
+    messages.recv(rt).is_err()
+}
+
+// All that a lane gets that has this ahead of it.
+fn given<R: Wait, V: Verifier, F: Deals>(
+    rt: &R,
+    alloc: Global,
+    file: &FileOf<'_, V, F>,
+    ahead: Ahead<F>,
+) -> Result<Vec<CompactTx>, AllocError>
+    requires { 0 < file.now }
+{
+    let mut all = Vec::new(alloc);
+    let mut source = LaneSource::new(rt, alloc, file, 0, ahead)?;
+    for _ in 0..source.begin() {
+        source.advance(alloc, 2)?;
+        for tx in source.piece() {
+            all.push(tx.clone()?)?;
+        }
+    }
+    Ok(all)
+}
+
+// Whether the messages come, and whether the lane gets the two sound ones, with them and without.
+fn tried<R: Wait, V: Verifier, F: Deals>(
+    rt: &R,
+    alloc: Global,
+    shape: &Shape,
+    txs: &[FullTx],
+    verifier: &V,
+) -> Result<Fed, AllocError>
+    requires file { F.file ≡ txs.now }
+    requires verdicts { F.verdicts ≡ V.verdict_of verifier.now }
+    requires shape { F.shape ≡ shape.now }
+{
+    let file: FileOf<'_, V, F> = FileOf::new(txs, verifier, shape.lane_count());
+    let comes = come(rt, &sent(rt, alloc, shape, &file, true)?);
+    let with = sent(rt, alloc, shape, &file, true)?;
+    let without = sent(rt, alloc, shape, &file, false)?;
+    let alone = given(rt, alloc, &file, Ahead::Nothing)?;
+    let with = given(rt, alloc, &file, Ahead::Sent(with))?;
+    let without = given(rt, alloc, &file, Ahead::Sent(without))?;
+    let is_same = alone.len() == 2 && with == alone && without == alone;
+    Ok(Fed { comes, is_same })
+}
+
+// What was tried.
+#[derive(Clone, Copy)]
+struct Fed {
+    comes: bool,
+    is_same: bool,
+}
+
+fn try_all<R: Wait, V: Verifier>(rt: &R, alloc: Global, verifier: &V) -> Option<Fed> {
+    let shape = Shape::new(1, 1, 1, 16).ok()?;
+    let txs = three(alloc).ok()?;
+    tried::<R, V, Brand>(rt, alloc, &shape, txs.as_slice(), verifier).ok()
+}
+
+/// Three submissions, the second refused, come in three messages.
+pub fn sends_three<R: Wait>(rt: &R, alloc: Global) -> Option<bool> {
+    Some(try_all(rt, alloc, &AllGood)?.comes)
+}
+
+/// A lane has the same transactions whether its sentinel sends them, ends before the first or was never there.
+pub fn has_the_same<R: Wait>(rt: &R, alloc: Global) -> Option<bool> {
+    Some(try_all(rt, alloc, &AllGood)?.is_same)
+}
