@@ -1,5 +1,5 @@
 -- The ledger that a rack showed, behind a run.
-use Rattle.std.proofs.Common.{◌≡◌, ◌⊎◌, ◌∷◌, ℕ, ◌+◌, ◌-◌, ◌<◌, ◌≤◌, inl, inr, List, [], ◌++◌, length, reverse, Bool, Option, Some, None, refl, sym, ap, ◌∙◌, subst, arith}
+use Rattle.std.proofs.Common.{◌≡◌, ◌⊎◌, ◌∷◌, ℕ, ◌+◌, ◌-◌, ◌<◌, ◌≤◌, inl, inr, List, [], ◌++◌, length, reverse, Option, Some, None, refl, sym, ap, ◌∙◌, subst, arith}
 use Rattle.std.proofs.lemmas.Bool.{cases_lt}
 use Rattle.std.proofs.lemmas.List.{append-nil}
 use Rattle.cbdc_types.specs.Limits.{IsWithinLimits}
@@ -8,11 +8,10 @@ use Rattle.cbdc_model.specs.Coins.{Output, FullTx, genesis_id}
 use Rattle.cbdc_model.specs.Clean.{Clean, IsProperCompact}
 use Rattle.cbdc_model.specs.History.{minted, header_of}
 use Rattle.cbdc_model.specs.Lanes.{IsEnd}
-use Rattle.cbdc_model.specs.World.{KeptJournals, AreIdle}
+use Rattle.cbdc_model.specs.World.{KeptJournals}
 use Rattle.cbdc_model.specs.Room.{kept_room, need_of}
 use Rattle.cbdc_model.specs.Due.{used_of}
 use Rattle.cbdc_model.specs.Headline.{Headline}
-use Rattle.cbdc_model.specs.Waves.{IsResumed, Waves}
 use Rattle.ledger_laws.proofs.Cuts.{end_trans}
 use Rattle.ledger_laws.proofs.Ledger.{steady}
 use Rattle.ledger_laws.proofs.Recovery.{idle_law}
@@ -31,17 +30,16 @@ use Rattle.rack_laws.proofs.Rooms.{room_behind}
 use Rattle.rack_laws.proofs.Crashed.{crashed}
 use Rattle.ledger_runs.specs.Turning.{OfKept, StaysKept}
 use Rattle.ledger_nodes.specs.Ledgers.{IsLedger, journals_of, flights_of, AreStored, AreQuiet}
-use Rattle.submissions.specs.Checks.{VerdictsOf, TellsSound}
-use Rattle.sound_laws.specs.SoundTest.{sound_by}
-use Rattle.sound_laws.proofs.Telling.{is_sound_law}
+use Rattle.submissions.specs.Checks.{VerdictsOf}
 use Rattle.ledger_runs.specs.Flying.{AllMayCome}
 use Rattle.file_runs.specs.Runs.{joined, FliesWith}
 use Rattle.rack_runs.specs.Endings.{IsInOrder}
 use Rattle.rack_runs.specs.Runs.{IsGrown, IsRun, IsRecovered, IsCutShort}
 use Rattle.printed_lines.specs.Unspent.{IsUnspentCount}
-use Rattle.file_runs.specs.declared.ran.Ran.{Ran}
-use Rattle.rack_runs.specs.Telling.{CountAll, IsTold}
-use Rattle.file_runs.specs.Telling.{TellsRun}
+use Rattle.recovery.specs.declared.resumed.ResumedBatch.{ResumedBatch}
+use Rattle.rack_runs.specs.Telling.{CountAll}
+use Rattle.rack_runs.specs.declared.told.Told.{Told}
+use Rattle.rack_runs.specs.Works.{Deed, AllWell, HasEnded}
 use Rattle.rack_runs.proofs.Unspent.{unspent_counted}
 use Rattle.std.specs.Prelude.{map, All, IfSome}
 
@@ -63,8 +61,8 @@ landed_room K mint submissions J flights n now limit inside kept room fits (inr 
     (room_behind (header_of K (minted mint).id n) (J n) r limit (λ none. never_empty K (minted mint) kept.later n inside (kept.history.journals_are n ∙ none)) may.after room
     (subst (λ o. IfSome o (λ q. used_of (J n) + need_of K (J n) q ≤ limit)) flies fits))
 
-module _ {D : Type 0} (content : D → Option (List ℕ)) (images : D → List ℕ → Type 0) (limit count : D → ℕ) (held back : ℕ → Option D) (h g : Header)
-    (logs now : List (LogOf D)) (shards after : List (ShardOf D)) (files : List (List FullTx))
+module _ {D Done : Type 0} (content : D → Option (List ℕ)) (images : D → List ℕ → Type 0) (limit count : D → ℕ) (held back : ℕ → Option D) (h g : Header)
+    (logs now : List (LogOf D)) (shards after : List (ShardOf D)) (deed : Deed Done)
     (are : AreOpened content images limit count held h logs shards) (is : IsLedger g now after) (shape : g.shape ≡ h.shape)
     (logs_back : ByPlace (λ n l. OfTold (back n) (λ d. d ≡ l.disk)) now) (shards_back : ByPlace (λ s x. OfTold (back (length now + s)) (λ d. d ≡ x.disk)) after)
     (stored : AreStored content images logs shards → AreStored content images now after) where
@@ -74,22 +72,16 @@ module _ {D : Type 0} (content : D → Option (List ℕ)) (images : D → List �
 
   -- what a run says of its journals, by the shape
   abbrev pub KeepsIt : Shape → Type 0
-  KeepsIt S = OfKept S (journals_of count limit S logs shards) (λ mint submissions. StaysKept S (journals_of count limit S logs shards) (journals_of count limit S now after) mint (submissions ++ joined files))
+  KeepsIt S = OfKept S (journals_of count limit S logs shards) (λ mint submissions. StaysKept S (journals_of count limit S logs shards) (journals_of count limit S now after) mint (submissions ++ joined deed.handed))
 
-  abbrev pub TellsIt : VerdictsOf → Ran → Shape → Type 0
-  TellsIt verdicts ran S = OfKept S (journals_of count limit S logs shards) (λ _ _. TellsRun S verdicts files (journals_of count limit S logs shards) (journals_of count limit S now after) ran.resumed.items ran.waves.items)
+  abbrev pub WellIt : List ResumedBatch → Done → Shape → Type 0
+  WellIt resumed done S = AllWell deed S (journals_of count limit S logs shards) (journals_of count limit S now after) resumed done
 
   abbrev pub FliesIt : Shape → Type 0
-  FliesIt S = OfKept S (journals_of count limit S logs shards) (FliesWith S (joined files) (journals_of count limit S logs shards) (journals_of count limit S now after) (flights_of count limit S logs shards) (flights_of count limit S now after))
+  FliesIt S = OfKept S (journals_of count limit S logs shards) (FliesWith S (joined deed.handed) (journals_of count limit S logs shards) (journals_of count limit S now after) (flights_of count limit S logs shards) (flights_of count limit S now after))
 
   abbrev pub OrdersIt : Shape → Type 0
   OrdersIt S = IsInOrder S (journals_of count limit S logs shards) (journals_of count limit S now after)
-
-  pub record Ends (verdicts : VerdictsOf) (S : Shape) : Type 0 where
-    pub idle : AreIdle S (journals_of count limit S now after)
-    pub resumed : OfKept S (journals_of count limit S logs shards) (λ _ _. files ≡ [] → IsResumed S (journals_of count limit S logs shards) (journals_of count limit S now after))
-    pub waves : OfKept S (journals_of count limit S logs shards) (λ _ _. (sound : FullTx → Bool) → TellsSound verdicts sound → Waves S sound files (journals_of count limit S logs shards) (journals_of count limit S now after))
-    pub quiet : AreQuiet logs shards → AreQuiet now after
 
   -- each disk that was told had room for its journal and for what is kept for its open batches
   pub opened_room : HaveRoom limit held h.shape (journals_of count limit h.shape logs shards)
@@ -142,12 +134,12 @@ module _ {D : Type 0} (content : D → Option (List ℕ)) (images : D → List �
     rooms_there log_rooms shard_rooms = subst (λ k. HaveRoom limit back k (journals_of count limit k now after)) (shape ∙ shape_is) (rooms_each content images limit count back g now after is log_rooms shard_rooms logs_back shards_back)
 
     -- nothing was in flight at entry
-    may_come : FliesIt h.shape → AllMayCome K mint (submissions ++ joined files) (journals_of count limit K now after) (flights_of count limit K now after)
+    may_come : FliesIt h.shape → AllMayCome K mint (submissions ++ joined deed.handed) (journals_of count limit K now after) (flights_of count limit K now after)
     may_come flies = subst FliesIt shape_is flies mint submissions kept_there (λ n r there.
         absurd (let none : flights_of count limit K logs shards n ≡ None = none_fly content images limit count K logs shards (are_quiet content images limit count held h logs shards are) n in
         let z : None ≡ Some r = sym none ∙ there in cc))
 
-    is_grown : KeepsIt h.shape → IsGrown K mint (submissions ++ joined files) E (journals_of count limit K now after)
+    is_grown : KeepsIt h.shape → IsGrown K mint (submissions ++ joined deed.handed) E (journals_of count limit K now after)
     is_grown keeps =
         let a = subst KeepsIt shape_is keeps mint submissions kept_there in
         record {
@@ -155,61 +147,46 @@ module _ {D : Type 0} (content : D → Option (List ℕ)) (images : D → List �
           kept = a.kept;
         }
 
-    is_run : (verdicts : VerdictsOf) → KeepsIt h.shape → OrdersIt h.shape → All (LogHasRoom limit) now → All (ShardHasRoom limit) after → Ends verdicts h.shape → IsRun images limit back verdicts files K mint submissions E
-    is_run verdicts keeps orders log_rooms shard_rooms ends =
+    has_ended : (told : Told Done) → KeepsIt h.shape → OrdersIt h.shape → All (LogHasRoom limit) now → All (ShardHasRoom limit) after → (AreQuiet logs shards → AreQuiet now after)
+        → WellIt told.resumed.items told.done h.shape → CountAll (map (λ s. s.journal) after) told.unspent → HasEnded images limit back deed told K mint submissions E
+    has_ended told keeps orders log_rooms shard_rooms quiet well counted =
         let grown = is_grown keeps in
-        let e = subst (Ends verdicts) shape_is ends in
+        let w : AllWell deed K E (journals_of count limit K now after) told.resumed.items told.done =
+        subst (λ L. AllWell deed K L (journals_of count limit K now after) told.resumed.items told.done) journals_are (subst (WellIt told.resumed.items told.done) shape_is well) in
         record {
           exit = journals_of count limit K now after;
+          well = w;
           grown = grown;
-          disks = disks_hold (e.quiet (are_quiet content images limit count held h logs shards are));
+          disks = disks_hold (quiet (are_quiet content images limit count held h logs shards are));
           rooms = rooms_there log_rooms shard_rooms;
-          resumed = λ none. subst (λ L. IsResumed K L (journals_of count limit K now after)) journals_are (e.resumed mint submissions kept_there none);
-          waves = subst (λ L. Waves K (sound_by verdicts) files L (journals_of count limit K now after)) journals_are (e.waves mint submissions kept_there (sound_by verdicts) (is_sound_law verdicts));
           in_order = subst (λ L. IsInOrder K L (journals_of count limit K now after)) journals_are (subst OrdersIt shape_is orders);
-          headline = λ clean. idle_law K mint (submissions ++ joined files) (journals_of count limit K now after) within.some_shard within.some_lane clean grown.kept e.idle;
+          unspent = subst (λ k. IsUnspentCount k (journals_of count limit k now after) told.unspent) (shape ∙ shape_is) (unspent_counted count limit g now after is told.unspent counted);
+          headline = λ clean. idle_law K mint (submissions ++ joined deed.handed) (journals_of count limit K now after) within.some_shard within.some_lane clean grown.kept w.well.idle;
         }
 
-    is_told : (ran : Ran) (verdicts : VerdictsOf) → KeepsIt h.shape → OrdersIt h.shape → All (LogHasRoom limit) now → All (ShardHasRoom limit) after → Ends verdicts h.shape → TellsIt verdicts ran h.shape → CountAll (map (λ s. s.journal) after) ran.unspent → IsTold images limit back verdicts files ran K mint submissions E
-    unfolding is_run
-    is_told ran verdicts keeps orders log_rooms shard_rooms ends told counted = record {
-      run = is_run verdicts keeps orders log_rooms shard_rooms ends;
-      tells = subst (λ L. TellsRun K verdicts files L (journals_of count limit K now after) ran.resumed.items ran.waves.items) journals_are (subst (TellsIt verdicts ran) shape_is told mint submissions kept_there);
-      unspent = subst (λ k. IsUnspentCount k (journals_of count limit k now after) ran.unspent) (shape ∙ shape_is) (unspent_counted count limit g now after is ran.unspent counted);
-    }
+  pub ended : (told : Told Done) → KeepsIt h.shape → OrdersIt h.shape → All (LogHasRoom limit) now → All (ShardHasRoom limit) after → (AreQuiet logs shards → AreQuiet now after)
+      → WellIt told.resumed.items told.done h.shape → CountAll (map (λ s. s.journal) after) told.unspent → OfShown content held (HasEnded images limit back deed told)
+  ended told keeps orders log_rooms shard_rooms quiet well counted K mint submissions E within shows kept = has_ended K mint submissions E within shows kept told keeps orders log_rooms shard_rooms quiet well counted
 
-  pub tells : (verdicts : VerdictsOf) (ran : Ran) → KeepsIt h.shape → OrdersIt h.shape → All (LogHasRoom limit) now → All (ShardHasRoom limit) after → Ends verdicts h.shape → TellsIt verdicts ran h.shape → CountAll (map (λ s. s.journal) after) ran.unspent → OfShown content held (IsTold images limit back verdicts files ran)
-  tells verdicts ran keeps orders log_rooms shard_rooms ends told counted K mint submissions E within shows kept = is_told K mint submissions E within shows kept ran verdicts keeps orders log_rooms shard_rooms ends told counted
-
-  pub ends : (verdicts : VerdictsOf) → AreIdle h.shape (journals_of count limit h.shape now after)
-      → OfKept h.shape (journals_of count limit h.shape logs shards) (λ _ _. files ≡ [] → IsResumed h.shape (journals_of count limit h.shape logs shards) (journals_of count limit h.shape now after))
-      → OfKept h.shape (journals_of count limit h.shape logs shards) (λ _ _. (sound : FullTx → Bool) → TellsSound verdicts sound → Waves h.shape sound files (journals_of count limit h.shape logs shards) (journals_of count limit h.shape now after))
-      → (AreQuiet logs shards → AreQuiet now after)
-      → Ends verdicts h.shape
-  ends verdicts idle resumed waves quiet = record { idle = idle; resumed = resumed; waves = waves; quiet = quiet }
-
-  pub runs : (verdicts : VerdictsOf) → KeepsIt h.shape → OrdersIt h.shape → All (LogHasRoom limit) now → All (ShardHasRoom limit) after → Ends verdicts h.shape → OfShown content held (IsRun images limit back verdicts files)
-  runs verdicts keeps orders log_rooms shard_rooms ends K mint submissions E within shows kept = is_run K mint submissions E within shows kept verdicts keeps orders log_rooms shard_rooms ends
-
-  pub cut_short : KeepsIt h.shape → FliesIt h.shape → All (LogHasRoom limit) now → All (ShardHasRoom limit) after → All (LogFits limit) now → All (ShardFits limit) after → OfShown content held (IsCutShort images limit back files (journals_of count limit h.shape now after))
+  pub cut_short : KeepsIt h.shape → FliesIt h.shape → All (LogHasRoom limit) now → All (ShardHasRoom limit) after → All (LogFits limit) now → All (ShardFits limit) after → OfShown content held (IsCutShort images limit back deed.handed (journals_of count limit h.shape now after))
   cut_short keeps flies log_rooms shard_rooms log_fits shard_fits K mint submissions E within shows kept =
       let grown = is_grown K mint submissions E within shows kept keeps in
       let rooms = rooms_there K mint submissions E within shows kept log_rooms shard_rooms in
       let fits : HaveFit K (journals_of count limit K now after) (flights_of count limit K now after) = subst (λ k. HaveFit k (journals_of count limit k now after) (flights_of count limit k now after)) (shape ∙ shape_is K mint submissions E within shows kept)
       (fits_each content images limit count back g now after is log_fits shard_fits logs_back shards_back) in
-      subst (λ k. IsCutShort images limit back files (journals_of count limit k now after) K mint submissions E) (sym (shape_is K mint submissions E within shows kept)) (record {
+      subst (λ k. IsCutShort images limit back deed.handed (journals_of count limit k now after) K mint submissions E) (sym (shape_is K mint submissions E within shows kept)) (record {
         grown = grown;
         disks = disks_keep K mint submissions E within shows kept;
         rooms = rooms;
         crashes = λ contents left.
-            let came : (X : ℕ → List Record) × OpenTo back K contents X × ((n : ℕ) → IsEnd (journals_of count limit K now after n) (X n)) × KeptJournals K mint (submissions ++ joined files) X
-            × ((n : ℕ) → LandsOrNot K mint (submissions ++ joined files) (journals_of count limit K now after) (flights_of count limit K now after) n (X n))
-            = crashed images back K mint (submissions ++ joined files) (journals_of count limit K now after) (flights_of count limit K now after) (may_come K mint submissions E within shows kept flies)
+            let came : (X : ℕ → List Record) × OpenTo back K contents X × ((n : ℕ) → IsEnd (journals_of count limit K now after n) (X n)) × KeptJournals K mint (submissions ++ joined deed.handed) X
+            × ((n : ℕ) → LandsOrNot K mint (submissions ++ joined deed.handed) (journals_of count limit K now after) (flights_of count limit K now after) n (X n))
+            = crashed images back K mint (submissions ++ joined deed.handed) (journals_of count limit K now after) (flights_of count limit K now after) (may_come K mint submissions E within shows kept flies)
             (disks_fly K mint submissions E within shows kept) contents left within.some_shard grown.kept in (
               came.0,
               came.1,
               record { grows = λ n. end_trans (E n) (journals_of count limit K now after n) (came.0 n) (grown.grows n) (came.2 n); kept = came.3 },
-              λ n inside d told. landed_room K mint (submissions ++ joined files) (journals_of count limit K now after) (flights_of count limit K now after) n (came.0 n) (limit d) inside grown.kept (rooms n inside d told) (fits n inside d told) (came.4 n),
+              λ n inside d told. landed_room K mint (submissions ++ joined deed.handed) (journals_of count limit K now after) (flights_of count limit K now after) n (came.0 n) (limit d) inside grown.kept (rooms n inside d told) (fits n inside d told) (came.4 n),
             );
       })
 
@@ -227,12 +204,3 @@ recovered images limit back verdicts K mint submissions E run =
       in_order = run.in_order;
       headline = λ clean. subst (λ s. Headline K mint s run.exit) none (run.headline (subst (Clean mint) (sym none) clean));
     }
-
-pub recovers : {D : Type 0} (content : D → Option (List ℕ)) (images : D → List ℕ → Type 0) (limit : D → ℕ) (held back : ℕ → Option D) (verdicts : VerdictsOf)
-    → OfShown content held (IsRun images limit back verdicts []) → OfShown content held (IsRecovered images limit back)
-recovers content images limit held back verdicts shown K mint submissions E within shows kept = recovered images limit back verdicts K mint submissions E (shown K mint submissions E within shows kept)
-
--- which verdicts they are does not matter where there are no files
-pub told_of_none : {D : Type 0} (content : D → Option (List ℕ)) (images : D → List ℕ → Type 0) (limit : D → ℕ) (held back : ℕ → Option D) (verdicts : VerdictsOf) (ran : Ran)
-    → OfShown content held (IsTold images limit back verdicts [] ran) → (known : VerdictsOf) × OfShown content held (IsTold images limit back known [] ran)
-told_of_none content images limit held back verdicts ran shown = (verdicts, shown)

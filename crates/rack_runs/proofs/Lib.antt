@@ -1,4 +1,3 @@
-pub mod Resumed
 pub mod Lent
 pub mod Ledgers
 pub mod Unspent
@@ -9,3 +8,6 @@ pub mod Wanted
 pub mod Behind
 pub mod Lanes
 pub mod Turned
+pub mod Working
+pub mod Filed
+pub mod Closing

@@ -11,7 +11,7 @@ use Rattle.cbdc_model.specs.Records.{Digest, Shape, Header, Batch, Compact, Reco
 use Rattle.cbdc_model.specs.Slots.{Phase, slot, Idle, InPrepare, InCommit, InDiscard}
 use Rattle.cbdc_model.specs.Ranges.{home_of, shard_node, part}
 use Rattle.cbdc_model.specs.Replies.{answered}
-use Rattle.cbdc_model.specs.Grammar.{HasSize, IsCompact, IsInGrammar}
+use Rattle.cbdc_model.specs.Grammar.{IsCompact, IsInGrammar}
 use Rattle.cbdc_model.specs.Calls.{IsLockCall}
 use Rattle.cbdc_model.specs.After.{After, Follows, IsFirst, IsJournal}
 use Rattle.cbdc_model.specs.Due.{prepare_record, lock_record}
@@ -40,6 +40,7 @@ use Rattle.ledger_runs.specs.Turning.{IsLaneOf}
 use Rattle.ledger_runs.specs.Faults.{IsWanted, wants_prepare, wants_lock}
 use Rattle.file_runs.specs.Runs.{AreFilesPieces, IsFilesPiece}
 use Rattle.rack_runs.specs.Kinds.{MayComeNext, StaysCaused}
+use Rattle.rack_runs.specs.Works.{FitsBatch}
 use Rattle.coord_log.specs.Logs.{LogOf, sight}
 use Rattle.shard_node.specs.Shards.{ShardOf, sight_of}
 use Rattle.ledger_nodes.specs.Ledgers.{IsLedger, journals_of, AreChecked}
@@ -115,10 +116,6 @@ number_low h (r ∷ []) low j lane = first r j.0
 number_low h (r ∷ (q ∷ past)) low j lane = number_next h (q ∷ past) r (λ none. absurd (let z : q ∷ past ≡ [] = none in cc)) low j.0 (λ l. number_low h (q ∷ past) low j.1 l) lane
 
 -- ---- the pieces of files
-
--- a batch's size, and each within the limits
-abbrev pub FitsBatch : Shape → List Compact → Type 0
-FitsBatch K txs = HasSize K txs × All IsCompact txs
 
 abbrev EachFits : Shape → List (List Compact) → Type 0
 EachFits K [] = Unit {0}
@@ -298,13 +295,13 @@ module _ {D : Type 0} (content : D → Option (List ℕ)) (images : D → List �
   ]
 
   pub wants_there : (h g : Header) (logs now : List (LogOf D)) (shards after : List (ShardOf D)) → IsLedger h logs shards → IsLedger g now after → g.shape ≡ h.shape → AreChecked count limit h.shape now after
-      → (verdicts : VerdictsOf) (files : List (List FullTx)) → All (λ txs. All IsShort txs) files
-      → MayComeNext h.shape h.genesis (IsFilesPiece h.shape verdicts files (journals_of count limit h.shape logs shards) (journals_of count limit h.shape now after)) (journals_of count limit h.shape logs shards) (journals_of count limit h.shape now after)
-  wants_there h g logs now shards after was is shape checked verdicts files short =
-      wants_next h.shape h.genesis checked.0 (IsFilesPiece h.shape verdicts files (journals_of count limit h.shape logs shards) (journals_of count limit h.shape now after)) (journals_of count limit h.shape logs shards)
+      → (next : ℕ → List Compact → Type 0) → ((lane : ℕ) (txs : List Compact) → next lane txs → FitsBatch h.shape txs)
+      → MayComeNext h.shape h.genesis next (journals_of count limit h.shape logs shards) (journals_of count limit h.shape now after)
+  wants_there h g logs now shards after was is shape checked next fits =
+      wants_next h.shape h.genesis checked.0 next (journals_of count limit h.shape logs shards)
       (journals_of count limit h.shape now after) was.limits checked.1 (node_header h logs shards was)
       (λ n inside. subst (λ k. n < node_count k → (j : Header) × IsJournal j (journals_of count limit k now after n)) shape (λ i. (header_of g.shape g.genesis n, node_header g now after is n i)) inside)
-      (λ lane txs piece. piece_fits h.shape verdicts files (journals_of count limit h.shape logs shards) (journals_of count limit h.shape now after) lane txs short piece)
+      fits
 
   -- journals at exit are those of a ledger with this genesis, each record of which is caused
   pub stays_caused : (h g : Header) (logs now : List (LogOf D)) (shards after : List (ShardOf D)) → IsLedger h logs shards → IsLedger g now after → g.shape ≡ h.shape → AreChecked count limit h.shape now after

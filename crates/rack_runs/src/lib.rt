@@ -1,4 +1,4 @@
-//! Runs over the ledger on a rack: its nodes are opened, its open batches brought to their end, client files run, and all disks put back.
+//! Commands that resume: the ledger on a rack is opened, its open batches brought to their end, a work done, and all disks put back. Client files are one.
 //!
 //! - `run_on`: At Ok the disks told a ledger, within its limits, and each record of its history was caused by what stood before it (what is told of
 //!   each node's disk opens to its journal), and its disks had room for their journals and for what is kept for the batches open there; its journals
@@ -32,9 +32,13 @@
 #![tactic(auto)]
 
 mod faults;
+mod files;
 mod nodes;
-mod over;
 mod racks;
 mod resuming;
+mod told;
+mod works;
 
-pub use racks::{recover_on, run_on};
+pub use racks::{begin_on, end_on, recover_on, run_on};
+pub use told::Told;
+pub use works::{Begun, Work, Worked};

@@ -1,26 +1,128 @@
-// Runs over the ledger on a rack.
-ghost use Rattle.std.specs.Prelude.{◌≤◌, ◌⊎◌, ℕ, [], All, IfOk, OnOk, IfErr};
+// Commands that resume over the ledger on a rack.
+ghost use Rattle.std.specs.Prelude.{◌≡◌, ◌≤◌, ◌⊎◌, ℕ, [], All, IfOk, OnOk, IfErr, OnErr};
 ghost use Rattle.input_files.specs.Limits.{IsShort};
 ghost use Rattle.rack_nodes.specs.Racked.{AreBack};
 ghost use Rattle.caused_ledgers.specs.Caused.{IsUnresumed};
 ghost use Rattle.rack_laws.specs.Shown.{OfShown};
 ghost use Rattle.ledger_runs.specs.Least.{IsLeastOpen};
 ghost use Rattle.rack_runs.specs.Endings.{EndsRun};
+ghost use Rattle.rack_runs.specs.Resuming.{HasResumed};
 ghost use Rattle.rack_runs.specs.Runs.{IsRun, IsRecovered, IsLaneFault, TookLedger, NonePrepared, NothingNext, PieceNext, PiecesPrepared};
+ghost use Rattle.rack_runs.specs.Stops.{WhyNoTurns};
 ghost use Rattle.rack_runs.specs.Telling.{IsTold};
+ghost use Rattle.rack_runs.specs.Works.{AllFit, AtEntry, entry_ledger, IsOpen, HasCome, HasDone, BeginsWork, EndsWork};
 ghost use Rattle.submissions.specs.Checks.{VerdictsOf};
 
-use crate::nodes::{Behind, run_nodes};
+use crate::faults::answer_of;
+use crate::files::{NoWork, RunFiles, work_files, work_none};
+use crate::nodes::{ledger_of, nodes_of, told_of};
+use crate::resuming::{ResumeRun, resume_ledger};
+use crate::told::Told;
+use crate::works::{Begun, Work, Worked};
 use caused_ledgers::open_caused;
 use cbdc_types::{Answer, FullTx, List};
-use file_runs::Ran;
+use file_runs::{Ran, Wave};
+use lane_driver::LaneFault;
+use ledger_nodes::Ledger;
 use outside::{Gate, Rack};
 use rack_ledgers::close_nodes;
+use recovery::ResumedBatch;
 use requests::RunOptions;
 use std::alloc::Global;
 use std::sync::Wait;
 use std::thread::Threads;
-use verifier_port::{AllGood, Verifier};
+use verifier_port::Verifier;
+
+/// Opens the ledger on a rack, and brings its open batches to their end, for the work of a command. The disks are back where that can't be done.
+pub fn begin_on<W: Wait, R: Rack, K: Work, G: Gate>(
+    rt: &W,
+    alloc: Global,
+    rack: &mut R,
+    work: &K,
+    gate: &G,
+) -> Result<Begun<R::Disk>, Answer>
+    requires all { (n : ℕ) → R.can_take rack.old n }
+    requires fit { AllFit (K.deed work.now) }
+    // The nodes were opened as the rack told them at entry, and each record is caused; and what the ledger is behind the resuming.
+    ensures begun { IfOk result (λ b. (e : AtEntry R.Disk) × (e.held ≡ R.held rack.old) × (e.before ≡ R.count rack.old)
+        × IsOpen R.Disk.content R.Disk.images R.Disk.limit R.Disk.count e (R.held rack.new) (R.can_put rack.new) (R.can_take rack.new)
+        × HasResumed R.Disk.count R.Disk.limit R.Disk.content R.Disk.images (entry_ledger e) b.ledger (Ok b.resumed)) }
+
+    ensures stopped { IfErr result (WhyNoTurns R.Disk.content R.Disk.images R.Disk.limit R.Disk.count (R.held rack.old) (R.held rack.new)
+        (R.count rack.old) (R.count rack.new) (K.deed work.now).next (EndsWork (K.deed work.now)) (BeginsWork (K.deed work.now)) (K.deed work.now).handed) }
+    ensures back { OnErr result ((n : ℕ) → R.can_take rack.new n) }
+    ensures later { (n : ℕ) → R.count rack.old n ≤ R.count rack.new n }
+{
+    let nodes = match open_caused(alloc, rack) {
+        Ok(nodes) => nodes,
+        Err(fault) => return Err(fault),
+    };
+    let ledger = ledger_of(nodes);
+    let ResumeRun { ledger, came } = resume_ledger(rt, alloc, ledger, gate);
+    let fault = match came {
+        Ok(resumed) => return Ok(Begun { ledger, resumed }),
+        Err(fault) => fault,
+    };
+    let nodes = nodes_of(ledger);
+    close_nodes(rack, nodes);
+    Err(answer_of(&fault))
+}
+
+/// Puts the disks of a ledger back behind the work of a command, and tells what came of it.
+pub fn end_on<R: Rack, K: Work>(
+    rack: &mut R,
+    work: &K,
+    ledger: Ledger<R::Disk>,
+    resumed: Vec<ResumedBatch>,
+    came: Result<K::Done, LaneFault>,
+) -> Result<Told<K::Done>, Answer>
+    // The ledger was begun so on this rack, and the work was done behind that.
+    requires come { (e : AtEntry R.Disk) × HasCome R.Disk.content R.Disk.images R.Disk.limit R.Disk.count (K.deed work.now) e
+        (R.held rack.old) (R.can_put rack.old) (R.can_take rack.old) ledger resumed.items came }
+    requires fit { AllFit (K.deed work.now) }
+    ensures done { (e : AtEntry R.Disk) → HasCome R.Disk.content R.Disk.images R.Disk.limit R.Disk.count (K.deed work.now) e
+        (R.held rack.old) (R.can_put rack.old) (R.can_take rack.old) ledger resumed.items came
+        → HasDone R.Disk.content R.Disk.images R.Disk.limit R.Disk.count e.held (R.held rack.new) e.before (R.count rack.new) (K.deed work.now) result }
+    ensures back { (n : ℕ) → R.can_take rack.new n }
+    ensures later { (n : ℕ) → R.count rack.old n ≤ R.count rack.new n }
+{
+    let nodes = nodes_of(ledger);
+    let told = told_of(resumed, came, nodes.shards.as_slice());
+    close_nodes(rack, nodes);
+    told
+}
+
+// What a run tells.
+fn ran_of(told: Told<Vec<Wave>>) -> Ran
+    ensures { (result.resumed ≡ told.resumed) × (result.waves ≡ told.done) × (result.unspent ≡ told.unspent) }
+{
+    let Told {
+        resumed,
+        done,
+        unspent,
+    } = told;
+    Ran {
+        resumed,
+        waves: done,
+        unspent,
+    }
+}
+
+// What a recovery tells, which is what a run of no files does.
+fn recovered_of(alloc: Global, told: Told<()>) -> Ran
+    ensures { (result.resumed ≡ told.resumed) × (result.waves.items ≡ []) × (result.unspent ≡ told.unspent) }
+{
+    let Told {
+        resumed,
+        done: _,
+        unspent,
+    } = told;
+    Ran {
+        resumed,
+        waves: Vec::new(alloc),
+        unspent,
+    }
+}
 
 /// Opens the ledger on a rack, brings its open batches to their end, runs client files and puts all disks back.
 pub fn run_on<W: Wait + Threads + Sync, R: Rack, V: Verifier + Sync, G: Gate + Sync>(
@@ -59,16 +161,19 @@ where
     ensures back { (n : ℕ) → R.can_take rack.new n }
     ensures later { (n : ℕ) → R.count rack.old n ≤ R.count rack.new n }
 {
-    let nodes = match open_caused(alloc, rack) {
-        Ok(nodes) => nodes,
+    let work = RunFiles { files, verifier };
+    let Begun { ledger, resumed } = match begin_on(rt, alloc, rack, &work, gate) {
+        Ok(begun) => begun,
         Err(fault) => return Err(fault),
     };
-    let Behind { nodes, came } = run_nodes(rt, alloc, nodes, files, verifier, options, gate);
-    close_nodes(rack, nodes);
-    came
+    let Worked { ledger, came } = work_files(rt, alloc, ledger, files, verifier, options, gate);
+    match end_on(rack, &work, ledger, resumed, came) {
+        Ok(told) => Ok(ran_of(told)),
+        Err(fault) => Err(fault),
+    }
 }
 
-/// Opens the ledger on a rack, brings its open batches to their end and puts all disks back: a run of no files.
+/// Opens the ledger on a rack, brings its open batches to their end and puts all disks back.
 pub fn recover_on<W: Wait + Threads + Sync, R: Rack, G: Gate + Sync>(
     rt: &W,
     alloc: Global,
@@ -87,6 +192,13 @@ where
     ensures back { (n : ℕ) → R.can_take rack.new n }
     ensures later { (n : ℕ) → R.count rack.old n ≤ R.count rack.new n }
 {
-    let options = RunOptions { repeats: 0 };
-    run_on(rt, alloc, rack, &[], &AllGood, options, gate)
+    let Begun { ledger, resumed } = match begin_on(rt, alloc, rack, &NoWork, gate) {
+        Ok(begun) => begun,
+        Err(fault) => return Err(fault),
+    };
+    let Worked { ledger, came } = work_none(ledger);
+    match end_on(rack, &NoWork, ledger, resumed, came) {
+        Ok(told) => Ok(recovered_of(alloc, told)),
+        Err(fault) => Err(fault),
+    }
 }

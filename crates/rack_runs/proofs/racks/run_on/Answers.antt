@@ -1,112 +1,98 @@
-use Rattle.std.proofs.Common.{◌≡◌, ◌∙◌, inl, inr, length, sym, ap, arith}
-use Rattle.rack_runs.proofs.Behind.{are_quiet, is_ledger, logs_return, shards_return, rooms_same}
-use Rattle.rack_runs.proofs.Checking.{opened_checked}
-use Rattle.rack_runs.proofs.Answering.{lane_fault, took}
-use Rattle.rack_runs.proofs.Lent.{on_ok_by, on_ok_all, if_err_by, if_err_both, if_ok_all}
-use Rattle.rack_runs.proofs.Ledgers.{ends, runs, cut_short, tells, opened_room}
+use Rattle.std.proofs.Common.{inl, inr, ⊎_elim, [], Ok, refl, sym, subst, arith}
+use Rattle.cbdc_model.specs.World.{AreIdle}
+use Rattle.ledger_nodes.specs.Ledgers.{journals}
+use Rattle.file_runs.proofs.Whole.{of_whole, of_fault, when_whole}
+use Rattle.rack_runs.specs.Works.{entry_ledger, HasCome, HasDone, BeginsWork, EndsWork}
+use Rattle.rack_runs.proofs.Answering.{fault_as}
+use Rattle.rack_runs.proofs.Working.{worked_run}
+use Rattle.rack_runs.specs.Endings.{EndsRun}
+use Rattle.rack_runs.specs.Runs.{PieceNext, PiecesPrepared}
+use Rattle.rack_runs.specs.Deeds.{files_deed}
+use Rattle.rack_runs.proofs.Filed.{ends_run, begun_run, told_run}
+use Rattle.rack_runs.proofs.Wanted.{piece_fits}
 use Rattle.rack_runs.proofs.racks.run_on.Goals as goal
 
-pub run_nodes-nodes-requires-clause-ledger : goal.run_nodes-nodes-requires-clause-ledger
-run_nodes-nodes-requires-clause-ledger g c κs lives =
-    is_ledger g.R.Disk.Disk.content g.R.Disk.Disk.images g.R.Disk.Disk.limit g.R.Disk.Disk.count (g.R.Rack.held c.args.rack.now) c.in-Ok.nodes.header c.in-Ok.nodes.logs.items c.in-Ok.nodes.shards.items c.in-Ok.ensures.opened
+pub begin_on-requires-clause-fit : goal.begin_on-requires-clause-fit
+begin_on-requires-clause-fit g c K E X lane txs piece = piece_fits K (g.V.Verifier.verdict_of c.args.verifier.now) c.args.files.now E X lane txs c.requires.short piece
+
+pub end_on-requires-clause-fit : goal.end_on-requires-clause-fit
+end_on-requires-clause-fit g c K E X lane txs piece = piece_fits K (g.V.Verifier.verdict_of c.args.verifier.now) c.args.files.now E X lane txs c.requires.short piece
+
+pub work_files-ledger-requires-clause-idle : goal.work_files-ledger-requires-clause-idle
+work_files-ledger-requires-clause-idle g c κs lives =
+    let r = c.in-Ok.ensures.begun.4 in
+    subst (λ h. AreIdle h (journals g.R.Disk.Disk.count g.R.Disk.Disk.limit c.in-Ok.begun.ledger)) (sym r.keeps_ledger.shape_same) r.idle
+
+pub work_files-ledger-requires-clause-checked : goal.work_files-ledger-requires-clause-checked
+work_files-ledger-requires-clause-checked g c κs lives = c.in-Ok.ensures.begun.4.checked
+
+pub end_on-requires-clause-come : goal.end_on-requires-clause-come
+end_on-requires-clause-come g c =
+    let begun = c.in-Ok.ensures.begun in
+    let has : HasCome g.R.Disk.Disk.content g.R.Disk.Disk.images g.R.Disk.Disk.limit g.R.Disk.Disk.count (files_deed (g.V.Verifier.verdict_of c.args.verifier.now) c.args.files.now) begun.0 (g.R.Rack.held c.begin_on.new.rack) (g.R.Rack.can_put c.begin_on.new.rack) (g.R.Rack.can_take c.begin_on.new.rack) c.work_files-ledger.result.ledger c.in-Ok.begun.resumed.items c.work_files-ledger.result.came = record {
+      begun = begun.3;
+      ran = worked_run g.R.Disk.Disk.count g.R.Disk.Disk.limit g.R.Disk.Disk.content g.R.Disk.Disk.images (files_deed (g.V.Verifier.verdict_of c.args.verifier.now) c.args.files.now) (entry_ledger begun.0) c.in-Ok.begun.ledger c.work_files-ledger.result.ledger c.in-Ok.begun.resumed (Ok c.in-Ok.begun.resumed) c.work_files-ledger.result.came refl begun.4 c.work_files-ledger.ensures;
+    } in
+    (begun.0, has)
 
 pub returns-in-Err-clause-stopped : goal.returns-in-Err-clause-stopped
-returns-in-Err-clause-stopped g c = inl (c.in-Err.ensures.refusal, c.in-Err.ensures.held)
+returns-in-Err-clause-stopped g c =
+    ⊎_elim (λ refused. inl refused) (λ cut. inr (fault_as g.R.Disk.Disk.content g.R.Disk.Disk.images g.R.Disk.Disk.limit (g.R.Rack.held c.args.rack.now) (g.R.Rack.held c.begin_on.new.rack) (g.R.Rack.count c.args.rack.now) (g.R.Rack.count c.begin_on.new.rack)
+    (PieceNext (g.V.Verifier.verdict_of c.args.verifier.now) c.args.files.now) (EndsWork (files_deed (g.V.Verifier.verdict_of c.args.verifier.now) c.args.files.now)) (EndsRun (g.V.Verifier.verdict_of c.args.verifier.now) c.args.files.now) (BeginsWork (files_deed (g.V.Verifier.verdict_of c.args.verifier.now) c.args.files.now)) (PiecesPrepared (g.V.Verifier.verdict_of c.args.verifier.now) c.args.files.now) c.args.files.now (ends_run (g.V.Verifier.verdict_of c.args.verifier.now) c.args.files.now) (begun_run (g.V.Verifier.verdict_of c.args.verifier.now) c.args.files.now) c.in-Err.fault cut)) c.in-Err.ensures.stopped
 
-pub close_nodes-requires-clause-logs : goal.close_nodes-requires-clause-logs
-close_nodes-requires-clause-logs g c =
-    let ran = c.run_nodes-nodes.ensures in
-    logs_return g.R.Disk.Disk.content g.R.Disk.Disk.images g.R.Disk.Disk.limit g.R.Disk.Disk.count (g.R.Rack.held c.args.rack.now) c.in-Ok.nodes.header c.in-Ok.nodes.logs.items c.run_nodes-nodes.result.nodes.logs.items
-    c.in-Ok.nodes.shards.items c.run_nodes-nodes.result.nodes.shards.items c.in-Ok.ensures.opened c.run_nodes-nodes.result.nodes.header ran.shape ran.ledger ran.later (g.R.Rack.can_put c.open_caused.new.rack) ran.counts c.in-Ok.ensures.logs
+pub returns-in-Ok-end_on-clause-caused : goal.returns-in-Ok-end_on-clause-caused
+returns-in-Ok-end_on-clause-caused g c =
+    let begun = c.in-Ok.ensures.begun in
+    let has : HasCome g.R.Disk.Disk.content g.R.Disk.Disk.images g.R.Disk.Disk.limit g.R.Disk.Disk.count (files_deed (g.V.Verifier.verdict_of c.args.verifier.now) c.args.files.now) begun.0 (g.R.Rack.held c.begin_on.new.rack) (g.R.Rack.can_put c.begin_on.new.rack) (g.R.Rack.can_take c.begin_on.new.rack) c.work_files-ledger.result.ledger c.in-Ok.begun.resumed.items c.work_files-ledger.result.came = record {
+      begun = begun.3;
+      ran = worked_run g.R.Disk.Disk.count g.R.Disk.Disk.limit g.R.Disk.Disk.content g.R.Disk.Disk.images (files_deed (g.V.Verifier.verdict_of c.args.verifier.now) c.args.files.now) (entry_ledger begun.0) c.in-Ok.begun.ledger c.work_files-ledger.result.ledger c.in-Ok.begun.resumed (Ok c.in-Ok.begun.resumed) c.work_files-ledger.result.came refl begun.4 c.work_files-ledger.ensures;
+    } in
+    let done : HasDone g.R.Disk.Disk.content g.R.Disk.Disk.images g.R.Disk.Disk.limit g.R.Disk.Disk.count (g.R.Rack.held c.args.rack.now) (g.R.Rack.held c.end_on.new.rack) (g.R.Rack.count c.args.rack.now) (g.R.Rack.count c.end_on.new.rack) (files_deed (g.V.Verifier.verdict_of c.args.verifier.now) c.args.files.now) c.end_on.result =
+    subst (λ b. HasDone g.R.Disk.Disk.content g.R.Disk.Disk.images g.R.Disk.Disk.limit g.R.Disk.Disk.count (g.R.Rack.held c.args.rack.now) (g.R.Rack.held c.end_on.new.rack) b (g.R.Rack.count c.end_on.new.rack) (files_deed (g.V.Verifier.verdict_of c.args.verifier.now) c.args.files.now) c.end_on.result) begun.2
+    (subst (λ h. HasDone g.R.Disk.Disk.content g.R.Disk.Disk.images g.R.Disk.Disk.limit g.R.Disk.Disk.count h (g.R.Rack.held c.end_on.new.rack) begun.0.before (g.R.Rack.count c.end_on.new.rack) (files_deed (g.V.Verifier.verdict_of c.args.verifier.now) c.args.files.now) c.end_on.result) begun.1 (c.end_on.ensures.done begun.0 has)) in
+    when_whole c.end_on.result _ c.in-Ok-end_on.is done.caused
 
-pub close_nodes-requires-clause-shards : goal.close_nodes-requires-clause-shards
-close_nodes-requires-clause-shards g c =
-    let ran = c.run_nodes-nodes.ensures in
-    shards_return g.R.Disk.Disk.content g.R.Disk.Disk.images g.R.Disk.Disk.limit g.R.Disk.Disk.count (g.R.Rack.held c.args.rack.now) c.in-Ok.nodes.header c.in-Ok.nodes.logs.items c.run_nodes-nodes.result.nodes.logs.items
-    c.in-Ok.nodes.shards.items c.run_nodes-nodes.result.nodes.shards.items c.in-Ok.ensures.opened c.run_nodes-nodes.result.nodes.header ran.shape ran.ledger ran.later (g.R.Rack.can_put c.open_caused.new.rack) c.in-Ok.ensures.shards
+pub returns-in-Ok-end_on-clause-ran : goal.returns-in-Ok-end_on-clause-ran
+returns-in-Ok-end_on-clause-ran g c =
+    let begun = c.in-Ok.ensures.begun in
+    let has : HasCome g.R.Disk.Disk.content g.R.Disk.Disk.images g.R.Disk.Disk.limit g.R.Disk.Disk.count (files_deed (g.V.Verifier.verdict_of c.args.verifier.now) c.args.files.now) begun.0 (g.R.Rack.held c.begin_on.new.rack) (g.R.Rack.can_put c.begin_on.new.rack) (g.R.Rack.can_take c.begin_on.new.rack) c.work_files-ledger.result.ledger c.in-Ok.begun.resumed.items c.work_files-ledger.result.came = record {
+      begun = begun.3;
+      ran = worked_run g.R.Disk.Disk.count g.R.Disk.Disk.limit g.R.Disk.Disk.content g.R.Disk.Disk.images (files_deed (g.V.Verifier.verdict_of c.args.verifier.now) c.args.files.now) (entry_ledger begun.0) c.in-Ok.begun.ledger c.work_files-ledger.result.ledger c.in-Ok.begun.resumed (Ok c.in-Ok.begun.resumed) c.work_files-ledger.result.came refl begun.4 c.work_files-ledger.ensures;
+    } in
+    let done : HasDone g.R.Disk.Disk.content g.R.Disk.Disk.images g.R.Disk.Disk.limit g.R.Disk.Disk.count (g.R.Rack.held c.args.rack.now) (g.R.Rack.held c.end_on.new.rack) (g.R.Rack.count c.args.rack.now) (g.R.Rack.count c.end_on.new.rack) (files_deed (g.V.Verifier.verdict_of c.args.verifier.now) c.args.files.now) c.end_on.result =
+    subst (λ b. HasDone g.R.Disk.Disk.content g.R.Disk.Disk.images g.R.Disk.Disk.limit g.R.Disk.Disk.count (g.R.Rack.held c.args.rack.now) (g.R.Rack.held c.end_on.new.rack) b (g.R.Rack.count c.end_on.new.rack) (files_deed (g.V.Verifier.verdict_of c.args.verifier.now) c.args.files.now) c.end_on.result) begun.2
+    (subst (λ h. HasDone g.R.Disk.Disk.content g.R.Disk.Disk.images g.R.Disk.Disk.limit g.R.Disk.Disk.count h (g.R.Rack.held c.end_on.new.rack) begun.0.before (g.R.Rack.count c.end_on.new.rack) (files_deed (g.V.Verifier.verdict_of c.args.verifier.now) c.args.files.now) c.end_on.result) begun.1 (c.end_on.ensures.done begun.0 has)) in
+    λ K mint submissions E within shows kept. (told_run g.R.Disk.Disk.images g.R.Disk.Disk.limit (g.R.Rack.held c.end_on.new.rack) (g.V.Verifier.verdict_of c.args.verifier.now) c.args.files.now c.in-Ok-end_on.told c.ran_of.result c.ran_of.ensures K mint submissions E kept
+    (of_whole _ c.end_on.result _ c.in-Ok-end_on.is done.ended K mint submissions E within shows kept)).run
 
-pub close_nodes-requires-clause-others : goal.close_nodes-requires-clause-others
-close_nodes-requires-clause-others g c n le =
-    let ran = c.run_nodes-nodes.ensures in
-    let are = c.in-Ok.ensures.opened in
-    let logs : length c.run_nodes-nodes.result.nodes.logs.items ≡ length c.in-Ok.nodes.logs.items = ran.ledger.coordinators ∙ (ap (λ k. k.coordinators) ran.shape ∙ sym are.coordinators) in
-    let shards : length c.run_nodes-nodes.result.nodes.shards.items ≡ length c.in-Ok.nodes.shards.items = ran.ledger.shards_are ∙ (ap (λ k. k.shards) ran.shape ∙ sym are.shards_are) in
-    c.in-Ok.ensures.others_in n (omega (arith, le, logs, shards))
+pub returns-in-Ok-end_on-clause-told : goal.returns-in-Ok-end_on-clause-told
+returns-in-Ok-end_on-clause-told g c =
+    let begun = c.in-Ok.ensures.begun in
+    let has : HasCome g.R.Disk.Disk.content g.R.Disk.Disk.images g.R.Disk.Disk.limit g.R.Disk.Disk.count (files_deed (g.V.Verifier.verdict_of c.args.verifier.now) c.args.files.now) begun.0 (g.R.Rack.held c.begin_on.new.rack) (g.R.Rack.can_put c.begin_on.new.rack) (g.R.Rack.can_take c.begin_on.new.rack) c.work_files-ledger.result.ledger c.in-Ok.begun.resumed.items c.work_files-ledger.result.came = record {
+      begun = begun.3;
+      ran = worked_run g.R.Disk.Disk.count g.R.Disk.Disk.limit g.R.Disk.Disk.content g.R.Disk.Disk.images (files_deed (g.V.Verifier.verdict_of c.args.verifier.now) c.args.files.now) (entry_ledger begun.0) c.in-Ok.begun.ledger c.work_files-ledger.result.ledger c.in-Ok.begun.resumed (Ok c.in-Ok.begun.resumed) c.work_files-ledger.result.came refl begun.4 c.work_files-ledger.ensures;
+    } in
+    let done : HasDone g.R.Disk.Disk.content g.R.Disk.Disk.images g.R.Disk.Disk.limit g.R.Disk.Disk.count (g.R.Rack.held c.args.rack.now) (g.R.Rack.held c.end_on.new.rack) (g.R.Rack.count c.args.rack.now) (g.R.Rack.count c.end_on.new.rack) (files_deed (g.V.Verifier.verdict_of c.args.verifier.now) c.args.files.now) c.end_on.result =
+    subst (λ b. HasDone g.R.Disk.Disk.content g.R.Disk.Disk.images g.R.Disk.Disk.limit g.R.Disk.Disk.count (g.R.Rack.held c.args.rack.now) (g.R.Rack.held c.end_on.new.rack) b (g.R.Rack.count c.end_on.new.rack) (files_deed (g.V.Verifier.verdict_of c.args.verifier.now) c.args.files.now) c.end_on.result) begun.2
+    (subst (λ h. HasDone g.R.Disk.Disk.content g.R.Disk.Disk.images g.R.Disk.Disk.limit g.R.Disk.Disk.count h (g.R.Rack.held c.end_on.new.rack) begun.0.before (g.R.Rack.count c.end_on.new.rack) (files_deed (g.V.Verifier.verdict_of c.args.verifier.now) c.args.files.now) c.end_on.result) begun.1 (c.end_on.ensures.done begun.0 has)) in
+    λ K mint submissions E within shows kept. told_run g.R.Disk.Disk.images g.R.Disk.Disk.limit (g.R.Rack.held c.end_on.new.rack) (g.V.Verifier.verdict_of c.args.verifier.now) c.args.files.now c.in-Ok-end_on.told c.ran_of.result c.ran_of.ensures K mint submissions E kept
+    (of_whole _ c.end_on.result _ c.in-Ok-end_on.is done.ended K mint submissions E within shows kept)
 
-pub returns-clause-caused : goal.returns-clause-caused
-returns-clause-caused g c =
-    let ran = c.run_nodes-nodes.ensures in
-    let are = c.in-Ok.ensures.opened in
-    let logs : length c.run_nodes-nodes.result.nodes.logs.items ≡ length c.in-Ok.nodes.logs.items = ran.ledger.coordinators ∙ (ap (λ k. k.coordinators) ran.shape ∙ sym are.coordinators) in
-    let shards : length c.run_nodes-nodes.result.nodes.shards.items ≡ length c.in-Ok.nodes.shards.items = ran.ledger.shards_are ∙ (ap (λ k. k.shards) ran.shape ∙ sym are.shards_are) in
-    on_ok_by c.run_nodes-nodes.result.came
-    (λ quiet. took g.R.Disk.Disk.content g.R.Disk.Disk.images g.R.Disk.Disk.limit g.R.Disk.Disk.count (g.R.Rack.held c.args.rack.now) (g.R.Rack.held c.close_nodes.new.rack) c.in-Ok.nodes.header
-    c.run_nodes-nodes.result.nodes.header c.in-Ok.nodes.logs.items c.run_nodes-nodes.result.nodes.logs.items c.in-Ok.nodes.shards.items c.run_nodes-nodes.result.nodes.shards.items c.in-Ok.ensures.opened c.in-Ok.ensures.caused
-    ran.ledger ran.shape c.close_nodes.ensures.closed_logs c.close_nodes.ensures.closed_shards ran.stored ran.counts (g.R.Rack.count c.args.rack.now) (g.R.Rack.count c.close_nodes.new.rack)
-    c.in-Ok.ensures.logs_since c.in-Ok.ensures.shards_since c.close_nodes.ensures.counted_logs c.close_nodes.ensures.counted_shards
-    (opened_room g.R.Disk.Disk.content g.R.Disk.Disk.images g.R.Disk.Disk.limit g.R.Disk.Disk.count (g.R.Rack.held c.args.rack.now) (g.R.Rack.held c.close_nodes.new.rack) c.in-Ok.nodes.header c.run_nodes-nodes.result.nodes.header
-    c.in-Ok.nodes.logs.items c.run_nodes-nodes.result.nodes.logs.items c.in-Ok.nodes.shards.items c.run_nodes-nodes.result.nodes.shards.items c.args.files.now c.in-Ok.ensures.opened ran.ledger ran.shape
-    c.close_nodes.ensures.closed_logs c.close_nodes.ensures.closed_shards ran.stored)
-    (rooms_same g.R.Disk.Disk.content g.R.Disk.Disk.images g.R.Disk.Disk.limit g.R.Disk.Disk.count (g.R.Rack.held c.args.rack.now) (g.R.Rack.held c.close_nodes.new.rack) c.in-Ok.nodes.header
-    c.in-Ok.nodes.logs.items c.run_nodes-nodes.result.nodes.logs.items c.in-Ok.nodes.shards.items c.run_nodes-nodes.result.nodes.shards.items c.in-Ok.ensures.opened c.run_nodes-nodes.result.nodes.header ran.shape ran.ledger
-    ran.capacities c.close_nodes.ensures.closed_logs c.close_nodes.ensures.closed_shards ran.holds_as_much)
-    (λ n le. c.close_nodes.ensures.others_held n (omega (arith, le, logs, shards, are.coordinators, are.shards_are)) ∙ c.in-Ok.ensures.others_held n (omega (arith, le, are.coordinators, are.shards_are)))
-    ran.grows ran.log_rooms ran.shard_rooms ran.checked
-    (quiet (are_quiet g.R.Disk.Disk.content g.R.Disk.Disk.images g.R.Disk.Disk.limit g.R.Disk.Disk.count (g.R.Rack.held c.args.rack.now) c.in-Ok.nodes.header c.in-Ok.nodes.logs.items c.in-Ok.nodes.shards.items are)))
-    ran.quiet
+pub returns-in-Err-end_on-clause-stopped : goal.returns-in-Err-end_on-clause-stopped
+returns-in-Err-end_on-clause-stopped g c =
+    let begun = c.in-Ok.ensures.begun in
+    let has : HasCome g.R.Disk.Disk.content g.R.Disk.Disk.images g.R.Disk.Disk.limit g.R.Disk.Disk.count (files_deed (g.V.Verifier.verdict_of c.args.verifier.now) c.args.files.now) begun.0 (g.R.Rack.held c.begin_on.new.rack) (g.R.Rack.can_put c.begin_on.new.rack) (g.R.Rack.can_take c.begin_on.new.rack) c.work_files-ledger.result.ledger c.in-Ok.begun.resumed.items c.work_files-ledger.result.came = record {
+      begun = begun.3;
+      ran = worked_run g.R.Disk.Disk.count g.R.Disk.Disk.limit g.R.Disk.Disk.content g.R.Disk.Disk.images (files_deed (g.V.Verifier.verdict_of c.args.verifier.now) c.args.files.now) (entry_ledger begun.0) c.in-Ok.begun.ledger c.work_files-ledger.result.ledger c.in-Ok.begun.resumed (Ok c.in-Ok.begun.resumed) c.work_files-ledger.result.came refl begun.4 c.work_files-ledger.ensures;
+    } in
+    let done : HasDone g.R.Disk.Disk.content g.R.Disk.Disk.images g.R.Disk.Disk.limit g.R.Disk.Disk.count (g.R.Rack.held c.args.rack.now) (g.R.Rack.held c.end_on.new.rack) (g.R.Rack.count c.args.rack.now) (g.R.Rack.count c.end_on.new.rack) (files_deed (g.V.Verifier.verdict_of c.args.verifier.now) c.args.files.now) c.end_on.result =
+    subst (λ b. HasDone g.R.Disk.Disk.content g.R.Disk.Disk.images g.R.Disk.Disk.limit g.R.Disk.Disk.count (g.R.Rack.held c.args.rack.now) (g.R.Rack.held c.end_on.new.rack) b (g.R.Rack.count c.end_on.new.rack) (files_deed (g.V.Verifier.verdict_of c.args.verifier.now) c.args.files.now) c.end_on.result) begun.2
+    (subst (λ h. HasDone g.R.Disk.Disk.content g.R.Disk.Disk.images g.R.Disk.Disk.limit g.R.Disk.Disk.count h (g.R.Rack.held c.end_on.new.rack) begun.0.before (g.R.Rack.count c.end_on.new.rack) (files_deed (g.V.Verifier.verdict_of c.args.verifier.now) c.args.files.now) c.end_on.result) begun.1 (c.end_on.ensures.done begun.0 has)) in
+    ⊎_elim (λ refused. inl refused) (λ cut. inr (fault_as g.R.Disk.Disk.content g.R.Disk.Disk.images g.R.Disk.Disk.limit (g.R.Rack.held c.args.rack.now) (g.R.Rack.held c.end_on.new.rack) (g.R.Rack.count c.args.rack.now) (g.R.Rack.count c.end_on.new.rack)
+    (PieceNext (g.V.Verifier.verdict_of c.args.verifier.now) c.args.files.now) (EndsWork (files_deed (g.V.Verifier.verdict_of c.args.verifier.now) c.args.files.now)) (EndsRun (g.V.Verifier.verdict_of c.args.verifier.now) c.args.files.now) (BeginsWork (files_deed (g.V.Verifier.verdict_of c.args.verifier.now) c.args.files.now)) (PiecesPrepared (g.V.Verifier.verdict_of c.args.verifier.now) c.args.files.now) c.args.files.now (ends_run (g.V.Verifier.verdict_of c.args.verifier.now) c.args.files.now) (begun_run (g.V.Verifier.verdict_of c.args.verifier.now) c.args.files.now) c.in-Err-end_on.fault cut)) (of_fault _ c.end_on.result c.in-Err-end_on.fault c.in-Err-end_on.is done.stopped)
 
-pub returns-clause-ran : goal.returns-clause-ran
-returns-clause-ran g c =
-    let ran = c.run_nodes-nodes.ensures in
-    on_ok_by c.run_nodes-nodes.result.came
-    (runs g.R.Disk.Disk.content g.R.Disk.Disk.images g.R.Disk.Disk.limit g.R.Disk.Disk.count (g.R.Rack.held c.args.rack.now) (g.R.Rack.held c.close_nodes.new.rack) c.in-Ok.nodes.header c.run_nodes-nodes.result.nodes.header
-    c.in-Ok.nodes.logs.items c.run_nodes-nodes.result.nodes.logs.items c.in-Ok.nodes.shards.items c.run_nodes-nodes.result.nodes.shards.items c.args.files.now c.in-Ok.ensures.opened ran.ledger ran.shape
-    c.close_nodes.ensures.closed_logs c.close_nodes.ensures.closed_shards ran.stored (g.V.Verifier.verdict_of c.args.verifier.now) ran.keeps ran.in_order ran.log_rooms ran.shard_rooms)
-    (on_ok_all c.run_nodes-nodes.result.came
-    (ends g.R.Disk.Disk.content g.R.Disk.Disk.images g.R.Disk.Disk.limit g.R.Disk.Disk.count (g.R.Rack.held c.args.rack.now) (g.R.Rack.held c.close_nodes.new.rack) c.in-Ok.nodes.header c.run_nodes-nodes.result.nodes.header
-    c.in-Ok.nodes.logs.items c.run_nodes-nodes.result.nodes.logs.items c.in-Ok.nodes.shards.items c.run_nodes-nodes.result.nodes.shards.items c.args.files.now c.in-Ok.ensures.opened ran.ledger ran.shape
-    c.close_nodes.ensures.closed_logs c.close_nodes.ensures.closed_shards ran.stored (g.V.Verifier.verdict_of c.args.verifier.now))
-    ran.idle ran.resumed ran.waves ran.quiet)
+pub returns-in-Ok-end_on-clause-later : goal.returns-in-Ok-end_on-clause-later
+returns-in-Ok-end_on-clause-later g c n = omega (arith, c.in-Ok.ensures.later n, c.end_on.ensures.later n)
 
-pub run_nodes-nodes-requires-clause-checked : goal.run_nodes-nodes-requires-clause-checked
-run_nodes-nodes-requires-clause-checked g c κs lives =
-    opened_checked g.R.Disk.Disk.content g.R.Disk.Disk.images g.R.Disk.Disk.limit g.R.Disk.Disk.count (g.R.Rack.held c.args.rack.now) c.in-Ok.nodes.header c.in-Ok.nodes.logs.items c.in-Ok.nodes.shards.items c.in-Ok.ensures.opened c.in-Ok.ensures.caused
-
-pub returns-clause-stopped : goal.returns-clause-stopped
-returns-clause-stopped g c =
-    let ran = c.run_nodes-nodes.ensures in
-    let are = c.in-Ok.ensures.opened in
-    let logs : length c.run_nodes-nodes.result.nodes.logs.items ≡ length c.in-Ok.nodes.logs.items = ran.ledger.coordinators ∙ (ap (λ k. k.coordinators) ran.shape ∙ sym are.coordinators) in
-    let shards : length c.run_nodes-nodes.result.nodes.shards.items ≡ length c.in-Ok.nodes.shards.items = ran.ledger.shards_are ∙ (ap (λ k. k.shards) ran.shape ∙ sym are.shards_are) in
-    if_err_by _ _ c.run_nodes-nodes.result.came
-    (λ e came. inr
-    (lane_fault g.R.Disk.Disk.content g.R.Disk.Disk.images g.R.Disk.Disk.limit g.R.Disk.Disk.count (g.R.Rack.held c.args.rack.now) (g.R.Rack.held c.close_nodes.new.rack) c.in-Ok.nodes.header
-    c.run_nodes-nodes.result.nodes.header c.in-Ok.nodes.logs.items c.run_nodes-nodes.result.nodes.logs.items c.in-Ok.nodes.shards.items c.run_nodes-nodes.result.nodes.shards.items c.in-Ok.ensures.opened c.in-Ok.ensures.caused
-    ran.ledger ran.shape c.close_nodes.ensures.closed_logs c.close_nodes.ensures.closed_shards ran.stored ran.counts (g.R.Rack.count c.args.rack.now) (g.R.Rack.count c.close_nodes.new.rack)
-    c.in-Ok.ensures.logs_since c.in-Ok.ensures.shards_since c.close_nodes.ensures.counted_logs c.close_nodes.ensures.counted_shards (g.V.Verifier.verdict_of c.args.verifier.now) c.args.files.now c.requires.short ran.begun ran.grows e came.0 came.1 ran.keeps ran.cut ran.in_order ran.flown ran.launches ran.rests
-    (opened_room g.R.Disk.Disk.content g.R.Disk.Disk.images g.R.Disk.Disk.limit g.R.Disk.Disk.count (g.R.Rack.held c.args.rack.now) (g.R.Rack.held c.close_nodes.new.rack) c.in-Ok.nodes.header c.run_nodes-nodes.result.nodes.header
-    c.in-Ok.nodes.logs.items c.run_nodes-nodes.result.nodes.logs.items c.in-Ok.nodes.shards.items c.run_nodes-nodes.result.nodes.shards.items c.args.files.now c.in-Ok.ensures.opened ran.ledger ran.shape
-    c.close_nodes.ensures.closed_logs c.close_nodes.ensures.closed_shards ran.stored)
-    (rooms_same g.R.Disk.Disk.content g.R.Disk.Disk.images g.R.Disk.Disk.limit g.R.Disk.Disk.count (g.R.Rack.held c.args.rack.now) (g.R.Rack.held c.close_nodes.new.rack) c.in-Ok.nodes.header
-    c.in-Ok.nodes.logs.items c.run_nodes-nodes.result.nodes.logs.items c.in-Ok.nodes.shards.items c.run_nodes-nodes.result.nodes.shards.items c.in-Ok.ensures.opened c.run_nodes-nodes.result.nodes.header ran.shape ran.ledger
-    ran.capacities c.close_nodes.ensures.closed_logs c.close_nodes.ensures.closed_shards ran.holds_as_much)
-    ran.log_rooms ran.shard_rooms ran.checked
-    (cut_short g.R.Disk.Disk.content g.R.Disk.Disk.images g.R.Disk.Disk.limit g.R.Disk.Disk.count (g.R.Rack.held c.args.rack.now) (g.R.Rack.held c.close_nodes.new.rack) c.in-Ok.nodes.header
-    c.run_nodes-nodes.result.nodes.header c.in-Ok.nodes.logs.items c.run_nodes-nodes.result.nodes.logs.items c.in-Ok.nodes.shards.items c.run_nodes-nodes.result.nodes.shards.items c.args.files.now c.in-Ok.ensures.opened
-    ran.ledger ran.shape c.close_nodes.ensures.closed_logs c.close_nodes.ensures.closed_shards ran.stored ran.keeps ran.flies ran.log_rooms ran.shard_rooms ran.log_fits ran.shard_fits)
-    (λ n le. c.close_nodes.ensures.others_held n (omega (arith, le, logs, shards, are.coordinators, are.shards_are)) ∙ c.in-Ok.ensures.others_held n (omega (arith, le, are.coordinators, are.shards_are)))))
-    (if_err_both _ _ c.run_nodes-nodes.result.came ran.fault ran.least)
-
-pub returns-clause-told : goal.returns-clause-told
-returns-clause-told g c =
-    let ran = c.run_nodes-nodes.ensures in
-    if_ok_all _ _ _ c.run_nodes-nodes.result.came ran.told ran.unspent
-    (on_ok_all c.run_nodes-nodes.result.came
-    (ends g.R.Disk.Disk.content g.R.Disk.Disk.images g.R.Disk.Disk.limit g.R.Disk.Disk.count (g.R.Rack.held c.args.rack.now) (g.R.Rack.held c.close_nodes.new.rack) c.in-Ok.nodes.header c.run_nodes-nodes.result.nodes.header
-    c.in-Ok.nodes.logs.items c.run_nodes-nodes.result.nodes.logs.items c.in-Ok.nodes.shards.items c.run_nodes-nodes.result.nodes.shards.items c.args.files.now c.in-Ok.ensures.opened ran.ledger ran.shape
-    c.close_nodes.ensures.closed_logs c.close_nodes.ensures.closed_shards ran.stored (g.V.Verifier.verdict_of c.args.verifier.now))
-    ran.idle ran.resumed ran.waves ran.quiet)
-    (λ r told unspent ended.
-    tells g.R.Disk.Disk.content g.R.Disk.Disk.images g.R.Disk.Disk.limit g.R.Disk.Disk.count (g.R.Rack.held c.args.rack.now) (g.R.Rack.held c.close_nodes.new.rack) c.in-Ok.nodes.header c.run_nodes-nodes.result.nodes.header
-    c.in-Ok.nodes.logs.items c.run_nodes-nodes.result.nodes.logs.items c.in-Ok.nodes.shards.items c.run_nodes-nodes.result.nodes.shards.items c.args.files.now c.in-Ok.ensures.opened ran.ledger ran.shape
-    c.close_nodes.ensures.closed_logs c.close_nodes.ensures.closed_shards ran.stored (g.V.Verifier.verdict_of c.args.verifier.now) r ran.keeps ran.in_order ran.log_rooms ran.shard_rooms ended told unspent)
+pub returns-in-Err-end_on-clause-later : goal.returns-in-Err-end_on-clause-later
+returns-in-Err-end_on-clause-later g c n = omega (arith, c.in-Ok.ensures.later n, c.end_on.ensures.later n)

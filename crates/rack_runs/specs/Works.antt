@@ -1,0 +1,221 @@
+-- What a command does over a ledger whose open batches are at their end, and what that leaves of the ledger that a rack showed.
+use Rattle.std.specs.Prelude.{◌≡◌, ◌⊎◌, ℕ, ◌+◌, ◌*◌, ◌^◌, ◌<◌, ◌≤◌, List, length, ◌++◌, Option, Result, All, IfOk, IfErr, OnOk}
+use Rattle.cbdc_types.specs.Limits.{IsWithinLimits}
+use Rattle.cbdc_types.specs.declared.answer.Answer.{Answer}
+use Rattle.cbdc_model.specs.Records.{Shape, Header, Compact, Record}
+use Rattle.cbdc_model.specs.Grammar.{HasSize, IsCompact}
+use Rattle.cbdc_model.specs.Coins.{Output, FullTx}
+use Rattle.cbdc_model.specs.Clean.{Clean}
+use Rattle.cbdc_model.specs.Lanes.{IsEnd}
+use Rattle.cbdc_model.specs.World.{AreIdle}
+use Rattle.cbdc_model.specs.Headline.{Headline}
+use Rattle.cbdc_model.specs.Waves.{IsResumed}
+use Rattle.coord_log.specs.Logs.{LogOf}
+use Rattle.shard_node.specs.Shards.{ShardOf}
+use Rattle.lane_driver.specs.declared.fault.LaneFault.{LaneFault}
+use Rattle.recovery.specs.declared.resumed.ResumedBatch.{ResumedBatch}
+use Rattle.ledger_runs.specs.Turning.{IsLaneOf, OfKept, StaysKept}
+use Rattle.ledger_runs.specs.Flying.{Launches}
+use Rattle.ledger_runs.specs.Telling.{SamePrepared, TellResumed}
+use Rattle.ledger_runs.specs.Least.{IsLeastOpen}
+use Rattle.ledger_runs.specs.Faults.{IsRunCause, HaveFailed, MayHold, AllRest, AllRestSince}
+use Rattle.ledger_nodes.specs.Ledgers.{LedgerOf, journals, flights, faults, opened, capacity, IsChecked, IsQuiet, KeepsLedgerOf}
+use Rattle.file_runs.specs.Runs.{joined, FliesWith}
+use Rattle.rack_nodes.specs.Places.{EachFrom, MayReturn}
+use Rattle.rack_ledgers.specs.Ledgers.{ByPlace, AreOpened}
+use Rattle.caused_ledgers.specs.Caused.{journals_of as told_journals, AreCaused}
+use Rattle.rack_laws.specs.Shown.{OfShown, HoldsEach, LogHasRoom, ShardHasRoom, LogFits, ShardFits, HaveRoom, node_count}
+use Rattle.printed_lines.specs.Unspent.{IsUnspentCount}
+use Rattle.rack_runs.specs.Kinds.{FliesBroken, ShardFliesBroken}
+use Rattle.rack_runs.specs.Endings.{IsInOrder}
+use Rattle.rack_runs.specs.Runs.{IsGrown, TookLedger, AddsOpen}
+use Rattle.rack_runs.specs.Stops.{WhyNoTurns}
+use Rattle.rack_runs.specs.declared.told.Told.{Told}
+
+-- what a command does, as relations between journals: the transactions that it hands in, group by group; those that may be next for a lane, from
+-- journals at entry to later ones; whose fault ends it, from the journals that it was given; what has been begun, whatever came of it, from those at
+-- entry; and what was done where it came through, from those that it was given
+pub record Deed (Done : Type 0) : Type 1 where
+  pub handed : List (List FullTx)
+  pub next : Shape → (ℕ → List Record) → (ℕ → List Record) → ℕ → List Compact → Type 0
+  pub ends : Shape → (ℕ → List Record) → (ℕ → List Record) → (ℕ → Type 0) → (ℕ → ℕ → Type 0) → LaneFault → Type 0
+  pub begun : Shape → (ℕ → List Record) → (ℕ → List Record) → Type 0
+  pub did : Shape → (ℕ → List Record) → (ℕ → List Record) → Done → Type 0
+
+-- a batch's size, and each within the limits
+abbrev pub FitsBatch : Shape → List Compact → Type 0
+FitsBatch K txs = HasSize K txs × All IsCompact txs
+
+-- whatever may be next for a lane fits a batch
+abbrev pub AllFit : {Done : Type 0} → Deed Done → Type 0
+AllFit d = (K : Shape) (E X : ℕ → List Record) (lane : ℕ) (txs : List Compact) → d.next K E X lane txs → FitsBatch K txs
+
+-- ---- the resuming, and the work behind it
+
+-- from journals E at entry to M the open batches were brought to their end, and nothing was prepared newly
+pub record IsBehind (K : Shape) (E M : ℕ → List Record) : Type 0 where
+  pub grows : (n : ℕ) → IsEnd (E n) (M n)
+  pub unprepared : SamePrepared K E M
+  pub idle : AreIdle K M
+  pub keeps : OfKept K E (StaysKept K E M)
+  pub resumed : OfKept K E (λ _ _. IsResumed K E M)
+
+-- what a work leaves, whatever came of it, from journals M that it was given to X: they have grown at their ends, and where they were kept they are,
+-- with what was handed in besides; what is in flight may come next at its node, as before, and a Prepare was so before or is next for its lane; each
+-- lane is between batches, or its batch lacks a Lock, or the disk of a node that it asks has failed; and what may be next and what has been begun
+-- is so from all journals, too, from which M came by a resuming
+pub record LeavesWork {Done : Type 0} (d : Deed Done) (K : Shape) (M X : ℕ → List Record) (before after : ℕ → Option Record) (failed : ℕ → Type 0) : Type 0 where
+  pub grows : (n : ℕ) → IsEnd (M n) (X n)
+  pub keeps : OfKept K M (λ mint submissions. StaysKept K M X mint (submissions ++ joined d.handed))
+  pub flies : OfKept K M (FliesWith K (joined d.handed) M X before after)
+  pub launches : Launches K (d.next K M X) M X before after
+  pub rests : AllRest K X failed
+  pub since : (E : ℕ → List Record) → IsBehind K E M → (lane : ℕ) (txs : List Compact) → IsLaneOf K lane → d.next K M X lane txs → d.next K E X lane txs
+  pub begun : IsWithinLimits K → (E : ℕ → List Record) → IsBehind K E M → d.begun K E X
+
+-- it came through
+pub record EndsWell {Done : Type 0} (d : Deed Done) (K : Shape) (M X : ℕ → List Record) (done : Done) : Type 0 where
+  pub idle : AreIdle K X
+  pub did : d.did K M X done
+
+-- a lane's fault ended it, which has its cause
+pub record EndsBadly {Done : Type 0} (d : Deed Done) (K : Shape) (M X : ℕ → List Record) (failed : ℕ → Type 0) (may_hold : ℕ → ℕ → Type 0) (e : LaneFault) : Type 0 where
+  pub cause : IsRunCause K (d.next K M X) M X failed may_hold e
+  pub ends : d.ends K M X failed may_hold e
+
+-- A work was done over the nodes of a ledger with no open batch: what the ledger is behind it, and what came of it.
+pub record HasWorked {D Done : Type 0} (count limit : D → ℕ) (content : D → Option (List ℕ)) (images : D → List ℕ → Type 0) (d : Deed Done)
+    (before now : LedgerOf D) (came : Result Done LaneFault) : Type 0 where
+  pub keeps_ledger : KeepsLedgerOf count limit content images before now
+  pub checked : IsChecked count limit now
+  pub quiet : OnOk came (IsQuiet before → IsQuiet now)
+  pub leaves : LeavesWork d before.header.shape (journals count limit before) (journals count limit now) (flights count limit before) (flights count limit now)
+      (HaveFailed (opened count limit now) (faults count limit now))
+  pub well : IfOk came (EndsWell d before.header.shape (journals count limit before) (journals count limit now))
+  pub badly : IfErr came (EndsBadly d before.header.shape (journals count limit before) (journals count limit now)
+      (HaveFailed (opened count limit now) (faults count limit now)) (MayHold (capacity count limit now)))
+
+-- ---- the resuming and the work, from journals E at entry to X
+
+-- nothing was prepared newly in a ledger within the limits, and where its journals are kept all new records are of batches that were open
+pub record IsOpenOnly (K : Shape) (E X : ℕ → List Record) : Type 0 where
+  pub limits : IsWithinLimits K
+  pub unprepared : SamePrepared K E X
+  pub adds : OfKept K E (λ _ _. AddsOpen K E X)
+
+-- open batches alone were taken up, or the work was begun; open batches in the order of their lanes
+abbrev pub BeginsWork : {Done : Type 0} → Deed Done → Shape → (ℕ → List Record) → (ℕ → List Record) → Type 0
+BeginsWork d K E X = (IsOpenOnly K E X ⊎ d.begun K E X) × IsInOrder K E X
+
+-- the fault ended the work, by counts of faults and by capacities that tell no more than what is known of the disks
+pub record EndsBy {Done : Type 0} (d : Deed Done) (K : Shape) (M X : ℕ → List Record) (failed : ℕ → Type 0) (may_hold : ℕ → ℕ → Type 0) (e : LaneFault) : Type 0 where
+  pub opened_at : ℕ → ℕ
+  pub faults_at : ℕ → ℕ
+  pub capacity_at : ℕ → ℕ
+  pub fails : (n : ℕ) → n < node_count K → HaveFailed opened_at faults_at n → failed n
+  pub holds : (n c : ℕ) → n < node_count K → MayHold capacity_at n c → may_hold n c
+  pub ends : d.ends K M X (HaveFailed opened_at faults_at) (MayHold capacity_at) e
+
+-- nothing was prepared newly, and it is the least lane's that met one as open batches were brought to their end; or these are at their end, nothing was
+-- prepared newly meanwhile, and it ended the work behind that
+abbrev pub EndsWork : {Done : Type 0} → Deed Done → Shape → (ℕ → List Record) → (ℕ → List Record) → (ℕ → Type 0) → (ℕ → ℕ → Type 0) → LaneFault → Type 0
+EndsWork d K E X failed may_hold e =
+    (SamePrepared K E X × IsLeastOpen K E X failed may_hold e)
+    ⊎ ((middle : ℕ → List Record) × ((n : ℕ) → IsEnd (E n) (middle n)) × SamePrepared K E middle × AreIdle K middle × EndsBy d K middle X failed may_hold e)
+
+-- whatever came: as `LeavesWork`, from the journals at entry
+pub record LeavesAll {Done : Type 0} (d : Deed Done) (K : Shape) (E X : ℕ → List Record) (before after : ℕ → Option Record) (failed : ℕ → Type 0) : Type 0 where
+  pub grows : (n : ℕ) → IsEnd (E n) (X n)
+  pub keeps : OfKept K E (λ mint submissions. StaysKept K E X mint (submissions ++ joined d.handed))
+  pub flies : OfKept K E (FliesWith K (joined d.handed) E X before after)
+  pub launches : Launches K (d.next K E X) E X before after
+  pub rests : AllRestSince K E X failed
+  pub begun : IsWithinLimits K → BeginsWork d K E X
+
+-- all came through: the batches that were open, and what was done behind them
+pub record AllWell {Done : Type 0} (d : Deed Done) (K : Shape) (E X : ℕ → List Record) (resumed : List ResumedBatch) (done : Done) : Type 0 where
+  pub middle : ℕ → List Record
+  pub behind : IsBehind K E middle
+  pub batches : OfKept K E (λ _ _. TellResumed K E middle (K.coordinators * K.lanes) resumed)
+  pub well : EndsWell d K middle X done
+
+-- a lane's fault ended it
+pub record AllBadly {Done : Type 0} (d : Deed Done) (K : Shape) (E X : ℕ → List Record) (failed : ℕ → Type 0) (may_hold : ℕ → ℕ → Type 0) (e : LaneFault) : Type 0 where
+  pub cause : IsRunCause K (d.next K E X) E X failed may_hold e
+  pub ends : EndsWork d K E X failed may_hold e
+
+-- The open batches of a ledger were brought to their end, and a work was done: what the ledger is behind it, and what came of it.
+pub record HasRun {D Done : Type 0} (count limit : D → ℕ) (content : D → Option (List ℕ)) (images : D → List ℕ → Type 0) (d : Deed Done)
+    (before now : LedgerOf D) (resumed : List ResumedBatch) (came : Result Done LaneFault) : Type 0 where
+  pub keeps_ledger : KeepsLedgerOf count limit content images before now
+  pub checked : IsChecked count limit now
+  pub quiet : OnOk came (IsQuiet before → IsQuiet now)
+  pub leaves : LeavesAll d before.header.shape (journals count limit before) (journals count limit now) (flights count limit before) (flights count limit now)
+      (HaveFailed (opened count limit now) (faults count limit now))
+  pub well : IfOk came (AllWell d before.header.shape (journals count limit before) (journals count limit now) resumed)
+  pub badly : IfErr came (AllBadly d before.header.shape (journals count limit before) (journals count limit now)
+      (HaveFailed (opened count limit now) (faults count limit now)) (MayHold (capacity count limit now)))
+
+-- what nodes say of themselves: each one's count of faults and capacity are its disk's, which has room for its journal, for what is kept for its
+-- open batches and for what is in flight; and a record is in flight only where the disk failed
+pub record AreSeen {D : Type 0} (count limit : D → ℕ) (logs : List (LogOf D)) (shards : List (ShardOf D)) : Type 0 where
+  pub counts : All (λ l. l.faults ≡ count l.disk) logs
+  pub capacities : All (λ l. l.capacity ≡ limit l.disk) logs
+  pub log_rooms : All (LogHasRoom limit) logs
+  pub shard_rooms : All (ShardHasRoom limit) shards
+  pub log_fits : All (LogFits limit) logs
+  pub shard_fits : All (ShardFits limit) shards
+  pub log_flown : All FliesBroken logs
+  pub shard_flown : All (ShardFliesBroken count) shards
+
+-- ---- on a rack
+
+-- what a rack told at entry, how often its disks had failed then, and the nodes as they were opened
+pub record AtEntry (D : Type 0) : Type 0 where
+  pub held : ℕ → Option D
+  pub before : ℕ → ℕ
+  pub header : Header
+  pub logs : List (LogOf D)
+  pub shards : List (ShardOf D)
+
+abbrev pub entry_ledger : {D : Type 0} → AtEntry D → LedgerOf D
+entry_ledger e = record { header = e.header; logs = e.logs; shards = e.shards }
+
+-- all nodes of the ledger that the rack told were opened, each record of it is caused, and their disks may be put back
+pub record IsOpen {D : Type 0} (content : D → Option (List ℕ)) (images : D → List ℕ → Type 0) (limit count : D → ℕ) (e : AtEntry D) (held : ℕ → Option D)
+    (can_put : ℕ → ℕ → Type 0) (can_take : ℕ → Type 0) : Type 0 where
+  pub nodes : AreOpened content images limit count e.held e.header e.logs e.shards
+  pub caused : AreCaused e.header.shape (told_journals e.logs e.shards)
+  pub few : length e.logs + length e.shards < 2 ^ 32
+  pub logs_since : ByPlace (λ n x. e.before n ≤ count x.disk) e.logs
+  pub shards_since : ByPlace (λ s x. e.before (e.header.shape.coordinators + s) ≤ count x.disk) e.shards
+  pub logs : EachFrom (MayReturn (λ x. count x.disk) can_put) 0 e.logs
+  pub shards : EachFrom (MayReturn (λ x. count x.disk) can_put) (length e.logs) e.shards
+  pub others : (n : ℕ) → length e.logs + length e.shards ≤ n → held n ≡ e.held n
+  pub others_in : (n : ℕ) → length e.logs + length e.shards ≤ n → can_take n
+
+-- they were opened, their open batches were brought to their end, and a work was done
+pub record HasCome {D Done : Type 0} (content : D → Option (List ℕ)) (images : D → List ℕ → Type 0) (limit count : D → ℕ) (d : Deed Done) (e : AtEntry D) (held : ℕ → Option D)
+    (can_put : ℕ → ℕ → Type 0) (can_take : ℕ → Type 0) (ledger : LedgerOf D) (resumed : List ResumedBatch) (came : Result Done LaneFault) : Type 0 where
+  pub begun : IsOpen content images limit count e held can_put can_take
+  pub ran : HasRun count limit content images d (entry_ledger e) ledger resumed came
+
+-- where the ledger that the disks told was kept: it came through, each disk holds its journal and no record more and has room for it and for what is
+-- kept, open batches were taken up in the order of their lanes, so many hashes are unspent now, and the sentence holds of the journals
+pub record HasEnded {D Done : Type 0} (images : D → List ℕ → Type 0) (limit : D → ℕ) (held : ℕ → Option D) (d : Deed Done) (told : Told Done)
+    (K : Shape) (mint : List Output) (submissions : List FullTx) (E : ℕ → List Record) : Type 0 where
+  pub exit : ℕ → List Record
+  pub well : AllWell d K E exit told.resumed.items told.done
+  pub grown : IsGrown K mint (submissions ++ joined d.handed) E exit
+  pub disks : HoldsEach images held K exit
+  pub rooms : HaveRoom limit held K exit
+  pub in_order : IsInOrder K E exit
+  pub unspent : IsUnspentCount K exit told.unspent
+  pub headline : Clean mint (submissions ++ joined d.handed) → Headline K mint (submissions ++ joined d.handed) exit
+
+-- A work was done over the ledger on a rack: what came of it, and what that leaves of the disks.
+pub record HasDone {D Done : Type 0} (content : D → Option (List ℕ)) (images : D → List ℕ → Type 0) (limit count : D → ℕ) (held back : ℕ → Option D)
+    (before now : ℕ → ℕ) (d : Deed Done) (came : Result (Told Done) Answer) : Type 0 where
+  pub caused : OnOk came (TookLedger content images limit held back)
+  pub ended : IfOk came (λ told. OfShown content held (HasEnded images limit back d told))
+  pub stopped : IfErr came (WhyNoTurns content images limit count held back before now d.next (EndsWork d) (BeginsWork d) d.handed)
