@@ -14,10 +14,9 @@ use outside::{Disk, Gate};
 use sentinel_pipe::{Feeder, feed, pipe};
 use std::alloc::{AllocError, Global};
 use std::marker::{Brand, Model, PhantomData};
-use std::mem;
 use std::sync::Wait;
-use std::thread;
 use std::thread::Threads;
+use std::{mem, thread};
 use verifier_port::Verifier;
 
 // From how many submissions of a lane on no feeder checks them.
@@ -227,8 +226,6 @@ pub(crate) fn run_fed<
         has_run: _,
         of: _,
     } = held;
-    let Some(ledger) = ledger else {
-        unreachable!()
-    };
+    let Some(ledger) = ledger else { unreachable!() };
     Waved { ledger, works }
 }

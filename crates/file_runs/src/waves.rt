@@ -150,8 +150,9 @@ fn run_dealt<
             came: Err(no_memory()),
         };
     };
-    let Waved { ledger, works } =
-        run_fed::<W, D, V, F, Brand, G>(rt, alloc, file, ledger, works, feeders, gate);
+    let Waved { ledger, works } = run_fed::<W, D, V, F, Brand, G>(
+        rt, alloc, file, ledger, works, feeders, gate,
+    );
     match first_fault(&works) {
         Some(fault) => FileRun {
             ledger,

@@ -1,6 +1,7 @@
 -- A work over the ledger on a rack: from the opened nodes to all disks back.
-use Rattle.std.proofs.Common.{◌≡◌, ◌⊎◌, inr, ℕ, ◌+◌, ◌^◌, ◌<◌, ◌≤◌, List, length, Option, Result, Ok, Err, Some, sym, ap, ◌∙◌, subst, arith}
+use Rattle.std.proofs.Common.{◌≡◌, ◌⊎◌, inr, ℕ, [], ◌+◌, ◌^◌, ◌<◌, ◌≤◌, List, length, Option, Result, Ok, Err, Some, sym, ap, ◌∙◌, subst, arith}
 use Rattle.std.specs.Prelude.{map, IfOk, IfErr}
+use Rattle.std.specs.Global.{Vec}
 use Rattle.cbdc_types.specs.declared.answer.Answer.{Answer}
 use Rattle.cbdc_types.specs.declared.answer.Answer.TheVariants as answers
 use Rattle.cbdc_model.specs.Records.{Header, Record}
@@ -19,9 +20,11 @@ use Rattle.file_runs.proofs.Whole.{when_whole, of_whole}
 use Rattle.rack_laws.specs.Shown.{HaveRoom, node_count}
 use Rattle.rack_runs.specs.Kinds.{answer_to}
 use Rattle.rack_runs.specs.Telling.{CountAll}
-use Rattle.rack_runs.specs.Works.{Deed, AllFit, LeavesAll, AllWell, AllBadly, HasRun, AreSeen, AtEntry, HasCome, HasDone}
+use Rattle.rack_runs.specs.Works.{Deed, AllFit, LeavesAll, AllWell, AllBadly, HasRun, AreSeen, AtEntry, entry_ledger, IsOpen, HasCome, HasDone}
 use Rattle.rack_runs.specs.declared.told.Told.{Told}
 use Rattle.rack_runs.proofs.Lent.{ledger_of}
+use Rattle.rack_runs.specs.Resuming.{HasResumed}
+use Rattle.rack_runs.proofs.Working.{stopped_run}
 use Rattle.rack_runs.proofs.Behind.{are_quiet, logs_return, shards_return, rooms_same}
 use Rattle.rack_runs.proofs.Flown.{all_flown}
 use Rattle.rack_runs.proofs.Answering.{came_badly, took, lane_fault}
@@ -169,3 +172,33 @@ module _ {D Done : Type 0} (content : D → Option (List ℕ)) (images : D → L
   closed back logs_back shards_back counts logs_counted shards_counted others_put told fault same unspent fits =
       done content images limit count e.held e.header g e.logs now e.shards after deed resumed came has.begun.nodes is seen there has.begun.caused middle back logs_back shards_back e.before counts
       has.begun.logs_since has.begun.shards_since logs_counted shards_counted has.begun.others others_put told fault same unspent fits
+
+-- ---- as it is opened
+
+abbrev pub at_entry : {D : Type 0} → (ℕ → Option D) → (ℕ → ℕ) → Header → List (LogOf D) → List (ShardOf D) → AtEntry D
+at_entry held before h logs shards = record { held = held; before = before; header = h; logs = logs; shards = shards }
+
+module _ {D : Type 0} (content : D → Option (List ℕ)) (images : D → List ℕ → Type 0) (limit count : D → ℕ) (e : AtEntry D) (middle : ℕ → Option D) (can_put : ℕ → ℕ → Type 0) (can_take : ℕ → Type 0) where
+  pub is_open : AreOpened content images limit count e.held e.header e.logs e.shards → AreCaused e.header.shape (lent_journals e.logs e.shards) → length e.logs + length e.shards < 2 ^ 32
+      → ByPlace (λ n x. e.before n ≤ count x.disk) e.logs → ByPlace (λ s x. e.before (e.header.shape.coordinators + s) ≤ count x.disk) e.shards
+      → EachFrom (MayReturn (λ x. count x.disk) can_put) 0 e.logs → EachFrom (MayReturn (λ x. count x.disk) can_put) (length e.logs) e.shards
+      → ((n : ℕ) → length e.logs + length e.shards ≤ n → middle n ≡ e.held n) → ((n : ℕ) → length e.logs + length e.shards ≤ n → can_take n) → IsOpen content images limit count e middle can_put can_take
+  is_open nodes caused few logs_since shards_since logs shards others others_in = record {
+    nodes = nodes;
+    caused = caused;
+    few = few;
+    logs_since = logs_since;
+    shards_since = shards_since;
+    logs = logs;
+    shards = shards;
+    others = others;
+    others_in = others_in;
+  }
+
+  -- a lane met a fault as open batches were brought to their end
+  pub stopped_come : {Done : Type 0} (deed : Deed Done) → IsOpen content images limit count e middle can_put can_take → (first ledger : LedgerOf D) → first ≡ entry_ledger e → (came : Result (Vec ResumedBatch) LaneFault) (f : LaneFault)
+      → came ≡ Err f → HasResumed count limit content images first ledger came → HasCome content images limit count deed e middle can_put can_take ledger [] (Err f)
+  stopped_come deed begun first ledger same came f is resumed = record {
+    begun = begun;
+    ran = stopped_run count limit content images deed (entry_ledger e) ledger [] came f is (subst (λ l. HasResumed count limit content images l ledger came) same resumed);
+  }

@@ -1,12 +1,10 @@
-use Rattle.std.proofs.Common.{inl, inr, List, [], Err, refl, sym, subst}
-use Rattle.recovery.specs.declared.resumed.ResumedBatch.{ResumedBatch}
+use Rattle.std.proofs.Common.{inl, inr, [], Err, refl, sym, subst}
 use Rattle.ledger_nodes.specs.Ledgers.{IsChecked}
 use Rattle.rack_runs.specs.Resuming.{HasResumed}
-use Rattle.rack_runs.specs.Works.{AtEntry, entry_ledger, IsOpen, HasCome}
+use Rattle.rack_runs.specs.Works.{entry_ledger}
 use Rattle.rack_runs.proofs.Behind.{is_ledger}
 use Rattle.rack_runs.proofs.Checking.{opened_checked}
-use Rattle.rack_runs.proofs.Working.{stopped_run}
-use Rattle.rack_runs.proofs.Closing.{close_few, close_logs, close_shards, close_others, closed}
+use Rattle.rack_runs.proofs.Closing.{at_entry, is_open, stopped_come, close_few, close_logs, close_shards, close_others, closed}
 use Rattle.rack_runs.proofs.racks.begin_on.Goals as goal
 
 pub ledger_of-ledger-requires : goal.ledger_of-ledger-requires
@@ -24,181 +22,65 @@ returns-in-Err-clause-stopped g c = inl (c.in-Err.ensures.refusal, c.in-Err.ensu
 
 pub returns-in-Ok-came-clause-begun : goal.returns-in-Ok-came-clause-begun
 returns-in-Ok-came-clause-begun g c =
-    let entry : AtEntry _ = record {
-      held = g.R.Rack.held c.args.rack.now;
-      before = g.R.Rack.count c.args.rack.now;
-      header = c.in-Ok.nodes.header;
-      logs = c.in-Ok.nodes.logs.items;
-      shards = c.in-Ok.nodes.shards.items;
-    } in
-    let begun : IsOpen g.R.Disk.Disk.content g.R.Disk.Disk.images g.R.Disk.Disk.limit g.R.Disk.Disk.count entry (g.R.Rack.held c.open_caused.new.rack) (g.R.Rack.can_put c.open_caused.new.rack) (g.R.Rack.can_take c.open_caused.new.rack) = record {
-      nodes = c.in-Ok.ensures.opened;
-      caused = c.in-Ok.ensures.caused;
-      few = c.in-Ok.ensures.few;
-      logs_since = c.in-Ok.ensures.logs_since;
-      shards_since = c.in-Ok.ensures.shards_since;
-      logs = c.in-Ok.ensures.logs;
-      shards = c.in-Ok.ensures.shards;
-      others = c.in-Ok.ensures.others_held;
-      others_in = c.in-Ok.ensures.others_in;
-    } in
-    let resumed : HasResumed g.R.Disk.Disk.count g.R.Disk.Disk.limit g.R.Disk.Disk.content g.R.Disk.Disk.images (entry_ledger entry) c.resume_ledger-ledger.result.ledger c.resume_ledger-ledger.result.came =
-    subst (λ l. HasResumed g.R.Disk.Disk.count g.R.Disk.Disk.limit g.R.Disk.Disk.content g.R.Disk.Disk.images l c.resume_ledger-ledger.result.ledger c.resume_ledger-ledger.result.came) c.ledger_of-ledger.ensures c.resume_ledger-ledger.ensures in
-    (entry, refl, refl, begun, subst (λ k. HasResumed g.R.Disk.Disk.count g.R.Disk.Disk.limit g.R.Disk.Disk.content g.R.Disk.Disk.images (entry_ledger entry) c.resume_ledger-ledger.result.ledger k) c.in-Ok-came.is resumed)
+    let o = c.in-Ok.ensures in
+    let e = at_entry (g.R.Rack.held c.args.rack.now) (g.R.Rack.count c.args.rack.now) c.in-Ok.nodes.header c.in-Ok.nodes.logs.items c.in-Ok.nodes.shards.items in
+    let begun = is_open g.R.Disk.Disk.content g.R.Disk.Disk.images g.R.Disk.Disk.limit g.R.Disk.Disk.count e (g.R.Rack.held c.open_caused.new.rack) (g.R.Rack.can_put c.open_caused.new.rack) (g.R.Rack.can_take c.open_caused.new.rack) o.opened o.caused o.few o.logs_since o.shards_since o.logs o.shards o.others_held o.others_in in (
+      e,
+      refl,
+      refl,
+      begun,
+      subst (λ k. HasResumed g.R.Disk.Disk.count g.R.Disk.Disk.limit g.R.Disk.Disk.content g.R.Disk.Disk.images (entry_ledger e) c.resume_ledger-ledger.result.ledger k) c.in-Ok-came.is
+          (subst (λ l. HasResumed g.R.Disk.Disk.count g.R.Disk.Disk.limit g.R.Disk.Disk.content g.R.Disk.Disk.images l c.resume_ledger-ledger.result.ledger c.resume_ledger-ledger.result.came) c.ledger_of-ledger.ensures c.resume_ledger-ledger.ensures),
+    )
 
 pub close_nodes-requires-clause-few : goal.close_nodes-requires-clause-few
 close_nodes-requires-clause-few g c =
-    let entry : AtEntry _ = record {
-      held = g.R.Rack.held c.args.rack.now;
-      before = g.R.Rack.count c.args.rack.now;
-      header = c.in-Ok.nodes.header;
-      logs = c.in-Ok.nodes.logs.items;
-      shards = c.in-Ok.nodes.shards.items;
-    } in
-    let begun : IsOpen g.R.Disk.Disk.content g.R.Disk.Disk.images g.R.Disk.Disk.limit g.R.Disk.Disk.count entry (g.R.Rack.held c.open_caused.new.rack) (g.R.Rack.can_put c.open_caused.new.rack) (g.R.Rack.can_take c.open_caused.new.rack) = record {
-      nodes = c.in-Ok.ensures.opened;
-      caused = c.in-Ok.ensures.caused;
-      few = c.in-Ok.ensures.few;
-      logs_since = c.in-Ok.ensures.logs_since;
-      shards_since = c.in-Ok.ensures.shards_since;
-      logs = c.in-Ok.ensures.logs;
-      shards = c.in-Ok.ensures.shards;
-      others = c.in-Ok.ensures.others_held;
-      others_in = c.in-Ok.ensures.others_in;
-    } in
-    let resumed : HasResumed g.R.Disk.Disk.count g.R.Disk.Disk.limit g.R.Disk.Disk.content g.R.Disk.Disk.images (entry_ledger entry) c.resume_ledger-ledger.result.ledger c.resume_ledger-ledger.result.came =
-    subst (λ l. HasResumed g.R.Disk.Disk.count g.R.Disk.Disk.limit g.R.Disk.Disk.content g.R.Disk.Disk.images l c.resume_ledger-ledger.result.ledger c.resume_ledger-ledger.result.came) c.ledger_of-ledger.ensures c.resume_ledger-ledger.ensures in
-    let deed = g.K.Work.deed c.args.work.now in
-    let none : List ResumedBatch = [] in
-    let has : HasCome g.R.Disk.Disk.content g.R.Disk.Disk.images g.R.Disk.Disk.limit g.R.Disk.Disk.count deed entry (g.R.Rack.held c.open_caused.new.rack) (g.R.Rack.can_put c.open_caused.new.rack) (g.R.Rack.can_take c.open_caused.new.rack) c.resume_ledger-ledger.result.ledger none (Err c.in-Err-came.fault) = record {
-      begun = begun;
-      ran = stopped_run g.R.Disk.Disk.count g.R.Disk.Disk.limit g.R.Disk.Disk.content g.R.Disk.Disk.images deed (entry_ledger entry) c.resume_ledger-ledger.result.ledger none c.resume_ledger-ledger.result.came c.in-Err-came.fault c.in-Err-came.is resumed;
-    } in
-    close_few g.R.Disk.Disk.content g.R.Disk.Disk.images g.R.Disk.Disk.limit g.R.Disk.Disk.count deed entry (g.R.Rack.held c.open_caused.new.rack) (g.R.Rack.can_put c.open_caused.new.rack) (g.R.Rack.can_take c.open_caused.new.rack) c.nodes_of-nodes.result.header c.nodes_of-nodes.result.logs.items c.nodes_of-nodes.result.shards.items
-    c.nodes_of-nodes.ensures.ledger c.nodes_of-nodes.ensures.seen c.resume_ledger-ledger.result.ledger c.nodes_of-nodes.ensures.same none (Err c.in-Err-came.fault) has
+    let o = c.in-Ok.ensures in
+    let e = at_entry (g.R.Rack.held c.args.rack.now) (g.R.Rack.count c.args.rack.now) c.in-Ok.nodes.header c.in-Ok.nodes.logs.items c.in-Ok.nodes.shards.items in
+    let begun = is_open g.R.Disk.Disk.content g.R.Disk.Disk.images g.R.Disk.Disk.limit g.R.Disk.Disk.count e (g.R.Rack.held c.open_caused.new.rack) (g.R.Rack.can_put c.open_caused.new.rack) (g.R.Rack.can_take c.open_caused.new.rack) o.opened o.caused o.few o.logs_since o.shards_since o.logs o.shards o.others_held o.others_in in
+    let has = stopped_come g.R.Disk.Disk.content g.R.Disk.Disk.images g.R.Disk.Disk.limit g.R.Disk.Disk.count e (g.R.Rack.held c.open_caused.new.rack) (g.R.Rack.can_put c.open_caused.new.rack) (g.R.Rack.can_take c.open_caused.new.rack) (g.K.Work.deed c.args.work.now) begun c.ledger_of-ledger.result c.resume_ledger-ledger.result.ledger c.ledger_of-ledger.ensures
+    c.resume_ledger-ledger.result.came c.in-Err-came.fault c.in-Err-came.is c.resume_ledger-ledger.ensures in
+    close_few g.R.Disk.Disk.content g.R.Disk.Disk.images g.R.Disk.Disk.limit g.R.Disk.Disk.count (g.K.Work.deed c.args.work.now) e (g.R.Rack.held c.open_caused.new.rack) (g.R.Rack.can_put c.open_caused.new.rack) (g.R.Rack.can_take c.open_caused.new.rack) c.nodes_of-nodes.result.header c.nodes_of-nodes.result.logs.items c.nodes_of-nodes.result.shards.items
+    c.nodes_of-nodes.ensures.ledger c.nodes_of-nodes.ensures.seen c.resume_ledger-ledger.result.ledger c.nodes_of-nodes.ensures.same [] (Err c.in-Err-came.fault) has
 
 pub close_nodes-requires-clause-logs : goal.close_nodes-requires-clause-logs
 close_nodes-requires-clause-logs g c =
-    let entry : AtEntry _ = record {
-      held = g.R.Rack.held c.args.rack.now;
-      before = g.R.Rack.count c.args.rack.now;
-      header = c.in-Ok.nodes.header;
-      logs = c.in-Ok.nodes.logs.items;
-      shards = c.in-Ok.nodes.shards.items;
-    } in
-    let begun : IsOpen g.R.Disk.Disk.content g.R.Disk.Disk.images g.R.Disk.Disk.limit g.R.Disk.Disk.count entry (g.R.Rack.held c.open_caused.new.rack) (g.R.Rack.can_put c.open_caused.new.rack) (g.R.Rack.can_take c.open_caused.new.rack) = record {
-      nodes = c.in-Ok.ensures.opened;
-      caused = c.in-Ok.ensures.caused;
-      few = c.in-Ok.ensures.few;
-      logs_since = c.in-Ok.ensures.logs_since;
-      shards_since = c.in-Ok.ensures.shards_since;
-      logs = c.in-Ok.ensures.logs;
-      shards = c.in-Ok.ensures.shards;
-      others = c.in-Ok.ensures.others_held;
-      others_in = c.in-Ok.ensures.others_in;
-    } in
-    let resumed : HasResumed g.R.Disk.Disk.count g.R.Disk.Disk.limit g.R.Disk.Disk.content g.R.Disk.Disk.images (entry_ledger entry) c.resume_ledger-ledger.result.ledger c.resume_ledger-ledger.result.came =
-    subst (λ l. HasResumed g.R.Disk.Disk.count g.R.Disk.Disk.limit g.R.Disk.Disk.content g.R.Disk.Disk.images l c.resume_ledger-ledger.result.ledger c.resume_ledger-ledger.result.came) c.ledger_of-ledger.ensures c.resume_ledger-ledger.ensures in
-    let deed = g.K.Work.deed c.args.work.now in
-    let none : List ResumedBatch = [] in
-    let has : HasCome g.R.Disk.Disk.content g.R.Disk.Disk.images g.R.Disk.Disk.limit g.R.Disk.Disk.count deed entry (g.R.Rack.held c.open_caused.new.rack) (g.R.Rack.can_put c.open_caused.new.rack) (g.R.Rack.can_take c.open_caused.new.rack) c.resume_ledger-ledger.result.ledger none (Err c.in-Err-came.fault) = record {
-      begun = begun;
-      ran = stopped_run g.R.Disk.Disk.count g.R.Disk.Disk.limit g.R.Disk.Disk.content g.R.Disk.Disk.images deed (entry_ledger entry) c.resume_ledger-ledger.result.ledger none c.resume_ledger-ledger.result.came c.in-Err-came.fault c.in-Err-came.is resumed;
-    } in
-    close_logs g.R.Disk.Disk.content g.R.Disk.Disk.images g.R.Disk.Disk.limit g.R.Disk.Disk.count deed entry (g.R.Rack.held c.open_caused.new.rack) (g.R.Rack.can_put c.open_caused.new.rack) (g.R.Rack.can_take c.open_caused.new.rack) c.nodes_of-nodes.result.header c.nodes_of-nodes.result.logs.items c.nodes_of-nodes.result.shards.items
-    c.nodes_of-nodes.ensures.ledger c.nodes_of-nodes.ensures.seen c.resume_ledger-ledger.result.ledger c.nodes_of-nodes.ensures.same none (Err c.in-Err-came.fault) has
+    let o = c.in-Ok.ensures in
+    let e = at_entry (g.R.Rack.held c.args.rack.now) (g.R.Rack.count c.args.rack.now) c.in-Ok.nodes.header c.in-Ok.nodes.logs.items c.in-Ok.nodes.shards.items in
+    let begun = is_open g.R.Disk.Disk.content g.R.Disk.Disk.images g.R.Disk.Disk.limit g.R.Disk.Disk.count e (g.R.Rack.held c.open_caused.new.rack) (g.R.Rack.can_put c.open_caused.new.rack) (g.R.Rack.can_take c.open_caused.new.rack) o.opened o.caused o.few o.logs_since o.shards_since o.logs o.shards o.others_held o.others_in in
+    let has = stopped_come g.R.Disk.Disk.content g.R.Disk.Disk.images g.R.Disk.Disk.limit g.R.Disk.Disk.count e (g.R.Rack.held c.open_caused.new.rack) (g.R.Rack.can_put c.open_caused.new.rack) (g.R.Rack.can_take c.open_caused.new.rack) (g.K.Work.deed c.args.work.now) begun c.ledger_of-ledger.result c.resume_ledger-ledger.result.ledger c.ledger_of-ledger.ensures
+    c.resume_ledger-ledger.result.came c.in-Err-came.fault c.in-Err-came.is c.resume_ledger-ledger.ensures in
+    close_logs g.R.Disk.Disk.content g.R.Disk.Disk.images g.R.Disk.Disk.limit g.R.Disk.Disk.count (g.K.Work.deed c.args.work.now) e (g.R.Rack.held c.open_caused.new.rack) (g.R.Rack.can_put c.open_caused.new.rack) (g.R.Rack.can_take c.open_caused.new.rack) c.nodes_of-nodes.result.header c.nodes_of-nodes.result.logs.items c.nodes_of-nodes.result.shards.items
+    c.nodes_of-nodes.ensures.ledger c.nodes_of-nodes.ensures.seen c.resume_ledger-ledger.result.ledger c.nodes_of-nodes.ensures.same [] (Err c.in-Err-came.fault) has
 
 pub close_nodes-requires-clause-shards : goal.close_nodes-requires-clause-shards
 close_nodes-requires-clause-shards g c =
-    let entry : AtEntry _ = record {
-      held = g.R.Rack.held c.args.rack.now;
-      before = g.R.Rack.count c.args.rack.now;
-      header = c.in-Ok.nodes.header;
-      logs = c.in-Ok.nodes.logs.items;
-      shards = c.in-Ok.nodes.shards.items;
-    } in
-    let begun : IsOpen g.R.Disk.Disk.content g.R.Disk.Disk.images g.R.Disk.Disk.limit g.R.Disk.Disk.count entry (g.R.Rack.held c.open_caused.new.rack) (g.R.Rack.can_put c.open_caused.new.rack) (g.R.Rack.can_take c.open_caused.new.rack) = record {
-      nodes = c.in-Ok.ensures.opened;
-      caused = c.in-Ok.ensures.caused;
-      few = c.in-Ok.ensures.few;
-      logs_since = c.in-Ok.ensures.logs_since;
-      shards_since = c.in-Ok.ensures.shards_since;
-      logs = c.in-Ok.ensures.logs;
-      shards = c.in-Ok.ensures.shards;
-      others = c.in-Ok.ensures.others_held;
-      others_in = c.in-Ok.ensures.others_in;
-    } in
-    let resumed : HasResumed g.R.Disk.Disk.count g.R.Disk.Disk.limit g.R.Disk.Disk.content g.R.Disk.Disk.images (entry_ledger entry) c.resume_ledger-ledger.result.ledger c.resume_ledger-ledger.result.came =
-    subst (λ l. HasResumed g.R.Disk.Disk.count g.R.Disk.Disk.limit g.R.Disk.Disk.content g.R.Disk.Disk.images l c.resume_ledger-ledger.result.ledger c.resume_ledger-ledger.result.came) c.ledger_of-ledger.ensures c.resume_ledger-ledger.ensures in
-    let deed = g.K.Work.deed c.args.work.now in
-    let none : List ResumedBatch = [] in
-    let has : HasCome g.R.Disk.Disk.content g.R.Disk.Disk.images g.R.Disk.Disk.limit g.R.Disk.Disk.count deed entry (g.R.Rack.held c.open_caused.new.rack) (g.R.Rack.can_put c.open_caused.new.rack) (g.R.Rack.can_take c.open_caused.new.rack) c.resume_ledger-ledger.result.ledger none (Err c.in-Err-came.fault) = record {
-      begun = begun;
-      ran = stopped_run g.R.Disk.Disk.count g.R.Disk.Disk.limit g.R.Disk.Disk.content g.R.Disk.Disk.images deed (entry_ledger entry) c.resume_ledger-ledger.result.ledger none c.resume_ledger-ledger.result.came c.in-Err-came.fault c.in-Err-came.is resumed;
-    } in
-    close_shards g.R.Disk.Disk.content g.R.Disk.Disk.images g.R.Disk.Disk.limit g.R.Disk.Disk.count deed entry (g.R.Rack.held c.open_caused.new.rack) (g.R.Rack.can_put c.open_caused.new.rack) (g.R.Rack.can_take c.open_caused.new.rack) c.nodes_of-nodes.result.header c.nodes_of-nodes.result.logs.items c.nodes_of-nodes.result.shards.items
-    c.nodes_of-nodes.ensures.ledger c.nodes_of-nodes.ensures.seen c.resume_ledger-ledger.result.ledger c.nodes_of-nodes.ensures.same none (Err c.in-Err-came.fault) has
+    let o = c.in-Ok.ensures in
+    let e = at_entry (g.R.Rack.held c.args.rack.now) (g.R.Rack.count c.args.rack.now) c.in-Ok.nodes.header c.in-Ok.nodes.logs.items c.in-Ok.nodes.shards.items in
+    let begun = is_open g.R.Disk.Disk.content g.R.Disk.Disk.images g.R.Disk.Disk.limit g.R.Disk.Disk.count e (g.R.Rack.held c.open_caused.new.rack) (g.R.Rack.can_put c.open_caused.new.rack) (g.R.Rack.can_take c.open_caused.new.rack) o.opened o.caused o.few o.logs_since o.shards_since o.logs o.shards o.others_held o.others_in in
+    let has = stopped_come g.R.Disk.Disk.content g.R.Disk.Disk.images g.R.Disk.Disk.limit g.R.Disk.Disk.count e (g.R.Rack.held c.open_caused.new.rack) (g.R.Rack.can_put c.open_caused.new.rack) (g.R.Rack.can_take c.open_caused.new.rack) (g.K.Work.deed c.args.work.now) begun c.ledger_of-ledger.result c.resume_ledger-ledger.result.ledger c.ledger_of-ledger.ensures
+    c.resume_ledger-ledger.result.came c.in-Err-came.fault c.in-Err-came.is c.resume_ledger-ledger.ensures in
+    close_shards g.R.Disk.Disk.content g.R.Disk.Disk.images g.R.Disk.Disk.limit g.R.Disk.Disk.count (g.K.Work.deed c.args.work.now) e (g.R.Rack.held c.open_caused.new.rack) (g.R.Rack.can_put c.open_caused.new.rack) (g.R.Rack.can_take c.open_caused.new.rack) c.nodes_of-nodes.result.header c.nodes_of-nodes.result.logs.items c.nodes_of-nodes.result.shards.items
+    c.nodes_of-nodes.ensures.ledger c.nodes_of-nodes.ensures.seen c.resume_ledger-ledger.result.ledger c.nodes_of-nodes.ensures.same [] (Err c.in-Err-came.fault) has
 
 pub close_nodes-requires-clause-others : goal.close_nodes-requires-clause-others
 close_nodes-requires-clause-others g c =
-    let entry : AtEntry _ = record {
-      held = g.R.Rack.held c.args.rack.now;
-      before = g.R.Rack.count c.args.rack.now;
-      header = c.in-Ok.nodes.header;
-      logs = c.in-Ok.nodes.logs.items;
-      shards = c.in-Ok.nodes.shards.items;
-    } in
-    let begun : IsOpen g.R.Disk.Disk.content g.R.Disk.Disk.images g.R.Disk.Disk.limit g.R.Disk.Disk.count entry (g.R.Rack.held c.open_caused.new.rack) (g.R.Rack.can_put c.open_caused.new.rack) (g.R.Rack.can_take c.open_caused.new.rack) = record {
-      nodes = c.in-Ok.ensures.opened;
-      caused = c.in-Ok.ensures.caused;
-      few = c.in-Ok.ensures.few;
-      logs_since = c.in-Ok.ensures.logs_since;
-      shards_since = c.in-Ok.ensures.shards_since;
-      logs = c.in-Ok.ensures.logs;
-      shards = c.in-Ok.ensures.shards;
-      others = c.in-Ok.ensures.others_held;
-      others_in = c.in-Ok.ensures.others_in;
-    } in
-    let resumed : HasResumed g.R.Disk.Disk.count g.R.Disk.Disk.limit g.R.Disk.Disk.content g.R.Disk.Disk.images (entry_ledger entry) c.resume_ledger-ledger.result.ledger c.resume_ledger-ledger.result.came =
-    subst (λ l. HasResumed g.R.Disk.Disk.count g.R.Disk.Disk.limit g.R.Disk.Disk.content g.R.Disk.Disk.images l c.resume_ledger-ledger.result.ledger c.resume_ledger-ledger.result.came) c.ledger_of-ledger.ensures c.resume_ledger-ledger.ensures in
-    let deed = g.K.Work.deed c.args.work.now in
-    let none : List ResumedBatch = [] in
-    let has : HasCome g.R.Disk.Disk.content g.R.Disk.Disk.images g.R.Disk.Disk.limit g.R.Disk.Disk.count deed entry (g.R.Rack.held c.open_caused.new.rack) (g.R.Rack.can_put c.open_caused.new.rack) (g.R.Rack.can_take c.open_caused.new.rack) c.resume_ledger-ledger.result.ledger none (Err c.in-Err-came.fault) = record {
-      begun = begun;
-      ran = stopped_run g.R.Disk.Disk.count g.R.Disk.Disk.limit g.R.Disk.Disk.content g.R.Disk.Disk.images deed (entry_ledger entry) c.resume_ledger-ledger.result.ledger none c.resume_ledger-ledger.result.came c.in-Err-came.fault c.in-Err-came.is resumed;
-    } in
-    close_others g.R.Disk.Disk.content g.R.Disk.Disk.images g.R.Disk.Disk.limit g.R.Disk.Disk.count deed entry (g.R.Rack.held c.open_caused.new.rack) (g.R.Rack.can_put c.open_caused.new.rack) (g.R.Rack.can_take c.open_caused.new.rack) c.nodes_of-nodes.result.header c.nodes_of-nodes.result.logs.items c.nodes_of-nodes.result.shards.items
-    c.nodes_of-nodes.ensures.ledger c.nodes_of-nodes.ensures.seen c.resume_ledger-ledger.result.ledger c.nodes_of-nodes.ensures.same none (Err c.in-Err-came.fault) has
+    let o = c.in-Ok.ensures in
+    let e = at_entry (g.R.Rack.held c.args.rack.now) (g.R.Rack.count c.args.rack.now) c.in-Ok.nodes.header c.in-Ok.nodes.logs.items c.in-Ok.nodes.shards.items in
+    let begun = is_open g.R.Disk.Disk.content g.R.Disk.Disk.images g.R.Disk.Disk.limit g.R.Disk.Disk.count e (g.R.Rack.held c.open_caused.new.rack) (g.R.Rack.can_put c.open_caused.new.rack) (g.R.Rack.can_take c.open_caused.new.rack) o.opened o.caused o.few o.logs_since o.shards_since o.logs o.shards o.others_held o.others_in in
+    let has = stopped_come g.R.Disk.Disk.content g.R.Disk.Disk.images g.R.Disk.Disk.limit g.R.Disk.Disk.count e (g.R.Rack.held c.open_caused.new.rack) (g.R.Rack.can_put c.open_caused.new.rack) (g.R.Rack.can_take c.open_caused.new.rack) (g.K.Work.deed c.args.work.now) begun c.ledger_of-ledger.result c.resume_ledger-ledger.result.ledger c.ledger_of-ledger.ensures
+    c.resume_ledger-ledger.result.came c.in-Err-came.fault c.in-Err-came.is c.resume_ledger-ledger.ensures in
+    close_others g.R.Disk.Disk.content g.R.Disk.Disk.images g.R.Disk.Disk.limit g.R.Disk.Disk.count (g.K.Work.deed c.args.work.now) e (g.R.Rack.held c.open_caused.new.rack) (g.R.Rack.can_put c.open_caused.new.rack) (g.R.Rack.can_take c.open_caused.new.rack) c.nodes_of-nodes.result.header c.nodes_of-nodes.result.logs.items c.nodes_of-nodes.result.shards.items
+    c.nodes_of-nodes.ensures.ledger c.nodes_of-nodes.ensures.seen c.resume_ledger-ledger.result.ledger c.nodes_of-nodes.ensures.same [] (Err c.in-Err-came.fault) has
 
 pub returns-clause-stopped : goal.returns-clause-stopped
 returns-clause-stopped g c =
-    let entry : AtEntry _ = record {
-      held = g.R.Rack.held c.args.rack.now;
-      before = g.R.Rack.count c.args.rack.now;
-      header = c.in-Ok.nodes.header;
-      logs = c.in-Ok.nodes.logs.items;
-      shards = c.in-Ok.nodes.shards.items;
-    } in
-    let begun : IsOpen g.R.Disk.Disk.content g.R.Disk.Disk.images g.R.Disk.Disk.limit g.R.Disk.Disk.count entry (g.R.Rack.held c.open_caused.new.rack) (g.R.Rack.can_put c.open_caused.new.rack) (g.R.Rack.can_take c.open_caused.new.rack) = record {
-      nodes = c.in-Ok.ensures.opened;
-      caused = c.in-Ok.ensures.caused;
-      few = c.in-Ok.ensures.few;
-      logs_since = c.in-Ok.ensures.logs_since;
-      shards_since = c.in-Ok.ensures.shards_since;
-      logs = c.in-Ok.ensures.logs;
-      shards = c.in-Ok.ensures.shards;
-      others = c.in-Ok.ensures.others_held;
-      others_in = c.in-Ok.ensures.others_in;
-    } in
-    let resumed : HasResumed g.R.Disk.Disk.count g.R.Disk.Disk.limit g.R.Disk.Disk.content g.R.Disk.Disk.images (entry_ledger entry) c.resume_ledger-ledger.result.ledger c.resume_ledger-ledger.result.came =
-    subst (λ l. HasResumed g.R.Disk.Disk.count g.R.Disk.Disk.limit g.R.Disk.Disk.content g.R.Disk.Disk.images l c.resume_ledger-ledger.result.ledger c.resume_ledger-ledger.result.came) c.ledger_of-ledger.ensures c.resume_ledger-ledger.ensures in
-    let deed = g.K.Work.deed c.args.work.now in
-    let none : List ResumedBatch = [] in
-    let has : HasCome g.R.Disk.Disk.content g.R.Disk.Disk.images g.R.Disk.Disk.limit g.R.Disk.Disk.count deed entry (g.R.Rack.held c.open_caused.new.rack) (g.R.Rack.can_put c.open_caused.new.rack) (g.R.Rack.can_take c.open_caused.new.rack) c.resume_ledger-ledger.result.ledger none (Err c.in-Err-came.fault) = record {
-      begun = begun;
-      ran = stopped_run g.R.Disk.Disk.count g.R.Disk.Disk.limit g.R.Disk.Disk.content g.R.Disk.Disk.images deed (entry_ledger entry) c.resume_ledger-ledger.result.ledger none c.resume_ledger-ledger.result.came c.in-Err-came.fault c.in-Err-came.is resumed;
-    } in
-    (closed g.R.Disk.Disk.content g.R.Disk.Disk.images g.R.Disk.Disk.limit g.R.Disk.Disk.count deed entry (g.R.Rack.held c.open_caused.new.rack) (g.R.Rack.can_put c.open_caused.new.rack) (g.R.Rack.can_take c.open_caused.new.rack) c.nodes_of-nodes.result.header c.nodes_of-nodes.result.logs.items c.nodes_of-nodes.result.shards.items
-    c.nodes_of-nodes.ensures.ledger c.nodes_of-nodes.ensures.seen c.resume_ledger-ledger.result.ledger c.nodes_of-nodes.ensures.same none (Err c.in-Err-came.fault) has
+    let o = c.in-Ok.ensures in
+    let e = at_entry (g.R.Rack.held c.args.rack.now) (g.R.Rack.count c.args.rack.now) c.in-Ok.nodes.header c.in-Ok.nodes.logs.items c.in-Ok.nodes.shards.items in
+    let begun = is_open g.R.Disk.Disk.content g.R.Disk.Disk.images g.R.Disk.Disk.limit g.R.Disk.Disk.count e (g.R.Rack.held c.open_caused.new.rack) (g.R.Rack.can_put c.open_caused.new.rack) (g.R.Rack.can_take c.open_caused.new.rack) o.opened o.caused o.few o.logs_since o.shards_since o.logs o.shards o.others_held o.others_in in
+    let has = stopped_come g.R.Disk.Disk.content g.R.Disk.Disk.images g.R.Disk.Disk.limit g.R.Disk.Disk.count e (g.R.Rack.held c.open_caused.new.rack) (g.R.Rack.can_put c.open_caused.new.rack) (g.R.Rack.can_take c.open_caused.new.rack) (g.K.Work.deed c.args.work.now) begun c.ledger_of-ledger.result c.resume_ledger-ledger.result.ledger c.ledger_of-ledger.ensures
+    c.resume_ledger-ledger.result.came c.in-Err-came.fault c.in-Err-came.is c.resume_ledger-ledger.ensures in
+    (closed g.R.Disk.Disk.content g.R.Disk.Disk.images g.R.Disk.Disk.limit g.R.Disk.Disk.count (g.K.Work.deed c.args.work.now) e (g.R.Rack.held c.open_caused.new.rack) (g.R.Rack.can_put c.open_caused.new.rack) (g.R.Rack.can_take c.open_caused.new.rack) c.nodes_of-nodes.result.header c.nodes_of-nodes.result.logs.items c.nodes_of-nodes.result.shards.items
+    c.nodes_of-nodes.ensures.ledger c.nodes_of-nodes.ensures.seen c.resume_ledger-ledger.result.ledger c.nodes_of-nodes.ensures.same [] (Err c.in-Err-came.fault) has
     (g.R.Rack.held c.close_nodes.new.rack) c.close_nodes.ensures.closed_logs c.close_nodes.ensures.closed_shards (g.R.Rack.count c.close_nodes.new.rack) c.close_nodes.ensures.counted_logs c.close_nodes.ensures.counted_shards
     c.close_nodes.ensures.others_held (Err c.answer_of.result) (inr (c.in-Err-came.fault, refl, c.answer_of.ensures)) tt tt c.requires.fit).stopped
