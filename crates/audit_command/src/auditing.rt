@@ -41,6 +41,8 @@ fn audit_all<W: Threads + Sync, I: Inbox, R: Rack>(
     inbox: &mut I,
     rack: &mut R,
 ) -> Result<Verdict, Answer>
+where
+    R::Disk: Send,
     requires { (n : ℕ) → R.can_take rack.old n }
     ensures did { IfOk result (WasAudited (I.file inbox.old) R.Disk.content R.Disk.images R.Disk.limit (R.held rack.old) (R.held rack.new) mint.now clients.now) }
     ensures why { IfErr result (WhyUnaudited (I.file inbox.old) (I.count inbox.old) (I.count inbox.new) R.Disk.content R.Disk.images R.Disk.limit R.Disk.count (R.held rack.old) (R.count rack.old) (R.count rack.new) mint.now clients.now) }
@@ -105,6 +107,8 @@ pub fn audit<W: Threads + Sync, I: Inbox, R: Rack, O: Sink>(
     rack: &mut R,
     out: &mut O,
 ) -> Answer
+where
+    R::Disk: Send,
     requires { (n : ℕ) → R.can_take rack.old n }
     ensures cause { IsDone (λ place. (place ≡ mint.now.place) ⊎ OnePlace clients.now place) (λ place. FileRose (I.count inbox.old) (I.count inbox.new) mint.now place ⊎ OneRose (I.count inbox.old) (I.count inbox.new) clients.now place)
         (Rose (O.count out.old) (O.count out.new)) result }

@@ -61,6 +61,8 @@ pub fn audit_on<W: Threads + Sync, R: Rack>(
     mint: &[Output],
     handed: &[FullTx],
 ) -> Result<Verdict, Answer>
+where
+    R::Disk: Send,
     requires { (n : ℕ) → R.can_take rack.old n }
     ensures audited { IfOk result (IsAudited R.Disk.content (R.held rack.old) mint.now handed.now) }
 
@@ -84,7 +86,7 @@ pub fn audit_on<W: Threads + Sync, R: Rack>(
     let Ok(id) = genesis_id(alloc, mint) else {
         return Err(Answer::Memory);
     };
-    let nodes = match open_minted(alloc, rack, &id) {
+    let nodes = match open_minted(rt, alloc, rack, &id) {
         Ok(nodes) => nodes,
         Err(fault) => return Err(fault),
     };

@@ -13,6 +13,7 @@ use history::merge;
 use outside::{Disk, Rack};
 use rack_ledgers::{Nodes, close_nodes, open_nodes};
 use std::alloc::{AllocError, Global};
+use std::thread::Threads;
 
 // The first place of the history that is not caused by what stands before it.
 fn first_uncaused<D: Disk>(alloc: Global, nodes: &Nodes<D>) -> Result<Option<u64>, AllocError>
@@ -33,7 +34,13 @@ fn first_uncaused<D: Disk>(alloc: Global, nodes: &Nodes<D>) -> Result<Option<u64
 /// Opens all nodes, where each record of their history is caused by what stands before it. After a fault all disks are back.
 ///
 /// Out of memory: all disks are back as they were read.
-pub fn open_caused<R: Rack>(alloc: Global, rack: &mut R) -> Result<Nodes<R::Disk>, Answer>
+pub fn open_caused<W: Threads + Sync, R: Rack>(
+    rt: &W,
+    alloc: Global,
+    rack: &mut R,
+) -> Result<Nodes<R::Disk>, Answer>
+where
+    R::Disk: Send,
     requires { (n : ℕ) → R.can_take rack.old n }
     // They are all nodes of the ledger, each stands for what was told of its disk, and their history is caused.
     ensures opened { IfOk result (λ l. AreOpened R.Disk.content R.Disk.images R.Disk.limit R.Disk.count (R.held rack.old) l.header l.logs.items l.shards.items) }
@@ -53,7 +60,7 @@ pub fn open_caused<R: Rack>(alloc: Global, rack: &mut R) -> Result<Nodes<R::Disk
     ensures back { OnErr result ((n : ℕ) → R.can_take rack.new n) }
     ensures later { (n : ℕ) → R.count rack.old n ≤ R.count rack.new n }
 {
-    let nodes = match open_nodes(alloc, rack) {
+    let nodes = match open_nodes(rt, alloc, rack) {
         Ok(nodes) => nodes,
         Err(fault) => return Err(fault),
     };

@@ -148,7 +148,7 @@ where
             rt, alloc, clients, verdicts, *options, inbox, rack, out, gate,
         ),
         Request::Recover => recover(rt, alloc, rack, out, gate),
-        Request::Status { hashes } => status(alloc, hashes, rack, out),
+        Request::Status { hashes } => status(rt, alloc, hashes, rack, out),
         Request::Audit { mint, clients } => audit(rt, alloc, mint, clients, inbox, rack, out),
         Request::Gen { shape, seed, count } => {
             generated(rt, alloc, shape, *seed, *count, out, gate)

@@ -2,3 +2,4 @@ pub mod Places
 pub mod Opened
 pub mod Backs
 pub mod Lacks
+pub mod Beside

@@ -8,11 +8,13 @@ ghost use Rattle.rack_nodes.specs.Refused.{IsNodeRefusal};
 ghost use Rattle.rack_ledgers.specs.Ledgers.{ByPlace, IsLogAt, AreOpened, IsMintOf, IsOtherMint, IsUnledBy, IsUnopened, IsUnopenedBy};
 
 use crate::Nodes;
+use crate::at_once::open_at_once;
 use cbdc_types::{Answer, Hash, Header, NodeId};
 use coord_log::CoordLog;
 use outside::Rack;
-use rack_nodes::{close_all, open_all, open_one};
+use rack_nodes::{close_all, open_one};
 use std::alloc::Global;
+use std::thread::Threads;
 
 // What is answered where another mint than the one with this id began the ledger with this header.
 fn other_mint(kept: &Header, id: Option<&Hash>) -> Option<Answer>
@@ -94,11 +96,14 @@ fn lead_alone<R: Rack>(
 }
 
 // The coordinators, the first of which says how many there are.
-fn open_logs<R: Rack>(
+fn open_logs<W: Threads + Sync, R: Rack>(
+    rt: &W,
     alloc: Global,
     rack: &mut R,
     id: Option<&Hash>,
 ) -> Result<(Header, Vec<CoordLog<R::Disk>>), Answer>
+where
+    R::Disk: Send,
     requires { (n : ℕ) → R.can_take rack.old n }
     ensures first { IfOk result (λ l. (l.0.node ≡ 0) × IsWithinLimits l.0.shape) }
     ensures opened { IfOk result (λ l. ByPlace (IsLogAt R.Disk.content R.Disk.images R.Disk.limit R.Disk.count (R.held rack.old) l.0) l.1.items) }
@@ -125,18 +130,21 @@ fn open_logs<R: Rack>(
         Ok(alone) => alone,
         Err(fault) => return Err(fault),
     };
-    match open_all(alloc, rack, Some(&header), 0, count, alone) {
+    match open_at_once(rt, alloc, rack, &header, 0, count, alone) {
         Ok(logs) => Ok((header, logs)),
         Err(fault) => Err(fault),
     }
 }
 
 // Opens all nodes of the ledger whose first node is node 0, and which the mint with this id began, if one is given.
-fn open_ledger<R: Rack>(
+fn open_ledger<W: Threads + Sync, R: Rack>(
+    rt: &W,
     alloc: Global,
     rack: &mut R,
     id: Option<&Hash>,
 ) -> Result<Nodes<R::Disk>, Answer>
+where
+    R::Disk: Send,
     requires { (n : ℕ) → R.can_take rack.old n }
     ensures opened { IfOk result (λ l. AreOpened R.Disk.content R.Disk.images R.Disk.limit R.Disk.count (R.held rack.old) l.header l.logs.items l.shards.items) }
     ensures minted { IfOk result (λ l. IsMintOf (option_copied id.entry) l.header) }
@@ -153,13 +161,13 @@ fn open_ledger<R: Rack>(
     ensures back { OnErr result ((n : ℕ) → R.can_take rack.new n) }
     ensures later { (n : ℕ) → R.count rack.old n ≤ R.count rack.new n }
 {
-    let (header, logs) = match open_logs(alloc, rack, id) {
+    let (header, logs) = match open_logs(rt, alloc, rack, id) {
         Ok(opened) => opened,
         Err(fault) => return Err(fault),
     };
     let first = header.shape.coordinators();
     let count = header.shape.shards();
-    match open_all(alloc, rack, Some(&header), first, count, Vec::new(alloc)) {
+    match open_at_once(rt, alloc, rack, &header, first, count, Vec::new(alloc)) {
         Ok(shards) => Ok(Nodes {
             header,
             logs,
@@ -172,10 +180,17 @@ fn open_ledger<R: Rack>(
     }
 }
 
-/// Opens all nodes of the ledger whose first node is node 0, one after another. After a fault all disks are back.
+/// Opens all nodes of the ledger whose first node is node 0: the coordinators behind it beside each other, then the shards. After a fault all
+/// disks are back.
 ///
 /// Out of memory: all disks are back as they were read.
-pub fn open_nodes<R: Rack>(alloc: Global, rack: &mut R) -> Result<Nodes<R::Disk>, Answer>
+pub fn open_nodes<W: Threads + Sync, R: Rack>(
+    rt: &W,
+    alloc: Global,
+    rack: &mut R,
+) -> Result<Nodes<R::Disk>, Answer>
+where
+    R::Disk: Send,
     requires { (n : ℕ) → R.can_take rack.old n }
     // They are all nodes of the ledger, and each stands for what was told of its disk.
     ensures opened { IfOk result (λ l. AreOpened R.Disk.content R.Disk.images R.Disk.limit R.Disk.count (R.held rack.old) l.header l.logs.items l.shards.items) }
@@ -197,18 +212,21 @@ pub fn open_nodes<R: Rack>(alloc: Global, rack: &mut R) -> Result<Nodes<R::Disk>
     ensures back { OnErr result ((n : ℕ) → R.can_take rack.new n) }
     ensures later { (n : ℕ) → R.count rack.old n ≤ R.count rack.new n }
 {
-    open_ledger(alloc, rack, None)
+    open_ledger(rt, alloc, rack, None)
 }
 
-/// Opens all nodes of the ledger whose first node is node 0 and which the mint with this id began, one after another. Node 0 is foreign
-/// where another mint did. After a fault all disks are back.
+/// Opens all nodes of the ledger whose first node is node 0 and which the mint with this id began: the coordinators behind it beside each other,
+/// then the shards. Node 0 is foreign where another mint did. After a fault all disks are back.
 ///
 /// Out of memory: all disks are back as they were read.
-pub fn open_minted<R: Rack>(
+pub fn open_minted<W: Threads + Sync, R: Rack>(
+    rt: &W,
     alloc: Global,
     rack: &mut R,
     id: &Hash,
 ) -> Result<Nodes<R::Disk>, Answer>
+where
+    R::Disk: Send,
     requires { (n : ℕ) → R.can_take rack.old n }
     // They are all nodes of the ledger, which this mint began, and each stands for what was told of its disk.
     ensures minted { IfOk result (λ l. l.header.genesis ≡ id.now) }
@@ -227,5 +245,5 @@ pub fn open_minted<R: Rack>(
     ensures back { OnErr result ((n : ℕ) → R.can_take rack.new n) }
     ensures later { (n : ℕ) → R.count rack.old n ≤ R.count rack.new n }
 {
-    open_ledger(alloc, rack, Some(id))
+    open_ledger(rt, alloc, rack, Some(id))
 }

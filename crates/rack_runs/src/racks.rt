@@ -34,13 +34,15 @@ use std::thread::Threads;
 use verifier_port::Verifier;
 
 /// Opens the ledger on a rack, and brings its open batches to their end, for the work of a command. The disks are back where that can't be done.
-pub fn begin_on<W: Wait, R: Rack, K: Work, G: Gate>(
+pub fn begin_on<W: Wait + Threads + Sync, R: Rack, K: Work, G: Gate>(
     rt: &W,
     alloc: Global,
     rack: &mut R,
     work: &K,
     gate: &G,
 ) -> Result<Begun<R::Disk>, Answer>
+where
+    R::Disk: Send,
     requires all { (n : ℕ) → R.can_take rack.old n }
     requires fit { AllFit (K.deed work.now) }
     // The nodes were opened as the rack told them at entry, and each record is caused; and what the ledger is behind the resuming.
@@ -53,7 +55,7 @@ pub fn begin_on<W: Wait, R: Rack, K: Work, G: Gate>(
     ensures back { OnErr result ((n : ℕ) → R.can_take rack.new n) }
     ensures later { (n : ℕ) → R.count rack.old n ≤ R.count rack.new n }
 {
-    let nodes = match open_caused(alloc, rack) {
+    let nodes = match open_caused(rt, alloc, rack) {
         Ok(nodes) => nodes,
         Err(fault) => return Err(fault),
     };

@@ -16,6 +16,7 @@ use rack_ledgers::{Nodes, close_nodes, open_nodes};
 use shard_node::ShardNode;
 use shard_ranges::shard_of;
 use std::alloc::{AllocError, Global};
+use std::thread::Threads;
 
 // What the shard of a hash knows of it.
 fn status_of<D: Disk>(shards: &[ShardNode<D>], hash: &Hash) -> Status
@@ -67,7 +68,15 @@ fn write_statuses<O: Sink>(
 /// nodes of one ledger, and each disk has room for its journal with what is kept for its open batches; what is printed is a line for each hash, in
 /// order, with its status in the journal of its shard; each disk is back and reads as before, and whatever a crash leaves of one of the ledger that
 /// told its content opens to exactly the journal that was read.
-pub fn status<R: Rack, O: Sink>(alloc: Global, hashes: &[Hash], rack: &mut R, out: &mut O) -> Answer
+pub fn status<W: Threads + Sync, R: Rack, O: Sink>(
+    rt: &W,
+    alloc: Global,
+    hashes: &[Hash],
+    rack: &mut R,
+    out: &mut O,
+) -> Answer
+where
+    R::Disk: Send,
     requires { (n : ℕ) → R.can_take rack.old n }
     ensures cause { IsDone (λ file. ⊥) (λ file. ⊥) (Rose (O.count out.old) (O.count out.new)) result }
     ensures did { IsWell result → DidStatus R.Disk.content R.Disk.images R.Disk.limit (R.held rack.old) (R.held rack.new) (IsPrinted (O.taken out.old) (O.taken out.new) result) hashes.now }
@@ -78,7 +87,7 @@ pub fn status<R: Rack, O: Sink>(alloc: Global, hashes: &[Hash], rack: &mut R, ou
     ensures left { AreBack R.Disk.content R.Disk.images R.Disk.limit (R.count rack.old) (R.count rack.new) (R.held rack.old) (R.held rack.new) }
     ensures back { (n : ℕ) → R.can_take rack.new n }
 {
-    let nodes = match open_nodes(alloc, rack) {
+    let nodes = match open_nodes(rt, alloc, rack) {
         Ok(nodes) => nodes,
         Err(fault) => return fault,
     };

@@ -13,71 +13,71 @@ use Rattle.rack_ledgers.proofs.opening.open_logs.Goals as goal
 pub returns-in-Err-clause-held : goal.returns-in-Err-clause-held
 returns-in-Err-clause-held g c = back_one g.R.Disk.Disk.content g.R.Disk.Disk.images g.R.Disk.Disk.limit (g.R.Rack.count c.args.rack.now) (g.R.Rack.count c.open_lead.new.rack) (λ n. g.R.Rack.held c.args.rack.now n) (λ n. g.R.Rack.held c.open_lead.new.rack n) c.in-Err.ensures.held c.in-Err.ensures.others_held
 
-pub open_all-requires-clause-waiting : goal.open_all-requires-clause-waiting
-open_all-requires-clause-waiting g c = λ n ge lt.
+pub open_at_once-requires-clause-waiting : goal.open_at_once-requires-clause-waiting
+open_at_once-requires-clause-waiting g c κs within = λ n ge lt.
     let some : 1 ≤ n = omega (arith, ge, ap length c.in-Ok-lead_alone.ensures.alone) in
     c.in-Ok-lead_alone.ensures.others_in n some (c.in-Ok.ensures.others_in n (omega (arith, some)) (c.requires n))
 
-pub returns-in-Ok-open_all-clause-others_in : goal.returns-in-Ok-open_all-clause-others_in
-returns-in-Ok-open_all-clause-others_in g c = λ n ge.
+pub returns-in-Ok-open_at_once-clause-others_in : goal.returns-in-Ok-open_at_once-clause-others_in
+returns-in-Ok-open_at_once-clause-others_in g c = λ n ge.
     let some : 1 ≤ n = omega (arith, ge, c.coordinators-count.ensures.limits.some_coordinator) in
-    c.in-Ok-open_all.ensures.others_in n (inr (omega (arith, ge, c.coordinators-count.ensures.value))) (c.in-Ok-lead_alone.ensures.others_in n some (c.in-Ok.ensures.others_in n (omega (arith, some)) (c.requires n)))
+    c.in-Ok-open_at_once.ensures.others_in n (inr (omega (arith, ge, c.coordinators-count.ensures.value))) (c.in-Ok-lead_alone.ensures.others_in n some (c.in-Ok.ensures.others_in n (omega (arith, some)) (c.requires n)))
 
-pub returns-in-Ok-open_all-clause-later : goal.returns-in-Ok-open_all-clause-later
-returns-in-Ok-open_all-clause-later g c = λ n. omega (arith, c.in-Ok.ensures.later n, c.in-Ok-lead_alone.ensures.later n, c.in-Ok-open_all.ensures.later n)
+pub returns-in-Ok-open_at_once-clause-later : goal.returns-in-Ok-open_at_once-clause-later
+returns-in-Ok-open_at_once-clause-later g c = λ n. omega (arith, c.in-Ok.ensures.later n, c.in-Ok-lead_alone.ensures.later n, c.in-Ok-open_at_once.ensures.later n)
 
-pub returns-in-Ok-open_all-clause-first : goal.returns-in-Ok-open_all-clause-first
-returns-in-Ok-open_all-clause-first g c =
+pub returns-in-Ok-open_at_once-clause-first : goal.returns-in-Ok-open_at_once-clause-first
+returns-in-Ok-open_at_once-clause-first g c =
     (ap (λ (k : Header). k.node) c.header.ensures.header ∙ c.in-Ok.ensures.opened.0, c.coordinators-count.ensures.limits)
 
-pub returns-in-Ok-open_all-clause-opened : goal.returns-in-Ok-open_all-clause-opened
-returns-in-Ok-open_all-clause-opened g c =
+pub returns-in-Ok-open_at_once-clause-opened : goal.returns-in-Ok-open_at_once-clause-opened
+returns-in-Ok-open_at_once-clause-opened g c =
     led_whole g.R.Disk.Disk.content g.R.Disk.Disk.images g.R.Disk.Disk.limit g.R.Disk.Disk.count (g.R.Rack.held c.args.rack.now) (g.R.Rack.held c.lead_alone.new.rack) (g.R.Rack.count c.lead_alone.new.rack)
-    c.header.result.now c.in-Ok.lead c.in-Ok-lead_alone.alone.items c.in-Ok-open_all.logs.items c.in-Ok-lead_alone.ensures.alone
+    c.header.result.now c.in-Ok.lead c.in-Ok-lead_alone.alone.items c.in-Ok-open_at_once.logs.items c.in-Ok-lead_alone.ensures.alone
     (λ n some. c.in-Ok-lead_alone.ensures.others_held n some ∙ c.in-Ok.ensures.others_held n (omega (arith, some)))
     (subst (λ (k : Header). IsLogAt g.R.Disk.Disk.content g.R.Disk.Disk.images g.R.Disk.Disk.limit g.R.Disk.Disk.count (g.R.Rack.held c.args.rack.now) k 0 c.in-Ok.lead) (sym c.header.ensures.header) c.in-Ok.ensures.opened.1)
-    c.in-Ok-open_all.ensures.opened
+    c.in-Ok-open_at_once.ensures.opened
 
-pub returns-in-Ok-open_all-clause-others_held : goal.returns-in-Ok-open_all-clause-others_held
-returns-in-Ok-open_all-clause-others_held g c = λ n ge.
+pub returns-in-Ok-open_at_once-clause-others_held : goal.returns-in-Ok-open_at_once-clause-others_held
+returns-in-Ok-open_at_once-clause-others_held g c = λ n ge.
     let some : 1 ≤ n = omega (arith, ge, c.coordinators-count.ensures.limits.some_coordinator) in
-    c.in-Ok-open_all.ensures.others_held n (inr (omega (arith, ge, c.coordinators-count.ensures.value))) ∙ c.in-Ok-lead_alone.ensures.others_held n some ∙ c.in-Ok.ensures.others_held n (omega (arith, some))
+    c.in-Ok-open_at_once.ensures.others_held n (inr (omega (arith, ge, c.coordinators-count.ensures.value))) ∙ c.in-Ok-lead_alone.ensures.others_held n some ∙ c.in-Ok.ensures.others_held n (omega (arith, some))
 
-pub returns-in-Err-open_all-clause-refusal : goal.returns-in-Err-open_all-clause-refusal
-returns-in-Err-open_all-clause-refusal g c =
+pub returns-in-Err-open_at_once-clause-refusal : goal.returns-in-Err-open_at_once-clause-refusal
+returns-in-Err-open_at_once-clause-refusal g c =
     inr (inr (lacks_log g.R.Disk.Disk.content g.R.Disk.Disk.images g.R.Disk.Disk.limit g.R.Disk.Disk.count (g.R.Rack.held c.args.rack.now) (g.R.Rack.held c.lead_alone.new.rack)
-    (g.R.Rack.count c.args.rack.now) (g.R.Rack.count c.lead_alone.new.rack) (g.R.Rack.count c.open_all.new.rack) (g.R.Rack.count c.open_all.new.rack)
-    c.header.result.now c.in-Ok.lead (option_copied c.args.id) (0 + length c.in-Ok-lead_alone.alone.items) (0 + c.coordinators-count.result) c.in-Err-open_all.fault
+    (g.R.Rack.count c.args.rack.now) (g.R.Rack.count c.lead_alone.new.rack) (g.R.Rack.count c.open_at_once.new.rack) (g.R.Rack.count c.open_at_once.new.rack)
+    c.header.result.now c.in-Ok.lead (option_copied c.args.id) (0 + length c.in-Ok-lead_alone.alone.items) (0 + c.coordinators-count.result) c.in-Err-open_at_once.fault
     (omega (arith, ap length c.in-Ok-lead_alone.ensures.alone)) (omega (arith, c.coordinators-count.ensures.value))
     (λ n some. c.in-Ok-lead_alone.ensures.others_held n some ∙ c.in-Ok.ensures.others_held n (omega (arith, some)))
     (λ n. omega (arith, c.in-Ok.ensures.later n, c.in-Ok-lead_alone.ensures.later n)) (λ n. omega arith)
     (ap (λ (k : Header). k.node) c.header.ensures.header ∙ c.in-Ok.ensures.opened.0) c.coordinators-count.ensures.limits
     (subst (λ (k : Header). IsMintOf (option_copied c.args.id) k) (sym c.header.ensures.header) c.in-Ok.ensures.minted)
     (subst (λ (k : Header). IsLogAt g.R.Disk.Disk.content g.R.Disk.Disk.images g.R.Disk.Disk.limit g.R.Disk.Disk.count (g.R.Rack.held c.args.rack.now) k 0 c.in-Ok.lead) (sym c.header.ensures.header) c.in-Ok.ensures.opened.1)
-    c.in-Err-open_all.ensures.refusal))
+    c.in-Err-open_at_once.ensures.refusal))
 
-pub returns-in-Err-open_all-clause-held : goal.returns-in-Err-open_all-clause-held
-returns-in-Err-open_all-clause-held g c =
+pub returns-in-Err-open_at_once-clause-held : goal.returns-in-Err-open_at_once-clause-held
+returns-in-Err-open_at_once-clause-held g c =
     let lead = subst (λ (k : Header). IsLogAt g.R.Disk.Disk.content g.R.Disk.Disk.images g.R.Disk.Disk.limit g.R.Disk.Disk.count (g.R.Rack.held c.args.rack.now) k 0 c.in-Ok.lead) (sym c.header.ensures.header) c.in-Ok.ensures.opened.1 in
-    let Q : ℕ → LogOf g.row.R-Disk.Denot → Type 0 = λ n x. OfTold (g.R.Rack.held c.open_all.new.rack n) (λ now. now ≡ x.disk) in
-    let put : OfTold (g.R.Rack.held c.open_all.new.rack 0) (λ now. now ≡ c.in-Ok.lead.disk) =
-    (subst (λ (l : List (LogOf g.row.R-Disk.Denot)). EachFrom Q 0 l) c.in-Ok-lead_alone.ensures.alone c.in-Err-open_all.ensures.closed).0 in
+    let Q : ℕ → LogOf g.row.R-Disk.Denot → Type 0 = λ n x. OfTold (g.R.Rack.held c.open_at_once.new.rack n) (λ now. now ≡ x.disk) in
+    let put : OfTold (g.R.Rack.held c.open_at_once.new.rack 0) (λ now. now ≡ c.in-Ok.lead.disk) =
+    (subst (λ (l : List (LogOf g.row.R-Disk.Denot)). EachFrom Q 0 l) c.in-Ok-lead_alone.ensures.alone c.in-Err-open_at_once.ensures.closed).0 in
     let before = g.R.Rack.count c.args.rack.now in
-    let after = g.R.Rack.count c.open_all.new.rack in
-    let here : IsBack g.R.Disk.Disk.content g.R.Disk.Disk.images g.R.Disk.Disk.limit (before 0) (after 0) (g.R.Rack.held c.args.rack.now 0) (g.R.Rack.held c.open_all.new.rack 0) =
-    log_back g.R.Disk.Disk.content g.R.Disk.Disk.images g.R.Disk.Disk.limit g.R.Disk.Disk.count (g.R.Rack.held c.args.rack.now) (g.R.Rack.held c.open_all.new.rack) (before 0) (after 0) c.header.result.now 0 c.in-Ok.lead lead put in
-    back_parts g.R.Disk.Disk.content g.R.Disk.Disk.images g.R.Disk.Disk.limit before after (g.R.Rack.count c.lead_alone.new.rack) after (g.R.Rack.held c.args.rack.now) (g.R.Rack.held c.lead_alone.new.rack) (g.R.Rack.held c.open_all.new.rack) 1 c.coordinators-count.result
+    let after = g.R.Rack.count c.open_at_once.new.rack in
+    let here : IsBack g.R.Disk.Disk.content g.R.Disk.Disk.images g.R.Disk.Disk.limit (before 0) (after 0) (g.R.Rack.held c.args.rack.now 0) (g.R.Rack.held c.open_at_once.new.rack 0) =
+    log_back g.R.Disk.Disk.content g.R.Disk.Disk.images g.R.Disk.Disk.limit g.R.Disk.Disk.count (g.R.Rack.held c.args.rack.now) (g.R.Rack.held c.open_at_once.new.rack) (before 0) (after 0) c.header.result.now 0 c.in-Ok.lead lead put in
+    back_parts g.R.Disk.Disk.content g.R.Disk.Disk.images g.R.Disk.Disk.limit before after (g.R.Rack.count c.lead_alone.new.rack) after (g.R.Rack.held c.args.rack.now) (g.R.Rack.held c.lead_alone.new.rack) (g.R.Rack.held c.open_at_once.new.rack) 1 c.coordinators-count.result
     (λ n. omega (arith, c.in-Ok.ensures.later n, c.in-Ok-lead_alone.ensures.later n)) (λ n. omega arith)
     (λ n some. c.in-Ok-lead_alone.ensures.others_held n some ∙ c.in-Ok.ensures.others_held n (omega (arith, some)))
-    (λ n small. let none : 0 ≡ n = omega (arith, small) in subst (λ (k : ℕ). IsBack g.R.Disk.Disk.content g.R.Disk.Disk.images g.R.Disk.Disk.limit (before k) (after k) (g.R.Rack.held c.args.rack.now k) (g.R.Rack.held c.open_all.new.rack k)) none here)
-    (λ n ge lt. c.in-Err-open_all.ensures.held n (omega (arith, ge, ap length c.in-Ok-lead_alone.ensures.alone)) (omega (arith, lt)))
-    (λ n ge above. c.in-Err-open_all.ensures.others_held n (inr (omega (arith, above))))
+    (λ n small. let none : 0 ≡ n = omega (arith, small) in subst (λ (k : ℕ). IsBack g.R.Disk.Disk.content g.R.Disk.Disk.images g.R.Disk.Disk.limit (before k) (after k) (g.R.Rack.held c.args.rack.now k) (g.R.Rack.held c.open_at_once.new.rack k)) none here)
+    (λ n ge lt. c.in-Err-open_at_once.ensures.held n (omega (arith, ge, ap length c.in-Ok-lead_alone.ensures.alone)) (omega (arith, lt)))
+    (λ n ge above. c.in-Err-open_at_once.ensures.others_held n (inr (omega (arith, above))))
 
-pub returns-in-Ok-open_all-clause-minted : goal.returns-in-Ok-open_all-clause-minted
-returns-in-Ok-open_all-clause-minted g c = subst (λ (k : Header). IsMintOf (option_copied c.args.id) k) (sym c.header.ensures.header) c.in-Ok.ensures.minted
+pub returns-in-Ok-open_at_once-clause-minted : goal.returns-in-Ok-open_at_once-clause-minted
+returns-in-Ok-open_at_once-clause-minted g c = subst (λ (k : Header). IsMintOf (option_copied c.args.id) k) (sym c.header.ensures.header) c.in-Ok.ensures.minted
 
-pub returns-in-Ok-open_all-clause-since : goal.returns-in-Ok-open_all-clause-since
-returns-in-Ok-open_all-clause-since g c =
+pub returns-in-Ok-open_at_once-clause-since : goal.returns-in-Ok-open_at_once-clause-since
+returns-in-Ok-open_at_once-clause-since g c =
     logs_since g.R.Disk.Disk.content g.R.Disk.Disk.images g.R.Disk.Disk.limit g.R.Disk.Disk.count (g.R.Rack.held c.lead_alone.new.rack) (g.R.Rack.count c.args.rack.now) (g.R.Rack.count c.lead_alone.new.rack)
-    c.header.result.now c.in-Ok.lead c.in-Ok-lead_alone.alone.items c.in-Ok-open_all.logs.items c.in-Ok-lead_alone.ensures.alone
-    (λ n. omega (arith, c.in-Ok.ensures.later n, c.in-Ok-lead_alone.ensures.later n)) c.in-Ok.ensures.since c.in-Ok-open_all.ensures.opened
+    c.header.result.now c.in-Ok.lead c.in-Ok-lead_alone.alone.items c.in-Ok-open_at_once.logs.items c.in-Ok-lead_alone.ensures.alone
+    (λ n. omega (arith, c.in-Ok.ensures.later n, c.in-Ok-lead_alone.ensures.later n)) c.in-Ok.ensures.since c.in-Ok-open_at_once.ensures.opened

@@ -18,7 +18,7 @@ abbrev all_good : VerdictsOf
 all_good = λ _ _. Good
 
 pub begin_on-requires-clause-fit : goal.begin_on-requires-clause-fit
-begin_on-requires-clause-fit g c K E X lane txs none = absurd none
+begin_on-requires-clause-fit g c κs within K E X lane txs none = absurd none
 
 pub end_on-requires-clause-fit : goal.end_on-requires-clause-fit
 end_on-requires-clause-fit g c K E X lane txs none = absurd none

@@ -13,7 +13,7 @@ use Rattle.rack_runs.proofs.Wanted.{piece_fits}
 use Rattle.rack_runs.proofs.racks.run_on.Goals as goal
 
 pub begin_on-requires-clause-fit : goal.begin_on-requires-clause-fit
-begin_on-requires-clause-fit g c K E X lane txs piece = piece_fits K (g.V.Verifier.verdict_of c.args.verifier.now) c.args.files.now E X lane txs c.requires.short piece
+begin_on-requires-clause-fit g c κs within K E X lane txs piece = piece_fits K (g.V.Verifier.verdict_of c.args.verifier.now) c.args.files.now E X lane txs c.requires.short piece
 
 pub end_on-requires-clause-fit : goal.end_on-requires-clause-fit
 end_on-requires-clause-fit g c K E X lane txs piece = piece_fits K (g.V.Verifier.verdict_of c.args.verifier.now) c.args.files.now E X lane txs c.requires.short piece

@@ -1,0 +1,68 @@
+use Rattle.std.proofs.Common.{◌≡◌, ◌≤◌, ◌+◌, ◌-◌, ℕ, List, length, inl, inr, sym, ◌∙◌, ap, subst, arith}
+use Rattle.rack_nodes.specs.Places.{EachFrom, MayReturn}
+use Rattle.rack_nodes.specs.Racked.{OfTold}
+use Rattle.rack_nodes.proofs.Each.{each_weaker}
+use Rattle.rack_nodes.proofs.Told.{back_later}
+use Rattle.rack_ledgers.specs.Slots.{OpensAt}
+use Rattle.rack_ledgers.proofs.Beside.{each_append, fails_later}
+use Rattle.rack_ledgers.proofs.at_once.open_at_once.Goals as goal
+
+pub close_all-requires-clause-out : goal.close_all-requires-clause-out
+close_all-requires-clause-out g c =
+    let P = MayReturn (λ x. g.R.Disk.Disk.count (g.N.OnDisk.disk_of x)) (g.R.Rack.can_put c.args.rack.now) in
+    let Q = MayReturn (λ x. g.R.Disk.Disk.count (g.N.OnDisk.disk_of x)) (g.R.Rack.can_put c.open_behind.new.rack) in
+    subst (λ (l : List g.row.N.Denot). EachFrom Q c.args.first l) (sym c.in-Err.ensures.same)
+    (each_weaker P Q c.args.first c.args.nodes.items (λ k x ge lt may m le. c.open_behind.ensures.others_out k m (inl (omega (arith, lt, c.len-from.ensures, c.args.nodes.ok))) (may m le)) c.requires.out)
+
+pub returns-in-Ok-clause-opened : goal.returns-in-Ok-clause-opened
+returns-in-Ok-clause-opened g c =
+    let d = g.R.Disk.Disk in
+    let n = g.N.OnDisk in
+    let P = OpensAt d.content d.images d.limit d.count n.disk_of n.opens n.fits n.refusals n.refused c.args.ledger.now (g.R.Rack.held c.args.rack.now) (g.R.Rack.count c.args.rack.now) in
+    let M = MayReturn (λ x. d.count (n.disk_of x)) (g.R.Rack.can_put c.open_behind.new.rack) in
+    let start = c.args.first + c.len-from.result in
+    let all = c.in-Ok.ensures.opened in
+    let place : start ≡ c.args.first + length c.args.nodes.items = omega (arith, c.len-from.ensures, c.args.nodes.ok) in
+    record {
+      more = all.more;
+      parts = all.parts;
+      each = subst (λ (k : ℕ). EachFrom P k all.more) place (each_weaker (λ k x. P k x × M k x) P start all.more (λ k x ge lt is. is.0) all.each);
+    }
+
+pub returns-in-Ok-clause-out : goal.returns-in-Ok-clause-out
+returns-in-Ok-clause-out g c =
+    let d = g.R.Disk.Disk in
+    let n = g.N.OnDisk in
+    let P = OpensAt d.content d.images d.limit d.count n.disk_of n.opens n.fits n.refusals n.refused c.args.ledger.now (g.R.Rack.held c.args.rack.now) (g.R.Rack.count c.args.rack.now) in
+    let L = MayReturn (λ x. d.count (n.disk_of x)) (g.R.Rack.can_put c.args.rack.now) in
+    let M = MayReturn (λ x. d.count (n.disk_of x)) (g.R.Rack.can_put c.open_behind.new.rack) in
+    let start = c.args.first + c.len-from.result in
+    let all = c.in-Ok.ensures.opened in
+    let place : start ≡ c.args.first + length c.args.nodes.items = omega (arith, c.len-from.ensures, c.args.nodes.ok) in
+    subst (λ (l : List g.row.N.Denot). EachFrom M c.args.first l) (sym all.parts)
+    (each_append M c.args.first c.args.nodes.items all.more
+    (each_weaker L M c.args.first c.args.nodes.items (λ k x ge lt may m le. c.open_behind.ensures.others_out k m (inl (omega (arith, lt, place))) (may m le)) c.requires.out)
+    (subst (λ (k : ℕ). EachFrom M k all.more) place (each_weaker (λ k x. P k x × M k x) M start all.more (λ k x ge lt is. is.1) all.each)))
+
+pub returns-in-Err-clause-refusal : goal.returns-in-Err-clause-refusal
+returns-in-Err-clause-refusal g c =
+    let d = g.R.Disk.Disk in
+    let n = g.N.OnDisk in
+    let start = c.args.first + c.len-from.result in
+    fails_later d.content d.images d.limit d.count n.disk_of n.opens n.fits n.refusals n.refused c.args.ledger.now (g.R.Rack.held c.args.rack.now)
+    (g.R.Rack.count c.args.rack.now) (g.R.Rack.count c.open_behind.new.rack) (g.R.Rack.count c.close_all.new.rack)
+    start (c.args.first + length c.args.nodes.items) (start + (c.args.count - c.len-from.result)) (c.args.first + c.args.count) c.in-Err.fault
+    (omega (arith, c.len-from.ensures, c.args.nodes.ok)) (omega (arith, c.len-from.ensures, c.args.nodes.ok, c.requires.some)) c.close_all.ensures.later c.in-Err.ensures.refusal
+
+pub returns-in-Err-clause-closed : goal.returns-in-Err-clause-closed
+returns-in-Err-clause-closed g c =
+    subst (λ (l : List g.row.N.Denot). EachFrom (λ n x. OfTold (g.R.Rack.held c.close_all.new.rack n) (λ now. now ≡ g.N.OnDisk.disk_of x)) c.args.first l) c.in-Err.ensures.same c.close_all.ensures.closed
+
+pub returns-in-Err-clause-held : goal.returns-in-Err-clause-held
+returns-in-Err-clause-held g c = λ k ge lt was is now is_now.
+    let d = g.R.Disk.Disk in
+    let behind : c.args.first + length c.in-Err.nodes.items ≤ k = omega (arith, ge, ap length c.in-Err.ensures.same) in
+    let here = c.in-Err.ensures.held k (omega (arith, ge, c.len-from.ensures, c.args.nodes.ok)) (omega (arith, lt, c.len-from.ensures, c.args.nodes.ok, c.requires.some)) in
+    let before = g.R.Rack.count c.args.rack.now k in
+    back_later d.content d.images d.limit {before = before} {mid = before} {now = g.R.Rack.count c.open_behind.new.rack k} {later = g.R.Rack.count c.close_all.new.rack k}
+    (g.R.Rack.held c.args.rack.now k) (g.R.Rack.held c.open_behind.new.rack k) (omega arith) (c.close_all.ensures.later k) here was is now (sym (c.close_all.ensures.others_held k (inr behind)) ∙ is_now)

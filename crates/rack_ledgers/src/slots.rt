@@ -1,0 +1,72 @@
+// The place of a node that is opened beside others.
+ghost use Rattle.std.specs.Prelude.{◌≡◌, None, Some, MatchOption, [], ◌∷◌};
+ghost use Rattle.rack_ledgers.specs.Slots.{IsWaiting, CameOf, HasDisk, IsDiskIn, AreNotRefused, IsFirstRefusal};
+
+use cbdc_types::{Answer, Header, NodeId};
+use outside::Disk;
+use rack_nodes::OnDisk;
+use std::alloc::Global;
+use std::mem;
+
+/// What is at the place of a node: its disk, which waits to be opened; the node; or the disk again, and why it is none. Nothing is there while it is opened.
+pub(crate) enum Slot<D, N> {
+    Waiting(NodeId, D),
+    Opened(N),
+    Refused(D, Answer),
+    Gone,
+}
+
+// What comes of a disk that is opened as this node.
+fn come_of<D: Disk, N: OnDisk<D>>(
+    alloc: Global,
+    node: NodeId,
+    ledger: &Header,
+    disk: D,
+) -> Slot<D, N>
+    ensures { CameOf D.content D.images D.limit D.count N.disk_of N.opens N.fits N.refusals N.refused ledger.now (Slot.Waiting node disk) result }
+{
+    match N::open_disk(alloc, node, Some(ledger), disk) {
+        Ok(node) => Slot::Opened(node),
+        Err((disk, fault)) => Slot::Refused(disk, fault),
+    }
+}
+
+impl<D: Disk, N: OnDisk<D>> Slot<D, N> {
+    /// Opens the disk that waits.
+    pub(crate) fn open(&mut self, alloc: Global, ledger: &Header)
+        requires { IsWaiting self.old }
+        ensures { CameOf D.content D.images D.limit D.count N.disk_of N.opens N.fits N.refusals N.refused ledger.now self.old self.new }
+    {
+        let (node, disk) = match mem::replace(self, Slot::Gone) {
+            Slot::Waiting(node, disk) => (node, disk),
+            _other => unreachable!(),
+        };
+        match mem::replace(self, come_of(alloc, node, ledger, disk)) {
+            Slot::Gone => {}
+            _other => unreachable!(),
+        }
+    }
+
+    /// Gives the disk back.
+    pub(crate) fn into_disk(self) -> D
+        requires { HasDisk self }
+        ensures { IsDiskIn N.disk_of self result }
+    {
+        match self {
+            Slot::Waiting(_, disk) => disk,
+            Slot::Opened(node) => node.give_disk(),
+            Slot::Refused(disk, _) => disk,
+            Slot::Gone => unreachable!(),
+        }
+    }
+
+    /// Why the disk is no node, if it was refused.
+    pub(crate) fn refusal(&self) -> Option<Answer>
+        ensures { MatchOption result (AreNotRefused (self.now ∷ [])) (IsFirstRefusal (self.now ∷ [])) }
+    {
+        match self {
+            Slot::Refused(_, fault) => Some(*fault),
+            _ => None,
+        }
+    }
+}
