@@ -1,9 +1,12 @@
-//! Each device once on a real file.
-use crate::{FileInbox, FileRack, StdoutSink};
-use base_types::NodeId;
-use outside::{Disk, Inbox, Rack, Sink};
-use std::fs;
+//! Each device once on a real file, and what a gate finds of calls by a clock of its own.
+use crate::{CallTimes, FileInbox, FileRack, StdoutSink};
+use base_types::{LaneId, NodeId};
+use outside::{Disk, Gate, Inbox, Point, Rack, Sink, When};
+use std::sync::Wait;
+use std::sync::atomic::{AtomicU64, Ordering};
 use std::test::Fail;
+use std::time::{Clock, Duration};
+use std::{fs, io};
 
 #[test]
 fn real_files(rt: HostRuntime) -> Result<(), Fail> {
@@ -33,5 +36,61 @@ fn real_files(rt: HostRuntime) -> Result<(), Fail> {
     let _ = fs::remove_dir(&rt, "rack");
     let mut sink = StdoutSink::new(&rt);
     assert_eq!(rt; sink.write(b"\n").ok(), Some(1));
+    Ok(())
+}
+
+// A clock that goes on by a step at each reading.
+#[derive(Drop)]
+struct Ticks<'a> {
+    step: &'a AtomicU64,
+    time: AtomicU64,
+}
+
+impl<'a> Clock for Ticks<'a> {
+    fn monotonic(&self) -> io::Result<Duration> {
+        let step = self.step.load(Ordering::SeqCst);
+        let before = self.time.fetch_add(step, Ordering::SeqCst);
+        Ok(Duration::from_nanos(before.wrapping_add(step)))
+    }
+
+    fn since_1970(&self) -> io::Result<Duration> {
+        self.monotonic()
+    }
+}
+
+// A point of a lane's call at node 7.
+fn point_of(lane: u32, when: When) -> Point {
+    Point {
+        lane: LaneId(lane),
+        node: NodeId(7),
+        kind: 2,
+        when,
+    }
+}
+
+// A lane's call passes the gate, which reads its clock twice.
+fn call<W: Wait, G: Gate>(rt: &W, gate: &G, lane: u32) {
+    for when in [When::Before, When::Inside, When::After] {
+        gate.pass(rt, &point_of(lane, when));
+    }
+}
+
+#[test]
+fn slow_calls(rt: HostRuntime) -> Result<(), Fail> {
+    let step = AtomicU64::new(200_000);
+    let time = AtomicU64::new(0);
+    let gate = CallTimes::new(Ticks { step: &step, time });
+    for _ in 0..3 {
+        call(&rt, &gate, 0);
+    }
+    assert!(rt; !gate.is_slow());
+    call(&rt, &gate, 1);
+    assert!(rt; gate.is_slow());
+    step.store(199_999, Ordering::SeqCst);
+    gate.pass(&rt, &point_of(0, When::Inside));
+    call(&rt, &gate, 1);
+    assert!(rt; gate.is_slow());
+    gate.pass(&rt, &point_of(0, When::After));
+    assert!(rt; !gate.is_slow());
     Ok(())
 }

@@ -2,6 +2,7 @@
 #![tactic(auto)]
 
 mod disks;
+mod few;
 mod files;
 mod looking;
 mod noting;
@@ -11,6 +12,7 @@ mod play;
 mod racks;
 mod state;
 mod subject;
+mod tested;
 mod verbs;
 mod words;
 

@@ -74,6 +74,11 @@ impl Gate for NotingGate {
             let _ = points.push(*point);
         }
     }
+
+    // Calls that it holds up take long.
+    fn is_slow(&self) -> bool {
+        !self.order.is_empty()
+    }
 }
 
 /// Files that note the names that are read from their beginning on.

@@ -30,6 +30,11 @@ impl PointOrder {
         }
     }
 
+    /// Whether it holds no point.
+    pub fn is_empty(&self) -> bool {
+        self.points.is_empty()
+    }
+
     // The first place of a point that was not passed.
     fn place_of(&self, point: &Point) -> Option<usize> {
         let passed = self.passed.load(Ordering::SeqCst);

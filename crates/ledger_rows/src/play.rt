@@ -24,8 +24,8 @@ pub struct Ran {
     pub points: Vec<Point>,
     pub files: Vec<String>,
     pub nodes: Vec<NodeId>,
-    out: MemSink,
-    rack: MemRack<FaultDisk>,
+    pub out: MemSink,
+    pub rack: MemRack<FaultDisk>,
 }
 
 /// What a crash leaves of what was not synced: at most so many bytes, with this byte in each place, or the one that a read gives.
@@ -111,7 +111,8 @@ fn device(alloc: Global, disk: &DiskState) -> Result<FaultDisk, Wrong> {
     Ok(FaultDisk::new(alloc, &disk.bytes, disk.capacity, fails, CALLS)?)
 }
 
-fn rack(alloc: Global, disks: &[DiskState]) -> Result<NotingRack, Wrong>
+/// The disks of a row, in a rack.
+pub fn rack_of(alloc: Global, disks: &[DiskState]) -> Result<NotingRack, Wrong>
     ensures { IfOk result (λ r. AllIn r.disks) }
 {
     let mut all = Vec::new(alloc);
@@ -142,7 +143,7 @@ pub fn play<W: Wait + Threads + Sync>(
     let mut out = MemSink::new(alloc, state.room, Vec::new(alloc))?;
     let words = owned(alloc, words)?;
     let mut inbox = inbox(alloc, state)?;
-    let rack = rack(alloc, &state.disks)?;
+    let rack = rack_of(alloc, &state.disks)?;
     let order = PointOrder::new(state.order.clone()?, state.turns);
     let gate = NotingGate::new(alloc, order);
     let Done { status, rack } = process(rt, alloc, &words, &mut inbox, rack, &mut out, &gate);

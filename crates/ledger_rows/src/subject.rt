@@ -3,15 +3,26 @@ use crate::files::{name_file, name_hash, name_tx};
 use crate::looking::{check_run, look, same};
 use crate::ordering::{points_of, turns_of};
 use crate::plain::play_plain;
-use crate::play::play;
+use crate::play::{Ran, play};
 use crate::racks::{change_disk, crash, empty_rack, keep, load, take_back};
 use crate::state::{ROOM, State};
+use crate::tested::play_tested;
 use crate::verbs::{Verb, is_for, verb_of};
 use crate::words::count_at;
 use row_text::{Block, Names, Subject, Wrong, rest};
 use std::alloc::Global;
 use std::sync::Wait;
 use std::thread::Threads;
+
+// Keeps what a run over the disks left, and checks its text and status.
+fn check(state: &mut State, alloc: Global, ran: Ran, block: &Block) -> Result<(), Wrong> {
+    state.ran = Some(ran);
+    state.room = ROOM;
+    state.order.clear();
+    take_back(state, alloc)?;
+    let ran = state.last_run()?;
+    check_run(alloc, ran.text()?, ran.status, block)
+}
 
 // Runs the program over the disks, and checks its text and status.
 fn run<W: Wait + Threads + Sync>(
@@ -21,12 +32,20 @@ fn run<W: Wait + Threads + Sync>(
     words: &[&str],
     block: &Block,
 ) -> Result<(), Wrong> {
-    state.ran = Some(play(rt, alloc, state, words)?);
-    state.room = ROOM;
-    state.order.clear();
-    take_back(state, alloc)?;
-    let ran = state.last_run()?;
-    check_run(alloc, ran.text()?, ran.status, block)
+    let ran = play(rt, alloc, state, words)?;
+    check(state, alloc, ran, block)
+}
+
+// Runs a work with a test of its own over the disks, and checks its text and status.
+fn run_tested<W: Wait + Threads + Sync>(
+    rt: &W,
+    state: &mut State,
+    alloc: Global,
+    words: &[&str],
+    block: &Block,
+) -> Result<(), Wrong> {
+    let ran = play_tested(rt, alloc, state, words)?;
+    check(state, alloc, ran, block)
 }
 
 // Runs the program twice over devices that never fail, and checks the text of both and the status of the second.
@@ -116,6 +135,7 @@ fn step_of<W: Wait + Threads + Sync>(
     match verb {
         Verb::Run => run(rt, state, alloc, behind, block),
         Verb::Plain => run_plain(rt, state, alloc, behind, block),
+        Verb::Tested => run_tested(rt, state, alloc, behind, block),
         other => do_step(state, alloc, other, behind, block.text.as_str()),
     }
 }

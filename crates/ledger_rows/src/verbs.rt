@@ -6,6 +6,7 @@ use row_text::{Block, Wrong, word};
 pub enum Verb {
     Run,
     Plain,
+    Tested,
     Hash,
     Tx,
     File,
@@ -44,9 +45,10 @@ pub enum Verb {
 const ANY: usize = usize::MAX;
 
 // Each with how many words there may be, itself counted.
-const VERBS: [(&str, Verb, usize); 34] = [
+const VERBS: [(&str, Verb, usize); 35] = [
     ("$", Verb::Run, ANY),
     ("plain", Verb::Plain, ANY),
+    ("tested", Verb::Tested, 2),
     ("hash", Verb::Hash, 3),
     ("tx", Verb::Tx, ANY),
     ("file", Verb::File, ANY),
@@ -100,7 +102,7 @@ pub fn verb_of(words: &[&str]) -> Result<Verb, Wrong> {
 pub fn is_for(verb: Verb, block: &Block) -> bool {
     let is_of_run = block.is_any || block.is_any_status || block.status != 0;
     match verb {
-        Verb::Run | Verb::Plain => true,
+        Verb::Run | Verb::Plain | Verb::Tested => true,
         Verb::File | Verb::Order | Verb::Journal | Verb::Passed => !is_of_run,
         _ => !is_of_run && block.text.is_empty(),
     }

@@ -20,6 +20,8 @@ use Rattle.ledger_runs.specs.Telling.{SamePrepared, TellResumed}
 use Rattle.ledger_runs.specs.Faults.{IsRunCause, HaveFailed, MayHold, AllRest}
 use Rattle.ledger_runs.specs.Least.{IsLeastFault, IsLeastOpen}
 use Rattle.ledger_runs.proofs.Launching.{launches_begin}
+use Rattle.ledger_runs.proofs.Keeping.{ledger_same}
+use Rattle.ledger_nodes.specs.Ledgers.{LedgerOf, journals, flights, faults, opened, IsChecked}
 use Rattle.file_runs.specs.declared.waves.Wave.{Wave}
 use Rattle.file_runs.specs.declared.ran.Ran.{Ran}
 use Rattle.file_runs.specs.Runs.{joined, IsSentPiece, HaveBegunFiles, IsFilesPiece, FliesWith}
@@ -33,7 +35,7 @@ use Rattle.rack_laws.specs.Shown.{node_count}
 use Rattle.rack_runs.specs.Endings.{EndsRun, IsCut}
 use Rattle.rack_runs.specs.Runs.{IsCutWaves, NonePrepared, NothingNext, PieceNext, PiecesPrepared}
 use Rattle.rack_runs.specs.Telling.{IsTold}
-use Rattle.rack_runs.specs.Works.{LeavesWork, EndsWell, EndsBadly, BeginsWork, EndsWork, HasEnded}
+use Rattle.rack_runs.specs.Works.{LeavesWork, EndsWell, EndsBadly, HasWorked, BeginsWork, EndsWork, HasEnded}
 use Rattle.rack_runs.specs.Deeds.{files_deed, no_deed}
 use Rattle.rack_runs.specs.declared.told.Told.{Told}
 use Rattle.rack_runs.proofs.Answering.{cause_by}
@@ -278,7 +280,7 @@ told_none images limit held verdicts told ran same K mint submissions E kept h =
     }
 
 -- nothing is done: what that leaves
-pub nothing_leaves : (K : Shape) (M : ℕ → List Record) (F : ℕ → Option Record) (failed : ℕ → Type 0) → AreIdle K M → LeavesWork no_deed K M M F F failed
+nothing_leaves : (K : Shape) (M : ℕ → List Record) (F : ℕ → Option Record) (failed : ℕ → Type 0) → AreIdle K M → LeavesWork no_deed K M M F F failed
 nothing_leaves K M F failed idle = record {
   grows = λ n. end_self (M n);
   keeps = stays_more K M [];
@@ -287,4 +289,16 @@ nothing_leaves K M F failed idle = record {
   rests = λ lane inside. inl (inl (idle lane inside));
   since = λ E behind lane txs inside none. none;
   begun = λ limits E behind. only_open K E M limits behind.unprepared behind.keeps;
+}
+
+-- and that is a work
+pub nothing_worked : {D : Type 0} (count limit : D → ℕ) (content : D → Option (List ℕ)) (images : D → List ℕ → Type 0) (l : LedgerOf D) → AreIdle l.header.shape (journals count limit l) → IsChecked count limit l
+    → HasWorked count limit content images no_deed l l (Ok tt)
+nothing_worked count limit content images l idle checked = record {
+  keeps_ledger = ledger_same l;
+  checked = checked;
+  quiet = λ was. was;
+  leaves = nothing_leaves l.header.shape (journals count limit l) (flights count limit l) (HaveFailed (opened count limit l) (faults count limit l)) idle;
+  well = record { idle = idle; did = λ n. refl };
+  badly = tt;
 }

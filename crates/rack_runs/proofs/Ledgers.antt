@@ -44,7 +44,7 @@ use Rattle.rack_runs.proofs.Unspent.{unspent_counted}
 use Rattle.std.specs.Prelude.{map, All, IfSome}
 
 -- kept journals have nothing beyond the ledger's nodes
-beyond : (K : Shape) (mint : List Output) (submissions : List FullTx) (E : ℕ → List Record) → KeptJournals K mint submissions E → (n : ℕ) → node_count K ≤ n → E n ≡ []
+pub beyond : (K : Shape) (mint : List Output) (submissions : List FullTx) (E : ℕ → List Record) → KeptJournals K mint submissions E → (n : ℕ) → node_count K ≤ n → E n ≡ []
 beyond K mint submissions E kept n le =
     sym (kept.history.journals_are n) ∙ none_beyond K (minted mint) (IsProperCompact submissions) kept.later (steady K (minted mint) (IsProperCompact submissions) kept.later kept.kept) n le
 

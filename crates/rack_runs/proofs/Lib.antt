@@ -11,3 +11,4 @@ pub mod Turned
 pub mod Working
 pub mod Filed
 pub mod Closing
+pub mod Testing

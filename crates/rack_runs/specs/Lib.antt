@@ -6,3 +6,4 @@ pub mod Stops
 pub mod Resuming
 pub mod Works
 pub mod Deeds
+pub mod Tests

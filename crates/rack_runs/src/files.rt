@@ -7,7 +7,7 @@ ghost use Rattle.rack_runs.specs.Works.{HasWorked};
 ghost use Rattle.rack_runs.specs.Deeds.{files_deed, no_deed};
 
 use crate::works::{Work, Worked};
-use cbdc_types::{FullTx, List};
+use cbdc_types::{Answer, FullTx, List};
 use file_runs::{FilesRun, Wave, run_files};
 use ledger_nodes::Ledger;
 use outside::{Disk, Gate};
@@ -28,6 +28,10 @@ impl<'a, V: Verifier> Work for RunFiles<'a, V> {
     type Done = Vec<Wave>;
 
     ghost deed = { λ w. files_deed (V.verdict_of w.verifier.now) w.files.now };
+
+    fn test<D: Disk>(&self, _alloc: Global, _ledger: &Ledger<D>) -> Result<(), Answer> {
+        Ok(())
+    }
 }
 
 /// Runs client files over a ledger with no open batch.
@@ -68,6 +72,10 @@ impl Work for NoWork {
     type Done = ();
 
     ghost deed = { λ _. no_deed };
+
+    fn test<D: Disk>(&self, _alloc: Global, _ledger: &Ledger<D>) -> Result<(), Answer> {
+        Ok(())
+    }
 }
 
 /// Gives a ledger with no open batch back.

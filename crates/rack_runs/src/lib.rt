@@ -1,4 +1,5 @@
-//! Commands that resume: the ledger on a rack is opened, its open batches brought to their end, a work done, and all disks put back. Client files are one.
+//! Commands that resume: the ledger on a rack is opened, the command's own test of it made, its open batches brought to their end, a work done, and all
+//! disks put back. Client files are one work.
 //!
 //! - `run_on`: At Ok the disks told a ledger, within its limits, and each record of its history was caused by what stood before it (what is told of
 //!   each node's disk opens to its journal), and its disks had room for their journals and for what is kept for the batches open there; its journals

@@ -4,13 +4,14 @@ ghost use Rattle.input_files.specs.Limits.{IsShort};
 ghost use Rattle.rack_nodes.specs.Racked.{AreBack};
 ghost use Rattle.caused_ledgers.specs.Caused.{IsUnresumed};
 ghost use Rattle.rack_laws.specs.Shown.{OfShown};
+ghost use Rattle.ledger_nodes.specs.Ledgers.{journals};
 ghost use Rattle.ledger_runs.specs.Least.{IsLeastOpen};
 ghost use Rattle.rack_runs.specs.Endings.{EndsRun};
 ghost use Rattle.rack_runs.specs.Resuming.{HasResumed};
 ghost use Rattle.rack_runs.specs.Runs.{IsRun, IsRecovered, IsLaneFault, TookLedger, NonePrepared, NothingNext, PieceNext, PiecesPrepared};
-ghost use Rattle.rack_runs.specs.Stops.{WhyNoTurns};
 ghost use Rattle.rack_runs.specs.Telling.{IsTold};
-ghost use Rattle.rack_runs.specs.Works.{AllFit, AtEntry, entry_ledger, IsOpen, HasCome, HasDone, BeginsWork, EndsWork};
+ghost use Rattle.rack_runs.specs.Tests.{WhyNotBegun};
+ghost use Rattle.rack_runs.specs.Works.{AllFit, AtEntry, entry_ledger, IsOpen, HasCome, HasDone};
 ghost use Rattle.submissions.specs.Checks.{VerdictsOf};
 
 use crate::faults::answer_of;
@@ -33,7 +34,10 @@ use std::sync::Wait;
 use std::thread::Threads;
 use verifier_port::Verifier;
 
-/// Opens the ledger on a rack, and brings its open batches to their end, for the work of a command. The disks are back where that can't be done.
+/// Opens the ledger on a rack, has the work of a command test it, and brings its open batches to their end for that work. Where that can't be done
+/// the disks are back.
+///
+/// Where the work's own test refuses the ledger, nothing was written: all disks are back unchanged.
 pub fn begin_on<W: Wait + Threads + Sync, R: Rack, K: Work, G: Gate>(
     rt: &W,
     alloc: Global,
@@ -45,13 +49,17 @@ where
     R::Disk: Send,
     requires all { (n : ℕ) → R.can_take rack.old n }
     requires fit { AllFit (K.deed work.now) }
-    // The nodes were opened as the rack told them at entry, and each record is caused; and what the ledger is behind the resuming.
+    // The nodes were opened as the rack told them at entry, and each record is caused; what the ledger is behind the resuming; and as it was at entry
+    // the work's own test let it pass.
     ensures begun { IfOk result (λ b. (e : AtEntry R.Disk) × (e.held ≡ R.held rack.old) × (e.before ≡ R.count rack.old)
         × IsOpen R.Disk.content R.Disk.images R.Disk.limit R.Disk.count e (R.held rack.new) (R.can_put rack.new) (R.can_take rack.new)
-        × HasResumed R.Disk.count R.Disk.limit R.Disk.content R.Disk.images (entry_ledger e) b.ledger (Ok b.resumed)) }
+        × HasResumed R.Disk.count R.Disk.limit R.Disk.content R.Disk.images (entry_ledger e) b.ledger (Ok b.resumed)
+        × (K.tests work.now).passes e.header.shape (journals R.Disk.count R.Disk.limit (entry_ledger e))) }
 
-    ensures stopped { IfErr result (WhyNoTurns R.Disk.content R.Disk.images R.Disk.limit R.Disk.count (R.held rack.old) (R.held rack.new)
-        (R.count rack.old) (R.count rack.new) (K.deed work.now).next (EndsWork (K.deed work.now)) (BeginsWork (K.deed work.now)) (K.deed work.now).handed) }
+    // The nodes could not be opened, or a record is not caused, and the disks are back; or a lane met a fault; or the work's own test refuses the
+    // ledger, and the disks are back unchanged.
+    ensures stopped { IfErr result (WhyNotBegun R.Disk.content R.Disk.images R.Disk.limit R.Disk.count (R.held rack.old) (R.held rack.new)
+        (R.count rack.old) (R.count rack.new) (K.deed work.now) (K.tests work.now)) }
     ensures back { OnErr result ((n : ℕ) → R.can_take rack.new n) }
     ensures later { (n : ℕ) → R.count rack.old n ≤ R.count rack.new n }
 {
@@ -60,6 +68,10 @@ where
         Err(fault) => return Err(fault),
     };
     let ledger = ledger_of(nodes);
+    if let Err(refusal) = work.test(alloc, &ledger) {
+        close_nodes(rack, nodes_of(ledger));
+        return Err(refusal);
+    }
     let ResumeRun { ledger, came } = resume_ledger(rt, alloc, ledger, gate);
     let fault = match came {
         Ok(resumed) => return Ok(Begun { ledger, resumed }),

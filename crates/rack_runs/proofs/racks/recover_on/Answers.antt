@@ -42,8 +42,8 @@ end_on-requires-clause-come g c =
 
 pub returns-in-Err-clause-stopped : goal.returns-in-Err-clause-stopped
 returns-in-Err-clause-stopped g c =
-    ⊎_elim (λ refused. inl refused) (λ cut. inr (fault_as g.R.Disk.Disk.content g.R.Disk.Disk.images g.R.Disk.Disk.limit (g.R.Rack.held c.args.rack.now) (g.R.Rack.held c.begin_on.new.rack) (g.R.Rack.count c.args.rack.now) (g.R.Rack.count c.begin_on.new.rack)
-    NothingNext (EndsWork no_deed) IsLeastOpen (BeginsWork no_deed) NonePrepared [] ends_none begun_none c.in-Err.fault cut)) c.in-Err.ensures.stopped
+    ⊎_elim (λ turns. ⊎_elim (λ refused. inl refused) (λ cut. inr (fault_as g.R.Disk.Disk.content g.R.Disk.Disk.images g.R.Disk.Disk.limit (g.R.Rack.held c.args.rack.now) (g.R.Rack.held c.begin_on.new.rack) (g.R.Rack.count c.args.rack.now) (g.R.Rack.count c.begin_on.new.rack)
+    NothingNext (EndsWork no_deed) IsLeastOpen (BeginsWork no_deed) NonePrepared [] ends_none begun_none c.in-Err.fault cut)) turns) (λ tested. absurd tested.refused) c.in-Err.ensures.stopped
 
 pub returns-in-Ok-end_on-clause-caused : goal.returns-in-Ok-end_on-clause-caused
 returns-in-Ok-end_on-clause-caused g c =

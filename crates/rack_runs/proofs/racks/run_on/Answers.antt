@@ -1,4 +1,4 @@
-use Rattle.std.proofs.Common.{inl, inr, ⊎_elim, [], Ok, refl, sym, subst, arith}
+use Rattle.std.proofs.Common.{inl, inr, ⊎_elim, Ok, refl, sym, subst, arith}
 use Rattle.cbdc_model.specs.World.{AreIdle}
 use Rattle.ledger_nodes.specs.Ledgers.{journals}
 use Rattle.file_runs.proofs.Whole.{of_whole, of_fault, when_whole}
@@ -37,8 +37,8 @@ end_on-requires-clause-come g c =
 
 pub returns-in-Err-clause-stopped : goal.returns-in-Err-clause-stopped
 returns-in-Err-clause-stopped g c =
-    ⊎_elim (λ refused. inl refused) (λ cut. inr (fault_as g.R.Disk.Disk.content g.R.Disk.Disk.images g.R.Disk.Disk.limit (g.R.Rack.held c.args.rack.now) (g.R.Rack.held c.begin_on.new.rack) (g.R.Rack.count c.args.rack.now) (g.R.Rack.count c.begin_on.new.rack)
-    (PieceNext (g.V.Verifier.verdict_of c.args.verifier.now) c.args.files.now) (EndsWork (files_deed (g.V.Verifier.verdict_of c.args.verifier.now) c.args.files.now)) (EndsRun (g.V.Verifier.verdict_of c.args.verifier.now) c.args.files.now) (BeginsWork (files_deed (g.V.Verifier.verdict_of c.args.verifier.now) c.args.files.now)) (PiecesPrepared (g.V.Verifier.verdict_of c.args.verifier.now) c.args.files.now) c.args.files.now (ends_run (g.V.Verifier.verdict_of c.args.verifier.now) c.args.files.now) (begun_run (g.V.Verifier.verdict_of c.args.verifier.now) c.args.files.now) c.in-Err.fault cut)) c.in-Err.ensures.stopped
+    ⊎_elim (λ turns. ⊎_elim (λ refused. inl refused) (λ cut. inr (fault_as g.R.Disk.Disk.content g.R.Disk.Disk.images g.R.Disk.Disk.limit (g.R.Rack.held c.args.rack.now) (g.R.Rack.held c.begin_on.new.rack) (g.R.Rack.count c.args.rack.now) (g.R.Rack.count c.begin_on.new.rack)
+    (PieceNext (g.V.Verifier.verdict_of c.args.verifier.now) c.args.files.now) (EndsWork (files_deed (g.V.Verifier.verdict_of c.args.verifier.now) c.args.files.now)) (EndsRun (g.V.Verifier.verdict_of c.args.verifier.now) c.args.files.now) (BeginsWork (files_deed (g.V.Verifier.verdict_of c.args.verifier.now) c.args.files.now)) (PiecesPrepared (g.V.Verifier.verdict_of c.args.verifier.now) c.args.files.now) c.args.files.now (ends_run (g.V.Verifier.verdict_of c.args.verifier.now) c.args.files.now) (begun_run (g.V.Verifier.verdict_of c.args.verifier.now) c.args.files.now) c.in-Err.fault cut)) turns) (λ tested. absurd tested.refused) c.in-Err.ensures.stopped
 
 pub returns-in-Ok-end_on-clause-caused : goal.returns-in-Ok-end_on-clause-caused
 returns-in-Ok-end_on-clause-caused g c =

@@ -1,0 +1,32 @@
+-- A command's own test of the ledger at entry, and what its refusal leaves of the rack.
+use Rattle.std.specs.Prelude.{◌⊎◌, ℕ, List, Option}
+use Rattle.cbdc_types.specs.declared.answer.Answer.{Answer}
+use Rattle.cbdc_model.specs.Records.{Shape, Record}
+use Rattle.rack_nodes.specs.Racked.{AreUnchanged}
+use Rattle.caused_ledgers.specs.Caused.{IsCausedLedger}
+use Rattle.rack_runs.specs.Runs.{entry_journals}
+use Rattle.rack_runs.specs.Stops.{WhyNoTurns}
+use Rattle.rack_runs.specs.Works.{Deed, BeginsWork, EndsWork}
+
+-- what a test says, by the shape of the ledger and its journals: what holds where it lets the ledger pass, and why it refuses it with this answer
+pub record Test : Type 1 where
+  pub passes : Shape → (ℕ → List Record) → Type 0
+  pub refuses : Shape → (ℕ → List Record) → Answer → Type 0
+
+-- that every ledger passes
+abbrev pub no_test : Test
+no_test = record {
+  passes = λ K E. Unit {0};
+  refuses = λ K E answer. ⊥;
+}
+
+-- the disks told a ledger in which each record was caused, the test refuses it with this answer, and the disks are back unchanged
+pub record IsTestRefused {D : Type 0} (content : D → Option (List ℕ)) (images : D → List ℕ → Type 0) (limit : D → ℕ) (held back : ℕ → Option D) (test : Test) (answer : Answer) : Type 0 where
+  pub ledger : IsCausedLedger content held
+  pub refused : test.refuses ledger.shape (entry_journals ledger) answer
+  pub unchanged : AreUnchanged content images limit held back
+
+-- a work did not come to be done: as `WhyNoTurns` says; or its own test refused the ledger
+abbrev pub WhyNotBegun : {D Done : Type 0} → (D → Option (List ℕ)) → (D → List ℕ → Type 0) → (D → ℕ) → (D → ℕ) → (ℕ → Option D) → (ℕ → Option D) → (ℕ → ℕ) → (ℕ → ℕ) → Deed Done → Test → Answer → Type 0
+WhyNotBegun content images limit count held back before now d test answer =
+    WhyNoTurns content images limit count held back before now d.next (EndsWork d) (BeginsWork d) d.handed answer ⊎ IsTestRefused content images limit held back test answer
