@@ -42,7 +42,6 @@ pub record HasMore (told : Option (List ℕ)) (old new : WindowOf) (n : ℕ) : T
   pub unread : new.unread ≡ old.unread ++ piece
   pub come : HasCome told old.had new.had piece
   pub bound : new.had ≤ 1073741824
-  -- their parts: so many transactions; an output that is not zero; nothing behind the items
   pub ended : n ≡ 0 → IsEnd told old.had
 
 -- this was read of the bytes that were not used and those that came, whatever comes behind them

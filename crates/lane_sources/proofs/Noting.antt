@@ -55,12 +55,12 @@ module _ (K : Shape) (verdicts : VerdictsOf) (file : List FullTx) (lane at sent 
   sent_fits id said =
       let (t, there) = there_at file at inside in
       let e : length (left_at K verdicts file lane at) ≡ suc (length (left_at K verdicts file lane (at + lanes_of K))) = ap (λ xs. length xs) (sound_left K verdicts file lane at sent checked t come there (said t there).1) in
-      let few : length (all_of K verdicts file lane) ≤ length file = all_few K verdicts file lane (length file) come.within (one_more (lanes_of K) (length file) (omega (arith, come.within))) in
+      let few : length (all_of K verdicts file lane) ≤ length file = all_few K verdicts file lane (length file) come.within (one_more (lanes_of K) (length file) lane (omega (arith, come.within))) in
       let is = come.sent_is in
       omega (arith, e, few, is)
     where
-      one_more : (n m : ℕ) → 0 < n → m ≤ n * m
-      one_more n m some = let h : m * 1 ≤ m * n = mul-le-mul_left m (omega (arith, some)) in omega (arith, h)
+      one_more : (n m lane : ℕ) → 0 < n → m ≤ lane + n * m
+      one_more n m lane some = let h : m * 1 ≤ m * n = mul-le-mul_left m (omega (arith, some)) in omega (arith, h)
 
 -- ---- what is made of a submission
 

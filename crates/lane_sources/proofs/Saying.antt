@@ -100,6 +100,6 @@ module _ (K : Shape) (verdicts : VerdictsOf) (file : List FullTx) where
     }
 
   -- all that goes to a lane is few
-  pub all_few : (lane m : ℕ) → lane < lanes_of K → length file ≤ lanes_of K * m → length (all_of K verdicts file lane) ≤ m
+  pub all_few : (lane m : ℕ) → lane < lanes_of K → length file ≤ lane + lanes_of K * m → length (all_of K verdicts file lane) ≤ m
   all_few lane m within few = subst (λ xs. length xs ≤ m) (sym (left_begin K (sound_by verdicts) file lane within))
       (subst (λ j. length (left_at K verdicts file lane j) ≤ m) (omega arith) (left_few K (sound_by verdicts) file lane within m 0 (omega (arith, few))))

@@ -172,7 +172,8 @@ impl<'a, W: Wait, V: Verifier, F: Deals> LaneSource<'a, W, V, F> {
         ensures { length (all_of F.shape F.verdicts F.file self.now.lane) ≤ result }
     {
         let file = self.file;
-        file.txs().len().div_ceil(file.lanes())
+        let from_its_first = file.txs().len().saturating_sub(self.lane);
+        from_its_first.div_ceil(file.lanes())
     }
 
     /// Comes to the end of the file, as the source of this lane: what is left to be said is said. It takes no memory.
